@@ -1,0 +1,50 @@
+-- HMAC-SHA-256 (RFC 2104, RFC 6668), and the sealing of encryption `none` with MAC `hmac-sha2-256`.
+use Rattle.std.specs.Prelude.{ℕ, ◌-◌, Bool, ◌&&◌, nat_lt, nat_eq, if◌then◌else◌, List, ◌++◌, length, take, drop, map, replicate, bit_xor, codes, Some, None}
+use Rattle.std.specs.Int.{w32, to_be_bytes}
+use Rattle.std.specs.Cmp.Lexicographic.{pointwise}
+use Rattle.sha2.specs.Sha256.{sha256}
+use Rattle.ssh_model.specs.Seal.{Crypto, Lengths}
+
+-- ---- HMAC over blocks of 64 bytes
+
+-- a key as one block: a longer one is hashed first, and zeros fill the rest
+abbrev pub key_block : List ℕ → List ℕ
+key_block key =
+    let short = if nat_lt 64 (length key) then sha256 key else key in
+    short ++ replicate (64 - length short) 0
+
+-- each byte of the block against the pad's
+abbrev pub padded : ℕ → List ℕ → List ℕ
+padded pad block = map (λ b. bit_xor b pad) block
+
+-- the inner pad is 0x36, the outer pad 0x5c
+abbrev pub hmac_sha256 : List ℕ → List ℕ → List ℕ
+hmac_sha256 key text = sha256 (padded 0x5c (key_block key) ++ sha256 (padded 0x36 (key_block key) ++ text))
+
+-- ---- the sealing
+
+-- The tag of a packet covers its number as a uint32 and all of its bytes (RFC 4253 section 6.4).
+abbrev pub mac_of : List ℕ → ℕ → List ℕ → List ℕ
+mac_of key number packet = hmac_sha256 key (to_be_bytes w32 number ++ packet)
+
+abbrev pub is_text : List ℕ → List ℕ → Bool
+is_text xs ys = pointwise nat_eq xs ys
+
+-- the names of its encryption and its MAC
+abbrev pub is_mac_only : List ℕ → List ℕ → Bool
+is_mac_only enc mac = is_text enc (codes "none") && is_text mac (codes "hmac-sha2-256")
+
+-- the bytes of its key: none for an IV or a cipher, 32 for the MAC
+abbrev pub mac_only_lengths : Lengths
+mac_only_lengths = record { iv = 0; cipher = 0; mac = 32 }
+
+-- a key is the 32 bytes of the MAC key
+abbrev pub mac_only : Crypto (List ℕ)
+mac_only = record {
+  lengths = λ enc mac. if is_mac_only enc mac then Some mac_only_lengths else None;
+  made = λ enc mac iv cipher key. key;
+  block = λ key. 8;
+  tag = λ key. 32;
+  sealed = λ key number packet. packet ++ mac_of key number packet;
+  opened = λ key number bytes. record { good = is_text (drop (length bytes - 32) bytes) (mac_of key number (take (length bytes - 32) bytes)); bytes = take (length bytes - 32) bytes };
+}

@@ -1,0 +1,119 @@
+-- Sealing and opening packets (RFC 4253 sections 6 and 6.4), by a handed-in sealing.
+use Rattle.std.specs.Prelude.{◌≡◌, ◌≤◌, ◌<◌, ◌+◌, ◌-◌, ◌^◌, ℕ, Bool, true, false, ◌&&◌, nat_le, IsTrue, List, ◌++◌, length, take, Option, Some, None, IfSome}
+use Rattle.ssh_model.specs.DataTypes.{AreBytes, IsUint32}
+use Rattle.ssh_model.specs.Packet.{IsBlock, IsPacket, IsLeastPacket, is_size}
+
+-- how many bytes of key material a sealing takes
+pub record Lengths : Type 0 where
+  pub iv : ℕ
+  pub cipher : ℕ
+  pub mac : ℕ
+
+-- what opening gives: whether the tag is good, and the packet without its tag
+pub record Opened : Type 0 where
+  pub good : Bool
+  pub bytes : List ℕ
+
+-- What a sealing computes. `sealed` goes from a packet without its tag to the bytes on the wire, and
+-- `opened` back.
+pub record Crypto (K : Type 0) : Type 0 where
+  pub lengths : List ℕ → List ℕ → Option Lengths
+  pub made : List ℕ → List ℕ → List ℕ → List ℕ → List ℕ → K
+  pub block : K → ℕ
+  pub tag : K → ℕ
+  pub sealed : K → ℕ → List ℕ → List ℕ
+  pub opened : K → ℕ → List ℕ → Opened
+
+-- ---- in clear, where there is no key yet
+
+abbrev pub block_under : {K : Type 0} → Crypto K → Option K → ℕ
+block_under c None = 8
+block_under c (Some key) = c.block key
+
+abbrev pub tag_under : {K : Type 0} → Crypto K → Option K → ℕ
+tag_under c None = 0
+tag_under c (Some key) = c.tag key
+
+abbrev pub sealed_under : {K : Type 0} → Crypto K → Option K → ℕ → List ℕ → List ℕ
+sealed_under c None number packet = packet
+sealed_under c (Some key) number packet = c.sealed key number packet
+
+abbrev pub opened_under : {K : Type 0} → Crypto K → Option K → ℕ → List ℕ → Opened
+opened_under c None number bytes = record { good = true; bytes = bytes }
+opened_under c (Some key) number bytes = c.opened key number bytes
+
+-- ---- what stands on the wire
+
+-- the sizes of a packet with its tag
+abbrev pub is_wire_size : ℕ → ℕ → ℕ → Bool
+is_wire_size block tag size = nat_le tag size && is_size block tag (size - tag)
+
+-- The bytes are a packet of the payload when they are opened under the key and the number.
+pub record IsWire {K : Type 0} (c : Crypto K) (key : Option K) (number : ℕ) (payload bytes : List ℕ) : Type 0 where
+  pub size : IsTrue (is_wire_size (block_under c key) (tag_under c key) (length bytes))
+  pub good : (opened_under c key number bytes).good ≡ true
+  pub packet : IsPacket (block_under c key) (tag_under c key) payload (opened_under c key number bytes).bytes
+
+-- The bytes are what sealing gives for a packet of the payload with the least padding, whatever the padding bytes.
+pub record IsSealed {K : Type 0} (c : Crypto K) (key : Option K) (number : ℕ) (payload bytes : List ℕ) : Type 0 where
+  pub packet : List ℕ
+  pub are_bytes : AreBytes packet
+  pub least : IsLeastPacket (block_under c key) (tag_under c key) payload packet
+  pub sealed : bytes ≡ sealed_under c key number packet
+
+-- ---- the laws of a sealing
+
+-- Opening restores what was sealed under the same key and number. Both leave the first four bytes, the length.
+pub record IsSealing {K : Type 0} (c : Crypto K) : Type 0 where
+  pub lengths : (enc mac : List ℕ) → IfSome (c.lengths enc mac) (λ n. (n.iv ≤ 64) × (n.cipher ≤ 64) × (n.mac ≤ 64))
+  pub block : (key : K) → IsBlock (c.block key)
+  pub tag : (key : K) → c.tag key ≤ 64
+  pub opens : (key : K) (number : ℕ) (packet : List ℕ) → number < 2 ^ 32 → AreBytes packet → IsTrue (is_size (c.block key) (c.tag key) (length packet)) →
+      c.opened key number (c.sealed key number packet) ≡ record { good = true; bytes = packet }
+  pub sealed_front : (key : K) (number : ℕ) (packet : List ℕ) → number < 2 ^ 32 → AreBytes packet → IsTrue (is_size (c.block key) (c.tag key) (length packet)) →
+      take 4 (c.sealed key number packet) ≡ take 4 packet
+  pub sealed_length : (key : K) (number : ℕ) (packet : List ℕ) → number < 2 ^ 32 → AreBytes packet → IsTrue (is_size (c.block key) (c.tag key) (length packet)) →
+      length (c.sealed key number packet) ≡ length packet + c.tag key
+  pub opened_front : (key : K) (number : ℕ) (bytes : List ℕ) → number < 2 ^ 32 → AreBytes bytes → IsTrue (is_wire_size (c.block key) (c.tag key) (length bytes)) →
+      take 4 (c.opened key number bytes).bytes ≡ take 4 bytes
+  pub opened_length : (key : K) (number : ℕ) (bytes : List ℕ) → number < 2 ^ 32 → AreBytes bytes → IsTrue (is_wire_size (c.block key) (c.tag key) (length bytes)) →
+      length (c.opened key number bytes).bytes + c.tag key ≡ length bytes
+
+-- ---- what the front of a stream shows before a whole packet is taken
+
+-- The bytes are a length field that no packet has: it is refused as soon as its four bytes are there.
+pub record IsBadLength (block tag : ℕ) (bytes : List ℕ) : Type 0 where
+  pub n : ℕ
+  pub field : IsUint32 n bytes
+  pub size : is_size block tag (4 + n) ≡ false
+
+-- The bytes begin with a length field that a packet may have, and n counts the packet's bytes with its tag.
+pub record HasSize (block tag n : ℕ) (bytes : List ℕ) : Type 0 where
+  pub field : List ℕ
+  pub rest : List ℕ
+  pub count : ℕ
+  pub parts : bytes ≡ field ++ rest
+  pub counts : IsUint32 count field
+  pub size : IsTrue (is_size block tag (4 + count))
+  pub whole : n ≡ 4 + count + tag
+
+-- a whole packet with its tag, by its length field
+pub record IsWhole (block tag : ℕ) (bytes : List ℕ) : Type 0 where
+  pub has : HasSize block tag (length bytes) bytes
+
+-- The tag of a whole packet is not the one of this key and number.
+pub record IsBadTag {K : Type 0} (c : Crypto K) (key : Option K) (number : ℕ) (bytes : List ℕ) : Type 0 where
+  pub whole : IsWhole (block_under c key) (tag_under c key) bytes
+  pub bad : (opened_under c key number bytes).good ≡ false
+
+-- The tag is good, and the opened bytes are a packet of no payload: its padding is too short, or leaves no payload.
+pub record IsBadPadding {K : Type 0} (c : Crypto K) (key : Option K) (number : ℕ) (bytes : List ℕ) : Type 0 where
+  pub whole : IsWhole (block_under c key) (tag_under c key) bytes
+  pub good : (opened_under c key number bytes).good ≡ true
+  pub none : (payload : List ℕ) → IsPacket (block_under c key) (tag_under c key) payload (opened_under c key number bytes).bytes → ⊥
+
+-- fewer than four bytes
+-- or fewer than the length field says
+pub data IsBegun (block tag : ℕ) (bytes : List ℕ) : Type 0 where
+  no_length : length bytes < 4 → IsBegun block tag bytes
+  has_length : (n : ℕ) → HasSize block tag n bytes → length bytes < n → IsBegun block tag bytes

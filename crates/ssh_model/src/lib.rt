@@ -1,0 +1,7 @@
+//! What SSH says, as definitions over bytes and lists. The definitions stand in `specs/`; the functions here have
+//! empty bodies, and each one's contract is a law of the definitions.
+#![tactic(auto)]
+
+mod epoch;
+
+pub use epoch::taken_in_order;
