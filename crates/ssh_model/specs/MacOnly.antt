@@ -3,7 +3,7 @@ use Rattle.std.specs.Prelude.{ℕ, ◌-◌, Bool, ◌&&◌, nat_lt, nat_eq, if�
 use Rattle.std.specs.Int.{w32, to_be_bytes}
 use Rattle.std.specs.Cmp.Lexicographic.{pointwise}
 use Rattle.sha2.specs.Sha256.{sha256}
-use Rattle.ssh_model.specs.Seal.{Crypto, Lengths}
+use Rattle.ssh_model.specs.Seal.{Crypto, Lengths, Opened}
 
 -- ---- HMAC over blocks of 64 bytes
 
@@ -17,15 +17,18 @@ key_block key =
 abbrev pub padded : ℕ → List ℕ → List ℕ
 padded pad block = map (λ b. bit_xor b pad) block
 
--- the inner pad is 0x36, the outer pad 0x5c
+-- the hash of the key's block against the outer pad 0x5c, and the hash of it against the inner pad 0x36 and the text
+abbrev pub hmac_under : List ℕ → List ℕ → List ℕ
+hmac_under block text = sha256 (padded 0x5c block ++ sha256 (padded 0x36 block ++ text))
+
 abbrev pub hmac_sha256 : List ℕ → List ℕ → List ℕ
-hmac_sha256 key text = sha256 (padded 0x5c (key_block key) ++ sha256 (padded 0x36 (key_block key) ++ text))
+hmac_sha256 key text = hmac_under (key_block key) text
 
 -- ---- the sealing
 
 -- The tag of a packet covers its number as a uint32 and all of its bytes (RFC 4253 section 6.4).
-abbrev pub mac_of : List ℕ → ℕ → List ℕ → List ℕ
-mac_of key number packet = hmac_sha256 key (to_be_bytes w32 number ++ packet)
+abbrev pub tag_of : List ℕ → ℕ → List ℕ → List ℕ
+tag_of block number packet = hmac_under block (to_be_bytes w32 number ++ packet)
 
 abbrev pub is_text : List ℕ → List ℕ → Bool
 is_text xs ys = pointwise nat_eq xs ys
@@ -38,13 +41,17 @@ is_mac_only enc mac = is_text enc (codes "none") && is_text mac (codes "hmac-sha
 abbrev pub mac_only_lengths : Lengths
 mac_only_lengths = record { iv = 0; cipher = 0; mac = 32 }
 
--- a key is the 32 bytes of the MAC key
+-- what opening gives, of a packet and a tag of 32 bytes
+abbrev pub opened_by_tag : List ℕ → ℕ → List ℕ → List ℕ → Opened
+opened_by_tag block number packet tag = record { good = is_text tag (tag_of block number packet); bytes = packet }
+
+-- A key is the block of the MAC key. Packets stay in clear, and the tag stands behind them.
 abbrev pub mac_only : Crypto (List ℕ)
 mac_only = record {
   lengths = λ enc mac. if is_mac_only enc mac then Some mac_only_lengths else None;
-  made = λ enc mac iv cipher key. key;
+  made = λ enc mac iv cipher key. key_block key;
   block = λ key. 8;
   tag = λ key. 32;
-  sealed = λ key number packet. packet ++ mac_of key number packet;
-  opened = λ key number bytes. record { good = is_text (drop (length bytes - 32) bytes) (mac_of key number (take (length bytes - 32) bytes)); bytes = take (length bytes - 32) bytes };
+  sealed = λ key number packet. packet ++ tag_of key number packet;
+  opened = λ key number bytes. opened_by_tag key number (take (length bytes - 32) bytes) (drop (length bytes - 32) bytes);
 }

@@ -1,9 +1,8 @@
 -- What was sealed is a wire.
-use Rattle.std.proofs.Common.{◌≡◌, ℕ, ◌+◌, ◌-◌, ◌<◌, ◌≤◌, ◌^◌, Bool, true, false, ◌&&◌, leb, IsTrue, List, length, refl, sym, ap, subst, ◌∙◌, Option, Some, None, arith}
+use Rattle.std.proofs.Common.{◌≡◌, ℕ, ◌+◌, ◌-◌, ◌<◌, ◌^◌, true, leb, List, length, refl, sym, subst, Option, Some, None, arith}
 use Rattle.std.proofs.lemmas.Bool.{le-leb}
-use Rattle.ssh_model.specs.DataTypes.{AreBytes}
 use Rattle.ssh_model.specs.Packet.{IsPacket, is_size}
-use Rattle.ssh_model.specs.Seal.{Crypto, Opened, IsSealing, IsSealed, IsWire, is_wire_size, tag_under, block_under}
+use Rattle.ssh_model.specs.Seal.{Crypto, IsSealing, IsSealed, IsWire, is_wire_size}
 
 -- a packet's size with its tag
 wire_size : (block tag size : ℕ) → is_size block tag size ≡ true → is_wire_size block tag (size + tag) ≡ true

@@ -1,0 +1,3 @@
+pub mod Sealing
+pub mod Sizes
+pub mod MacOnlyLaws

@@ -1,0 +1,10 @@
+//! Packets of SSH (RFC 4253 section 6), and their sealing.
+#![tactic(auto)]
+
+mod hmac;
+mod mac_only;
+mod sealing;
+
+pub use hmac::HmacKey;
+pub use mac_only::MacOnly;
+pub use sealing::{Lengths, Sealing};
