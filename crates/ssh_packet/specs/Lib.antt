@@ -1,3 +1,5 @@
 pub mod Sealing
 pub mod Sizes
 pub mod MacOnlyLaws
+pub mod Refusals
+pub mod Reading

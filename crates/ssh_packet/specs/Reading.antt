@@ -1,0 +1,29 @@
+-- What a reader of packets holds, and what one call of it finds.
+use Rattle.std.specs.Prelude.{◌≡◌, ℕ, List, [], Option, None, Some}
+use Rattle.ssh_model.specs.Seal.{Crypto, IsWire, IsBadLength, IsBadTag, IsBadPadding, IsBegun, block_under, tag_under}
+use Rattle.ssh_packet.specs.declared.refusal.PacketRefusal.{PacketRefusal}
+use Rattle.ssh_packet.specs.declared.refusal.PacketRefusal.TheVariants.{BadLength, BadPadding, BadTag}
+use Rattle.ssh_packet.specs.declared.reader.ReadStep.{ReadStep}
+use Rattle.ssh_packet.specs.declared.reader.ReadStep.TheVariants.{Packet, More, Refused}
+
+-- the bytes of the packet begun, the payload that is shown, and the refusal that stays
+pub record Reading : Type 0 where
+  pub rest : List ℕ
+  pub payload : List ℕ
+  pub refused : Option PacketRefusal
+
+-- nothing is begun, and nothing shown
+abbrev pub empty : Reading
+empty = record { rest = []; payload = []; refused = None }
+
+-- the bytes are refused so, under the key and the number
+abbrev pub IsRefused : {K : Type 0} → Crypto K → Option K → ℕ → PacketRefusal → List ℕ → Type 0
+IsRefused c key number BadLength bytes = IsBadLength (block_under c key) (tag_under c key) bytes
+IsRefused c key number BadPadding bytes = IsBadPadding c key number bytes
+IsRefused c key number BadTag bytes = IsBadTag c key number bytes
+
+-- What a reader that held the beginning of these bytes found when it had used them all.
+abbrev pub Finds : {K : Type 0} → Crypto K → Option K → ℕ → List ℕ → ReadStep → Reading → Type 0
+Finds c key number bytes Packet new = IsWire c key number new.payload bytes × (new ≡ record empty { payload = new.payload })
+Finds c key number bytes More new = IsBegun (block_under c key) (tag_under c key) bytes × (new ≡ record empty { rest = bytes })
+Finds c key number bytes (Refused refusal) new = IsRefused c key number refusal bytes × (new ≡ record empty { refused = Some refusal })
