@@ -1,0 +1,4 @@
+pub mod Fronts
+pub mod Integers
+pub mod Mpints
+pub mod Unsigned

@@ -1,0 +1,25 @@
+ghost use Rattle.std.specs.Prelude.{◌≡◌, ◌↔◌, Bool, List, ℕ, ℤ};
+ghost use Rattle.ssh_model.specs.DataTypes.{IsByte, IsBoolean, IsWrittenBoolean, IsUint32, IsUint64, IsString, IsShortest, IsMpint};
+ghost use Rattle.ssh_model.specs.Reading.{OneForm};
+
+/// What spells one value begins with nothing that spells another, so what was written is read again,
+/// whatever follows it.
+pub fn one_form()
+    ensures byte { OneForm IsByte }
+    ensures boolean { OneForm IsBoolean }
+    ensures uint32 { OneForm IsUint32 }
+    ensures uint64 { OneForm IsUint64 }
+    ensures string { OneForm IsString }
+    ensures mpint { OneForm IsMpint }
+{}
+
+/// What a writer stores for a truth value is one of its spellings.
+pub fn written_boolean()
+    ensures { (truth : Bool) (bytes : List ℕ) → IsWrittenBoolean truth bytes → IsBoolean truth bytes }
+{}
+
+/// Two whole numbers are equal exactly if their shortest bytes are.
+#[tactic(auto, using(crate::proofs::Integers::one_shortest, crate::proofs::Integers::one_integer))]
+pub fn one_number()
+    ensures { (y z : ℤ) (a b : List ℕ) → IsShortest y a → IsShortest z b → (y ≡ z) ↔ (a ≡ b) }
+{}

@@ -1,0 +1,18 @@
+//! The data types of SSH as bytes.
+#![tactic(auto)]
+
+mod digits;
+mod laws;
+mod mpint;
+mod put;
+mod reader;
+mod refusal;
+
+pub use laws::{one_form, one_number, written_boolean};
+pub use mpint::MpInt;
+pub use put::Put;
+pub use reader::Reader;
+pub use refusal::Refusal;
+
+#[cfg(test)]
+mod tests;

@@ -1,0 +1,78 @@
+ghost use Rattle.std.specs.Prelude.{IsTrue};
+ghost use Rattle.ssh_types.specs.Digits.{is_canonical as passes_canonical};
+
+use crate::digits::{are_bytes, is_canonical, split_mark};
+
+/// A whole number of any size, as the shortest bytes in two's complement, the most significant first.
+#[derive(Clone, Copy, Debug, PartialEq, Eq)]
+pub struct MpInt<'a> {
+    // One zero byte stands in front of the digits.
+    marked: bool,
+    digits: &'a [u8],
+    ghost canonical: { IsTrue (passes_canonical marked digits.now) },
+}
+
+impl<'a> MpInt<'a> {
+    ghost use Rattle.std.specs.Prelude.{◌≡◌, ◌↔◌, ◌++◌, pos, ◌≤◌, ◌+◌, length, IfSome, IfNone, ℤ};
+    ghost use Rattle.ssh_model.specs.DataTypes.{IsShortest, number};
+    ghost use Rattle.ssh_types.specs.Values.{bytes_of, value_of};
+
+    #[tactic(auto, using(crate::proofs::Integers::unsigned_marked, crate::proofs::Integers::unsigned_low, crate::proofs::Integers::bytes_by_index))]
+    /// The number that the bytes are, unsigned, the most significant first.
+    pub fn from_unsigned(bytes: &'a [u8]) -> MpInt<'a>
+        ensures value { value_of result ≡ pos (number bytes.now) }
+        ensures length { length (bytes_of result) ≤ length bytes.now + 1 }
+    {
+        let mut digits = bytes;
+        while let [0, rest @ ..] = digits {
+            digits = rest;
+        }
+        if let [128..=255, ..] = digits {
+            return MpInt {
+                marked: true,
+                digits,
+            };
+        }
+        MpInt {
+            marked: false,
+            digits,
+        }
+    }
+
+    /// The number whose shortest bytes these are.
+    #[tactic(auto, using(crate::proofs::Integers::shortest_parts, crate::proofs::Integers::spare_parts, crate::proofs::Integers::bytes_by_index))]
+    pub fn from_shortest(bytes: &'a [u8]) -> Option<MpInt<'a>>
+        ensures found { IfSome result (λ m. IsShortest (value_of m) bytes.now) }
+        ensures none { IfNone result ((z : ℤ) → IsShortest z bytes.now → ⊥) }
+    {
+        let (marked, digits) = split_mark(bytes);
+        are_bytes(digits);
+        if !is_canonical(marked, digits) {
+            return None;
+        }
+        Some(MpInt { marked, digits })
+    }
+
+    /// Both are the same number.
+    #[tactic(auto, using(crate::proofs::Integers::same_value))]
+    pub fn is_same(&self, other: &MpInt<'_>) -> bool
+        ensures { IsTrue result ↔ (value_of self.now ≡ value_of other.now) }
+    {
+        are_bytes(self.digits);
+        are_bytes(other.digits);
+        self.marked == other.marked && self.digits == other.digits
+    }
+
+    // The bytes in two parts: the zero byte where there is one, and the digits.
+    #[tactic(auto, using(crate::proofs::Integers::kept_shortest))]
+    pub(crate) fn halves(&self) -> (&'a [u8], &'a [u8])
+        ensures whole { result.0.now ++ result.1.now ≡ bytes_of self.now }
+        ensures shortest { IsShortest (value_of self.now) (result.0.now ++ result.1.now) }
+    {
+        are_bytes(self.digits);
+        if self.marked {
+            return (&[0], self.digits);
+        }
+        (&[], self.digits)
+    }
+}

@@ -1,0 +1,102 @@
+ghost use Rattle.std.specs.Prelude.{◌≡◌, ◌<◌, ◌+◌, ◌^◌, ◌++◌, List, ℕ, length, OnOk, OnErr};
+ghost use Rattle.ssh_model.specs.DataTypes.{IsByte, IsWrittenBoolean, IsUint32, IsUint64, IsString, IsMpint};
+ghost use Rattle.ssh_model.specs.Reading.{Writes, Extends};
+ghost use Rattle.ssh_types.specs.Values.{value_of, bytes_of};
+
+use crate::digits::are_bytes;
+use crate::mpint::MpInt;
+use byteorder::{BigEndian, ByteOrder};
+use std::alloc::AllocError;
+
+/// Writes values at the end of bytes. Where memory runs out, the bytes are as before.
+pub trait Put {
+    ghost contents: { Self → List ℕ };
+
+    fn put_u8(&mut self, byte: u8) -> Result<(), AllocError>
+        ensures written { OnOk result (Writes (IsByte byte) (contents self.old) (contents self.new)) }
+        ensures kept { OnErr result (contents self.new ≡ contents self.old) };
+
+    fn put_boolean(&mut self, truth: bool) -> Result<(), AllocError>
+        ensures written { OnOk result (Writes (IsWrittenBoolean truth) (contents self.old) (contents self.new)) }
+        ensures kept { OnErr result (contents self.new ≡ contents self.old) };
+
+    fn put_u32(&mut self, number: u32) -> Result<(), AllocError>
+        ensures written { OnOk result (Writes (IsUint32 number) (contents self.old) (contents self.new)) }
+        ensures kept { OnErr result (contents self.new ≡ contents self.old) };
+
+    fn put_u64(&mut self, number: u64) -> Result<(), AllocError>
+        ensures written { OnOk result (Writes (IsUint64 number) (contents self.old) (contents self.new)) }
+        ensures kept { OnErr result (contents self.new ≡ contents self.old) };
+
+    fn put_string(&mut self, text: &[u8]) -> Result<(), AllocError>
+        requires { length text.now < 2 ^ 32 }
+        ensures written { OnOk result (Writes (IsString text.now) (contents self.old) (contents self.new)) }
+        ensures kept { OnErr result (contents self.new ≡ contents self.old) };
+
+    fn put_mpint(&mut self, number: &MpInt<'_>) -> Result<(), AllocError>
+        requires { length (bytes_of number.now) < 2 ^ 32 }
+        ensures written { OnOk result (Writes (IsMpint (value_of number.now)) (contents self.old) (contents self.new)) }
+        ensures kept { OnErr result (contents self.new ≡ contents self.old) };
+}
+
+impl Put for Vec<u8> {
+    ghost contents = { λ v. v.items };
+
+    fn put_u8(&mut self, byte: u8) -> Result<(), AllocError> {
+        self.push(byte)?;
+        Ok(())
+    }
+
+    fn put_boolean(&mut self, truth: bool) -> Result<(), AllocError> {
+        self.put_u8(if truth { 1 } else { 0 })
+    }
+
+    fn put_u32(&mut self, number: u32) -> Result<(), AllocError> {
+        let mut bytes = [0u8; 4];
+        BigEndian::write_u32(&mut bytes, number);
+        are_bytes(&bytes);
+        self.extend_from_slice(&bytes)
+    }
+
+    fn put_u64(&mut self, number: u64) -> Result<(), AllocError> {
+        let mut bytes = [0u8; 8];
+        BigEndian::write_u64(&mut bytes, number);
+        are_bytes(&bytes);
+        self.extend_from_slice(&bytes)
+    }
+
+    fn put_string(&mut self, text: &[u8]) -> Result<(), AllocError> {
+        put_joined(self, &[], text)
+    }
+
+    #[tactic(auto, using(crate::proofs::Mpints::writes_mpint))]
+    fn put_mpint(&mut self, number: &MpInt<'_>) -> Result<(), AllocError> {
+        let (front, digits) = number.halves();
+        put_joined(self, front, digits)?;
+        Ok(())
+    }
+}
+
+// Writes a string of two parts.
+fn put_joined(out: &mut Vec<u8>, front: &[u8], text: &[u8]) -> Result<(), AllocError>
+    requires { length front.now + length text.now < 2 ^ 32 }
+    ensures written { OnOk result (Writes (IsString (front.now ++ text.now)) out.old.items out.new.items) }
+    ensures kept { OnErr result (out.new.items ≡ out.old.items) }
+{
+    let start = out.len();
+    out.put_u32((front.len() + text.len()) as u32)?;
+    if let Err(error) = put_both(out, front, text) {
+        out.truncate(start);
+        return Err(error);
+    }
+    Ok(())
+}
+
+// Writes bytes after what is there.
+fn put_both(out: &mut Vec<u8>, front: &[u8], text: &[u8]) -> Result<(), AllocError>
+    ensures written { OnOk result (out.new.items ≡ out.old.items ++ (front.now ++ text.now)) }
+    ensures kept { OnErr result (Extends out.old.items out.new.items) }
+{
+    out.extend_from_slice(front)?;
+    out.extend_from_slice(text)
+}

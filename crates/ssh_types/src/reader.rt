@@ -1,0 +1,142 @@
+ghost use Rattle.ssh_types.specs.declared.refusal.Refusal.TheVariants.{Short, BadNames, NotCanonical, LeftOver};
+ghost use Rattle.std.specs.Prelude.{◌≡◌, ◌<◌, ◌++◌, List, [], ℕ, length, IfOk, IfErr, OnOk, OnErr};
+ghost use Rattle.ssh_model.specs.DataTypes.{IsByte, IsBoolean, IsUint32, IsUint64, IsString, IsMpint};
+ghost use Rattle.ssh_model.specs.Reading.{Reads, NoFront};
+
+use crate::digits::are_bytes;
+use crate::mpint::MpInt;
+use crate::refusal::Refusal;
+use byteorder::{BigEndian, ByteOrder};
+use std::marker::Model;
+
+/// Reads values from the front of bytes. A clause sees it as the bytes that are left.
+#[derive(Drop)]
+pub struct Reader<'a> {
+    rest: &'a [u8],
+}
+
+impl<'a> Model for Reader<'a> {
+    ghost Value = { List ℕ };
+
+    ghost view = { λ r. r.rest.now };
+}
+
+impl<'a> Reader<'a> {
+    ghost use Rattle.ssh_types.specs.Values.{IsMpintRefusal, value_of};
+
+    pub fn new(bytes: &'a [u8]) -> Reader<'a>
+        ensures { result ≡ bytes.now }
+    {
+        Reader { rest: bytes }
+    }
+
+    // A second reader of the same bytes.
+    fn fork(&self) -> Reader<'a>
+        ensures { result ≡ self.now }
+    {
+        Reader { rest: self.rest }
+    }
+
+    // The first bytes, as many as are asked for.
+    fn take(&mut self, count: usize) -> Result<&'a [u8], Refusal>
+        ensures found { IfOk result (λ bytes. (length bytes.now ≡ count) × (self.old ≡ bytes.now ++ self.new)) }
+        ensures refused { IfErr result (λ e. (e ≡ Short) × (self.new ≡ self.old) × (length self.old < count)) }
+    {
+        if self.rest.len() < count {
+            return Err(Refusal::Short);
+        }
+        let (bytes, rest) = self.rest.split_at(count);
+        self.rest = rest;
+        Ok(bytes)
+    }
+
+    /// Reads a byte.
+    pub fn u8(&mut self) -> Result<u8, Refusal>
+        ensures found { IfOk result (λ n. Reads (IsByte n) self.old self.new) }
+        ensures refused { IfErr result (λ e. (e ≡ Short) × (self.new ≡ self.old) × NoFront IsByte self.old) }
+    {
+        let bytes = self.take(1)?;
+        Ok(bytes[0])
+    }
+
+    /// Reads a truth value.
+    pub fn boolean(&mut self) -> Result<bool, Refusal>
+        ensures found { IfOk result (λ truth. Reads (IsBoolean truth) self.old self.new) }
+        ensures refused { IfErr result (λ e. (e ≡ Short) × (self.new ≡ self.old) × NoFront IsBoolean self.old) }
+    {
+        let bytes = self.take(1)?;
+        Ok(bytes[0] != 0)
+    }
+
+    /// Reads a number of four bytes.
+    pub fn u32(&mut self) -> Result<u32, Refusal>
+        ensures found { IfOk result (λ n. Reads (IsUint32 n) self.old self.new) }
+        ensures refused { IfErr result (λ e. (e ≡ Short) × (self.new ≡ self.old) × NoFront IsUint32 self.old) }
+    {
+        let bytes = self.take(4)?;
+        are_bytes(bytes);
+        Ok(BigEndian::read_u32(bytes))
+    }
+
+    /// Reads a number of eight bytes.
+    pub fn u64(&mut self) -> Result<u64, Refusal>
+        ensures found { IfOk result (λ n. Reads (IsUint64 n) self.old self.new) }
+        ensures refused { IfErr result (λ e. (e ≡ Short) × (self.new ≡ self.old) × NoFront IsUint64 self.old) }
+    {
+        let bytes = self.take(8)?;
+        are_bytes(bytes);
+        Ok(BigEndian::read_u64(bytes))
+    }
+
+    /// Reads a text of any bytes.
+    #[tactic(auto, using(crate::proofs::Fronts::no_string_short, crate::proofs::Fronts::no_string_long, crate::proofs::Fronts::reads_string))]
+    pub fn string(&mut self) -> Result<&'a [u8], Refusal>
+        ensures found { IfOk result (λ text. Reads (IsString text.now) self.old self.new) }
+        ensures refused { IfErr result (λ e. (e ≡ Short) × (self.new ≡ self.old) × NoFront IsString self.old) }
+    {
+        let mut ahead = self.fork();
+        let length = ahead.u32()?;
+        let text = ahead.take(length as usize)?;
+        *self = ahead;
+        Ok(text)
+    }
+
+    /// Reads a whole number of any size.
+    #[tactic(auto, using(crate::proofs::Mpints::no_mpint_short, crate::proofs::Mpints::no_mpint_form, crate::proofs::Mpints::reads_mpint, crate::proofs::Mpints::some_string))]
+    pub fn mpint(&mut self) -> Result<MpInt<'a>, Refusal>
+        ensures found { IfOk result (λ m. Reads (IsMpint (value_of m)) self.old self.new) }
+        ensures refused { IfErr result (λ e. IsMpintRefusal e self.old × NoFront IsMpint self.old) }
+        ensures kept { OnErr result (self.new ≡ self.old) }
+    {
+        let mut ahead = self.fork();
+        let bytes = ahead.string()?;
+        let Some(number) = MpInt::from_shortest(bytes) else {
+            return Err(Refusal::NotCanonical);
+        };
+        *self = ahead;
+        Ok(number)
+    }
+
+    /// All bytes that are left.
+    pub fn rest(&mut self) -> &'a [u8]
+        ensures found { result.now ≡ self.old }
+        ensures empty { self.new ≡ [] }
+    {
+        let bytes = self.rest;
+        self.rest = &[];
+        bytes
+    }
+
+    /// Nothing is left.
+    pub fn end(&mut self) -> Result<(), Refusal>
+        ensures found { OnOk result (self.old ≡ []) }
+        ensures refused { IfErr result (λ e. (e ≡ LeftOver) × (0 < length self.old)) }
+        ensures kept { self.new ≡ self.old }
+    {
+        if self.rest.is_empty() {
+            Ok(())
+        } else {
+            Err(Refusal::LeftOver)
+        }
+    }
+}
