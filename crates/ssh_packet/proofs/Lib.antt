@@ -1,3 +1,6 @@
 pub mod Wires
 pub mod Pads
 pub mod Buffers
+pub mod Fields
+pub mod Receiving
+pub mod Readings

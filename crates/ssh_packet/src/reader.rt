@@ -1,14 +1,14 @@
-ghost use Rattle.std.specs.Prelude.{◌≡◌, ◌<◌, ◌≤◌, ◌+◌, ◌-◌, ◌++◌, ℕ, List, [], true, false, length, take, min, drop, IfSome, IfNone, OnOk, IfOk, Some, None};
+ghost use Rattle.std.specs.Prelude.{◌≡◌, ◌≢◌, ◌↔◌, IsTrue, ◌<◌, ◌≤◌, ◌+◌, ◌-◌, ◌++◌, ◌^◌, ℕ, List, [], true, false, length, take, min, drop, IfSome, IfNone, OnOk, IfOk, Some, None};
 ghost use Rattle.std.specs.Vec.{vec_len};
 ghost use Rattle.std.specs.Option.{option_copied};
 ghost use Rattle.ssh_model.specs.DataTypes.{AreBytes};
-ghost use Rattle.ssh_model.specs.Packet.{IsBlock, IsPacket};
-ghost use Rattle.ssh_model.specs.Seal.{HasSize, IsBadLength, IsBegun, block_under, tag_under};
-ghost use Rattle.ssh_packet.specs.Reading.{Finds, Reading, empty};
+ghost use Rattle.ssh_model.specs.Packet.{IsBlock, IsPacket, is_size as fits_size};
+ghost use Rattle.ssh_model.specs.Seal.{HasSize, IsBadLength, IsBegun, IsWhole, block_under, opened_under, tag_under};
+ghost use Rattle.ssh_packet.specs.Reading.{Finds, HasPadding, IsReceived, Reading, empty, inner};
 
 use crate::refusal::PacketRefusal;
 use crate::sealing::Sealing;
-//use ssh_types::Reader;
+use ssh_types::{Reader, are_bytes, one_form};
 use std::alloc::{AllocError, Global};
 use std::marker::Model;
 
@@ -82,6 +82,141 @@ impl PacketReader {
         self.filled
     }
 
+    /// Takes bytes to the end of one packet and no further, and answers how many and what they were. Under `None`
+    /// packets are in clear, with blocks of 8 bytes and no tag.
+    ///
+    /// The length field is judged as soon as its four bytes are there, the tag when the whole packet is, under the
+    /// key and the number of the call that brings the last byte, and the padding after the tag. A reader that refused
+    /// answers the same for good and uses nothing. No call needs memory.
+    ///
+    /// While a packet is begun, the block size and the tag length have to stay the same.
+    pub fn take<S: Sealing>(
+        &mut self,
+        key: Option<&S::Key>,
+        number: u32,
+        bytes: &[u8],
+    ) -> (usize, ReadStep)
+        requires begun { IsBegun (block_under S.crypto (option_copied key)) (tag_under S.crypto (option_copied key)) self.old.rest }
+        ensures used { result.0 ≤ length bytes.now }
+        ensures progress { self.old.refused ≡ None → 0 < length bytes.now → 0 < result.0 }
+        ensures more { result.1 ≡ ReadStep.More → result.0 ≡ length bytes.now }
+        ensures found { self.old.refused ≡ None → Finds S.crypto (option_copied key.entry) number (self.old.rest ++ take result.0 bytes.now) result.1 self.new }
+        ensures refused { IfSome self.old.refused (λ refusal. (result ≡ (0, ReadStep.Refused refusal)) × (self.new ≡ self.old)) }
+    {
+        if let Some(refusal) = self.refused {
+            return (0, ReadStep::Refused(refusal));
+        }
+        let block = block_of::<S>(key);
+        let tag = tag_of::<S>(key);
+        let (used, received) = self.receive(block, tag, bytes);
+        match received {
+            Received::More => (used, ReadStep::More),
+            Received::BadLength => (used, self.refuse(PacketRefusal::BadLength)),
+            Received::Whole => (used, self.judge::<S>(key, number, tag)),
+        }
+    }
+
+    // Judges the whole packet that is there.
+    fn judge<S: Sealing>(&mut self, key: Option<&S::Key>, number: u32, tag: usize) -> ReadStep
+        requires tag { tag ≡ tag_under S.crypto (option_copied key) }
+        requires whole { IsWhole (block_under S.crypto (option_copied key)) tag self.old.rest }
+        requires clear { self.old ≡ record empty { rest = self.old.rest } }
+        ensures found { Finds S.crypto (option_copied key.entry) number self.old.rest result self.new }
+        ensures not_more { result ≢ ReadStep.More }
+    {
+        if !self.open::<S>(key, number) {
+            return self.refuse(PacketRefusal::BadTag);
+        }
+        if !self.show(tag) {
+            return self.refuse(PacketRefusal::BadPadding);
+        }
+        ReadStep::Packet
+    }
+
+    // Opens the whole packet where it lies.
+    fn open<S: Sealing>(&mut self, key: Option<&S::Key>, number: u32) -> bool
+        requires whole { IsWhole (block_under S.crypto (option_copied key)) (tag_under S.crypto (option_copied key)) self.old.rest }
+        requires clear { self.old ≡ record empty { rest = self.old.rest } }
+        ensures good { result ≡ (opened_under S.crypto (option_copied key.entry) number self.old.rest).good }
+        ensures bytes { take (length self.old.rest - tag_under S.crypto (option_copied key.entry)) self.new.rest ≡ (opened_under S.crypto (option_copied key.entry) number self.old.rest).bytes }
+        ensures clear { self.new ≡ record empty { rest = self.new.rest } }
+        ensures size { length self.new.rest ≡ length self.old.rest }
+    {
+        let Some(key) = key else {
+            return true;
+        };
+        S::open(key, number, &mut self.buffer[..self.filled])
+    }
+
+    // Shows the payload of the opened packet, where its padding leaves one, and lets go of its bytes.
+    fn show(&mut self, tag: usize) -> bool
+        requires room { tag + 16 ≤ length self.old.rest }
+        requires clear { self.old ≡ record empty { rest = self.old.rest } }
+        ensures padding { IsTrue result ↔ HasPadding (take (length self.old.rest - tag) self.old.rest) }
+        ensures shown { IsTrue result → self.new ≡ record empty { payload = inner (take (length self.old.rest - tag) self.old.rest) } }
+    {
+        let size = self.filled - tag;
+        let padding = self.buffer[4] as usize;
+        if padding < 4 || padding + 5 >= size {
+            return false;
+        }
+        self.shown = size - 5 - padding;
+        self.filled = 0;
+        true
+    }
+
+    // Refuses from now on.
+    fn refuse(&mut self, refusal: PacketRefusal) -> ReadStep
+        ensures step { result ≡ ReadStep.Refused refusal }
+        ensures after { self.new ≡ record empty { refused = Some refusal } }
+    {
+        self.filled = 0;
+        self.shown = 0;
+        self.refused = Some(refusal);
+        ReadStep::Refused(refusal)
+    }
+
+    // Adds bytes to the end of the length field and, where a packet has that length, to the packet's end.
+    fn receive(&mut self, block: usize, tag: usize, bytes: &[u8]) -> (usize, Received)
+        requires block { IsBlock block }
+        requires tag { tag ≤ 64 }
+        requires begun { IsBegun block tag self.old.rest }
+        requires unrefused { self.old.refused ≡ None }
+        ensures used { result.0 ≤ length bytes.now }
+        ensures progress { 0 < length bytes.now → 0 < result.0 }
+        ensures after { self.new ≡ record empty { rest = self.old.rest ++ take result.0 bytes.now } }
+        ensures received { IsReceived block tag self.new.rest result.1 }
+        ensures more { result.1 ≡ Received.More → result.0 ≡ length bytes.now }
+    {
+        one_form();
+        let front = self.fill(FIELD, bytes);
+        if self.held() < FIELD {
+            return (front, Received::More);
+        }
+        let Some(size) = self.size(block, tag) else {
+            return (front, Received::BadLength);
+        };
+        let after = bytes.split_at(front).1;
+        let back = self.fill(size, after);
+        if self.held() < size {
+            return (front + back, Received::More);
+        }
+        (front + back, Received::Whole)
+    }
+
+    // The size of the packet begun, with its tag.
+    fn size(&self, block: usize, tag: usize) -> Option<usize>
+        requires field { 4 ≤ length self.now.rest }
+        requires block { IsBlock block }
+        requires tag { tag ≤ 64 }
+        ensures size { IfSome result (λ n. HasSize block tag n self.now.rest) }
+        ensures most { IfSome result (λ n. n ≤ 35000) }
+        ensures none { IfNone result (length self.now.rest ≡ 4 → IsBadLength block tag self.now.rest) }
+        ensures other { IfNone result ((n : ℕ) → HasSize block tag n self.now.rest → ⊥) }
+    {
+        size_of(&self.buffer[..self.filled], block, tag)
+    }
+
     // Adds bytes up to this size, as many as there are, and answers how many.
     fn fill(&mut self, size: usize, bytes: &[u8]) -> usize
         requires { size ≤ 35000 }
@@ -95,6 +230,62 @@ impl PacketReader {
         self.shown = 0;
         used
     }
+}
+
+// The block size under a key; in clear 8.
+fn block_of<S: Sealing>(key: Option<&S::Key>) -> usize
+    ensures value { result ≡ block_under S.crypto (option_copied key.entry) }
+    ensures block { IsBlock result }
+{
+    match key {
+        Some(key) => S::block(key),
+        None => 8,
+    }
+}
+
+// The length of the tag under a key; in clear 0.
+fn tag_of<S: Sealing>(key: Option<&S::Key>) -> usize
+    ensures value { result ≡ tag_under S.crypto (option_copied key.entry) }
+    ensures most { result ≤ 64 }
+{
+    match key {
+        Some(key) => S::tag_len(key),
+        None => 0,
+    }
+}
+
+// The size of the packet with its tag that begins so, by its length field; `None` where no packet has that length.
+#[tactic(auto, using(crate::proofs::Fields::has_size))]
+fn size_of(bytes: &[u8], block: usize, tag: usize) -> Option<usize>
+    requires field { 4 ≤ length bytes.now }
+    requires block { IsBlock block }
+    requires tag { tag ≤ 64 }
+    ensures size { IfSome result (λ n. HasSize block tag n bytes.now) }
+    ensures most { IfSome result (λ n. n ≤ 35000) }
+    ensures none { IfNone result (length bytes.now ≡ 4 → IsBadLength block tag bytes.now) }
+    ensures other { IfNone result ((n : ℕ) → HasSize block tag n bytes.now → ⊥) }
+{
+    one_form();
+    are_bytes(bytes);
+    let mut reader = Reader::new(bytes);
+    let Ok(count) = reader.u32() else {
+        return None;
+    };
+    let size = FIELD + count as usize;
+    if !is_size(block, tag, size) {
+        return None;
+    }
+    Some(size + tag)
+}
+
+// A packet without its tag may have this size.
+fn is_size(block: usize, tag: usize, size: usize) -> bool
+    requires block { IsBlock block }
+    requires tag { tag ≤ 64 }
+    requires size { size < 2 ^ 33 }
+    ensures { result ≡ fits_size block tag size }
+{
+    size.is_multiple_of(block.max(8)) && size >= block.max(16) && size + tag <= LARGEST
 }
 
 // Puts bytes into the buffer from a place on.

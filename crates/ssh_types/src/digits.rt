@@ -27,8 +27,8 @@ pub(crate) fn is_canonical(marked: bool, digits: &[u8]) -> bool
     }
 }
 
-// Each byte is below 256.
+/// Each byte of a slice is below 256: a fact for proofs, at no cost.
 #[tactic(auto, using(crate::proofs::Integers::bytes_by_index))]
-pub(crate) fn are_bytes(bytes: &[u8])
+pub fn are_bytes(bytes: &[u8])
     ensures { AreBytes bytes.now }
 {}

@@ -8,6 +8,7 @@ mod put;
 mod reader;
 mod refusal;
 
+pub use digits::are_bytes;
 pub use laws::{one_form, one_number, written_boolean};
 pub use mpint::MpInt;
 pub use put::Put;
