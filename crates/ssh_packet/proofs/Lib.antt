@@ -4,3 +4,4 @@ pub mod Buffers
 pub mod Fields
 pub mod Receiving
 pub mod Readings
+pub mod Opening

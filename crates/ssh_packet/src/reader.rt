@@ -1,9 +1,9 @@
-ghost use Rattle.std.specs.Prelude.{◌≡◌, ◌≢◌, ◌↔◌, IsTrue, ◌<◌, ◌≤◌, ◌+◌, ◌-◌, ◌++◌, ◌^◌, ℕ, List, [], true, false, length, take, min, drop, IfSome, IfNone, OnOk, IfOk, Some, None};
+ghost use Rattle.std.specs.Prelude.{◌≡◌, ◌≢◌, ◌↔◌, IsTrue, ◌<◌, ◌≤◌, ◌+◌, ◌-◌, ◌++◌, ◌^◌, ℕ, List, [], true, false, length, take, min, drop, IfSome, IfNone, OnOk, IfOk, Some, None, slice_index};
 ghost use Rattle.std.specs.Vec.{vec_len};
 ghost use Rattle.std.specs.Option.{option_copied};
 ghost use Rattle.ssh_model.specs.DataTypes.{AreBytes};
 ghost use Rattle.ssh_model.specs.Packet.{IsBlock, IsPacket, is_size as fits_size};
-ghost use Rattle.ssh_model.specs.Seal.{HasSize, IsBadLength, IsBegun, IsWhole, block_under, opened_under, tag_under};
+ghost use Rattle.ssh_model.specs.Seal.{HasSize, IsBadLength, IsBegun, IsWhole, block_under, is_wire_size, opened_under, tag_under};
 ghost use Rattle.ssh_packet.specs.Reading.{Finds, HasPadding, IsReceived, Reading, empty, inner};
 
 use crate::refusal::PacketRefusal;
@@ -124,6 +124,7 @@ impl PacketReader {
         ensures found { Finds S.crypto (option_copied key.entry) number self.old.rest result self.new }
         ensures not_more { result ≢ ReadStep.More }
     {
+        are_bytes(&self.buffer[..self.filled]);
         if !self.open::<S>(key, number) {
             return self.refuse(PacketRefusal::BadTag);
         }
@@ -145,13 +146,14 @@ impl PacketReader {
         let Some(key) = key else {
             return true;
         };
-        S::open(key, number, &mut self.buffer[..self.filled])
+        open_front::<S>(key, number, &mut self.buffer, self.filled)
     }
 
     // Shows the payload of the opened packet, where its padding leaves one, and lets go of its bytes.
     fn show(&mut self, tag: usize) -> bool
         requires room { tag + 16 ≤ length self.old.rest }
         requires clear { self.old ≡ record empty { rest = self.old.rest } }
+        ensures byte { slice_index (take (length self.old.rest - tag) self.old.rest) 4 < 256 }
         ensures padding { IsTrue result ↔ HasPadding (take (length self.old.rest - tag) self.old.rest) }
         ensures shown { IsTrue result → self.new ≡ record empty { payload = inner (take (length self.old.rest - tag) self.old.rest) } }
     {
@@ -286,6 +288,16 @@ fn is_size(block: usize, tag: usize, size: usize) -> bool
     ensures { result ≡ fits_size block tag size }
 {
     size.is_multiple_of(block.max(8)) && size >= block.max(16) && size + tag <= LARGEST
+}
+
+// Opens the packet that the first bytes of the buffer are.
+fn open_front<S: Sealing>(key: &S::Key, number: u32, buffer: &mut [u8], size: usize) -> bool
+    requires within { size ≤ length buffer.old }
+    requires size { IsTrue (is_wire_size (S.crypto.block key.now) (S.crypto.tag key.now) size) }
+    ensures good { result ≡ (S.crypto.opened key.now number (take size buffer.old)).good }
+    ensures bytes { take (size - S.crypto.tag key.now) (take size buffer.new) ≡ (S.crypto.opened key.now number (take size buffer.old)).bytes }
+{
+    S::open(key, number, &mut buffer[..size])
 }
 
 // Puts bytes into the buffer from a place on.
