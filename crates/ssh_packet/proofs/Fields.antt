@@ -1,8 +1,7 @@
 -- The length field in front of a packet.
-use Rattle.std.proofs.Common.{◌≡◌, ℕ, zero, suc, ◌+◌, ◌-◌, ◌<◌, ◌≤◌, true, false, List, [], ◌∷◌, ◌++◌, length, take, drop, refl, sym, ap, subst, ◌∙◌, arith, length-append, append-nil, append_assoc}
+use Rattle.std.proofs.Common.{◌≡◌, ℕ, zero, suc, ◌+◌, ◌≤◌, true, false, List, [], ◌∷◌, ◌++◌, length, take, drop, refl, sym, ap, subst, ◌∙◌, arith, length-append, append-nil, append_assoc}
 use Rattle.std.proofs.lemmas.List.{take-append-drop, length-take-le}
-use Rattle.std.specs.List.{AllByRecursion}
-use Rattle.ssh_model.specs.DataTypes.{AreBytes, IsUint32, IsUnsigned, number}
+use Rattle.ssh_model.specs.DataTypes.{AreBytes, IsUint32, number}
 use Rattle.ssh_model.specs.Reading.{Reads, NoFront, OneForm}
 use Rattle.ssh_model.specs.Packet.{is_size}
 use Rattle.ssh_model.specs.Seal.{HasSize, IsBadLength}

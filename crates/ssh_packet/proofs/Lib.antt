@@ -5,3 +5,4 @@ pub mod Fields
 pub mod Receiving
 pub mod Readings
 pub mod Opening
+pub mod Writing

@@ -1,13 +1,12 @@
 -- What a whole packet is when it is opened.
-use Rattle.std.proofs.Common.{◌≡◌, ℕ, suc, ◌+◌, ◌-◌, ◌<◌, ◌≤◌, ◌^◌, ◌⊎◌, inl, inr, true, false, List, [], ◌∷◌, ◌++◌, length, take, drop, get_or, refl, sym, ap, subst, ◌∙◌, arith, length-append, length-drop, append_assoc, IsTrue, leb}
+use Rattle.std.proofs.Common.{◌≡◌, ℕ, ◌+◌, ◌-◌, ◌<◌, ◌≤◌, ◌^◌, true, List, ◌∷◌, ◌++◌, length, take, drop, get_or, refl, sym, ap, subst, ◌∙◌, arith, length-append, length-drop, IsTrue, leb}
 use Rattle.std.specs.Prelude.{Option, Some, None}
 use Rattle.std.proofs.Math.Seq.{take-append_seam, drop-append_seam, drop-cons}
 use Rattle.std.proofs.lemmas.Bool.{le-leb}
-use Rattle.std.proofs.lemmas.List.{length-take-le, take-append-drop, take-append-le, take-take}
-use Rattle.ssh_model.specs.DataTypes.{AreBytes, IsUint32, IsString}
+use Rattle.std.proofs.lemmas.List.{length-take-le, take-append-drop}
+use Rattle.ssh_model.specs.DataTypes.{AreBytes, IsUint32}
 use Rattle.ssh_model.specs.Packet.{IsBody, IsPacket, is_size}
-use Rattle.ssh_model.specs.Seal.{Crypto, Opened, IsSealing, IsWhole, HasSize, is_wire_size, block_under, tag_under, opened_under}
-use Rattle.ssh_model.specs.Seal.{IsWire, IsBadPadding}
+use Rattle.ssh_model.specs.Seal.{Crypto, IsSealing, IsWhole, is_wire_size, block_under, tag_under, opened_under}
 use Rattle.ssh_packet.specs.Reading.{Finds, HasPadding, Reading, empty, inner}
 use Rattle.ssh_packet.specs.declared.refusal.PacketRefusal.TheVariants.{BadPadding}
 use Rattle.ssh_packet.specs.declared.reader.ReadStep.TheVariants.{Packet, Refused}
@@ -119,9 +118,8 @@ judged_packet {K} c key number tag bytes left new j byte has after =
     let o = opened_whole c key number bytes j.laws j.number_fits j.are_bytes w in
     let packet = (opened_under c key number bytes).bytes in
     let found : IsPacket (block_under c key) (tag_under c key) (inner packet) packet =
-        packet_found (block_under c key) (tag_under c key) bytes packet w o (subst HasPadding e has) (subst (λ (x : List ℕ). get_or x 4 0 < 256) e byte) in
-    let shown : inner packet ≡ new.payload = ap inner (sym e) ∙ sym (ap (λ (r : Reading). r.payload) after) in
-    (
+    packet_found (block_under c key) (tag_under c key) bytes packet w o (subst HasPadding e has) (subst (λ (x : List ℕ). get_or x 4 0 < 256) e byte) in
+    let shown : inner packet ≡ new.payload = ap inner (sym e) ∙ sym (ap (λ (r : Reading). r.payload) after) in (
       record {
         size = whole_size (block_under c key) (tag_under c key) bytes w;
         good = j.good;
@@ -134,8 +132,7 @@ pub judged_padding : {K : Type 0} (c : Crypto K) (key : Option K) (number tag : 
     → (HasPadding (take (length left - tag) left) → ⊥) → new ≡ record empty { refused = Some BadPadding }
     → Finds c key number bytes (Refused BadPadding) new
 judged_padding {K} c key number tag bytes left new j none after =
-    let e = packet_is c key number tag bytes left j in
-    (
+    let e = packet_is c key number tag bytes left j in (
       record {
         whole = whole_is c key number tag bytes left j;
         good = j.good;

@@ -3,3 +3,4 @@ pub mod Sizes
 pub mod MacOnlyLaws
 pub mod Refusals
 pub mod Reading
+pub mod Writing

@@ -6,6 +6,7 @@ ghost use Rattle.ssh_model.specs.Packet.{IsBlock, IsPacket, is_size as fits_size
 ghost use Rattle.ssh_model.specs.Seal.{HasSize, IsBadLength, IsBegun, IsWhole, block_under, is_wire_size, opened_under, tag_under};
 ghost use Rattle.ssh_packet.specs.Reading.{Finds, HasPadding, IsReceived, Reading, empty, inner};
 
+use crate::keys::{block_of, tag_of};
 use crate::refusal::PacketRefusal;
 use crate::sealing::Sealing;
 use ssh_types::{Reader, are_bytes, one_form};
@@ -14,6 +15,7 @@ use std::marker::Model;
 
 // The bytes of the largest packet with its tag, and those of a length field.
 const LARGEST: usize = 35_000;
+
 const FIELD: usize = 4;
 
 /// What one call of `PacketReader::take` found.
@@ -231,28 +233,6 @@ impl PacketReader {
         self.filled += used;
         self.shown = 0;
         used
-    }
-}
-
-// The block size under a key; in clear 8.
-fn block_of<S: Sealing>(key: Option<&S::Key>) -> usize
-    ensures value { result ≡ block_under S.crypto (option_copied key.entry) }
-    ensures block { IsBlock result }
-{
-    match key {
-        Some(key) => S::block(key),
-        None => 8,
-    }
-}
-
-// The length of the tag under a key; in clear 0.
-fn tag_of<S: Sealing>(key: Option<&S::Key>) -> usize
-    ensures value { result ≡ tag_under S.crypto (option_copied key.entry) }
-    ensures most { result ≤ 64 }
-{
-    match key {
-        Some(key) => S::tag_len(key),
-        None => 0,
     }
 }
 

@@ -1,4 +1,4 @@
-use Rattle.std.proofs.Common.{◌≡◌, ◌∙◌, ℕ, List, take, sym, ap, true, false, arith, subst}
+use Rattle.std.proofs.Common.{◌≡◌, ◌∙◌, take, sym, ap, true, false, arith, subst}
 use Rattle.std.specs.Option.{option_copied}
 use Rattle.ssh_model.specs.DataTypes.{AreBytes}
 use Rattle.ssh_packet.specs.Reading.{Reading}

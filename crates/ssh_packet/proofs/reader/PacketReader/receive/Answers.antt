@@ -1,4 +1,4 @@
-use Rattle.std.proofs.Common.{◌≡◌, ◌+◌, ◌++◌, ◌≤◌, ℕ, List, length, take, drop, ap, sym, ◌∙◌, subst, arith, refl}
+use Rattle.std.proofs.Common.{◌+◌, ◌++◌, length, take, ap, ◌∙◌, arith}
 use Rattle.ssh_packet.specs.Reading.{Reading}
 use Rattle.ssh_packet.proofs.Readings.{holds_rest}
 use Rattle.ssh_packet.proofs.Receiving.{Begun, bad_field, bad_progress, goes_on, size_progress, joined, whole}
