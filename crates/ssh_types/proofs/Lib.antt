@@ -1,4 +1,5 @@
 pub mod Fronts
 pub mod Integers
+pub mod Joined
 pub mod Mpints
 pub mod Unsigned

@@ -1,5 +1,5 @@
 ghost use Rattle.std.specs.Prelude.{◌≡◌, ◌↔◌, Bool, List, ℕ, ℤ};
-ghost use Rattle.ssh_model.specs.DataTypes.{IsByte, IsBoolean, IsWrittenBoolean, IsUint32, IsUint64, IsString, IsShortest, IsMpint};
+ghost use Rattle.ssh_model.specs.DataTypes.{IsByte, IsBoolean, IsWrittenBoolean, IsUint32, IsUint64, IsString, IsShortest, IsMpint, IsNameList};
 ghost use Rattle.ssh_model.specs.Reading.{OneForm};
 
 /// What spells one value begins with nothing that spells another, so what was written is read again,
@@ -11,6 +11,7 @@ pub fn one_form()
     ensures uint64 { OneForm IsUint64 }
     ensures string { OneForm IsString }
     ensures mpint { OneForm IsMpint }
+    ensures names { OneForm IsNameList }
 {}
 
 /// What a writer stores for a truth value is one of its spellings.

@@ -4,12 +4,17 @@
 mod digits;
 mod laws;
 mod mpint;
+mod name;
+mod name_bytes;
+mod name_list;
 mod put;
 mod reader;
 mod refusal;
 
 pub use laws::{one_form, one_number, written_boolean};
 pub use mpint::MpInt;
+pub use name::Name;
+pub use name_list::{NameList, Names};
 pub use put::Put;
 pub use reader::Reader;
 pub use refusal::Refusal;

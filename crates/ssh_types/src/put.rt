@@ -1,10 +1,11 @@
 ghost use Rattle.std.specs.Prelude.{◌≡◌, ◌<◌, ◌+◌, ◌^◌, ◌++◌, List, ℕ, length, OnOk, OnErr};
-ghost use Rattle.ssh_model.specs.DataTypes.{IsByte, IsWrittenBoolean, IsUint32, IsUint64, IsString, IsMpint};
+ghost use Rattle.ssh_model.specs.DataTypes.{IsByte, IsWrittenBoolean, IsUint32, IsUint64, IsString, IsMpint, IsNameList};
 ghost use Rattle.ssh_model.specs.Reading.{Writes, Extends};
-ghost use Rattle.ssh_types.specs.Values.{value_of, bytes_of};
+ghost use Rattle.ssh_types.specs.Values.{value_of, bytes_of, names, names_text};
 
 use crate::digits::are_bytes;
 use crate::mpint::MpInt;
+use crate::name_list::NameList;
 use byteorder::{BigEndian, ByteOrder};
 use std::alloc::AllocError;
 
@@ -36,6 +37,11 @@ pub trait Put {
     fn put_mpint(&mut self, number: &MpInt<'_>) -> Result<(), AllocError>
         requires { length (bytes_of number.now) < 2 ^ 32 }
         ensures written { OnOk result (Writes (IsMpint (value_of number.now)) (contents self.old) (contents self.new)) }
+        ensures kept { OnErr result (contents self.new ≡ contents self.old) };
+
+    fn put_names(&mut self, list: &NameList<'_>) -> Result<(), AllocError>
+        requires { length (names_text list.now) < 2 ^ 32 }
+        ensures written { OnOk result (Writes (IsNameList (names list.now)) (contents self.old) (contents self.new)) }
         ensures kept { OnErr result (contents self.new ≡ contents self.old) };
 }
 
@@ -74,6 +80,11 @@ impl Put for Vec<u8> {
         let (front, digits) = number.halves();
         put_joined(self, front, digits)?;
         Ok(())
+    }
+
+    #[tactic(auto, using(crate::proofs::Joined::writes_names))]
+    fn put_names(&mut self, list: &NameList<'_>) -> Result<(), AllocError> {
+        self.put_string(list.as_bytes())
     }
 }
 

@@ -1,10 +1,11 @@
 ghost use Rattle.ssh_types.specs.declared.refusal.Refusal.TheVariants.{Short, BadNames, NotCanonical, LeftOver};
 ghost use Rattle.std.specs.Prelude.{◌≡◌, ◌<◌, ◌++◌, List, [], ℕ, length, IfOk, IfErr, OnOk, OnErr};
-ghost use Rattle.ssh_model.specs.DataTypes.{IsByte, IsBoolean, IsUint32, IsUint64, IsString, IsMpint};
+ghost use Rattle.ssh_model.specs.DataTypes.{IsByte, IsBoolean, IsUint32, IsUint64, IsString, IsMpint, IsNameList};
 ghost use Rattle.ssh_model.specs.Reading.{Reads, NoFront};
 
 use crate::digits::are_bytes;
 use crate::mpint::MpInt;
+use crate::name_list::NameList;
 use crate::refusal::Refusal;
 use byteorder::{BigEndian, ByteOrder};
 use std::marker::Model;
@@ -22,7 +23,7 @@ impl<'a> Model for Reader<'a> {
 }
 
 impl<'a> Reader<'a> {
-    ghost use Rattle.ssh_types.specs.Values.{IsMpintRefusal, value_of};
+    ghost use Rattle.ssh_types.specs.Values.{IsMpintRefusal, IsNamesRefusal, value_of, names};
 
     pub fn new(bytes: &'a [u8]) -> Reader<'a>
         ensures { result ≡ bytes.now }
@@ -115,6 +116,22 @@ impl<'a> Reader<'a> {
         };
         *self = ahead;
         Ok(number)
+    }
+
+    /// Reads names joined by commas.
+    #[tactic(auto, using(crate::proofs::Joined::no_names_short, crate::proofs::Joined::no_names_form, crate::proofs::Joined::reads_names, crate::proofs::Mpints::some_string))]
+    pub fn names(&mut self) -> Result<NameList<'a>, Refusal>
+        ensures found { IfOk result (λ list. Reads (IsNameList (names list)) self.old self.new) }
+        ensures refused { IfErr result (λ e. IsNamesRefusal e self.old × NoFront IsNameList self.old) }
+        ensures kept { OnErr result (self.new ≡ self.old) }
+    {
+        let mut ahead = self.fork();
+        let text = ahead.string()?;
+        let Some(list) = NameList::new(text) else {
+            return Err(Refusal::BadNames);
+        };
+        *self = ahead;
+        Ok(list)
     }
 
     /// All bytes that are left.
