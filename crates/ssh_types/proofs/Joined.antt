@@ -1,8 +1,8 @@
 -- Names joined by commas are the names between commas.
 use Rattle.std.proofs.Common.{◌≡◌, ℕ, ◌≤◌, true, false, cond, ◌&&◌, leb, eqb, List, [], ◌∷◌, length, ltb, ◌++◌, ◌+◌, take-append-drop, subst, refl, sym, ap, inl, inr, ◌∙◌, arith}
-use Rattle.std.specs.Prelude.{Option, Some, None, take, drop, get_or}
+use Rattle.std.specs.Prelude.{Some, None, take, drop, get_or}
 use Rattle.std.specs.List.{join_with_byte, slice_split, list_all, All, AllByRecursion, count_by, position, position_or_len}
-use Rattle.std.proofs.lemmas.Bool.{and_parts, leb-true, cases_Bool, cond-true, cond-false, ltb-false}
+use Rattle.std.proofs.lemmas.Bool.{and_parts, leb-true, cases_Bool, cond-true, ltb-false}
 use Rattle.std.proofs.lemmas.Grind.{common_steps}
 use Rattle.std.proofs.lemmas.List.{drop_more}
 use Rattle.std.proofs.lemmas.List.Quantifiers.{position-Some}

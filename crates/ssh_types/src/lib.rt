@@ -11,7 +11,7 @@ mod put;
 mod reader;
 mod refusal;
 
-pub use laws::{one_form, one_number, written_boolean};
+pub use laws::{one_form, one_number, one_spelling, written_boolean};
 pub use mpint::MpInt;
 pub use name::Name;
 pub use name_list::{NameList, Names};

@@ -13,8 +13,9 @@ pub struct MpInt<'a> {
 }
 
 impl<'a> MpInt<'a> {
-    ghost use Rattle.std.specs.Prelude.{◌≡◌, ◌↔◌, ◌++◌, pos, ◌≤◌, ◌+◌, length, IfSome, IfNone, ℤ};
+    ghost use Rattle.std.specs.Prelude.{◌≡◌, ◌↔◌, ◌++◌, pos, ◌≤◌, ◌+◌, length, false, IfSome, IfNone, ℤ};
     ghost use Rattle.ssh_model.specs.DataTypes.{IsShortest, number};
+    ghost use Rattle.ssh_types.specs.Digits.{marked_bytes, starts_with_zero};
     ghost use Rattle.ssh_types.specs.Values.{bytes_of, value_of};
 
     #[tactic(auto, using(crate::proofs::Integers::unsigned_marked, crate::proofs::Integers::unsigned_low, crate::proofs::Integers::bytes_by_index))]
@@ -43,6 +44,7 @@ impl<'a> MpInt<'a> {
     #[tactic(auto, using(crate::proofs::Integers::shortest_parts, crate::proofs::Integers::spare_parts, crate::proofs::Integers::bytes_by_index))]
     pub fn from_shortest(bytes: &'a [u8]) -> Option<MpInt<'a>>
         ensures found { IfSome result (λ m. IsShortest (value_of m) bytes.now) }
+        ensures bytes { IfSome result (λ m. bytes_of m ≡ bytes.now) }
         ensures none { IfNone result ((z : ℤ) → IsShortest z bytes.now → ⊥) }
     {
         let (marked, digits) = split_mark(bytes);
@@ -61,6 +63,14 @@ impl<'a> MpInt<'a> {
         are_bytes(self.digits);
         are_bytes(other.digits);
         self.marked == other.marked && self.digits == other.digits
+    }
+
+    /// The mark whether one zero byte stands in front, and the bytes after it, which never begin with one.
+    pub fn parts(&self) -> (bool, &'a [u8])
+        ensures whole { marked_bytes result.0 result.1.now ≡ bytes_of self.now }
+        ensures digits { starts_with_zero result.1.now ≡ false }
+    {
+        (self.marked, self.digits)
     }
 
     // The bytes in two parts: the zero byte where there is one, and the digits.

@@ -1,5 +1,5 @@
 ghost use Rattle.ssh_types.specs.declared.refusal.Refusal.TheVariants.{Short, BadNames, NotCanonical, LeftOver};
-ghost use Rattle.std.specs.Prelude.{◌≡◌, ◌<◌, ◌++◌, List, [], ℕ, length, IfOk, IfErr, OnOk, OnErr};
+ghost use Rattle.std.specs.Prelude.{◌≡◌, ◌<◌, ◌^◌, ◌++◌, List, [], ℕ, length, IfOk, IfErr, OnOk, OnErr};
 ghost use Rattle.ssh_model.specs.DataTypes.{IsByte, IsBoolean, IsUint32, IsUint64, IsString, IsMpint, IsNameList};
 ghost use Rattle.ssh_model.specs.Reading.{Reads, NoFront};
 
@@ -23,7 +23,7 @@ impl<'a> Model for Reader<'a> {
 }
 
 impl<'a> Reader<'a> {
-    ghost use Rattle.ssh_types.specs.Values.{IsMpintRefusal, IsNamesRefusal, value_of, names};
+    ghost use Rattle.ssh_types.specs.Values.{IsMpintRefusal, IsNamesRefusal, value_of, bytes_of, names, names_text};
 
     pub fn new(bytes: &'a [u8]) -> Reader<'a>
         ensures { result ≡ bytes.now }
@@ -93,6 +93,7 @@ impl<'a> Reader<'a> {
     #[tactic(auto, using(crate::proofs::Fronts::no_string_short, crate::proofs::Fronts::no_string_long, crate::proofs::Fronts::reads_string))]
     pub fn string(&mut self) -> Result<&'a [u8], Refusal>
         ensures found { IfOk result (λ text. Reads (IsString text.now) self.old self.new) }
+        ensures length { IfOk result (λ text. length text.now < 2 ^ 32) }
         ensures refused { IfErr result (λ e. (e ≡ Short) × (self.new ≡ self.old) × NoFront IsString self.old) }
     {
         let mut ahead = self.fork();
@@ -106,6 +107,7 @@ impl<'a> Reader<'a> {
     #[tactic(auto, using(crate::proofs::Mpints::no_mpint_short, crate::proofs::Mpints::no_mpint_form, crate::proofs::Mpints::reads_mpint, crate::proofs::Mpints::some_string))]
     pub fn mpint(&mut self) -> Result<MpInt<'a>, Refusal>
         ensures found { IfOk result (λ m. Reads (IsMpint (value_of m)) self.old self.new) }
+        ensures length { IfOk result (λ m. length (bytes_of m) < 2 ^ 32) }
         ensures refused { IfErr result (λ e. IsMpintRefusal e self.old × NoFront IsMpint self.old) }
         ensures kept { OnErr result (self.new ≡ self.old) }
     {
@@ -122,6 +124,7 @@ impl<'a> Reader<'a> {
     #[tactic(auto, using(crate::proofs::Joined::no_names_short, crate::proofs::Joined::no_names_form, crate::proofs::Joined::reads_names, crate::proofs::Mpints::some_string))]
     pub fn names(&mut self) -> Result<NameList<'a>, Refusal>
         ensures found { IfOk result (λ list. Reads (IsNameList (names list)) self.old self.new) }
+        ensures length { IfOk result (λ list. length (names_text list) < 2 ^ 32) }
         ensures refused { IfErr result (λ e. IsNamesRefusal e self.old × NoFront IsNameList self.old) }
         ensures kept { OnErr result (self.new ≡ self.old) }
     {
