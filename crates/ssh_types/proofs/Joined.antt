@@ -6,8 +6,8 @@ use Rattle.std.proofs.lemmas.Bool.{and_parts, leb-true, cases_Bool, cond-true, l
 use Rattle.std.proofs.lemmas.Grind.{common_steps}
 use Rattle.std.proofs.lemmas.List.{drop_more}
 use Rattle.std.proofs.lemmas.List.Quantifiers.{position-Some}
-use Rattle.std.proofs.lemmas.List.Sums.{fails_before_first}
-use Rattle.std.proofs.lemmas.List.Splits.{slice_split_none, slice_split_at, join_with_byte-slice_split}
+use Rattle.std.proofs.lemmas.List.Sums.{fails_before_first, count_by-le-length}
+use Rattle.std.proofs.lemmas.List.Splits.{slice_split_none, slice_split_at, length-slice_split, join_with_byte-slice_split}
 use Rattle.std.proofs.lemmas.List.Elements.{All-from_recursion}
 use Rattle.ssh_model.specs.DataTypes.{is_comma, is_name_byte, is_name, IsString, IsNameText, IsNameList}
 use Rattle.ssh_model.specs.Reading.{Reads, NoFront, OneForm, Writes}
@@ -70,6 +70,14 @@ names_of_text (name ∷ names) text t =
 pub no_text : (text : List ℕ) → are_names text ≡ false → (names : List (List ℕ)) → IsNameText names text → ⊥
 no_text text spoilt names t =
     let e : true ≡ false = sym t.all ∙ ap (list_all is_name) (sym (names_of_text names text t)) ∙ spoilt in cc
+
+-- There is at most one name more than there are bytes.
+pub names_fit : (text : List ℕ) → length (names_of text) ≤ length text + 1
+names_fit [] = omega arith
+names_fit (c ∷ cs) =
+    let parts = length-slice_split is_comma (c ∷ cs) in
+    let commas = count_by-le-length is_comma (c ∷ cs) in
+    omega arith
 
 -- ---- the first comma
 

@@ -4,27 +4,27 @@ ghost use Rattle.ssh_types.specs.Names.{are_names as passes_names};
 use crate::name::Name;
 use crate::name_bytes::{are_names, split_comma};
 
-/// Checked names joined by commas (RFC 4251 section 5). The empty text is the list of no names.
+/// A text of checked names joined by commas (the name-list of RFC 4251 section 5). The empty text is the list of no names.
 #[derive(Clone, Copy, Debug, PartialEq, Eq)]
 pub struct NameList<'a> {
     text: &'a [u8],
     ghost checked: { IsTrue (passes_names text.now) },
 }
 
-/// Goes over the names of a `NameList`, in order.
+/// Goes over the names of a `NameList` in order, without memory.
 #[derive(Clone, Copy, Debug)]
 pub struct Names<'a> {
     rest: NameList<'a>,
 }
 
 impl<'a> NameList<'a> {
-    ghost use Rattle.std.specs.Prelude.{◌≡◌, ◌↔◌, ℕ, List, [], ◌∷◌, IfSome, IfNone};
+    ghost use Rattle.std.specs.Prelude.{◌≡◌, ◌↔◌, ℕ, ◌<◌, ◌^◌, length, List, [], ◌∷◌, IfSome, IfNone};
     ghost use Rattle.std.specs.List.{slice_get, Contains};
     ghost use Rattle.std.specs.Option.{option_map};
     ghost use Rattle.ssh_model.specs.DataTypes.{IsNameText};
     ghost use Rattle.ssh_types.specs.Values.{name_text, names, names_text, names_left};
 
-    /// The list that the text is, or `None` where a part of the text between commas is no name.
+    /// The list that the text is, or `None` where the text isn't empty and a part of it between commas is no name.
     #[tactic(auto, using(crate::proofs::Joined::text_of_names, crate::proofs::Joined::no_text))]
     pub fn new(text: &'a [u8]) -> Option<NameList<'a>>
         ensures found { IfSome result (λ list. IsNameText (names list) text.now) }
@@ -46,7 +46,7 @@ impl<'a> NameList<'a> {
         self.text
     }
 
-    /// No name is in the list.
+    /// Tests whether the list has no names.
     pub fn is_empty(&self) -> bool
         ensures { IsTrue result ↔ (names self.now ≡ []) }
     {
@@ -54,13 +54,15 @@ impl<'a> NameList<'a> {
     }
 
     /// The names, in order.
+    #[tactic(auto, using(crate::proofs::Joined::names_fit))]
     pub fn iter(&self) -> Names<'a>
-        ensures { names_left result ≡ names self.now }
+        ensures names { names_left result ≡ names self.now }
+        ensures fits { length (names self.now) < 2 ^ 64 }
     {
         Names { rest: *self }
     }
 
-    /// The name is in the list.
+    /// Tests whether the name is one of the list, byte by byte.
     pub fn contains(&self, name: &[u8]) -> bool
         ensures { IsTrue result ↔ Contains (names self.now) name.now }
     {
@@ -81,7 +83,7 @@ impl<'a> NameList<'a> {
         ensures found { IfSome result (λ parts. names self.now ≡ name_text parts.0 ∷ names parts.1) }
         ensures none { IfNone result (names self.now ≡ []) }
     {
-        if self.text.is_empty() {
+        if self.is_empty() {
             return None;
         }
         let Some((bytes, text)) = split_comma(self.text) else {
