@@ -207,7 +207,7 @@ spare_parts m digits bytes spoilt whole first z s =
 
 -- ---- one list for each number
 
-one_list : (a b : List ℕ) → AreBytes a → AreBytes b → length a ≡ length b → number a ≡ number b → a ≡ b
+pub one_list : (a b : List ℕ) → AreBytes a → AreBytes b → length a ≡ length b → number a ≡ number b → a ≡ b
 one_list [] [] h k l e = refl
 one_list [] (y ∷ b) h k l e = absurd (omega arith)
 one_list (x ∷ a) [] h k l e = absurd (omega arith)

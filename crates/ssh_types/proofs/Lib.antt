@@ -1,4 +1,6 @@
 pub mod Fronts
 pub mod Integers
+pub mod Joined
 pub mod Mpints
+pub mod Spellings
 pub mod Unsigned

@@ -1,2 +1,4 @@
 pub mod Digits
+pub mod Names
+pub mod Refusals
 pub mod Values

@@ -1,11 +1,15 @@
 -- What the types of this crate stand for, and which refusal comes when.
 use Rattle.std.specs.Prelude.{List, ℕ, ℤ}
 use Rattle.ssh_types.specs.declared.mpint.MpInt.{MpInt}
+use Rattle.ssh_types.specs.declared.name.Name.{Name}
+use Rattle.ssh_types.specs.declared.name_list.NameList.{NameList}
+use Rattle.ssh_types.specs.declared.name_list.Names.{Names}
 use Rattle.ssh_types.specs.declared.refusal.Refusal.{Refusal}
 use Rattle.ssh_types.specs.declared.refusal.Refusal.TheVariants.{Short, BadNames, NotCanonical, LeftOver}
 use Rattle.ssh_model.specs.DataTypes.{integer, IsString}
 use Rattle.ssh_model.specs.Reading.{NoFront}
 use Rattle.ssh_types.specs.Digits.{marked_bytes}
+use Rattle.ssh_types.specs.Names.{names_of}
 
 -- the bytes that stand for a number
 abbrev pub bytes_of : MpInt → List ℕ
@@ -15,9 +19,32 @@ bytes_of m = marked_bytes m.marked m.digits.now
 abbrev pub value_of : MpInt → ℤ
 value_of m = integer (bytes_of m)
 
+-- the bytes of a name
+abbrev pub name_text : Name → List ℕ
+name_text name = name.bytes.now
+
+-- the text of a list, with its commas
+abbrev pub names_text : NameList → List ℕ
+names_text list = list.text.now
+
+-- the names of a list, in order
+abbrev pub names : NameList → List (List ℕ)
+names list = names_of list.text.now
+
+-- the names that are still to come
+abbrev pub names_left : Names → List (List ℕ)
+names_left it = names it.rest
+
 -- why no number was read: no string is there, or one whose bytes are not the shortest
 abbrev pub IsMpintRefusal : Refusal → List ℕ → Type 0
 IsMpintRefusal Short before = NoFront IsString before
 IsMpintRefusal NotCanonical before = NoFront IsString before → ⊥
 IsMpintRefusal BadNames before = ⊥
 IsMpintRefusal LeftOver before = ⊥
+
+-- why no names were read: no string is there, or one whose text is no list of names
+abbrev pub IsNamesRefusal : Refusal → List ℕ → Type 0
+IsNamesRefusal Short before = NoFront IsString before
+IsNamesRefusal BadNames before = NoFront IsString before → ⊥
+IsNamesRefusal NotCanonical before = ⊥
+IsNamesRefusal LeftOver before = ⊥

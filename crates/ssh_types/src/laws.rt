@@ -1,6 +1,6 @@
 ghost use Rattle.std.specs.Prelude.{◌≡◌, ◌↔◌, Bool, List, ℕ, ℤ};
-ghost use Rattle.ssh_model.specs.DataTypes.{IsByte, IsBoolean, IsWrittenBoolean, IsUint32, IsUint64, IsString, IsShortest, IsMpint};
-ghost use Rattle.ssh_model.specs.Reading.{OneForm};
+ghost use Rattle.ssh_model.specs.DataTypes.{IsByte, IsBoolean, IsWrittenBoolean, IsUint32, IsUint64, IsString, IsShortest, IsMpint, IsNameList};
+ghost use Rattle.ssh_model.specs.Reading.{OneForm, OneSpelling};
 
 /// What spells one value begins with nothing that spells another, so what was written is read again,
 /// whatever follows it.
@@ -11,6 +11,18 @@ pub fn one_form()
     ensures uint64 { OneForm IsUint64 }
     ensures string { OneForm IsString }
     ensures mpint { OneForm IsMpint }
+    ensures names { OneForm IsNameList }
+{}
+
+/// A value is written in one way. A truth value is read from more bytes than are ever written for it.
+pub fn one_spelling()
+    ensures byte { OneSpelling IsByte }
+    ensures boolean { OneSpelling IsWrittenBoolean }
+    ensures uint32 { OneSpelling IsUint32 }
+    ensures uint64 { OneSpelling IsUint64 }
+    ensures string { OneSpelling IsString }
+    ensures mpint { OneSpelling IsMpint }
+    ensures names { OneSpelling IsNameList }
 {}
 
 /// What a writer stores for a truth value is one of its spellings.

@@ -3,7 +3,11 @@ ghost use Rattle.ssh_types.specs.Digits.{is_canonical as passes_canonical};
 
 use crate::digits::{are_bytes, is_canonical, split_mark};
 
-/// A whole number of any size, as the shortest bytes in two's complement, the most significant first.
+/// A whole number of any size, as its shortest bytes in two's complement, the most significant first (the mpint of
+/// RFC 4251 section 5). Zero has no bytes.
+///
+/// It is a slice of bytes and a mark whether one zero byte stands in front of them. A zero byte in front is always the
+/// mark, and never in the slice. Numbers are equal if their bytes are.
 #[derive(Clone, Copy, Debug, PartialEq, Eq)]
 pub struct MpInt<'a> {
     // One zero byte stands in front of the digits.
@@ -13,12 +17,14 @@ pub struct MpInt<'a> {
 }
 
 impl<'a> MpInt<'a> {
-    ghost use Rattle.std.specs.Prelude.{◌≡◌, ◌↔◌, ◌++◌, pos, ◌≤◌, ◌+◌, length, IfSome, IfNone, ℤ};
+    ghost use Rattle.std.specs.Prelude.{◌≡◌, ◌↔◌, ◌++◌, pos, ◌≤◌, ◌+◌, length, false, IfSome, IfNone, ℤ};
     ghost use Rattle.ssh_model.specs.DataTypes.{IsShortest, number};
+    ghost use Rattle.ssh_types.specs.Digits.{marked_bytes, starts_with_zero};
     ghost use Rattle.ssh_types.specs.Values.{bytes_of, value_of};
 
     #[tactic(auto, using(crate::proofs::Integers::unsigned_marked, crate::proofs::Integers::unsigned_low, crate::proofs::Integers::bytes_by_index))]
-    /// The number that the bytes are, unsigned, the most significant first.
+    /// The number that the bytes are, unsigned, the most significant first. Zero bytes in front are left away, and the mark
+    /// is set where the first bit after them would else be read as a sign.
     pub fn from_unsigned(bytes: &'a [u8]) -> MpInt<'a>
         ensures value { value_of result ≡ pos (number bytes.now) }
         ensures length { length (bytes_of result) ≤ length bytes.now + 1 }
@@ -39,10 +45,11 @@ impl<'a> MpInt<'a> {
         }
     }
 
-    /// The number whose shortest bytes these are.
+    /// The number whose shortest bytes these are, or `None` where they are the shortest of no number.
     #[tactic(auto, using(crate::proofs::Integers::shortest_parts, crate::proofs::Integers::spare_parts, crate::proofs::Integers::bytes_by_index))]
     pub fn from_shortest(bytes: &'a [u8]) -> Option<MpInt<'a>>
         ensures found { IfSome result (λ m. IsShortest (value_of m) bytes.now) }
+        ensures bytes { IfSome result (λ m. bytes_of m ≡ bytes.now) }
         ensures none { IfNone result ((z : ℤ) → IsShortest z bytes.now → ⊥) }
     {
         let (marked, digits) = split_mark(bytes);
@@ -53,7 +60,7 @@ impl<'a> MpInt<'a> {
         Some(MpInt { marked, digits })
     }
 
-    /// Both are the same number.
+    /// Tests whether both are the same number.
     #[tactic(auto, using(crate::proofs::Integers::same_value))]
     pub fn is_same(&self, other: &MpInt<'_>) -> bool
         ensures { IsTrue result ↔ (value_of self.now ≡ value_of other.now) }
@@ -61,6 +68,14 @@ impl<'a> MpInt<'a> {
         are_bytes(self.digits);
         are_bytes(other.digits);
         self.marked == other.marked && self.digits == other.digits
+    }
+
+    /// The mark whether one zero byte stands in front, and the bytes after it, which never begin with one.
+    pub fn parts(&self) -> (bool, &'a [u8])
+        ensures whole { marked_bytes result.0 result.1.now ≡ bytes_of self.now }
+        ensures digits { starts_with_zero result.1.now ≡ false }
+    {
+        (self.marked, self.digits)
     }
 
     // The bytes in two parts: the zero byte where there is one, and the digits.

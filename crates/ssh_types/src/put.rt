@@ -1,41 +1,57 @@
 ghost use Rattle.std.specs.Prelude.{◌≡◌, ◌<◌, ◌+◌, ◌^◌, ◌++◌, List, ℕ, length, OnOk, OnErr};
-ghost use Rattle.ssh_model.specs.DataTypes.{IsByte, IsWrittenBoolean, IsUint32, IsUint64, IsString, IsMpint};
+ghost use Rattle.ssh_model.specs.DataTypes.{IsByte, IsWrittenBoolean, IsUint32, IsUint64, IsString, IsMpint, IsNameList};
 ghost use Rattle.ssh_model.specs.Reading.{Writes, Extends};
-ghost use Rattle.ssh_types.specs.Values.{value_of, bytes_of};
+ghost use Rattle.ssh_types.specs.Values.{value_of, bytes_of, names, names_text};
 
 use crate::digits::are_bytes;
 use crate::mpint::MpInt;
+use crate::name_list::NameList;
 use byteorder::{BigEndian, ByteOrder};
 use std::alloc::AllocError;
 
-/// Writes values at the end of bytes. Where memory runs out, the bytes are as before.
+/// Writes values at the end of bytes, as RFC 4251 section 5 spells them.
+///
+/// Each call gives an `AllocError` only where the bytes had to grow and memory was refused. The bytes are then as before
+/// the call.
 pub trait Put {
     ghost contents: { Self → List ℕ };
 
+    /// Writes a byte.
     fn put_u8(&mut self, byte: u8) -> Result<(), AllocError>
         ensures written { OnOk result (Writes (IsByte byte) (contents self.old) (contents self.new)) }
         ensures kept { OnErr result (contents self.new ≡ contents self.old) };
 
+    /// Writes a truth value as one byte: 1 for true and 0 for false.
     fn put_boolean(&mut self, truth: bool) -> Result<(), AllocError>
         ensures written { OnOk result (Writes (IsWrittenBoolean truth) (contents self.old) (contents self.new)) }
         ensures kept { OnErr result (contents self.new ≡ contents self.old) };
 
+    /// Writes a uint32: four bytes, the most significant first.
     fn put_u32(&mut self, number: u32) -> Result<(), AllocError>
         ensures written { OnOk result (Writes (IsUint32 number) (contents self.old) (contents self.new)) }
         ensures kept { OnErr result (contents self.new ≡ contents self.old) };
 
+    /// Writes a uint64: eight bytes, the most significant first.
     fn put_u64(&mut self, number: u64) -> Result<(), AllocError>
         ensures written { OnOk result (Writes (IsUint64 number) (contents self.old) (contents self.new)) }
         ensures kept { OnErr result (contents self.new ≡ contents self.old) };
 
+    /// Writes a string: its length as a uint32, and its bytes. The text is shorter than 2^32 bytes.
     fn put_string(&mut self, text: &[u8]) -> Result<(), AllocError>
         requires { length text.now < 2 ^ 32 }
         ensures written { OnOk result (Writes (IsString text.now) (contents self.old) (contents self.new)) }
         ensures kept { OnErr result (contents self.new ≡ contents self.old) };
 
+    /// Writes an mpint: the shortest bytes of the number in two's complement, as a string. They are fewer than 2^32.
     fn put_mpint(&mut self, number: &MpInt<'_>) -> Result<(), AllocError>
         requires { length (bytes_of number.now) < 2 ^ 32 }
         ensures written { OnOk result (Writes (IsMpint (value_of number.now)) (contents self.old) (contents self.new)) }
+        ensures kept { OnErr result (contents self.new ≡ contents self.old) };
+
+    /// Writes a name-list: the names joined by commas, as a string. The text is shorter than 2^32 bytes.
+    fn put_names(&mut self, list: &NameList<'_>) -> Result<(), AllocError>
+        requires { length (names_text list.now) < 2 ^ 32 }
+        ensures written { OnOk result (Writes (IsNameList (names list.now)) (contents self.old) (contents self.new)) }
         ensures kept { OnErr result (contents self.new ≡ contents self.old) };
 }
 
@@ -74,6 +90,11 @@ impl Put for Vec<u8> {
         let (front, digits) = number.halves();
         put_joined(self, front, digits)?;
         Ok(())
+    }
+
+    #[tactic(auto, using(crate::proofs::Joined::writes_names))]
+    fn put_names(&mut self, list: &NameList<'_>) -> Result<(), AllocError> {
+        self.put_string(list.as_bytes())
     }
 }
 

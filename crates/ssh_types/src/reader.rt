@@ -1,15 +1,19 @@
 ghost use Rattle.ssh_types.specs.declared.refusal.Refusal.TheVariants.{Short, BadNames, NotCanonical, LeftOver};
-ghost use Rattle.std.specs.Prelude.{◌≡◌, ◌<◌, ◌++◌, List, [], ℕ, length, IfOk, IfErr, OnOk, OnErr};
-ghost use Rattle.ssh_model.specs.DataTypes.{IsByte, IsBoolean, IsUint32, IsUint64, IsString, IsMpint};
+ghost use Rattle.std.specs.Prelude.{◌≡◌, ◌<◌, ◌^◌, ◌++◌, List, [], ℕ, length, IfOk, IfErr, OnOk, OnErr};
+ghost use Rattle.ssh_model.specs.DataTypes.{IsByte, IsBoolean, IsUint32, IsUint64, IsString, IsMpint, IsNameList};
 ghost use Rattle.ssh_model.specs.Reading.{Reads, NoFront};
 
 use crate::digits::are_bytes;
 use crate::mpint::MpInt;
+use crate::name_list::NameList;
 use crate::refusal::Refusal;
 use byteorder::{BigEndian, ByteOrder};
 use std::marker::Model;
 
-/// Reads values from the front of bytes. A clause sees it as the bytes that are left.
+/// Reads values from the front of bytes, as RFC 4251 section 5 spells them. A contract sees a reader as the bytes that
+/// are left.
+///
+/// After a refusal the reader is as before the call.
 #[derive(Drop)]
 pub struct Reader<'a> {
     rest: &'a [u8],
@@ -22,8 +26,9 @@ impl<'a> Model for Reader<'a> {
 }
 
 impl<'a> Reader<'a> {
-    ghost use Rattle.ssh_types.specs.Values.{IsMpintRefusal, value_of};
+    ghost use Rattle.ssh_types.specs.Values.{IsMpintRefusal, IsNamesRefusal, value_of, bytes_of, names, names_text};
 
+    /// A reader of all of the bytes.
     pub fn new(bytes: &'a [u8]) -> Reader<'a>
         ensures { result ≡ bytes.now }
     {
@@ -51,6 +56,8 @@ impl<'a> Reader<'a> {
     }
 
     /// Reads a byte.
+    ///
+    /// `Short` where no byte is left.
     pub fn u8(&mut self) -> Result<u8, Refusal>
         ensures found { IfOk result (λ n. Reads (IsByte n) self.old self.new) }
         ensures refused { IfErr result (λ e. (e ≡ Short) × (self.new ≡ self.old) × NoFront IsByte self.old) }
@@ -59,7 +66,9 @@ impl<'a> Reader<'a> {
         Ok(bytes[0])
     }
 
-    /// Reads a truth value.
+    /// Reads a truth value of one byte: 0 is false, and every other byte is true.
+    ///
+    /// `Short` where no byte is left.
     pub fn boolean(&mut self) -> Result<bool, Refusal>
         ensures found { IfOk result (λ truth. Reads (IsBoolean truth) self.old self.new) }
         ensures refused { IfErr result (λ e. (e ≡ Short) × (self.new ≡ self.old) × NoFront IsBoolean self.old) }
@@ -68,7 +77,9 @@ impl<'a> Reader<'a> {
         Ok(bytes[0] != 0)
     }
 
-    /// Reads a number of four bytes.
+    /// Reads a uint32: four bytes, the most significant first.
+    ///
+    /// `Short` where fewer than four bytes are left.
     pub fn u32(&mut self) -> Result<u32, Refusal>
         ensures found { IfOk result (λ n. Reads (IsUint32 n) self.old self.new) }
         ensures refused { IfErr result (λ e. (e ≡ Short) × (self.new ≡ self.old) × NoFront IsUint32 self.old) }
@@ -78,7 +89,9 @@ impl<'a> Reader<'a> {
         Ok(BigEndian::read_u32(bytes))
     }
 
-    /// Reads a number of eight bytes.
+    /// Reads a uint64: eight bytes, the most significant first.
+    ///
+    /// `Short` where fewer than eight bytes are left.
     pub fn u64(&mut self) -> Result<u64, Refusal>
         ensures found { IfOk result (λ n. Reads (IsUint64 n) self.old self.new) }
         ensures refused { IfErr result (λ e. (e ≡ Short) × (self.new ≡ self.old) × NoFront IsUint64 self.old) }
@@ -88,10 +101,13 @@ impl<'a> Reader<'a> {
         Ok(BigEndian::read_u64(bytes))
     }
 
-    /// Reads a text of any bytes.
+    /// Reads a string: a uint32 length and that many bytes, which may be any.
+    ///
+    /// `Short` where the length or the bytes after it aren't all there.
     #[tactic(auto, using(crate::proofs::Fronts::no_string_short, crate::proofs::Fronts::no_string_long, crate::proofs::Fronts::reads_string))]
     pub fn string(&mut self) -> Result<&'a [u8], Refusal>
         ensures found { IfOk result (λ text. Reads (IsString text.now) self.old self.new) }
+        ensures length { IfOk result (λ text. length text.now < 2 ^ 32) }
         ensures refused { IfErr result (λ e. (e ≡ Short) × (self.new ≡ self.old) × NoFront IsString self.old) }
     {
         let mut ahead = self.fork();
@@ -101,10 +117,14 @@ impl<'a> Reader<'a> {
         Ok(text)
     }
 
-    /// Reads a whole number of any size.
+    /// Reads an mpint: a whole number of any size in two's complement, as a string.
+    ///
+    /// `Short` where no whole string is there, and `NotCanonical` where one is there whose bytes are not the shortest of
+    /// their number: an unnecessary 0 or 255 stands in front.
     #[tactic(auto, using(crate::proofs::Mpints::no_mpint_short, crate::proofs::Mpints::no_mpint_form, crate::proofs::Mpints::reads_mpint, crate::proofs::Mpints::some_string))]
     pub fn mpint(&mut self) -> Result<MpInt<'a>, Refusal>
         ensures found { IfOk result (λ m. Reads (IsMpint (value_of m)) self.old self.new) }
+        ensures length { IfOk result (λ m. length (bytes_of m) < 2 ^ 32) }
         ensures refused { IfErr result (λ e. IsMpintRefusal e self.old × NoFront IsMpint self.old) }
         ensures kept { OnErr result (self.new ≡ self.old) }
     {
@@ -117,7 +137,27 @@ impl<'a> Reader<'a> {
         Ok(number)
     }
 
-    /// All bytes that are left.
+    /// Reads a name-list: names joined by commas, as a string. The empty string is the empty list.
+    ///
+    /// `Short` where no whole string is there, and `BadNames` where one is there and a part of it between commas is no
+    /// name.
+    #[tactic(auto, using(crate::proofs::Joined::no_names_short, crate::proofs::Joined::no_names_form, crate::proofs::Joined::reads_names, crate::proofs::Mpints::some_string))]
+    pub fn names(&mut self) -> Result<NameList<'a>, Refusal>
+        ensures found { IfOk result (λ list. Reads (IsNameList (names list)) self.old self.new) }
+        ensures length { IfOk result (λ list. length (names_text list) < 2 ^ 32) }
+        ensures refused { IfErr result (λ e. IsNamesRefusal e self.old × NoFront IsNameList self.old) }
+        ensures kept { OnErr result (self.new ≡ self.old) }
+    {
+        let mut ahead = self.fork();
+        let text = ahead.string()?;
+        let Some(list) = NameList::new(text) else {
+            return Err(Refusal::BadNames);
+        };
+        *self = ahead;
+        Ok(list)
+    }
+
+    /// Reads all bytes that are left.
     pub fn rest(&mut self) -> &'a [u8]
         ensures found { result.now ≡ self.old }
         ensures empty { self.new ≡ [] }
@@ -127,7 +167,9 @@ impl<'a> Reader<'a> {
         bytes
     }
 
-    /// Nothing is left.
+    /// Tests that nothing is left. The reader is unchanged either way.
+    ///
+    /// `LeftOver` where bytes are left.
     pub fn end(&mut self) -> Result<(), Refusal>
         ensures found { OnOk result (self.old ≡ []) }
         ensures refused { IfErr result (λ e. (e ≡ LeftOver) × (0 < length self.old)) }

@@ -1,4 +1,5 @@
 use Rattle.ssh_types.proofs.Fronts.{one_byte, one_boolean, one_uint32, one_uint64, one_string}
+use Rattle.ssh_types.proofs.Joined.{one_name_list}
 use Rattle.ssh_types.proofs.Mpints.{one_mpint}
 use Rattle.ssh_types.proofs.laws.one_form.Goals as goal
 
@@ -19,3 +20,6 @@ returns-clause-string c = one_string
 
 pub returns-clause-mpint : goal.returns-clause-mpint
 returns-clause-mpint c = one_mpint
+
+pub returns-clause-names : goal.returns-clause-names
+returns-clause-names c = one_name_list
