@@ -222,12 +222,7 @@ fn opened(
     Ok(Ok(payload))
 }
 
-fn sealed(
-    alloc: Global,
-    key: &[u8; 32],
-    number: u32,
-    payload: &[u8],
-) -> Result<Vec<u8>, Memory> {
+fn sealed(alloc: Global, key: &[u8; 32], number: u32, payload: &[u8]) -> Result<Vec<u8>, Memory> {
     let front = payload.len().saturating_add(5);
     let short = 8 - front % 8;
     let padding = if short < 4 { short + 8 } else { short };
@@ -270,7 +265,11 @@ pub struct EpochPair {
 
 impl EpochPair {
     /// A pair whose numbers begin at zero.
-    pub fn new(alloc: Global, client_key: &[u8; 32], server_key: &[u8; 32]) -> Result<Self, Memory> {
+    pub fn new(
+        alloc: Global,
+        client_key: &[u8; 32],
+        server_key: &[u8; 32],
+    ) -> Result<Self, Memory> {
         Ok(EpochPair {
             alloc,
             client: End::new(alloc, Side::Client, client_key, server_key),

@@ -106,5 +106,7 @@ fn peer_of(side: Side) -> Side {
 
 /// Whether an end refused its peer.
 pub(crate) fn has_refusal(items: &[Done]) -> bool {
-    items.iter().any(|done| matches!(done.item, Item::Refused(_)))
+    items
+        .iter()
+        .any(|done| matches!(done.item, Item::Refused(_)))
 }

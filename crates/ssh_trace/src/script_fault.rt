@@ -69,7 +69,10 @@ pub(crate) enum LineFault {
     NumberTooLarge,
     /// Fewer bytes wait than the line wants.
     #[error("{wanted} bytes are wanted, and {waiting} wait")]
-    FewWaiting { wanted: u32, waiting: usize },
+    FewWaiting {
+        wanted: u32,
+        waiting: usize,
+    },
     /// The bytes that the line wants again were not all put out.
     #[error("{count} bytes from {start} on are wanted, and {whole} were put out")]
     NotPutOut {
