@@ -1,6 +1,6 @@
 //! The words after the program's name.
 
-use crate::report::{report, say};
+use crate::answer::{report, say};
 use crate::status::Status;
 use clap::{Arg, Command};
 use std::alloc::{AllocError, Global};

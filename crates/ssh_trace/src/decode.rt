@@ -1,6 +1,6 @@
+use crate::answer::{Answer, finish};
 use crate::epoch_pair::Memory;
 use crate::message_line::{MessageError, message_line};
-use crate::report::{Answer, finish};
 use crate::shown::{Shown, packet_of};
 use crate::status::Status;
 use std::alloc::{AllocError, Global};

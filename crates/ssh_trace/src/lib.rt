@@ -2,6 +2,7 @@
 //! and prints what they did.
 #![tactic(auto)]
 
+mod answer;
 pub mod command_line;
 mod decode;
 mod epoch_pair;
@@ -10,7 +11,6 @@ mod message_line;
 mod message_name;
 mod play;
 mod player;
-mod report;
 mod script;
 mod script_fault;
 mod shown;
@@ -19,13 +19,13 @@ mod stream;
 mod transcript;
 mod words;
 
+pub use answer::report;
 pub use decode::decode_to;
 pub use epoch_pair::{
     AskRefusal, Done, EpochPair, EpochRefusal, Event, Item, Memory, Side, Transcript,
 };
 pub use message_name::name;
 pub use play::play_to;
-pub use report::report;
 pub use shown::{PacketRefusal, Shown, packet_of};
 pub use status::Status;
 

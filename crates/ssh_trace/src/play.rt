@@ -1,5 +1,5 @@
+use crate::answer::{Answer, finish};
 use crate::player::{Player, has_refusal};
-use crate::report::{Answer, finish};
 use crate::script::{command_of, is_skipped, keys_of};
 use crate::script_fault::{LineFault, ScriptFault};
 use crate::status::Status;

@@ -1,6 +1,6 @@
 //! Runs the commands of a script against a pair of ends.
 
-use crate::epoch_pair::{Done, EpochPair, Event, Item, Memory, Side, Transcript};
+use crate::epoch_pair::{Done, EpochPair, Event, Item, Memory, Side};
 use crate::script::{Command, Count, Keys};
 use crate::script_fault::LineFault;
 use crate::stream::Stream;
@@ -44,34 +44,23 @@ impl Player {
     }
 
     fn pass(&mut self, from: Side, count: Count) -> Result<Vec<Done>, LineFault> {
-        let piece = match from {
-            Side::Client => self.client.next(count)?,
-            Side::Server => self.server.next(count)?,
-        };
-        let transcript = self.pair.play(&[Event::Deliver(peer_of(from), piece)])?;
-        self.keep(transcript)
+        let piece = self.next(from, count)?;
+        self.play(&[Event::Deliver(peer_of(from), piece.as_slice())])
     }
 
     fn drip(&mut self, from: Side) -> Result<Vec<Done>, LineFault> {
-        let waiting = match from {
-            Side::Client => self.client.next(Count::All)?,
-            Side::Server => self.server.next(Count::All)?,
-        };
+        let waiting = self.next(from, Count::All)?;
         let to = peer_of(from);
         let pieces: Vec<Event<'_>> = waiting
+            .as_slice()
             .chunks(1)
             .map(|piece| Event::Deliver(to, piece))
             .collect(self.alloc)?;
-        let transcript = self.pair.play(pieces.as_slice())?;
-        drop(pieces);
-        self.keep(transcript)
+        self.play(pieces.as_slice())
     }
 
     fn lose(&mut self, from: Side, count: u32) -> Result<Vec<Done>, LineFault> {
-        match from {
-            Side::Client => self.client.next(Count::Next(count))?,
-            Side::Server => self.server.next(Count::Next(count))?,
-        };
+        self.next(from, Count::Next(count))?;
         Ok(Vec::new(self.alloc))
     }
 
@@ -80,17 +69,18 @@ impl Player {
             Side::Client => self.client.part(start, count)?,
             Side::Server => self.server.part(start, count)?,
         };
-        let transcript = self.pair.play(&[Event::Deliver(peer_of(from), piece)])?;
-        self.keep(transcript)
+        self.play(&[Event::Deliver(peer_of(from), piece.as_slice())])
+    }
+
+    fn next(&mut self, from: Side, count: Count) -> Result<Vec<u8>, LineFault> {
+        match from {
+            Side::Client => self.client.next(count),
+            Side::Server => self.server.next(count),
+        }
     }
 
     fn play(&mut self, events: &[Event<'_>]) -> Result<Vec<Done>, LineFault> {
         let transcript = self.pair.play(events)?;
-        self.keep(transcript)
-    }
-
-    // Keeps what the ends put out, and gives the rest of a transcript.
-    fn keep(&mut self, transcript: Transcript) -> Result<Vec<Done>, LineFault> {
         self.client.put_out(transcript.client_bytes.as_slice())?;
         self.server.put_out(transcript.server_bytes.as_slice())?;
         Ok(transcript.items)

@@ -70,7 +70,7 @@ pub(crate) enum LineFault {
     /// Fewer bytes wait than the line wants.
     #[error("{wanted} bytes are wanted, and {waiting} wait")]
     FewWaiting {
-        wanted: u32,
+        wanted: usize,
         waiting: usize,
     },
     /// The bytes that the line wants again were not all put out.

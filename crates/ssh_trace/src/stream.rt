@@ -7,6 +7,7 @@ use std::alloc::{AllocError, Global};
 /// All bytes that a side ever put out. The first of them are passed, the others wait.
 #[derive(Drop)]
 pub(crate) struct Stream {
+    alloc: Global,
     bytes: Vec<u8>,
     passed: usize,
     ghost within: { passed ≤ vec_len bytes },
@@ -15,6 +16,7 @@ pub(crate) struct Stream {
 impl Stream {
     pub fn new(alloc: Global) -> Stream {
         Stream {
+            alloc,
             bytes: Vec::new(alloc),
             passed: 0,
         }
@@ -26,30 +28,34 @@ impl Stream {
     }
 
     /// The next waiting bytes, which wait no longer.
-    pub fn next(&mut self, count: Count) -> Result<&[u8], LineFault> {
+    pub fn next(&mut self, count: Count) -> Result<Vec<u8>, LineFault> {
         let (_, waiting) = self.bytes.as_slice().split_at(self.passed);
-        let used = match count {
+        let wanted = match count {
             Count::All => waiting.len(),
-            Count::Next(wanted) if waiting.len() < wanted as usize => {
-                let waiting = waiting.len();
-                return Err(LineFault::FewWaiting { wanted, waiting });
-            }
             Count::Next(wanted) => wanted as usize,
         };
-        self.passed += used;
-        Ok(&waiting[..used])
+        let Some(next) = waiting.get(..wanted) else {
+            let waiting = waiting.len();
+            return Err(LineFault::FewWaiting { wanted, waiting });
+        };
+        let next = Vec::from_slice(self.alloc, next)?;
+        self.passed += wanted;
+        Ok(next)
     }
 
     /// Bytes that were put out, waiting or not.
-    pub fn part(&self, start: u32, count: u32) -> Result<&[u8], LineFault> {
+    pub fn part(&self, start: u32, count: u32) -> Result<Vec<u8>, LineFault> {
         let whole = self.bytes.as_slice();
-        whole
-            .get(start as usize..)
-            .and_then(|rest| rest.get(..count as usize))
-            .ok_or(LineFault::NotPutOut {
+        let rest = whole.get(start as usize..);
+        let Some(part) = rest.and_then(|rest| rest.get(..count as usize)) else {
+            let whole = whole.len();
+            return Err(LineFault::NotPutOut {
                 start,
                 count,
-                whole: whole.len(),
-            })
+                whole,
+            });
+        };
+        let part = Vec::from_slice(self.alloc, part)?;
+        Ok(part)
     }
 }
