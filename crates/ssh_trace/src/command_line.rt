@@ -1,5 +1,8 @@
 //! The words after the program's name.
 
+ghost use Rattle.std.specs.Prelude.{◌≡◌};
+ghost use Rattle.ssh_trace.specs.declared.status.Status.TheVariants.{Fault};
+
 use crate::answer::{report, say};
 use crate::status::Status;
 use clap::{Arg, Command};
@@ -47,7 +50,9 @@ pub fn call_of<'a, S: AsStr>(alloc: Global, words: &'a [S]) -> Result<Call<'a>, 
 }
 
 /// Says on `err` why the words are no call, with the words that the program takes.
-pub fn refuse<E: Write>(fault: UsageFault, err: &mut E) -> Status {
+pub fn refuse<E: Write>(fault: UsageFault, err: &mut E) -> Status
+    ensures { result ≡ Fault }
+{
     match fault {
         UsageFault::Words(text) => say(text, err),
         fault => report(fault, err),

@@ -6,7 +6,6 @@ mod answer;
 pub mod command_line;
 mod decode;
 mod epoch_pair;
-mod fields;
 mod message_line;
 mod message_name;
 mod play;

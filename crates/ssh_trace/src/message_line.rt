@@ -1,7 +1,7 @@
 //! The line of one message. It knows the messages that need no key exchange: 1 to 6 and 21.
 
-use crate::fields::{Malformed, Reader};
 use crate::message_name::name;
+use ssh_types::{Reader, Refusal};
 use std::alloc::{AllocError, Global};
 use thiserror::Error;
 
@@ -15,8 +15,8 @@ pub(crate) enum MessageError {
     Memory,
 }
 
-impl From<Malformed> for MessageError {
-    fn from(_error: Malformed) -> MessageError {
+impl From<Refusal> for MessageError {
+    fn from(_refusal: Refusal) -> MessageError {
         MessageError::BadMessage
     }
 }

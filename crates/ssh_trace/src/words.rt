@@ -1,9 +1,14 @@
 //! The words of a script's line: sides, numbers and bytes.
 
+ghost use Rattle.std.specs.Prelude.{◌^◌, ◌<◌};
+ghost use Rattle.std.specs.Result.{OkIff};
+ghost use Rattle.std.specs.Str.Parse.{IsNumeral, digits_value};
+
 use crate::epoch_pair::Side;
 use crate::script_fault::LineFault;
 use hex::{FromHex, FromHexError};
 use std::alloc::Global;
+use std::num::IntErrorKind;
 
 /// The word for no bytes.
 const NOTHING: &str = "-";
@@ -26,13 +31,18 @@ pub(crate) fn sender(from: &str, to: &str) -> Result<Side, LineFault> {
     Ok(from)
 }
 
-/// Decimal digits.
-pub(crate) fn number(word: &str) -> Result<u32, LineFault> {
+/// One decimal digit or more, of a number below 2^32.
+pub(crate) fn number(word: &str) -> Result<u32, LineFault>
+    ensures { OkIff result (IsNumeral 10 word.now × (digits_value 10 word.now < 2 ^ 32)) (digits_value 10 word.now) }
+{
     // `parse` would take a sign too.
-    if !word.bytes().all(|byte| byte.is_ascii_digit()) {
+    if word.starts_with('+') {
         return Err(LineFault::NotNumber);
     }
-    word.parse().map_err(|_| LineFault::NumberTooLarge)
+    word.parse::<u32>().map_err(|error| match error.kind() {
+        IntErrorKind::PosOverflow => LineFault::NumberTooLarge,
+        _ => LineFault::NotNumber,
+    })
 }
 
 /// Pairs of hexadecimal digits, or `-`.
