@@ -1,0 +1,9 @@
+use Rattle.std.specs.Prelude.{ℕ}
+use Rattle.ssh_trace.specs.declared.status.Status.TheVariants.{Done, Refused, Fault}
+use Rattle.ssh_trace.specs.declared.status.Status.{Status}
+
+-- The exit status of the program.
+abbrev pub code_of : Status → ℕ
+code_of Done = 0
+code_of Refused = 1
+code_of Fault = 2

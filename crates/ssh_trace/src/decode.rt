@@ -1,0 +1,76 @@
+use crate::answer::{Answer, finish};
+use crate::epoch_pair::Memory;
+use crate::message_line::{MessageError, message_line};
+use crate::shown::{Shown, packet_of};
+use crate::status::Status;
+use std::alloc::{AllocError, Global};
+use std::io::Write;
+use thiserror::Error;
+
+/// Why there is nothing to print of a text.
+#[derive(Debug, Drop, Error)]
+enum DecodeFault {
+    #[error("HEX is pairs of hexadecimal digits")]
+    NotHex,
+    #[error("out of memory")]
+    Memory,
+}
+
+impl From<Memory> for DecodeFault {
+    fn from(_error: Memory) -> DecodeFault {
+        DecodeFault::Memory
+    }
+}
+
+impl From<AllocError> for DecodeFault {
+    fn from(_error: AllocError) -> DecodeFault {
+        DecodeFault::Memory
+    }
+}
+
+/// Prints one clear packet (RFC 4253 section 6), given in hexadecimal digits, as one line on `out`: its message, or
+/// `refused K NAME`, `incomplete` where bytes are missing, or `trailing N` where N bytes follow it. The first two of
+/// these count before the message, and `refused 6 BadMessage` after all others.
+///
+/// `Status::Done` where a message was printed, `Status::Refused` for another line. `Status::Fault`, with a message on
+/// `err` and nothing on `out`, for a text that isn't hexadecimal and where memory ran out; and where writing to `out`
+/// failed.
+pub fn decode_to<W: Write, E: Write>(
+    alloc: Global,
+    text: &str,
+    out: &mut W,
+    err: &mut E,
+) -> Status {
+    finish(decoded(alloc, text), out, err)
+}
+
+fn decoded(alloc: Global, text: &str) -> Result<Answer, DecodeFault> {
+    match packet_of(alloc, text)? {
+        Shown::NotHex => Err(DecodeFault::NotHex),
+        Shown::Refused(refusal) => {
+            let (number, name) = (refusal.number(), refusal.name());
+            refused(format!(in alloc; "refused {number} {name}\n")?)
+        }
+        Shown::Incomplete => refused(format!(in alloc; "incomplete\n")?),
+        Shown::Trailing(count) => refused(format!(in alloc; "trailing {count}\n")?),
+        Shown::Payload(payload) => message(alloc, payload.as_slice()),
+    }
+}
+
+fn message(alloc: Global, payload: &[u8]) -> Result<Answer, DecodeFault> {
+    match message_line(alloc, payload) {
+        Ok(text) => Ok(Answer {
+            text,
+            status: Status::Done,
+        }),
+        Err(MessageError::BadMessage) => refused(format!(in alloc; "refused 6 BadMessage\n")?),
+        Err(MessageError::Memory) => Err(DecodeFault::Memory),
+    }
+}
+
+fn refused(text: String) -> Result<Answer, DecodeFault> {
+    Ok(Answer {
+        text,
+        status: Status::Refused,
+    })
+}

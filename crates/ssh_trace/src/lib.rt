@@ -1,0 +1,32 @@
+//! The text of the program `ssh_trace`: it reads one packet, or plays a script of what two ends are asked and given,
+//! and prints what they did.
+#![tactic(auto)]
+
+mod answer;
+pub mod command_line;
+mod decode;
+mod epoch_pair;
+mod message_line;
+mod message_name;
+mod play;
+mod player;
+mod script;
+mod script_fault;
+mod shown;
+mod status;
+mod stream;
+mod transcript;
+mod words;
+
+pub use answer::report;
+pub use decode::decode_to;
+pub use epoch_pair::{
+    AskRefusal, Done, EpochPair, EpochRefusal, Event, Item, Memory, Side, Transcript,
+};
+pub use message_name::name;
+pub use play::play_to;
+pub use shown::{PacketRefusal, Shown, packet_of};
+pub use status::Status;
+
+#[cfg(test)]
+mod tests;

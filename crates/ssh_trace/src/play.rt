@@ -1,0 +1,103 @@
+use crate::answer::{Answer, finish};
+use crate::player::{Player, has_refusal};
+use crate::script::{command_of, is_skipped, keys_of};
+use crate::script_fault::{LineFault, ScriptFault};
+use crate::status::Status;
+use crate::transcript::write_items;
+use std::alloc::Global;
+use std::io::{Read, Write};
+use std::str;
+
+/// Plays a script of one epoch, read to its end, and prints its transcript on `out`: a line for each thing that an end
+/// did, in their order.
+///
+/// `Status::Done` where no end refused its peer, `Status::Refused` where one did. `Status::Fault`, with a message on
+/// `err` and nothing on `out`, where the script can't be read, a line of it is wrong (the message gives its number,
+/// from 1), or memory ran out; and where writing to `out` failed.
+pub fn play_to<R: Read, W: Write, E: Write>(
+    alloc: Global,
+    script: &mut R,
+    out: &mut W,
+    err: &mut E,
+) -> Status {
+    finish(played(alloc, script), out, err)
+}
+
+fn played<R: Read>(alloc: Global, script: &mut R) -> Result<Answer, ScriptFault> {
+    let mut text = Vec::new(alloc);
+    if let Err(error) = script.read_to_end(&mut text) {
+        return Err(ScriptFault::Unreadable(error));
+    }
+    let mut session = Session::new(alloc);
+    let mut line = 0usize;
+    for bytes in text.as_slice().split(|byte| *byte == b'\n') {
+        line = line.saturating_add(1);
+        if let Err(fault) = session.take(bytes) {
+            return Err(ScriptFault::Line { line, fault });
+        }
+    }
+    match session.end() {
+        Ok(answer) => Ok(answer),
+        Err(fault) => Err(ScriptFault::Line { line, fault }),
+    }
+}
+
+/// A script as far as it was played, and the lines that it printed.
+#[derive(Drop)]
+struct Session {
+    alloc: Global,
+    // None until the keys are given.
+    player: Option<Player>,
+    text: String,
+    status: Status,
+}
+
+impl Session {
+    fn new(alloc: Global) -> Session {
+        Session {
+            alloc,
+            player: None,
+            text: String::new(alloc),
+            status: Status::Done,
+        }
+    }
+
+    // Plays one line, without its line break.
+    fn take(&mut self, bytes: &[u8]) -> Result<(), LineFault> {
+        let Ok(line) = str::from_utf8(bytes) else {
+            return Err(LineFault::NotUtf8);
+        };
+        if is_skipped(line) {
+            return Ok(());
+        }
+        let words: Vec<&str> = line.split(' ').collect(self.alloc)?;
+        if words.iter().any(|word| word.is_empty()) {
+            return Err(LineFault::EmptyWord);
+        }
+        self.run(words.as_slice())
+    }
+
+    fn run(&mut self, words: &[&str]) -> Result<(), LineFault> {
+        let Some(player) = &mut self.player else {
+            let keys = keys_of(words)?;
+            self.player = Some(Player::new(self.alloc, &keys)?);
+            return Ok(());
+        };
+        let items = player.run(&command_of(self.alloc, words)?)?;
+        if has_refusal(items.as_slice()) {
+            self.status = Status::Refused;
+        }
+        write_items(items.as_slice(), &mut self.text)?;
+        Ok(())
+    }
+
+    fn end(self) -> Result<Answer, LineFault> {
+        if self.player.is_none() {
+            return Err(LineFault::NoEpoch);
+        }
+        Ok(Answer {
+            text: self.text,
+            status: self.status,
+        })
+    }
+}

@@ -1,0 +1,102 @@
+//! Runs the commands of a script against a pair of ends.
+
+use crate::epoch_pair::{Done, EpochPair, Event, Item, Memory, Side};
+use crate::script::{Command, Count, Keys};
+use crate::script_fault::LineFault;
+use crate::stream::Stream;
+use std::alloc::Global;
+
+impl From<Memory> for LineFault {
+    fn from(_error: Memory) -> LineFault {
+        LineFault::Memory
+    }
+}
+
+/// The pair, and what each of its ends put out.
+#[derive(Drop)]
+pub(crate) struct Player {
+    alloc: Global,
+    pair: EpochPair,
+    client: Stream,
+    server: Stream,
+}
+
+impl Player {
+    pub fn new(alloc: Global, keys: &Keys) -> Result<Player, LineFault> {
+        Ok(Player {
+            alloc,
+            pair: EpochPair::new(alloc, &keys.client, &keys.server)?,
+            client: Stream::new(alloc),
+            server: Stream::new(alloc),
+        })
+    }
+
+    /// Runs one command, and gives what the ends did.
+    pub fn run(&mut self, command: &Command) -> Result<Vec<Done>, LineFault> {
+        match command {
+            Command::Ask { side, payload } => self.play(&[Event::Ask(*side, payload.as_slice())]),
+            Command::Give { side, bytes } => self.play(&[Event::Deliver(*side, bytes.as_slice())]),
+            Command::Pass { from, count } => self.pass(*from, *count),
+            Command::Drip { from } => self.drip(*from),
+            Command::Lose { from, count } => self.lose(*from, *count),
+            Command::Again { from, start, count } => self.again(*from, *start, *count),
+        }
+    }
+
+    fn pass(&mut self, from: Side, count: Count) -> Result<Vec<Done>, LineFault> {
+        let piece = self.next(from, count)?;
+        self.play(&[Event::Deliver(peer_of(from), piece.as_slice())])
+    }
+
+    fn drip(&mut self, from: Side) -> Result<Vec<Done>, LineFault> {
+        let waiting = self.next(from, Count::All)?;
+        let to = peer_of(from);
+        let pieces: Vec<Event<'_>> = waiting
+            .as_slice()
+            .chunks(1)
+            .map(|piece| Event::Deliver(to, piece))
+            .collect(self.alloc)?;
+        self.play(pieces.as_slice())
+    }
+
+    fn lose(&mut self, from: Side, count: u32) -> Result<Vec<Done>, LineFault> {
+        self.next(from, Count::Next(count))?;
+        Ok(Vec::new(self.alloc))
+    }
+
+    fn again(&mut self, from: Side, start: u32, count: u32) -> Result<Vec<Done>, LineFault> {
+        let piece = match from {
+            Side::Client => self.client.part(start, count)?,
+            Side::Server => self.server.part(start, count)?,
+        };
+        self.play(&[Event::Deliver(peer_of(from), piece.as_slice())])
+    }
+
+    fn next(&mut self, from: Side, count: Count) -> Result<Vec<u8>, LineFault> {
+        match from {
+            Side::Client => self.client.next(count),
+            Side::Server => self.server.next(count),
+        }
+    }
+
+    fn play(&mut self, events: &[Event<'_>]) -> Result<Vec<Done>, LineFault> {
+        let transcript = self.pair.play(events)?;
+        self.client.put_out(transcript.client_bytes.as_slice())?;
+        self.server.put_out(transcript.server_bytes.as_slice())?;
+        Ok(transcript.items)
+    }
+}
+
+fn peer_of(side: Side) -> Side {
+    match side {
+        Side::Client => Side::Server,
+        Side::Server => Side::Client,
+    }
+}
+
+/// Whether an end refused its peer.
+pub(crate) fn has_refusal(items: &[Done]) -> bool {
+    items
+        .iter()
+        .any(|done| matches!(done.item, Item::Refused(_)))
+}

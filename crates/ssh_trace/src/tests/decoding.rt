@@ -1,0 +1,107 @@
+use super::{Broken, Outcome};
+use crate::{Status, decode_to};
+use std::test::Fail;
+
+// Packets in hexadecimal digits, what is printed of each, and the exit status.
+const PACKETS: [(&str, &str, u8); 20] = [
+    ("0000000c0a1500000000000000000000", "21 NEWKEYS\n", 0),
+    (
+        "0000001c0a050000000c7373682d757365726175746800000000000000000000",
+        "5 SERVICE_REQUEST service=7373682d7573657261757468\n",
+        0,
+    ),
+    (
+        "0000001C0A060000000C7373682D757365726175746800000000000000000000",
+        "6 SERVICE_ACCEPT service=7373682d7573657261757468\n",
+        0,
+    ),
+    (
+        "0000000c060300000005000000000000",
+        "3 UNIMPLEMENTED number=5\n",
+        0,
+    ),
+    (
+        "0000000c04020000000261ff00000000",
+        "2 IGNORE data=61ff\n",
+        0,
+    ),
+    (
+        "000000140b0200000003616263000000000000000000000000",
+        "trailing 1\n",
+        1,
+    ),
+    (
+        "000000140b02000000036162630000000000000000000000",
+        "2 IGNORE data=616263\n",
+        0,
+    ),
+    (
+        "000000140904020000000000000000000000000000000000",
+        "4 DEBUG display=true message= language=\n",
+        0,
+    ),
+    (
+        "00000014060100000002000000016100000000000000000000",
+        "trailing 1\n",
+        1,
+    ),
+    (
+        "000000140501000000020000000161000000000000000000",
+        "1 DISCONNECT reason=2 description=61 language=\n",
+        0,
+    ),
+    ("0000000c0a0700000000000000000000", "7 UNKNOWN\n", 0),
+    ("0000000c0a15", "incomplete\n", 1),
+    ("", "incomplete\n", 1),
+    ("000088b4", "incomplete\n", 1),
+    ("0000000b", "refused 3 BadLength\n", 1),
+    ("000088bc", "refused 3 BadLength\n", 1),
+    (
+        "0000000c0b1500000000000000000000",
+        "refused 4 BadPadding\n",
+        1,
+    ),
+    (
+        "0000000c031500000000000000000000",
+        "refused 4 BadPadding\n",
+        1,
+    ),
+    ("0000000c0a150000000000000000000000", "trailing 1\n", 1),
+    (
+        "0000000c091500000000000000000000",
+        "refused 6 BadMessage\n",
+        1,
+    ),
+];
+
+#[test]
+fn packets(rt: HostRuntime) {
+    for (text, line, status) in PACKETS {
+        let outcome = Outcome::decoding(rt.alloc(), text);
+        assert_eq!(rt; outcome.status.code(), status, "{text}");
+        assert_eq!(rt; outcome.out.as_slice(), line.as_bytes(), "{text}");
+        assert_eq!(rt; outcome.err.is_empty(), status < 2, "{text}");
+    }
+}
+
+#[test]
+fn texts_of_no_packet(rt: HostRuntime) {
+    for text in ["0g", "0", "-", "0x15", " ", "0000000c 0a15"] {
+        let outcome = Outcome::decoding(rt.alloc(), text);
+        assert_eq!(rt; outcome.status, Status::Fault, "{text}");
+        assert!(rt; outcome.out.is_empty(), "{text}");
+        let message = b"error: HEX is pairs of hexadecimal digits\n";
+        assert_eq!(rt; outcome.err.as_slice(), message.as_slice(), "{text}");
+    }
+}
+
+#[test]
+fn output_is_full(rt: HostRuntime) -> Result<(), Fail> {
+    let mut err = Vec::new(rt.alloc());
+    let status = decode_to(rt.alloc(), "0000000b", &mut Broken, &mut err);
+    assert_eq!(rt; status, Status::Fault);
+    assert!(rt; err.starts_with(b"error: can't write the output: "));
+    let status = decode_to(rt.alloc(), "0g", &mut Broken, &mut Broken);
+    assert_eq!(rt; status, Status::Fault);
+    Ok(())
+}
