@@ -1,2 +1,4 @@
 pub mod Names
 pub mod Status
+pub mod History
+pub mod EpochEnd

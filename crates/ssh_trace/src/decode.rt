@@ -1,5 +1,5 @@
 use crate::answer::{Answer, finish};
-use crate::epoch_pair::Memory;
+use crate::history::Memory;
 use crate::message_line::{MessageError, message_line};
 use crate::shown::{Shown, packet_of};
 use crate::status::Status;

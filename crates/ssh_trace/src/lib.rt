@@ -5,7 +5,9 @@
 mod answer;
 pub mod command_line;
 mod decode;
+mod epoch_end;
 mod epoch_pair;
+mod history;
 mod message_line;
 mod message_name;
 mod play;
@@ -20,9 +22,8 @@ mod words;
 
 pub use answer::report;
 pub use decode::decode_to;
-pub use epoch_pair::{
-    AskRefusal, Done, EpochPair, EpochRefusal, Event, Item, Memory, Side, Transcript,
-};
+pub use epoch_pair::EpochPair;
+pub use history::{AskRefusal, Done, EpochRefusal, Event, Item, Memory, Side, Transcript};
 pub use message_name::name;
 pub use play::play_to;
 pub use shown::{PacketRefusal, Shown, packet_of};

@@ -1,6 +1,7 @@
 //! Runs the commands of a script against a pair of ends.
 
-use crate::epoch_pair::{Done, EpochPair, Event, Item, Memory, Side};
+use crate::epoch_pair::EpochPair;
+use crate::history::{Done, Event, Item, Memory, Side};
 use crate::script::{Command, Count, Keys};
 use crate::script_fault::LineFault;
 use crate::stream::Stream;

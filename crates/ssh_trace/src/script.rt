@@ -1,6 +1,6 @@
 //! The lines of a script of one epoch.
 
-use crate::epoch_pair::Side;
+use crate::history::Side;
 use crate::script_fault::{Form, LineFault};
 use crate::words;
 use std::alloc::Global;

@@ -1,6 +1,6 @@
 //! One clear packet in hexadecimal digits.
 
-use crate::epoch_pair::Memory;
+use crate::history::Memory;
 use hex::FromHexError;
 use std::alloc::Global;
 

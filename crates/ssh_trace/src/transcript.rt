@@ -1,6 +1,6 @@
 //! The lines of a transcript, one for each thing that an end did.
 
-use crate::epoch_pair::{Done, Item, Side};
+use crate::history::{Done, Item, Side};
 use crate::message_name::name;
 use std::alloc::AllocError;
 

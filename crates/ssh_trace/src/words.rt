@@ -4,7 +4,7 @@ ghost use Rattle.std.specs.Prelude.{◌^◌, ◌<◌};
 ghost use Rattle.std.specs.Result.{OkIff};
 ghost use Rattle.std.specs.Str.Parse.{IsNumeral, digits_value};
 
-use crate::epoch_pair::Side;
+use crate::history::Side;
 use crate::script_fault::LineFault;
 use hex::{FromHex, FromHexError};
 use std::alloc::Global;

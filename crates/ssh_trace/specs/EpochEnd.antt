@@ -1,0 +1,46 @@
+-- One end of an epoch.
+use Rattle.std.specs.Prelude.{◌≡◌, ◌≤◌, ◌<◌, ◌+◌, ◌^◌, ◌++◌, ℕ, Bool, true, false, List, [], ◌∷◌, length, None}
+use Rattle.ssh_model.specs.History.{Item.Took, Item.Refused, Item.Died, Item.Asked, Item.AskRefused, Item.Sent}
+use Rattle.ssh_model.specs.MacOnly.{mac_only}
+use Rattle.ssh_model.specs.Seal.{IsBegun}
+use Rattle.ssh_model.specs.EpochRun.{Takes, Waits}
+use Rattle.ssh_packet.specs.Reading.{Reading, empty}
+use Rattle.ssh_trace.specs.History.{refusal_number}
+use Rattle.ssh_trace.specs.declared.epoch_end.TakeStep.{TakeStep}
+use Rattle.ssh_trace.specs.declared.epoch_end.TakeStep.TheVariants.{More, Taken, Rejected}
+
+-- its reader, how many payloads it sent and took, and whether it is dead
+pub record End : Type 0 where
+  pub reading : Reading
+  pub sent : ℕ
+  pub taken : ℕ
+  pub dead : Bool
+
+-- an end that nothing happened to
+abbrev pub new_end : End
+new_end = record { reading = empty; sent = 0; taken = 0; dead = false }
+
+-- A living end's reader has refused nothing, and where all numbers are taken it holds no whole length field.
+pub record IsLive (end : End) : Type 0 where
+  pub unrefused : end.reading.refused ≡ None
+  pub unspent : 4 ≤ length end.reading.rest → end.taken < 2 ^ 32
+
+-- what holds of every end
+pub record IsKept (end : End) : Type 0 where
+  pub begun : IsBegun 8 32 end.reading.rest
+  pub sent_to : end.sent ≤ 2 ^ 32
+  pub taken_to : end.taken ≤ 2 ^ 32
+  pub live : end.dead ≡ false → IsLive end
+
+-- it died, and did nothing else
+pub record HasDied (old new : End) : Type 0 where
+  pub dead : new.dead ≡ true
+  pub sent : new.sent ≡ old.sent
+  pub taken : new.taken ≡ old.taken
+
+-- What an end under the key of its peer made of bytes when it had used them all.
+abbrev pub EndFinds : List ℕ → List ℕ → End → TakeStep → End → Type 0
+EndFinds key bytes old More new = Waits mac_only key old.taken bytes × (new ≡ record old { reading = record empty { rest = bytes } })
+EndFinds key bytes old Taken new =
+    Takes mac_only key old.taken bytes (Took new.reading.payload ∷ []) × (new ≡ record old { reading = record empty { payload = new.reading.payload }; taken = old.taken + 1 })
+EndFinds key bytes old (Rejected refusal) new = Takes mac_only key old.taken bytes (Died ∷ Refused (refusal_number refusal) ∷ []) × HasDied old new

@@ -1,0 +1,159 @@
+//! What the two ends of an epoch are asked and given, and what they do.
+
+ghost use Rattle.std.specs.Prelude.{◌≡◌, ◌∷◌, List, OnOk};
+ghost use Rattle.ssh_model.specs.History as history;
+ghost use Rattle.ssh_trace.specs.History.{ask_refusal_name, ask_refusal_number, item_of, logged, refusal_name, refusal_number, side_of};
+
+use ssh_packet::PacketRefusal;
+use std::alloc::{AllocError, Global};
+use thiserror::Error;
+
+/// An end of the pair.
+#[derive(Clone, Copy, Debug, PartialEq, Eq)]
+pub enum Side {
+    Client,
+    Server,
+}
+
+/// Why an ask was refused. A refused ask sends nothing.
+#[derive(Clone, Copy, Debug, PartialEq, Eq)]
+pub enum AskRefusal {
+    /// The payload has more than 34,000 bytes.
+    TooLong,
+}
+
+impl AskRefusal {
+    /// The number of the refusal, 5.
+    pub fn number(self) -> u8
+        ensures { result ≡ ask_refusal_number self }
+    {
+        match self {
+            AskRefusal::TooLong => 5,
+        }
+    }
+
+    /// The name of the refusal.
+    pub fn name(self) -> &'static str
+        ensures { result.now ≡ ask_refusal_name self }
+    {
+        match self {
+            AskRefusal::TooLong => "TooLong",
+        }
+    }
+}
+
+/// Why an end refused its peer, or itself. It is dead then.
+#[derive(Clone, Copy, Debug, PartialEq, Eq)]
+pub enum EpochRefusal {
+    /// What came is no packet.
+    Packet(PacketRefusal),
+    /// All 2^32 numbers of the epoch are used.
+    NumberSpent,
+}
+
+impl EpochRefusal {
+    /// The number of the refusal: 3, 4, 5 or 14.
+    pub fn number(self) -> u8
+        ensures { result ≡ refusal_number self }
+    {
+        match self {
+            EpochRefusal::Packet(refusal) => refusal.number(),
+            EpochRefusal::NumberSpent => 14,
+        }
+    }
+
+    /// The name of the refusal.
+    pub fn name(self) -> &'static str
+        ensures { result.now ≡ refusal_name self }
+    {
+        match self {
+            EpochRefusal::Packet(refusal) => refusal.name(),
+            EpochRefusal::NumberSpent => "NumberSpent",
+        }
+    }
+}
+
+/// What an end did.
+#[derive(Debug, Drop)]
+pub enum Item {
+    /// It was asked to send a payload.
+    Asked,
+    /// The ask was refused.
+    AskRefused(AskRefusal),
+    /// It took this payload.
+    Took(Vec<u8>),
+    /// It sent this payload.
+    Sent(Vec<u8>),
+    /// It refused its peer, or found its own numbers spent.
+    Refused(EpochRefusal),
+    /// It is dead from now on.
+    Died,
+}
+
+/// What an end did, and which end it was.
+#[derive(Debug, Drop)]
+pub struct Done {
+    pub side: Side,
+    pub item: Item,
+}
+
+/// What happens to an end.
+#[derive(Clone, Copy)]
+pub enum Event<'a> {
+    /// It is asked to send this payload, of at least one byte.
+    Ask(Side, &'a [u8]),
+    /// These bytes come to it.
+    Deliver(Side, &'a [u8]),
+}
+
+/// What events added: the items, the oldest first, and the bytes that each side put out.
+#[derive(Drop)]
+pub struct Transcript {
+    pub items: Vec<Done>,
+    pub client_bytes: Vec<u8>,
+    pub server_bytes: Vec<u8>,
+}
+
+/// Want of memory for a transcript, or for the buffers of a pair. A pair that answered it has failed for good.
+#[derive(Clone, Copy, Debug, PartialEq, Eq, Error)]
+#[error("out of memory")]
+pub struct Memory;
+
+impl From<AllocError> for Memory {
+    fn from(_error: AllocError) -> Memory {
+        Memory
+    }
+}
+
+// Records what an end did.
+#[tactic(auto, using(crate::proofs::Logs::logged_one))]
+pub(crate) fn note(log: &mut Vec<Done>, side: Side, item: Item) -> Result<(), AllocError>
+    ensures { OnOk result ((run : List history.Done) → logged run log.new.items ≡ history.By (side_of side) (item_of item) ∷ logged run log.old.items) }
+{
+    log.push(Done { side, item })?;
+    Ok(())
+}
+
+// Records a payload that an end took.
+pub(crate) fn note_took(
+    alloc: Global,
+    log: &mut Vec<Done>,
+    side: Side,
+    payload: &[u8],
+) -> Result<(), AllocError>
+    ensures { OnOk result ((run : List history.Done) → logged run log.new.items ≡ history.By (side_of side) (history.Took payload.now) ∷ logged run log.old.items) }
+{
+    note(log, side, Item::Took(payload.to_vec(alloc)?))
+}
+
+// Records a payload that an end sent.
+pub(crate) fn note_sent(
+    alloc: Global,
+    log: &mut Vec<Done>,
+    side: Side,
+    payload: &[u8],
+) -> Result<(), AllocError>
+    ensures { OnOk result ((run : List history.Done) → logged run log.new.items ≡ history.By (side_of side) (history.Sent payload.now) ∷ logged run log.old.items) }
+{
+    note(log, side, Item::Sent(payload.to_vec(alloc)?))
+}
