@@ -35,14 +35,14 @@ pub data Gets {K : Type 0} (c : Crypto K) (key : K) : List Item → List ℕ →
   takes : {h items more : List Item} {bytes rest : List ℕ} (unit after : List ℕ) → has_died h ≡ false → bytes ≡ unit ++ after →
       Takes c key (length (took h)) unit items → Gets c key (items ++ h) after more rest → Gets c key h bytes (more ++ items) rest
 
--- What an end with this history does with the ask to send a payload: the items that it adds, the newest first,
--- and the bytes that it puts out.
-pub data Asks {K : Type 0} (c : Crypto K) (key : K) (h : List Item) (payload : List ℕ) : List Item → List ℕ → Type 0 where
-  dead : has_died h ≡ true → Asks c key h payload [] []
-  too_long : has_died h ≡ false → 34000 < length payload → Asks c key h payload (AskRefused 5 ∷ Asked ∷ []) []
-  spent : has_died h ≡ false → length payload ≤ 34000 → length (sent h) ≡ 2 ^ 32 → Asks c key h payload (Died ∷ Refused 14 ∷ Asked ∷ []) []
+-- What an end with this history, and with bytes that it has not used, does with the ask to send a payload: the items
+-- that it adds, the newest first, the bytes that it puts out, and the bytes that are left.
+pub data Asks {K : Type 0} (c : Crypto K) (key : K) (h : List Item) (rest payload : List ℕ) : List Item → List ℕ → List ℕ → Type 0 where
+  dead : has_died h ≡ true → Asks c key h rest payload [] [] rest
+  too_long : has_died h ≡ false → 34000 < length payload → Asks c key h rest payload (AskRefused 5 ∷ Asked ∷ []) [] rest
+  spent : has_died h ≡ false → length payload ≤ 34000 → length (sent h) ≡ 2 ^ 32 → Asks c key h rest payload (Died ∷ Refused 14 ∷ Asked ∷ []) [] []
   sends : (bytes : List ℕ) → has_died h ≡ false → length payload ≤ 34000 → length (sent h) < 2 ^ 32 →
-      IsSealed c (Some key) (length (sent h)) payload bytes → Asks c key h payload (Sent payload ∷ Asked ∷ []) bytes
+      IsSealed c (Some key) (length (sent h)) payload bytes → Asks c key h rest payload (Sent payload ∷ Asked ∷ []) bytes rest
 
 -- what may happen to the two ends
 pub data Event : Type 0 where
@@ -61,25 +61,21 @@ pub record World : Type 0 where
 abbrev pub fresh : World
 fresh = record { run = []; client_rest = []; server_rest = []; client_bytes = []; server_bytes = [] }
 
--- Items of an ask or a delivery at one side, put into the world.
-abbrev pub after_ask : World → Side → List Item → List ℕ → World
-after_ask w Client items bytes = record w { run = all_by Client items ++ w.run; client_bytes = w.client_bytes ++ bytes }
-after_ask w Server items bytes = record w { run = all_by Server items ++ w.run; server_bytes = w.server_bytes ++ bytes }
-
-abbrev pub after_delivery : World → Side → List Item → List ℕ → World
-after_delivery w Client items rest = record w { run = all_by Client items ++ w.run; client_rest = rest }
-after_delivery w Server items rest = record w { run = all_by Server items ++ w.run; server_rest = rest }
+-- the world with what one side did, the bytes that it has not used now, and those that it put out
+abbrev pub after : World → Side → List Item → List ℕ → List ℕ → World
+after w Client items rest bytes = record w { run = all_by Client items ++ w.run; client_rest = rest; client_bytes = w.client_bytes ++ bytes }
+after w Server items rest bytes = record w { run = all_by Server items ++ w.run; server_rest = rest; server_bytes = w.server_bytes ++ bytes }
 
 abbrev pub rest_of : World → Side → List ℕ
 rest_of w Client = w.client_rest
 rest_of w Server = w.server_rest
 
--- One event of a run.
+-- One event of a run. What comes to a side was sealed under the key of its peer.
 pub data Step {K : Type 0} (c : Crypto K) (keys : Keys K) (w : World) : Event → World → Type 0 where
-  asks : {items : List Item} {bytes : List ℕ} (side : Side) (payload : List ℕ) → Asks c (key_of keys side) (part side w.run) payload items bytes →
-      Step c keys w (Ask side payload) (after_ask w side items bytes)
+  asks : {items : List Item} {bytes rest : List ℕ} (side : Side) (payload : List ℕ) → Asks c (key_of keys side) (part side w.run) (rest_of w side) payload items bytes rest →
+      Step c keys w (Ask side payload) (after w side items rest bytes)
   gets : {items : List Item} {rest : List ℕ} (side : Side) (bytes : List ℕ) → Gets c (key_of keys (peer side)) (part side w.run) (rest_of w side ++ bytes) items rest →
-      Step c keys w (Deliver side bytes) (after_delivery w side items rest)
+      Step c keys w (Deliver side bytes) (after w side items rest [])
 
 -- A run: events in their order, from one world to another.
 pub data Run {K : Type 0} (c : Crypto K) (keys : Keys K) : World → List Event → World → Type 0 where

@@ -119,3 +119,7 @@ kept_more o bytes reading k left begun e =
 
 pub kept_dead : (o : End) (reading : Reading) → IsKept o → IsBegun 8 32 reading.rest → IsKept (record o { reading = reading; dead = true })
 kept_dead o reading k begun = record { begun = begun; sent_to = k.sent_to; taken_to = k.taken_to; live = λ e. absurd (let f : true ≡ false = e in cc) }
+
+pub kept_sent : (o : End) → IsKept o → o.sent < 2 ^ 32 → IsKept (record o { sent = o.sent + 1 })
+kept_sent o k left =
+    record { begun = k.begun; sent_to = omega arith; taken_to = k.taken_to; live = λ alive. record { unrefused = (k.live alive).unrefused; unspent = (k.live alive).unspent } }

@@ -2,3 +2,4 @@ pub mod Names
 pub mod Status
 pub mod History
 pub mod EpochEnd
+pub mod Turns

@@ -1,13 +1,16 @@
 ghost use Rattle.std.specs.Prelude.{◌≡◌, ◌<◌, ◌≤◌, ◌+◌, ◌++◌, ◌^◌, ℕ, List, [], ◌∷◌, true, false, length, take, IfOk, OnErr};
-ghost use Rattle.ssh_trace.specs.EpochEnd.{EndFinds, End, new_end};
+ghost use Rattle.ssh_trace.specs.EpochEnd.{End, EndAsks, EndFinds, IsKept, new_end};
 
 use crate::history::EpochRefusal;
-use ssh_packet::{HmacKey, MacOnly, PacketReader, ReadStep};
+use ssh_packet::{Filler, HmacKey, MacOnly, PacketReader, ReadStep, write_packet};
 use std::alloc::{AllocError, Global};
 use std::marker::Model;
 
 // The packets of one direction in one epoch.
 const NUMBERS: u64 = 4_294_967_296;
+
+// The bytes of the longest payload that is sent.
+const LONGEST: usize = 34_000;
 
 /// One end of an epoch.
 #[derive(Drop)]
@@ -36,6 +39,24 @@ pub(crate) enum TakeStep {
     Rejected(EpochRefusal),
 }
 
+/// What an end made of an ask.
+#[derive(Clone, Copy)]
+pub(crate) enum AskStep {
+    Sent,
+    TooLong,
+    Spent,
+}
+
+// The padding is zeros.
+#[derive(Drop)]
+struct Zeros;
+
+impl Filler for Zeros {
+    fn fill(&mut self, out: &mut [u8]) {
+        out.fill(0);
+    }
+}
+
 impl EpochEnd {
     pub fn new(alloc: Global) -> Result<EpochEnd, AllocError>
         ensures { IfOk result (λ end. end ≡ new_end) }
@@ -59,6 +80,39 @@ impl EpochEnd {
         ensures { result.now ≡ self.now.reading.payload }
     {
         self.reader.payload()
+    }
+
+    // What holds of every end: a fact for proofs.
+    pub fn kept(&self)
+        ensures { IsKept self.now }
+    {
+        let _ = &self.reader;
+    }
+
+    /// Sends a payload.
+    pub fn ask(
+        &mut self,
+        key: &HmacKey,
+        payload: &[u8],
+        out: &mut Vec<u8>,
+    ) -> Result<AskStep, AllocError>
+        requires alive { self.old.dead ≡ false }
+        requires some { 1 ≤ length payload.now }
+        ensures asked { IfOk result (λ step. EndAsks key.now payload.now self.old step self.new out.old.items out.new.items) }
+        ensures kept { OnErr result (self.new ≡ self.old) }
+        ensures out { OnErr result (out.new.items ≡ out.old.items) }
+    {
+        if payload.len() > LONGEST {
+            return Ok(AskStep::TooLong);
+        }
+        if self.sent >= NUMBERS {
+            self.dead = true;
+            return Ok(AskStep::Spent);
+        }
+        let number = self.sent as u32;
+        write_packet::<MacOnly, Zeros>(payload, Some(key), number, &mut Zeros, out)?;
+        self.sent += 1;
+        Ok(AskStep::Sent)
     }
 
     /// Takes bytes to the end of one packet.

@@ -5,6 +5,7 @@
 mod answer;
 pub mod command_line;
 mod decode;
+mod deliver;
 mod epoch_end;
 mod epoch_pair;
 mod history;

@@ -1,0 +1,159 @@
+-- Turns of an end, for every history that it sums up.
+use Rattle.std.proofs.Common.{◌≡◌, ℕ, suc, ◌+◌, ◌-◌, ◌<◌, ◌≤◌, ◌^◌, Bool, true, false, cond, List, [], ◌∷◌, ◌++◌, length, take, drop, refl, sym, ap, subst, ◌∙◌, arith, append-nil, append_assoc}
+use Rattle.std.specs.Prelude.{Some, None}
+use Rattle.std.proofs.lemmas.List.{take-append-drop}
+use Rattle.ssh_model.specs.Reading.{Writes}
+use Rattle.ssh_model.specs.MacOnly.{mac_only}
+use Rattle.ssh_model.specs.Seal.{IsSealed, IsBegun}
+use Rattle.ssh_model.specs.History.{Side, Item, Item.Asked, Item.AskRefused, Item.Sent, Item.Took, Item.Refused, Item.Died, Done.By, all_by, has_died, sent, took}
+use Rattle.ssh_model.specs.History as history
+use Rattle.ssh_model.specs.EpochRun.{Takes, Waits, Gets, Gets.dead, Gets.waits, Gets.takes, Asks}
+use Rattle.ssh_model.specs.EpochRun as epoch
+use Rattle.ssh_packet.specs.Reading.{Reading, empty}
+use Rattle.ssh_trace.specs.History.{logged, refusal_number}
+use Rattle.ssh_trace.specs.EpochEnd.{End, EndFinds, EndSums, HasDied, IsKept, IsLive, RefusesAsk, Sends, SpendsNumbers, left_of}
+use Rattle.ssh_trace.specs.Turns.{AskedWith, DeliveredWith, Notes, TurnWith}
+use Rattle.ssh_trace.specs.declared.history.Done.{Done}
+use Rattle.ssh_trace.specs.declared.history.EpochRefusal.{EpochRefusal}
+use Rattle.ssh_trace.specs.declared.epoch_end.TakeStep.TheVariants as step
+
+-- these records add one item
+abbrev pub Adds : Side → Item → List Done → List Done → Type 0
+Adds side item before after = (run : List history.Done) → logged run after ≡ By side item ∷ logged run before
+
+two : (side : Side) (first second : Item) (a b c : List Done) → Adds side first a b → Adds side second b c → (run : List history.Done) → logged run c ≡ By side second ∷ By side first ∷ logged run a
+two side first second a b c f g run = g run ∙ ap (λ (x : List history.Done). By side second ∷ x) (f run)
+
+three : (side : Side) (first second third : Item) (a b c d : List Done) → Adds side first a b → Adds side second b c → Adds side third c d
+    → (run : List history.Done) → logged run d ≡ By side third ∷ By side second ∷ By side first ∷ logged run a
+three side first second third a b c d f g h run = h run ∙ ap (λ (x : List history.Done). By side third ∷ x) (two side first second a b c f g run)
+
+alive_is : (h : List Item) (rest : List ℕ) (e : End) → EndSums h rest e → e.dead ≡ false → has_died h ≡ false
+alive_is h rest e s a = sym s.dead_is ∙ a
+
+-- ---- asks
+
+pub asked_dead : (key payload out : List ℕ) (side : Side) (h : List Item) (e : End) (log : List Done) → EndSums h (left_of e) e → e.dead ≡ true → AskedWith key side payload h e e log log out out
+asked_dead key payload out side h e log s d =
+    record { items = []; bytes = []; asks = epoch.dead (sym s.dead_is ∙ d); put = sym (append-nil out); notes = record { records = λ run. refl; sums = s } }
+
+pub asked_sent : (key payload out after : List ℕ) (side : Side) (h : List Item) (old new : End) (a b c : List Done) → EndSums h (left_of old) old → old.dead ≡ false → Sends key payload old new out after
+    → Adds side Asked a b → Adds side (Sent payload) b c → AskedWith key side payload h old new a c out after
+asked_sent key payload out after side h old new a b c s alive t f g =
+    let died = alive_is h (left_of old) old s alive in
+    let e = t.new_is in
+    let w = t.writes in
+    let same : left_of old ≡ left_of new = sym (ap left_of e) in
+    let sealed : IsSealed mac_only (Some key) (length (sent h)) payload w.bytes = subst (λ (n : ℕ). IsSealed mac_only (Some key) n payload w.bytes) s.sent_is w.meets in
+    record {
+      items = Sent payload ∷ Asked ∷ [];
+      bytes = w.bytes;
+      asks = subst (λ (x : List ℕ). Asks mac_only key h (left_of old) payload (Sent payload ∷ Asked ∷ []) w.bytes x) same (epoch.sends w.bytes died t.short (omega (arith, t.left, s.sent_is)) sealed);
+      put = w.parts;
+      notes = record {
+        records = two side Asked (Sent payload) a b c f g;
+        sums = record { dead_is = ap (λ (x : End). x.dead) e ∙ s.dead_is; sent_is = ap (λ (x : End). x.sent) e ∙ omega (arith, s.sent_is); taken_is = ap (λ (x : End). x.taken) e ∙ s.taken_is; rest_is = refl };
+      };
+    }
+
+pub asked_too_long : (key payload out after : List ℕ) (side : Side) (h : List Item) (old new : End) (a b c : List Done) → EndSums h (left_of old) old → old.dead ≡ false → RefusesAsk payload old new out after
+    → Adds side Asked a b → Adds side (AskRefused 5) b c → AskedWith key side payload h old new a c out after
+asked_too_long key payload out after side h old new a b c s alive t f g =
+    let e = t.new_is in
+    record {
+      items = AskRefused 5 ∷ Asked ∷ [];
+      bytes = [];
+      asks = subst (λ (x : List ℕ). Asks mac_only key h (left_of old) payload (AskRefused 5 ∷ Asked ∷ []) [] x) (sym (ap left_of e)) (epoch.too_long (alive_is h (left_of old) old s alive) t.long);
+      put = t.none ∙ sym (append-nil out);
+      notes = record {
+        records = two side Asked (AskRefused 5) a b c f g;
+        sums = record { dead_is = ap (λ (x : End). x.dead) e ∙ s.dead_is; sent_is = ap (λ (x : End). x.sent) e ∙ s.sent_is; taken_is = ap (λ (x : End). x.taken) e ∙ s.taken_is; rest_is = refl };
+      };
+    }
+
+-- a dead end keeps no bytes
+none_left : (e : End) → e.dead ≡ true → left_of e ≡ []
+none_left e d = ap (λ (b : Bool). cond b [] e.reading.rest) d
+
+pub asked_spent : (key payload out after : List ℕ) (side : Side) (h : List Item) (old new : End) (a b c d : List Done) → EndSums h (left_of old) old → old.dead ≡ false → SpendsNumbers payload old new out after
+    → Adds side Asked a b → Adds side (Refused 14) b c → Adds side Died c d → AskedWith key side payload h old new a d out after
+asked_spent key payload out after side h old new a b c d s alive t f g i =
+    record {
+      items = Died ∷ Refused 14 ∷ Asked ∷ [];
+      bytes = [];
+      asks = subst (λ (x : List ℕ). Asks mac_only key h (left_of old) payload (Died ∷ Refused 14 ∷ Asked ∷ []) [] x) (sym (none_left new t.died.dead)) (epoch.spent (alive_is h (left_of old) old s alive) t.short (sym s.sent_is ∙ t.spent));
+      put = t.none ∙ sym (append-nil out);
+      notes = record {
+        records = three side Asked (Refused 14) Died a b c d f g i;
+        sums = record { dead_is = t.died.dead; sent_is = t.died.sent ∙ s.sent_is; taken_is = t.died.taken ∙ s.taken_is; rest_is = refl };
+      };
+    }
+
+-- ---- parts of a delivery
+
+live_left : (e : End) → e.dead ≡ false → left_of e ≡ e.reading.rest
+live_left e a = ap (λ (b : Bool). cond b [] e.reading.rest) a
+
+pub turn_more : (key used : List ℕ) (side : Side) (h : List Item) (old new : End) (log : List Done) → EndSums h (left_of old) old → old.dead ≡ false → EndFinds key (old.reading.rest ++ used) old step.More new → TurnWith key side used h old new log log
+turn_more key used side h old new log s alive f =
+    let e = f.1 in
+    let new_alive : new.dead ≡ false = ap (λ (x : End). x.dead) e ∙ alive in
+    let left : left_of new ≡ left_of old ++ used = live_left new new_alive ∙ ap (λ (x : End). x.reading.rest) e ∙ ap (λ (x : List ℕ). x ++ used) (sym (live_left old alive)) in
+    record {
+      items = [];
+      goes = λ after more rest g. let same : left_of new ++ after ≡ left_of old ++ (used ++ after) = ap (λ (x : List ℕ). x ++ after) left ∙ append_assoc (left_of old) used after in
+          subst (λ (x : List Item). Gets mac_only key h (left_of old ++ (used ++ after)) x rest) (sym (append-nil more)) (subst (λ (x : List ℕ). Gets mac_only key h x more rest) same g);
+      notes = record {
+        records = λ run. refl;
+        sums = record { dead_is = ap (λ (x : End). x.dead) e ∙ s.dead_is; sent_is = ap (λ (x : End). x.sent) e ∙ s.sent_is; taken_is = ap (λ (x : End). x.taken) e ∙ s.taken_is; rest_is = refl };
+      };
+    }
+
+-- a unit is used up, and nothing is left
+unit_goes : (key used : List ℕ) (h items : List Item) (old new : End) → EndSums h (left_of old) old → old.dead ≡ false → Takes mac_only key old.taken (old.reading.rest ++ used) items → left_of new ≡ []
+    → (after : List ℕ) (more : List Item) (rest : List ℕ) → Gets mac_only key (items ++ h) (left_of new ++ after) more rest → Gets mac_only key h (left_of old ++ (used ++ after)) (more ++ items) rest
+unit_goes key used h items old new s alive t none after more rest g =
+    let unit : old.reading.rest ++ used ≡ left_of old ++ used = ap (λ (x : List ℕ). x ++ used) (sym (live_left old alive)) in
+    let taken : Takes mac_only key (length (took h)) (left_of old ++ used) items =
+        subst (λ (x : List ℕ). Takes mac_only key (length (took h)) x items) unit (subst (λ (n : ℕ). Takes mac_only key n (old.reading.rest ++ used) items) s.taken_is t) in
+    takes (left_of old ++ used) after (alive_is h (left_of old) old s alive) (sym (append_assoc (left_of old) used after)) taken (subst (λ (x : List ℕ). Gets mac_only key (items ++ h) (x ++ after) more rest) none g)
+
+pub turn_taken : (key used : List ℕ) (side : Side) (h : List Item) (old new : End) (a b : List Done) → EndSums h (left_of old) old → old.dead ≡ false → EndFinds key (old.reading.rest ++ used) old step.Taken new
+    → Adds side (Took new.reading.payload) a b → TurnWith key side used h old new a b
+turn_taken key used side h old new a b s alive f log =
+    let e = f.1 in
+    let new_alive : new.dead ≡ false = ap (λ (x : End). x.dead) e ∙ alive in
+    let none : left_of new ≡ [] = live_left new new_alive ∙ ap (λ (x : End). x.reading.rest) e in
+    record {
+      items = Took new.reading.payload ∷ [];
+      goes = unit_goes key used h (Took new.reading.payload ∷ []) old new s alive f.0 none;
+      notes = record {
+        records = log;
+        sums = record { dead_is = ap (λ (x : End). x.dead) e ∙ s.dead_is; sent_is = ap (λ (x : End). x.sent) e ∙ s.sent_is; taken_is = ap (λ (x : End). x.taken) e ∙ omega (arith, s.taken_is); rest_is = refl };
+      };
+    }
+
+pub turn_rejected : (key used : List ℕ) (side : Side) (h : List Item) (old new : End) (refusal : EpochRefusal) (a b c : List Done) → EndSums h (left_of old) old → old.dead ≡ false
+    → EndFinds key (old.reading.rest ++ used) old (step.Rejected refusal) new → Adds side (Refused (refusal_number refusal)) a b → Adds side Died b c → TurnWith key side used h old new a c
+turn_rejected key used side h old new refusal a b c s alive f first second =
+    let died = f.1 in
+    record {
+      items = Died ∷ Refused (refusal_number refusal) ∷ [];
+      goes = unit_goes key used h (Died ∷ Refused (refusal_number refusal) ∷ []) old new s alive f.0 (none_left new died.dead);
+      notes = record {
+        records = two side (Refused (refusal_number refusal)) Died a b c first second;
+        sums = record { dead_is = died.dead; sent_is = died.sent ∙ s.sent_is; taken_is = died.taken ∙ s.taken_is; rest_is = refl };
+      };
+    }
+
+-- ---- a whole delivery
+
+-- so many bytes of the piece were used: what the end then does with those behind it does with all of them, these items in front
+pub record Going (key : List ℕ) (side : Side) (piece : List ℕ) (at_ : ℕ) (h : List Item) (old new : End) (log_old log_new : List Done) : Type 0 where
+  pub items : List Item
+  pub goes : (more : List Item) (left : List ℕ) → Gets mac_only key (items ++ h) (left_of new ++ drop at_ piece) more left → Gets mac_only key h (left_of old ++ piece) (more ++ items) left
+  pub notes : Notes side h items new log_old log_new
+
+pub nothing_yet : (key piece : List ℕ) (side : Side) (h : List Item) (old : End) (log : List Done) → EndSums h (left_of old) old → Going key side piece 0 h old old log log
+nothing_yet key piece side h old log s =
+    record { items = []; goes = λ more left g. subst (λ (x : List Item). Gets mac_only key h (left_of old ++ piece) x left) (sym (append-nil more)) g; notes = record { records = λ run. refl; sums = s } }

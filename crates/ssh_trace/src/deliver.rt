@@ -1,0 +1,98 @@
+//! What becomes of an ask, and of bytes that come, with the records of it.
+
+ghost use Rattle.std.specs.Prelude.{◌≡◌, ◌⊎◌, ◌<◌, ◌≤◌, false, true, length, take, IfOk, OnOk};
+ghost use Rattle.ssh_trace.specs.History.{side_of};
+ghost use Rattle.ssh_trace.specs.Turns.{Asked, Delivered, Turn};
+
+use crate::epoch_end::{AskStep, EpochEnd, TakeStep};
+use crate::history::{AskRefusal, Done, EpochRefusal, Item, Side, note, note_sent, note_took};
+use ssh_packet::HmacKey;
+use std::alloc::{AllocError, Global};
+
+/// Asks an end to send a payload. A dead end does nothing.
+pub(crate) fn ask(
+    end: &mut EpochEnd,
+    alloc: Global,
+    key: &HmacKey,
+    side: Side,
+    payload: &[u8],
+    log: &mut Vec<Done>,
+    out: &mut Vec<u8>,
+) -> Result<(), AllocError>
+    requires { 1 ≤ length payload.now }
+    ensures { OnOk result (Asked key.now (side_of side) payload.now end.old end.new log.old.items log.new.items out.old.items out.new.items) }
+{
+    if end.is_dead() {
+        return Ok(());
+    }
+    match end.ask(key, payload, out)? {
+        AskStep::Sent => {
+            note(log, side, Item::Asked)?;
+            note_sent(alloc, log, side, payload)?;
+            Ok(())
+        }
+        AskStep::TooLong => {
+            note(log, side, Item::Asked)?;
+            note(log, side, Item::AskRefused(AskRefusal::TooLong))?;
+            Ok(())
+        }
+        AskStep::Spent => {
+            note(log, side, Item::Asked)?;
+            note(log, side, Item::Refused(EpochRefusal::NumberSpent))?;
+            note(log, side, Item::Died)?;
+            Ok(())
+        }
+    }
+}
+
+/// Delivers a piece of the stream to an end. A dead end does nothing.
+pub(crate) fn deliver(
+    end: &mut EpochEnd,
+    alloc: Global,
+    key: &HmacKey,
+    side: Side,
+    piece: &[u8],
+    log: &mut Vec<Done>,
+) -> Result<(), AllocError>
+    ensures { OnOk result (Delivered key.now (side_of side) piece.now end.old end.new log.old.items log.new.items) }
+{
+    let mut at = 0;
+    while at < piece.len() {
+        if end.is_dead() {
+            return Ok(());
+        }
+        let rest = piece.split_at(at).1;
+        at += deliver_once(end, alloc, key, side, rest, log)?;
+    }
+    end.kept();
+    Ok(())
+}
+
+// Delivers bytes to the end of one packet, and answers how many.
+fn deliver_once(
+    end: &mut EpochEnd,
+    alloc: Global,
+    key: &HmacKey,
+    side: Side,
+    bytes: &[u8],
+    log: &mut Vec<Done>,
+) -> Result<usize, AllocError>
+    requires alive { end.old.dead ≡ false }
+    ensures used { IfOk result (λ count. count ≤ length bytes.now) }
+    ensures progress { IfOk result (λ count. 0 < length bytes.now → 0 < count) }
+    ensures turn { IfOk result (λ count. Turn key.now (side_of side) (take count bytes.now) end.old end.new log.old.items log.new.items) }
+{
+    let (used, step) = end.take(key, bytes);
+    match step {
+        TakeStep::More => Ok(used),
+        TakeStep::Taken => {
+            note_took(alloc, log, side, end.payload())?;
+            Ok(used)
+        }
+        TakeStep::Rejected(refusal) => {
+            note(log, side, Item::Refused(refusal))?;
+            note(log, side, Item::Died)?;
+            Ok(used)
+        }
+    }
+}
