@@ -1,3 +1,6 @@
+ghost use Rattle.std.specs.Prelude.{◌≡◌};
+ghost use Rattle.ssh_trace.specs.declared.decode.DecodeFault.TheVariants.{OutOfMemory};
+
 use crate::answer::{Answer, finish};
 use crate::epoch_pair::Memory;
 use crate::message_line::{MessageError, message_line};
@@ -13,18 +16,22 @@ enum DecodeFault {
     #[error("HEX is pairs of hexadecimal digits")]
     NotHex,
     #[error("out of memory")]
-    Memory,
+    OutOfMemory,
 }
 
 impl From<Memory> for DecodeFault {
+    ghost from_gives = { λ _ e. e ≡ OutOfMemory };
+
     fn from(_error: Memory) -> DecodeFault {
-        DecodeFault::Memory
+        DecodeFault::OutOfMemory
     }
 }
 
 impl From<AllocError> for DecodeFault {
+    ghost from_gives = { λ _ e. e ≡ OutOfMemory };
+
     fn from(_error: AllocError) -> DecodeFault {
-        DecodeFault::Memory
+        DecodeFault::OutOfMemory
     }
 }
 
@@ -64,7 +71,7 @@ fn message(alloc: Global, payload: &[u8]) -> Result<Answer, DecodeFault> {
             status: Status::Done,
         }),
         Err(MessageError::BadMessage) => refused(format!(in alloc; "refused 6 BadMessage\n")?),
-        Err(MessageError::Memory) => Err(DecodeFault::Memory),
+        Err(MessageError::Memory) => Err(DecodeFault::OutOfMemory),
     }
 }
 

@@ -1,5 +1,7 @@
 //! Runs the commands of a script against a pair of ends.
 
+ghost use Rattle.std.specs.Prelude.{◌≡◌};
+
 use crate::epoch_pair::{Done, EpochPair, Event, Item, Memory, Side};
 use crate::script::{Command, Count, Keys};
 use crate::script_fault::LineFault;
@@ -7,6 +9,10 @@ use crate::stream::Stream;
 use std::alloc::Global;
 
 impl From<Memory> for LineFault {
+    ghost use Rattle.ssh_trace.specs.declared.script_fault.LineFault.TheVariants.{Memory};
+
+    ghost from_gives = { λ _ e. e ≡ Memory };
+
     fn from(_error: Memory) -> LineFault {
         LineFault::Memory
     }
