@@ -35,9 +35,9 @@ impl From<AllocError> for DecodeFault {
     }
 }
 
-/// Prints one clear packet (RFC 4253 section 6), given in hexadecimal digits, as one line on `out`: its message, or
-/// `refused K NAME`, `incomplete` where bytes are missing, or `trailing N` where N bytes follow it. The first two of
-/// these count before the message, and `refused 6 BadMessage` after all others.
+/// Prints one clear packet (RFC 4253 section 6), given in hexadecimal digits, as one line on `out`: its message, or the
+/// first of these that holds: `refused 3 BadLength`; `incomplete`, where bytes are missing; `refused 4 BadPadding`;
+/// `trailing N`, where N bytes follow the packet; `refused 6 BadMessage`.
 ///
 /// `Status::Done` where a message was printed, `Status::Refused` for another line. `Status::Fault`, with a message on
 /// `err` and nothing on `out`, for a text that isn't hexadecimal and where memory ran out; and where writing to `out`
