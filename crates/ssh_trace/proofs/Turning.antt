@@ -1,7 +1,8 @@
 -- Turns of an end, for every history that it sums up.
-use Rattle.std.proofs.Common.{◌≡◌, ℕ, suc, ◌+◌, ◌-◌, ◌<◌, ◌≤◌, ◌^◌, Bool, true, false, cond, List, [], ◌∷◌, ◌++◌, length, take, drop, refl, sym, ap, subst, ◌∙◌, arith, append-nil, append_assoc}
+use Rattle.std.proofs.Common.{◌≡◌, ℕ, suc, ◌+◌, ◌-◌, ◌<◌, ◌≤◌, ◌^◌, Bool, true, false, cond, List, [], ◌∷◌, ◌++◌, length, take, drop, refl, sym, ap, subst, ◌∙◌, arith, append-nil, append_assoc, inl, inr}
 use Rattle.std.specs.Prelude.{Some, None}
-use Rattle.std.proofs.lemmas.List.{take-append-drop}
+use Rattle.std.proofs.lemmas.Bool.{cases_Bool}
+use Rattle.std.proofs.lemmas.List.{take-append-drop, drop-drop, drop_all}
 use Rattle.ssh_model.specs.Reading.{Writes}
 use Rattle.ssh_model.specs.MacOnly.{mac_only}
 use Rattle.ssh_model.specs.Seal.{IsSealed, IsBegun}
@@ -157,3 +158,56 @@ pub record Going (key : List ℕ) (side : Side) (piece : List ℕ) (at_ : ℕ) (
 pub nothing_yet : (key piece : List ℕ) (side : Side) (h : List Item) (old : End) (log : List Done) → EndSums h (left_of old) old → Going key side piece 0 h old old log log
 nothing_yet key piece side h old log s =
     record { items = []; goes = λ more left g. subst (λ (x : List Item). Gets mac_only key h (left_of old ++ piece) x left) (sym (append-nil more)) g; notes = record { records = λ run. refl; sums = s } }
+
+all_by_append : (side : Side) (xs ys : List Item) → all_by side (xs ++ ys) ≡ all_by side xs ++ all_by side ys
+all_by_append side [] ys = refl
+all_by_append side (x ∷ xs) ys = ap (λ (z : List history.Done). By side x ∷ z) (all_by_append side xs ys)
+
+pub go_on : (key piece rest : List ℕ) (side : Side) (at_ count : ℕ) (h : List Item) (old middle new : End) (a b c : List Done) → rest ≡ drop at_ piece → Going key side piece at_ h old middle a b
+    → ((k : List Item) → EndSums k (left_of middle) middle → TurnWith key side (take count rest) k middle new b c) → Going key side piece (at_ + count) h old new a c
+go_on key piece rest side at_ count h old middle new a b c behind g turn =
+    let t = turn (g.items ++ h) g.notes.sums in
+    let join : take count rest ++ drop (at_ + count) piece ≡ drop at_ piece =
+        ap (λ (x : List ℕ). take count x ++ drop (at_ + count) piece) behind ∙ ap (λ (x : List ℕ). take count (drop at_ piece) ++ x) (sym (drop-drop count at_ piece)) ∙ take-append-drop count (drop at_ piece) in
+    record {
+      items = t.items ++ g.items;
+      goes = λ more left x.
+          let first = t.goes (drop (at_ + count) piece) more left (subst (λ (k : List Item). Gets mac_only key k (left_of new ++ drop (at_ + count) piece) more left) (append_assoc t.items g.items h) x) in
+          let second = g.goes (more ++ t.items) left (subst (λ (k : List ℕ). Gets mac_only key (g.items ++ h) (left_of middle ++ k) (more ++ t.items) left) join first) in
+          subst (λ (k : List Item). Gets mac_only key h (left_of old ++ piece) k left) (append_assoc more t.items g.items) second;
+      notes = record {
+        records = λ run. t.notes.records run ∙ ap (λ (x : List history.Done). all_by side t.items ++ x) (g.notes.records run)
+            ∙ sym (append_assoc (all_by side t.items) (all_by side g.items) (logged run a)) ∙ ap (λ (x : List history.Done). x ++ logged run a) (sym (all_by_append side t.items g.items));
+        sums = subst (λ (k : List Item). EndSums k (left_of new) new) (sym (append_assoc t.items g.items h)) t.notes.sums;
+      };
+    }
+
+pub dead_end : (key piece : List ℕ) (side : Side) (at_ : ℕ) (h : List Item) (old new : End) (a b : List Done) → Going key side piece at_ h old new a b → new.dead ≡ true → DeliveredWith key side piece h old new a b
+dead_end key piece side at_ h old new a b g d =
+    let died : has_died (g.items ++ h) ≡ true = sym g.notes.sums.dead_is ∙ d in
+    record {
+      items = g.items;
+      gets = g.goes [] (left_of new) (subst (λ (x : List ℕ). Gets mac_only key (g.items ++ h) (left_of new ++ drop at_ piece) [] x) (sym (none_left new d)) (epoch.dead (left_of new ++ drop at_ piece) died));
+      notes = g.notes;
+    }
+
+living_end : (key piece : List ℕ) (side : Side) (at_ : ℕ) (h : List Item) (old new : End) (a b : List Done) → Going key side piece at_ h old new a b → length piece ≤ at_ → IsKept new → new.dead ≡ false → DeliveredWith key side piece h old new a b
+living_end key piece side at_ h old new a b g over k alive =
+    let s = g.notes.sums in
+    let all : left_of new ++ drop at_ piece ≡ left_of new = ap (λ (x : List ℕ). left_of new ++ x) (drop_all at_ piece over) ∙ append-nil (left_of new) in
+    let wait : Waits mac_only key (length (took (g.items ++ h))) (left_of new) = record {
+      begun = subst (λ (x : List ℕ). IsBegun 8 32 x) (sym (live_left new alive)) k.begun;
+      unspent = λ long. subst (λ (n : ℕ). n < 2 ^ 32) s.taken_is ((k.live alive).unspent (subst (λ (x : List ℕ). 4 ≤ length x) (live_left new alive) long));
+    } in
+    record {
+      items = g.items;
+      gets = g.goes [] (left_of new) (subst (λ (x : List ℕ). Gets mac_only key (g.items ++ h) x [] (left_of new)) (sym all) (epoch.waits (alive_is (g.items ++ h) (left_of new) new s alive) wait));
+      notes = g.notes;
+    }
+
+pub whole_piece : (key piece : List ℕ) (side : Side) (at_ : ℕ) (h : List Item) (old new : End) (a b : List Done) → Going key side piece at_ h old new a b → length piece ≤ at_ → IsKept new → DeliveredWith key side piece h old new a b
+whole_piece key piece side at_ h old new a b g over k =
+    elim (cases_Bool new.dead) [
+      | inl d ↦ dead_end key piece side at_ h old new a b g d
+      | inr alive ↦ living_end key piece side at_ h old new a b g over k alive
+    ]

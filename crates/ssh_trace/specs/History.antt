@@ -1,5 +1,5 @@
 -- The items of a transcript as the definitions have them.
-use Rattle.std.specs.Prelude.{ℕ, List, [], ◌∷◌, codes}
+use Rattle.std.specs.Prelude.{ℕ, ◌≤◌, List, [], ◌∷◌, length, codes}
 use Rattle.ssh_model.specs.History as history
 use Rattle.ssh_model.specs.EpochRun as epoch
 use Rattle.ssh_packet.specs.Refusals as packet
@@ -53,3 +53,9 @@ event_of (Deliver side bytes) = epoch.Deliver (side_of side) bytes.now
 abbrev pub events_of : List Event → List epoch.Event
 events_of [] = []
 events_of (event ∷ events) = event_of event ∷ events_of events
+
+-- each payload that is to be sent has at least one byte
+abbrev pub AreFilled : List epoch.Event → Type 0
+AreFilled [] = Unit {0}
+AreFilled (epoch.Ask side payload ∷ events) = (1 ≤ length payload) × AreFilled events
+AreFilled (epoch.Deliver side bytes ∷ events) = AreFilled events

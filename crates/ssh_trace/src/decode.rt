@@ -1,3 +1,6 @@
+ghost use Rattle.std.specs.Prelude.{◌≡◌};
+ghost use Rattle.ssh_trace.specs.declared.decode.DecodeFault.TheVariants.{OutOfMemory};
+
 use crate::answer::{Answer, finish};
 use crate::history::Memory;
 use crate::message_line::{MessageError, message_line};
@@ -13,24 +16,28 @@ enum DecodeFault {
     #[error("HEX is pairs of hexadecimal digits")]
     NotHex,
     #[error("out of memory")]
-    Memory,
+    OutOfMemory,
 }
 
 impl From<Memory> for DecodeFault {
+    ghost from_gives = { λ _ e. e ≡ OutOfMemory };
+
     fn from(_error: Memory) -> DecodeFault {
-        DecodeFault::Memory
+        DecodeFault::OutOfMemory
     }
 }
 
 impl From<AllocError> for DecodeFault {
+    ghost from_gives = { λ _ e. e ≡ OutOfMemory };
+
     fn from(_error: AllocError) -> DecodeFault {
-        DecodeFault::Memory
+        DecodeFault::OutOfMemory
     }
 }
 
-/// Prints one clear packet (RFC 4253 section 6), given in hexadecimal digits, as one line on `out`: its message, or
-/// `refused K NAME`, `incomplete` where bytes are missing, or `trailing N` where N bytes follow it. The first two of
-/// these count before the message, and `refused 6 BadMessage` after all others.
+/// Prints one clear packet (RFC 4253 section 6), given in hexadecimal digits, as one line on `out`: its message, or the
+/// first of these that holds: `refused 3 BadLength`; `incomplete`, where bytes are missing; `refused 4 BadPadding`;
+/// `trailing N`, where N bytes follow the packet; `refused 6 BadMessage`.
 ///
 /// `Status::Done` where a message was printed, `Status::Refused` for another line. `Status::Fault`, with a message on
 /// `err` and nothing on `out`, for a text that isn't hexadecimal and where memory ran out; and where writing to `out`
@@ -64,7 +71,7 @@ fn message(alloc: Global, payload: &[u8]) -> Result<Answer, DecodeFault> {
             status: Status::Done,
         }),
         Err(MessageError::BadMessage) => refused(format!(in alloc; "refused 6 BadMessage\n")?),
-        Err(MessageError::Memory) => Err(DecodeFault::Memory),
+        Err(MessageError::Memory) => Err(DecodeFault::OutOfMemory),
     }
 }
 

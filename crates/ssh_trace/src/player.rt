@@ -1,5 +1,8 @@
 //! Runs the commands of a script against a pair of ends.
 
+ghost use Rattle.std.specs.Prelude.{◌≡◌};
+ghost use Rattle.ssh_trace.specs.History.{AreFilled, events_of};
+
 use crate::epoch_pair::EpochPair;
 use crate::history::{Done, Event, Item, Memory, Side};
 use crate::script::{Command, Count, Keys};
@@ -8,6 +11,10 @@ use crate::stream::Stream;
 use std::alloc::Global;
 
 impl From<Memory> for LineFault {
+    ghost use Rattle.ssh_trace.specs.declared.script_fault.LineFault.TheVariants.{Memory};
+
+    ghost from_gives = { λ _ e. e ≡ Memory };
+
     fn from(_error: Memory) -> LineFault {
         LineFault::Memory
     }
@@ -35,13 +42,21 @@ impl Player {
     /// Runs one command, and gives what the ends did.
     pub fn run(&mut self, command: &Command) -> Result<Vec<Done>, LineFault> {
         match command {
-            Command::Ask { side, payload } => self.play(&[Event::Ask(*side, payload.as_slice())]),
+            Command::Ask { side, payload } => self.ask(*side, payload.as_slice()),
             Command::Give { side, bytes } => self.play(&[Event::Deliver(*side, bytes.as_slice())]),
             Command::Pass { from, count } => self.pass(*from, *count),
             Command::Drip { from } => self.drip(*from),
             Command::Lose { from, count } => self.lose(*from, *count),
             Command::Again { from, start, count } => self.again(*from, *start, *count),
         }
+    }
+
+    // An empty payload has no message number, and so can't be sent.
+    fn ask(&mut self, side: Side, payload: &[u8]) -> Result<Vec<Done>, LineFault> {
+        if payload.is_empty() {
+            return Err(LineFault::EmptyPayload);
+        }
+        self.play(&[Event::Ask(side, payload)])
     }
 
     fn pass(&mut self, from: Side, count: Count) -> Result<Vec<Done>, LineFault> {
@@ -52,12 +67,13 @@ impl Player {
     fn drip(&mut self, from: Side) -> Result<Vec<Done>, LineFault> {
         let waiting = self.next(from, Count::All)?;
         let to = peer_of(from);
-        let pieces: Vec<Event<'_>> = waiting
-            .as_slice()
-            .chunks(1)
-            .map(|piece| Event::Deliver(to, piece))
-            .collect(self.alloc)?;
-        self.play(pieces.as_slice())
+        let mut all = Vec::new(self.alloc);
+        for piece in waiting.as_slice().chunks(1) {
+            for done in self.play(&[Event::Deliver(to, piece)])? {
+                all.push(done)?;
+            }
+        }
+        Ok(all)
     }
 
     fn lose(&mut self, from: Side, count: u32) -> Result<Vec<Done>, LineFault> {
@@ -80,7 +96,9 @@ impl Player {
         }
     }
 
-    fn play(&mut self, events: &[Event<'_>]) -> Result<Vec<Done>, LineFault> {
+    fn play(&mut self, events: &[Event<'_>]) -> Result<Vec<Done>, LineFault>
+        requires { AreFilled (events_of events.now) }
+    {
         let transcript = self.pair.play(events)?;
         self.client.put_out(transcript.client_bytes.as_slice())?;
         self.server.put_out(transcript.server_bytes.as_slice())?;

@@ -1,3 +1,5 @@
+ghost use Rattle.std.specs.Prelude.{◌≡◌};
+
 use std::alloc::AllocError;
 use std::io;
 use thiserror::Error;
@@ -85,6 +87,10 @@ pub(crate) enum LineFault {
 }
 
 impl From<AllocError> for LineFault {
+    ghost use Rattle.ssh_trace.specs.declared.script_fault.LineFault.TheVariants.{Memory};
+
+    ghost from_gives = { λ _ e. e ≡ Memory };
+
     fn from(_error: AllocError) -> LineFault {
         LineFault::Memory
     }
@@ -103,6 +109,10 @@ pub(crate) enum ScriptFault {
 }
 
 impl From<AllocError> for ScriptFault {
+    ghost use Rattle.ssh_trace.specs.declared.script_fault.ScriptFault.TheVariants.{Memory};
+
+    ghost from_gives = { λ _ e. e ≡ Memory };
+
     fn from(_error: AllocError) -> ScriptFault {
         ScriptFault::Memory
     }

@@ -1,4 +1,4 @@
-ghost use Rattle.std.specs.Prelude.{◌≤◌, vec_len};
+ghost use Rattle.std.specs.Prelude.{◌≡◌, ◌≤◌, ◌+◌, ◌++◌, [], vec_len, take, drop, IfOk, OnOk, OnErr};
 
 use crate::script::Count;
 use crate::script_fault::LineFault;
@@ -14,7 +14,10 @@ pub(crate) struct Stream {
 }
 
 impl Stream {
-    pub fn new(alloc: Global) -> Stream {
+    pub fn new(alloc: Global) -> Stream
+        ensures bytes { result.bytes.items ≡ [] }
+        ensures passed { result.passed ≡ 0 }
+    {
         Stream {
             alloc,
             bytes: Vec::new(alloc),
@@ -23,12 +26,22 @@ impl Stream {
     }
 
     /// Adds bytes that the side put out.
-    pub fn put_out(&mut self, bytes: &[u8]) -> Result<(), AllocError> {
+    pub fn put_out(&mut self, bytes: &[u8]) -> Result<(), AllocError>
+        ensures bytes { OnOk result (self.new.bytes.items ≡ self.old.bytes.items ++ bytes.now) }
+        ensures passed { self.new.passed ≡ self.old.passed }
+    {
         self.bytes.extend_from_slice(bytes)
     }
 
     /// The next waiting bytes, which wait no longer.
-    pub fn next(&mut self, count: Count) -> Result<Vec<u8>, LineFault> {
+    pub fn next(&mut self, count: Count) -> Result<Vec<u8>, LineFault>
+        ensures next { IfOk result (λ piece. piece.items
+            ≡ take (vec_len piece) (drop self.old.passed self.old.bytes.items)) }
+        ensures passed { IfOk result (λ piece. self.new.passed ≡ self.old.passed + vec_len piece) }
+        ensures all { count ≡ Count.All → OnOk result (self.new.passed ≡ vec_len self.old.bytes) }
+        ensures bytes { self.new.bytes ≡ self.old.bytes }
+        ensures refused { OnErr result (self.new ≡ self.old) }
+    {
         let (_, waiting) = self.bytes.as_slice().split_at(self.passed);
         let wanted = match count {
             Count::All => waiting.len(),
@@ -44,7 +57,10 @@ impl Stream {
     }
 
     /// Bytes that were put out, waiting or not.
-    pub fn part(&self, start: u32, count: u32) -> Result<Vec<u8>, LineFault> {
+    pub fn part(&self, start: u32, count: u32) -> Result<Vec<u8>, LineFault>
+        ensures { IfOk result (λ piece. (piece.items ≡ take count (drop start self.now.bytes.items))
+            × (start + count ≤ vec_len self.now.bytes)) }
+    {
         let whole = self.bytes.as_slice();
         let rest = whole.get(start as usize..);
         let Some(part) = rest.and_then(|rest| rest.get(..count as usize)) else {
