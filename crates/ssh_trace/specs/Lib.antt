@@ -3,3 +3,4 @@ pub mod Status
 pub mod History
 pub mod EpochEnd
 pub mod Turns
+pub mod Pair

@@ -70,7 +70,7 @@ impl Player {
         let mut all = Vec::new(self.alloc);
         for piece in waiting.as_slice().chunks(1) {
             for done in self.play(&[Event::Deliver(to, piece)])? {
-                all.push(done)?;
+                all.push(done).map_err(|_| LineFault::Memory)?;
             }
         }
         Ok(all)

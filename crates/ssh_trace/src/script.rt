@@ -79,9 +79,6 @@ fn ask(alloc: Global, words: &[&str]) -> Result<Command, LineFault> {
     };
     let side = words::side(side)?;
     let payload = words::bytes(alloc, payload)?;
-    if payload.is_empty() {
-        return Err(LineFault::EmptyPayload);
-    }
     Ok(Command::Ask { side, payload })
 }
 
