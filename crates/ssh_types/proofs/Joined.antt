@@ -12,6 +12,7 @@ use Rattle.std.proofs.lemmas.List.Elements.{All-from_recursion}
 use Rattle.ssh_model.specs.DataTypes.{is_comma, is_name_byte, is_name, IsString, IsNameText, IsNameList}
 use Rattle.ssh_model.specs.Reading.{Reads, NoFront, OneForm, Writes}
 use Rattle.ssh_types.specs.Names.{names_of, are_names}
+use Rattle.ssh_types.specs.Values.{IsBadNames}
 use Rattle.ssh_types.proofs.Fronts.{one_string}
 
 no_comma : (c : ℕ) → is_name_byte c ≡ true → is_comma c ≡ false
@@ -140,6 +141,10 @@ no_names_form text before after r h =
           let one = one_string text m.body r.bytes bytes after rest r.meets m.string (sym r.parts ∙ parts) in
           h names (subst (λ (x : List ℕ). IsNameText names x) (sym one.0) m.text);
     }
+
+-- a string that is no text of names
+pub is_bad_names : (text before after : List ℕ) → Reads (IsString text) before after → ((list : List (List ℕ)) → IsNameText list text → ⊥) → IsBadNames before
+is_bad_names text before after r h = record { text = text; after = after; string = r; none = h }
 
 -- a string that is a text of names
 pub reads_names : (names : List (List ℕ)) (text before after : List ℕ) → Reads (IsString text) before after → IsNameText names text → Reads (IsNameList names) before after

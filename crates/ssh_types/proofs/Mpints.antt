@@ -3,6 +3,7 @@ use Rattle.std.proofs.Common.{ℕ, List, sym, ap, subst, ◌∙◌}
 use Rattle.std.specs.Prelude.{ℤ}
 use Rattle.ssh_model.specs.DataTypes.{IsString, IsShortest, integer, IsMpint}
 use Rattle.ssh_model.specs.Reading.{Reads, NoFront, OneForm, Writes}
+use Rattle.ssh_types.specs.Values.{IsUncanonical}
 use Rattle.ssh_types.proofs.Fronts.{one_string}
 
 -- no string, no number
@@ -23,9 +24,9 @@ pub reads_mpint : (z : ℤ) (text before after : List ℕ) → Reads (IsString t
 reads_mpint z text before after r s =
     record { bytes = r.bytes; meets = record { body = text; shortest = s; string = r.meets }; parts = r.parts }
 
--- a string is there
-pub some_string : (text before after : List ℕ) → Reads (IsString text) before after → NoFront IsString before → ⊥
-some_string text before after r h = h.none text r.bytes after r.meets r.parts
+-- a string that is no shortest form
+pub is_uncanonical : (text before after : List ℕ) → Reads (IsString text) before after → ((z : ℤ) → IsShortest z text → ⊥) → IsUncanonical before
+is_uncanonical text before after r h = record { text = text; after = after; string = r; none = h }
 
 pub one_mpint : OneForm IsMpint
 one_mpint y z a b x w p q e =

@@ -6,8 +6,8 @@ use Rattle.ssh_types.specs.declared.name_list.NameList.{NameList}
 use Rattle.ssh_types.specs.declared.name_list.Names.{Names}
 use Rattle.ssh_types.specs.declared.refusal.Refusal.{Refusal}
 use Rattle.ssh_types.specs.declared.refusal.Refusal.TheVariants.{Short, BadNames, NotCanonical, LeftOver}
-use Rattle.ssh_model.specs.DataTypes.{integer, IsString}
-use Rattle.ssh_model.specs.Reading.{NoFront}
+use Rattle.ssh_model.specs.DataTypes.{integer, IsString, IsShortest, IsNameText}
+use Rattle.ssh_model.specs.Reading.{Reads, NoFront}
 use Rattle.ssh_types.specs.Digits.{marked_bytes}
 use Rattle.ssh_types.specs.Names.{names_of}
 
@@ -35,16 +35,30 @@ names list = names_of list.text.now
 abbrev pub names_left : Names → List (List ℕ)
 names_left it = names it.rest
 
--- why no number was read: no string is there, or one whose bytes are not the shortest
+-- A whole string is there, and its bytes are the shortest of no whole number.
+pub record IsUncanonical (before : List ℕ) : Type 0 where
+  pub text : List ℕ
+  pub after : List ℕ
+  pub string : Reads (IsString text) before after
+  pub none : (z : ℤ) → IsShortest z text → ⊥
+
+-- A whole string is there, and its text is no list of names.
+pub record IsBadNames (before : List ℕ) : Type 0 where
+  pub text : List ℕ
+  pub after : List ℕ
+  pub string : Reads (IsString text) before after
+  pub none : (list : List (List ℕ)) → IsNameText list text → ⊥
+
+-- why no number was read
 abbrev pub IsMpintRefusal : Refusal → List ℕ → Type 0
 IsMpintRefusal Short before = NoFront IsString before
-IsMpintRefusal NotCanonical before = NoFront IsString before → ⊥
+IsMpintRefusal NotCanonical before = IsUncanonical before
 IsMpintRefusal BadNames before = ⊥
 IsMpintRefusal LeftOver before = ⊥
 
--- why no names were read: no string is there, or one whose text is no list of names
+-- why no names were read
 abbrev pub IsNamesRefusal : Refusal → List ℕ → Type 0
 IsNamesRefusal Short before = NoFront IsString before
-IsNamesRefusal BadNames before = NoFront IsString before → ⊥
+IsNamesRefusal BadNames before = IsBadNames before
 IsNamesRefusal NotCanonical before = ⊥
 IsNamesRefusal LeftOver before = ⊥

@@ -121,7 +121,7 @@ impl<'a> Reader<'a> {
     ///
     /// `Short` where no whole string is there, and `NotCanonical` where one is there whose bytes are not the shortest of
     /// their number: an unnecessary 0 or 255 stands in front.
-    #[tactic(auto, using(crate::proofs::Mpints::no_mpint_short, crate::proofs::Mpints::no_mpint_form, crate::proofs::Mpints::reads_mpint, crate::proofs::Mpints::some_string))]
+    #[tactic(auto, using(crate::proofs::Mpints::no_mpint_short, crate::proofs::Mpints::no_mpint_form, crate::proofs::Mpints::reads_mpint, crate::proofs::Mpints::is_uncanonical))]
     pub fn mpint(&mut self) -> Result<MpInt<'a>, Refusal>
         ensures found { IfOk result (λ m. Reads (IsMpint (value_of m)) self.old self.new) }
         ensures length { IfOk result (λ m. length (bytes_of m) < 2 ^ 32) }
@@ -141,7 +141,7 @@ impl<'a> Reader<'a> {
     ///
     /// `Short` where no whole string is there, and `BadNames` where one is there and a part of it between commas is no
     /// name.
-    #[tactic(auto, using(crate::proofs::Joined::no_names_short, crate::proofs::Joined::no_names_form, crate::proofs::Joined::reads_names, crate::proofs::Mpints::some_string))]
+    #[tactic(auto, using(crate::proofs::Joined::no_names_short, crate::proofs::Joined::no_names_form, crate::proofs::Joined::reads_names, crate::proofs::Joined::is_bad_names))]
     pub fn names(&mut self) -> Result<NameList<'a>, Refusal>
         ensures found { IfOk result (λ list. Reads (IsNameList (names list)) self.old self.new) }
         ensures length { IfOk result (λ list. length (names_text list) < 2 ^ 32) }
