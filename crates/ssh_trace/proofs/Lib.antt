@@ -1,3 +1,4 @@
 pub mod Logs
 pub mod Finds
 pub mod Turning
+pub mod Playing

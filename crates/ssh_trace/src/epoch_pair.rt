@@ -1,10 +1,11 @@
 //! Two ends that share the two keys of one epoch.
 
-ghost use Rattle.std.specs.Prelude.{◌≡◌, ◌∷◌, [], false, true, IfOk, IsErr, OnErr, OnOk};
+ghost use Rattle.std.specs.Prelude.{◌≡◌, ◌≤◌, ◌∷◌, [], length, false, true, IfOk, IsErr, OnErr, OnOk};
+ghost use Rattle.ssh_model.specs.EpochRun as epoch;
 ghost use Rattle.ssh_model.specs.EpochRun.{World, fresh};
 ghost use Rattle.ssh_model.specs.History.{IsHonestEpoch, TakenInOrder};
 ghost use Rattle.ssh_model.specs.MacOnly.{key_block};
-ghost use Rattle.ssh_trace.specs.History.{AreFilled, event_of, events_of, logged};
+ghost use Rattle.ssh_trace.specs.History.{AreFilled, event_of, events_of, logged, side_of};
 ghost use Rattle.ssh_trace.specs.Pair.{PairState, Plays, PlaysOne, StandsAt, keys_of};
 
 use crate::deliver::{ask, deliver};
@@ -111,7 +112,27 @@ impl EpochPair {
             transcript.old.server_bytes.items transcript.new.server_bytes.items w) }
     {
         match event {
-            Event::Ask(Side::Client, payload) => ask(
+            Event::Ask(side, payload) => self.ask(side, payload, transcript),
+            Event::Deliver(side, bytes) => self.deliver(side, bytes, transcript),
+        }
+    }
+
+    // Asks a side to send a payload.
+    fn ask(
+        &mut self,
+        side: Side,
+        payload: &[u8],
+        transcript: &mut Transcript,
+    ) -> Result<(), AllocError>
+        requires filled { 1 ≤ length payload.now }
+        ensures failed { self.new.failed ≡ self.old.failed }
+        ensures keys { keys_of self.new ≡ keys_of self.old }
+        ensures plays { OnOk result ((w : World) → StandsAt w self.old → PlaysOne (epoch.Ask (side_of side) payload.now) self.old self.new
+            transcript.old.items.items transcript.new.items.items transcript.old.client_bytes.items transcript.new.client_bytes.items
+            transcript.old.server_bytes.items transcript.new.server_bytes.items w) }
+    {
+        match side {
+            Side::Client => ask(
                 &mut self.client,
                 self.alloc,
                 &self.client_key,
@@ -120,7 +141,7 @@ impl EpochPair {
                 &mut transcript.items,
                 &mut transcript.client_bytes,
             ),
-            Event::Ask(Side::Server, payload) => ask(
+            Side::Server => ask(
                 &mut self.server,
                 self.alloc,
                 &self.server_key,
@@ -129,7 +150,24 @@ impl EpochPair {
                 &mut transcript.items,
                 &mut transcript.server_bytes,
             ),
-            Event::Deliver(Side::Client, bytes) => deliver(
+        }
+    }
+
+    // Delivers bytes to a side. They were sealed under the key of the other.
+    fn deliver(
+        &mut self,
+        side: Side,
+        bytes: &[u8],
+        transcript: &mut Transcript,
+    ) -> Result<(), AllocError>
+        ensures failed { self.new.failed ≡ self.old.failed }
+        ensures keys { keys_of self.new ≡ keys_of self.old }
+        ensures plays { OnOk result ((w : World) → StandsAt w self.old → PlaysOne (epoch.Deliver (side_of side) bytes.now) self.old self.new
+            transcript.old.items.items transcript.new.items.items transcript.old.client_bytes.items transcript.new.client_bytes.items
+            transcript.old.server_bytes.items transcript.new.server_bytes.items w) }
+    {
+        match side {
+            Side::Client => deliver(
                 &mut self.client,
                 self.alloc,
                 &self.server_key,
@@ -137,7 +175,7 @@ impl EpochPair {
                 bytes,
                 &mut transcript.items,
             ),
-            Event::Deliver(Side::Server, bytes) => deliver(
+            Side::Server => deliver(
                 &mut self.server,
                 self.alloc,
                 &self.client_key,
