@@ -1,19 +1,19 @@
 -- What an end makes of what its reader found.
-use Rattle.std.proofs.Common.{◌≡◌, ℕ, ◌+◌, ◌-◌, ◌<◌, ◌≤◌, ◌^◌, Bool, true, false, List, [], ◌∷◌, ◌++◌, length, take, refl, sym, ap, subst, ◌∙◌, arith, length-append, min, inl, inr}
-use Rattle.std.specs.Prelude.{Some, None}
+use Rattle.std.proofs.Common.{◌≡◌, ℕ, ◌+◌, ◌-◌, ◌<◌, ◌≤◌, ◌^◌, true, false, List, [], ◌∷◌, ◌++◌, length, take, refl, sym, ap, subst, ◌∙◌, arith, length-append, min, inl, inr}
+use Rattle.std.specs.Prelude.{Some}
 use Rattle.std.proofs.lemmas.Bool.{cases_lt}
 use Rattle.std.proofs.lemmas.List.{length-take, take-take}
-use Rattle.ssh_model.specs.History.{Item, Item.Took, Item.Refused, Item.Died}
+use Rattle.ssh_model.specs.History.{Item.Refused, Item.Died}
 use Rattle.ssh_model.specs.MacOnly.{mac_only}
 use Rattle.ssh_model.specs.Seal.{IsBegun, IsBegun.no_length, IsBegun.has_length, IsWhole}
-use Rattle.ssh_model.specs.EpochRun.{Takes, Takes.payload, Takes.bad_length, Takes.bad_tag, Takes.bad_padding, Takes.spent, Waits}
+use Rattle.ssh_model.specs.EpochRun.{Takes, Takes.payload, Takes.bad_length, Takes.bad_tag, Takes.bad_padding, Takes.spent}
 use Rattle.ssh_packet.specs.Reading.{Finds, Reading, empty}
 use Rattle.ssh_packet.specs.declared.refusal.PacketRefusal.{PacketRefusal}
 use Rattle.ssh_packet.specs.declared.refusal.PacketRefusal.TheVariants.{BadLength, BadPadding, BadTag}
 use Rattle.ssh_packet.specs.declared.reader.ReadStep.TheVariants as read
 use Rattle.ssh_trace.specs.History.{refusal_number}
 use Rattle.ssh_trace.specs.declared.history.EpochRefusal.TheVariants.{Packet, NumberSpent}
-use Rattle.ssh_trace.specs.EpochEnd.{End, EndFinds, HasDied, IsKept, IsLive}
+use Rattle.ssh_trace.specs.EpochEnd.{End, EndFinds, IsKept}
 use Rattle.ssh_trace.specs.declared.epoch_end.TakeStep.TheVariants.{More, Taken, Rejected}
 
 -- ---- while numbers are left
@@ -82,8 +82,7 @@ pub field_refused : (key bytes field : List ℕ) (room count : ℕ) (o : End) (r
     → EndFinds key (o.reading.rest ++ take count bytes) o (Rejected (Packet refusal)) (record o { reading = reading; dead = true })
 field_refused key bytes field room count o refusal reading f found =
     let short = field_all room count bytes field o f in
-    let items = field_items key (o.reading.rest ++ take count field) 0 o.taken refusal reading short found in
-    (
+    let items = field_items key (o.reading.rest ++ take count field) 0 o.taken refusal reading short found in (
       subst (λ (x : List ℕ). Takes mac_only key o.taken (o.reading.rest ++ x) (Died ∷ Refused (refusal_number (Packet refusal)) ∷ [])) (field_used room count bytes field o f) items,
       record { dead = refl; sent = refl; taken = refl },
     )
@@ -98,10 +97,9 @@ pub field_spent : (key bytes field : List ℕ) (room count : ℕ) (o : End) (rea
 field_spent key bytes field room count o reading f found long =
     let short = field_all room count bytes field o f in
     let rest : reading.rest ≡ o.reading.rest ++ take count field = ap (λ (r : Reading). r.rest) found.1 in
-    let four : length (o.reading.rest ++ take count field) ≡ 4 = omega (arith, ap length rest) in
-    (
+    let four : length (o.reading.rest ++ take count field) ≡ 4 = omega (arith, ap length rest) in (
       subst (λ (x : List ℕ). Takes mac_only key o.taken (o.reading.rest ++ x) (Died ∷ Refused 14 ∷ [])) (field_used room count bytes field o f)
-      (spent_field key (o.reading.rest ++ take count field) o.taken f.spent found.0 four),
+          (spent_field key (o.reading.rest ++ take count field) o.taken f.spent found.0 four),
       record { dead = refl; sent = refl; taken = refl },
     )
 

@@ -1,14 +1,13 @@
 -- Events of the pair, for every run that it stands at.
-use Rattle.std.proofs.Common.{◌≡◌, ℕ, zero, suc, arith, ◌+◌, ◌<◌, Bool, false, List, [], ◌∷◌, ◌++◌, length, take, get_or, refl, sym, ap, subst, ◌∙◌, append-nil, append_assoc, Ok, Err}
+use Rattle.std.proofs.Common.{◌≡◌, ℕ, zero, suc, arith, ◌<◌, List, [], ◌∷◌, ◌++◌, length, get_or, refl, sym, ap, subst, ◌∙◌, append-nil, append_assoc, Ok, Err}
 use Rattle.std.specs.Prelude.{Result, OnOk}
-use Rattle.std.proofs.lemmas.List.{take_more}
 use Rattle.ssh_model.specs.MacOnly.{mac_only}
 use Rattle.ssh_model.specs.History.{Side, Side.Client, Side.Server, Item, Done.By, all_by, part}
 use Rattle.ssh_model.specs.History as history
 use Rattle.ssh_model.specs.EpochRun.{Asks, Event, Event.Ask, Event.Deliver, Gets, Keys, Run, Run.ends, Run.goes, Step, Step.asks, Step.gets, World, after}
 use Rattle.ssh_trace.specs.History.{AreFilled, event_of, events_of, logged}
 use Rattle.ssh_trace.specs.EpochEnd.{End, EndSums, left_of}
-use Rattle.ssh_trace.specs.Turns.{Asked, AskedWith, Delivered, DeliveredWith}
+use Rattle.ssh_trace.specs.Turns.{Asked, Delivered}
 use Rattle.ssh_trace.specs.Pair.{PairState, Plays, PlaysOne, StandsAt, keys_of}
 use Rattle.ssh_trace.specs.declared.history.Done.{Done}
 use Rattle.ssh_trace.specs.declared.history.Event as rust
@@ -46,7 +45,7 @@ pub client_asked : (event : Event) (payload : List ℕ) (pair : PairState) (end 
 client_asked event payload pair end a b out put other is asked w s =
     let t = asked (part Client w.run) (at_left (part Client w.run) w.client_rest pair.client s.client) in
     let turn : Asks mac_only pair.client_key (part Client w.run) w.client_rest payload t.items t.bytes (left_of end) =
-        subst (λ (x : List ℕ). Asks mac_only pair.client_key (part Client w.run) x payload t.items t.bytes (left_of end)) (sym s.client.rest_is) t.asks in
+    subst (λ (x : List ℕ). Asks mac_only pair.client_key (part Client w.run) x payload t.items t.bytes (left_of end)) (sym s.client.rest_is) t.asks in
     let next : World = after w Client t.items (left_of end) t.bytes in
     record {
       end = next;
@@ -65,7 +64,7 @@ pub server_asked : (event : Event) (payload : List ℕ) (pair : PairState) (end 
 server_asked event payload pair end a b out put other is asked w s =
     let t = asked (part Server w.run) (at_left (part Server w.run) w.server_rest pair.server s.server) in
     let turn : Asks mac_only pair.server_key (part Server w.run) w.server_rest payload t.items t.bytes (left_of end) =
-        subst (λ (x : List ℕ). Asks mac_only pair.server_key (part Server w.run) x payload t.items t.bytes (left_of end)) (sym s.server.rest_is) t.asks in
+    subst (λ (x : List ℕ). Asks mac_only pair.server_key (part Server w.run) x payload t.items t.bytes (left_of end)) (sym s.server.rest_is) t.asks in
     let next : World = after w Server t.items (left_of end) t.bytes in
     record {
       end = next;
@@ -84,7 +83,7 @@ pub client_delivered : (event : Event) (bytes : List ℕ) (pair : PairState) (en
 client_delivered event bytes pair end a b out other is delivered w s =
     let t = delivered (part Client w.run) (at_left (part Client w.run) w.client_rest pair.client s.client) in
     let turn : Gets mac_only pair.server_key (part Client w.run) (w.client_rest ++ bytes) t.items (left_of end) =
-        subst (λ (x : List ℕ). Gets mac_only pair.server_key (part Client w.run) (x ++ bytes) t.items (left_of end)) (sym s.client.rest_is) t.gets in
+    subst (λ (x : List ℕ). Gets mac_only pair.server_key (part Client w.run) (x ++ bytes) t.items (left_of end)) (sym s.client.rest_is) t.gets in
     let next : World = after w Client t.items (left_of end) [] in
     record {
       end = next;
@@ -103,7 +102,7 @@ pub server_delivered : (event : Event) (bytes : List ℕ) (pair : PairState) (en
 server_delivered event bytes pair end a b out other is delivered w s =
     let t = delivered (part Server w.run) (at_left (part Server w.run) w.server_rest pair.server s.server) in
     let turn : Gets mac_only pair.client_key (part Server w.run) (w.server_rest ++ bytes) t.items (left_of end) =
-        subst (λ (x : List ℕ). Gets mac_only pair.client_key (part Server w.run) (x ++ bytes) t.items (left_of end)) (sym s.server.rest_is) t.gets in
+    subst (λ (x : List ℕ). Gets mac_only pair.client_key (part Server w.run) (x ++ bytes) t.items (left_of end)) (sym s.server.rest_is) t.gets in
     let next : World = after w Server t.items (left_of end) [] in
     record {
       end = next;

@@ -1,18 +1,16 @@
 -- Turns of an end, for every history that it sums up.
-use Rattle.std.proofs.Common.{◌≡◌, ℕ, suc, ◌+◌, ◌-◌, ◌<◌, ◌≤◌, ◌^◌, Bool, true, false, cond, List, [], ◌∷◌, ◌++◌, length, take, drop, refl, sym, ap, subst, ◌∙◌, arith, append-nil, append_assoc, inl, inr}
-use Rattle.std.specs.Prelude.{Some, None}
+use Rattle.std.proofs.Common.{◌≡◌, ℕ, ◌+◌, ◌<◌, ◌≤◌, ◌^◌, Bool, true, false, cond, List, [], ◌∷◌, ◌++◌, length, take, drop, refl, sym, ap, subst, ◌∙◌, arith, append-nil, append_assoc, inl, inr}
+use Rattle.std.specs.Prelude.{Some}
 use Rattle.std.proofs.lemmas.Bool.{cases_Bool}
 use Rattle.std.proofs.lemmas.List.{take-append-drop, drop-drop, drop_all}
-use Rattle.ssh_model.specs.Reading.{Writes}
 use Rattle.ssh_model.specs.MacOnly.{mac_only}
 use Rattle.ssh_model.specs.Seal.{IsSealed, IsBegun}
 use Rattle.ssh_model.specs.History.{Side, Item, Item.Asked, Item.AskRefused, Item.Sent, Item.Took, Item.Refused, Item.Died, Done.By, all_by, has_died, sent, took}
 use Rattle.ssh_model.specs.History as history
 use Rattle.ssh_model.specs.EpochRun.{Takes, Waits, Gets, Gets.dead, Gets.waits, Gets.takes, Asks}
 use Rattle.ssh_model.specs.EpochRun as epoch
-use Rattle.ssh_packet.specs.Reading.{Reading, empty}
 use Rattle.ssh_trace.specs.History.{logged, refusal_number}
-use Rattle.ssh_trace.specs.EpochEnd.{End, EndFinds, EndSums, HasDied, IsKept, IsLive, RefusesAsk, Sends, SpendsNumbers, left_of}
+use Rattle.ssh_trace.specs.EpochEnd.{End, EndFinds, EndSums, IsKept, RefusesAsk, Sends, SpendsNumbers, left_of}
 use Rattle.ssh_trace.specs.Turns.{AskedWith, DeliveredWith, Notes, TurnWith}
 use Rattle.ssh_trace.specs.declared.history.Done.{Done}
 use Rattle.ssh_trace.specs.declared.history.EpochRefusal.{EpochRefusal}
@@ -116,7 +114,7 @@ unit_goes : (key used : List ℕ) (h items : List Item) (old new : End) → EndS
 unit_goes key used h items old new s alive t none after more rest g =
     let unit : old.reading.rest ++ used ≡ left_of old ++ used = ap (λ (x : List ℕ). x ++ used) (sym (live_left old alive)) in
     let taken : Takes mac_only key (length (took h)) (left_of old ++ used) items =
-        subst (λ (x : List ℕ). Takes mac_only key (length (took h)) x items) unit (subst (λ (n : ℕ). Takes mac_only key n (old.reading.rest ++ used) items) s.taken_is t) in
+    subst (λ (x : List ℕ). Takes mac_only key (length (took h)) x items) unit (subst (λ (n : ℕ). Takes mac_only key n (old.reading.rest ++ used) items) s.taken_is t) in
     takes (left_of old ++ used) after (alive_is h (left_of old) old s alive) (sym (append_assoc (left_of old) used after)) taken (subst (λ (x : List ℕ). Gets mac_only key (items ++ h) (x ++ after) more rest) none g)
 
 pub turn_taken : (key used : List ℕ) (side : Side) (h : List Item) (old new : End) (a b : List Done) → EndSums h (left_of old) old → old.dead ≡ false → EndFinds key (old.reading.rest ++ used) old step.Taken new
@@ -168,7 +166,7 @@ pub go_on : (key piece rest : List ℕ) (side : Side) (at_ count : ℕ) (h : Lis
 go_on key piece rest side at_ count h old middle new a b c behind g turn =
     let t = turn (g.items ++ h) g.notes.sums in
     let join : take count rest ++ drop (at_ + count) piece ≡ drop at_ piece =
-        ap (λ (x : List ℕ). take count x ++ drop (at_ + count) piece) behind ∙ ap (λ (x : List ℕ). take count (drop at_ piece) ++ x) (sym (drop-drop count at_ piece)) ∙ take-append-drop count (drop at_ piece) in
+    ap (λ (x : List ℕ). take count x ++ drop (at_ + count) piece) behind ∙ ap (λ (x : List ℕ). take count (drop at_ piece) ++ x) (sym (drop-drop count at_ piece)) ∙ take-append-drop count (drop at_ piece) in
     record {
       items = t.items ++ g.items;
       goes = λ more left x.

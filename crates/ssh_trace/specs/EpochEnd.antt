@@ -1,6 +1,6 @@
 -- One end of an epoch.
-use Rattle.std.specs.Prelude.{◌≡◌, ◌≤◌, ◌<◌, ◌+◌, ◌^◌, ◌++◌, ℕ, Bool, true, false, if◌then◌else◌, List, [], ◌∷◌, length, None, Some}
-use Rattle.ssh_model.specs.History.{Item, has_died, sent, took, Item.Took, Item.Refused, Item.Died, Item.Asked, Item.AskRefused, Item.Sent}
+use Rattle.std.specs.Prelude.{◌≡◌, ◌≤◌, ◌<◌, ◌+◌, ◌^◌, ℕ, Bool, true, false, if◌then◌else◌, List, [], ◌∷◌, length, None, Some}
+use Rattle.ssh_model.specs.History.{Item, has_died, sent, took, Item.Took, Item.Refused, Item.Died}
 use Rattle.ssh_model.specs.MacOnly.{mac_only}
 use Rattle.ssh_model.specs.Reading.{Writes}
 use Rattle.ssh_model.specs.Seal.{IsBegun, IsSealed}

@@ -4,3 +4,4 @@ pub mod History
 pub mod EpochEnd
 pub mod Turns
 pub mod Pair
+pub mod Shown

@@ -1,6 +1,6 @@
 -- The pair of two ends in one epoch.
-use Rattle.std.specs.Prelude.{◌≡◌, ℕ, Bool, List, [], ◌∷◌, ◌++◌}
-use Rattle.ssh_model.specs.MacOnly.{mac_only, key_block}
+use Rattle.std.specs.Prelude.{◌≡◌, ℕ, Bool, List, ◌++◌}
+use Rattle.ssh_model.specs.MacOnly.{mac_only}
 use Rattle.ssh_model.specs.History.{Side.Client, Side.Server, part}
 use Rattle.ssh_model.specs.History as history
 use Rattle.ssh_model.specs.EpochRun.{Event, Keys, Run, Step, World}

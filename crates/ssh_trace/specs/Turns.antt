@@ -1,5 +1,5 @@
 -- What an ask and a delivery do, for every history that the end sums up.
-use Rattle.std.specs.Prelude.{◌≡◌, ℕ, List, [], ◌++◌}
+use Rattle.std.specs.Prelude.{◌≡◌, ℕ, List, ◌++◌}
 use Rattle.ssh_model.specs.MacOnly.{mac_only}
 use Rattle.ssh_model.specs.History.{Side, Item, all_by}
 use Rattle.ssh_model.specs.History as history

@@ -99,11 +99,7 @@ impl EpochPair {
     }
 
     // Plays one event.
-    fn play_one(
-        &mut self,
-        event: Event<'_>,
-        transcript: &mut Transcript,
-    ) -> Result<(), AllocError>
+    fn play_one(&mut self, event: Event<'_>, transcript: &mut Transcript) -> Result<(), AllocError>
         requires filled { AreFilled (event_of event ∷ []) }
         ensures failed { self.new.failed ≡ self.old.failed }
         ensures keys { keys_of self.new ≡ keys_of self.old }

@@ -27,7 +27,7 @@ pub use epoch_pair::EpochPair;
 pub use history::{AskRefusal, Done, EpochRefusal, Event, Item, Memory, Side, Transcript};
 pub use message_name::name;
 pub use play::play_to;
-pub use shown::{PacketRefusal, Shown, packet_of};
+pub use shown::{Shown, packet_of};
 pub use status::Status;
 
 #[cfg(test)]

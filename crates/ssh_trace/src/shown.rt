@@ -1,66 +1,56 @@
 //! One clear packet in hexadecimal digits.
 
+ghost use Rattle.std.specs.Prelude.{IfOk};
+ghost use Rattle.ssh_trace.specs.Shown.{Shows, ShowsBytes};
+
 use crate::history::Memory;
 use hex::FromHexError;
+use ssh_packet::{MacOnly, PacketReader, PacketRefusal, ReadStep};
 use std::alloc::Global;
 
-/// Why a clear packet is refused.
-#[derive(Clone, Copy, Debug, PartialEq, Eq)]
-pub enum PacketRefusal {
-    BadLength,
-    BadPadding,
-}
-
-impl PacketRefusal {
-    pub fn number(self) -> u8 {
-        match self {
-            PacketRefusal::BadLength => 3,
-            PacketRefusal::BadPadding => 4,
-        }
-    }
-
-    pub fn name(self) -> &'static str {
-        match self {
-            PacketRefusal::BadLength => "BadLength",
-            PacketRefusal::BadPadding => "BadPadding",
-        }
-    }
-}
-
-/// What the text shows.
+/// What a text shows of one clear packet (RFC 4253 section 6).
 #[derive(Debug, Drop)]
 pub enum Shown {
+    /// The text isn't pairs of hexadecimal digits.
     NotHex,
+    /// A length that no packet has, as soon as its four bytes are there; or padding that is too short or leaves no
+    /// payload.
     Refused(PacketRefusal),
+    /// Bytes are missing.
     Incomplete,
+    /// So many bytes follow the packet.
     Trailing(usize),
+    /// The payload of the packet, which is all of the text.
     Payload(Vec<u8>),
 }
 
-/// The payload of the one clear packet that `text` is in hexadecimal.
-pub fn packet_of(alloc: Global, text: &str) -> Result<Shown, Memory> {
+/// Reads the one clear packet that `text` is in hexadecimal digits. The empty text is `Shown::Incomplete`. `Memory` is
+/// want of memory.
+pub fn packet_of(alloc: Global, text: &str) -> Result<Shown, Memory>
+    ensures { IfOk result (Shows text.now) }
+{
     let bytes = match hex::decode(alloc, text) {
         Ok(bytes) => bytes,
         Err(FromHexError::OutOfMemory) => return Err(Memory),
         Err(_) => return Ok(Shown::NotHex),
     };
-    let [a, b, c, d, rest @ ..] = bytes.as_slice() else {
-        return Ok(Shown::Incomplete);
-    };
-    let length = u32::from_be_bytes([*a, *b, *c, *d]) as usize;
-    if length % 8 != 4 || length < 12 || length > 34996 {
-        return Ok(Shown::Refused(PacketRefusal::BadLength));
+    packet_in(alloc, bytes.as_slice())
+}
+
+// What these bytes show.
+fn packet_in(alloc: Global, bytes: &[u8]) -> Result<Shown, Memory>
+    ensures { IfOk result (ShowsBytes bytes.now) }
+{
+    let mut reader = PacketReader::new(alloc)?;
+    let (used, step) = reader.take::<MacOnly>(None, 0, bytes);
+    match step {
+        ReadStep::More => Ok(Shown::Incomplete),
+        ReadStep::Refused(refusal) => Ok(Shown::Refused(refusal)),
+        ReadStep::Packet => {
+            if used < bytes.len() {
+                return Ok(Shown::Trailing(bytes.len() - used));
+            }
+            Ok(Shown::Payload(reader.payload().to_vec(alloc)?))
+        }
     }
-    if rest.len() < length {
-        return Ok(Shown::Incomplete);
-    }
-    let padding = rest[0] as usize;
-    if padding < 4 || padding + 1 >= length {
-        return Ok(Shown::Refused(PacketRefusal::BadPadding));
-    }
-    if rest.len() > length {
-        return Ok(Shown::Trailing(rest.len() - length));
-    }
-    let payload = Vec::from_slice(alloc, &rest[1..length - padding])?;
-    Ok(Shown::Payload(payload))
 }

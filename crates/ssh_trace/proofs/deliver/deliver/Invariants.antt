@@ -1,4 +1,4 @@
-use Rattle.std.proofs.Common.{◌≡◌, ◌-◌, ◌≤◌, ℕ, List, length}
+use Rattle.std.proofs.Common.{◌-◌, ◌≤◌, List, length}
 use Rattle.ssh_model.specs.History.{Item}
 use Rattle.ssh_trace.specs.History.{side_of}
 use Rattle.ssh_trace.specs.EpochEnd.{EndSums, left_of}

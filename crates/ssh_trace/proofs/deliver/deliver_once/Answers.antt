@@ -1,4 +1,4 @@
-use Rattle.std.proofs.Common.{◌≡◌, ◌∷◌, ◌∙◌, List, ℕ, take, sym, ap}
+use Rattle.std.proofs.Common.{take}
 use Rattle.ssh_trace.specs.History.{side_of}
 use Rattle.ssh_trace.proofs.Turning.{turn_more, turn_taken, turn_rejected}
 use Rattle.ssh_trace.proofs.deliver.deliver_once.Goals as goal

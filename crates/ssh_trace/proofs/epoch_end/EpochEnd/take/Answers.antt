@@ -1,7 +1,7 @@
-use Rattle.std.proofs.Common.{◌≡◌, ◌++◌, ◌<◌, ◌^◌, ◌∙◌, ℕ, List, take, refl, ap, sym, subst, arith, true, false, ◌+◌}
+use Rattle.std.proofs.Common.{◌≡◌, ◌++◌, ◌<◌, ◌^◌, ◌∙◌, take, ap, subst, arith, true, false, ◌+◌}
 use Rattle.ssh_trace.specs.EpochEnd.{End, EndFinds}
 use Rattle.ssh_trace.specs.declared.epoch_end.TakeStep.TheVariants as step
-use Rattle.ssh_trace.specs.declared.history.EpochRefusal.TheVariants.{Packet, NumberSpent}
+use Rattle.ssh_trace.specs.declared.history.EpochRefusal.TheVariants.{Packet}
 use Rattle.ssh_trace.proofs.Finds.{found_more, found_taken, found_refused, kept_more}
 use Rattle.ssh_trace.proofs.epoch_end.EpochEnd.take.Goals as goal
 

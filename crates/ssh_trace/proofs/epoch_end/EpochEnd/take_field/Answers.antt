@@ -1,4 +1,4 @@
-use Rattle.std.proofs.Common.{◌≡◌, ◌-◌, ◌++◌, ◌∙◌, ℕ, List, take, length, ap, sym, subst, arith, true, false}
+use Rattle.std.proofs.Common.{◌≡◌, ◌-◌, ◌++◌, ◌∙◌, ℕ, List, take, ap, sym, subst, arith, true, false}
 use Rattle.ssh_model.specs.Seal.{IsBegun}
 use Rattle.ssh_packet.specs.Reading.{Reading}
 use Rattle.ssh_trace.specs.EpochEnd.{End, EndFinds}

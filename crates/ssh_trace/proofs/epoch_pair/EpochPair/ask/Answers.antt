@@ -1,5 +1,5 @@
 use Rattle.std.proofs.Common.{◌≡◌, ap, subst}
-use Rattle.ssh_model.specs.EpochRun.{Event, Event.Ask, Event.Deliver, World}
+use Rattle.ssh_model.specs.EpochRun.{Event, Event.Ask, World}
 use Rattle.ssh_trace.specs.History.{side_of}
 use Rattle.ssh_trace.specs.Pair.{PairState, PlaysOne, StandsAt}
 use Rattle.ssh_trace.specs.declared.history.Side.{Side}
@@ -14,7 +14,7 @@ returns-in-Client-clause-plays c =
     let is : event ≡ Ask (side_of Client) c.args.payload.now = ap (λ (s : Side). Ask (side_of s) c.args.payload.now) c.in-Client.is in
     map_ok c.ask.result
     (λ turn. subst (λ (p : PairState). (w : World) → StandsAt w p → PlaysOne event p (record pair { client = c.ask.new.end }) c.args.transcript.now.items.items c.ask.new.log.items c.args.transcript.now.client_bytes.items c.ask.new.out.items c.args.transcript.now.server_bytes.items c.args.transcript.now.server_bytes.items w) c.self.view_is
-        (client_asked event c.args.payload.now pair c.ask.new.end c.args.transcript.now.items.items c.ask.new.log.items c.args.transcript.now.client_bytes.items c.ask.new.out.items c.args.transcript.now.server_bytes.items is turn))
+    (client_asked event c.args.payload.now pair c.ask.new.end c.args.transcript.now.items.items c.ask.new.log.items c.args.transcript.now.client_bytes.items c.ask.new.out.items c.args.transcript.now.server_bytes.items is turn))
     c.ask.ensures
 
 pub returns-in-Server-clause-plays : goal.returns-in-Server-clause-plays
@@ -24,5 +24,5 @@ returns-in-Server-clause-plays c =
     let is : event ≡ Ask (side_of Server) c.args.payload.now = ap (λ (s : Side). Ask (side_of s) c.args.payload.now) c.in-Server.is in
     map_ok c.ask-in-Server.result
     (λ turn. subst (λ (p : PairState). (w : World) → StandsAt w p → PlaysOne event p (record pair { server = c.ask-in-Server.new.end }) c.args.transcript.now.items.items c.ask-in-Server.new.log.items c.args.transcript.now.client_bytes.items c.args.transcript.now.client_bytes.items c.args.transcript.now.server_bytes.items c.ask-in-Server.new.out.items w) c.self.view_is
-        (server_asked event c.args.payload.now pair c.ask-in-Server.new.end c.args.transcript.now.items.items c.ask-in-Server.new.log.items c.args.transcript.now.server_bytes.items c.ask-in-Server.new.out.items c.args.transcript.now.client_bytes.items is turn))
+    (server_asked event c.args.payload.now pair c.ask-in-Server.new.end c.args.transcript.now.items.items c.ask-in-Server.new.log.items c.args.transcript.now.server_bytes.items c.ask-in-Server.new.out.items c.args.transcript.now.client_bytes.items is turn))
     c.ask-in-Server.ensures

@@ -1,5 +1,5 @@
 use Rattle.std.proofs.Common.{◌≡◌, ap, subst}
-use Rattle.ssh_model.specs.EpochRun.{Event, Event.Ask, Event.Deliver, World}
+use Rattle.ssh_model.specs.EpochRun.{Event, Event.Deliver, World}
 use Rattle.ssh_trace.specs.History.{side_of}
 use Rattle.ssh_trace.specs.Pair.{PairState, PlaysOne, StandsAt}
 use Rattle.ssh_trace.specs.declared.history.Side.{Side}
@@ -14,7 +14,7 @@ returns-in-Client-clause-plays c =
     let is : event ≡ Deliver (side_of Client) c.args.bytes.now = ap (λ (s : Side). Deliver (side_of s) c.args.bytes.now) c.in-Client.is in
     map_ok c.deliver.result
     (λ turn. subst (λ (p : PairState). (w : World) → StandsAt w p → PlaysOne event p (record pair { client = c.deliver.new.end }) c.args.transcript.now.items.items c.deliver.new.log.items c.args.transcript.now.client_bytes.items c.args.transcript.now.client_bytes.items c.args.transcript.now.server_bytes.items c.args.transcript.now.server_bytes.items w) c.self.view_is
-        (client_delivered event c.args.bytes.now pair c.deliver.new.end c.args.transcript.now.items.items c.deliver.new.log.items c.args.transcript.now.client_bytes.items c.args.transcript.now.server_bytes.items is turn))
+    (client_delivered event c.args.bytes.now pair c.deliver.new.end c.args.transcript.now.items.items c.deliver.new.log.items c.args.transcript.now.client_bytes.items c.args.transcript.now.server_bytes.items is turn))
     c.deliver.ensures
 
 pub returns-in-Server-clause-plays : goal.returns-in-Server-clause-plays
@@ -24,5 +24,5 @@ returns-in-Server-clause-plays c =
     let is : event ≡ Deliver (side_of Server) c.args.bytes.now = ap (λ (s : Side). Deliver (side_of s) c.args.bytes.now) c.in-Server.is in
     map_ok c.deliver-in-Server.result
     (λ turn. subst (λ (p : PairState). (w : World) → StandsAt w p → PlaysOne event p (record pair { server = c.deliver-in-Server.new.end }) c.args.transcript.now.items.items c.deliver-in-Server.new.log.items c.args.transcript.now.client_bytes.items c.args.transcript.now.client_bytes.items c.args.transcript.now.server_bytes.items c.args.transcript.now.server_bytes.items w) c.self.view_is
-        (server_delivered event c.args.bytes.now pair c.deliver-in-Server.new.end c.args.transcript.now.items.items c.deliver-in-Server.new.log.items c.args.transcript.now.client_bytes.items c.args.transcript.now.server_bytes.items is turn))
+    (server_delivered event c.args.bytes.now pair c.deliver-in-Server.new.end c.args.transcript.now.items.items c.deliver-in-Server.new.log.items c.args.transcript.now.client_bytes.items c.args.transcript.now.server_bytes.items is turn))
     c.deliver-in-Server.ensures

@@ -1,4 +1,4 @@
-use Rattle.std.proofs.Common.{◌≡◌, ◌∙◌, List, take, refl, ap, sym, subst, false}
+use Rattle.std.proofs.Common.{◌∙◌, List, take, refl, ap, sym, subst}
 use Rattle.std.proofs.lemmas.List.{take_more}
 use Rattle.ssh_trace.specs.History.{events_of}
 use Rattle.ssh_trace.specs.Pair.{PairState, Plays}

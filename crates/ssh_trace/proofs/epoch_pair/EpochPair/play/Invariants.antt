@@ -1,4 +1,4 @@
-use Rattle.std.proofs.Common.{◌≡◌, ℕ, List, take, false}
+use Rattle.std.proofs.Common.{◌≡◌, take, false}
 use Rattle.ssh_model.specs.EpochRun.{World}
 use Rattle.ssh_trace.specs.History.{events_of}
 use Rattle.ssh_trace.specs.Pair.{Plays, StandsAt, keys_of}
