@@ -6,3 +6,4 @@ pub mod Receiving
 pub mod Readings
 pub mod Opening
 pub mod Writing
+pub mod Largest

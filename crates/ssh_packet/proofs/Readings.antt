@@ -1,6 +1,9 @@
 -- The value of a reader by its parts.
-use Rattle.std.proofs.Common.{◌≡◌, ℕ, List, [], Option, None, ap, ◌∙◌}
-use Rattle.ssh_packet.specs.Reading.{Reading, empty}
+use Rattle.std.proofs.Common.{◌≡◌, ℕ, List, [], Option, None, ap, sym, subst, arith, ◌∙◌}
+use Rattle.ssh_model.specs.Seal.{Crypto, IsBegun, IsBegun.no_length, block_under, tag_under}
+use Rattle.ssh_packet.specs.Reading.{Finds, Reading, empty}
+use Rattle.ssh_packet.specs.declared.reader.ReadStep.{ReadStep}
+use Rattle.ssh_packet.specs.declared.reader.ReadStep.TheVariants.{Packet, More, Refused}
 use Rattle.ssh_packet.specs.declared.refusal.PacketRefusal.{PacketRefusal}
 
 pub holds_rest : (r : Reading) (rest : List ℕ) → r.rest ≡ rest → r.payload ≡ [] → r.refused ≡ None → r ≡ record empty { rest = rest }
@@ -8,3 +11,16 @@ holds_rest r rest e p f =
     ap (λ (x : List ℕ). record { rest = x; payload = r.payload; refused = r.refused }) e
     ∙ ap (λ (x : List ℕ). record { rest = rest; payload = x; refused = r.refused }) p
     ∙ ap (λ (x : Option PacketRefusal). record { rest = rest; payload = []; refused = x }) f
+
+-- ---- between packets, and in one
+
+pub none_begun : (block tag : ℕ) (r : Reading) → r.rest ≡ [] → IsBegun block tag r.rest
+none_begun block tag r e = subst (λ (x : List ℕ). IsBegun block tag x) (sym e) (no_length (omega arith))
+
+pub begun_before : (block tag : ℕ) (old new : Reading) → new ≡ old → IsBegun block tag old.rest → IsBegun block tag new.rest
+begun_before block tag old new e b = subst (λ (r : Reading). IsBegun block tag r.rest) (sym e) b
+
+pub still_begun : {K : Type 0} (c : Crypto K) (key : Option K) (number : ℕ) (bytes : List ℕ) (step : ReadStep) (new : Reading) → Finds c key number bytes step new → IsBegun (block_under c key) (tag_under c key) new.rest
+still_begun c key number bytes Packet new f = none_begun (block_under c key) (tag_under c key) new (ap (λ (r : Reading). r.rest) f.1)
+still_begun c key number bytes More new f = begun_before (block_under c key) (tag_under c key) (record empty { rest = bytes }) new f.1 f.0
+still_begun c key number bytes (Refused refusal) new f = none_begun (block_under c key) (tag_under c key) new (ap (λ (r : Reading). r.rest) f.1)

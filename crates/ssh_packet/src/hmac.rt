@@ -11,8 +11,9 @@ const INNER_PAD: u8 = 0x36;
 
 const OUTER_PAD: u8 = 0x5c;
 
-/// A key as its block, with the hash states that have taken in the block against each pad: so the tag of a short
-/// text costs two blocks less. A clause sees it as the block.
+/// A key of HMAC-SHA-256 (RFC 2104, RFC 6668): its block of 64 bytes, with the hash states that have taken in the
+/// block against each pad, so that a text costs two hashed blocks less than under a key made anew. A clause sees it
+/// as the block. It takes no memory but its own.
 #[derive(Drop)]
 pub struct HmacKey {
     block: [u8; 64],
@@ -33,7 +34,7 @@ impl Model for HmacKey {
 }
 
 impl HmacKey {
-    /// The key of these bytes; over 64 they are hashed first.
+    /// The key of any number of bytes. Up to 64 of them are filled up with zeros; more are hashed first.
     pub fn new(key: &[u8]) -> HmacKey
         ensures { result ≡ key_block key.now }
     {
@@ -49,14 +50,15 @@ impl HmacKey {
         }
     }
 
-    /// The HMAC of a text under this key (RFC 2104).
+    /// The HMAC of a text of any length under this key (RFC 2104 section 2): 32 bytes.
     pub fn mac(&self, text: &[u8]) -> [u8; 32]
         ensures { result ≡ hmac_under self.now text.now }
     {
         self.mac_of_parts(&[], text)
     }
 
-    /// The tag of a packet: the HMAC of its number as a uint32 and then its bytes (RFC 4253 section 6.4).
+    /// The tag of a packet: the HMAC of its number as a uint32 and then of its bytes in clear, from the length field
+    /// to the last byte of the padding (RFC 4253 section 6.4).
     pub fn tag(&self, number: u32, packet: &[u8]) -> [u8; 32]
         ensures { result ≡ tag_of self.now number packet.now }
     {

@@ -1,4 +1,33 @@
-//! Packets of SSH (RFC 4253 section 6), and their sealing.
+//! Packets of SSH (RFC 4253 section 6) over bytes, and their sealing.
+//!
+//! `write_packet` puts the packet of a payload at the end of a `Vec<u8>`, and a `PacketReader` finds the packets of a
+//! stream that comes in any pieces. Both are generic over a `Sealing`, which brings the cipher and the MAC; without
+//! a key packets are in clear. What is written under a key and a number is read again under the same key and number,
+//! whatever the sealing: that is a law of the trait, and no two packets of one key should have one number.
+//!
+//! `MacOnly` is the sealing of encryption `none` with MAC `hmac-sha2-256`, and `HmacKey` its key.
+//!
+//! The first packet under a key, sealed and read again:
+//!
+//! ```rust
+//! struct Zeros;
+//!
+//! impl Filler for Zeros {
+//!     fn fill(&mut self, out: &mut [u8]) {
+//!         out.fill(0);
+//!     }
+//! }
+//!
+//! let key = HmacKey::new(&[1; 32]);
+//! let mut out = Vec::new(alloc);
+//! write_packet::<MacOnly, Zeros>(b"\x15", Some(&key), 0, &mut Zeros, &mut out)?;
+//! // 00 00 00 0c | 0a | 15 | ten zeros | the 32 bytes of the tag
+//!
+//! let mut reader = PacketReader::new(alloc)?;
+//! let (used, step) = reader.take::<MacOnly>(Some(&key), 0, &out);
+//! // 48, ReadStep::Packet
+//! let payload = reader.payload();    // 15
+//! ```
 #![tactic(auto)]
 
 mod hmac;
@@ -15,3 +44,6 @@ pub use reader::{PacketReader, ReadStep};
 pub use refusal::PacketRefusal;
 pub use sealing::{Lengths, Sealing};
 pub use writer::{Filler, write_packet};
+
+#[cfg(test)]
+mod tests;

@@ -9,8 +9,8 @@ use std::alloc::{AllocError, Global};
 const TAG: usize = 32;
 
 /// The sealing of encryption `none` with MAC `hmac-sha2-256` (RFC 6668): packets in clear, each with a tag of 32 bytes
-/// that covers its number and all of its bytes. Its key is made of 32 bytes and keeps the two hash states of the
-/// HMAC, so that nothing but `make` could need memory, and `make` needs none either.
+/// that covers its number and all of its bytes (RFC 4253 section 6.4). Blocks have 8 bytes. It knows that pair of
+/// names alone, and takes no IV, no key of a cipher and 32 bytes of MAC key. No method needs memory.
 #[derive(Clone, Copy, Debug, PartialEq, Eq)]
 pub struct MacOnly;
 

@@ -18,12 +18,12 @@ const LARGEST: usize = 35_000;
 
 const FIELD: usize = 4;
 
-/// What one call of `PacketReader::take` found.
+/// What one call of `PacketReader::take` found in the stream.
 #[derive(Clone, Copy, Debug, PartialEq, Eq)]
 pub enum ReadStep {
     /// A whole packet; its payload is shown.
     Packet,
-    /// No whole packet yet. All bytes were used.
+    /// No whole packet yet. All bytes of the call were used.
     More,
     /// The bytes are no packet. The reader refuses the same from now on.
     Refused(PacketRefusal),
@@ -58,7 +58,8 @@ enum Received {
 }
 
 impl PacketReader {
-    /// A reader that nothing was given to. This reserves its buffer, the only memory that it ever takes.
+    /// A reader that nothing was given to. This reserves its buffer of 35,000 bytes, the only memory that it ever takes,
+    /// and fails only where there is none.
     pub fn new(alloc: Global) -> Result<PacketReader, AllocError>
         ensures { IfOk result (λ reader. reader ≡ empty) }
     {
@@ -70,14 +71,14 @@ impl PacketReader {
         })
     }
 
-    /// The payload that the last `take` found; no bytes where it found none.
+    /// The payload that the last `take` found, without its padding; no bytes where it found none, and before the first.
     pub fn payload(&self) -> &[u8]
         ensures { result.now ≡ self.now.payload }
     {
         &self.buffer[5..5 + self.shown]
     }
 
-    /// How many bytes of a packet begun the reader holds.
+    /// How many bytes of a packet begun the reader holds; 0 between packets and after a refusal.
     pub fn held(&self) -> usize
         ensures { result ≡ length self.now.rest }
     {
@@ -88,10 +89,13 @@ impl PacketReader {
     /// packets are in clear, with blocks of 8 bytes and no tag.
     ///
     /// The length field is judged as soon as its four bytes are there, the tag when the whole packet is, under the
-    /// key and the number of the call that brings the last byte, and the padding after the tag. A reader that refused
-    /// answers the same for good and uses nothing. No call needs memory.
+    /// key and the number of the call that brings the last byte, and the padding after the tag. So the number is that
+    /// of the packet begun, and the caller counts the packets (RFC 4253 section 6.4). A reader that refused answers the
+    /// same for good and uses nothing. No call needs memory.
     ///
-    /// While a packet is begun, the block size and the tag length have to stay the same.
+    /// While a packet is begun, the block size and the tag length have to stay the same: the key may change between
+    /// packets, where `held` is 0.
+    #[tactic(auto, using(crate::proofs::Readings::still_begun, crate::proofs::Readings::none_begun, crate::proofs::Readings::begun_before))]
     pub fn take<S: Sealing>(
         &mut self,
         key: Option<&S::Key>,
@@ -104,6 +108,7 @@ impl PacketReader {
         ensures more { result.1 ≡ ReadStep.More → result.0 ≡ length bytes.now }
         ensures found { self.old.refused ≡ None → Finds S.crypto (option_copied key.entry) number (self.old.rest ++ take result.0 bytes.now) result.1 self.new }
         ensures refused { IfSome self.old.refused (λ refusal. (result ≡ (0, ReadStep.Refused refusal)) × (self.new ≡ self.old)) }
+        ensures begun { IsBegun (block_under S.crypto (option_copied key.entry)) (tag_under S.crypto (option_copied key.entry)) self.new.rest }
     {
         if let Some(refusal) = self.refused {
             return (0, ReadStep::Refused(refusal));

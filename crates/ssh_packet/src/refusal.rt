@@ -3,22 +3,25 @@ ghost use Rattle.ssh_packet.specs.Refusals.{refusal_name, refusal_number};
 
 use thiserror::Error;
 
-/// Why the bytes of the peer are no packet (RFC 4253 section 6).
+/// Why the bytes of the peer are no packet (RFC 4253 section 6). As text it is a sentence for a log.
 #[derive(Clone, Copy, Debug, PartialEq, Eq, Error)]
 pub enum PacketRefusal {
-    /// The length field is one that no packet has.
+    /// No packet has this length field: it makes no whole blocks, fewer than 16 bytes or one block, or more than 35,000
+    /// bytes with the tag. It comes as soon as the field's four bytes are there.
     #[error("no packet has this length")]
     BadLength,
-    /// The padding is shorter than four bytes, or leaves no payload.
+    /// The padding is shorter than four bytes, or leaves no payload. It comes once the whole packet is there, and only
+    /// under a good tag.
     #[error("the padding of a packet is malformed")]
     BadPadding,
-    /// The tag is not the one of this key and number.
+    /// The tag is not the one of this key, number and packet (RFC 4253 section 6.4). It comes once the whole packet is
+    /// there.
     #[error("the tag of a packet is wrong")]
     BadTag,
 }
 
 impl PacketRefusal {
-    /// The number of the refusal: 3, 4 or 5.
+    /// The number of the refusal: 3 of `BadLength`, 4 of `BadPadding`, 5 of `BadTag`.
     pub fn number(self) -> u8
         ensures { result ≡ refusal_number self }
     {
@@ -29,7 +32,7 @@ impl PacketRefusal {
         }
     }
 
-    /// The name of the refusal.
+    /// The name of the refusal, as the variant is spelled.
     pub fn name(self) -> &'static str
         ensures { result.now ≡ refusal_name self }
     {

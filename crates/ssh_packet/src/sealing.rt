@@ -5,17 +5,23 @@ ghost use Rattle.ssh_packet.specs.Sealing.{lengths_of};
 
 use std::alloc::{AllocError, Global};
 
-/// How many bytes of key material a sealing takes.
+/// How many bytes of key material a sealing takes in one direction (RFC 4253 section 7.2).
 #[derive(Clone, Copy, Debug, PartialEq, Eq)]
 pub struct Lengths {
+    /// Those of the initial IV.
     pub iv: usize,
+    /// Those of the key of the cipher.
     pub cipher: usize,
+    /// Those of the key of the MAC.
     pub mac: usize,
 }
 
-/// A sealing of packets: a cipher and a MAC, handed in. Its ghost member `crypto` says what it computes, and `laws`
-/// what holds of that: opening restores what was sealed under the same key and number, and both leave the first
-/// four bytes, the packet's length, which so stands in clear.
+/// A sealing of packets: a cipher and a MAC, handed in (RFC 4253 sections 6.3 and 6.4). Its ghost member `crypto` says
+/// what it computes, and `laws` what holds of that: opening restores what was sealed under the same key and number, and
+/// both leave the first four bytes, the packet's length, which so stands in clear.
+///
+/// No method but `make` can fail. `seal` and `open` work in place, on a packet that a length field may count: whole
+/// blocks of `block` bytes, at least 16 bytes, and at most 35,000 with the tag.
 pub trait Sealing {
     /// The keys of one direction in one epoch.
     type Key: Drop;
@@ -27,7 +33,8 @@ pub trait Sealing {
     fn lengths(enc: &[u8], mac: &[u8]) -> Option<Lengths>
         ensures { option_map lengths_of result ≡ crypto.lengths enc.now mac.now };
 
-    /// The key that these bytes make, for a pair of names that `lengths` knows and material of those lengths.
+    /// The key that these bytes make, for a pair of names that `lengths` knows and material of those lengths. It fails
+    /// only where memory runs out.
     fn make(
         alloc: Global,
         enc: &[u8],
@@ -47,13 +54,14 @@ pub trait Sealing {
     fn tag_len(key: &Self::Key) -> usize
         ensures { result ≡ crypto.tag key.now };
 
-    /// Seals a packet in place. The last `tag_len` bytes are room for the tag.
+    /// Seals a packet in place, as the one of this number. The last `tag_len` bytes are room for the tag, and what
+    /// stands in them before is of no account.
     fn seal(key: &Self::Key, number: u32, packet: &mut [u8])
         requires { IsTrue (is_wire_size (crypto.block key.now) (crypto.tag key.now) (length packet.old)) }
         ensures { packet.new ≡ crypto.sealed key.now number (take (length packet.old - crypto.tag key.now) packet.old) };
 
-    /// Opens a packet with its tag in place, and answers whether the tag is good. What the bytes of the tag are
-    /// afterwards is left open.
+    /// Opens a packet with its tag in place, as the one of this number, and answers whether the tag is good. What the
+    /// bytes of the tag are afterwards is left open.
     fn open(key: &Self::Key, number: u32, packet: &mut [u8]) -> bool
         requires { IsTrue (is_wire_size (crypto.block key.now) (crypto.tag key.now) (length packet.old)) }
         ensures good { result ≡ (crypto.opened key.now number packet.old).good }

@@ -10,17 +10,18 @@ use crate::sealing::Sealing;
 use ssh_types::{Put, are_bytes};
 use std::alloc::AllocError;
 
-/// Gives the bytes of the padding.
+/// Gives the bytes of the padding: random ones under a cipher (RFC 4253 section 6).
 pub trait Filler {
-    /// Fills all of `out`, with any bytes.
+    /// Fills all of `out`, with any bytes. A packet asks once, for at most 255 bytes.
     fn fill(&mut self, out: &mut [u8]);
 }
 
-/// Writes the packet of a payload with the least padding at the end of `out`, sealed under the key and the number;
-/// under `None` in clear (RFC 4253 section 6).
+/// Writes the packet of a payload at the end of `out`, sealed under the key as the packet of this number; under `None`
+/// in clear, in blocks of 8 bytes (RFC 4253 section 6).
 ///
-/// The payload has at least one byte, and its packet at most 35,000 with its tag. Where memory runs out, `out` has
-/// its old bytes.
+/// The padding is the least that the standard allows: at least four bytes, up to a whole number of blocks. The payload
+/// has at least one byte, and its packet at most 35,000 with its tag, so every payload of up to 34,000 bytes has room
+/// under any sealing. The one error is that memory runs out: then `out` has its old bytes.
 pub fn write_packet<S: Sealing, F: Filler>(
     payload: &[u8],
     key: Option<&S::Key>,

@@ -18,3 +18,8 @@ returns-in-More-clause-found g c = λ _.
           (subst (λ (n : ℕ). IsBegun n c.tag_of-tag.result c.receive-used.new.self.rest) c.block_of-block.ensures.value (rw c.in-More.is at c.receive-used.ensures.received))),
       after,
     )
+
+pub returns-in-More-clause-begun : goal.returns-in-More-clause-begun
+returns-in-More-clause-begun g c =
+    subst (λ (n : ℕ). IsBegun (block_under g.S.Sealing.crypto (option_copied c.args.key)) n c.receive-used.new.self.rest) c.tag_of-tag.ensures.value
+    (subst (λ (n : ℕ). IsBegun n c.tag_of-tag.result c.receive-used.new.self.rest) c.block_of-block.ensures.value (rw c.in-More.is at c.receive-used.ensures.received))
