@@ -1,0 +1,4 @@
+pub mod Fields
+pub mod Methods
+pub mod Rows
+pub mod Payloads
