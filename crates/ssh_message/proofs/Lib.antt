@@ -2,3 +2,4 @@ pub mod Fields
 pub mod Methods
 pub mod Rows
 pub mod Payloads
+pub mod Writing
