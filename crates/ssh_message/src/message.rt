@@ -1,5 +1,3 @@
-ghost use Rattle.ssh_model.specs.Message.{message_number, message_name};
-
 use ssh_types::{NameList, Refusal};
 use thiserror::Error;
 
@@ -121,6 +119,50 @@ pub enum Message<'a> {
     ChannelFailure { recipient: u32 },
     /// A number that none of these has, whatever follows it. 60 is one where no key probe is outstanding.
     Unknown { number: u8 },
+}
+
+impl<'a> Message<'a> {
+    ghost use Rattle.std.specs.Prelude.{◌≡◌};
+    ghost use Rattle.ssh_model.specs.Message.{message_number};
+    ghost use Rattle.ssh_message.specs.Meaning.{meaning};
+
+    /// The number of the message, as it stands at the front of its payload.
+    pub fn number(&self) -> u8
+        ensures { result ≡ message_number (meaning self.now) }
+    {
+        match *self {
+            Message::Disconnect { .. } => 1,
+            Message::Ignore { .. } => 2,
+            Message::Unimplemented { .. } => 3,
+            Message::Debug { .. } => 4,
+            Message::ServiceRequest { .. } => 5,
+            Message::ServiceAccept { .. } => 6,
+            Message::KexInit(_) => 20,
+            Message::NewKeys => 21,
+            Message::KexEcdhInit { .. } => 30,
+            Message::KexEcdhReply { .. } => 31,
+            Message::UserauthRequest { .. } => 50,
+            Message::UserauthFailure { .. } => 51,
+            Message::UserauthSuccess => 52,
+            Message::UserauthBanner { .. } => 53,
+            Message::UserauthPkOk { .. } => 60,
+            Message::GlobalRequest { .. } => 80,
+            Message::RequestSuccess { .. } => 81,
+            Message::RequestFailure => 82,
+            Message::ChannelOpen { .. } => 90,
+            Message::ChannelOpenConfirmation { .. } => 91,
+            Message::ChannelOpenFailure { .. } => 92,
+            Message::ChannelWindowAdjust { .. } => 93,
+            Message::ChannelData { .. } => 94,
+            Message::ChannelExtendedData { .. } => 95,
+            Message::ChannelEof { .. } => 96,
+            Message::ChannelClose { .. } => 97,
+            Message::ChannelRequest { .. } => 98,
+            Message::ChannelSuccess { .. } => 99,
+            Message::ChannelFailure { .. } => 100,
+            Message::Unknown { number } => number,
+        }
+    }
 }
 
 /// What an end offers for a key exchange (RFC 4253 section 7.1): `cs` is from client to server, `sc` back. The number
