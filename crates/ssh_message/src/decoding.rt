@@ -1,6 +1,7 @@
 ghost use Rattle.std.specs.Prelude.{◌≡◌, ◌∷◌, List, ℕ, IfOk, IfErr, IsOkAnd};
 ghost use Rattle.ssh_model.specs.Message.{Msg, IsPayload, IsWrittenPayload, Suits};
 ghost use Rattle.ssh_message.specs.Meaning.{meaning, NoMessage};
+ghost use Rattle.ssh_message.specs.Written.{Fits};
 
 use crate::message::{BadMessage, Message};
 use crate::read::{authentication, connection, exchange, transport};
@@ -18,6 +19,8 @@ use ssh_types::Reader;
 pub fn decode(probing: bool, payload: &[u8]) -> Result<Message<'_>, BadMessage>
     // The payload is the message that is answered.
     ensures found { IfOk result (λ m. IsPayload probing (meaning m) payload.now) }
+    // It can be written.
+    ensures fits { IfOk result (λ m. Fits m) }
     // Nothing is refused that is a message.
     ensures refused { IfErr result (λ _. NoMessage probing payload.now) }
     // Whatever message the payload is, that one is answered.
@@ -31,6 +34,7 @@ pub fn decode(probing: bool, payload: &[u8]) -> Result<Message<'_>, BadMessage>
 #[tactic(auto, using(crate::proofs::Payloads::payloads))]
 fn read(probing: bool, payload: &[u8]) -> Result<Message<'_>, BadMessage>
     ensures found { IfOk result (λ m. IsPayload probing (meaning m) payload.now) }
+    ensures fits { IfOk result (λ m. Fits m) }
     ensures refused { IfErr result (λ _. NoMessage probing payload.now) }
 {
     let mut fields = Reader::new(payload);
@@ -45,6 +49,7 @@ fn body<'a>(
     fields: &mut Reader<'a>,
 ) -> Result<Message<'a>, BadMessage>
     ensures found { IfOk result (λ m. IsPayload probing (meaning m) (number ∷ fields.old)) }
+    ensures fits { IfOk result (λ m. Fits m) }
     ensures refused { IfErr result (λ _. NoMessage probing (number ∷ fields.old)) }
 {
     match number {

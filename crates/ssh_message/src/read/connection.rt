@@ -2,6 +2,7 @@
 
 ghost use Rattle.std.specs.Prelude.{◌≡◌, ◌∷◌, List, ℕ, IfOk, IfErr};
 ghost use Rattle.ssh_message.specs.Meaning.{IsMeant, IsNone};
+ghost use Rattle.ssh_message.specs.Written.{Fits};
 
 use crate::message::{BadMessage, Message};
 use ssh_types::Reader;
@@ -9,6 +10,7 @@ use ssh_types::Reader;
 #[tactic(auto, using(crate::proofs::Fields::fields, crate::proofs::Rows::no_global_request))]
 pub(crate) fn global_request<'a>(fields: &mut Reader<'a>) -> Result<Message<'a>, BadMessage>
     ensures found { IfOk result (λ m. IsMeant m (80 ∷ fields.old)) }
+    ensures fits { IfOk result (λ m. Fits m) }
     ensures refused { IfErr result (λ _. IsNone (80 ∷ fields.old)) }
 {
     let name = fields.string()?;
@@ -19,7 +21,8 @@ pub(crate) fn global_request<'a>(fields: &mut Reader<'a>) -> Result<Message<'a>,
 
 #[tactic(auto, using(crate::proofs::Fields::fields))]
 pub(crate) fn request_success<'a>(fields: &mut Reader<'a>) -> Message<'a>
-    ensures { IsMeant result (81 ∷ fields.old) }
+    ensures found { IsMeant result (81 ∷ fields.old) }
+    ensures fits { Fits result }
 {
     let rest = fields.rest();
     Message::RequestSuccess { rest }
@@ -28,6 +31,7 @@ pub(crate) fn request_success<'a>(fields: &mut Reader<'a>) -> Message<'a>
 #[tactic(auto, using(crate::proofs::Fields::fields, crate::proofs::Rows::no_request_failure))]
 pub(crate) fn request_failure<'a>(fields: &mut Reader<'a>) -> Result<Message<'a>, BadMessage>
     ensures found { IfOk result (λ m. IsMeant m (82 ∷ fields.old)) }
+    ensures fits { IfOk result (λ m. Fits m) }
     ensures refused { IfErr result (λ _. IsNone (82 ∷ fields.old)) }
 {
     fields.end()?;
@@ -37,6 +41,7 @@ pub(crate) fn request_failure<'a>(fields: &mut Reader<'a>) -> Result<Message<'a>
 #[tactic(auto, using(crate::proofs::Fields::fields, crate::proofs::Rows::no_channel_open))]
 pub(crate) fn channel_open<'a>(fields: &mut Reader<'a>) -> Result<Message<'a>, BadMessage>
     ensures found { IfOk result (λ m. IsMeant m (90 ∷ fields.old)) }
+    ensures fits { IfOk result (λ m. Fits m) }
     ensures refused { IfErr result (λ _. IsNone (90 ∷ fields.old)) }
 {
     let kind = fields.string()?;
@@ -50,6 +55,7 @@ pub(crate) fn channel_open<'a>(fields: &mut Reader<'a>) -> Result<Message<'a>, B
 #[tactic(auto, using(crate::proofs::Fields::fields, crate::proofs::Rows::no_channel_open_confirmation))]
 pub(crate) fn channel_open_confirmation<'a>(fields: &mut Reader<'a>) -> Result<Message<'a>, BadMessage>
     ensures found { IfOk result (λ m. IsMeant m (91 ∷ fields.old)) }
+    ensures fits { IfOk result (λ m. Fits m) }
     ensures refused { IfErr result (λ _. IsNone (91 ∷ fields.old)) }
 {
     let recipient = fields.u32()?;
@@ -63,6 +69,7 @@ pub(crate) fn channel_open_confirmation<'a>(fields: &mut Reader<'a>) -> Result<M
 #[tactic(auto, using(crate::proofs::Fields::fields, crate::proofs::Rows::no_channel_open_failure))]
 pub(crate) fn channel_open_failure<'a>(fields: &mut Reader<'a>) -> Result<Message<'a>, BadMessage>
     ensures found { IfOk result (λ m. IsMeant m (92 ∷ fields.old)) }
+    ensures fits { IfOk result (λ m. Fits m) }
     ensures refused { IfErr result (λ _. IsNone (92 ∷ fields.old)) }
 {
     let recipient = fields.u32()?;
@@ -76,6 +83,7 @@ pub(crate) fn channel_open_failure<'a>(fields: &mut Reader<'a>) -> Result<Messag
 #[tactic(auto, using(crate::proofs::Fields::fields, crate::proofs::Rows::no_channel_window_adjust))]
 pub(crate) fn channel_window_adjust<'a>(fields: &mut Reader<'a>) -> Result<Message<'a>, BadMessage>
     ensures found { IfOk result (λ m. IsMeant m (93 ∷ fields.old)) }
+    ensures fits { IfOk result (λ m. Fits m) }
     ensures refused { IfErr result (λ _. IsNone (93 ∷ fields.old)) }
 {
     let recipient = fields.u32()?;
@@ -87,6 +95,7 @@ pub(crate) fn channel_window_adjust<'a>(fields: &mut Reader<'a>) -> Result<Messa
 #[tactic(auto, using(crate::proofs::Fields::fields, crate::proofs::Rows::no_channel_data))]
 pub(crate) fn channel_data<'a>(fields: &mut Reader<'a>) -> Result<Message<'a>, BadMessage>
     ensures found { IfOk result (λ m. IsMeant m (94 ∷ fields.old)) }
+    ensures fits { IfOk result (λ m. Fits m) }
     ensures refused { IfErr result (λ _. IsNone (94 ∷ fields.old)) }
 {
     let recipient = fields.u32()?;
@@ -98,6 +107,7 @@ pub(crate) fn channel_data<'a>(fields: &mut Reader<'a>) -> Result<Message<'a>, B
 #[tactic(auto, using(crate::proofs::Fields::fields, crate::proofs::Rows::no_channel_extended_data))]
 pub(crate) fn channel_extended_data<'a>(fields: &mut Reader<'a>) -> Result<Message<'a>, BadMessage>
     ensures found { IfOk result (λ m. IsMeant m (95 ∷ fields.old)) }
+    ensures fits { IfOk result (λ m. Fits m) }
     ensures refused { IfErr result (λ _. IsNone (95 ∷ fields.old)) }
 {
     let recipient = fields.u32()?;
@@ -110,6 +120,7 @@ pub(crate) fn channel_extended_data<'a>(fields: &mut Reader<'a>) -> Result<Messa
 #[tactic(auto, using(crate::proofs::Fields::fields, crate::proofs::Rows::no_channel_eof))]
 pub(crate) fn channel_eof<'a>(fields: &mut Reader<'a>) -> Result<Message<'a>, BadMessage>
     ensures found { IfOk result (λ m. IsMeant m (96 ∷ fields.old)) }
+    ensures fits { IfOk result (λ m. Fits m) }
     ensures refused { IfErr result (λ _. IsNone (96 ∷ fields.old)) }
 {
     let recipient = fields.u32()?;
@@ -120,6 +131,7 @@ pub(crate) fn channel_eof<'a>(fields: &mut Reader<'a>) -> Result<Message<'a>, Ba
 #[tactic(auto, using(crate::proofs::Fields::fields, crate::proofs::Rows::no_channel_close))]
 pub(crate) fn channel_close<'a>(fields: &mut Reader<'a>) -> Result<Message<'a>, BadMessage>
     ensures found { IfOk result (λ m. IsMeant m (97 ∷ fields.old)) }
+    ensures fits { IfOk result (λ m. Fits m) }
     ensures refused { IfErr result (λ _. IsNone (97 ∷ fields.old)) }
 {
     let recipient = fields.u32()?;
@@ -130,6 +142,7 @@ pub(crate) fn channel_close<'a>(fields: &mut Reader<'a>) -> Result<Message<'a>, 
 #[tactic(auto, using(crate::proofs::Fields::fields, crate::proofs::Rows::no_channel_request))]
 pub(crate) fn channel_request<'a>(fields: &mut Reader<'a>) -> Result<Message<'a>, BadMessage>
     ensures found { IfOk result (λ m. IsMeant m (98 ∷ fields.old)) }
+    ensures fits { IfOk result (λ m. Fits m) }
     ensures refused { IfErr result (λ _. IsNone (98 ∷ fields.old)) }
 {
     let recipient = fields.u32()?;
@@ -142,6 +155,7 @@ pub(crate) fn channel_request<'a>(fields: &mut Reader<'a>) -> Result<Message<'a>
 #[tactic(auto, using(crate::proofs::Fields::fields, crate::proofs::Rows::no_channel_success))]
 pub(crate) fn channel_success<'a>(fields: &mut Reader<'a>) -> Result<Message<'a>, BadMessage>
     ensures found { IfOk result (λ m. IsMeant m (99 ∷ fields.old)) }
+    ensures fits { IfOk result (λ m. Fits m) }
     ensures refused { IfErr result (λ _. IsNone (99 ∷ fields.old)) }
 {
     let recipient = fields.u32()?;
@@ -152,6 +166,7 @@ pub(crate) fn channel_success<'a>(fields: &mut Reader<'a>) -> Result<Message<'a>
 #[tactic(auto, using(crate::proofs::Fields::fields, crate::proofs::Rows::no_channel_failure))]
 pub(crate) fn channel_failure<'a>(fields: &mut Reader<'a>) -> Result<Message<'a>, BadMessage>
     ensures found { IfOk result (λ m. IsMeant m (100 ∷ fields.old)) }
+    ensures fits { IfOk result (λ m. Fits m) }
     ensures refused { IfErr result (λ _. IsNone (100 ∷ fields.old)) }
 {
     let recipient = fields.u32()?;

@@ -5,6 +5,7 @@ ghost use Rattle.ssh_model.specs.DataTypes.{IsUint32};
 ghost use Rattle.ssh_model.specs.Reading.{Reads, NoFront};
 ghost use Rattle.ssh_model.specs.Message.{IsCookie};
 ghost use Rattle.ssh_message.specs.Meaning.{IsMeant, IsNone, IsZero};
+ghost use Rattle.ssh_message.specs.Written.{Fits};
 
 use crate::message::{BadMessage, Message, Proposal};
 use ssh_types::Reader;
@@ -12,6 +13,7 @@ use ssh_types::Reader;
 #[tactic(auto, using(crate::proofs::Fields::fields))]
 pub(crate) fn kexinit<'a>(fields: &mut Reader<'a>) -> Result<Message<'a>, BadMessage>
     ensures found { IfOk result (λ m. IsMeant m (20 ∷ fields.old)) }
+    ensures fits { IfOk result (λ m. Fits m) }
     ensures refused { IfErr result (λ _. IsNone (20 ∷ fields.old)) }
 {
     let cookie = cookie(fields)?;
@@ -74,6 +76,7 @@ fn zero(fields: &mut Reader<'_>) -> Result<(), BadMessage>
 #[tactic(auto, using(crate::proofs::Fields::fields, crate::proofs::Rows::no_kex_ecdh_init))]
 pub(crate) fn kex_ecdh_init<'a>(fields: &mut Reader<'a>) -> Result<Message<'a>, BadMessage>
     ensures found { IfOk result (λ m. IsMeant m (30 ∷ fields.old)) }
+    ensures fits { IfOk result (λ m. Fits m) }
     ensures refused { IfErr result (λ _. IsNone (30 ∷ fields.old)) }
 {
     let q_c = fields.string()?;
@@ -84,6 +87,7 @@ pub(crate) fn kex_ecdh_init<'a>(fields: &mut Reader<'a>) -> Result<Message<'a>, 
 #[tactic(auto, using(crate::proofs::Fields::fields, crate::proofs::Rows::no_kex_ecdh_reply))]
 pub(crate) fn kex_ecdh_reply<'a>(fields: &mut Reader<'a>) -> Result<Message<'a>, BadMessage>
     ensures found { IfOk result (λ m. IsMeant m (31 ∷ fields.old)) }
+    ensures fits { IfOk result (λ m. Fits m) }
     ensures refused { IfErr result (λ _. IsNone (31 ∷ fields.old)) }
 {
     let k_s = fields.string()?;

@@ -4,6 +4,7 @@ ghost use Rattle.std.specs.Prelude.{List, ℕ, codes, IfOk, IfErr};
 ghost use Rattle.ssh_model.specs.DataTypes.{IsBoolean};
 ghost use Rattle.ssh_model.specs.Message.{IsMethod};
 ghost use Rattle.ssh_message.specs.Meaning.{method_meaning};
+ghost use Rattle.ssh_message.specs.Written.{MethodFits};
 ghost use Rattle.ssh_message.specs.Methods.{AreArguments, NoArguments, NoMethodAt};
 
 use crate::message::{BadMessage, Method};
@@ -12,6 +13,7 @@ use ssh_types::Reader;
 #[tactic(auto, using(crate::proofs::Methods::methods))]
 pub(crate) fn method<'a>(fields: &mut Reader<'a>) -> Result<Method<'a>, BadMessage>
     ensures found { IfOk result (λ m. IsMethod IsBoolean (method_meaning m) fields.old) }
+    ensures fits { IfOk result (λ m. MethodFits m) }
     ensures refused { IfErr result (λ _. NoMethodAt fields.old) }
 {
     let name = fields.string()?;
@@ -31,6 +33,7 @@ pub(crate) fn method<'a>(fields: &mut Reader<'a>) -> Result<Method<'a>, BadMessa
 #[tactic(auto, using(crate::proofs::Fields::fields, crate::proofs::Methods::arguments))]
 fn none<'a>(fields: &mut Reader<'a>) -> Result<Method<'a>, BadMessage>
     ensures found { IfOk result (λ m. AreArguments (codes "none") (method_meaning m) fields.old) }
+    ensures fits { IfOk result (λ m. MethodFits m) }
     ensures refused { IfErr result (λ _. NoArguments (codes "none") fields.old) }
 {
     fields.end()?;
@@ -40,6 +43,7 @@ fn none<'a>(fields: &mut Reader<'a>) -> Result<Method<'a>, BadMessage>
 #[tactic(auto, using(crate::proofs::Fields::fields, crate::proofs::Methods::arguments))]
 fn password<'a>(fields: &mut Reader<'a>) -> Result<Method<'a>, BadMessage>
     ensures found { IfOk result (λ m. AreArguments (codes "password") (method_meaning m) fields.old) }
+    ensures fits { IfOk result (λ m. MethodFits m) }
     ensures refused { IfErr result (λ _. NoArguments (codes "password") fields.old) }
 {
     let change = fields.boolean()?;
@@ -62,6 +66,7 @@ fn password<'a>(fields: &mut Reader<'a>) -> Result<Method<'a>, BadMessage>
 #[tactic(auto, using(crate::proofs::Fields::fields, crate::proofs::Methods::arguments))]
 fn publickey<'a>(fields: &mut Reader<'a>) -> Result<Method<'a>, BadMessage>
     ensures found { IfOk result (λ m. AreArguments (codes "publickey") (method_meaning m) fields.old) }
+    ensures fits { IfOk result (λ m. MethodFits m) }
     ensures refused { IfErr result (λ _. NoArguments (codes "publickey") fields.old) }
 {
     let signed = fields.boolean()?;

@@ -47,7 +47,7 @@ pub returns-in-80-clause-found : goal.returns-in-80-clause-found
 returns-in-80-clause-found c = in_context c.args.probing c.global_request.result c.args.fields.now c.in-80.is c.global_request.ensures.found
 
 pub returns-in-81-clause-found : goal.returns-in-81-clause-found
-returns-in-81-clause-found c = is_in_context c.args.probing c.request_success.result c.args.fields.now c.in-81.is c.request_success.ensures
+returns-in-81-clause-found c = is_in_context c.args.probing c.request_success.result c.args.fields.now c.in-81.is c.request_success.ensures.found
 
 pub returns-in-82-clause-found : goal.returns-in-82-clause-found
 returns-in-82-clause-found c = in_context c.args.probing c.request_failure.result c.args.fields.now c.in-82.is c.request_failure.ensures.found
