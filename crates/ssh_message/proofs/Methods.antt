@@ -176,6 +176,7 @@ pub none_method : {bytes : List ℕ} → NoMethodAt bytes → NoWhole (IsMethod 
 none_method h = record { none = h.none }
 
 pub ruleset methods = (no_method_name, no_method, reads_method)
+
 pub ruleset arguments = (no_none, no_password, no_old_password, no_new_password, no_publickey, no_probe, no_signed)
 
 -- the name, and what was read of the arguments of that name

@@ -157,6 +157,7 @@ row_at probing (ChannelFailure recipient) n rest h =
 row_at probing (Unknown number) n rest h =
     let e = byte_front number n _ rest h.row in
     subst (λ (k : ℕ). RowAt probing k rest (Unknown number)) (sym e.0) (chosen (is_unknown probing number) _ _ h.suits refl)
+
 pub no_disconnect : (rest : List ℕ) → NoWhole (Both IsUint32 (Both IsString (Both IsString IsNothing))) rest → IsNone (1 ∷ rest)
 no_disconnect rest h = λ probing. record { none = λ m p. let row = row_at probing m 1 rest p in h.none row.value row.spelled }
 
@@ -240,7 +241,6 @@ no_channel_success rest h = λ probing. record { none = λ m p. let row = row_at
 
 pub no_channel_failure : (rest : List ℕ) → NoWhole (Both IsUint32 IsNothing) rest → IsNone (100 ∷ rest)
 no_channel_failure rest h = λ probing. record { none = λ m p. let row = row_at probing m 100 rest p in h.none row.value row.spelled }
-
 
 -- what holds anyway holds of an error
 pub of_error : {T E : Type 0} (r : Result T E) (payload : List ℕ) → IsNone payload → IfErr r (λ _. IsNone payload)

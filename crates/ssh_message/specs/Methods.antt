@@ -18,7 +18,6 @@ IsArguments (Publickey algorithm key None) = Then (IsBoolean false) (Then (IsStr
 IsArguments (Publickey algorithm key (Some signature)) = Then (IsBoolean true) (Then (IsString algorithm) (Then (IsString key) (Then (IsString signature) IsEnd)))
 IsArguments (Other name rest) = λ bytes. IsOther name × IsRest rest bytes
 
-
 -- The bytes are the arguments of a method of this name.
 pub record AreArguments (name : List ℕ) (m : Method) (bytes : List ℕ) : Type 0 where
   pub named : method_name m ≡ name

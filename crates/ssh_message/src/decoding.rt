@@ -43,11 +43,7 @@ fn read(probing: bool, payload: &[u8]) -> Result<Message<'_>, BadMessage>
 }
 
 // The message with this number, from what follows the number.
-fn body<'a>(
-    probing: bool,
-    number: u8,
-    fields: &mut Reader<'a>,
-) -> Result<Message<'a>, BadMessage>
+fn body<'a>(probing: bool, number: u8, fields: &mut Reader<'a>) -> Result<Message<'a>, BadMessage>
     ensures found { IfOk result (λ m. IsPayload probing (meaning m) (number ∷ fields.old)) }
     ensures fits { IfOk result (λ m. Fits m) }
     ensures refused { IfErr result (λ _. NoMessage probing (number ∷ fields.old)) }
@@ -82,6 +78,6 @@ fn body<'a>(
         98 => connection::channel_request(fields),
         99 => connection::channel_success(fields),
         100 => connection::channel_failure(fields),
-        _ => Ok(Message::Unknown { number }),
+        _ => Ok(Message::Unknown(number)),
     }
 }

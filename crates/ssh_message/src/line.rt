@@ -14,12 +14,20 @@ pub struct Line<'a> {
 }
 
 impl<'a> Line<'a> {
+    ghost use Rattle.std.specs.Prelude.{◌≡◌, IfOk, IfErr};
+    ghost use Rattle.ssh_model.specs.Message.{IsPayload};
+    ghost use Rattle.ssh_message.specs.Meaning.{meaning, NoMessage};
+
     /// The line of the message that the payload is. `probing` is that of `decode`.
     ///
     /// # Errors
     ///
     /// `BadMessage` where the payload is no message, as that of `decode`.
-    pub fn new(probing: bool, payload: &'a [u8]) -> Result<Line<'a>, BadMessage> {
+    pub fn new(probing: bool, payload: &'a [u8]) -> Result<Line<'a>, BadMessage>
+        ensures found { IfOk result (λ line. IsPayload probing (meaning line.message) payload.now) }
+        ensures whole { IfOk result (λ line. line.payload.now ≡ payload.now) }
+        ensures refused { IfErr result (λ _. NoMessage probing payload.now) }
+    {
         let message = decode(probing, payload)?;
         Ok(Line { payload, message })
     }
@@ -29,7 +37,7 @@ impl<'a> fmt::Display for Line<'a> {
     fn fmt<W: fmt::Write>(&self, f: &mut fmt::Formatter<W>) -> fmt::Result {
         let message = self.message;
         let number = message.number();
-        if let Message::Unknown { .. } = message {
+        if let Message::Unknown(_) = message {
             return write!(f, "{number} UNKNOWN");
         }
         let name = name(number);
@@ -41,7 +49,10 @@ impl<'a> fmt::Display for Line<'a> {
     }
 }
 
-fn transport_fields<W: fmt::Write>(message: &Message<'_>, f: &mut fmt::Formatter<W>) -> fmt::Result {
+fn transport_fields<W: fmt::Write>(
+    message: &Message<'_>,
+    f: &mut fmt::Formatter<W>,
+) -> fmt::Result {
     match *message {
         Message::Disconnect {
             reason,
@@ -49,7 +60,10 @@ fn transport_fields<W: fmt::Write>(message: &Message<'_>, f: &mut fmt::Formatter
             language,
         } => {
             let (description, language) = (Hex(description), Hex(language));
-            write!(f, " reason={reason} description={description} language={language}")
+            write!(
+                f,
+                " reason={reason} description={description} language={language}"
+            )
         }
         Message::Ignore { body } => {
             let body = Hex(body);
@@ -62,7 +76,10 @@ fn transport_fields<W: fmt::Write>(message: &Message<'_>, f: &mut fmt::Formatter
             language,
         } => {
             let (message, language) = (Hex(message), Hex(language));
-            write!(f, " display={display} message={message} language={language}")
+            write!(
+                f,
+                " display={display} message={message} language={language}"
+            )
         }
         Message::ServiceRequest { service } | Message::ServiceAccept { service } => {
             let service = Hex(service);
@@ -85,7 +102,10 @@ fn transport_fields<W: fmt::Write>(message: &Message<'_>, f: &mut fmt::Formatter
     }
 }
 
-fn proposal_fields<W: fmt::Write>(proposal: &Proposal<'_>, f: &mut fmt::Formatter<W>) -> fmt::Result {
+fn proposal_fields<W: fmt::Write>(
+    proposal: &Proposal<'_>,
+    f: &mut fmt::Formatter<W>,
+) -> fmt::Result {
     let cookie = Hex(proposal.cookie.as_slice());
     write!(f, " cookie={cookie}")?;
     write_names("kex", &proposal.kex, f)?;
@@ -102,7 +122,11 @@ fn proposal_fields<W: fmt::Write>(proposal: &Proposal<'_>, f: &mut fmt::Formatte
     write!(f, " follows={follows}")
 }
 
-fn write_names<W: fmt::Write>(field: &str, list: &NameList<'_>, f: &mut fmt::Formatter<W>) -> fmt::Result {
+fn write_names<W: fmt::Write>(
+    field: &str,
+    list: &NameList<'_>,
+    f: &mut fmt::Formatter<W>,
+) -> fmt::Result {
     write!(f, " {field}=")?;
     for byte in list.as_bytes() {
         let letter = char::from(*byte);
@@ -166,7 +190,10 @@ fn request_fields<W: fmt::Write>(message: &Message<'_>, f: &mut fmt::Formatter<W
             rest,
         } => {
             let (name, rest) = (Hex(name), Hex(rest));
-            write!(f, " recipient={recipient} name={name} want={want} rest={rest}")
+            write!(
+                f,
+                " recipient={recipient} name={name} want={want} rest={rest}"
+            )
         }
         _ => Ok(()),
     }
@@ -182,7 +209,10 @@ fn channel_fields<W: fmt::Write>(message: &Message<'_>, f: &mut fmt::Formatter<W
             rest,
         } => {
             let (kind, rest) = (Hex(kind), Hex(rest));
-            write!(f, " type={kind} sender={sender} window={window} max={max} rest={rest}")
+            write!(
+                f,
+                " type={kind} sender={sender} window={window} max={max} rest={rest}"
+            )
         }
         Message::ChannelOpenConfirmation {
             recipient,

@@ -11,9 +11,13 @@ pub enum Message<'a> {
         language: &'a [u8],
     },
     /// 2: bytes that mean nothing (RFC 4253 section 11.2).
-    Ignore { body: &'a [u8] },
+    Ignore {
+        body: &'a [u8],
+    },
     /// 3: the packet with this sequence number wasn't understood (RFC 4253 section 11.4).
-    Unimplemented { number: u32 },
+    Unimplemented {
+        number: u32,
+    },
     /// 4: a text for whoever looks for faults (RFC 4253 section 11.3).
     Debug {
         display: bool,
@@ -21,15 +25,21 @@ pub enum Message<'a> {
         language: &'a [u8],
     },
     /// 5: asks for a service (RFC 4253 section 10).
-    ServiceRequest { service: &'a [u8] },
+    ServiceRequest {
+        service: &'a [u8],
+    },
     /// 6: grants the service (RFC 4253 section 10).
-    ServiceAccept { service: &'a [u8] },
+    ServiceAccept {
+        service: &'a [u8],
+    },
     /// 20: what an end offers for a key exchange (RFC 4253 section 7.1).
     KexInit(Proposal<'a>),
     /// 21: the packets after this one are under the new keys (RFC 4253 section 7.3).
     NewKeys,
     /// 30: the client's public value (RFC 5656 section 4).
-    KexEcdhInit { q_c: &'a [u8] },
+    KexEcdhInit {
+        q_c: &'a [u8],
+    },
     /// 31: the host key, the server's public value and the signature (RFC 5656 section 4).
     KexEcdhReply {
         k_s: &'a [u8],
@@ -66,7 +76,9 @@ pub enum Message<'a> {
         rest: &'a [u8],
     },
     /// 81: the request was done (RFC 4254 section 4).
-    RequestSuccess { rest: &'a [u8] },
+    RequestSuccess {
+        rest: &'a [u8],
+    },
     /// 82: the request wasn't done (RFC 4254 section 4).
     RequestFailure,
     /// 90: asks for a channel of this kind; `rest` is the kind's own (RFC 4254 section 5.1).
@@ -93,9 +105,15 @@ pub enum Message<'a> {
         language: &'a [u8],
     },
     /// 93: so many more bytes may be sent on the channel (RFC 4254 section 5.2).
-    ChannelWindowAdjust { recipient: u32, bytes: u32 },
+    ChannelWindowAdjust {
+        recipient: u32,
+        bytes: u32,
+    },
     /// 94: bytes of the channel (RFC 4254 section 5.2).
-    ChannelData { recipient: u32, body: &'a [u8] },
+    ChannelData {
+        recipient: u32,
+        body: &'a [u8],
+    },
     /// 95: bytes of the channel beside its main stream, such as those of standard error (RFC 4254 section 5.2).
     ChannelExtendedData {
         recipient: u32,
@@ -103,9 +121,13 @@ pub enum Message<'a> {
         body: &'a [u8],
     },
     /// 96: no more bytes will be sent on the channel (RFC 4254 section 5.3).
-    ChannelEof { recipient: u32 },
+    ChannelEof {
+        recipient: u32,
+    },
     /// 97: the sender is done with the channel (RFC 4254 section 5.3).
-    ChannelClose { recipient: u32 },
+    ChannelClose {
+        recipient: u32,
+    },
     /// 98: a request on a channel; `rest` is its own (RFC 4254 section 5.4).
     ChannelRequest {
         recipient: u32,
@@ -114,11 +136,15 @@ pub enum Message<'a> {
         rest: &'a [u8],
     },
     /// 99: the request was done (RFC 4254 section 5.4).
-    ChannelSuccess { recipient: u32 },
+    ChannelSuccess {
+        recipient: u32,
+    },
     /// 100: the request wasn't done (RFC 4254 section 5.4).
-    ChannelFailure { recipient: u32 },
-    /// A number that none of these has, whatever follows it. 60 is one where no key probe is outstanding.
-    Unknown { number: u8 },
+    ChannelFailure {
+        recipient: u32,
+    },
+    /// A number that none of these has. What follows it is not kept. 60 is one where no key probe is outstanding.
+    Unknown(u8),
 }
 
 impl<'a> Message<'a> {
@@ -160,7 +186,7 @@ impl<'a> Message<'a> {
             Message::ChannelRequest { .. } => 98,
             Message::ChannelSuccess { .. } => 99,
             Message::ChannelFailure { .. } => 100,
-            Message::Unknown { number } => number,
+            Message::Unknown(number) => number,
         }
     }
 }
@@ -201,7 +227,10 @@ pub enum Method<'a> {
         signature: Option<&'a [u8]>,
     },
     /// Any other method, by its name, with what follows the name.
-    Other { name: &'a [u8], rest: &'a [u8] },
+    Other {
+        name: &'a [u8],
+        rest: &'a [u8],
+    },
 }
 
 /// The payload is no message: it ends within a field, a name-list in it holds what is no name, the last number of an

@@ -3,5 +3,5 @@
 pub(crate) mod authentication;
 pub(crate) mod connection;
 pub(crate) mod exchange;
-pub(crate) mod transport;
 pub(crate) mod method;
+pub(crate) mod transport;

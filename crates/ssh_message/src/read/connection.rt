@@ -49,11 +49,19 @@ pub(crate) fn channel_open<'a>(fields: &mut Reader<'a>) -> Result<Message<'a>, B
     let window = fields.u32()?;
     let max = fields.u32()?;
     let rest = fields.rest();
-    Ok(Message::ChannelOpen { kind, sender, window, max, rest })
+    Ok(Message::ChannelOpen {
+        kind,
+        sender,
+        window,
+        max,
+        rest,
+    })
 }
 
 #[tactic(auto, using(crate::proofs::Fields::fields, crate::proofs::Rows::no_channel_open_confirmation))]
-pub(crate) fn channel_open_confirmation<'a>(fields: &mut Reader<'a>) -> Result<Message<'a>, BadMessage>
+pub(crate) fn channel_open_confirmation<'a>(
+    fields: &mut Reader<'a>,
+) -> Result<Message<'a>, BadMessage>
     ensures found { IfOk result (λ m. IsMeant m (91 ∷ fields.old)) }
     ensures fits { IfOk result (λ m. Fits m) }
     ensures refused { IfErr result (λ _. IsNone (91 ∷ fields.old)) }
@@ -63,7 +71,13 @@ pub(crate) fn channel_open_confirmation<'a>(fields: &mut Reader<'a>) -> Result<M
     let window = fields.u32()?;
     let max = fields.u32()?;
     let rest = fields.rest();
-    Ok(Message::ChannelOpenConfirmation { recipient, sender, window, max, rest })
+    Ok(Message::ChannelOpenConfirmation {
+        recipient,
+        sender,
+        window,
+        max,
+        rest,
+    })
 }
 
 #[tactic(auto, using(crate::proofs::Fields::fields, crate::proofs::Rows::no_channel_open_failure))]
@@ -77,7 +91,12 @@ pub(crate) fn channel_open_failure<'a>(fields: &mut Reader<'a>) -> Result<Messag
     let description = fields.string()?;
     let language = fields.string()?;
     fields.end()?;
-    Ok(Message::ChannelOpenFailure { recipient, reason, description, language })
+    Ok(Message::ChannelOpenFailure {
+        recipient,
+        reason,
+        description,
+        language,
+    })
 }
 
 #[tactic(auto, using(crate::proofs::Fields::fields, crate::proofs::Rows::no_channel_window_adjust))]
@@ -114,7 +133,11 @@ pub(crate) fn channel_extended_data<'a>(fields: &mut Reader<'a>) -> Result<Messa
     let kind = fields.u32()?;
     let body = fields.string()?;
     fields.end()?;
-    Ok(Message::ChannelExtendedData { recipient, kind, body })
+    Ok(Message::ChannelExtendedData {
+        recipient,
+        kind,
+        body,
+    })
 }
 
 #[tactic(auto, using(crate::proofs::Fields::fields, crate::proofs::Rows::no_channel_eof))]
@@ -149,7 +172,12 @@ pub(crate) fn channel_request<'a>(fields: &mut Reader<'a>) -> Result<Message<'a>
     let name = fields.string()?;
     let want = fields.boolean()?;
     let rest = fields.rest();
-    Ok(Message::ChannelRequest { recipient, name, want, rest })
+    Ok(Message::ChannelRequest {
+        recipient,
+        name,
+        want,
+        rest,
+    })
 }
 
 #[tactic(auto, using(crate::proofs::Fields::fields, crate::proofs::Rows::no_channel_success))]

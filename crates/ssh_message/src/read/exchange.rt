@@ -94,5 +94,9 @@ pub(crate) fn kex_ecdh_reply<'a>(fields: &mut Reader<'a>) -> Result<Message<'a>,
     let q_s = fields.string()?;
     let signature = fields.string()?;
     fields.end()?;
-    Ok(Message::KexEcdhReply { k_s, q_s, signature })
+    Ok(Message::KexEcdhReply {
+        k_s,
+        q_s,
+        signature,
+    })
 }

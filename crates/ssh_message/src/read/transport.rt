@@ -17,7 +17,11 @@ pub(crate) fn disconnect<'a>(fields: &mut Reader<'a>) -> Result<Message<'a>, Bad
     let description = fields.string()?;
     let language = fields.string()?;
     fields.end()?;
-    Ok(Message::Disconnect { reason, description, language })
+    Ok(Message::Disconnect {
+        reason,
+        description,
+        language,
+    })
 }
 
 #[tactic(auto, using(crate::proofs::Fields::fields, crate::proofs::Rows::no_ignore))]
@@ -52,7 +56,11 @@ pub(crate) fn debug<'a>(fields: &mut Reader<'a>) -> Result<Message<'a>, BadMessa
     let message = fields.string()?;
     let language = fields.string()?;
     fields.end()?;
-    Ok(Message::Debug { display, message, language })
+    Ok(Message::Debug {
+        display,
+        message,
+        language,
+    })
 }
 
 #[tactic(auto, using(crate::proofs::Fields::fields, crate::proofs::Rows::no_service_request))]

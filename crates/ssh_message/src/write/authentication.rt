@@ -14,7 +14,12 @@ use ssh_types::{NameList, Put};
 use std::alloc::AllocError;
 
 #[tactic(auto, using(crate::proofs::Writing::writing))]
-pub(crate) fn request(out: &mut Vec<u8>, user: &[u8], service: &[u8], method: &Method<'_>) -> Result<(), AllocError>
+pub(crate) fn request(
+    out: &mut Vec<u8>,
+    user: &[u8],
+    service: &[u8],
+    method: &Method<'_>,
+) -> Result<(), AllocError>
     requires user { length user.now < 2 ^ 32 }
     requires service { length service.now < 2 ^ 32 }
     requires method { MethodFits method.now }
@@ -29,7 +34,11 @@ pub(crate) fn request(out: &mut Vec<u8>, user: &[u8], service: &[u8], method: &M
 }
 
 #[tactic(auto, using(crate::proofs::Writing::writing))]
-pub(crate) fn failure(out: &mut Vec<u8>, methods: &NameList<'_>, partial: bool) -> Result<(), AllocError>
+pub(crate) fn failure(
+    out: &mut Vec<u8>,
+    methods: &NameList<'_>,
+    partial: bool,
+) -> Result<(), AllocError>
     requires { length (names_text methods.now) < 2 ^ 32 }
     ensures written { OnOk result (Writes (IsRow IsWrittenBoolean (UserauthFailure (names methods.now) partial)) out.old.items out.new.items) }
     ensures grown { OnErr result (Grown out.old.items out.new.items) }

@@ -10,7 +10,12 @@ use ssh_types::Put;
 use std::alloc::AllocError;
 
 #[tactic(auto, using(crate::proofs::Writing::writing))]
-pub(crate) fn global_request(out: &mut Vec<u8>, name: &[u8], want: bool, rest: &[u8]) -> Result<(), AllocError>
+pub(crate) fn global_request(
+    out: &mut Vec<u8>,
+    name: &[u8],
+    want: bool,
+    rest: &[u8],
+) -> Result<(), AllocError>
     requires { length name.now < 2 ^ 32 }
     ensures written { OnOk result (Writes (IsRow IsWrittenBoolean (GlobalRequest name.now want rest.now)) out.old.items out.new.items) }
     ensures grown { OnErr result (Grown out.old.items out.new.items) }
@@ -42,7 +47,14 @@ pub(crate) fn request_failure(out: &mut Vec<u8>) -> Result<(), AllocError>
 }
 
 #[tactic(auto, using(crate::proofs::Writing::writing))]
-pub(crate) fn channel_open(out: &mut Vec<u8>, kind: &[u8], sender: u32, window: u32, max: u32, rest: &[u8]) -> Result<(), AllocError>
+pub(crate) fn channel_open(
+    out: &mut Vec<u8>,
+    kind: &[u8],
+    sender: u32,
+    window: u32,
+    max: u32,
+    rest: &[u8],
+) -> Result<(), AllocError>
     requires { length kind.now < 2 ^ 32 }
     ensures written { OnOk result (Writes (IsRow IsWrittenBoolean (ChannelOpen kind.now sender window max rest.now)) out.old.items out.new.items) }
     ensures grown { OnErr result (Grown out.old.items out.new.items) }
@@ -57,7 +69,14 @@ pub(crate) fn channel_open(out: &mut Vec<u8>, kind: &[u8], sender: u32, window: 
 }
 
 #[tactic(auto, using(crate::proofs::Writing::writing))]
-pub(crate) fn channel_open_confirmation(out: &mut Vec<u8>, recipient: u32, sender: u32, window: u32, max: u32, rest: &[u8]) -> Result<(), AllocError>
+pub(crate) fn channel_open_confirmation(
+    out: &mut Vec<u8>,
+    recipient: u32,
+    sender: u32,
+    window: u32,
+    max: u32,
+    rest: &[u8],
+) -> Result<(), AllocError>
     ensures written { OnOk result (Writes (IsRow IsWrittenBoolean (ChannelOpenConfirmation recipient sender window max rest.now)) out.old.items out.new.items) }
     ensures grown { OnErr result (Grown out.old.items out.new.items) }
 {
@@ -71,7 +90,13 @@ pub(crate) fn channel_open_confirmation(out: &mut Vec<u8>, recipient: u32, sende
 }
 
 #[tactic(auto, using(crate::proofs::Writing::writing))]
-pub(crate) fn channel_open_failure(out: &mut Vec<u8>, recipient: u32, reason: u32, description: &[u8], language: &[u8]) -> Result<(), AllocError>
+pub(crate) fn channel_open_failure(
+    out: &mut Vec<u8>,
+    recipient: u32,
+    reason: u32,
+    description: &[u8],
+    language: &[u8],
+) -> Result<(), AllocError>
     requires description { length description.now < 2 ^ 32 }
     requires language { length language.now < 2 ^ 32 }
     ensures written { OnOk result (Writes (IsRow IsWrittenBoolean (ChannelOpenFailure recipient reason description.now language.now)) out.old.items out.new.items) }
@@ -86,7 +111,11 @@ pub(crate) fn channel_open_failure(out: &mut Vec<u8>, recipient: u32, reason: u3
 }
 
 #[tactic(auto, using(crate::proofs::Writing::writing))]
-pub(crate) fn channel_window_adjust(out: &mut Vec<u8>, recipient: u32, bytes: u32) -> Result<(), AllocError>
+pub(crate) fn channel_window_adjust(
+    out: &mut Vec<u8>,
+    recipient: u32,
+    bytes: u32,
+) -> Result<(), AllocError>
     ensures written { OnOk result (Writes (IsRow IsWrittenBoolean (ChannelWindowAdjust recipient bytes)) out.old.items out.new.items) }
     ensures grown { OnErr result (Grown out.old.items out.new.items) }
 {
@@ -109,7 +138,12 @@ pub(crate) fn channel_data(out: &mut Vec<u8>, recipient: u32, body: &[u8]) -> Re
 }
 
 #[tactic(auto, using(crate::proofs::Writing::writing))]
-pub(crate) fn channel_extended_data(out: &mut Vec<u8>, recipient: u32, kind: u32, body: &[u8]) -> Result<(), AllocError>
+pub(crate) fn channel_extended_data(
+    out: &mut Vec<u8>,
+    recipient: u32,
+    kind: u32,
+    body: &[u8],
+) -> Result<(), AllocError>
     requires { length body.now < 2 ^ 32 }
     ensures written { OnOk result (Writes (IsRow IsWrittenBoolean (ChannelExtendedData recipient kind body.now)) out.old.items out.new.items) }
     ensures grown { OnErr result (Grown out.old.items out.new.items) }
@@ -142,7 +176,13 @@ pub(crate) fn channel_close(out: &mut Vec<u8>, recipient: u32) -> Result<(), All
 }
 
 #[tactic(auto, using(crate::proofs::Writing::writing))]
-pub(crate) fn channel_request(out: &mut Vec<u8>, recipient: u32, name: &[u8], want: bool, rest: &[u8]) -> Result<(), AllocError>
+pub(crate) fn channel_request(
+    out: &mut Vec<u8>,
+    recipient: u32,
+    name: &[u8],
+    want: bool,
+    rest: &[u8],
+) -> Result<(), AllocError>
     requires { length name.now < 2 ^ 32 }
     ensures written { OnOk result (Writes (IsRow IsWrittenBoolean (ChannelRequest recipient name.now want rest.now)) out.old.items out.new.items) }
     ensures grown { OnErr result (Grown out.old.items out.new.items) }

@@ -55,7 +55,12 @@ pub(crate) fn kex_ecdh_init(out: &mut Vec<u8>, q_c: &[u8]) -> Result<(), AllocEr
 }
 
 #[tactic(auto, using(crate::proofs::Writing::writing))]
-pub(crate) fn kex_ecdh_reply(out: &mut Vec<u8>, k_s: &[u8], q_s: &[u8], signature: &[u8]) -> Result<(), AllocError>
+pub(crate) fn kex_ecdh_reply(
+    out: &mut Vec<u8>,
+    k_s: &[u8],
+    q_s: &[u8],
+    signature: &[u8],
+) -> Result<(), AllocError>
     requires k_s { length k_s.now < 2 ^ 32 }
     requires q_s { length q_s.now < 2 ^ 32 }
     requires signature { length signature.now < 2 ^ 32 }

@@ -63,7 +63,11 @@ fn put_password(out: &mut Vec<u8>, password: &[u8]) -> Result<(), AllocError>
 }
 
 #[tactic(auto, using(crate::proofs::Writing::writing))]
-fn put_new_password(out: &mut Vec<u8>, password: &[u8], new_password: &[u8]) -> Result<(), AllocError>
+fn put_new_password(
+    out: &mut Vec<u8>,
+    password: &[u8],
+    new_password: &[u8],
+) -> Result<(), AllocError>
     requires password { IsShort password.now }
     requires new_password { IsShort new_password.now }
     ensures written { OnOk result (Writes (IsMethod IsWrittenBoolean (Password password.now (Some new_password.now))) out.old.items out.new.items) }
@@ -91,7 +95,12 @@ fn put_probe(out: &mut Vec<u8>, algorithm: &[u8], key: &[u8]) -> Result<(), Allo
 }
 
 #[tactic(auto, using(crate::proofs::Writing::writing))]
-fn put_signed(out: &mut Vec<u8>, algorithm: &[u8], key: &[u8], signature: &[u8]) -> Result<(), AllocError>
+fn put_signed(
+    out: &mut Vec<u8>,
+    algorithm: &[u8],
+    key: &[u8],
+    signature: &[u8],
+) -> Result<(), AllocError>
     requires algorithm { IsShort algorithm.now }
     requires key { IsShort key.now }
     requires signature { IsShort signature.now }

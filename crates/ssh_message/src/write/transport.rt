@@ -10,7 +10,12 @@ use ssh_types::Put;
 use std::alloc::AllocError;
 
 #[tactic(auto, using(crate::proofs::Writing::writing))]
-pub(crate) fn disconnect(out: &mut Vec<u8>, reason: u32, description: &[u8], language: &[u8]) -> Result<(), AllocError>
+pub(crate) fn disconnect(
+    out: &mut Vec<u8>,
+    reason: u32,
+    description: &[u8],
+    language: &[u8],
+) -> Result<(), AllocError>
     requires description { length description.now < 2 ^ 32 }
     requires language { length language.now < 2 ^ 32 }
     ensures written { OnOk result (Writes (IsRow IsWrittenBoolean (Disconnect reason description.now language.now)) out.old.items out.new.items) }
@@ -45,7 +50,12 @@ pub(crate) fn unimplemented(out: &mut Vec<u8>, number: u32) -> Result<(), AllocE
 }
 
 #[tactic(auto, using(crate::proofs::Writing::writing))]
-pub(crate) fn debug(out: &mut Vec<u8>, display: bool, message: &[u8], language: &[u8]) -> Result<(), AllocError>
+pub(crate) fn debug(
+    out: &mut Vec<u8>,
+    display: bool,
+    message: &[u8],
+    language: &[u8],
+) -> Result<(), AllocError>
     requires message { length message.now < 2 ^ 32 }
     requires language { length language.now < 2 ^ 32 }
     ensures written { OnOk result (Writes (IsRow IsWrittenBoolean (Debug display message.now language.now)) out.old.items out.new.items) }
