@@ -1,0 +1,149 @@
+-- Fields that follow one another, read from left to right.
+use Rattle.std.proofs.Common.{◌≡◌, ℕ, Bool, ◌<◌, ◌+◌, ◌≢◌, List, [], ◌∷◌, ◌++◌, length, take, drop, refl, sym, ap, subst, ◌∙◌, append_assoc, arith}
+use Rattle.std.proofs.lemmas.List.{take-append-drop, length-append, length-take}
+use Rattle.ssh_model.specs.DataTypes.{IsByte, IsBoolean, IsUint32, IsString, IsNameList}
+use Rattle.ssh_model.specs.Reading.{Reads, NoFront, OneForm}
+use Rattle.ssh_model.specs.Message.{Then, IsEnd, IsRest, IsCookie, Proposal, Msg, IsRow, IsPayload, Suits}
+use Rattle.ssh_message.specs.Meaning.{IsZero}
+use Rattle.ssh_types.proofs.Fronts.{same_front, one_byte, one_boolean, one_uint32, one_string}
+use Rattle.ssh_types.proofs.Joined.{one_name_list}
+
+-- ---- fields and their values
+
+-- a value, and then those of what follows
+abbrev pub Both : {V W : Type 0} → (V → List ℕ → Type 0) → (W → List ℕ → Type 0) → V × W → List ℕ → Type 0
+Both First Second values bytes = Then (First values.0) (Second values.1) bytes
+
+-- no value, at the end
+abbrev pub IsNothing : Unit {0} → List ℕ → Type 0
+IsNothing _ bytes = IsEnd bytes
+
+-- The bytes spell no value.
+pub record NoWhole {V : Type 0} (Spells : V → List ℕ → Type 0) (bytes : List ℕ) : Type 0 where
+  pub none : (value : V) → Spells value bytes → ⊥
+
+-- All of the bytes spell one value at most.
+pub record OneWhole {V : Type 0} (Spells : V → List ℕ → Type 0) : Type 0 where
+  pub one : (v w : V) (bytes : List ℕ) → Spells v bytes → Spells w bytes → v ≡ w
+
+-- ---- what was read, and what follows
+
+pub then_reads : (P Q : List ℕ → Type 0) (before after : List ℕ) → Reads P before after → Q after → Then P Q before
+then_reads P Q before after r q = record { front = r.bytes; back = after; first = r.meets; second = q; parts = r.parts }
+
+pub then_byte : (n : ℕ) (Q : List ℕ → Type 0) (after : List ℕ) → Q after → Then (IsByte n) Q (n ∷ after)
+then_byte n Q after q = record { front = n ∷ []; back = after; first = refl; second = q; parts = refl }
+
+pub is_payload : (probing : Bool) (m : Msg) (payload : List ℕ) → Suits probing m → IsRow IsBoolean m payload → IsPayload probing m payload
+is_payload probing m payload suits row = record { suits = suits; row = row }
+
+-- ---- where a field isn't there, nothing is read
+
+pub none_front : {V W : Type 0} {A : V → List ℕ → Type 0} (B : W → List ℕ → Type 0) {bytes : List ℕ} → NoFront A bytes → NoWhole (Both A B) bytes
+none_front B h = record { none = λ v t. h.none v.0 t.front t.back t.first t.parts }
+
+none_after : {V W : Type 0} {A : V → List ℕ → Type 0} {B : W → List ℕ → Type 0} (one : OneForm A) (v : V) {bytes after : List ℕ} → Reads (A v) bytes after → NoWhole B after → NoWhole (Both A B) bytes
+none_after {A = A} {B = B} one v {bytes = bytes} {after = after} r h =
+    record {
+      none = λ w t.
+          let same = one v w.0 r.bytes t.front after t.back r.meets t.first (sym r.parts ∙ t.parts) in
+          h.none w.1 (subst (B w.1) (sym same.2) t.second);
+    }
+
+pub none_after_uint32 : {W : Type 0} {B : W → List ℕ → Type 0} {n : ℕ} {bytes after : List ℕ} → Reads (IsUint32 n) bytes after → NoWhole B after → NoWhole (Both IsUint32 B) bytes
+none_after_uint32 {n = n} r h = none_after {A = IsUint32} one_uint32 n r h
+
+pub none_after_string : {W : Type 0} {B : W → List ℕ → Type 0} {text bytes after : List ℕ} → Reads (IsString text) bytes after → NoWhole B after → NoWhole (Both IsString B) bytes
+none_after_string {text = text} r h = none_after {A = IsString} one_string text r h
+
+pub none_after_boolean : {W : Type 0} {B : W → List ℕ → Type 0} {truth : Bool} {bytes after : List ℕ} → Reads (IsBoolean truth) bytes after → NoWhole B after → NoWhole (Both IsBoolean B) bytes
+none_after_boolean {truth = truth} r h = none_after {A = IsBoolean} one_boolean truth r h
+
+pub none_after_names : {W : Type 0} {B : W → List ℕ → Type 0} {list : List (List ℕ)} {bytes after : List ℕ} → Reads (IsNameList list) bytes after → NoWhole B after → NoWhole (Both IsNameList B) bytes
+none_after_names {list = list} r h = none_after {A = IsNameList} one_name_list list r h
+
+pub none_end : {bytes : List ℕ} → 0 < length bytes → NoWhole IsNothing bytes
+none_end h = record { none = λ v e. omega (arith, ap length e, h) }
+
+pub ruleset fields = (then_reads, then_byte, is_payload, none_front, none_after_uint32, none_after_string, none_after_boolean, none_after_names, none_end)
+
+-- ---- the same bytes are the same values
+
+pub one_nothing : OneWhole IsNothing
+one_nothing = record { one = λ v w bytes p q. refl }
+
+pub one_rest : OneWhole IsRest
+one_rest = record { one = λ v w bytes p q. sym p ∙ q }
+
+pub one_both : {V W : Type 0} (A : V → List ℕ → Type 0) (B : W → List ℕ → Type 0) → OneForm A → OneWhole B → OneWhole (Both A B)
+one_both A B one whole =
+    record {
+      one = λ v w bytes t u.
+          let same = one v.0 w.0 t.front u.front t.back u.back t.first u.first (sym t.parts ∙ u.parts) in
+          let rest = whole.one v.1 w.1 u.back (subst (B v.1) same.2 t.second) u.second in
+          ap (λ a. (a, v.1)) same.0 ∙ ap (λ b. (w.0, b)) rest;
+    }
+
+-- ---- an offer
+
+pub one_cookie : OneForm IsCookie
+one_cookie v w a b x y p q e =
+    let s = same_front a b x y (p.count ∙ sym q.count) e in
+    (sym p.same ∙ (s.0 ∙ q.same), s.0, s.1)
+
+pub reads_cookie : (bytes cookie rest : List ℕ) → cookie ≡ take 16 bytes → rest ≡ drop 16 bytes → length rest + 16 ≡ length bytes → Reads (IsCookie cookie) bytes rest
+reads_cookie bytes cookie rest c r e =
+    let count : length cookie ≡ 16 = ap length c ∙ omega (arith, length-take 16 bytes) in
+    record { bytes = cookie; meets = record { same = refl; count = count }; parts = sym (take-append-drop 16 bytes) ∙ (ap (λ (t : List ℕ). t ++ drop 16 bytes) (sym c) ∙ ap (λ (t : List ℕ). cookie ++ t) (sym r)) }
+
+pub no_cookie : (bytes : List ℕ) → length bytes < 16 → NoFront IsCookie bytes
+no_cookie bytes short = record { none = λ cookie front after p parts. omega (arith, p.count, ap length parts, length-append front after) }
+
+pub none_after_cookie : {W : Type 0} {B : W → List ℕ → Type 0} {cookie bytes after : List ℕ} → Reads (IsCookie cookie) bytes after → NoWhole B after → NoWhole (Both IsCookie B) bytes
+none_after_cookie {cookie = cookie} r h = none_after {A = IsCookie} one_cookie cookie r h
+
+one_zero : OneForm IsZero
+one_zero v w a b x y p q e = let s = one_uint32 0 0 a b x y p q e in (refl, s.1, s.2)
+
+pub none_after_zero : {W : Type 0} {B : W → List ℕ → Type 0} {bytes after : List ℕ} → Reads (IsUint32 0) bytes after → NoWhole B after → NoWhole (Both IsZero B) bytes
+none_after_zero r h = none_after {A = IsZero} one_zero tt r h
+
+pub no_zero : {bytes : List ℕ} → NoFront IsUint32 bytes → NoFront IsZero bytes
+no_zero h = record { none = λ v front after p parts. h.none 0 front after p parts }
+
+pub other_zero : {n : ℕ} {bytes after : List ℕ} → Reads (IsUint32 n) bytes after → n ≢ 0 → NoFront IsZero bytes
+other_zero {n = n} {after = after} r other = record { none = λ v front rest p parts. other (one_uint32 n 0 r.bytes front after rest r.meets p (sym r.parts ∙ parts)).0 }
+
+abbrev pub Lists : Type 0
+Lists = List (List ℕ)
+
+abbrev pub ProposalFields : List ℕ × (Lists × (Lists × (Lists × (Lists × (Lists × (Lists × (Lists × (Lists × (Lists × (Lists × (Bool × (Unit {0} × Unit {0})))))))))))) → List ℕ → Type 0
+ProposalFields =
+    Both IsCookie (Both IsNameList (Both IsNameList (Both IsNameList (Both IsNameList (Both IsNameList (Both IsNameList
+    (Both IsNameList (Both IsNameList (Both IsNameList (Both IsNameList (Both IsBoolean (Both IsZero IsNothing))))))))))))
+
+abbrev pub proposal_of : List ℕ × (Lists × (Lists × (Lists × (Lists × (Lists × (Lists × (Lists × (Lists × (Lists × (Lists × (Bool × (Unit {0} × Unit {0})))))))))))) → Proposal
+proposal_of v = record {
+  cookie = v.0;
+  kex = v.1.0;
+  host = v.1.1.0;
+  enc_cs = v.1.1.1.0;
+  enc_sc = v.1.1.1.1.0;
+  mac_cs = v.1.1.1.1.1.0;
+  mac_sc = v.1.1.1.1.1.1.0;
+  comp_cs = v.1.1.1.1.1.1.1.0;
+  comp_sc = v.1.1.1.1.1.1.1.1.0;
+  lang_cs = v.1.1.1.1.1.1.1.1.1.0;
+  lang_sc = v.1.1.1.1.1.1.1.1.1.1.0;
+  follows = v.1.1.1.1.1.1.1.1.1.1.1.0;
+}
+
+abbrev pub values_of : Proposal → List ℕ × (Lists × (Lists × (Lists × (Lists × (Lists × (Lists × (Lists × (Lists × (Lists × (Lists × (Bool × (Unit {0} × Unit {0}))))))))))))
+values_of p = (p.cookie, (p.kex, (p.host, (p.enc_cs, (p.enc_sc, (p.mac_cs, (p.mac_sc, (p.comp_cs, (p.comp_sc, (p.lang_cs, (p.lang_sc, (p.follows, (tt, tt)))))))))))))
+
+pub one_proposal : OneWhole ProposalFields
+one_proposal =
+    one_both IsCookie _ one_cookie (one_both IsNameList _ one_name_list (one_both IsNameList _ one_name_list (one_both IsNameList _ one_name_list
+    (one_both IsNameList _ one_name_list (one_both IsNameList _ one_name_list (one_both IsNameList _ one_name_list (one_both IsNameList _ one_name_list
+    (one_both IsNameList _ one_name_list (one_both IsNameList _ one_name_list (one_both IsNameList _ one_name_list (one_both IsBoolean _ one_boolean
+    (one_both IsZero _ one_zero one_nothing))))))))))))

@@ -1,0 +1,5 @@
+pub mod Fields
+pub mod Methods
+pub mod Rows
+pub mod Payloads
+pub mod Writing

@@ -1,0 +1,83 @@
+ghost use Rattle.std.specs.Prelude.{◌≡◌, ◌∷◌, List, ℕ, IfOk, IfErr, IsOkAnd};
+ghost use Rattle.ssh_model.specs.Message.{Msg, IsPayload, IsWrittenPayload, Suits};
+ghost use Rattle.ssh_message.specs.Meaning.{meaning, NoMessage};
+ghost use Rattle.ssh_message.specs.Written.{Fits};
+
+use crate::message::{BadMessage, Message};
+use crate::read::{authentication, connection, exchange, transport};
+use ssh_types::Reader;
+
+/// The message that the payload is (RFC 4252 to 4254, RFC 5656 section 4). Its texts are slices of the payload, and
+/// no memory is taken.
+///
+/// `probing` says whether a key probe is outstanding: only then is the number 60 the answer to it, and else unknown.
+///
+/// # Errors
+///
+/// `BadMessage` exactly where the whole payload is no message: it is empty or ends within a field, a name-list in it
+/// holds what is no name, the reserved number of a KEXINIT isn't 0, or bytes are left over.
+pub fn decode(probing: bool, payload: &[u8]) -> Result<Message<'_>, BadMessage>
+    // The payload is the message that is answered.
+    ensures found { IfOk result (λ m. IsPayload probing (meaning m) payload.now) }
+    // It can be written.
+    ensures fits { IfOk result (λ m. Fits m) }
+    // Nothing is refused that is a message.
+    ensures refused { IfErr result (λ _. NoMessage probing payload.now) }
+    // Whatever message the payload is, that one is answered.
+    ensures only { (m : Msg) → IsPayload probing m payload.now → IsOkAnd result (λ x. meaning x ≡ m) }
+    // What was written for a message is read as that message, where the context fits.
+    ensures again { (m : Msg) → Suits probing m → IsWrittenPayload m payload.now → IsOkAnd result (λ x. meaning x ≡ m) }
+{
+    read(probing, payload)
+}
+
+#[tactic(auto, using(crate::proofs::Payloads::payloads))]
+fn read(probing: bool, payload: &[u8]) -> Result<Message<'_>, BadMessage>
+    ensures found { IfOk result (λ m. IsPayload probing (meaning m) payload.now) }
+    ensures fits { IfOk result (λ m. Fits m) }
+    ensures refused { IfErr result (λ _. NoMessage probing payload.now) }
+{
+    let mut fields = Reader::new(payload);
+    let number = fields.u8()?;
+    body(probing, number, &mut fields)
+}
+
+// The message with this number, from what follows the number.
+fn body<'a>(probing: bool, number: u8, fields: &mut Reader<'a>) -> Result<Message<'a>, BadMessage>
+    ensures found { IfOk result (λ m. IsPayload probing (meaning m) (number ∷ fields.old)) }
+    ensures fits { IfOk result (λ m. Fits m) }
+    ensures refused { IfErr result (λ _. NoMessage probing (number ∷ fields.old)) }
+{
+    match number {
+        1 => transport::disconnect(fields),
+        2 => transport::ignore(fields),
+        3 => transport::unimplemented(fields),
+        4 => transport::debug(fields),
+        5 => transport::service_request(fields),
+        6 => transport::service_accept(fields),
+        20 => exchange::kexinit(fields),
+        21 => transport::newkeys(fields),
+        30 => exchange::kex_ecdh_init(fields),
+        31 => exchange::kex_ecdh_reply(fields),
+        50 => authentication::request(fields),
+        51 => authentication::failure(fields),
+        52 => authentication::success(fields),
+        53 => authentication::banner(fields),
+        60 if probing => authentication::pk_ok(fields),
+        80 => connection::global_request(fields),
+        81 => Ok(connection::request_success(fields)),
+        82 => connection::request_failure(fields),
+        90 => connection::channel_open(fields),
+        91 => connection::channel_open_confirmation(fields),
+        92 => connection::channel_open_failure(fields),
+        93 => connection::channel_window_adjust(fields),
+        94 => connection::channel_data(fields),
+        95 => connection::channel_extended_data(fields),
+        96 => connection::channel_eof(fields),
+        97 => connection::channel_close(fields),
+        98 => connection::channel_request(fields),
+        99 => connection::channel_success(fields),
+        100 => connection::channel_failure(fields),
+        _ => Ok(Message::Unknown(number)),
+    }
+}
