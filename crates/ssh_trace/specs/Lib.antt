@@ -1,4 +1,3 @@
-pub mod Names
 pub mod Status
 pub mod History
 pub mod EpochEnd

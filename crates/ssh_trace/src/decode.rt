@@ -3,9 +3,9 @@ ghost use Rattle.ssh_trace.specs.declared.decode.DecodeFault.TheVariants.{OutOfM
 
 use crate::answer::{Answer, finish};
 use crate::history::Memory;
-use crate::message_line::{MessageError, message_line};
 use crate::shown::{Shown, packet_of};
 use crate::status::Status;
+use ssh_message::Line;
 use std::alloc::{AllocError, Global};
 use std::io::Write;
 use thiserror::Error;
@@ -65,14 +65,13 @@ fn decoded(alloc: Global, text: &str) -> Result<Answer, DecodeFault> {
 }
 
 fn message(alloc: Global, payload: &[u8]) -> Result<Answer, DecodeFault> {
-    match message_line(alloc, payload) {
-        Ok(text) => Ok(Answer {
-            text,
-            status: Status::Done,
-        }),
-        Err(MessageError::BadMessage) => refused(format!(in alloc; "refused 6 BadMessage\n")?),
-        Err(MessageError::Memory) => Err(DecodeFault::OutOfMemory),
-    }
+    let Ok(line) = Line::new(true, payload) else {
+        return refused(format!(in alloc; "refused 6 BadMessage\n")?);
+    };
+    Ok(Answer {
+        text: format!(in alloc; "{line}\n")?,
+        status: Status::Done,
+    })
 }
 
 fn refused(text: String) -> Result<Answer, DecodeFault> {

@@ -1,7 +1,7 @@
 //! The lines of a transcript, one for each thing that an end did.
 
 use crate::history::{Done, Item, Side};
-use crate::message_name::name;
+use ssh_message::name;
 use std::alloc::AllocError;
 
 /// Writes the lines of these items.

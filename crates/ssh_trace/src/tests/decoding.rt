@@ -3,7 +3,7 @@ use crate::{Status, decode_to};
 use std::test::Fail;
 
 // Packets in hexadecimal digits, what is printed of each, and the exit status.
-const PACKETS: [(&str, &str, u8); 20] = [
+const PACKETS: [(&str, &str, u8); 25] = [
     ("0000000c0a1500000000000000000000", "21 NEWKEYS\n", 0),
     (
         "0000001c0a050000000c7373682d757365726175746800000000000000000000",
@@ -51,6 +51,31 @@ const PACKETS: [(&str, &str, u8); 20] = [
         0,
     ),
     ("0000000c0a0700000000000000000000", "7 UNKNOWN\n", 0),
+    (
+        "00000014085e000000000000000268690000000000000000",
+        "94 CHANNEL_DATA recipient=0 data=6869\n",
+        0,
+    ),
+    (
+        "00000014075e000000000000000268690000000000000000",
+        "refused 6 BadMessage\n",
+        1,
+    ),
+    (
+        "000000140433000000097075626c69636b65790000000000",
+        "51 USERAUTH_FAILURE methods=publickey partial=false\n",
+        0,
+    ),
+    (
+        "00000014083c000000016100000001620000000000000000",
+        "60 USERAUTH_PK_OK algorithm=61 key=62\n",
+        0,
+    ),
+    (
+        "000000140b33000000022c61000000000000000000000000",
+        "refused 6 BadMessage\n",
+        1,
+    ),
     ("0000000c0a15", "incomplete\n", 1),
     ("", "incomplete\n", 1),
     ("000088b4", "incomplete\n", 1),

@@ -1,5 +1,5 @@
+use crate::Status;
 use crate::command_line::{Call, call_of, refuse};
-use crate::{Status, name};
 use std::test::Fail;
 
 #[test]
@@ -39,17 +39,5 @@ fn other_words(rt: HostRuntime) {
             Err(fault) => assert_eq!(rt; refuse(fault, &mut err), Status::Fault, "{words:?}"),
         }
         assert!(rt; !err.is_empty(), "{words:?}");
-    }
-}
-
-#[test]
-fn names_of_messages(rt: HostRuntime) {
-    for (number, text) in [
-        (1, "DISCONNECT"),
-        (60, "USERAUTH_PK_OK"),
-        (7, "UNKNOWN"),
-        (100, "CHANNEL_FAILURE"),
-    ] {
-        assert_eq!(rt; name(number), text, "{number}");
     }
 }
