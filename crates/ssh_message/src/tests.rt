@@ -37,7 +37,7 @@ fn recorded_payloads(rt: HostRuntime) -> Result<(), Fail> {
         assert_eq!(rt; line.as_str(), want);
         // What follows an unknown number isn't kept.
         if !want.ends_with("UNKNOWN") {
-            assert_eq!(rt; again, payload, "{want}");
+            assert_eq!(rt; again, payload);
         }
     }
     Ok(())
