@@ -32,6 +32,7 @@
 
 mod hmac;
 mod keys;
+mod laws;
 mod mac_only;
 mod reader;
 mod refusal;
@@ -39,6 +40,7 @@ mod sealing;
 mod writer;
 
 pub use hmac::HmacKey;
+pub use laws::every_sealed_is_a_wire;
 pub use mac_only::MacOnly;
 pub use reader::{PacketReader, ReadStep};
 pub use refusal::PacketRefusal;
