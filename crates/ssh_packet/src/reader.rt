@@ -63,12 +63,20 @@ impl PacketReader {
     pub fn new(alloc: Global) -> Result<PacketReader, AllocError>
         ensures { IfOk result (λ reader. reader ≡ empty) }
     {
-        Ok(PacketReader {
-            buffer: vec![in alloc; 0; LARGEST]?,
+        Ok(PacketReader::over(vec![in alloc; 0; LARGEST]?))
+    }
+
+    // A reader that nothing was given to, over its buffer.
+    fn over(buffer: Vec<u8>) -> PacketReader
+        requires { vec_len buffer ≡ 35000 }
+        ensures { result ≡ empty }
+    {
+        PacketReader {
+            buffer,
             filled: 0,
             shown: 0,
             refused: None,
-        })
+        }
     }
 
     /// The payload that the last `take` found, without its padding; no bytes where it found none, and before the first.

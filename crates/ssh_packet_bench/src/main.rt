@@ -1,0 +1,75 @@
+//! Times sealing and opening packets under `MacOnly` against the bare HMAC-SHA-256 of the same bytes.
+//!
+//! `run ROUNDS` times each in so many rounds and takes the fastest. Called otherwise, it says so and times nothing.
+#![tactic(auto)]
+
+ghost use Rattle.std.specs.Prelude.{◌≤◌};
+
+use case::Case;
+use std::rt::{Clock, Env};
+use std::{env, io};
+use times::{Ratio, Times};
+
+mod case;
+mod times;
+
+// How many bytes of payloads are timed at once.
+const BYTES: usize = 262_144;
+
+fn main(rt: HostRuntime) -> io::Result<()> {
+    let Some(rounds) = rounds_of(&rt)? else {
+        return println!(rt; "usage: ssh_packet_bench run ROUNDS");
+    };
+    println!(rt;
+        "Times of MacOnly as ratios to the HMAC-SHA-256 of the same bytes, the fastest of {rounds} rounds"
+    )?;
+    measure(&rt, 64, rounds)?;
+    measure(&rt, 1024, rounds)?;
+    measure(&rt, 32_768, rounds)
+}
+
+// The number behind the word `run`.
+fn rounds_of<R: Env + AllocGlobal>(rt: &R) -> io::Result<Option<u32>> {
+    let words: Vec<String> = env::args(rt)?.collect(rt.alloc())?;
+    match words.as_slice() {
+        [_, command, rounds] if command.as_str() == "run" => Ok(rounds.as_str().parse().ok()),
+        _ => Ok(None),
+    }
+}
+
+// Prints the ratios at payloads of this size.
+fn measure<R: Clock + Print + AllocGlobal>(rt: &R, size: usize, rounds: u32) -> io::Result<()>
+    requires from { 1 ≤ size }
+    requires to { size ≤ 34000 }
+{
+    let payload = vec![in rt.alloc(); 0x61; size]?;
+    let mut case = Case::new(rt.alloc(), &payload)?;
+    let count = BYTES / size + 1;
+    let mut fastest = Times::longest();
+    for _ in 0..rounds {
+        let times = Times {
+            seal: case.seal(rt, &payload, count)?,
+            open: case.open(rt, count)?,
+            kept: case.kept(rt, count)?,
+            anew: case.anew(rt, count)?,
+        };
+        fastest = fastest.faster(times);
+    }
+    let Times {
+        seal,
+        open,
+        kept,
+        anew,
+    } = fastest;
+    println!(rt; "payload of {size} bytes")?;
+    println!(rt;
+        "  to a key with kept states: sealing {}, opening {}",
+        Ratio(seal, kept),
+        Ratio(open, kept)
+    )?;
+    println!(rt;
+        "  to a key made each time:   sealing {}, opening {}",
+        Ratio(seal, anew),
+        Ratio(open, anew)
+    )
+}
