@@ -1,11 +1,11 @@
 -- Fields that follow one another, read from left to right.
-use Rattle.std.proofs.Common.{◌≡◌, ℕ, Bool, ◌<◌, ◌+◌, ◌≢◌, List, [], ◌∷◌, ◌++◌, length, take, drop, refl, sym, ap, subst, ◌∙◌, append_assoc, arith}
+use Rattle.std.proofs.Common.{◌≡◌, ℕ, Bool, ◌<◌, ◌+◌, ◌≢◌, List, [], ◌∷◌, ◌++◌, length, take, drop, refl, sym, ap, subst, ◌∙◌, arith}
 use Rattle.std.proofs.lemmas.List.{take-append-drop, length-append, length-take}
 use Rattle.ssh_model.specs.DataTypes.{IsByte, IsBoolean, IsUint32, IsString, IsNameList}
 use Rattle.ssh_model.specs.Reading.{Reads, NoFront, OneForm}
 use Rattle.ssh_model.specs.Message.{Then, IsEnd, IsRest, IsCookie, Proposal, Msg, IsRow, IsPayload, Suits}
 use Rattle.ssh_message.specs.Meaning.{IsZero}
-use Rattle.ssh_types.proofs.Fronts.{same_front, one_byte, one_boolean, one_uint32, one_string}
+use Rattle.ssh_types.proofs.Fronts.{same_front, one_boolean, one_uint32, one_string}
 use Rattle.ssh_types.proofs.Joined.{one_name_list}
 
 -- ---- fields and their values

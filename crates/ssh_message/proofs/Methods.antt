@@ -1,14 +1,14 @@
 -- The method of a request for authentication, from its name on.
-use Rattle.std.proofs.Common.{◌≡◌, ℕ, Bool, true, false, ◌<◌, List, [], ◌∷◌, ◌++◌, length, Option, Some, None, Result, Ok, Err, refl, sym, ap, subst, ◌∙◌, append_assoc, append-nil, arith}
-use Rattle.std.specs.Prelude.{codes, ◌≢◌, IfOk, IfErr}
+use Rattle.std.proofs.Common.{◌≡◌, ℕ, Bool, true, false, ◌<◌, List, length, Option, Some, None, Result, Ok, Err, refl, sym, ap, subst, ◌∙◌, arith}
+use Rattle.std.specs.Prelude.{codes, IfOk, IfErr}
 use Rattle.ssh_model.specs.DataTypes.{IsBoolean, IsString}
-use Rattle.ssh_model.specs.Reading.{Reads, NoFront, OneForm}
-use Rattle.ssh_model.specs.Message.{Method, NoMethod, Password, Publickey, Other, IsOther, IsOtherName, Then, IsEnd, IsRest, IsMethod}
+use Rattle.ssh_model.specs.Reading.{Reads, NoFront}
+use Rattle.ssh_model.specs.Message.{Method, NoMethod, Password, Publickey, Other, Then, IsMethod}
 use Rattle.ssh_types.proofs.Fronts.{one_boolean, one_string}
 use Rattle.ssh_message.specs.declared.message.Method as code
 use Rattle.ssh_message.specs.Meaning.{method_meaning}
 use Rattle.ssh_message.specs.Methods.{method_name, IsArguments, AreArguments, NoArguments, NoMethodAt}
-use Rattle.ssh_message.proofs.Fields.{Both, IsNothing, NoWhole, OneWhole, one_nothing, one_rest, one_both}
+use Rattle.ssh_message.proofs.Fields.{Both, IsNothing, NoWhole, OneWhole, one_nothing, one_both}
 
 named : (m : Method) (bytes : List ℕ) → IsMethod IsBoolean m bytes → Then (IsString (method_name m)) (IsArguments m) bytes
 named NoMethod bytes t = t

@@ -1,9 +1,9 @@
 -- A payload and its message: at most one, and the one that was written.
-use Rattle.std.proofs.Common.{◌≡◌, ℕ, Bool, true, false, ◌<◌, List, [], ◌∷◌, ◌++◌, length, Option, Some, None, Result, Ok, Err, refl, sym, ap, subst, ◌∙◌, arith}
+use Rattle.std.proofs.Common.{◌≡◌, ℕ, Bool, true, false, List, [], ◌∷◌, ◌++◌, Some, None, Result, Ok, Err, refl, sym, ap, subst, ◌∙◌}
 use Rattle.std.specs.Prelude.{IfOk, IfErr, IsOkAnd}
 use Rattle.ssh_model.specs.DataTypes.{IsByte, IsBoolean, IsWrittenBoolean}
 use Rattle.ssh_model.specs.Reading.{Reads, NoFront}
-use Rattle.ssh_model.specs.Message.{Method, Msg, Proposal, Then, IsRow, IsMethod, IsProposal, IsPayload, IsWrittenPayload, Suits, message_number, NoMethod, Password, Publickey, Other, Debug, KexInit, UserauthRequest, UserauthFailure, GlobalRequest, ChannelRequest, Unknown}
+use Rattle.ssh_model.specs.Message.{Method, Msg, Then, IsRow, IsMethod, IsPayload, IsWrittenPayload, Suits, message_number, Password, Publickey, Debug, KexInit, UserauthRequest, UserauthFailure, GlobalRequest, ChannelRequest, Unknown}
 use Rattle.ssh_message.specs.declared.message.Message as code
 use Rattle.ssh_message.specs.Meaning.{meaning, IsMeant, NoMessage}
 use Rattle.ssh_message.proofs.Rows.{row_at, one_row}

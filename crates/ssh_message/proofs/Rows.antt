@@ -1,10 +1,10 @@
 -- Which rows a number leaves: a payload with a number is a message of that number's row, and of no other.
-use Rattle.std.proofs.Common.{◌≡◌, ℕ, Bool, true, false, ◌<◌, List, [], ◌∷◌, ◌++◌, length, Result, Ok, Err, refl, sym, ap, subst, ◌∙◌, append_assoc, arith}
+use Rattle.std.proofs.Common.{◌≡◌, ℕ, Bool, true, false, List, ◌∷◌, ◌++◌, Result, Ok, Err, refl, sym, ap, subst, ◌∙◌}
 use Rattle.std.specs.Prelude.{◌==◌, IsTrue, IfErr}
 use Rattle.ssh_model.specs.DataTypes.{IsByte, IsBoolean, IsUint32, IsString, IsNameList}
-use Rattle.ssh_model.specs.Message.{Method, Proposal, Msg, Then, IsEnd, IsRest, IsMethod, IsProposal, IsRow, IsPayload, is_unknown, Disconnect, Ignore, Unimplemented, Debug, ServiceRequest, ServiceAccept, KexInit, NewKeys, KexEcdhInit, KexEcdhReply, UserauthRequest, UserauthFailure, UserauthSuccess, UserauthBanner, UserauthPkOk, GlobalRequest, RequestSuccess, RequestFailure, ChannelOpen, ChannelOpenConfirmation, ChannelOpenFailure, ChannelWindowAdjust, ChannelData, ChannelExtendedData, ChannelEof, ChannelClose, ChannelRequest, ChannelSuccess, ChannelFailure, Unknown}
+use Rattle.ssh_model.specs.Message.{Msg, Then, IsRest, IsMethod, IsProposal, IsPayload, is_unknown, Disconnect, Ignore, Unimplemented, Debug, ServiceRequest, ServiceAccept, KexInit, NewKeys, KexEcdhInit, KexEcdhReply, UserauthRequest, UserauthFailure, UserauthSuccess, UserauthBanner, UserauthPkOk, GlobalRequest, RequestSuccess, RequestFailure, ChannelOpen, ChannelOpenConfirmation, ChannelOpenFailure, ChannelWindowAdjust, ChannelData, ChannelExtendedData, ChannelEof, ChannelClose, ChannelRequest, ChannelSuccess, ChannelFailure, Unknown}
 use Rattle.ssh_message.specs.Meaning.{NoMessage, IsNone}
-use Rattle.ssh_types.proofs.Fronts.{one_byte, one_boolean, one_uint32, one_string}
+use Rattle.ssh_types.proofs.Fronts.{one_boolean, one_uint32, one_string}
 use Rattle.ssh_types.proofs.Joined.{one_name_list}
 use Rattle.ssh_message.proofs.Fields.{Both, IsNothing, ProposalFields, proposal_of, values_of, NoWhole, OneWhole, one_nothing, one_rest, one_both, one_proposal}
 use Rattle.ssh_message.proofs.Methods.{one_method}

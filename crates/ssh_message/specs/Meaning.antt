@@ -1,5 +1,5 @@
 -- What the messages of this crate mean, and what is said of a payload.
-use Rattle.std.specs.Prelude.{◌≡◌, ℕ, Bool, Option, Some, None, List}
+use Rattle.std.specs.Prelude.{ℕ, Bool, Some, None, List}
 use Rattle.ssh_model.specs.DataTypes.{IsUint32}
 use Rattle.ssh_model.specs.Message as model
 use Rattle.ssh_model.specs.Message.{Msg, IsPayload}

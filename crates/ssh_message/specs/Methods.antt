@@ -1,5 +1,5 @@
 -- A method of authentication as its name and what follows the name.
-use Rattle.std.specs.Prelude.{◌≡◌, ℕ, Bool, true, false, Option, Some, None, List, codes}
+use Rattle.std.specs.Prelude.{◌≡◌, ℕ, true, false, Some, None, List, codes}
 use Rattle.ssh_model.specs.DataTypes.{IsBoolean, IsString}
 use Rattle.ssh_model.specs.Message.{Method, NoMethod, Password, Publickey, Other, IsOther, Then, IsEnd, IsRest, IsMethod}
 

@@ -4,7 +4,7 @@ ghost use Rattle.std.specs.Prelude.{◌<◌, ◌^◌, length, OnOk, OnErr};
 ghost use Rattle.ssh_model.specs.DataTypes.{IsWrittenBoolean};
 ghost use Rattle.ssh_model.specs.Reading.{Writes};
 ghost use Rattle.ssh_model.specs.Message.{IsRow, IsCookie, KexInit, KexEcdhInit, KexEcdhReply};
-ghost use Rattle.ssh_message.specs.Written.{Grown, ProposalFits};
+ghost use Rattle.ssh_message.specs.Written.{AreLaterFields, Grown, ProposalFits};
 ghost use Rattle.ssh_message.specs.Meaning.{proposal_meaning};
 
 use crate::message::Proposal;
@@ -24,6 +24,17 @@ pub(crate) fn kexinit(out: &mut Vec<u8>, proposal: &Proposal<'_>) -> Result<(), 
     out.put_names(&proposal.enc_cs)?;
     out.put_names(&proposal.enc_sc)?;
     out.put_names(&proposal.mac_cs)?;
+    put_later_fields(out, proposal)?;
+    Ok(())
+}
+
+// The fields from the MAC algorithms of the server on.
+#[tactic(auto, using(crate::proofs::Writing::writing))]
+fn put_later_fields(out: &mut Vec<u8>, proposal: &Proposal<'_>) -> Result<(), AllocError>
+    requires { ProposalFits proposal.now }
+    ensures written { OnOk result (Writes (AreLaterFields (proposal_meaning proposal.now)) out.old.items out.new.items) }
+    ensures grown { OnErr result (Grown out.old.items out.new.items) }
+{
     out.put_names(&proposal.mac_sc)?;
     out.put_names(&proposal.comp_cs)?;
     out.put_names(&proposal.comp_sc)?;
