@@ -5,3 +5,4 @@ pub mod Seal
 pub mod MacOnly
 pub mod History
 pub mod EpochRun
+pub mod Exchange
