@@ -23,7 +23,7 @@ pub record Inputs : Type 0 where
 -- ---- the spellings of RFC 4251 section 5, as functions
 
 -- a string: its length as a uint32, and its bytes
-abbrev pub string_of : List ℕ → List ℕ
+unfoldable pub string_of : List ℕ → List ℕ
 string_of text = to_be_bytes w32 (length text) ++ text
 
 -- The bytes of a number, the most significant first and none of them a zero in front; 0 has none. A number has
@@ -38,7 +38,7 @@ positive [] = []
 positive (b ∷ bs) = if nat_le 128 b then 0 ∷ b ∷ bs else b ∷ bs
 
 -- what follows the length of a number's mpint: its shortest bytes in two's complement
-abbrev pub mpint_body : ℕ → List ℕ
+unfoldable pub mpint_body : ℕ → List ℕ
 mpint_body n = positive (digits n n)
 
 abbrev pub mpint_of : ℕ → List ℕ
