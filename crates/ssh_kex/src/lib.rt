@@ -9,5 +9,5 @@ mod pieces;
 
 pub use exchange::{exchange_hash, exchange_text};
 pub use inputs::ExchangeInputs;
-pub use keys::{Letter};
+pub use keys::{Letter, derive};
 pub use laws::{equal_texts_have_equal_inputs, few_bytes, spelled};
