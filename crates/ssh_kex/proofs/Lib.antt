@@ -2,3 +2,4 @@ pub mod Numbers
 pub mod Strings
 pub mod Texts
 pub mod Blocks
+pub mod Commons

@@ -6,3 +6,4 @@ pub mod MacOnly
 pub mod History
 pub mod EpochRun
 pub mod Exchange
+pub mod Choice
