@@ -93,7 +93,7 @@ filled_up front begin out block new_out chain filled size f low high all long pu
     let count : size ≡ length (blocks front begin f.count) + (size - filled) = omega (arith, len, f.place) in
     let whole = ap (λ (l : List ℕ). l ++ take (size - filled) block) f.done ∙ sym (take-append-add (blocks front begin f.count) block (size - filled)) in
     let now : new_out ≡ take size (blocks front begin (suc f.count)) =
-      ends ∙ whole ∙ ap (λ (n : ℕ). take n (blocks front begin f.count ++ block)) (sym count) ∙ ap (λ (l : List ℕ). take size l) (sym f.next) in
+    ends ∙ whole ∙ ap (λ (n : ℕ). take n (blocks front begin f.count ++ block)) (sym count) ∙ ap (λ (l : List ℕ). take size l) (sym f.next) in
     elim (cases_lt 0 size) [
       | inl some ↦ now ∙ sym (begins front begin (suc f.count) size size (omega (arith, f.place)) (omega (arith, f.place)))
       | inr none ↦

@@ -13,7 +13,7 @@ number_behind (c ∷ bs) b =
     let rest = number_behind bs b in
     let len : length (bs ++ b ∷ []) ≡ suc (length bs) = omega (arith, length-append bs (b ∷ [])) in
     let place : c * 256 ^ length (bs ++ b ∷ []) ≡ 256 * (c * 256 ^ length bs) =
-      ap (λ (n : ℕ). c * 256 ^ n) len ∙ ap (λ (p : ℕ). c * p) (one_more (length bs)) ∙ omega arith in
+    ap (λ (n : ℕ). c * 256 ^ n) len ∙ ap (λ (p : ℕ). c * p) (one_more (length bs)) ∙ omega arith in
     omega (arith, rest, place)
 
 bytes_behind : (bs : List ℕ) (b : ℕ) → AreBytes bs → b < 256 → AreBytes (bs ++ b ∷ [])
@@ -105,7 +105,7 @@ unfolding mpint_body
 body_shortest n =
     let value = digits_number n n (omega arith) in
     let none : number (digits n n) ≡ 0 → digits n n ≡ [] =
-      λ e. let z : n ≡ 0 = sym value ∙ e in ap (λ (k : ℕ). digits k k) z ∙ digits_none 0 in
+    λ e. let z : n ≡ 0 = sym value ∙ e in ap (λ (k : ℕ). digits k k) z ∙ digits_none 0 in
     subst (λ (k : ℕ). IsShortest (pos k) (mpint_body n)) value
     (positive_shortest (digits n n) (digits_bytes n n) (λ some. digits_front n n (omega arith) (omega (arith, value))) none)
 

@@ -19,8 +19,14 @@ one_body_number m n f g e =
 -- the inputs of so many parts
 abbrev of_parts : List ℕ → List ℕ → List ℕ → List ℕ → List ℕ → List ℕ → List ℕ → ℕ → Inputs
 of_parts a b c d k p q n = record {
-  client_version = a; server_version = b; client_init = c; server_init = d;
-  host_key = k; client_point = p; server_point = q; shared = n;
+  client_version = a;
+  server_version = b;
+  client_init = c;
+  server_init = d;
+  host_key = k;
+  client_point = p;
+  server_point = q;
+  shared = n;
 }
 
 same_parts : (a b c d k p q : List ℕ) (n : ℕ) (a' b' c' d' k' p' q' : List ℕ) (n' : ℕ) → a ≡ a' → b ≡ b' → c ≡ c' → d ≡ d' → k ≡ k' → p ≡ p' → q ≡ q' → n ≡ n' → of_parts a b c d k p q n ≡ of_parts a' b' c' d' k' p' q' n'

@@ -36,10 +36,7 @@ pub struct Choice<'a> {
 /// # Errors
 ///
 /// `NoCommon` names the first kind, in the order of the lists, of which no name is in both lists.
-pub fn choose<'a>(
-    client: &KexLists<'a>,
-    server: &KexLists<'_>,
-) -> Result<Choice<'a>, NoCommon>
+pub fn choose<'a>(client: &KexLists<'a>, server: &KexLists<'_>) -> Result<Choice<'a>, NoCommon>
     ensures chosen { IfOk result (λ choice. IsChoice (lists_of client.now) (lists_of server.now) (chosen_of choice)) }
     ensures refused { IfErr result (λ refusal. IsFirstWithout (lists_of client.now) (lists_of server.now) (kind_of refusal.kind)) }
 {

@@ -49,13 +49,7 @@ impl Letter {
 /// `shared` is the shared number K, unsigned, the most significant byte first; as an mpint it is shorter than 2^32
 /// bytes. `hash` is the hash of this exchange, and `session_id` the hash of the first one.
 #[tactic(auto, using(crate::proofs::Blocks::begun, crate::proofs::Blocks::goes_on, crate::proofs::Blocks::filled_up))]
-pub fn derive(
-    shared: &[u8],
-    hash: &[u8; 32],
-    letter: Letter,
-    session_id: &[u8; 32],
-    out: &mut [u8],
-)
+pub fn derive(shared: &[u8], hash: &[u8; 32], letter: Letter, session_id: &[u8; 32], out: &mut [u8])
     requires { length (mpint_body (number shared.now)) < 2 ^ 32 }
     ensures { out.new ≡ derived (number shared.now) hash.now (letter_of letter) session_id.now (length out.old) }
 {
