@@ -1,8 +1,10 @@
 pub mod Reading
 pub mod DataTypes
+pub mod Message
 pub mod Packet
 pub mod Seal
 pub mod MacOnly
 pub mod History
 pub mod EpochRun
-pub mod Message
+pub mod Choice
+pub mod Exchange

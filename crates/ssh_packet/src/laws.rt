@@ -7,5 +7,4 @@ use crate::sealing::Sealing;
 /// sealing: what `write_packet` puts out is what `PacketReader::take` finds.
 pub fn every_sealed_is_a_wire<S: Sealing>()
     ensures { (key : Option S.Key) (number : ℕ) (payload bytes : List ℕ) → number < 2 ^ 32 → IsSealed S.crypto key number payload bytes → IsWire S.crypto key number payload bytes }
-{
-}
+{}

@@ -1,0 +1,52 @@
+-- The spellings of an exchange text are those of the data types.
+use Rattle.std.proofs.Common.{◌≡◌, ℕ, suc, ◌+◌, ◌*◌, ◌/◌, ◌%◌, ◌^◌, ◌<◌, ◌≤◌, Bool, true, false, List, [], ◌∷◌, ◌++◌, length, IsTrue, append_assoc, refl, sym, ap, subst, ◌∙◌, arith}
+use Rattle.std.specs.Prelude.{pos, ℤ}
+use Rattle.std.specs.Int.{w32, to_be_bytes}
+use Rattle.ssh_model.specs.DataTypes.{AreBytes, number, integer, IsUint32, IsString, IsShortest, IsMpint}
+use Rattle.ssh_model.specs.Reading.{Writes}
+use Rattle.ssh_model.specs.Exchange.{string_of, mpint_body, mpint_of}
+use Rattle.ssh_types.proofs.Spellings.{string_spelling, mpint_spelling}
+use Rattle.ssh_types.proofs.Integers.{one_shortest, kept_shortest}
+use Rattle.ssh_types.specs.Digits.{marked_bytes, is_canonical}
+use Rattle.ssh_kex.proofs.Numbers.{body_shortest}
+
+is_uint32 : (n : ℕ) → n < 2 ^ 32 → IsUint32 n (to_be_bytes w32 n)
+is_uint32 n small = record { are_bytes = (omega arith, (omega arith, (omega arith, (omega arith, tt)))); count = refl; value = omega arith }
+
+pub is_string : (text : List ℕ) → length text < 2 ^ 32 → IsString text (string_of text)
+unfolding string_of
+is_string text small = record { front = to_be_bytes w32 (length text); size = is_uint32 (length text) small; parts = refl }
+
+pub is_mpint : (n : ℕ) → length (mpint_body n) < 2 ^ 32 → IsMpint (pos n) (mpint_of n)
+is_mpint n small = record { body = mpint_body n; shortest = body_shortest n; string = is_string (mpint_body n) small }
+
+-- what was written is the string
+pub written_string : (text before after : List ℕ) → length text < 2 ^ 32 → Writes (IsString text) before after → after ≡ before ++ string_of text
+written_string text before after small w =
+    w.parts ∙ ap (λ (l : List ℕ). before ++ l) (string_spelling text w.bytes (string_of text) w.meets (is_string text small))
+
+pub written_mpint : (n : ℕ) (z : ℤ) (before after : List ℕ) → length (mpint_body n) < 2 ^ 32 → z ≡ pos n → Writes (IsMpint z) before after → after ≡ before ++ mpint_of n
+written_mpint n z before after small same w =
+    w.parts ∙ ap (λ (l : List ℕ). before ++ l) (mpint_spelling (pos n) w.bytes (mpint_of n) (subst (λ y. IsMpint y w.bytes) same w.meets) (is_mpint n small))
+
+-- the shortest bytes of a number are the body of its mpint
+pub one_body : (n : ℕ) (bytes : List ℕ) → IsShortest (pos n) bytes → bytes ≡ mpint_body n
+one_body n bytes s = one_shortest (pos n) (pos n) bytes (mpint_body n) s (body_shortest n) refl
+
+bytes_behind_mark : (m : Bool) (ds : List ℕ) → AreBytes (marked_bytes m ds) → AreBytes ds
+bytes_behind_mark true ds h = h.1
+bytes_behind_mark false ds h = h
+
+bytes_with_mark : (m : Bool) (ds : List ℕ) → AreBytes ds → AreBytes (marked_bytes m ds)
+bytes_with_mark true ds h = (omega arith, h)
+bytes_with_mark false ds h = h
+
+-- what a number keeps is the body of its mpint; its bytes are known by other parts of it
+pub kept_body : (n : ℕ) (m k : Bool) (ds es : List ℕ) → IsTrue (is_canonical m ds) → integer (marked_bytes m ds) ≡ pos n → AreBytes es → marked_bytes k es ≡ marked_bytes m ds → marked_bytes m ds ≡ mpint_body n
+kept_body n m k ds es kept value are same =
+    let bytes = bytes_behind_mark m ds (subst (λ (l : List ℕ). AreBytes l) same (bytes_with_mark k es are)) in
+    one_body n (marked_bytes m ds) (subst (λ z. IsShortest z (marked_bytes m ds)) value (kept_shortest m ds kept bytes))
+
+-- pieces put behind one another
+pub eight_pieces : (a b c d e f g h : List ℕ) → ((((((([] ++ a) ++ b) ++ c) ++ d) ++ e) ++ f) ++ g) ++ h ≡ a ++ b ++ c ++ d ++ e ++ f ++ g ++ h
+eight_pieces a b c d e f g h = simp append_assoc refl

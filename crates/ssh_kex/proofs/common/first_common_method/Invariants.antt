@@ -1,0 +1,7 @@
+use Rattle.ssh_model.specs.Choice.{methods}
+use Rattle.ssh_types.specs.Values.{names, names_left}
+use Rattle.ssh_kex.proofs.Commons.{Skipped}
+use Rattle.ssh_kex.proofs.common.first_common_method.Given as goal
+
+abbrev pub invariant-loop-name : goal.invariant-loop-name
+invariant-loop-name l = Skipped (methods (names l.client)) (methods (names_left l.name-iterator)) (methods (names l.server))

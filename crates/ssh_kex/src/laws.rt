@@ -1,0 +1,23 @@
+ghost use Rattle.std.specs.Prelude.{◌≡◌, ◌≤◌, ◌<◌, ◌+◌, ◌^◌, pos, List, ℕ, length};
+ghost use Rattle.ssh_model.specs.DataTypes.{AreBytes, IsMpint, IsString, number};
+ghost use Rattle.ssh_model.specs.Exchange.{Fits, Inputs, exchange_text, mpint_body, mpint_of, string_of};
+
+/// Two exchanges of one text have one list of inputs: the same lines, KEXINIT payloads, host key, points and shared
+/// number. So two ends that hashed the same text agree on all of them.
+#[tactic(auto, using(crate::proofs::Texts::equal_inputs))]
+pub fn equal_texts_have_equal_inputs()
+    ensures { (x y : Inputs) → Fits x → Fits y → exchange_text x ≡ exchange_text y → x ≡ y }
+{}
+
+/// The strings and the number of an exchange text are spelled as RFC 4251 section 5 says.
+#[tactic(auto, using(crate::proofs::Strings::is_string, crate::proofs::Strings::is_mpint))]
+pub fn spelled()
+    ensures string { (text : List ℕ) → length text < 2 ^ 32 → IsString text (string_of text) }
+    ensures mpint { (n : ℕ) → length (mpint_body n) < 2 ^ 32 → IsMpint (pos n) (mpint_of n) }
+{}
+
+/// A shared number, as an mpint, has at most one byte more than it was given in.
+#[tactic(auto, using(crate::proofs::Numbers::body_length))]
+pub fn few_bytes()
+    ensures { (bytes : List ℕ) → AreBytes bytes → length (mpint_body (number bytes)) ≤ length bytes + 1 }
+{}

@@ -1,0 +1,53 @@
+//! The key exchange of SSH (RFC 4253 sections 7 and 8, RFC 5656 section 4, RFC 8731): the choice of algorithms, the text
+//! that both ends hash, and the keys.
+//!
+//! `choose` takes of each kind the first name of the client's that is in the server's. `exchange_hash` hashes the text of
+//! an exchange and `derive` makes its keys, piece by piece and without memory; `exchange_text` is the text itself. Each
+//! is what `ssh_model` defines, in the standard's words. Ends that hashed equal texts agree on all that stands in them
+//! (`equal_texts_have_equal_inputs`).
+//!
+//! `Agreement`, `HostSigner` and `HostTrust` are the parts that are handed in.
+//!
+//! The keys of a connection, from the lists on:
+//!
+//! ```rust
+//! let choice = choose(&client_lists, &server_lists)?;
+//! let inputs = ExchangeInputs {
+//!     client_version: b"SSH-2.0-c",
+//!     server_version: b"SSH-2.0-s",
+//!     client_init,
+//!     server_init,
+//!     host_key: signer.key(choice.host.as_bytes()),
+//!     client_point,
+//!     server_point: &agreement.public(&secret),
+//!     shared: &shared,
+//! };
+//! let hash = exchange_hash(&inputs);
+//! let session_id = hash;               // of the first exchange; a later one keeps it
+//! let mut mac_key = [0; 32];
+//! derive(&shared, &hash, Letter::E, &session_id, &mut mac_key);
+//! ```
+#![tactic(auto)]
+
+mod choice;
+mod common;
+mod exchange;
+mod inputs;
+mod keys;
+mod kind;
+mod laws;
+mod lists;
+mod parts;
+mod pieces;
+
+pub use choice::{Choice, choose, guess_wrong};
+pub use exchange::{exchange_hash, exchange_text};
+pub use inputs::ExchangeInputs;
+pub use keys::{Letter, derive};
+pub use kind::{Kind, NoCommon};
+pub use laws::{equal_texts_have_equal_inputs, few_bytes, spelled};
+pub use lists::{KexLists, markers};
+pub use parts::{Agreement, HostSigner, HostTrust};
+
+#[cfg(test)]
+mod tests;

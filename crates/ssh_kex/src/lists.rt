@@ -1,0 +1,49 @@
+ghost use Rattle.std.specs.Prelude.{◌↔◌, IsTrue};
+ghost use Rattle.std.specs.List.{Contains};
+ghost use Rattle.ssh_model.specs.Choice.{client_marker, server_marker};
+ghost use Rattle.ssh_types.specs.Values.{names};
+
+use ssh_types::NameList;
+
+/// The marker of strict key exchange in the kex list of a client.
+pub(crate) const CLIENT_MARKER: &[u8] = b"kex-strict-c-v00@openssh.com";
+
+/// The marker of strict key exchange in the kex list of a server.
+pub(crate) const SERVER_MARKER: &[u8] = b"kex-strict-s-v00@openssh.com";
+
+/// The ten lists of a KEXINIT, in its order (RFC 4253 section 7.1). Each has the names that its end can do, the one it
+/// likes best first.
+#[derive(Clone, Copy, Debug)]
+pub struct KexLists<'a> {
+    /// The key exchange methods, and with them the markers.
+    pub kex: NameList<'a>,
+    /// The algorithms of host keys.
+    pub host: NameList<'a>,
+    /// The encryptions from the client to the server.
+    pub enc_cs: NameList<'a>,
+    /// The encryptions from the server to the client.
+    pub enc_sc: NameList<'a>,
+    /// The MACs from the client to the server.
+    pub mac_cs: NameList<'a>,
+    /// The MACs from the server to the client.
+    pub mac_sc: NameList<'a>,
+    /// The compressions from the client to the server.
+    pub comp_cs: NameList<'a>,
+    /// The compressions from the server to the client.
+    pub comp_sc: NameList<'a>,
+    /// The languages from the client to the server, which choose nothing.
+    pub lang_cs: NameList<'a>,
+    /// The languages from the server to the client, which choose nothing.
+    pub lang_sc: NameList<'a>,
+}
+
+/// Tests whether the kex list has the client's marker of strict key exchange, and whether it has the server's.
+pub fn markers(lists: &KexLists<'_>) -> (bool, bool)
+    ensures client { IsTrue result.0 ↔ Contains (names lists.now.kex) client_marker }
+    ensures server { IsTrue result.1 ↔ Contains (names lists.now.kex) server_marker }
+{
+    (
+        lists.kex.contains(CLIENT_MARKER),
+        lists.kex.contains(SERVER_MARKER),
+    )
+}

@@ -1,0 +1,48 @@
+//! The parts of a key exchange that are handed in.
+
+ghost use Rattle.std.specs.Prelude.{◌≡◌, ◌≤◌, ℕ, Bool, List, length, take, replicate, Option, IfSome};
+ghost use Rattle.std.specs.Option.{option_map};
+
+/// A key agreement over secrets and public points of 32 bytes, as X25519 (RFC 8731 section 3). The answers are
+/// functions of the part and the arguments.
+pub trait Agreement {
+    ghost public_of: { Self → List ℕ → List ℕ };
+
+    ghost shared_of: { Self → List ℕ → List ℕ → Option (List ℕ) };
+
+    /// The public point of a secret.
+    fn public(&self, secret: &[u8; 32]) -> [u8; 32]
+        ensures { result ≡ public_of self.now secret.now };
+
+    /// What a secret and the other end's point share, or `None` where that is 32 zero bytes: what is shared is never
+    /// all zero.
+    fn shared(&self, secret: &[u8; 32], theirs: &[u8; 32]) -> Option<[u8; 32]>
+        ensures value { result ≡ shared_of self.now secret.now theirs.now }
+        ensures not_zero { IfSome result (λ bytes. bytes ≡ replicate 32 0 → ⊥) };
+}
+
+/// The host keys of a server (RFC 4253 section 6.6). The answers are functions of the part and the arguments.
+pub trait HostSigner {
+    ghost key_of: { Self → List ℕ → List ℕ };
+
+    ghost signature_of: { Self → List ℕ → List ℕ → List ℕ };
+
+    /// The public key of an algorithm as K_S has it, at most 4,096 bytes.
+    fn key(&self, algorithm: &[u8]) -> &[u8]
+        ensures value { result.now ≡ key_of self.now algorithm.now }
+        ensures bound { length result.now ≤ 4096 };
+
+    /// Signs the exchange hash. The signature is the first bytes of `out`, as many as are answered.
+    fn sign(&self, algorithm: &[u8], hash: &[u8; 32], out: &mut [u8; 4096]) -> usize
+        ensures value { take result out.new ≡ signature_of self.now algorithm.now hash.now }
+        ensures bound { result ≤ 4096 };
+}
+
+/// What a client trusts. The answer is a function of the part and the arguments.
+pub trait HostTrust {
+    ghost judged: { Self → List ℕ → List ℕ → List ℕ → List ℕ → Bool };
+
+    /// Tests whether the key is the host's and the signature is that key's of the exchange hash.
+    fn judge(&self, algorithm: &[u8], key: &[u8], hash: &[u8; 32], signature: &[u8]) -> bool
+        ensures { result ≡ judged self.now algorithm.now key.now hash.now signature.now };
+}
