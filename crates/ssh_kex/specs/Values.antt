@@ -7,6 +7,7 @@ use Rattle.ssh_types.specs.Values.{name_text, names}
 use Rattle.ssh_kex.specs.declared.choice.Choice.{Choice}
 use Rattle.ssh_kex.specs.declared.kind.Kind.{Kind}
 use Rattle.ssh_kex.specs.declared.kind.Kind.TheVariants.{Kex, HostKey, EncCs, EncSc, MacCs, MacSc, CompCs, CompSc}
+use Rattle.ssh_message.specs.declared.message.Proposal.{Proposal}
 use Rattle.ssh_kex.specs.declared.lists.KexLists.{KexLists}
 use Rattle.ssh_kex.specs.declared.inputs.ExchangeInputs.{ExchangeInputs}
 use Rattle.ssh_kex.specs.declared.keys.Letter.{Letter}
@@ -66,4 +67,19 @@ chosen_of choice = record {
   mac_sc = name_text choice.mac_sc;
   comp_cs = name_text choice.comp_cs;
   comp_sc = name_text choice.comp_sc;
+}
+
+-- the lists of the KEXINIT message that one end sent
+abbrev pub proposed : Proposal → KexLists
+proposed p = record {
+  kex = p.kex;
+  host = p.host;
+  enc_cs = p.enc_cs;
+  enc_sc = p.enc_sc;
+  mac_cs = p.mac_cs;
+  mac_sc = p.mac_sc;
+  comp_cs = p.comp_cs;
+  comp_sc = p.comp_sc;
+  lang_cs = p.lang_cs;
+  lang_sc = p.lang_sc;
 }

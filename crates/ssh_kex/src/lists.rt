@@ -3,6 +3,7 @@ ghost use Rattle.std.specs.List.{Contains};
 ghost use Rattle.ssh_model.specs.Choice.{client_marker, server_marker};
 ghost use Rattle.ssh_types.specs.Values.{names};
 
+use ssh_message::Proposal;
 use ssh_types::NameList;
 
 /// The marker of strict key exchange in the kex list of a client.
@@ -35,6 +36,29 @@ pub struct KexLists<'a> {
     pub lang_cs: NameList<'a>,
     /// The languages from the server to the client, which choose nothing.
     pub lang_sc: NameList<'a>,
+}
+
+impl<'a> From<Proposal<'a>> for KexLists<'a> {
+    ghost use Rattle.std.specs.Prelude.{◌≡◌};
+    ghost use Rattle.ssh_kex.specs.Values.{proposed};
+
+    ghost from_gives = { λ proposal lists. lists ≡ proposed proposal };
+
+    /// The lists of a KEXINIT message, slices of its payload.
+    fn from(proposal: Proposal<'a>) -> KexLists<'a> {
+        KexLists {
+            kex: proposal.kex,
+            host: proposal.host,
+            enc_cs: proposal.enc_cs,
+            enc_sc: proposal.enc_sc,
+            mac_cs: proposal.mac_cs,
+            mac_sc: proposal.mac_sc,
+            comp_cs: proposal.comp_cs,
+            comp_sc: proposal.comp_sc,
+            lang_cs: proposal.lang_cs,
+            lang_sc: proposal.lang_sc,
+        }
+    }
 }
 
 /// Tests whether the kex list has the client's marker of strict key exchange, and whether it has the server's.

@@ -1,5 +1,6 @@
 use super::*;
-use ssh_types::{NameList, Reader, Refusal};
+use ssh_message::{BadMessage, Message, decode};
+use ssh_types::NameList;
 use std::process::Abort;
 use std::test::*;
 
@@ -7,21 +8,12 @@ mod recorded;
 
 use recorded::{Recorded, exchanges};
 
-// The lists of a KEXINIT, which stand after its number and its cookie.
-fn lists_of(payload: &[u8]) -> Result<KexLists<'_>, Refusal> {
-    let mut reader = Reader::new(payload.get(17..).unwrap_or(&[]));
-    Ok(KexLists {
-        kex: reader.names()?,
-        host: reader.names()?,
-        enc_cs: reader.names()?,
-        enc_sc: reader.names()?,
-        mac_cs: reader.names()?,
-        mac_sc: reader.names()?,
-        comp_cs: reader.names()?,
-        comp_sc: reader.names()?,
-        lang_cs: reader.names()?,
-        lang_sc: reader.names()?,
-    })
+// The lists of a recorded KEXINIT.
+fn lists_of(payload: &[u8]) -> Result<KexLists<'_>, BadMessage> {
+    match decode(false, payload)? {
+        Message::KexInit(proposal) => Ok(KexLists::from(proposal)),
+        _ => Err(BadMessage),
+    }
 }
 
 fn check_keys(rt: &impl Abort, at: usize, exchange: &Recorded) {
