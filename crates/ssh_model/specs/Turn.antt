@@ -1,0 +1,154 @@
+-- The turns of an end, and the runs of two: what is taken, sent, told and refused, by the tables of the transport and
+-- of the connection.
+use Rattle.std.specs.Prelude.{◌≡◌, ℕ, suc, ◌<◌, ◌≤◌, ◌^◌, ◌-◌, Bool, true, false, not, ◌==◌, ◌&&◌, ◌||◌, nat_lt, nat_le, Option, Some, None, List, [], ◌∷◌, ◌++◌, length}
+use Rattle.ssh_model.specs.DataTypes.{AreBytes}
+use Rattle.ssh_model.specs.History.{Side, Side.Client, Side.Server, peer}
+use Rattle.ssh_model.specs.Message.{Msg, Msg.KexInit, Msg.Disconnect, Suits, IsRow, IsPayload, IsWrittenPayload}
+use Rattle.ssh_model.specs.DataTypes.{IsWrittenBoolean}
+use Rattle.ssh_model.specs.Refusal.{Check, first_refusal, refusal_name, refusal_reason}
+use Rattle.ssh_model.specs.Party.{Parties, settings_of, offer}
+use Rattle.ssh_model.specs.Session.{Ask, Fact, Fact.Ignored, Item, Item.Fed, Item.Asked, Item.AskRefused, Item.SentLine, Item.TookLine, Item.TookOtherLine, Item.Sent, Item.Took, Item.TookGuess, Item.Told, Item.Refused, Item.Died, Done, done_by, part, has_died, sent, took, messages_sent}
+use Rattle.ssh_model.specs.Epoch.{count, wire_number}
+use Rattle.ssh_model.specs.Exchanges.{fed, offers, taking_key}
+use Rattle.ssh_model.specs.Phase.{Phase, Phase.Guessed, phase, has_line, other_lines, has_material, probing, is_client, may_take}
+use Rattle.ssh_model.specs.Transport.{TransportAnswer, TransportAsk, transport_checks, transport_ask_checks}
+use Rattle.ssh_model.specs.Connection.{ConnectionAnswer, ConnectionAsk, connection_checks, connection_ask_checks, owed_replies, AreReplies}
+use Rattle.ssh_model.specs.Outcome.{Outcome, Outcome.OtherLine, Outcome.VersionLine, Outcome.RefusedLine, Outcome.Opens, Outcome.RefusedPacket}
+use Rattle.ssh_model.specs.Unit.{Stage, Stage.Lines, Stage.Packets, IsUnit}
+
+-- ---- payloads and numbers of what is sent
+
+-- The payload is the message as it is written, and short enough for a packet.
+pub record IsSpelled (message : Msg) (payload : List ℕ) : Type 0 where
+  pub suits : Suits true message
+  pub row : IsWrittenPayload message payload
+  pub size : length payload ≤ 34000
+
+abbrev pub AreSpelled : List Item → Type 0
+AreSpelled [] = Unit {0}
+AreSpelled (Sent channel message payload ∷ items) = IsSpelled message payload × AreSpelled items
+AreSpelled (_ ∷ items) = AreSpelled items
+
+-- Each payload among these items, done after the history, has a number of its own in its epoch.
+abbrev pub AreNumbered : List Item → List Item → Type 0
+AreNumbered [] h = Unit {0}
+AreNumbered (Sent channel message payload ∷ items) h = (wire_number (sent (items ++ h)) < 2 ^ 32) × AreNumbered items h
+AreNumbered (_ ∷ items) h = AreNumbered items h
+
+-- ---- refusals
+
+-- A refusal that has no reason code, or that comes when all numbers of the epoch are spent, is not said to the peer.
+pub data Refuses (h : List Item) (refusal : ℕ) (payload : Option (List ℕ)) : List Item → Type 0 where
+  silently : refusal_reason refusal ≡ None → Refuses h refusal payload (Died ∷ Refused refusal payload ∷ [])
+  spent : wire_number (sent h) ≡ 2 ^ 32 → Refuses h refusal payload (Died ∷ Refused refusal payload ∷ [])
+  said : (reason : ℕ) (said : List ℕ) → refusal_reason refusal ≡ Some reason → wire_number (sent h) < 2 ^ 32 →
+      IsSpelled (Disconnect reason (refusal_name refusal) []) said →
+      Refuses h refusal payload (Died ∷ Sent None (Disconnect reason (refusal_name refusal) []) said ∷ Refused refusal payload ∷ [])
+
+-- ---- what an end makes of a payload
+
+-- the number of the message that the payload is
+abbrev pub number_of : List ℕ → ℕ
+number_of [] = 0
+number_of (n ∷ rest) = n
+
+-- what an end that may take a message refuses it for
+abbrev pub answer_checks : {K : Type 0} → Parties K → Side → List Item → Msg → List Check
+answer_checks p side h message = transport_checks p side h message ++ connection_checks side h message
+
+-- What the end of this side, with the history h, adds to a message that it took, the newest first; `channel` is its own
+-- number of the channel of the message.
+pub data Answer {K : Type 0} (p : Parties K) : Side → List Item → Option ℕ → Msg → List Item → Type 0 where
+  of_transport : {side : Side} {h owed items : List Item} {message : Msg} → AreReplies (owed_replies side h) owed →
+      TransportAnswer p owed side h message items → Answer p side h None message items
+  of_connection : {side : Side} {h items : List Item} {channel : Option ℕ} {message : Msg} →
+      ConnectionAnswer side h channel message items → Answer p side h channel message items
+
+-- The message may be taken, and nothing refuses it.
+pub record Welcomes {K : Type 0} (p : Parties K) (side : Side) (h : List Item) (message : Msg) (payload : List ℕ) : Type 0 where
+  pub read : may_take p side h (number_of payload) ≡ true
+  pub no_guess : phase p side h ≡ Guessed → ⊥
+  pub message_is : IsPayload (probing h) message payload
+  pub not_refused : first_refusal (answer_checks p side h message) ≡ None
+
+-- What an end does with a payload. The refusals are tested in this order: 7 by number, 6, those of the answer, and 14
+-- where the answer needs more numbers than the epoch has left. The packet after a wrong guess is not read.
+pub data OnPayload {K : Type 0} (p : Parties K) (side : Side) (h : List Item) (payload : List ℕ) : List Item → Type 0 where
+  takes : {items : List Item} (channel : Option ℕ) (message : Msg) → Welcomes p side h message payload →
+      Answer p side h channel message items → AreSpelled items → AreNumbered items (Took channel message payload ∷ h) →
+      OnPayload p side h payload (items ++ Took channel message payload ∷ [])
+  skips : phase p side h ≡ Guessed → may_take p side h (number_of payload) ≡ true → OnPayload p side h payload (Told Ignored ∷ TookGuess payload ∷ [])
+  unexpected : {items : List Item} → may_take p side h (number_of payload) ≡ false → Refuses h 7 (Some payload) items → OnPayload p side h payload items
+  bad_message : {items : List Item} → may_take p side h (number_of payload) ≡ true → (phase p side h ≡ Guessed → ⊥) →
+      ((message : Msg) → IsPayload (probing h) message payload → ⊥) → Refuses h 6 (Some payload) items → OnPayload p side h payload items
+  refuses : {items : List Item} (message : Msg) (refusal : ℕ) → may_take p side h (number_of payload) ≡ true → (phase p side h ≡ Guessed → ⊥) →
+      IsPayload (probing h) message payload → first_refusal (answer_checks p side h message) ≡ Some refusal →
+      Refuses h refusal (Some payload) items → OnPayload p side h payload items
+  spends : {items : List Item} (channel : Option ℕ) (message : Msg) → Welcomes p side h message payload →
+      Answer p side h channel message items → AreSpelled items → (AreNumbered items (Took channel message payload ∷ h) → ⊥) →
+      OnPayload p side h payload (Died ∷ Refused 14 (Some payload) ∷ [])
+
+-- ---- what an end makes of a unit of its stream
+
+abbrev pub stage_after : {K : Type 0} → Parties K → Side → List Item → (line_taken : Bool) → Stage K
+stage_after p side h true = Packets (taking_key p side h) (wire_number (took h))
+stage_after p side h false = Lines (is_client side) (other_lines h)
+
+-- what the end reads next
+abbrev pub stage : {K : Type 0} → Parties K → Side → List Item → Stage K
+stage p side h = stage_after p side h (has_line h)
+
+-- what it does with the next unit
+pub data OnOutcome {K : Type 0} (p : Parties K) (side : Side) (h : List Item) : Outcome → List Item → Type 0 where
+  other_line : OnOutcome p side h OtherLine (TookOtherLine [] ∷ [])
+  version_line : (line : List ℕ) → OnOutcome p side h (VersionLine line) (TookLine line ∷ [])
+  refused_line : {items : List Item} (refusal : ℕ) → Refuses h refusal None items → OnOutcome p side h (RefusedLine refusal) items
+  payload : {items : List Item} (payload : List ℕ) → OnPayload p side h payload items → OnOutcome p side h (Opens payload) items
+  refused_packet : {items : List Item} (refusal : ℕ) → Refuses h refusal None items → OnOutcome p side h (RefusedPacket refusal) items
+
+-- ---- asks
+
+abbrev pub ask_checks : {K : Type 0} → Parties K → Side → List Item → Ask → List Check
+ask_checks p side h ask = transport_ask_checks p side h ask ++ connection_ask_checks p side h ask
+
+pub data OnAsk {K : Type 0} (p : Parties K) : Side → List Item → Ask → List Item → Type 0 where
+  of_transport : {side : Side} {h items : List Item} {ask : Ask} → TransportAsk p side h ask items → OnAsk p side h ask items
+  of_connection : {side : Side} {h items : List Item} {ask : Ask} → ConnectionAsk side h ask items → OnAsk p side h ask items
+
+-- ---- turns and runs
+
+-- a cookie and a secret
+pub record IsMaterial (cookie secret : List ℕ) : Type 0 where
+  pub cookie_bytes : AreBytes cookie
+  pub cookie_size : length cookie ≡ 16
+  pub secret_bytes : AreBytes secret
+  pub secret_size : length secret ≡ 32
+
+-- What a live end of this side, with the history h, may add in one turn, the newest first. It keeps one pair of cookie
+-- and secret at a time, and is fed at most 2^32 - 1 of them. It may die for want of memory at any time.
+pub data Turn {K : Type 0} (p : Parties K) (side : Side) (h : List Item) : List Item → Type 0 where
+  feeds : (cookie secret : List ℕ) → has_died h ≡ false → has_material h ≡ false → length (fed h) < 2 ^ 32 - 1 → IsMaterial cookie secret →
+      Turn p side h (Fed cookie secret ∷ [])
+  refuses_ask : (ask : Ask) (refusal : ℕ) → has_died h ≡ false → first_refusal (ask_checks p side h ask) ≡ Some refusal →
+      Turn p side h (AskRefused refusal ∷ Asked ask ∷ [])
+  answers_ask : {items : List Item} (ask : Ask) → has_died h ≡ false → first_refusal (ask_checks p side h ask) ≡ None → OnAsk p side h ask items →
+      AreSpelled items → AreNumbered items (Asked ask ∷ h) → Turn p side h (items ++ Asked ask ∷ [])
+  spends_on_ask : {items : List Item} (ask : Ask) → has_died h ≡ false → first_refusal (ask_checks p side h ask) ≡ None → OnAsk p side h ask items →
+      AreSpelled items → (AreNumbered items (Asked ask ∷ h) → ⊥) → Turn p side h (Died ∷ Refused 14 None ∷ Asked ask ∷ [])
+  reads : {items : List Item} (unit : List ℕ) (outcome : Outcome) → has_died h ≡ false → IsUnit p.crypto (stage p side h) unit outcome →
+      OnOutcome p side h outcome items → Turn p side h items
+  dies : has_died h ≡ false → Turn p side h (Died ∷ [])
+
+-- What an end does first: it is fed a pair, and sends its version line and its first KEXINIT.
+pub record IsOpening {K : Type 0} (p : Parties K) (side : Side) (items : List Item) : Type 0 where
+  pub cookie : List ℕ
+  pub secret : List ℕ
+  pub payload : List ℕ
+  pub is_material : IsMaterial cookie secret
+  pub is_spelled : IsSpelled (KexInit (offer p side true cookie)) payload
+  pub items_are : items ≡ Sent None (KexInit (offer p side true cookie)) payload ∷ SentLine (settings_of p side).line ∷ Fed cookie secret ∷ []
+
+-- The runs of two ends: both openings, and then turns.
+pub data Run {K : Type 0} (p : Parties K) : List Done → Type 0 where
+  start : (client server : List Item) → IsOpening p Client client → IsOpening p Server server → Run p (done_by Server server ++ done_by Client client)
+  then_turn : {run : List Done} {items : List Item} (side : Side) → Run p run → Turn p side (part side run) items → Run p (done_by side items ++ run)
