@@ -3,5 +3,7 @@
 #![tactic(auto)]
 
 mod epoch;
+mod message;
 
 pub use epoch::taken_in_order;
+pub use message::one_message;
