@@ -1,14 +1,29 @@
--- Equal exchange texts have equal inputs.
+-- Equal exchange texts have equal inputs, and how long a spelling is.
 use Rattle.std.proofs.Common.{◌≡◌, ℕ, zero, suc, ◌+◌, ◌*◌, ◌/◌, ◌%◌, ◌^◌, ◌<◌, ◌≤◌, leb, List, [], ◌∷◌, ◌++◌, length, inl, inr, refl, sym, ap, subst, ◌∙◌, append_assoc, append-nil, length-append, arith}
 use Rattle.std.specs.Int.{w32, to_be_bytes}
 use Rattle.std.proofs.lemmas.Bool.{cases_Bool, cases_lt, cond-true, cond-false, lt-ltb}
-use Rattle.std.proofs.Math.Nat.{pow-suc}
-use Rattle.ssh_model.specs.DataTypes.{number, IsString}
+use Rattle.std.proofs.Math.Nat.{pow-suc, mul-le-mul_right}
+use Rattle.ssh_model.specs.DataTypes.{AreBytes, number, IsString}
 use Rattle.ssh_model.specs.Message.{◌▸◌, IsEnd}
 use Rattle.ssh_model.specs.Exchange.{Inputs, Fits, string_of, digits, positive, mpint_body, mpint_of, exchange_text}
 use Rattle.ssh_model.proofs.Fields.{◌▹◌, string, end}
 
 -- ---- strings
+
+-- no number of n bytes reaches 256 ^ n
+pub number_below : (bs : List ℕ) → AreBytes bs → number bs < 256 ^ length bs
+number_below [] h = omega arith
+number_below (b ∷ bs) h =
+    let rest = number_below bs h.1 in
+    let top : b * 256 ^ length bs ≤ 255 * 256 ^ length bs = mul-le-mul_right (256 ^ length bs) (omega (arith, h.0)) in
+    omega (arith, pow-suc 256 (length bs))
+
+-- what a string holds is as short as its length can say
+pub string_fits : (text bytes : List ℕ) → IsString text bytes → length text < 2 ^ 32
+string_fits text bytes s =
+    let below = number_below s.front s.size.are_bytes in
+    let room : 256 ^ length s.front ≡ 256 ^ 4 = ap (λ (n : ℕ). 256 ^ n) s.size.count in
+    omega (arith, s.size.value)
 
 pub is_string : (text : List ℕ) → length text < 2 ^ 32 → IsString text (string_of text)
 unfolding string_of
@@ -42,6 +57,20 @@ digits_number (suc places) n room =
       | inr none ↦ let e : n ≡ 0 = omega arith in rw e refl
     ]
 
+-- a number below 256 ^ k has k of them at most
+digits_length : (k places n : ℕ) → n < 256 ^ k → length (digits places n) ≤ k
+unfolding digits
+digits_length k zero n room = omega arith
+digits_length zero (suc places) n room = let e : n ≡ 0 = omega arith in rw e (omega arith)
+digits_length (suc k) (suc places) n room =
+    elim (cases_lt 0 n) [
+      | inl some ↦
+          let p = pow-suc 256 k in
+          let rest = digits_length k places (n / 256) (omega (arith, p, room)) in
+          rw (cond-true _ _ _ (lt-ltb 0 n some)) (omega (arith, rest, length-append (digits places (n / 256)) ((n % 256) ∷ [])))
+      | inr none ↦ let e : n ≡ 0 = omega arith in rw e (omega arith)
+    ]
+
 -- The zero in front changes no number, and is one byte.
 positive_facts : (bs : List ℕ) → (number (positive bs) ≡ number bs) × (length (positive bs) ≤ suc (length bs))
 positive_facts [] = (refl, omega arith)
@@ -54,6 +83,17 @@ positive_facts (b ∷ bs) =
 pub body_number : (n : ℕ) → number (mpint_body n) ≡ n
 unfolding mpint_body
 body_number n = (positive_facts (digits n n)).0 ∙ digits_number n n (omega arith)
+
+-- the bytes that a number is given in, with a zero in front, are never fewer
+pub body_length : (bytes : List ℕ) → AreBytes bytes → length (mpint_body (number bytes)) ≤ length bytes + 1
+unfolding mpint_body
+body_length bytes h =
+    let n = number bytes in
+    omega (arith, (positive_facts (digits n n)).1, digits_length (length bytes) n n (number_below bytes h))
+
+-- a number of 32 bytes
+pub body_of_32 : (n : ℕ) (bytes : List ℕ) → AreBytes bytes → length bytes ≡ 32 → number bytes ≡ n → length (mpint_body n) ≤ 33
+body_of_32 n bytes h count value = omega (arith, ap (λ (k : ℕ). length (mpint_body k)) value, body_length bytes h)
 
 -- ---- the text
 
