@@ -3,5 +3,9 @@
 #![tactic(auto)]
 
 mod epoch;
+mod exchange;
+mod message;
 
 pub use epoch::taken_in_order;
+pub use exchange::equal_texts;
+pub use message::one_message;
