@@ -1,10 +1,11 @@
 -- What an end is made with: its settings, and the parts that are handed in. The parts are functions, since a part
 -- gives the same answer to the same question.
-use Rattle.std.specs.Prelude.{ℕ, Bool, true, false, Option, List, [], ◌∷◌, ◌++◌, codes, if◌then◌else◌}
+use Rattle.std.specs.Prelude.{◌≡◌, ℕ, ◌<◌, ◌≤◌, Bool, true, false, Option, Some, List, [], ◌∷◌, ◌++◌, length, codes, if◌then◌else◌}
+use Rattle.ssh_model.specs.DataTypes.{AreBytes, number}
 use Rattle.ssh_model.specs.History.{Side, Side.Client, Side.Server}
 use Rattle.ssh_model.specs.Message.{Proposal}
 use Rattle.ssh_model.specs.Choice.{Lists, client_marker, server_marker}
-use Rattle.ssh_model.specs.Seal.{Crypto}
+use Rattle.ssh_model.specs.Seal.{Crypto, IsSealing}
 
 -- the settings of one end
 pub record Settings : Type 0 where
@@ -45,6 +46,19 @@ pub record Parties (K : Type 0) : Type 0 where
 abbrev pub settings_of : {K : Type 0} → Parties K → Side → Settings
 settings_of p Client = p.client
 settings_of p Server = p.server
+
+-- What is promised of the handed-in parts and the settings: the laws of the sealing, a shared result of 32 bytes that
+-- are not all zero, signatures and host keys of at most 4,096 bytes, and version lines of at most 255 bytes with CR LF.
+pub record AreLawful {K : Type 0} (p : Parties K) : Type 0 where
+  pub sealing : IsSealing p.crypto
+  pub shared_bytes : (secret theirs bytes : List ℕ) → p.shared secret theirs ≡ Some bytes → AreBytes bytes
+  pub shared_size : (secret theirs bytes : List ℕ) → p.shared secret theirs ≡ Some bytes → length bytes ≡ 32
+  pub shared_number : (secret theirs bytes : List ℕ) → p.shared secret theirs ≡ Some bytes → 0 < number bytes
+  pub host_key : (algorithm : List ℕ) → length (p.host_key algorithm) ≤ 4096
+  pub host_signature : (algorithm hash : List ℕ) → length (p.host_signature algorithm hash) ≤ 4096
+  pub user_signature : (user algorithm key text : List ℕ) → length (p.user_signature user algorithm key text) ≤ 4096
+  pub client_line : length p.client.line ≤ 253
+  pub server_line : length p.server.line ≤ 253
 
 -- the marker of strict key exchange that the end of this side sends
 abbrev pub marker_of : Side → List ℕ

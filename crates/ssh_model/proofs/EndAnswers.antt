@@ -1,0 +1,223 @@
+-- Each answer of an end keeps what holds of it between its turns.
+use Rattle.std.proofs.Common.{◌≡◌, ◌≢◌, ℕ, zero, suc, ◌+◌, ◌<◌, ◌≤◌, ◌^◌, List, [], ◌∷◌, ◌++◌, length, map, ◌⊎◌, inl, inr, refl, ap, sym, ◌∙◌, arith, subst, append_assoc, Bool, true, false, cond, not, Option, Some, None}
+use Rattle.std.proofs.lemmas.List.{length-map}
+use Rattle.std.proofs.lemmas.Bool.{ltb-true}
+use Rattle.ssh_model.specs.History.{Side, Side.Client, Side.Server, peer, IsOlder}
+use Rattle.ssh_model.specs.Message.{Msg, Msg.KexInit, Msg.NewKeys, Msg.KexEcdhInit, Msg.KexEcdhReply, Msg.ChannelOpenFailure, Msg.ChannelClose, Proposal, IsPayload, message_number}
+use Rattle.ssh_model.specs.Refusal.{first_refusal}
+use Rattle.ssh_model.specs.Party.{Parties, AreLawful, offer}
+use Rattle.ssh_model.specs.Session.{Item, Item.Fed, Item.Sent, Item.Took, Item.Told, Item.TookGuess, sent, took, messages_sent, messages_taken}
+use Rattle.ssh_model.specs.Epoch.{epoch, count}
+use Rattle.ssh_model.specs.Exchanges.{exchange, exchanges, nth, no_material, offers, fed}
+use Rattle.ssh_model.specs.Phase.{Phase, Phase.Start, Phase.Guessed, Phase.Exchanging, Phase.Keying, Phase.Normal, phase, blocked, probing, may_take, is_wrong_guess, own_names, has_material}
+use Rattle.ssh_model.specs.Honest.{cookies, signed}
+use Rattle.ssh_model.specs.ChannelMessage.{Message, Message.OpenFailure, Message.Close}
+use Rattle.ssh_model.specs.ChannelHistory as channel
+use Rattle.ssh_model.specs.Transport.{TransportAnswer, TransportAnswer.disconnect, TransportAnswer.ignore, TransportAnswer.unimplemented, TransportAnswer.debug, TransportAnswer.unknown, TransportAnswer.service_request, TransportAnswer.service_accept, TransportAnswer.kexinit_at_server, TransportAnswer.kexinit_at_client, TransportAnswer.answered_at_server, TransportAnswer.answered_at_client, TransportAnswer.init, TransportAnswer.reply, TransportAnswer.newkeys, TransportAnswer.request_too_late, TransportAnswer.request_accepted, TransportAnswer.request_probed, TransportAnswer.request_failed, TransportAnswer.failure, TransportAnswer.success, TransportAnswer.banner, TransportAnswer.key_ok, next_cookie}
+use Rattle.ssh_model.specs.Connection.{AreReplies, AreReplies.none, AreReplies.reply, reply_message, ConnectionAnswer, ConnectionAnswer.global, ConnectionAnswer.global_success, ConnectionAnswer.global_failure, ConnectionAnswer.opened, ConnectionAnswer.not_opened, ConnectionAnswer.confirmation, ConnectionAnswer.failure, ConnectionAnswer.adjust, ConnectionAnswer.got_data, ConnectionAnswer.got_extended, ConnectionAnswer.eof, ConnectionAnswer.close, ConnectionAnswer.request, ConnectionAnswer.success, ConnectionAnswer.no_success}
+use Rattle.ssh_model.specs.Turn.{IsSpelled, AreSpelled, Welcomes, number_of, answer_checks}
+use Rattle.ssh_model.proofs.Older.{IsNth, nth_map, nth_is, next_after}
+use Rattle.ssh_model.proofs.Payloads.{tag}
+use Rattle.ssh_model.proofs.Rules.{Rules, Completes, cookie_of}
+use Rattle.ssh_model.proofs.Spelling.{sent_other_tag, taken_other_tag, sent_newkeys_tag, taken_newkeys_tag, spelled_cookie, AllFit, taken_fits, sent_fits}
+use Rattle.ssh_model.proofs.EndKeeps.{End, InStep, extra, used, IsPlainSent, IsPlainTaken, ArePlain, add_quiet, add_sent, add_taken, add_plain, last_cookie, exchange_fits}
+use Rattle.ssh_model.proofs.Stages.{level_at_20, level_at_30, level_at_31, ahead_at_21, all_passed, not_false, second_false}
+
+-- ---- replies
+
+reply_plain : (m : Message) → IsPlainSent (reply_message m)
+reply_plain (OpenFailure t) = tt
+reply_plain (Close t) = tt
+reply_plain m = tt
+
+pub replies_plain : (l : List channel.Item) (items : List Item) → AreReplies l items → ArePlain items
+replies_plain l items none = tt
+replies_plain l items (reply at m b r) = (reply_plain m, replies_plain _ _ r)
+
+pub spelled_behind : (items more : List Item) → AreSpelled (items ++ more) → AreSpelled items × AreSpelled more
+spelled_behind [] more s = (tt, s)
+spelled_behind (Sent c m b ∷ items) more s = let r = spelled_behind items more s.1 in ((s.0, r.0), r.1)
+spelled_behind (i ∷ items) more s = spelled_behind items more s
+
+-- ---- the turns of an exchange
+
+-- a message that may be taken has its number
+pub may_be : {K : Type 0} (p : Parties K) (side : Side) (h : List Item) (m : Msg) (b : List ℕ) → Welcomes p side h m b → may_take p side h (message_number m) ≡ true
+may_be p side h m b w = let t = tag m b _ w.message_is in sym (ap (λ x. may_take p side h (number_of x)) t.1) ∙ w.read
+
+step_guess : (t : Bool) (out : Bool) (s u : ℕ) → out ≡ true → s ≡ u → InStep (cond t Guessed Exchanging) out s u
+step_guess true out s u e f = (e, f)
+step_guess false out s u e f = (e, f)
+
+took_kexinit : {K : Type 0} (p : Parties K) (side : Side) (h : List Item) (theirs : Proposal) (b : List ℕ) → length b ≤ 35000 → Welcomes p side h (KexInit theirs) b
+    → blocked h ≡ true → End p side h → End p side (Took None (KexInit theirs) b ∷ h)
+took_kexinit p side h theirs b n w e v = record {
+  in_step = step_guess (is_wrong_guess theirs (own_names p side)) _ _ _ e (level_at_20 (phase p side h) side h _ _ _ (may_be p side h _ b w) v.in_step);
+  offers_sent = v.offers_sent;
+  cookies_used = v.cookies_used;
+  fit_sent = v.fit_sent;
+  fit_taken = (taken_fits _ (KexInit theirs) b n w.message_is, v.fit_taken);
+  line_sent = v.line_sent;
+  line_taken = v.line_taken;
+  rules = (taken_other_tag _ (KexInit theirs) b tt w.message_is, v.rules);
+  signed_is = v.signed_is;
+}
+
+cookies_fed : (h : List Item) → cookies h ≡ map (λ x. x.cookie) (fed h)
+cookies_fed [] = refl
+cookies_fed (Fed c s ∷ h) = ap (λ l. c ∷ l) (cookies_fed h)
+cookies_fed (i ∷ h) = cookies_fed h
+
+-- a KEXINIT uses the next cookie
+pub uses_next : (c : List ℕ) (h : List Item) → has_material h ≡ true → c ≡ next_cookie h → IsOlder (used (messages_sent h)) (cookies h) → IsOlder (c ∷ used (messages_sent h)) (cookies h)
+uses_next c h k e o =
+    let n : length (used (messages_sent h)) ≡ length (offers (messages_sent h)) = length-map (offers (messages_sent h)) (λ x. cookie_of x.payload) in
+    let i : IsNth (next_cookie h) (length (offers (messages_sent h))) (map (λ x. x.cookie) (fed h)) =
+    nth_map (λ x. x.cookie) _ _ _ (nth_is no_material _ (fed h) (ltb-true _ _ k)) in
+    next_after c _ _ o (rw (n, e, cookies_fed h) i)
+
+-- the pair of a KEXINIT that this end has to answer is kept
+has_kept : {K : Type 0} (p : Parties K) (side : Side) (h : List Item) (theirs : Proposal) (b : List ℕ) → Welcomes p side h (KexInit theirs) b → blocked h ≡ false → has_material h ≡ true
+has_kept p side h theirs b w e =
+    let checks = all_passed (answer_checks p side h (KexInit theirs)) w.not_refused in
+    not_false (has_material h) (second_false (not (blocked h)) (not (has_material h)) (ap not e) checks.1.1.0)
+
+-- this end answers with its own
+answers_kexinit : {K : Type 0} (p : Parties K) (side : Side) (h : List Item) (theirs : Proposal) (b own : List ℕ) → length b ≤ 35000 → Welcomes p side h (KexInit theirs) b
+    → blocked h ≡ false → IsSpelled (KexInit (offer p side false (next_cookie h))) own → End p side h
+    → End p side (Sent None (KexInit (offer p side false (next_cookie h))) own ∷ Took None (KexInit theirs) b ∷ h)
+answers_kexinit p side h theirs b own n w e s v = record {
+  in_step = step_guess (is_wrong_guess theirs (own_names p side)) _ _ _ refl (level_at_20 (phase p side h) side h _ _ _ (may_be p side h _ b w) v.in_step);
+  offers_sent = omega (arith, rw e at v.offers_sent);
+  cookies_used = uses_next _ h (has_kept p side h theirs b w e) (spelled_cookie _ own s) v.cookies_used;
+  fit_sent = (sent_fits _ own s, v.fit_sent);
+  fit_taken = (taken_fits _ (KexInit theirs) b n w.message_is, v.fit_taken);
+  line_sent = v.line_sent;
+  line_taken = v.line_taken;
+  rules = (sent_other_tag _ own tt s, (taken_other_tag _ (KexInit theirs) b tt w.message_is, v.rules));
+  signed_is = v.signed_is;
+}
+
+-- the server completes
+completes_at_server : {K : Type 0} (p : Parties K) (laws : AreLawful p) (h : List Item) (q k_s q_s g b rb nb : List ℕ) → length b ≤ 35000 → Welcomes p Server h (KexEcdhInit q) b
+    → IsSpelled (KexEcdhReply k_s q_s g) rb → IsSpelled NewKeys nb → End p Server h
+    → End p Server (Sent None NewKeys nb ∷ Sent None (KexEcdhReply k_s q_s g) rb ∷ Took None (KexEcdhInit q) b ∷ h)
+completes_at_server p laws h q k_s q_s g b rb nb n w r s v =
+    let st = level_at_30 (phase p Server h) h _ _ _ (may_be p Server h _ b w) v.in_step in
+    let room : length (offers (messages_sent h)) ≡ suc (epoch (sent h)) = omega (arith, rw st.0 at v.offers_sent) in
+    let fits : AllFit (messages_sent (Sent None (KexEcdhReply k_s q_s g) rb ∷ h)) = (sent_fits _ rb r, v.fit_sent) in
+    let fits' : AllFit (messages_taken (Took None (KexEcdhInit q) b ∷ h)) = (taken_fits _ (KexEcdhInit q) b n w.message_is, v.fit_taken) in
+    record {
+      in_step = ap suc st.1;
+      offers_sent = omega (arith, room);
+      cookies_used = v.cookies_used;
+      fit_sent = (tt, fits);
+      fit_taken = fits';
+      line_sent = v.line_sent;
+      line_taken = v.line_taken;
+      rules = ((record {
+        cookie = last_cookie p Server (Sent None (KexEcdhReply k_s q_s g) rb ∷ Took None (KexEcdhInit q) b ∷ h) v.cookies_used room;
+        level = sym st.1;
+        heard = λ z. omega arith;
+        fits = exchange_fits p laws Server (epoch (sent h)) (Sent None (KexEcdhReply k_s q_s g) rb ∷ Took None (KexEcdhInit q) b ∷ h) fits fits' v.line_sent v.line_taken;
+      }, sent_newkeys_tag nb s), (sent_other_tag _ rb tt r, (taken_other_tag _ (KexEcdhInit q) b tt w.message_is, v.rules)));
+      signed_is = λ e. ap (λ x. exchange p Server (epoch (sent h)) (Sent None (KexEcdhReply k_s q_s g) rb ∷ Took None (KexEcdhInit q) b ∷ h) ∷ x) (v.signed_is e);
+    }
+
+-- the client completes
+completes_at_client : {K : Type 0} (p : Parties K) (laws : AreLawful p) (h : List Item) (k_s q_s g b nb : List ℕ) → length b ≤ 35000 → Welcomes p Client h (KexEcdhReply k_s q_s g) b
+    → IsSpelled NewKeys nb → End p Client h → End p Client (Sent None NewKeys nb ∷ Took None (KexEcdhReply k_s q_s g) b ∷ h)
+completes_at_client p laws h k_s q_s g b nb n w s v =
+    let st = level_at_31 (phase p Client h) h _ _ _ (may_be p Client h _ b w) v.in_step in
+    let room : length (offers (messages_sent h)) ≡ suc (epoch (sent h)) = omega (arith, rw st.0 at v.offers_sent) in
+    let fits' : AllFit (messages_taken (Took None (KexEcdhReply k_s q_s g) b ∷ h)) = (taken_fits _ (KexEcdhReply k_s q_s g) b n w.message_is, v.fit_taken) in
+    record {
+      in_step = ap suc st.1;
+      offers_sent = omega (arith, room);
+      cookies_used = v.cookies_used;
+      fit_sent = (tt, v.fit_sent);
+      fit_taken = fits';
+      line_sent = v.line_sent;
+      line_taken = v.line_taken;
+      rules = ((record {
+        cookie = last_cookie p Client (Took None (KexEcdhReply k_s q_s g) b ∷ h) v.cookies_used room;
+        level = sym st.1;
+        heard = λ z. omega arith;
+        fits = exchange_fits p laws Client (epoch (sent h)) (Took None (KexEcdhReply k_s q_s g) b ∷ h) v.fit_sent fits' v.line_sent v.line_taken;
+      }, sent_newkeys_tag nb s), (taken_other_tag _ (KexEcdhReply k_s q_s g) b tt w.message_is, v.rules));
+      signed_is = λ e. absurd (cc e);
+    }
+
+took_newkeys : {K : Type 0} (p : Parties K) (side : Side) (h : List Item) (b : List ℕ) → Welcomes p side h NewKeys b → End p side h → End p side (Took None NewKeys b ∷ h)
+took_newkeys p side h b w v =
+    let st = ahead_at_21 (phase p side h) side h _ _ _ (may_be p side h _ b w) v.in_step in
+    record {
+      in_step = st;
+      offers_sent = v.offers_sent;
+      cookies_used = v.cookies_used;
+      fit_sent = v.fit_sent;
+      fit_taken = (tt, v.fit_taken);
+      line_sent = v.line_sent;
+      line_taken = v.line_taken;
+      rules = ((omega (arith, st), taken_newkeys_tag _ b w.message_is), v.rules);
+      signed_is = v.signed_is;
+    }
+
+-- ---- the rows
+
+module _ {K : Type 0} (p : Parties K) (laws : AreLawful p) where
+  -- a row that takes and sends nothing of an exchange
+  plain : (side : Side) (h items : List Item) (c : Option ℕ) (m : Msg) (b : List ℕ) → IsPlainTaken m → ArePlain items → length b ≤ 35000 → Welcomes p side h m b
+      → AreSpelled items → End p side h → End p side (items ++ (Took c m b ∷ h))
+  plain side h items c m b t q n w s v = add_plain p side items (Took c m b ∷ h) q s (add_taken p side c m b _ h t n w.message_is v)
+
+  pub transport_keeps : (side : Side) (h owed items : List Item) (m : Msg) (b : List ℕ) → TransportAnswer p owed side h m items → ArePlain owed → length b ≤ 35000
+      → Welcomes p side h m b → AreSpelled items → End p side h → End p side (items ++ (Took None m b ∷ h))
+  transport_keeps side h owed items m b (disconnect r d l) o n w s v = plain side h items None m b tt (tt, (tt, tt)) n w s v
+  transport_keeps side h owed items m b (ignore x) o n w s v = plain side h items None m b tt (tt, tt) n w s v
+  transport_keeps side h owed items m b (unimplemented x) o n w s v = plain side h items None m b tt (tt, tt) n w s v
+  transport_keeps side h owed items m b (debug x y z) o n w s v = plain side h items None m b tt (tt, tt) n w s v
+  transport_keeps side h owed items m b (unknown x y) o n w s v = plain side h items None m b tt (tt, tt) n w s v
+  transport_keeps side h owed items m b (service_request x y) o n w s v = plain side h items None m b tt (tt, tt) n w s v
+  transport_keeps side h owed items m b (service_accept x) o n w s v = plain side h items None m b tt (tt, tt) n w s v
+  transport_keeps side h owed items m b (kexinit_at_server theirs e) o n w s v = took_kexinit p Server h theirs b n w e v
+  transport_keeps side h owed items m b (kexinit_at_client theirs y e) o n w s v =
+      add_sent p Client None _ y _ tt s.0 (took_kexinit p Client h theirs b n w e v)
+  transport_keeps side h owed items m b (answered_at_server theirs own e) o n w s v = answers_kexinit p Server h theirs b own n w e s.0 v
+  transport_keeps side h owed items m b (answered_at_client theirs own y e) o n w s v =
+      add_sent p Client None _ y _ tt s.0 (answers_kexinit p Client h theirs b own n w e s.1.0 v)
+  transport_keeps side h owed items m b (init q rb nb) o n w s v =
+      let t = spelled_behind owed _ s in
+      let e = completes_at_server p laws h q _ _ _ b rb nb n w t.1.1.0 t.1.0 v in
+      add_quiet p Server _ _ tt (rw (append_assoc) (add_plain p Server owed _ o t.0 e))
+  transport_keeps side h owed items m b (reply k_s q_s g nb) o n w s v =
+      let t = spelled_behind owed _ s in
+      let e = completes_at_client p laws h k_s q_s g b nb n w t.1.0 v in
+      add_quiet p Client _ _ tt (rw (append_assoc) (add_plain p Client owed _ o t.0 e))
+  transport_keeps side h owed items m b newkeys o n w s v = took_newkeys p side h b w v
+  transport_keeps side h owed items m b (request_too_late x y z e) o n w s v = plain side h items None m b tt (tt, tt) n w s v
+  transport_keeps side h owed items m b (request_accepted x y z c e f) o n w s v = plain side h items None m b tt (tt, (tt, tt)) n w s v
+  transport_keeps side h owed items m b (request_probed x y a k c e f) o n w s v = plain side h items None m b tt (tt, tt) n w s v
+  transport_keeps side h owed items m b (request_failed x y z c e f) o n w s v = plain side h items None m b tt (tt, tt) n w s v
+  transport_keeps side h owed items m b (failure x y) o n w s v = plain side h items None m b tt (tt, tt) n w s v
+  transport_keeps side h owed items m b success o n w s v = plain side h items None m b tt (tt, tt) n w s v
+  transport_keeps side h owed items m b (banner x y) o n w s v = plain side h items None m b tt (tt, tt) n w s v
+  transport_keeps side h owed items m b (key_ok x y) o n w s v = plain side h items None m b tt (tt, tt) n w s v
+
+  pub connection_keeps : (side : Side) (h items : List Item) (c : Option ℕ) (m : Msg) (b : List ℕ) → ConnectionAnswer side h c m items → length b ≤ 35000
+      → Welcomes p side h m b → AreSpelled items → End p side h → End p side (items ++ (Took c m b ∷ h))
+  connection_keeps side h items c m b (global x y z) n w s v = plain side h items c m b tt (tt, tt) n w s v
+  connection_keeps side h items c m b (global_success z) n w s v = plain side h items c m b tt (tt, tt) n w s v
+  connection_keeps side h items c m b global_failure n w s v = plain side h items c m b tt (tt, tt) n w s v
+  connection_keeps side h items c m b (opened x k a d e f g) n w s v = plain side h items c m b tt (tt, tt) n w s v
+  connection_keeps side h items c m b (not_opened k a d e f g r) n w s v = plain side h items c m b tt (replies_plain _ _ r) n w s v
+  connection_keeps side h items c m b (confirmation a d e f g) n w s v = plain side h items c m b tt (tt, tt) n w s v
+  connection_keeps side h items c m b (failure a d e f) n w s v = plain side h items c m b tt (tt, tt) n w s v
+  connection_keeps side h items c m b (adjust a d) n w s v = plain side h items c m b tt (tt, tt) n w s v
+  connection_keeps side h items c m b (got_data a d) n w s v = plain side h items c m b tt (tt, tt) n w s v
+  connection_keeps side h items c m b (got_extended a d e) n w s v = plain side h items c m b tt (tt, tt) n w s v
+  connection_keeps side h items c m b (eof a) n w s v = plain side h items c m b tt (tt, tt) n w s v
+  connection_keeps side h items c m b (close a r) n w s v = plain side h items c m b tt (tt, replies_plain _ _ r) n w s v
+  connection_keeps side h items c m b (request a d e f) n w s v = plain side h items c m b tt (tt, tt) n w s v
+  connection_keeps side h items c m b (success a) n w s v = plain side h items c m b tt (tt, tt) n w s v
+  connection_keeps side h items c m b (no_success a) n w s v = plain side h items c m b tt (tt, tt) n w s v
