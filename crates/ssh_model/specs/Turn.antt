@@ -103,7 +103,7 @@ pub data OnOutcome {K : Type 0} (p : Parties K) (side : Side) (h : List Item) : 
   other_line : OnOutcome p side h OtherLine (TookOtherLine [] ∷ [])
   version_line : (line : List ℕ) → OnOutcome p side h (VersionLine line) (TookLine line ∷ [])
   refused_line : {items : List Item} (refusal : ℕ) → Refuses h refusal None items → OnOutcome p side h (RefusedLine refusal) items
-  payload : {items : List Item} (payload : List ℕ) → OnPayload p side h payload items → OnOutcome p side h (Opens payload) items
+  opened : {items : List Item} (payload : List ℕ) → OnPayload p side h payload items → OnOutcome p side h (Opens payload) items
   refused_packet : {items : List Item} (refusal : ℕ) → Refuses h refusal None items → OnOutcome p side h (RefusedPacket refusal) items
 
 -- ---- asks
