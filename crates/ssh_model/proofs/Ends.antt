@@ -1,12 +1,7 @@
 -- Older parts of a list that grows at its head.
-use Rattle.std.proofs.Common.{◌≡◌, ℕ, ◌<◌, ◌≤◌, List, [], ◌∷◌, ◌++◌, length, reverse, ◌⊎◌, inl, inr, refl, ap, sym, ◌∙◌, arith, append_assoc, append-nil}
+use Rattle.std.proofs.Common.{◌≡◌, ℕ, ◌<◌, ◌≤◌, List, [], ◌∷◌, ◌++◌, length, reverse, inl, inr, refl, ap, sym, ◌∙◌, arith, append_assoc, append-nil}
 use Rattle.std.proofs.lemmas.List.{reverse-append}
-use Rattle.ssh_model.specs.History.{Side, Side.Client, Side.Server, peer, Item.Sent, Item.Took, Done, Done.By, part, sent, took, HasNumber, IsHonestEpoch, Begins, TakenInOrder}
-
--- the old list is what is left of l when some of the newest are taken away
-abbrev pub IsOlder : {A : Type 0} → List A → List A → Type 0
-IsOlder o [] = o ≡ []
-IsOlder o (x ∷ l) = (o ≡ (x ∷ l)) ⊎ IsOlder o l
+use Rattle.ssh_model.specs.History.{Side, Side.Client, Side.Server, peer, Item.Sent, Item.Took, Done, Done.By, part, sent, took, HasNumber, IsHonestEpoch, IsOlder, Begins, TakenInOrder}
 
 pub older_length : {A : Type 0} (o l : List A) → IsOlder o l → length o ≤ length l
 older_length o [] e = rw e (omega arith)

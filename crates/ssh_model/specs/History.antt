@@ -60,6 +60,11 @@ IsHonestEpoch [] = Unit {0}
 IsHonestEpoch (By side (Took p) ∷ run) = HasNumber p (length (took (part side run))) (sent (part (peer side) run)) × IsHonestEpoch run
 IsHonestEpoch (_ ∷ run) = IsHonestEpoch run
 
+-- The old list is what is left of the other when some of its newest are taken away.
+abbrev pub IsOlder : {A : Type 0} → List A → List A → Type 0
+IsOlder old [] = old ≡ []
+IsOlder old (x ∷ l) = (old ≡ (x ∷ l)) ⊎ IsOlder old l
+
 -- the first list is a beginning of the second
 abbrev pub Begins : List (List ℕ) → List (List ℕ) → Type 0
 Begins xs ys = (rest : List (List ℕ)) × (xs ++ rest ≡ ys)

@@ -8,3 +8,11 @@ pub mod History
 pub mod EpochRun
 pub mod Choice
 pub mod Exchange
+pub mod ChannelMessage
+pub mod ChannelNotes
+pub mod ChannelState
+pub mod ChannelRules
+pub mod ChannelHistory
+pub mod ChannelRows
+pub mod ChannelSafe
+pub mod ChannelStretch
