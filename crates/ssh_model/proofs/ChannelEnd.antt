@@ -1,11 +1,10 @@
 -- One end, whatever comes.
-use Rattle.std.proofs.Common.{List, ◌∷◌, ◌++◌, refl, arith, ◌≤◌}
+use Rattle.std.proofs.Common.{◌≡◌, List, [], ◌∷◌, ◌++◌, refl, ap, arith}
 use Rattle.ssh_model.specs.History.{Side, Side.Client, Side.Server, peer}
-use Rattle.ssh_model.specs.ChannelMessage.{Message}
 use Rattle.ssh_model.specs.ChannelNotes.{Note, said_all, took_all, opens}
 use Rattle.ssh_model.specs.ChannelRules.{next_own, next_theirs, EndRun, EndRun.start, EndRun.opening, EndRun.saying, EndRun.take_open, EndRun.refuse_open, EndRun.take, Run, Run.start, Run.swap, Run.opening, Run.saying, Run.take_open, Run.refuse_open, Run.take}
 use Rattle.ssh_model.specs.ChannelHistory.{Item, noted}
-use Rattle.ssh_model.specs.ChannelRows.{EndTurns, EndTurns.begins, EndTurns.then_turn}
+use Rattle.ssh_model.specs.ChannelRows.{Turn, EndTurns, EndTurns.begins, EndTurns.then_turn, Done, part, done_by, PairRun, PairRun.begins, PairRun.then_turn}
 use Rattle.ssh_model.specs.ChannelSafe.{WindowsHere}
 use Rattle.ssh_model.proofs.ChannelLines.{mine_own}
 use Rattle.ssh_model.proofs.ChannelLocal.{Local, local_says, local_takes, local_opening, local_take_open, local_refuse_open, nothing_noted}
@@ -70,3 +69,26 @@ alone s h (then_turn {h = b} {items = items} r turn) = turned s (EndRun s) (λ n
 
 pub end_run : (s : Side) (h : List Item) → EndTurns s h → EndRun s (noted s h)
 end_run s h r = (alone s h r).run
+
+-- ---- the turns of each end of two
+
+pub part_own : (side : Side) (items : List Item) (run : List Done) → part side (done_by side items ++ run) ≡ items ++ part side run
+part_own side [] run = refl
+part_own Client (i ∷ items) run = ap (λ l. i ∷ l) (part_own Client items run)
+part_own Server (i ∷ items) run = ap (λ l. i ∷ l) (part_own Server items run)
+
+pub part_other : (side : Side) (items : List Item) (run : List Done) → part (peer side) (done_by side items ++ run) ≡ part (peer side) run
+part_other side [] run = refl
+part_other Client (i ∷ items) run = part_other Client items run
+part_other Server (i ∷ items) run = part_other Server items run
+
+pub part_turns : (run : List Done) → PairRun run → (s : Side) → EndTurns s (part s run)
+part_turns run begins Client = begins
+part_turns run begins Server = begins
+part_turns run (then_turn {run = r} {items = items} side before turn) s = go side s turn (part_turns r before)
+  where
+    go : (t s : Side) → Turn t (part t r) items → ((s : Side) → EndTurns s (part s r)) → EndTurns s (part s (done_by t items ++ r))
+    go Client Client u p = rw (part_own Client items r) (then_turn (p Client) u)
+    go Server Server u p = rw (part_own Server items r) (then_turn (p Server) u)
+    go Client Server u p = rw (part_other Client items r) (p Server)
+    go Server Client u p = rw (part_other Server items r) (p Client)

@@ -1,16 +1,17 @@
 -- The claims of whole runs of two ends.
-use Rattle.std.proofs.Common.{◌≡◌, ℕ, List, [], ◌∷◌, ◌++◌, map, reverse, inl, inr, refl, ap, sym, ◌∙◌, subst, cond, Bool, true, false, Option, Some, None}
+use Rattle.std.proofs.Common.{◌≡◌, ℕ, List, [], ◌∷◌, ◌++◌, reverse, inr, refl, ap, sym, ◌∙◌, subst, cond, Bool, true, false, Option, Some, None}
 use Rattle.ssh_model.specs.History.{Side, Side.Client, Side.Server, peer, IsOlder}
 use Rattle.ssh_model.specs.ChannelMessage.{Message, Message.Open, Message.OpenFailure, Message.Data, Message.Close, Channel, same, data_of}
-use Rattle.ssh_model.specs.ChannelNotes.{payload, Line, Line.On, Note, Note.Said, Note.Took, said_all, took_all, on, said, took, channel_at}
+use Rattle.ssh_model.specs.ChannelNotes.{Line, Line.On, Note, Note.Said, Note.Took, said_all, took_all, on, said, took, channel_at}
 use Rattle.ssh_model.specs.ChannelState.{has_closed, peer_number}
 use Rattle.ssh_model.specs.ChannelRules.{next_own, next_theirs, Next, Run, Run.start, Run.swap, Run.opening, Run.saying, Run.take_open, Run.refuse_open, Run.take}
 use Rattle.ssh_model.specs.ChannelHistory.{Item, Item.Sent, Item.Received, Item.KexinitSent, Item.NewkeysSent, sent, received, noted, owed}
 use Rattle.ssh_model.specs.ChannelRows.{Turn, Done, part, done_by, PairRun, PairRun.begins, PairRun.then_turn, Ordered}
-use Rattle.ssh_model.specs.ChannelSafe.{Welcome, WindowsKept, NotRefused, data_sent, data_received, DataInOrder}
+use Rattle.ssh_model.specs.ChannelSafe.{WindowsKept, NotRefused, data_sent, data_received, DataInOrder}
 use Rattle.ssh_model.proofs.ChannelWhole.{both, within_holds, data_begins, welcome}
+use Rattle.ssh_model.proofs.ChannelEnd.{part_own, part_other}
 use Rattle.ssh_model.proofs.ChannelTaken.{Can}
-use Rattle.ssh_model.proofs.ChannelTurn.{End, Stands, end_nothing, turned}
+use Rattle.ssh_model.proofs.ChannelTurn.{End, end_nothing, turned}
 
 older_before : {A : Type 0} (o a l : List A) → IsOlder o l → IsOlder o (a ++ l)
 older_before o [] l r = r
@@ -45,16 +46,6 @@ goes_on s h g items v turn o =
     let t = turned s (λ n. Run s n (noted (peer s) g)) (λ n m. Next m n (noted (peer s) g)) (can_pair s (noted (peer s) g)) h (record { run = v.run; end = v.here }) items turn
     (λ m e. next_noted s (peer s) h g m v.here v.there (subst P e o)) in
     record { run = t.run; here = t.end; there = v.there }
-
-part_own : (side : Side) (items : List Item) (run : List Done) → part side (done_by side items ++ run) ≡ items ++ part side run
-part_own side [] run = refl
-part_own Client (i ∷ items) run = ap (λ l. i ∷ l) (part_own Client items run)
-part_own Server (i ∷ items) run = ap (λ l. i ∷ l) (part_own Server items run)
-
-part_other : (side : Side) (items : List Item) (run : List Done) → part (peer side) (done_by side items ++ run) ≡ part (peer side) run
-part_other side [] run = refl
-part_other Client (i ∷ items) run = part_other Client items run
-part_other Server (i ∷ items) run = part_other Server items run
 
 ordered_tail : (l run : List Done) → Ordered (l ++ run) → Ordered run
 ordered_tail [] run o = o

@@ -4,7 +4,7 @@ use Rattle.ssh_model.specs.History.{Side}
 use Rattle.ssh_model.specs.ChannelMessage.{Message, Message.Close, Stage, Stage.Closed, closed, Suits}
 use Rattle.ssh_model.specs.ChannelNotes.{Note, Note.Said, channel_at}
 use Rattle.ssh_model.specs.ChannelState.{has_closed}
-use Rattle.ssh_model.specs.ChannelHistory.{Item, Item.Sent, sent, received, blocked, noted, owed, is_owed}
+use Rattle.ssh_model.specs.ChannelHistory.{Item, Item.Sent, sent, received, noted, owed, is_owed}
 use Rattle.ssh_model.proofs.ChannelLists.{suits_closed}
 
 -- the item is a reply that was said already

@@ -1,13 +1,12 @@
 -- The rows meet what the runs of notes ask for.
-use Rattle.std.proofs.Common.{◌≡◌, ℕ, ◌+◌, ◌-◌, ◌≤◌, List, [], ◌∷◌, ◌⊎◌, inl, inr, refl, arith, Bool, true, false}
+use Rattle.std.proofs.Common.{◌≡◌, ℕ, List, ◌⊎◌, inl, inr, refl, arith, Bool, true, false}
 use Rattle.ssh_model.specs.History.{Side, peer}
-use Rattle.ssh_model.specs.ChannelMessage.{Message, Message.WindowAdjust, Message.Close, Message.Request, Message.Reply, mine, gives, size, Stage, Stage.Quiet, Stage.Speaking, Stage.Ended, Stage.Closed, Stage.Failed, stage, begun, talked, Suits}
+use Rattle.ssh_model.specs.ChannelMessage.{Message, Message.WindowAdjust, Message.Close, Message.Request, Message.Reply, mine, Stage, Stage.Quiet, Stage.Speaking, Stage.Ended, Stage.Closed, Stage.Failed, talked, Suits}
 use Rattle.ssh_model.specs.ChannelNotes.{Note, channel_at}
-use Rattle.ssh_model.specs.ChannelState.{said_at, took_at}
 use Rattle.ssh_model.specs.ChannelRules.{Says, Takes}
 use Rattle.ssh_model.specs.ChannelRows.{Ask, Ask.confirm, Ask.refuse, Ask.adjust, Ask.give_data, Ask.eof, Ask.close, Ask.request, Ask.reply, Take, Take.confirmed, Take.refused, Take.adjusted, Take.got_data, Take.ended, Take.closed, Take.requested, Take.replied}
 use Rattle.ssh_model.proofs.ChannelLocal.{Local}
-use Rattle.ssh_model.proofs.ChannelState.{Confirmed, confirmed_is, waits_is, offered_is, speaks, peer_speaks, not_closed_at}
+use Rattle.ssh_model.proofs.ChannelState.{confirmed_is, waits_is, offered_is, speaks, peer_speaks, not_closed_at}
 
 flows : (q : Stage) → talked q ≡ true → (q ≡ Closed → ⊥) → (q ≡ Speaking) ⊎ (q ≡ Ended)
 flows Speaking t c = inl refl

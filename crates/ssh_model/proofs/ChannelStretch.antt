@@ -1,7 +1,7 @@
 -- Named channels are stretches under local numbers.
 use Rattle.std.proofs.Common.{◌≡◌, ℕ, List, [], ◌∷◌, ◌⊎◌, inl, inr, refl, ap, sym, ◌∙◌, arith, subst, cond, Bool, true, false, ◌==◌, eq-eqb, eqb-true}
-use Rattle.ssh_model.specs.History.{Side, peer}
-use Rattle.ssh_model.specs.ChannelMessage.{Message, Message.Open, Message.OpenFailure, Channel, Channel.Opened, same, is_open, over}
+use Rattle.ssh_model.specs.History.{Side}
+use Rattle.ssh_model.specs.ChannelMessage.{Message, Message.Open, Message.OpenFailure, Channel, same, is_open, over}
 use Rattle.ssh_model.specs.ChannelNotes.{Note, Note.Said, Note.Took, Note.Refused, said_all, took_all, said, took, opens, OpenedAt, At, Free}
 use Rattle.ssh_model.specs.ChannelRules.{Says, Takes, next_own, next_theirs, EndRun, EndRun.start, EndRun.opening, EndRun.saying, EndRun.take_open, EndRun.refuse_open, EndRun.take}
 use Rattle.ssh_model.specs.ChannelStretch.{said_since, took_since, IsStretch}

@@ -1,6 +1,6 @@
 -- What a received message does to the notes, with the replies that it makes due.
-use Rattle.std.proofs.Common.{◌≡◌, ℕ, ◌≤◌, List, [], ◌∷◌, ◌++◌, map, refl, ap, sym, arith, subst, cond, Bool, true, false, ◌==◌, Some, None}
-use Rattle.ssh_model.specs.History.{Side, peer}
+use Rattle.std.proofs.Common.{◌≡◌, ℕ, ◌≤◌, List, [], ◌∷◌, ◌++◌, map, refl, ap, sym, arith, subst, cond, Bool, true, false, Some, None}
+use Rattle.ssh_model.specs.History.{Side}
 use Rattle.ssh_model.specs.ChannelMessage.{Message, Message.Open, Message.OpenFailure, Message.Close, Channel, same, mine, sender, Stage, Stage.Quiet, Stage.Speaking, Stage.Ended, Stage.Closed, Stage.Failed, stage, talked, closed, Suits, over_at}
 use Rattle.ssh_model.specs.ChannelNotes.{payload, Note, Note.Said, Note.Took, Note.Refused, said_all, took_all, said, took, opens, channel_at, Free}
 use Rattle.ssh_model.specs.ChannelState.{largest, has_closed}

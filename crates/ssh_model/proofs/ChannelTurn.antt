@@ -1,11 +1,11 @@
 -- A turn of an end: what its notes and what it owes become.
-use Rattle.std.proofs.Common.{◌≡◌, ℕ, ◌≤◌, List, [], ◌∷◌, ◌++◌, map, ◌⊎◌, inl, inr, refl, ap, sym, ◌∙◌, arith, subst, cond, not, ◌&&◌, nat_lt, Bool, true, false, append_assoc, ◌==◌, Option, Some, None}
+use Rattle.std.proofs.Common.{◌≡◌, ℕ, List, [], ◌∷◌, ◌++◌, map, refl, ap, sym, ◌∙◌, subst, cond, not, nat_lt, Bool, true, false, append_assoc, Option, Some, None}
 use Rattle.ssh_model.specs.History.{Side}
 use Rattle.ssh_model.specs.ChannelMessage.{Message, Message.Open, Message.Close, stage}
 use Rattle.ssh_model.specs.ChannelNotes.{payload, Note, Note.Said, said, said_all, took_all, channel_at, Free}
 use Rattle.ssh_model.specs.ChannelState.{is_held, has_closed, peer_number}
-use Rattle.ssh_model.specs.ChannelRules.{Says, next_own}
-use Rattle.ssh_model.specs.ChannelHistory.{Item, Item.Sent, Item.Received, Item.KexinitSent, Item.NewkeysSent, sent, received, blocked, due, note_sent, note_received, noted, owed, is_owed, is_free, at_once}
+use Rattle.ssh_model.specs.ChannelRules.{Says}
+use Rattle.ssh_model.specs.ChannelHistory.{Item, Item.Sent, Item.Received, Item.NewkeysSent, sent, received, blocked, due, note_sent, note_received, noted, owed, is_owed, is_free, at_once}
 use Rattle.ssh_model.specs.ChannelRows.{Turn, Turn.opens, Turn.asks, Turn.takes_open, Turn.refuses_open, Turn.takes, Turn.rekeys, Turn.completes}
 use Rattle.ssh_model.proofs.ChannelState.{and_is, not_is, free_number}
 use Rattle.ssh_model.proofs.ChannelReplies.{AllDue, drop, owed_drop, received_drop, sent_append, due_append, not_closed}

@@ -2,6 +2,7 @@
 //! empty bodies, and each one's contract is a law of the definitions.
 #![tactic(auto)]
 
+pub mod channel;
 mod epoch;
 
 pub use epoch::taken_in_order;
