@@ -1,8 +1,8 @@
 -- Laws of the definitions by themselves.
-use Rattle.std.proofs.Common.{◌≡◌, ℕ, ◌-◌, List, ◌∷◌, length, ◌⊎◌, inl, inr, refl, ap, ◌∙◌, arith, cond, suc, Bool, true, false, Option}
+use Rattle.std.proofs.Common.{◌≡◌, ℕ, ◌-◌, List, ◌∷◌, length, ◌⊎◌, inl, inr, refl, ap, ◌∙◌, arith, suc, Bool, true, false, Option}
 use Rattle.ssh_model.specs.History.{Side}
-use Rattle.ssh_model.specs.ChannelMessage.{Message, Message.Data, Message.Request, Message.Reply, Channel, Stage, Stage.Closed, Stage.Failed, stage, closed, over_at, over, window, spent}
-use Rattle.ssh_model.specs.ChannelNotes.{Note, Note.Said, Note.Took, said, took, said_all, took_all, channel_at, At, Free, waits_here, waits_there}
+use Rattle.ssh_model.specs.ChannelMessage.{Message, Message.Data, Message.Request, Message.Reply, Channel, Stage, Stage.Closed, Stage.Failed, stage, over_at, over, window, spent}
+use Rattle.ssh_model.specs.ChannelNotes.{Note, Note.Said, Note.Took, said, took, said_all, took_all, channel_at, At, Free}
 use Rattle.ssh_model.specs.ChannelState.{is_held, has_closed, room, left, waiting_here, waiting_there}
 use Rattle.ssh_model.specs.ChannelRules.{EndRun}
 use Rattle.ssh_model.proofs.ChannelLines.{same_self, on_hit}
@@ -34,24 +34,17 @@ free_is s n x r e = free_number s x n (local s n r) e
 pub held_is : (s : Side) (n : List Note) (x : ℕ) (i : Channel) → EndRun s n → At x i n → (is_held x n ≡ true) × (channel_at x n ≡ i)
 held_is s n x i r a = let v = local s n r in (at_held s x i n v a, v.current x i a)
 
-waits_more : (c b : Bool) (m : ℕ) → c ≡ true → cond c (cond b m (suc m)) m ≡ cond b m (suc m)
-waits_more c b m e = rw e refl
-
 pub request_taken : (x t : ℕ) (n : List Note) → has_closed x n ≡ false → waiting_here x (Took x (channel_at x n) (Request t true) ∷ n) ≡ suc (waiting_here x n)
-request_taken x t n e =
-    let i = channel_at x n in
-    waits_more _ (closed (stage (said i n))) (waits_here i n) (same_self i) ∙ ap (λ b. cond b (waits_here i n) (suc (waits_here i n))) e
+request_taken x t n e = rw (same_self (channel_at x n), e) refl
 
 pub request_late : (x t : ℕ) (n : List Note) → has_closed x n ≡ true → waiting_here x (Took x (channel_at x n) (Request t true) ∷ n) ≡ waiting_here x n
-request_late x t n e =
-    let i = channel_at x n in
-    waits_more _ (closed (stage (said i n))) (waits_here i n) (same_self i) ∙ ap (λ b. cond b (waits_here i n) (suc (waits_here i n))) e
+request_late x t n e = rw (same_self (channel_at x n), e) refl
 
 pub reply_said : (x t : ℕ) (b : Bool) (n : List Note) → waiting_here x (Said x (channel_at x n) (Reply t b) ∷ n) ≡ waiting_here x n - 1
-reply_said x t b n = let i = channel_at x n in ap (λ c. cond c (waits_here i n - 1) (waits_here i n)) (same_self i)
+reply_said x t b n = rw (same_self (channel_at x n)) refl
 
 pub request_said : (x t : ℕ) (n : List Note) → waiting_there x (Said x (channel_at x n) (Request t true) ∷ n) ≡ suc (waiting_there x n)
-request_said x t n = let i = channel_at x n in ap (λ c. cond c (suc (waits_there i n)) (waits_there i n)) (same_self i)
+request_said x t n = rw (same_self (channel_at x n)) refl
 
 pub reply_taken : (x t : ℕ) (b : Bool) (n : List Note) → waiting_there x (Took x (channel_at x n) (Reply t b) ∷ n) ≡ waiting_there x n - 1
-reply_taken x t b n = let i = channel_at x n in ap (λ c. cond c (waits_there i n - 1) (waits_there i n)) (same_self i)
+reply_taken x t b n = rw (same_self (channel_at x n)) refl

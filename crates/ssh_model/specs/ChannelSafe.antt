@@ -2,7 +2,7 @@
 use Rattle.std.specs.Prelude.{◌≡◌, ℕ, ◌≤◌, List, [], ◌∷◌, ◌++◌, reverse, ◌⊎◌, false, cond, Option, Some, None}
 use Rattle.ssh_model.specs.History.{Side, Side.Client, Side.Server, peer, IsOlder}
 use Rattle.ssh_model.specs.ChannelMessage.{Message, Message.Open, Message.OpenFailure, Message.Data, Channel, Channel.Opened, same, window, spent, data_of}
-use Rattle.ssh_model.specs.ChannelNotes.{Note, said, took, channel_at}
+use Rattle.ssh_model.specs.ChannelNotes.{Note, said, took, OpenedAt, channel_at}
 use Rattle.ssh_model.specs.ChannelState.{is_unknown_channel, is_window_overrun, is_window_too_large}
 use Rattle.ssh_model.specs.ChannelHistory.{Item, Item.Sent, Item.Received, sent, received, noted}
 use Rattle.ssh_model.specs.ChannelRows.{Done, part, PairRun, Ordered}
@@ -74,9 +74,11 @@ Partnered s run = (i : Channel) → (data_received s i (part s run) ≡ [] → �
 
 -- ---- a run that meets every premise
 
--- Data of both kinds were taken on the first channel, and the second was refused.
+-- Data of both kinds were taken on the first channel, its number was used again, and that channel was refused.
 pub record IsExample (run : List Done) : Type 0 where
   pub goes : PairRun run
   pub ordered : Ordered run
   pub came : data_received Server (Opened Client 0) (part Server run) ≡ (Some 1, 8 ∷ 9 ∷ []) ∷ (None, 7 ∷ []) ∷ []
   pub refused : took (Opened Client 1) (notes_of Client run) ≡ OpenFailure 0 ∷ []
+  pub first : OpenedAt 0 (Opened Client 0) (notes_of Client run)
+  pub again : OpenedAt 0 (Opened Client 1) (notes_of Client run)

@@ -37,7 +37,7 @@ pub fn channels()
     ensures partner { (run : List Done) → PairRun run → Ordered run → (s : Side) → Partnered s run }
 {}
 
-/// There is such a run, with a channel whose CLOSE was owed and whose number was used again.
+/// There is such a run, with data of both kinds on a channel whose number was used again.
 pub fn channels_example()
     ensures { (run : List Done) × IsExample run }
 {}
