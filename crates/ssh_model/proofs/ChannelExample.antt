@@ -4,8 +4,8 @@ use Rattle.std.proofs.Common.{◌≡◌, ◌≤◌, List, [], ◌∷◌, inl, in
 use Rattle.ssh_model.specs.History.{Side, Side.Client, Side.Server}
 use Rattle.ssh_model.specs.ChannelMessage.{Message.Open, Message.OpenConfirmation, Message.OpenFailure, Message.WindowAdjust, Message.Data, Message.Eof, Message.Close, Message.Request, Message.Reply}
 use Rattle.ssh_model.specs.ChannelState.{largest, room, left, waiting_here, waiting_there}
-use Rattle.ssh_model.specs.ChannelHistory.{Item.Sent, Item.Received, Item.KexinitSent, Item.NewkeysSent}
-use Rattle.ssh_model.specs.ChannelRows.{Ask.confirm, Ask.adjust, Ask.give_data, Ask.eof, Ask.close, Ask.request, Ask.reply, Take.confirmed, Take.refused, Take.adjusted, Take.got_data, Take.ended, Take.closed, Take.requested, Take.replied, Turn.opens, Turn.asks, Turn.takes_open, Turn.refuses_open, Turn.takes, Turn.rekeys, Turn.completes, Done, Done.By, PairRun, PairRun.begins, PairRun.then_turn, Ordered}
+use Rattle.ssh_model.specs.ChannelHistory.{Item.Sent, Item.Received, Item.KexinitSent, Item.NewkeysSent, some_free, has_place}
+use Rattle.ssh_model.specs.ChannelRows.{Ask.confirm, Ask.adjust, Ask.give_data, Ask.eof, Ask.close, Ask.request, Ask.reply, Take.confirmed, Take.refused, Take.adjusted, Take.got_data, Take.ended, Take.closed, Take.requested, Take.replied, Turn.opens, Turn.asks, Turn.takes_open, Turn.refuses_open, Turn.takes, Turn.rekeys, Turn.completes, Done, Done.By, part, PairRun, PairRun.begins, PairRun.then_turn, Ordered}
 use Rattle.ssh_model.specs.ChannelSafe.{notes_of, IsExample}
 
 small : 100 ≤ largest
@@ -185,6 +185,10 @@ one_waits_there = refl
 
 none_waits_here : waiting_here 5 (notes_of Server d11) ≡ 0
 none_waits_here = refl
+
+place : has_place Server (part Server d24) ≡ true
+unfolding has_place some_free
+place = refl
 
 none_waits_there : waiting_there 0 (notes_of Client d12) ≡ 0
 none_waits_there = refl

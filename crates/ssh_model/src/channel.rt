@@ -6,7 +6,7 @@ ghost use Rattle.ssh_model.specs.ChannelMessage.{Message, Message.Data, Message.
 ghost use Rattle.ssh_model.specs.ChannelNotes.{Note, Note.Said, Note.Took, channel_at, At, Free};
 ghost use Rattle.ssh_model.specs.ChannelState.{is_held, has_closed, room, left, waiting_here, waiting_there};
 ghost use Rattle.ssh_model.specs.ChannelRules.{EndRun, Run, Next};
-ghost use Rattle.ssh_model.specs.ChannelHistory.{Item, noted};
+ghost use Rattle.ssh_model.specs.ChannelHistory.{Item, noted, is_free, has_place};
 ghost use Rattle.ssh_model.specs.ChannelRows.{EndTurns, Done, part, PairRun, Ordered};
 ghost use Rattle.ssh_model.specs.ChannelSafe.{WindowsHere, Within, DataBegins, Welcome, WindowsKept, NotRefused, DataInOrder, Partnered, IsExample};
 ghost use Rattle.ssh_model.specs.ChannelStretch.{IsStretch};
@@ -61,11 +61,13 @@ pub fn stretches()
 {}
 
 /// A number is held exactly while a channel that is not over has it, which is then the one opened last there; a channel is
-/// over after two CLOSEs or an OPEN_FAILURE, and not before.
+/// over after two CLOSEs or an OPEN_FAILURE, and not before. There is a place exactly while some number is free.
 pub fn numbers()
     ensures free { (s : Side) (n : List Note) (x : ℕ) → EndRun s n → is_held x n ≡ false → Free x n }
     ensures held { (s : Side) (n : List Note) (x : ℕ) (i : Channel) → EndRun s n → At x i n → (is_held x n ≡ true) × (channel_at x n ≡ i) }
     ensures over { (a : List Message) (b : List Message) → over a b ≡ true → ((stage a ≡ Closed) × (stage b ≡ Closed)) ⊎ ((stage a ≡ Failed) ⊎ (stage b ≡ Failed)) }
+    ensures place { (s : Side) (h : List Item) → has_place s h ≡ true → (x : ℕ) × (is_free s h x ≡ true) }
+    ensures full { (s : Side) (h : List Item) (x : ℕ) → has_place s h ≡ false → is_free s h x ≡ false }
 {}
 
 /// Data and extended data lower the window left by their length.
