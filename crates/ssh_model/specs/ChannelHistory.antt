@@ -1,7 +1,7 @@
 -- What one end sent and received on channels, with KEXINIT and NEWKEYS sent, the newest first, and the notes that it makes.
 -- An end is blocked from its KEXINIT to its NEWKEYS (RFC 4253 section 7.1): what it says then is owed.
-use Rattle.std.specs.Prelude.{ℕ, List, [], ◌∷◌, ◌++◌, Bool, true, false, cond, not, ◌&&◌, nat_lt, ◌==◌, Option, Some, None}
-use Rattle.ssh_model.specs.History.{Side, peer}
+use Rattle.std.specs.Prelude.{ℕ, zero, suc, List, [], ◌∷◌, ◌++◌, Bool, true, false, cond, not, ◌&&◌, ◌||◌, nat_lt, ◌==◌, Option, Some, None}
+use Rattle.ssh_model.specs.History.{Side}
 use Rattle.ssh_model.specs.ChannelMessage.{Message, Message.Open, Message.OpenFailure, Message.Close}
 use Rattle.ssh_model.specs.ChannelNotes.{Note, Note.Said, Note.Took, Note.Refused, channel_at}
 use Rattle.ssh_model.specs.ChannelState.{is_held, has_closed, peer_number}
@@ -70,12 +70,20 @@ owed s (_ ∷ h) = owed s h
 -- a reply at this number is among these
 abbrev pub is_owed : ℕ → List Item → Bool
 is_owed x [] = false
-is_owed x (Sent (Some y) m ∷ l) = cond (x == y) true (is_owed x l)
+is_owed x (Sent (Some y) m ∷ l) = cond (y == x) true (is_owed x l)
 is_owed x (_ ∷ l) = is_owed x l
 
--- A new channel can have this number.
+-- A new channel can have this number: local numbers are below 1,024 (own).
 abbrev pub is_free : Side → List Item → ℕ → Bool
 is_free s h x = nat_lt x 1024 && (not (is_held x (noted s h)) && not (is_owed x (owed s h)))
+
+-- There is a free number, so a place for a new channel. With none there are 1,024 channels.
+unfoldable pub some_free : Side → List Item → ℕ → Bool
+some_free s h zero = false
+some_free s h (suc x) = is_free s h x || some_free s h x
+
+unfoldable pub has_place : Side → List Item → Bool
+has_place s h = some_free s h 1024
 
 -- replies are sent at once, or owed where the end is blocked
 abbrev pub at_once : Bool → List Item → List Item

@@ -1,5 +1,5 @@
 -- What one end said and took on channels, the newest first, and what can be read off it (own).
-use Rattle.std.specs.Prelude.{◌≡◌, ℕ, suc, ◌+◌, ◌-◌, List, [], ◌∷◌, ◌⊎◌, Bool, true, false, cond, ◌==◌}
+use Rattle.std.specs.Prelude.{◌≡◌, ℕ, suc, ◌-◌, List, [], ◌∷◌, ◌⊎◌, true, false, cond, ◌==◌}
 use Rattle.ssh_model.specs.History.{Side.Client}
 use Rattle.ssh_model.specs.ChannelMessage.{Message, Message.Open, Message.OpenFailure, Message.Request, Message.Reply, Channel, Channel.Opened, same, stage, closed, over}
 

@@ -1,11 +1,11 @@
 -- What is claimed of channels: windows (RFC 4254 section 5.2), no refusal between the two ends, and data in order (own).
-use Rattle.std.specs.Prelude.{◌≡◌, ℕ, ◌≤◌, List, [], ◌∷◌, ◌++◌, reverse, ◌⊎◌, false, cond, Option, Some}
-use Rattle.ssh_model.specs.History.{Side, peer, IsOlder}
-use Rattle.ssh_model.specs.ChannelMessage.{Message, Message.Open, Message.Data, Channel, same, window, spent, data_of}
-use Rattle.ssh_model.specs.ChannelNotes.{Note, said, took, channel_at}
+use Rattle.std.specs.Prelude.{◌≡◌, ℕ, ◌≤◌, List, [], ◌∷◌, ◌++◌, reverse, ◌⊎◌, false, cond, Option, Some, None}
+use Rattle.ssh_model.specs.History.{Side, Side.Client, Side.Server, peer, IsOlder}
+use Rattle.ssh_model.specs.ChannelMessage.{Message, Message.Open, Message.OpenFailure, Message.Data, Channel, Channel.Opened, same, window, spent, data_of}
+use Rattle.ssh_model.specs.ChannelNotes.{Note, said, took, OpenedAt, channel_at}
 use Rattle.ssh_model.specs.ChannelState.{is_unknown_channel, is_window_overrun, is_window_too_large}
 use Rattle.ssh_model.specs.ChannelHistory.{Item, Item.Sent, Item.Received, sent, received, noted}
-use Rattle.ssh_model.specs.ChannelRows.{Done, part}
+use Rattle.ssh_model.specs.ChannelRows.{Done, part, PairRun, Ordered}
 
 abbrev pub IsIn : {A : Type 0} → A → List A → Type 0
 IsIn x [] = ⊥
@@ -71,3 +71,14 @@ HasPartner i n g =
 -- Each channel on which this end took data has a partner.
 abbrev pub Partnered : Side → List Done → Type 0
 Partnered s run = (i : Channel) → (data_received s i (part s run) ≡ [] → ⊥) → HasPartner i (notes_of s run) (notes_of (peer s) run)
+
+-- ---- a run that meets every premise
+
+-- Data of both kinds were taken on the first channel, its number was used again, and that channel was refused.
+pub record IsExample (run : List Done) : Type 0 where
+  pub goes : PairRun run
+  pub ordered : Ordered run
+  pub came : data_received Server (Opened Client 0) (part Server run) ≡ (Some 1, 8 ∷ 9 ∷ []) ∷ (None, 7 ∷ []) ∷ []
+  pub refused : took (Opened Client 1) (notes_of Client run) ≡ OpenFailure 0 ∷ []
+  pub first : OpenedAt 0 (Opened Client 0) (notes_of Client run)
+  pub again : OpenedAt 0 (Opened Client 1) (notes_of Client run)

@@ -2,6 +2,7 @@
 //! empty bodies, and each one's contract is a law of the definitions.
 #![tactic(auto)]
 
+pub mod channel;
 mod epoch;
 mod exchange;
 mod message;

@@ -1,0 +1,5 @@
+use Rattle.ssh_model.proofs.ChannelExample.{example}
+use Rattle.ssh_model.proofs.channel.channels_example.Goals as goal
+
+pub returns : goal.returns
+returns c = example

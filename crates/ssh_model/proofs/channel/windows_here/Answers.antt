@@ -1,0 +1,5 @@
+use Rattle.ssh_model.proofs.ChannelEnd.{windows_here}
+use Rattle.ssh_model.proofs.channel.windows_here.Goals as goal
+
+pub returns : goal.returns
+returns c = windows_here
