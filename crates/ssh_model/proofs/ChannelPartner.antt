@@ -1,10 +1,10 @@
 -- A channel on which data were taken has a partner.
 use Rattle.std.proofs.Common.{◌≡◌, ℕ, List, [], ◌∷◌, ◌⊎◌, inl, inr, refl, sym, ◌∙◌, subst, Bool, true, false}
-use Rattle.ssh_model.specs.History.{Side, Side.Client, Side.Server, peer}
+use Rattle.ssh_model.specs.History.{Side, Side.Client, Side.Server, peer, IsIn}
 use Rattle.ssh_model.specs.ChannelMessage.{Message, Message.Open, Message.OpenConfirmation, Message.OpenFailure, Message.Eof, Message.Close, Channel, Channel.Opened, mine, is_open, Stage, Stage.Quiet, stage, talked, begun, Suits, data_of}
 use Rattle.ssh_model.specs.ChannelNotes.{Note, said_all, took_all, said, took}
 use Rattle.ssh_model.specs.ChannelRows.{Done, part, PairRun, Ordered}
-use Rattle.ssh_model.specs.ChannelSafe.{IsIn, HasPartner, Partnered}
+use Rattle.ssh_model.specs.ChannelSafe.{HasPartner, Partnered}
 use Rattle.ssh_model.proofs.ChannelLists.{Kept, more, more_older}
 use Rattle.ssh_model.proofs.ChannelLines.{on_older, mine_twice}
 use Rattle.ssh_model.proofs.ChannelWhole.{Both, both, in_older}

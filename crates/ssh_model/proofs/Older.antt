@@ -1,9 +1,9 @@
 -- Older parts of a list that grows at its head, and the places in it.
 use Rattle.std.proofs.Common.{◌≡◌, ℕ, zero, suc, ◌+◌, ◌<◌, ◌≤◌, List, [], ◌∷◌, ◌++◌, length, reverse, map, ◌⊎◌, inl, inr, refl, ap, sym, ◌∙◌, subst, arith, append_assoc, append-nil, cond, ◌==◌, eq-eqb, eqb-true, eqb, ne_eqb, Bool, true, false}
 use Rattle.std.proofs.lemmas.List.{reverse-append}
-use Rattle.ssh_model.specs.History.{IsOlder}
+use Rattle.ssh_model.specs.History.{IsOlder, IsIn}
 use Rattle.ssh_model.specs.Exchanges.{nth}
-use Rattle.ssh_model.specs.Honest.{IsIn, AreDistinct}
+use Rattle.ssh_model.specs.Honest.{AreDistinct}
 use Rattle.ssh_model.proofs.Ends.{older_length, older_same}
 
 -- n older ones lie below this x

@@ -1,15 +1,11 @@
 -- What is claimed of channels: windows (RFC 4254 section 5.2), no refusal between the two ends, and data in order (own).
 use Rattle.std.specs.Prelude.{◌≡◌, ℕ, ◌≤◌, List, [], ◌∷◌, ◌++◌, reverse, ◌⊎◌, false, cond, Option, Some, None}
-use Rattle.ssh_model.specs.History.{Side, Side.Client, Side.Server, peer, IsOlder}
+use Rattle.ssh_model.specs.History.{Side, Side.Client, Side.Server, peer, IsIn, IsOlder}
 use Rattle.ssh_model.specs.ChannelMessage.{Message, Message.Open, Message.OpenFailure, Message.Data, Channel, Channel.Opened, same, window, spent, data_of}
 use Rattle.ssh_model.specs.ChannelNotes.{Note, said, took, OpenedAt, channel_at}
 use Rattle.ssh_model.specs.ChannelState.{is_unknown_channel, is_window_overrun, is_window_too_large}
 use Rattle.ssh_model.specs.ChannelHistory.{Item, Item.Sent, Item.Received, sent, received, noted}
 use Rattle.ssh_model.specs.ChannelRows.{Done, part, PairRun, Ordered}
-
-abbrev pub IsIn : {A : Type 0} → A → List A → Type 0
-IsIn x [] = ⊥
-IsIn x (y ∷ l) = (x ≡ y) ⊎ IsIn x l
 
 -- ---- of notes: n are those of one end, g those of the other
 

@@ -11,7 +11,7 @@ use Rattle.ssh_model.specs.Phase.{authenticated, blocked}
 use Rattle.ssh_model.specs.ChannelMessage.{Message, Message.Open, Message.OpenConfirmation, Message.OpenFailure, Message.WindowAdjust, Message.Data, Message.Eof, Message.Close, Message.Request, Message.Reply}
 use Rattle.ssh_model.specs.ChannelNotes.{Note}
 use Rattle.ssh_model.specs.ChannelState.{largest, is_confirmed, is_offered, is_waiting, has_ended, has_closed, peer_ended, room, left, most_there, peer_number, waiting_here, waiting_there, is_unknown_channel, is_window_overrun, is_window_too_large}
-use Rattle.ssh_model.specs.ChannelHistory.{due, noted, owed, is_free, at_once}
+use Rattle.ssh_model.specs.ChannelHistory.{due, noted, owed, is_free, has_place, at_once}
 use Rattle.ssh_model.specs.ChannelHistory as channel
 use Rattle.ssh_model.specs.Transport.{string_size, is_too_long}
 
@@ -68,14 +68,9 @@ pub data AreReplies : List channel.Item → List Item → Type 0 where
 
 -- ---- numbers and requests in use
 
--- Among the numbers below this one a channel can have one.
-abbrev pub has_free : Side → List channel.Item → ℕ → Bool
-has_free side l zero = false
-has_free side l (suc n) = is_free side l n || has_free side l n
-
 -- the table of 1,024 channels is full
 abbrev pub is_full : Side → List Item → Bool
-is_full side h = not (has_free side (channel_items h) 1024)
+is_full side h = not (has_place side (channel_items h))
 
 -- how many global requests of the peer wait for this end, and of this end for the peer (RFC 4254 section 4)
 abbrev pub globals_here : List Item → ℕ

@@ -60,6 +60,10 @@ IsHonestEpoch [] = Unit {0}
 IsHonestEpoch (By side (Took p) ∷ run) = HasNumber p (length (took (part side run))) (sent (part (peer side) run)) × IsHonestEpoch run
 IsHonestEpoch (_ ∷ run) = IsHonestEpoch run
 
+abbrev pub IsIn : {A : Type 0} → A → List A → Type 0
+IsIn x [] = ⊥
+IsIn x (y ∷ l) = (x ≡ y) ⊎ IsIn x l
+
 -- The old list is what is left of the other when some of its newest are taken away.
 abbrev pub IsOlder : {A : Type 0} → List A → List A → Type 0
 IsOlder old [] = old ≡ []

@@ -1,16 +1,12 @@
 -- When a run of two ends is honest: what is assumed of tags, signatures, hashes and cookies.
 use Rattle.std.specs.Prelude.{◌≡◌, ℕ, ◌<◌, List, [], ◌∷◌, ◌⊎◌, Option, Some}
-use Rattle.ssh_model.specs.History.{Side, Side.Client, Side.Server, peer}
+use Rattle.ssh_model.specs.History.{Side, Side.Client, Side.Server, peer, IsIn}
 use Rattle.ssh_model.specs.Message.{Msg.NewKeys, Msg.KexEcdhReply}
 use Rattle.ssh_model.specs.Exchange.{Inputs, exchange_text, exchange_hash}
 use Rattle.ssh_model.specs.Party.{Parties}
 use Rattle.ssh_model.specs.Session.{Item, Item.Fed, Item.Sent, Item.Took, Item.TookGuess, Item.Refused, Done, Done.By, part, sent, took}
 use Rattle.ssh_model.specs.Epoch.{epoch, wire_number}
 use Rattle.ssh_model.specs.Exchanges.{KeyName, exchange, exchanges, sending_name, taking_name}
-
-abbrev pub IsIn : {A : Type 0} → A → List A → Type 0
-IsIn x [] = ⊥
-IsIn x (y ∷ l) = (x ≡ y) ⊎ IsIn x l
 
 abbrev pub AreDistinct : {A : Type 0} → List A → Type 0
 AreDistinct [] = Unit {0}

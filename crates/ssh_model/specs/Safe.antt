@@ -9,7 +9,6 @@ use Rattle.ssh_model.specs.Epoch.{epoch, after_first}
 use Rattle.ssh_model.specs.Exchanges.{nth, no_exchange, exchanges, choice}
 use Rattle.ssh_model.specs.Phase.{sent_success}
 use Rattle.ssh_model.specs.Authentication.{is_accepted}
-use Rattle.ssh_model.specs.Honest.{IsIn}
 use Rattle.ssh_model.specs.Turn.{number_of}
 
 -- ---- agreement
