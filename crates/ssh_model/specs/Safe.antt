@@ -9,6 +9,8 @@ use Rattle.ssh_model.specs.Epoch.{epoch, after_first}
 use Rattle.ssh_model.specs.Exchanges.{nth, no_exchange, exchanges, choice}
 use Rattle.ssh_model.specs.Phase.{sent_success}
 use Rattle.ssh_model.specs.Authentication.{is_accepted}
+use Rattle.ssh_model.specs.ChannelState.{is_held}
+use Rattle.ssh_model.specs.Connection.{notes}
 use Rattle.ssh_model.specs.Turn.{number_of}
 
 -- ---- agreement
@@ -67,6 +69,8 @@ abbrev pub HasConnection : List Payload → Type 0
 HasConnection [] = ⊥
 HasConnection (payload ∷ l) = (80 ≤ number_of (bytes_of payload)) ⊎ HasConnection l
 
--- No message of the connection is sent or taken unless the server accepted a request that the client had sent.
-abbrev pub Authorized : {K : Type 0} → Parties K → List Done → Type 0
-Authorized p run = (side : Side) → (HasConnection (sent (part side run)) ⊎ HasConnection (took (part side run))) → HasAccepted p run
+-- No channel is held, and no message of the connection is sent or taken, unless the server accepted a request that the
+-- client had sent.
+pub record Authorized {K : Type 0} (p : Parties K) (run : List Done) : Type 0 where
+  pub messages : (side : Side) → (HasConnection (sent (part side run)) ⊎ HasConnection (took (part side run))) → HasAccepted p run
+  pub channels : (side : Side) (x : ℕ) → is_held x (notes side (part side run)) ≡ true → HasAccepted p run

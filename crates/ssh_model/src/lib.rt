@@ -6,6 +6,7 @@ pub mod channel;
 mod epoch;
 mod exchange;
 mod message;
+pub mod session;
 
 pub use epoch::taken_in_order;
 pub use exchange::equal_texts;

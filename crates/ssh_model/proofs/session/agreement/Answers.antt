@@ -1,0 +1,5 @@
+use Rattle.ssh_model.proofs.Whole.{agreement_holds}
+use Rattle.ssh_model.proofs.session.agreement.Goals as goal
+
+pub returns : goal.returns
+returns g c = agreement_holds
