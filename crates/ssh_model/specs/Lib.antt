@@ -8,3 +8,5 @@ pub mod History
 pub mod EpochRun
 pub mod Choice
 pub mod Exchange
+pub mod Outcome
+pub mod Line

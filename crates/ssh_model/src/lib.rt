@@ -3,5 +3,7 @@
 #![tactic(auto)]
 
 mod epoch;
+mod line;
 
 pub use epoch::taken_in_order;
+pub use line::{line_examples, line_units, one_version};
