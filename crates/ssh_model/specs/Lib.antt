@@ -10,3 +10,5 @@ pub mod Choice
 pub mod Exchange
 pub mod Outcome
 pub mod Line
+pub mod Delivery
+pub mod Unit
