@@ -135,7 +135,7 @@ line_outcome s n unit a b x y = go (complete s n unit a x) (complete s n unit b 
 -- ---- one version of a version line
 
 -- the software's version ends at the first space
-one_software : (a : List ℕ) (x : Option (List ℕ)) (b : List ℕ) (y : Option (List ℕ)) → list_all is_version_byte a ≡ true → list_all is_version_byte b ≡ true →
+pub one_software : (a : List ℕ) (x : Option (List ℕ)) (b : List ℕ) (y : Option (List ℕ)) → list_all is_version_byte a ≡ true → list_all is_version_byte b ≡ true →
     a ++ comment_text x ≡ b ++ comment_text y → (a ≡ b) × (x ≡ y)
 one_software [] None [] None h k e = (refl, refl)
 one_software [] None [] (Some y) h k e = absurd (cc e)

@@ -1,14 +1,15 @@
-ghost use Rattle.std.specs.Prelude.{◌≡◌, ◌<◌, ◌++◌, ℕ, Bool, true, false, List, [], ◌∷◌, codes, replicate, Option, Some, None};
+ghost use Rattle.std.specs.Prelude.{◌≡◌, ◌++◌, ◌⊎◌, ℕ, Bool, true, false, List, [], ◌∷◌, codes, replicate, Option, Some, None};
 ghost use Rattle.ssh_model.specs.Line.{IsLineBegun, IsVersionLine, LineUnit, line_end};
-ghost use Rattle.ssh_model.specs.Outcome.{Outcome, Outcome.OtherLine, Outcome.RefusedLine, Outcome.VersionLine};
+ghost use Rattle.ssh_model.specs.Outcome.{HasUnit, Outcome, Outcome.OtherLine, Outcome.RefusedLine, Outcome.VersionLine};
 
 /// Before the version line (RFC 4253 section 4.2) no unit of the stream is a beginning of another, a unit has one outcome and
-/// at least one byte, and the beginning of a line has no unit in front.
+/// at least one byte, and bytes have a unit in front exactly where they are not the beginning of a line.
 pub fn line_units()
     ensures stand_alone { (from_server : Bool) (others : ℕ) (unit more other : List ℕ) (a b : Outcome) → LineUnit from_server others unit a → LineUnit from_server others other b → unit ++ more ≡ other → more ≡ [] }
     ensures have_one_outcome { (from_server : Bool) (others : ℕ) (unit : List ℕ) (a b : Outcome) → LineUnit from_server others unit a → LineUnit from_server others unit b → a ≡ b }
     ensures have_bytes { (from_server : Bool) (others : ℕ) (a : Outcome) → LineUnit from_server others [] a → ⊥ }
     ensures come_after_what_is_begun { (from_server : Bool) (others : ℕ) (bytes unit more : List ℕ) (a : Outcome) → IsLineBegun bytes → unit ++ more ≡ bytes → LineUnit from_server others unit a → ⊥ }
+    ensures leave_no_gap { (from_server : Bool) (others : ℕ) (bytes : List ℕ) → IsLineBegun bytes ⊎ HasUnit (LineUnit from_server others) bytes }
 {}
 
 /// A version line names one version of the protocol, one version of the software, and one comment or none.

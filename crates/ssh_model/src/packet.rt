@@ -1,10 +1,11 @@
-ghost use Rattle.std.specs.Prelude.{◌≡◌, ◌++◌, ℕ, List, [], Option};
-ghost use Rattle.ssh_model.specs.Outcome.{Outcome};
+ghost use Rattle.std.specs.Prelude.{◌≡◌, ◌≤◌, ◌^◌, ◌++◌, ◌⊎◌, ℕ, List, [], Option};
+ghost use Rattle.ssh_model.specs.DataTypes.{AreBytes};
+ghost use Rattle.ssh_model.specs.Outcome.{HasUnit, Outcome};
 ghost use Rattle.ssh_model.specs.Seal.{Crypto, IsSealing};
 ghost use Rattle.ssh_model.specs.Unit.{IsPacketBegun, PacketUnit};
 
 /// Under one key and number no unit of a stream of packets (RFC 4253 section 6) is a beginning of another, a unit has one
-/// outcome and at least one byte, and a packet begun has no unit in front.
+/// outcome and at least one byte, and bytes have a unit in front exactly where they are not a packet begun.
 pub fn packet_units<K>()
     ensures stand_alone { (c : Crypto K) (key : Option K) (number : ℕ) (unit more other : List ℕ) (a b : Outcome) → IsSealing c →
         PacketUnit c key number unit a → PacketUnit c key number other b → unit ++ more ≡ other → more ≡ [] }
@@ -12,4 +13,5 @@ pub fn packet_units<K>()
     ensures have_bytes { (c : Crypto K) (key : Option K) (number : ℕ) (a : Outcome) → IsSealing c → PacketUnit c key number [] a → ⊥ }
     ensures come_after_what_is_begun { (c : Crypto K) (key : Option K) (number : ℕ) (bytes unit more : List ℕ) (a : Outcome) → IsSealing c → IsPacketBegun c key number bytes → unit ++ more ≡ bytes →
         PacketUnit c key number unit a → ⊥ }
+    ensures leave_no_gap { (c : Crypto K) (key : Option K) (number : ℕ) (bytes : List ℕ) → IsSealing c → number ≤ 2 ^ 32 → AreBytes bytes → IsPacketBegun c key number bytes ⊎ HasUnit (PacketUnit c key number) bytes }
 {}
