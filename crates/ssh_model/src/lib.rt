@@ -9,5 +9,5 @@ mod stream;
 
 pub use epoch::taken_in_order;
 pub use line::{line_examples, line_units, one_version};
-pub use packet::packet_units;
+pub use packet::{packet_examples, packet_units};
 pub use stream::{StreamEnd, any_pieces, stream_units, waits_where_begun};
