@@ -63,7 +63,7 @@ pub record IsVersionLine (protoversion software : List ℕ) (comments : Option (
   pub line : IsLine text bytes
   pub version : IsVersionText protoversion software comments text
 
--- Own: from a client 2.0 alone is accepted, from a server 1.99 too.
+-- 2.0, and from a server 1.99, which means the same (RFC 4253 section 5.1). Own: 1.99 from no client.
 abbrev pub IsAccepted : (from_server : Bool) → List ℕ → Type 0
 IsAccepted from_server protoversion = (protoversion ≡ codes "2.0") ⊎ ((from_server ≡ true) × (protoversion ≡ codes "1.99"))
 

@@ -1,5 +1,5 @@
 -- What an end makes of one unit of the byte stream that comes to it.
-use Rattle.std.specs.Prelude.{ℕ, List}
+use Rattle.std.specs.Prelude.{◌≡◌, ℕ, List, ◌++◌}
 
 -- Lines come without CR LF, refusals go by their numbers.
 pub data Outcome : Type 0 where
@@ -8,3 +8,11 @@ pub data Outcome : Type 0 where
   RefusedLine : ℕ → Outcome
   Opens : List ℕ → Outcome
   RefusedPacket : ℕ → Outcome
+
+-- A unit, by a relation of bytes and outcomes, stands in front of the bytes.
+pub record HasUnit (IsUnit : List ℕ → Outcome → Type 0) (bytes : List ℕ) : Type 0 where
+  pub unit : List ℕ
+  pub more : List ℕ
+  pub outcome : Outcome
+  pub parts : unit ++ more ≡ bytes
+  pub is_unit : IsUnit unit outcome

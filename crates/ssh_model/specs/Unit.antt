@@ -26,6 +26,11 @@ pub data Stage (K : Type 0) : Type 0 where
   Lines : (from_server : Bool) (others : ℕ) → Stage K
   Packets : (key : Option K) (number : ℕ) → Stage K
 
+-- An end never took more packets under one key than there are numbers.
+abbrev pub IsStage : {K : Type 0} → Stage K → Type 0
+IsStage (Lines from_server others) = Unit {0}
+IsStage (Packets key number) = number ≤ 2 ^ 32
+
 -- the bytes of the next unit, and what the end makes of them
 abbrev pub IsUnit : {K : Type 0} → Crypto K → Stage K → List ℕ → Outcome → Type 0
 IsUnit c (Lines from_server others) unit outcome = LineUnit from_server others unit outcome
@@ -39,7 +44,7 @@ IsUnitBegun c (Packets key number) bytes = IsPacketBegun c key number bytes
 -- The rules of an end whose stage is a function of its history.
 abbrev pub reading : {K History : Type 0} → Crypto K → (stage : History → Stage K) → (after : History → List ℕ → History → Type 0) → (dead : History → Bool) → Rules History
 reading c stage after dead = record {
-    Ends = λ h unit. (dead h ≡ false) × (outcome : Outcome) × IsUnit c (stage h) unit outcome;
-    After = after;
-    Dead = λ h. dead h ≡ true;
-  }
+  Ends = λ h unit. (dead h ≡ false) × (outcome : Outcome) × IsUnit c (stage h) unit outcome;
+  After = after;
+  Dead = λ h. dead h ≡ true;
+}
