@@ -4,11 +4,16 @@
 
 pub mod channel;
 mod epoch;
+mod exchange;
 mod line;
+mod message;
 mod packet;
+pub mod session;
 mod stream;
 
 pub use epoch::taken_in_order;
+pub use exchange::equal_texts;
 pub use line::{line_examples, line_units, one_version};
+pub use message::one_message;
 pub use packet::{packet_examples, packet_units};
 pub use stream::{StreamEnd, any_pieces, stream_units, waits_where_begun};
