@@ -1,5 +1,5 @@
 -- Each turn of an end keeps what holds of it between its turns, and its opening begins with it.
-use Rattle.std.proofs.Common.{◌≡◌, ℕ, zero, suc, ◌+◌, ◌<◌, ◌≤◌, ◌^◌, List, [], ◌∷◌, ◌++◌, length, map, ◌⊎◌, inl, inr, refl, ap, sym, ◌∙◌, arith, subst, append_assoc, length-append, Bool, true, false, not, nat_le, ◌&&◌, ◌||◌, ◌==◌, Option, Some, None}
+use Rattle.std.proofs.Common.{◌≡◌, ℕ, zero, suc, ◌+◌, ◌<◌, ◌≤◌, ◌^◌, List, [], ◌∷◌, ◌++◌, length, map, ◌⊎◌, inl, inr, refl, ap, sym, ◌∙◌, arith, subst, append_assoc, length-append, Bool, true, false, not, nat_le, max, ◌%◌, ◌&&◌, ◌||◌, ◌==◌, Option, Some, None}
 use Rattle.ssh_model.specs.History.{Side, Side.Client, Side.Server, peer}
 use Rattle.ssh_model.specs.Message.{Msg, Msg.KexInit}
 use Rattle.std.proofs.lemmas.Bool.{leb-true}
@@ -29,7 +29,7 @@ right false b e = absurd (cc e)
 
 packet_short : (block tag : ℕ) (payload bytes : List ℕ) → IsPacket block tag payload bytes → length payload ≤ 35000
 packet_short block tag payload bytes k =
-    let room : length bytes + tag ≤ 35000 = leb-true (length bytes + tag) 35000 (right _ _ (right _ _ k.size)) in
+    let room : length bytes + tag ≤ 35000 = leb-true (length bytes + tag) 35000 (right (nat_le (max 16 block) (length bytes)) (nat_le (length bytes + tag) 35000) (right (length bytes % max block 8 == 0) (nat_le (max 16 block) (length bytes) && nat_le (length bytes + tag) 35000) k.size)) in
     omega (arith, room, ap length k.is_body.parts, length-append payload k.is_body.padding, ap length k.string.parts, length-append k.string.front k.body)
 
 pub wire_short : {K : Type 0} (p : Parties K) (key : Option K) (n : ℕ) (payload unit : List ℕ) → IsWire p.crypto key n payload unit → length payload ≤ 35000
@@ -135,7 +135,7 @@ module _ {K : Type 0} (p : Parties K) (laws : AreLawful p) where
   payload_keeps side h items b n (spends c m w a s k) v = add_quiet p side _ _ tt (add_quiet p side _ _ tt v)
 
   outcome_keeps : (side : Side) (h items : List Item) (unit : List ℕ) (o : Outcome) → IsUnit p.crypto (stage p side h) unit o → OnOutcome p side h o items → End p side h → End p side (items ++ h)
-  outcome_keeps side h items unit o u other_line v = add_quiet p side _ _ tt v
+  outcome_keeps side h items unit o u (other_line text) v = add_quiet p side _ _ tt v
   outcome_keeps side h items unit o u (version_line text) v = add_line p side text h (omega (arith, line_short p (stage p side h) unit text u)) v
   outcome_keeps side h items unit o u (refused_line k r) v = refuses_keeps p side h items k _ r v
   outcome_keeps side h items unit o u (opened b x) v = payload_keeps side h items b (opened_short p (stage p side h) unit b u) x v

@@ -61,7 +61,7 @@ pub no_software_row : LineUnit true 0 (codes "SSH-2.0-" ++ line_end) (RefusedLin
 no_software_row =
     line (codes "SSH-2.0-") (record { is_text = refl; parts = refl; size = omega arith }) (bad_software (codes "2.0") [] (record { parts = refl; first = refl }) (inl refl) no_software)
 
-pub other_server_row : LineUnit true 63 (codes "hello" ++ line_end) OtherLine
+pub other_server_row : LineUnit true 63 (codes "hello" ++ line_end) (OtherLine (codes "hello"))
 other_server_row = line (codes "hello") hello_line (other refl (omega arith) hello_other)
 
 pub many_others_row : LineUnit true 64 (codes "hello" ++ line_end) (RefusedLine 1)

@@ -123,7 +123,7 @@ judged s n text = go (begins opening text)
       where
         from : ((s ≡ true) ⊎ (s ≡ false)) → ((n < 64) ⊎ (64 ≤ n)) → Judged s n text
         from (inr client) w = (RefusedLine 1, other_from_client client is)
-        from (inl server) (inl few) = (OtherLine, other server few is)
+        from (inl server) (inl few) = (OtherLine text, other server few is)
         from (inl server) (inr many) = (RefusedLine 1, too_many_others server many is)
 
 -- ---- what bytes are

@@ -45,8 +45,8 @@ text_place p software text comments v = record { parts = v.parts; first = printe
 
 -- ---- one outcome of a complete line
 
-other_outcome : Bool → ℕ → Outcome
-other_outcome from_server others = cond from_server (cond (ltb others 64) OtherLine (RefusedLine 1)) (RefusedLine 1)
+other_outcome : Bool → ℕ → List ℕ → Outcome
+other_outcome from_server others text = cond from_server (cond (ltb others 64) (OtherLine text) (RefusedLine 1)) (RefusedLine 1)
 
 data Version (from_server : Bool) (p after text : List ℕ) : Outcome → Type 0 where
   refused : (IsAccepted from_server p → ⊥) → Version from_server p after text (RefusedLine 2)
@@ -54,7 +54,7 @@ data Version (from_server : Bool) (p after text : List ℕ) : Outcome → Type 0
   accepted : IsAccepted from_server p → (software : List ℕ) (comments : Option (List ℕ)) → IsSoftware software comments after → Version from_server p after text (VersionLine text)
 
 data Kind (from_server : Bool) (others : ℕ) (text : List ℕ) (o : Outcome) : Type 0 where
-  is_other : IsOther text → o ≡ other_outcome from_server others → Kind from_server others text o
+  is_other : IsOther text → o ≡ other_outcome from_server others text → Kind from_server others text o
   without : (rest : List ℕ) → text ≡ opening ++ rest → HasNoMinus rest → o ≡ RefusedLine 1 → Kind from_server others text o
   with_minus : (p after : List ℕ) → HasVersion p after text → Version from_server p after text o → Kind from_server others text o
 

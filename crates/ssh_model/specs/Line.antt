@@ -90,7 +90,7 @@ pub record HasVersion (protoversion after text : List ℕ) : Type 0 where
 -- What the text of a complete line is to an end that awaits the version line and took so many other lines. It refuses
 -- a bad line (1) and a version of the protocol that it doesn't accept (2).
 pub data LineIs (from_server : Bool) (others : ℕ) (text : List ℕ) : Outcome → Type 0 where
-  other : from_server ≡ true → others < most_others → IsOther text → LineIs from_server others text OtherLine
+  other : from_server ≡ true → others < most_others → IsOther text → LineIs from_server others text (OtherLine text)
   other_from_client : from_server ≡ false → IsOther text → LineIs from_server others text (RefusedLine 1)
   too_many_others : from_server ≡ true → most_others ≤ others → IsOther text → LineIs from_server others text (RefusedLine 1)
   no_minus : (rest : List ℕ) → text ≡ opening ++ rest → HasNoMinus rest → LineIs from_server others text (RefusedLine 1)

@@ -3,7 +3,7 @@ use Rattle.std.specs.Prelude.{◌≡◌, ℕ, List, ◌++◌}
 
 -- Lines come without CR LF, refusals go by their numbers.
 pub data Outcome : Type 0 where
-  OtherLine : Outcome
+  OtherLine : List ℕ → Outcome
   VersionLine : List ℕ → Outcome
   RefusedLine : ℕ → Outcome
   Opens : List ℕ → Outcome

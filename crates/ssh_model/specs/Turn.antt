@@ -100,7 +100,7 @@ stage p side h = stage_after p side h (has_line h)
 
 -- what it does with the next unit
 pub data OnOutcome {K : Type 0} (p : Parties K) (side : Side) (h : List Item) : Outcome → List Item → Type 0 where
-  other_line : OnOutcome p side h OtherLine (TookOtherLine [] ∷ [])
+  other_line : (line : List ℕ) → OnOutcome p side h (OtherLine line) (TookOtherLine line ∷ [])
   version_line : (line : List ℕ) → OnOutcome p side h (VersionLine line) (TookLine line ∷ [])
   refused_line : {items : List Item} (refusal : ℕ) → Refuses h refusal None items → OnOutcome p side h (RefusedLine refusal) items
   opened : {items : List Item} (payload : List ℕ) → OnPayload p side h payload items → OnOutcome p side h (Opens payload) items

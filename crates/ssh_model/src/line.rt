@@ -28,7 +28,7 @@ pub fn line_examples()
     ensures old_version_of_a_client { LineUnit false 0 (codes "SSH-1.99-x" ++ line_end) (RefusedLine 2) }
     ensures only_one_minus { LineUnit true 0 (codes "SSH-2.0" ++ line_end) (RefusedLine 1) }
     ensures no_software { LineUnit true 0 (codes "SSH-2.0-" ++ line_end) (RefusedLine 1) }
-    ensures other_line_of_a_server { LineUnit true 63 (codes "hello" ++ line_end) OtherLine }
+    ensures other_line_of_a_server { LineUnit true 63 (codes "hello" ++ line_end) (OtherLine (codes "hello")) }
     ensures one_other_line_too_many { LineUnit true 64 (codes "hello" ++ line_end) (RefusedLine 1) }
     ensures other_line_of_a_client { LineUnit false 0 (codes "hello" ++ line_end) (RefusedLine 1) }
     ensures lf_alone { LineUnit false 0 (codes "SSH-2.0-x" ++ 10 ∷ []) (RefusedLine 1) }
