@@ -4,6 +4,7 @@
 
 pub mod channel;
 mod epoch;
+pub mod examples;
 mod exchange;
 mod line;
 mod message;
