@@ -34,3 +34,4 @@ pub mod Safe
 pub mod Session
 pub mod Transport
 pub mod Turn
+pub mod TurnSafe
