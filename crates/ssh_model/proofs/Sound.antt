@@ -76,12 +76,12 @@ low_is : (m : Msg) → IsLow m → IsNotSuccess m
 low_is UserauthSuccess l = l
 low_is m l = tt
 
-not_success_sent : (side : Side) (c : Option ℕ) (m : Msg) (b : List ℕ) (h : List Item) → IsNotSuccess m → authenticated side (Sent c m b ∷ h) ≡ authenticated side h
+pub not_success_sent : (side : Side) (c : Option ℕ) (m : Msg) (b : List ℕ) (h : List Item) → IsNotSuccess m → authenticated side (Sent c m b ∷ h) ≡ authenticated side h
 not_success_sent side c UserauthSuccess b h l = elim l [ ]
 not_success_sent Client c m b h l = refl
 not_success_sent Server c m b h l = refl
 
-not_success_taken : (side : Side) (c : Option ℕ) (m : Msg) (b : List ℕ) (h : List Item) → IsNotSuccess m → authenticated side (Took c m b ∷ h) ≡ authenticated side h
+pub not_success_taken : (side : Side) (c : Option ℕ) (m : Msg) (b : List ℕ) (h : List Item) → IsNotSuccess m → authenticated side (Took c m b ∷ h) ≡ authenticated side h
 not_success_taken side c UserauthSuccess b h l = elim l [ ]
 not_success_taken Client c m b h l = refl
 not_success_taken Server c m b h l = refl
@@ -100,7 +100,7 @@ sent_more : (c : Option ℕ) (m : Msg) (b : List ℕ) (h : List Item) → OneMor
 sent_more c NewKeys b h = (_, refl, refl)
 sent_more c m b h = (_, refl, refl)
 
-sent_none : (c : Option ℕ) (m : Msg) (b : List ℕ) (h : List Item) → sent (Took c m b ∷ h) ≡ sent h
+pub sent_none : (c : Option ℕ) (m : Msg) (b : List ℕ) (h : List Item) → sent (Took c m b ∷ h) ≡ sent h
 sent_none c NewKeys b h = refl
 sent_none c m b h = refl
 
@@ -108,7 +108,7 @@ taken_more : (c : Option ℕ) (m : Msg) (b : List ℕ) (h : List Item) → OneMo
 taken_more c NewKeys b h = (_, refl, refl)
 taken_more c m b h = (_, refl, refl)
 
-taken_none : (c : Option ℕ) (m : Msg) (b : List ℕ) (h : List Item) → took (Sent c m b ∷ h) ≡ took h
+pub taken_none : (c : Option ℕ) (m : Msg) (b : List ℕ) (h : List Item) → took (Sent c m b ∷ h) ≡ took h
 taken_none c NewKeys b h = refl
 taken_none c m b h = refl
 
