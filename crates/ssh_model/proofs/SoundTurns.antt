@@ -73,12 +73,12 @@ AreLow [] = Unit {0}
 AreLow (Sent c m b ∷ l) = IsLow m × AreLow l
 AreLow (i ∷ l) = IsApart i × AreLow l
 
-low_sound : (side : Side) (items h : List Item) → AreLow items → AreSpelled items → Sound side h → Sound side (items ++ h)
-low_sound side [] h l s v = v
-low_sound side (Sent c m b ∷ items) h l s v = low_sent side c m b (items ++ h) l.0 s.0 (low_sound side items h l.1 s.1 v)
-low_sound side (Took c m b ∷ items) h l s v = elim (l.0) [ ]
-low_sound side (TookGuess b ∷ items) h l s v = elim (l.0) [ ]
-low_sound side (i ∷ items) h l s v = apart_sound side i (items ++ h) tt (low_sound side items h l.1 s v)
+low_sound : {K : Type 0} (p : Parties K) (side : Side) (items h : List Item) → AreLow items → AreSpelled items → Sound p side h → Sound p side (items ++ h)
+low_sound p side [] h l s v = v
+low_sound p side (Sent c m b ∷ items) h l s v = low_sent p side c m b (items ++ h) l.0 s.0 (low_sound p side items h l.1 s.1 v)
+low_sound p side (Took c m b ∷ items) h l s v = elim (l.0) [ ]
+low_sound p side (TookGuess b ∷ items) h l s v = elim (l.0) [ ]
+low_sound p side (i ∷ items) h l s v = apart_sound p side i (items ++ h) tt (low_sound p side items h l.1 s v)
 
 reply_is : (m : Message) → IsNotSuccess (reply_message m)
 reply_is (OpenFailure t) = tt
@@ -98,17 +98,17 @@ reply_epoch at (OpenFailure t) b h = refl
 reply_epoch at (Close t) b h = refl
 reply_epoch at m b h = refl
 
-record Replied (side : Side) (h : List Item) : Type 0 where
-  sound : Sound side h
+record Replied {K : Type 0} (p : Parties K) (side : Side) (h : List Item) : Type 0 where
+  sound : Sound p side h
   same : authenticated side h ≡ true
   keyed : 0 < epoch (sent h)
 
-replies_sound : (side : Side) (l : List channel.Item) (items h : List Item) → AreReplies l items → AreSpelled items → Replied side h → Replied side (items ++ h)
-replies_sound side l items h none s v = v
-replies_sound side l items h (reply {items = more} at m b r) s v =
-    let w = replies_sound side _ more h r s.1 v in
+replies_sound : {K : Type 0} (p : Parties K) (side : Side) (l : List channel.Item) (items h : List Item) → AreReplies l items → AreSpelled items → Replied p side h → Replied p side (items ++ h)
+replies_sound p side l items h none s v = v
+replies_sound p side l items h (reply {items = more} at m b r) s v =
+    let w = replies_sound p side _ more h r s.1 v in
     record {
-      sound = high_sent side at (reply_message m) b (more ++ h) (reply_is m) s.0 w.same w.keyed w.sound;
+      sound = high_sent p side at (reply_message m) b (more ++ h) (reply_is m) s.0 w.same w.keyed w.sound;
       same = reply_same side at m b (more ++ h) ∙ w.same;
       keyed = subst (λ n. 0 < n) (sym (reply_epoch at m b (more ++ h))) w.keyed;
     }
@@ -138,37 +138,37 @@ less_taken : (c : Option ℕ) (m : Msg) (b : List ℕ) (h : List Item) → (HasC
 less_taken c NewKeys b h f x = f (inr x)
 less_taken c m b h f x = f (inr x)
 
-no_channels : (h : List Item) → AllFormed h → (HasConnection (sent h) → ⊥) → (HasConnection (took h) → ⊥) → IsEmpty (channel_items h)
-no_channels [] f s t = tt
-no_channels (Sent c (KexInit o) b ∷ h) f s t = no_channels h f.1 (λ x. s (inr x)) t
-no_channels (Sent c NewKeys b ∷ h) f s t = no_channels h f.1 (λ x. s (inr x)) t
-no_channels (Sent c (ChannelOpen x y z u w) b ∷ h) f s t = absurd (sent_high h c _ b f.0.0 s (leb-true 80 _ refl))
-no_channels (Sent c (ChannelOpenConfirmation x y z u w) b ∷ h) f s t = absurd (sent_high h c _ b f.0.0 s (leb-true 80 _ refl))
-no_channels (Sent c (ChannelOpenFailure x y z u) b ∷ h) f s t = absurd (sent_high h c _ b f.0.0 s (leb-true 80 _ refl))
-no_channels (Sent c (ChannelWindowAdjust x y) b ∷ h) f s t = absurd (sent_high h c _ b f.0.0 s (leb-true 80 _ refl))
-no_channels (Sent c (ChannelData x y) b ∷ h) f s t = absurd (sent_high h c _ b f.0.0 s (leb-true 80 _ refl))
-no_channels (Sent c (ChannelExtendedData x y z) b ∷ h) f s t = absurd (sent_high h c _ b f.0.0 s (leb-true 80 _ refl))
-no_channels (Sent c (ChannelEof a) b ∷ h) f s t = absurd (sent_high h c _ b f.0.0 s (leb-true 80 _ refl))
-no_channels (Sent c (ChannelClose a) b ∷ h) f s t = absurd (sent_high h c _ b f.0.0 s (leb-true 80 _ refl))
-no_channels (Sent c (ChannelRequest x y z u) b ∷ h) f s t = absurd (sent_high h c _ b f.0.0 s (leb-true 80 _ refl))
-no_channels (Sent c (ChannelSuccess a) b ∷ h) f s t = absurd (sent_high h c _ b f.0.0 s (leb-true 80 _ refl))
-no_channels (Sent c (ChannelFailure a) b ∷ h) f s t = absurd (sent_high h c _ b f.0.0 s (leb-true 80 _ refl))
-no_channels (Sent c m b ∷ h) f s t = no_channels h f.1 (λ x. s (inr x)) t
-no_channels (Took c (ChannelOpen x y z u w) b ∷ h) f s t = absurd (on_channel_high h c _ b f.0.0 t (leb-true 80 _ refl))
-no_channels (Took c (ChannelOpenConfirmation x y z u w) b ∷ h) f s t = absurd (on_channel_high h c _ b f.0.0 t (leb-true 80 _ refl))
-no_channels (Took c (ChannelOpenFailure x y z u) b ∷ h) f s t = absurd (on_channel_high h c _ b f.0.0 t (leb-true 80 _ refl))
-no_channels (Took c (ChannelWindowAdjust x y) b ∷ h) f s t = absurd (on_channel_high h c _ b f.0.0 t (leb-true 80 _ refl))
-no_channels (Took c (ChannelData x y) b ∷ h) f s t = absurd (on_channel_high h c _ b f.0.0 t (leb-true 80 _ refl))
-no_channels (Took c (ChannelExtendedData x y z) b ∷ h) f s t = absurd (on_channel_high h c _ b f.0.0 t (leb-true 80 _ refl))
-no_channels (Took c (ChannelEof a) b ∷ h) f s t = absurd (on_channel_high h c _ b f.0.0 t (leb-true 80 _ refl))
-no_channels (Took c (ChannelClose a) b ∷ h) f s t = absurd (on_channel_high h c _ b f.0.0 t (leb-true 80 _ refl))
-no_channels (Took c (ChannelRequest x y z u) b ∷ h) f s t = absurd (on_channel_high h c _ b f.0.0 t (leb-true 80 _ refl))
-no_channels (Took c (ChannelSuccess a) b ∷ h) f s t = absurd (on_channel_high h c _ b f.0.0 t (leb-true 80 _ refl))
-no_channels (Took c (ChannelFailure a) b ∷ h) f s t = absurd (on_channel_high h c _ b f.0.0 t (leb-true 80 _ refl))
-no_channels (Took c NewKeys b ∷ h) f s t = no_channels h f.1 s (λ x. t (inr x))
-no_channels (Took c m b ∷ h) f s t = no_channels h f.1 s (λ x. t (inr x))
-no_channels (TookGuess b ∷ h) f s t = no_channels h f.1 s (λ x. t (inr x))
-no_channels (i ∷ h) f s t = no_channels h f.1 s t
+no_channels : {K : Type 0} (p : Parties K) (h : List Item) → AllFormed p h → (HasConnection (sent h) → ⊥) → (HasConnection (took h) → ⊥) → IsEmpty (channel_items h)
+no_channels p [] f s t = tt
+no_channels p (Sent c (KexInit o) b ∷ h) f s t = no_channels p h f.1 (λ x. s (inr x)) t
+no_channels p (Sent c NewKeys b ∷ h) f s t = no_channels p h f.1 (λ x. s (inr x)) t
+no_channels p (Sent c (ChannelOpen x y z u w) b ∷ h) f s t = absurd (sent_high h c _ b f.0.0 s (leb-true 80 _ refl))
+no_channels p (Sent c (ChannelOpenConfirmation x y z u w) b ∷ h) f s t = absurd (sent_high h c _ b f.0.0 s (leb-true 80 _ refl))
+no_channels p (Sent c (ChannelOpenFailure x y z u) b ∷ h) f s t = absurd (sent_high h c _ b f.0.0 s (leb-true 80 _ refl))
+no_channels p (Sent c (ChannelWindowAdjust x y) b ∷ h) f s t = absurd (sent_high h c _ b f.0.0 s (leb-true 80 _ refl))
+no_channels p (Sent c (ChannelData x y) b ∷ h) f s t = absurd (sent_high h c _ b f.0.0 s (leb-true 80 _ refl))
+no_channels p (Sent c (ChannelExtendedData x y z) b ∷ h) f s t = absurd (sent_high h c _ b f.0.0 s (leb-true 80 _ refl))
+no_channels p (Sent c (ChannelEof a) b ∷ h) f s t = absurd (sent_high h c _ b f.0.0 s (leb-true 80 _ refl))
+no_channels p (Sent c (ChannelClose a) b ∷ h) f s t = absurd (sent_high h c _ b f.0.0 s (leb-true 80 _ refl))
+no_channels p (Sent c (ChannelRequest x y z u) b ∷ h) f s t = absurd (sent_high h c _ b f.0.0 s (leb-true 80 _ refl))
+no_channels p (Sent c (ChannelSuccess a) b ∷ h) f s t = absurd (sent_high h c _ b f.0.0 s (leb-true 80 _ refl))
+no_channels p (Sent c (ChannelFailure a) b ∷ h) f s t = absurd (sent_high h c _ b f.0.0 s (leb-true 80 _ refl))
+no_channels p (Sent c m b ∷ h) f s t = no_channels p h f.1 (λ x. s (inr x)) t
+no_channels p (Took c (ChannelOpen x y z u w) b ∷ h) f s t = absurd (on_channel_high h c _ b f.0.0 t (leb-true 80 _ refl))
+no_channels p (Took c (ChannelOpenConfirmation x y z u w) b ∷ h) f s t = absurd (on_channel_high h c _ b f.0.0 t (leb-true 80 _ refl))
+no_channels p (Took c (ChannelOpenFailure x y z u) b ∷ h) f s t = absurd (on_channel_high h c _ b f.0.0 t (leb-true 80 _ refl))
+no_channels p (Took c (ChannelWindowAdjust x y) b ∷ h) f s t = absurd (on_channel_high h c _ b f.0.0 t (leb-true 80 _ refl))
+no_channels p (Took c (ChannelData x y) b ∷ h) f s t = absurd (on_channel_high h c _ b f.0.0 t (leb-true 80 _ refl))
+no_channels p (Took c (ChannelExtendedData x y z) b ∷ h) f s t = absurd (on_channel_high h c _ b f.0.0 t (leb-true 80 _ refl))
+no_channels p (Took c (ChannelEof a) b ∷ h) f s t = absurd (on_channel_high h c _ b f.0.0 t (leb-true 80 _ refl))
+no_channels p (Took c (ChannelClose a) b ∷ h) f s t = absurd (on_channel_high h c _ b f.0.0 t (leb-true 80 _ refl))
+no_channels p (Took c (ChannelRequest x y z u) b ∷ h) f s t = absurd (on_channel_high h c _ b f.0.0 t (leb-true 80 _ refl))
+no_channels p (Took c (ChannelSuccess a) b ∷ h) f s t = absurd (on_channel_high h c _ b f.0.0 t (leb-true 80 _ refl))
+no_channels p (Took c (ChannelFailure a) b ∷ h) f s t = absurd (on_channel_high h c _ b f.0.0 t (leb-true 80 _ refl))
+no_channels p (Took c NewKeys b ∷ h) f s t = no_channels p h f.1 s (λ x. t (inr x))
+no_channels p (Took c m b ∷ h) f s t = no_channels p h f.1 s (λ x. t (inr x))
+no_channels p (TookGuess b ∷ h) f s t = no_channels p h f.1 s (λ x. t (inr x))
+no_channels p (i ∷ h) f s t = no_channels p h f.1 s t
 
 pub none_noted : (side : Side) (l : List channel.Item) → IsEmpty l → noted side l ≡ []
 none_noted side [] e = refl
@@ -183,11 +183,11 @@ none_owed side (channel.Item.Sent at m ∷ l) e = elim e [ ]
 none_owed side (channel.Item.Received at m ∷ l) e = elim e [ ]
 none_owed side (i ∷ l) e = none_owed side l e
 
-pub without_channels : (side : Side) (h : List Item) → Sound side h → authenticated side h ≡ false → IsEmpty (channel_items h)
-without_channels side h v e = no_channels h v.formed (λ x. cc (e, v.entitled (inl x))) (λ x. cc (e, v.entitled (inr x)))
+pub without_channels : {K : Type 0} (p : Parties K) (side : Side) (h : List Item) → Sound p side h → authenticated side h ≡ false → IsEmpty (channel_items h)
+without_channels p side h v e = no_channels p h v.formed (λ x. cc (e, v.entitled (inl x))) (λ x. cc (e, v.entitled (inr x)))
 
-owes_none : (side : Side) (h items : List Item) → Sound side h → authenticated side h ≡ false → AreReplies (owed_replies side h) items → items ≡ []
-owes_none side h items v e r = go (owed_replies side h) (none_owed side (channel_items h) (without_channels side h v e)) items r
+owes_none : {K : Type 0} (p : Parties K) (side : Side) (h items : List Item) → Sound p side h → authenticated side h ≡ false → AreReplies (owed_replies side h) items → items ≡ []
+owes_none p side h items v e r = go (owed_replies side h) (none_owed side (channel_items h) (without_channels p side h v e)) items r
   where
     go : (l : List channel.Item) → l ≡ [] → (items : List Item) → AreReplies l items → items ≡ []
     go l e items none = refl
@@ -196,33 +196,33 @@ owes_none side h items v e r = go (owed_replies side h) (none_owed side (channel
 -- ---- the rows
 
 -- what an end owes is added after NEWKEYS
-owed_sound : (side : Side) (h items g : List Item) → Sound side h → AreReplies (owed_replies side h) items → AreSpelled items → authenticated side g ≡ authenticated side h
-    → 0 < epoch (sent g) → Sound side g → Sound side (items ++ g)
-owed_sound side h items g v r s same k w = go (authenticated side h) refl
+owed_sound : {K : Type 0} (p : Parties K) (side : Side) (h items g : List Item) → Sound p side h → AreReplies (owed_replies side h) items → AreSpelled items → authenticated side g ≡ authenticated side h
+    → 0 < epoch (sent g) → Sound p side g → Sound p side (items ++ g)
+owed_sound p side h items g v r s same k w = go (authenticated side h) refl
   where
-    go : (t : Bool) → authenticated side h ≡ t → Sound side (items ++ g)
-    go true e = (replies_sound side _ items g r s (record { sound = w; same = same ∙ e; keyed = k })).sound
-    go false e = let P : List Item → Type 0 = λ l. Sound side (l ++ g) in subst P (sym (owes_none side h items v e r)) w
+    go : (t : Bool) → authenticated side h ≡ t → Sound p side (items ++ g)
+    go true e = (replies_sound p side _ items g r s (record { sound = w; same = same ∙ e; keyed = k })).sound
+    go false e = let P : List Item → Type 0 = λ l. Sound p side (l ++ g) in subst P (sym (owes_none p side h items v e r)) w
 
 module _ {K : Type 0} (p : Parties K) where
-  low : (side : Side) (h items : List Item) (c : Option ℕ) (m : Msg) (b : List ℕ) → IsLow m → AreLow items → Welcomes p side h m b → AreSpelled items → Sound side h
-      → Sound side (items ++ (Took c m b ∷ h))
-  low side h items c m b t l w s v = low_sound side items (Took c m b ∷ h) l s (low_taken side c m b h t (read_true p side h m b w) v)
+  low : (side : Side) (h items : List Item) (c : Option ℕ) (m : Msg) (b : List ℕ) → IsLow m → AreLow items → Welcomes p side h m b → AreSpelled items → Sound p side h
+      → Sound p side (items ++ (Took c m b ∷ h))
+  low side h items c m b t l w s v = low_sound p side items (Took c m b ∷ h) l s (low_taken p side c m b h t (read_true p side h m b w) (keyed_when p side h m b w) v)
 
-  high : (side : Side) (h items : List Item) (c : Option ℕ) (m : Msg) (b : List ℕ) → IsNotSuccess m → 80 ≤ message_number m → AreLow items → Welcomes p side h m b → AreSpelled items → Sound side h
-      → Sound side (items ++ (Took c m b ∷ h))
-  high side h items c m b t n l w s v = low_sound side items (Took c m b ∷ h) l s (high_taken side c m b h t (read_true p side h m b w) (authenticated_when p side h m b w n) v)
+  high : (side : Side) (h items : List Item) (c : Option ℕ) (m : Msg) (b : List ℕ) → IsNotSuccess m → 80 ≤ message_number m → AreLow items → Welcomes p side h m b → AreSpelled items → Sound p side h
+      → Sound p side (items ++ (Took c m b ∷ h))
+  high side h items c m b t n l w s v = low_sound p side items (Took c m b ∷ h) l s (high_taken p side c m b h t (read_true p side h m b w) (authenticated_when p side h m b w n) v)
 
-  any_unknown : (side : Side) (h items : List Item) (n : ℕ) (b : List ℕ) → AreLow items → Welcomes p side h (Unknown n) b → AreSpelled items → Sound side h
-      → Sound side (items ++ (Took None (Unknown n) b ∷ h))
+  any_unknown : (side : Side) (h items : List Item) (n : ℕ) (b : List ℕ) → AreLow items → Welcomes p side h (Unknown n) b → AreSpelled items → Sound p side h
+      → Sound p side (items ++ (Took None (Unknown n) b ∷ h))
   any_unknown side h items n b l w s v = go (cases_lt n 80)
     where
-      go : ((n < 80) ⊎ (80 ≤ n)) → Sound side (items ++ (Took None (Unknown n) b ∷ h))
+      go : ((n < 80) ⊎ (80 ≤ n)) → Sound p side (items ++ (Took None (Unknown n) b ∷ h))
       go (inl x) = low side h items None (Unknown n) b x l w s v
       go (inr x) = high side h items None (Unknown n) b tt x l w s v
 
   pub transport_sound : (side : Side) (h owed items : List Item) (m : Msg) (b : List ℕ) → TransportAnswer p owed side h m items → AreReplies (owed_replies side h) owed
-      → Welcomes p side h m b → AreSpelled items → Sound side h → Sound side (items ++ (Took None m b ∷ h))
+      → Welcomes p side h m b → AreSpelled items → Sound p side h → Sound p side (items ++ (Took None m b ∷ h))
   transport_sound side h owed items m b (disconnect r d l) o w s v = low side h items None m b tt (tt, (tt, tt)) w s v
   transport_sound side h owed items m b (ignore x) o w s v = low side h items None m b tt (tt, tt) w s v
   transport_sound side h owed items m b (unimplemented x) o w s v = low side h items None m b tt (tt, tt) w s v
@@ -237,36 +237,37 @@ module _ {K : Type 0} (p : Parties K) where
   transport_sound side h owed items m b (init q rb nb) o w s v =
       let t = spelled_behind owed _ s in
       let g = low side h (Sent None NewKeys nb ∷ Sent None _ rb ∷ []) None m b tt (tt, (tt, tt)) w t.1 v in
-      apart_sound Server _ _ tt (rw append_assoc (owed_sound Server h owed _ v o t.0 refl (omega arith) g))
+      apart_sound p Server _ _ tt (rw append_assoc (owed_sound p Server h owed _ v o t.0 refl (omega arith) g))
   transport_sound side h owed items m b (reply k_s q_s g nb) o w s v =
       let t = spelled_behind owed _ s in
       let g = low side h (Sent None NewKeys nb ∷ []) None m b tt (tt, tt) w t.1 v in
-      apart_sound Client _ _ tt (rw append_assoc (owed_sound Client h owed _ v o t.0 refl (omega arith) g))
+      apart_sound p Client _ _ tt (rw append_assoc (owed_sound p Client h owed _ v o t.0 refl (omega arith) g))
   transport_sound side h owed items m b newkeys o w s v = low side h items None m b tt tt w s v
   transport_sound side h owed items m b (request_too_late x y z e) o w s v = low side h items None m b tt (tt, tt) w s v
   transport_sound side h owed items m b (request_accepted x y z c e f) o w s v =
-      apart_sound Server _ _ tt (success_sent None c _ s.0 (keyed_when p Server h m b w (omega arith)) (low_taken Server None m b h tt (read_true p Server h m b w) v))
+      let k = keyed_when p Server h m b w (omega arith) in
+      apart_sound p Server _ _ tt (success_sent p None c _ s.0 (f, e, k) k (low_taken p Server None m b h tt (read_true p Server h m b w) (λ n. k) v))
   transport_sound side h owed items m b (request_probed x y a k c e f) o w s v = low side h items None m b tt (tt, tt) w s v
   transport_sound side h owed items m b (request_failed x y z c e f) o w s v = low side h items None m b tt (tt, tt) w s v
   transport_sound side h owed items m b (failure x y) o w s v = low side h items None m b tt (tt, tt) w s v
   transport_sound side h owed items m b success o w s v =
-      apart_sound Client _ _ tt (success_taken None b h (read_true p Client h m b w) (keyed_when p Client h m b w (omega arith)) v)
+      apart_sound p Client _ _ tt (success_taken p None b h (read_true p Client h m b w) (keyed_when p Client h m b w (omega arith)) v)
   transport_sound side h owed items m b (banner x y) o w s v = low side h items None m b tt (tt, tt) w s v
   transport_sound side h owed items m b (key_ok x y) o w s v = low side h items None m b tt (tt, tt) w s v
 
   -- with the replies that are sent at once
   replying : (side : Side) (h items : List Item) (l : List channel.Item) (c : Option ℕ) (m : Msg) (b : List ℕ) → IsNotSuccess m → 80 ≤ message_number m
-      → AreReplies l items → Welcomes p side h m b → AreSpelled items → epoch (took h) ≤ epoch (sent h) → Sound side h → Replied side (items ++ (Took c m b ∷ h))
+      → AreReplies l items → Welcomes p side h m b → AreSpelled items → epoch (took h) ≤ epoch (sent h) → Sound p side h → Replied p side (items ++ (Took c m b ∷ h))
   replying side h items l c m b t n r w s k v =
       let e = authenticated_when p side h m b w n in
-      replies_sound side l items (Took c m b ∷ h) r s (record {
-        sound = high_taken side c m b h t (read_true p side h m b w) e v;
+      replies_sound p side l items (Took c m b ∷ h) r s (record {
+        sound = high_taken p side c m b h t (read_true p side h m b w) e v;
         same = not_success_taken side c m b h t ∙ e;
         keyed = subst (λ x. 0 < epoch x) (sym (sent_none c m b h)) (omega (arith, k, v.keyed e));
       })
 
   pub connection_sound : (side : Side) (h items : List Item) (c : Option ℕ) (m : Msg) (b : List ℕ) → ConnectionAnswer side h c m items
-      → Welcomes p side h m b → AreSpelled items → epoch (took h) ≤ epoch (sent h) → Sound side h → Sound side (items ++ (Took c m b ∷ h))
+      → Welcomes p side h m b → AreSpelled items → epoch (took h) ≤ epoch (sent h) → Sound p side h → Sound p side (items ++ (Took c m b ∷ h))
   connection_sound side h items c m b (global x y z) w s n v = high side h items c m b tt (leb-true 80 _ refl) (tt, tt) w s v
   connection_sound side h items c m b (global_success z) w s n v = high side h items c m b tt (leb-true 80 _ refl) (tt, tt) w s v
   connection_sound side h items c m b global_failure w s n v = high side h items c m b tt (leb-true 80 _ refl) (tt, tt) w s v
@@ -278,29 +279,29 @@ module _ {K : Type 0} (p : Parties K) where
   connection_sound side h items c m b (got_data a d) w s n v = high side h items c m b tt (leb-true 80 _ refl) (tt, tt) w s v
   connection_sound side h items c m b (got_extended a d e) w s n v = high side h items c m b tt (leb-true 80 _ refl) (tt, tt) w s v
   connection_sound side h items c m b (eof a) w s n v = high side h items c m b tt (leb-true 80 _ refl) (tt, tt) w s v
-  connection_sound side h items c m b (close a r) w s n v = apart_sound side _ _ tt (replying side h _ _ c m b tt (leb-true 80 _ refl) r w s n v).sound
+  connection_sound side h items c m b (close a r) w s n v = apart_sound p side _ _ tt (replying side h _ _ c m b tt (leb-true 80 _ refl) r w s n v).sound
   connection_sound side h items c m b (request a d e f) w s n v = high side h items c m b tt (leb-true 80 _ refl) (tt, tt) w s v
   connection_sound side h items c m b (success a) w s n v = high side h items c m b tt (leb-true 80 _ refl) (tt, tt) w s v
   connection_sound side h items c m b (no_success a) w s n v = high side h items c m b tt (leb-true 80 _ refl) (tt, tt) w s v
 
   -- ---- asks
 
-  plain_ask : (side : Side) (h items : List Item) (a : Ask) → AreLow items → AreSpelled items → Sound side h → Sound side (items ++ (Asked a ∷ h))
-  plain_ask side h items a l s v = low_sound side items (Asked a ∷ h) l s (apart_sound side (Asked a) h tt v)
+  plain_ask : (side : Side) (h items : List Item) (a : Ask) → AreLow items → AreSpelled items → Sound p side h → Sound p side (items ++ (Asked a ∷ h))
+  plain_ask side h items a l s v = low_sound p side items (Asked a ∷ h) l s (apart_sound p side (Asked a) h tt v)
 
   -- an ask of the connection
   bold_ask : (side : Side) (h : List Item) (a : Ask) (c : Option ℕ) (m : Msg) (b : List ℕ) → IsNotSuccess m → not (authenticated side h) ≡ false → IsSpelled m b
-      → epoch (took h) ≤ epoch (sent h) → Sound side h → Sound side (Sent c m b ∷ Asked a ∷ h)
+      → epoch (took h) ≤ epoch (sent h) → Sound p side h → Sound p side (Sent c m b ∷ Asked a ∷ h)
   bold_ask side h a c m b t e s n v =
       let f = not_false (authenticated side h) e in
-      high_sent side c m b (Asked a ∷ h) t s (asked side f) (omega (arith, n, v.keyed f)) (apart_sound side (Asked a) h tt v)
+      high_sent p side c m b (Asked a ∷ h) t s (asked side f) (omega (arith, n, v.keyed f)) (apart_sound p side (Asked a) h tt v)
     where
       asked : (side : Side) → authenticated side h ≡ true → authenticated side (Asked a ∷ h) ≡ true
       asked Client f = f
       asked Server f = f
 
   ask_sound : (side : Side) (h items : List Item) (a : Ask) → OnAsk p side h a items → first_refusal (ask_checks p side h a) ≡ None → AreSpelled items
-      → epoch (took h) ≤ epoch (sent h) → Sound side h → Sound side (items ++ (Asked a ∷ h))
+      → epoch (took h) ≤ epoch (sent h) → Sound p side h → Sound p side (items ++ (Asked a ∷ h))
   ask_sound side h items a (of_transport (service x)) c s n v = plain_ask side h items a (tt, tt) s v
   ask_sound side h items a (of_transport (none x y)) c s n v = plain_ask side h items a (tt, tt) s v
   ask_sound side h items a (of_transport (password x y z)) c s n v = plain_ask side h items a (tt, tt) s v
@@ -308,7 +309,7 @@ module _ {K : Type 0} (p : Parties K) where
   ask_sound side h items a (of_transport (sign x y z b)) c s n v = plain_ask side h items a (tt, tt) s v
   ask_sound side h items a (of_transport (rekey b)) c s n v = plain_ask side h items a (tt, tt) s v
   ask_sound side h items a (of_transport (disconnect x b)) c s n v = plain_ask side h items a (tt, (tt, tt)) s v
-  ask_sound side h items a (of_connection (opens x k d m r b f)) c s n v = apart_sound side _ _ tt (bold_ask side h a _ _ b tt (all_passed (ask_checks p side h (AskOpen k d m r)) c).0 s.0 n v)
+  ask_sound side h items a (of_connection (opens x k d m r b f)) c s n v = apart_sound p side _ _ tt (bold_ask side h a _ _ b tt (all_passed (ask_checks p side h (AskOpen k d m r)) c).0 s.0 n v)
   ask_sound side h items a (of_connection (confirm x d m r b)) c s n v = bold_ask side h a _ _ b tt (all_passed (ask_checks p side h (AskConfirm x d m r)) c).0 s.0 n v
   ask_sound side h items a (of_connection (refuse x r b)) c s n v = bold_ask side h a _ _ b tt (all_passed (ask_checks p side h (AskRefuse x r)) c).0 s.0 n v
   ask_sound side h items a (of_connection (sends x y b)) c s n v = bold_ask side h a _ _ b tt (all_passed (ask_checks p side h (AskData x None y)) c).0 s.0 n v
@@ -325,13 +326,13 @@ module _ {K : Type 0} (p : Parties K) where
 
   -- ---- turns
 
-  refuses_sound : (side : Side) (h items : List Item) (n : ℕ) (b : Option (List ℕ)) → Refuses h n b items → Sound side h → Sound side (items ++ h)
-  refuses_sound side h items n b (silently e) v = low_sound side items h (tt, (tt, tt)) tt v
-  refuses_sound side h items n b (spent e) v = low_sound side items h (tt, (tt, tt)) tt v
-  refuses_sound side h items n b (said r x e f s) v = low_sound side items h (tt, (tt, (tt, tt))) (s, tt) v
+  refuses_sound : (side : Side) (h items : List Item) (n : ℕ) (b : Option (List ℕ)) → Refuses h n b items → Sound p side h → Sound p side (items ++ h)
+  refuses_sound side h items n b (silently e) v = low_sound p side items h (tt, (tt, tt)) tt v
+  refuses_sound side h items n b (spent e) v = low_sound p side items h (tt, (tt, tt)) tt v
+  refuses_sound side h items n b (said r x e f s) v = low_sound p side items h (tt, (tt, (tt, tt))) (s, tt) v
 
   answer_sound : (side : Side) (h items : List Item) (c : Option ℕ) (m : Msg) (b : List ℕ) → Answer p side h c m items → Welcomes p side h m b → AreSpelled items
-      → epoch (took h) ≤ epoch (sent h) → Sound side h → Sound side (items ++ (Took c m b ∷ h))
+      → epoch (took h) ≤ epoch (sent h) → Sound p side h → Sound p side (items ++ (Took c m b ∷ h))
   answer_sound side h items c m b (of_transport r a) w s n v = transport_sound side h _ items m b a r w s v
   answer_sound side h items c m b (of_connection a) w s n v = connection_sound side h items c m b a w s n v
 
@@ -340,33 +341,33 @@ module _ {K : Type 0} (p : Parties K) where
       let f = sym (ap (λ x. may_take_in x side h (number_of b)) e) ∙ m in
       omega (arith, leb-true (number_of b) 49 (and_right (nat_le 30 (number_of b)) (nat_le (number_of b) 49) f))
 
-  payload_sound : (side : Side) (h items : List Item) (b : List ℕ) → OnPayload p side h b items → epoch (took h) ≤ epoch (sent h) → Sound side h → Sound side (items ++ h)
+  payload_sound : (side : Side) (h items : List Item) (b : List ℕ) → OnPayload p side h b items → epoch (took h) ≤ epoch (sent h) → Sound p side h → Sound p side (items ++ h)
   payload_sound side h items b (takes {items = l} c m w a s k) n v = rw append_assoc (answer_sound side h l c m b a w s n v)
-  payload_sound side h items b (skips e m) n v = apart_sound side _ _ tt (guess_sound side b h (guess_below h side b e m) v)
+  payload_sound side h items b (skips e m) n v = apart_sound p side _ _ tt (guess_sound p side b h (guess_below h side b e m) v)
   payload_sound side h items b (unexpected m r) n v = refuses_sound side h items 7 _ r v
   payload_sound side h items b (bad_message m e f r) n v = refuses_sound side h items 6 _ r v
   payload_sound side h items b (refuses m k a e f c r) n v = refuses_sound side h items k _ r v
-  payload_sound side h items b (spends c m w a s k) n v = apart_sound side _ _ tt (apart_sound side _ _ tt v)
+  payload_sound side h items b (spends c m w a s k) n v = apart_sound p side _ _ tt (apart_sound p side _ _ tt v)
 
-  outcome_sound : (side : Side) (h items : List Item) (o : Outcome) → OnOutcome p side h o items → epoch (took h) ≤ epoch (sent h) → Sound side h → Sound side (items ++ h)
-  outcome_sound side h items o (other_line text) n v = apart_sound side _ _ tt v
-  outcome_sound side h items o (version_line text) n v = apart_sound side _ _ tt v
+  outcome_sound : (side : Side) (h items : List Item) (o : Outcome) → OnOutcome p side h o items → epoch (took h) ≤ epoch (sent h) → Sound p side h → Sound p side (items ++ h)
+  outcome_sound side h items o (other_line text) n v = apart_sound p side _ _ tt v
+  outcome_sound side h items o (version_line text) n v = apart_sound p side _ _ tt v
   outcome_sound side h items o (refused_line k r) n v = refuses_sound side h items k _ r v
   outcome_sound side h items o (opened b x) n v = payload_sound side h items b x n v
   outcome_sound side h items o (refused_packet k r) n v = refuses_sound side h items k _ r v
 
-  pub turn_sound : (side : Side) (h items : List Item) → Turn p side h items → epoch (took h) ≤ epoch (sent h) → Sound side h → Sound side (items ++ h)
-  turn_sound side h items (feeds c s alive k n m) i v = apart_sound side _ _ tt v
-  turn_sound side h items (refuses_ask a k alive e) n v = apart_sound side _ _ tt (apart_sound side _ _ tt v)
+  pub turn_sound : (side : Side) (h items : List Item) → Turn p side h items → epoch (took h) ≤ epoch (sent h) → Sound p side h → Sound p side (items ++ h)
+  turn_sound side h items (feeds c s alive k n m) i v = apart_sound p side _ _ tt v
+  turn_sound side h items (refuses_ask a k alive e) n v = apart_sound p side _ _ tt (apart_sound p side _ _ tt v)
   turn_sound side h items (answers_ask {items = l} a alive c o s k) n v = rw append_assoc (ask_sound side h l a o c s n v)
-  turn_sound side h items (spends_on_ask a alive c o s k) n v = apart_sound side _ _ tt (apart_sound side _ _ tt (apart_sound side _ _ tt v))
+  turn_sound side h items (spends_on_ask a alive c o s k) n v = apart_sound p side _ _ tt (apart_sound p side _ _ tt (apart_sound p side _ _ tt v))
   turn_sound side h items (reads unit o alive u x) n v = outcome_sound side h items o x n v
-  turn_sound side h items (dies alive) n v = apart_sound side _ _ tt v
+  turn_sound side h items (dies alive) n v = apart_sound p side _ _ tt v
 
-  nothing : (side : Side) → Sound side []
+  nothing : (side : Side) → Sound p side []
   nothing Client = record { formed = tt; entitled = ⊎_elim (λ x. elim x [ ]) (λ x. elim x [ ]); keyed = λ e. absurd (cc e) }
   nothing Server = record { formed = tt; entitled = ⊎_elim (λ x. elim x [ ]) (λ x. elim x [ ]); keyed = λ e. absurd (cc e) }
 
-  pub opening_sound : (side : Side) (items : List Item) → IsOpening p side items → Sound side items
-  opening_sound side items o = subst (λ l. Sound side l) (sym o.items_are)
-      (low_sent side _ _ o.payload _ tt o.is_spelled (apart_sound side _ _ tt (apart_sound side _ _ tt (nothing side))))
+  pub opening_sound : (side : Side) (items : List Item) → IsOpening p side items → Sound p side items
+  opening_sound side items o = subst (λ l. Sound p side l) (sym o.items_are)
+      (low_sent p side _ _ o.payload _ tt o.is_spelled (apart_sound p side _ _ tt (apart_sound p side _ _ tt (nothing side))))
