@@ -16,3 +16,9 @@ pub fn agreement<K>()
 pub fn beginning<K>()
     ensures { (p : Parties K) → AreLawful p → (run : List Done) → Run p run → IsHonest p run → Beginning run }
 {}
+
+/// In an honest run no channel is held, and no message numbered 80 or above was sent or taken, unless the server
+/// accepted a request that the client had sent.
+pub fn authorized<K>()
+    ensures { (p : Parties K) → AreLawful p → (run : List Done) → Run p run → IsHonest p run → Authorized p run }
+{}
