@@ -49,7 +49,7 @@ due_behind (channel.Item.Sent at (OpenFailure t) ∷ a) b d e = due_behind a b d
 due_behind (channel.Item.Sent at (Close t) ∷ a) b d e = due_behind a b d e
 due_behind (x ∷ a) b d e = elim d [ ]
 
-owed_are : (s : Side) (h : List channel.Item) → AreDueReplies (owed s h)
+pub owed_are : (s : Side) (h : List channel.Item) → AreDueReplies (owed s h)
 owed_are s [] = tt
 owed_are s (channel.Item.NewkeysSent ∷ h) = tt
 owed_are s (channel.Item.Received x m ∷ h) = go (channel.blocked h) (owed_are s h)
