@@ -44,7 +44,7 @@ below (NewkeysOf b) l e = absurd (omega (arith, e))
 below (OtherOf b) l e = e
 
 -- before the first NEWKEYS there is nothing after it
-zero_after : (l : List Payload) → epoch l ≡ 0 → after_first l ≡ []
+pub zero_after : (l : List Payload) → epoch l ≡ 0 → after_first l ≡ []
 zero_after [] e = refl
 zero_after (m ∷ l) e = after_zero m l (below m l e)
 

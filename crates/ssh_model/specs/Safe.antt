@@ -1,16 +1,18 @@
 -- What is claimed of the runs of two ends.
-use Rattle.std.specs.Prelude.{◌≡◌, ℕ, suc, ◌<◌, ◌≤◌, Bool, true, false, List, [], ◌∷◌, ◌++◌, ◌⊎◌, reverse, length, map}
+use Rattle.std.specs.Prelude.{◌≡◌, ◌≢◌, ℕ, suc, ◌<◌, ◌≤◌, Bool, true, false, List, [], ◌∷◌, ◌++◌, ◌⊎◌, reverse, length, map, Option}
 use Rattle.ssh_model.specs.History.{Side, Side.Client, Side.Server, peer, Begins}
 use Rattle.ssh_model.specs.Message.{Msg, Msg.UserauthRequest, Method}
 use Rattle.ssh_model.specs.Exchange.{Inputs}
 use Rattle.ssh_model.specs.Party.{Parties}
-use Rattle.ssh_model.specs.Session.{Item, Item.Took, Item.TookGuess, Item.Sent, Payload, bytes_of, Done, Done.By, part, sent, took, Spelled, Spelled.SpelledBy, messages_sent, messages_taken}
+use Rattle.ssh_model.specs.Session.{Item, Item.Took, Item.TookGuess, Item.Sent, Item.Refused, Payload, bytes_of, Done, Done.By, part, sent, took, Spelled, Spelled.SpelledBy, messages_sent, messages_taken}
 use Rattle.ssh_model.specs.Epoch.{epoch, after_first}
 use Rattle.ssh_model.specs.Exchanges.{nth, no_exchange, exchanges, choice}
 use Rattle.ssh_model.specs.Phase.{sent_success}
 use Rattle.ssh_model.specs.Authentication.{is_accepted}
 use Rattle.ssh_model.specs.ChannelState.{is_held}
-use Rattle.ssh_model.specs.Connection.{notes}
+use Rattle.ssh_model.specs.ChannelMessage.{Channel}
+use Rattle.ssh_model.specs.ChannelSafe.{Within, WindowsHere, HasPartner, data_sent, data_received}
+use Rattle.ssh_model.specs.Connection.{notes, channel_items}
 use Rattle.ssh_model.specs.Turn.{number_of}
 
 -- ---- agreement
@@ -74,3 +76,34 @@ HasConnection (payload ∷ l) = (80 ≤ number_of (bytes_of payload)) ⊎ HasCon
 pub record Authorized {K : Type 0} (p : Parties K) (run : List Done) : Type 0 where
   pub messages : (side : Side) → (HasConnection (sent (part side run)) ⊎ HasConnection (took (part side run))) → HasAccepted p run
   pub channels : (side : Side) (x : ℕ) → is_held x (notes side (part side run)) ≡ true → HasAccepted p run
+
+-- ---- windows (RFC 4254 section 5.2)
+
+-- No window is overrun: on every channel, at each end, data sent is at most the window taken, each part of which the other
+-- end had sent, and data taken is at most the window granted.
+abbrev pub Windows : List Done → Type 0
+Windows run = (side : Side) → Within (notes side (part side run)) (notes (peer side) (part (peer side) run))
+
+-- the two inequalities, at one end
+abbrev pub WindowsAt : Side → List Item → Type 0
+WindowsAt side h = WindowsHere (notes side h)
+
+-- ---- no refusal between the two
+
+-- none for a channel that is unknown (16), or for a window that is overrun (17) or too large (18)
+abbrev pub IsOtherRefusal : ℕ → Type 0
+IsOtherRefusal n = (n ≢ 16) × (n ≢ 17) × (n ≢ 18)
+
+abbrev pub NoneRefused : List Done → Type 0
+NoneRefused [] = Unit {0}
+NoneRefused (By side (Refused refusal payload) ∷ run) = IsOtherRefusal refusal × NoneRefused run
+NoneRefused (_ ∷ run) = NoneRefused run
+
+-- Neither end refuses the other for its channels; what was taken of data on a channel, each with its type, is a beginning
+-- of what the other end sent on it; and each channel on which data was taken was opened by one end and taken by the other.
+pub record Undisturbed (run : List Done) : Type 0 where
+  pub unrefused : NoneRefused run
+  pub in_order : (side : Side) (i : Channel) → (rest : List (Option ℕ × List ℕ))
+      × (reverse (data_received side i (channel_items (part side run))) ++ rest ≡ reverse (data_sent (peer side) i (channel_items (part (peer side) run))))
+  pub partners : (side : Side) (i : Channel) → (data_received side i (channel_items (part side run)) ≡ [] → ⊥) →
+      HasPartner i (notes side (part side run)) (notes (peer side) (part (peer side) run))
