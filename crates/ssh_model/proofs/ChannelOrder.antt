@@ -61,7 +61,7 @@ more_reads x m l ms (suc e) z p k None f r = passes x (λ n q. ap on_channel (sa
 more_reads x m l ms (suc e) z p k (Some c) f r = reads x m c p f r
 
 -- messages on channels are of the connection
-high_on_channel : (m : Msg) (c : Message) → on_channel m ≡ Some c → 80 ≤ message_number m
+pub high_on_channel : (m : Msg) (c : Message) → on_channel m ≡ Some c → 80 ≤ message_number m
 high_on_channel (ChannelOpen x y z u w) c e = leb-true 80 _ refl
 high_on_channel (ChannelOpenConfirmation x y z u w) c e = leb-true 80 _ refl
 high_on_channel (ChannelOpenFailure x y z u) c e = leb-true 80 _ refl

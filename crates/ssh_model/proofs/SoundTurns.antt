@@ -34,7 +34,7 @@ suits_true c (Unknown n) s f = go (n == 60) refl
         one ∙ (sym two ∙ s)
 suits_true c m s f = s
 
-normal_keyed : {K : Type 0} (p : Parties K) (side : Side) (h : List Item) → phase p side h ≡ Normal → 0 < epoch (took h)
+pub normal_keyed : {K : Type 0} (p : Parties K) (side : Side) (h : List Item) → phase p side h ≡ Normal → 0 < epoch (took h)
 normal_keyed p side [] e = absurd (cc e)
 normal_keyed p side (Took c NewKeys b ∷ h) e = omega arith
 normal_keyed p side (Took c (KexInit o) b ∷ h) e = absurd (go _ e)

@@ -47,7 +47,7 @@ module _ {K : Type 0} (p : Parties K) where
   completed_grows Server i run x (inl h) = inl h
   completed_grows Server i run x (inr h) = inr (in_older x _ _ (exchanges_grow p Server i (part Server run)) h)
 
-  known : (run : List Done) → Given p run → Known p (part Client run) (part Server run)
+  pub known : (run : List Done) → Given p run → Known p (part Client run) (part Server run)
   known run g = record { rules_c = g.rules Client; rules_s = g.rules Server; fresh_c = g.fresh Client; fresh_s = g.fresh Server; apart = g.apart }
 
   rules_tail : (t : Side) (i : Item) (run : List Done) → ((side : Side) → Rules p side (part side (By t i ∷ run))) → (side : Side) → Rules p side (part side run)

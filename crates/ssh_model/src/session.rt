@@ -1,9 +1,10 @@
 ghost use Rattle.std.specs.Prelude.{List};
+ghost use Rattle.ssh_model.specs.History.{Side};
 ghost use Rattle.ssh_model.specs.Party.{Parties, AreLawful};
-ghost use Rattle.ssh_model.specs.Session.{Done};
+ghost use Rattle.ssh_model.specs.Session.{Done, part};
 ghost use Rattle.ssh_model.specs.Turn.{Run};
 ghost use Rattle.ssh_model.specs.Honest.{IsHonest};
-ghost use Rattle.ssh_model.specs.Safe.{Agreement, Beginning, Authorized};
+ghost use Rattle.ssh_model.specs.Safe.{Agreement, Authorized, Beginning, Undisturbed, Windows, WindowsAt};
 
 /// In an honest run the ends agree on the eight inputs of each exchange that the client completed, or under whose keys
 /// the server took a message.
@@ -21,4 +22,21 @@ pub fn beginning<K>()
 /// accepted a request that the client had sent.
 pub fn authorized<K>()
     ensures { (p : Parties K) → AreLawful p → (run : List Done) → Run p run → IsHonest p run → Authorized p run }
+{}
+
+/// In an honest run no window is overrun: on every channel, at each end, data sent is at most the window taken, each part
+/// of which the other end had sent, and data taken is at most the window granted.
+pub fn windows<K>()
+    ensures { (p : Parties K) → AreLawful p → (run : List Done) → Run p run → IsHonest p run → Windows run }
+{}
+
+/// Each end keeps its windows in every run, whatever comes to it.
+pub fn windows_at_each_end<K>()
+    ensures { (p : Parties K) → AreLawful p → (run : List Done) → Run p run → (side : Side) → WindowsAt side (part side run) }
+{}
+
+/// In an honest run neither end refuses the other for its channels or windows, the data taken on a channel are a beginning
+/// of those sent on it, and each channel on which data was taken has a partner.
+pub fn undisturbed<K>()
+    ensures { (p : Parties K) → AreLawful p → (run : List Done) → Run p run → IsHonest p run → Undisturbed run }
 {}
