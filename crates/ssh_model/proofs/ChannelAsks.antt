@@ -13,7 +13,7 @@ use Rattle.ssh_model.specs.ChannelHistory as channel
 use Rattle.ssh_model.specs.ChannelRows as row
 use Rattle.ssh_model.specs.Connection.{channel_items, notes, owed_replies, AreReplies, ConnectionAsk, ConnectionAsk.opens, ConnectionAsk.confirm, ConnectionAsk.refuse, ConnectionAsk.sends, ConnectionAsk.sends_extended, ConnectionAsk.adjust, ConnectionAsk.eof, ConnectionAsk.close, ConnectionAsk.request, ConnectionAsk.reply_yes, ConnectionAsk.reply_no, ConnectionAsk.global, ConnectionAsk.global_yes, ConnectionAsk.global_no, is_many}
 use Rattle.ssh_model.specs.Transport.{TransportAnswer, TransportAnswer.disconnect, TransportAnswer.ignore, TransportAnswer.unimplemented, TransportAnswer.debug, TransportAnswer.unknown, TransportAnswer.service_request, TransportAnswer.service_accept, TransportAnswer.kexinit_at_server, TransportAnswer.kexinit_at_client, TransportAnswer.answered_at_server, TransportAnswer.answered_at_client, TransportAnswer.init, TransportAnswer.reply, TransportAnswer.newkeys, TransportAnswer.request_too_late, TransportAnswer.request_accepted, TransportAnswer.request_probed, TransportAnswer.request_failed, TransportAnswer.failure, TransportAnswer.success, TransportAnswer.banner, TransportAnswer.key_ok, TransportAsk, TransportAsk.service, TransportAsk.none, TransportAsk.password, TransportAsk.probe, TransportAsk.sign, TransportAsk.rekey, TransportAsk.disconnect}
-use Rattle.ssh_model.specs.Turn.{IsSpelled, AreSpelled, Refuses, Refuses.silently, Refuses.spent, Refuses.said, Welcomes, answer_checks, Answer, Answer.of_transport, Answer.of_connection, OnPayload, OnPayload.takes, OnPayload.skips, OnPayload.unexpected, OnPayload.bad_message, OnPayload.refuses, OnPayload.spends, OnOutcome, OnOutcome.other_line, OnOutcome.version_line, OnOutcome.refused_line, OnOutcome.opened, OnOutcome.refused_packet, ask_checks, OnAsk, OnAsk.of_transport, OnAsk.of_connection, Turn, Turn.feeds, Turn.refuses_ask, Turn.answers_ask, Turn.spends_on_ask, Turn.reads, Turn.dies}
+use Rattle.ssh_model.specs.Turn.{IsSpelled, AreSpelled, Refuses, Refuses.silently, Refuses.spent, Refuses.said, Welcomes, answer_checks, Answer, Answer.of_transport, Answer.of_connection, OnPayload, OnPayload.takes, OnPayload.skips, OnPayload.unexpected, OnPayload.bad_message, OnPayload.refuses, OnPayload.spends, OnOutcome, OnOutcome.other_line, OnOutcome.version_line, OnOutcome.refused_line, OnOutcome.opened, OnOutcome.refused_packet, ask_checks, OnAsk, OnAsk.of_transport, OnAsk.of_connection, FeedsTurn, FeedsTurn.feeds, FeedsTurn.answers_false, AsksTurn, AsksTurn.refuses, AsksTurn.answers, AsksTurn.spends, AsksTurn.dies, AsksTurn.is_dead, Turn, Turn.feeds, Turn.asks, Turn.reads, Turn.dies}
 use Rattle.ssh_model.proofs.Stages.{all_passed, or_false, not_false, level_at_30, level_at_31}
 use Rattle.ssh_model.proofs.EndKeeps.{End}
 use Rattle.ssh_model.proofs.EndAnswers.{may_be}
@@ -143,13 +143,16 @@ module _ {K : Type 0} (p : Parties K) where
   payload_seen side h items b (spends c m w a s k) v = nothing refl
 
   pub turn_seen : (side : Side) (h items : List Item) → Turn p side h items → End p side h → Seen side h items
-  turn_seen side h items (feeds c s alive k n m) v = nothing refl
-  turn_seen side h items (refuses_ask a k alive e) v = nothing refl
-  turn_seen side h items (answers_ask {items = l} a alive c o s k) v = ask_seen side h l a o c s
-  turn_seen side h items (spends_on_ask a alive c o s k) v = nothing refl
+  turn_seen side h items (Turn.feeds c s (FeedsTurn.feeds k m)) v = nothing refl
+  turn_seen side h items (asks a (AsksTurn.refuses k alive e)) v = nothing refl
+  turn_seen side h items (asks a (AsksTurn.answers {items = l} alive c o s k)) v = ask_seen side h l a o c s
+  turn_seen side h items (asks a (AsksTurn.spends alive c o s k)) v = nothing refl
   turn_seen side h items (reads unit o alive u (other_line text)) v = nothing refl
   turn_seen side h items (reads unit o alive u (version_line text)) v = nothing refl
   turn_seen side h items (reads unit o alive u (refused_line k r)) v = refuses_seen side h items k _ r
   turn_seen side h items (reads unit o alive u (opened b x)) v = payload_seen side h items b x v
   turn_seen side h items (reads unit o alive u (refused_packet k r)) v = refuses_seen side h items k _ r
-  turn_seen side h items (dies alive) v = nothing refl
+  turn_seen side h items (Turn.dies alive) v = nothing refl
+  turn_seen side h items (asks a (AsksTurn.dies alive c)) v = nothing refl
+  turn_seen side h items (asks a (AsksTurn.is_dead e)) v = nothing refl
+  turn_seen side h items (Turn.feeds c s (FeedsTurn.answers_false e)) v = nothing refl

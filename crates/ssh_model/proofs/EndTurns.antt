@@ -14,7 +14,7 @@ use Rattle.ssh_model.specs.Unit.{Stage, Stage.Lines, Stage.Packets, IsUnit, Pack
 use Rattle.ssh_model.specs.Transport.{TransportAsk, TransportAsk.service, TransportAsk.none, TransportAsk.password, TransportAsk.probe, TransportAsk.sign, TransportAsk.rekey, TransportAsk.disconnect, next_cookie}
 use Rattle.ssh_model.specs.Connection.{ConnectionAsk, ConnectionAsk.opens, ConnectionAsk.confirm, ConnectionAsk.refuse, ConnectionAsk.sends, ConnectionAsk.sends_extended, ConnectionAsk.adjust, ConnectionAsk.eof, ConnectionAsk.close, ConnectionAsk.request, ConnectionAsk.reply_yes, ConnectionAsk.reply_no, ConnectionAsk.global, ConnectionAsk.global_yes, ConnectionAsk.global_no}
 use Rattle.ssh_model.specs.Refusal.{first_refusal}
-use Rattle.ssh_model.specs.Turn.{IsSpelled, AreSpelled, Refuses, Refuses.silently, Refuses.spent, Refuses.said, Welcomes, number_of, Answer, Answer.of_transport, Answer.of_connection, OnPayload, OnPayload.takes, OnPayload.skips, OnPayload.unexpected, OnPayload.bad_message, OnPayload.refuses, OnPayload.spends, OnOutcome, OnOutcome.other_line, OnOutcome.version_line, OnOutcome.refused_line, OnOutcome.opened, OnOutcome.refused_packet, stage, ask_checks, OnAsk, OnAsk.of_transport, OnAsk.of_connection, Turn, Turn.feeds, Turn.refuses_ask, Turn.answers_ask, Turn.spends_on_ask, Turn.reads, Turn.dies, IsOpening}
+use Rattle.ssh_model.specs.Turn.{IsSpelled, AreSpelled, Refuses, Refuses.silently, Refuses.spent, Refuses.said, Welcomes, number_of, Answer, Answer.of_transport, Answer.of_connection, OnPayload, OnPayload.takes, OnPayload.skips, OnPayload.unexpected, OnPayload.bad_message, OnPayload.refuses, OnPayload.spends, OnOutcome, OnOutcome.other_line, OnOutcome.version_line, OnOutcome.refused_line, OnOutcome.opened, OnOutcome.refused_packet, stage, ask_checks, OnAsk, OnAsk.of_transport, OnAsk.of_connection, FeedsTurn, FeedsTurn.feeds, FeedsTurn.answers_false, AsksTurn, AsksTurn.refuses, AsksTurn.answers, AsksTurn.spends, AsksTurn.dies, AsksTurn.is_dead, Turn, Turn.feeds, Turn.asks, Turn.reads, Turn.dies, IsOpening}
 use Rattle.ssh_model.proofs.Rules.{Rules}
 use Rattle.ssh_model.proofs.Spelling.{other_tagged, sent_other_tag, spelled_cookie, sent_fits}
 use Rattle.ssh_model.proofs.EndKeeps.{End, InStep, ArePlain, add_quiet, add_fed, add_line, add_sent, add_plain}
@@ -142,12 +142,15 @@ module _ {K : Type 0} (p : Parties K) (laws : AreLawful p) where
   outcome_keeps side h items unit o u (refused_packet k r) v = refuses_keeps p side h items k _ r v
 
   pub turn_keeps : (side : Side) (h items : List Item) → Turn p side h items → End p side h → End p side (items ++ h)
-  turn_keeps side h items (feeds c s alive k n m) v = add_fed p side c s h v
-  turn_keeps side h items (refuses_ask a k alive e) v = add_quiet p side _ _ tt (add_quiet p side _ _ tt v)
-  turn_keeps side h items (answers_ask {items = l} a alive c o s k) v = rw append_assoc (ask_keeps side h l a o c s v)
-  turn_keeps side h items (spends_on_ask a alive c o s k) v = add_quiet p side _ _ tt (add_quiet p side _ _ tt (add_quiet p side _ _ tt v))
+  turn_keeps side h items (Turn.feeds c s (FeedsTurn.feeds k m)) v = add_fed p side c s h v
+  turn_keeps side h items (asks a (AsksTurn.refuses k alive e)) v = add_quiet p side _ _ tt (add_quiet p side _ _ tt v)
+  turn_keeps side h items (asks a (AsksTurn.answers {items = l} alive c o s k)) v = rw append_assoc (ask_keeps side h l a o c s v)
+  turn_keeps side h items (asks a (AsksTurn.spends alive c o s k)) v = add_quiet p side _ _ tt (add_quiet p side _ _ tt (add_quiet p side _ _ tt v))
   turn_keeps side h items (reads unit o alive u x) v = outcome_keeps side h items unit o u x v
-  turn_keeps side h items (dies alive) v = add_quiet p side _ _ tt v
+  turn_keeps side h items (Turn.dies alive) v = add_quiet p side _ _ tt v
+  turn_keeps side h items (asks a (AsksTurn.dies alive c)) v = add_quiet p side _ _ tt v
+  turn_keeps side h items (asks a (AsksTurn.is_dead e)) v = v
+  turn_keeps side h items (Turn.feeds c s (FeedsTurn.answers_false e)) v = v
 
   own_line : (side : Side) → length (settings_of p side).line < 2 ^ 32
   own_line Client = omega (arith, laws.client_line)

@@ -14,7 +14,7 @@ use Rattle.ssh_model.specs.ChannelHistory as channel
 use Rattle.ssh_model.specs.ChannelHistory.{owed, blocked, noted}
 use Rattle.ssh_model.specs.Transport.{TransportAnswer, TransportAnswer.disconnect, TransportAnswer.ignore, TransportAnswer.unimplemented, TransportAnswer.debug, TransportAnswer.unknown, TransportAnswer.service_request, TransportAnswer.service_accept, TransportAnswer.kexinit_at_server, TransportAnswer.kexinit_at_client, TransportAnswer.answered_at_server, TransportAnswer.answered_at_client, TransportAnswer.init, TransportAnswer.reply, TransportAnswer.newkeys, TransportAnswer.request_too_late, TransportAnswer.request_accepted, TransportAnswer.request_probed, TransportAnswer.request_failed, TransportAnswer.failure, TransportAnswer.success, TransportAnswer.banner, TransportAnswer.key_ok, TransportAsk, TransportAsk.service, TransportAsk.none, TransportAsk.password, TransportAsk.probe, TransportAsk.sign, TransportAsk.rekey, TransportAsk.disconnect}
 use Rattle.ssh_model.specs.Connection.{channel_items, owed_replies, AreReplies, AreReplies.none, AreReplies.reply, reply_message, ConnectionAnswer, ConnectionAnswer.global, ConnectionAnswer.global_success, ConnectionAnswer.global_failure, ConnectionAnswer.opened, ConnectionAnswer.not_opened, ConnectionAnswer.confirmation, ConnectionAnswer.failure, ConnectionAnswer.adjust, ConnectionAnswer.got_data, ConnectionAnswer.got_extended, ConnectionAnswer.eof, ConnectionAnswer.close, ConnectionAnswer.request, ConnectionAnswer.success, ConnectionAnswer.no_success, ConnectionAsk, ConnectionAsk.opens, ConnectionAsk.confirm, ConnectionAsk.refuse, ConnectionAsk.sends, ConnectionAsk.sends_extended, ConnectionAsk.adjust, ConnectionAsk.eof, ConnectionAsk.close, ConnectionAsk.request, ConnectionAsk.reply_yes, ConnectionAsk.reply_no, ConnectionAsk.global, ConnectionAsk.global_yes, ConnectionAsk.global_no}
-use Rattle.ssh_model.specs.Turn.{IsSpelled, AreSpelled, Refuses, Refuses.silently, Refuses.spent, Refuses.said, Welcomes, number_of, Answer, Answer.of_transport, Answer.of_connection, OnPayload, OnPayload.takes, OnPayload.skips, OnPayload.unexpected, OnPayload.bad_message, OnPayload.refuses, OnPayload.spends, OnOutcome, OnOutcome.other_line, OnOutcome.version_line, OnOutcome.refused_line, OnOutcome.opened, OnOutcome.refused_packet, ask_checks, OnAsk, OnAsk.of_transport, OnAsk.of_connection, Turn, Turn.feeds, Turn.refuses_ask, Turn.answers_ask, Turn.spends_on_ask, Turn.reads, Turn.dies, IsOpening}
+use Rattle.ssh_model.specs.Turn.{IsSpelled, AreSpelled, Refuses, Refuses.silently, Refuses.spent, Refuses.said, Welcomes, number_of, Answer, Answer.of_transport, Answer.of_connection, OnPayload, OnPayload.takes, OnPayload.skips, OnPayload.unexpected, OnPayload.bad_message, OnPayload.refuses, OnPayload.spends, OnOutcome, OnOutcome.other_line, OnOutcome.version_line, OnOutcome.refused_line, OnOutcome.opened, OnOutcome.refused_packet, ask_checks, OnAsk, OnAsk.of_transport, OnAsk.of_connection, FeedsTurn, FeedsTurn.feeds, FeedsTurn.answers_false, AsksTurn, AsksTurn.refuses, AsksTurn.answers, AsksTurn.spends, AsksTurn.dies, AsksTurn.is_dead, Turn, Turn.feeds, Turn.asks, Turn.reads, Turn.dies, IsOpening}
 use Rattle.ssh_model.specs.Outcome.{Outcome}
 use Rattle.ssh_model.proofs.EndAnswers.{spelled_behind, may_be}
 use Rattle.ssh_model.proofs.Stages.{all_passed, not_false, and_right, normal_above, authenticated_above, probing_at_60}
@@ -357,12 +357,15 @@ module _ {K : Type 0} (p : Parties K) where
   outcome_sound side h items o (refused_packet k r) n v = refuses_sound side h items k _ r v
 
   pub turn_sound : (side : Side) (h items : List Item) → Turn p side h items → epoch (took h) ≤ epoch (sent h) → Sound p side h → Sound p side (items ++ h)
-  turn_sound side h items (feeds c s alive k n m) i v = apart_sound p side _ _ tt v
-  turn_sound side h items (refuses_ask a k alive e) n v = apart_sound p side _ _ tt (apart_sound p side _ _ tt v)
-  turn_sound side h items (answers_ask {items = l} a alive c o s k) n v = rw append_assoc (ask_sound side h l a o c s n v)
-  turn_sound side h items (spends_on_ask a alive c o s k) n v = apart_sound p side _ _ tt (apart_sound p side _ _ tt (apart_sound p side _ _ tt v))
+  turn_sound side h items (Turn.feeds c s (FeedsTurn.feeds k m)) i v = apart_sound p side _ _ tt v
+  turn_sound side h items (asks a (AsksTurn.refuses k alive e)) n v = apart_sound p side _ _ tt (apart_sound p side _ _ tt v)
+  turn_sound side h items (asks a (AsksTurn.answers {items = l} alive c o s k)) n v = rw append_assoc (ask_sound side h l a o c s n v)
+  turn_sound side h items (asks a (AsksTurn.spends alive c o s k)) n v = apart_sound p side _ _ tt (apart_sound p side _ _ tt (apart_sound p side _ _ tt v))
   turn_sound side h items (reads unit o alive u x) n v = outcome_sound side h items o x n v
-  turn_sound side h items (dies alive) n v = apart_sound p side _ _ tt v
+  turn_sound side h items (Turn.dies alive) n v = apart_sound p side _ _ tt v
+  turn_sound side h items (asks a (AsksTurn.dies alive c)) n v = apart_sound p side _ _ tt v
+  turn_sound side h items (asks a (AsksTurn.is_dead e)) n v = v
+  turn_sound side h items (Turn.feeds c s (FeedsTurn.answers_false e)) n v = v
 
   nothing : (side : Side) → Sound p side []
   nothing Client = record { formed = tt; entitled = ⊎_elim (λ x. elim x [ ]) (λ x. elim x [ ]); keyed = λ e. absurd (cc e) }

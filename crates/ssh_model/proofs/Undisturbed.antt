@@ -18,7 +18,7 @@ use Rattle.ssh_model.specs.Safe.{IsOtherRefusal, NoneRefused, Undisturbed}
 use Rattle.ssh_model.specs.Outcome.{Outcome, Outcome.RefusedLine, Outcome.RefusedPacket}
 use Rattle.ssh_model.specs.Line.{LineUnit, LineIs}
 use Rattle.ssh_model.specs.Unit.{Stage, Stage.Lines, Stage.Packets, IsUnit, PacketUnit}
-use Rattle.ssh_model.specs.Turn.{Refuses, Refuses.silently, Refuses.spent, Refuses.said, answer_checks, number_of, Answer, Answer.of_transport, Answer.of_connection, OnPayload, OnPayload.takes, OnPayload.skips, OnPayload.unexpected, OnPayload.bad_message, OnPayload.refuses, OnPayload.spends, OnOutcome, OnOutcome.other_line, OnOutcome.version_line, OnOutcome.refused_line, OnOutcome.opened, OnOutcome.refused_packet, OnAsk, OnAsk.of_transport, OnAsk.of_connection, stage, Turn, Turn.feeds, Turn.refuses_ask, Turn.answers_ask, Turn.spends_on_ask, Turn.reads, Turn.dies, Run, Run.start, Run.then_turn, IsOpening}
+use Rattle.ssh_model.specs.Turn.{Refuses, Refuses.silently, Refuses.spent, Refuses.said, answer_checks, number_of, Answer, Answer.of_transport, Answer.of_connection, OnPayload, OnPayload.takes, OnPayload.skips, OnPayload.unexpected, OnPayload.bad_message, OnPayload.refuses, OnPayload.spends, OnOutcome, OnOutcome.other_line, OnOutcome.version_line, OnOutcome.refused_line, OnOutcome.opened, OnOutcome.refused_packet, OnAsk, OnAsk.of_transport, OnAsk.of_connection, stage, FeedsTurn, FeedsTurn.feeds, FeedsTurn.answers_false, AsksTurn, AsksTurn.refuses, AsksTurn.answers, AsksTurn.spends, AsksTurn.dies, AsksTurn.is_dead, Turn, Turn.feeds, Turn.asks, Turn.reads, Turn.dies, Run, Run.start, Run.then_turn, IsOpening}
 use Rattle.ssh_model.proofs.Stages.{and_left, normal_above}
 use Rattle.ssh_model.proofs.Rules.{tagged}
 use Rattle.ssh_model.proofs.Spelling.{IsOtherMessage, taken_other_tag}
@@ -231,17 +231,20 @@ module _ {K : Type 0} (p : Parties K) where
   refused_packet_below (Packets key n) k unit u = packet_refusal key n k unit u
 
   turn_fine : (run : List Done) (side : Side) (items : List Item) → Turn p side (part side run) items → Given p (done_by side items ++ run) → AllSound run → row.PairRun (channel_run run) → AreFine items
-  turn_fine run side items (feeds c s alive k n m) g v q = tt
-  turn_fine run side items (refuses_ask a k alive e) g v q = tt
-  turn_fine run side items (answers_ask {items = l} a alive c (of_transport o) s k) g v q = fine_behind l _ (transport_ask_fine p side _ l a o) tt
-  turn_fine run side items (answers_ask {items = l} a alive c (of_connection o) s k) g v q = fine_behind l _ (connection_ask_fine side _ l a o) tt
-  turn_fine run side items (spends_on_ask a alive c o s k) g v q = (other_from 14 (omega arith), tt)
+  turn_fine run side items (Turn.feeds c s (FeedsTurn.feeds k m)) g v q = tt
+  turn_fine run side items (asks a (AsksTurn.refuses k alive e)) g v q = tt
+  turn_fine run side items (asks a (AsksTurn.answers {items = l} alive c (of_transport o) s k)) g v q = fine_behind l _ (transport_ask_fine p side _ l a o) tt
+  turn_fine run side items (asks a (AsksTurn.answers {items = l} alive c (of_connection o) s k)) g v q = fine_behind l _ (connection_ask_fine side _ l a o) tt
+  turn_fine run side items (asks a (AsksTurn.spends alive c o s k)) g v q = (other_from 14 (omega arith), tt)
   turn_fine run side items (Turn.reads unit o alive u (other_line text)) g v q = tt
   turn_fine run side items (Turn.reads unit o alive u (version_line text)) g v q = tt
   turn_fine run side items (Turn.reads unit o alive u (refused_line k r)) g v q = refuses_fine _ items k _ r (other_from k (refused_line_below (stage p side (part side run)) k unit u))
   turn_fine run side items (Turn.reads unit o alive u (opened b x)) g v q = payload_fine run side items b x g v q
   turn_fine run side items (Turn.reads unit o alive u (refused_packet k r)) g v q = refuses_fine _ items k _ r (other_from k (refused_packet_below (stage p side (part side run)) k unit u))
-  turn_fine run side items (dies alive) g v q = tt
+  turn_fine run side items (Turn.dies alive) g v q = tt
+  turn_fine run side items (asks a (AsksTurn.dies alive c)) g v q = tt
+  turn_fine run side items (asks a (AsksTurn.is_dead e)) g v q = tt
+  turn_fine run side items (Turn.feeds c s (FeedsTurn.answers_false e)) g v q = tt
 
 -- ---- whole runs
 

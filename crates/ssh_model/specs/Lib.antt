@@ -32,3 +32,4 @@ pub mod Safe
 pub mod Session
 pub mod Transport
 pub mod Turn
+pub mod Events
