@@ -33,7 +33,7 @@ pub record Given {K : Type 0} (p : Parties K) (run : List Done) : Type 0 where
   pub apart : Apart (exchanges p Client (part Client run)) (exchanges p Server (part Server run))
 
 module _ {K : Type 0} (p : Parties K) where
-  fresh_tail : (side t : Side) (i : Item) (run : List Done) → AreDistinct (cookies (part side (By t i ∷ run))) → AreDistinct (cookies (part side run))
+  pub fresh_tail : (side t : Side) (i : Item) (run : List Done) → AreDistinct (cookies (part side (By t i ∷ run))) → AreDistinct (cookies (part side run))
   fresh_tail Client Client (Fed c s) run d = d.1
   fresh_tail Client Client i run d = d
   fresh_tail Client Server i run d = d
@@ -41,7 +41,7 @@ module _ {K : Type 0} (p : Parties K) where
   fresh_tail Server Server i run d = d
   fresh_tail Server Client i run d = d
 
-  completed_grows : (t : Side) (i : Item) (run : List Done) (x : Inputs) → IsCompleted p x run → IsCompleted p x (By t i ∷ run)
+  pub completed_grows : (t : Side) (i : Item) (run : List Done) (x : Inputs) → IsCompleted p x run → IsCompleted p x (By t i ∷ run)
   completed_grows Client i run x (inl h) = inl (in_older x _ _ (exchanges_grow p Client i (part Client run)) h)
   completed_grows Client i run x (inr h) = inr h
   completed_grows Server i run x (inl h) = inl h
@@ -56,7 +56,7 @@ module _ {K : Type 0} (p : Parties K) where
   rules_tail Server i run r Client = r Client
   rules_tail Server i run r Server = (r Server).1
 
-  tags_tail : (t : Side) (i : Item) (run : List Done) → TagsHold p (By t i ∷ run) → TagsHold p run
+  pub tags_tail : (t : Side) (i : Item) (run : List Done) → TagsHold p (By t i ∷ run) → TagsHold p run
   tags_tail t (Took c m b) run h = h.1
   tags_tail t (TookGuess b) run h = h.1
   tags_tail t (Refused n (Some b)) run h = h.1
