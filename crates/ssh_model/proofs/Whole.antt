@@ -203,14 +203,3 @@ module _ {K : Type 0} (p : Parties K) (laws : AreLawful p) where
   pub beginning_holds : (run : List Done) → Run p run → IsHonest p run → Beginning run
   beginning_holds run r h Client = reverse_older _ _ (map_older bytes_of _ _ (kept p run (given run r h)).to_client)
   beginning_holds run r h Server = reverse_older _ _ (map_older bytes_of _ _ (kept p run (given run r h)).to_server)
-
-  agrees : (run : List Done) (e : ℕ) → Kept p (part Client run) (part Server run) → e < length (exchanges p Client (part Client run)) → Agrees p e run
-  agrees run e v n = record {
-    by_client = n;
-    by_server = omega (arith, older_length _ _ v.agree);
-    same = nth_same no_exchange e _ _ v.agree n;
-  }
-
-  pub agreement_holds : (run : List Done) → Run p run → IsHonest p run → Agreement p run
-  agreement_holds run r h e (inl n) = agrees run e (kept p run (given run r h)) n
-  agreement_holds run r h e (inr u) = let v = kept p run (given run r h) in agrees run e v (v.under e u)

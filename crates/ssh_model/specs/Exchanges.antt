@@ -178,6 +178,15 @@ server_lists Server e h = lists_of (nth no_offer e (offers (messages_sent h))).p
 abbrev pub choice : Side → ℕ → List Item → Chosen
 choice side e h = chosen (client_lists side e h) (server_lists side e h)
 
+abbrev pub none_chosen : Chosen
+none_chosen = record { kex = []; host = []; enc_cs = []; enc_sc = []; mac_cs = []; mac_sc = []; comp_cs = []; comp_sc = [] }
+
+-- what was chosen in the exchanges that an end completed
+abbrev pub choices : Side → List Item → List Chosen
+choices side [] = []
+choices side (Sent channel NewKeys payload ∷ h) = choice side (epoch (sent h)) h ∷ choices side h
+choices side (_ ∷ h) = choices side h
+
 -- ---- keys (RFC 4253 section 7.2)
 
 -- the letters of a direction's IV, cipher key and MAC key, by the side that sends
@@ -218,7 +227,7 @@ abbrev pub key_in : {K : Type 0} → Parties K → Side → (from : Side) → �
 key_in p side from zero h = None
 key_in p side from (suc e) h =
     let xs = exchanges p side h in
-    Some (key_of p.crypto from (nth no_exchange e xs) (session_id xs) (choice side e h))
+    Some (key_of p.crypto from (nth no_exchange e xs) (session_id xs) (nth none_chosen e (choices side h)))
 
 -- the name and the key under which an end sends, and those under which it takes
 abbrev pub sending_name : {K : Type 0} → Parties K → Side → List Item → Option KeyName

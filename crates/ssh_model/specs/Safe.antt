@@ -6,7 +6,7 @@ use Rattle.ssh_model.specs.Exchange.{Inputs}
 use Rattle.ssh_model.specs.Party.{Parties}
 use Rattle.ssh_model.specs.Session.{Item, Item.Took, Item.TookGuess, Item.Sent, Item.Refused, Payload, bytes_of, Done, Done.By, part, sent, took, Spelled, Spelled.SpelledBy, messages_sent, messages_taken}
 use Rattle.ssh_model.specs.Epoch.{epoch, after_first}
-use Rattle.ssh_model.specs.Exchanges.{nth, no_exchange, exchanges, choice}
+use Rattle.ssh_model.specs.Exchanges.{nth, no_exchange, none_chosen, exchanges, choices}
 use Rattle.ssh_model.specs.Phase.{sent_success}
 use Rattle.ssh_model.specs.Authentication.{is_accepted}
 use Rattle.ssh_model.specs.ChannelState.{is_held}
@@ -24,11 +24,12 @@ TookUnder e (Took channel message payload ∷ h) = (epoch (took h) ≡ suc e) �
 TookUnder e (TookGuess payload ∷ h) = (epoch (took h) ≡ suc e) ⊎ TookUnder e h
 TookUnder e (_ ∷ h) = TookUnder e h
 
--- Both ends completed exchange e, with the same inputs.
+-- Both ends completed exchange e, with the same eight inputs and the same algorithms.
 pub record Agrees {K : Type 0} (p : Parties K) (e : ℕ) (run : List Done) : Type 0 where
   pub by_client : e < length (exchanges p Client (part Client run))
   pub by_server : e < length (exchanges p Server (part Server run))
   pub same : nth no_exchange e (exchanges p Client (part Client run)) ≡ nth no_exchange e (exchanges p Server (part Server run))
+  pub same_choice : nth none_chosen e (choices Client (part Client run)) ≡ nth none_chosen e (choices Server (part Server run))
 
 -- The ends agree on every exchange that the client completed, or under whose keys the server took a message.
 abbrev pub Agreement : {K : Type 0} → Parties K → List Done → Type 0
