@@ -19,7 +19,7 @@ use Rattle.ssh_model.proofs.Payloads.{not_both}
 use Rattle.ssh_model.proofs.Rules.{Rules, took_behind}
 use Rattle.ssh_model.proofs.Agree.{Kept}
 use Rattle.ssh_model.proofs.Whole.{Given, given, given_tail, kept, ends, part_own, part_other, opened_client, opened_server}
-use Rattle.ssh_model.proofs.Sound.{AllFormed, Formed, AcceptedHere, Sound, sent_number, taken_number}
+use Rattle.ssh_model.proofs.Sound.{AllFormed, Formed, AcceptedHere, Sound, sent_number, taken_number, BothFormed, formed_tail}
 use Rattle.ssh_model.proofs.SoundTurns.{turn_sound, opening_sound, without_channels, none_noted}
 
 -- ---- what was taken under a key was sent
@@ -82,15 +82,6 @@ module _ {K : Type 0} (p : Parties K) (laws : AreLawful p) where
   sounds run (then_turn {run = r} {items = items} Server before turn) Server =
       rw (part_own Server items r) (turn_sound p Server (part Server r) items turn (took_behind p Server _ (ends p laws r before Server).rules) (sounds r before Server))
 
-  abbrev BothFormed : List Done → Type 0
-  BothFormed run = (side : Side) → AllFormed p (part side run)
-
-  formed_tail : (t : Side) (i : Item) (run : List Done) → BothFormed (By t i ∷ run) → BothFormed run
-  formed_tail Client i run f Client = (f Client).1
-  formed_tail Client i run f Server = f Server
-  formed_tail Server i run f Client = f Client
-  formed_tail Server i run f Server = (f Server).1
-
   -- the request that SUCCESS answers
   accepted_in : (run : List Done) → Given p run → AcceptedHere p (part Server run) → HasAccepted p run
   accepted_in [] g a = elim a [ ]
@@ -108,25 +99,25 @@ module _ {K : Type 0} (p : Parties K) (laws : AreLawful p) where
       })
   accepted_in (By Server i ∷ run) g a = elim a [ ]
 
-  by_server : (run : List Done) → Given p run → BothFormed run → sent_success (part Server run) ≡ true → HasAccepted p run
+  by_server : (run : List Done) → Given p run → BothFormed p run → sent_success (part Server run) ≡ true → HasAccepted p run
   by_server [] g f e = absurd (cc e)
-  by_server (By Client i ∷ run) g f e = by_server run (given_tail p Client i run g) (formed_tail Client i run f) e
+  by_server (By Client i ∷ run) g f e = by_server run (given_tail p Client i run g) (formed_tail p Client i run f) e
   by_server (By Server (Sent c UserauthSuccess b) ∷ run) g f e = accepted_in run (given_tail p Server _ run g) (f Server).0.1
-  by_server (By Server (Took c m b) ∷ run) g f e = inr (by_server run (given_tail p Server _ run g) (formed_tail Server _ run f) e)
-  by_server (By Server i ∷ run) g f e = by_server run (given_tail p Server i run g) (formed_tail Server i run f) e
+  by_server (By Server (Took c m b) ∷ run) g f e = inr (by_server run (given_tail p Server _ run g) (formed_tail p Server _ run f) e)
+  by_server (By Server i ∷ run) g f e = by_server run (given_tail p Server i run g) (formed_tail p Server i run f) e
 
-  by_client : (run : List Done) → Given p run → BothFormed run → took_success (part Client run) ≡ true → HasAccepted p run
+  by_client : (run : List Done) → Given p run → BothFormed p run → took_success (part Client run) ≡ true → HasAccepted p run
   by_client [] g f e = absurd (cc e)
-  by_client (By Server (Took c m b) ∷ run) g f e = inr (by_client run (given_tail p Server _ run g) (formed_tail Server _ run f) e)
-  by_client (By Server i ∷ run) g f e = by_client run (given_tail p Server i run g) (formed_tail Server i run f) e
+  by_client (By Server (Took c m b) ∷ run) g f e = inr (by_client run (given_tail p Server _ run g) (formed_tail p Server _ run f) e)
+  by_client (By Server i ∷ run) g f e = by_client run (given_tail p Server i run g) (formed_tail p Server i run f) e
   by_client (By Client (Took c UserauthSuccess b) ∷ run) g f e =
       let k = kept p (By Client (Took c UserauthSuccess b) ∷ run) g in
       let s = (f Client).0 in
       let i = had_sent (OtherOf b) (took (part Client run)) (sent (part Server run)) (s.1 (omega arith)) k.to_client in
-      by_server run (given_tail p Client _ run g) (formed_tail Client _ run f) (success_in p b (part Server run) (f Server) (taken_number true UserauthSuccess b s.0) i)
-  by_client (By Client i ∷ run) g f e = by_client run (given_tail p Client i run g) (formed_tail Client i run f) e
+      by_server run (given_tail p Client _ run g) (formed_tail p Client _ run f) (success_in p b (part Server run) (f Server) (taken_number true UserauthSuccess b s.0) i)
+  by_client (By Client i ∷ run) g f e = by_client run (given_tail p Client i run g) (formed_tail p Client i run f) e
 
-  when_authenticated : (run : List Done) → Given p run → BothFormed run → (side : Side) → authenticated side (part side run) ≡ true → HasAccepted p run
+  when_authenticated : (run : List Done) → Given p run → BothFormed p run → (side : Side) → authenticated side (part side run) ≡ true → HasAccepted p run
   when_authenticated run g f Client e = by_client run g f e
   when_authenticated run g f Server e = by_server run g f e
 

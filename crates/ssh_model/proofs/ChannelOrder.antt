@@ -10,8 +10,8 @@ use Rattle.ssh_model.specs.ChannelMessage.{Message}
 use Rattle.ssh_model.specs.ChannelHistory as channel
 use Rattle.ssh_model.specs.Connection.{on_channel, sent_on, received_on, channel_items}
 use Rattle.ssh_model.specs.Turn.{IsSpelled, number_of}
-use Rattle.ssh_model.proofs.Payloads.{written_is_read}
 use Rattle.ssh_model.proofs.OneMessage.{same_message}
+use Rattle.ssh_model.proofs.Spelling.{spelled_is_read}
 use Rattle.ssh_model.proofs.Older.{older_self}
 use Rattle.ssh_model.proofs.Places.{zero_after, after_suc, after_zero}
 use Rattle.ssh_model.proofs.Sound.{AllFormed, Formed, taken_number}
@@ -74,9 +74,6 @@ high_on_channel (ChannelRequest x y z u) c e = leb-true 80 _ refl
 high_on_channel (ChannelSuccess x) c e = leb-true 80 _ refl
 high_on_channel (ChannelFailure x) c e = leb-true 80 _ refl
 high_on_channel m c e = absurd (cc e)
-
-spelled_is_read : (m : Msg) (b : List ℕ) → IsSpelled m b → IsPayload true m b
-spelled_is_read m b s = record { suits = s.suits; row = written_is_read m b s.row }
 
 received_add : (at : Option ℕ) (o : Option Message) (l : List channel.Item) → channel.received (received_on at o l) ≡ add o (channel.received l)
 received_add at None l = refl

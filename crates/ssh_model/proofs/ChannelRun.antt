@@ -15,7 +15,7 @@ use Rattle.ssh_model.specs.Safe.{Windows, WindowsAt}
 use Rattle.ssh_model.specs.Turn.{Run, Run.start, Run.then_turn, IsOpening}
 use Rattle.ssh_model.proofs.Whole.{Given, given, given_tail, kept, ends}
 use Rattle.ssh_model.proofs.Agree.{Kept}
-use Rattle.ssh_model.proofs.Sound.{AllFormed}
+use Rattle.ssh_model.proofs.Sound.{AllFormed, BothFormed, formed_tail}
 use Rattle.ssh_model.proofs.Accepted.{sounds}
 use Rattle.ssh_model.proofs.ChannelView.{items_behind}
 use Rattle.ssh_model.proofs.ChannelTurns.{Seen, Seen.nothing, Seen.turn}
@@ -68,26 +68,18 @@ single (Took c m b) = single_taken c (on_channel m)
 single i = inl refl
 
 module _ {K : Type 0} (p : Parties K) where
-  abbrev BothFormed : List Done → Type 0
-  BothFormed run = (side : Side) → AllFormed p (part side run)
 
-  formed_tail : (t : Side) (i : Item) (run : List Done) → BothFormed (By t i ∷ run) → BothFormed run
-  formed_tail Client i run f Client = (f Client).1
-  formed_tail Client i run f Server = f Server
-  formed_tail Server i run f Client = f Client
-  formed_tail Server i run f Server = (f Server).1
-
-  pub order : (run : List Done) → Given p run → BothFormed run → (s : Side) → IsOlder (channel.received (channel_items (part s run))) (channel.sent (channel_items (part (peer s) run)))
+  pub order : (run : List Done) → Given p run → BothFormed p run → (s : Side) → IsOlder (channel.received (channel_items (part s run))) (channel.sent (channel_items (part (peer s) run)))
   order run g f Client = older_reading _ _ _ _ (kept p run g).to_client (taken_reads p (part Client run) (f Client)) (sent_reads p (part Server run) (f Server))
   order run g f Server = older_reading _ _ _ _ (kept p run g).to_server (taken_reads p (part Server run) (f Server)) (sent_reads p (part Client run) (f Client))
 
-  order_seen : (run : List Done) → Given p run → BothFormed run → (s : Side) → IsOlder (channel.received (row.part s (channel_run run))) (channel.sent (row.part (peer s) (channel_run run)))
+  order_seen : (run : List Done) → Given p run → BothFormed p run → (s : Side) → IsOlder (channel.received (row.part s (channel_run run))) (channel.sent (row.part (peer s) (channel_run run)))
   order_seen run g f s = rw (part_seen s run, part_seen (peer s) run) (order run g f s)
 
-  pub ordered : (run : List Done) → Given p run → BothFormed run → row.Ordered (channel_run run)
+  pub ordered : (run : List Done) → Given p run → BothFormed p run → row.Ordered (channel_run run)
   unfolding channel_run
   ordered [] g f = tt
-  ordered (By side i ∷ run) g f = go (channel_items (i ∷ [])) refl (single i) (ordered run (given_tail p side i run g) (formed_tail side i run f))
+  ordered (By side i ∷ run) g f = go (channel_items (i ∷ [])) refl (single i) (ordered run (given_tail p side i run g) (formed_tail p side i run f))
     where
       here : (s : Side) → IsOlder (channel.received (row.part s (row.done_by side (channel_items (i ∷ [])) ++ channel_run run))) (channel.sent (row.part (peer s) (row.done_by side (channel_items (i ∷ [])) ++ channel_run run)))
       here = order_seen (By side i ∷ run) g f

@@ -13,8 +13,9 @@ use Rattle.ssh_model.specs.Safe.{Agrees, Agreement}
 use Rattle.ssh_model.specs.Turn.{IsSpelled, Run}
 use Rattle.ssh_model.proofs.Ends.{older_length}
 use Rattle.ssh_model.proofs.Older.{nth_same}
-use Rattle.ssh_model.proofs.Payloads.{tag, written_is_read}
+use Rattle.ssh_model.proofs.Payloads.{tag}
 use Rattle.ssh_model.proofs.OneMessage.{same_message}
+use Rattle.ssh_model.proofs.Spelling.{spelled_is_read}
 use Rattle.ssh_model.proofs.Agree.{Kept}
 use Rattle.ssh_model.proofs.Whole.{given, kept}
 use Rattle.ssh_model.proofs.Sound.{AllFormed, Sound}
@@ -28,9 +29,6 @@ IsReal o = (o ≡ no_offer) ⊎ IsPayload true (KexInit o.proposal) o.payload
 AllRead : List Spelled → Type 0
 AllRead [] = Unit {0}
 AllRead (SpelledBy m b ∷ l) = IsPayload true m b × AllRead l
-
-spelled_is_read : (m : Msg) (b : List ℕ) → IsSpelled m b → IsPayload true m b
-spelled_is_read m b s = record { suits = s.suits; row = written_is_read m b s.row }
 
 sent_read : {K : Type 0} (p : Parties K) (h : List Item) → AllFormed p h → AllRead (messages_sent h)
 unfolding AllRead

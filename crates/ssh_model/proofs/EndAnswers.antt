@@ -189,11 +189,11 @@ module _ {K : Type 0} (p : Parties K) (laws : AreLawful p) where
   transport_keeps side h owed items m b (init q rb nb) o n w s v =
       let t = spelled_behind owed _ s in
       let e = completes_at_server p laws h q _ _ _ b rb nb n w t.1.1.0 t.1.0 v in
-      add_quiet p Server _ _ tt (rw (append_assoc) (add_plain p Server owed _ o t.0 e))
+      add_quiet p Server _ _ tt (rw (append_assoc owed (Sent None NewKeys nb ∷ Sent None _ rb ∷ []) (Took None (KexEcdhInit q) b ∷ h)) (add_plain p Server owed _ o t.0 e))
   transport_keeps side h owed items m b (reply k_s q_s g nb) o n w s v =
       let t = spelled_behind owed _ s in
       let e = completes_at_client p laws h k_s q_s g b nb n w t.1.0 v in
-      add_quiet p Client _ _ tt (rw (append_assoc) (add_plain p Client owed _ o t.0 e))
+      add_quiet p Client _ _ tt (rw (append_assoc owed (Sent None NewKeys nb ∷ []) (Took None (KexEcdhReply k_s q_s g) b ∷ h)) (add_plain p Client owed _ o t.0 e))
   transport_keeps side h owed items m b newkeys o n w s v = took_newkeys p side h b w v
   transport_keeps side h owed items m b (request_too_late x y z e) o n w s v = plain side h items None m b tt (tt, tt) n w s v
   transport_keeps side h owed items m b (request_accepted x y z c e f) o n w s v = plain side h items None m b tt (tt, (tt, tt)) n w s v

@@ -5,7 +5,7 @@ use Rattle.ssh_model.specs.History.{Side, Side.Client, Side.Server, peer}
 use Rattle.ssh_model.specs.Message.{Msg, Msg.NewKeys, Msg.KexInit, Msg.UserauthRequest, Msg.UserauthSuccess, Msg.UserauthPkOk, Msg.Unknown, Msg.GlobalRequest, Msg.RequestSuccess, Msg.RequestFailure, Msg.ChannelOpen, Msg.ChannelOpenConfirmation, Msg.ChannelOpenFailure, Msg.ChannelWindowAdjust, Msg.ChannelData, Msg.ChannelExtendedData, Msg.ChannelEof, Msg.ChannelClose, Msg.ChannelRequest, Msg.ChannelSuccess, Msg.ChannelFailure, IsPayload, IsWrittenPayload, Suits, message_number}
 use Rattle.ssh_model.specs.Party.{Parties}
 use Rattle.ssh_model.specs.Authentication.{is_accepted}
-use Rattle.ssh_model.specs.Session.{Payload, Payload.NewkeysOf, Payload.OtherOf, bytes_of, Item, Item.Fed, Item.Asked, Item.AskRefused, Item.SentLine, Item.TookLine, Item.TookOtherLine, Item.Sent, Item.Took, Item.TookGuess, Item.Told, Item.Refused, Item.Died, sent, took}
+use Rattle.ssh_model.specs.Session.{Payload, Payload.NewkeysOf, Payload.OtherOf, bytes_of, Item, Item.Fed, Item.Asked, Item.AskRefused, Item.SentLine, Item.TookLine, Item.TookOtherLine, Item.Sent, Item.Took, Item.TookGuess, Item.Told, Item.Refused, Item.Died, Done, Done.By, part, sent, took}
 use Rattle.ssh_model.specs.Epoch.{epoch}
 use Rattle.ssh_model.specs.Phase.{authenticated, sent_success, took_success}
 use Rattle.ssh_model.specs.Safe.{HasConnection}
@@ -218,3 +218,14 @@ success_taken p c b h s k v = record {
   entitled = λ x. refl;
   keyed = λ e. k;
 }
+
+-- ---- the two ends of a run
+
+abbrev pub BothFormed : {K : Type 0} → Parties K → List Done → Type 0
+BothFormed p run = (side : Side) → AllFormed p (part side run)
+
+pub formed_tail : {K : Type 0} (p : Parties K) (t : Side) (i : Item) (run : List Done) → BothFormed p (By t i ∷ run) → BothFormed p run
+formed_tail p Client i run f Client = (f Client).1
+formed_tail p Client i run f Server = f Server
+formed_tail p Server i run f Client = f Client
+formed_tail p Server i run f Server = (f Server).1

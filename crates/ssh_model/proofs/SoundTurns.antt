@@ -237,11 +237,11 @@ module _ {K : Type 0} (p : Parties K) where
   transport_sound side h owed items m b (init q rb nb) o w s v =
       let t = spelled_behind owed _ s in
       let g = low side h (Sent None NewKeys nb ∷ Sent None _ rb ∷ []) None m b tt (tt, (tt, tt)) w t.1 v in
-      apart_sound p Server _ _ tt (rw append_assoc (owed_sound p Server h owed _ v o t.0 refl (omega arith) g))
+      apart_sound p Server _ _ tt (rw (append_assoc owed (Sent None NewKeys nb ∷ Sent None _ rb ∷ []) (Took None (KexEcdhInit q) b ∷ h)) (owed_sound p Server h owed _ v o t.0 refl (omega arith) g))
   transport_sound side h owed items m b (reply k_s q_s g nb) o w s v =
       let t = spelled_behind owed _ s in
       let g = low side h (Sent None NewKeys nb ∷ []) None m b tt (tt, tt) w t.1 v in
-      apart_sound p Client _ _ tt (rw append_assoc (owed_sound p Client h owed _ v o t.0 refl (omega arith) g))
+      apart_sound p Client _ _ tt (rw (append_assoc owed (Sent None NewKeys nb ∷ []) (Took None (KexEcdhReply k_s q_s _) b ∷ h)) (owed_sound p Client h owed _ v o t.0 refl (omega arith) g))
   transport_sound side h owed items m b newkeys o w s v = low side h items None m b tt tt w s v
   transport_sound side h owed items m b (request_too_late x y z e) o w s v = low side h items None m b tt (tt, tt) w s v
   transport_sound side h owed items m b (request_accepted x y z c e f) o w s v =

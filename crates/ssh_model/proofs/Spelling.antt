@@ -76,8 +76,11 @@ taken_fits c (KexEcdhReply k_s q_s signature) b n s =
     (string_fits k_s s.row.second.front s.row.second.first, string_fits q_s s.row.second.second.front s.row.second.second.first)
 taken_fits c m b n s = tt
 
+pub spelled_is_read : (m : Msg) (b : List ℕ) → IsSpelled m b → IsPayload true m b
+spelled_is_read m b s = record { suits = s.suits; row = written_is_read m b s.row }
+
 pub sent_fits : (m : Msg) (b : List ℕ) → IsSpelled m b → TextsFit m b
-sent_fits m b s = taken_fits true m b (omega (arith, s.size)) (record { suits = s.suits; row = written_is_read m b s.row })
+sent_fits m b s = taken_fits true m b (omega (arith, s.size)) (spelled_is_read m b s)
 
 nth_cond : {A : Type 0} (P : A → Type 0) (t : Bool) (x y : A) → P x → P y → P (cond t x y)
 nth_cond P true x y a b = a
