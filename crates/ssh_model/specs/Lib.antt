@@ -23,6 +23,8 @@ pub mod ChannelState
 pub mod ChannelStretch
 pub mod Connection
 pub mod Epoch
+pub mod Example
+pub mod ExampleHistories
 pub mod Exchanges
 pub mod Honest
 pub mod Party

@@ -4,12 +4,14 @@
 
 pub mod channel;
 mod epoch;
+pub mod examples;
 mod exchange;
 mod line;
 mod message;
 mod packet;
 pub mod session;
 mod stream;
+mod turn;
 
 pub use epoch::taken_in_order;
 pub use exchange::equal_texts;
@@ -17,3 +19,4 @@ pub use line::{line_examples, line_units, one_version};
 pub use message::one_message;
 pub use packet::{packet_examples, packet_units};
 pub use stream::{StreamEnd, any_pieces, stream_units, waits_where_begun};
+pub use turn::{guesses_are_skipped, numbers_are_fresh};

@@ -1,0 +1,431 @@
+//! What the definitions say of two toy ends.
+
+ghost use Rattle.std.specs.Prelude.{◌≡◌, ℕ, ◌∷◌, ◌++◌, true, false, List, [], Some, None, codes, replicate, take, map};
+ghost use Rattle.ssh_model.specs.History.{Side, Side.Client, Side.Server, peer};
+ghost use Rattle.ssh_model.specs.ExampleHistories.{taken, refusal, ask_refusal, says, hears, says_on, hears_on, offer_of, opened, lined, offered, first_reply, completed, keyed, userauth, connection, asking, served, right_request, wrong_request, probe, right_signature, requesting, probing_client, failed, admitted, fed_again, rekeying, offered_again, completed_again, open_message, confirm_message, channel_opened, channel_confirmed, heard_data, heard_eof, heard_request, closed_by_peer, guessing, said_data, said_request, wide_channel, requests, connection_asks, with_methods, friendly, first_inputs, mac_key};
+ghost use Rattle.ssh_model.specs.Example.{toy_key, toy, secret, from_to};
+ghost use Rattle.ssh_model.specs.Message.{Method.NoMethod, Method.Password, Method.Publickey, Method.Other, Msg.Disconnect, Msg.Ignore, Msg.Unimplemented, Msg.Debug, Msg.ServiceRequest, Msg.ServiceAccept, Msg.KexInit, Msg.NewKeys, Msg.KexEcdhInit, Msg.KexEcdhReply, Msg.UserauthRequest, Msg.UserauthFailure, Msg.UserauthSuccess, Msg.UserauthBanner, Msg.UserauthPkOk, Msg.GlobalRequest, Msg.RequestSuccess, Msg.RequestFailure, Msg.ChannelOpenConfirmation, Msg.ChannelOpenFailure, Msg.ChannelWindowAdjust, Msg.ChannelData, Msg.ChannelExtendedData, Msg.ChannelEof, Msg.ChannelClose, Msg.ChannelRequest, Msg.ChannelSuccess, Msg.ChannelFailure, Msg.Unknown};
+ghost use Rattle.ssh_model.specs.Refusal.{refusal_name, refusal_reason};
+ghost use Rattle.ssh_model.specs.Party.{AreLawful, marker_of, lists_of};
+ghost use Rattle.ssh_model.specs.Session.{Item, sent, took, Ask.AskService, Ask.AskNone, Ask.AskPassword, Ask.AskProbe, Ask.AskSign, Ask.AskRekey, Ask.AskOpen, Ask.AskConfirm, Ask.AskRefuse, Ask.AskData, Ask.AskAdjust, Ask.AskEof, Ask.AskClose, Ask.AskRequest, Ask.AskReply, Ask.AskGlobal, Ask.AskGlobalReply, Ask.AskDisconnect, Fact.Completed, Fact.Service, Fact.Accepted, Fact.Authenticated, Fact.Failed, Fact.Banner, Fact.KeyOk, Fact.Ignored, Fact.Debugged, Fact.NotImplemented, Fact.Disconnected, Fact.Global, Fact.GlobalDone, Fact.Opening, Fact.Opened, Fact.Confirmed, Fact.OpenFailed, Fact.GotData, Fact.Adjusted, Fact.Ended, Fact.Closed, Fact.Requested, Fact.RequestDone, Item.TookGuess, Item.Told, Item.Died};
+ghost use Rattle.ssh_model.specs.Epoch.{epoch, wire_number};
+ghost use Rattle.ssh_model.specs.Exchanges.{exchange, first_common, common, choice, sending_key, taking_key};
+ghost use Rattle.ssh_model.specs.Phase.{is_wrong_guess, own_names, blocked, authenticated};
+ghost use Rattle.ssh_model.specs.Authentication.{is_known_key, signed_text, is_accepted, is_good_probe};
+ghost use Rattle.ssh_model.specs.Transport.{hash_to_sign, reply_now};
+ghost use Rattle.ssh_model.specs.Connection.{notes, is_full, is_many, owes_many, is_rekey_due};
+ghost use Rattle.ssh_model.specs.Turn.{Answer, OnAsk};
+ghost use Rattle.ssh_model.specs.Choice.{client_marker, server_marker, Kind.Kex};
+ghost use Rattle.ssh_model.specs.ChannelState.{is_confirmed, has_closed};
+
+/// The toy parts keep what is promised of parts.
+pub fn toy_parts()
+    ensures { AreLawful toy }
+{}
+
+/// Which numbers, of 0 to 255, an end may take next.
+pub fn may_take_examples()
+    ensures at_first { (side : Side) → taken side (lined side) ≡ 1 ∷ 20 ∷ [] }
+    ensures in_first_exchange { taken Client (offered Client) ≡ 1 ∷ 31 ∷ [] }
+    ensures in_first_exchange_of_server { taken Server (offered Server) ≡ 1 ∷ 30 ∷ [] }
+    ensures after_first_exchange { (side : Side) → taken side (completed side) ≡ 1 ∷ 21 ∷ [] }
+    ensures after_wrong_guess { (side : Side) → taken side (hears (KexInit (guessing side true)) ∷ lined side) ≡ from_to 30 49 }
+    ensures after_skipped_packet { taken Server (TookGuess [] ∷ hears (KexInit (guessing Server true)) ∷ lined Server) ≡ 1 ∷ 30 ∷ [] }
+    ensures after_right_guess { taken Server (hears (KexInit (record (offer_of Client true) { follows = true })) ∷ lined Server) ≡ 1 ∷ 30 ∷ [] }
+    ensures by_keyed_server { taken Server (keyed Server) ≡ from_to 0 5 ++ from_to 7 19 ++ from_to 22 29 ++ from_to 32 49 ++ from_to 54 59 ++ from_to 61 79 }
+    ensures by_keyed_client { taken Client (keyed Client) ≡ from_to 0 4 ++ from_to 7 19 ++ from_to 22 29 ++ from_to 32 49 ++ from_to 54 59 ++ from_to 61 79 }
+    ensures by_server_after_service { taken Server (served Server) ≡ from_to 0 4 ++ from_to 7 19 ++ from_to 22 29 ++ from_to 32 50 ++ from_to 54 59 ++ from_to 61 79 }
+    ensures by_client_that_asks_for_service { taken Client asking ≡ from_to 0 4 ++ from_to 6 19 ++ from_to 22 29 ++ from_to 32 49 ++ from_to 54 59 ++ from_to 61 79 }
+    ensures by_client_after_service { taken Client (served Client) ≡ from_to 0 4 ++ from_to 7 19 ++ from_to 22 29 ++ from_to 32 49 ++ from_to 53 59 ++ from_to 61 79 }
+    ensures by_client_that_requests { taken Client requesting ≡ from_to 0 4 ++ from_to 7 19 ++ from_to 22 29 ++ from_to 32 49 ++ from_to 51 59 ++ from_to 61 79 }
+    ensures by_client_that_probes { taken Client probing_client ≡ from_to 0 4 ++ from_to 7 19 ++ from_to 22 29 ++ from_to 32 49 ++ from_to 51 79 }
+    ensures by_authenticated_client { taken Client (admitted Client) ≡ from_to 0 4 ++ from_to 7 20 ++ from_to 22 29 ++ from_to 32 49 ++ from_to 54 59 ++ from_to 61 255 }
+    ensures by_authenticated_server { taken Server (admitted Server) ≡ from_to 0 4 ++ from_to 7 20 ++ from_to 22 29 ++ from_to 32 50 ++ from_to 54 59 ++ from_to 61 255 }
+    ensures by_client_that_rekeys { taken Client (rekeying Client) ≡ from_to 0 4 ++ from_to 7 20 ++ from_to 22 29 ++ from_to 32 49 ++ from_to 54 59 ++ from_to 61 255 }
+    ensures in_later_exchange { taken Client (offered_again Client) ≡ from_to 0 4 ++ from_to 7 19 ++ from_to 22 29 ++ 31 ∷ [] }
+    ensures in_later_exchange_of_server { taken Server (offered_again Server) ≡ from_to 0 4 ++ from_to 7 19 ++ from_to 22 30 }
+    ensures after_later_exchange { (side : Side) → taken side (completed_again side) ≡ from_to 0 4 ++ from_to 7 19 ++ from_to 21 29 }
+    ensures after_later_wrong_guess { (side : Side) → taken side (hears (KexInit (guessing side false)) ∷ rekeying side) ≡ from_to 30 49 }
+{}
+
+/// What an end refuses a message for, or none.
+pub fn refusal_examples()
+    ensures service { refusal Server (keyed Server) (ServiceRequest userauth) ≡ None }
+    ensures other_service { refusal Server (keyed Server) (ServiceRequest (codes "ssh-x")) ≡ Some 13 }
+    ensures accepted_service { refusal Client asking (ServiceAccept userauth) ≡ None }
+    ensures other_accepted_service { refusal Client asking (ServiceAccept connection) ≡ Some 7 }
+    ensures first_kexinit { (side : Side) → refusal side (lined side) (KexInit (offer_of (peer side) true)) ≡ None }
+    ensures no_marker { (side : Side) → refusal side (lined side) (KexInit (offer_of (peer side) false)) ≡ Some 9 }
+    ensures marker_of_other_role { (side : Side) → refusal side (lined side) (KexInit (offer_of side true)) ≡ Some 9 }
+    ensures no_marker_before_no_common { (side : Side) → refusal side (lined side) (KexInit (record (offer_of (peer side) false) { host = [] })) ≡ Some 9 }
+    ensures no_common_method { (side : Side) → refusal side (lined side) (KexInit (record (offer_of (peer side) true) { kex = client_marker ∷ server_marker ∷ [] })) ≡ Some 8 }
+    ensures no_common_host_key { refusal Client (lined Client) (KexInit (record (offer_of Server true) { host = codes "x" ∷ [] })) ≡ Some 8 }
+    ensures no_common_encryption { refusal Client (lined Client) (KexInit (record (offer_of Server true) { enc_cs = codes "x" ∷ [] })) ≡ Some 8 }
+    ensures no_common_encryption_back { refusal Client (lined Client) (KexInit (record (offer_of Server true) { enc_sc = codes "x" ∷ [] })) ≡ Some 8 }
+    ensures no_common_mac { refusal Client (lined Client) (KexInit (record (offer_of Server true) { mac_cs = codes "x" ∷ [] })) ≡ Some 8 }
+    ensures no_common_mac_back { refusal Client (lined Client) (KexInit (record (offer_of Server true) { mac_sc = codes "x" ∷ [] })) ≡ Some 8 }
+    ensures no_common_compression { refusal Client (lined Client) (KexInit (record (offer_of Server true) { comp_cs = codes "zlib" ∷ [] })) ≡ Some 8 }
+    ensures no_common_compression_back { refusal Client (lined Client) (KexInit (record (offer_of Server true) { comp_sc = codes "zlib" ∷ [] })) ≡ Some 8 }
+    ensures other_languages { refusal Client (lined Client) (KexInit (record (offer_of Server true) { lang_cs = codes "x" ∷ []; lang_sc = codes "y" ∷ [] })) ≡ None }
+    ensures later_kexinit { (side : Side) → refusal side (fed_again side) (KexInit (offer_of (peer side) false)) ≡ None }
+    ensures later_kexinit_with_marker { (side : Side) → refusal side (fed_again side) (KexInit (offer_of (peer side) true)) ≡ None }
+    ensures no_material { (side : Side) → refusal side (admitted side) (KexInit (offer_of (peer side) false)) ≡ Some 12 }
+    ensures no_common_before_no_material { (side : Side) → refusal side (admitted side) (KexInit (record (offer_of (peer side) false) { host = [] })) ≡ Some 8 }
+    ensures material_in_use { (side : Side) → refusal side (rekeying side) (KexInit (offer_of (peer side) false)) ≡ None }
+    ensures point { refusal Server (offered Server) (KexEcdhInit (secret 1)) ≡ None }
+    ensures short_point { refusal Server (offered Server) (KexEcdhInit (replicate 31 1)) ≡ Some 10 }
+    ensures long_point { refusal Server (offered Server) (KexEcdhInit (replicate 33 1)) ≡ Some 10 }
+    ensures point_that_shares_nothing { refusal Server (offered Server) (KexEcdhInit (secret 2)) ≡ Some 10 }
+    ensures reply { refusal Client (offered Client) first_reply ≡ None }
+    ensures signature_of_other_point { refusal Client (offered Client) (KexEcdhReply toy_key (secret 3) (take 32 (hash_to_sign toy (offered Server) (secret 1)))) ≡ Some 11 }
+    ensures bad_point_before_bad_host { refusal Client (offered Client) (KexEcdhReply [] (secret 1) []) ≡ Some 10 }
+    ensures long_point_of_reply { refusal Client (offered Client) (KexEcdhReply toy_key (replicate 33 2) []) ≡ Some 10 }
+    ensures other_host_key { refusal Client (offered Client) (KexEcdhReply (codes "host") (secret 2) (take 32 (hash_to_sign toy (offered Server) (secret 1)))) ≡ Some 11 }
+    ensures other_signature { refusal Client (offered Client) (KexEcdhReply toy_key (secret 2) []) ≡ Some 11 }
+    ensures tries_left { refusal Server (failed 1) wrong_request ≡ None }
+    ensures no_tries_left { refusal Server (failed 2) wrong_request ≡ Some 15 }
+    ensures right_after_tries { refusal Server (failed 2) right_request ≡ None }
+    ensures good_probe_after_tries { refusal Server (failed 2) (probe (codes "k")) ≡ None }
+    ensures bad_probe_after_tries { refusal Server (failed 2) (probe (codes "l")) ≡ Some 15 }
+    ensures bare_request_after_tries { refusal Server (failed 2) (UserauthRequest (codes "u") connection NoMethod) ≡ Some 15 }
+    ensures new_password_after_tries { refusal Server (failed 2) (UserauthRequest (codes "u") connection (Password (codes "p") (Some (codes "p")))) ≡ Some 15 }
+    ensures bad_signature_after_tries { refusal Server (failed 2) (UserauthRequest (codes "u") connection (Publickey (codes "toy") (codes "k") (Some []))) ≡ Some 15 }
+    ensures other_method_after_tries { refusal Server (failed 2) (UserauthRequest (codes "u") connection (Other (codes "x") [])) ≡ Some 15 }
+    ensures other_service_after_tries { refusal Server (failed 2) (UserauthRequest (codes "u") userauth (Password (codes "p") None)) ≡ Some 15 }
+    ensures authenticated_after_tries { refusal Server (says UserauthSuccess ∷ failed 2) wrong_request ≡ None }
+    ensures free_of_refusal { refusal Client (admitted Client) (Ignore []) ≡ None }
+    ensures unknown_number { refusal Client (admitted Client) (Unknown 200) ≡ None }
+{}
+
+/// What an end refuses a message of the connection for, or none.
+pub fn channel_refusal_examples()
+    ensures many_global_requests { refusal Client (replicate 255 (hears (GlobalRequest [] true [])) ++ admitted Client) (GlobalRequest [] true []) ≡ None }
+    ensures too_many_global_requests { refusal Client (replicate 256 (hears (GlobalRequest [] true [])) ++ admitted Client) (GlobalRequest [] true []) ≡ Some 19 }
+    ensures global_request_without_reply { refusal Client (replicate 256 (hears (GlobalRequest [] true [])) ++ admitted Client) (GlobalRequest [] false []) ≡ None }
+    ensures replied_global_request { refusal Client (says RequestFailure ∷ replicate 256 (hears (GlobalRequest [] true [])) ++ admitted Client) (GlobalRequest [] true []) ≡ None }
+    ensures reply_to_no_global_request { refusal Client (says (GlobalRequest [] false []) ∷ admitted Client) (RequestSuccess []) ≡ Some 7 }
+    ensures failure_of_no_global_request { refusal Client (admitted Client) RequestFailure ≡ Some 7 }
+    ensures reply_to_global_request { refusal Client (says (GlobalRequest [] true []) ∷ admitted Client) (RequestSuccess []) ≡ None }
+    ensures failure_of_global_request { refusal Client (says (GlobalRequest [] true []) ∷ admitted Client) RequestFailure ≡ None }
+    ensures second_reply_to_global_request { refusal Client (hears RequestFailure ∷ says (GlobalRequest [] true []) ∷ admitted Client) RequestFailure ≡ Some 7 }
+    ensures channel_open { refusal Server (admitted Server) open_message ≡ None }
+    ensures confirmation { refusal Client (channel_opened Client) confirm_message ≡ None }
+    ensures confirmation_of_no_channel { refusal Client (admitted Client) confirm_message ≡ Some 16 }
+    ensures second_confirmation { refusal Client (channel_confirmed Client) confirm_message ≡ Some 7 }
+    ensures confirmation_by_who_opened { refusal Server (channel_opened Server) (ChannelOpenConfirmation 5 3 10 8 []) ≡ Some 7 }
+    ensures open_failure { refusal Client (channel_opened Client) (ChannelOpenFailure 3 1 [] []) ≡ None }
+    ensures open_failure_of_no_channel { refusal Client (admitted Client) (ChannelOpenFailure 3 1 [] []) ≡ Some 16 }
+    ensures failure_after_confirmation { refusal Client (channel_confirmed Client) (ChannelOpenFailure 3 1 [] []) ≡ Some 7 }
+    ensures adjust { refusal Client (channel_confirmed Client) (ChannelWindowAdjust 3 4294967275) ≡ None }
+    ensures adjust_too_far { refusal Client (channel_confirmed Client) (ChannelWindowAdjust 3 4294967276) ≡ Some 18 }
+    ensures adjust_after_data { refusal Client (says_on 3 (ChannelData 5 (codes "x")) ∷ channel_confirmed Client) (ChannelWindowAdjust 3 4294967276) ≡ None }
+    ensures adjust_of_no_channel { refusal Client (channel_opened Client) (ChannelWindowAdjust 3 4294967296) ≡ Some 16 }
+    ensures adjust_after_close { refusal Client (says_on 3 (ChannelClose 5) ∷ channel_confirmed Client) (ChannelWindowAdjust 3 1) ≡ None }
+    ensures adjust_after_close_of_peer { refusal Client (closed_by_peer Client) (ChannelWindowAdjust 3 1) ≡ Some 16 }
+    ensures channel_data { refusal Client (channel_confirmed Client) (ChannelData 3 (replicate 8 0)) ≡ None }
+    ensures data_of_no_channel { refusal Client (channel_confirmed Client) (ChannelData 5 []) ≡ Some 16 }
+    ensures data_before_confirmation { refusal Client (channel_opened Client) (ChannelData 3 []) ≡ Some 16 }
+    ensures data_to_unconfirmed { refusal Server (channel_opened Server) (ChannelData 5 []) ≡ Some 16 }
+    ensures data_over_size { refusal Client (channel_confirmed Client) (ChannelData 3 (replicate 9 0)) ≡ Some 17 }
+    ensures data_over_window { refusal Client (heard_data ∷ channel_confirmed Client) (ChannelData 3 (replicate 3 0)) ≡ Some 17 }
+    ensures data_within_window { refusal Client (heard_data ∷ channel_confirmed Client) (ChannelData 3 (replicate 2 0)) ≡ None }
+    ensures data_after_adjust { refusal Client (says_on 3 (ChannelWindowAdjust 5 1) ∷ heard_data ∷ channel_confirmed Client) (ChannelData 3 (replicate 3 0)) ≡ None }
+    ensures data_after_eof { refusal Client (heard_eof ∷ channel_confirmed Client) (ChannelData 3 []) ≡ Some 7 }
+    ensures data_after_eof_over_window { refusal Client (heard_eof ∷ channel_confirmed Client) (ChannelData 3 (replicate 9 0)) ≡ Some 7 }
+    ensures data_after_close { refusal Client (says_on 3 (ChannelClose 5) ∷ channel_confirmed Client) (ChannelData 3 (replicate 8 0)) ≡ None }
+    ensures data_after_close_of_peer { refusal Client (closed_by_peer Client) (ChannelData 3 []) ≡ Some 16 }
+    ensures extended_data { refusal Client (channel_confirmed Client) (ChannelExtendedData 3 1 (replicate 8 0)) ≡ None }
+    ensures extended_data_over_size { refusal Client (channel_confirmed Client) (ChannelExtendedData 3 1 (replicate 9 0)) ≡ Some 17 }
+    ensures extended_data_over_window { refusal Client (heard_data ∷ channel_confirmed Client) (ChannelExtendedData 3 1 (replicate 3 0)) ≡ Some 17 }
+    ensures extended_data_after_eof { refusal Client (heard_eof ∷ channel_confirmed Client) (ChannelExtendedData 3 1 (replicate 9 0)) ≡ Some 7 }
+    ensures extended_data_of_no_channel { refusal Client (channel_confirmed Client) (ChannelExtendedData 5 1 []) ≡ Some 16 }
+    ensures eof { refusal Client (channel_confirmed Client) (ChannelEof 3) ≡ None }
+    ensures second_eof { refusal Client (heard_eof ∷ channel_confirmed Client) (ChannelEof 3) ≡ Some 7 }
+    ensures eof_of_no_channel { refusal Client (channel_opened Client) (ChannelEof 3) ≡ Some 16 }
+    ensures close { refusal Client (heard_eof ∷ channel_confirmed Client) (ChannelClose 3) ≡ None }
+    ensures close_of_no_channel { refusal Client (channel_opened Client) (ChannelClose 3) ≡ Some 16 }
+    ensures second_close { refusal Client (hears_on 3 (ChannelClose 3) ∷ says_on 3 (ChannelClose 5) ∷ channel_confirmed Client) (ChannelClose 3) ≡ Some 16 }
+    ensures many_requests { refusal Client (replicate 255 heard_request ++ channel_confirmed Client) (ChannelRequest 3 [] true []) ≡ None }
+    ensures too_many_requests { refusal Client (replicate 256 heard_request ++ channel_confirmed Client) (ChannelRequest 3 [] true []) ≡ Some 19 }
+    ensures request_without_reply { refusal Client (replicate 256 heard_request ++ channel_confirmed Client) (ChannelRequest 3 [] false []) ≡ None }
+    ensures request_after_close { refusal Client (says_on 3 (ChannelClose 5) ∷ replicate 256 heard_request ++ channel_confirmed Client) (ChannelRequest 3 [] true []) ≡ None }
+    ensures request_of_no_channel { refusal Client (channel_opened Client) (ChannelRequest 3 [] true []) ≡ Some 16 }
+    ensures reply_to_request { refusal Client (says_on 3 (ChannelRequest 5 [] true []) ∷ channel_confirmed Client) (ChannelSuccess 3) ≡ None }
+    ensures failure_of_request { refusal Client (says_on 3 (ChannelRequest 5 [] true []) ∷ channel_confirmed Client) (ChannelFailure 3) ≡ None }
+    ensures reply_to_no_request { refusal Client (says_on 3 (ChannelRequest 5 [] false []) ∷ channel_confirmed Client) (ChannelSuccess 3) ≡ Some 7 }
+    ensures failure_of_no_request { refusal Client (channel_confirmed Client) (ChannelFailure 3) ≡ Some 7 }
+    ensures reply_of_no_channel { refusal Client (channel_opened Client) (ChannelSuccess 3) ≡ Some 16 }
+    ensures failure_of_no_channel { refusal Client (channel_opened Client) (ChannelFailure 3) ≡ Some 16 }
+{}
+
+/// What an ask for the transport or for authentication is refused for, or none.
+pub fn ask_examples()
+    ensures service { ask_refusal Client (keyed Client) AskService ≡ None }
+    ensures service_at_server { ask_refusal Server (opened Server) AskService ≡ Some 11 }
+    ensures service_before_newkeys { ask_refusal Client (completed Client) AskService ≡ Some 1 }
+    ensures second_service { ask_refusal Client asking AskService ≡ Some 2 }
+    ensures requests { map (ask_refusal Client (served Client)) requests ≡ replicate 4 None }
+    ensures requests_at_server { map (ask_refusal Server (served Server)) requests ≡ replicate 4 (Some 11) }
+    ensures requests_without_service { map (ask_refusal Client asking) requests ≡ replicate 4 (Some 1) }
+    ensures requests_while_one_waits { map (ask_refusal Client requesting) requests ≡ replicate 4 (Some 2) }
+    ensures requests_when_authenticated { map (ask_refusal Client (admitted Client)) requests ≡ replicate 4 (Some 6) }
+    ensures requests_after_failure { map (ask_refusal Client (hears (UserauthFailure [] false) ∷ requesting)) requests ≡ replicate 4 None }
+    ensures requests_after_key_ok { map (ask_refusal Client (hears (UserauthPkOk (codes "toy") (codes "k")) ∷ probing_client)) requests ≡ replicate 4 None }
+    ensures long_user { ask_refusal Client (served Client) (AskNone (replicate 33969 0)) ≡ None }
+    ensures too_long_user { ask_refusal Client (served Client) (AskNone (replicate 33970 0)) ≡ Some 5 }
+    ensures authenticated_before_too_long { ask_refusal Client (admitted Client) (AskNone (replicate 33970 0)) ≡ Some 6 }
+    ensures long_password { ask_refusal Client (served Client) (AskPassword (codes "u") (replicate 33959 0)) ≡ None }
+    ensures too_long_password { ask_refusal Client (served Client) (AskPassword (codes "u") (replicate 33960 0)) ≡ Some 5 }
+    ensures long_key { ask_refusal Client (served Client) (AskProbe (codes "u") (codes "toy") (replicate 33951 0)) ≡ None }
+    ensures too_long_key { ask_refusal Client (served Client) (AskProbe (codes "u") (codes "toy") (replicate 33952 0)) ≡ Some 5 }
+    ensures long_key_with_signature { ask_refusal Client (served Client) (AskSign (codes "u") (codes "toy") (replicate 29851 0)) ≡ None }
+    ensures too_long_key_with_signature { ask_refusal Client (served Client) (AskSign (codes "u") (codes "toy") (replicate 29852 0)) ≡ Some 5 }
+    ensures rekey { (side : Side) → ask_refusal side (fed_again side) AskRekey ≡ None }
+    ensures rekey_before_authentication { (side : Side) → ask_refusal side (served side) AskRekey ≡ Some 1 }
+    ensures rekey_while_blocked { (side : Side) → ask_refusal side (rekeying side) AskRekey ≡ Some 2 }
+    ensures rekey_before_newkeys_is_taken { (side : Side) → ask_refusal side (completed_again side) AskRekey ≡ Some 2 }
+    ensures rekey_without_material { (side : Side) → ask_refusal side (admitted side) AskRekey ≡ Some 12 }
+    ensures disconnect { (side : Side) → ask_refusal side (opened side) (AskDisconnect (replicate 1024 0)) ≡ None }
+    ensures long_disconnect { (side : Side) → ask_refusal side (opened side) (AskDisconnect (replicate 1025 0)) ≡ Some 5 }
+    ensures disconnect_while_blocked { (side : Side) → ask_refusal side (rekeying side) (AskDisconnect []) ≡ None }
+{}
+
+/// What an ask for the connection is refused for, or none.
+pub fn channel_ask_examples()
+    ensures not_authenticated { map (ask_refusal Client (served Client)) connection_asks ≡ replicate 14 (Some 1) }
+    ensures blocked_by_own_kexinit { map (ask_refusal Client (rekeying Client)) connection_asks ≡ replicate 14 (Some 2) }
+    ensures rekey_is_due { map (ask_refusal Client (replicate 62 (says (Ignore [])) ++ admitted Client)) connection_asks ≡ replicate 14 (Some 9) }
+    ensures blocked_before_rekey_is_due { ask_refusal Client (replicate 62 (says (Ignore [])) ++ rekeying Client) (AskEof 3) ≡ Some 2 }
+    ensures rekey_is_not_due { ask_refusal Client (replicate 61 (says (Ignore [])) ++ admitted Client) (AskOpen [] 0 1 []) ≡ None }
+    ensures rekey_though_due { ask_refusal Client (replicate 62 (says (Ignore [])) ++ fed_again Client) AskRekey ≡ None }
+    ensures service_though_due { ask_refusal Client (replicate 64 (says (Ignore [])) ++ keyed Client) AskService ≡ None }
+    ensures request_though_due { map (ask_refusal Client (replicate 64 (says (Ignore [])) ++ served Client)) requests ≡ replicate 4 None }
+    ensures disconnect_though_due { ask_refusal Client (replicate 62 (says (Ignore [])) ++ admitted Client) (AskDisconnect []) ≡ None }
+    ensures open_by_server { ask_refusal Server (admitted Server) (AskOpen (codes "x") 0 1 []) ≡ None }
+    ensures open_of_largest_data { ask_refusal Client (admitted Client) (AskOpen [] 0 32768 []) ≡ None }
+    ensures open_of_larger_data { ask_refusal Client (admitted Client) (AskOpen [] 0 32769 []) ≡ Some 10 }
+    ensures open_of_no_data { ask_refusal Client (admitted Client) (AskOpen [] 0 0 []) ≡ Some 10 }
+    ensures long_open { ask_refusal Client (admitted Client) (AskOpen (codes "session") 0 1 (replicate 33976 0)) ≡ None }
+    ensures too_long_open { ask_refusal Client (admitted Client) (AskOpen (codes "session") 0 1 (replicate 33977 0)) ≡ Some 5 }
+    ensures too_much_before_too_long { ask_refusal Client (admitted Client) (AskOpen (codes "session") 0 0 (replicate 33977 0)) ≡ Some 10 }
+    ensures confirm { ask_refusal Server (channel_opened Server) (AskConfirm 5 20 16 []) ≡ None }
+    ensures confirm_of_no_open { ask_refusal Server (channel_opened Server) (AskConfirm 3 20 16 []) ≡ Some 3 }
+    ensures confirm_of_own_open { ask_refusal Client (channel_opened Client) (AskConfirm 3 20 16 []) ≡ Some 3 }
+    ensures second_confirm { ask_refusal Server (channel_confirmed Server) (AskConfirm 5 20 0 []) ≡ Some 3 }
+    ensures confirm_of_larger_data { ask_refusal Server (channel_opened Server) (AskConfirm 5 20 32769 []) ≡ Some 10 }
+    ensures confirm_of_no_data { ask_refusal Server (channel_opened Server) (AskConfirm 5 20 0 []) ≡ Some 10 }
+    ensures long_confirm { ask_refusal Server (channel_opened Server) (AskConfirm 5 20 16 (replicate 33983 0)) ≡ None }
+    ensures too_long_confirm { ask_refusal Server (channel_opened Server) (AskConfirm 5 20 16 (replicate 33984 0)) ≡ Some 5 }
+    ensures refuse { ask_refusal Server (channel_opened Server) (AskRefuse 5 1) ≡ None }
+    ensures refuse_of_no_open { ask_refusal Server (channel_confirmed Server) (AskRefuse 5 1) ≡ Some 3 }
+    ensures give_data { ask_refusal Client (channel_confirmed Client) (AskData 3 None (replicate 16 0)) ≡ None }
+    ensures data_on_no_channel { ask_refusal Client (channel_opened Client) (AskData 3 None []) ≡ Some 3 }
+    ensures data_after_own_eof { ask_refusal Client (says_on 3 (ChannelEof 5) ∷ channel_confirmed Client) (AskData 3 None (replicate 17 0)) ≡ Some 6 }
+    ensures data_after_own_close { ask_refusal Client (says_on 3 (ChannelClose 5) ∷ channel_confirmed Client) (AskData 3 None []) ≡ Some 6 }
+    ensures data_after_both_closed { ask_refusal Client (hears_on 3 (ChannelClose 3) ∷ says_on 3 (ChannelClose 5) ∷ channel_confirmed Client) (AskData 3 None []) ≡ Some 3 }
+    ensures data_over_most_of_peer { ask_refusal Client (channel_confirmed Client) (AskData 3 None (replicate 17 0)) ≡ Some 5 }
+    ensures data_over_room { ask_refusal Client (said_data ∷ channel_confirmed Client) (AskData 3 None (replicate 5 0)) ≡ Some 4 }
+    ensures data_within_room { ask_refusal Client (said_data ∷ channel_confirmed Client) (AskData 3 None (replicate 4 0)) ≡ None }
+    ensures too_long_before_no_room { ask_refusal Client (said_data ∷ channel_confirmed Client) (AskData 3 None (replicate 17 0)) ≡ Some 5 }
+    ensures largest_data { ask_refusal Client wide_channel (AskData 3 None (replicate 32768 0)) ≡ None }
+    ensures larger_data { ask_refusal Client wide_channel (AskData 3 None (replicate 32769 0)) ≡ Some 5 }
+    ensures extended_data_over_room { ask_refusal Client (said_data ∷ channel_confirmed Client) (AskData 3 (Some 1) (replicate 5 0)) ≡ Some 4 }
+    ensures extended_data_over_most { ask_refusal Client (channel_confirmed Client) (AskData 3 (Some 1) (replicate 17 0)) ≡ Some 5 }
+    ensures grant { ask_refusal Client (channel_confirmed Client) (AskAdjust 3 4294967285) ≡ None }
+    ensures grant_too_much { ask_refusal Client (channel_confirmed Client) (AskAdjust 3 4294967286) ≡ Some 10 }
+    ensures grant_after_data { ask_refusal Client (heard_data ∷ channel_confirmed Client) (AskAdjust 3 4294967293) ≡ None }
+    ensures grant_on_no_channel { ask_refusal Client (channel_opened Client) (AskAdjust 3 1) ≡ Some 3 }
+    ensures grant_after_own_close { ask_refusal Client (says_on 3 (ChannelClose 5) ∷ channel_confirmed Client) (AskAdjust 3 1) ≡ Some 6 }
+    ensures grant_after_own_eof { ask_refusal Client (says_on 3 (ChannelEof 5) ∷ channel_confirmed Client) (AskAdjust 3 1) ≡ None }
+    ensures end_of_data { ask_refusal Client (channel_confirmed Client) (AskEof 3) ≡ None }
+    ensures second_own_eof { ask_refusal Client (says_on 3 (ChannelEof 5) ∷ channel_confirmed Client) (AskEof 3) ≡ Some 6 }
+    ensures eof_after_own_close { ask_refusal Client (says_on 3 (ChannelClose 5) ∷ channel_confirmed Client) (AskEof 3) ≡ Some 6 }
+    ensures eof_on_no_channel { ask_refusal Client (channel_opened Client) (AskEof 3) ≡ Some 3 }
+    ensures close_after_own_eof { ask_refusal Client (says_on 3 (ChannelEof 5) ∷ channel_confirmed Client) (AskClose 3) ≡ None }
+    ensures second_own_close { ask_refusal Client (says_on 3 (ChannelClose 5) ∷ channel_confirmed Client) (AskClose 3) ≡ Some 6 }
+    ensures close_on_no_channel { ask_refusal Client (channel_opened Client) (AskClose 3) ≡ Some 3 }
+    ensures many_own_requests { ask_refusal Client (replicate 255 said_request ++ channel_confirmed Client) (AskRequest 3 [] true []) ≡ Some 9 }
+    ensures too_many_own_requests { ask_refusal Client (replicate 256 said_request ++ channel_confirmed Client) (AskRequest 3 [] true []) ≡ Some 2 }
+    ensures own_request_without_reply { ask_refusal Client (replicate 256 said_request ++ channel_confirmed Client) (AskRequest 3 [] false []) ≡ Some 9 }
+    ensures request_on_no_channel { ask_refusal Client (channel_opened Client) (AskRequest 3 [] true []) ≡ Some 3 }
+    ensures request_after_own_close { ask_refusal Client (says_on 3 (ChannelClose 5) ∷ channel_confirmed Client) (AskRequest 3 [] true []) ≡ Some 6 }
+    ensures long_request { ask_refusal Client (channel_confirmed Client) (AskRequest 3 (codes "x") true (replicate 33989 0)) ≡ None }
+    ensures too_long_request { ask_refusal Client (channel_confirmed Client) (AskRequest 3 (codes "x") true (replicate 33990 0)) ≡ Some 5 }
+    ensures request_reply { ask_refusal Client (heard_request ∷ channel_confirmed Client) (AskReply 3 true) ≡ None }
+    ensures reply_to_nothing { ask_refusal Client (channel_confirmed Client) (AskReply 3 false) ≡ Some 8 }
+    ensures second_reply { ask_refusal Client (says_on 3 (ChannelFailure 5) ∷ heard_request ∷ channel_confirmed Client) (AskReply 3 true) ≡ Some 8 }
+    ensures reply_on_no_channel { ask_refusal Client (channel_opened Client) (AskReply 3 true) ≡ Some 3 }
+    ensures reply_after_own_close { ask_refusal Client (says_on 3 (ChannelClose 5) ∷ channel_confirmed Client) (AskReply 3 true) ≡ Some 6 }
+    ensures global_request { ask_refusal Client (admitted Client) (AskGlobal (codes "x") true (replicate 33993 0)) ≡ None }
+    ensures too_long_global_request { ask_refusal Client (admitted Client) (AskGlobal (codes "x") true (replicate 33994 0)) ≡ Some 5 }
+    ensures many_own_globals { ask_refusal Client (replicate 255 (says (GlobalRequest [] true [])) ++ admitted Client) (AskGlobal [] true []) ≡ Some 9 }
+    ensures too_many_own_globals { ask_refusal Client (replicate 256 (says (GlobalRequest [] true [])) ++ admitted Client) (AskGlobal [] true []) ≡ Some 2 }
+    ensures own_global_without_reply { ask_refusal Client (replicate 256 (says (GlobalRequest [] true [])) ++ admitted Client) (AskGlobal [] false []) ≡ Some 9 }
+    ensures global_reply { ask_refusal Client (hears (GlobalRequest [] true []) ∷ admitted Client) (AskGlobalReply true (replicate 33999 0)) ≡ None }
+    ensures too_long_global_reply { ask_refusal Client (hears (GlobalRequest [] true []) ∷ admitted Client) (AskGlobalReply true (replicate 34000 0)) ≡ Some 5 }
+    ensures global_reply_to_nothing { ask_refusal Client (hears (GlobalRequest [] false []) ∷ admitted Client) (AskGlobalReply true (replicate 34000 0)) ≡ Some 8 }
+    ensures global_failure { ask_refusal Client (hears (GlobalRequest [] true []) ∷ admitted Client) (AskGlobalReply false []) ≡ None }
+    ensures global_failure_of_nothing { ask_refusal Client (admitted Client) (AskGlobalReply false []) ≡ Some 8 }
+{}
+
+/// What an end adds to a message of the transport or of authentication that it took, the newest first.
+pub fn answer_examples()
+    ensures disconnect { Answer toy Client (admitted Client) None (Disconnect 11 (codes "x") []) (Died ∷ Told (Disconnected 11 (codes "x")) ∷ []) }
+    ensures ignore { Answer toy Client (admitted Client) None (Ignore (codes "x")) (Told Ignored ∷ []) }
+    ensures unimplemented { Answer toy Client (admitted Client) None (Unimplemented 5) (Told (NotImplemented 5) ∷ []) }
+    ensures debug { Answer toy Client (admitted Client) None (Debug true (codes "x") []) (Told (Debugged true (codes "x")) ∷ []) }
+    ensures first_unknown { Answer toy Client (keyed Client) None (Unknown 7) (says (Unimplemented 0) ∷ []) }
+    ensures second_unknown { Answer toy Client (hears (Ignore []) ∷ keyed Client) None (Unknown 7) (says (Unimplemented 1) ∷ []) }
+    ensures unknown_after_skipped_packet { Answer toy Server (TookGuess [] ∷ hears (KexInit (guessing Server false)) ∷ rekeying Server) None (Unknown 7) (says (Unimplemented 4) ∷ []) }
+    ensures unknown_while_blocked { Answer toy Client (rekeying Client) None (Unknown 200) (says (Unimplemented 2) ∷ []) }
+    ensures service_request { Answer toy Server (keyed Server) None (ServiceRequest userauth) (says (ServiceAccept userauth) ∷ []) }
+    ensures service_accept { Answer toy Client asking None (ServiceAccept userauth) (Told Service ∷ []) }
+    ensures first_kexinit_at_server { Answer toy Server (lined Server) None (KexInit (offer_of Client true)) [] }
+    ensures first_kexinit_at_client { Answer toy Client (lined Client) None (KexInit (offer_of Server true)) (says (KexEcdhInit (secret 1)) ∷ []) }
+    ensures kexinit_answered_at_server { Answer toy Server (fed_again Server) None (KexInit (offer_of Client false)) (says (KexInit (offer_of Server false)) ∷ []) }
+    ensures kexinit_answered_at_client { Answer toy Client (fed_again Client) None (KexInit (offer_of Server false)) (says (KexEcdhInit (secret 4)) ∷ says (KexInit (offer_of Client false)) ∷ []) }
+    ensures kexinit_crossing_at_client { Answer toy Client (rekeying Client) None (KexInit (offer_of Server false)) (says (KexEcdhInit (secret 4)) ∷ []) }
+    ensures kexinit_crossing_at_server { Answer toy Server (rekeying Server) None (KexInit (offer_of Client false)) [] }
+    ensures exchange_at_server { Answer toy Server (offered Server) None (KexEcdhInit (secret 1)) (Told (Completed 1) ∷ says NewKeys ∷ says first_reply ∷ []) }
+    ensures exchange_at_client { Answer toy Client (offered Client) None first_reply (Told (Completed 1) ∷ says NewKeys ∷ []) }
+    ensures owed_reply_of_server { Answer toy Server (hears (KexInit (offer_of Client false)) ∷ closed_by_peer Server) None (KexEcdhInit (secret 4)) (Told (Completed 2) ∷ says_on 5 (ChannelClose 3) ∷ says NewKeys ∷ says (reply_now toy (hears (KexInit (offer_of Client false)) ∷ closed_by_peer Server) (secret 4)) ∷ []) }
+    ensures owed_reply_of_client { Answer toy Client (says (KexEcdhInit (secret 4)) ∷ hears (KexInit (offer_of Server false)) ∷ closed_by_peer Client) None (KexEcdhReply toy_key (secret 8) []) (Told (Completed 2) ∷ says_on 3 (ChannelClose 5) ∷ says NewKeys ∷ []) }
+    ensures newkeys_of_peer { (side : Side) → Answer toy side (completed side) None NewKeys [] }
+    ensures right_password { Answer toy Server (served Server) None right_request (Told (Accepted (codes "u")) ∷ says UserauthSuccess ∷ []) }
+    ensures right_signature { Answer toy Server (served Server) None (UserauthRequest (codes "u") connection (Publickey (codes "toy") (codes "k") (Some right_signature))) (Told (Accepted (codes "u")) ∷ says UserauthSuccess ∷ []) }
+    ensures known_key { Answer toy Server (served Server) None (probe (codes "k")) (says (UserauthPkOk (codes "toy") (codes "k")) ∷ []) }
+    ensures wrong_password { Answer toy Server (served Server) None wrong_request (says (UserauthFailure (codes "publickey" ∷ codes "password" ∷ []) false) ∷ []) }
+    ensures request_after_success { Answer toy Server (admitted Server) None right_request (Told Ignored ∷ []) }
+    ensures failed_request { Answer toy Client requesting None (UserauthFailure (codes "x" ∷ []) true) (Told (Failed (codes "x" ∷ []) true) ∷ []) }
+    ensures accepted_request { Answer toy Client requesting None UserauthSuccess (Told Authenticated ∷ []) }
+    ensures shown_banner { Answer toy Client requesting None (UserauthBanner (codes "x") []) (Told (Banner (codes "x")) ∷ []) }
+    ensures good_key { Answer toy Client probing_client None (UserauthPkOk (codes "toy") (codes "k")) (Told (KeyOk (codes "toy") (codes "k")) ∷ []) }
+{}
+
+/// What an end adds to a message of the connection that it took, the newest first.
+pub fn connection_answer_examples()
+    ensures global_request_taken { Answer toy Client (channel_confirmed Client) None (GlobalRequest (codes "x") true (codes "y")) (Told (Global (codes "x") true (codes "y")) ∷ []) }
+    ensures global_success_taken { Answer toy Client (channel_confirmed Client) None (RequestSuccess (codes "x")) (Told (GlobalDone true (codes "x")) ∷ []) }
+    ensures global_failure_taken { Answer toy Client (channel_confirmed Client) None RequestFailure (Told (GlobalDone false []) ∷ []) }
+    ensures open_taken { Answer toy Server (admitted Server) (Some 5) open_message (Told (Opened 5 (codes "session") 10 8 []) ∷ []) }
+    ensures open_taken_at_last_number { Answer toy Server (admitted Server) (Some 1023) open_message (Told (Opened 1023 (codes "session") 10 8 []) ∷ []) }
+    ensures open_without_place { (h : List Item) → is_full Server h ≡ true → blocked h ≡ false → Answer toy Server h None open_message (says (ChannelOpenFailure 3 4 [] []) ∷ []) }
+    ensures open_without_place_while_blocked { (h : List Item) → is_full Server h ≡ true → blocked h ≡ true → Answer toy Server h None open_message [] }
+    ensures confirmation_taken { Answer toy Client (channel_opened Client) (Some 3) confirm_message (Told (Confirmed 3 20 16 []) ∷ []) }
+    ensures open_failure_taken { Answer toy Client (channel_opened Client) (Some 3) (ChannelOpenFailure 3 1 (codes "x") []) (Told (OpenFailed 3 1 (codes "x")) ∷ []) }
+    ensures adjust_taken { Answer toy Client (channel_confirmed Client) (Some 3) (ChannelWindowAdjust 3 7) (Told (Adjusted 3 7) ∷ []) }
+    ensures data_taken { Answer toy Client (channel_confirmed Client) (Some 3) (ChannelData 3 (codes "x")) (Told (GotData 3 None (codes "x")) ∷ []) }
+    ensures extended_data_taken { Answer toy Client (channel_confirmed Client) (Some 3) (ChannelExtendedData 3 1 (codes "x")) (Told (GotData 3 (Some 1) (codes "x")) ∷ []) }
+    ensures eof_taken { Answer toy Client (channel_confirmed Client) (Some 3) (ChannelEof 3) (Told (Ended 3) ∷ []) }
+    ensures close_answered { Answer toy Client (channel_confirmed Client) (Some 3) (ChannelClose 3) (Told (Closed 3) ∷ says_on 3 (ChannelClose 5) ∷ []) }
+    ensures close_after_close { Answer toy Client (says_on 3 (ChannelClose 5) ∷ channel_confirmed Client) (Some 3) (ChannelClose 3) (Told (Closed 3) ∷ []) }
+    ensures close_while_blocked { Answer toy Client (says (KexInit (offer_of Client false)) ∷ channel_confirmed Client) (Some 3) (ChannelClose 3) (Told (Closed 3) ∷ []) }
+    ensures request_taken { Answer toy Client (channel_confirmed Client) (Some 3) (ChannelRequest 3 (codes "x") true (codes "y")) (Told (Requested 3 (codes "x") true (codes "y")) ∷ []) }
+    ensures success_taken { Answer toy Client (channel_confirmed Client) (Some 3) (ChannelSuccess 3) (Told (RequestDone 3 true) ∷ []) }
+    ensures failure_taken { Answer toy Client (channel_confirmed Client) (Some 3) (ChannelFailure 3) (Told (RequestDone 3 false) ∷ []) }
+{}
+
+/// What an end adds on an ask that it does not refuse, the newest first.
+pub fn sending_examples()
+    ensures service_sent { OnAsk toy Client (keyed Client) AskService (says (ServiceRequest userauth) ∷ []) }
+    ensures none_sent { OnAsk toy Client (served Client) (AskNone (codes "u")) (says (UserauthRequest (codes "u") connection NoMethod) ∷ []) }
+    ensures password_sent { OnAsk toy Client (served Client) (AskPassword (codes "u") (codes "p")) (says right_request ∷ []) }
+    ensures probe_sent { OnAsk toy Client (served Client) (AskProbe (codes "u") (codes "toy") (codes "k")) (says (probe (codes "k")) ∷ []) }
+    ensures signature_sent { OnAsk toy Client (served Client) (AskSign (codes "u") (codes "toy") (codes "k")) (says (UserauthRequest (codes "u") connection (Publickey (codes "toy") (codes "k") (Some right_signature))) ∷ []) }
+    ensures rekey_sent { (side : Side) → OnAsk toy side (fed_again side) AskRekey (says (KexInit (offer_of side false)) ∷ []) }
+    ensures disconnect_sent { OnAsk toy Client (opened Client) (AskDisconnect (codes "x")) (Died ∷ says (Disconnect 11 (codes "x") []) ∷ []) }
+    ensures open_sent { OnAsk toy Client (admitted Client) (AskOpen (codes "session") 10 8 []) (Told (Opening 3) ∷ says_on 3 open_message ∷ []) }
+    ensures confirm_sent { OnAsk toy Server (channel_opened Server) (AskConfirm 5 20 16 []) (says_on 5 confirm_message ∷ []) }
+    ensures refuse_sent { OnAsk toy Server (channel_opened Server) (AskRefuse 5 1) (says_on 5 (ChannelOpenFailure 3 1 [] []) ∷ []) }
+    ensures data_sent { OnAsk toy Client (channel_confirmed Client) (AskData 3 None (codes "x")) (says_on 3 (ChannelData 5 (codes "x")) ∷ []) }
+    ensures extended_data_sent { OnAsk toy Client (channel_confirmed Client) (AskData 3 (Some 1) (codes "x")) (says_on 3 (ChannelExtendedData 5 1 (codes "x")) ∷ []) }
+    ensures adjust_sent { OnAsk toy Client (channel_confirmed Client) (AskAdjust 3 7) (says_on 3 (ChannelWindowAdjust 5 7) ∷ []) }
+    ensures eof_sent { OnAsk toy Client (channel_confirmed Client) (AskEof 3) (says_on 3 (ChannelEof 5) ∷ []) }
+    ensures close_sent { OnAsk toy Client (channel_confirmed Client) (AskClose 3) (says_on 3 (ChannelClose 5) ∷ []) }
+    ensures request_sent { OnAsk toy Client (channel_confirmed Client) (AskRequest 3 (codes "x") true (codes "y")) (says_on 3 (ChannelRequest 5 (codes "x") true (codes "y")) ∷ []) }
+    ensures success_sent { OnAsk toy Client (channel_confirmed Client) (AskReply 3 true) (says_on 3 (ChannelSuccess 5) ∷ []) }
+    ensures failure_sent { OnAsk toy Client (channel_confirmed Client) (AskReply 3 false) (says_on 3 (ChannelFailure 5) ∷ []) }
+    ensures global_request_sent { OnAsk toy Client (admitted Client) (AskGlobal (codes "x") true (codes "y")) (says (GlobalRequest (codes "x") true (codes "y")) ∷ []) }
+    ensures global_success_sent { OnAsk toy Client (admitted Client) (AskGlobalReply true (codes "x")) (says (RequestSuccess (codes "x")) ∷ []) }
+    ensures global_failure_sent { OnAsk toy Client (admitted Client) (AskGlobalReply false []) (says RequestFailure ∷ []) }
+{}
+
+/// Which name is chosen, and which guess is wrong.
+pub fn choice_examples()
+    ensures first_of_client { first_common (codes "a" ∷ codes "b" ∷ codes "c" ∷ []) (codes "c" ∷ codes "b" ∷ []) ≡ Some (codes "b") }
+    ensures nothing_in_common { first_common (codes "a" ∷ []) (codes "ab" ∷ []) ≡ None }
+    ensures markers_are_not_chosen { common Kex (lists_of (record (offer_of Client true) { kex = client_marker ∷ server_marker ∷ codes "a" ∷ [] })) (lists_of (record (offer_of Server true) { kex = server_marker ∷ client_marker ∷ codes "a" ∷ [] })) ≡ Some (codes "a") }
+    ensures server_order_is_not_followed { (choice Server 0 (hears (KexInit (record (offer_of Client true) { host = codes "x" ∷ codes "y" ∷ [] })) ∷ says (KexInit (record (offer_of Server true) { host = codes "y" ∷ codes "x" ∷ [] })) ∷ [])).host ≡ codes "x" }
+    ensures client_order_is_followed { (choice Client 0 (hears (KexInit (record (offer_of Server true) { host = codes "y" ∷ codes "x" ∷ [] })) ∷ says (KexInit (record (offer_of Client true) { host = codes "x" ∷ codes "y" ∷ [] })) ∷ [])).host ≡ codes "x" }
+    ensures each_direction_is_chosen { (choice Client 0 (hears (KexInit (record (offer_of Server true) { mac_cs = codes "y" ∷ codes "x" ∷ []; mac_sc = codes "y" ∷ [] })) ∷ says (KexInit (record (offer_of Client true) { mac_cs = codes "x" ∷ codes "y" ∷ []; mac_sc = codes "x" ∷ codes "y" ∷ [] })) ∷ [])).mac_sc ≡ codes "y" }
+    ensures no_guess { is_wrong_guess (record (offer_of Client true) { host = codes "x" ∷ [] }) (own_names toy Server) ≡ false }
+    ensures right_guess { is_wrong_guess (record (offer_of Client true) { follows = true }) (own_names toy Server) ≡ false }
+    ensures right_guess_after_marker { is_wrong_guess (record (offer_of Client true) { kex = client_marker ∷ codes "curve25519-sha256" ∷ []; follows = true }) (own_names toy Server) ≡ false }
+    ensures wrong_guess_of_method { is_wrong_guess (record (offer_of Client true) { kex = codes "x" ∷ codes "curve25519-sha256" ∷ []; follows = true }) (own_names toy Server) ≡ true }
+    ensures wrong_guess_of_host_key { is_wrong_guess (record (offer_of Client true) { host = codes "x" ∷ codes "toy@example.com" ∷ []; follows = true }) (own_names toy Server) ≡ true }
+    ensures marker_stands_last { (side : Side) → (offer_of side true).kex ≡ (offer_of side false).kex ++ marker_of side ∷ [] }
+{}
+
+/// Epochs, numbers and keys of a direction.
+pub fn number_examples()
+    ensures number_before_newkeys { wire_number (sent (offered Client)) ≡ 2 }
+    ensures number_after_newkeys { (side : Side) → wire_number (sent (completed side)) ≡ 0 }
+    ensures number_taken_before_newkeys { wire_number (took (completed Client)) ≡ 2 }
+    ensures number_taken_after_newkeys { (side : Side) → wire_number (took (keyed side)) ≡ 0 }
+    ensures number_later { wire_number (sent (admitted Client)) ≡ 2 }
+    ensures number_after_later_newkeys { (side : Side) → wire_number (sent (completed_again side)) ≡ 0 }
+    ensures skipped_packet_has_number { wire_number (took (TookGuess [] ∷ hears (KexInit (guessing Server true)) ∷ lined Server)) ≡ 2 }
+    ensures epoch_before_newkeys { (side : Side) → epoch (sent (offered side)) ≡ 0 }
+    ensures epoch_after_newkeys { (side : Side) → epoch (sent (completed side)) ≡ 1 }
+    ensures epoch_of_peer { (side : Side) → epoch (took (completed side)) ≡ 0 }
+    ensures epoch_after_later_newkeys { (side : Side) → epoch (sent (completed_again side)) ≡ 2 }
+    ensures no_key_before_newkeys { (side : Side) → sending_key toy side (offered side) ≡ None }
+    ensures no_key_of_peer_before_newkeys { (side : Side) → taking_key toy side (completed side) ≡ None }
+    ensures key_after_newkeys { (side : Side) → sending_key toy side (completed side) ≡ Some (mac_key side (first_inputs side)) }
+    ensures key_of_peer_after_newkeys { (side : Side) → taking_key toy side (keyed side) ≡ Some (mac_key (peer side) (first_inputs side)) }
+    ensures key_lasts_while_rekeying { (side : Side) → sending_key toy side (offered_again side) ≡ Some (mac_key side (first_inputs side)) }
+    ensures same_inputs { first_inputs Client ≡ first_inputs Server }
+    ensures shared_of_first_exchange { (side : Side) → (first_inputs side).shared ≡ 3 }
+    ensures shared_of_later_exchange { (side : Side) → (exchange toy side 1 (completed_again side)).shared ≡ 12 }
+    ensures lines_of_exchange { (side : Side) → (first_inputs side).client_version ≡ codes "SSH-2.0-c" }
+    ensures points_of_exchange { (side : Side) → (first_inputs side).server_point ≡ secret 2 }
+    ensures points_of_later_exchange { (side : Side) → (exchange toy side 1 (completed_again side)).client_point ≡ secret 4 }
+{}
+
+/// What a server accepts, and what a client signs.
+pub fn authentication_examples()
+    ensures accepted_password { is_accepted toy (served Server) (codes "u") connection (Password (codes "p") None) ≡ true }
+    ensures other_password { is_accepted toy (served Server) (codes "u") connection (Password (codes "q") None) ≡ false }
+    ensures changed_password { is_accepted toy (served Server) (codes "u") connection (Password (codes "p") (Some (codes "q"))) ≡ false }
+    ensures other_service_of_request { is_accepted toy (served Server) (codes "u") userauth (Password (codes "p") None) ≡ false }
+    ensures bare_request { is_accepted toy (served Server) (codes "u") connection NoMethod ≡ false }
+    ensures bare_request_admitted { is_accepted (record toy { admits = λ user. true }) (served Server) (codes "u") connection NoMethod ≡ true }
+    ensures password_not_configured { is_accepted (with_methods (codes "publickey" ∷ [])) (served Server) (codes "u") connection (Password (codes "p") None) ≡ false }
+    ensures key_alone_is_not_accepted { is_accepted toy (served Server) (codes "u") connection (Publickey (codes "toy") (codes "k") None) ≡ false }
+    ensures probe_of_known_key { is_good_probe toy (codes "u") connection (Publickey (codes "toy") (codes "k") None) ≡ true }
+    ensures probe_of_other_key { is_good_probe toy (codes "u") connection (Publickey (codes "toy") (codes "l") None) ≡ false }
+    ensures probe_for_other_service { is_good_probe toy (codes "u") userauth (Publickey (codes "toy") (codes "k") None) ≡ false }
+    ensures probe_not_configured { is_good_probe (with_methods (codes "password" ∷ [])) (codes "u") connection (Publickey (codes "toy") (codes "k") None) ≡ false }
+    ensures longest_key { is_known_key friendly [] (replicate 64 0) (replicate 16384 0) ≡ true }
+    ensures longer_key { is_known_key friendly [] [] (replicate 16385 0) ≡ false }
+    ensures longer_algorithm { is_known_key friendly [] (replicate 65 0) [] ≡ false }
+    ensures what_is_signed { signed_text (codes "s") (codes "u") (codes "c") (codes "t") (codes "k") ≡ 0 ∷ 0 ∷ 0 ∷ 1 ∷ 115 ∷ 50 ∷ 0 ∷ 0 ∷ 0 ∷ 1 ∷ 117 ∷ 0 ∷ 0 ∷ 0 ∷ 1 ∷ 99 ∷ 0 ∷ 0 ∷ 0 ∷ 9 ∷ 112 ∷ 117 ∷ 98 ∷ 108 ∷ 105 ∷ 99 ∷ 107 ∷ 101 ∷ 121 ∷ 1 ∷ 0 ∷ 0 ∷ 0 ∷ 1 ∷ 116 ∷ 0 ∷ 0 ∷ 0 ∷ 1 ∷ 107 ∷ [] }
+{}
+
+/// What holds where no more channels or owed replies fit: with 1,024 channels an end has no place for another, and it owes at most 256 replies.
+pub fn limits()
+    ensures open_refused_while_many_are_owed { (h : List Item) → is_full Client h ≡ true → owes_many Client h ≡ true → refusal Client h open_message ≡ Some 19 }
+    ensures open_while_few_are_owed { (h : List Item) → owes_many Client h ≡ false → refusal Client h open_message ≡ None }
+    ensures open_with_place { (h : List Item) → is_full Client h ≡ false → refusal Client h open_message ≡ None }
+    ensures close_refused_while_many_are_owed { (h : List Item) (x : ℕ) → is_confirmed x (notes Client h) ≡ true → has_closed x (notes Client h) ≡ false → owes_many Client h ≡ true → refusal Client h (ChannelClose x) ≡ Some 19 }
+    ensures close_that_owes_nothing { (h : List Item) (x : ℕ) → is_confirmed x (notes Client h) ≡ true → has_closed x (notes Client h) ≡ true → refusal Client h (ChannelClose x) ≡ None }
+    ensures many { map is_many (255 ∷ 256 ∷ []) ≡ false ∷ true ∷ [] }
+    ensures many_are_owed_while_blocked { (h : List Item) → blocked h ≡ false → owes_many Client h ≡ false }
+    ensures open_asked_without_place { (h : List Item) (window most : ℕ) → authenticated Client h ≡ true → blocked h ≡ false → is_rekey_due toy Client h ≡ false → is_full Client h ≡ true → ask_refusal Client h (AskOpen [] window most []) ≡ Some 7 }
+{}
+
+/// The reason codes of refusals (RFC 4253 section 11.1).
+pub fn reasons()
+    ensures codes_of_refusals { map refusal_reason (from_to 1 19) ≡ None ∷ None ∷ map Some (2 ∷ 2 ∷ 5 ∷ 2 ∷ 2 ∷ 3 ∷ 3 ∷ 3 ∷ 9 ∷ 3 ∷ 7 ∷ 2 ∷ 14 ∷ 2 ∷ 2 ∷ 2 ∷ 2 ∷ []) }
+    ensures names_of_refusals { map refusal_name (from_to 1 19) ≡ codes "BadLine" ∷ codes "BadVersion" ∷ codes "BadLength" ∷ codes "BadPadding" ∷ codes "BadTag" ∷ codes "BadMessage" ∷ codes "Unexpected" ∷ codes "NoCommon" ∷ codes "NotStrict" ∷ codes "BadPoint" ∷ codes "BadHost" ∷ codes "NoMaterial" ∷ codes "NoService" ∷ codes "NumberSpent" ∷ codes "TooManyTries" ∷ codes "UnknownChannel" ∷ codes "WindowOverrun" ∷ codes "WindowTooLarge" ∷ codes "OwedFull" ∷ [] }
+{}
