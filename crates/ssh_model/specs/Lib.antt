@@ -35,3 +35,4 @@ pub mod Session
 pub mod Transport
 pub mod Turn
 pub mod Events
+pub mod TurnSafe
