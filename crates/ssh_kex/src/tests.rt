@@ -4,6 +4,7 @@ use ssh_types::NameList;
 use std::process::Abort;
 use std::test::*;
 
+mod key_lengths;
 mod recorded;
 
 use recorded::{Recorded, exchanges};
