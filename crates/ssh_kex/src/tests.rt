@@ -5,6 +5,7 @@ use std::process::Abort;
 use std::test::*;
 
 mod key_lengths;
+mod memory;
 mod recorded;
 
 use recorded::{Recorded, exchanges};
