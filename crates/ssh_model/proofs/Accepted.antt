@@ -1,25 +1,23 @@
 -- Nothing of the connection comes before an accepted request.
-use Rattle.std.proofs.Common.{◌≡◌, ◌≢◌, ℕ, zero, suc, ◌+◌, ◌<◌, ◌≤◌, List, [], ◌∷◌, ◌++◌, ◌⊎◌, inl, inr, ⊎_elim, refl, ap, sym, ◌∙◌, subst, arith, Bool, true, false, not, ◌&&◌, eqb, Option, Some, None}
+use Rattle.std.proofs.Common.{◌≡◌, ℕ, zero, suc, ◌<◌, List, [], ◌∷◌, inl, inr, refl, ap, sym, ◌∙◌, subst, arith, Bool, true, false, eqb}
 use Rattle.std.proofs.lemmas.Bool.{eq-eqb}
-use Rattle.ssh_model.specs.History.{Side, Side.Client, Side.Server, peer, IsIn, IsOlder}
+use Rattle.ssh_model.specs.History.{Side, Side.Client, Side.Server, IsIn, IsOlder}
 use Rattle.ssh_model.specs.Message.{Msg, Msg.NewKeys, Msg.UserauthRequest, Msg.UserauthSuccess, Msg.Unknown, Suits, is_unknown, message_number}
 use Rattle.ssh_model.specs.Party.{Parties, AreLawful}
-use Rattle.ssh_model.specs.Session.{Payload, Payload.NewkeysOf, Payload.OtherOf, bytes_of, Item, Item.Sent, Item.Took, Item.TookGuess, Done, Done.By, done_by, part, sent, took, Spelled, messages_sent}
+use Rattle.ssh_model.specs.Session.{Payload, Payload.OtherOf, bytes_of, Item, Item.Sent, Item.Took, Done, Done.By, part, sent, took, messages_sent}
 use Rattle.ssh_model.specs.Epoch.{epoch, after_first, from_epoch}
 use Rattle.ssh_model.specs.Phase.{authenticated, sent_success, took_success}
-use Rattle.ssh_model.specs.ChannelNotes.{Note}
 use Rattle.ssh_model.specs.ChannelState.{is_held}
 use Rattle.ssh_model.specs.Connection.{notes, channel_items}
 use Rattle.ssh_model.specs.Honest.{IsHonest}
-use Rattle.ssh_model.specs.Safe.{IsSent, IsAcceptedRequest, HasAccepted, HasConnection, Authorized}
+use Rattle.ssh_model.specs.Safe.{IsSent, HasAccepted, Authorized}
 use Rattle.ssh_model.specs.Turn.{Run, Run.start, Run.then_turn, number_of}
-use Rattle.ssh_model.proofs.Older.{older_self, older_tail, in_older}
+use Rattle.ssh_model.proofs.Older.{in_older}
 use Rattle.ssh_model.proofs.Places.{after_suc}
 use Rattle.ssh_model.proofs.Payloads.{not_both}
-use Rattle.ssh_model.proofs.Rules.{Rules, took_behind}
-use Rattle.ssh_model.proofs.Agree.{Kept}
+use Rattle.ssh_model.proofs.Rules.{took_behind}
 use Rattle.ssh_model.proofs.Whole.{Given, given, given_tail, kept, ends, part_own, part_other, opened_client, opened_server}
-use Rattle.ssh_model.proofs.Sound.{AllFormed, Formed, AcceptedHere, Sound, sent_number, taken_number, BothFormed, formed_tail}
+use Rattle.ssh_model.proofs.Sound.{AllFormed, AcceptedHere, Sound, sent_number, taken_number, BothFormed, formed_tail}
 use Rattle.ssh_model.proofs.SoundTurns.{turn_sound, opening_sound, without_channels, none_noted}
 
 -- ---- what was taken under a key was sent

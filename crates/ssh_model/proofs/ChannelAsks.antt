@@ -1,19 +1,18 @@
 -- The turns of an end on its channels: asks, exchanges, and whole turns.
-use Rattle.std.proofs.Common.{◌≡◌, ℕ, zero, suc, ◌+◌, ◌-◌, ◌<◌, ◌≤◌, ◌^◌, List, [], ◌∷◌, ◌++◌, length, ◌⊎◌, inl, inr, refl, ap, sym, ◌∙◌, arith, subst, append_assoc, append-nil, Bool, true, false, cond, not, nat_lt, nat_le, ltb, ltb-false, ◌&&◌, ◌||◌, Option, Some, None}
-use Rattle.ssh_model.specs.History.{Side, Side.Client, Side.Server, peer}
+use Rattle.std.proofs.Common.{◌≡◌, ℕ, ◌≤◌, ◌^◌, List, [], ◌∷◌, ◌++◌, length, refl, ap, sym, ◌∙◌, arith, subst, append_assoc, Bool, true, false, not, nat_lt, ltb-false, ◌&&◌, ◌||◌, Option, Some, None}
+use Rattle.ssh_model.specs.History.{Side, Side.Client, Side.Server}
 use Rattle.ssh_model.specs.DataTypes.{IsUint32}
-use Rattle.ssh_model.specs.Message.{Msg, Msg.NewKeys, Msg.KexInit, Msg.KexEcdhInit, Msg.KexEcdhReply, Msg.ChannelOpen, Msg.ChannelOpenConfirmation}
+use Rattle.ssh_model.specs.Message.{Msg, Msg.KexEcdhInit, Msg.KexEcdhReply}
 use Rattle.ssh_model.specs.Refusal.{first_refusal}
 use Rattle.ssh_model.specs.Party.{Parties}
-use Rattle.ssh_model.specs.Session.{Ask, Ask.AskRekey, Ask.AskOpen, Ask.AskConfirm, Ask.AskRefuse, Ask.AskData, Ask.AskAdjust, Ask.AskEof, Ask.AskClose, Ask.AskRequest, Ask.AskReply, Item, Item.Asked, Item.Sent, Item.Took, Item.TookGuess}
+use Rattle.ssh_model.specs.Session.{Ask, Ask.AskRekey, Ask.AskOpen, Ask.AskConfirm, Ask.AskRefuse, Ask.AskData, Ask.AskAdjust, Ask.AskEof, Ask.AskClose, Ask.AskRequest, Ask.AskReply, Item, Item.Asked, Item.Took}
 use Rattle.ssh_model.specs.Phase.{blocked, phase, is_normal}
-use Rattle.ssh_model.specs.ChannelMessage.{Message}
-use Rattle.ssh_model.specs.ChannelState.{largest, left, room, most_there, waiting_there}
+use Rattle.ssh_model.specs.ChannelState.{largest, most_there, waiting_there}
 use Rattle.ssh_model.specs.ChannelHistory as channel
 use Rattle.ssh_model.specs.ChannelRows as row
-use Rattle.ssh_model.specs.Connection.{channel_items, notes, owed_replies, AreReplies, ConnectionAsk, ConnectionAsk.opens, ConnectionAsk.confirm, ConnectionAsk.refuse, ConnectionAsk.sends, ConnectionAsk.sends_extended, ConnectionAsk.adjust, ConnectionAsk.eof, ConnectionAsk.close, ConnectionAsk.request, ConnectionAsk.reply_yes, ConnectionAsk.reply_no, ConnectionAsk.global, ConnectionAsk.global_yes, ConnectionAsk.global_no, is_many}
-use Rattle.ssh_model.specs.Transport.{TransportAnswer, TransportAnswer.disconnect, TransportAnswer.ignore, TransportAnswer.unimplemented, TransportAnswer.debug, TransportAnswer.unknown, TransportAnswer.service_request, TransportAnswer.service_accept, TransportAnswer.kexinit_at_server, TransportAnswer.kexinit_at_client, TransportAnswer.answered_at_server, TransportAnswer.answered_at_client, TransportAnswer.init, TransportAnswer.reply, TransportAnswer.newkeys, TransportAnswer.request_too_late, TransportAnswer.request_accepted, TransportAnswer.request_probed, TransportAnswer.request_failed, TransportAnswer.failure, TransportAnswer.success, TransportAnswer.banner, TransportAnswer.key_ok, TransportAsk, TransportAsk.service, TransportAsk.none, TransportAsk.password, TransportAsk.probe, TransportAsk.sign, TransportAsk.rekey, TransportAsk.disconnect}
-use Rattle.ssh_model.specs.Turn.{IsSpelled, AreSpelled, Refuses, Refuses.silently, Refuses.spent, Refuses.said, Welcomes, answer_checks, Answer, Answer.of_transport, Answer.of_connection, OnPayload, OnPayload.takes, OnPayload.skips, OnPayload.unexpected, OnPayload.bad_message, OnPayload.refuses, OnPayload.spends, OnOutcome, OnOutcome.other_line, OnOutcome.version_line, OnOutcome.refused_line, OnOutcome.opened, OnOutcome.refused_packet, ask_checks, OnAsk, OnAsk.of_transport, OnAsk.of_connection, FeedsTurn, FeedsTurn.feeds, FeedsTurn.answers_false, AsksTurn, AsksTurn.refuses, AsksTurn.answers, AsksTurn.spends, AsksTurn.dies, AsksTurn.is_dead, Turn, Turn.feeds, Turn.asks, Turn.reads, Turn.dies}
+use Rattle.ssh_model.specs.Connection.{channel_items, notes, owed_replies, AreReplies, ConnectionAsk.opens, ConnectionAsk.confirm, ConnectionAsk.refuse, ConnectionAsk.sends, ConnectionAsk.sends_extended, ConnectionAsk.adjust, ConnectionAsk.eof, ConnectionAsk.close, ConnectionAsk.request, ConnectionAsk.reply_yes, ConnectionAsk.reply_no, ConnectionAsk.global, ConnectionAsk.global_yes, ConnectionAsk.global_no, is_many}
+use Rattle.ssh_model.specs.Transport.{TransportAnswer, TransportAnswer.disconnect, TransportAnswer.ignore, TransportAnswer.unimplemented, TransportAnswer.debug, TransportAnswer.unknown, TransportAnswer.service_request, TransportAnswer.service_accept, TransportAnswer.kexinit_at_server, TransportAnswer.kexinit_at_client, TransportAnswer.answered_at_server, TransportAnswer.answered_at_client, TransportAnswer.init, TransportAnswer.reply, TransportAnswer.newkeys, TransportAnswer.request_too_late, TransportAnswer.request_accepted, TransportAnswer.request_probed, TransportAnswer.request_failed, TransportAnswer.failure, TransportAnswer.success, TransportAnswer.banner, TransportAnswer.key_ok, TransportAsk.service, TransportAsk.none, TransportAsk.password, TransportAsk.probe, TransportAsk.sign, TransportAsk.rekey, TransportAsk.disconnect}
+use Rattle.ssh_model.specs.Turn.{AreSpelled, Refuses, Refuses.silently, Refuses.spent, Refuses.said, Welcomes, Answer, Answer.of_transport, Answer.of_connection, OnPayload, OnPayload.takes, OnPayload.skips, OnPayload.unexpected, OnPayload.bad_message, OnPayload.refuses, OnPayload.spends, OnOutcome.other_line, OnOutcome.version_line, OnOutcome.refused_line, OnOutcome.opened, OnOutcome.refused_packet, ask_checks, OnAsk, OnAsk.of_transport, OnAsk.of_connection, FeedsTurn, AsksTurn, AsksTurn.refuses, AsksTurn.spends, Turn, Turn.asks, Turn.reads}
 use Rattle.ssh_model.proofs.Stages.{all_passed, or_false, not_false, level_at_30, level_at_31}
 use Rattle.ssh_model.proofs.EndKeeps.{End}
 use Rattle.ssh_model.proofs.EndAnswers.{may_be}
@@ -27,7 +26,6 @@ uint32_small n bytes u =
     let below = number_below bytes u.are_bytes in
     let room : 256 ^ length bytes ≡ 256 ^ 4 = ap (λ (k : ℕ). 256 ^ k) u.count in
     omega (arith, u.value)
-
 
 module _ {K : Type 0} (p : Parties K) where
   free_of_exchange : (side : Side) (h : List Item) → blocked h ≡ false → channel.blocked (channel_items h) ≡ false

@@ -1,7 +1,7 @@
 -- The messages on channels that an end takes come in the order in which the other sent them.
-use Rattle.std.proofs.Common.{◌≡◌, ◌≢◌, ℕ, zero, suc, ◌+◌, ◌<◌, ◌≤◌, List, [], ◌∷◌, ◌++◌, ◌⊎◌, inl, inr, refl, ap, sym, ◌∙◌, arith, subst, Bool, true, false, Option, Some, None}
+use Rattle.std.proofs.Common.{◌≡◌, ℕ, zero, suc, ◌<◌, ◌≤◌, List, [], ◌∷◌, inl, inr, refl, ap, sym, ◌∙◌, arith, subst, true, Option, Some, None}
 use Rattle.std.proofs.lemmas.Bool.{leb-true}
-use Rattle.ssh_model.specs.History.{Side, Side.Client, Side.Server, peer, IsOlder}
+use Rattle.ssh_model.specs.History.{IsOlder}
 use Rattle.ssh_model.specs.Message.{Msg, Msg.NewKeys, Msg.KexInit, Msg.UserauthSuccess, Msg.ChannelOpen, Msg.ChannelOpenConfirmation, Msg.ChannelOpenFailure, Msg.ChannelWindowAdjust, Msg.ChannelData, Msg.ChannelExtendedData, Msg.ChannelEof, Msg.ChannelClose, Msg.ChannelRequest, Msg.ChannelSuccess, Msg.ChannelFailure, IsPayload, message_number}
 use Rattle.ssh_model.specs.Party.{Parties}
 use Rattle.ssh_model.specs.Session.{Payload, Payload.NewkeysOf, Payload.OtherOf, bytes_of, Item, Item.Sent, Item.Took, Item.TookGuess, sent, took}
@@ -9,12 +9,12 @@ use Rattle.ssh_model.specs.Epoch.{epoch, after_first, from_epoch}
 use Rattle.ssh_model.specs.ChannelMessage.{Message}
 use Rattle.ssh_model.specs.ChannelHistory as channel
 use Rattle.ssh_model.specs.Connection.{on_channel, sent_on, received_on, channel_items}
-use Rattle.ssh_model.specs.Turn.{IsSpelled, number_of}
+use Rattle.ssh_model.specs.Turn.{number_of}
 use Rattle.ssh_model.proofs.OneMessage.{same_message}
 use Rattle.ssh_model.proofs.Spelling.{spelled_is_read}
 use Rattle.ssh_model.proofs.Older.{older_self}
-use Rattle.ssh_model.proofs.Places.{zero_after, after_suc, after_zero}
-use Rattle.ssh_model.proofs.Sound.{AllFormed, Formed, taken_number}
+use Rattle.ssh_model.proofs.Places.{zero_after}
+use Rattle.ssh_model.proofs.Sound.{AllFormed, taken_number}
 
 -- no message on a channel
 abbrev pub IsOffChannel : List ℕ → Type 0

@@ -1,21 +1,19 @@
 -- Whole runs as their channels see them: windows, no refusal between the two ends, and data in order.
-use Rattle.std.proofs.Common.{◌≡◌, ◌≢◌, ℕ, zero, suc, ◌+◌, ◌<◌, ◌≤◌, List, [], ◌∷◌, ◌++◌, map, reverse, ◌⊎◌, inl, inr, refl, ap, sym, ◌∙◌, arith, subst, append_assoc, append-nil, Bool, true, false, not, ◌&&◌, Option, Some, None}
+use Rattle.std.proofs.Common.{◌≡◌, ℕ, List, [], ◌∷◌, ◌++◌, ◌⊎◌, inl, inr, refl, ap, sym, ◌∙◌, subst, append_assoc, append-nil, Option, Some, None}
 use Rattle.ssh_model.specs.History.{Side, Side.Client, Side.Server, peer, IsOlder}
-use Rattle.ssh_model.specs.Message.{Msg, Msg.NewKeys, Msg.KexInit}
+use Rattle.ssh_model.specs.Message.{Msg.NewKeys, Msg.KexInit}
 use Rattle.ssh_model.specs.Party.{Parties, AreLawful}
-use Rattle.ssh_model.specs.Session.{Item, Item.Sent, Item.Took, Done, Done.By, done_by, part, sent, took}
-use Rattle.ssh_model.specs.Epoch.{after_first}
-use Rattle.ssh_model.specs.ChannelMessage.{Message, Channel}
+use Rattle.ssh_model.specs.Session.{Item, Item.Sent, Item.Took, Done, Done.By, done_by, part}
+use Rattle.ssh_model.specs.ChannelMessage.{Message}
 use Rattle.ssh_model.specs.ChannelHistory as channel
 use Rattle.ssh_model.specs.ChannelRows as row
 use Rattle.ssh_model.specs.ChannelSafe as safe
-use Rattle.ssh_model.specs.Connection.{on_channel, sent_on, received_on, channel_items, notes}
+use Rattle.ssh_model.specs.Connection.{on_channel, sent_on, received_on, channel_items}
 use Rattle.ssh_model.specs.Honest.{IsHonest}
 use Rattle.ssh_model.specs.Safe.{Windows, WindowsAt}
 use Rattle.ssh_model.specs.Turn.{Run, Run.start, Run.then_turn, IsOpening}
 use Rattle.ssh_model.proofs.Whole.{Given, given, given_tail, kept, ends}
-use Rattle.ssh_model.proofs.Agree.{Kept}
-use Rattle.ssh_model.proofs.Sound.{AllFormed, BothFormed, formed_tail}
+use Rattle.ssh_model.proofs.Sound.{BothFormed, formed_tail}
 use Rattle.ssh_model.proofs.Accepted.{sounds}
 use Rattle.ssh_model.proofs.ChannelView.{items_behind}
 use Rattle.ssh_model.proofs.ChannelTurns.{Seen, Seen.nothing, Seen.turn}
@@ -68,7 +66,6 @@ single (Took c m b) = single_taken c (on_channel m)
 single i = inl refl
 
 module _ {K : Type 0} (p : Parties K) where
-
   pub order : (run : List Done) → Given p run → BothFormed p run → (s : Side) → IsOlder (channel.received (channel_items (part s run))) (channel.sent (channel_items (part (peer s) run)))
   order run g f Client = older_reading _ _ _ _ (kept p run g).to_client (taken_reads p (part Client run) (f Client)) (sent_reads p (part Server run) (f Server))
   order run g f Server = older_reading _ _ _ _ (kept p run g).to_server (taken_reads p (part Server run) (f Server)) (sent_reads p (part Client run) (f Client))

@@ -1,25 +1,21 @@
 -- Each turn of an end is a turn on its channels, or none.
-use Rattle.std.proofs.Common.{◌≡◌, ℕ, zero, suc, ◌+◌, ◌-◌, ◌<◌, ◌≤◌, ◌^◌, List, [], ◌∷◌, ◌++◌, length, ◌⊎◌, inl, inr, refl, ap, sym, ◌∙◌, arith, subst, append_assoc, append-nil, Bool, true, false, cond, not, nat_lt, nat_le, ltb, ltb-false, ◌&&◌, ◌||◌, Option, Some, None}
-use Rattle.ssh_model.specs.History.{Side, Side.Client, Side.Server, peer}
-use Rattle.ssh_model.specs.DataTypes.{IsUint32}
-use Rattle.ssh_model.specs.Message.{Msg, Msg.NewKeys, Msg.KexInit, Msg.KexEcdhInit, Msg.KexEcdhReply, Msg.ChannelOpen, Msg.ChannelOpenConfirmation, Msg.ChannelOpenFailure, Msg.ChannelWindowAdjust, Msg.ChannelData, Msg.ChannelExtendedData, Msg.ChannelEof, Msg.ChannelClose, Msg.ChannelRequest, Msg.ChannelSuccess, Msg.ChannelFailure}
+use Rattle.std.proofs.Common.{◌≡◌, ℕ, ◌≤◌, List, [], ◌∷◌, ◌++◌, length, refl, ap, sym, ◌∙◌, subst, Bool, true, false, cond, ltb, ltb-false, Option, Some, None}
+use Rattle.ssh_model.specs.History.{Side}
+use Rattle.ssh_model.specs.Message.{Msg, Msg.ChannelOpen, Msg.ChannelOpenConfirmation, Msg.ChannelOpenFailure, Msg.ChannelWindowAdjust, Msg.ChannelData, Msg.ChannelExtendedData, Msg.ChannelEof, Msg.ChannelClose, Msg.ChannelRequest, Msg.ChannelSuccess, Msg.ChannelFailure}
 use Rattle.ssh_model.specs.Refusal.{first_refusal}
 use Rattle.ssh_model.specs.Party.{Parties}
-use Rattle.ssh_model.specs.Session.{Ask, Ask.AskRekey, Ask.AskOpen, Ask.AskConfirm, Ask.AskRefuse, Ask.AskData, Ask.AskAdjust, Ask.AskEof, Ask.AskClose, Ask.AskRequest, Ask.AskReply, Item, Item.Asked, Item.Sent, Item.Took, Item.TookGuess}
-use Rattle.ssh_model.specs.Phase.{blocked, phase, is_normal}
-use Rattle.ssh_model.specs.ChannelMessage.{Message, Message.Open, Message.OpenConfirmation, Message.OpenFailure, Message.WindowAdjust, Message.Data, Message.Eof, Message.Close, Message.Request, Message.Reply}
+use Rattle.ssh_model.specs.Session.{Item, Item.Took}
+use Rattle.ssh_model.specs.Phase.{blocked}
+use Rattle.ssh_model.specs.ChannelMessage.{Message, Message.Open, Message.OpenFailure, Message.Close}
 use Rattle.ssh_model.specs.ChannelNotes.{Note}
-use Rattle.ssh_model.specs.ChannelState.{largest, is_confirmed, is_offered, is_waiting, has_ended, has_closed, peer_ended, room, left, most_here, most_there, peer_number, is_unknown_channel}
+use Rattle.ssh_model.specs.ChannelState.{has_closed, left, most_here, peer_number}
 use Rattle.ssh_model.specs.ChannelHistory as channel
 use Rattle.ssh_model.specs.ChannelHistory.{at_once, due, noted, owed}
 use Rattle.ssh_model.specs.ChannelRows as row
-use Rattle.ssh_model.specs.Connection.{channel_items, notes, owed_replies, AreReplies, AreDue, ConnectionAnswer, ConnectionAnswer.global, ConnectionAnswer.global_success, ConnectionAnswer.global_failure, ConnectionAnswer.opened, ConnectionAnswer.not_opened, ConnectionAnswer.confirmation, ConnectionAnswer.failure, ConnectionAnswer.adjust, ConnectionAnswer.got_data, ConnectionAnswer.got_extended, ConnectionAnswer.eof, ConnectionAnswer.close, ConnectionAnswer.request, ConnectionAnswer.success, ConnectionAnswer.no_success, ConnectionAsk, ConnectionAsk.opens, ConnectionAsk.confirm, ConnectionAsk.refuse, ConnectionAsk.sends, ConnectionAsk.sends_extended, ConnectionAsk.adjust, ConnectionAsk.eof, ConnectionAsk.close, ConnectionAsk.request, ConnectionAsk.reply_yes, ConnectionAsk.reply_no, ConnectionAsk.global, ConnectionAsk.global_yes, ConnectionAsk.global_no}
-use Rattle.ssh_model.specs.Transport.{TransportAnswer, TransportAnswer.disconnect, TransportAnswer.ignore, TransportAnswer.unimplemented, TransportAnswer.debug, TransportAnswer.unknown, TransportAnswer.service_request, TransportAnswer.service_accept, TransportAnswer.kexinit_at_server, TransportAnswer.kexinit_at_client, TransportAnswer.answered_at_server, TransportAnswer.answered_at_client, TransportAnswer.init, TransportAnswer.reply, TransportAnswer.newkeys, TransportAnswer.request_too_late, TransportAnswer.request_accepted, TransportAnswer.request_probed, TransportAnswer.request_failed, TransportAnswer.failure, TransportAnswer.success, TransportAnswer.banner, TransportAnswer.key_ok, TransportAsk, TransportAsk.service, TransportAsk.none, TransportAsk.password, TransportAsk.probe, TransportAsk.sign, TransportAsk.rekey, TransportAsk.disconnect}
-use Rattle.ssh_model.specs.Turn.{IsSpelled, AreSpelled, Welcomes, answer_checks, ask_checks}
-use Rattle.ssh_model.proofs.Stages.{all_passed, or_false, not_false, level_at_30, level_at_31}
-use Rattle.ssh_model.proofs.EndKeeps.{End}
-use Rattle.ssh_model.proofs.EndAnswers.{may_be}
-use Rattle.ssh_model.proofs.Texts.{number_below}
+use Rattle.ssh_model.specs.Connection.{channel_items, notes, AreDue, ConnectionAnswer, ConnectionAnswer.global, ConnectionAnswer.global_success, ConnectionAnswer.global_failure, ConnectionAnswer.opened, ConnectionAnswer.not_opened, ConnectionAnswer.confirmation, ConnectionAnswer.failure, ConnectionAnswer.adjust, ConnectionAnswer.got_data, ConnectionAnswer.got_extended, ConnectionAnswer.eof, ConnectionAnswer.close, ConnectionAnswer.request, ConnectionAnswer.success, ConnectionAnswer.no_success, ConnectionAsk.adjust, ConnectionAsk.eof, ConnectionAsk.close, ConnectionAsk.request, ConnectionAsk.global}
+use Rattle.ssh_model.specs.Transport.{TransportAnswer.failure, TransportAnswer.success}
+use Rattle.ssh_model.specs.Turn.{answer_checks}
+use Rattle.ssh_model.proofs.Stages.{all_passed, or_false, not_false}
 use Rattle.ssh_model.proofs.ChannelView.{items_behind, blocked_same, AreDueReplies, replies_seen}
 
 -- these items of a session are a turn on its channels, or none

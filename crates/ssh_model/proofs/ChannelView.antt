@@ -1,13 +1,12 @@
 -- A session as its channels see it: each turn of an end is a turn on its channels, or none.
-use Rattle.std.proofs.Common.{◌≡◌, ℕ, zero, suc, ◌+◌, ◌-◌, ◌<◌, ◌≤◌, List, [], ◌∷◌, ◌++◌, length, map, ◌⊎◌, inl, inr, refl, ap, sym, ◌∙◌, arith, subst, append_assoc, append-nil, Bool, true, false, cond, not, nat_lt, nat_le, ◌&&◌, ◌||◌, Option, Some, None}
-use Rattle.ssh_model.specs.History.{Side, Side.Client, Side.Server, peer}
-use Rattle.ssh_model.specs.Message.{Msg, Msg.NewKeys, Msg.KexInit}
-use Rattle.ssh_model.specs.Session.{Item, Item.Sent, Item.Took, Item.TookGuess}
+use Rattle.std.proofs.Common.{◌≡◌, ℕ, List, [], ◌∷◌, ◌++◌, refl, ap, ◌∙◌, Option, Some, None}
+use Rattle.ssh_model.specs.Message.{Msg.NewKeys, Msg.KexInit}
+use Rattle.ssh_model.specs.Session.{Item, Item.Sent, Item.Took}
 use Rattle.ssh_model.specs.Phase.{blocked}
 use Rattle.ssh_model.specs.ChannelMessage.{Message, Message.OpenFailure, Message.Close}
 use Rattle.ssh_model.specs.ChannelHistory as channel
 use Rattle.ssh_model.specs.ChannelHistory.{at_once, due, noted, owed}
-use Rattle.ssh_model.specs.Connection.{on_channel, sent_on, received_on, channel_items, reply_message, AreReplies, AreReplies.none, AreReplies.reply}
+use Rattle.ssh_model.specs.Connection.{on_channel, sent_on, received_on, channel_items, AreReplies, AreReplies.none, AreReplies.reply}
 
 -- ---- lists of items
 

@@ -1,7 +1,7 @@
 -- Ends that agree on the inputs of an exchange agree on its algorithms.
-use Rattle.std.proofs.Common.{◌≡◌, ℕ, zero, suc, ◌+◌, ◌<◌, ◌≤◌, List, [], ◌∷◌, length, ◌⊎◌, inl, inr, refl, ap, sym, ◌∙◌, arith, subst, Bool, true, false, cond, ◌==◌, eq-eqb}
+use Rattle.std.proofs.Common.{◌≡◌, ℕ, suc, ◌<◌, List, [], ◌∷◌, length, ◌⊎◌, inl, inr, refl, ap, sym, ◌∙◌, arith, subst, Bool, true, false, cond, ◌==◌, eq-eqb}
 use Rattle.ssh_model.specs.History.{Side, Side.Client, Side.Server}
-use Rattle.ssh_model.specs.Message.{Msg, Msg.NewKeys, Msg.KexInit, Msg.UserauthSuccess, IsPayload, Proposal}
+use Rattle.ssh_model.specs.Message.{Msg.NewKeys, Msg.KexInit, Msg.UserauthSuccess, IsPayload, Proposal}
 use Rattle.ssh_model.specs.Choice.{Chosen}
 use Rattle.ssh_model.specs.Exchange.{Inputs}
 use Rattle.ssh_model.specs.Party.{Parties, AreLawful, lists_of}
@@ -10,7 +10,7 @@ use Rattle.ssh_model.specs.Epoch.{epoch}
 use Rattle.ssh_model.specs.Exchanges.{Offer, nth, no_offer, offers, no_exchange, none_chosen, exchange, exchanges, choice, choices, chosen}
 use Rattle.ssh_model.specs.Honest.{IsHonest}
 use Rattle.ssh_model.specs.Safe.{Agrees, Agreement}
-use Rattle.ssh_model.specs.Turn.{IsSpelled, Run}
+use Rattle.ssh_model.specs.Turn.{Run}
 use Rattle.ssh_model.proofs.Ends.{older_length}
 use Rattle.ssh_model.proofs.Older.{nth_same}
 use Rattle.ssh_model.proofs.Payloads.{tag}
@@ -18,7 +18,7 @@ use Rattle.ssh_model.proofs.OneMessage.{same_message}
 use Rattle.ssh_model.proofs.Spelling.{spelled_is_read}
 use Rattle.ssh_model.proofs.Agree.{Kept}
 use Rattle.ssh_model.proofs.Whole.{given, kept}
-use Rattle.ssh_model.proofs.Sound.{AllFormed, Sound}
+use Rattle.ssh_model.proofs.Sound.{AllFormed}
 use Rattle.ssh_model.proofs.Accepted.{sounds}
 
 -- ---- offers and their payloads

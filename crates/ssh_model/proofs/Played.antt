@@ -1,14 +1,14 @@
 -- Events give runs, a beginning of an honest run is honest, and the cutting of a stream into pieces does not matter.
-use Rattle.std.proofs.Common.{◌≡◌, ℕ, List, [], ◌∷◌, ◌++◌, ◌⊎◌, inl, inr, Bool, true, false, refl, ap, sym, ◌∙◌, subst, ◌↔◌, Some, None}
+use Rattle.std.proofs.Common.{◌≡◌, ℕ, List, [], ◌∷◌, ◌++◌, false, sym, subst, ◌↔◌}
 use Rattle.ssh_model.specs.History.{Side, Side.Client, Side.Server}
 use Rattle.ssh_model.specs.Message.{Msg.NewKeys}
 use Rattle.ssh_model.specs.Seal.{IsSealing}
 use Rattle.ssh_model.specs.Party.{Parties}
-use Rattle.ssh_model.specs.Session.{Item, Item.Sent, Item.Took, Item.TookGuess, Item.Refused, Done, Done.By, done_by, part, has_died}
+use Rattle.ssh_model.specs.Session.{Item, Item.Sent, Done, Done.By, part, has_died}
 use Rattle.ssh_model.specs.Delivery.{Delivered, Delivered.dead, Delivered.waits, Delivered.takes, InPieces}
-use Rattle.ssh_model.specs.Turn.{Turn, Turn.feeds, Turn.asks, Turn.reads, Turn.dies, Run, Run.then_turn, stage}
-use Rattle.ssh_model.specs.Events.{Event, OnUnit, OnUnit.reads, OnUnit.dies, Uses, reading_of, World, OnEvent, OnEvent.asks, OnEvent.feeds, OnEvent.delivers, Plays, Plays.ends, Plays.goes}
-use Rattle.ssh_model.specs.Honest.{TagsHold, SignaturesHold, IsHonest}
+use Rattle.ssh_model.specs.Turn.{Turn, Turn.feeds, Turn.asks, Run, Run.then_turn, stage}
+use Rattle.ssh_model.specs.Events.{Event, OnUnit, Uses, reading_of, World, OnEvent, OnEvent.asks, OnEvent.feeds, OnEvent.delivers, Plays, Plays.ends, Plays.goes}
+use Rattle.ssh_model.specs.Honest.{SignaturesHold, IsHonest}
 use Rattle.ssh_model.proofs.Whole.{fresh_tail, completed_grows, tags_tail}
 use Rattle.ssh_model.proofs.Units.{reading_pieces}
 

@@ -1,16 +1,16 @@
 -- What an end sends and takes spells its messages, and those of the connection come after its authentication.
-use Rattle.std.proofs.Common.{◌≡◌, ◌≢◌, ℕ, zero, suc, ◌+◌, ◌<◌, ◌≤◌, List, [], ◌∷◌, ◌++◌, ◌⊎◌, inl, inr, ⊎_elim, refl, ap, sym, ◌∙◌, arith, subst, append_assoc, Bool, true, false, not, ◌==◌, ◌&&◌, ◌||◌, eqb-true, Option, Some, None}
+use Rattle.std.proofs.Common.{◌≡◌, ℕ, suc, ◌<◌, ◌≤◌, List, [], ◌∷◌, ◌⊎◌, inl, inr, ⊎_elim, refl, ap, sym, ◌∙◌, arith, subst, Bool, true, false, Option}
 use Rattle.std.proofs.lemmas.Bool.{leb-true}
-use Rattle.ssh_model.specs.History.{Side, Side.Client, Side.Server, peer}
-use Rattle.ssh_model.specs.Message.{Msg, Msg.NewKeys, Msg.KexInit, Msg.UserauthRequest, Msg.UserauthSuccess, Msg.UserauthPkOk, Msg.Unknown, Msg.GlobalRequest, Msg.RequestSuccess, Msg.RequestFailure, Msg.ChannelOpen, Msg.ChannelOpenConfirmation, Msg.ChannelOpenFailure, Msg.ChannelWindowAdjust, Msg.ChannelData, Msg.ChannelExtendedData, Msg.ChannelEof, Msg.ChannelClose, Msg.ChannelRequest, Msg.ChannelSuccess, Msg.ChannelFailure, IsPayload, IsWrittenPayload, Suits, message_number}
+use Rattle.ssh_model.specs.History.{Side, Side.Client, Side.Server}
+use Rattle.ssh_model.specs.Message.{Msg, Msg.NewKeys, Msg.UserauthRequest, Msg.UserauthSuccess, Msg.Unknown, Msg.GlobalRequest, Msg.RequestSuccess, Msg.RequestFailure, Msg.ChannelOpen, Msg.ChannelOpenConfirmation, Msg.ChannelOpenFailure, Msg.ChannelWindowAdjust, Msg.ChannelData, Msg.ChannelExtendedData, Msg.ChannelEof, Msg.ChannelClose, Msg.ChannelRequest, Msg.ChannelSuccess, Msg.ChannelFailure, IsPayload, message_number}
 use Rattle.ssh_model.specs.Party.{Parties}
 use Rattle.ssh_model.specs.Authentication.{is_accepted}
-use Rattle.ssh_model.specs.Session.{Payload, Payload.NewkeysOf, Payload.OtherOf, bytes_of, Item, Item.Fed, Item.Asked, Item.AskRefused, Item.SentLine, Item.TookLine, Item.TookOtherLine, Item.Sent, Item.Took, Item.TookGuess, Item.Told, Item.Refused, Item.Died, Done, Done.By, part, sent, took}
+use Rattle.ssh_model.specs.Session.{Payload, Payload.NewkeysOf, Payload.OtherOf, bytes_of, Item, Item.Sent, Item.Took, Item.TookGuess, Done, Done.By, part, sent, took}
 use Rattle.ssh_model.specs.Epoch.{epoch}
-use Rattle.ssh_model.specs.Phase.{authenticated, sent_success, took_success}
+use Rattle.ssh_model.specs.Phase.{authenticated, sent_success}
 use Rattle.ssh_model.specs.Safe.{HasConnection}
-use Rattle.ssh_model.specs.Turn.{IsSpelled, AreSpelled, number_of}
-use Rattle.ssh_model.proofs.Payloads.{row_tag, written_tag, tag}
+use Rattle.ssh_model.specs.Turn.{IsSpelled, number_of}
+use Rattle.ssh_model.proofs.Payloads.{written_tag, tag}
 
 -- ---- items that spell their messages
 

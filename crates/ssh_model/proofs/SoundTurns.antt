@@ -1,24 +1,24 @@
 -- Each turn of an end keeps what is sound of it.
-use Rattle.std.proofs.Common.{◌≡◌, ◌≢◌, ℕ, zero, suc, ◌+◌, ◌<◌, ◌≤◌, List, [], ◌∷◌, ◌++◌, ◌⊎◌, inl, inr, ⊎_elim, refl, ap, sym, ◌∙◌, arith, subst, append_assoc, Bool, true, false, cond, not, nat_le, ◌==◌, ◌&&◌, eqb-true, Option, Some, None}
+use Rattle.std.proofs.Common.{◌≡◌, ℕ, ◌<◌, ◌≤◌, List, [], ◌∷◌, ◌++◌, ◌⊎◌, inl, inr, ⊎_elim, refl, ap, sym, ◌∙◌, arith, subst, append_assoc, Bool, true, false, cond, not, nat_le, ◌==◌, eqb-true, Option, Some, None}
 use Rattle.std.proofs.lemmas.Bool.{leb-true, cases_lt}
-use Rattle.ssh_model.specs.History.{Side, Side.Client, Side.Server, peer}
-use Rattle.ssh_model.specs.Message.{Msg, Msg.NewKeys, Msg.KexInit, Msg.KexEcdhInit, Msg.KexEcdhReply, Msg.UserauthSuccess, Msg.UserauthPkOk, Msg.Unknown, Msg.ChannelOpen, Msg.ChannelOpenConfirmation, Msg.ChannelOpenFailure, Msg.ChannelWindowAdjust, Msg.ChannelData, Msg.ChannelExtendedData, Msg.ChannelEof, Msg.ChannelClose, Msg.ChannelRequest, Msg.ChannelSuccess, Msg.ChannelFailure, IsPayload, Suits, is_unknown, is_known, message_number}
+use Rattle.ssh_model.specs.History.{Side, Side.Client, Side.Server}
+use Rattle.ssh_model.specs.Message.{Msg, Msg.NewKeys, Msg.KexInit, Msg.KexEcdhInit, Msg.KexEcdhReply, Msg.UserauthPkOk, Msg.Unknown, Msg.ChannelOpen, Msg.ChannelOpenConfirmation, Msg.ChannelOpenFailure, Msg.ChannelWindowAdjust, Msg.ChannelData, Msg.ChannelExtendedData, Msg.ChannelEof, Msg.ChannelClose, Msg.ChannelRequest, Msg.ChannelSuccess, Msg.ChannelFailure, IsPayload, Suits, is_unknown, is_known, message_number}
 use Rattle.ssh_model.specs.Refusal.{first_refusal}
-use Rattle.ssh_model.specs.Party.{Parties, AreLawful}
-use Rattle.ssh_model.specs.Session.{Ask, Ask.AskOpen, Ask.AskConfirm, Ask.AskRefuse, Ask.AskData, Ask.AskAdjust, Ask.AskEof, Ask.AskClose, Ask.AskRequest, Ask.AskReply, Ask.AskGlobal, Ask.AskGlobalReply, Item, Item.Asked, Item.Sent, Item.Took, Item.TookGuess, Item.Told, sent, took}
+use Rattle.ssh_model.specs.Party.{Parties}
+use Rattle.ssh_model.specs.Session.{Ask, Ask.AskOpen, Ask.AskConfirm, Ask.AskRefuse, Ask.AskData, Ask.AskAdjust, Ask.AskEof, Ask.AskClose, Ask.AskRequest, Ask.AskReply, Ask.AskGlobal, Ask.AskGlobalReply, Item, Item.Asked, Item.Sent, Item.Took, Item.TookGuess, sent, took}
 use Rattle.ssh_model.specs.Epoch.{epoch}
-use Rattle.ssh_model.specs.Phase.{Phase, Phase.Guessed, Phase.Normal, phase, authenticated, probing, may_take, may_take_in}
+use Rattle.ssh_model.specs.Phase.{Phase, Phase.Guessed, Phase.Normal, phase, authenticated, may_take, may_take_in}
 use Rattle.ssh_model.specs.Safe.{HasConnection}
 use Rattle.ssh_model.specs.ChannelMessage.{Message, Message.OpenFailure, Message.Close}
 use Rattle.ssh_model.specs.ChannelHistory as channel
 use Rattle.ssh_model.specs.ChannelHistory.{owed, blocked, noted}
-use Rattle.ssh_model.specs.Transport.{TransportAnswer, TransportAnswer.disconnect, TransportAnswer.ignore, TransportAnswer.unimplemented, TransportAnswer.debug, TransportAnswer.unknown, TransportAnswer.service_request, TransportAnswer.service_accept, TransportAnswer.kexinit_at_server, TransportAnswer.kexinit_at_client, TransportAnswer.answered_at_server, TransportAnswer.answered_at_client, TransportAnswer.init, TransportAnswer.reply, TransportAnswer.newkeys, TransportAnswer.request_too_late, TransportAnswer.request_accepted, TransportAnswer.request_probed, TransportAnswer.request_failed, TransportAnswer.failure, TransportAnswer.success, TransportAnswer.banner, TransportAnswer.key_ok, TransportAsk, TransportAsk.service, TransportAsk.none, TransportAsk.password, TransportAsk.probe, TransportAsk.sign, TransportAsk.rekey, TransportAsk.disconnect}
-use Rattle.ssh_model.specs.Connection.{channel_items, owed_replies, AreReplies, AreReplies.none, AreReplies.reply, reply_message, ConnectionAnswer, ConnectionAnswer.global, ConnectionAnswer.global_success, ConnectionAnswer.global_failure, ConnectionAnswer.opened, ConnectionAnswer.not_opened, ConnectionAnswer.confirmation, ConnectionAnswer.failure, ConnectionAnswer.adjust, ConnectionAnswer.got_data, ConnectionAnswer.got_extended, ConnectionAnswer.eof, ConnectionAnswer.close, ConnectionAnswer.request, ConnectionAnswer.success, ConnectionAnswer.no_success, ConnectionAsk, ConnectionAsk.opens, ConnectionAsk.confirm, ConnectionAsk.refuse, ConnectionAsk.sends, ConnectionAsk.sends_extended, ConnectionAsk.adjust, ConnectionAsk.eof, ConnectionAsk.close, ConnectionAsk.request, ConnectionAsk.reply_yes, ConnectionAsk.reply_no, ConnectionAsk.global, ConnectionAsk.global_yes, ConnectionAsk.global_no}
-use Rattle.ssh_model.specs.Turn.{IsSpelled, AreSpelled, Refuses, Refuses.silently, Refuses.spent, Refuses.said, Welcomes, number_of, Answer, Answer.of_transport, Answer.of_connection, OnPayload, OnPayload.takes, OnPayload.skips, OnPayload.unexpected, OnPayload.bad_message, OnPayload.refuses, OnPayload.spends, OnOutcome, OnOutcome.other_line, OnOutcome.version_line, OnOutcome.refused_line, OnOutcome.opened, OnOutcome.refused_packet, ask_checks, OnAsk, OnAsk.of_transport, OnAsk.of_connection, FeedsTurn, FeedsTurn.feeds, FeedsTurn.answers_false, AsksTurn, AsksTurn.refuses, AsksTurn.answers, AsksTurn.spends, AsksTurn.dies, AsksTurn.is_dead, Turn, Turn.feeds, Turn.asks, Turn.reads, Turn.dies, IsOpening}
+use Rattle.ssh_model.specs.Transport.{TransportAnswer, TransportAnswer.disconnect, TransportAnswer.ignore, TransportAnswer.unimplemented, TransportAnswer.debug, TransportAnswer.unknown, TransportAnswer.service_request, TransportAnswer.service_accept, TransportAnswer.kexinit_at_server, TransportAnswer.kexinit_at_client, TransportAnswer.answered_at_server, TransportAnswer.answered_at_client, TransportAnswer.init, TransportAnswer.reply, TransportAnswer.newkeys, TransportAnswer.request_too_late, TransportAnswer.request_accepted, TransportAnswer.request_probed, TransportAnswer.request_failed, TransportAnswer.failure, TransportAnswer.success, TransportAnswer.banner, TransportAnswer.key_ok, TransportAsk.service, TransportAsk.none, TransportAsk.password, TransportAsk.probe, TransportAsk.sign, TransportAsk.rekey, TransportAsk.disconnect}
+use Rattle.ssh_model.specs.Connection.{channel_items, owed_replies, AreReplies, AreReplies.none, AreReplies.reply, reply_message, ConnectionAnswer, ConnectionAnswer.global, ConnectionAnswer.global_success, ConnectionAnswer.global_failure, ConnectionAnswer.opened, ConnectionAnswer.not_opened, ConnectionAnswer.confirmation, ConnectionAnswer.failure, ConnectionAnswer.adjust, ConnectionAnswer.got_data, ConnectionAnswer.got_extended, ConnectionAnswer.eof, ConnectionAnswer.close, ConnectionAnswer.request, ConnectionAnswer.success, ConnectionAnswer.no_success, ConnectionAsk.opens, ConnectionAsk.confirm, ConnectionAsk.refuse, ConnectionAsk.sends, ConnectionAsk.sends_extended, ConnectionAsk.adjust, ConnectionAsk.eof, ConnectionAsk.close, ConnectionAsk.request, ConnectionAsk.reply_yes, ConnectionAsk.reply_no, ConnectionAsk.global, ConnectionAsk.global_yes, ConnectionAsk.global_no}
+use Rattle.ssh_model.specs.Turn.{IsSpelled, AreSpelled, Refuses, Refuses.silently, Refuses.spent, Refuses.said, Welcomes, number_of, Answer, Answer.of_transport, Answer.of_connection, OnPayload, OnPayload.takes, OnPayload.skips, OnPayload.unexpected, OnPayload.bad_message, OnPayload.refuses, OnPayload.spends, OnOutcome, OnOutcome.other_line, OnOutcome.version_line, OnOutcome.refused_line, OnOutcome.opened, OnOutcome.refused_packet, ask_checks, OnAsk, OnAsk.of_transport, OnAsk.of_connection, FeedsTurn, AsksTurn, AsksTurn.refuses, AsksTurn.spends, Turn, Turn.asks, Turn.reads, IsOpening}
 use Rattle.ssh_model.specs.Outcome.{Outcome}
 use Rattle.ssh_model.proofs.EndAnswers.{spelled_behind, may_be}
 use Rattle.ssh_model.proofs.Stages.{all_passed, not_false, and_right, normal_above, authenticated_above, probing_at_60}
-use Rattle.ssh_model.proofs.Sound.{Formed, AllFormed, Sound, IsLow, IsNotSuccess, IsApart, apart_sound, guess_sound, low_sent, high_sent, low_taken, high_taken, success_sent, success_taken, sent_number, taken_number, not_success_taken, sent_none}
+use Rattle.ssh_model.proofs.Sound.{AllFormed, Sound, IsLow, IsNotSuccess, IsApart, apart_sound, guess_sound, low_sent, high_sent, low_taken, high_taken, success_sent, success_taken, sent_number, taken_number, not_success_taken, sent_none}
 
 -- ---- what is welcome
 

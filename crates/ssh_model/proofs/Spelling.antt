@@ -1,10 +1,10 @@
 -- What the payloads of messages tell of them: their tags, their cookies, and that their texts fit.
-use Rattle.std.proofs.Common.{◌≡◌, ◌≢◌, ℕ, zero, suc, ◌+◌, ◌<◌, ◌≤◌, ◌^◌, List, [], ◌∷◌, ◌++◌, length, take, drop, refl, ap, sym, ◌∙◌, arith, subst, Bool, true, false, cond, ◌==◌, eqb-true}
+use Rattle.std.proofs.Common.{◌≡◌, ◌≢◌, ℕ, ◌<◌, ◌≤◌, ◌^◌, List, [], ◌∷◌, ◌++◌, length, take, refl, ap, sym, ◌∙◌, arith, subst, Bool, true, false, cond, ◌==◌, eqb-true}
 use Rattle.std.proofs.Math.Seq.{take-append_seam}
 use Rattle.ssh_model.specs.DataTypes.{IsBoolean, IsWrittenBoolean}
-use Rattle.ssh_model.specs.Message.{Msg, Msg.KexInit, Msg.NewKeys, Msg.KexEcdhInit, Msg.KexEcdhReply, Proposal, IsPayload, IsWrittenPayload, IsRow}
-use Rattle.ssh_model.specs.Session.{Payload, Payload.NewkeysOf, Payload.OtherOf, Spelled, Spelled.SpelledBy}
-use Rattle.ssh_model.specs.Exchanges.{Offer, Reply, nth, no_offer, no_reply, offers, points, replies}
+use Rattle.ssh_model.specs.Message.{Msg, Msg.KexInit, Msg.NewKeys, Msg.KexEcdhInit, Msg.KexEcdhReply, Proposal, IsPayload}
+use Rattle.ssh_model.specs.Session.{Payload.NewkeysOf, Payload.OtherOf, Spelled, Spelled.SpelledBy}
+use Rattle.ssh_model.specs.Exchanges.{Reply, nth, no_offer, no_reply, offers, points, replies}
 use Rattle.ssh_model.specs.Turn.{IsSpelled}
 use Rattle.ssh_model.proofs.Payloads.{row_not_21, row_21, written_is_read}
 use Rattle.ssh_model.proofs.Texts.{string_fits}

@@ -1,5 +1,5 @@
 -- Which phases let the messages of an exchange be taken, and what the checks that hold nothing against a turn tell.
-use Rattle.std.proofs.Common.{◌≡◌, ℕ, zero, suc, ◌+◌, ◌<◌, ◌≤◌, List, [], ◌∷◌, ◌++◌, ◌⊎◌, inl, inr, refl, ap, sym, ◌∙◌, arith, subst, Bool, true, false, not, nat_le, nat_lt, is_some, eqb-true, ◌||◌, ◌&&◌, ◌==◌, Option, Some, None}
+use Rattle.std.proofs.Common.{◌≡◌, ℕ, zero, suc, ◌<◌, ◌≤◌, List, [], ◌∷◌, ◌⊎◌, inl, inr, refl, arith, Bool, true, false, not, nat_le, nat_lt, is_some, eqb-true, ◌||◌, ◌&&◌, ◌==◌, None}
 use Rattle.ssh_model.specs.History.{Side, Side.Client, Side.Server}
 use Rattle.ssh_model.specs.Refusal.{Check, Check.RefusedWhere, first_refusal}
 use Rattle.ssh_model.specs.Session.{Item, took}

@@ -1,11 +1,11 @@
 -- What holds of the turns of one end.
-use Rattle.std.proofs.Common.{◌≡◌, ℕ, ◌<◌, ◌^◌, List, [], ◌∷◌, ◌++◌, inl, inr, refl, sym, subst, append_assoc, arith, Option}
+use Rattle.std.proofs.Common.{◌≡◌, ℕ, List, [], ◌∷◌, ◌++◌, inl, inr, refl, sym, subst, append_assoc, arith, Option}
 use Rattle.ssh_model.specs.History.{Side, Side.Client, Side.Server}
 use Rattle.ssh_model.specs.Party.{Parties}
-use Rattle.ssh_model.specs.Session.{Ask, Item, Item.Asked, Item.Sent, Item.Took, Done, part, done_by}
+use Rattle.ssh_model.specs.Session.{Item, Item.Asked, Item.Sent, Item.Took, Done, part}
 use Rattle.ssh_model.specs.Phase.{Phase.Guessed, phase}
 use Rattle.ssh_model.specs.Outcome.{Outcome}
-use Rattle.ssh_model.specs.Turn.{AreNumbered, Refuses, Refuses.silently, Refuses.spent, Refuses.said, OnPayload, OnPayload.takes, OnPayload.skips, OnPayload.unexpected, OnPayload.bad_message, OnPayload.refuses, OnPayload.spends, OnOutcome, OnOutcome.other_line, OnOutcome.version_line, OnOutcome.refused_line, OnOutcome.opened, OnOutcome.refused_packet, FeedsTurn, FeedsTurn.feeds, FeedsTurn.answers_false, AsksTurn, AsksTurn.refuses, AsksTurn.answers, AsksTurn.spends, AsksTurn.dies, AsksTurn.is_dead, Turn, Turn.feeds, Turn.asks, Turn.reads, Turn.dies, IsOpening, Run, Run.start, Run.then_turn}
+use Rattle.ssh_model.specs.Turn.{AreNumbered, Refuses, Refuses.silently, Refuses.spent, Refuses.said, OnPayload, OnPayload.takes, OnPayload.skips, OnPayload.unexpected, OnPayload.bad_message, OnPayload.refuses, OnPayload.spends, OnOutcome, OnOutcome.other_line, OnOutcome.version_line, OnOutcome.refused_line, OnOutcome.opened, OnOutcome.refused_packet, FeedsTurn, AsksTurn, AsksTurn.refuses, AsksTurn.spends, Turn, Turn.asks, Turn.reads, IsOpening, Run, Run.start, Run.then_turn}
 use Rattle.ssh_model.specs.TurnSafe.{HasNumbers, IsSkipped}
 use Rattle.ssh_model.proofs.Whole.{part_own, part_other, opened_client, opened_server}
 

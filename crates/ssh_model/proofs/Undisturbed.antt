@@ -1,29 +1,29 @@
 -- Neither end refuses the other for its channels.
-use Rattle.std.proofs.Common.{◌≡◌, ◌≢◌, ℕ, zero, suc, ◌+◌, ◌<◌, ◌≤◌, List, [], ◌∷◌, ◌++◌, reverse, ◌⊎◌, inl, inr, refl, ap, sym, ◌∙◌, arith, subst, append_assoc, append-nil, Bool, true, false, cond, not, ◌&&◌, Option, Some, None}
+use Rattle.std.proofs.Common.{◌≡◌, ℕ, zero, suc, ◌<◌, ◌≤◌, List, [], ◌∷◌, ◌++◌, reverse, refl, ap, sym, ◌∙◌, arith, subst, append-nil, Bool, true, false, ◌&&◌, Option, Some}
 use Rattle.ssh_model.specs.History.{Side, Side.Client, Side.Server, peer, IsOlder}
 use Rattle.ssh_model.specs.Message.{Msg, Msg.NewKeys, Msg.KexInit, Msg.KexEcdhInit, Msg.KexEcdhReply, Msg.ServiceRequest, Msg.ServiceAccept, Msg.UserauthRequest, Msg.GlobalRequest, Msg.RequestSuccess, Msg.RequestFailure, Msg.ChannelOpen, Msg.ChannelOpenConfirmation, Msg.ChannelOpenFailure, Msg.ChannelWindowAdjust, Msg.ChannelData, Msg.ChannelExtendedData, Msg.ChannelEof, Msg.ChannelClose, Msg.ChannelRequest, Msg.ChannelSuccess, Msg.ChannelFailure, IsPayload, message_number}
 use Rattle.ssh_model.specs.Refusal.{Check, Check.RefusedWhere, first_refusal}
 use Rattle.ssh_model.specs.Party.{Parties, AreLawful}
-use Rattle.ssh_model.specs.Session.{Ask, Item, Item.Sent, Item.Took, Item.Refused, Item.Died, Payload.OtherOf, Done, Done.By, done_by, part, sent, took}
-use Rattle.ssh_model.specs.Epoch.{epoch, count, after_first, from_epoch}
-use Rattle.ssh_model.specs.ChannelMessage.{Message, Channel}
+use Rattle.ssh_model.specs.Session.{Ask, Item, Item.Refused, Payload.OtherOf, Done, done_by, part, sent, took}
+use Rattle.ssh_model.specs.Epoch.{epoch, after_first, from_epoch}
+use Rattle.ssh_model.specs.ChannelMessage.{Message}
 use Rattle.ssh_model.specs.ChannelHistory as channel
 use Rattle.ssh_model.specs.ChannelRows as row
 use Rattle.ssh_model.specs.ChannelSafe as safe
 use Rattle.ssh_model.specs.Connection.{on_channel, channel_items, notes, AreReplies, AreReplies.none, AreReplies.reply, ConnectionAnswer, ConnectionAnswer.not_opened, ConnectionAnswer.close, ConnectionAsk, ConnectionAsk.opens}
 use Rattle.ssh_model.specs.Transport.{TransportAnswer, TransportAnswer.init, TransportAnswer.reply, TransportAsk, TransportAsk.service}
-use Rattle.ssh_model.specs.Phase.{phase, probing, may_take}
+use Rattle.ssh_model.specs.Phase.{phase, may_take}
 use Rattle.ssh_model.specs.Honest.{IsHonest, TagsHold, WasSent}
 use Rattle.ssh_model.specs.Safe.{IsOtherRefusal, NoneRefused, Undisturbed}
-use Rattle.ssh_model.specs.Outcome.{Outcome, Outcome.RefusedLine, Outcome.RefusedPacket}
+use Rattle.ssh_model.specs.Outcome.{Outcome.RefusedLine, Outcome.RefusedPacket}
 use Rattle.ssh_model.specs.Line.{LineUnit, LineIs}
 use Rattle.ssh_model.specs.Unit.{Stage, Stage.Lines, Stage.Packets, IsUnit, PacketUnit}
-use Rattle.ssh_model.specs.Turn.{Refuses, Refuses.silently, Refuses.spent, Refuses.said, answer_checks, number_of, Answer, Answer.of_transport, Answer.of_connection, OnPayload, OnPayload.takes, OnPayload.skips, OnPayload.unexpected, OnPayload.bad_message, OnPayload.refuses, OnPayload.spends, OnOutcome, OnOutcome.other_line, OnOutcome.version_line, OnOutcome.refused_line, OnOutcome.opened, OnOutcome.refused_packet, OnAsk, OnAsk.of_transport, OnAsk.of_connection, stage, FeedsTurn, FeedsTurn.feeds, FeedsTurn.answers_false, AsksTurn, AsksTurn.refuses, AsksTurn.answers, AsksTurn.spends, AsksTurn.dies, AsksTurn.is_dead, Turn, Turn.feeds, Turn.asks, Turn.reads, Turn.dies, Run, Run.start, Run.then_turn, IsOpening}
+use Rattle.ssh_model.specs.Turn.{Refuses, Refuses.silently, Refuses.spent, Refuses.said, answer_checks, number_of, Answer.of_transport, Answer.of_connection, OnPayload, OnPayload.takes, OnPayload.skips, OnPayload.unexpected, OnPayload.bad_message, OnPayload.refuses, OnPayload.spends, OnOutcome.other_line, OnOutcome.version_line, OnOutcome.refused_line, OnOutcome.opened, OnOutcome.refused_packet, OnAsk.of_transport, OnAsk.of_connection, stage, FeedsTurn, AsksTurn, AsksTurn.refuses, AsksTurn.spends, Turn, Turn.asks, Turn.reads, Run, Run.start, Run.then_turn, IsOpening}
 use Rattle.ssh_model.proofs.Stages.{and_left, normal_above}
 use Rattle.ssh_model.proofs.Rules.{tagged}
 use Rattle.ssh_model.proofs.Spelling.{IsOtherMessage, taken_other_tag}
 use Rattle.ssh_model.proofs.Agree.{client_next, server_next}
-use Rattle.ssh_model.proofs.Whole.{Given, given, given_tail, kept, known, ends}
+use Rattle.ssh_model.proofs.Whole.{Given, given, given_tail, kept, known}
 use Rattle.ssh_model.proofs.Sound.{AllFormed, Sound, taken_number}
 use Rattle.ssh_model.proofs.SoundTurns.{normal_keyed}
 use Rattle.ssh_model.proofs.Accepted.{sounds}

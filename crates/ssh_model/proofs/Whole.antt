@@ -1,17 +1,16 @@
 -- The invariant over whole runs, and the agreement and the beginning that follow from it.
-use Rattle.std.proofs.Common.{◌≡◌, ℕ, zero, suc, ◌+◌, ◌<◌, ◌≤◌, List, [], ◌∷◌, ◌++◌, length, map, reverse, ◌⊎◌, inl, inr, refl, ap, sym, ◌∙◌, arith, subst, append-nil, Some, None}
+use Rattle.std.proofs.Common.{◌≡◌, ℕ, suc, ◌<◌, List, [], ◌∷◌, ◌++◌, ◌⊎◌, inl, inr, refl, ap, sym, ◌∙◌, arith, subst, append-nil, Some}
 use Rattle.ssh_model.specs.History.{Side, Side.Client, Side.Server, peer, IsOlder, IsIn}
-use Rattle.ssh_model.specs.Message.{Msg, Msg.NewKeys}
+use Rattle.ssh_model.specs.Message.{Msg.NewKeys}
 use Rattle.ssh_model.specs.Exchange.{Inputs, Fits, exchange_hash}
 use Rattle.ssh_model.specs.Party.{Parties, AreLawful}
 use Rattle.ssh_model.specs.Session.{Item, Item.Fed, Item.Sent, Item.Took, Item.TookGuess, Item.Refused, Payload, Payload.NewkeysOf, Payload.OtherOf, bytes_of, Done, Done.By, done_by, part, sent, took}
 use Rattle.ssh_model.specs.Epoch.{epoch, count, after_first}
-use Rattle.ssh_model.specs.Exchanges.{exchange, exchanges, nth, no_exchange}
+use Rattle.ssh_model.specs.Exchanges.{exchange, exchanges}
 use Rattle.ssh_model.specs.Honest.{AreDistinct, TagsHold, SignaturesHold, HasHash, IsCompleted, IsHonest, cookies, signed}
-use Rattle.ssh_model.specs.Safe.{TookUnder, Agrees, Agreement, Beginning}
-use Rattle.ssh_model.specs.Turn.{Turn, Run, Run.start, Run.then_turn, IsOpening}
-use Rattle.ssh_model.proofs.Ends.{older_length}
-use Rattle.ssh_model.proofs.Older.{older_nil, in_older, nth_same, reverse_older, map_older}
+use Rattle.ssh_model.specs.Safe.{TookUnder, Beginning}
+use Rattle.ssh_model.specs.Turn.{Run, Run.start, Run.then_turn}
+use Rattle.ssh_model.proofs.Older.{in_older, reverse_older, map_older}
 use Rattle.ssh_model.proofs.Texts.{equal_inputs}
 use Rattle.ssh_model.proofs.Rules.{Rules, tagged, exchanges_grow, exchanges_fit}
 use Rattle.ssh_model.proofs.Agree.{Kept, Known, Apart, ServerNext, client_next, server_next, under_next, client_completes, server_completes, client_sends, server_sends}

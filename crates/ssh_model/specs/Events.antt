@@ -9,7 +9,7 @@ use Rattle.ssh_model.specs.Outcome.{Outcome}
 use Rattle.ssh_model.specs.Unit.{IsUnit, reading}
 use Rattle.ssh_model.specs.Delivery.{Rules, Delivered}
 use Rattle.ssh_model.specs.Party.{Parties}
-use Rattle.ssh_model.specs.Session.{Ask, Item, Item.Fed, Item.SentLine, Item.Sent, Item.Died, Done, done_by, part, has_died, sent}
+use Rattle.ssh_model.specs.Session.{Ask, Item, Item.SentLine, Item.Sent, Item.Died, Done, done_by, part, has_died, sent}
 use Rattle.ssh_model.specs.Epoch.{wire_number}
 use Rattle.ssh_model.specs.Exchanges.{sending_key}
 use Rattle.ssh_model.specs.Turn.{OnOutcome, AsksTurn, FeedsTurn, stage}

@@ -1,15 +1,14 @@
 -- The exchanges of a session, read off the history of one end, with the key names and keys that they give.
-use Rattle.std.specs.Prelude.{◌≡◌, ℕ, zero, suc, Bool, true, false, cond, ◌==◌, ◌&&◌, nat_lt, Option, Some, None, unwrap_or, List, [], ◌∷◌, ◌++◌, length, find, is_some}
-use Rattle.std.specs.List.{Contains}
+use Rattle.std.specs.Prelude.{ℕ, zero, suc, Bool, false, cond, ◌==◌, ◌&&◌, Option, Some, None, unwrap_or, List, [], ◌∷◌, length, find, is_some}
 use Rattle.ssh_model.specs.DataTypes.{number}
 use Rattle.ssh_model.specs.History.{Side, Side.Client, Side.Server, peer}
-use Rattle.ssh_model.specs.Message.{Msg, Msg.KexInit, Msg.NewKeys, Msg.KexEcdhInit, Msg.KexEcdhReply, Proposal}
+use Rattle.ssh_model.specs.Message.{Msg.KexInit, Msg.NewKeys, Msg.KexEcdhInit, Msg.KexEcdhReply, Proposal}
 use Rattle.ssh_model.specs.MacOnly.{is_text}
 use Rattle.ssh_model.specs.Seal.{Crypto, Lengths}
 use Rattle.ssh_model.specs.Choice.{Lists, Chosen, Kind, Kind.Kex, Kind.HostKey, Kind.EncCs, Kind.EncSc, Kind.MacCs, Kind.MacSc, Kind.CompCs, Kind.CompSc, offered}
 use Rattle.ssh_model.specs.Exchange.{Inputs, exchange_hash, derived}
 use Rattle.ssh_model.specs.Party.{Parties, lists_of}
-use Rattle.ssh_model.specs.Session.{Item, Item.Fed, Item.SentLine, Item.TookLine, Item.Sent, Payload, sent, took, Spelled, Spelled.SpelledBy, messages_sent, messages_taken}
+use Rattle.ssh_model.specs.Session.{Item, Item.Fed, Item.SentLine, Item.TookLine, Item.Sent, sent, took, Spelled, Spelled.SpelledBy, messages_sent, messages_taken}
 use Rattle.ssh_model.specs.Epoch.{epoch}
 
 -- the one with n older ones below it, in a list that is newest first

@@ -1,10 +1,9 @@
 -- What is claimed of the runs of two ends.
-use Rattle.std.specs.Prelude.{◌≡◌, ◌≢◌, ℕ, suc, ◌<◌, ◌≤◌, Bool, true, false, List, [], ◌∷◌, ◌++◌, ◌⊎◌, reverse, length, map, Option}
+use Rattle.std.specs.Prelude.{◌≡◌, ◌≢◌, ℕ, suc, ◌<◌, ◌≤◌, true, false, List, [], ◌∷◌, ◌++◌, ◌⊎◌, reverse, length, map, Option}
 use Rattle.ssh_model.specs.History.{Side, Side.Client, Side.Server, peer, Begins}
 use Rattle.ssh_model.specs.Message.{Msg, Msg.UserauthRequest, Method}
-use Rattle.ssh_model.specs.Exchange.{Inputs}
 use Rattle.ssh_model.specs.Party.{Parties}
-use Rattle.ssh_model.specs.Session.{Item, Item.Took, Item.TookGuess, Item.Sent, Item.Refused, Payload, bytes_of, Done, Done.By, part, sent, took, Spelled, Spelled.SpelledBy, messages_sent, messages_taken}
+use Rattle.ssh_model.specs.Session.{Item, Item.Took, Item.TookGuess, Item.Refused, Payload, bytes_of, Done, Done.By, part, sent, took, Spelled, Spelled.SpelledBy, messages_sent}
 use Rattle.ssh_model.specs.Epoch.{epoch, after_first}
 use Rattle.ssh_model.specs.Exchanges.{nth, no_exchange, none_chosen, exchanges, choices}
 use Rattle.ssh_model.specs.Phase.{sent_success}

@@ -1,16 +1,15 @@
 -- The turns of an end, and the runs of two: what is taken, sent, told and refused, by the tables of the transport and
 -- of the connection.
-use Rattle.std.specs.Prelude.{◌≡◌, ℕ, suc, ◌<◌, ◌≤◌, ◌^◌, ◌-◌, Bool, true, false, not, ◌==◌, ◌&&◌, ◌||◌, nat_lt, nat_le, Option, Some, None, List, [], ◌∷◌, ◌++◌, length}
+use Rattle.std.specs.Prelude.{◌≡◌, ℕ, ◌<◌, ◌≤◌, ◌^◌, ◌-◌, Bool, true, false, not, ◌&&◌, nat_lt, Option, Some, None, List, [], ◌∷◌, ◌++◌, length}
 use Rattle.ssh_model.specs.DataTypes.{AreBytes}
-use Rattle.ssh_model.specs.History.{Side, Side.Client, Side.Server, peer}
-use Rattle.ssh_model.specs.Message.{Msg, Msg.KexInit, Msg.Disconnect, Suits, IsRow, IsPayload, IsWrittenPayload}
-use Rattle.ssh_model.specs.DataTypes.{IsWrittenBoolean}
+use Rattle.ssh_model.specs.History.{Side, Side.Client, Side.Server}
+use Rattle.ssh_model.specs.Message.{Msg, Msg.KexInit, Msg.Disconnect, Suits, IsPayload, IsWrittenPayload}
 use Rattle.ssh_model.specs.Refusal.{Check, first_refusal, refusal_name, refusal_reason}
 use Rattle.ssh_model.specs.Party.{Parties, settings_of, offer}
-use Rattle.ssh_model.specs.Session.{Ask, Fact, Fact.Ignored, Item, Item.Fed, Item.Asked, Item.AskRefused, Item.SentLine, Item.TookLine, Item.TookOtherLine, Item.Sent, Item.Took, Item.TookGuess, Item.Told, Item.Refused, Item.Died, Done, done_by, part, has_died, sent, took, messages_sent}
-use Rattle.ssh_model.specs.Epoch.{count, wire_number}
-use Rattle.ssh_model.specs.Exchanges.{fed, offers, taking_key}
-use Rattle.ssh_model.specs.Phase.{Phase, Phase.Guessed, phase, has_line, other_lines, has_material, probing, is_client, may_take}
+use Rattle.ssh_model.specs.Session.{Ask, Fact.Ignored, Item, Item.Fed, Item.Asked, Item.AskRefused, Item.SentLine, Item.TookLine, Item.TookOtherLine, Item.Sent, Item.Took, Item.TookGuess, Item.Told, Item.Refused, Item.Died, Done, done_by, part, has_died, sent, took}
+use Rattle.ssh_model.specs.Epoch.{wire_number}
+use Rattle.ssh_model.specs.Exchanges.{fed, taking_key}
+use Rattle.ssh_model.specs.Phase.{Phase.Guessed, phase, has_line, other_lines, has_material, probing, is_client, may_take}
 use Rattle.ssh_model.specs.Transport.{TransportAnswer, TransportAsk, transport_checks, transport_ask_checks}
 use Rattle.ssh_model.specs.Connection.{ConnectionAnswer, ConnectionAsk, connection_checks, connection_ask_checks, owed_replies, AreReplies}
 use Rattle.ssh_model.specs.Outcome.{Outcome, Outcome.OtherLine, Outcome.VersionLine, Outcome.RefusedLine, Outcome.Opens, Outcome.RefusedPacket}
