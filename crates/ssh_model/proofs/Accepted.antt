@@ -1,5 +1,5 @@
 -- Nothing of the connection comes before an accepted request.
-use Rattle.std.proofs.Common.{◌≡◌, ℕ, zero, suc, ◌<◌, List, [], ◌∷◌, inl, inr, refl, ap, sym, ◌∙◌, subst, arith, Bool, true, false, eqb}
+use Rattle.std.proofs.Common.{◌≡◌, ℕ, zero, suc, ◌<◌, List, [], ◌∷◌, inl, inr, refl, ap, sym, ◌∙◌, subst, arith, Bool, true, false, eqb, ◌||◌}
 use Rattle.std.proofs.lemmas.Bool.{eq-eqb}
 use Rattle.ssh_model.specs.History.{Side, Side.Client, Side.Server, IsIn, IsOlder}
 use Rattle.ssh_model.specs.Message.{Msg, Msg.NewKeys, Msg.UserauthRequest, Msg.UserauthSuccess, Msg.Unknown, Suits, is_unknown, message_number}
@@ -10,7 +10,8 @@ use Rattle.ssh_model.specs.Phase.{authenticated, sent_success, took_success}
 use Rattle.ssh_model.specs.ChannelState.{is_held}
 use Rattle.ssh_model.specs.Connection.{notes, channel_items}
 use Rattle.ssh_model.specs.Honest.{IsHonest}
-use Rattle.ssh_model.specs.Safe.{IsSent, HasAccepted, Authorized}
+use Rattle.ssh_model.specs.ChannelHistory.{is_owed}
+use Rattle.ssh_model.specs.Safe.{holds, IsSent, HasAccepted, Authorized}
 use Rattle.ssh_model.specs.Turn.{Run, Run.start, Run.then_turn, number_of}
 use Rattle.ssh_model.proofs.Older.{in_older}
 use Rattle.ssh_model.proofs.Places.{after_suc}
@@ -18,7 +19,7 @@ use Rattle.ssh_model.proofs.Payloads.{not_both}
 use Rattle.ssh_model.proofs.Rules.{took_behind}
 use Rattle.ssh_model.proofs.Whole.{Given, given, given_tail, kept, ends, part_own, part_other, opened_client, opened_server}
 use Rattle.ssh_model.proofs.Sound.{AllFormed, AcceptedHere, Sound, sent_number, taken_number, BothFormed, formed_tail}
-use Rattle.ssh_model.proofs.SoundTurns.{turn_sound, opening_sound, without_channels, none_noted}
+use Rattle.ssh_model.proofs.SoundTurns.{turn_sound, opening_sound, without_channels, none_noted, none_owed}
 
 -- ---- what was taken under a key was sent
 
@@ -119,14 +120,16 @@ module _ {K : Type 0} (p : Parties K) (laws : AreLawful p) where
   when_authenticated run g f Client e = by_client run g f e
   when_authenticated run g f Server e = by_server run g f e
 
-  held_then : (side : Side) (h : List Item) (x : ℕ) → Sound p side h → is_held x (notes side h) ≡ true → authenticated side h ≡ true
+  held_then : (side : Side) (h : List Item) (x : ℕ) → Sound p side h → holds side h x ≡ true → authenticated side h ≡ true
   held_then side h x v e = go (authenticated side h) refl
     where
       go : (t : Bool) → authenticated side h ≡ t → authenticated side h ≡ true
       go true f = f
       go false f =
-          let none = none_noted side (channel_items h) (without_channels p side h v f) in
-          let q : is_held x [] ≡ true = subst (λ l. is_held x l ≡ true) none e in
+          let empty = without_channels p side h v f in
+          let q : (is_held x [] || is_owed x []) ≡ true =
+          subst (λ l. (is_held x l || is_owed x []) ≡ true) (none_noted side (channel_items h) empty)
+          (subst (λ l. (is_held x (notes side h) || is_owed x l) ≡ true) (none_owed side (channel_items h) empty) e) in
           absurd (cc q)
 
   pub authorized_holds : (run : List Done) → Run p run → IsHonest p run → Authorized p run

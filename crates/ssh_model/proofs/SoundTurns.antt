@@ -176,7 +176,7 @@ none_noted side (channel.Item.Sent at m ∷ l) e = elim e [ ]
 none_noted side (channel.Item.Received at m ∷ l) e = elim e [ ]
 none_noted side (i ∷ l) e = none_noted side l e
 
-none_owed : (side : Side) (l : List channel.Item) → IsEmpty l → owed side l ≡ []
+pub none_owed : (side : Side) (l : List channel.Item) → IsEmpty l → owed side l ≡ []
 none_owed side [] e = refl
 none_owed side (channel.Item.NewkeysSent ∷ l) e = refl
 none_owed side (channel.Item.Sent at m ∷ l) e = elim e [ ]

@@ -1,5 +1,5 @@
 -- What is claimed of the runs of two ends.
-use Rattle.std.specs.Prelude.{◌≡◌, ◌≢◌, ℕ, suc, ◌<◌, ◌≤◌, true, false, List, [], ◌∷◌, ◌++◌, ◌⊎◌, reverse, length, map, Option}
+use Rattle.std.specs.Prelude.{◌≡◌, ◌≢◌, ℕ, suc, ◌<◌, ◌≤◌, true, false, List, [], ◌∷◌, ◌++◌, ◌⊎◌, reverse, length, map, Option, Bool, ◌||◌}
 use Rattle.ssh_model.specs.History.{Side, Side.Client, Side.Server, peer, Begins}
 use Rattle.ssh_model.specs.Message.{Msg, Msg.UserauthRequest, Method}
 use Rattle.ssh_model.specs.Party.{Parties}
@@ -11,7 +11,8 @@ use Rattle.ssh_model.specs.Authentication.{is_accepted}
 use Rattle.ssh_model.specs.ChannelState.{is_held}
 use Rattle.ssh_model.specs.ChannelMessage.{Channel}
 use Rattle.ssh_model.specs.ChannelSafe.{Within, WindowsHere, HasPartner, data_sent, data_received}
-use Rattle.ssh_model.specs.Connection.{notes, channel_items}
+use Rattle.ssh_model.specs.ChannelHistory.{is_owed}
+use Rattle.ssh_model.specs.Connection.{notes, owed_replies, channel_items}
 use Rattle.ssh_model.specs.Turn.{number_of}
 
 -- ---- agreement
@@ -71,11 +72,15 @@ abbrev pub HasConnection : List Payload → Type 0
 HasConnection [] = ⊥
 HasConnection (payload ∷ l) = (80 ≤ number_of (bytes_of payload)) ⊎ HasConnection l
 
+-- A channel has this number: one that is not over, or at which a CLOSE is owed.
+abbrev pub holds : Side → List Item → ℕ → Bool
+holds side h x = is_held x (notes side h) || is_owed x (owed_replies side h)
+
 -- No channel is held, and no message of the connection is sent or taken, unless the server accepted a request that the
 -- client had sent.
 pub record Authorized {K : Type 0} (p : Parties K) (run : List Done) : Type 0 where
   pub messages : (side : Side) → (HasConnection (sent (part side run)) ⊎ HasConnection (took (part side run))) → HasAccepted p run
-  pub channels : (side : Side) (x : ℕ) → is_held x (notes side (part side run)) ≡ true → HasAccepted p run
+  pub channels : (side : Side) (x : ℕ) → holds side (part side run) x ≡ true → HasAccepted p run
 
 -- ---- windows (RFC 4254 section 5.2)
 
