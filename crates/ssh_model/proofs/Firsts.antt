@@ -1,11 +1,14 @@
 -- The first common name, as it is computed, is the one that the choice of algorithms speaks of.
-use Rattle.std.proofs.Common.{◌≡◌, ℕ, zero, suc, List, [], ◌∷◌, ◌⊎◌, inl, inr, refl, ap, sym, subst, arith, Bool, true, false, cond, nat_eq, eqb-true, Some, None, is_some}
+use Rattle.std.proofs.Common.{Option, ◌≡◌, ℕ, zero, suc, List, [], ◌∷◌, ◌⊎◌, inl, inr, refl, ap, sym, subst, arith, Bool, true, false, cond, nat_eq, eqb-true, Some, None, is_some, not, ◌&&◌}
 use Rattle.std.specs.List.{Contains, find}
 use Rattle.std.specs.Cmp.Lexicographic.{pointwise}
 use Rattle.ssh_model.specs.MacOnly.{is_text}
-use Rattle.ssh_model.specs.Choice.{IsFirstCommon, HasNoCommon}
+use Rattle.ssh_model.specs.Message.{Proposal}
+use Rattle.ssh_model.specs.Choice.{IsFirstCommon, HasNoCommon, IsRightGuess}
+use Rattle.ssh_model.specs.Party.{lists_of}
+use Rattle.ssh_model.specs.Phase.{is_same, is_wrong_guess}
 use Rattle.ssh_model.specs.Exchanges.{first_common}
-use Rattle.ssh_model.proofs.Stages.{and_left, and_right}
+use Rattle.ssh_model.proofs.Stages.{and_left, and_right, not_false, second_false}
 
 text_same : (a b : List ℕ) → is_text a b ≡ true → a ≡ b
 text_same [] [] e = refl
@@ -100,3 +103,41 @@ none_is (n ∷ client) server e = go (is_some (find (test_of n) server)) refl e 
         before : (name : List ℕ) → ((n ≡ name) ⊎ Contains client name) → Contains server name → ⊥
         before name (inl same) d = not_found n server f (subst (λ x. Contains server x) (sym same) d)
         before name (inr c) d = (r g).none name c d
+
+-- ---- the guess
+
+same_is : (a b : Option (List ℕ)) → is_same a b ≡ true → a ≡ b
+same_is None None e = refl
+same_is (Some a) (Some b) e = ap Some (text_same a b e)
+same_is None (Some b) e = absurd (cc e)
+same_is (Some a) None e = absurd (cc e)
+
+self_same : (a b : Option (List ℕ)) → a ≡ b → is_same a b ≡ true
+self_same None None e = refl
+self_same (Some a) (Some b) e = let f : a ≡ b = cc e in subst (λ w. is_text a w ≡ true) f (text_self a)
+self_same None (Some b) e = absurd (cc e)
+self_same (Some a) None e = absurd (cc e)
+
+pub right_guess : (theirs ours : Proposal) → theirs.follows ≡ true → is_wrong_guess theirs ours ≡ false → IsRightGuess (lists_of theirs) (lists_of ours)
+right_guess theirs ours f e =
+    let both = not_false _ (second_false theirs.follows _ f e) in
+    record { kex = same_is _ _ (and_left _ _ both); host = same_is _ _ (and_right _ _ both) }
+
+pub wrong_guess : (theirs ours : Proposal) → is_wrong_guess theirs ours ≡ true → IsRightGuess (lists_of theirs) (lists_of ours) → ⊥
+wrong_guess theirs ours e r =
+    let kex = self_same _ _ r.kex in
+    let host = self_same _ _ r.host in
+    let n = and_right theirs.follows _ e in
+    contradicts _ _ kex host n
+  where
+    contradicts : (a b : Bool) → a ≡ true → b ≡ true → not (a && b) ≡ true → ⊥
+    contradicts true true f g h = cc h
+    contradicts true false f g h = cc g
+    contradicts false b f g h = cc f
+
+pub no_guess : (theirs ours : Proposal) → theirs.follows ≡ false → is_wrong_guess theirs ours ≡ false
+no_guess theirs ours f = go theirs.follows _ f
+  where
+    go : (a b : Bool) → a ≡ false → (a && b) ≡ false
+    go false b e = refl
+    go true b e = absurd (cc e)
