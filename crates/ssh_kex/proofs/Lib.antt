@@ -3,3 +3,4 @@ pub mod Strings
 pub mod Texts
 pub mod Blocks
 pub mod Commons
+pub mod Toys

@@ -1,10 +1,10 @@
 -- The bytes of an unsigned number are the shortest that stand for it.
-use Rattle.std.proofs.Common.{◌≡◌, ℕ, zero, suc, ◌+◌, ◌-◌, ◌*◌, ◌/◌, ◌%◌, ◌^◌, ◌<◌, ◌≤◌, Bool, true, false, cond, ltb, leb, List, [], ◌∷◌, ◌++◌, length, get_or, ◌⊎◌, inl, inr, refl, sym, ap, subst, ◌∙◌, arith, length-append, IsTrue}
+use Rattle.std.proofs.Common.{◌≡◌, ℕ, zero, suc, ◌+◌, ◌*◌, ◌/◌, ◌%◌, ◌^◌, ◌<◌, ◌≤◌, true, false, cond, ltb, leb, List, [], ◌∷◌, ◌++◌, length, get_or, inl, inr, refl, sym, ap, subst, ◌∙◌, arith, length-append}
 use Rattle.std.specs.Prelude.{pos}
-use Rattle.std.proofs.lemmas.Bool.{cases_Bool, cases_lt, cond-true, cond-false, lt-ltb, ltb-true, ltb-false, leb-true, leb-false}
-use Rattle.ssh_model.specs.DataTypes.{AreBytes, number, integer, IsShortest}
+use Rattle.std.proofs.lemmas.Bool.{cases_Bool, cases_lt, cond-true, cond-false, lt-ltb, leb-false}
+use Rattle.ssh_model.specs.DataTypes.{AreBytes, number, IsShortest}
 use Rattle.ssh_model.specs.Exchange.{digits, positive, mpint_body}
-use Rattle.ssh_types.proofs.Integers.{one_more, kept_shortest, integer_marked, integer_low, number_below}
+use Rattle.ssh_types.proofs.Integers.{one_more, kept_shortest, integer_marked, integer_low}
 
 -- a byte behind makes the number 256 times as large
 number_behind : (bs : List ℕ) (b : ℕ) → number (bs ++ b ∷ []) ≡ number bs * 256 + b

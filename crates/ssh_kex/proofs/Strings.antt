@@ -1,8 +1,8 @@
 -- The spellings of an exchange text are those of the data types.
-use Rattle.std.proofs.Common.{◌≡◌, ℕ, suc, ◌+◌, ◌*◌, ◌/◌, ◌%◌, ◌^◌, ◌<◌, ◌≤◌, Bool, true, false, List, [], ◌∷◌, ◌++◌, length, IsTrue, append_assoc, refl, sym, ap, subst, ◌∙◌, arith}
+use Rattle.std.proofs.Common.{◌≡◌, ℕ, ◌^◌, ◌<◌, Bool, true, false, List, [], ◌++◌, length, IsTrue, append_assoc, refl, ap, subst, ◌∙◌, arith}
 use Rattle.std.specs.Prelude.{pos, ℤ}
 use Rattle.std.specs.Int.{w32, to_be_bytes}
-use Rattle.ssh_model.specs.DataTypes.{AreBytes, number, integer, IsUint32, IsString, IsShortest, IsMpint}
+use Rattle.ssh_model.specs.DataTypes.{AreBytes, integer, IsUint32, IsString, IsShortest, IsMpint}
 use Rattle.ssh_model.specs.Reading.{Writes}
 use Rattle.ssh_model.specs.Exchange.{string_of, mpint_body, mpint_of}
 use Rattle.ssh_types.proofs.Spellings.{string_spelling, mpint_spelling}

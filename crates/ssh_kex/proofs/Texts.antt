@@ -1,5 +1,5 @@
 -- Equal texts have equal inputs.
-use Rattle.std.proofs.Common.{◌≡◌, ℕ, List, [], ◌++◌, length, refl, sym, ap, ◌∙◌, arith, ◌<◌, ◌^◌, append_assoc}
+use Rattle.std.proofs.Common.{◌≡◌, ℕ, List, [], ◌++◌, length, refl, sym, ap, ◌∙◌, ◌<◌, ◌^◌, append_assoc}
 use Rattle.std.specs.Prelude.{pos}
 use Rattle.ssh_model.specs.DataTypes.{integer}
 use Rattle.ssh_model.specs.Exchange.{Inputs, Fits, string_of, mpint_body, mpint_of, exchange_text}

@@ -4,7 +4,11 @@ use ssh_types::NameList;
 use std::process::Abort;
 use std::test::*;
 
+mod handed_in;
+mod key_lengths;
+mod memory;
 mod recorded;
+mod toys;
 
 use recorded::{Recorded, exchanges};
 

@@ -1,10 +1,10 @@
 -- The invariant of a run of two ends, and that each item keeps it.
-use Rattle.std.proofs.Common.{◌≡◌, ℕ, zero, suc, ◌+◌, ◌<◌, ◌≤◌, List, [], ◌∷◌, length, ◌⊎◌, inl, inr, refl, ap, sym, ◌∙◌, arith, subst, Option, Some, None}
+use Rattle.std.proofs.Common.{◌≡◌, ℕ, zero, suc, ◌<◌, ◌≤◌, List, [], ◌∷◌, length, ◌⊎◌, inl, inr, refl, ap, sym, ◌∙◌, arith, subst, Option, Some, None}
 use Rattle.ssh_model.specs.History.{Side, Side.Client, Side.Server, peer, IsOlder, IsIn}
-use Rattle.ssh_model.specs.Message.{Msg, Msg.NewKeys}
+use Rattle.ssh_model.specs.Message.{Msg.NewKeys}
 use Rattle.ssh_model.specs.Exchange.{Inputs, exchange_hash}
 use Rattle.ssh_model.specs.Party.{Parties}
-use Rattle.ssh_model.specs.Session.{Payload, Payload.NewkeysOf, Payload.OtherOf, Item, Item.Sent, Item.Took, Item.TookGuess, sent, took}
+use Rattle.ssh_model.specs.Session.{Payload, Payload.NewkeysOf, Item, Item.Sent, sent, took}
 use Rattle.ssh_model.specs.Epoch.{epoch, count, after_first}
 use Rattle.ssh_model.specs.Exchanges.{KeyName, exchange, exchanges, key_name, taking_name, nth, no_exchange}
 use Rattle.ssh_model.specs.Honest.{AreDistinct, SentUnder, HasHash, cookies}
@@ -12,7 +12,7 @@ use Rattle.ssh_model.specs.Safe.{TookUnder}
 use Rattle.ssh_model.proofs.Ends.{older_length, older_same}
 use Rattle.ssh_model.proofs.Older.{IsNth, older_self, older_nil, older_tail, older_trans, nth_older, nth_in, nth_is, one_place}
 use Rattle.ssh_model.proofs.Places.{same_place, after_zero, after_suc, after_epoch, after_older}
-use Rattle.ssh_model.proofs.Rules.{tagged, Rules, exchanges_length, exchanges_grow, exchanges_distinct, took_behind, SentBefore, was_sent}
+use Rattle.ssh_model.proofs.Rules.{tagged, Rules, exchanges_length, exchanges_distinct, took_behind, was_sent}
 
 hash_of : Option KeyName → List ℕ
 hash_of None = []

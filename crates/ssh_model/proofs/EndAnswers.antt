@@ -1,16 +1,15 @@
 -- Each answer of an end keeps what holds of it between its turns.
-use Rattle.std.proofs.Common.{◌≡◌, ◌≢◌, ℕ, zero, suc, ◌+◌, ◌<◌, ◌≤◌, ◌^◌, List, [], ◌∷◌, ◌++◌, length, map, ◌⊎◌, inl, inr, refl, ap, sym, ◌∙◌, arith, subst, append_assoc, Bool, true, false, cond, not, Option, Some, None}
+use Rattle.std.proofs.Common.{◌≡◌, ℕ, suc, ◌≤◌, List, [], ◌∷◌, ◌++◌, length, map, refl, ap, sym, ◌∙◌, arith, append_assoc, Bool, true, false, cond, not, Option, None}
 use Rattle.std.proofs.lemmas.List.{length-map}
 use Rattle.std.proofs.lemmas.Bool.{ltb-true}
-use Rattle.ssh_model.specs.History.{Side, Side.Client, Side.Server, peer, IsOlder}
-use Rattle.ssh_model.specs.Message.{Msg, Msg.KexInit, Msg.NewKeys, Msg.KexEcdhInit, Msg.KexEcdhReply, Msg.ChannelOpenFailure, Msg.ChannelClose, Proposal, IsPayload, message_number}
-use Rattle.ssh_model.specs.Refusal.{first_refusal}
+use Rattle.ssh_model.specs.History.{Side, Side.Client, Side.Server, IsOlder}
+use Rattle.ssh_model.specs.Message.{Msg, Msg.KexInit, Msg.NewKeys, Msg.KexEcdhInit, Msg.KexEcdhReply, Proposal, message_number}
 use Rattle.ssh_model.specs.Party.{Parties, AreLawful, offer}
-use Rattle.ssh_model.specs.Session.{Item, Item.Fed, Item.Sent, Item.Took, Item.Told, Item.TookGuess, sent, took, messages_sent, messages_taken}
-use Rattle.ssh_model.specs.Epoch.{epoch, count}
-use Rattle.ssh_model.specs.Exchanges.{exchange, exchanges, nth, no_material, offers, fed}
-use Rattle.ssh_model.specs.Phase.{Phase, Phase.Start, Phase.Guessed, Phase.Exchanging, Phase.Keying, Phase.Normal, phase, blocked, probing, may_take, is_wrong_guess, own_names, has_material}
-use Rattle.ssh_model.specs.Honest.{cookies, signed}
+use Rattle.ssh_model.specs.Session.{Item, Item.Fed, Item.Sent, Item.Took, sent, messages_sent, messages_taken}
+use Rattle.ssh_model.specs.Epoch.{epoch}
+use Rattle.ssh_model.specs.Exchanges.{exchange, no_material, offers, fed}
+use Rattle.ssh_model.specs.Phase.{Phase.Guessed, Phase.Exchanging, phase, blocked, may_take, is_wrong_guess, own_names, has_material}
+use Rattle.ssh_model.specs.Honest.{cookies}
 use Rattle.ssh_model.specs.ChannelMessage.{Message, Message.OpenFailure, Message.Close}
 use Rattle.ssh_model.specs.ChannelHistory as channel
 use Rattle.ssh_model.specs.Transport.{TransportAnswer, TransportAnswer.disconnect, TransportAnswer.ignore, TransportAnswer.unimplemented, TransportAnswer.debug, TransportAnswer.unknown, TransportAnswer.service_request, TransportAnswer.service_accept, TransportAnswer.kexinit_at_server, TransportAnswer.kexinit_at_client, TransportAnswer.answered_at_server, TransportAnswer.answered_at_client, TransportAnswer.init, TransportAnswer.reply, TransportAnswer.newkeys, TransportAnswer.request_too_late, TransportAnswer.request_accepted, TransportAnswer.request_probed, TransportAnswer.request_failed, TransportAnswer.failure, TransportAnswer.success, TransportAnswer.banner, TransportAnswer.key_ok, next_cookie}
@@ -18,9 +17,9 @@ use Rattle.ssh_model.specs.Connection.{AreReplies, AreReplies.none, AreReplies.r
 use Rattle.ssh_model.specs.Turn.{IsSpelled, AreSpelled, Welcomes, number_of, answer_checks}
 use Rattle.ssh_model.proofs.Older.{IsNth, nth_map, nth_is, next_after}
 use Rattle.ssh_model.proofs.Payloads.{tag}
-use Rattle.ssh_model.proofs.Rules.{Rules, Completes, cookie_of}
+use Rattle.ssh_model.proofs.Rules.{cookie_of}
 use Rattle.ssh_model.proofs.Spelling.{sent_other_tag, taken_other_tag, sent_newkeys_tag, taken_newkeys_tag, spelled_cookie, AllFit, taken_fits, sent_fits}
-use Rattle.ssh_model.proofs.EndKeeps.{End, InStep, extra, used, IsPlainSent, IsPlainTaken, ArePlain, add_quiet, add_sent, add_taken, add_plain, last_cookie, exchange_fits}
+use Rattle.ssh_model.proofs.EndKeeps.{End, InStep, used, IsPlainSent, IsPlainTaken, ArePlain, add_quiet, add_sent, add_taken, add_plain, last_cookie, exchange_fits}
 use Rattle.ssh_model.proofs.Stages.{level_at_20, level_at_30, level_at_31, ahead_at_21, all_passed, not_false, second_false}
 
 -- ---- replies
@@ -115,12 +114,18 @@ completes_at_server p laws h q k_s q_s g b rb nb n w r s v =
       fit_taken = fits';
       line_sent = v.line_sent;
       line_taken = v.line_taken;
-      rules = ((record {
-        cookie = last_cookie p Server (Sent None (KexEcdhReply k_s q_s g) rb ∷ Took None (KexEcdhInit q) b ∷ h) v.cookies_used room;
-        level = sym st.1;
-        heard = λ z. omega arith;
-        fits = exchange_fits p laws Server (epoch (sent h)) (Sent None (KexEcdhReply k_s q_s g) rb ∷ Took None (KexEcdhInit q) b ∷ h) fits fits' v.line_sent v.line_taken;
-      }, sent_newkeys_tag nb s), (sent_other_tag _ rb tt r, (taken_other_tag _ (KexEcdhInit q) b tt w.message_is, v.rules)));
+      rules = (
+        (
+          record {
+            cookie = last_cookie p Server (Sent None (KexEcdhReply k_s q_s g) rb ∷ Took None (KexEcdhInit q) b ∷ h) v.cookies_used room;
+            level = sym st.1;
+            heard = λ z. omega arith;
+            fits = exchange_fits p laws Server (epoch (sent h)) (Sent None (KexEcdhReply k_s q_s g) rb ∷ Took None (KexEcdhInit q) b ∷ h) fits fits' v.line_sent v.line_taken;
+          },
+          sent_newkeys_tag nb s,
+        ),
+        (sent_other_tag _ rb tt r, (taken_other_tag _ (KexEcdhInit q) b tt w.message_is, v.rules)),
+      );
       signed_is = λ e. ap (λ x. exchange p Server (epoch (sent h)) (Sent None (KexEcdhReply k_s q_s g) rb ∷ Took None (KexEcdhInit q) b ∷ h) ∷ x) (v.signed_is e);
     }
 
@@ -139,12 +144,18 @@ completes_at_client p laws h k_s q_s g b nb n w s v =
       fit_taken = fits';
       line_sent = v.line_sent;
       line_taken = v.line_taken;
-      rules = ((record {
-        cookie = last_cookie p Client (Took None (KexEcdhReply k_s q_s g) b ∷ h) v.cookies_used room;
-        level = sym st.1;
-        heard = λ z. omega arith;
-        fits = exchange_fits p laws Client (epoch (sent h)) (Took None (KexEcdhReply k_s q_s g) b ∷ h) v.fit_sent fits' v.line_sent v.line_taken;
-      }, sent_newkeys_tag nb s), (taken_other_tag _ (KexEcdhReply k_s q_s g) b tt w.message_is, v.rules));
+      rules = (
+        (
+          record {
+            cookie = last_cookie p Client (Took None (KexEcdhReply k_s q_s g) b ∷ h) v.cookies_used room;
+            level = sym st.1;
+            heard = λ z. omega arith;
+            fits = exchange_fits p laws Client (epoch (sent h)) (Took None (KexEcdhReply k_s q_s g) b ∷ h) v.fit_sent fits' v.line_sent v.line_taken;
+          },
+          sent_newkeys_tag nb s,
+        ),
+        (taken_other_tag _ (KexEcdhReply k_s q_s g) b tt w.message_is, v.rules),
+      );
       signed_is = λ e. absurd (cc e);
     }
 
@@ -189,11 +200,11 @@ module _ {K : Type 0} (p : Parties K) (laws : AreLawful p) where
   transport_keeps side h owed items m b (init q rb nb) o n w s v =
       let t = spelled_behind owed _ s in
       let e = completes_at_server p laws h q _ _ _ b rb nb n w t.1.1.0 t.1.0 v in
-      add_quiet p Server _ _ tt (rw (append_assoc) (add_plain p Server owed _ o t.0 e))
+      add_quiet p Server _ _ tt (rw (append_assoc owed (Sent None NewKeys nb ∷ Sent None _ rb ∷ []) (Took None (KexEcdhInit q) b ∷ h)) (add_plain p Server owed _ o t.0 e))
   transport_keeps side h owed items m b (reply k_s q_s g nb) o n w s v =
       let t = spelled_behind owed _ s in
       let e = completes_at_client p laws h k_s q_s g b nb n w t.1.0 v in
-      add_quiet p Client _ _ tt (rw (append_assoc) (add_plain p Client owed _ o t.0 e))
+      add_quiet p Client _ _ tt (rw (append_assoc owed (Sent None NewKeys nb ∷ []) (Took None (KexEcdhReply k_s q_s g) b ∷ h)) (add_plain p Client owed _ o t.0 e))
   transport_keeps side h owed items m b newkeys o n w s v = took_newkeys p side h b w v
   transport_keeps side h owed items m b (request_too_late x y z e) o n w s v = plain side h items None m b tt (tt, tt) n w s v
   transport_keeps side h owed items m b (request_accepted x y z c e f) o n w s v = plain side h items None m b tt (tt, (tt, tt)) n w s v

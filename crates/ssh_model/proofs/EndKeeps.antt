@@ -1,21 +1,20 @@
 -- What holds of one end between its turns, and that most items keep it.
-use Rattle.std.proofs.Common.{◌≡◌, ◌≢◌, ℕ, zero, suc, ◌+◌, ◌<◌, ◌≤◌, ◌^◌, List, [], ◌∷◌, ◌++◌, length, map, ◌⊎◌, inl, inr, refl, ap, sym, ◌∙◌, arith, subst, Bool, true, false, cond, Option, Some, None}
-use Rattle.std.proofs.lemmas.List.{length-map}
-use Rattle.ssh_model.specs.History.{Side, Side.Client, Side.Server, peer, IsOlder}
+use Rattle.std.proofs.Common.{◌≡◌, ℕ, suc, ◌+◌, ◌<◌, ◌≤◌, ◌^◌, List, [], ◌∷◌, ◌++◌, length, map, inr, refl, arith, Bool, true, false, Option, Some, None}
+use Rattle.ssh_model.specs.History.{Side, Side.Client, Side.Server, IsOlder}
 use Rattle.ssh_model.specs.Message.{Msg, Msg.KexInit, Msg.NewKeys, Msg.KexEcdhInit, Msg.KexEcdhReply, IsPayload}
-use Rattle.ssh_model.specs.Exchange.{Inputs, Fits, mpint_body}
+use Rattle.ssh_model.specs.Exchange.{Fits, mpint_body}
 use Rattle.ssh_model.specs.DataTypes.{number}
 use Rattle.ssh_model.specs.Party.{Parties, AreLawful}
-use Rattle.ssh_model.specs.Session.{Item, Item.Fed, Item.Asked, Item.AskRefused, Item.SentLine, Item.TookLine, Item.TookOtherLine, Item.Sent, Item.Took, Item.TookGuess, Item.Told, Item.Refused, Item.Died, sent, took, Spelled, messages_sent, messages_taken}
-use Rattle.ssh_model.specs.Epoch.{epoch, count}
-use Rattle.ssh_model.specs.Exchanges.{Material, exchange, exchanges, nth, no_offer, no_material, offers, sent_line, took_line, shared_number, fed}
+use Rattle.ssh_model.specs.Session.{Item, Item.Fed, Item.Asked, Item.AskRefused, Item.TookLine, Item.TookOtherLine, Item.Sent, Item.Took, Item.Told, Item.Refused, Item.Died, sent, took, Spelled, messages_sent, messages_taken}
+use Rattle.ssh_model.specs.Epoch.{epoch}
+use Rattle.ssh_model.specs.Exchanges.{exchange, exchanges, no_offer, offers, sent_line, took_line, shared_number}
 use Rattle.ssh_model.specs.Phase.{Phase, Phase.Start, Phase.Guessed, Phase.Exchanging, Phase.Keying, Phase.Normal, phase, blocked}
 use Rattle.ssh_model.specs.Honest.{cookies, signed}
 use Rattle.ssh_model.specs.Turn.{IsSpelled, AreSpelled}
 use Rattle.ssh_model.proofs.Older.{IsNth, nth_older, nth_map, nth_is}
 use Rattle.ssh_model.proofs.Texts.{body_length, body_of_32}
 use Rattle.ssh_model.proofs.Rules.{Rules, cookie_of, own_cookie}
-use Rattle.ssh_model.proofs.Spelling.{IsOtherMessage, sent_other_tag, taken_other_tag, AllFit, sent_fits, taken_fits, nth_offer_fits, nth_point_fits, nth_reply_fits}
+use Rattle.ssh_model.proofs.Spelling.{sent_other_tag, taken_other_tag, AllFit, sent_fits, taken_fits, nth_offer_fits, nth_point_fits, nth_reply_fits}
 
 -- how many KEXINITs go beyond the NEWKEYS
 abbrev pub extra : Bool → ℕ

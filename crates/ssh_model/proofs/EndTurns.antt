@@ -1,25 +1,24 @@
 -- Each turn of an end keeps what holds of it between its turns, and its opening begins with it.
-use Rattle.std.proofs.Common.{◌≡◌, ℕ, zero, suc, ◌+◌, ◌<◌, ◌≤◌, ◌^◌, List, [], ◌∷◌, ◌++◌, length, map, ◌⊎◌, inl, inr, refl, ap, sym, ◌∙◌, arith, subst, append_assoc, length-append, Bool, true, false, not, nat_le, max, ◌%◌, ◌&&◌, ◌||◌, ◌==◌, Option, Some, None}
-use Rattle.ssh_model.specs.History.{Side, Side.Client, Side.Server, peer}
+use Rattle.std.proofs.Common.{◌≡◌, ℕ, ◌+◌, ◌<◌, ◌≤◌, ◌^◌, List, [], ◌∷◌, ◌++◌, length, inl, refl, ap, sym, ◌∙◌, arith, subst, append_assoc, length-append, Bool, true, false, not, nat_le, max, ◌%◌, ◌&&◌, ◌==◌, Option, None}
+use Rattle.ssh_model.specs.History.{Side, Side.Client, Side.Server}
 use Rattle.ssh_model.specs.Message.{Msg, Msg.KexInit}
 use Rattle.std.proofs.lemmas.Bool.{leb-true}
 use Rattle.ssh_model.specs.Packet.{IsPacket}
 use Rattle.ssh_model.specs.Seal.{IsWire}
 use Rattle.ssh_model.specs.Party.{Parties, AreLawful, settings_of, offer}
-use Rattle.ssh_model.specs.Session.{Ask, Ask.AskRekey, Item, Item.Fed, Item.Asked, Item.SentLine, Item.Sent, Item.Took, Item.TookLine, Item.TookGuess, Item.Told, sent, took, messages_sent}
-use Rattle.ssh_model.specs.Phase.{Phase, Phase.Guessed, Phase.Exchanging, Phase.Normal, phase, blocked, has_material, may_take, may_take_in, is_normal}
+use Rattle.ssh_model.specs.Session.{Ask, Ask.AskRekey, Item, Item.Asked, Item.Sent, Item.Took, Item.TookGuess}
+use Rattle.ssh_model.specs.Phase.{Phase.Guessed, phase, blocked, has_material, may_take, may_take_in, is_normal}
 use Rattle.ssh_model.specs.Outcome.{Outcome, Outcome.VersionLine, Outcome.Opens}
 use Rattle.ssh_model.specs.Line.{line_end, LineUnit.line, LineIs.version}
 use Rattle.ssh_model.specs.Unit.{Stage, Stage.Lines, Stage.Packets, IsUnit, PacketUnit.opens}
-use Rattle.ssh_model.specs.Transport.{TransportAsk, TransportAsk.service, TransportAsk.none, TransportAsk.password, TransportAsk.probe, TransportAsk.sign, TransportAsk.rekey, TransportAsk.disconnect, next_cookie}
-use Rattle.ssh_model.specs.Connection.{ConnectionAsk, ConnectionAsk.opens, ConnectionAsk.confirm, ConnectionAsk.refuse, ConnectionAsk.sends, ConnectionAsk.sends_extended, ConnectionAsk.adjust, ConnectionAsk.eof, ConnectionAsk.close, ConnectionAsk.request, ConnectionAsk.reply_yes, ConnectionAsk.reply_no, ConnectionAsk.global, ConnectionAsk.global_yes, ConnectionAsk.global_no}
+use Rattle.ssh_model.specs.Transport.{TransportAsk.service, TransportAsk.none, TransportAsk.password, TransportAsk.probe, TransportAsk.sign, TransportAsk.rekey, TransportAsk.disconnect, next_cookie}
+use Rattle.ssh_model.specs.Connection.{ConnectionAsk.opens, ConnectionAsk.confirm, ConnectionAsk.refuse, ConnectionAsk.sends, ConnectionAsk.sends_extended, ConnectionAsk.adjust, ConnectionAsk.eof, ConnectionAsk.close, ConnectionAsk.request, ConnectionAsk.reply_yes, ConnectionAsk.reply_no, ConnectionAsk.global, ConnectionAsk.global_yes, ConnectionAsk.global_no}
 use Rattle.ssh_model.specs.Refusal.{first_refusal}
-use Rattle.ssh_model.specs.Turn.{IsSpelled, AreSpelled, Refuses, Refuses.silently, Refuses.spent, Refuses.said, Welcomes, number_of, Answer, Answer.of_transport, Answer.of_connection, OnPayload, OnPayload.takes, OnPayload.skips, OnPayload.unexpected, OnPayload.bad_message, OnPayload.refuses, OnPayload.spends, OnOutcome, OnOutcome.other_line, OnOutcome.version_line, OnOutcome.refused_line, OnOutcome.opened, OnOutcome.refused_packet, stage, ask_checks, OnAsk, OnAsk.of_transport, OnAsk.of_connection, Turn, Turn.feeds, Turn.refuses_ask, Turn.answers_ask, Turn.spends_on_ask, Turn.reads, Turn.dies, IsOpening}
-use Rattle.ssh_model.proofs.Rules.{Rules}
+use Rattle.ssh_model.specs.Turn.{IsSpelled, AreSpelled, Refuses, Refuses.silently, Refuses.spent, Refuses.said, Welcomes, number_of, Answer, Answer.of_transport, Answer.of_connection, OnPayload, OnPayload.takes, OnPayload.skips, OnPayload.unexpected, OnPayload.bad_message, OnPayload.refuses, OnPayload.spends, OnOutcome, OnOutcome.other_line, OnOutcome.version_line, OnOutcome.refused_line, OnOutcome.opened, OnOutcome.refused_packet, stage, ask_checks, OnAsk, OnAsk.of_transport, OnAsk.of_connection, FeedsTurn, AsksTurn, AsksTurn.refuses, AsksTurn.spends, Turn, Turn.asks, Turn.reads, IsOpening}
 use Rattle.ssh_model.proofs.Spelling.{other_tagged, sent_other_tag, spelled_cookie, sent_fits}
-use Rattle.ssh_model.proofs.EndKeeps.{End, InStep, ArePlain, add_quiet, add_fed, add_line, add_sent, add_plain}
+use Rattle.ssh_model.proofs.EndKeeps.{End, ArePlain, add_quiet, add_fed, add_line, add_plain}
 use Rattle.ssh_model.proofs.EndAnswers.{replies_plain, uses_next, transport_keeps, connection_keeps}
-use Rattle.ssh_model.proofs.Stages.{AllPassed, all_passed, or_false, not_false, level_when_normal}
+use Rattle.ssh_model.proofs.Stages.{all_passed, or_false, not_false, level_when_normal}
 
 -- ---- sizes of what is taken
 
@@ -142,12 +141,15 @@ module _ {K : Type 0} (p : Parties K) (laws : AreLawful p) where
   outcome_keeps side h items unit o u (refused_packet k r) v = refuses_keeps p side h items k _ r v
 
   pub turn_keeps : (side : Side) (h items : List Item) → Turn p side h items → End p side h → End p side (items ++ h)
-  turn_keeps side h items (feeds c s alive k n m) v = add_fed p side c s h v
-  turn_keeps side h items (refuses_ask a k alive e) v = add_quiet p side _ _ tt (add_quiet p side _ _ tt v)
-  turn_keeps side h items (answers_ask {items = l} a alive c o s k) v = rw append_assoc (ask_keeps side h l a o c s v)
-  turn_keeps side h items (spends_on_ask a alive c o s k) v = add_quiet p side _ _ tt (add_quiet p side _ _ tt (add_quiet p side _ _ tt v))
+  turn_keeps side h items (Turn.feeds c s (FeedsTurn.feeds k m)) v = add_fed p side c s h v
+  turn_keeps side h items (asks a (AsksTurn.refuses k alive e)) v = add_quiet p side _ _ tt (add_quiet p side _ _ tt v)
+  turn_keeps side h items (asks a (AsksTurn.answers {items = l} alive c o s k)) v = rw append_assoc (ask_keeps side h l a o c s v)
+  turn_keeps side h items (asks a (AsksTurn.spends alive c o s k)) v = add_quiet p side _ _ tt (add_quiet p side _ _ tt (add_quiet p side _ _ tt v))
   turn_keeps side h items (reads unit o alive u x) v = outcome_keeps side h items unit o u x v
-  turn_keeps side h items (dies alive) v = add_quiet p side _ _ tt v
+  turn_keeps side h items (Turn.dies alive) v = add_quiet p side _ _ tt v
+  turn_keeps side h items (asks a (AsksTurn.dies alive c)) v = add_quiet p side _ _ tt v
+  turn_keeps side h items (asks a (AsksTurn.is_dead e)) v = v
+  turn_keeps side h items (Turn.feeds c s (FeedsTurn.answers_false e)) v = v
 
   own_line : (side : Side) → length (settings_of p side).line < 2 ^ 32
   own_line Client = omega (arith, laws.client_line)

@@ -1,5 +1,5 @@
 -- Older parts of a list that grows at its head, and the places in it.
-use Rattle.std.proofs.Common.{◌≡◌, ℕ, zero, suc, ◌+◌, ◌<◌, ◌≤◌, List, [], ◌∷◌, ◌++◌, length, reverse, map, ◌⊎◌, inl, inr, refl, ap, sym, ◌∙◌, subst, arith, append_assoc, append-nil, cond, ◌==◌, eq-eqb, eqb-true, eqb, ne_eqb, Bool, true, false}
+use Rattle.std.proofs.Common.{◌≡◌, ℕ, suc, ◌<◌, List, [], ◌∷◌, ◌++◌, length, reverse, map, ◌⊎◌, inl, inr, refl, ap, sym, ◌∙◌, subst, arith, append_assoc, append-nil, cond, ◌==◌, eq-eqb, eqb-true, ne_eqb, Bool, true, false}
 use Rattle.std.proofs.lemmas.List.{reverse-append}
 use Rattle.ssh_model.specs.History.{IsOlder, IsIn}
 use Rattle.ssh_model.specs.Exchanges.{nth}

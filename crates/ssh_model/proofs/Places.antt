@@ -1,9 +1,9 @@
 -- Epoch and count tell the place of a payload among those of a direction.
-use Rattle.std.proofs.Common.{◌≡◌, ℕ, zero, suc, ◌+◌, ◌<◌, ◌≤◌, List, [], ◌∷◌, ◌⊎◌, inl, inr, refl, ap, sym, ◌∙◌, arith, subst}
+use Rattle.std.proofs.Common.{◌≡◌, ℕ, zero, suc, ◌<◌, List, [], ◌∷◌, ◌⊎◌, inl, inr, refl, ap, sym, ◌∙◌, arith, subst}
 use Rattle.ssh_model.specs.History.{IsOlder}
 use Rattle.ssh_model.specs.Session.{Payload, Payload.NewkeysOf, Payload.OtherOf}
 use Rattle.ssh_model.specs.Epoch.{epoch, count, after_first, from_epoch}
-use Rattle.ssh_model.proofs.Older.{older_self, older_nil, older_tail}
+use Rattle.ssh_model.proofs.Older.{older_self}
 
 -- a is placed before b
 abbrev IsBefore : List Payload → List Payload → Type 0
@@ -44,7 +44,7 @@ below (NewkeysOf b) l e = absurd (omega (arith, e))
 below (OtherOf b) l e = e
 
 -- before the first NEWKEYS there is nothing after it
-zero_after : (l : List Payload) → epoch l ≡ 0 → after_first l ≡ []
+pub zero_after : (l : List Payload) → epoch l ≡ 0 → after_first l ≡ []
 zero_after [] e = refl
 zero_after (m ∷ l) e = after_zero m l (below m l e)
 

@@ -1,13 +1,13 @@
 -- What each end keeps to, and what is known of its exchanges.
-use Rattle.std.proofs.Common.{◌≡◌, ℕ, zero, suc, ◌+◌, ◌<◌, ◌≤◌, List, [], ◌∷◌, length, map, take, drop, ◌⊎◌, inl, inr, refl, ap, sym, ◌∙◌, arith, subst, Option, Some, None, cond, ◌==◌}
+use Rattle.std.proofs.Common.{◌≡◌, ℕ, suc, ◌<◌, ◌≤◌, List, [], ◌∷◌, length, map, take, drop, inl, inr, refl, ap, sym, ◌∙◌, arith, subst, Option, cond, ◌==◌}
 use Rattle.std.proofs.lemmas.List.{length-map}
-use Rattle.ssh_model.specs.History.{Side, Side.Client, Side.Server, peer, IsOlder, IsIn}
+use Rattle.ssh_model.specs.History.{Side, Side.Client, Side.Server, IsOlder, IsIn}
 use Rattle.ssh_model.specs.Message.{Msg.NewKeys}
 use Rattle.ssh_model.specs.Exchange.{Inputs, Fits}
 use Rattle.ssh_model.specs.Party.{Parties}
 use Rattle.ssh_model.specs.Session.{Payload, Payload.NewkeysOf, Payload.OtherOf, Item, Item.Fed, Item.Sent, Item.Took, Item.TookGuess, sent, took}
-use Rattle.ssh_model.specs.Epoch.{epoch, count, wire_number}
-use Rattle.ssh_model.specs.Exchanges.{KeyName, exchange, exchanges, key_name, sending_name, nth, no_exchange}
+use Rattle.ssh_model.specs.Epoch.{epoch, count}
+use Rattle.ssh_model.specs.Exchanges.{KeyName, exchange, exchanges, sending_name}
 use Rattle.ssh_model.specs.Honest.{AreDistinct, SentUnder, cookies}
 use Rattle.ssh_model.proofs.Older.{IsNth, older_self, older_trans, next_after, distinct_older, distinct_map}
 

@@ -1,29 +1,37 @@
 -- What an end sends and takes spells its messages, and those of the connection come after its authentication.
-use Rattle.std.proofs.Common.{◌≡◌, ◌≢◌, ℕ, zero, suc, ◌+◌, ◌<◌, ◌≤◌, List, [], ◌∷◌, ◌++◌, ◌⊎◌, inl, inr, ⊎_elim, refl, ap, sym, ◌∙◌, arith, subst, append_assoc, Bool, true, false, not, ◌==◌, ◌&&◌, ◌||◌, eqb-true, Option, Some, None}
+use Rattle.std.proofs.Common.{◌≡◌, ℕ, suc, ◌<◌, ◌≤◌, List, [], ◌∷◌, ◌⊎◌, inl, inr, ⊎_elim, refl, ap, sym, ◌∙◌, arith, subst, Bool, true, false, Option}
 use Rattle.std.proofs.lemmas.Bool.{leb-true}
-use Rattle.ssh_model.specs.History.{Side, Side.Client, Side.Server, peer}
-use Rattle.ssh_model.specs.Message.{Msg, Msg.NewKeys, Msg.KexInit, Msg.UserauthSuccess, Msg.UserauthPkOk, Msg.Unknown, Msg.GlobalRequest, Msg.RequestSuccess, Msg.RequestFailure, Msg.ChannelOpen, Msg.ChannelOpenConfirmation, Msg.ChannelOpenFailure, Msg.ChannelWindowAdjust, Msg.ChannelData, Msg.ChannelExtendedData, Msg.ChannelEof, Msg.ChannelClose, Msg.ChannelRequest, Msg.ChannelSuccess, Msg.ChannelFailure, IsPayload, IsWrittenPayload, Suits, message_number}
-use Rattle.ssh_model.specs.Session.{Payload, Payload.NewkeysOf, Payload.OtherOf, bytes_of, Item, Item.Fed, Item.Asked, Item.AskRefused, Item.SentLine, Item.TookLine, Item.TookOtherLine, Item.Sent, Item.Took, Item.TookGuess, Item.Told, Item.Refused, Item.Died, sent, took}
+use Rattle.ssh_model.specs.History.{Side, Side.Client, Side.Server}
+use Rattle.ssh_model.specs.Message.{Msg, Msg.NewKeys, Msg.UserauthRequest, Msg.UserauthSuccess, Msg.Unknown, Msg.GlobalRequest, Msg.RequestSuccess, Msg.RequestFailure, Msg.ChannelOpen, Msg.ChannelOpenConfirmation, Msg.ChannelOpenFailure, Msg.ChannelWindowAdjust, Msg.ChannelData, Msg.ChannelExtendedData, Msg.ChannelEof, Msg.ChannelClose, Msg.ChannelRequest, Msg.ChannelSuccess, Msg.ChannelFailure, IsPayload, message_number}
+use Rattle.ssh_model.specs.Party.{Parties}
+use Rattle.ssh_model.specs.Authentication.{is_accepted}
+use Rattle.ssh_model.specs.Session.{Payload, Payload.NewkeysOf, Payload.OtherOf, bytes_of, Item, Item.Sent, Item.Took, Item.TookGuess, Done, Done.By, part, sent, took}
 use Rattle.ssh_model.specs.Epoch.{epoch}
-use Rattle.ssh_model.specs.Phase.{authenticated, sent_success, took_success}
+use Rattle.ssh_model.specs.Phase.{authenticated, sent_success}
 use Rattle.ssh_model.specs.Safe.{HasConnection}
-use Rattle.ssh_model.specs.Turn.{IsSpelled, AreSpelled, number_of}
-use Rattle.ssh_model.proofs.Payloads.{row_tag, written_tag, tag}
+use Rattle.ssh_model.specs.Turn.{IsSpelled, number_of}
+use Rattle.ssh_model.proofs.Payloads.{written_tag, tag}
 
 -- ---- items that spell their messages
 
-abbrev pub Formed : Item → List Item → Type 0
-Formed (Sent c m b) h = IsSpelled m b × (80 ≤ message_number m → 0 < epoch (sent h))
-Formed (Took c m b) h = IsPayload true m b × (80 ≤ message_number m → 0 < epoch (took h))
-Formed (TookGuess b) h = number_of b < 50
-Formed _ h = Unit {0}
+-- the server has just taken a request that it accepts
+abbrev pub AcceptedHere : {K : Type 0} → Parties K → List Item → Type 0
+AcceptedHere p (Took c (UserauthRequest user service method) b ∷ h) = (is_accepted p h user service method ≡ true) × (sent_success h ≡ false) × (0 < epoch (took h))
+AcceptedHere p _ = ⊥
 
-abbrev pub AllFormed : List Item → Type 0
-AllFormed [] = Unit {0}
-AllFormed (i ∷ h) = Formed i h × AllFormed h
+abbrev pub Formed : {K : Type 0} → Parties K → Item → List Item → Type 0
+Formed p (Sent c UserauthSuccess b) h = IsSpelled UserauthSuccess b × AcceptedHere p h
+Formed p (Sent c m b) h = IsSpelled m b × (80 ≤ message_number m → 0 < epoch (sent h))
+Formed p (Took c m b) h = IsPayload true m b × (50 ≤ message_number m → 0 < epoch (took h))
+Formed p (TookGuess b) h = number_of b < 50
+Formed p _ h = Unit {0}
 
-pub record Sound (side : Side) (h : List Item) : Type 0 where
-  pub formed : AllFormed h
+abbrev pub AllFormed : {K : Type 0} → Parties K → List Item → Type 0
+AllFormed p [] = Unit {0}
+AllFormed p (i ∷ h) = Formed p i h × AllFormed p h
+
+pub record Sound {K : Type 0} (p : Parties K) (side : Side) (h : List Item) : Type 0 where
+  pub formed : AllFormed p h
   pub entitled : (HasConnection (sent h) ⊎ HasConnection (took h)) → authenticated side h ≡ true
   pub keyed : authenticated side h ≡ true → 0 < epoch (took h)
 
@@ -76,12 +84,12 @@ low_is : (m : Msg) → IsLow m → IsNotSuccess m
 low_is UserauthSuccess l = l
 low_is m l = tt
 
-not_success_sent : (side : Side) (c : Option ℕ) (m : Msg) (b : List ℕ) (h : List Item) → IsNotSuccess m → authenticated side (Sent c m b ∷ h) ≡ authenticated side h
+pub not_success_sent : (side : Side) (c : Option ℕ) (m : Msg) (b : List ℕ) (h : List Item) → IsNotSuccess m → authenticated side (Sent c m b ∷ h) ≡ authenticated side h
 not_success_sent side c UserauthSuccess b h l = elim l [ ]
 not_success_sent Client c m b h l = refl
 not_success_sent Server c m b h l = refl
 
-not_success_taken : (side : Side) (c : Option ℕ) (m : Msg) (b : List ℕ) (h : List Item) → IsNotSuccess m → authenticated side (Took c m b ∷ h) ≡ authenticated side h
+pub not_success_taken : (side : Side) (c : Option ℕ) (m : Msg) (b : List ℕ) (h : List Item) → IsNotSuccess m → authenticated side (Took c m b ∷ h) ≡ authenticated side h
 not_success_taken side c UserauthSuccess b h l = elim l [ ]
 not_success_taken Client c m b h l = refl
 not_success_taken Server c m b h l = refl
@@ -100,7 +108,7 @@ sent_more : (c : Option ℕ) (m : Msg) (b : List ℕ) (h : List Item) → OneMor
 sent_more c NewKeys b h = (_, refl, refl)
 sent_more c m b h = (_, refl, refl)
 
-sent_none : (c : Option ℕ) (m : Msg) (b : List ℕ) (h : List Item) → sent (Took c m b ∷ h) ≡ sent h
+pub sent_none : (c : Option ℕ) (m : Msg) (b : List ℕ) (h : List Item) → sent (Took c m b ∷ h) ≡ sent h
 sent_none c NewKeys b h = refl
 sent_none c m b h = refl
 
@@ -108,7 +116,7 @@ taken_more : (c : Option ℕ) (m : Msg) (b : List ℕ) (h : List Item) → OneMo
 taken_more c NewKeys b h = (_, refl, refl)
 taken_more c m b h = (_, refl, refl)
 
-taken_none : (c : Option ℕ) (m : Msg) (b : List ℕ) (h : List Item) → took (Sent c m b ∷ h) ≡ took h
+pub taken_none : (c : Option ℕ) (m : Msg) (b : List ℕ) (h : List Item) → took (Sent c m b ∷ h) ≡ took h
 taken_none c NewKeys b h = refl
 taken_none c m b h = refl
 
@@ -134,30 +142,34 @@ IsApart (Took c m b) = ⊥
 IsApart (TookGuess b) = ⊥
 IsApart _ = Unit {0}
 
-pub apart_sound : (side : Side) (i : Item) (h : List Item) → IsApart i → Sound side h → Sound side (i ∷ h)
-apart_sound side (Sent c m b) h a v = elim a [ ]
-apart_sound side (Took c m b) h a v = elim a [ ]
-apart_sound side (TookGuess b) h a v = elim a [ ]
-apart_sound Client i h a v = record { formed = (tt, v.formed); entitled = v.entitled; keyed = v.keyed }
-apart_sound Server i h a v = record { formed = (tt, v.formed); entitled = v.entitled; keyed = v.keyed }
+pub apart_sound : {K : Type 0} (p : Parties K) (side : Side) (i : Item) (h : List Item) → IsApart i → Sound p side h → Sound p side (i ∷ h)
+apart_sound p side (Sent c m b) h a v = elim a [ ]
+apart_sound p side (Took c m b) h a v = elim a [ ]
+apart_sound p side (TookGuess b) h a v = elim a [ ]
+apart_sound p Client i h a v = record { formed = (tt, v.formed); entitled = v.entitled; keyed = v.keyed }
+apart_sound p Server i h a v = record { formed = (tt, v.formed); entitled = v.entitled; keyed = v.keyed }
 
-pub guess_sound : (side : Side) (b : List ℕ) (h : List Item) → number_of b < 50 → Sound side h → Sound side (TookGuess b ∷ h)
-guess_sound Client b h n v = record {
+pub guess_sound : {K : Type 0} (p : Parties K) (side : Side) (b : List ℕ) (h : List Item) → number_of b < 50 → Sound p side h → Sound p side (TookGuess b ∷ h)
+guess_sound p Client b h n v = record {
   formed = (n, v.formed);
   entitled = ⊎_elim (λ x. v.entitled (inl x)) (⊎_elim (λ x. absurd (omega (arith, n, x))) (λ x. v.entitled (inr x)));
   keyed = v.keyed;
 }
-guess_sound Server b h n v = record {
+guess_sound p Server b h n v = record {
   formed = (n, v.formed);
   entitled = ⊎_elim (λ x. v.entitled (inl x)) (⊎_elim (λ x. absurd (omega (arith, n, x))) (λ x. v.entitled (inr x)));
   keyed = v.keyed;
 }
+
+formed_sent : {K : Type 0} (p : Parties K) (c : Option ℕ) (m : Msg) (b : List ℕ) (h : List Item) → IsNotSuccess m → IsSpelled m b → (80 ≤ message_number m → 0 < epoch (sent h)) → Formed p (Sent c m b) h
+formed_sent p c UserauthSuccess b h l s k = elim l [ ]
+formed_sent p c m b h l s k = (s, k)
 
 -- a message that is not SUCCESS is sent: below the connection, or by an end that is authenticated
-sent_sound : (side : Side) (c : Option ℕ) (m : Msg) (b : List ℕ) (h : List Item) → IsNotSuccess m → IsSpelled m b
-    → (80 ≤ message_number m → (authenticated side h ≡ true) × (0 < epoch (sent h))) → Sound side h → Sound side (Sent c m b ∷ h)
-sent_sound side c m b h l s f v = record {
-  formed = ((s, λ n. (f n).1), v.formed);
+sent_sound : {K : Type 0} (p : Parties K) (side : Side) (c : Option ℕ) (m : Msg) (b : List ℕ) (h : List Item) → IsNotSuccess m → IsSpelled m b
+    → (80 ≤ message_number m → (authenticated side h ≡ true) × (0 < epoch (sent h))) → Sound p side h → Sound p side (Sent c m b ∷ h)
+sent_sound p side c m b h l s f v = record {
+  formed = (formed_sent p c m b h l s (λ n. (f n).1), v.formed);
   entitled = λ x. not_success_sent side c m b h l ∙ go x;
   keyed = λ e. subst (λ w. 0 < epoch w) (sym (taken_none c m b h)) (v.keyed (sym (not_success_sent side c m b h l) ∙ e));
 }
@@ -166,10 +178,10 @@ sent_sound side c m b h l s f v = record {
     go (inl x) = ⊎_elim (λ n. (f (subst (λ w. 80 ≤ w) (sent_number m b s) n)).0) (λ y. v.entitled (inl y)) (first_or_rest _ _ b (sent_more c m b h) x)
     go (inr x) = v.entitled (inr (subst (λ w. HasConnection w) (taken_none c m b h) x))
 
-taken_sound : (side : Side) (c : Option ℕ) (m : Msg) (b : List ℕ) (h : List Item) → IsNotSuccess m → IsPayload true m b
-    → (80 ≤ message_number m → authenticated side h ≡ true) → Sound side h → Sound side (Took c m b ∷ h)
-taken_sound side c m b h l s f v = record {
-  formed = ((s, λ n. v.keyed (f n)), v.formed);
+taken_sound : {K : Type 0} (p : Parties K) (side : Side) (c : Option ℕ) (m : Msg) (b : List ℕ) (h : List Item) → IsNotSuccess m → IsPayload true m b
+    → (80 ≤ message_number m → authenticated side h ≡ true) → (50 ≤ message_number m → 0 < epoch (took h)) → Sound p side h → Sound p side (Took c m b ∷ h)
+taken_sound p side c m b h l s f k v = record {
+  formed = ((s, k), v.formed);
   entitled = λ x. not_success_taken side c m b h l ∙ go x;
   keyed = λ e. omega (arith, epoch_grows _ _ b (taken_more c m b h), v.keyed (sym (not_success_taken side c m b h l) ∙ e));
 }
@@ -178,31 +190,42 @@ taken_sound side c m b h l s f v = record {
     go (inl x) = v.entitled (inl (subst (λ w. HasConnection w) (sent_none c m b h) x))
     go (inr x) = ⊎_elim (λ n. f (subst (λ w. 80 ≤ w) (taken_number true m b s) n)) (λ y. v.entitled (inr y)) (first_or_rest _ _ b (taken_more c m b h) x)
 
-pub low_sent : (side : Side) (c : Option ℕ) (m : Msg) (b : List ℕ) (h : List Item) → IsLow m → IsSpelled m b → Sound side h → Sound side (Sent c m b ∷ h)
-low_sent side c m b h l s v = sent_sound side c m b h (low_is m l) s (λ n. absurd (omega (arith, n, low_number m l))) v
+pub low_sent : {K : Type 0} (p : Parties K) (side : Side) (c : Option ℕ) (m : Msg) (b : List ℕ) (h : List Item) → IsLow m → IsSpelled m b → Sound p side h → Sound p side (Sent c m b ∷ h)
+low_sent p side c m b h l s v = sent_sound p side c m b h (low_is m l) s (λ n. absurd (omega (arith, n, low_number m l))) v
 
-pub high_sent : (side : Side) (c : Option ℕ) (m : Msg) (b : List ℕ) (h : List Item) → IsNotSuccess m → IsSpelled m b → authenticated side h ≡ true → 0 < epoch (sent h)
-    → Sound side h → Sound side (Sent c m b ∷ h)
-high_sent side c m b h l s e k v = sent_sound side c m b h l s (λ n. (e, k)) v
+pub high_sent : {K : Type 0} (p : Parties K) (side : Side) (c : Option ℕ) (m : Msg) (b : List ℕ) (h : List Item) → IsNotSuccess m → IsSpelled m b → authenticated side h ≡ true → 0 < epoch (sent h)
+    → Sound p side h → Sound p side (Sent c m b ∷ h)
+high_sent p side c m b h l s e k v = sent_sound p side c m b h l s (λ n. (e, k)) v
 
-pub low_taken : (side : Side) (c : Option ℕ) (m : Msg) (b : List ℕ) (h : List Item) → IsLow m → IsPayload true m b → Sound side h → Sound side (Took c m b ∷ h)
-low_taken side c m b h l s v = taken_sound side c m b h (low_is m l) s (λ n. absurd (omega (arith, n, low_number m l))) v
+pub low_taken : {K : Type 0} (p : Parties K) (side : Side) (c : Option ℕ) (m : Msg) (b : List ℕ) (h : List Item) → IsLow m → IsPayload true m b → (50 ≤ message_number m → 0 < epoch (took h)) → Sound p side h → Sound p side (Took c m b ∷ h)
+low_taken p side c m b h l s k v = taken_sound p side c m b h (low_is m l) s (λ n. absurd (omega (arith, n, low_number m l))) k v
 
-pub high_taken : (side : Side) (c : Option ℕ) (m : Msg) (b : List ℕ) (h : List Item) → IsNotSuccess m → IsPayload true m b → authenticated side h ≡ true
-    → Sound side h → Sound side (Took c m b ∷ h)
-high_taken side c m b h l s e v = taken_sound side c m b h l s (λ n. e) v
+pub high_taken : {K : Type 0} (p : Parties K) (side : Side) (c : Option ℕ) (m : Msg) (b : List ℕ) (h : List Item) → IsNotSuccess m → IsPayload true m b → authenticated side h ≡ true
+    → Sound p side h → Sound p side (Took c m b ∷ h)
+high_taken p side c m b h l s e v = taken_sound p side c m b h l s (λ n. e) (λ n. v.keyed e) v
 
 -- SUCCESS
-pub success_sent : (c : Option ℕ) (b : List ℕ) (h : List Item) → IsSpelled UserauthSuccess b → 0 < epoch (took h) → Sound Server h → Sound Server (Sent c UserauthSuccess b ∷ h)
-success_sent c b h s k v = record {
-  formed = ((s, λ n. absurd (omega (arith, n))), v.formed);
+pub success_sent : {K : Type 0} (p : Parties K) (c : Option ℕ) (b : List ℕ) (h : List Item) → IsSpelled UserauthSuccess b → AcceptedHere p h → 0 < epoch (took h) → Sound p Server h → Sound p Server (Sent c UserauthSuccess b ∷ h)
+success_sent p c b h s a k v = record {
+  formed = ((s, a), v.formed);
   entitled = λ x. refl;
   keyed = λ e. k;
 }
 
-pub success_taken : (c : Option ℕ) (b : List ℕ) (h : List Item) → IsPayload true UserauthSuccess b → 0 < epoch (took h) → Sound Client h → Sound Client (Took c UserauthSuccess b ∷ h)
-success_taken c b h s k v = record {
-  formed = ((s, λ n. absurd (omega (arith, n))), v.formed);
+pub success_taken : {K : Type 0} (p : Parties K) (c : Option ℕ) (b : List ℕ) (h : List Item) → IsPayload true UserauthSuccess b → 0 < epoch (took h) → Sound p Client h → Sound p Client (Took c UserauthSuccess b ∷ h)
+success_taken p c b h s k v = record {
+  formed = ((s, λ n. k), v.formed);
   entitled = λ x. refl;
   keyed = λ e. k;
 }
+
+-- ---- the two ends of a run
+
+abbrev pub BothFormed : {K : Type 0} → Parties K → List Done → Type 0
+BothFormed p run = (side : Side) → AllFormed p (part side run)
+
+pub formed_tail : {K : Type 0} (p : Parties K) (t : Side) (i : Item) (run : List Done) → BothFormed p (By t i ∷ run) → BothFormed p run
+formed_tail p Client i run f Client = (f Client).1
+formed_tail p Client i run f Server = f Server
+formed_tail p Server i run f Client = f Client
+formed_tail p Server i run f Server = (f Server).1

@@ -1,10 +1,10 @@
 -- What the payloads of messages tell of them: their tags, their cookies, and that their texts fit.
-use Rattle.std.proofs.Common.{◌≡◌, ◌≢◌, ℕ, zero, suc, ◌+◌, ◌<◌, ◌≤◌, ◌^◌, List, [], ◌∷◌, ◌++◌, length, take, drop, refl, ap, sym, ◌∙◌, arith, subst, Bool, true, false, cond, ◌==◌, eqb-true}
+use Rattle.std.proofs.Common.{◌≡◌, ◌≢◌, ℕ, ◌<◌, ◌≤◌, ◌^◌, List, [], ◌∷◌, ◌++◌, length, take, refl, ap, sym, ◌∙◌, arith, subst, Bool, true, false, cond, ◌==◌, eqb-true}
 use Rattle.std.proofs.Math.Seq.{take-append_seam}
 use Rattle.ssh_model.specs.DataTypes.{IsBoolean, IsWrittenBoolean}
-use Rattle.ssh_model.specs.Message.{Msg, Msg.KexInit, Msg.NewKeys, Msg.KexEcdhInit, Msg.KexEcdhReply, Proposal, IsPayload, IsWrittenPayload, IsRow}
-use Rattle.ssh_model.specs.Session.{Payload, Payload.NewkeysOf, Payload.OtherOf, Spelled, Spelled.SpelledBy}
-use Rattle.ssh_model.specs.Exchanges.{Offer, Reply, nth, no_offer, no_reply, offers, points, replies}
+use Rattle.ssh_model.specs.Message.{Msg, Msg.KexInit, Msg.NewKeys, Msg.KexEcdhInit, Msg.KexEcdhReply, Proposal, IsPayload}
+use Rattle.ssh_model.specs.Session.{Payload.NewkeysOf, Payload.OtherOf, Spelled, Spelled.SpelledBy}
+use Rattle.ssh_model.specs.Exchanges.{Reply, nth, no_offer, no_reply, offers, points, replies}
 use Rattle.ssh_model.specs.Turn.{IsSpelled}
 use Rattle.ssh_model.proofs.Payloads.{row_not_21, row_21, written_is_read}
 use Rattle.ssh_model.proofs.Texts.{string_fits}
@@ -76,8 +76,11 @@ taken_fits c (KexEcdhReply k_s q_s signature) b n s =
     (string_fits k_s s.row.second.front s.row.second.first, string_fits q_s s.row.second.second.front s.row.second.second.first)
 taken_fits c m b n s = tt
 
+pub spelled_is_read : (m : Msg) (b : List ℕ) → IsSpelled m b → IsPayload true m b
+spelled_is_read m b s = record { suits = s.suits; row = written_is_read m b s.row }
+
 pub sent_fits : (m : Msg) (b : List ℕ) → IsSpelled m b → TextsFit m b
-sent_fits m b s = taken_fits true m b (omega (arith, s.size)) (record { suits = s.suits; row = written_is_read m b s.row })
+sent_fits m b s = taken_fits true m b (omega (arith, s.size)) (spelled_is_read m b s)
 
 nth_cond : {A : Type 0} (P : A → Type 0) (t : Bool) (x y : A) → P x → P y → P (cond t x y)
 nth_cond P true x y a b = a

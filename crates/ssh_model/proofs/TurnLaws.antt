@@ -5,7 +5,7 @@ use Rattle.ssh_model.specs.Party.{Parties}
 use Rattle.ssh_model.specs.Session.{Item, Item.Asked, Item.Sent, Item.Took, Done, part}
 use Rattle.ssh_model.specs.Phase.{Phase.Guessed, phase}
 use Rattle.ssh_model.specs.Outcome.{Outcome}
-use Rattle.ssh_model.specs.Turn.{AreNumbered, Refuses, Refuses.silently, Refuses.spent, Refuses.said, OnPayload, OnPayload.takes, OnPayload.skips, OnPayload.unexpected, OnPayload.bad_message, OnPayload.refuses, OnPayload.spends, OnOutcome, OnOutcome.other_line, OnOutcome.version_line, OnOutcome.refused_line, OnOutcome.opened, OnOutcome.refused_packet, Turn, Turn.feeds, Turn.refuses_ask, Turn.answers_ask, Turn.spends_on_ask, Turn.reads, Turn.dies, IsOpening, Run, Run.start, Run.then_turn}
+use Rattle.ssh_model.specs.Turn.{AreNumbered, Refuses, Refuses.silently, Refuses.spent, Refuses.said, OnPayload, OnPayload.takes, OnPayload.skips, OnPayload.unexpected, OnPayload.bad_message, OnPayload.refuses, OnPayload.spends, OnOutcome, OnOutcome.other_line, OnOutcome.version_line, OnOutcome.refused_line, OnOutcome.opened, OnOutcome.refused_packet, FeedsTurn, AsksTurn, AsksTurn.refuses, AsksTurn.spends, Turn, Turn.asks, Turn.reads, IsOpening, Run, Run.start, Run.then_turn}
 use Rattle.ssh_model.specs.TurnSafe.{HasNumbers, IsSkipped}
 use Rattle.ssh_model.proofs.Whole.{part_own, part_other, opened_client, opened_server}
 
@@ -48,12 +48,15 @@ outcome_numbers p side h items outcome (opened payload o) n = payload_numbers p 
 outcome_numbers p side h items outcome (refused_packet refusal r) n = refusal_numbers h items refusal _ r n
 
 turn_numbers : {K : Type 0} (p : Parties K) (side : Side) (h items : List Item) → Turn p side h items → HasNumbers h → HasNumbers (items ++ h)
-turn_numbers p side h items (feeds cookie secret d k f m) n = n
-turn_numbers p side h items (refuses_ask ask refusal d c) n = n
-turn_numbers p side h items (answers_ask {items = more} ask d c o s numbered) n = add_over more (Asked ask) h numbered n
-turn_numbers p side h items (spends_on_ask ask d c o s over) n = n
+turn_numbers p side h items (Turn.feeds cookie secret (FeedsTurn.feeds k m)) n = n
+turn_numbers p side h items (Turn.feeds cookie secret (FeedsTurn.answers_false f)) n = n
+turn_numbers p side h items (asks ask (AsksTurn.refuses refusal d c)) n = n
+turn_numbers p side h items (asks ask (AsksTurn.answers {items = more} d c o s numbered)) n = add_over more (Asked ask) h numbered n
+turn_numbers p side h items (asks ask (AsksTurn.spends d c o s over)) n = n
+turn_numbers p side h items (asks ask (AsksTurn.dies d c)) n = n
+turn_numbers p side h items (asks ask (AsksTurn.is_dead d)) n = n
 turn_numbers p side h items (reads unit outcome d u o) n = outcome_numbers p side h items outcome o n
-turn_numbers p side h items (dies d) n = n
+turn_numbers p side h items (Turn.dies d) n = n
 
 opening_numbers : {K : Type 0} (p : Parties K) (side : Side) (items : List Item) → IsOpening p side items → HasNumbers items
 opening_numbers p side items o = rw o.items_are (omega arith, tt)

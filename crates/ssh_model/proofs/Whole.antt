@@ -1,17 +1,16 @@
 -- The invariant over whole runs, and the agreement and the beginning that follow from it.
-use Rattle.std.proofs.Common.{◌≡◌, ℕ, zero, suc, ◌+◌, ◌<◌, ◌≤◌, List, [], ◌∷◌, ◌++◌, length, map, reverse, ◌⊎◌, inl, inr, refl, ap, sym, ◌∙◌, arith, subst, append-nil, Some, None}
+use Rattle.std.proofs.Common.{◌≡◌, ℕ, suc, ◌<◌, List, [], ◌∷◌, ◌++◌, ◌⊎◌, inl, inr, refl, ap, sym, ◌∙◌, arith, subst, append-nil, Some}
 use Rattle.ssh_model.specs.History.{Side, Side.Client, Side.Server, peer, IsOlder, IsIn}
-use Rattle.ssh_model.specs.Message.{Msg, Msg.NewKeys}
+use Rattle.ssh_model.specs.Message.{Msg.NewKeys}
 use Rattle.ssh_model.specs.Exchange.{Inputs, Fits, exchange_hash}
 use Rattle.ssh_model.specs.Party.{Parties, AreLawful}
 use Rattle.ssh_model.specs.Session.{Item, Item.Fed, Item.Sent, Item.Took, Item.TookGuess, Item.Refused, Payload, Payload.NewkeysOf, Payload.OtherOf, bytes_of, Done, Done.By, done_by, part, sent, took}
 use Rattle.ssh_model.specs.Epoch.{epoch, count, after_first}
-use Rattle.ssh_model.specs.Exchanges.{exchange, exchanges, nth, no_exchange}
+use Rattle.ssh_model.specs.Exchanges.{exchange, exchanges}
 use Rattle.ssh_model.specs.Honest.{AreDistinct, TagsHold, SignaturesHold, HasHash, IsCompleted, IsHonest, cookies, signed}
-use Rattle.ssh_model.specs.Safe.{TookUnder, Agrees, Agreement, Beginning}
-use Rattle.ssh_model.specs.Turn.{Turn, Run, Run.start, Run.then_turn, IsOpening}
-use Rattle.ssh_model.proofs.Ends.{older_length}
-use Rattle.ssh_model.proofs.Older.{older_nil, in_older, nth_same, reverse_older, map_older}
+use Rattle.ssh_model.specs.Safe.{TookUnder, Beginning}
+use Rattle.ssh_model.specs.Turn.{Run, Run.start, Run.then_turn}
+use Rattle.ssh_model.proofs.Older.{in_older, reverse_older, map_older}
 use Rattle.ssh_model.proofs.Texts.{equal_inputs}
 use Rattle.ssh_model.proofs.Rules.{Rules, tagged, exchanges_grow, exchanges_fit}
 use Rattle.ssh_model.proofs.Agree.{Kept, Known, Apart, ServerNext, client_next, server_next, under_next, client_completes, server_completes, client_sends, server_sends}
@@ -33,7 +32,7 @@ pub record Given {K : Type 0} (p : Parties K) (run : List Done) : Type 0 where
   pub apart : Apart (exchanges p Client (part Client run)) (exchanges p Server (part Server run))
 
 module _ {K : Type 0} (p : Parties K) where
-  fresh_tail : (side t : Side) (i : Item) (run : List Done) → AreDistinct (cookies (part side (By t i ∷ run))) → AreDistinct (cookies (part side run))
+  pub fresh_tail : (side t : Side) (i : Item) (run : List Done) → AreDistinct (cookies (part side (By t i ∷ run))) → AreDistinct (cookies (part side run))
   fresh_tail Client Client (Fed c s) run d = d.1
   fresh_tail Client Client i run d = d
   fresh_tail Client Server i run d = d
@@ -41,13 +40,13 @@ module _ {K : Type 0} (p : Parties K) where
   fresh_tail Server Server i run d = d
   fresh_tail Server Client i run d = d
 
-  completed_grows : (t : Side) (i : Item) (run : List Done) (x : Inputs) → IsCompleted p x run → IsCompleted p x (By t i ∷ run)
+  pub completed_grows : (t : Side) (i : Item) (run : List Done) (x : Inputs) → IsCompleted p x run → IsCompleted p x (By t i ∷ run)
   completed_grows Client i run x (inl h) = inl (in_older x _ _ (exchanges_grow p Client i (part Client run)) h)
   completed_grows Client i run x (inr h) = inr h
   completed_grows Server i run x (inl h) = inl h
   completed_grows Server i run x (inr h) = inr (in_older x _ _ (exchanges_grow p Server i (part Server run)) h)
 
-  known : (run : List Done) → Given p run → Known p (part Client run) (part Server run)
+  pub known : (run : List Done) → Given p run → Known p (part Client run) (part Server run)
   known run g = record { rules_c = g.rules Client; rules_s = g.rules Server; fresh_c = g.fresh Client; fresh_s = g.fresh Server; apart = g.apart }
 
   rules_tail : (t : Side) (i : Item) (run : List Done) → ((side : Side) → Rules p side (part side (By t i ∷ run))) → (side : Side) → Rules p side (part side run)
@@ -56,7 +55,7 @@ module _ {K : Type 0} (p : Parties K) where
   rules_tail Server i run r Client = r Client
   rules_tail Server i run r Server = (r Server).1
 
-  tags_tail : (t : Side) (i : Item) (run : List Done) → TagsHold p (By t i ∷ run) → TagsHold p run
+  pub tags_tail : (t : Side) (i : Item) (run : List Done) → TagsHold p (By t i ∷ run) → TagsHold p run
   tags_tail t (Took c m b) run h = h.1
   tags_tail t (TookGuess b) run h = h.1
   tags_tail t (Refused n (Some b)) run h = h.1
@@ -203,14 +202,3 @@ module _ {K : Type 0} (p : Parties K) (laws : AreLawful p) where
   pub beginning_holds : (run : List Done) → Run p run → IsHonest p run → Beginning run
   beginning_holds run r h Client = reverse_older _ _ (map_older bytes_of _ _ (kept p run (given run r h)).to_client)
   beginning_holds run r h Server = reverse_older _ _ (map_older bytes_of _ _ (kept p run (given run r h)).to_server)
-
-  agrees : (run : List Done) (e : ℕ) → Kept p (part Client run) (part Server run) → e < length (exchanges p Client (part Client run)) → Agrees p e run
-  agrees run e v n = record {
-    by_client = n;
-    by_server = omega (arith, older_length _ _ v.agree);
-    same = nth_same no_exchange e _ _ v.agree n;
-  }
-
-  pub agreement_holds : (run : List Done) → Run p run → IsHonest p run → Agreement p run
-  agreement_holds run r h e (inl n) = agrees run e (kept p run (given run r h)) n
-  agreement_holds run r h e (inr u) = let v = kept p run (given run r h) in agrees run e v (v.under e u)

@@ -1,7 +1,7 @@
 -- How a server judges a request for authentication (RFC 4252).
-use Rattle.std.specs.Prelude.{ℕ, Bool, true, false, not, ◌&&◌, nat_le, Option, Some, None, is_some, find, List, [], ◌∷◌, ◌++◌, length, codes}
+use Rattle.std.specs.Prelude.{ℕ, Bool, false, not, ◌&&◌, nat_le, Some, None, is_some, find, List, ◌∷◌, ◌++◌, length, codes}
 use Rattle.ssh_model.specs.History.{Side.Server}
-use Rattle.ssh_model.specs.Message.{Method, Method.NoMethod, Method.Password, Method.Publickey, Method.Other}
+use Rattle.ssh_model.specs.Message.{Method, Method.NoMethod, Method.Password, Method.Publickey}
 use Rattle.ssh_model.specs.MacOnly.{is_text}
 use Rattle.ssh_model.specs.Exchange.{string_of}
 use Rattle.ssh_model.specs.Party.{Parties}

@@ -1,6 +1,6 @@
 -- The choice of algorithms from the lists of two KEXINIT messages (RFC 4253 section 7.1).
 use Rattle.std.specs.Prelude.{◌≡◌, ℕ, Bool, true, false, nat_eq, ◌||◌, if◌then◌else◌, List, [], ◌∷◌, ◌++◌, codes}
-use Rattle.std.specs.List.{Contains, filter, slice_get, AllByRecursion}
+use Rattle.std.specs.List.{Contains, slice_get, AllByRecursion}
 use Rattle.std.specs.Cmp.Lexicographic.{pointwise}
 
 -- what is chosen, in the order of the lists in a KEXINIT: `Cs` from the client to the server, `Sc` the other way

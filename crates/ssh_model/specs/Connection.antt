@@ -1,17 +1,17 @@
 -- What an end answers to the messages of the connection (RFC 4254), and to the asks for them. One clause or constructor
 -- is one row. What is known of channels is read off the notes of their messages.
-use Rattle.std.specs.Prelude.{◌≡◌, ℕ, zero, suc, ◌+◌, ◌-◌, Bool, true, false, not, ◌==◌, ◌&&◌, ◌||◌, nat_le, nat_lt, Option, Some, None, List, [], ◌∷◌, ◌++◌, length}
+use Rattle.std.specs.Prelude.{◌≡◌, ℕ, suc, ◌+◌, ◌-◌, Bool, true, false, not, ◌==◌, ◌&&◌, ◌||◌, nat_le, nat_lt, Option, Some, None, List, [], ◌∷◌, length}
 use Rattle.ssh_model.specs.History.{Side}
 use Rattle.ssh_model.specs.Message.{Msg, Msg.KexInit, Msg.NewKeys, Msg.GlobalRequest, Msg.RequestSuccess, Msg.RequestFailure, Msg.ChannelOpen, Msg.ChannelOpenConfirmation, Msg.ChannelOpenFailure, Msg.ChannelWindowAdjust, Msg.ChannelData, Msg.ChannelExtendedData, Msg.ChannelEof, Msg.ChannelClose, Msg.ChannelRequest, Msg.ChannelSuccess, Msg.ChannelFailure, Msg.Unknown}
 use Rattle.ssh_model.specs.Refusal.{Check, Check.RefusedWhere}
 use Rattle.ssh_model.specs.Party.{Parties, settings_of}
-use Rattle.ssh_model.specs.Session.{Ask, Ask.AskOpen, Ask.AskConfirm, Ask.AskRefuse, Ask.AskData, Ask.AskAdjust, Ask.AskEof, Ask.AskClose, Ask.AskRequest, Ask.AskReply, Ask.AskGlobal, Ask.AskGlobalReply, Fact, Fact.Global, Fact.GlobalDone, Fact.Opening, Fact.Opened, Fact.Confirmed, Fact.OpenFailed, Fact.GotData, Fact.Adjusted, Fact.Ended, Fact.Closed, Fact.Requested, Fact.RequestDone, Item, Item.Sent, Item.Took, Item.Told, sent}
+use Rattle.ssh_model.specs.Session.{Ask, Ask.AskOpen, Ask.AskConfirm, Ask.AskRefuse, Ask.AskData, Ask.AskAdjust, Ask.AskEof, Ask.AskClose, Ask.AskRequest, Ask.AskReply, Ask.AskGlobal, Ask.AskGlobalReply, Fact.Global, Fact.GlobalDone, Fact.Opening, Fact.Opened, Fact.Confirmed, Fact.OpenFailed, Fact.GotData, Fact.Adjusted, Fact.Ended, Fact.Closed, Fact.Requested, Fact.RequestDone, Item, Item.Sent, Item.Took, Item.Told, sent}
 use Rattle.ssh_model.specs.Epoch.{count}
 use Rattle.ssh_model.specs.Phase.{authenticated, blocked}
 use Rattle.ssh_model.specs.ChannelMessage.{Message, Message.Open, Message.OpenConfirmation, Message.OpenFailure, Message.WindowAdjust, Message.Data, Message.Eof, Message.Close, Message.Request, Message.Reply}
 use Rattle.ssh_model.specs.ChannelNotes.{Note}
 use Rattle.ssh_model.specs.ChannelState.{largest, is_confirmed, is_offered, is_waiting, has_ended, has_closed, peer_ended, room, left, most_there, peer_number, waiting_here, waiting_there, is_unknown_channel, is_window_overrun, is_window_too_large}
-use Rattle.ssh_model.specs.ChannelHistory.{due, noted, owed, is_free, has_place, at_once}
+use Rattle.ssh_model.specs.ChannelHistory.{due, noted, owed, is_owed, is_free, has_place, at_once}
 use Rattle.ssh_model.specs.ChannelHistory as channel
 use Rattle.ssh_model.specs.Transport.{string_size, is_too_long}
 
@@ -97,16 +97,18 @@ owes_many side h = blocked h && is_many (length (owed_replies side h))
 
 -- ---- what is refused
 
+-- A number is in use also while a CLOSE is owed at it.
 abbrev pub connection_checks : Side → List Item → Msg → List Check
 connection_checks side h (GlobalRequest name want rest) = RefusedWhere (want && is_many (globals_here h)) 19 ∷ []
 connection_checks side h (RequestSuccess rest) = RefusedWhere (globals_there h == 0) 7 ∷ []
 connection_checks side h RequestFailure = RefusedWhere (globals_there h == 0) 7 ∷ []
 connection_checks side h (ChannelOpen kind sender window max rest) = RefusedWhere (is_full side h && owes_many side h) 19 ∷ []
 connection_checks side h (ChannelOpenConfirmation recipient sender window max rest) =
-    RefusedWhere (is_unknown_channel (OpenConfirmation recipient sender window max) (notes side h)) 16
+    RefusedWhere (is_unknown_channel (OpenConfirmation recipient sender window max) (notes side h) && not (is_owed recipient (owed_replies side h))) 16
     ∷ RefusedWhere (not (is_offered side recipient (notes side h))) 7 ∷ []
 connection_checks side h (ChannelOpenFailure recipient reason description language) =
-    RefusedWhere (is_unknown_channel (OpenFailure recipient) (notes side h)) 16 ∷ RefusedWhere (not (is_offered side recipient (notes side h))) 7 ∷ []
+    RefusedWhere (is_unknown_channel (OpenFailure recipient) (notes side h) && not (is_owed recipient (owed_replies side h))) 16
+    ∷ RefusedWhere (not (is_offered side recipient (notes side h))) 7 ∷ []
 connection_checks side h (ChannelWindowAdjust recipient bytes) =
     RefusedWhere (is_unknown_channel (WindowAdjust recipient bytes) (notes side h)) 16
     ∷ RefusedWhere (is_window_too_large (WindowAdjust recipient bytes) (notes side h)) 18 ∷ []

@@ -1,15 +1,14 @@
 -- The exchanges of a session, read off the history of one end, with the key names and keys that they give.
-use Rattle.std.specs.Prelude.{◌≡◌, ℕ, zero, suc, Bool, true, false, cond, ◌==◌, ◌&&◌, nat_lt, Option, Some, None, unwrap_or, List, [], ◌∷◌, ◌++◌, length, find, is_some}
-use Rattle.std.specs.List.{Contains}
+use Rattle.std.specs.Prelude.{ℕ, zero, suc, Bool, false, cond, ◌==◌, ◌&&◌, Option, Some, None, unwrap_or, List, [], ◌∷◌, length, find, is_some}
 use Rattle.ssh_model.specs.DataTypes.{number}
 use Rattle.ssh_model.specs.History.{Side, Side.Client, Side.Server, peer}
-use Rattle.ssh_model.specs.Message.{Msg, Msg.KexInit, Msg.NewKeys, Msg.KexEcdhInit, Msg.KexEcdhReply, Proposal}
+use Rattle.ssh_model.specs.Message.{Msg.KexInit, Msg.NewKeys, Msg.KexEcdhInit, Msg.KexEcdhReply, Proposal}
 use Rattle.ssh_model.specs.MacOnly.{is_text}
 use Rattle.ssh_model.specs.Seal.{Crypto, Lengths}
 use Rattle.ssh_model.specs.Choice.{Lists, Chosen, Kind, Kind.Kex, Kind.HostKey, Kind.EncCs, Kind.EncSc, Kind.MacCs, Kind.MacSc, Kind.CompCs, Kind.CompSc, offered}
 use Rattle.ssh_model.specs.Exchange.{Inputs, exchange_hash, derived}
 use Rattle.ssh_model.specs.Party.{Parties, lists_of}
-use Rattle.ssh_model.specs.Session.{Item, Item.Fed, Item.SentLine, Item.TookLine, Item.Sent, Payload, sent, took, Spelled, Spelled.SpelledBy, messages_sent, messages_taken}
+use Rattle.ssh_model.specs.Session.{Item, Item.Fed, Item.SentLine, Item.TookLine, Item.Sent, sent, took, Spelled, Spelled.SpelledBy, messages_sent, messages_taken}
 use Rattle.ssh_model.specs.Epoch.{epoch}
 
 -- the one with n older ones below it, in a list that is newest first
@@ -178,6 +177,15 @@ server_lists Server e h = lists_of (nth no_offer e (offers (messages_sent h))).p
 abbrev pub choice : Side → ℕ → List Item → Chosen
 choice side e h = chosen (client_lists side e h) (server_lists side e h)
 
+abbrev pub none_chosen : Chosen
+none_chosen = record { kex = []; host = []; enc_cs = []; enc_sc = []; mac_cs = []; mac_sc = []; comp_cs = []; comp_sc = [] }
+
+-- what was chosen in the exchanges that an end completed
+abbrev pub choices : Side → List Item → List Chosen
+choices side [] = []
+choices side (Sent channel NewKeys payload ∷ h) = choice side (epoch (sent h)) h ∷ choices side h
+choices side (_ ∷ h) = choices side h
+
 -- ---- keys (RFC 4253 section 7.2)
 
 -- the letters of a direction's IV, cipher key and MAC key, by the side that sends
@@ -218,7 +226,7 @@ abbrev pub key_in : {K : Type 0} → Parties K → Side → (from : Side) → �
 key_in p side from zero h = None
 key_in p side from (suc e) h =
     let xs = exchanges p side h in
-    Some (key_of p.crypto from (nth no_exchange e xs) (session_id xs) (choice side e h))
+    Some (key_of p.crypto from (nth no_exchange e xs) (session_id xs) (nth none_chosen e (choices side h)))
 
 -- the name and the key under which an end sends, and those under which it takes
 abbrev pub sending_name : {K : Type 0} → Parties K → Side → List Item → Option KeyName

@@ -35,4 +35,5 @@ pub mod Safe
 pub mod Session
 pub mod Transport
 pub mod Turn
+pub mod Events
 pub mod TurnSafe

@@ -1,6 +1,6 @@
 -- The messages of SSH: which payload is which message. A payload is the message number as one byte, and then
 -- the fields of the message in their order, with nothing left over.
-use Rattle.std.specs.Prelude.{◌≡◌, ◌≢◌, ℕ, Bool, true, false, not, nat_le, ◌==◌, ◌&&◌, ◌||◌, if◌then◌else◌, IsTrue, Option, Some, None, List, [], ◌∷◌, ◌++◌, length, codes}
+use Rattle.std.specs.Prelude.{◌≡◌, ◌≢◌, ℕ, Bool, true, false, not, nat_le, ◌==◌, ◌&&◌, ◌||◌, if◌then◌else◌, IsTrue, Option, Some, None, List, [], ◌++◌, length, codes}
 use Rattle.ssh_model.specs.DataTypes.{IsByte, IsBoolean, IsWrittenBoolean, IsUint32, IsString, IsNameList}
 
 -- ---- the messages

@@ -1,6 +1,6 @@
 -- What an end is made with: its settings, and the parts that are handed in. The parts are functions, since a part
 -- gives the same answer to the same question.
-use Rattle.std.specs.Prelude.{◌≡◌, ℕ, ◌<◌, ◌≤◌, Bool, true, false, Option, Some, List, [], ◌∷◌, ◌++◌, length, codes, if◌then◌else◌}
+use Rattle.std.specs.Prelude.{◌≡◌, ℕ, ◌<◌, ◌≤◌, Bool, false, Option, Some, List, [], ◌∷◌, ◌++◌, length, codes, if◌then◌else◌}
 use Rattle.ssh_model.specs.DataTypes.{AreBytes, number}
 use Rattle.ssh_model.specs.History.{Side, Side.Client, Side.Server}
 use Rattle.ssh_model.specs.Message.{Proposal}

@@ -1,11 +1,11 @@
 -- Where an end stands, read off its history, and which messages it may take there.
-use Rattle.std.specs.Prelude.{◌≡◌, ℕ, zero, suc, Bool, true, false, not, cond, ◌==◌, ◌&&◌, ◌||◌, nat_le, nat_lt, if◌then◌else◌, Option, Some, None, is_some, is_none, List, [], ◌∷◌, length, slice_get, codes}
+use Rattle.std.specs.Prelude.{ℕ, zero, suc, Bool, true, false, not, cond, ◌==◌, ◌&&◌, ◌||◌, nat_le, nat_lt, Option, Some, None, is_some, List, [], ◌∷◌, length, slice_get}
 use Rattle.ssh_model.specs.History.{Side, Side.Client, Side.Server}
-use Rattle.ssh_model.specs.Message.{Msg, Msg.KexInit, Msg.NewKeys, Msg.KexEcdhInit, Msg.KexEcdhReply, Msg.ServiceRequest, Msg.ServiceAccept, Msg.UserauthRequest, Msg.UserauthFailure, Msg.UserauthSuccess, Msg.UserauthPkOk, Method, Method.Publickey, Proposal, is_known}
+use Rattle.ssh_model.specs.Message.{Msg.KexInit, Msg.NewKeys, Msg.KexEcdhInit, Msg.KexEcdhReply, Msg.ServiceRequest, Msg.ServiceAccept, Msg.UserauthRequest, Msg.UserauthFailure, Msg.UserauthSuccess, Msg.UserauthPkOk, Method, Method.Publickey, Proposal, is_known}
 use Rattle.ssh_model.specs.MacOnly.{is_text}
-use Rattle.ssh_model.specs.Choice.{Lists, methods}
-use Rattle.ssh_model.specs.Party.{Parties, offer, lists_of}
-use Rattle.ssh_model.specs.Session.{Item, Item.Sent, Item.Took, Item.TookGuess, Item.TookLine, Item.TookOtherLine, sent, took, messages_sent, messages_taken}
+use Rattle.ssh_model.specs.Choice.{methods}
+use Rattle.ssh_model.specs.Party.{Parties, offer}
+use Rattle.ssh_model.specs.Session.{Item, Item.Sent, Item.Took, Item.TookGuess, Item.TookLine, Item.TookOtherLine, took, messages_sent}
 use Rattle.ssh_model.specs.Epoch.{epoch}
 use Rattle.ssh_model.specs.Exchanges.{fed, offers}
 

@@ -1,16 +1,18 @@
 -- What is claimed of the runs of two ends.
-use Rattle.std.specs.Prelude.{◌≡◌, ℕ, suc, ◌<◌, ◌≤◌, Bool, true, false, List, [], ◌∷◌, ◌++◌, ◌⊎◌, reverse, length, map}
+use Rattle.std.specs.Prelude.{◌≡◌, ◌≢◌, ℕ, suc, ◌<◌, ◌≤◌, true, false, List, [], ◌∷◌, ◌++◌, ◌⊎◌, reverse, length, map, Option, Bool, ◌||◌}
 use Rattle.ssh_model.specs.History.{Side, Side.Client, Side.Server, peer, Begins}
 use Rattle.ssh_model.specs.Message.{Msg, Msg.UserauthRequest, Method}
-use Rattle.ssh_model.specs.Exchange.{Inputs}
 use Rattle.ssh_model.specs.Party.{Parties}
-use Rattle.ssh_model.specs.Session.{Item, Item.Took, Item.TookGuess, Item.Sent, Payload, bytes_of, Done, Done.By, part, sent, took, Spelled, Spelled.SpelledBy, messages_sent, messages_taken}
+use Rattle.ssh_model.specs.Session.{Item, Item.Took, Item.TookGuess, Item.Refused, Payload, bytes_of, Done, Done.By, part, sent, took, Spelled, Spelled.SpelledBy, messages_sent}
 use Rattle.ssh_model.specs.Epoch.{epoch, after_first}
-use Rattle.ssh_model.specs.Exchanges.{nth, no_exchange, exchanges, choice}
+use Rattle.ssh_model.specs.Exchanges.{nth, no_exchange, none_chosen, exchanges, choices}
 use Rattle.ssh_model.specs.Phase.{sent_success}
 use Rattle.ssh_model.specs.Authentication.{is_accepted}
 use Rattle.ssh_model.specs.ChannelState.{is_held}
-use Rattle.ssh_model.specs.Connection.{notes}
+use Rattle.ssh_model.specs.ChannelMessage.{Channel}
+use Rattle.ssh_model.specs.ChannelSafe.{Within, WindowsHere, HasPartner, data_sent, data_received}
+use Rattle.ssh_model.specs.ChannelHistory.{is_owed}
+use Rattle.ssh_model.specs.Connection.{notes, owed_replies, channel_items}
 use Rattle.ssh_model.specs.Turn.{number_of}
 
 -- ---- agreement
@@ -22,11 +24,12 @@ TookUnder e (Took channel message payload ∷ h) = (epoch (took h) ≡ suc e) �
 TookUnder e (TookGuess payload ∷ h) = (epoch (took h) ≡ suc e) ⊎ TookUnder e h
 TookUnder e (_ ∷ h) = TookUnder e h
 
--- Both ends completed exchange e, with the same inputs.
+-- Both ends completed exchange e, with the same eight inputs and the same algorithms.
 pub record Agrees {K : Type 0} (p : Parties K) (e : ℕ) (run : List Done) : Type 0 where
   pub by_client : e < length (exchanges p Client (part Client run))
   pub by_server : e < length (exchanges p Server (part Server run))
   pub same : nth no_exchange e (exchanges p Client (part Client run)) ≡ nth no_exchange e (exchanges p Server (part Server run))
+  pub same_choice : nth none_chosen e (choices Client (part Client run)) ≡ nth none_chosen e (choices Server (part Server run))
 
 -- The ends agree on every exchange that the client completed, or under whose keys the server took a message.
 abbrev pub Agreement : {K : Type 0} → Parties K → List Done → Type 0
@@ -69,8 +72,43 @@ abbrev pub HasConnection : List Payload → Type 0
 HasConnection [] = ⊥
 HasConnection (payload ∷ l) = (80 ≤ number_of (bytes_of payload)) ⊎ HasConnection l
 
+-- A channel has this number: one that is not over, or at which a CLOSE is owed.
+abbrev pub holds : Side → List Item → ℕ → Bool
+holds side h x = is_held x (notes side h) || is_owed x (owed_replies side h)
+
 -- No channel is held, and no message of the connection is sent or taken, unless the server accepted a request that the
 -- client had sent.
 pub record Authorized {K : Type 0} (p : Parties K) (run : List Done) : Type 0 where
   pub messages : (side : Side) → (HasConnection (sent (part side run)) ⊎ HasConnection (took (part side run))) → HasAccepted p run
-  pub channels : (side : Side) (x : ℕ) → is_held x (notes side (part side run)) ≡ true → HasAccepted p run
+  pub channels : (side : Side) (x : ℕ) → holds side (part side run) x ≡ true → HasAccepted p run
+
+-- ---- windows (RFC 4254 section 5.2)
+
+-- No window is overrun: on every channel, at each end, data sent is at most the window taken, each part of which the other
+-- end had sent, and data taken is at most the window granted.
+abbrev pub Windows : List Done → Type 0
+Windows run = (side : Side) → Within (notes side (part side run)) (notes (peer side) (part (peer side) run))
+
+-- the two inequalities, at one end
+abbrev pub WindowsAt : Side → List Item → Type 0
+WindowsAt side h = WindowsHere (notes side h)
+
+-- ---- no refusal between the two
+
+-- none for a channel that is unknown (16), or for a window that is overrun (17) or too large (18)
+abbrev pub IsOtherRefusal : ℕ → Type 0
+IsOtherRefusal n = (n ≢ 16) × (n ≢ 17) × (n ≢ 18)
+
+abbrev pub NoneRefused : List Done → Type 0
+NoneRefused [] = Unit {0}
+NoneRefused (By side (Refused refusal payload) ∷ run) = IsOtherRefusal refusal × NoneRefused run
+NoneRefused (_ ∷ run) = NoneRefused run
+
+-- Neither end refuses the other for its channels; what was taken of data on a channel, each with its type, is a beginning
+-- of what the other end sent on it; and each channel on which data was taken was opened by one end and taken by the other.
+pub record Undisturbed (run : List Done) : Type 0 where
+  pub unrefused : NoneRefused run
+  pub in_order : (side : Side) (i : Channel) → (rest : List (Option ℕ × List ℕ))
+      × (reverse (data_received side i (channel_items (part side run))) ++ rest ≡ reverse (data_sent (peer side) i (channel_items (part (peer side) run))))
+  pub partners : (side : Side) (i : Channel) → (data_received side i (channel_items (part side run)) ≡ [] → ⊥) →
+      HasPartner i (notes side (part side run)) (notes (peer side) (part (peer side) run))

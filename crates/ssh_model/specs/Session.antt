@@ -1,6 +1,6 @@
 -- What the two ends of a session did, in one list of items with their sides, the newest first, so that "earlier" is
 -- the tail. What is asked of an end, what it is told, and what it sends and takes are values of their own.
-use Rattle.std.specs.Prelude.{ℕ, Bool, List, [], ◌∷◌, ◌++◌, map, Option, true, false}
+use Rattle.std.specs.Prelude.{ℕ, Bool, List, [], ◌∷◌, map, Option, true, false}
 use Rattle.ssh_model.specs.History.{Side, Side.Client, Side.Server}
 use Rattle.ssh_model.specs.Message.{Msg, Msg.NewKeys}
 

@@ -1,14 +1,14 @@
 -- What an end answers to the messages of the transport and of authentication, and to the asks for them. One clause or
 -- constructor is one row.
-use Rattle.std.specs.Prelude.{◌≡◌, ℕ, suc, Bool, true, false, not, cond, ◌==◌, ◌+◌, ◌&&◌, ◌||◌, nat_le, nat_lt, if◌then◌else◌, Option, Some, None, is_some, unwrap_or, find, List, [], ◌∷◌, ◌++◌, length, codes}
+use Rattle.std.specs.Prelude.{◌≡◌, ℕ, suc, Bool, true, false, not, ◌==◌, ◌+◌, ◌&&◌, ◌||◌, nat_le, nat_lt, Some, None, is_some, find, List, [], ◌∷◌, ◌++◌, length, codes}
 use Rattle.ssh_model.specs.History.{Side, Side.Client, Side.Server, peer}
 use Rattle.ssh_model.specs.Message.{Msg, Msg.Disconnect, Msg.Ignore, Msg.Unimplemented, Msg.Debug, Msg.ServiceRequest, Msg.ServiceAccept, Msg.KexInit, Msg.NewKeys, Msg.KexEcdhInit, Msg.KexEcdhReply, Msg.UserauthRequest, Msg.UserauthFailure, Msg.UserauthSuccess, Msg.UserauthBanner, Msg.UserauthPkOk, Msg.Unknown, Method, Method.NoMethod, Method.Password, Method.Publickey, Proposal}
 use Rattle.ssh_model.specs.MacOnly.{is_text}
 use Rattle.ssh_model.specs.Exchange.{exchange_hash}
 use Rattle.ssh_model.specs.Refusal.{Check, Check.RefusedWhere}
-use Rattle.ssh_model.specs.Party.{Parties, settings_of, marker_of, offer, lists_of}
-use Rattle.ssh_model.specs.Session.{Ask, Ask.AskService, Ask.AskNone, Ask.AskPassword, Ask.AskProbe, Ask.AskSign, Ask.AskRekey, Ask.AskDisconnect, Fact, Fact.Completed, Fact.Service, Fact.Accepted, Fact.Authenticated, Fact.Failed, Fact.Banner, Fact.KeyOk, Fact.Ignored, Fact.Debugged, Fact.NotImplemented, Fact.Disconnected, Item, Item.Sent, Item.Took, Item.Told, Item.Died, sent, took, messages_sent}
-use Rattle.ssh_model.specs.Epoch.{epoch, count, wire_number}
+use Rattle.ssh_model.specs.Party.{Parties, marker_of, offer, lists_of}
+use Rattle.ssh_model.specs.Session.{Ask, Ask.AskService, Ask.AskNone, Ask.AskPassword, Ask.AskProbe, Ask.AskSign, Ask.AskRekey, Ask.AskDisconnect, Fact.Completed, Fact.Service, Fact.Accepted, Fact.Authenticated, Fact.Failed, Fact.Banner, Fact.KeyOk, Fact.Ignored, Fact.Debugged, Fact.NotImplemented, Fact.Disconnected, Item, Item.Sent, Item.Took, Item.Told, Item.Died, sent, took, messages_sent}
+use Rattle.ssh_model.specs.Epoch.{epoch, wire_number}
 use Rattle.ssh_model.specs.Exchanges.{nth, fed, offers, no_material, exchange, exchanges, session_id, has_choice, choice}
 use Rattle.ssh_model.specs.Phase.{phase, is_normal, is_client, blocked, has_material, own_names, authenticated, failures, outstanding, sent_service_request, took_service_accept}
 use Rattle.ssh_model.specs.Authentication.{is_accepted, is_good_probe, is_failing, signed_text}

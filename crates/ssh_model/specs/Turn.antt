@@ -1,16 +1,15 @@
 -- The turns of an end, and the runs of two: what is taken, sent, told and refused, by the tables of the transport and
 -- of the connection.
-use Rattle.std.specs.Prelude.{◌≡◌, ℕ, suc, ◌<◌, ◌≤◌, ◌^◌, ◌-◌, Bool, true, false, not, ◌==◌, ◌&&◌, ◌||◌, nat_lt, nat_le, Option, Some, None, List, [], ◌∷◌, ◌++◌, length}
+use Rattle.std.specs.Prelude.{◌≡◌, ℕ, ◌<◌, ◌≤◌, ◌^◌, ◌-◌, Bool, true, false, not, ◌&&◌, nat_lt, Option, Some, None, List, [], ◌∷◌, ◌++◌, length}
 use Rattle.ssh_model.specs.DataTypes.{AreBytes}
-use Rattle.ssh_model.specs.History.{Side, Side.Client, Side.Server, peer}
-use Rattle.ssh_model.specs.Message.{Msg, Msg.KexInit, Msg.Disconnect, Suits, IsRow, IsPayload, IsWrittenPayload}
-use Rattle.ssh_model.specs.DataTypes.{IsWrittenBoolean}
+use Rattle.ssh_model.specs.History.{Side, Side.Client, Side.Server}
+use Rattle.ssh_model.specs.Message.{Msg, Msg.KexInit, Msg.Disconnect, Suits, IsPayload, IsWrittenPayload}
 use Rattle.ssh_model.specs.Refusal.{Check, first_refusal, refusal_name, refusal_reason}
 use Rattle.ssh_model.specs.Party.{Parties, settings_of, offer}
-use Rattle.ssh_model.specs.Session.{Ask, Fact, Fact.Ignored, Item, Item.Fed, Item.Asked, Item.AskRefused, Item.SentLine, Item.TookLine, Item.TookOtherLine, Item.Sent, Item.Took, Item.TookGuess, Item.Told, Item.Refused, Item.Died, Done, done_by, part, has_died, sent, took, messages_sent}
-use Rattle.ssh_model.specs.Epoch.{count, wire_number}
-use Rattle.ssh_model.specs.Exchanges.{fed, offers, taking_key}
-use Rattle.ssh_model.specs.Phase.{Phase, Phase.Guessed, phase, has_line, other_lines, has_material, probing, is_client, may_take}
+use Rattle.ssh_model.specs.Session.{Ask, Fact.Ignored, Item, Item.Fed, Item.Asked, Item.AskRefused, Item.SentLine, Item.TookLine, Item.TookOtherLine, Item.Sent, Item.Took, Item.TookGuess, Item.Told, Item.Refused, Item.Died, Done, done_by, part, has_died, sent, took}
+use Rattle.ssh_model.specs.Epoch.{wire_number}
+use Rattle.ssh_model.specs.Exchanges.{fed, taking_key}
+use Rattle.ssh_model.specs.Phase.{Phase.Guessed, phase, has_line, other_lines, has_material, probing, is_client, may_take}
 use Rattle.ssh_model.specs.Transport.{TransportAnswer, TransportAsk, transport_checks, transport_ask_checks}
 use Rattle.ssh_model.specs.Connection.{ConnectionAnswer, ConnectionAsk, connection_checks, connection_ask_checks, owed_replies, AreReplies}
 use Rattle.ssh_model.specs.Outcome.{Outcome, Outcome.OtherLine, Outcome.VersionLine, Outcome.RefusedLine, Outcome.Opens, Outcome.RefusedPacket}
@@ -124,17 +123,31 @@ pub record IsMaterial (cookie secret : List ℕ) : Type 0 where
   pub secret_bytes : AreBytes secret
   pub secret_size : length secret ≡ 32
 
--- What a live end of this side, with the history h, may add in one turn, the newest first. It keeps one pair of cookie
--- and secret at a time, and is fed at most 2^32 - 1 of them. It may die for want of memory at any time.
+-- What an end does with a pair that it is fed. It keeps one pair at a time, and is fed at most 2^32 - 1 of them; where it
+-- keeps one, has had so many, or is dead, it answers false and does nothing.
+abbrev pub can_feed : List Item → Bool
+can_feed h = not (has_died h) && not (has_material h) && nat_lt (length (fed h)) (2 ^ 32 - 1)
+
+pub data FeedsTurn (side : Side) (h : List Item) (cookie secret : List ℕ) : List Item → Type 0 where
+  feeds : can_feed h ≡ true → IsMaterial cookie secret → FeedsTurn side h cookie secret (Fed cookie secret ∷ [])
+  answers_false : can_feed h ≡ false → FeedsTurn side h cookie secret []
+
+-- What an end does with an ask. A dead end does nothing, and it may die for want of memory where it would send.
+pub data AsksTurn {K : Type 0} (p : Parties K) (side : Side) (h : List Item) (ask : Ask) : List Item → Type 0 where
+  refuses : (refusal : ℕ) → has_died h ≡ false → first_refusal (ask_checks p side h ask) ≡ Some refusal →
+      AsksTurn p side h ask (AskRefused refusal ∷ Asked ask ∷ [])
+  answers : {items : List Item} → has_died h ≡ false → first_refusal (ask_checks p side h ask) ≡ None → OnAsk p side h ask items →
+      AreSpelled items → AreNumbered items (Asked ask ∷ h) → AsksTurn p side h ask (items ++ Asked ask ∷ [])
+  spends : {items : List Item} → has_died h ≡ false → first_refusal (ask_checks p side h ask) ≡ None → OnAsk p side h ask items →
+      AreSpelled items → (AreNumbered items (Asked ask ∷ h) → ⊥) → AsksTurn p side h ask (Died ∷ Refused 14 None ∷ Asked ask ∷ [])
+  dies : has_died h ≡ false → first_refusal (ask_checks p side h ask) ≡ None → AsksTurn p side h ask (Died ∷ [])
+  is_dead : has_died h ≡ true → AsksTurn p side h ask []
+
+-- What an end of this side, with the history h, may add in one turn, the newest first. It may die for want of memory at
+-- any time.
 pub data Turn {K : Type 0} (p : Parties K) (side : Side) (h : List Item) : List Item → Type 0 where
-  feeds : (cookie secret : List ℕ) → has_died h ≡ false → has_material h ≡ false → length (fed h) < 2 ^ 32 - 1 → IsMaterial cookie secret →
-      Turn p side h (Fed cookie secret ∷ [])
-  refuses_ask : (ask : Ask) (refusal : ℕ) → has_died h ≡ false → first_refusal (ask_checks p side h ask) ≡ Some refusal →
-      Turn p side h (AskRefused refusal ∷ Asked ask ∷ [])
-  answers_ask : {items : List Item} (ask : Ask) → has_died h ≡ false → first_refusal (ask_checks p side h ask) ≡ None → OnAsk p side h ask items →
-      AreSpelled items → AreNumbered items (Asked ask ∷ h) → Turn p side h (items ++ Asked ask ∷ [])
-  spends_on_ask : {items : List Item} (ask : Ask) → has_died h ≡ false → first_refusal (ask_checks p side h ask) ≡ None → OnAsk p side h ask items →
-      AreSpelled items → (AreNumbered items (Asked ask ∷ h) → ⊥) → Turn p side h (Died ∷ Refused 14 None ∷ Asked ask ∷ [])
+  feeds : {items : List Item} (cookie secret : List ℕ) → FeedsTurn side h cookie secret items → Turn p side h items
+  asks : {items : List Item} (ask : Ask) → AsksTurn p side h ask items → Turn p side h items
   reads : {items : List Item} (unit : List ℕ) (outcome : Outcome) → has_died h ≡ false → IsUnit p.crypto (stage p side h) unit outcome →
       OnOutcome p side h outcome items → Turn p side h items
   dies : has_died h ≡ false → Turn p side h (Died ∷ [])

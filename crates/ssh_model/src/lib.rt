@@ -3,6 +3,7 @@
 #![tactic(auto)]
 
 pub mod channel;
+mod choice;
 mod epoch;
 pub mod examples;
 mod exchange;
@@ -13,6 +14,7 @@ pub mod session;
 mod stream;
 mod turn;
 
+pub use choice::{first_common_name, guess};
 pub use epoch::taken_in_order;
 pub use exchange::equal_texts;
 pub use line::{line_examples, line_units, one_version};

@@ -1,0 +1,62 @@
+-- Events give runs, a beginning of an honest run is honest, and the cutting of a stream into pieces does not matter.
+use Rattle.std.proofs.Common.{◌≡◌, ℕ, List, [], ◌∷◌, ◌++◌, false, sym, subst, ◌↔◌}
+use Rattle.ssh_model.specs.History.{Side, Side.Client, Side.Server}
+use Rattle.ssh_model.specs.Message.{Msg.NewKeys}
+use Rattle.ssh_model.specs.Seal.{IsSealing}
+use Rattle.ssh_model.specs.Party.{Parties}
+use Rattle.ssh_model.specs.Session.{Item, Item.Sent, Done, Done.By, part, has_died}
+use Rattle.ssh_model.specs.Delivery.{Delivered, Delivered.dead, Delivered.waits, Delivered.takes, InPieces}
+use Rattle.ssh_model.specs.Turn.{Turn, Turn.feeds, Turn.asks, Run, Run.then_turn, stage}
+use Rattle.ssh_model.specs.Events.{Event, OnUnit, Uses, reading_of, World, OnEvent, OnEvent.asks, OnEvent.feeds, OnEvent.delivers, Plays, Plays.ends, Plays.goes}
+use Rattle.ssh_model.specs.Honest.{SignaturesHold, IsHonest}
+use Rattle.ssh_model.proofs.Whole.{fresh_tail, completed_grows, tags_tail}
+use Rattle.ssh_model.proofs.Units.{reading_pieces}
+
+module _ {K : Type 0} (p : Parties K) where
+  unit_turn : (side : Side) (h items : List Item) (unit : List ℕ) → has_died h ≡ false → OnUnit p side h unit items → Turn p side h items
+  unit_turn side h items unit alive (OnUnit.reads outcome u o) = Turn.reads unit outcome alive u o
+  unit_turn side h items unit alive OnUnit.dies = Turn.dies alive
+
+  delivery_runs : (side : Side) (run last : List Done) (bytes rest : List ℕ) → Delivered (reading_of p side) run bytes last rest → Run p run → Run p last
+  delivery_runs side run last bytes rest (dead b d) r = r
+  delivery_runs side run last bytes rest (waits alive w) r = r
+  delivery_runs side run last bytes rest (takes {next = next} unit more e n a d) r =
+      let t = then_turn side r (unit_turn side (part side run) a.items unit n.0 a.on_unit) in
+      delivery_runs side next last more rest d (subst (λ w. Run p w) (sym a.next_is) t)
+
+  event_runs : (w v : World) (event : Event) → OnEvent p w event v → Run p w.run → Run p v.run
+  event_runs w v event (asks Client a t) r = then_turn Client r (Turn.asks a t)
+  event_runs w v event (asks Server a t) r = then_turn Server r (Turn.asks a t)
+  event_runs w v event (feeds Client c s t) r = then_turn Client r (Turn.feeds c s t)
+  event_runs w v event (feeds Server c s t) r = then_turn Server r (Turn.feeds c s t)
+  event_runs w v event (delivers {run = run} {rest = rest} Client bytes d) r = delivery_runs Client w.run run _ rest d r
+  event_runs w v event (delivers {run = run} {rest = rest} Server bytes d) r = delivery_runs Server w.run run _ rest d r
+
+  pub plays_run : (before after : World) (events : List Event) → Plays p before events after → Run p before.run → Run p after.run
+  plays_run before after events ends r = r
+  plays_run before after events (goes {between = b} {event = e} {events = es} s more) r = plays_run b after es more (event_runs before b e s r)
+
+  -- ---- beginnings
+
+  signatures_tail : (t : Side) (i : Item) (run : List Done) → SignaturesHold p (By t i ∷ run) → SignaturesHold p run
+  signatures_tail Client (Sent c NewKeys b) run h = h.1
+  signatures_tail t i run h = h
+
+  one_less : (t : Side) (i : Item) (run : List Done) → IsHonest p (By t i ∷ run) → IsHonest p run
+  one_less t i run h = record {
+    tags = tags_tail p t i run h.tags;
+    signatures = signatures_tail t i run h.signatures;
+    hashes = λ x y a b e. h.hashes x y (completed_grows p t i run x a) (completed_grows p t i run y b) e;
+    cookies_differ = λ side. fresh_tail p side t i run (h.cookies_differ side);
+  }
+
+  pub beginning_is_honest : (more run : List Done) → IsHonest p (more ++ run) → IsHonest p run
+  beginning_is_honest [] run h = h
+  beginning_is_honest (By t i ∷ more) run h = beginning_is_honest more run (one_less t i (more ++ run) h)
+
+  -- ---- pieces
+
+  pub session_pieces : IsSealing p.crypto → (side : Side) (run last : List Done) (one two rest : List ℕ)
+      → Delivered (reading_of p side) run (one ++ two) last rest ↔ InPieces (reading_of p side) run one two last rest
+  session_pieces sealing side run last one two rest =
+      reading_pieces p.crypto sealing (λ r. stage p side (part side r)) (Uses p side) (λ r. has_died (part side r)) run last one two rest

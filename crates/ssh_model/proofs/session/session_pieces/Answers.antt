@@ -1,0 +1,5 @@
+use Rattle.ssh_model.proofs.Played.{session_pieces}
+use Rattle.ssh_model.proofs.session.session_pieces.Goals as goal
+
+pub returns : goal.returns
+returns g c = session_pieces
