@@ -59,6 +59,14 @@ pub second_confirmation_row : refusal Client (channel_confirmed Client) confirm_
 unfolding methods largest has_place some_free
 second_confirmation_row = refl
 
+pub confirmation_while_close_is_owed_row : refusal Client (closed_by_peer Client) confirm_message ≡ Some 7
+unfolding methods largest has_place some_free
+confirmation_while_close_is_owed_row = refl
+
+pub confirmation_after_both_closed_row : refusal Client (hears_on 3 (ChannelClose 3) ∷ says_on 3 (ChannelClose 5) ∷ channel_confirmed Client) confirm_message ≡ Some 16
+unfolding methods largest has_place some_free
+confirmation_after_both_closed_row = refl
+
 pub confirmation_by_who_opened_row : refusal Server (channel_opened Server) (ChannelOpenConfirmation 5 3 10 8 []) ≡ Some 7
 unfolding methods largest has_place some_free
 confirmation_by_who_opened_row = refl
@@ -74,6 +82,10 @@ open_failure_of_no_channel_row = refl
 pub failure_after_confirmation_row : refusal Client (channel_confirmed Client) (ChannelOpenFailure 3 1 [] []) ≡ Some 7
 unfolding methods largest has_place some_free
 failure_after_confirmation_row = refl
+
+pub failure_while_close_is_owed_row : refusal Client (closed_by_peer Client) (ChannelOpenFailure 3 1 [] []) ≡ Some 7
+unfolding methods largest has_place some_free
+failure_while_close_is_owed_row = refl
 
 pub adjust_row : refusal Client (channel_confirmed Client) (ChannelWindowAdjust 3 4294967275) ≡ None
 unfolding methods largest has_place some_free

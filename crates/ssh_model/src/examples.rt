@@ -127,10 +127,13 @@ pub fn channel_refusal_examples()
     ensures confirmation { refusal Client (channel_opened Client) confirm_message ≡ None }
     ensures confirmation_of_no_channel { refusal Client (admitted Client) confirm_message ≡ Some 16 }
     ensures second_confirmation { refusal Client (channel_confirmed Client) confirm_message ≡ Some 7 }
+    ensures confirmation_while_close_is_owed { refusal Client (closed_by_peer Client) confirm_message ≡ Some 7 }
+    ensures confirmation_after_both_closed { refusal Client (hears_on 3 (ChannelClose 3) ∷ says_on 3 (ChannelClose 5) ∷ channel_confirmed Client) confirm_message ≡ Some 16 }
     ensures confirmation_by_who_opened { refusal Server (channel_opened Server) (ChannelOpenConfirmation 5 3 10 8 []) ≡ Some 7 }
     ensures open_failure { refusal Client (channel_opened Client) (ChannelOpenFailure 3 1 [] []) ≡ None }
     ensures open_failure_of_no_channel { refusal Client (admitted Client) (ChannelOpenFailure 3 1 [] []) ≡ Some 16 }
     ensures failure_after_confirmation { refusal Client (channel_confirmed Client) (ChannelOpenFailure 3 1 [] []) ≡ Some 7 }
+    ensures failure_while_close_is_owed { refusal Client (closed_by_peer Client) (ChannelOpenFailure 3 1 [] []) ≡ Some 7 }
     ensures adjust { refusal Client (channel_confirmed Client) (ChannelWindowAdjust 3 4294967275) ≡ None }
     ensures adjust_too_far { refusal Client (channel_confirmed Client) (ChannelWindowAdjust 3 4294967276) ≡ Some 18 }
     ensures adjust_after_data { refusal Client (says_on 3 (ChannelData 5 (codes "x")) ∷ channel_confirmed Client) (ChannelWindowAdjust 3 4294967276) ≡ None }

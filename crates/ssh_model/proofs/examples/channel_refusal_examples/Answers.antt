@@ -1,4 +1,4 @@
-use Rattle.ssh_model.proofs.ExampleChannels.{many_global_requests_row, too_many_global_requests_row, global_request_without_reply_row, replied_global_request_row, reply_to_no_global_request_row, failure_of_no_global_request_row, reply_to_global_request_row, failure_of_global_request_row, second_reply_to_global_request_row, channel_open_row, confirmation_row, confirmation_of_no_channel_row, second_confirmation_row, confirmation_by_who_opened_row, open_failure_row, open_failure_of_no_channel_row, failure_after_confirmation_row, adjust_row, adjust_too_far_row, adjust_after_data_row, adjust_of_no_channel_row, adjust_after_close_row, adjust_after_close_of_peer_row, channel_data_row, data_of_no_channel_row, data_before_confirmation_row, data_to_unconfirmed_row, data_over_size_row, data_over_window_row, data_within_window_row, data_after_adjust_row, data_after_eof_row, data_after_eof_over_window_row, data_after_close_row, data_after_close_of_peer_row, extended_data_row, extended_data_over_size_row, extended_data_over_window_row, extended_data_after_eof_row, extended_data_of_no_channel_row, eof_row, second_eof_row, eof_of_no_channel_row, close_row, close_of_no_channel_row, second_close_row, many_requests_row, too_many_requests_row, request_without_reply_row, request_after_close_row, request_of_no_channel_row, reply_to_request_row, failure_of_request_row, reply_to_no_request_row, failure_of_no_request_row, reply_of_no_channel_row, failure_of_no_channel_row}
+use Rattle.ssh_model.proofs.ExampleChannels.{many_global_requests_row, too_many_global_requests_row, global_request_without_reply_row, replied_global_request_row, reply_to_no_global_request_row, failure_of_no_global_request_row, reply_to_global_request_row, failure_of_global_request_row, second_reply_to_global_request_row, channel_open_row, confirmation_row, confirmation_of_no_channel_row, second_confirmation_row, confirmation_while_close_is_owed_row, confirmation_after_both_closed_row, confirmation_by_who_opened_row, open_failure_row, open_failure_of_no_channel_row, failure_after_confirmation_row, failure_while_close_is_owed_row, adjust_row, adjust_too_far_row, adjust_after_data_row, adjust_of_no_channel_row, adjust_after_close_row, adjust_after_close_of_peer_row, channel_data_row, data_of_no_channel_row, data_before_confirmation_row, data_to_unconfirmed_row, data_over_size_row, data_over_window_row, data_within_window_row, data_after_adjust_row, data_after_eof_row, data_after_eof_over_window_row, data_after_close_row, data_after_close_of_peer_row, extended_data_row, extended_data_over_size_row, extended_data_over_window_row, extended_data_after_eof_row, extended_data_of_no_channel_row, eof_row, second_eof_row, eof_of_no_channel_row, close_row, close_of_no_channel_row, second_close_row, many_requests_row, too_many_requests_row, request_without_reply_row, request_after_close_row, request_of_no_channel_row, reply_to_request_row, failure_of_request_row, reply_to_no_request_row, failure_of_no_request_row, reply_of_no_channel_row, failure_of_no_channel_row}
 use Rattle.ssh_model.proofs.examples.channel_refusal_examples.Goals as goal
 
 pub returns : goal.returns
@@ -16,10 +16,13 @@ returns c = record {
   confirmation = confirmation_row;
   confirmation_of_no_channel = confirmation_of_no_channel_row;
   second_confirmation = second_confirmation_row;
+  confirmation_while_close_is_owed = confirmation_while_close_is_owed_row;
+  confirmation_after_both_closed = confirmation_after_both_closed_row;
   confirmation_by_who_opened = confirmation_by_who_opened_row;
   open_failure = open_failure_row;
   open_failure_of_no_channel = open_failure_of_no_channel_row;
   failure_after_confirmation = failure_after_confirmation_row;
+  failure_while_close_is_owed = failure_while_close_is_owed_row;
   adjust = adjust_row;
   adjust_too_far = adjust_too_far_row;
   adjust_after_data = adjust_after_data_row;
