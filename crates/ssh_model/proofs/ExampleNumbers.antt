@@ -1,12 +1,13 @@
 -- Epochs, numbers and keys of the toy ends.
-use Rattle.std.specs.Prelude.{◌≡◌, ◌∷◌, true, [], Some, None, codes, refl}
+use Rattle.std.specs.Prelude.{◌≡◌, ℕ, List, ◌∷◌, ◌++◌, true, [], Some, None, codes, refl}
 use Rattle.ssh_model.specs.History.{Side, Side.Client, Side.Server, peer}
-use Rattle.ssh_model.specs.ExampleHistories.{hears, lined, offered, completed, keyed, admitted, offered_again, completed_again, guessing, first_inputs, mac_key}
+use Rattle.ssh_model.specs.ExampleHistories.{hears, lined, offered, completed, keyed, admitted, offered_again, completed_again, guessing, plain_crypto, first_inputs, mac_key}
 use Rattle.ssh_model.specs.Example.{toy, secret}
 use Rattle.ssh_model.specs.Message.{Msg.KexInit}
+use Rattle.ssh_model.specs.Exchange.{Inputs, exchange_hash, derived}
 use Rattle.ssh_model.specs.Session.{sent, took, Item.TookGuess}
 use Rattle.ssh_model.specs.Epoch.{epoch, wire_number}
-use Rattle.ssh_model.specs.Exchanges.{exchange, sending_key, taking_key}
+use Rattle.ssh_model.specs.Exchanges.{exchange, choice, iv_letter, cipher_letter, mac_letter, key_of, sending_key, taking_key}
 use Rattle.ssh_model.specs.Choice.{methods}
 
 pub number_before_newkeys_row : wire_number (sent (offered Client)) ≡ 2
@@ -84,6 +85,14 @@ pub key_lasts_while_rekeying_row : (side : Side) → sending_key toy side (offer
 unfolding methods
 key_lasts_while_rekeying_row Client = refl
 key_lasts_while_rekeying_row Server = refl
+
+pub letters_of_keys_row : iv_letter Client ∷ iv_letter Server ∷ cipher_letter Client ∷ cipher_letter Server ∷ mac_letter Client ∷ mac_letter Server ∷ [] ≡ codes "ABCDEF"
+unfolding methods
+letters_of_keys_row = refl
+
+pub parts_of_key_row : (x : Inputs) (session_hash : List ℕ) → key_of plain_crypto Server x session_hash (choice Client 0 (offered Client)) ≡ derived x.shared (exchange_hash x) (iv_letter Server) session_hash 2 ++ derived x.shared (exchange_hash x) (cipher_letter Server) session_hash 3 ++ derived x.shared (exchange_hash x) (mac_letter Server) session_hash 4
+unfolding methods
+parts_of_key_row x session_hash = refl
 
 pub same_inputs_row : first_inputs Client ≡ first_inputs Server
 unfolding methods

@@ -7,7 +7,8 @@ use Rattle.ssh_model.specs.Message.{Msg, Msg.KexInit, Msg.NewKeys, Msg.KexEcdhIn
 use Rattle.ssh_model.specs.Refusal.{first_refusal}
 use Rattle.ssh_model.specs.Party.{Parties, settings_of, offer}
 use Rattle.ssh_model.specs.Session.{Ask, Ask.AskService, Ask.AskNone, Ask.AskPassword, Ask.AskProbe, Ask.AskSign, Ask.AskOpen, Ask.AskConfirm, Ask.AskRefuse, Ask.AskData, Ask.AskAdjust, Ask.AskEof, Ask.AskClose, Ask.AskRequest, Ask.AskReply, Ask.AskGlobal, Ask.AskGlobalReply, Fact.Completed, Fact.Service, Fact.Accepted, Fact.Authenticated, Fact.Opening, Fact.Opened, Fact.Confirmed, Fact.Closed, Item, Item.Fed, Item.Asked, Item.SentLine, Item.TookLine, Item.Sent, Item.Took, Item.Told}
-use Rattle.ssh_model.specs.MacOnly.{key_block}
+use Rattle.ssh_model.specs.MacOnly.{key_block, mac_only}
+use Rattle.ssh_model.specs.Seal.{Crypto}
 use Rattle.ssh_model.specs.Exchange.{Inputs, exchange_hash, derived}
 use Rattle.ssh_model.specs.Exchanges.{exchange, exchanges, session_id, mac_letter}
 use Rattle.ssh_model.specs.Phase.{may_take}
@@ -217,6 +218,13 @@ with_methods methods = record toy { server = record (toy_settings (line_of Serve
 
 abbrev pub friendly : Parties (List ℕ)
 friendly = record toy { knows_key = λ user algorithm key. true }
+
+-- a sealing with lengths of its own, whose keys show what they are made of
+abbrev pub plain_crypto : Crypto (List ℕ)
+plain_crypto = record mac_only {
+  lengths = λ enc mac. Some (record { iv = 2; cipher = 3; mac = 4 });
+  made = λ enc mac iv cipher key. iv ++ cipher ++ key;
+}
 
 -- ---- the first exchange of an end, and its key of a direction
 

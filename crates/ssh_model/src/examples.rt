@@ -2,7 +2,7 @@
 
 ghost use Rattle.std.specs.Prelude.{◌≡◌, ℕ, ◌∷◌, ◌++◌, true, false, List, [], Some, None, codes, replicate, length, take, map};
 ghost use Rattle.ssh_model.specs.History.{IsIn, Side, Side.Client, Side.Server, peer};
-ghost use Rattle.ssh_model.specs.ExampleHistories.{taken, refusal, ask_refusal, says, hears, says_on, hears_on, offer_of, opened, lined, offered, first_reply, completed, keyed, userauth, connection, asking, served, right_request, wrong_request, probe, right_signature, requesting, probing_client, failed, admitted, fed_again, rekeying, offered_again, completed_again, open_message, confirm_message, channel_opened, channel_confirmed, heard_data, heard_eof, heard_request, closed_by_peer, guessing, said_data, said_request, wide_channel, requests, connection_asks, with_methods, friendly, first_inputs, mac_key};
+ghost use Rattle.ssh_model.specs.ExampleHistories.{taken, refusal, ask_refusal, says, hears, says_on, hears_on, offer_of, opened, lined, offered, first_reply, completed, keyed, userauth, connection, asking, served, right_request, wrong_request, probe, right_signature, requesting, probing_client, failed, admitted, fed_again, rekeying, offered_again, completed_again, open_message, confirm_message, channel_opened, channel_confirmed, heard_data, heard_eof, heard_request, closed_by_peer, guessing, said_data, said_request, wide_channel, requests, connection_asks, with_methods, friendly, plain_crypto, first_inputs, mac_key};
 ghost use Rattle.ssh_model.specs.Example.{toy_key, toy, secret, from_to};
 ghost use Rattle.ssh_model.specs.ExampleRun.{session};
 ghost use Rattle.ssh_model.specs.Message.{Method.NoMethod, Method.Password, Method.Publickey, Method.Other, Msg.Disconnect, Msg.Ignore, Msg.Unimplemented, Msg.Debug, Msg.ServiceRequest, Msg.ServiceAccept, Msg.KexInit, Msg.NewKeys, Msg.KexEcdhInit, Msg.KexEcdhReply, Msg.UserauthRequest, Msg.UserauthFailure, Msg.UserauthSuccess, Msg.UserauthBanner, Msg.UserauthPkOk, Msg.GlobalRequest, Msg.RequestSuccess, Msg.RequestFailure, Msg.ChannelOpenConfirmation, Msg.ChannelOpenFailure, Msg.ChannelWindowAdjust, Msg.ChannelData, Msg.ChannelExtendedData, Msg.ChannelEof, Msg.ChannelClose, Msg.ChannelRequest, Msg.ChannelSuccess, Msg.ChannelFailure, Msg.Unknown};
@@ -10,7 +10,8 @@ ghost use Rattle.ssh_model.specs.Refusal.{refusal_name, refusal_reason};
 ghost use Rattle.ssh_model.specs.Party.{AreLawful, marker_of, lists_of};
 ghost use Rattle.ssh_model.specs.Session.{Item, part, has_died, sent, took, Ask.AskService, Ask.AskNone, Ask.AskPassword, Ask.AskProbe, Ask.AskSign, Ask.AskRekey, Ask.AskOpen, Ask.AskConfirm, Ask.AskRefuse, Ask.AskData, Ask.AskAdjust, Ask.AskEof, Ask.AskClose, Ask.AskRequest, Ask.AskReply, Ask.AskGlobal, Ask.AskGlobalReply, Ask.AskDisconnect, Fact.Completed, Fact.Service, Fact.Accepted, Fact.Authenticated, Fact.Failed, Fact.Banner, Fact.KeyOk, Fact.Ignored, Fact.Debugged, Fact.NotImplemented, Fact.Disconnected, Fact.Global, Fact.GlobalDone, Fact.Opening, Fact.Opened, Fact.Confirmed, Fact.OpenFailed, Fact.GotData, Fact.Adjusted, Fact.Ended, Fact.Closed, Fact.Requested, Fact.RequestDone, Item.TookGuess, Item.Told, Item.Died};
 ghost use Rattle.ssh_model.specs.Epoch.{epoch, wire_number};
-ghost use Rattle.ssh_model.specs.Exchanges.{exchange, exchanges, first_common, common, choice, sending_key, taking_key};
+ghost use Rattle.ssh_model.specs.Exchange.{Inputs, exchange_hash, derived};
+ghost use Rattle.ssh_model.specs.Exchanges.{exchange, exchanges, first_common, common, choice, iv_letter, cipher_letter, mac_letter, key_of, sending_key, taking_key};
 ghost use Rattle.ssh_model.specs.Phase.{is_wrong_guess, own_names, blocked, authenticated};
 ghost use Rattle.ssh_model.specs.Authentication.{is_known_key, signed_text, is_accepted, is_good_probe};
 ghost use Rattle.ssh_model.specs.Transport.{hash_to_sign, reply_now};
@@ -402,6 +403,8 @@ pub fn number_examples()
     ensures key_after_newkeys { (side : Side) → sending_key toy side (completed side) ≡ Some (mac_key side (first_inputs side)) }
     ensures key_of_peer_after_newkeys { (side : Side) → taking_key toy side (keyed side) ≡ Some (mac_key (peer side) (first_inputs side)) }
     ensures key_lasts_while_rekeying { (side : Side) → sending_key toy side (offered_again side) ≡ Some (mac_key side (first_inputs side)) }
+    ensures letters_of_keys { iv_letter Client ∷ iv_letter Server ∷ cipher_letter Client ∷ cipher_letter Server ∷ mac_letter Client ∷ mac_letter Server ∷ [] ≡ codes "ABCDEF" }
+    ensures parts_of_key { (x : Inputs) (session_hash : List ℕ) → key_of plain_crypto Server x session_hash (choice Client 0 (offered Client)) ≡ derived x.shared (exchange_hash x) (iv_letter Server) session_hash 2 ++ derived x.shared (exchange_hash x) (cipher_letter Server) session_hash 3 ++ derived x.shared (exchange_hash x) (mac_letter Server) session_hash 4 }
     ensures same_inputs { first_inputs Client ≡ first_inputs Server }
     ensures shared_of_first_exchange { (side : Side) → (first_inputs side).shared ≡ 3 }
     ensures shared_of_later_exchange { (side : Side) → (exchange toy side 1 (completed_again side)).shared ≡ 12 }
