@@ -12,7 +12,7 @@ use Rattle.ssh_model.specs.Example.{is_byte, is_zero, is_shared, mixed, toy_shar
 use Rattle.ssh_model.proofs.Texts.{number_below}
 use Rattle.ssh_model.proofs.MacOnlyLaws.{mac_only_laws}
 
-are_bytes : (bytes : List ℕ) → list_all is_byte bytes ≡ true → AreBytes bytes
+pub are_bytes : (bytes : List ℕ) → list_all is_byte bytes ≡ true → AreBytes bytes
 are_bytes [] h = tt
 are_bytes (b ∷ l) h = let p = and_parts (is_byte b) (list_all is_byte l) h in (ltb-true b 256 p.0, are_bytes l p.1)
 

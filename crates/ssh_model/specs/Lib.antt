@@ -25,6 +25,7 @@ pub mod Connection
 pub mod Epoch
 pub mod Example
 pub mod ExampleHistories
+pub mod ExampleRun
 pub mod Exchanges
 pub mod Honest
 pub mod Party

@@ -16,3 +16,8 @@ HasNumbers (_ ∷ h) = HasNumbers h
 -- The payload was skipped and not read, or its number may not come here.
 abbrev pub IsSkipped : {K : Type 0} → Parties K → Side → List Item → (payload : List ℕ) → List Item → Type 0
 IsSkipped p side h payload items = (items ≡ Told Ignored ∷ TookGuess payload ∷ []) ⊎ (may_take p side h (number_of payload) ≡ false)
+
+-- an item without the payload of what is sent, which the message spells
+abbrev pub shown : Item → Item
+shown (Sent channel message payload) = Sent channel message []
+shown i = i

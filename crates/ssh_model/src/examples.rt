@@ -1,26 +1,41 @@
 //! What the definitions say of two toy ends.
 
-ghost use Rattle.std.specs.Prelude.{◌≡◌, ℕ, ◌∷◌, ◌++◌, true, false, List, [], Some, None, codes, replicate, take, map};
-ghost use Rattle.ssh_model.specs.History.{Side, Side.Client, Side.Server, peer};
+ghost use Rattle.std.specs.Prelude.{◌≡◌, ℕ, ◌∷◌, ◌++◌, true, false, List, [], Some, None, codes, replicate, length, take, map};
+ghost use Rattle.ssh_model.specs.History.{IsIn, Side, Side.Client, Side.Server, peer};
 ghost use Rattle.ssh_model.specs.ExampleHistories.{taken, refusal, ask_refusal, says, hears, says_on, hears_on, offer_of, opened, lined, offered, first_reply, completed, keyed, userauth, connection, asking, served, right_request, wrong_request, probe, right_signature, requesting, probing_client, failed, admitted, fed_again, rekeying, offered_again, completed_again, open_message, confirm_message, channel_opened, channel_confirmed, heard_data, heard_eof, heard_request, closed_by_peer, guessing, said_data, said_request, wide_channel, requests, connection_asks, with_methods, friendly, first_inputs, mac_key};
 ghost use Rattle.ssh_model.specs.Example.{toy_key, toy, secret, from_to};
+ghost use Rattle.ssh_model.specs.ExampleRun.{session};
 ghost use Rattle.ssh_model.specs.Message.{Method.NoMethod, Method.Password, Method.Publickey, Method.Other, Msg.Disconnect, Msg.Ignore, Msg.Unimplemented, Msg.Debug, Msg.ServiceRequest, Msg.ServiceAccept, Msg.KexInit, Msg.NewKeys, Msg.KexEcdhInit, Msg.KexEcdhReply, Msg.UserauthRequest, Msg.UserauthFailure, Msg.UserauthSuccess, Msg.UserauthBanner, Msg.UserauthPkOk, Msg.GlobalRequest, Msg.RequestSuccess, Msg.RequestFailure, Msg.ChannelOpenConfirmation, Msg.ChannelOpenFailure, Msg.ChannelWindowAdjust, Msg.ChannelData, Msg.ChannelExtendedData, Msg.ChannelEof, Msg.ChannelClose, Msg.ChannelRequest, Msg.ChannelSuccess, Msg.ChannelFailure, Msg.Unknown};
 ghost use Rattle.ssh_model.specs.Refusal.{refusal_name, refusal_reason};
 ghost use Rattle.ssh_model.specs.Party.{AreLawful, marker_of, lists_of};
-ghost use Rattle.ssh_model.specs.Session.{Item, sent, took, Ask.AskService, Ask.AskNone, Ask.AskPassword, Ask.AskProbe, Ask.AskSign, Ask.AskRekey, Ask.AskOpen, Ask.AskConfirm, Ask.AskRefuse, Ask.AskData, Ask.AskAdjust, Ask.AskEof, Ask.AskClose, Ask.AskRequest, Ask.AskReply, Ask.AskGlobal, Ask.AskGlobalReply, Ask.AskDisconnect, Fact.Completed, Fact.Service, Fact.Accepted, Fact.Authenticated, Fact.Failed, Fact.Banner, Fact.KeyOk, Fact.Ignored, Fact.Debugged, Fact.NotImplemented, Fact.Disconnected, Fact.Global, Fact.GlobalDone, Fact.Opening, Fact.Opened, Fact.Confirmed, Fact.OpenFailed, Fact.GotData, Fact.Adjusted, Fact.Ended, Fact.Closed, Fact.Requested, Fact.RequestDone, Item.TookGuess, Item.Told, Item.Died};
+ghost use Rattle.ssh_model.specs.Session.{Item, part, has_died, sent, took, Ask.AskService, Ask.AskNone, Ask.AskPassword, Ask.AskProbe, Ask.AskSign, Ask.AskRekey, Ask.AskOpen, Ask.AskConfirm, Ask.AskRefuse, Ask.AskData, Ask.AskAdjust, Ask.AskEof, Ask.AskClose, Ask.AskRequest, Ask.AskReply, Ask.AskGlobal, Ask.AskGlobalReply, Ask.AskDisconnect, Fact.Completed, Fact.Service, Fact.Accepted, Fact.Authenticated, Fact.Failed, Fact.Banner, Fact.KeyOk, Fact.Ignored, Fact.Debugged, Fact.NotImplemented, Fact.Disconnected, Fact.Global, Fact.GlobalDone, Fact.Opening, Fact.Opened, Fact.Confirmed, Fact.OpenFailed, Fact.GotData, Fact.Adjusted, Fact.Ended, Fact.Closed, Fact.Requested, Fact.RequestDone, Item.TookGuess, Item.Told, Item.Died};
 ghost use Rattle.ssh_model.specs.Epoch.{epoch, wire_number};
-ghost use Rattle.ssh_model.specs.Exchanges.{exchange, first_common, common, choice, sending_key, taking_key};
+ghost use Rattle.ssh_model.specs.Exchanges.{exchange, exchanges, first_common, common, choice, sending_key, taking_key};
 ghost use Rattle.ssh_model.specs.Phase.{is_wrong_guess, own_names, blocked, authenticated};
 ghost use Rattle.ssh_model.specs.Authentication.{is_known_key, signed_text, is_accepted, is_good_probe};
 ghost use Rattle.ssh_model.specs.Transport.{hash_to_sign, reply_now};
 ghost use Rattle.ssh_model.specs.Connection.{notes, is_full, is_many, owes_many, is_rekey_due};
-ghost use Rattle.ssh_model.specs.Turn.{Answer, OnAsk};
+ghost use Rattle.ssh_model.specs.Turn.{Answer, OnAsk, Run};
+ghost use Rattle.ssh_model.specs.Honest.{IsHonest};
+ghost use Rattle.ssh_model.specs.Safe.{TookUnder, HasAccepted};
 ghost use Rattle.ssh_model.specs.Choice.{client_marker, server_marker, Kind.Kex};
 ghost use Rattle.ssh_model.specs.ChannelState.{is_confirmed, has_closed};
 
 /// The toy parts keep what is promised of parts.
 pub fn toy_parts()
     ensures { AreLawful toy }
+{}
+
+/// There is an honest run of two ends: with two exchanges, of which the second has other keys, an accepted request, and data
+/// on a channel.
+pub fn honest_run()
+    ensures runs { Run toy session }
+    ensures honest { IsHonest toy session }
+    ensures exchanges_twice { (side : Side) → length (exchanges toy side (part side session)) ≡ 2 }
+    ensures accepted { HasAccepted toy session }
+    ensures data_came { IsIn (Told (GotData 5 None (codes "hi"))) (part Server session) }
+    ensures later_keys { TookUnder 1 (part Server session) }
+    ensures live { (side : Side) → has_died (part side session) ≡ false }
 {}
 
 /// Which numbers, of 0 to 255, an end may take next.

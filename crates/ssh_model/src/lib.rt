@@ -21,4 +21,4 @@ pub use line::{line_examples, line_units, one_version};
 pub use message::one_message;
 pub use packet::{packet_examples, packet_units};
 pub use stream::{StreamEnd, any_pieces, stream_units, waits_where_begun};
-pub use turn::{guesses_are_skipped, numbers_are_fresh};
+pub use turn::{answers_are_fixed, guesses_are_skipped, numbers_are_fresh};
