@@ -11,7 +11,7 @@ use Rattle.ssh_model.specs.Phase.{Phase, Phase.Guessed, phase, has_line, other_l
 use Rattle.ssh_model.specs.Line.{line_end, LineUnit, LineUnit.line, LineIs.version}
 use Rattle.ssh_model.specs.Outcome.{Outcome.VersionLine, Outcome.Opens}
 use Rattle.ssh_model.specs.Unit.{IsUnit}
-use Rattle.ssh_model.specs.Turn.{AreSpelled, AreNumbered, answer_checks, Answer, OnPayload.takes as on_payload, stage, stage_after, OnOutcome.version_line, OnOutcome.opened, ask_checks, OnAsk, Turn, Turn.answers_ask, Turn.reads, number_of}
+use Rattle.ssh_model.specs.Turn.{AreSpelled, AreNumbered, answer_checks, Answer, OnPayload.takes as on_payload, stage, stage_after, OnOutcome.version_line, OnOutcome.opened, ask_checks, OnAsk, Turn, AsksTurn.answers, Turn.asks as asking_turn, Turn.reads, number_of}
 use Rattle.ssh_model.specs.Example.{toy}
 use Rattle.ssh_model.specs.ExampleHistories.{line_of}
 use Rattle.ssh_model.specs.ExampleRun.{payload_of}
@@ -48,7 +48,7 @@ takes_message side h items channel m g may answer spelled numbered =
 
 pub asks : (side : Side) (h items : List Item) (ask : Ask) → has_died h ≡ false → first_refusal (ask_checks toy side h ask) ≡ None → OnAsk toy side h ask items
     → AreSpelled items → AreNumbered items (Asked ask ∷ h) → Turn toy side h (items ++ Asked ask ∷ [])
-asks side h items ask live free answer spelled numbered = answers_ask ask live free answer spelled numbered
+asks side h items ask live free answer spelled numbered = asking_turn ask (answers live free answer spelled numbered)
 
 -- ---- the version lines
 
