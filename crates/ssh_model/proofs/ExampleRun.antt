@@ -18,7 +18,7 @@ use Rattle.ssh_model.specs.ChannelState.{largest}
 use Rattle.ssh_model.specs.ChannelHistory.{has_place, some_free}
 use Rattle.ssh_model.specs.Transport.{hash_to_sign, TransportAnswer.service_request, TransportAnswer.service_accept, TransportAnswer.kexinit_at_server, TransportAnswer.kexinit_at_client, TransportAnswer.answered_at_server, TransportAnswer.init, TransportAnswer.reply as answers_reply, TransportAnswer.newkeys, TransportAnswer.request_accepted, TransportAnswer.success, TransportAsk.service, TransportAsk.password, TransportAsk.rekey}
 use Rattle.ssh_model.specs.Connection.{AreReplies.none as no_replies, AreReplies.reply as one_reply, ConnectionAnswer.opened as opened_at, ConnectionAnswer.confirmation, ConnectionAnswer.got_data, ConnectionAnswer.close, ConnectionAsk.opens, ConnectionAsk.confirm, ConnectionAsk.sends as gives_data, ConnectionAsk.close as says_close}
-use Rattle.ssh_model.specs.Turn.{answer_checks, Answer.of_transport, Answer.of_connection, OnAsk.of_transport as asks_transport, OnAsk.of_connection as asks_connection, FeedsTurn.feeds as keeps_pair, AsksTurn.answers, Turn.feeds, Turn.asks, IsMaterial, Run, Run.start, Run.then_turn}
+use Rattle.ssh_model.specs.Turn.{answer_checks, Answer.of_transport, Answer.of_connection, OnAsk.of_transport as asks_transport, OnAsk.of_connection as asks_connection, FeedsTurn.feeds as fed_now, AsksTurn.answers, Turn.feeds as feeding_turn, Turn.asks as asking_turn, IsMaterial, Run, Run.start, Run.then_turn}
 use Rattle.ssh_model.specs.Example.{toy, toy_key, cookie, secret}
 use Rattle.ssh_model.specs.ExampleHistories.{userauth, connection, right_request, open_message, confirm_message, offer_of}
 use Rattle.ssh_model.specs.ExampleRun.{payload_of, sends, takes, sends_on, offer_message, start_of, data_message, first_reply_message, second_reply_message, session, d0, d1, d2, d3, d4, d5, d6, d7, d8, d9, d10, d11, d12, d13, d14, d15, d16, d17, d18, d19, d20, d21, d22, d23, d24, d25, d26, d27, d28, d29, d30, d31, d32}
@@ -113,7 +113,7 @@ r8 = then_turn Server r7 (takes_message Server (part Server d7) [] None NewKeys 
 
 r9 : Run toy d9
 unfolding methods largest has_place some_free
-r9 = then_turn Client r8 (asks AskService (answers refl refl (asks_transport (service (payload_of (ServiceRequest userauth)))) (good_service_request.spelled, tt) (omega arith, tt)))
+r9 = then_turn Client r8 (asking_turn AskService (answers refl refl (asks_transport (service (payload_of (ServiceRequest userauth)))) (good_service_request.spelled, tt) (omega arith, tt)))
 
 r10 : Run toy d10
 unfolding methods largest has_place some_free
@@ -125,7 +125,7 @@ r11 = then_turn Client r10 (takes_message Client (part Client d10) (Told Service
 
 r12 : Run toy d12
 unfolding methods largest has_place some_free
-r12 = then_turn Client r11 (asks (AskPassword (codes "u") (codes "p")) (answers refl refl (asks_transport (password (codes "u") (codes "p") (payload_of right_request))) (good_request.spelled, tt) (omega arith, tt)))
+r12 = then_turn Client r11 (asking_turn (AskPassword (codes "u") (codes "p")) (answers refl refl (asks_transport (password (codes "u") (codes "p") (payload_of right_request))) (good_request.spelled, tt) (omega arith, tt)))
 
 r13 : Run toy d13
 unfolding methods largest has_place some_free
@@ -137,7 +137,7 @@ r14 = then_turn Client r13 (takes_message Client (part Client d13) (Told Authent
 
 r15 : Run toy d15
 unfolding methods largest has_place some_free
-r15 = then_turn Client r14 (asks (AskOpen (codes "session") 10 8 []) (answers refl refl (asks_connection (opens 3 (codes "session") 10 8 [] (payload_of open_message) refl)) (good_open.spelled, tt) (omega arith, tt)))
+r15 = then_turn Client r14 (asking_turn (AskOpen (codes "session") 10 8 []) (answers refl refl (asks_connection (opens 3 (codes "session") 10 8 [] (payload_of open_message) refl)) (good_open.spelled, tt) (omega arith, tt)))
 
 r16 : Run toy d16
 unfolding methods largest has_place some_free
@@ -145,7 +145,7 @@ r16 = then_turn Server r15 (takes_message Server (part Server d15) (Told (Opened
 
 r17 : Run toy d17
 unfolding methods largest has_place some_free
-r17 = then_turn Server r16 (asks (AskConfirm 5 20 16 []) (answers refl refl (asks_connection (confirm 5 20 16 [] (payload_of confirm_message))) (good_confirm.spelled, tt) (omega arith, tt)))
+r17 = then_turn Server r16 (asking_turn (AskConfirm 5 20 16 []) (answers refl refl (asks_connection (confirm 5 20 16 [] (payload_of confirm_message))) (good_confirm.spelled, tt) (omega arith, tt)))
 
 r18 : Run toy d18
 unfolding methods largest has_place some_free
@@ -153,25 +153,25 @@ r18 = then_turn Client r17 (takes_message Client (part Client d17) (Told (Confir
 
 r19 : Run toy d19
 unfolding methods largest has_place some_free
-r19 = then_turn Client r18 (asks (AskData 3 None (codes "hi")) (answers refl refl (asks_connection (gives_data 3 (codes "hi") (payload_of data_message))) (good_data.spelled, tt) (omega arith, tt)))
+r19 = then_turn Client r18 (asking_turn (AskData 3 None (codes "hi")) (answers refl refl (asks_connection (gives_data 3 (codes "hi") (payload_of data_message))) (good_data.spelled, tt) (omega arith, tt)))
 
 r20 : Run toy d20
 unfolding methods largest has_place some_free
 r20 = then_turn Server r19 (takes_message Server (part Server d19) (Told (GotData 5 None (codes "hi")) ∷ []) (Some 5) data_message good_data (record { live = refl; past = refl; number = omega arith; read = refl; no_guess = refl; suits = tt; welcome = refl }) (of_connection (got_data 5 (codes "hi"))) tt tt)
 
 r21 : Run toy d21
-r21 = then_turn Client r20 (feeds (cookie 162) (secret 4) (keeps_pair refl (material 162 4 (omega arith) (omega arith))))
+r21 = then_turn Client r20 (feeding_turn (cookie 162) (secret 4) (fed_now refl (material 162 4 (omega arith) (omega arith))))
 
 r22 : Run toy d22
-r22 = then_turn Server r21 (feeds (cookie 178) (secret 8) (keeps_pair refl (material 178 8 (omega arith) (omega arith))))
+r22 = then_turn Server r21 (feeding_turn (cookie 178) (secret 8) (fed_now refl (material 178 8 (omega arith) (omega arith))))
 
 r23 : Run toy d23
 unfolding methods largest has_place some_free
-r23 = then_turn Client r22 (asks AskRekey (answers refl refl (asks_transport (rekey (payload_of (offer_message Client false)))) ((good_offer Client false).spelled, tt) (omega arith, tt)))
+r23 = then_turn Client r22 (asking_turn AskRekey (answers refl refl (asks_transport (rekey (payload_of (offer_message Client false)))) ((good_offer Client false).spelled, tt) (omega arith, tt)))
 
 r24 : Run toy d24
 unfolding methods largest has_place some_free
-r24 = then_turn Server r23 (asks (AskClose 5) (answers refl refl (asks_connection (says_close 5 (payload_of (ChannelClose 3)))) (good_close_3.spelled, tt) (omega arith, tt)))
+r24 = then_turn Server r23 (asking_turn (AskClose 5) (answers refl refl (asks_connection (says_close 5 (payload_of (ChannelClose 3)))) (good_close_3.spelled, tt) (omega arith, tt)))
 
 r25 : Run toy d25
 unfolding methods largest has_place some_free

@@ -4,14 +4,14 @@ use Rattle.std.specs.Prelude.{codes}
 use Rattle.ssh_model.specs.History.{Side, Side.Client, Side.Server}
 use Rattle.ssh_model.specs.Message.{Msg, Suits, IsPayload}
 use Rattle.ssh_model.specs.Refusal.{first_refusal}
-use Rattle.ssh_model.specs.Session.{Item, Item.TookLine, Item.Took, has_died, took}
+use Rattle.ssh_model.specs.Session.{Ask, Item, Item.Asked, Item.TookLine, Item.Took, has_died, took}
 use Rattle.ssh_model.specs.Epoch.{wire_number}
 use Rattle.ssh_model.specs.Exchanges.{taking_key}
 use Rattle.ssh_model.specs.Phase.{Phase, Phase.Guessed, phase, has_line, other_lines, is_client, probing, may_take}
 use Rattle.ssh_model.specs.Line.{line_end, LineUnit, LineUnit.line, LineIs.version}
 use Rattle.ssh_model.specs.Outcome.{Outcome.VersionLine, Outcome.Opens}
 use Rattle.ssh_model.specs.Unit.{IsUnit}
-use Rattle.ssh_model.specs.Turn.{AreSpelled, AreNumbered, answer_checks, Answer, OnPayload.takes as on_payload, stage, stage_after, OnOutcome.version_line, OnOutcome.opened, Turn, Turn.reads, number_of}
+use Rattle.ssh_model.specs.Turn.{AreSpelled, AreNumbered, answer_checks, Answer, OnPayload.takes as on_payload, stage, stage_after, OnOutcome.version_line, OnOutcome.opened, ask_checks, OnAsk, Turn, AsksTurn.answers, Turn.asks as asking_turn, Turn.reads, number_of}
 use Rattle.ssh_model.specs.Example.{toy}
 use Rattle.ssh_model.specs.ExampleHistories.{line_of}
 use Rattle.ssh_model.specs.ExampleRun.{payload_of}
@@ -45,6 +45,10 @@ takes_message side h items channel m g may answer spelled numbered =
     let payload_is : IsPayload (probing h) m (payload_of m) = record { suits = may.suits; row = written_is_read m (payload_of m) g.spelled.row } in
     reads unit (Opens (payload_of m)) may.live is_unit
     (opened (payload_of m) (on_payload channel m (record { read = may.read; no_guess = not_guessed (phase toy side h) may.no_guess; message_is = payload_is; not_refused = may.welcome }) answer spelled numbered))
+
+pub asks : (side : Side) (h items : List Item) (ask : Ask) → has_died h ≡ false → first_refusal (ask_checks toy side h ask) ≡ None → OnAsk toy side h ask items
+    → AreSpelled items → AreNumbered items (Asked ask ∷ h) → Turn toy side h (items ++ Asked ask ∷ [])
+asks side h items ask live free answer spelled numbered = asking_turn ask (answers live free answer spelled numbered)
 
 -- ---- the version lines
 
