@@ -5,22 +5,11 @@ use Rattle.ssh_model.specs.DataTypes.{IsByte, IsBoolean, IsUint32, IsString, IsN
 use Rattle.ssh_model.specs.Reading.{Reads, NoFront, OneForm}
 use Rattle.ssh_model.specs.Message.{Then, IsEnd, IsRest, IsCookie, Proposal, Msg, IsRow, IsPayload, Suits}
 use Rattle.ssh_message.specs.Meaning.{IsZero}
+use Rattle.ssh_message.specs.Parts.{Both, IsNothing, NoWhole, one_cookie, one_zero}
 use Rattle.ssh_types.proofs.Fronts.{same_front, one_boolean, one_uint32, one_string}
 use Rattle.ssh_types.proofs.Joined.{one_name_list}
 
 -- ---- fields and their values
-
--- a value, and then those of what follows
-abbrev pub Both : {V W : Type 0} → (V → List ℕ → Type 0) → (W → List ℕ → Type 0) → V × W → List ℕ → Type 0
-Both First Second values bytes = Then (First values.0) (Second values.1) bytes
-
--- no value, at the end
-abbrev pub IsNothing : Unit {0} → List ℕ → Type 0
-IsNothing _ bytes = IsEnd bytes
-
--- The bytes spell no value.
-pub record NoWhole {V : Type 0} (Spells : V → List ℕ → Type 0) (bytes : List ℕ) : Type 0 where
-  pub none : (value : V) → Spells value bytes → ⊥
 
 -- All of the bytes spell one value at most.
 pub record OneWhole {V : Type 0} (Spells : V → List ℕ → Type 0) : Type 0 where
@@ -42,7 +31,7 @@ is_payload probing m payload suits row = record { suits = suits; row = row }
 pub none_front : {V W : Type 0} {A : V → List ℕ → Type 0} (B : W → List ℕ → Type 0) {bytes : List ℕ} → NoFront A bytes → NoWhole (Both A B) bytes
 none_front B h = record { none = λ v t. h.none v.0 t.front t.back t.first t.parts }
 
-none_after : {V W : Type 0} {A : V → List ℕ → Type 0} {B : W → List ℕ → Type 0} (one : OneForm A) (v : V) {bytes after : List ℕ} → Reads (A v) bytes after → NoWhole B after → NoWhole (Both A B) bytes
+pub none_after : {V W : Type 0} {A : V → List ℕ → Type 0} {B : W → List ℕ → Type 0} (one : OneForm A) (v : V) {bytes after : List ℕ} → Reads (A v) bytes after → NoWhole B after → NoWhole (Both A B) bytes
 none_after {A = A} {B = B} one v {bytes = bytes} {after = after} r h =
     record {
       none = λ w t.
@@ -50,22 +39,13 @@ none_after {A = A} {B = B} one v {bytes = bytes} {after = after} r h =
           h.none w.1 (subst (B w.1) (sym same.2) t.second);
     }
 
-pub none_after_uint32 : {W : Type 0} {B : W → List ℕ → Type 0} {n : ℕ} {bytes after : List ℕ} → Reads (IsUint32 n) bytes after → NoWhole B after → NoWhole (Both IsUint32 B) bytes
-none_after_uint32 {n = n} r h = none_after {A = IsUint32} one_uint32 n r h
-
-pub none_after_string : {W : Type 0} {B : W → List ℕ → Type 0} {text bytes after : List ℕ} → Reads (IsString text) bytes after → NoWhole B after → NoWhole (Both IsString B) bytes
-none_after_string {text = text} r h = none_after {A = IsString} one_string text r h
-
-pub none_after_boolean : {W : Type 0} {B : W → List ℕ → Type 0} {truth : Bool} {bytes after : List ℕ} → Reads (IsBoolean truth) bytes after → NoWhole B after → NoWhole (Both IsBoolean B) bytes
-none_after_boolean {truth = truth} r h = none_after {A = IsBoolean} one_boolean truth r h
-
-pub none_after_names : {W : Type 0} {B : W → List ℕ → Type 0} {list : List (List ℕ)} {bytes after : List ℕ} → Reads (IsNameList list) bytes after → NoWhole B after → NoWhole (Both IsNameList B) bytes
-none_after_names {list = list} r h = none_after {A = IsNameList} one_name_list list r h
-
 pub none_end : {bytes : List ℕ} → 0 < length bytes → NoWhole IsNothing bytes
 none_end h = record { none = λ v e. omega (arith, ap length e, h) }
 
-pub ruleset fields = (then_reads, then_byte, is_payload, none_front, none_after_uint32, none_after_string, none_after_boolean, none_after_names, none_end)
+-- for a value and then what follows, and for a message from its values
+pub ruleset pairs = (then_reads, none_front, none_after)
+
+pub ruleset fields = (then_byte, is_payload)
 
 -- ---- the same bytes are the same values
 
@@ -86,11 +66,6 @@ one_both A B one whole =
 
 -- ---- an offer
 
-pub one_cookie : OneForm IsCookie
-one_cookie v w a b x y p q e =
-    let s = same_front a b x y (p.count ∙ sym q.count) e in
-    (sym p.same ∙ (s.0 ∙ q.same), s.0, s.1)
-
 pub reads_cookie : (bytes cookie rest : List ℕ) → cookie ≡ take 16 bytes → rest ≡ drop 16 bytes → length rest + 16 ≡ length bytes → Reads (IsCookie cookie) bytes rest
 reads_cookie bytes cookie rest c r e =
     let count : length cookie ≡ 16 = ap length c ∙ omega (arith, length-take 16 bytes) in
@@ -98,15 +73,6 @@ reads_cookie bytes cookie rest c r e =
 
 pub no_cookie : (bytes : List ℕ) → length bytes < 16 → NoFront IsCookie bytes
 no_cookie bytes short = record { none = λ cookie front after p parts. omega (arith, p.count, ap length parts, length-append front after) }
-
-pub none_after_cookie : {W : Type 0} {B : W → List ℕ → Type 0} {cookie bytes after : List ℕ} → Reads (IsCookie cookie) bytes after → NoWhole B after → NoWhole (Both IsCookie B) bytes
-none_after_cookie {cookie = cookie} r h = none_after {A = IsCookie} one_cookie cookie r h
-
-one_zero : OneForm IsZero
-one_zero v w a b x y p q e = let s = one_uint32 0 0 a b x y p q e in (refl, s.1, s.2)
-
-pub none_after_zero : {W : Type 0} {B : W → List ℕ → Type 0} {bytes after : List ℕ} → Reads (IsUint32 0) bytes after → NoWhole B after → NoWhole (Both IsZero B) bytes
-none_after_zero r h = none_after {A = IsZero} one_zero tt r h
 
 pub no_zero : {bytes : List ℕ} → NoFront IsUint32 bytes → NoFront IsZero bytes
 no_zero h = record { none = λ v front after p parts. h.none 0 front after p parts }

@@ -7,8 +7,9 @@ use Rattle.ssh_model.specs.Message.{Method, NoMethod, Password, Publickey, Other
 use Rattle.ssh_types.proofs.Fronts.{one_boolean, one_string}
 use Rattle.ssh_message.specs.declared.message.Method as code
 use Rattle.ssh_message.specs.Meaning.{method_meaning}
-use Rattle.ssh_message.specs.Methods.{method_name, IsArguments, AreArguments, NoArguments, NoMethodAt}
-use Rattle.ssh_message.proofs.Fields.{Both, IsNothing, NoWhole, OneWhole, one_nothing, one_both}
+use Rattle.ssh_message.specs.Methods.{method_name, IsArguments, AreArguments, NoArguments}
+use Rattle.ssh_message.specs.Parts.{Both, IsNothing, NoWhole}
+use Rattle.ssh_message.proofs.Fields.{OneWhole, one_nothing, one_both}
 
 named : (m : Method) (bytes : List ℕ) → IsMethod IsBoolean m bytes → Then (IsString (method_name m)) (IsArguments m) bytes
 named NoMethod bytes t = t
@@ -73,20 +74,20 @@ one_method =
           one_arguments m k t.back (sym s.0) t.second s.1;
     }
 
-no_none_by : (bytes : List ℕ) → 0 < length bytes → (m : Method) → method_name m ≡ codes "none" → IsArguments m bytes → ⊥
-no_none_by bytes some NoMethod e p = omega (arith, ap length p, some)
+no_none_by : (bytes : List ℕ) → NoWhole IsNothing bytes → (m : Method) → method_name m ≡ codes "none" → IsArguments m bytes → ⊥
+no_none_by bytes some NoMethod e p = some.none tt p
 no_none_by bytes some (Other name rest) e p = p.0.not_none e
 no_none_by bytes some m e p = cc
 
 -- ---- where a part isn't there, there is no method
 
-pub no_method_name : {bytes : List ℕ} → NoFront IsString bytes → NoMethodAt bytes
+pub no_method_name : {bytes : List ℕ} → NoFront IsString bytes → NoWhole (IsMethod IsBoolean) bytes
 no_method_name {bytes = bytes} h = record { none = λ m p. let t = named m bytes p in h.none (method_name m) t.front t.back t.first t.parts }
 
-pub no_method : {name before after : List ℕ} → Reads (IsString name) before after → NoArguments name after → NoMethodAt before
+pub no_method : {name before after : List ℕ} → Reads (IsString name) before after → NoArguments name after → NoWhole (IsMethod IsBoolean) before
 no_method {name = name} {before = before} {after = after} r h = record { none = λ m p. let s = method_at m name before after r p in h.none m s.0 s.1 }
 
-pub no_none : {bytes : List ℕ} → 0 < length bytes → NoArguments (codes "none") bytes
+pub no_none : {bytes : List ℕ} → NoWhole IsNothing bytes → NoArguments (codes "none") bytes
 no_none {bytes = bytes} some = record { none = no_none_by bytes some }
 
 by_password : (bytes : List ℕ) → ((password : List ℕ) (new : Option (List ℕ)) → IsArguments (Password password new) bytes → ⊥) → (m : Method) → method_name m ≡ codes "password" → IsArguments m bytes → ⊥
@@ -171,10 +172,6 @@ named_by (Other name rest) before after r p =
 pub reads_method : {m : Method} {name before after : List ℕ} → Reads (IsString name) before after → AreArguments name m after → IsMethod IsBoolean m before
 reads_method {m = m} {before = before} {after = after} r p = named_by m before after (subst (λ (n : List ℕ). Reads (IsString n) before after) (sym p.named) r) p.arguments
 
--- as the last field of a message
-pub none_method : {bytes : List ℕ} → NoMethodAt bytes → NoWhole (IsMethod IsBoolean) bytes
-none_method h = record { none = h.none }
-
 pub ruleset methods = (no_method_name, no_method, reads_method)
 
 pub ruleset arguments = (no_none, no_password, no_old_password, no_new_password, no_publickey, no_probe, no_signed)
@@ -184,6 +181,6 @@ pub method_found : {E : Type 0} (r : Result code.Method E) {name before after : 
 method_found (Ok m) {before = before} {after = after} text s e p = reads_method (subst (λ (n : List ℕ). Reads (IsString n) before after) e s) p
 method_found (Err e) text s q p = tt
 
-pub method_refused : {E : Type 0} (r : Result code.Method E) {name before after : List ℕ} (text : List ℕ) → Reads (IsString name) before after → name ≡ text → IfErr r (λ _. NoArguments text after) → IfErr r (λ _. NoMethodAt before)
+pub method_refused : {E : Type 0} (r : Result code.Method E) {name before after : List ℕ} (text : List ℕ) → Reads (IsString name) before after → name ≡ text → IfErr r (λ _. NoArguments text after) → IfErr r (λ _. NoWhole (IsMethod IsBoolean) before)
 method_refused (Ok m) text s e p = tt
 method_refused (Err x) {before = before} {after = after} text s e p = no_method (subst (λ (n : List ℕ). Reads (IsString n) before after) e s) p

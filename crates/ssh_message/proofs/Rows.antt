@@ -6,7 +6,8 @@ use Rattle.ssh_model.specs.Message.{Msg, Then, IsRest, IsMethod, IsProposal, IsP
 use Rattle.ssh_message.specs.Meaning.{NoMessage, IsNone}
 use Rattle.ssh_types.proofs.Fronts.{one_boolean, one_uint32, one_string}
 use Rattle.ssh_types.proofs.Joined.{one_name_list}
-use Rattle.ssh_message.proofs.Fields.{Both, IsNothing, ProposalFields, proposal_of, values_of, NoWhole, OneWhole, one_nothing, one_rest, one_both, one_proposal}
+use Rattle.ssh_message.specs.Parts.{Both, IsNothing, NoWhole}
+use Rattle.ssh_message.proofs.Fields.{ProposalFields, proposal_of, values_of, OneWhole, one_nothing, one_rest, one_both, one_proposal}
 use Rattle.ssh_message.proofs.Methods.{one_method}
 
 -- The message is made of values, and the bytes after the number spell them.

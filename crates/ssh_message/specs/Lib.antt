@@ -1,3 +1,4 @@
 pub mod Meaning
 pub mod Methods
+pub mod Parts
 pub mod Written

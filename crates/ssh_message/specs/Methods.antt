@@ -1,7 +1,7 @@
 -- A method of authentication as its name and what follows the name.
 use Rattle.std.specs.Prelude.{◌≡◌, ℕ, true, false, Some, None, List, codes}
 use Rattle.ssh_model.specs.DataTypes.{IsBoolean, IsString}
-use Rattle.ssh_model.specs.Message.{Method, NoMethod, Password, Publickey, Other, IsOther, Then, IsEnd, IsRest, IsMethod}
+use Rattle.ssh_model.specs.Message.{Method, NoMethod, Password, Publickey, Other, IsOther, Then, IsEnd, IsRest}
 
 abbrev pub method_name : Method → List ℕ
 method_name NoMethod = codes "none"
@@ -26,7 +26,3 @@ pub record AreArguments (name : List ℕ) (m : Method) (bytes : List ℕ) : Type
 -- The bytes are arguments of no method of this name.
 pub record NoArguments (name bytes : List ℕ) : Type 0 where
   pub none : (m : Method) → method_name m ≡ name → IsArguments m bytes → ⊥
-
--- The bytes are no method.
-pub record NoMethodAt (bytes : List ℕ) : Type 0 where
-  pub none : (m : Method) → IsMethod IsBoolean m bytes → ⊥

@@ -4,4 +4,5 @@ pub(crate) mod authentication;
 pub(crate) mod connection;
 pub(crate) mod exchange;
 pub(crate) mod method;
+pub(crate) mod part;
 pub(crate) mod transport;

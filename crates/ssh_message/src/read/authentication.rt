@@ -6,18 +6,16 @@ ghost use Rattle.ssh_message.specs.Meaning.{meaning, IsMeant, IsNone, NoMessage}
 ghost use Rattle.ssh_message.specs.Written.{Fits};
 
 use crate::message::{BadMessage, Message};
-use crate::read::method::method;
+use crate::read::part::{End, Whole};
 use ssh_types::Reader;
 
-#[tactic(auto, using(crate::proofs::Fields::fields, crate::proofs::Rows::no_userauth_request, crate::proofs::Methods::none_method))]
+#[tactic(auto, using(crate::proofs::Fields::fields, crate::proofs::Rows::no_userauth_request))]
 pub(crate) fn request<'a>(fields: &mut Reader<'a>) -> Result<Message<'a>, BadMessage>
     ensures found { IfOk result (λ m. IsMeant m (50 ∷ fields.old)) }
     ensures fits { IfOk result (λ m. Fits m) }
     ensures refused { IfErr result (λ _. IsNone (50 ∷ fields.old)) }
 {
-    let user = fields.string()?;
-    let service = fields.string()?;
-    let method = method(fields)?;
+    let (user, (service, method)) = Whole::whole(fields)?;
     Ok(Message::UserauthRequest {
         user,
         service,
@@ -31,9 +29,7 @@ pub(crate) fn failure<'a>(fields: &mut Reader<'a>) -> Result<Message<'a>, BadMes
     ensures fits { IfOk result (λ m. Fits m) }
     ensures refused { IfErr result (λ _. IsNone (51 ∷ fields.old)) }
 {
-    let methods = fields.names()?;
-    let partial = fields.boolean()?;
-    fields.end()?;
+    let (methods, (partial, End)) = Whole::whole(fields)?;
     Ok(Message::UserauthFailure { methods, partial })
 }
 
@@ -43,7 +39,7 @@ pub(crate) fn success<'a>(fields: &mut Reader<'a>) -> Result<Message<'a>, BadMes
     ensures fits { IfOk result (λ m. Fits m) }
     ensures refused { IfErr result (λ _. IsNone (52 ∷ fields.old)) }
 {
-    fields.end()?;
+    let End = Whole::whole(fields)?;
     Ok(Message::UserauthSuccess)
 }
 
@@ -53,9 +49,7 @@ pub(crate) fn banner<'a>(fields: &mut Reader<'a>) -> Result<Message<'a>, BadMess
     ensures fits { IfOk result (λ m. Fits m) }
     ensures refused { IfErr result (λ _. IsNone (53 ∷ fields.old)) }
 {
-    let message = fields.string()?;
-    let language = fields.string()?;
-    fields.end()?;
+    let (message, (language, End)) = Whole::whole(fields)?;
     Ok(Message::UserauthBanner { message, language })
 }
 
@@ -65,8 +59,6 @@ pub(crate) fn pk_ok<'a>(fields: &mut Reader<'a>) -> Result<Message<'a>, BadMessa
     ensures fits { IfOk result (λ m. Fits m) }
     ensures refused { IfErr result (λ _. NoMessage true (60 ∷ fields.old)) }
 {
-    let algorithm = fields.string()?;
-    let key = fields.string()?;
-    fields.end()?;
+    let (algorithm, (key, End)) = Whole::whole(fields)?;
     Ok(Message::UserauthPkOk { algorithm, key })
 }

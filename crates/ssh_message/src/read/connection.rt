@@ -5,6 +5,7 @@ ghost use Rattle.ssh_message.specs.Meaning.{IsMeant, IsNone};
 ghost use Rattle.ssh_message.specs.Written.{Fits};
 
 use crate::message::{BadMessage, Message};
+use crate::read::part::{End, Rest, Whole};
 use ssh_types::Reader;
 
 #[tactic(auto, using(crate::proofs::Fields::fields, crate::proofs::Rows::no_global_request))]
@@ -13,9 +14,7 @@ pub(crate) fn global_request<'a>(fields: &mut Reader<'a>) -> Result<Message<'a>,
     ensures fits { IfOk result (λ m. Fits m) }
     ensures refused { IfErr result (λ _. IsNone (80 ∷ fields.old)) }
 {
-    let name = fields.string()?;
-    let want = fields.boolean()?;
-    let rest = fields.rest();
+    let (name, (want, Rest(rest))) = Whole::whole(fields)?;
     Ok(Message::GlobalRequest { name, want, rest })
 }
 
@@ -34,7 +33,7 @@ pub(crate) fn request_failure<'a>(fields: &mut Reader<'a>) -> Result<Message<'a>
     ensures fits { IfOk result (λ m. Fits m) }
     ensures refused { IfErr result (λ _. IsNone (82 ∷ fields.old)) }
 {
-    fields.end()?;
+    let End = Whole::whole(fields)?;
     Ok(Message::RequestFailure)
 }
 
@@ -44,11 +43,7 @@ pub(crate) fn channel_open<'a>(fields: &mut Reader<'a>) -> Result<Message<'a>, B
     ensures fits { IfOk result (λ m. Fits m) }
     ensures refused { IfErr result (λ _. IsNone (90 ∷ fields.old)) }
 {
-    let kind = fields.string()?;
-    let sender = fields.u32()?;
-    let window = fields.u32()?;
-    let max = fields.u32()?;
-    let rest = fields.rest();
+    let (kind, (sender, (window, (max, Rest(rest))))) = Whole::whole(fields)?;
     Ok(Message::ChannelOpen {
         kind,
         sender,
@@ -66,11 +61,7 @@ pub(crate) fn channel_open_confirmation<'a>(
     ensures fits { IfOk result (λ m. Fits m) }
     ensures refused { IfErr result (λ _. IsNone (91 ∷ fields.old)) }
 {
-    let recipient = fields.u32()?;
-    let sender = fields.u32()?;
-    let window = fields.u32()?;
-    let max = fields.u32()?;
-    let rest = fields.rest();
+    let (recipient, (sender, (window, (max, Rest(rest))))) = Whole::whole(fields)?;
     Ok(Message::ChannelOpenConfirmation {
         recipient,
         sender,
@@ -86,11 +77,7 @@ pub(crate) fn channel_open_failure<'a>(fields: &mut Reader<'a>) -> Result<Messag
     ensures fits { IfOk result (λ m. Fits m) }
     ensures refused { IfErr result (λ _. IsNone (92 ∷ fields.old)) }
 {
-    let recipient = fields.u32()?;
-    let reason = fields.u32()?;
-    let description = fields.string()?;
-    let language = fields.string()?;
-    fields.end()?;
+    let (recipient, (reason, (description, (language, End)))) = Whole::whole(fields)?;
     Ok(Message::ChannelOpenFailure {
         recipient,
         reason,
@@ -105,9 +92,7 @@ pub(crate) fn channel_window_adjust<'a>(fields: &mut Reader<'a>) -> Result<Messa
     ensures fits { IfOk result (λ m. Fits m) }
     ensures refused { IfErr result (λ _. IsNone (93 ∷ fields.old)) }
 {
-    let recipient = fields.u32()?;
-    let bytes = fields.u32()?;
-    fields.end()?;
+    let (recipient, (bytes, End)) = Whole::whole(fields)?;
     Ok(Message::ChannelWindowAdjust { recipient, bytes })
 }
 
@@ -117,9 +102,7 @@ pub(crate) fn channel_data<'a>(fields: &mut Reader<'a>) -> Result<Message<'a>, B
     ensures fits { IfOk result (λ m. Fits m) }
     ensures refused { IfErr result (λ _. IsNone (94 ∷ fields.old)) }
 {
-    let recipient = fields.u32()?;
-    let body = fields.string()?;
-    fields.end()?;
+    let (recipient, (body, End)) = Whole::whole(fields)?;
     Ok(Message::ChannelData { recipient, body })
 }
 
@@ -129,10 +112,7 @@ pub(crate) fn channel_extended_data<'a>(fields: &mut Reader<'a>) -> Result<Messa
     ensures fits { IfOk result (λ m. Fits m) }
     ensures refused { IfErr result (λ _. IsNone (95 ∷ fields.old)) }
 {
-    let recipient = fields.u32()?;
-    let kind = fields.u32()?;
-    let body = fields.string()?;
-    fields.end()?;
+    let (recipient, (kind, (body, End))) = Whole::whole(fields)?;
     Ok(Message::ChannelExtendedData {
         recipient,
         kind,
@@ -146,8 +126,7 @@ pub(crate) fn channel_eof<'a>(fields: &mut Reader<'a>) -> Result<Message<'a>, Ba
     ensures fits { IfOk result (λ m. Fits m) }
     ensures refused { IfErr result (λ _. IsNone (96 ∷ fields.old)) }
 {
-    let recipient = fields.u32()?;
-    fields.end()?;
+    let (recipient, End) = Whole::whole(fields)?;
     Ok(Message::ChannelEof { recipient })
 }
 
@@ -157,8 +136,7 @@ pub(crate) fn channel_close<'a>(fields: &mut Reader<'a>) -> Result<Message<'a>, 
     ensures fits { IfOk result (λ m. Fits m) }
     ensures refused { IfErr result (λ _. IsNone (97 ∷ fields.old)) }
 {
-    let recipient = fields.u32()?;
-    fields.end()?;
+    let (recipient, End) = Whole::whole(fields)?;
     Ok(Message::ChannelClose { recipient })
 }
 
@@ -168,10 +146,7 @@ pub(crate) fn channel_request<'a>(fields: &mut Reader<'a>) -> Result<Message<'a>
     ensures fits { IfOk result (λ m. Fits m) }
     ensures refused { IfErr result (λ _. IsNone (98 ∷ fields.old)) }
 {
-    let recipient = fields.u32()?;
-    let name = fields.string()?;
-    let want = fields.boolean()?;
-    let rest = fields.rest();
+    let (recipient, (name, (want, Rest(rest)))) = Whole::whole(fields)?;
     Ok(Message::ChannelRequest {
         recipient,
         name,
@@ -186,8 +161,7 @@ pub(crate) fn channel_success<'a>(fields: &mut Reader<'a>) -> Result<Message<'a>
     ensures fits { IfOk result (λ m. Fits m) }
     ensures refused { IfErr result (λ _. IsNone (99 ∷ fields.old)) }
 {
-    let recipient = fields.u32()?;
-    fields.end()?;
+    let (recipient, End) = Whole::whole(fields)?;
     Ok(Message::ChannelSuccess { recipient })
 }
 
@@ -197,7 +171,6 @@ pub(crate) fn channel_failure<'a>(fields: &mut Reader<'a>) -> Result<Message<'a>
     ensures fits { IfOk result (λ m. Fits m) }
     ensures refused { IfErr result (λ _. IsNone (100 ∷ fields.old)) }
 {
-    let recipient = fields.u32()?;
-    fields.end()?;
+    let (recipient, End) = Whole::whole(fields)?;
     Ok(Message::ChannelFailure { recipient })
 }

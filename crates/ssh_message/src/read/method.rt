@@ -1,90 +1,93 @@
 // The method of a request for authentication (RFC 4252 sections 5.2, 7 and 8).
 
 ghost use Rattle.std.specs.Prelude.{List, ℕ, codes, IfOk, IfErr};
+ghost use Rattle.ssh_model.specs.Message as model;
 ghost use Rattle.ssh_model.specs.DataTypes.{IsBoolean};
 ghost use Rattle.ssh_model.specs.Message.{IsMethod};
 ghost use Rattle.ssh_message.specs.Meaning.{method_meaning};
 ghost use Rattle.ssh_message.specs.Written.{MethodFits};
-ghost use Rattle.ssh_message.specs.Methods.{AreArguments, NoArguments, NoMethodAt};
+ghost use Rattle.ssh_message.specs.Methods.{AreArguments, NoArguments};
 
 use crate::message::{BadMessage, Method};
+use crate::read::part::{End, Part, Rest, Whole};
 use ssh_types::Reader;
 
-#[tactic(auto, using(crate::proofs::Methods::methods))]
-pub(crate) fn method<'a>(fields: &mut Reader<'a>) -> Result<Method<'a>, BadMessage>
-    ensures found { IfOk result (λ m. IsMethod IsBoolean (method_meaning m) fields.old) }
-    ensures fits { IfOk result (λ m. MethodFits m) }
-    ensures refused { IfErr result (λ _. NoMethodAt fields.old) }
-{
-    let name = fields.string()?;
-    if name == b"none".as_slice() {
-        return none(fields);
+impl<'a> Whole<'a> for Method<'a> {
+    ghost Value = { model.Method };
+
+    ghost value = { λ method. method_meaning method };
+
+    ghost Spells = { IsMethod IsBoolean };
+
+    ghost CanBeWritten = { λ method. MethodFits method };
+
+    #[tactic(auto, using(crate::proofs::Methods::methods))]
+    fn whole(fields: &mut Reader<'a>) -> Result<Method<'a>, BadMessage> {
+        let name: &'a [u8] = Part::part(fields)?;
+        if name == b"none".as_slice() {
+            return none(fields);
+        }
+        if name == b"password".as_slice() {
+            return password(fields);
+        }
+        if name == b"publickey".as_slice() {
+            return publickey(fields);
+        }
+        let Rest(rest) = Whole::whole(fields)?;
+        Ok(Method::Other { name, rest })
     }
-    if name == b"password".as_slice() {
-        return password(fields);
-    }
-    if name == b"publickey".as_slice() {
-        return publickey(fields);
-    }
-    let rest = fields.rest();
-    Ok(Method::Other { name, rest })
 }
 
-#[tactic(auto, using(crate::proofs::Fields::fields, crate::proofs::Methods::arguments))]
+#[tactic(auto, using(crate::proofs::Methods::arguments))]
 fn none<'a>(fields: &mut Reader<'a>) -> Result<Method<'a>, BadMessage>
     ensures found { IfOk result (λ m. AreArguments (codes "none") (method_meaning m) fields.old) }
     ensures fits { IfOk result (λ m. MethodFits m) }
     ensures refused { IfErr result (λ _. NoArguments (codes "none") fields.old) }
 {
-    fields.end()?;
+    let End = Whole::whole(fields)?;
     Ok(Method::None)
 }
 
-#[tactic(auto, using(crate::proofs::Fields::fields, crate::proofs::Methods::arguments))]
+#[tactic(auto, using(crate::proofs::Methods::arguments))]
 fn password<'a>(fields: &mut Reader<'a>) -> Result<Method<'a>, BadMessage>
     ensures found { IfOk result (λ m. AreArguments (codes "password") (method_meaning m) fields.old) }
     ensures fits { IfOk result (λ m. MethodFits m) }
     ensures refused { IfErr result (λ _. NoArguments (codes "password") fields.old) }
 {
-    let change = fields.boolean()?;
-    let password = fields.string()?;
-    if !change {
-        fields.end()?;
+    let change = Part::part(fields)?;
+    if change {
+        let (password, (new_password, End)) = Whole::whole(fields)?;
         return Ok(Method::Password {
             password,
-            new_password: None,
+            new_password: Some(new_password),
         });
     }
-    let new_password = fields.string()?;
-    fields.end()?;
+    let (password, End) = Whole::whole(fields)?;
     Ok(Method::Password {
         password,
-        new_password: Some(new_password),
+        new_password: None,
     })
 }
 
-#[tactic(auto, using(crate::proofs::Fields::fields, crate::proofs::Methods::arguments))]
+#[tactic(auto, using(crate::proofs::Methods::arguments))]
 fn publickey<'a>(fields: &mut Reader<'a>) -> Result<Method<'a>, BadMessage>
     ensures found { IfOk result (λ m. AreArguments (codes "publickey") (method_meaning m) fields.old) }
     ensures fits { IfOk result (λ m. MethodFits m) }
     ensures refused { IfErr result (λ _. NoArguments (codes "publickey") fields.old) }
 {
-    let signed = fields.boolean()?;
-    let algorithm = fields.string()?;
-    let key = fields.string()?;
-    if !signed {
-        fields.end()?;
+    let signed = Part::part(fields)?;
+    if signed {
+        let (algorithm, (key, (signature, End))) = Whole::whole(fields)?;
         return Ok(Method::Publickey {
             algorithm,
             key,
-            signature: None,
+            signature: Some(signature),
         });
     }
-    let signature = fields.string()?;
-    fields.end()?;
+    let (algorithm, (key, End)) = Whole::whole(fields)?;
     Ok(Method::Publickey {
         algorithm,
         key,
-        signature: Some(signature),
+        signature: None,
     })
 }

@@ -5,6 +5,7 @@ ghost use Rattle.ssh_message.specs.Meaning.{IsMeant, IsNone};
 ghost use Rattle.ssh_message.specs.Written.{Fits};
 
 use crate::message::{BadMessage, Message};
+use crate::read::part::{End, Whole};
 use ssh_types::Reader;
 
 #[tactic(auto, using(crate::proofs::Fields::fields, crate::proofs::Rows::no_disconnect))]
@@ -13,10 +14,7 @@ pub(crate) fn disconnect<'a>(fields: &mut Reader<'a>) -> Result<Message<'a>, Bad
     ensures fits { IfOk result (λ m. Fits m) }
     ensures refused { IfErr result (λ _. IsNone (1 ∷ fields.old)) }
 {
-    let reason = fields.u32()?;
-    let description = fields.string()?;
-    let language = fields.string()?;
-    fields.end()?;
+    let (reason, (description, (language, End))) = Whole::whole(fields)?;
     Ok(Message::Disconnect {
         reason,
         description,
@@ -30,8 +28,7 @@ pub(crate) fn ignore<'a>(fields: &mut Reader<'a>) -> Result<Message<'a>, BadMess
     ensures fits { IfOk result (λ m. Fits m) }
     ensures refused { IfErr result (λ _. IsNone (2 ∷ fields.old)) }
 {
-    let body = fields.string()?;
-    fields.end()?;
+    let (body, End) = Whole::whole(fields)?;
     Ok(Message::Ignore { body })
 }
 
@@ -41,8 +38,7 @@ pub(crate) fn unimplemented<'a>(fields: &mut Reader<'a>) -> Result<Message<'a>, 
     ensures fits { IfOk result (λ m. Fits m) }
     ensures refused { IfErr result (λ _. IsNone (3 ∷ fields.old)) }
 {
-    let number = fields.u32()?;
-    fields.end()?;
+    let (number, End) = Whole::whole(fields)?;
     Ok(Message::Unimplemented { number })
 }
 
@@ -52,10 +48,7 @@ pub(crate) fn debug<'a>(fields: &mut Reader<'a>) -> Result<Message<'a>, BadMessa
     ensures fits { IfOk result (λ m. Fits m) }
     ensures refused { IfErr result (λ _. IsNone (4 ∷ fields.old)) }
 {
-    let display = fields.boolean()?;
-    let message = fields.string()?;
-    let language = fields.string()?;
-    fields.end()?;
+    let (display, (message, (language, End))) = Whole::whole(fields)?;
     Ok(Message::Debug {
         display,
         message,
@@ -69,8 +62,7 @@ pub(crate) fn service_request<'a>(fields: &mut Reader<'a>) -> Result<Message<'a>
     ensures fits { IfOk result (λ m. Fits m) }
     ensures refused { IfErr result (λ _. IsNone (5 ∷ fields.old)) }
 {
-    let service = fields.string()?;
-    fields.end()?;
+    let (service, End) = Whole::whole(fields)?;
     Ok(Message::ServiceRequest { service })
 }
 
@@ -80,8 +72,7 @@ pub(crate) fn service_accept<'a>(fields: &mut Reader<'a>) -> Result<Message<'a>,
     ensures fits { IfOk result (λ m. Fits m) }
     ensures refused { IfErr result (λ _. IsNone (6 ∷ fields.old)) }
 {
-    let service = fields.string()?;
-    fields.end()?;
+    let (service, End) = Whole::whole(fields)?;
     Ok(Message::ServiceAccept { service })
 }
 
@@ -91,6 +82,6 @@ pub(crate) fn newkeys<'a>(fields: &mut Reader<'a>) -> Result<Message<'a>, BadMes
     ensures fits { IfOk result (λ m. Fits m) }
     ensures refused { IfErr result (λ _. IsNone (21 ∷ fields.old)) }
 {
-    fields.end()?;
+    let End = Whole::whole(fields)?;
     Ok(Message::NewKeys)
 }

@@ -1,7 +1,7 @@
 use Rattle.std.proofs.Common.{rules}
 use Rattle.std.specs.Prelude.{codes}
 use Rattle.ssh_message.proofs.Methods.{method_found, method_refused}
-use Rattle.ssh_message.proofs.read.method.method.Goals as goal
+use Rattle.ssh_message.proofs.read.method.MethodWhole.whole.Goals as goal
 
 pub returns-then-eq-clause-found : goal.returns-then-eq-clause-found
 returns-then-eq-clause-found c = method_found c.none.result (codes "none") c.in_ok-name.ensures.found (search rules) c.none.ensures.found
