@@ -1,0 +1,116 @@
+use ssh_types::{Reader, Refusal};
+use std::fmt;
+
+// A field of a message as a line shows it, by its name.
+#[derive(Clone, Copy)]
+pub(crate) enum Column {
+    Boolean(&'static str),
+    Uint32(&'static str),
+    // a string, in hexadecimal
+    Text(&'static str),
+    // a name-list, as text
+    Names(&'static str),
+    // 16 bytes, in hexadecimal
+    Cookie(&'static str),
+    // all that is left, in hexadecimal
+    Rest(&'static str),
+}
+
+// The fields of the messages with this number, in their order. The last number of a KEXINIT, always 0, isn't shown.
+pub(crate) fn columns(number: u8) -> &'static [Column] {
+    match number {
+        1 => &[Column::Uint32("reason"), Column::Text("description"), Column::Text("language")],
+        2 => &[Column::Text("data")],
+        3 => &[Column::Uint32("number")],
+        4 => &[Column::Boolean("display"), Column::Text("message"), Column::Text("language")],
+        5 => &[Column::Text("service")],
+        6 => &[Column::Text("service")],
+        20 => &[Column::Cookie("cookie"), Column::Names("kex"), Column::Names("host"), Column::Names("enc_cs"), Column::Names("enc_sc"), Column::Names("mac_cs"), Column::Names("mac_sc"), Column::Names("comp_cs"), Column::Names("comp_sc"), Column::Names("lang_cs"), Column::Names("lang_sc"), Column::Boolean("follows")],
+        30 => &[Column::Text("q_c")],
+        31 => &[Column::Text("k_s"), Column::Text("q_s"), Column::Text("signature")],
+        50 => &[Column::Text("user"), Column::Text("service"), Column::Text("method"), Column::Rest("rest")],
+        51 => &[Column::Names("methods"), Column::Boolean("partial")],
+        53 => &[Column::Text("message"), Column::Text("language")],
+        60 => &[Column::Text("algorithm"), Column::Text("key")],
+        80 => &[Column::Text("name"), Column::Boolean("want"), Column::Rest("rest")],
+        81 => &[Column::Rest("rest")],
+        90 => &[Column::Text("type"), Column::Uint32("sender"), Column::Uint32("window"), Column::Uint32("max"), Column::Rest("rest")],
+        91 => &[Column::Uint32("recipient"), Column::Uint32("sender"), Column::Uint32("window"), Column::Uint32("max"), Column::Rest("rest")],
+        92 => &[Column::Uint32("recipient"), Column::Uint32("reason"), Column::Text("description"), Column::Text("language")],
+        93 => &[Column::Uint32("recipient"), Column::Uint32("bytes")],
+        94 => &[Column::Uint32("recipient"), Column::Text("data")],
+        95 => &[Column::Uint32("recipient"), Column::Uint32("type"), Column::Text("data")],
+        98 => &[Column::Uint32("recipient"), Column::Text("name"), Column::Boolean("want"), Column::Rest("rest")],
+        96 | 97 | 99 | 100 => &[Column::Uint32("recipient")],
+        _ => &[],
+    }
+}
+
+impl Column {
+    // Shows the field that stands in front.
+    pub(crate) fn show<W: fmt::Write>(
+        self,
+        fields: &mut Reader<'_>,
+        f: &mut fmt::Formatter<W>,
+    ) -> fmt::Result {
+        match self {
+            Column::Boolean(name) => {
+                let truth = fields.boolean().map_err(no_field)?;
+                write!(f, " {name}={truth}")
+            }
+            Column::Uint32(name) => {
+                let number = fields.u32().map_err(no_field)?;
+                write!(f, " {name}={number}")
+            }
+            Column::Text(name) => {
+                let text = Hex(fields.string().map_err(no_field)?);
+                write!(f, " {name}={text}")
+            }
+            Column::Names(name) => {
+                let names = Ascii(fields.string().map_err(no_field)?);
+                write!(f, " {name}={names}")
+            }
+            Column::Cookie(name) => {
+                let high = fields.u64().map_err(no_field)?;
+                let low = fields.u64().map_err(no_field)?;
+                write!(f, " {name}={high:016x}{low:016x}")
+            }
+            Column::Rest(name) => {
+                let rest = Hex(fields.rest());
+                write!(f, " {name}={rest}")
+            }
+        }
+    }
+}
+
+// No payload that is a message comes to this.
+fn no_field(_refusal: Refusal) -> fmt::Error {
+    fmt::Error
+}
+
+// Bytes as pairs of hexadecimal digits.
+#[derive(Clone, Copy)]
+struct Hex<'a>(&'a [u8]);
+
+impl<'a> fmt::Display for Hex<'a> {
+    fn fmt<W: fmt::Write>(&self, f: &mut fmt::Formatter<W>) -> fmt::Result {
+        for byte in self.0 {
+            write!(f, "{byte:02x}")?;
+        }
+        Ok(())
+    }
+}
+
+// Bytes as letters.
+#[derive(Clone, Copy)]
+struct Ascii<'a>(&'a [u8]);
+
+impl<'a> fmt::Display for Ascii<'a> {
+    fn fmt<W: fmt::Write>(&self, f: &mut fmt::Formatter<W>) -> fmt::Result {
+        for byte in self.0 {
+            let letter = char::from(*byte);
+            write!(f, "{letter}")?;
+        }
+        Ok(())
+    }
+}
