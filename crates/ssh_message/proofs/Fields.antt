@@ -11,10 +11,6 @@ use Rattle.ssh_types.proofs.Joined.{one_name_list}
 
 -- ---- fields and their values
 
--- All of the bytes spell one value at most.
-pub record OneWhole {V : Type 0} (Spells : V → List ℕ → Type 0) : Type 0 where
-  pub one : (v w : V) (bytes : List ℕ) → Spells v bytes → Spells w bytes → v ≡ w
-
 -- ---- what was read, and what follows
 
 pub then_reads : (P Q : List ℕ → Type 0) (before after : List ℕ) → Reads P before after → Q after → Then P Q before
@@ -46,23 +42,6 @@ none_end h = record { none = λ v e. omega (arith, ap length e, h) }
 pub ruleset pairs = (then_reads, none_front, none_after)
 
 pub ruleset fields = (then_byte, is_payload)
-
--- ---- the same bytes are the same values
-
-pub one_nothing : OneWhole IsNothing
-one_nothing = record { one = λ v w bytes p q. refl }
-
-pub one_rest : OneWhole IsRest
-one_rest = record { one = λ v w bytes p q. sym p ∙ q }
-
-pub one_both : {V W : Type 0} (A : V → List ℕ → Type 0) (B : W → List ℕ → Type 0) → OneForm A → OneWhole B → OneWhole (Both A B)
-one_both A B one whole =
-    record {
-      one = λ v w bytes t u.
-          let same = one v.0 w.0 t.front u.front t.back u.back t.first u.first (sym t.parts ∙ u.parts) in
-          let rest = whole.one v.1 w.1 u.back (subst (B v.1) same.2 t.second) u.second in
-          ap (λ a. (a, v.1)) same.0 ∙ ap (λ b. (w.0, b)) rest;
-    }
 
 -- ---- an offer
 
@@ -106,10 +85,3 @@ proposal_of v = record {
 
 abbrev pub values_of : Proposal → List ℕ × (Lists × (Lists × (Lists × (Lists × (Lists × (Lists × (Lists × (Lists × (Lists × (Lists × (Bool × (Unit {0} × Unit {0}))))))))))))
 values_of p = (p.cookie, (p.kex, (p.host, (p.enc_cs, (p.enc_sc, (p.mac_cs, (p.mac_sc, (p.comp_cs, (p.comp_sc, (p.lang_cs, (p.lang_sc, (p.follows, (tt, tt)))))))))))))
-
-pub one_proposal : OneWhole ProposalFields
-one_proposal =
-    one_both IsCookie _ one_cookie (one_both IsNameList _ one_name_list (one_both IsNameList _ one_name_list (one_both IsNameList _ one_name_list
-    (one_both IsNameList _ one_name_list (one_both IsNameList _ one_name_list (one_both IsNameList _ one_name_list (one_both IsNameList _ one_name_list
-    (one_both IsNameList _ one_name_list (one_both IsNameList _ one_name_list (one_both IsNameList _ one_name_list (one_both IsBoolean _ one_boolean
-    (one_both IsZero _ one_zero one_nothing))))))))))))

@@ -9,7 +9,6 @@ use Rattle.ssh_message.specs.declared.message.Method as code
 use Rattle.ssh_message.specs.Meaning.{method_meaning}
 use Rattle.ssh_message.specs.Methods.{method_name, IsArguments, AreArguments, NoArguments}
 use Rattle.ssh_message.specs.Parts.{Both, IsNothing, NoWhole}
-use Rattle.ssh_message.proofs.Fields.{OneWhole, one_nothing, one_both}
 
 named : (m : Method) (bytes : List ℕ) → IsMethod IsBoolean m bytes → Then (IsString (method_name m)) (IsArguments m) bytes
 named NoMethod bytes t = t
@@ -26,53 +25,9 @@ method_at m name before after r p =
     let same = one_string name (method_name m) r.bytes t.front after t.back r.meets t.first (sym r.parts ∙ t.parts) in
     (sym same.0, subst (IsArguments m) (sym same.2) t.second)
 
--- ---- one method at most
-
 -- FALSE is not TRUE
 no_both : (P Q : List ℕ → Type 0) (rest : List ℕ) → Then (IsBoolean false) P rest → Then (IsBoolean true) Q rest → ⊥
 no_both P Q rest t u = let e = (one_boolean false true t.front u.front t.back u.back t.first u.first (sym t.parts ∙ u.parts)).0 in cc
-
-one_text : OneWhole (Both IsBoolean (Both IsString IsNothing))
-one_text = one_both IsBoolean _ one_boolean (one_both IsString _ one_string one_nothing)
-
-two_texts : OneWhole (Both IsBoolean (Both IsString (Both IsString IsNothing)))
-two_texts = one_both IsBoolean _ one_boolean (one_both IsString _ one_string (one_both IsString _ one_string one_nothing))
-
-three_texts : OneWhole (Both IsBoolean (Both IsString (Both IsString (Both IsString IsNothing))))
-three_texts = one_both IsBoolean _ one_boolean (one_both IsString _ one_string (one_both IsString _ one_string (one_both IsString _ one_string one_nothing)))
-
-one_arguments : (m k : Method) (rest : List ℕ) → method_name m ≡ method_name k → IsArguments m rest → IsArguments k rest → m ≡ k
-one_arguments NoMethod NoMethod rest e p q = refl
-one_arguments (Password a None) (Password b None) rest e p q =
-    ap (λ (v : Bool × (List ℕ × Unit {0})). Password v.1.0 None) (one_text.one (false, (a, tt)) (false, (b, tt)) rest p q)
-one_arguments (Password a (Some c)) (Password b (Some d)) rest e p q =
-    ap (λ (v : Bool × (List ℕ × (List ℕ × Unit {0}))). Password v.1.0 (Some v.1.1.0)) (two_texts.one (true, (a, (c, tt))) (true, (b, (d, tt))) rest p q)
-one_arguments (Password a None) (Password b (Some d)) rest e p q = absurd (no_both _ _ rest p q)
-one_arguments (Password a (Some c)) (Password b None) rest e p q = absurd (no_both _ _ rest q p)
-one_arguments (Publickey a c None) (Publickey b d None) rest e p q =
-    ap (λ (v : Bool × (List ℕ × (List ℕ × Unit {0}))). Publickey v.1.0 v.1.1.0 None) (two_texts.one (false, (a, (c, tt))) (false, (b, (d, tt))) rest p q)
-one_arguments (Publickey a c (Some x)) (Publickey b d (Some y)) rest e p q =
-    ap (λ (v : Bool × (List ℕ × (List ℕ × (List ℕ × Unit {0})))). Publickey v.1.0 v.1.1.0 (Some v.1.1.1.0)) (three_texts.one (true, (a, (c, (x, tt)))) (true, (b, (d, (y, tt)))) rest p q)
-one_arguments (Publickey a c None) (Publickey b d (Some y)) rest e p q = absurd (no_both _ _ rest p q)
-one_arguments (Publickey a c (Some x)) (Publickey b d None) rest e p q = absurd (no_both _ _ rest q p)
-one_arguments (Other a r) (Other b s) rest e p q = ap (λ (n : List ℕ). Other n r) e ∙ ap (λ (t : List ℕ). Other b t) (sym p.1 ∙ q.1)
-one_arguments (Other a r) NoMethod rest e p q = absurd (p.0.not_none e)
-one_arguments (Other a r) (Password b d) rest e p q = absurd (p.0.not_password e)
-one_arguments (Other a r) (Publickey b c d) rest e p q = absurd (p.0.not_publickey e)
-one_arguments NoMethod (Other b s) rest e p q = absurd (q.0.not_none (sym e))
-one_arguments (Password a c) (Other b s) rest e p q = absurd (q.0.not_password (sym e))
-one_arguments (Publickey a c d) (Other b s) rest e p q = absurd (q.0.not_publickey (sym e))
-one_arguments m k rest e p q = absurd cc
-
-pub one_method : OneWhole (IsMethod IsBoolean)
-one_method =
-    record {
-      one = λ m k bytes p q.
-          let t = named m bytes p in
-          let r : Reads (IsString (method_name m)) bytes t.back = record { bytes = t.front; meets = t.first; parts = t.parts } in
-          let s = method_at k (method_name m) bytes t.back r q in
-          one_arguments m k t.back (sym s.0) t.second s.1;
-    }
 
 no_none_by : (bytes : List ℕ) → NoWhole IsNothing bytes → (m : Method) → method_name m ≡ codes "none" → IsArguments m bytes → ⊥
 no_none_by bytes some NoMethod e p = some.none tt p

@@ -6,7 +6,6 @@ use Rattle.ssh_model.specs.Reading.{Reads, NoFront}
 use Rattle.ssh_model.specs.Message.{Method, Msg, Then, IsRow, IsMethod, IsPayload, IsWrittenPayload, Suits, message_number, Password, Publickey, Debug, KexInit, UserauthRequest, UserauthFailure, GlobalRequest, ChannelRequest, Unknown}
 use Rattle.ssh_message.specs.declared.message.Message as code
 use Rattle.ssh_message.specs.Meaning.{meaning, IsMeant, NoMessage}
-use Rattle.ssh_message.proofs.Rows.{row_at, one_row}
 
 -- ---- the number
 
@@ -38,18 +37,13 @@ is_in_context probing m rest e h = subst (λ (j : ℕ). IsPayload probing (meani
 
 -- ---- one message at most
 
-pub one_message : (probing : Bool) (m k : Msg) (payload : List ℕ) → IsPayload probing m payload → IsPayload probing k payload → m ≡ k
-one_message probing m k payload p q =
-    let f = row_front IsBoolean m payload p.row in
-    let n = message_number m in
-    one_row probing n f.0 m k
-    (row_at probing m n f.0 (subst (λ (b : List ℕ). IsPayload probing m b) f.1 p))
-    (row_at probing k n f.0 (subst (λ (b : List ℕ). IsPayload probing k b) f.1 q))
+abbrev pub OneMessage : Type 0
+OneMessage = (probing : Bool) (m k : Msg) (payload : List ℕ) → IsPayload probing m payload → IsPayload probing k payload → m ≡ k
 
-pub only : {E : Type 0} (probing : Bool) (r : Result code.Message E) (payload : List ℕ) → IfOk r (λ m. IsPayload probing (meaning m) payload) → IfErr r (λ _. NoMessage probing payload) →
+pub only : {E : Type 0} → OneMessage → (probing : Bool) (r : Result code.Message E) (payload : List ℕ) → IfOk r (λ m. IsPayload probing (meaning m) payload) → IfErr r (λ _. NoMessage probing payload) →
     (m : Msg) → IsPayload probing m payload → IsOkAnd r (λ x. meaning x ≡ m)
-only probing (Ok x) payload f e m p = one_message probing (meaning x) m payload f p
-only probing (Err e) payload f none m p = none.none m p
+only one probing (Ok x) payload f e m p = one probing (meaning x) m payload f p
+only one probing (Err e) payload f none m p = none.none m p
 
 -- ---- what was written
 
@@ -88,8 +82,8 @@ written_row m = λ payload p. p
 pub written_is_read : (probing : Bool) (m : Msg) (payload : List ℕ) → Suits probing m → IsWrittenPayload m payload → IsPayload probing m payload
 written_is_read probing m payload suits row = record { suits = suits; row = written_row m payload row }
 
-pub again : {E : Type 0} (probing : Bool) (r : Result code.Message E) (payload : List ℕ) → IfOk r (λ m. IsPayload probing (meaning m) payload) → IfErr r (λ _. NoMessage probing payload) →
+pub again : {E : Type 0} → OneMessage → (probing : Bool) (r : Result code.Message E) (payload : List ℕ) → IfOk r (λ m. IsPayload probing (meaning m) payload) → IfErr r (λ _. NoMessage probing payload) →
     (m : Msg) → Suits probing m → IsWrittenPayload m payload → IsOkAnd r (λ x. meaning x ≡ m)
-again probing r payload f e m suits row = only probing r payload f e m (written_is_read probing m payload suits row)
+again one probing r payload f e m suits row = only one probing r payload f e m (written_is_read probing m payload suits row)
 
 pub ruleset payloads = (no_number, found_after, refused_after)

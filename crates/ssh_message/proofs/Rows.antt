@@ -4,11 +4,8 @@ use Rattle.std.specs.Prelude.{◌==◌, IsTrue, IfErr}
 use Rattle.ssh_model.specs.DataTypes.{IsByte, IsBoolean, IsUint32, IsString, IsNameList}
 use Rattle.ssh_model.specs.Message.{Msg, Then, IsRest, IsMethod, IsProposal, IsPayload, is_unknown, Disconnect, Ignore, Unimplemented, Debug, ServiceRequest, ServiceAccept, KexInit, NewKeys, KexEcdhInit, KexEcdhReply, UserauthRequest, UserauthFailure, UserauthSuccess, UserauthBanner, UserauthPkOk, GlobalRequest, RequestSuccess, RequestFailure, ChannelOpen, ChannelOpenConfirmation, ChannelOpenFailure, ChannelWindowAdjust, ChannelData, ChannelExtendedData, ChannelEof, ChannelClose, ChannelRequest, ChannelSuccess, ChannelFailure, Unknown}
 use Rattle.ssh_message.specs.Meaning.{NoMessage, IsNone}
-use Rattle.ssh_types.proofs.Fronts.{one_boolean, one_uint32, one_string}
-use Rattle.ssh_types.proofs.Joined.{one_name_list}
 use Rattle.ssh_message.specs.Parts.{Both, IsNothing, NoWhole}
-use Rattle.ssh_message.proofs.Fields.{ProposalFields, proposal_of, values_of, OneWhole, one_nothing, one_rest, one_both, one_proposal}
-use Rattle.ssh_message.proofs.Methods.{one_method}
+use Rattle.ssh_message.proofs.Fields.{ProposalFields, proposal_of, values_of}
 
 -- The message is made of values, and the bytes after the number spell them.
 pub record IsMade {V : Type 0} (make : V → Msg) (Spells : V → List ℕ → Type 0) (rest : List ℕ) (m : Msg) : Type 0 where
@@ -242,50 +239,3 @@ no_channel_success rest h = λ probing. record { none = λ m p. let row = row_at
 
 pub no_channel_failure : (rest : List ℕ) → NoWhole (Both IsUint32 IsNothing) rest → IsNone (100 ∷ rest)
 no_channel_failure rest h = λ probing. record { none = λ m p. let row = row_at probing m 100 rest p in h.none row.value row.spelled }
-
--- what holds anyway holds of an error
-pub of_error : {T E : Type 0} (r : Result T E) (payload : List ℕ) → IsNone payload → IfErr r (λ _. IsNone payload)
-of_error (Ok x) payload h = tt
-of_error (Err e) payload h = h
-
--- ---- one message at most
-
-both : {A B A2 B2 C : Type 0} (b : Bool) (f : A → A2 → C) (g : B → B2 → C) → Choose b A B → Choose b A2 B2 → C
-both true f g p q = f p q
-both false f g p q = g p q
-
-one_made : {V : Type 0} (make : V → Msg) (Spells : V → List ℕ → Type 0) → OneWhole Spells → (rest : List ℕ) (m k : Msg) → IsMade make Spells rest m → IsMade make Spells rest k → m ≡ k
-one_made make Spells whole rest m k p q = p.is ∙ ap make (whole.one p.value q.value rest p.spelled q.spelled) ∙ sym q.is
-
-pub one_row : (probing : Bool) (n : ℕ) (rest : List ℕ) (m k : Msg) → RowAt probing n rest m → RowAt probing n rest k → m ≡ k
-one_row probing n rest m k =
-    both (is_unknown probing n) (λ p q. p ∙ sym q) (
-    both (n == 1) (one_made _ _ (one_both IsUint32 _ one_uint32 (one_both IsString _ one_string (one_both IsString _ one_string one_nothing))) rest m k) (
-    both (n == 2) (one_made _ _ (one_both IsString _ one_string one_nothing) rest m k) (
-    both (n == 3) (one_made _ _ (one_both IsUint32 _ one_uint32 one_nothing) rest m k) (
-    both (n == 4) (one_made _ _ (one_both IsBoolean _ one_boolean (one_both IsString _ one_string (one_both IsString _ one_string one_nothing))) rest m k) (
-    both (n == 5) (one_made _ _ (one_both IsString _ one_string one_nothing) rest m k) (
-    both (n == 6) (one_made _ _ (one_both IsString _ one_string one_nothing) rest m k) (
-    both (n == 20) (one_made _ _ one_proposal rest m k) (
-    both (n == 21) (one_made _ _ one_nothing rest m k) (
-    both (n == 30) (one_made _ _ (one_both IsString _ one_string one_nothing) rest m k) (
-    both (n == 31) (one_made _ _ (one_both IsString _ one_string (one_both IsString _ one_string (one_both IsString _ one_string one_nothing))) rest m k) (
-    both (n == 50) (one_made _ _ (one_both IsString _ one_string (one_both IsString _ one_string one_method)) rest m k) (
-    both (n == 51) (one_made _ _ (one_both IsNameList _ one_name_list (one_both IsBoolean _ one_boolean one_nothing)) rest m k) (
-    both (n == 52) (one_made _ _ one_nothing rest m k) (
-    both (n == 53) (one_made _ _ (one_both IsString _ one_string (one_both IsString _ one_string one_nothing)) rest m k) (
-    both (n == 60) (one_made _ _ (one_both IsString _ one_string (one_both IsString _ one_string one_nothing)) rest m k) (
-    both (n == 80) (one_made _ _ (one_both IsString _ one_string (one_both IsBoolean _ one_boolean one_rest)) rest m k) (
-    both (n == 81) (one_made _ _ one_rest rest m k) (
-    both (n == 82) (one_made _ _ one_nothing rest m k) (
-    both (n == 90) (one_made _ _ (one_both IsString _ one_string (one_both IsUint32 _ one_uint32 (one_both IsUint32 _ one_uint32 (one_both IsUint32 _ one_uint32 one_rest)))) rest m k) (
-    both (n == 91) (one_made _ _ (one_both IsUint32 _ one_uint32 (one_both IsUint32 _ one_uint32 (one_both IsUint32 _ one_uint32 (one_both IsUint32 _ one_uint32 one_rest)))) rest m k) (
-    both (n == 92) (one_made _ _ (one_both IsUint32 _ one_uint32 (one_both IsUint32 _ one_uint32 (one_both IsString _ one_string (one_both IsString _ one_string one_nothing)))) rest m k) (
-    both (n == 93) (one_made _ _ (one_both IsUint32 _ one_uint32 (one_both IsUint32 _ one_uint32 one_nothing)) rest m k) (
-    both (n == 94) (one_made _ _ (one_both IsUint32 _ one_uint32 (one_both IsString _ one_string one_nothing)) rest m k) (
-    both (n == 95) (one_made _ _ (one_both IsUint32 _ one_uint32 (one_both IsUint32 _ one_uint32 (one_both IsString _ one_string one_nothing))) rest m k) (
-    both (n == 96) (one_made _ _ (one_both IsUint32 _ one_uint32 one_nothing) rest m k) (
-    both (n == 97) (one_made _ _ (one_both IsUint32 _ one_uint32 one_nothing) rest m k) (
-    both (n == 98) (one_made _ _ (one_both IsUint32 _ one_uint32 (one_both IsString _ one_string (one_both IsBoolean _ one_boolean one_rest))) rest m k) (
-    both (n == 99) (one_made _ _ (one_both IsUint32 _ one_uint32 one_nothing) rest m k) (
-    both (n == 100) (one_made _ _ (one_both IsUint32 _ one_uint32 one_nothing) rest m k) (λ p q. absurd p))))))))))))))))))))))))))))))

@@ -5,6 +5,7 @@ ghost use Rattle.ssh_message.specs.Written.{Fits};
 
 use crate::message::{BadMessage, Message};
 use crate::read::{authentication, connection, exchange, transport};
+use ssh_model::one_message;
 use ssh_types::Reader;
 
 /// The message that the payload is (RFC 4252 to 4254, RFC 5656 section 4). Its texts are slices of the payload, and
@@ -28,6 +29,7 @@ pub fn decode(probing: bool, payload: &[u8]) -> Result<Message<'_>, BadMessage>
     // What was written for a message is read as that message, where the context fits.
     ensures again { (m : Msg) → Suits probing m → IsWrittenPayload m payload.now → IsOkAnd result (λ x. meaning x ≡ m) }
 {
+    one_message();
     read(probing, payload)
 }
 

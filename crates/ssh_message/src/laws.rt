@@ -2,10 +2,11 @@ ghost use Rattle.std.specs.Prelude.{◌≡◌, Bool, List, ℕ};
 ghost use Rattle.ssh_model.specs.Message.{Msg, IsPayload, IsWrittenPayload, Suits};
 
 /// A payload is one message at most, for an end that waits for the answer to a key probe and for one that does not.
-#[tactic(auto, using(crate::proofs::Payloads::one_message))]
 pub fn one_message()
     ensures { (probing : Bool) (m k : Msg) (payload : List ℕ) → IsPayload probing m payload → IsPayload probing k payload → m ≡ k }
-{}
+{
+    ssh_model::one_message();
+}
 
 /// What is written for a message is a payload of it where the context fits. With the contracts of `encode` and
 /// `decode`, what was written is read as the same message.

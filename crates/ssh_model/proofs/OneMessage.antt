@@ -1,5 +1,5 @@
 -- A payload is one message at most.
-use Rattle.std.proofs.Common.{◌≡◌, ℕ, true, eqb, List, ◌∷◌, Some, None, refl, sym, ap, ◌∙◌}
+use Rattle.std.proofs.Common.{◌≡◌, ℕ, Bool, true, not, eqb, List, ◌∷◌, Some, None, refl, sym, ap, ◌∙◌}
 use Rattle.std.specs.Prelude.{codes}
 use Rattle.std.proofs.lemmas.Bool.{eq-eqb}
 use Rattle.ssh_model.specs.DataTypes.{IsBoolean, IsString}
@@ -54,72 +54,74 @@ method {m} {n} = record { same = λ bytes p q. same_method m n bytes ((string �
 -- ---- the rows
 
 -- messages of one number
-same_row : (m n : Msg) (payload : List ℕ) → eqb (message_number m) (message_number n) ≡ true → is_unknown true (message_number m) ≡ is_unknown true (message_number n) → Suits true m → Suits true n → IsRow IsBoolean m payload → IsRow IsBoolean n payload → m ≡ n
-same_row (Disconnect a b c) (Disconnect k l m) payload _ _ _ _ p q =
+same_row : (probing : Bool) (m n : Msg) (payload : List ℕ) → eqb (message_number m) (message_number n) ≡ true → is_unknown probing (message_number m) ≡ is_unknown probing (message_number n) → Suits probing m → Suits probing n → IsRow IsBoolean m payload → IsRow IsBoolean n payload → m ≡ n
+same_row probing (Disconnect a b c) (Disconnect k l m) payload _ _ _ _ p q =
     let h = (byte ▹ uint32 ▹ string ▹ string ▹ end).same payload p q in λ i. Disconnect (h.1.0 i) (h.1.1.0 i) (h.1.1.1.0 i)
-same_row (Ignore a) (Ignore k) payload _ _ _ _ p q =
+same_row probing (Ignore a) (Ignore k) payload _ _ _ _ p q =
     let h = (byte ▹ string ▹ end).same payload p q in λ i. Ignore (h.1.0 i)
-same_row (Unimplemented a) (Unimplemented k) payload _ _ _ _ p q =
+same_row probing (Unimplemented a) (Unimplemented k) payload _ _ _ _ p q =
     let h = (byte ▹ uint32 ▹ end).same payload p q in λ i. Unimplemented (h.1.0 i)
-same_row (Debug a b c) (Debug k l m) payload _ _ _ _ p q =
+same_row probing (Debug a b c) (Debug k l m) payload _ _ _ _ p q =
     let h = (byte ▹ boolean ▹ string ▹ string ▹ end).same payload p q in λ i. Debug (h.1.0 i) (h.1.1.0 i) (h.1.1.1.0 i)
-same_row (ServiceRequest a) (ServiceRequest k) payload _ _ _ _ p q =
+same_row probing (ServiceRequest a) (ServiceRequest k) payload _ _ _ _ p q =
     let h = (byte ▹ string ▹ end).same payload p q in λ i. ServiceRequest (h.1.0 i)
-same_row (ServiceAccept a) (ServiceAccept k) payload _ _ _ _ p q =
+same_row probing (ServiceAccept a) (ServiceAccept k) payload _ _ _ _ p q =
     let h = (byte ▹ string ▹ end).same payload p q in λ i. ServiceAccept (h.1.0 i)
-same_row (KexInit p) (KexInit q) payload _ _ _ _ r w =
+same_row probing (KexInit p) (KexInit q) payload _ _ _ _ r w =
     let h = (byte ▹ cookie ▹ names ▹ names ▹ names ▹ names ▹ names ▹ names ▹ names ▹ names ▹ names ▹ names ▹ boolean ▹ uint32 ▹ end).same payload r w in
     λ i. KexInit (record { cookie = h.1.0 i; kex = h.1.1.0 i; host = h.1.1.1.0 i; enc_cs = h.1.1.1.1.0 i; enc_sc = h.1.1.1.1.1.0 i; mac_cs = h.1.1.1.1.1.1.0 i; mac_sc = h.1.1.1.1.1.1.1.0 i; comp_cs = h.1.1.1.1.1.1.1.1.0 i; comp_sc = h.1.1.1.1.1.1.1.1.1.0 i; lang_cs = h.1.1.1.1.1.1.1.1.1.1.0 i; lang_sc = h.1.1.1.1.1.1.1.1.1.1.1.0 i; follows = h.1.1.1.1.1.1.1.1.1.1.1.1.0 i })
-same_row NewKeys NewKeys payload _ _ _ _ p q = refl
-same_row (KexEcdhInit a) (KexEcdhInit k) payload _ _ _ _ p q =
+same_row probing NewKeys NewKeys payload _ _ _ _ p q = refl
+same_row probing (KexEcdhInit a) (KexEcdhInit k) payload _ _ _ _ p q =
     let h = (byte ▹ string ▹ end).same payload p q in λ i. KexEcdhInit (h.1.0 i)
-same_row (KexEcdhReply a b c) (KexEcdhReply k l m) payload _ _ _ _ p q =
+same_row probing (KexEcdhReply a b c) (KexEcdhReply k l m) payload _ _ _ _ p q =
     let h = (byte ▹ string ▹ string ▹ string ▹ end).same payload p q in λ i. KexEcdhReply (h.1.0 i) (h.1.1.0 i) (h.1.1.1.0 i)
-same_row (UserauthRequest a b c) (UserauthRequest k l m) payload _ _ _ _ p q =
+same_row probing (UserauthRequest a b c) (UserauthRequest k l m) payload _ _ _ _ p q =
     let h = (byte ▹ string ▹ string ▹ method).same payload p q in λ i. UserauthRequest (h.1.0 i) (h.1.1.0 i) (h.1.1.1 i)
-same_row (UserauthFailure a b) (UserauthFailure k l) payload _ _ _ _ p q =
+same_row probing (UserauthFailure a b) (UserauthFailure k l) payload _ _ _ _ p q =
     let h = (byte ▹ names ▹ boolean ▹ end).same payload p q in λ i. UserauthFailure (h.1.0 i) (h.1.1.0 i)
-same_row UserauthSuccess UserauthSuccess payload _ _ _ _ p q = refl
-same_row (UserauthBanner a b) (UserauthBanner k l) payload _ _ _ _ p q =
+same_row probing UserauthSuccess UserauthSuccess payload _ _ _ _ p q = refl
+same_row probing (UserauthBanner a b) (UserauthBanner k l) payload _ _ _ _ p q =
     let h = (byte ▹ string ▹ string ▹ end).same payload p q in λ i. UserauthBanner (h.1.0 i) (h.1.1.0 i)
-same_row (UserauthPkOk a b) (UserauthPkOk k l) payload _ _ _ _ p q =
+same_row probing (UserauthPkOk a b) (UserauthPkOk k l) payload _ _ _ _ p q =
     let h = (byte ▹ string ▹ string ▹ end).same payload p q in λ i. UserauthPkOk (h.1.0 i) (h.1.1.0 i)
-same_row (GlobalRequest a b c) (GlobalRequest k l m) payload _ _ _ _ p q =
+same_row probing (GlobalRequest a b c) (GlobalRequest k l m) payload _ _ _ _ p q =
     let h = (byte ▹ string ▹ boolean ▹ rest).same payload p q in λ i. GlobalRequest (h.1.0 i) (h.1.1.0 i) (h.1.1.1 i)
-same_row (RequestSuccess a) (RequestSuccess k) payload _ _ _ _ p q =
+same_row probing (RequestSuccess a) (RequestSuccess k) payload _ _ _ _ p q =
     let h = (byte ▹ rest).same payload p q in λ i. RequestSuccess (h.1 i)
-same_row RequestFailure RequestFailure payload _ _ _ _ p q = refl
-same_row (ChannelOpen a b c d e) (ChannelOpen k l m n o) payload _ _ _ _ p q =
+same_row probing RequestFailure RequestFailure payload _ _ _ _ p q = refl
+same_row probing (ChannelOpen a b c d e) (ChannelOpen k l m n o) payload _ _ _ _ p q =
     let h = (byte ▹ string ▹ uint32 ▹ uint32 ▹ uint32 ▹ rest).same payload p q in λ i. ChannelOpen (h.1.0 i) (h.1.1.0 i) (h.1.1.1.0 i) (h.1.1.1.1.0 i) (h.1.1.1.1.1 i)
-same_row (ChannelOpenConfirmation a b c d e) (ChannelOpenConfirmation k l m n o) payload _ _ _ _ p q =
+same_row probing (ChannelOpenConfirmation a b c d e) (ChannelOpenConfirmation k l m n o) payload _ _ _ _ p q =
     let h = (byte ▹ uint32 ▹ uint32 ▹ uint32 ▹ uint32 ▹ rest).same payload p q in λ i. ChannelOpenConfirmation (h.1.0 i) (h.1.1.0 i) (h.1.1.1.0 i) (h.1.1.1.1.0 i) (h.1.1.1.1.1 i)
-same_row (ChannelOpenFailure a b c d) (ChannelOpenFailure k l m n) payload _ _ _ _ p q =
+same_row probing (ChannelOpenFailure a b c d) (ChannelOpenFailure k l m n) payload _ _ _ _ p q =
     let h = (byte ▹ uint32 ▹ uint32 ▹ string ▹ string ▹ end).same payload p q in λ i. ChannelOpenFailure (h.1.0 i) (h.1.1.0 i) (h.1.1.1.0 i) (h.1.1.1.1.0 i)
-same_row (ChannelWindowAdjust a b) (ChannelWindowAdjust k l) payload _ _ _ _ p q =
+same_row probing (ChannelWindowAdjust a b) (ChannelWindowAdjust k l) payload _ _ _ _ p q =
     let h = (byte ▹ uint32 ▹ uint32 ▹ end).same payload p q in λ i. ChannelWindowAdjust (h.1.0 i) (h.1.1.0 i)
-same_row (ChannelData a b) (ChannelData k l) payload _ _ _ _ p q =
+same_row probing (ChannelData a b) (ChannelData k l) payload _ _ _ _ p q =
     let h = (byte ▹ uint32 ▹ string ▹ end).same payload p q in λ i. ChannelData (h.1.0 i) (h.1.1.0 i)
-same_row (ChannelExtendedData a b c) (ChannelExtendedData k l m) payload _ _ _ _ p q =
+same_row probing (ChannelExtendedData a b c) (ChannelExtendedData k l m) payload _ _ _ _ p q =
     let h = (byte ▹ uint32 ▹ uint32 ▹ string ▹ end).same payload p q in λ i. ChannelExtendedData (h.1.0 i) (h.1.1.0 i) (h.1.1.1.0 i)
-same_row (ChannelEof a) (ChannelEof k) payload _ _ _ _ p q =
+same_row probing (ChannelEof a) (ChannelEof k) payload _ _ _ _ p q =
     let h = (byte ▹ uint32 ▹ end).same payload p q in λ i. ChannelEof (h.1.0 i)
-same_row (ChannelClose a) (ChannelClose k) payload _ _ _ _ p q =
+same_row probing (ChannelClose a) (ChannelClose k) payload _ _ _ _ p q =
     let h = (byte ▹ uint32 ▹ end).same payload p q in λ i. ChannelClose (h.1.0 i)
-same_row (ChannelRequest a b c d) (ChannelRequest k l m n) payload _ _ _ _ p q =
+same_row probing (ChannelRequest a b c d) (ChannelRequest k l m n) payload _ _ _ _ p q =
     let h = (byte ▹ uint32 ▹ string ▹ boolean ▹ rest).same payload p q in λ i. ChannelRequest (h.1.0 i) (h.1.1.0 i) (h.1.1.1.0 i) (h.1.1.1.1 i)
-same_row (ChannelSuccess a) (ChannelSuccess k) payload _ _ _ _ p q =
+same_row probing (ChannelSuccess a) (ChannelSuccess k) payload _ _ _ _ p q =
     let h = (byte ▹ uint32 ▹ end).same payload p q in λ i. ChannelSuccess (h.1.0 i)
-same_row (ChannelFailure a) (ChannelFailure k) payload _ _ _ _ p q =
+same_row probing (ChannelFailure a) (ChannelFailure k) payload _ _ _ _ p q =
     let h = (byte ▹ uint32 ▹ end).same payload p q in λ i. ChannelFailure (h.1.0 i)
-same_row (Unknown a) (Unknown k) payload _ _ _ _ p q = let h = (byte ▹ stop).same payload p q in λ i. Unknown (h.0 i)
-same_row (Unknown a) n payload e s t u p q = absurd (not_both (sym t ∙ s))
-same_row m (Unknown k) payload e s t u p q = absurd (not_both (sym u ∙ sym s))
-same_row m n payload e s t u p q = absurd (not_both (sym e))
+same_row probing (Unknown a) (Unknown k) payload _ _ _ _ p q = let h = (byte ▹ stop).same payload p q in λ i. Unknown (h.0 i)
+same_row probing (Unknown a) (UserauthPkOk k l) payload e s t u p q = absurd (not_both (sym t ∙ (s ∙ ap not u)))
+same_row probing (UserauthPkOk a b) (Unknown k) payload e s t u p q = absurd (not_both (sym u ∙ (sym s ∙ ap not t)))
+same_row probing (Unknown a) n payload e s t u p q = absurd (not_both (sym t ∙ s))
+same_row probing m (Unknown k) payload e s t u p q = absurd (not_both (sym u ∙ sym s))
+same_row probing m n payload e s t u p q = absurd (not_both (sym e))
 
-pub same_message : (m n : Msg) (payload : List ℕ) → IsPayload true m payload → IsPayload true n payload → m ≡ n
-same_message m n payload p q =
-    let s = tag m payload true p in
-    let t = tag n payload true q in
+pub same_message : {probing : Bool} (m n : Msg) (payload : List ℕ) → IsPayload probing m payload → IsPayload probing n payload → m ≡ n
+same_message {probing} m n payload p q =
+    let s = tag m payload probing p in
+    let t = tag n payload probing q in
     let front : message_number m ∷ s.0 ≡ message_number n ∷ t.0 = sym s.1 ∙ t.1 in
     let number : message_number m ≡ message_number n = cc in
-    same_row m n payload (eq-eqb _ _ number) (ap (is_unknown true) number) p.suits q.suits p.row q.row
+    same_row probing m n payload (eq-eqb _ _ number) (ap (is_unknown probing) number) p.suits q.suits p.row q.row
