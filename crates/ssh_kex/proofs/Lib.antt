@@ -1,6 +1,5 @@
 pub mod Numbers
 pub mod Strings
-pub mod Texts
 pub mod Blocks
 pub mod Commons
 pub mod Toys

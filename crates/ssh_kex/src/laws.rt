@@ -4,10 +4,11 @@ ghost use Rattle.ssh_model.specs.Exchange.{Fits, Inputs, exchange_text, mpint_bo
 
 /// Two exchanges of one text have one list of inputs: the same lines, KEXINIT payloads, host key, points and shared
 /// number. So two ends that hashed the same text agree on all of them.
-#[tactic(auto, using(crate::proofs::Texts::equal_inputs))]
 pub fn equal_texts_have_equal_inputs()
     ensures { (x y : Inputs) → Fits x → Fits y → exchange_text x ≡ exchange_text y → x ≡ y }
-{}
+{
+    ssh_model::equal_texts();
+}
 
 /// The strings and the number of an exchange text are spelled as RFC 4251 section 5 says.
 #[tactic(auto, using(crate::proofs::Strings::is_string, crate::proofs::Strings::is_mpint))]

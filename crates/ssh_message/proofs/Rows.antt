@@ -17,10 +17,9 @@ abbrev pub Choose : Bool → Type 0 → Type 0 → Type 0
 Choose true A B = A
 Choose false A B = B
 
--- what a message with this number is made of
-abbrev pub RowAt : Bool → ℕ → List ℕ → Msg → Type 0
-RowAt probing n rest m =
-    Choose (is_unknown probing n) (m ≡ Unknown n) (
+-- what a message with this number is made of, where the number is known
+abbrev pub KnownRowAt : ℕ → List ℕ → Msg → Type 0
+KnownRowAt n rest m =
     Choose (n == 1) (IsMade (λ v. Disconnect v.0 v.1.0 v.1.1.0) (Both IsUint32 (Both IsString (Both IsString IsNothing))) rest m) (
     Choose (n == 2) (IsMade (λ v. Ignore v.0) (Both IsString IsNothing) rest m) (
     Choose (n == 3) (IsMade (λ v. Unimplemented v.0) (Both IsUint32 IsNothing) rest m) (
@@ -49,7 +48,11 @@ RowAt probing n rest m =
     Choose (n == 97) (IsMade (λ v. ChannelClose v.0) (Both IsUint32 IsNothing) rest m) (
     Choose (n == 98) (IsMade (λ v. ChannelRequest v.0 v.1.0 v.1.1.0 v.1.1.1) (Both IsUint32 (Both IsString (Both IsBoolean IsRest))) rest m) (
     Choose (n == 99) (IsMade (λ v. ChannelSuccess v.0) (Both IsUint32 IsNothing) rest m) (
-    Choose (n == 100) (IsMade (λ v. ChannelFailure v.0) (Both IsUint32 IsNothing) rest m) ⊥)))))))))))))))))))))))))))))
+    Choose (n == 100) (IsMade (λ v. ChannelFailure v.0) (Both IsUint32 IsNothing) rest m) ⊥))))))))))))))))))))))))))))
+
+-- what a message with this number is made of
+abbrev pub RowAt : Bool → ℕ → List ℕ → Msg → Type 0
+RowAt probing n rest m = Choose (is_unknown probing n) (m ≡ Unknown n) (KnownRowAt n rest m)
 
 -- with no row the number is unknown
 chosen : (b : Bool) (A B : Type 0) → IsTrue b → A → Choose b A B
@@ -154,7 +157,7 @@ row_at probing (ChannelFailure recipient) n rest h =
     subst (λ (k : ℕ). RowAt probing k rest (ChannelFailure recipient)) (sym e.0) (record { value = (recipient, tt); is = refl; spelled = e.1 })
 row_at probing (Unknown number) n rest h =
     let e = byte_front number n _ rest h.row in
-    subst (λ (k : ℕ). RowAt probing k rest (Unknown number)) (sym e.0) (chosen (is_unknown probing number) _ _ h.suits refl)
+    subst (λ (k : ℕ). RowAt probing k rest (Unknown number)) (sym e.0) (chosen (is_unknown probing number) _ (KnownRowAt number rest (Unknown number)) h.suits refl)
 
 pub no_disconnect : (rest : List ℕ) → NoWhole (Both IsUint32 (Both IsString (Both IsString IsNothing))) rest → IsNone (1 ∷ rest)
 no_disconnect rest h = λ probing. record { none = λ m p. let row = row_at probing m 1 rest p in h.none row.value row.spelled }
