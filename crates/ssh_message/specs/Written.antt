@@ -15,12 +15,6 @@ pub record Grown (before after : List ℕ) : Type 0 where
   pub more : List ℕ
   pub parts : after ≡ before ++ more
 
--- the last fields of an offer, from the MAC algorithms of the server on
-abbrev pub AreLaterFields : model.Proposal → List ℕ → Type 0
-AreLaterFields p =
-    IsNameList p.mac_sc ▸ IsNameList p.comp_cs ▸ IsNameList p.comp_sc ▸ IsNameList p.lang_cs ▸ IsNameList p.lang_sc
-    ▸ IsWrittenBoolean p.follows ▸ IsUint32 0 ▸ IsEnd
-
 -- the length of a text that has one in front
 abbrev pub IsShort : List ℕ → Type 0
 IsShort text = length text < 2 ^ 32
