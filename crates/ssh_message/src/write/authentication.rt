@@ -9,17 +9,17 @@ ghost use Rattle.ssh_message.specs.Meaning.{method_meaning};
 ghost use Rattle.ssh_message.specs.Written.{IsShort, MethodFits};
 
 use crate::message::Method;
-use crate::write::method;
 use crate::write::field::Field;
+use crate::write::method;
 use crate::write::row::put_row;
 use ssh_types::NameList;
 use std::alloc::AllocError;
 
-pub(crate) fn request(
+pub(crate) fn request<'a>(
     out: &mut Vec<u8>,
-    user: &[u8],
-    service: &[u8],
-    method: &Method<'_>,
+    user: &'a [u8],
+    service: &'a [u8],
+    method: &Method<'a>,
 ) -> Result<(), AllocError>
     requires user { IsShort user.now }
     requires service { IsShort service.now }
@@ -60,7 +60,12 @@ pub(crate) fn failure(
     ensures written { OnOk result (Writes (IsRow IsWrittenBoolean (UserauthFailure (names methods.now) partial)) out.old.items out.new.items) }
     ensures kept { OnErr result (out.new.items ≡ out.old.items) }
 {
-    put_row(out, 51, &[Field::Names(*methods), Field::Boolean(partial)], b"")
+    put_row(
+        out,
+        51,
+        &[Field::Names(*methods), Field::Boolean(partial)],
+        b"",
+    )
 }
 
 pub(crate) fn success(out: &mut Vec<u8>) -> Result<(), AllocError>
@@ -70,7 +75,11 @@ pub(crate) fn success(out: &mut Vec<u8>) -> Result<(), AllocError>
     put_row(out, 52, &[], b"")
 }
 
-pub(crate) fn banner(out: &mut Vec<u8>, message: &[u8], language: &[u8]) -> Result<(), AllocError>
+pub(crate) fn banner<'a>(
+    out: &mut Vec<u8>,
+    message: &'a [u8],
+    language: &'a [u8],
+) -> Result<(), AllocError>
     requires message { IsShort message.now }
     requires language { IsShort language.now }
     ensures written { OnOk result (Writes (IsRow IsWrittenBoolean (UserauthBanner message.now language.now)) out.old.items out.new.items) }
@@ -79,7 +88,11 @@ pub(crate) fn banner(out: &mut Vec<u8>, message: &[u8], language: &[u8]) -> Resu
     put_row(out, 53, &[Field::Text(message), Field::Text(language)], b"")
 }
 
-pub(crate) fn pk_ok(out: &mut Vec<u8>, algorithm: &[u8], key: &[u8]) -> Result<(), AllocError>
+pub(crate) fn pk_ok<'a>(
+    out: &mut Vec<u8>,
+    algorithm: &'a [u8],
+    key: &'a [u8],
+) -> Result<(), AllocError>
     requires algorithm { IsShort algorithm.now }
     requires key { IsShort key.now }
     ensures written { OnOk result (Writes (IsRow IsWrittenBoolean (UserauthPkOk algorithm.now key.now)) out.old.items out.new.items) }

@@ -78,12 +78,12 @@ pub(crate) fn channel_open_confirmation(
     put_row(out, 91, &fields, rest)
 }
 
-pub(crate) fn channel_open_failure(
+pub(crate) fn channel_open_failure<'a>(
     out: &mut Vec<u8>,
     recipient: u32,
     reason: u32,
-    description: &[u8],
-    language: &[u8],
+    description: &'a [u8],
+    language: &'a [u8],
 ) -> Result<(), AllocError>
     requires description { IsShort description.now }
     requires language { IsShort language.now }
@@ -107,7 +107,12 @@ pub(crate) fn channel_window_adjust(
     ensures written { OnOk result (Writes (IsRow IsWrittenBoolean (ChannelWindowAdjust recipient bytes)) out.old.items out.new.items) }
     ensures kept { OnErr result (out.new.items ≡ out.old.items) }
 {
-    put_row(out, 93, &[Field::Uint32(recipient), Field::Uint32(bytes)], b"")
+    put_row(
+        out,
+        93,
+        &[Field::Uint32(recipient), Field::Uint32(bytes)],
+        b"",
+    )
 }
 
 pub(crate) fn channel_data(out: &mut Vec<u8>, recipient: u32, body: &[u8]) -> Result<(), AllocError>
@@ -128,7 +133,16 @@ pub(crate) fn channel_extended_data(
     ensures written { OnOk result (Writes (IsRow IsWrittenBoolean (ChannelExtendedData recipient kind body.now)) out.old.items out.new.items) }
     ensures kept { OnErr result (out.new.items ≡ out.old.items) }
 {
-    put_row(out, 95, &[Field::Uint32(recipient), Field::Uint32(kind), Field::Text(body)], b"")
+    put_row(
+        out,
+        95,
+        &[
+            Field::Uint32(recipient),
+            Field::Uint32(kind),
+            Field::Text(body),
+        ],
+        b"",
+    )
 }
 
 pub(crate) fn channel_eof(out: &mut Vec<u8>, recipient: u32) -> Result<(), AllocError>
@@ -156,7 +170,16 @@ pub(crate) fn channel_request(
     ensures written { OnOk result (Writes (IsRow IsWrittenBoolean (ChannelRequest recipient name.now want rest.now)) out.old.items out.new.items) }
     ensures kept { OnErr result (out.new.items ≡ out.old.items) }
 {
-    put_row(out, 98, &[Field::Uint32(recipient), Field::Text(name), Field::Boolean(want)], rest)
+    put_row(
+        out,
+        98,
+        &[
+            Field::Uint32(recipient),
+            Field::Text(name),
+            Field::Boolean(want),
+        ],
+        rest,
+    )
 }
 
 pub(crate) fn channel_success(out: &mut Vec<u8>, recipient: u32) -> Result<(), AllocError>

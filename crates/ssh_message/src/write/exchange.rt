@@ -43,11 +43,11 @@ pub(crate) fn kex_ecdh_init(out: &mut Vec<u8>, q_c: &[u8]) -> Result<(), AllocEr
     put_row(out, 30, &[Field::Text(q_c)], b"")
 }
 
-pub(crate) fn kex_ecdh_reply(
+pub(crate) fn kex_ecdh_reply<'a>(
     out: &mut Vec<u8>,
-    k_s: &[u8],
-    q_s: &[u8],
-    signature: &[u8],
+    k_s: &'a [u8],
+    q_s: &'a [u8],
+    signature: &'a [u8],
 ) -> Result<(), AllocError>
     requires k_s { IsShort k_s.now }
     requires q_s { IsShort q_s.now }
@@ -55,5 +55,10 @@ pub(crate) fn kex_ecdh_reply(
     ensures written { OnOk result (Writes (IsRow IsWrittenBoolean (KexEcdhReply k_s.now q_s.now signature.now)) out.old.items out.new.items) }
     ensures kept { OnErr result (out.new.items ≡ out.old.items) }
 {
-    put_row(out, 31, &[Field::Text(k_s), Field::Text(q_s), Field::Text(signature)], b"")
+    put_row(
+        out,
+        31,
+        &[Field::Text(k_s), Field::Text(q_s), Field::Text(signature)],
+        b"",
+    )
 }

@@ -10,20 +10,33 @@ use crate::write::field::Field;
 use crate::write::row::put_row;
 use std::alloc::AllocError;
 
-pub(crate) fn none(out: &mut Vec<u8>, user: &[u8], service: &[u8]) -> Result<(), AllocError>
+pub(crate) fn none<'a>(
+    out: &mut Vec<u8>,
+    user: &'a [u8],
+    service: &'a [u8],
+) -> Result<(), AllocError>
     requires user { IsShort user.now }
     requires service { IsShort service.now }
     ensures written { OnOk result (Writes (IsRow IsWrittenBoolean (UserauthRequest user.now service.now NoMethod)) out.old.items out.new.items) }
     ensures kept { OnErr result (out.new.items ≡ out.old.items) }
 {
-    put_row(out, 50, &[Field::Text(user), Field::Text(service), Field::Text(b"none")], b"")
+    put_row(
+        out,
+        50,
+        &[
+            Field::Text(user),
+            Field::Text(service),
+            Field::Text(b"none"),
+        ],
+        b"",
+    )
 }
 
-pub(crate) fn password(
+pub(crate) fn password<'a>(
     out: &mut Vec<u8>,
-    user: &[u8],
-    service: &[u8],
-    password: &[u8],
+    user: &'a [u8],
+    service: &'a [u8],
+    password: &'a [u8],
 ) -> Result<(), AllocError>
     requires user { IsShort user.now }
     requires service { IsShort service.now }
@@ -41,12 +54,12 @@ pub(crate) fn password(
     put_row(out, 50, &fields, b"")
 }
 
-pub(crate) fn new_password(
+pub(crate) fn new_password<'a>(
     out: &mut Vec<u8>,
-    user: &[u8],
-    service: &[u8],
-    password: &[u8],
-    new_password: &[u8],
+    user: &'a [u8],
+    service: &'a [u8],
+    password: &'a [u8],
+    new_password: &'a [u8],
 ) -> Result<(), AllocError>
     requires user { IsShort user.now }
     requires service { IsShort service.now }
@@ -66,12 +79,12 @@ pub(crate) fn new_password(
     put_row(out, 50, &fields, b"")
 }
 
-pub(crate) fn probe(
+pub(crate) fn probe<'a>(
     out: &mut Vec<u8>,
-    user: &[u8],
-    service: &[u8],
-    algorithm: &[u8],
-    key: &[u8],
+    user: &'a [u8],
+    service: &'a [u8],
+    algorithm: &'a [u8],
+    key: &'a [u8],
 ) -> Result<(), AllocError>
     requires user { IsShort user.now }
     requires service { IsShort service.now }
@@ -91,13 +104,13 @@ pub(crate) fn probe(
     put_row(out, 50, &fields, b"")
 }
 
-pub(crate) fn signed(
+pub(crate) fn signed<'a>(
     out: &mut Vec<u8>,
-    user: &[u8],
-    service: &[u8],
-    algorithm: &[u8],
-    key: &[u8],
-    signature: &[u8],
+    user: &'a [u8],
+    service: &'a [u8],
+    algorithm: &'a [u8],
+    key: &'a [u8],
+    signature: &'a [u8],
 ) -> Result<(), AllocError>
     requires user { IsShort user.now }
     requires service { IsShort service.now }
@@ -119,11 +132,11 @@ pub(crate) fn signed(
     put_row(out, 50, &fields, b"")
 }
 
-pub(crate) fn other(
+pub(crate) fn other<'a>(
     out: &mut Vec<u8>,
-    user: &[u8],
-    service: &[u8],
-    name: &[u8],
+    user: &'a [u8],
+    service: &'a [u8],
+    name: &'a [u8],
     rest: &[u8],
 ) -> Result<(), AllocError>
     requires other { IsOther name.now }
@@ -133,5 +146,10 @@ pub(crate) fn other(
     ensures written { OnOk result (Writes (IsRow IsWrittenBoolean (UserauthRequest user.now service.now (Other name.now rest.now))) out.old.items out.new.items) }
     ensures kept { OnErr result (out.new.items ≡ out.old.items) }
 {
-    put_row(out, 50, &[Field::Text(user), Field::Text(service), Field::Text(name)], rest)
+    put_row(
+        out,
+        50,
+        &[Field::Text(user), Field::Text(service), Field::Text(name)],
+        rest,
+    )
 }

@@ -11,18 +11,27 @@ use crate::write::row::put_row;
 use ssh_types::Put;
 use std::alloc::AllocError;
 
-pub(crate) fn disconnect(
+pub(crate) fn disconnect<'a>(
     out: &mut Vec<u8>,
     reason: u32,
-    description: &[u8],
-    language: &[u8],
+    description: &'a [u8],
+    language: &'a [u8],
 ) -> Result<(), AllocError>
     requires description { IsShort description.now }
     requires language { IsShort language.now }
     ensures written { OnOk result (Writes (IsRow IsWrittenBoolean (Disconnect reason description.now language.now)) out.old.items out.new.items) }
     ensures kept { OnErr result (out.new.items ≡ out.old.items) }
 {
-    put_row(out, 1, &[Field::Uint32(reason), Field::Text(description), Field::Text(language)], b"")
+    put_row(
+        out,
+        1,
+        &[
+            Field::Uint32(reason),
+            Field::Text(description),
+            Field::Text(language),
+        ],
+        b"",
+    )
 }
 
 pub(crate) fn ignore(out: &mut Vec<u8>, body: &[u8]) -> Result<(), AllocError>
@@ -40,18 +49,27 @@ pub(crate) fn unimplemented(out: &mut Vec<u8>, number: u32) -> Result<(), AllocE
     put_row(out, 3, &[Field::Uint32(number)], b"")
 }
 
-pub(crate) fn debug(
+pub(crate) fn debug<'a>(
     out: &mut Vec<u8>,
     display: bool,
-    message: &[u8],
-    language: &[u8],
+    message: &'a [u8],
+    language: &'a [u8],
 ) -> Result<(), AllocError>
     requires message { IsShort message.now }
     requires language { IsShort language.now }
     ensures written { OnOk result (Writes (IsRow IsWrittenBoolean (Debug display message.now language.now)) out.old.items out.new.items) }
     ensures kept { OnErr result (out.new.items ≡ out.old.items) }
 {
-    put_row(out, 4, &[Field::Boolean(display), Field::Text(message), Field::Text(language)], b"")
+    put_row(
+        out,
+        4,
+        &[
+            Field::Boolean(display),
+            Field::Text(message),
+            Field::Text(language),
+        ],
+        b"",
+    )
 }
 
 pub(crate) fn service_request(out: &mut Vec<u8>, service: &[u8]) -> Result<(), AllocError>
