@@ -1,9 +1,9 @@
 -- Fields that are written one after the other.
 use Rattle.std.proofs.Common.{◌≡◌, ℕ, ◌+◌, ◌<◌, ◌≤◌, List, [], ◌∷◌, zero, suc, ◌++◌, length, get_or, take, refl, sym, ap, subst, ◌∙◌, append_assoc, append-nil, arith}
 use Rattle.std.proofs.lemmas.List.{take_all, take_more}
-use Rattle.ssh_model.specs.DataTypes.{IsByte, IsString}
+use Rattle.ssh_model.specs.DataTypes.{IsByte}
 use Rattle.ssh_model.specs.Reading.{Writes}
-use Rattle.ssh_model.specs.Message.{Then, IsAny, IsCookie, IsOther, IsOtherName, IsRest}
+use Rattle.ssh_model.specs.Message.{Then, IsCookie}
 use Rattle.ssh_message.specs.declared.write.field.Field.{Field}
 use Rattle.ssh_message.specs.Fields.{AreFields, AreFit, FieldFits, IsField, IsRowOf}
 use Rattle.ssh_message.specs.Written.{Grown}
@@ -76,13 +76,4 @@ grown_same {before = before} e = record { more = []; parts = e ∙ sym (append-n
 pub grown_after : {P : List ℕ → Type 0} {before middle after : List ℕ} → Writes P before middle → after ≡ middle → Grown before after
 grown_after w e = record { more = w.bytes; parts = e ∙ w.parts }
 
--- ---- rows that are not fields alone
-
--- the number of an unknown message: anything may follow it
-pub unknown_row : {number : ℕ} {before after : List ℕ} → Writes (IsByte number) before after → Writes (Then (IsByte number) IsAny) before after
-unknown_row w = record { bytes = w.bytes; meets = record { front = w.bytes; back = []; first = w.meets; second = tt; parts = sym (append-nil w.bytes) }; parts = w.parts }
-
-pub number_alone : {number : ℕ} {before after : List ℕ} → Writes (IsByte number) before after → after ≡ before ++ number ∷ []
-number_alone {before = before} w = w.parts ∙ ap (λ (b : List ℕ). before ++ b) w.meets
-
-pub ruleset writing = (row_begins, writes_cookie, grown_same, grown_after, unknown_row, number_alone)
+pub ruleset writing = (row_begins, writes_cookie, grown_same, grown_after)

@@ -1,15 +1,16 @@
 -- What the fields of a message are written as.
-use Rattle.std.specs.Prelude.{◌≡◌, ℕ, ◌<◌, ◌^◌, List, [], ◌∷◌, length}
+use Rattle.std.specs.Prelude.{ℕ, List, [], ◌∷◌}
 use Rattle.ssh_model.specs.DataTypes.{IsByte, IsWrittenBoolean, IsUint32, IsString, IsNameList}
 use Rattle.ssh_model.specs.Message.{◌▸◌, IsCookie, IsRest}
 use Rattle.ssh_types.specs.Values.{names, names_text}
 use Rattle.ssh_message.specs.declared.write.field.Field.{Field}
 use Rattle.ssh_message.specs.declared.write.field.Field.TheVariants as field
+use Rattle.ssh_message.specs.Written.{IsShort}
 
 -- a text or a name-list is shorter than 2^32 bytes
 abbrev pub FieldFits : Field → Type 0
-FieldFits (field.Text text) = length text.now < 2 ^ 32
-FieldFits (field.Names list) = length (names_text list) < 2 ^ 32
+FieldFits (field.Text text) = IsShort text.now
+FieldFits (field.Names list) = IsShort (names_text list)
 FieldFits f = Unit {0}
 
 abbrev pub AreFit : List Field → Type 0

@@ -8,7 +8,7 @@ use crate::message::Message;
 use crate::write::{authentication, connection, exchange, transport};
 use std::alloc::AllocError;
 
-/// Puts the payload of the message at the end of `out`.
+/// Puts the payload of the message at the end of `out`. An `Unknown` is put as its number alone.
 ///
 /// An `Unknown` number is none that another message has (60 may be one), the name of an `Other` method is none of
 /// `none`, `password` and `publickey`, and each text that has its length in front, as each name-list, is shorter than
