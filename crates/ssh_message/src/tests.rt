@@ -1,9 +1,7 @@
-//! Recorded payloads and worked rows, on the public calls.
-
-mod recorded;
+//! Payloads and their lines, on the public calls. Payloads of real implementations are read, shown and written by
+//! `ssh_message_recorded`.
 
 use super::*;
-use recorded::{OFFERS, RECORDED};
 use std::alloc::Global;
 use std::test::Fail;
 
@@ -26,33 +24,6 @@ fn shown(alloc: Global, probing: bool, payload: &[u8]) -> Result<(String, Vec<u8
     let mut again = Vec::new(alloc);
     encode(&decode(probing, payload)?, &mut again)?;
     Ok((line, again))
-}
-
-#[test]
-fn recorded_payloads(rt: HostRuntime) -> Result<(), Fail> {
-    let alloc = rt.alloc();
-    for (digits, want) in RECORDED {
-        let payload = bytes_of(alloc, digits)?;
-        let (line, again) = shown(alloc, true, &payload)?;
-        assert_eq!(rt; line.as_str(), want);
-        // What follows an unknown number isn't kept.
-        if !want.ends_with("UNKNOWN") {
-            assert_eq!(rt; again, payload);
-        }
-    }
-    Ok(())
-}
-
-#[test]
-fn recorded_offers(rt: HostRuntime) -> Result<(), Fail> {
-    let alloc = rt.alloc();
-    for digits in OFFERS {
-        let payload = bytes_of(alloc, digits)?;
-        let (line, again) = shown(alloc, false, &payload)?;
-        assert!(rt; line.starts_with("20 KEXINIT cookie="));
-        assert_eq!(rt; again, payload);
-    }
-    Ok(())
 }
 
 const ROWS: [(&str, &str); 8] = [
