@@ -1,44 +1,76 @@
 -- Fields that are written one after the other.
-use Rattle.std.proofs.Common.{◌≡◌, ℕ, List, [], ◌++◌, length, Result, Ok, Err, refl, sym, ap, ◌∙◌, append_assoc, append-nil}
+use Rattle.std.proofs.Common.{◌≡◌, ℕ, ◌+◌, ◌<◌, ◌≤◌, List, [], ◌∷◌, zero, suc, Result, Ok, Err, ◌++◌, length, get_or, take, refl, sym, ap, subst, ◌∙◌, append_assoc, append-nil, arith}
+use Rattle.std.proofs.lemmas.List.{take_all, take_more}
 use Rattle.std.specs.Prelude.{OnErr}
-use Rattle.ssh_model.specs.DataTypes.{IsString}
+use Rattle.ssh_model.specs.DataTypes.{IsByte}
 use Rattle.ssh_model.specs.Reading.{Writes}
-use Rattle.ssh_model.specs.Message.{Then, IsEnd, IsRest, IsAny, IsCookie, IsOther, IsOtherName}
+use Rattle.ssh_model.specs.Message.{Then}
+use Rattle.ssh_message.specs.declared.write.field.Field.{Field}
+use Rattle.ssh_message.specs.Fields.{AreFields, AreFit, FieldFits, IsField, IsRowOf}
 use Rattle.ssh_message.specs.Written.{Grown}
 
-pub then_writes : {P Q : List ℕ → Type 0} {before middle after : List ℕ} → Writes P before middle → Writes Q middle after → Writes (Then P Q) before after
-then_writes {before = before} p q =
+-- ---- one more part at the end
+
+then_more : {P Q R : List ℕ → Type 0} {bytes : List ℕ} (more : List ℕ) → Then P Q bytes → ((back : List ℕ) → Q back → R (back ++ more)) → Then P R (bytes ++ more)
+then_more more t f =
     record {
-      bytes = p.bytes ++ q.bytes;
-      meets = record { front = p.bytes; back = q.bytes; first = p.meets; second = q.meets; parts = refl };
-      parts = q.parts ∙ (ap (λ (t : List ℕ). t ++ q.bytes) p.parts ∙ append_assoc before p.bytes q.bytes);
+      front = t.front;
+      back = t.back ++ more;
+      first = t.first;
+      second = f t.back t.second;
+      parts = ap (λ (b : List ℕ). b ++ more) t.parts ∙ append_assoc t.front t.back more;
     }
 
-pub writes_end : (bytes : List ℕ) → Writes IsEnd bytes bytes
-writes_end bytes = record { bytes = []; meets = refl; parts = sym (append-nil bytes) }
+writes_more : {P R : List ℕ → Type 0} {before middle after : List ℕ} (more : List ℕ) → Writes P before middle → after ≡ middle ++ more → ((bytes : List ℕ) → P bytes → R (bytes ++ more)) → Writes R before after
+writes_more {before = before} more w e f =
+    record {
+      bytes = w.bytes ++ more;
+      meets = f w.bytes w.meets;
+      parts = e ∙ (ap (λ (b : List ℕ). b ++ more) w.parts ∙ append_assoc before w.bytes more);
+    }
 
-pub writes_rest : {before after rest : List ℕ} → after ≡ before ++ rest → Writes (IsRest rest) before after
-writes_rest {rest = rest} e = record { bytes = rest; meets = refl; parts = e }
+-- nothing, and then the bytes
+at_end : {bytes : List ℕ} (more : List ℕ) → bytes ≡ [] → bytes ++ more ≡ more
+at_end more e = ap (λ (b : List ℕ). b ++ more) e
 
-pub writes_any : (bytes : List ℕ) → Writes IsAny bytes bytes
-writes_any bytes = record { bytes = []; meets = tt; parts = sym (append-nil bytes) }
+fields_more : (fields : List Field) (f : Field) (bytes more : List ℕ) → AreFields fields [] bytes → IsField f more → AreFields (fields ++ f ∷ []) [] (bytes ++ more)
+fields_more [] f bytes more e h = record { front = more; back = []; first = h; second = refl; parts = at_end more e ∙ sym (append-nil more) }
+fields_more (g ∷ fields) f bytes more t h = then_more more t (λ b q. fields_more fields f b more q h)
 
-pub writes_cookie : {before after cookie : List ℕ} → length cookie ≡ 16 → after ≡ before ++ cookie → Writes (IsCookie cookie) before after
-writes_cookie {cookie = cookie} c e = record { bytes = cookie; meets = record { same = refl; count = c }; parts = e }
+fields_rest : (fields : List Field) (bytes rest : List ℕ) → AreFields fields [] bytes → AreFields fields rest (bytes ++ rest)
+fields_rest [] bytes rest e = at_end rest e
+fields_rest (g ∷ fields) bytes rest t = then_more rest t (λ b q. fields_rest fields b rest q)
 
-pub writes_other : {name before after : List ℕ} → IsOther name → Writes (IsString name) before after → Writes (IsOtherName name) before after
-writes_other o w = record { bytes = w.bytes; meets = record { other = o; string = w.meets }; parts = w.parts }
+-- ---- a row, field after field
+
+pub row_begins : {number : ℕ} {before after : List ℕ} → Writes (IsByte number) before after → Writes (IsRowOf number [] []) before after
+row_begins w = record { bytes = w.bytes; meets = record { front = w.bytes; back = []; first = w.meets; second = refl; parts = sym (append-nil w.bytes) }; parts = w.parts }
+
+pub row_more : {number : ℕ} {before middle after : List ℕ} (fields : List Field) (i : ℕ) (f : Field) → f ≡ get_or fields i f → i < length fields → Writes (IsRowOf number (take i fields) []) before middle → Writes (IsField f) middle after → Writes (IsRowOf number (take (i + 1) fields) []) before after
+row_more {number} {before} {middle} {after} fields i f e h w g =
+    let R : List Field → Type 0 = λ fs. Writes (IsRowOf number fs []) before after in
+    let all : take (i + 1) fields ≡ take i fields ++ f ∷ [] = take_more fields i f h ∙ ap (λ (x : Field). take i fields ++ x ∷ []) (sym e) in
+    subst R (sym all) (writes_more g.bytes w g.parts (λ b t. then_more g.bytes t (λ c q. fields_more (take i fields) f c g.bytes q g.meets)))
+
+pub row_ends : {number : ℕ} {before middle after : List ℕ} (fields : List Field) (i : ℕ) (rest : List ℕ) → length fields ≤ i → Writes (IsRowOf number (take i fields) []) before middle → after ≡ middle ++ rest → Writes (IsRowOf number fields rest) before after
+row_ends {number} {before} {middle} {after} fields i rest h w e =
+    let R : List Field → Type 0 = λ fs. Writes (IsRowOf number fs []) before middle in
+    let v : Writes (IsRowOf number fields []) before middle = subst R (take_all i fields h) w in
+    writes_more rest v e (λ b t. then_more rest t (λ c q. fields_rest fields c rest q))
+
+fits_at : (fields : List Field) (i : ℕ) (f : Field) → i < length fields → AreFit fields → FieldFits (get_or fields i f)
+fits_at [] i f h fit = absurd (omega (arith, h))
+fits_at (g ∷ fields) zero f h fit = fit.0
+fits_at (g ∷ fields) (suc i) f h fit = fits_at fields i f (omega (arith, h)) fit.1
+
+pub field_fits : (fields : List Field) (i : ℕ) (f : Field) → f ≡ get_or fields i f → i < length fields → AreFit fields → FieldFits f
+field_fits fields i f e h fit = subst FieldFits (sym e) (fits_at fields i f h fit)
 
 -- ---- where memory is wanting
 
-pub grown_same : {before after : List ℕ} → after ≡ before → Grown before after
-grown_same {before = before} e = record { more = []; parts = e ∙ sym (append-nil before) }
-
-pub grown_after : {P : List ℕ → Type 0} {before middle after : List ℕ} → Writes P before middle → Grown middle after → Grown before after
-grown_after {before = before} w g = record { more = w.bytes ++ g.more; parts = g.parts ∙ (ap (λ (t : List ℕ). t ++ g.more) w.parts ∙ append_assoc before w.bytes g.more) }
+pub grown_after : {P : List ℕ → Type 0} {before middle after : List ℕ} → Writes P before middle → after ≡ middle → Grown before after
+grown_after w e = record { more = w.bytes; parts = e ∙ w.parts }
 
 pub of_failure : {T E : Type 0} (r : Result T E) {before after : List ℕ} → Grown before after → OnErr r (Grown before after)
 of_failure (Ok x) g = tt
 of_failure (Err e) g = g
-
-pub ruleset writing = (then_writes, writes_end, writes_rest, writes_any, writes_cookie, writes_other, grown_same, grown_after)

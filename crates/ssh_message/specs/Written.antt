@@ -1,8 +1,6 @@
 -- What can be written, and what is left where it can't.
 use Rattle.std.specs.Prelude.{◌≡◌, ℕ, ◌<◌, ◌^◌, ◌++◌, false, IsTrue, Some, None, List, length}
-use Rattle.ssh_model.specs.DataTypes.{IsWrittenBoolean, IsUint32, IsNameList}
-use Rattle.ssh_model.specs.Message as model
-use Rattle.ssh_model.specs.Message.{◌▸◌, IsEnd, IsOther, is_unknown}
+use Rattle.ssh_model.specs.Message.{IsOther, is_unknown}
 use Rattle.ssh_types.specs.Values.{names_text}
 use Rattle.ssh_message.specs.declared.message.Proposal.{Proposal}
 use Rattle.ssh_message.specs.declared.message.Method.{Method}
@@ -14,12 +12,6 @@ use Rattle.ssh_message.specs.declared.message.Message.TheVariants as message
 pub record Grown (before after : List ℕ) : Type 0 where
   pub more : List ℕ
   pub parts : after ≡ before ++ more
-
--- the last fields of an offer, from the MAC algorithms of the server on
-abbrev pub AreLaterFields : model.Proposal → List ℕ → Type 0
-AreLaterFields p =
-    IsNameList p.mac_sc ▸ IsNameList p.comp_cs ▸ IsNameList p.comp_sc ▸ IsNameList p.lang_cs ▸ IsNameList p.lang_sc
-    ▸ IsWrittenBoolean p.follows ▸ IsUint32 0 ▸ IsEnd
 
 -- the length of a text that has one in front
 abbrev pub IsShort : List ℕ → Type 0

@@ -1,16 +1,14 @@
-ghost use Rattle.std.specs.Prelude.{◌≡◌, OnOk, OnErr};
-ghost use Rattle.ssh_model.specs.DataTypes.{IsWrittenBoolean};
+ghost use Rattle.std.specs.Prelude.{◌≡◌, ℕ, [], ◌∷◌, ◌++◌, OnOk, OnErr};
 ghost use Rattle.ssh_model.specs.Reading.{Writes};
-ghost use Rattle.ssh_model.specs.Message.{IsRow, IsWrittenPayload};
+ghost use Rattle.ssh_model.specs.Message.{IsWrittenPayload, Unknown};
 ghost use Rattle.ssh_message.specs.Meaning.{meaning};
-ghost use Rattle.ssh_message.specs.Written.{Fits, Grown};
+ghost use Rattle.ssh_message.specs.Written.{Fits};
 
 use crate::message::Message;
 use crate::write::{authentication, connection, exchange, transport};
-use ssh_types::Put;
 use std::alloc::AllocError;
 
-/// Puts the payload of the message at the end of `out`.
+/// Puts the payload of the message at the end of `out`. An `Unknown` is put as its number alone.
 ///
 /// An `Unknown` number is none that another message has (60 may be one), the name of an `Other` method is none of
 /// `none`, `password` and `publickey`, and each text that has its length in front, as each name-list, is shorter than
@@ -22,21 +20,8 @@ use std::alloc::AllocError;
 pub fn encode(message: &Message<'_>, out: &mut Vec<u8>) -> Result<(), AllocError>
     requires { Fits message.now }
     ensures written { OnOk result (Writes (IsWrittenPayload (meaning message.now)) out.old.items out.new.items) }
+    ensures unknown { (n : ℕ) → meaning message.now ≡ Unknown n → OnOk result (out.new.items ≡ out.old.items ++ n ∷ []) }
     ensures kept { OnErr result (out.new.items ≡ out.old.items) }
-{
-    let start = out.len();
-    if let Err(error) = put(message, out) {
-        out.truncate(start);
-        return Err(error);
-    }
-    Ok(())
-}
-
-#[tactic(auto, using(crate::proofs::Writing::writing))]
-fn put(message: &Message<'_>, out: &mut Vec<u8>) -> Result<(), AllocError>
-    requires { Fits message.now }
-    ensures written { OnOk result (Writes (IsRow IsWrittenBoolean (meaning message.now)) out.old.items out.new.items) }
-    ensures grown { OnErr result (Grown out.old.items out.new.items) }
 {
     match *message {
         Message::Disconnect {
@@ -118,6 +103,6 @@ fn put(message: &Message<'_>, out: &mut Vec<u8>) -> Result<(), AllocError>
         } => connection::channel_request(out, recipient, name, want, rest),
         Message::ChannelSuccess { recipient } => connection::channel_success(out, recipient),
         Message::ChannelFailure { recipient } => connection::channel_failure(out, recipient),
-        Message::Unknown(number) => out.put_u8(number),
+        Message::Unknown(number) => transport::unknown(out, number),
     }
 }

@@ -1,7 +1,9 @@
-// Writing: one function a message. Each puts its bytes at the end; one that finds no memory may leave some of them.
+// Writing: one function a message, each of which puts the whole payload at the end, or nothing where memory is wanting.
 
 pub(crate) mod authentication;
 pub(crate) mod connection;
 pub(crate) mod exchange;
+pub(crate) mod field;
 pub(crate) mod method;
+pub(crate) mod row;
 pub(crate) mod transport;

@@ -1,85 +1,102 @@
 // The messages of authentication (RFC 4252).
 
-ghost use Rattle.std.specs.Prelude.{◌<◌, ◌^◌, length, OnOk, OnErr};
+ghost use Rattle.std.specs.Prelude.{◌≡◌, OnOk, OnErr};
 ghost use Rattle.ssh_model.specs.DataTypes.{IsWrittenBoolean};
 ghost use Rattle.ssh_model.specs.Reading.{Writes};
 ghost use Rattle.ssh_model.specs.Message.{IsRow, UserauthRequest, UserauthFailure, UserauthSuccess, UserauthBanner, UserauthPkOk};
 ghost use Rattle.ssh_types.specs.Values.{names, names_text};
 ghost use Rattle.ssh_message.specs.Meaning.{method_meaning};
-ghost use Rattle.ssh_message.specs.Written.{Grown, MethodFits};
+ghost use Rattle.ssh_message.specs.Written.{IsShort, MethodFits};
 
 use crate::message::Method;
-use crate::write::method::put_method;
-use ssh_types::{NameList, Put};
+use crate::write::field::Field;
+use crate::write::method;
+use crate::write::row::put_row;
+use ssh_types::NameList;
 use std::alloc::AllocError;
 
-#[tactic(auto, using(crate::proofs::Writing::writing))]
-pub(crate) fn request(
+pub(crate) fn request<'a>(
     out: &mut Vec<u8>,
-    user: &[u8],
-    service: &[u8],
-    method: &Method<'_>,
+    user: &'a [u8],
+    service: &'a [u8],
+    method: &Method<'a>,
 ) -> Result<(), AllocError>
-    requires user { length user.now < 2 ^ 32 }
-    requires service { length service.now < 2 ^ 32 }
+    requires user { IsShort user.now }
+    requires service { IsShort service.now }
     requires method { MethodFits method.now }
     ensures written { OnOk result (Writes (IsRow IsWrittenBoolean (UserauthRequest user.now service.now (method_meaning method.now))) out.old.items out.new.items) }
-    ensures grown { OnErr result (Grown out.old.items out.new.items) }
+    ensures kept { OnErr result (out.new.items ≡ out.old.items) }
 {
-    out.put_u8(50)?;
-    out.put_string(user)?;
-    out.put_string(service)?;
-    put_method(out, method)?;
-    Ok(())
+    match *method {
+        Method::None => method::none(out, user, service),
+        Method::Password {
+            password,
+            new_password: None,
+        } => method::password(out, user, service, password),
+        Method::Password {
+            password,
+            new_password: Some(new_password),
+        } => method::new_password(out, user, service, password, new_password),
+        Method::Publickey {
+            algorithm,
+            key,
+            signature: None,
+        } => method::probe(out, user, service, algorithm, key),
+        Method::Publickey {
+            algorithm,
+            key,
+            signature: Some(signature),
+        } => method::signed(out, user, service, algorithm, key, signature),
+        Method::Other { name, rest } => method::other(out, user, service, name, rest),
+    }
 }
 
-#[tactic(auto, using(crate::proofs::Writing::writing))]
 pub(crate) fn failure(
     out: &mut Vec<u8>,
     methods: &NameList<'_>,
     partial: bool,
 ) -> Result<(), AllocError>
-    requires { length (names_text methods.now) < 2 ^ 32 }
+    requires { IsShort (names_text methods.now) }
     ensures written { OnOk result (Writes (IsRow IsWrittenBoolean (UserauthFailure (names methods.now) partial)) out.old.items out.new.items) }
-    ensures grown { OnErr result (Grown out.old.items out.new.items) }
+    ensures kept { OnErr result (out.new.items ≡ out.old.items) }
 {
-    out.put_u8(51)?;
-    out.put_names(methods)?;
-    out.put_boolean(partial)?;
-    Ok(())
+    put_row(
+        out,
+        51,
+        &[Field::Names(*methods), Field::Boolean(partial)],
+        b"",
+    )
 }
 
-#[tactic(auto, using(crate::proofs::Writing::writing))]
 pub(crate) fn success(out: &mut Vec<u8>) -> Result<(), AllocError>
     ensures written { OnOk result (Writes (IsRow IsWrittenBoolean UserauthSuccess) out.old.items out.new.items) }
-    ensures grown { OnErr result (Grown out.old.items out.new.items) }
+    ensures kept { OnErr result (out.new.items ≡ out.old.items) }
 {
-    out.put_u8(52)?;
-    Ok(())
+    put_row(out, 52, &[], b"")
 }
 
-#[tactic(auto, using(crate::proofs::Writing::writing))]
-pub(crate) fn banner(out: &mut Vec<u8>, message: &[u8], language: &[u8]) -> Result<(), AllocError>
-    requires message { length message.now < 2 ^ 32 }
-    requires language { length language.now < 2 ^ 32 }
+pub(crate) fn banner<'a>(
+    out: &mut Vec<u8>,
+    message: &'a [u8],
+    language: &'a [u8],
+) -> Result<(), AllocError>
+    requires message { IsShort message.now }
+    requires language { IsShort language.now }
     ensures written { OnOk result (Writes (IsRow IsWrittenBoolean (UserauthBanner message.now language.now)) out.old.items out.new.items) }
-    ensures grown { OnErr result (Grown out.old.items out.new.items) }
+    ensures kept { OnErr result (out.new.items ≡ out.old.items) }
 {
-    out.put_u8(53)?;
-    out.put_string(message)?;
-    out.put_string(language)?;
-    Ok(())
+    put_row(out, 53, &[Field::Text(message), Field::Text(language)], b"")
 }
 
-#[tactic(auto, using(crate::proofs::Writing::writing))]
-pub(crate) fn pk_ok(out: &mut Vec<u8>, algorithm: &[u8], key: &[u8]) -> Result<(), AllocError>
-    requires algorithm { length algorithm.now < 2 ^ 32 }
-    requires key { length key.now < 2 ^ 32 }
+pub(crate) fn pk_ok<'a>(
+    out: &mut Vec<u8>,
+    algorithm: &'a [u8],
+    key: &'a [u8],
+) -> Result<(), AllocError>
+    requires algorithm { IsShort algorithm.now }
+    requires key { IsShort key.now }
     ensures written { OnOk result (Writes (IsRow IsWrittenBoolean (UserauthPkOk algorithm.now key.now)) out.old.items out.new.items) }
-    ensures grown { OnErr result (Grown out.old.items out.new.items) }
+    ensures kept { OnErr result (out.new.items ≡ out.old.items) }
 {
-    out.put_u8(60)?;
-    out.put_string(algorithm)?;
-    out.put_string(key)?;
-    Ok(())
+    put_row(out, 60, &[Field::Text(algorithm), Field::Text(key)], b"")
 }

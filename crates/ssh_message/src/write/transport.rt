@@ -1,100 +1,105 @@
 // The messages of the transport (RFC 4253).
 
-ghost use Rattle.std.specs.Prelude.{◌<◌, ◌^◌, length, OnOk, OnErr};
+ghost use Rattle.std.specs.Prelude.{◌≡◌, [], ◌∷◌, ◌++◌, OnOk, OnErr};
 ghost use Rattle.ssh_model.specs.DataTypes.{IsWrittenBoolean};
 ghost use Rattle.ssh_model.specs.Reading.{Writes};
-ghost use Rattle.ssh_model.specs.Message.{IsRow, Disconnect, Ignore, Unimplemented, Debug, ServiceRequest, ServiceAccept, NewKeys};
-ghost use Rattle.ssh_message.specs.Written.{Grown};
+ghost use Rattle.ssh_model.specs.Message.{IsRow, Disconnect, Ignore, Unimplemented, Debug, ServiceRequest, ServiceAccept, NewKeys, Unknown};
+ghost use Rattle.ssh_message.specs.Written.{IsShort};
 
+use crate::write::field::Field;
+use crate::write::row::put_row;
 use ssh_types::Put;
 use std::alloc::AllocError;
 
-#[tactic(auto, using(crate::proofs::Writing::writing))]
-pub(crate) fn disconnect(
+pub(crate) fn disconnect<'a>(
     out: &mut Vec<u8>,
     reason: u32,
-    description: &[u8],
-    language: &[u8],
+    description: &'a [u8],
+    language: &'a [u8],
 ) -> Result<(), AllocError>
-    requires description { length description.now < 2 ^ 32 }
-    requires language { length language.now < 2 ^ 32 }
+    requires description { IsShort description.now }
+    requires language { IsShort language.now }
     ensures written { OnOk result (Writes (IsRow IsWrittenBoolean (Disconnect reason description.now language.now)) out.old.items out.new.items) }
-    ensures grown { OnErr result (Grown out.old.items out.new.items) }
+    ensures kept { OnErr result (out.new.items ≡ out.old.items) }
 {
-    out.put_u8(1)?;
-    out.put_u32(reason)?;
-    out.put_string(description)?;
-    out.put_string(language)?;
-    Ok(())
+    put_row(
+        out,
+        1,
+        &[
+            Field::Uint32(reason),
+            Field::Text(description),
+            Field::Text(language),
+        ],
+        b"",
+    )
 }
 
-#[tactic(auto, using(crate::proofs::Writing::writing))]
 pub(crate) fn ignore(out: &mut Vec<u8>, body: &[u8]) -> Result<(), AllocError>
-    requires { length body.now < 2 ^ 32 }
+    requires { IsShort body.now }
     ensures written { OnOk result (Writes (IsRow IsWrittenBoolean (Ignore body.now)) out.old.items out.new.items) }
-    ensures grown { OnErr result (Grown out.old.items out.new.items) }
+    ensures kept { OnErr result (out.new.items ≡ out.old.items) }
 {
-    out.put_u8(2)?;
-    out.put_string(body)?;
-    Ok(())
+    put_row(out, 2, &[Field::Text(body)], b"")
 }
 
-#[tactic(auto, using(crate::proofs::Writing::writing))]
 pub(crate) fn unimplemented(out: &mut Vec<u8>, number: u32) -> Result<(), AllocError>
     ensures written { OnOk result (Writes (IsRow IsWrittenBoolean (Unimplemented number)) out.old.items out.new.items) }
-    ensures grown { OnErr result (Grown out.old.items out.new.items) }
+    ensures kept { OnErr result (out.new.items ≡ out.old.items) }
 {
-    out.put_u8(3)?;
-    out.put_u32(number)?;
-    Ok(())
+    put_row(out, 3, &[Field::Uint32(number)], b"")
 }
 
-#[tactic(auto, using(crate::proofs::Writing::writing))]
-pub(crate) fn debug(
+pub(crate) fn debug<'a>(
     out: &mut Vec<u8>,
     display: bool,
-    message: &[u8],
-    language: &[u8],
+    message: &'a [u8],
+    language: &'a [u8],
 ) -> Result<(), AllocError>
-    requires message { length message.now < 2 ^ 32 }
-    requires language { length language.now < 2 ^ 32 }
+    requires message { IsShort message.now }
+    requires language { IsShort language.now }
     ensures written { OnOk result (Writes (IsRow IsWrittenBoolean (Debug display message.now language.now)) out.old.items out.new.items) }
-    ensures grown { OnErr result (Grown out.old.items out.new.items) }
+    ensures kept { OnErr result (out.new.items ≡ out.old.items) }
 {
-    out.put_u8(4)?;
-    out.put_boolean(display)?;
-    out.put_string(message)?;
-    out.put_string(language)?;
-    Ok(())
+    put_row(
+        out,
+        4,
+        &[
+            Field::Boolean(display),
+            Field::Text(message),
+            Field::Text(language),
+        ],
+        b"",
+    )
 }
 
-#[tactic(auto, using(crate::proofs::Writing::writing))]
 pub(crate) fn service_request(out: &mut Vec<u8>, service: &[u8]) -> Result<(), AllocError>
-    requires { length service.now < 2 ^ 32 }
+    requires { IsShort service.now }
     ensures written { OnOk result (Writes (IsRow IsWrittenBoolean (ServiceRequest service.now)) out.old.items out.new.items) }
-    ensures grown { OnErr result (Grown out.old.items out.new.items) }
+    ensures kept { OnErr result (out.new.items ≡ out.old.items) }
 {
-    out.put_u8(5)?;
-    out.put_string(service)?;
-    Ok(())
+    put_row(out, 5, &[Field::Text(service)], b"")
 }
 
-#[tactic(auto, using(crate::proofs::Writing::writing))]
 pub(crate) fn service_accept(out: &mut Vec<u8>, service: &[u8]) -> Result<(), AllocError>
-    requires { length service.now < 2 ^ 32 }
+    requires { IsShort service.now }
     ensures written { OnOk result (Writes (IsRow IsWrittenBoolean (ServiceAccept service.now)) out.old.items out.new.items) }
-    ensures grown { OnErr result (Grown out.old.items out.new.items) }
+    ensures kept { OnErr result (out.new.items ≡ out.old.items) }
 {
-    out.put_u8(6)?;
-    out.put_string(service)?;
-    Ok(())
+    put_row(out, 6, &[Field::Text(service)], b"")
 }
 
-#[tactic(auto, using(crate::proofs::Writing::writing))]
 pub(crate) fn newkeys(out: &mut Vec<u8>) -> Result<(), AllocError>
     ensures written { OnOk result (Writes (IsRow IsWrittenBoolean NewKeys) out.old.items out.new.items) }
-    ensures grown { OnErr result (Grown out.old.items out.new.items) }
+    ensures kept { OnErr result (out.new.items ≡ out.old.items) }
 {
-    out.put_u8(21)?;
-    Ok(())
+    put_row(out, 21, &[], b"")
+}
+
+// The number of no known message, and nothing after it (section 11.4).
+pub(crate) fn unknown(out: &mut Vec<u8>, number: u8) -> Result<(), AllocError>
+    ensures written { OnOk result (Writes (IsRow IsWrittenBoolean (Unknown number)) out.old.items out.new.items) }
+    ensures alone { OnOk result (out.new.items ≡ out.old.items ++ number ∷ []) }
+    ensures kept { OnErr result (out.new.items ≡ out.old.items) }
+{
+    out.put_u8(number)
 }

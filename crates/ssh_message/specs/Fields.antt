@@ -1,0 +1,35 @@
+-- What the fields of a message are written as.
+use Rattle.std.specs.Prelude.{ℕ, List, [], ◌∷◌}
+use Rattle.ssh_model.specs.DataTypes.{IsByte, IsWrittenBoolean, IsUint32, IsString, IsNameList}
+use Rattle.ssh_model.specs.Message.{◌▸◌, IsCookie, IsRest}
+use Rattle.ssh_types.specs.Values.{names, names_text}
+use Rattle.ssh_message.specs.declared.write.field.Field.{Field}
+use Rattle.ssh_message.specs.declared.write.field.Field.TheVariants as field
+use Rattle.ssh_message.specs.Written.{IsShort}
+
+-- a text or a name-list is shorter than 2^32 bytes
+abbrev pub FieldFits : Field → Type 0
+FieldFits (field.Text text) = IsShort text.now
+FieldFits (field.Names list) = IsShort (names_text list)
+FieldFits f = Unit {0}
+
+abbrev pub AreFit : List Field → Type 0
+AreFit [] = Unit {0}
+AreFit (f ∷ fs) = FieldFits f × AreFit fs
+
+-- the bytes of a field
+abbrev pub IsField : Field → List ℕ → Type 0
+IsField (field.Boolean truth) = IsWrittenBoolean truth
+IsField (field.Uint32 number) = IsUint32 number
+IsField (field.Text text) = IsString text.now
+IsField (field.Names list) = IsNameList (names list)
+IsField (field.Cookie cookie) = IsCookie cookie.now
+
+-- the bytes of the fields one after the other, and then the rest
+abbrev pub AreFields : List Field → List ℕ → List ℕ → Type 0
+AreFields [] rest = IsRest rest
+AreFields (f ∷ fs) rest = IsField f ▸ AreFields fs rest
+
+-- the same after the number of a message
+abbrev pub IsRowOf : ℕ → List Field → List ℕ → List ℕ → Type 0
+IsRowOf number fields rest = IsByte number ▸ AreFields fields rest
