@@ -1,9 +1,10 @@
 -- Fields that are written one after the other.
-use Rattle.std.proofs.Common.{◌≡◌, ℕ, ◌+◌, ◌<◌, ◌≤◌, List, [], ◌∷◌, zero, suc, ◌++◌, length, get_or, take, refl, sym, ap, subst, ◌∙◌, append_assoc, append-nil, arith}
+use Rattle.std.proofs.Common.{◌≡◌, ℕ, ◌+◌, ◌<◌, ◌≤◌, List, [], ◌∷◌, zero, suc, Result, Ok, Err, ◌++◌, length, get_or, take, refl, sym, ap, subst, ◌∙◌, append_assoc, append-nil, arith}
 use Rattle.std.proofs.lemmas.List.{take_all, take_more}
+use Rattle.std.specs.Prelude.{OnErr}
 use Rattle.ssh_model.specs.DataTypes.{IsByte}
 use Rattle.ssh_model.specs.Reading.{Writes}
-use Rattle.ssh_model.specs.Message.{Then, IsCookie}
+use Rattle.ssh_model.specs.Message.{Then}
 use Rattle.ssh_message.specs.declared.write.field.Field.{Field}
 use Rattle.ssh_message.specs.Fields.{AreFields, AreFit, FieldFits, IsField, IsRowOf}
 use Rattle.ssh_message.specs.Written.{Grown}
@@ -65,15 +66,11 @@ fits_at (g ∷ fields) (suc i) f h fit = fits_at fields i f (omega (arith, h)) f
 pub field_fits : (fields : List Field) (i : ℕ) (f : Field) → f ≡ get_or fields i f → i < length fields → AreFit fields → FieldFits f
 field_fits fields i f e h fit = subst FieldFits (sym e) (fits_at fields i f h fit)
 
-pub writes_cookie : {before after cookie : List ℕ} → length cookie ≡ 16 → after ≡ before ++ cookie → Writes (IsCookie cookie) before after
-writes_cookie {cookie = cookie} c e = record { bytes = cookie; meets = record { same = refl; count = c }; parts = e }
-
 -- ---- where memory is wanting
-
-pub grown_same : {before after : List ℕ} → after ≡ before → Grown before after
-grown_same {before = before} e = record { more = []; parts = e ∙ sym (append-nil before) }
 
 pub grown_after : {P : List ℕ → Type 0} {before middle after : List ℕ} → Writes P before middle → after ≡ middle → Grown before after
 grown_after w e = record { more = w.bytes; parts = e ∙ w.parts }
 
-pub ruleset writing = (row_begins, writes_cookie, grown_same, grown_after)
+pub of_failure : {T E : Type 0} (r : Result T E) {before after : List ℕ} → Grown before after → OnErr r (Grown before after)
+of_failure (Ok x) g = tt
+of_failure (Err e) g = g

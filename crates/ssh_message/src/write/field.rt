@@ -36,7 +36,6 @@ pub(crate) fn put_field(out: &mut Vec<u8>, field: &Field<'_>) -> Result<(), Allo
 }
 
 // Puts 16 bytes.
-#[tactic(auto, using(crate::proofs::Writing::writing))]
 fn put_cookie(out: &mut Vec<u8>, cookie: &[u8; 16]) -> Result<(), AllocError>
     ensures written { OnOk result (Writes (IsCookie cookie.now) out.old.items out.new.items) }
     ensures kept { OnErr result (out.new.items ≡ out.old.items) }

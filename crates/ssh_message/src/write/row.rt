@@ -29,7 +29,6 @@ pub(crate) fn put_row(
 }
 
 // The same, and where memory is wanting some of the bytes may stand there.
-#[tactic(auto, using(crate::proofs::Writing::writing))]
 fn put_parts(
     out: &mut Vec<u8>,
     number: u8,

@@ -1,4 +1,4 @@
-use Rattle.ssh_message.proofs.Writing.{field_fits, row_ends, row_more}
+use Rattle.ssh_message.proofs.Writing.{field_fits, grown_after, of_failure, row_begins, row_ends, row_more}
 use Rattle.ssh_message.proofs.write.row.put_parts.Goals as goal
 
 pub put_field-requires : goal.put_field-requires
@@ -9,3 +9,9 @@ loop-field-preserved c = row_more c.args.fields.now c.loop-field.field-index c.f
 
 pub returns-clause-written : goal.returns-clause-written
 returns-clause-written c = row_ends c.args.fields.now c.loop-field.field-index c.args.rest.now c.loop-field-test.false c.loop-field.invariant c.in_ok-extend_from_slice.ensures.items
+
+pub loop-field-init : goal.loop-field-init
+loop-field-init c = row_begins c.in_ok-put_u8.ensures.written
+
+pub returns-in_err-put_field-clause-grown : goal.returns-in_err-put_field-clause-grown
+returns-in_err-put_field-clause-grown c = of_failure c.from_residual-in_err-put_field.result (grown_after c.loop-field.invariant c.in_err-put_field.ensures.kept)
