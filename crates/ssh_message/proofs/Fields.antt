@@ -1,13 +1,12 @@
 -- Fields that follow one another, read from left to right.
 use Rattle.std.proofs.Common.{◌≡◌, ℕ, Bool, ◌<◌, ◌+◌, ◌≢◌, List, [], ◌∷◌, ◌++◌, length, take, drop, refl, sym, ap, subst, ◌∙◌, arith}
 use Rattle.std.proofs.lemmas.List.{take-append-drop, length-append, length-take}
-use Rattle.ssh_model.specs.DataTypes.{IsByte, IsBoolean, IsUint32, IsString, IsNameList}
+use Rattle.ssh_model.specs.DataTypes.{IsByte, IsBoolean, IsUint32, IsNameList}
 use Rattle.ssh_model.specs.Reading.{Reads, NoFront, OneForm}
-use Rattle.ssh_model.specs.Message.{Then, IsEnd, IsRest, IsCookie, Proposal, Msg, IsRow, IsPayload, Suits}
+use Rattle.ssh_model.specs.Message.{Then, IsCookie, Proposal, Msg, IsRow, IsPayload, Suits}
 use Rattle.ssh_message.specs.Meaning.{IsZero}
-use Rattle.ssh_message.specs.Parts.{Both, IsNothing, NoWhole, one_cookie, one_zero}
-use Rattle.ssh_types.proofs.Fronts.{same_front, one_boolean, one_uint32, one_string}
-use Rattle.ssh_types.proofs.Joined.{one_name_list}
+use Rattle.ssh_message.specs.Parts.{Both, IsNothing, NoWhole}
+use Rattle.ssh_types.proofs.Fronts.{one_uint32}
 
 -- ---- fields and their values
 

@@ -1,5 +1,5 @@
 -- The method of a request for authentication, from its name on.
-use Rattle.std.proofs.Common.{◌≡◌, ℕ, Bool, true, false, ◌<◌, List, length, Option, Some, None, Result, Ok, Err, refl, sym, ap, subst, ◌∙◌, arith}
+use Rattle.std.proofs.Common.{◌≡◌, ℕ, Bool, true, false, List, Option, Some, None, Result, Ok, Err, sym, subst, ◌∙◌}
 use Rattle.std.specs.Prelude.{codes, IfOk, IfErr}
 use Rattle.ssh_model.specs.DataTypes.{IsBoolean, IsString}
 use Rattle.ssh_model.specs.Reading.{Reads, NoFront}

@@ -14,7 +14,9 @@ pub(crate) fn kexinit<'a>(fields: &mut Reader<'a>) -> Result<Message<'a>, BadMes
     ensures fits { IfOk result (λ m. Fits m) }
     ensures refused { IfErr result (λ _. IsNone (20 ∷ fields.old)) }
 {
-    let (cookie, (kex, (host, (enc_cs, (enc_sc, (mac_cs, (mac_sc, later))))))) = Whole::whole(fields)?;
+    let (cookie, (kex, (host, (enc_cs, (enc_sc, (mac_cs, (mac_sc, later))))))) = Whole::whole(
+        fields,
+    )?;
     let (comp_cs, (comp_sc, (lang_cs, (lang_sc, (follows, (Reserved, End)))))) = later;
     Ok(Message::KexInit(Proposal {
         cookie,
