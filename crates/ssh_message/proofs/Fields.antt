@@ -8,8 +8,6 @@ use Rattle.ssh_message.specs.Meaning.{IsZero}
 use Rattle.ssh_message.specs.Parts.{Both, IsNothing, NoWhole}
 use Rattle.ssh_types.proofs.Fronts.{one_uint32}
 
--- ---- fields and their values
-
 -- ---- what was read, and what follows
 
 pub then_reads : (P Q : List ℕ → Type 0) (before after : List ℕ) → Reads P before after → Q after → Then P Q before
