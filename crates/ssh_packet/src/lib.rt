@@ -33,17 +33,20 @@
 mod hmac;
 mod keys;
 mod laws;
+mod line_reader;
 mod mac_only;
 mod reader;
 mod refusal;
 mod sealing;
+mod version;
 mod writer;
 
 pub use hmac::HmacKey;
 pub use laws::every_sealed_is_a_wire;
+pub use line_reader::{LineReader, LineStep};
 pub use mac_only::MacOnly;
 pub use reader::{PacketReader, ReadStep};
-pub use refusal::PacketRefusal;
+pub use refusal::{LineRefusal, PacketRefusal};
 pub use sealing::{Lengths, Sealing};
 pub use writer::{Filler, write_packet};
 
