@@ -1,9 +1,9 @@
 -- What the text of a complete line is, by its parts.
-use Rattle.std.proofs.Common.{◌≡◌, ℕ, ◌+◌, ◌-◌, ◌<◌, ◌≤◌, Bool, true, false, List, [], ◌∷◌, ◌++◌, length, take, drop, Option, inl, inr, refl, ap, sym, subst, ◌∙◌, arith}
+use Rattle.std.proofs.Common.{◌≡◌, ℕ, ◌+◌, Bool, true, false, List, ◌∷◌, ◌++◌, take, drop, inl, inr, refl, ap, sym, subst, ◌∙◌, arith}
 use Rattle.std.specs.List.{list_all}
 use Rattle.std.proofs.lemmas.List.{drop-take, drop-drop}
 use Rattle.ssh_model.specs.Outcome.{Outcome.VersionLine, Outcome.RefusedLine}
-use Rattle.ssh_model.specs.Line.{HasVersion, IsAccepted, IsSoftware, LineIs, LineIs.bad_version, LineIs.bad_software, LineIs.version, is_version_byte, opening}
+use Rattle.ssh_model.specs.Line.{HasVersion, IsAccepted, LineIs, LineIs.bad_version, LineIs.bad_software, LineIs.version, is_version_byte, opening}
 use Rattle.ssh_packet.specs.LineKinds.{HasMinusAt, HasSoftware}
 use Rattle.ssh_packet.proofs.Softwares.{IsFirstMinus}
 

@@ -33,7 +33,12 @@ fn first_lines(rt: HostRuntime) {
         (true, b"SSH-2.0- x\r\n", 12, bad_line),
         (true, b"SSH-2.0-x-y\r\n", 13, bad_line),
         (true, b"SSH-2.0-x\x7f\r\n", 12, bad_line),
-        (true, b"SSH-2.0-x of-y z\r\n", 18, version(b"2.0", b"x of-y z")),
+        (
+            true,
+            b"SSH-2.0-x of-y z\r\n",
+            18,
+            version(b"2.0", b"x of-y z"),
+        ),
         (true, b"SSH-2.0-x \r\n", 12, version(b"2.0", b"x ")),
         (true, b"hello\r\nSSH-2.0-x\r\n", 7, LineStep::Other),
         (true, b"\r\n", 2, LineStep::Other),
@@ -61,11 +66,7 @@ fn recorded_lines(rt: HostRuntime) {
             b"SSH-2.0-OpenSSH_9.2p1 Debian-2+deb12u10\r\n",
             b"OpenSSH_9.2p1 Debian-2+deb12u10",
         ),
-        (
-            true,
-            b"SSH-2.0-dropbear_2022.83\r\n",
-            b"dropbear_2022.83",
-        ),
+        (true, b"SSH-2.0-dropbear_2022.83\r\n", b"dropbear_2022.83"),
         (
             false,
             b"SSH-2.0-PuTTY_Release_0.78\r\n",
@@ -74,7 +75,10 @@ fn recorded_lines(rt: HostRuntime) {
     ];
     for (from_server, bytes, software) in table {
         let mut reader = LineReader::new(from_server);
-        assert_eq!(rt; reader.take(bytes), (bytes.len(), version(b"2.0", software)));
+        assert_eq!(rt;
+            reader.take(bytes),
+            (bytes.len(), version(b"2.0", software))
+        );
     }
 }
 
@@ -87,12 +91,18 @@ fn longest_line(rt: HostRuntime) {
     longest[253] = b'\r';
     longest[254] = b'\n';
     let mut reader = LineReader::new(false);
-    assert_eq!(rt; reader.take(&longest), (255, version(b"2.0", &letters[8..253])));
+    assert_eq!(rt;
+        reader.take(&longest),
+        (255, version(b"2.0", &letters[8..253]))
+    );
     let mut longer = letters;
     longer[254] = b'\r';
     longer[255] = b'\n';
     let mut reader = LineReader::new(false);
-    assert_eq!(rt; reader.take(&longer), (255, LineStep::Refused(LineRefusal::BadLine)));
+    assert_eq!(rt;
+        reader.take(&longer),
+        (255, LineStep::Refused(LineRefusal::BadLine))
+    );
 }
 
 // A server may send 64 other lines.

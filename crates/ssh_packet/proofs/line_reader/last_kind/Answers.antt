@@ -1,4 +1,4 @@
-use Rattle.std.proofs.Common.{ℕ, List, [], ◌∷◌, ◌++◌, sym, subst, refl}
+use Rattle.std.proofs.Common.{ℕ, [], ◌∷◌, ◌++◌, sym, subst, refl}
 use Rattle.ssh_model.specs.Line.{LineUnit.cr_without_lf}
 use Rattle.ssh_packet.specs.LineSteps.{EndsSo}
 use Rattle.ssh_packet.proofs.LineUnits.{complete_kind}
