@@ -7,3 +7,7 @@ pub mod Readings
 pub mod Opening
 pub mod Writing
 pub mod Largest
+pub mod FirstOthers
+pub mod Softwares
+pub mod VersionLines
+pub mod LineUnits

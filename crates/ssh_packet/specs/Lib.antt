@@ -4,3 +4,6 @@ pub mod MacOnlyLaws
 pub mod Refusals
 pub mod Reading
 pub mod Writing
+pub mod LineKinds
+pub mod Lines
+pub mod LineSteps

@@ -1,4 +1,6 @@
-//! Packets of SSH (RFC 4253 section 6) over bytes, and their sealing.
+//! Lines before the first packet (RFC 4253 section 4.2), packets of SSH (section 6) over bytes, and their sealing.
+//!
+//! A `LineReader` finds the other lines and the version line of a peer in a stream that comes in any pieces.
 //!
 //! `write_packet` puts the packet of a payload at the end of a `Vec<u8>`, and a `PacketReader` finds the packets of a
 //! stream that comes in any pieces. Both are generic over a `Sealing`, which brings the cipher and the MAC; without
@@ -6,6 +8,14 @@
 //! whatever the sealing: that is a law of the trait, and no two packets of one key should have one number.
 //!
 //! `MacOnly` is the sealing of encryption `none` with MAC `hmac-sha2-256`, and `HmacKey` its key.
+//!
+//! A version line, and what comes behind it:
+//!
+//! ```rust
+//! let mut lines = LineReader::new(true);
+//! let (used, step) = lines.take(b"SSH-2.0-x of y\r\n\0\0\0\x0c");
+//! // 16, LineStep::Version { protoversion: "2.0", software: "x of y" }
+//! ```
 //!
 //! The first packet under a key, sealed and read again:
 //!
@@ -33,17 +43,20 @@
 mod hmac;
 mod keys;
 mod laws;
+mod line_reader;
 mod mac_only;
 mod reader;
 mod refusal;
 mod sealing;
+mod version;
 mod writer;
 
 pub use hmac::HmacKey;
 pub use laws::every_sealed_is_a_wire;
+pub use line_reader::{LineReader, LineStep};
 pub use mac_only::MacOnly;
 pub use reader::{PacketReader, ReadStep};
-pub use refusal::PacketRefusal;
+pub use refusal::{LineRefusal, PacketRefusal};
 pub use sealing::{Lengths, Sealing};
 pub use writer::{Filler, write_packet};
 

@@ -1,5 +1,5 @@
 ghost use Rattle.std.specs.Prelude.{◌≡◌};
-ghost use Rattle.ssh_packet.specs.Refusals.{refusal_name, refusal_number};
+ghost use Rattle.ssh_packet.specs.Refusals.{line_refusal_name, line_refusal_number, refusal_name, refusal_number};
 
 use thiserror::Error;
 
@@ -40,6 +40,42 @@ impl PacketRefusal {
             PacketRefusal::BadLength => "BadLength",
             PacketRefusal::BadPadding => "BadPadding",
             PacketRefusal::BadTag => "BadTag",
+        }
+    }
+}
+
+/// Why the bytes of the peer are no line that may come before its first packet (RFC 4253 section 4.2). As text it is a
+/// sentence for a log.
+#[derive(Clone, Copy, Debug, PartialEq, Eq, Error)]
+pub enum LineRefusal {
+    /// A line is malformed or too long, or an other line came from a client or after 64 of a server. It comes with the
+    /// byte that makes the line bad.
+    #[error("a line before the first packet is malformed")]
+    BadLine,
+    /// The version line names a version of the protocol other than 2.0 and, from a server, 1.99 (RFC 4253 section 5.1).
+    /// It comes once the whole line is there.
+    #[error("the version of the protocol is not 2.0")]
+    BadVersion,
+}
+
+impl LineRefusal {
+    /// The number of the refusal: 1 of `BadLine`, 2 of `BadVersion`.
+    pub fn number(self) -> u8
+        ensures { result ≡ line_refusal_number self }
+    {
+        match self {
+            LineRefusal::BadLine => 1,
+            LineRefusal::BadVersion => 2,
+        }
+    }
+
+    /// The name of the refusal, as the variant is spelled.
+    pub fn name(self) -> &'static str
+        ensures { result.now ≡ line_refusal_name self }
+    {
+        match self {
+            LineRefusal::BadLine => "BadLine",
+            LineRefusal::BadVersion => "BadVersion",
         }
     }
 }

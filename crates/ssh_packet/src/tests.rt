@@ -2,6 +2,8 @@
 
 ghost use Rattle.std.specs.Prelude.{◌≤◌, length};
 
+mod lines;
+
 use super::*;
 use std::alloc::{AllocError, Global};
 use std::marker::Model;

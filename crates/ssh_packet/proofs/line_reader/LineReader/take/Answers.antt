@@ -1,0 +1,23 @@
+use Rattle.std.proofs.Common.{sym, refl}
+use Rattle.ssh_packet.specs.declared.line_reader.LineStep.TheVariants.{More}
+use Rattle.ssh_packet.proofs.LineUnits.{is_begun, goes_on, not_ended}
+use Rattle.ssh_packet.proofs.line_reader.LineReader.take.Goals as goal
+
+pub advance-used-requires-clause-begun : goal.advance-used-requires-clause-begun
+advance-used-requires-clause-begun c =
+    let r = c.self.inside in
+    is_begun r.from_server r.others r.line r.filled r.after_cr r.ended c.args.self.now c.self.view_is (sym (c.if-is_some.ensures {u = tt})) c.self.invariant.3
+
+pub returns-in-More : goal.returns-in-More
+returns-in-More c =
+    let r = c.self.inside in
+    let going = not_ended r.from_server r.others r.line r.filled r.after_cr r.ended c.args.self.now c.self.view_is (sym (c.if-is_some.ensures {u = tt})) in
+    let found = rw c.in-More.is at c.advance-used.ensures.found in (
+      (refl, λ _. tt, goes_on c.args.self.now c.advance-used.new.self c.args.bytes.now c.advance-used.result.0 More going found),
+      record {
+        used = c.advance-used.ensures.used;
+        progress = λ _. c.advance-used.ensures.progress;
+        more = λ _. c.advance-used.ensures.more c.in-More.is;
+        found = tt;
+      },
+    )

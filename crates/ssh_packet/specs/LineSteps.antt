@@ -1,0 +1,72 @@
+-- What one call of a reader of lines finds.
+use Rattle.std.specs.Prelude.{◌≡◌, ◌<◌, ◌+◌, ℕ, Bool, false, List, [], ◌∷◌, ◌++◌, length, take, None, Some, IfSome}
+use Rattle.ssh_model.specs.Outcome.{Outcome.OtherLine, Outcome.VersionLine, Outcome.RefusedLine}
+use Rattle.ssh_model.specs.Line.{HasVersion, IsLineBegun, IsText, LineUnit, most_others}
+use Rattle.ssh_packet.specs.Lines.{with_cr, Ended, Ended.WithVersion, Ended.WithRefusal, LineReading}
+use Rattle.ssh_packet.specs.LineKinds.{HasMinusAt}
+use Rattle.ssh_packet.specs.Refusals.{line_refusal_number}
+use Rattle.ssh_packet.specs.declared.line_reader.LineStep.{LineStep}
+use Rattle.ssh_packet.specs.declared.line_reader.LineStep.TheVariants.{Other, Version, More, Refused}
+use Rattle.ssh_packet.specs.declared.version.LineKind.{LineKind}
+use Rattle.ssh_packet.specs.declared.version.LineKind.TheVariants as kind
+use Rattle.ssh_packet.specs.declared.line_reader.ByteKind.{ByteKind}
+use Rattle.ssh_packet.specs.declared.line_reader.ByteKind.TheVariants as byte
+use Rattle.ssh_packet.specs.declared.line_reader.Found.{Found}
+use Rattle.ssh_packet.specs.declared.line_reader.Found.TheVariants as found
+
+-- The unit of this text ends so.
+abbrev pub EndsSo : (from_server : Bool) (others : ℕ) (text unit : List ℕ) → LineKind → Type 0
+EndsSo from_server others text unit kind.Other = LineUnit from_server others unit (OtherLine text) × (others < most_others)
+EndsSo from_server others text unit (kind.Version minus) = LineUnit from_server others unit (VersionLine text) × HasMinusAt minus text
+EndsSo from_server others text unit (kind.Refused refusal) = LineUnit from_server others unit (RefusedLine (line_refusal_number refusal))
+
+-- What a byte is after this text of a line, and CR where it was read.
+abbrev pub IsByteKind : (from_server : Bool) (others : ℕ) (text : List ℕ) (after_cr : Bool) (code : ℕ) → ByteKind → Type 0
+IsByteKind from_server others text after_cr code byte.Text = (after_cr ≡ false) × IsText (text ++ code ∷ []) × (length text < 254)
+IsByteKind from_server others text after_cr code byte.Return = (after_cr ≡ false) × (code ≡ 13) × (length text < 254)
+IsByteKind from_server others text after_cr code (byte.End end) = EndsSo from_server others text (with_cr after_cr text ++ code ∷ []) end
+
+-- What a reader ended with, by the unit of the stream with which it did: the two texts of a version line are what stands
+-- before its second minus and after it.
+abbrev pub IsEnd : (from_server : Bool) (others : ℕ) (unit : List ℕ) → Ended → Type 0
+IsEnd from_server others unit (WithVersion protoversion software) = (text : List ℕ) × LineUnit from_server others unit (VersionLine text) × HasVersion protoversion software text
+IsEnd from_server others unit (WithRefusal refusal) = LineUnit from_server others unit (RefusedLine (line_refusal_number refusal))
+
+-- The bytes were a unit, and the reader ended with it.
+abbrev pub EndsWith : LineReading → List ℕ → LineReading → Ended → Type 0
+EndsWith old bytes new ended = IsEnd old.from_server old.others bytes ended × (new ≡ record old { begun = []; ended = Some ended })
+
+-- The bytes were another line, and the next one may come.
+abbrev pub GoesOn : LineReading → List ℕ → LineReading → Type 0
+GoesOn old bytes new = ((text : List ℕ) × LineUnit old.from_server old.others bytes (OtherLine text)) × (new ≡ record old { others = old.others + 1; begun = [] })
+
+-- What a reader that held the beginning of these bytes found when it had used them all.
+abbrev pub Finds : LineReading → List ℕ → Found → LineReading → Type 0
+Finds old bytes found.More new = IsLineBegun bytes × (new ≡ record old { begun = bytes })
+Finds old bytes found.Other new = GoesOn old bytes new
+Finds old bytes found.Ended new = (ended : Ended) × EndsWith old bytes new ended
+
+-- a step shows these texts
+abbrev pub ShowsVersion : (protoversion software : List ℕ) → LineStep → Type 0
+ShowsVersion protoversion software (Version first second) = (first.now ≡ protoversion) × (second.now ≡ software)
+ShowsVersion protoversion software Other = ⊥
+ShowsVersion protoversion software More = ⊥
+ShowsVersion protoversion software (Refused refusal) = ⊥
+
+-- a step shows what the reader ended with
+abbrev pub Shows : Ended → LineStep → Type 0
+Shows (WithVersion protoversion software) step = ShowsVersion protoversion software step
+Shows (WithRefusal refusal) step = step ≡ Refused refusal
+
+-- the same of the step that the call answers
+abbrev pub LineFinds : LineReading → List ℕ → LineStep → LineReading → Type 0
+LineFinds old bytes More new = IsLineBegun bytes × (new ≡ record old { begun = bytes })
+LineFinds old bytes Other new = GoesOn old bytes new
+LineFinds old bytes (Version first second) new = EndsWith old bytes new (WithVersion (first.now) (second.now))
+LineFinds old bytes (Refused refusal) new = EndsWith old bytes new (WithRefusal refusal)
+
+-- What one call did. A reader that had ended uses nothing, and shows the same again; another goes to the end of one line
+-- and no further.
+pub record Takes (old : LineReading) (bytes : List ℕ) (used : ℕ) (step : LineStep) (new : LineReading) : Type 0 where
+  pub going : old.ended ≡ None → LineFinds old (old.begun ++ take used bytes) step new
+  pub again : IfSome old.ended (λ ended. (used ≡ 0) × Shows ended step × (new ≡ old))
