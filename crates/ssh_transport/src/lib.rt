@@ -1,0 +1,6 @@
+//! The transport.
+#![tactic(auto)]
+
+mod config;
+
+pub use config::Settings;
