@@ -1,0 +1,2 @@
+-- What a config keeps.
+use Rattle.std.proofs.Common.{◌≡◌, ℕ}

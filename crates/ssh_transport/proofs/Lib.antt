@@ -1,0 +1,5 @@
+pub mod Tests
+pub mod Lines
+pub mod Lists
+pub mod Joined
+pub mod Kept
