@@ -1,11 +1,14 @@
 -- Names joined by commas are the names between the commas.
 use Rattle.std.proofs.Common.{◌≡◌, ℕ, ◌≤◌, ◌<◌, ◌+◌, Bool, true, false, cond, ◌&&◌, leb, eqb, List, [], ◌∷◌, ◌++◌, length, arith, refl, sym, ap, subst, ◌∙◌, inl, inr, append_assoc}
+use Rattle.std.specs.Prelude.{Option, Some, None, is_some, IfNone, map, take, get_or}
 use Rattle.std.specs.List.{join_with_byte, slice_split, list_all, All, AllByRecursion, count_by}
 use Rattle.std.proofs.lemmas.Bool.{and_parts, leb-true, cases_Bool, cond-true}
-use Rattle.std.proofs.lemmas.List.Splits.{slice_split_none, slice_split_at}
+use Rattle.std.proofs.lemmas.List.Splits.{slice_split_none, slice_split_at, join_with_byte-slice_split}
+use Rattle.std.proofs.lemmas.List.{take_more, map-append}
 use Rattle.std.proofs.lemmas.List.Elements.{All-from_recursion}
-use Rattle.ssh_model.specs.DataTypes.{is_comma, is_name, is_name_byte}
-use Rattle.ssh_types.specs.Names.{names_of}
+use denote.Ref.{Bor}
+use Rattle.ssh_model.specs.DataTypes.{IsNameText, is_comma, is_name, is_name_byte}
+use Rattle.ssh_types.specs.Names.{are_names, names_of}
 
 no_comma : (c : ℕ) → is_name_byte c ≡ true → is_comma c ≡ false
 no_comma c h =
@@ -48,3 +51,29 @@ names_of_joined [] h = refl
 names_of_joined (name ∷ names) h =
     let p = and_parts (is_name name) (list_all is_name names) h in
     names_of_some (join_with_byte 44 (name ∷ names)) (joined_some name names (name_facts name p.0).0) ∙ split_joined name names h
+
+-- ---- a checked text is a list
+
+text_of_names : (text : List ℕ) → are_names text ≡ true → IsNameText (names_of text) text
+text_of_names [] h = record { all = h; joined = refl }
+text_of_names (c ∷ cs) h = record { all = h; joined = sym (join_with_byte-slice_split 44 (c ∷ cs)) }
+
+pub some_list : {X : Type 0} (found : Option X) (text : List ℕ) → IfNone found ((list : List (List ℕ)) → IsNameText list text → ⊥) → are_names text ≡ true → is_some found ≡ true
+some_list (Some list) text none h = refl
+some_list None text none h = absurd (none (names_of text) (text_of_names text h))
+
+-- ---- one name more
+
+one_more : (first : List ℕ) (names : List (List ℕ)) (name : List ℕ) → join_with_byte 44 (first ∷ (names ++ name ∷ [])) ≡ (join_with_byte 44 (first ∷ names) ++ 44 ∷ []) ++ name
+one_more first [] name = sym (append_assoc first (44 ∷ []) name)
+one_more first (next ∷ names) name =
+    let rest : List ℕ = join_with_byte 44 (next ∷ names) in
+    ap (λ (l : List ℕ). first ++ (44 ∷ l)) (one_more next names name)
+    ∙ sym (append_assoc first (44 ∷ (rest ++ 44 ∷ [])) name)
+    ∙ ap (λ (l : List ℕ). l ++ name) (sym (append_assoc first (44 ∷ rest) (44 ∷ [])))
+
+-- the text that a name was added to
+pub added : (first : List ℕ) (others : List (Bor (List ℕ))) (i : ℕ) (d : Bor (List ℕ)) → i < length others →
+    join_with_byte 44 (first ∷ map (λ name. name.now) (take (i + 1) others)) ≡ (join_with_byte 44 (first ∷ map (λ name. name.now) (take i others)) ++ 44 ∷ []) ++ (get_or others i d).now
+added first others i d h =
+    rw (take_more others i d h, map-append) (one_more first (map (λ name. name.now) (take i others)) (get_or others i d).now)

@@ -1,3 +1,4 @@
 pub mod Config
 pub mod Checks
 pub mod Values
+pub mod Errors

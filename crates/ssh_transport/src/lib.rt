@@ -3,4 +3,4 @@
 
 mod config;
 
-pub use config::Settings;
+pub use config::{ConfigError, ConfigRefusal, Settings};
