@@ -6,7 +6,7 @@ use Rattle.std.proofs.lemmas.Bool.{and_parts, leb-true, le-leb}
 use Rattle.std.proofs.lemmas.Bool.Decides.{nat_tests}
 use Rattle.std.proofs.lemmas.List.Folds.{list_all-append}
 use Rattle.ssh_model.specs.Line.{IsVersionLine, comment_text, is_text_byte, is_version_byte, line_end}
-use Rattle.ssh_transport.specs.Config.{Given, IsBadSoftware, IsLineOf, version_text}
+use Rattle.ssh_transport.specs.Config.{Given, HasLine, IsBadSoftware, IsLineOf, version_text}
 use Rattle.ssh_transport.specs.Checks.{are_comments, fits_line, has_line, is_software}
 use Rattle.ssh_transport.proofs.Tests.{both, implied, not_both}
 
@@ -28,7 +28,7 @@ comments_in software (Some text) h =
     (and_parts (list_all is_text_byte software) (list_all is_text_byte (32 ∷ text)) (sym (list_all-append is_text_byte software (32 ∷ text)) ∙ h)).1
 
 -- what the tests say of the line that is made
-pub good_line : (g : Given) → has_line g.software g.comments ≡ true → IsLineOf g (version_text g.software g.comments ++ line_end)
+pub good_line : (g : Given) → has_line g.software g.comments ≡ true → HasLine g
 good_line g h =
     let p = and_parts (is_software g.software && are_comments g.comments) (fits_line g.software g.comments) h in
     let q = and_parts (is_software g.software) (are_comments g.comments) p.0 in
@@ -54,7 +54,7 @@ good_line g h =
     }
 
 -- what a line says of its software and its comments
-passes_line : (g : Given) (bytes : List ℕ) → IsLineOf g bytes → has_line g.software g.comments ≡ true
+pub passes_line : (g : Given) (bytes : List ℕ) → IsLineOf g bytes → has_line g.software g.comments ≡ true
 passes_line g bytes v =
     let parts : v.text ≡ version_text g.software g.comments = v.version.parts ∙ ap (λ (x : List ℕ). codes "SSH-2.0-" ++ x) v.version.is_software.parts in
     let in_line : list_all is_text_byte (version_text g.software g.comments) ≡ true = subst (λ (x : List ℕ). list_all is_text_byte x ≡ true) parts v.line.is_text in

@@ -1,14 +1,15 @@
 -- The tests of lists and limits, and what they tell.
-use Rattle.std.proofs.Common.{◌≡◌, ℕ, ◌≤◌, Bool, true, false, ◌&&◌, leb, List, length, arith, inl, inr}
+use Rattle.std.proofs.Common.{◌≡◌, ℕ, ◌≤◌, Bool, true, false, ◌&&◌, leb, List, ◌++◌, length, arith, inl, inr}
 use Rattle.std.specs.Prelude.{codes}
 use Rattle.std.specs.List.{list_all}
 use Rattle.std.proofs.lemmas.Bool.{and_parts, leb-true, le-leb}
 use Rattle.ssh_model.specs.DataTypes.{is_name}
 use Rattle.ssh_model.specs.Seal.{Crypto}
-use Rattle.ssh_transport.specs.Config.{AreGood, AreLimits, AreLists, Given, IsBadLimit, IsBadList, IsKexMethod, IsList, IsUserMethod}
+use Rattle.ssh_transport.specs.Config.{AreGood, AreLimits, AreLists, Given, IsBadLimit, IsBadList, IsKexMethod, IsList, IsUserMethod, version_text}
+use Rattle.ssh_model.specs.Line.{line_end}
 use Rattle.ssh_transport.specs.Checks.{are_five, are_good, are_known, are_limits, are_lists, has_line, is_kex_method, is_list, is_same, is_user_method, knows, knows_each, knows_pairs}
 use Rattle.ssh_transport.proofs.Tests.{all_pass, both, either, first_of, not_both, passes, same_text, second_of, text_same}
-use Rattle.ssh_transport.proofs.Lines.{good_line}
+use Rattle.ssh_transport.proofs.Lines.{good_line, passes_line}
 
 -- ---- one list
 
@@ -125,7 +126,8 @@ good_settings c g h =
     let q = and_parts (has_line g.software g.comments) (are_lists c g) p.0 in
     record { line = good_line g q.0; lists = good_lists c g q.1; limits = good_limits g p.1 }
 
-pub settings_pass : {K : Type 0} (c : Crypto K) (g : Given) → has_line g.software g.comments ≡ true → are_lists c g ≡ true → are_limits g.epoch_limit g.tries ≡ true → are_good c g ≡ true
-settings_pass c g line lists limits =
+pub good_pass : {K : Type 0} (c : Crypto K) (g : Given) → AreGood c g → are_good c g ≡ true
+good_pass c g good =
     both (has_line g.software g.comments && are_lists c g) (are_limits g.epoch_limit g.tries)
-    (both (has_line g.software g.comments) (are_lists c g) line lists) limits
+    (both (has_line g.software g.comments) (are_lists c g) (passes_line g (version_text g.software g.comments ++ line_end) good.line) (lists_pass c g good.lists))
+    (limits_pass g good.limits)

@@ -45,6 +45,10 @@ settings_given g = record {
 abbrev pub IsLineOf : Given → List ℕ → Type 0
 IsLineOf g bytes = IsVersionLine (codes "2.0") g.software g.comments bytes
 
+-- The line that an end makes of its software and its comments is their version line.
+abbrev pub HasLine : Given → Type 0
+HasLine g = IsLineOf g (version_text g.software g.comments ++ line_end)
+
 -- No version line has this software and these comments.
 abbrev pub IsBadSoftware : Given → Type 0
 IsBadSoftware g = (bytes : List ℕ) → IsLineOf g bytes → ⊥
@@ -95,6 +99,6 @@ IsBadLimit g = AreLimits g → ⊥
 -- ---- all of it
 
 pub record AreGood {K : Type 0} (c : Crypto K) (g : Given) : Type 0 where
-  pub line : IsLineOf g (version_text g.software g.comments ++ line_end)
+  pub line : HasLine g
   pub lists : AreLists c g
   pub limits : AreLimits g

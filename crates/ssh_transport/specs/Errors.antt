@@ -5,8 +5,7 @@ use Rattle.ssh_transport.specs.declared.config.error.ConfigRefusal.{ConfigRefusa
 use Rattle.ssh_transport.specs.declared.config.error.ConfigRefusal.TheVariants.{BadSoftware, BadList, BadLimit}
 use Rattle.ssh_transport.specs.declared.config.error.ConfigError.{ConfigError}
 use Rattle.ssh_transport.specs.declared.config.error.ConfigError.TheVariants.{Refused, Memory}
-use Rattle.ssh_model.specs.Line.{line_end}
-use Rattle.ssh_transport.specs.Config.{AreGood, AreLimits, AreLists, Given, IsBadLimit, IsBadList, IsBadSoftware, IsLineOf, version_text}
+use Rattle.ssh_transport.specs.Config.{AreGood, AreLists, Given, HasLine, IsBadLimit, IsBadList, IsBadSoftware}
 
 abbrev pub refusal_number : ConfigRefusal → ℕ
 refusal_number BadSoftware = 1
@@ -17,10 +16,6 @@ abbrev pub refusal_name : ConfigRefusal → List ℕ
 refusal_name BadSoftware = codes "BadSoftware"
 refusal_name BadList = codes "BadList"
 refusal_name BadLimit = codes "BadLimit"
-
--- There is a version line of this software and these comments.
-abbrev pub HasLine : Given → Type 0
-HasLine g = (bytes : List ℕ) × IsLineOf g bytes
 
 -- The lowest refusal of which the condition holds.
 abbrev pub IsRefused : {K : Type 0} → Crypto K → Given → ConfigRefusal → Type 0

@@ -1,9 +1,205 @@
 //! The settings of one end.
 
+ghost use Rattle.std.specs.Prelude.{◌≡◌, ◌≤◌, ◌+◌, IsTrue, length};
+ghost use Rattle.ssh_transport.specs.Config.{version_text};
+ghost use Rattle.ssh_transport.specs.Checks.{are_good, comments_in, kept, software_in};
+
+mod checking;
 mod checks;
 mod error;
+mod laws;
 mod settings;
 mod texts;
 
 pub use error::{ConfigError, ConfigRefusal};
+pub use laws::every_config_is_good;
 pub use settings::Settings;
+
+use checking::check;
+use ssh_packet::Sealing;
+use ssh_types::NameList;
+use std::alloc::{AllocError, Global};
+use std::marker::PhantomData;
+use texts::{names_in, names_text, version_line};
+
+// The bytes of a version line before the software.
+const FRONT: usize = 8;
+
+/// The settings of one end.
+pub struct Config<S: Sealing> {
+    line: Vec<u8>,
+    software_len: usize,
+    kex: Vec<u8>,
+    host: Vec<u8>,
+    encryption: Vec<u8>,
+    mac: Vec<u8>,
+    epoch_limit: u32,
+    tries: u32,
+    methods: Vec<u8>,
+    sealing: PhantomData<S>,
+    ghost line_is: { line.items ≡ version_text (software_in software_len line.items) (comments_in software_len line.items) },
+    ghost software_fits: { 8 + software_len ≤ length line.items },
+    ghost good: { IsTrue (are_good S.crypto (kept line.items software_len kex.items host.items encryption.items mac.items epoch_limit tries methods.items)) },
+}
+
+impl<S: Sealing> Drop for Config<S> {
+    fn drop(self) {
+        let Config {
+            line: _,
+            software_len: _,
+            kex: _,
+            host: _,
+            encryption: _,
+            mac: _,
+            epoch_limit: _,
+            tries: _,
+            methods: _,
+            sealing: _,
+        } = self;
+    }
+}
+
+impl<S: Sealing> Config<S> {
+    ghost use Rattle.std.specs.Prelude.{◌^◌, ◌++◌, IfOk, IfErr};
+    ghost use Rattle.std.specs.Option.{option_copied};
+    ghost use Rattle.ssh_model.specs.Line.{line_end};
+    ghost use Rattle.ssh_types.specs.Values.{names};
+    ghost use Rattle.ssh_transport.specs.Config.{AreGood, IsList, IsLineOf};
+    ghost use Rattle.ssh_transport.specs.Errors.{IsError};
+    ghost use Rattle.ssh_transport.specs.Values.{given};
+    ghost use Rattle.ssh_transport.specs.Configs.{given_of, settings_of};
+
+    /// The settings of an end, checked.
+    ///
+    /// # Errors
+    ///
+    /// `Refused` names the lowest refusal that holds.
+    pub fn new(alloc: Global, settings: &Settings<'_>) -> Result<Config<S>, ConfigError>
+        ensures made { IfOk result (λ config. given_of config ≡ given settings.now) }
+        ensures good { IfOk result (λ _. AreGood S.crypto (given settings.now)) }
+        ensures refused { IfErr result (λ error. IsError S.crypto (given settings.now) error) }
+    {
+        check::<S>(settings)?;
+        let config = Config::made(alloc, settings)?;
+        Ok(config)
+    }
+
+    // A config of good settings.
+    fn made(alloc: Global, settings: &Settings<'_>) -> Result<Config<S>, AllocError>
+        requires { AreGood S.crypto (given settings.now) }
+        ensures { IfOk result (λ config. given_of config ≡ given settings.now) }
+    {
+        let line = version_line(alloc, settings.software, settings.comments)?;
+        let kex = names_text(alloc, settings.kex)?;
+        let host = names_text(alloc, settings.host)?;
+        let encryption = names_text(alloc, settings.encryption)?;
+        let mac = names_text(alloc, settings.mac)?;
+        let methods = names_text(alloc, settings.methods)?;
+        Ok(Config {
+            line,
+            software_len: settings.software.len(),
+            kex,
+            host,
+            encryption,
+            mac,
+            epoch_limit: settings.epoch_limit,
+            tries: settings.tries,
+            methods,
+            sealing: PhantomData,
+        })
+    }
+
+    /// The version line, without CR LF.
+    pub fn line(&self) -> &[u8]
+        ensures line { result.now ≡ (settings_of self.now).line }
+        ensures version { IsLineOf (given_of self.now) (result.now ++ line_end) }
+        ensures short { length result.now ≤ 253 }
+    {
+        every_config_is_good(self);
+        &self.line
+    }
+
+    /// The version of the software.
+    pub fn software(&self) -> &[u8]
+        ensures { result.now ≡ (given_of self.now).software }
+    {
+        &self.line[FRONT..FRONT + self.software_len]
+    }
+
+    /// The comments on the software.
+    pub fn comments(&self) -> Option<&[u8]>
+        ensures { option_copied result ≡ (given_of self.now).comments }
+    {
+        if self.line.len() > FRONT + self.software_len {
+            Some(&self.line[FRONT + self.software_len + 1..])
+        } else {
+            None
+        }
+    }
+
+    /// The names of the key exchange method, the one liked best first.
+    pub fn kex(&self) -> NameList<'_>
+        ensures names { names result ≡ (given_of self.now).kex }
+        ensures listed { IsList (names result) }
+    {
+        every_config_is_good(self);
+        names_in(&self.kex)
+    }
+
+    /// The algorithms of host keys, the one liked best first.
+    pub fn host(&self) -> NameList<'_>
+        ensures names { names result ≡ (given_of self.now).host }
+        ensures listed { IsList (names result) }
+    {
+        every_config_is_good(self);
+        names_in(&self.host)
+    }
+
+    /// The encryptions, the one liked best first.
+    pub fn encryption(&self) -> NameList<'_>
+        ensures names { names result ≡ (given_of self.now).encryption }
+        ensures listed { IsList (names result) }
+    {
+        every_config_is_good(self);
+        names_in(&self.encryption)
+    }
+
+    /// The MACs, the one liked best first.
+    pub fn mac(&self) -> NameList<'_>
+        ensures names { names result ≡ (given_of self.now).mac }
+        ensures listed { IsList (names result) }
+    {
+        every_config_is_good(self);
+        names_in(&self.mac)
+    }
+
+    /// After so many packets sent in an epoch a new exchange is due: 64 to 2^31.
+    pub fn epoch_limit(&self) -> u32
+        ensures value { result ≡ (given_of self.now).epoch_limit }
+        ensures some { 64 ≤ result }
+        ensures most { result ≤ 2 ^ 31 }
+    {
+        every_config_is_good(self);
+        self.epoch_limit
+    }
+
+    /// So many requests for authentication may fail: 1 to 20.
+    pub fn tries(&self) -> u32
+        ensures value { result ≡ (given_of self.now).tries }
+        ensures some { 1 ≤ result }
+        ensures most { result ≤ 20 }
+    {
+        every_config_is_good(self);
+        self.tries
+    }
+
+    /// The methods of authentication that a server names.
+    pub fn methods(&self) -> NameList<'_>
+        ensures names { names result ≡ (given_of self.now).methods }
+        ensures listed { IsList (names result) }
+    {
+        every_config_is_good(self);
+        names_in(&self.methods)
+    }
+}
+

@@ -3,4 +3,4 @@
 
 mod config;
 
-pub use config::{ConfigError, ConfigRefusal, Settings};
+pub use config::{Config, ConfigError, ConfigRefusal, Settings, every_config_is_good};
