@@ -1,4 +1,4 @@
-pub mod Tests
+pub mod Booleans
 pub mod Lines
 pub mod Lists
 pub mod Joined

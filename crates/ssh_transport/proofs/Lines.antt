@@ -8,7 +8,7 @@ use Rattle.std.proofs.lemmas.List.Folds.{list_all-append}
 use Rattle.ssh_model.specs.Line.{IsVersionLine, comment_text, is_text_byte, is_version_byte, line_end}
 use Rattle.ssh_transport.specs.Config.{Given, HasLine, IsBadSoftware, IsLineOf, version_text}
 use Rattle.ssh_transport.specs.Checks.{are_comments, fits_line, has_line, is_software}
-use Rattle.ssh_transport.proofs.Tests.{both, implied, not_both}
+use Rattle.ssh_transport.proofs.Booleans.{both, implied, not_both}
 
 -- a byte of a version may stand in a line
 text_byte : (b : ℕ) → is_version_byte b ≡ true → is_text_byte b ≡ true

@@ -8,7 +8,7 @@ use Rattle.ssh_model.specs.Seal.{Crypto}
 use Rattle.ssh_transport.specs.Config.{AreGood, AreLimits, AreLists, Given, IsBadLimit, IsBadList, IsKexMethod, IsList, IsUserMethod, version_text}
 use Rattle.ssh_model.specs.Line.{line_end}
 use Rattle.ssh_transport.specs.Checks.{are_five, are_good, are_known, are_limits, are_lists, has_line, is_kex_method, is_list, is_same, is_user_method, knows, knows_each, knows_pairs}
-use Rattle.ssh_transport.proofs.Tests.{all_pass, both, either, first_of, not_both, passes, same_text, second_of, text_same}
+use Rattle.ssh_transport.proofs.Booleans.{all_pass, both, either, first_of, not_both, passes, same_text, second_of, text_same}
 use Rattle.ssh_transport.proofs.Lines.{good_line, passes_line}
 
 -- ---- one list

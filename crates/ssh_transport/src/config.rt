@@ -1,10 +1,9 @@
-//! The settings of one end.
+//! The settings of one end, checked once.
 
 ghost use Rattle.std.specs.Prelude.{◌≡◌, ◌≤◌, ◌+◌, IsTrue, length};
 ghost use Rattle.ssh_transport.specs.Config.{version_text};
 ghost use Rattle.ssh_transport.specs.Checks.{are_good, comments_in, kept, software_in};
 
-mod checking;
 mod checks;
 mod error;
 mod laws;
@@ -15,7 +14,7 @@ pub use error::{ConfigError, ConfigRefusal};
 pub use laws::every_config_is_good;
 pub use settings::Settings;
 
-use checking::check;
+use checks::check;
 use ssh_packet::Sealing;
 use ssh_types::NameList;
 use std::alloc::{AllocError, Global};
@@ -25,7 +24,11 @@ use texts::{names_in, names_text, version_line};
 // The bytes of a version line before the software.
 const FRONT: usize = 8;
 
-/// The settings of one end.
+/// The settings of one end, checked once: what its version line says, which algorithms it offers, and its limits.
+///
+/// `S` is the sealing of the end. It decides which encryptions go with which MACs, and every config holds such pairs
+/// alone, lists of 1 to 16 names and limits within their bounds (`every_config_is_good`). Each list is kept as one text,
+/// as a KEXINIT has it (RFC 4253 section 7.1).
 pub struct Config<S: Sealing> {
     line: Vec<u8>,
     software_len: usize,
@@ -69,11 +72,22 @@ impl<S: Sealing> Config<S> {
     ghost use Rattle.ssh_transport.specs.Values.{given};
     ghost use Rattle.ssh_transport.specs.Configs.{given_of, settings_of};
 
-    /// The settings of an end, checked.
+    /// The config of these settings. Names may stand in a list twice.
     ///
     /// # Errors
     ///
-    /// `Refused` names the lowest refusal that holds.
+    /// `Refused` holds the lowest refusal whose condition the settings meet:
+    ///
+    /// 1. `BadSoftware`: no version line has this software and these comments (RFC 4253 section 4.2). The software is empty
+    ///    or has a byte outside 33 to 126 or a minus; the comments have a byte 0, 10 or 13; or the line is longer than 255
+    ///    bytes with CR LF.
+    /// 2. `BadList`: a list is empty, has over 16 texts or a text that is no name (RFC 4251 section 6); `kex` has a name
+    ///    other than the two of RFC 8731 section 3, `curve25519-sha256` and `curve25519-sha256@libssh.org`; the sealing does
+    ///    not know a pair of an encryption and a MAC of the lists; or `methods` has a name other than `publickey` and
+    ///    `password`.
+    /// 3. `BadLimit`: `epoch_limit` is outside 64 to 2^31, or `tries` outside 1 to 20.
+    ///
+    /// `Memory` comes only where memory was refused. It is asked for after all these tests.
     pub fn new(alloc: Global, settings: &Settings<'_>) -> Result<Config<S>, ConfigError>
         ensures made { IfOk result (λ config. given_of config ≡ given settings.now) }
         ensures good { IfOk result (λ _. AreGood S.crypto (given settings.now)) }
@@ -109,24 +123,25 @@ impl<S: Sealing> Config<S> {
         })
     }
 
-    /// The version line, without CR LF.
+    /// The version line without CR LF (RFC 4253 section 4.2), at most 253 bytes: `SSH-2.0-`, the software and, where there
+    /// are comments, a space and the comments.
     pub fn line(&self) -> &[u8]
         ensures line { result.now ≡ (settings_of self.now).line }
         ensures version { IsLineOf (given_of self.now) (result.now ++ line_end) }
         ensures short { length result.now ≤ 253 }
     {
         every_config_is_good(self);
-        &self.line
+        self.line.as_slice()
     }
 
-    /// The version of the software.
+    /// The version of the software, as it stands in the version line.
     pub fn software(&self) -> &[u8]
         ensures { result.now ≡ (given_of self.now).software }
     {
         &self.line[FRONT..FRONT + self.software_len]
     }
 
-    /// The comments on the software.
+    /// The comments on the software, or `None` where the version line has none.
     pub fn comments(&self) -> Option<&[u8]>
         ensures { option_copied result ≡ (given_of self.now).comments }
     {
@@ -137,7 +152,8 @@ impl<S: Sealing> Config<S> {
         }
     }
 
-    /// The names of the key exchange method, the one liked best first.
+    /// The names of the key exchange method, the one liked best first. They are names of one method (RFC 8731 section 3),
+    /// and no marker stands among them.
     pub fn kex(&self) -> NameList<'_>
         ensures names { names result ≡ (given_of self.now).kex }
         ensures listed { IsList (names result) }
@@ -155,7 +171,7 @@ impl<S: Sealing> Config<S> {
         names_in(&self.host)
     }
 
-    /// The encryptions, the one liked best first.
+    /// The encryptions of both directions, the one liked best first.
     pub fn encryption(&self) -> NameList<'_>
         ensures names { names result ≡ (given_of self.now).encryption }
         ensures listed { IsList (names result) }
@@ -164,7 +180,7 @@ impl<S: Sealing> Config<S> {
         names_in(&self.encryption)
     }
 
-    /// The MACs, the one liked best first.
+    /// The MACs of both directions, the one liked best first.
     pub fn mac(&self) -> NameList<'_>
         ensures names { names result ≡ (given_of self.now).mac }
         ensures listed { IsList (names result) }
@@ -173,7 +189,7 @@ impl<S: Sealing> Config<S> {
         names_in(&self.mac)
     }
 
-    /// After so many packets sent in an epoch a new exchange is due: 64 to 2^31.
+    /// After so many packets sent under the keys of one exchange the next exchange is due: 64 to 2^31.
     pub fn epoch_limit(&self) -> u32
         ensures value { result ≡ (given_of self.now).epoch_limit }
         ensures some { 64 ≤ result }
@@ -183,7 +199,7 @@ impl<S: Sealing> Config<S> {
         self.epoch_limit
     }
 
-    /// So many requests for authentication may fail: 1 to 20.
+    /// How many requests for authentication a server lets fail: 1 to 20.
     pub fn tries(&self) -> u32
         ensures value { result ≡ (given_of self.now).tries }
         ensures some { 1 ≤ result }
@@ -193,7 +209,7 @@ impl<S: Sealing> Config<S> {
         self.tries
     }
 
-    /// The methods of authentication that a server names.
+    /// The methods of authentication that a server names, `publickey` and `password` (RFC 4252 sections 7 and 8).
     pub fn methods(&self) -> NameList<'_>
         ensures names { names result ≡ (given_of self.now).methods }
         ensures listed { IsList (names result) }

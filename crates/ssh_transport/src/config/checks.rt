@@ -1,19 +1,39 @@
 // Which settings are good.
 
-ghost use Rattle.std.specs.Prelude.{◌≡◌, List, ℕ, map, is_some};
+ghost use Rattle.std.specs.Prelude.{◌≡◌, List, ℕ, map, OnOk, IfErr};
 ghost use Rattle.std.specs.List.{list_all};
 ghost use Rattle.std.specs.Option.{option_copied};
 ghost use Rattle.ssh_model.specs.DataTypes.{is_name as passes_name};
 ghost use Rattle.ssh_model.specs.Line.{is_text_byte, is_version_byte};
 ghost use Rattle.ssh_transport.specs.Checks.{are_comments as pass_comments, are_five as pass_five, are_known as pass_known, are_limits as pass_limits, are_lists as pass_lists, fits_line as passes_fit, has_line as passes_line, is_kex_method as passes_kex_method, is_list as passes_list, is_software as passes_software, is_user_method as passes_user_method, knows as passes_pair, knows_each as passes_each, knows_pairs as pass_pairs};
+ghost use Rattle.ssh_transport.specs.Config.{AreGood};
+ghost use Rattle.ssh_transport.specs.Errors.{IsRefused};
 ghost use Rattle.ssh_transport.specs.Values.{given};
 
+use crate::config::error::ConfigRefusal;
 use crate::config::settings::Settings;
 use ssh_packet::Sealing;
 use ssh_types::Name;
 
+// Refuses what is not good, by the lowest refusal that holds.
+pub(crate) fn check<S: Sealing>(settings: &Settings<'_>) -> Result<(), ConfigRefusal>
+    ensures good { OnOk result (AreGood S.crypto (given settings.now)) }
+    ensures refused { IfErr result (λ refusal. IsRefused S.crypto (given settings.now) refusal) }
+{
+    if !has_line(settings.software, settings.comments) {
+        return Err(ConfigRefusal::BadSoftware);
+    }
+    if !are_lists::<S>(settings) {
+        return Err(ConfigRefusal::BadList);
+    }
+    if !are_limits(settings.epoch_limit, settings.tries) {
+        return Err(ConfigRefusal::BadLimit);
+    }
+    Ok(())
+}
+
 // The software and the comments make a version line.
-pub(crate) fn has_line(software: &[u8], comments: Option<&[u8]>) -> bool
+fn has_line(software: &[u8], comments: Option<&[u8]>) -> bool
     ensures { result ≡ passes_line software.now (option_copied comments.entry) }
 {
     let named = is_software(software);
@@ -63,7 +83,7 @@ fn fits_line(software: &[u8], comments: Option<&[u8]>) -> bool
 }
 
 // Each of the lists is one, and what they name is known.
-pub(crate) fn are_lists<S: Sealing>(settings: &Settings<'_>) -> bool
+fn are_lists<S: Sealing>(settings: &Settings<'_>) -> bool
     ensures { result ≡ pass_lists S.crypto (given settings.now) }
 {
     let five = are_five(settings);
@@ -155,7 +175,7 @@ fn knows<S: Sealing>(enc: &[u8], mac: &[u8]) -> bool
 }
 
 // The limits are within their bounds.
-pub(crate) fn are_limits(epoch_limit: u32, tries: u32) -> bool
+fn are_limits(epoch_limit: u32, tries: u32) -> bool
     ensures { result ≡ pass_limits epoch_limit tries }
 {
     let packets = epoch_limit >= 64 && epoch_limit <= 1 << 31;

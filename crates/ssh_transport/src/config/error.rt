@@ -6,16 +6,16 @@ use thiserror::Error;
 /// Why settings are refused. As text it is a sentence for a log.
 #[derive(Clone, Copy, Debug, PartialEq, Eq, Error)]
 pub enum ConfigRefusal {
-    /// No version line has this software and these comments (RFC 4253 section 4.2): the software is empty or has a byte
-    /// outside 33 to 126 or a minus, the comments have a byte 0, 10 or 13, or the line is longer than 255 bytes with CR LF.
-    #[error("the version line is malformed")]
+    /// No version line has this software and these comments (RFC 4253 section 4.2): one of them has a byte that it may
+    /// not have, the software is empty, or the line is longer than 255 bytes with CR LF.
+    #[error("no version line has this software and these comments")]
     BadSoftware,
-    /// A list is empty, has over 16 texts or one that is no name (RFC 4251 section 6), names an exchange method or a
-    /// method of authentication that is not known, or a pair of encryption and MAC that the sealing does not know.
-    #[error("a list of names is malformed")]
+    /// A list is empty, has over 16 texts or one that is no name (RFC 4251 section 6), or has a name that is not known:
+    /// an exchange method, a method of authentication, or a pair of an encryption and a MAC.
+    #[error("a list of names is not allowed")]
     BadList,
-    /// The limit of an epoch is outside 64 to 2^31, or that of requests outside 1 to 20.
-    #[error("a limit is out of its bounds")]
+    /// The limit of packets is outside 64 to 2^31, or that of failed requests outside 1 to 20.
+    #[error("a limit is outside its bounds")]
     BadLimit,
 }
 
@@ -49,10 +49,10 @@ impl ConfigRefusal {
 /// Why there is no config.
 #[derive(Clone, Copy, Debug, PartialEq, Eq, Error)]
 pub enum ConfigError {
-    /// The settings are refused.
+    /// The settings are not good.
     #[error("{0}")]
     Refused(ConfigRefusal),
-    /// Memory was refused. The settings are good.
+    /// Memory was refused for good settings.
     #[error("out of memory")]
     Memory,
 }

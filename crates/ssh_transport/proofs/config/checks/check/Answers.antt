@@ -2,7 +2,7 @@ use Rattle.std.proofs.Common.{sym, ◌∙◌}
 use Rattle.ssh_transport.specs.Values.{given}
 use Rattle.ssh_transport.proofs.Lines.{good_line}
 use Rattle.ssh_transport.proofs.Lists.{bad_limits, bad_lists, good_limits, good_lists}
-use Rattle.ssh_transport.proofs.config.checking.check.Goals as goal
+use Rattle.ssh_transport.proofs.config.checks.check.Goals as goal
 
 pub returns-then-not-are_lists-clause-refused : goal.returns-then-not-are_lists-clause-refused
 returns-then-not-are_lists-clause-refused g c = (
