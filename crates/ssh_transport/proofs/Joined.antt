@@ -1,5 +1,5 @@
 -- Names joined by commas are the names between the commas.
-use Rattle.std.proofs.Common.{◌≡◌, ℕ, ◌≤◌, ◌<◌, ◌+◌, Bool, true, false, cond, ◌&&◌, leb, eqb, List, [], ◌∷◌, ◌++◌, length, arith, refl, sym, ap, subst, ◌∙◌, inl, inr, append_assoc}
+use Rattle.std.proofs.Common.{◌≡◌, ℕ, ◌≤◌, ◌<◌, ◌+◌, ◌*◌, Bool, true, false, cond, ◌&&◌, leb, eqb, List, [], ◌∷◌, ◌++◌, length, arith, refl, sym, ap, subst, ◌∙◌, inl, inr, append_assoc, length-append}
 use Rattle.std.specs.Prelude.{Option, Some, None, is_some, IfNone, map, take, get_or}
 use Rattle.std.specs.List.{join_with_byte, slice_split, list_all, All, AllByRecursion, count_by}
 use Rattle.std.proofs.lemmas.Bool.{and_parts, leb-true, cases_Bool, cond-true}
@@ -77,3 +77,27 @@ pub added : (first : List ℕ) (others : List (Bor (List ℕ))) (i : ℕ) (d : B
     join_with_byte 44 (first ∷ map (λ name. name.now) (take (i + 1) others)) ≡ (join_with_byte 44 (first ∷ map (λ name. name.now) (take i others)) ++ 44 ∷ []) ++ (get_or others i d).now
 added first others i d h =
     rw (take_more others i d h, map-append) (one_more first (map (λ name. name.now) (take i others)) (get_or others i d).now)
+
+-- ---- how long the text of a list is
+
+name_length : (name : List ℕ) → is_name name ≡ true → length name ≤ 64
+name_length name h =
+    let p = and_parts ((leb 1 (length name) && leb (length name) 64) && list_all is_name_byte name) (leb (count_by (λ c. eqb c 64) name) 1) h in
+    let q = and_parts (leb 1 (length name) && leb (length name) 64) (list_all is_name_byte name) p.0 in
+    let r = and_parts (leb 1 (length name)) (leb (length name) 64) q.0 in
+    leb-true (length name) 64 r.1
+
+joined_length : (names : List (List ℕ)) → list_all is_name names ≡ true → length (join_with_byte 44 names) ≤ 65 * length names
+joined_length [] h = omega arith
+joined_length (name ∷ []) h = let p = and_parts (is_name name) true h in let most : length name ≤ 64 = name_length name p.0 in omega arith
+joined_length (name ∷ next ∷ names) h =
+    let p = and_parts (is_name name) (list_all is_name (next ∷ names)) h in
+    let most : length name ≤ 64 = name_length name p.0 in
+    let rest : length (join_with_byte 44 (next ∷ names)) ≤ 65 * length (next ∷ names) = joined_length (next ∷ names) p.1 in
+    omega (arith, length-append name (44 ∷ join_with_byte 44 (next ∷ names)))
+
+pub text_length : (text : List ℕ) → are_names text ≡ true → length (names_of text) ≤ 16 → length text ≤ 1040
+text_length text h most =
+    let t = text_of_names text h in
+    let size : length (join_with_byte 44 (names_of text)) ≤ 65 * length (names_of text) = joined_length (names_of text) h in
+    subst (λ (l : List ℕ). length l ≤ 1040) (sym t.joined) (omega arith)

@@ -45,6 +45,7 @@ pub struct Config<S: Sealing> {
     ghost good: { IsTrue (are_good S.crypto (kept line.items software_len kex.items host.items encryption.items mac.items epoch_limit tries methods.items)) },
 }
 
+// Written out, since a derive would ask it of the sealing too.
 impl<S: Sealing> Drop for Config<S> {
     fn drop(self) {
         let Config {
@@ -66,7 +67,7 @@ impl<S: Sealing> Config<S> {
     ghost use Rattle.std.specs.Prelude.{◌^◌, ◌++◌, IfOk, IfErr};
     ghost use Rattle.std.specs.Option.{option_copied};
     ghost use Rattle.ssh_model.specs.Line.{line_end};
-    ghost use Rattle.ssh_types.specs.Values.{names};
+    ghost use Rattle.ssh_types.specs.Values.{names, names_text as text_of};
     ghost use Rattle.ssh_transport.specs.Config.{AreGood, IsList, IsLineOf};
     ghost use Rattle.ssh_transport.specs.Errors.{IsError};
     ghost use Rattle.ssh_transport.specs.Values.{given};
@@ -157,6 +158,7 @@ impl<S: Sealing> Config<S> {
     pub fn kex(&self) -> NameList<'_>
         ensures names { names result ≡ (given_of self.now).kex }
         ensures listed { IsList (names result) }
+        ensures short { length (text_of result) ≤ 1040 }
     {
         every_config_is_good(self);
         names_in(&self.kex)
@@ -166,6 +168,7 @@ impl<S: Sealing> Config<S> {
     pub fn host(&self) -> NameList<'_>
         ensures names { names result ≡ (given_of self.now).host }
         ensures listed { IsList (names result) }
+        ensures short { length (text_of result) ≤ 1040 }
     {
         every_config_is_good(self);
         names_in(&self.host)
@@ -175,6 +178,7 @@ impl<S: Sealing> Config<S> {
     pub fn encryption(&self) -> NameList<'_>
         ensures names { names result ≡ (given_of self.now).encryption }
         ensures listed { IsList (names result) }
+        ensures short { length (text_of result) ≤ 1040 }
     {
         every_config_is_good(self);
         names_in(&self.encryption)
@@ -184,6 +188,7 @@ impl<S: Sealing> Config<S> {
     pub fn mac(&self) -> NameList<'_>
         ensures names { names result ≡ (given_of self.now).mac }
         ensures listed { IsList (names result) }
+        ensures short { length (text_of result) ≤ 1040 }
     {
         every_config_is_good(self);
         names_in(&self.mac)
@@ -213,6 +218,7 @@ impl<S: Sealing> Config<S> {
     pub fn methods(&self) -> NameList<'_>
         ensures names { names result ≡ (given_of self.now).methods }
         ensures listed { IsList (names result) }
+        ensures short { length (text_of result) ≤ 1040 }
     {
         every_config_is_good(self);
         names_in(&self.methods)

@@ -6,7 +6,7 @@ ghost use Rattle.std.specs.Option.{option_copied};
 ghost use Rattle.ssh_model.specs.DataTypes.{is_name};
 ghost use Rattle.ssh_model.specs.Line.{comment_text};
 ghost use Rattle.ssh_types.specs.Names.{are_names, names_of};
-ghost use Rattle.ssh_types.specs.Values.{names};
+ghost use Rattle.ssh_types.specs.Values.{names, names_text as text_of};
 ghost use Rattle.ssh_transport.specs.Config.{version_text};
 
 use ssh_types::NameList;
@@ -54,11 +54,13 @@ pub(crate) fn names_text(alloc: Global, texts: &[&[u8]]) -> Result<Vec<u8>, Allo
     joined(alloc, texts)
 }
 
-// The names that a checked text is.
-#[tactic(auto, using(crate::proofs::Joined::some_list))]
+// The names that a checked text is, of which there are at most 16.
+#[tactic(auto, using(crate::proofs::Joined::some_list, crate::proofs::Joined::text_length))]
 pub(crate) fn names_in(text: &[u8]) -> NameList<'_>
-    requires { IsTrue (are_names text.now) }
-    ensures { names result ≡ names_of text.now }
+    requires names { IsTrue (are_names text.now) }
+    requires most { length (names_of text.now) ≤ 16 }
+    ensures names { names result ≡ names_of text.now }
+    ensures short { length (text_of result) ≤ 1040 }
 {
     NameList::new(text).unwrap()
 }
