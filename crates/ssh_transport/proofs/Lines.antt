@@ -1,11 +1,11 @@
 -- The test of a version line, and the line.
-use Rattle.std.proofs.Common.{◌≡◌, ℕ, ◌≤◌, Bool, true, false, ◌&&◌, leb, eqb, List, [], ◌∷◌, ◌++◌, length, arith, refl, sym, ap, subst, ◌∙◌, length-append, Some, None}
+use Rattle.std.proofs.Common.{◌≡◌, ℕ, ◌≤◌, true, false, ◌&&◌, leb, eqb, List, ◌∷◌, ◌++◌, length, arith, refl, sym, ap, subst, ◌∙◌, length-append, Some, None}
 use Rattle.std.specs.Prelude.{Option, codes, not}
 use Rattle.std.specs.List.{list_all}
 use Rattle.std.proofs.lemmas.Bool.{and_parts, leb-true, le-leb}
 use Rattle.std.proofs.lemmas.Bool.Decides.{nat_tests}
 use Rattle.std.proofs.lemmas.List.Folds.{list_all-append}
-use Rattle.ssh_model.specs.Line.{IsVersionLine, comment_text, is_text_byte, is_version_byte, line_end}
+use Rattle.ssh_model.specs.Line.{comment_text, is_text_byte, is_version_byte, line_end}
 use Rattle.ssh_transport.specs.Config.{Given, HasLine, IsBadSoftware, IsLineOf, version_text}
 use Rattle.ssh_transport.specs.Checks.{are_comments, fits_line, has_line, is_software}
 use Rattle.ssh_transport.proofs.Booleans.{both, implied, not_both}
@@ -40,8 +40,8 @@ good_line g h =
       text = version_text g.software g.comments;
       line = record {
         is_text = list_all-append is_text_byte g.software (comment_text g.comments)
-          ∙ both (list_all is_text_byte g.software) (list_all is_text_byte (comment_text g.comments))
-          (implied is_version_byte is_text_byte g.software text_byte r.1) (text_in g.comments q.1);
+            ∙ both (list_all is_text_byte g.software) (list_all is_text_byte (comment_text g.comments))
+            (implied is_version_byte is_text_byte g.software text_byte r.1) (text_in g.comments q.1);
         parts = refl;
         size = omega (arith, length-append (version_text g.software g.comments) line_end);
       };
@@ -62,8 +62,8 @@ passes_line g bytes v =
     let short : length v.text ≤ 253 = omega (arith, length-append v.text line_end) in
     both (is_software g.software && are_comments g.comments) (fits_line g.software g.comments)
     (both (is_software g.software) (are_comments g.comments)
-        (both (leb 1 (length g.software)) (list_all is_version_byte g.software) (le-leb 1 (length g.software) v.version.is_software.some) v.version.is_software.printable)
-        (comments_in g.software g.comments in_line))
+    (both (leb 1 (length g.software)) (list_all is_version_byte g.software) (le-leb 1 (length g.software) v.version.is_software.some) v.version.is_software.printable)
+    (comments_in g.software g.comments in_line))
     (le-leb (length (version_text g.software g.comments)) 253 (subst (λ (x : List ℕ). length x ≤ 253) parts short))
 
 pub bad_line : (g : Given) → has_line g.software g.comments ≡ false → IsBadSoftware g

@@ -1,5 +1,5 @@
 -- The tests of lists and limits, and what they tell.
-use Rattle.std.proofs.Common.{◌≡◌, ℕ, ◌≤◌, Bool, true, false, ◌&&◌, leb, List, ◌++◌, length, arith, inl, inr}
+use Rattle.std.proofs.Common.{◌≡◌, ℕ, true, false, ◌&&◌, leb, List, ◌++◌, length, inl, inr}
 use Rattle.std.specs.Prelude.{codes}
 use Rattle.std.specs.List.{list_all}
 use Rattle.std.proofs.lemmas.Bool.{and_parts, leb-true, le-leb}
@@ -82,15 +82,15 @@ module _ {K : Type 0} (c : Crypto K) (g : Given) where
   lists_pass l =
       both (are_five g) (are_known c g)
       (both ((is_list g.kex && is_list g.host) && (is_list g.encryption && is_list g.mac)) (is_list g.methods)
-          (both (is_list g.kex && is_list g.host) (is_list g.encryption && is_list g.mac)
-              (both (is_list g.kex) (is_list g.host) (list_passes g.kex l.kex) (list_passes g.host l.host))
-              (both (is_list g.encryption) (is_list g.mac) (list_passes g.encryption l.encryption) (list_passes g.mac l.mac)))
-          (list_passes g.methods l.methods))
+      (both (is_list g.kex && is_list g.host) (is_list g.encryption && is_list g.mac)
+      (both (is_list g.kex) (is_list g.host) (list_passes g.kex l.kex) (list_passes g.host l.host))
+      (both (is_list g.encryption) (is_list g.mac) (list_passes g.encryption l.encryption) (list_passes g.mac l.mac)))
+      (list_passes g.methods l.methods))
       (both (list_all is_kex_method g.kex && list_all is_user_method g.methods) (knows_pairs c g.encryption g.mac)
-          (both (list_all is_kex_method g.kex) (list_all is_user_method g.methods)
-              (all_pass is_kex_method g.kex (λ name here. kex_passes name (l.known_kex name here)))
-              (all_pass is_user_method g.methods (λ name here. user_passes name (l.known_method name here))))
-          (all_pass (knows_each c g.mac) g.encryption (λ enc of_enc. all_pass (knows c enc) g.mac (λ mac of_mac. l.known_pair enc mac of_enc of_mac))))
+      (both (list_all is_kex_method g.kex) (list_all is_user_method g.methods)
+      (all_pass is_kex_method g.kex (λ name here. kex_passes name (l.known_kex name here)))
+      (all_pass is_user_method g.methods (λ name here. user_passes name (l.known_method name here))))
+      (all_pass (knows_each c g.mac) g.encryption (λ enc of_enc. all_pass (knows c enc) g.mac (λ mac of_mac. l.known_pair enc mac of_enc of_mac))))
 
   pub bad_lists : are_lists c g ≡ false → IsBadList c g
   bad_lists h l = not_both (are_lists c g) h (lists_pass l)

@@ -1,5 +1,5 @@
 -- The tests of settings, as truth values that compute.
-use Rattle.std.specs.Prelude.{ℕ, ◌^◌, Bool, true, nat_le, nat_eq, nat_lt, ◌+◌, ◌&&◌, ◌||◌, if◌then◌else◌, Option, Some, None, is_some, List, length, take, drop, codes}
+use Rattle.std.specs.Prelude.{ℕ, Bool, true, nat_le, nat_eq, nat_lt, ◌+◌, ◌&&◌, ◌||◌, if◌then◌else◌, Option, Some, None, is_some, List, length, take, drop, codes}
 use Rattle.std.specs.List.{list_all}
 use Rattle.std.specs.Cmp.Lexicographic.{pointwise}
 use Rattle.ssh_model.specs.DataTypes.{is_name}

@@ -1,5 +1,5 @@
 -- What the types of this crate stand for.
-use Rattle.std.specs.Prelude.{ℕ, List, map}
+use Rattle.std.specs.Prelude.{map}
 use Rattle.std.specs.Option.{option_copied}
 use Rattle.ssh_transport.specs.declared.config.settings.Settings.{Settings}
 use Rattle.ssh_transport.specs.Config.{Given}

@@ -10,11 +10,10 @@ mod laws;
 mod settings;
 mod texts;
 
+use checks::check;
 pub use error::{ConfigError, ConfigRefusal};
 pub use laws::every_config_is_good;
 pub use settings::Settings;
-
-use checks::check;
 use ssh_packet::Sealing;
 use ssh_types::NameList;
 use std::alloc::{AllocError, Global};
@@ -224,4 +223,3 @@ impl<S: Sealing> Config<S> {
         names_in(&self.methods)
     }
 }
-
