@@ -61,7 +61,7 @@ pub record IsList (texts : List (List ℕ)) : Type 0 where
   pub most : length texts ≤ 16
   pub names : IsTrue (list_all is_name texts)
 
--- the two names of the one key exchange method (RFC 8731 section 3)
+-- the two names of the one key exchange method (RFC 8731)
 abbrev pub IsKexMethod : List ℕ → Type 0
 IsKexMethod name = (name ≡ codes "curve25519-sha256") ⊎ (name ≡ codes "curve25519-sha256@libssh.org")
 

@@ -82,7 +82,7 @@ impl<S: Sealing> Config<S> {
     ///    or has a byte outside 33 to 126 or a minus; the comments have a byte 0, 10 or 13; or the line is longer than 255
     ///    bytes with CR LF.
     /// 2. `BadList`: a list is empty, has over 16 texts or a text that is no name (RFC 4251 section 6); `kex` has a name
-    ///    other than the two of RFC 8731 section 3, `curve25519-sha256` and `curve25519-sha256@libssh.org`; the sealing does
+    ///    other than the two of RFC 8731, `curve25519-sha256` and `curve25519-sha256@libssh.org`; the sealing does
     ///    not know a pair of an encryption and a MAC of the lists; or `methods` has a name other than `publickey` and
     ///    `password`.
     /// 3. `BadLimit`: `epoch_limit` is outside 64 to 2^31, or `tries` outside 1 to 20.
@@ -152,7 +152,7 @@ impl<S: Sealing> Config<S> {
         }
     }
 
-    /// The names of the key exchange method, the one liked best first. They are names of one method (RFC 8731 section 3),
+    /// The names of the key exchange method, the one liked best first. They are names of one method (RFC 8731),
     /// and no marker stands among them.
     pub fn kex(&self) -> NameList<'_>
         ensures names { names result ≡ (given_of self.now).kex }

@@ -134,7 +134,7 @@ fn are_kex_methods(names: &[&[u8]]) -> bool
     names.iter().all(|name| is_kex_method(name))
 }
 
-// One of the two names of RFC 8731 section 3.
+// One of the two names of RFC 8731.
 fn is_kex_method(name: &[u8]) -> bool
     ensures { result ≡ passes_kex_method name.now }
 {

@@ -6,7 +6,7 @@ pub struct Settings<'a> {
     pub software: &'a [u8],
     /// Comments on it, any bytes but 0, CR and LF.
     pub comments: Option<&'a [u8]>,
-    /// The names of the key exchange method, the one liked best first (RFC 8731 section 3).
+    /// The names of the key exchange method, the one liked best first (RFC 8731).
     pub kex: &'a [&'a [u8]],
     /// The algorithms of host keys, the one liked best first.
     pub host: &'a [&'a [u8]],
