@@ -2,4 +2,4 @@ pub mod Config
 pub mod Checks
 pub mod Values
 pub mod Errors
-pub mod Configs
+pub mod Meaning

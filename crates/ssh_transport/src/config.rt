@@ -70,7 +70,7 @@ impl<S: Sealing> Config<S> {
     ghost use Rattle.ssh_transport.specs.Config.{AreGood, IsList, IsLineOf};
     ghost use Rattle.ssh_transport.specs.Errors.{IsError};
     ghost use Rattle.ssh_transport.specs.Values.{given};
-    ghost use Rattle.ssh_transport.specs.Configs.{given_of, settings_of};
+    ghost use Rattle.ssh_transport.specs.Meaning.{given_of, settings_of};
 
     /// The config of these settings. Names may stand in a list twice.
     ///

@@ -1,5 +1,5 @@
 ghost use Rattle.ssh_transport.specs.Config.{AreGood};
-ghost use Rattle.ssh_transport.specs.Configs.{given_of};
+ghost use Rattle.ssh_transport.specs.Meaning.{given_of};
 
 use crate::config::Config;
 use ssh_packet::Sealing;

@@ -1,4 +1,4 @@
-use Rattle.ssh_transport.specs.Configs.{given_of}
+use Rattle.ssh_transport.specs.Meaning.{given_of}
 use Rattle.ssh_transport.proofs.Lists.{good_settings}
 use Rattle.ssh_transport.proofs.config.laws.every_config_is_good.Goals as goal
 
