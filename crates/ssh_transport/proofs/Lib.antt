@@ -1,0 +1,5 @@
+pub mod Booleans
+pub mod Lines
+pub mod Lists
+pub mod Joined
+pub mod Kept

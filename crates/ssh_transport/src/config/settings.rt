@@ -1,0 +1,23 @@
+/// What a config is made of. Nothing is checked here: `Config::new` does that.
+#[derive(Clone, Copy, Debug)]
+pub struct Settings<'a> {
+    /// The version of the software (RFC 4253 section 4.2): at least one printable US-ASCII character, none of them a
+    /// space or a minus.
+    pub software: &'a [u8],
+    /// Comments on it, any bytes but 0, CR and LF.
+    pub comments: Option<&'a [u8]>,
+    /// The names of the key exchange method, the one liked best first (RFC 8731).
+    pub kex: &'a [&'a [u8]],
+    /// The algorithms of host keys, the one liked best first.
+    pub host: &'a [&'a [u8]],
+    /// The encryptions of both directions, the one liked best first.
+    pub encryption: &'a [&'a [u8]],
+    /// The MACs of both directions, the one liked best first.
+    pub mac: &'a [&'a [u8]],
+    /// After so many packets sent under the keys of one exchange the next exchange is due: 64 to 2^31.
+    pub epoch_limit: u32,
+    /// How many requests for authentication a server lets fail: 1 to 20.
+    pub tries: u32,
+    /// The methods of authentication that a server names (RFC 4252).
+    pub methods: &'a [&'a [u8]],
+}

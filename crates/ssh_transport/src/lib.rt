@@ -1,0 +1,33 @@
+//! The transport of SSH (RFC 4253): today the settings of one end.
+//!
+//! `Config::new` checks the settings once, and refuses them by the lowest number whose condition holds: 1 `BadSoftware`,
+//! 2 `BadList`, 3 `BadLimit`. A config shows each value by a call of its name. It holds just what it was given, and every
+//! config is good (`every_config_is_good`): its version line has at most 255 bytes with CR LF, its lists have 1 to 16
+//! names, the sealing knows each pair of its encryptions and MACs, and its limits are within their bounds.
+//!
+//! The settings of an end whose sealing is `MacOnly`:
+//!
+//! ```rust
+//! let settings = Settings {
+//!     software: b"divrelca_1",
+//!     comments: Some(b"a core"),
+//!     kex: &[b"curve25519-sha256", b"curve25519-sha256@libssh.org"],
+//!     host: &[b"ssh-ed25519"],
+//!     encryption: &[b"none"],
+//!     mac: &[b"hmac-sha2-256"],
+//!     epoch_limit: 1 << 20,
+//!     tries: 6,
+//!     methods: &[b"publickey", b"password"],
+//! };
+//! let config = Config::<MacOnly>::new(alloc, &settings)?;
+//! let line = config.line();                   // SSH-2.0-divrelca_1 a core
+//! let kex = config.kex().as_bytes();          // curve25519-sha256,curve25519-sha256@libssh.org
+//! ```
+#![tactic(auto)]
+
+mod config;
+
+pub use config::{Config, ConfigError, ConfigRefusal, Settings, every_config_is_good};
+
+#[cfg(test)]
+mod tests;
