@@ -43,6 +43,3 @@ pub use laws::{one_message, written_is_read};
 pub use line::Line;
 pub use message::{BadMessage, Message, Method, Proposal};
 pub use naming::name;
-
-#[cfg(test)]
-mod tests;

@@ -1,6 +1,7 @@
-//! Shows recorded payloads: for each line of standard input, a payload in hexadecimal digits, the line of its message, read
-//! as a client reads it that waits for the answer to a key probe. Every message is written again too, and has to give the
-//! bytes that were read; only what follows an unknown number isn't kept.
+//! Shows recorded payloads: for each line of standard input, a payload in hexadecimal digits, the line of its message, or why
+//! there is none. It is read as by a client that waits for the answer to a key probe; behind the word `idle`, as by an end
+//! that doesn't. Every message is written again too, and has to give the bytes that were read; only what follows an unknown
+//! number isn't kept.
 #![tactic(auto)]
 
 use hex::FromHexError;
@@ -23,23 +24,27 @@ enum Problem {
 }
 
 fn main(rt: HostRuntime) -> io::Result<()> {
-    for digits in rt.lines(rt.alloc()) {
-        match shown(rt.alloc(), digits?.as_str()) {
-            Ok(line) => println!(rt; "{line}")?,
+    for line in rt.lines(rt.alloc()) {
+        match shown(rt.alloc(), line?.as_str()) {
+            Ok(text) => println!(rt; "{text}")?,
             Err(problem) => println!(rt; "{problem}")?,
         }
     }
     Ok(())
 }
 
-fn shown(alloc: Global, digits: &str) -> Result<String, Problem> {
+fn shown(alloc: Global, line: &str) -> Result<String, Problem> {
+    let (probing, digits) = match line.strip_prefix("idle ") {
+        Some(digits) => (false, digits),
+        None => (true, line),
+    };
     let payload = hex::decode(alloc, digits)?;
-    let message = decode(true, &payload)?;
+    let message = decode(probing, &payload)?;
     let mut again = Vec::new(alloc);
     encode(&message, &mut again)?;
     let is_kept = !matches!(&message, Message::Unknown(_));
     if is_kept && again != payload {
         return Err(Problem::Changed);
     }
-    Ok(format!(in alloc; "{}", Line::new(true, &payload)?)?)
+    Ok(format!(in alloc; "{}", Line::new(probing, &payload)?)?)
 }
