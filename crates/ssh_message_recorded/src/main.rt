@@ -1,11 +1,11 @@
 //! Shows recorded payloads: for each line of standard input, a payload in hexadecimal digits, the line of its message, or why
 //! there is none. It is read as by a client that waits for the answer to a key probe; behind the word `idle`, as by an end
-//! that doesn't. Every message is written again too, and has to give the bytes that were read; only what follows an unknown
-//! number isn't kept.
+//! that doesn't. Every message is written again too, and where that gives other bytes they are shown: a truth value is written
+//! as 1, and an unknown number alone.
 #![tactic(auto)]
 
 use hex::FromHexError;
-use ssh_message::{BadMessage, Line, Message, decode, encode};
+use ssh_message::{BadMessage, Line, decode, encode};
 use std::alloc::{AllocError, Global};
 use std::io;
 use thiserror::Error;
@@ -17,8 +17,6 @@ enum Problem {
     NotHex(#[from] FromHexError),
     #[error("a malformed message")]
     BadMessage(#[from] BadMessage),
-    #[error("a message that is written as other bytes")]
-    Changed,
     #[error("out of memory")]
     Memory(#[from] AllocError),
 }
@@ -42,9 +40,10 @@ fn shown(alloc: Global, line: &str) -> Result<String, Problem> {
     let message = decode(probing, &payload)?;
     let mut again = Vec::new(alloc);
     encode(&message, &mut again)?;
-    let is_kept = !matches!(&message, Message::Unknown(_));
-    if is_kept && again != payload {
-        return Err(Problem::Changed);
+    let shown = Line::new(probing, &payload)?;
+    if again == payload {
+        return Ok(format!(in alloc; "{shown}")?);
     }
-    Ok(format!(in alloc; "{}", Line::new(probing, &payload)?)?)
+    let written = hex::encode(alloc, again.as_slice())?;
+    Ok(format!(in alloc; "{shown} written as {written}")?)
 }
