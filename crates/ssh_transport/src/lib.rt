@@ -1,9 +1,12 @@
-//! The transport of SSH (RFC 4253): today the settings of one end.
+//! The transport of SSH (RFC 4253): today the settings and the parts of one end.
 //!
 //! `Config::new` checks the settings once, and refuses them by the lowest number whose condition holds: 1 `BadSoftware`,
 //! 2 `BadList`, 3 `BadLimit`. A config shows each value by a call of its name. It holds just what it was given, and every
 //! config is good (`every_config_is_good`): its version line has at most 255 bytes with CR LF, its lists have 1 to 16
 //! names, the sealing knows each pair of its encryptions and MACs, and its limits are within their bounds.
+//!
+//! The parts that an end is handed are named by one type of the user's own, a `ClientParts` or a `ServerParts`; their
+//! values are a `ClientPartValues` or a `ServerPartValues`.
 //!
 //! The settings of an end whose sealing is `MacOnly`:
 //!
@@ -26,8 +29,10 @@
 #![tactic(auto)]
 
 mod config;
+mod parts;
 
 pub use config::{Config, ConfigError, ConfigRefusal, Settings, every_config_is_good};
+pub use parts::{ClientPartValues, ClientParts, ServerPartValues, ServerParts};
 
 #[cfg(test)]
 mod tests;
