@@ -1,4 +1,4 @@
-//! The transport of SSH (RFC 4253): today the settings and the parts of one end.
+//! The transport of SSH (RFC 4253): today the settings and the parts of one end, and the KEXINIT that it sends.
 //!
 //! `Config::new` checks the settings once, and refuses them by the lowest number whose condition holds: 1 `BadSoftware`,
 //! 2 `BadList`, 3 `BadLimit`. A config shows each value by a call of its name. It holds just what it was given, and every
@@ -7,6 +7,9 @@
 //!
 //! The parts that an end is handed are named by one type of the user's own, a `ClientParts` or a `ServerParts`; their
 //! values are a `ClientPartValues` or a `ServerPartValues`.
+//!
+//! What an end offers in a KEXINIT follows from its settings (`offer_of_settings`): its lists in both directions, no
+//! compression, no languages and no guess, and in the first one the marker of strict key exchange, last in the kex list.
 //!
 //! The settings of an end whose sealing is `MacOnly`:
 //!
@@ -29,10 +32,14 @@
 #![tactic(auto)]
 
 mod config;
+mod kexinit;
 mod parts;
+mod role;
 
 pub use config::{Config, ConfigError, ConfigRefusal, Settings, every_config_is_good};
+pub use kexinit::offer_of_settings;
 pub use parts::{ClientPartValues, ClientParts, ServerPartValues, ServerParts};
+pub use role::Role;
 
 #[cfg(test)]
 mod tests;
