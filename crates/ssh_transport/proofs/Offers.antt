@@ -1,6 +1,6 @@
 -- The kex list with its marker, and how long the payload of a KEXINIT is.
-use Rattle.std.proofs.Common.{◌≡◌, ℕ, ◌≤◌, ◌+◌, ◌*◌, Bool, true, false, List, [], ◌∷◌, ◌++◌, length, arith, refl, sym, ap, subst, ◌∙◌, length-append, lit≤}
-use Rattle.std.specs.Prelude.{codes, Result, Ok, Err, OnOk}
+use Rattle.std.proofs.Common.{Vec, Global, ◌≡◌, ℕ, ◌≤◌, ◌+◌, ◌*◌, Bool, true, false, List, [], ◌∷◌, ◌++◌, length, arith, refl, sym, ap, subst, ◌∙◌, append_assoc, length-append, lit≤}
+use Rattle.std.specs.Prelude.{codes, Result, Ok, Err, IfOk, OnOk}
 use Rattle.std.specs.List.{join_with_byte, list_all}
 use Rattle.std.proofs.lemmas.List.Folds.{list_all-append}
 use Rattle.ssh_model.specs.DataTypes.{IsByte, IsNameList, IsNameText, IsUint32, IsWrittenBoolean, is_name}
@@ -23,27 +23,24 @@ marker_name Side.Server = refl
 more_names : (names : List (List ℕ)) (name : List ℕ) → list_all is_name names ≡ true → is_name name ≡ true → list_all is_name (names ++ name ∷ []) ≡ true
 more_names names name h n = list_all-append is_name names (name ∷ []) ∙ both (list_all is_name names) (list_all is_name (name ∷ [])) h (both (is_name name) true n refl)
 
-more_text : (names : List (List ℕ)) (name text : List ℕ) → 1 ≤ length names → text ≡ join_with_byte 44 names → (text ++ 44 ∷ []) ++ name ≡ join_with_byte 44 (names ++ name ∷ [])
+more_text : (names : List (List ℕ)) (name text : List ℕ) → 1 ≤ length names → text ≡ join_with_byte 44 names → text ++ 44 ∷ name ≡ join_with_byte 44 (names ++ name ∷ [])
 more_text [] name text some e = absurd (omega arith)
-more_text (first ∷ names) name text some e = ap (λ (l : List ℕ). (l ++ 44 ∷ []) ++ name) e ∙ sym (one_more first names name)
+more_text (first ∷ names) name text some e =
+    sym (append_assoc text (44 ∷ []) name) ∙ ap (λ (l : List ℕ). (l ++ 44 ∷ []) ++ name) e ∙ sym (one_more first names name)
 
-marked : (names : List (List ℕ)) (name text : List ℕ) → IsList names → is_name name ≡ true → IsNameText names text → IsNameText (names ++ name ∷ []) ((text ++ 44 ∷ []) ++ name)
+marked : (names : List (List ℕ)) (name text : List ℕ) → IsList names → is_name name ≡ true → IsNameText names text → IsNameText (names ++ name ∷ []) (text ++ 44 ∷ name)
 marked names name text list n t = record {
   all = more_names names name t.all n;
   joined = more_text names name text list.some t.joined;
 }
 
-pub with_marker : (kex : List (List ℕ)) (side : Side) (first : Bool) (front more marker text : List ℕ) → IsList kex → IsNameText kex front → first ≡ true →
-    more ≡ front ++ 44 ∷ [] → marker ≡ marker_of side → text ≡ more ++ marker → IsNameText (offered_kex kex side first) text
-with_marker kex side false front more marker text list t f p m e = absurd cc
-with_marker kex side true front more marker text list t f p m e =
-    let parts : text ≡ (front ++ 44 ∷ []) ++ marker_of side = e ∙ ap (λ (l : List ℕ). l ++ marker) p ∙ ap (λ (l : List ℕ). (front ++ 44 ∷ []) ++ l) m in
+pub with_marker : {E : Type 0} (result : Result (Vec ℕ Global) E) (kex : List (List ℕ)) (side : Side) (first : Bool) (front marker : List ℕ) → IsList kex → IsNameText kex front → first ≡ true → marker ≡ marker_of side →
+    IfOk result (λ text. text.items ≡ front ++ 44 ∷ marker) → IfOk result (λ text. IsNameText (offered_kex kex side first) text.items)
+with_marker result kex side false front marker list t f m e = absurd cc
+with_marker (Err error) kex side true front marker list t f m e = tt
+with_marker (Ok text) kex side true front marker list t f m e =
+    let parts : text.items ≡ front ++ 44 ∷ marker_of side = e ∙ ap (λ (l : List ℕ). front ++ 44 ∷ l) m in
     subst (λ (l : List ℕ). IsNameText (kex ++ marker_of side ∷ []) l) (sym parts) (marked kex (marker_of side) front list (marker_name side) t)
-
-pub without_marker : (kex : List (List ℕ)) (side : Side) (first : Bool) (front text : List ℕ) → IsNameText kex front → first ≡ false → text ≡ front →
-    IsNameText (offered_kex kex side first) text
-without_marker kex side true front text t f e = absurd cc
-without_marker kex side false front text t f e = subst (λ (l : List ℕ). IsNameText kex l) (sym e) t
 
 -- ---- how long the kex list is
 

@@ -1,6 +1,6 @@
 //! What an end offers in a KEXINIT of its own.
 
-ghost use Rattle.std.specs.Prelude.{◌≡◌, ◌<◌, ◌≤◌, ◌+◌, ◌^◌, ◌∷◌, [], Bool, IfOk, IsTrue, List, OnErr, OnOk, codes, length, ℕ};
+ghost use Rattle.std.specs.Prelude.{◌≡◌, ◌<◌, ◌≤◌, ◌+◌, ◌^◌, ◌++◌, ◌∷◌, [], Bool, IfOk, IsTrue, List, OnErr, OnOk, codes, length, ℕ};
 ghost use Rattle.ssh_model.specs.DataTypes.{IsNameText};
 ghost use Rattle.ssh_model.specs.History.{Side};
 ghost use Rattle.ssh_model.specs.Message.{IsWrittenPayload, KexInit};
@@ -55,11 +55,20 @@ fn kex_text(
     requires { IsList (names kex.now) }
     ensures { IfOk result (λ text. IsNameText (offered_kex (names kex.now) (side_of role) first) text.items) }
 {
-    let mut text = kex.as_bytes().to_vec(alloc)?;
     if first {
-        text.push(b',')?;
-        text.extend_from_slice(marker(role))?;
+        appended(alloc, kex.as_bytes(), marker(role))
+    } else {
+        kex.as_bytes().to_vec(alloc)
     }
+}
+
+// One name more behind the names of a text.
+fn appended(alloc: Global, names: &[u8], name: &[u8]) -> Result<Vec<u8>, AllocError>
+    ensures { IfOk result (λ text. text.items ≡ names.now ++ 44 ∷ name.now) }
+{
+    let mut text = names.to_vec(alloc)?;
+    text.push(b',')?;
+    text.extend_from_slice(name)?;
     Ok(text)
 }
 
