@@ -92,6 +92,7 @@ fn list_in(text: &[u8]) -> NameList<'_>
     NameList::new(text).unwrap()
 }
 
+// Puts the payload of a KEXINIT with these kex names.
 fn put_offer<S: Sealing>(
     config: &Config<S>,
     kex: NameList<'_>,
@@ -108,6 +109,7 @@ fn put_offer<S: Sealing>(
     encode(&Message::KexInit(proposal(config, kex, cookie)), out)
 }
 
+// These kex names with what is the same in every KEXINIT of this end.
 fn proposal<'a, S: Sealing>(
     config: &'a Config<S>,
     kex: NameList<'a>,
@@ -133,7 +135,7 @@ fn proposal<'a, S: Sealing>(
     }
 }
 
-// No compression.
+// The one compression of both directions.
 fn uncompressed() -> NameList<'static>
     ensures names { names result ≡ codes "none" ∷ [] }
     ensures short { length (text_of result) ≤ 1040 }
@@ -141,6 +143,7 @@ fn uncompressed() -> NameList<'static>
     list_in(b"none")
 }
 
+// The languages of both directions.
 fn no_names() -> NameList<'static>
     ensures names { names result ≡ [] }
     ensures short { length (text_of result) ≤ 1040 }
