@@ -64,7 +64,7 @@ some_list None text none h = absurd (none (names_of text) (text_of_names text h)
 
 -- ---- one name more
 
-one_more : (first : List ℕ) (names : List (List ℕ)) (name : List ℕ) → join_with_byte 44 (first ∷ (names ++ name ∷ [])) ≡ (join_with_byte 44 (first ∷ names) ++ 44 ∷ []) ++ name
+pub one_more : (first : List ℕ) (names : List (List ℕ)) (name : List ℕ) → join_with_byte 44 (first ∷ (names ++ name ∷ [])) ≡ (join_with_byte 44 (first ∷ names) ++ 44 ∷ []) ++ name
 one_more first [] name = sym (append_assoc first (44 ∷ []) name)
 one_more first (next ∷ names) name =
     let rest : List ℕ = join_with_byte 44 (next ∷ names) in
@@ -87,7 +87,7 @@ name_length name h =
     let r = and_parts (leb 1 (length name)) (leb (length name) 64) q.0 in
     leb-true (length name) 64 r.1
 
-joined_length : (names : List (List ℕ)) → list_all is_name names ≡ true → length (join_with_byte 44 names) ≤ 65 * length names
+pub joined_length : (names : List (List ℕ)) → list_all is_name names ≡ true → length (join_with_byte 44 names) ≤ 65 * length names
 joined_length [] h = omega arith
 joined_length (name ∷ []) h = let p = and_parts (is_name name) true h in let most : length name ≤ 64 = name_length name p.0 in omega arith
 joined_length (name ∷ next ∷ names) h =

@@ -3,3 +3,4 @@ pub mod Lines
 pub mod Lists
 pub mod Joined
 pub mod Kept
+pub mod Offers

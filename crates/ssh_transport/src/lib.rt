@@ -1,9 +1,15 @@
-//! The transport of SSH (RFC 4253): today the settings of one end.
+//! The transport of SSH (RFC 4253): today the settings and the parts of one end, and the KEXINIT that it sends.
 //!
 //! `Config::new` checks the settings once, and refuses them by the lowest number whose condition holds: 1 `BadSoftware`,
 //! 2 `BadList`, 3 `BadLimit`. A config shows each value by a call of its name. It holds just what it was given, and every
 //! config is good (`every_config_is_good`): its version line has at most 255 bytes with CR LF, its lists have 1 to 16
 //! names, the sealing knows each pair of its encryptions and MACs, and its limits are within their bounds.
+//!
+//! The parts that an end is handed are named by one type of the user's own, a `ClientParts` or a `ServerParts`; their
+//! values are a `ClientPartValues` or a `ServerPartValues`.
+//!
+//! What an end offers in a KEXINIT follows from its settings (`offer_of_settings`): its lists in both directions, no
+//! compression, no languages and no guess, and in the first one the marker of strict key exchange, last in the kex list.
 //!
 //! The settings of an end whose sealing is `MacOnly`:
 //!
@@ -26,8 +32,14 @@
 #![tactic(auto)]
 
 mod config;
+mod kexinit;
+mod parts;
+mod role;
 
 pub use config::{Config, ConfigError, ConfigRefusal, Settings, every_config_is_good};
+pub use kexinit::offer_of_settings;
+pub use parts::{ClientPartValues, ClientParts, ServerPartValues, ServerParts};
+pub use role::Role;
 
 #[cfg(test)]
 mod tests;

@@ -1,0 +1,36 @@
+-- What an end offers in a KEXINIT of its own (RFC 4253 section 7.1), from its settings.
+use Rattle.std.specs.Prelude.{ℕ, Bool, false, if◌then◌else◌, List, [], ◌∷◌, ◌++◌, codes}
+use Rattle.ssh_model.specs.History.{Side}
+use Rattle.ssh_model.specs.Message.{Proposal}
+use Rattle.ssh_model.specs.Party.{Settings, marker_of}
+use Rattle.ssh_transport.specs.declared.role.Role.{Role}
+use Rattle.ssh_transport.specs.declared.role.Role.TheVariants as role
+
+-- the side of an end, as the model has it
+abbrev pub side_of : Role → Side
+side_of role.Client = Side.Client
+side_of role.Server = Side.Server
+
+-- The marker of strict key exchange stands last in the first KEXINIT and in no later one.
+abbrev pub offered_kex : List (List ℕ) → Side → (first : Bool) → List (List ℕ)
+offered_kex kex side first = if first then kex ++ marker_of side ∷ [] else kex
+
+-- these kex names with what is the same in every KEXINIT of an end
+abbrev pub offer_with : Settings → (kex : List (List ℕ)) → (cookie : List ℕ) → Proposal
+offer_with s kex cookie = record {
+  cookie = cookie;
+  kex = kex;
+  host = s.host;
+  enc_cs = s.encryption;
+  enc_sc = s.encryption;
+  mac_cs = s.mac;
+  mac_sc = s.mac;
+  comp_cs = codes "none" ∷ [];
+  comp_sc = codes "none" ∷ [];
+  lang_cs = [];
+  lang_sc = [];
+  follows = false;
+}
+
+abbrev pub offer_of : Settings → Side → (first : Bool) → (cookie : List ℕ) → Proposal
+offer_of s side first cookie = offer_with s (offered_kex s.kex side first) cookie

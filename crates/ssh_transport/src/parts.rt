@@ -1,0 +1,78 @@
+//! The parts that an end is handed.
+
+use ssh_kex::{Agreement, HostSigner, HostTrust};
+use ssh_packet::{Filler, Sealing};
+
+/// The types of the parts that a client is handed. It has no calls: a type of the user's own names the parts that go
+/// together, and a client takes that type as its one parameter. The values are a `ClientPartValues`.
+pub trait ClientParts {
+    /// Seals and opens packets. Its calls need no value.
+    type Sealing: Sealing;
+
+    /// Gives the bytes of the padding (RFC 4253 section 6).
+    type Filler: Filler + Drop;
+
+    /// Agrees on the shared number of an exchange (RFC 8731).
+    type Agreement: Agreement + Drop;
+
+    /// Says which host keys are trusted, and judges their signatures (RFC 4253 section 8).
+    type HostTrust: HostTrust + Drop;
+}
+
+/// The types of the parts that a server is handed. It has no calls: a type of the user's own names the parts that go
+/// together, and a server takes that type as its one parameter. The values are a `ServerPartValues`.
+pub trait ServerParts {
+    /// Seals and opens packets. Its calls need no value.
+    type Sealing: Sealing;
+
+    /// Gives the bytes of the padding (RFC 4253 section 6).
+    type Filler: Filler + Drop;
+
+    /// Agrees on the shared number of an exchange (RFC 8731).
+    type Agreement: Agreement + Drop;
+
+    /// Has the host keys, and signs by them (RFC 4253 section 8).
+    type HostSigner: HostSigner + Drop;
+}
+
+/// The parts that a client is handed: each type of `ClientParts` but the sealing, whose calls need no value.
+pub struct ClientPartValues<P: ClientParts> {
+    /// Gives the bytes of the padding.
+    pub filler: P::Filler,
+    /// Agrees on the shared number of an exchange.
+    pub agreement: P::Agreement,
+    /// Says which host keys are trusted, and judges their signatures.
+    pub host_trust: P::HostTrust,
+}
+
+// Written out, since a derive would ask it of the parts' name too.
+impl<P: ClientParts> Drop for ClientPartValues<P> {
+    fn drop(self) {
+        let ClientPartValues {
+            filler: _,
+            agreement: _,
+            host_trust: _,
+        } = self;
+    }
+}
+
+/// The parts that a server is handed: each type of `ServerParts` but the sealing, whose calls need no value.
+pub struct ServerPartValues<P: ServerParts> {
+    /// Gives the bytes of the padding.
+    pub filler: P::Filler,
+    /// Agrees on the shared number of an exchange.
+    pub agreement: P::Agreement,
+    /// Has the host keys, and signs by them.
+    pub host_signer: P::HostSigner,
+}
+
+// Written out, since a derive would ask it of the parts' name too.
+impl<P: ServerParts> Drop for ServerPartValues<P> {
+    fn drop(self) {
+        let ServerPartValues {
+            filler: _,
+            agreement: _,
+            host_signer: _,
+        } = self;
+    }
+}
