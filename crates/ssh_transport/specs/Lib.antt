@@ -3,3 +3,4 @@ pub mod Checks
 pub mod Values
 pub mod Errors
 pub mod Meaning
+pub mod Lanes

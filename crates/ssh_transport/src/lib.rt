@@ -26,6 +26,7 @@
 #![tactic(auto)]
 
 mod config;
+mod lane;
 
 pub use config::{Config, ConfigError, ConfigRefusal, Settings, every_config_is_good};
 

@@ -1,0 +1,8 @@
+//! The packets of one direction, as client and server share them: their key, their number and their epoch.
+
+mod sending;
+
+pub(crate) use sending::Sending;
+
+// The packets of one direction in one epoch (RFC 4253 section 6.4).
+const NUMBERS: u64 = 4_294_967_296;

@@ -1,0 +1,104 @@
+ghost use Rattle.std.specs.Prelude.{◌≡◌, ◌<◌, ◌≤◌, ◌+◌, ◌-◌, ◌^◌, ◌==◌, OnErr, OnOk, length};
+ghost use Rattle.ssh_model.specs.Reading.{Writes};
+ghost use Rattle.ssh_model.specs.Seal.{IsSealed};
+ghost use Rattle.ssh_transport.specs.Lanes.{counted, new_lane, renewed};
+
+use crate::lane::NUMBERS;
+use ssh_packet::{Filler, Sealing, write_packet};
+use std::alloc::AllocError;
+use std::marker::Model;
+
+/// The packets that an end sends.
+pub(crate) struct Sending<S: Sealing> {
+    key: Option<S::Key>,
+    number: u64,
+    epoch: u32,
+}
+
+impl<S: Sealing> Model for Sending<S> {
+    ghost use Rattle.std.specs.Prelude.{◌≤◌, ◌^◌};
+    ghost use Rattle.ssh_transport.specs.Lanes.{Lane};
+
+    ghost Value = { Lane S.Key };
+
+    ghost view = { λ s. record { key = s.key; number = s.number; epoch = s.epoch } };
+
+    ghost invariant = { λ s. s.number ≤ 2 ^ 32 };
+}
+
+impl<S: Sealing> Drop for Sending<S> {
+    fn drop(self) {
+        let Sending {
+            key: _,
+            number: _,
+            epoch: _,
+        } = self;
+    }
+}
+
+impl<S: Sealing> Sending<S> {
+    /// A direction in which nothing was sent, in clear.
+    pub fn new() -> Sending<S>
+        ensures { result ≡ new_lane }
+    {
+        Sending {
+            key: None,
+            number: 0,
+            epoch: 0,
+        }
+    }
+
+    /// The number of the next packet.
+    pub fn number(&self) -> u64
+        ensures number { result ≡ self.now.number }
+        ensures most { result ≤ 2 ^ 32 }
+    {
+        self.number
+    }
+
+    /// How many NEWKEYS were sent.
+    pub fn epoch(&self) -> u32
+        ensures { result ≡ self.now.epoch }
+    {
+        self.epoch
+    }
+
+    /// How many packets may still be sent in this epoch.
+    pub fn numbers_left(&self) -> u64
+        ensures left { result ≡ 2 ^ 32 - self.now.number }
+        ensures most { self.now.number ≤ 2 ^ 32 }
+    {
+        NUMBERS - self.number
+    }
+
+    /// Sends a payload.
+    pub fn send<F: Filler>(
+        &mut self,
+        payload: &[u8],
+        filler: &mut F,
+        out: &mut Vec<u8>,
+    ) -> Result<(), AllocError>
+        requires left { self.old.number < 2 ^ 32 }
+        requires some { 1 ≤ length payload.now }
+        requires most { length payload.now ≤ 34000 }
+        ensures written { OnOk result (Writes (IsSealed S.crypto self.old.key self.old.number payload.now) out.old.items out.new.items) }
+        ensures counted { OnOk result (self.new ≡ counted self.old) }
+        ensures kept { OnErr result (self.new ≡ self.old) }
+        ensures out { OnErr result (out.new.items ≡ out.old.items) }
+    {
+        let number = self.number as u32;
+        write_packet::<S, F>(payload, self.key.as_ref(), number, filler, out)?;
+        self.number += 1;
+        Ok(())
+    }
+
+    /// Begins the next epoch.
+    pub fn start_epoch(&mut self, key: S::Key)
+        requires { self.old.epoch < 2 ^ 32 - 1 }
+        ensures { self.new ≡ renewed key self.old }
+    {
+        self.key = Some(key);
+        self.number = 0;
+        self.epoch += 1;
+    }
+}
