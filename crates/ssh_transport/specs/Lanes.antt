@@ -1,8 +1,10 @@
 -- One direction's packets at one end: what the sender and the receiver of them hold.
 use Rattle.std.specs.Prelude.{◌≡◌, ◌≤◌, ◌<◌, ◌+◌, ◌^◌, ℕ, List, [], length, Option, None, Some, IfSome}
 use Rattle.ssh_model.specs.DataTypes.{AreBytes}
+use Rattle.ssh_model.specs.Epoch.{epoch, wire_number}
 use Rattle.ssh_model.specs.Outcome.{Outcome.Opens, Outcome.RefusedPacket}
 use Rattle.ssh_model.specs.Seal.{Crypto, IsBegun, block_under, tag_under}
+use Rattle.ssh_model.specs.Session as session
 use Rattle.ssh_model.specs.Unit.{IsPacketBegun, PacketUnit}
 use Rattle.ssh_packet.specs.Reading.{Reading}
 use Rattle.ssh_packet.specs.Refusals.{refusal_number}
@@ -26,6 +28,11 @@ counted lane = record lane { number = lane.number + 1 }
 -- the epoch after a NEWKEYS
 abbrev pub renewed : {K : Type 0} → K → Lane K → Lane K
 renewed key lane = record { key = Some key; number = 0; epoch = lane.epoch + 1 }
+
+-- The lane sums up the payloads that went through it, the newest first.
+pub record SumsUp {K : Type 0} (l : List session.Payload) (lane : Lane K) : Type 0 where
+  pub number_is : lane.number ≡ wire_number l
+  pub epoch_is : lane.epoch ≡ epoch l
 
 -- ---- what the receiver holds besides
 

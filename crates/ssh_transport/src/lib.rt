@@ -29,6 +29,7 @@ mod config;
 mod lane;
 
 pub use config::{Config, ConfigError, ConfigRefusal, Settings, every_config_is_good};
+pub use lane::lanes_sum_up;
 
 #[cfg(test)]
 mod tests;

@@ -71,6 +71,13 @@ impl<S: Sealing> Sending<S> {
         NUMBERS - self.number
     }
 
+    /// Tests whether none may be sent any more before the next epoch.
+    pub fn is_spent(&self) -> bool
+        ensures { result ≡ (self.now.number == 4294967296) }
+    {
+        self.number == NUMBERS
+    }
+
     /// Sends a payload.
     pub fn send<F: Filler>(
         &mut self,

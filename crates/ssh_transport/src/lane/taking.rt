@@ -1,4 +1,6 @@
 ghost use Rattle.std.specs.Prelude.{◌≡◌, ◌<◌, ◌≤◌, ◌+◌, ◌-◌, ◌++◌, ◌^◌, IfOk, IfSome, List, [], None, length, take};
+ghost use Rattle.ssh_model.specs.DataTypes.{AreBytes};
+ghost use Rattle.ssh_model.specs.Unit.{IsPacketBegun};
 ghost use Rattle.ssh_transport.specs.Lanes.{Found, new_intake, renewed};
 
 use crate::lane::NUMBERS;
@@ -78,6 +80,15 @@ impl<S: Sealing> Taking<S> {
         self.epoch
     }
 
+    // What is begun of a packet: a fact for proofs.
+    pub fn kept(&self)
+        ensures begun { self.now.ended ≡ None → IsPacketBegun S.crypto self.now.lane.key self.now.lane.number self.now.begun }
+        ensures bytes { AreBytes self.now.begun }
+        ensures most { self.now.lane.number ≤ 2 ^ 32 }
+    {
+        let _ = &self.reader;
+    }
+
     /// Takes bytes to the end of one packet.
     pub fn take(&mut self, bytes: &[u8]) -> (usize, PacketStep)
         ensures used { result.0 ≤ length bytes.now }
@@ -134,8 +145,7 @@ impl<S: Sealing> Taking<S> {
         ensures found { Found S.crypto (self.old.begun ++ take result.0 bytes.now) self.old result.1 self.new }
     {
         are_bytes(bytes);
-        let room = FIELD - self.reader.held();
-        let field = bytes.split_at(room.min(bytes.len())).0;
+        let field = length_field(self.reader.held(), bytes);
         let (used, step) = self.reader.take::<S>(self.key.as_ref(), 0, field);
         match step {
             ReadStep::Packet => unreachable!(),
@@ -164,4 +174,12 @@ impl<S: Sealing> Taking<S> {
         self.number = 0;
         self.epoch += 1;
     }
+}
+
+// The bytes up to the end of the length field, of which so many are there.
+fn length_field(held: usize, bytes: &[u8]) -> &[u8]
+    ensures { result.now ≡ take (4 - held) bytes.now }
+{
+    let room = FIELD.saturating_sub(held);
+    bytes.split_at(room.min(bytes.len())).0
 }
