@@ -1,4 +1,5 @@
-//! The packets of one direction, as client and server share them: their key, their number and their epoch.
+//! The packets of one direction at one end, of a client as of a server: their key, their numbers and their epochs (RFC 4253
+//! sections 6 and 6.4).
 
 mod laws;
 mod sending;

@@ -1,1 +1,2 @@
 mod config;
+mod lane;

@@ -8,7 +8,11 @@ use ssh_packet::{Filler, Sealing, write_packet};
 use std::alloc::AllocError;
 use std::marker::Model;
 
-/// The packets that an end sends.
+/// The packets of the direction in which an end sends (RFC 4253 section 6): the key of the epoch, `None` before the first
+/// NEWKEYS, the sequence number of the next packet, and how many NEWKEYS were sent.
+///
+/// The number begins at zero, grows by one with each packet, and is zero again after each NEWKEYS (section 6.4, with the
+/// numbers of OpenSSH's strict key exchange). So an epoch has 2^32 packets, and no two under one number.
 pub(crate) struct Sending<S: Sealing> {
     key: Option<S::Key>,
     number: u64,
@@ -48,7 +52,7 @@ impl<S: Sealing> Sending<S> {
         }
     }
 
-    /// The number of the next packet.
+    /// The sequence number of the next packet; 2^32 where none may be sent any more in this epoch.
     pub fn number(&self) -> u64
         ensures number { result ≡ self.now.number }
         ensures most { result ≤ 2 ^ 32 }
@@ -63,7 +67,7 @@ impl<S: Sealing> Sending<S> {
         self.epoch
     }
 
-    /// How many packets may still be sent in this epoch.
+    /// How many packets may still be sent in this epoch, of 2^32.
     pub fn numbers_left(&self) -> u64
         ensures left { result ≡ 2 ^ 32 - self.now.number }
         ensures most { self.now.number ≤ 2 ^ 32 }
@@ -71,14 +75,19 @@ impl<S: Sealing> Sending<S> {
         NUMBERS - self.number
     }
 
-    /// Tests whether none may be sent any more before the next epoch.
+    /// Tests whether no packet may be sent any more in this epoch.
     pub fn is_spent(&self) -> bool
         ensures { result ≡ (self.now.number == 4294967296) }
     {
         self.number == NUMBERS
     }
 
-    /// Sends a payload.
+    /// Puts the packet of a payload of 1 to 34,000 bytes at the end of `out`, sealed as the next one of the direction, and
+    /// counts it. The packet has the least padding, whose bytes the filler gives. A number has to be left.
+    ///
+    /// # Errors
+    ///
+    /// Only where memory runs out: then `out` has its old bytes, and no packet is counted.
     pub fn send<F: Filler>(
         &mut self,
         payload: &[u8],
@@ -99,7 +108,8 @@ impl<S: Sealing> Sending<S> {
         Ok(())
     }
 
-    /// Begins the next epoch.
+    /// Begins the next epoch, once the packet of NEWKEYS was sent: from now on packets are sealed under this key, from
+    /// number zero (RFC 4253 section 7.3).
     pub fn start_epoch(&mut self, key: S::Key)
         requires { self.old.epoch < 2 ^ 32 - 1 }
         ensures { self.new ≡ renewed key self.old }

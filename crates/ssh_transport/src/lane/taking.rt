@@ -13,7 +13,11 @@ use std::marker::Model;
 // The bytes of a length field.
 const FIELD: usize = 4;
 
-/// The packets that come to an end.
+/// The packets of the direction in which an end takes (RFC 4253 section 6): the bytes of the packet begun, the key of the
+/// epoch, `None` before the first NEWKEYS, the sequence number of the next packet, and how many NEWKEYS were taken.
+///
+/// The number begins at zero, grows by one with each packet, and is zero again after each NEWKEYS (section 6.4, with the
+/// numbers of OpenSSH's strict key exchange).
 pub(crate) struct Taking<S: Sealing> {
     reader: PacketReader,
     key: Option<S::Key>,
@@ -45,7 +49,8 @@ impl<S: Sealing> Drop for Taking<S> {
 }
 
 impl<S: Sealing> Taking<S> {
-    /// A direction in which nothing came, in clear.
+    /// A direction in which nothing came, in clear. This reserves the 35,000 bytes that a packet may have, the only memory
+    /// that it ever takes, and fails only where there is none.
     pub fn new(alloc: Global) -> Result<Taking<S>, AllocError>
         ensures { IfOk result (λ taking. taking ≡ new_intake) }
     {
@@ -58,14 +63,21 @@ impl<S: Sealing> Taking<S> {
         })
     }
 
-    /// The payload that the last `take` found.
+    /// The payload that the last `take` found; no bytes where it found none, and before the first.
     pub fn payload(&self) -> &[u8]
         ensures { result.now ≡ self.now.payload }
     {
         self.reader.payload()
     }
 
-    /// The number of the next packet.
+    /// How many bytes of a packet begun are held; 0 after each payload, when the next epoch may begin.
+    pub fn held(&self) -> usize
+        ensures { result ≡ length self.now.begun }
+    {
+        self.reader.held()
+    }
+
+    /// The sequence number of the next packet; 2^32 where none may be taken any more in this epoch.
     pub fn number(&self) -> u64
         ensures number { result ≡ self.now.lane.number }
         ensures most { result ≤ 2 ^ 32 }
@@ -80,7 +92,7 @@ impl<S: Sealing> Taking<S> {
         self.epoch
     }
 
-    // What is begun of a packet: a fact for proofs.
+    // What is begun are bytes of a packet, and at most three where all numbers are taken: a fact for proofs.
     pub fn kept(&self)
         ensures begun { self.now.ended ≡ None → IsPacketBegun S.crypto self.now.lane.key self.now.lane.number self.now.begun }
         ensures bytes { AreBytes self.now.begun }
@@ -89,7 +101,12 @@ impl<S: Sealing> Taking<S> {
         let _ = &self.reader;
     }
 
-    /// Takes bytes to the end of one packet.
+    /// Takes bytes to the end of one packet and no further, and answers how many and what they were. A payload is shown
+    /// until the next call.
+    ///
+    /// The length field is judged as soon as its four bytes are there. Where it is good and all 2^32 numbers of the epoch
+    /// are taken, the answer is `Spent`. The tag and then the padding are judged once the whole packet is there. After
+    /// `Refused` and `Spent` the answer stays the same for good, and nothing is used. No call needs memory.
     pub fn take(&mut self, bytes: &[u8]) -> (usize, PacketStep)
         ensures used { result.0 ≤ length bytes.now }
         ensures progress { self.old.ended ≡ None → 0 < length bytes.now → 0 < result.0 }
@@ -135,7 +152,7 @@ impl<S: Sealing> Taking<S> {
         }
     }
 
-    // Takes at most a length field, where all numbers are taken.
+    // Takes at most a length field, where all numbers are taken. It is judged under any number.
     fn take_field(&mut self, bytes: &[u8]) -> (usize, PacketStep)
         requires live { self.old.ended ≡ None }
         requires spent { self.old.lane.number ≡ 2 ^ 32 }
@@ -164,7 +181,8 @@ impl<S: Sealing> Taking<S> {
         }
     }
 
-    /// Begins the next epoch.
+    /// Begins the next epoch, once NEWKEYS was taken and before anything behind it: from now on packets are opened under
+    /// this key, from number zero (RFC 4253 section 7.3).
     pub fn start_epoch(&mut self, key: S::Key)
         requires between { self.old.begun ≡ [] }
         requires epoch { self.old.lane.epoch < 2 ^ 32 - 1 }
@@ -176,7 +194,7 @@ impl<S: Sealing> Taking<S> {
     }
 }
 
-// The bytes up to the end of the length field, of which so many are there.
+// The bytes up to the end of the length field, where so many of its packet are there.
 fn length_field(held: usize, bytes: &[u8]) -> &[u8]
     ensures { result.now ≡ take (4 - held) bytes.now }
 {
