@@ -1,4 +1,4 @@
-ghost use Rattle.std.specs.Prelude.{◌≡◌, ◌<◌, ◌≤◌, ◌+◌, ◌-◌, ◌^◌, ◌==◌, OnErr, OnOk, length};
+ghost use Rattle.std.specs.Prelude.{◌≡◌, ◌<◌, ◌≤◌, ◌+◌, ◌-◌, ◌^◌, IsTrue, false, OnErr, OnOk, length};
 ghost use Rattle.ssh_model.specs.Reading.{Writes};
 ghost use Rattle.ssh_model.specs.Seal.{IsSealed};
 ghost use Rattle.ssh_transport.specs.Lanes.{counted, new_lane, renewed};
@@ -77,7 +77,8 @@ impl<S: Sealing> Sending<S> {
 
     /// Tests whether no packet may be sent any more in this epoch.
     pub fn is_spent(&self) -> bool
-        ensures { result ≡ (self.now.number == 4294967296) }
+        ensures spent { IsTrue result → self.now.number ≡ 2 ^ 32 }
+        ensures left { result ≡ false → self.now.number < 2 ^ 32 }
     {
         self.number == NUMBERS
     }

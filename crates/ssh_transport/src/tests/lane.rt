@@ -133,6 +133,7 @@ fn two_packets_byte_by_byte(rt: HostRuntime) -> Result<(), Fail> {
 fn a_refusal_stays(rt: HostRuntime) -> Result<(), Fail> {
     let bad_tag = PacketStep::Refused(PacketRefusal::BadTag);
     let mut bytes = two_packets(rt.alloc())?;
+    assert!(rt; bytes.len() == 96);
     bytes[6] = 1;
     let mut changed = taking(rt.alloc())?;
     assert_eq!(rt; changed.take(&bytes), (48, bad_tag));
