@@ -135,9 +135,7 @@ impl<S: Sealing> Taking<S> {
     {
         are_bytes(bytes);
         let number = self.number as u32;
-        let (used, step) = self
-            .reader
-            .take::<S>(self.key.as_ref(), number, bytes);
+        let (used, step) = self.reader.take::<S>(self.key.as_ref(), number, bytes);
         match step {
             ReadStep::Packet => {
                 self.number += 1;
