@@ -12,7 +12,7 @@ use std::marker::Model;
 /// NEWKEYS, the sequence number of the next packet, and how many NEWKEYS were sent.
 ///
 /// The number begins at zero, grows by one with each packet, and is zero again after each NEWKEYS (section 6.4, with the
-/// numbers of OpenSSH's strict key exchange). So an epoch has 2^32 packets, and no two under one number.
+/// numbers of OpenSSH's strict key exchange). So an epoch has at most 2^32 packets, and no two of one number.
 pub(crate) struct Sending<S: Sealing> {
     key: Option<S::Key>,
     number: u64,
