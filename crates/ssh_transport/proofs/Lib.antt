@@ -1,4 +1,5 @@
 pub mod Booleans
+pub mod Intakes
 pub mod Lines
 pub mod Lists
 pub mod Joined

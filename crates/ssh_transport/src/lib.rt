@@ -33,11 +33,13 @@
 
 mod config;
 mod kexinit;
+mod lane;
 mod parts;
 mod role;
 
 pub use config::{Config, ConfigError, ConfigRefusal, Settings, every_config_is_good};
 pub use kexinit::offer_of_settings;
+pub use lane::lanes_sum_up;
 pub use parts::{ClientPartValues, ClientParts, ServerPartValues, ServerParts};
 pub use role::Role;
 

@@ -1,3 +1,4 @@
 mod config;
 mod kexinit;
+mod lane;
 mod parts;
