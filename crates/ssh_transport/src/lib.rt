@@ -1,4 +1,5 @@
-//! The transport of SSH (RFC 4253): today the settings and the parts of one end, and the KEXINIT that it sends.
+//! The transport of SSH (RFC 4253): today the settings and the parts of one end, and, for the machines that are to come, the
+//! KEXINIT that it sends and the packets of one direction through its epochs (`lanes_sum_up`).
 //!
 //! `Config::new` checks the settings once, and refuses them by the lowest number whose condition holds: 1 `BadSoftware`,
 //! 2 `BadList`, 3 `BadLimit`. A config shows each value by a call of its name. It holds just what it was given, and every
