@@ -1,20 +1,26 @@
-.PHONY: demo build test bench
+.DEFAULT_GOAL := help
+.PHONY: help demo quick build test falsify bench
 
 RT ?= rt
+export RT
 
-# Runs the program on the examples. The run is not proved first, so it starts within two minutes;
-# `make build` leaves the proved program.
-demo:
-	@RT=$(RT) sh examples/demo.sh
+help: ## Lists these targets.
+	@grep -E '^[a-z]+: ## ' Makefile | sed 's/: ## /\t/' | expand -t 12
 
-# Proves the program from its crates up and leaves it in build/.
-build:
-	@RT=$(RT) sh examples/build.sh
+demo: ## Runs the program on the examples, within two minutes. This run is not proved, and says so.
+	@sh tools/demo.sh
 
-# The whole gate, from nothing.
-test:
+quick: ## The layout, the tests and the programs, not proved, in under five minutes.
+	@sh tools/quick.sh
+
+build: ## Proves the program from its crates up and leaves it as build/ssh_trace.
+	@sh tools/build.sh
+
+test: ## The whole gate, everything from nothing: docs/TIMES.md has how long it takes.
 	$(RT) ci
 
-# Ratios of sealing and opening to the bare HMAC of the same bytes.
-bench:
-	@RT=$(RT) sh examples/bench.sh
+falsify: ## Tries the wrong bodies of crates/*/falsify that the gate leaves out; CRATE=name for those of one crate.
+	@sh tools/falsify.sh
+
+bench: ## Ratios of this core's work to the hashes that it has to compute, in one run.
+	@sh tools/bench.sh

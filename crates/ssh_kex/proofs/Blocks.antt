@@ -7,7 +7,7 @@ use Rattle.sha2.specs.declared.Sha256.{Sha256}
 use Rattle.sha2.specs.Hashers.{Holds256}
 use Rattle.sha2.specs.Sha256.{sha256}
 use Rattle.sha2.proofs.Facts256.{length-sha256}
-use Rattle.ssh_model.specs.Exchange.{blocks}
+use Rattle.ssh_model.specs.KeyExchange.Exchange.{blocks}
 
 -- So many bytes of out are filled, all of them whole blocks; the chain holds the front and these, and block is next.
 pub record Filled (front begin out block : List ℕ) (chain : Sha256) (filled : ℕ) : Type 0 where

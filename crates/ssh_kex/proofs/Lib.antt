@@ -2,4 +2,5 @@ pub mod Numbers
 pub mod Strings
 pub mod Blocks
 pub mod Commons
-pub mod Toys
+pub mod Truths
+pub mod Choices

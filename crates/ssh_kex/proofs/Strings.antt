@@ -2,11 +2,11 @@
 use Rattle.std.proofs.Common.{◌≡◌, ℕ, ◌^◌, ◌<◌, Bool, true, false, List, [], ◌++◌, length, IsTrue, append_assoc, refl, ap, subst, ◌∙◌, arith}
 use Rattle.std.specs.Prelude.{pos, ℤ}
 use Rattle.std.specs.Int.{w32, to_be_bytes}
-use Rattle.ssh_model.specs.DataTypes.{AreBytes, integer, IsUint32, IsString, IsShortest, IsMpint}
-use Rattle.ssh_model.specs.Reading.{Writes}
-use Rattle.ssh_model.specs.Exchange.{string_of, mpint_body, mpint_of}
-use Rattle.ssh_types.proofs.Spellings.{string_spelling, mpint_spelling}
-use Rattle.ssh_types.proofs.Integers.{one_shortest, kept_shortest}
+use Rattle.ssh_model.specs.Wire.DataTypes.{AreBytes, integer, IsUint32, IsString, IsShortest, IsMpint}
+use Rattle.ssh_model.specs.Wire.Reading.{Writes}
+use Rattle.ssh_model.specs.KeyExchange.Exchange.{string_of, mpint_body, mpint_of}
+use Rattle.ssh_types.specs.Spellings.{mpint_spelling, string_spelling}
+use Rattle.ssh_types.specs.WholeNumbers.{one_shortest, kept_shortest}
 use Rattle.ssh_types.specs.Digits.{marked_bytes, is_canonical}
 use Rattle.ssh_kex.proofs.Numbers.{body_shortest}
 

@@ -1,10 +1,11 @@
 -- What the types of this crate stand for.
 use Rattle.std.specs.Prelude.{ℕ}
-use Rattle.ssh_model.specs.DataTypes.{number}
-use Rattle.ssh_model.specs.Exchange.{Inputs}
-use Rattle.ssh_model.specs.Choice as model
-use Rattle.ssh_types.specs.Values.{name_text, names}
+use Rattle.ssh_model.specs.Wire.DataTypes.{number}
+use Rattle.ssh_model.specs.KeyExchange.Exchange.{Inputs}
+use Rattle.ssh_model.specs.KeyExchange.Choice as model
+use Rattle.ssh_types.specs.Values.{name_text, names, owned_text}
 use Rattle.ssh_kex.specs.declared.choice.Choice.{Choice}
+use Rattle.ssh_kex.specs.declared.owned_choice.OwnedChoice.{OwnedChoice}
 use Rattle.ssh_kex.specs.declared.kind.Kind.{Kind}
 use Rattle.ssh_kex.specs.declared.kind.Kind.TheVariants.{Kex, HostKey, EncCs, EncSc, MacCs, MacSc, CompCs, CompSc}
 use Rattle.ssh_message.specs.declared.message.Proposal.{Proposal}
@@ -67,6 +68,19 @@ chosen_of choice = record {
   mac_sc = name_text choice.mac_sc;
   comp_cs = name_text choice.comp_cs;
   comp_sc = name_text choice.comp_sc;
+}
+
+-- the same of names that own their bytes
+abbrev pub owned_chosen : OwnedChoice → model.Chosen
+owned_chosen choice = record {
+  kex = owned_text choice.kex;
+  host = owned_text choice.host;
+  enc_cs = owned_text choice.enc_cs;
+  enc_sc = owned_text choice.enc_sc;
+  mac_cs = owned_text choice.mac_cs;
+  mac_sc = owned_text choice.mac_sc;
+  comp_cs = owned_text choice.comp_cs;
+  comp_sc = owned_text choice.comp_sc;
 }
 
 -- the lists of the KEXINIT message that one end sent

@@ -1,5 +1,8 @@
-ghost use Rattle.std.specs.Prelude.{◌≡◌, ◌↔◌, false, IsTrue, IfOk, IfErr};
-ghost use Rattle.ssh_model.specs.Choice.{HasCommon, HasNoCommon, IsChoice, IsFirstCommon, IsFirstWithout, IsRightGuess, Kex, methods};
+ghost use Rattle.std.specs.Prelude.{◌≡◌, ◌↔◌, ◌&&◌, false, not, is_ok, IsTrue, IfOk, IfErr};
+ghost use Rattle.ssh_model.specs.KeyExchange.Exchanges.{chosen as computed_choice, has_choice};
+ghost use Rattle.ssh_model.specs.Sessions.Phases.{is_same as are_same};
+ghost use Rattle.ssh_model.specs.KeyExchange.Choice.{HasCommon, HasNoCommon, IsChoice, IsFirstCommon, IsFirstWithout, IsRightGuess, Kex, methods};
+ghost use Rattle.std.specs.List.{slice_get};
 ghost use Rattle.std.specs.Option.{option_map};
 ghost use Rattle.ssh_types.specs.Values.{name_text, names};
 ghost use Rattle.ssh_kex.specs.Values.{chosen_of, kind_of, lists_of};
@@ -37,6 +40,17 @@ pub struct Choice<'a> {
 ///
 /// `NoCommon` names the first kind, in the order of the lists, of which no name is in both lists.
 pub fn choose<'a>(client: &KexLists<'a>, server: &KexLists<'_>) -> Result<Choice<'a>, NoCommon>
+    ensures chosen { IfOk result (λ choice. IsChoice (lists_of client.now) (lists_of server.now) (chosen_of choice)) }
+    ensures refused { IfErr result (λ refusal. IsFirstWithout (lists_of client.now) (lists_of server.now) (kind_of refusal.kind)) }
+    ensures computed { is_ok result ≡ has_choice (lists_of client.now) (lists_of server.now) }
+    ensures computed_names { IfOk result (λ choice. computed_choice (lists_of client.now) (lists_of server.now) ≡ chosen_of choice) }
+{
+    ssh_model::computed_choice();
+    all_eight(client, server)
+}
+
+// A name of each kind.
+fn all_eight<'a>(client: &KexLists<'a>, server: &KexLists<'_>) -> Result<Choice<'a>, NoCommon>
     ensures chosen { IfOk result (λ choice. IsChoice (lists_of client.now) (lists_of server.now) (chosen_of choice)) }
     ensures refused { IfErr result (λ refusal. IsFirstWithout (lists_of client.now) (lists_of server.now) (kind_of refusal.kind)) }
 {
@@ -88,7 +102,8 @@ fn algorithm<'a>(
 /// key exchange methods or the first algorithms of the host key differ (RFC 4253 section 7). The markers of strict key
 /// exchange are taken out first.
 pub fn guess_wrong(client: &KexLists<'_>, server: &KexLists<'_>) -> bool
-    ensures { (result ≡ false) ↔ IsRightGuess (lists_of client.now) (lists_of server.now) }
+    ensures right { (result ≡ false) ↔ IsRightGuess (lists_of client.now) (lists_of server.now) }
+    ensures computed { result ≡ not (are_same (slice_get (methods (names client.now.kex)) 0) (slice_get (methods (names server.now.kex)) 0) && are_same (slice_get (names client.now.host) 0) (slice_get (names server.now.host) 0)) }
 {
     let same_method = is_same(first_method(&client.kex), first_method(&server.kex));
     let same_host = is_same(client.host.first(), server.host.first());
@@ -97,7 +112,8 @@ pub fn guess_wrong(client: &KexLists<'_>, server: &KexLists<'_>) -> bool
 
 // The names are the same, or there is none.
 fn is_same(one: Option<Name<'_>>, other: Option<Name<'_>>) -> bool
-    ensures { IsTrue result ↔ (option_map name_text one.entry ≡ option_map name_text other.entry) }
+    ensures same { IsTrue result ↔ (option_map name_text one.entry ≡ option_map name_text other.entry) }
+    ensures computed { result ≡ are_same (option_map name_text one.entry) (option_map name_text other.entry) }
 {
     match (one, other) {
         (Some(one), Some(other)) => one.as_bytes() == other.as_bytes(),

@@ -1,12 +1,15 @@
 // The first name of one list that is in another.
 
-ghost use Rattle.std.specs.Prelude.{◌≡◌, ◌↔◌, IsTrue, IfSome, IfNone};
+ghost use Rattle.std.specs.Prelude.{◌≡◌, ◌↔◌, ◌||◌, IsTrue, IfSome, IfNone};
 ghost use Rattle.std.specs.List.{Contains, slice_get};
 ghost use Rattle.std.specs.Option.{option_map};
-ghost use Rattle.ssh_model.specs.Choice.{HasCommon, HasNoCommon, IsFirstCommon, is_method as passes_method, methods};
+ghost use Rattle.ssh_model.specs.KeyExchange.Choice.{client_extension_marker, client_marker, server_extension_marker, server_marker, HasCommon, HasNoCommon, IsFirstCommon, is_method as passes_method, methods};
+ghost use Rattle.ssh_model.specs.Wire.MacOnly.{is_text};
 ghost use Rattle.ssh_types.specs.Values.{name_text, names};
 
-use crate::lists::{CLIENT_MARKER, SERVER_MARKER};
+use crate::lists::{
+    CLIENT_EXTENSION_MARKER, CLIENT_MARKER, SERVER_EXTENSION_MARKER, SERVER_MARKER,
+};
 use ssh_types::{Name, NameList};
 
 // The first name of the client's that is in the server's.
@@ -70,5 +73,17 @@ fn has_method(list: &NameList<'_>, name: &Name<'_>) -> bool
 fn is_method(name: &Name<'_>) -> bool
     ensures { result ≡ passes_method (name_text name.now) }
 {
-    name.as_bytes() != CLIENT_MARKER && name.as_bytes() != SERVER_MARKER
+    !(is_strict_marker(name.as_bytes()) || is_extension_marker(name.as_bytes()))
+}
+
+fn is_strict_marker(name: &[u8]) -> bool
+    ensures { result ≡ (is_text name.now client_marker || is_text name.now server_marker) }
+{
+    name == CLIENT_MARKER || name == SERVER_MARKER
+}
+
+fn is_extension_marker(name: &[u8]) -> bool
+    ensures { result ≡ (is_text name.now client_extension_marker || is_text name.now server_extension_marker) }
+{
+    name == CLIENT_EXTENSION_MARKER || name == SERVER_EXTENSION_MARKER
 }

@@ -1,9 +1,8 @@
-ghost use Rattle.std.specs.Prelude.{◌↔◌, ◌<◌, ◌^◌, IsTrue, length};
-ghost use Rattle.ssh_model.specs.DataTypes.{number};
-ghost use Rattle.ssh_model.specs.Exchange.{Fits, mpint_body};
+ghost use Rattle.std.specs.Prelude.{◌≡◌, ◌↔◌, ◌<◌, ◌^◌, IsTrue, length};
+ghost use Rattle.ssh_model.specs.KeyExchange.Exchange.{Fits};
 ghost use Rattle.ssh_kex.specs.Values.{inputs_of};
 
-use crate::pieces::unsigned;
+use crate::laws::short_number;
 
 // What follows the length of a string is shorter.
 const LIMIT: usize = 1 << 32;
@@ -22,37 +21,40 @@ pub struct ExchangeInputs<'a> {
     /// K_S, the host key of the server.
     pub host_key: &'a [u8],
     /// Q_C, the public point of the client.
-    pub client_point: &'a [u8],
+    pub client_point: &'a [u8; 32],
     /// Q_S, the public point of the server.
-    pub server_point: &'a [u8],
+    pub server_point: &'a [u8; 32],
     /// K, the shared number: unsigned, the most significant byte first.
-    pub shared: &'a [u8],
+    pub shared: &'a [u8; 32],
 }
 
 impl ExchangeInputs<'_> {
-    /// Tests whether each text, and the shared number as an mpint, is shorter than 2^32 bytes, as `exchange_hash` and
-    /// `exchange_text` ask.
+    /// Tests whether each text is shorter than 2^32 bytes, as `exchange_hash` and `exchange_text` ask.
     pub fn fits(&self) -> bool
         ensures { IsTrue result ↔ Fits (inputs_of self.now) }
     {
-        self.client_version.len() < LIMIT
-            && self.server_version.len() < LIMIT
-            && self.client_init.len() < LIMIT
-            && self.server_init.len() < LIMIT
-            && self.host_key.len() < LIMIT
-            && self.client_point.len() < LIMIT
-            && self.server_point.len() < LIMIT
-            && is_short_number(self.shared)
+        let shared = self.shared;
+        short_number(shared);
+        has_32_bytes(self.client_point);
+        has_32_bytes(self.server_point);
+        if !are_short(self.client_version, self.server_version) {
+            return false;
+        }
+        if !are_short(self.client_init, self.server_init) {
+            return false;
+        }
+        self.host_key.len() < LIMIT
     }
 }
 
-// The number is short as an mpint.
-fn is_short_number(shared: &[u8]) -> bool
-    ensures { IsTrue result ↔ length (mpint_body (number shared.now)) < 2 ^ 32 }
+// Both texts are short enough.
+fn are_short(one: &[u8], other: &[u8]) -> bool
+    ensures { IsTrue result ↔ (length one.now < 2 ^ 32) × (length other.now < 2 ^ 32) }
 {
-    let (marked, digits) = unsigned(shared).parts();
-    if marked {
-        return digits.len() < LIMIT - 1;
-    }
-    digits.len() < LIMIT
+    one.len() < LIMIT && other.len() < LIMIT
 }
+
+// The length that the type says: a fact for proofs.
+fn has_32_bytes(bytes: &[u8; 32])
+    ensures { length bytes.now ≡ 32 }
+{}

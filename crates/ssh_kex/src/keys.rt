@@ -1,10 +1,11 @@
 ghost use Rattle.std.specs.Prelude.{◌≡◌, ◌<◌, ◌≤◌, ◌+◌, ◌^◌, ◌++◌, ◌∷◌, List, ℕ, length, take, drop};
 ghost use Rattle.sha2.specs.Hashers.{Holds256};
 ghost use Rattle.sha2.specs.Sha256.{sha256};
-ghost use Rattle.ssh_model.specs.DataTypes.{number};
-ghost use Rattle.ssh_model.specs.Exchange.{derived, key_front as front_of, mpint_body};
+ghost use Rattle.ssh_model.specs.Wire.DataTypes.{number};
+ghost use Rattle.ssh_model.specs.KeyExchange.Exchange.{derived, key_front as front_of, mpint_body};
 ghost use Rattle.ssh_kex.specs.Values.{letter_of};
 
+use crate::laws::short_number;
 use crate::pieces::hash_mpint;
 use sha2::{Digest, Sha256};
 
@@ -46,11 +47,15 @@ impl Letter {
 
 /// Fills `out` with the key of this letter, as long as `out` is (RFC 4253 section 7.2). It needs no memory.
 ///
-/// `shared` is the shared number K, unsigned, the most significant byte first; as an mpint it is shorter than 2^32
-/// bytes. `hash` is the hash of this exchange, and `session_id` the hash of the first one.
+/// `shared` is the shared number K, unsigned, the most significant byte first. `hash` is the hash of this exchange, and `session_id` the hash of the first one.
 #[tactic(auto, using(crate::proofs::Blocks::begun, crate::proofs::Blocks::goes_on, crate::proofs::Blocks::filled_up))]
-pub fn derive(shared: &[u8], hash: &[u8; 32], letter: Letter, session_id: &[u8; 32], out: &mut [u8])
-    requires { length (mpint_body (number shared.now)) < 2 ^ 32 }
+pub fn derive(
+    shared: &[u8; 32],
+    hash: &[u8; 32],
+    letter: Letter,
+    session_id: &[u8; 32],
+    out: &mut [u8],
+)
     ensures { out.new ≡ derived (number shared.now) hash.now (letter_of letter) session_id.now (length out.old) }
 {
     let mut chain = key_front(shared, hash);
@@ -75,10 +80,10 @@ fn put_at(out: &mut [u8], at: usize, bytes: &[u8])
 }
 
 // What each block begins with.
-fn key_front(shared: &[u8], hash: &[u8; 32]) -> Sha256
-    requires { length (mpint_body (number shared.now)) < 2 ^ 32 }
+fn key_front(shared: &[u8; 32], hash: &[u8; 32]) -> Sha256
     ensures { Holds256 result (front_of (number shared.now) hash.now) }
 {
+    short_number(shared);
     let mut front = Sha256::new();
     hash_mpint(&mut front, shared);
     front.update(hash);

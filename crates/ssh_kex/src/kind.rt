@@ -1,3 +1,4 @@
+use std::fmt::{self, Display, Formatter};
 use thiserror::Error;
 
 /// What is chosen, in the order of the lists in a KEXINIT (RFC 4253 section 7.1). `Cs` is from the client to the
@@ -22,9 +23,25 @@ pub enum Kind {
     CompSc,
 }
 
+impl Display for Kind {
+    fn fmt<W: fmt::Write>(&self, out: &mut Formatter<W>) -> fmt::Result {
+        out.write_str(match self {
+            Kind::Kex => "key exchange method",
+            Kind::HostKey => "host key algorithm",
+            Kind::EncCs => "encryption from client to server",
+            Kind::EncSc => "encryption from server to client",
+            Kind::MacCs => "MAC from client to server",
+            Kind::MacSc => "MAC from server to client",
+            Kind::CompCs => "compression from client to server",
+            Kind::CompSc => "compression from server to client",
+        })
+    }
+}
+
 /// The lists of this kind have no name in common, and each kind before it has one.
 #[derive(Clone, Copy, Debug, PartialEq, Eq, Error)]
-#[error("no common algorithm")]
+#[error("the two ends have no {kind} in common")]
 pub struct NoCommon {
+    /// What could not be chosen.
     pub kind: Kind,
 }

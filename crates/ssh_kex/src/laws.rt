@@ -1,6 +1,10 @@
+//! Facts for proofs, each the contract of a function without a body. A call of one costs nothing.
+
 ghost use Rattle.std.specs.Prelude.{◌≡◌, ◌≤◌, ◌<◌, ◌+◌, ◌^◌, pos, List, ℕ, length};
-ghost use Rattle.ssh_model.specs.DataTypes.{AreBytes, IsMpint, IsString, number};
-ghost use Rattle.ssh_model.specs.Exchange.{Fits, Inputs, exchange_text, mpint_body, mpint_of, string_of};
+ghost use Rattle.ssh_model.specs.Wire.DataTypes.{AreBytes, IsMpint, IsString, number};
+ghost use Rattle.ssh_model.specs.KeyExchange.Exchange.{Fits, Inputs, exchange_text, mpint_body, mpint_of, string_of};
+
+use ssh_types::laws::are_bytes;
 
 /// Two exchanges of one text have one list of inputs: the same lines, KEXINIT payloads, host key, points and shared
 /// number. So two ends that hashed the same text agree on all of them.
@@ -22,3 +26,11 @@ pub fn spelled()
 pub fn few_bytes()
     ensures { (bytes : List ℕ) → AreBytes bytes → length (mpint_body (number bytes)) ≤ length bytes + 1 }
 {}
+
+/// A shared number of 32 bytes has at most 33 as an mpint.
+pub fn short_number(shared: &[u8; 32])
+    ensures { length (mpint_body (number shared.now)) ≤ 33 }
+{
+    are_bytes(shared);
+    few_bytes();
+}

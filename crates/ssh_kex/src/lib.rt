@@ -4,7 +4,7 @@
 //! `choose` takes of each kind the first name of the client's that is in the server's. `exchange_hash` hashes the text of
 //! an exchange and `derive` makes its keys, piece by piece and without memory; `exchange_text` is the text itself. Each
 //! is what `ssh_model` defines, in the standard's words. Ends that hashed equal texts agree on all that stands in them
-//! (`equal_texts_have_equal_inputs`).
+//! (`laws::equal_texts_have_equal_inputs`).
 //!
 //! `Agreement`, `HostSigner` and `HostTrust` are the parts that are handed in.
 //!
@@ -35,8 +35,9 @@ mod exchange;
 mod inputs;
 mod keys;
 mod kind;
-mod laws;
+pub mod laws;
 mod lists;
+mod owned_choice;
 mod parts;
 mod pieces;
 
@@ -45,9 +46,6 @@ pub use exchange::{exchange_hash, exchange_text};
 pub use inputs::ExchangeInputs;
 pub use keys::{Letter, derive};
 pub use kind::{Kind, NoCommon};
-pub use laws::{equal_texts_have_equal_inputs, few_bytes, spelled};
-pub use lists::{KexLists, markers};
+pub use lists::{KexLists, extension_marker, extension_markers, markers, strict_marker};
+pub use owned_choice::OwnedChoice;
 pub use parts::{Agreement, HostSigner, HostTrust};
-
-#[cfg(test)]
-mod tests;

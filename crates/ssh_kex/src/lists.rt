@@ -1,16 +1,25 @@
-ghost use Rattle.std.specs.Prelude.{◌↔◌, IsTrue};
+ghost use Rattle.std.specs.Prelude.{◌≡◌, ◌↔◌, IsTrue};
 ghost use Rattle.std.specs.List.{Contains};
-ghost use Rattle.ssh_model.specs.Choice.{client_marker, server_marker};
+ghost use Rattle.ssh_model.specs.KeyExchange.Choice.{client_extension_marker, client_marker, server_extension_marker, server_marker};
+ghost use Rattle.ssh_model.specs.KeyExchange.Exchanges.{has_marker};
+ghost use Rattle.ssh_model.specs.Sessions.Parties.{extension_marker_of, marker_of};
+ghost use Rattle.ssh_types.specs.Sides.{side_of};
 ghost use Rattle.ssh_types.specs.Values.{names};
 
 use ssh_message::Proposal;
-use ssh_types::NameList;
+use ssh_types::{NameList, Side};
 
 /// The marker of strict key exchange in the kex list of a client.
 pub(crate) const CLIENT_MARKER: &[u8] = b"kex-strict-c-v00@openssh.com";
 
 /// The marker of strict key exchange in the kex list of a server.
 pub(crate) const SERVER_MARKER: &[u8] = b"kex-strict-s-v00@openssh.com";
+
+/// The marker of extensions in the kex list of a client (RFC 8308 section 2.1).
+pub(crate) const CLIENT_EXTENSION_MARKER: &[u8] = b"ext-info-c";
+
+/// The marker of extensions in the kex list of a server.
+pub(crate) const SERVER_EXTENSION_MARKER: &[u8] = b"ext-info-s";
 
 /// The ten lists of a KEXINIT, in its order (RFC 4253 section 7.1). Each has the names that its end can do, the one it
 /// likes best first.
@@ -61,13 +70,54 @@ impl<'a> From<Proposal<'a>> for KexLists<'a> {
     }
 }
 
+/// The name by which the end of this side offers strict key exchange, in the kex list of its first KEXINIT (OpenSSH's
+/// PROTOCOL).
+pub fn strict_marker(side: Side) -> &'static [u8]
+    ensures { result.now ≡ marker_of (side_of side) }
+{
+    match side {
+        Side::Client => CLIENT_MARKER,
+        Side::Server => SERVER_MARKER,
+    }
+}
+
+/// The name by which the end of this side says, in the kex list of its first KEXINIT, that it takes extensions (RFC 8308
+/// section 2.1).
+pub fn extension_marker(side: Side) -> &'static [u8]
+    ensures { result.now ≡ extension_marker_of (side_of side) }
+{
+    match side {
+        Side::Client => CLIENT_EXTENSION_MARKER,
+        Side::Server => SERVER_EXTENSION_MARKER,
+    }
+}
+
 /// Tests whether the kex list has the client's marker of strict key exchange, and whether it has the server's.
+#[tactic(auto, using(crate::proofs::Truths::same_truth))]
 pub fn markers(lists: &KexLists<'_>) -> (bool, bool)
     ensures client { IsTrue result.0 ↔ Contains (names lists.now.kex) client_marker }
     ensures server { IsTrue result.1 ↔ Contains (names lists.now.kex) server_marker }
+    ensures client_computed { result.0 ≡ has_marker client_marker (names lists.now.kex) }
+    ensures server_computed { result.1 ≡ has_marker server_marker (names lists.now.kex) }
 {
+    ssh_model::markers();
     (
         lists.kex.contains(CLIENT_MARKER),
         lists.kex.contains(SERVER_MARKER),
+    )
+}
+
+/// Tests whether the kex list has the client's marker of extensions, and whether it has the server's (RFC 8308 section 2.1).
+#[tactic(auto, using(crate::proofs::Truths::same_truth))]
+pub fn extension_markers(lists: &KexLists<'_>) -> (bool, bool)
+    ensures client { IsTrue result.0 ↔ Contains (names lists.now.kex) client_extension_marker }
+    ensures server { IsTrue result.1 ↔ Contains (names lists.now.kex) server_extension_marker }
+    ensures client_computed { result.0 ≡ has_marker client_extension_marker (names lists.now.kex) }
+    ensures server_computed { result.1 ≡ has_marker server_extension_marker (names lists.now.kex) }
+{
+    ssh_model::markers();
+    (
+        lists.kex.contains(CLIENT_EXTENSION_MARKER),
+        lists.kex.contains(SERVER_EXTENSION_MARKER),
     )
 }

@@ -2,12 +2,13 @@
 
 ghost use Rattle.std.specs.Prelude.{◌≡◌, ◌<◌, ◌^◌, ◌++◌, ◌+◌, pos, List, ℕ, length};
 ghost use Rattle.sha2.specs.Hashers.{Holds256};
-ghost use Rattle.ssh_model.specs.DataTypes.{number};
+ghost use Rattle.ssh_model.specs.Wire.DataTypes.{number};
 ghost use Rattle.ssh_types.specs.Values.{value_of, bytes_of};
-ghost use Rattle.ssh_model.specs.Exchange.{string_of, mpint_of, mpint_body};
+ghost use Rattle.ssh_model.specs.KeyExchange.Exchange.{string_of, mpint_of, mpint_body};
 
 use sha2::{Digest, Sha256};
-use ssh_types::{MpInt, are_bytes};
+use ssh_types::MpInt;
+use ssh_types::laws::are_bytes;
 
 // Takes in a string: its length as a uint32, and its bytes.
 pub(crate) fn hash_string(hasher: &mut Sha256, text: &[u8])
@@ -31,7 +32,7 @@ pub(crate) fn hash_mpint(hasher: &mut Sha256, bytes: &[u8])
 }
 
 // Takes in a string of two parts.
-#[tactic(auto, unfolding(ssh_model::specs::Exchange::string_of))]
+#[tactic(auto, unfolding(ssh_model::specs::KeyExchange::Exchange::string_of))]
 fn hash_joined(hasher: &mut Sha256, front: &[u8], text: &[u8])
     requires { length front.now + length text.now < 2 ^ 32 }
     ensures { (m : List ℕ) → Holds256 hasher.old m → Holds256 hasher.new (m ++ string_of (front.now ++ text.now)) }

@@ -1,12 +1,12 @@
 -- Fields that follow one another, read from left to right.
 use Rattle.std.proofs.Common.{◌≡◌, ℕ, Bool, ◌<◌, ◌+◌, ◌≢◌, List, [], ◌∷◌, ◌++◌, length, take, drop, refl, sym, ap, subst, ◌∙◌, arith}
 use Rattle.std.proofs.lemmas.List.{take-append-drop, length-append, length-take}
-use Rattle.ssh_model.specs.DataTypes.{IsByte, IsBoolean, IsUint32, IsNameList}
-use Rattle.ssh_model.specs.Reading.{Reads, NoFront, OneForm}
-use Rattle.ssh_model.specs.Message.{Then, IsCookie, Proposal, Msg, IsRow, IsPayload, Suits}
+use Rattle.ssh_model.specs.Wire.DataTypes.{IsByte, IsBoolean, IsUint32, IsNameList}
+use Rattle.ssh_model.specs.Wire.Reading.{Reads, NoFront, OneForm}
+use Rattle.ssh_model.specs.Wire.Message.{Then, IsCookie, Proposal, Msg, IsRow, IsPayload, FitsContext}
 use Rattle.ssh_message.specs.Meaning.{IsZero}
 use Rattle.ssh_message.specs.Parts.{Both, IsNothing, NoWhole}
-use Rattle.ssh_types.proofs.Fronts.{one_uint32}
+use Rattle.ssh_model.specs.Laws.Spellings.{one_uint32}
 
 -- ---- what was read, and what follows
 
@@ -16,8 +16,8 @@ then_reads P Q before after r q = record { front = r.bytes; back = after; first 
 pub then_byte : (n : ℕ) (Q : List ℕ → Type 0) (after : List ℕ) → Q after → Then (IsByte n) Q (n ∷ after)
 then_byte n Q after q = record { front = n ∷ []; back = after; first = refl; second = q; parts = refl }
 
-pub is_payload : (probing : Bool) (m : Msg) (payload : List ℕ) → Suits probing m → IsRow IsBoolean m payload → IsPayload probing m payload
-is_payload probing m payload suits row = record { suits = suits; row = row }
+pub is_payload : (probing : Bool) (m : Msg) (payload : List ℕ) → FitsContext probing m → IsRow IsBoolean m payload → IsPayload probing m payload
+is_payload probing m payload suits row = record { context = suits; row = row }
 
 -- ---- where a field isn't there, nothing is read
 

@@ -3,3 +3,5 @@ pub mod Methods
 pub mod Rows
 pub mod Payloads
 pub mod Writing
+pub mod Announcing
+pub mod Spelling

@@ -1,9 +1,10 @@
 -- A payload and its message: at most one, and the one that was written.
 use Rattle.std.proofs.Common.{◌≡◌, ℕ, Bool, true, false, List, [], ◌∷◌, ◌++◌, Some, None, Result, Ok, Err, refl, sym, ap, subst, ◌∙◌}
 use Rattle.std.specs.Prelude.{IfOk, IfErr, IsOkAnd}
-use Rattle.ssh_model.specs.DataTypes.{IsByte, IsBoolean, IsWrittenBoolean}
-use Rattle.ssh_model.specs.Reading.{Reads, NoFront}
-use Rattle.ssh_model.specs.Message.{Method, Msg, Then, IsRow, IsMethod, IsPayload, IsWrittenPayload, Suits, message_number, Password, Publickey, Debug, KexInit, UserauthRequest, UserauthFailure, GlobalRequest, ChannelRequest, Unknown}
+use Rattle.ssh_model.specs.Wire.DataTypes.{IsByte, IsBoolean, IsWrittenBoolean}
+use Rattle.ssh_model.specs.Wire.Reading.{Reads, NoFront}
+use Rattle.ssh_model.specs.Wire.Message.{Method, Msg, Then, IsRow, IsMethod, IsPayload, IsWrittenPayload, FitsContext, message_number, Password, Publickey, Debug, KexInit, UserauthRequest, UserauthFailure, GlobalRequest, ChannelRequest, Unknown}
+use Rattle.ssh_model.specs.Sessions.Turns.{number_of}
 use Rattle.ssh_message.specs.declared.message.Message as code
 use Rattle.ssh_message.specs.Meaning.{meaning, IsMeant, NoMessage}
 
@@ -45,6 +46,12 @@ pub only : {E : Type 0} → OneMessage → (probing : Bool) (r : Result code.Mes
 only one probing (Ok x) payload f e m p = one probing (meaning x) m payload f p
 only one probing (Err e) payload f none m p = none.none m p
 
+-- the first byte is the number of what was read
+pub numbered : {E : Type 0} → ((probing : Bool) (m : Msg) (payload : List ℕ) → IsPayload probing m payload → number_of payload ≡ message_number m)
+    → (probing : Bool) (r : Result code.Message E) (payload : List ℕ) → IfOk r (λ m. IsPayload probing (meaning m) payload) → IfOk r (λ m. message_number (meaning m) ≡ number_of payload)
+numbered numbers probing (Ok x) payload f = sym (numbers probing (meaning x) payload f)
+numbered numbers probing (Err e) payload f = tt
+
 -- ---- what was written
 
 then_both : (P P2 Q Q2 : List ℕ → Type 0) (bytes : List ℕ) → ((b : List ℕ) → P b → P2 b) → ((b : List ℕ) → Q b → Q2 b) → Then P Q bytes → Then P2 Q2 bytes
@@ -79,11 +86,11 @@ written_row (GlobalRequest name want rest) = on _ _ _ (on _ _ _ (flag want _))
 written_row (ChannelRequest recipient name want rest) = on _ _ _ (on _ _ _ (on _ _ _ (flag want _)))
 written_row m = λ payload p. p
 
-pub written_is_read : (probing : Bool) (m : Msg) (payload : List ℕ) → Suits probing m → IsWrittenPayload m payload → IsPayload probing m payload
-written_is_read probing m payload suits row = record { suits = suits; row = written_row m payload row }
+pub written_is_read : (probing : Bool) (m : Msg) (payload : List ℕ) → FitsContext probing m → IsWrittenPayload m payload → IsPayload probing m payload
+written_is_read probing m payload suits row = record { context = suits; row = written_row m payload row }
 
 pub again : {E : Type 0} → OneMessage → (probing : Bool) (r : Result code.Message E) (payload : List ℕ) → IfOk r (λ m. IsPayload probing (meaning m) payload) → IfErr r (λ _. NoMessage probing payload) →
-    (m : Msg) → Suits probing m → IsWrittenPayload m payload → IsOkAnd r (λ x. meaning x ≡ m)
+    (m : Msg) → FitsContext probing m → IsWrittenPayload m payload → IsOkAnd r (λ x. meaning x ≡ m)
 again one probing r payload f e m suits row = only one probing r payload f e m (written_is_read probing m payload suits row)
 
 pub ruleset payloads = (no_number, found_after, refused_after)

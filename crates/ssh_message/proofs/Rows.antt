@@ -1,8 +1,9 @@
 -- Which rows a number leaves: a payload with a number is a message of that number's row, and of no other.
 use Rattle.std.proofs.Common.{◌≡◌, ℕ, Bool, true, false, List, ◌∷◌, ◌++◌, refl, sym, ap, subst, ◌∙◌}
 use Rattle.std.specs.Prelude.{◌==◌, IsTrue}
-use Rattle.ssh_model.specs.DataTypes.{IsByte, IsBoolean, IsUint32, IsString, IsNameList}
-use Rattle.ssh_model.specs.Message.{Msg, Then, IsRest, IsMethod, IsProposal, IsPayload, is_unknown, Disconnect, Ignore, Unimplemented, Debug, ServiceRequest, ServiceAccept, KexInit, NewKeys, KexEcdhInit, KexEcdhReply, UserauthRequest, UserauthFailure, UserauthSuccess, UserauthBanner, UserauthPkOk, GlobalRequest, RequestSuccess, RequestFailure, ChannelOpen, ChannelOpenConfirmation, ChannelOpenFailure, ChannelWindowAdjust, ChannelData, ChannelExtendedData, ChannelEof, ChannelClose, ChannelRequest, ChannelSuccess, ChannelFailure, Unknown}
+use Rattle.ssh_model.specs.Wire.DataTypes.{IsByte, IsBoolean, IsUint32, IsString, IsNameList}
+use Rattle.ssh_model.specs.Wire.Message.{Msg, Then, IsRest, IsMethod, IsProposal, IsPayload, is_unknown, Disconnect, Ignore, Unimplemented, Debug, ServiceRequest, ServiceAccept, ExtInfo, KexInit, NewKeys, KexEcdhInit, KexEcdhReply, UserauthRequest, UserauthFailure, UserauthSuccess, UserauthBanner, UserauthPkOk, GlobalRequest, RequestSuccess, RequestFailure, ChannelOpen, ChannelOpenConfirmation, ChannelOpenFailure, ChannelWindowAdjust, ChannelData, ChannelExtendedData, ChannelEof, ChannelClose, ChannelRequest, ChannelSuccess, ChannelFailure, Unknown}
+use Rattle.ssh_message.specs.Announced.{IsAnnounced}
 use Rattle.ssh_message.specs.Meaning.{NoMessage, IsNone}
 use Rattle.ssh_message.specs.Parts.{Both, IsNothing, NoWhole}
 use Rattle.ssh_message.proofs.Fields.{ProposalFields, proposal_of, values_of}
@@ -26,6 +27,7 @@ KnownRowAt n rest m =
     Choose (n == 4) (IsMade (λ v. Debug v.0 v.1.0 v.1.1.0) (Both IsBoolean (Both IsString (Both IsString IsNothing))) rest m) (
     Choose (n == 5) (IsMade (λ v. ServiceRequest v.0) (Both IsString IsNothing) rest m) (
     Choose (n == 6) (IsMade (λ v. ServiceAccept v.0) (Both IsString IsNothing) rest m) (
+    Choose (n == 7) (IsMade (λ v. ExtInfo v) IsAnnounced rest m) (
     Choose (n == 20) (IsMade (λ v. KexInit (proposal_of v)) ProposalFields rest m) (
     Choose (n == 21) (IsMade (λ v. NewKeys) IsNothing rest m) (
     Choose (n == 30) (IsMade (λ v. KexEcdhInit v.0) (Both IsString IsNothing) rest m) (
@@ -48,7 +50,7 @@ KnownRowAt n rest m =
     Choose (n == 97) (IsMade (λ v. ChannelClose v.0) (Both IsUint32 IsNothing) rest m) (
     Choose (n == 98) (IsMade (λ v. ChannelRequest v.0 v.1.0 v.1.1.0 v.1.1.1) (Both IsUint32 (Both IsString (Both IsBoolean IsRest))) rest m) (
     Choose (n == 99) (IsMade (λ v. ChannelSuccess v.0) (Both IsUint32 IsNothing) rest m) (
-    Choose (n == 100) (IsMade (λ v. ChannelFailure v.0) (Both IsUint32 IsNothing) rest m) ⊥))))))))))))))))))))))))))))
+    Choose (n == 100) (IsMade (λ v. ChannelFailure v.0) (Both IsUint32 IsNothing) rest m) ⊥)))))))))))))))))))))))))))))
 
 -- what a message with this number is made of
 abbrev pub RowAt : Bool → ℕ → List ℕ → Msg → Type 0
@@ -85,6 +87,9 @@ row_at probing (ServiceRequest service) n rest h =
 row_at probing (ServiceAccept service) n rest h =
     let e = byte_front 6 n _ rest h.row in
     subst (λ (k : ℕ). RowAt probing k rest (ServiceAccept service)) (sym e.0) (record { value = (service, tt); is = refl; spelled = e.1 })
+row_at probing (ExtInfo all) n rest h =
+    let e = byte_front 7 n (IsAnnounced all) rest h.row in
+    subst (λ (k : ℕ). RowAt probing k rest (ExtInfo all)) (sym e.0) (record { value = all; is = refl; spelled = e.1 })
 row_at probing (KexInit p) n rest h =
     let e = byte_front 20 n (IsProposal IsBoolean p) rest h.row in
     subst (λ (k : ℕ). RowAt probing k rest (KexInit p)) (sym e.0) (record { value = values_of p; is = refl; spelled = e.1 })
@@ -112,7 +117,7 @@ row_at probing (UserauthBanner message language) n rest h =
 row_at true (UserauthPkOk algorithm key) n rest h =
     let e = byte_front 60 n _ rest h.row in
     subst (λ (k : ℕ). RowAt true k rest (UserauthPkOk algorithm key)) (sym e.0) (record { value = (algorithm, (key, tt)); is = refl; spelled = e.1 })
-row_at false (UserauthPkOk algorithm key) n rest h = absurd (let s : false ≡ true = h.suits in cc)
+row_at false (UserauthPkOk algorithm key) n rest h = absurd (let s : false ≡ true = h.context in cc)
 row_at probing (GlobalRequest name want left) n rest h =
     let e = byte_front 80 n _ rest h.row in
     subst (λ (k : ℕ). RowAt probing k rest (GlobalRequest name want left)) (sym e.0) (record { value = (name, (want, left)); is = refl; spelled = e.1 })
@@ -157,7 +162,7 @@ row_at probing (ChannelFailure recipient) n rest h =
     subst (λ (k : ℕ). RowAt probing k rest (ChannelFailure recipient)) (sym e.0) (record { value = (recipient, tt); is = refl; spelled = e.1 })
 row_at probing (Unknown number) n rest h =
     let e = byte_front number n _ rest h.row in
-    subst (λ (k : ℕ). RowAt probing k rest (Unknown number)) (sym e.0) (chosen (is_unknown probing number) _ (KnownRowAt number rest (Unknown number)) h.suits refl)
+    subst (λ (k : ℕ). RowAt probing k rest (Unknown number)) (sym e.0) (chosen (is_unknown probing number) _ (KnownRowAt number rest (Unknown number)) h.context refl)
 
 pub no_disconnect : (rest : List ℕ) → NoWhole (Both IsUint32 (Both IsString (Both IsString IsNothing))) rest → IsNone (1 ∷ rest)
 no_disconnect rest h = λ probing. record { none = λ m p. let row = row_at probing m 1 rest p in h.none row.value row.spelled }
@@ -176,6 +181,9 @@ no_service_request rest h = λ probing. record { none = λ m p. let row = row_at
 
 pub no_service_accept : (rest : List ℕ) → NoWhole (Both IsString IsNothing) rest → IsNone (6 ∷ rest)
 no_service_accept rest h = λ probing. record { none = λ m p. let row = row_at probing m 6 rest p in h.none row.value row.spelled }
+
+pub no_ext_info : (rest : List ℕ) → NoWhole IsAnnounced rest → IsNone (7 ∷ rest)
+no_ext_info rest h = λ probing. record { none = λ m p. let row = row_at probing m 7 rest p in h.none row.value row.spelled }
 
 pub no_kex_init : (rest : List ℕ) → NoWhole ProposalFields rest → IsNone (20 ∷ rest)
 no_kex_init rest h = λ probing. record { none = λ m p. let row = row_at probing m 20 rest p in h.none row.value row.spelled }

@@ -1,12 +1,13 @@
 -- Fields that are written one after the other.
-use Rattle.std.proofs.Common.{◌≡◌, ℕ, ◌+◌, ◌<◌, ◌≤◌, List, [], ◌∷◌, zero, suc, Result, Ok, Err, ◌++◌, length, get_or, take, refl, sym, ap, subst, ◌∙◌, append_assoc, append-nil, arith}
+use Rattle.std.proofs.Common.{◌≡◌, ℕ, ◌+◌, ◌<◌, ◌≤◌, List, [], ◌∷◌, zero, suc, Result, Ok, Err, ◌++◌, length, get_or, take, length-append, refl, sym, ap, subst, ◌∙◌, append_assoc, append-nil, arith}
 use Rattle.std.proofs.lemmas.List.{take_all, take_more}
-use Rattle.std.specs.Prelude.{OnErr}
-use Rattle.ssh_model.specs.DataTypes.{IsByte}
-use Rattle.ssh_model.specs.Reading.{Writes}
-use Rattle.ssh_model.specs.Message.{Then}
+use Rattle.std.specs.Prelude.{OnErr, OnOk}
+use Rattle.ssh_model.specs.Wire.DataTypes.{IsByte}
+use Rattle.ssh_model.specs.Wire.Reading.{Writes}
+use Rattle.ssh_model.specs.Wire.Message.{Msg, Msg.Unknown, IsWrittenPayload, Then}
+use Rattle.ssh_model.specs.Wire.Sizes.{payload_size, HasPayloadSize}
 use Rattle.ssh_message.specs.declared.write.field.Field.{Field}
-use Rattle.ssh_message.specs.Fields.{AreFields, AreFit, FieldFits, IsField, IsRowOf}
+use Rattle.ssh_message.specs.Fields.{all_sizes, field_size, AreFields, AreFit, FieldFits, IsField, IsRowOf}
 use Rattle.ssh_message.specs.Written.{Grown}
 
 -- ---- one more part at the end
@@ -66,11 +67,43 @@ fits_at (g ∷ fields) (suc i) f h fit = fits_at fields i f (omega (arith, h)) f
 pub field_fits : (fields : List Field) (i : ℕ) (f : Field) → f ≡ get_or fields i f → i < length fields → AreFit fields → FieldFits f
 field_fits fields i f e h fit = subst FieldFits (sym e) (fits_at fields i f h fit)
 
--- ---- where memory is wanting
+-- ---- where an allocation fails
 
 pub grown_after : {P : List ℕ → Type 0} {before middle after : List ℕ} → Writes P before middle → after ≡ middle → Grown before after
 grown_after w e = record { more = w.bytes; parts = e ∙ w.parts }
 
-pub of_failure : {T E : Type 0} (r : Result T E) {before after : List ℕ} → Grown before after → OnErr r (Grown before after)
-of_failure (Ok x) g = tt
-of_failure (Err e) g = g
+pub of_failure : {T E P : Type 0} (r : Result T E) → P → OnErr r P
+of_failure (Ok x) p = tt
+of_failure (Err e) p = p
+
+-- ---- sizes
+
+sizes_joined : (fields others : List Field) → all_sizes (fields ++ others) ≡ all_sizes fields + all_sizes others
+sizes_joined [] others = omega arith
+sizes_joined (f ∷ fields) others = omega (arith, sizes_joined fields others)
+
+pub sizes_more : (fields : List Field) (i : ℕ) (f : Field) → f ≡ get_or fields i f → i < length fields → all_sizes (take (i + 1) fields) ≡ all_sizes (take i fields) + field_size f
+sizes_more fields i f e h =
+    let all : take (i + 1) fields ≡ take i fields ++ f ∷ [] = take_more fields i f h ∙ ap (λ (x : Field). take i fields ++ x ∷ []) (sym e) in
+    ap all_sizes all ∙ (sizes_joined (take i fields) (f ∷ []) ∙ omega arith)
+
+-- the first of the fields have no more bytes than all
+pub sizes_front : (n : ℕ) (fields : List Field) → all_sizes (take n fields) ≤ all_sizes fields
+sizes_front zero fields = omega arith
+sizes_front (suc n) [] = omega arith
+sizes_front (suc n) (f ∷ fields) = omega (arith, sizes_front n fields)
+
+-- a byte was put at the end
+pub one_more : (number : ℕ) {before after : List ℕ} → Writes (IsByte number) before after → length after ≡ length before + 1
+one_more number {before} w = ap length w.parts ∙ omega (arith, length-append before w.bytes, ap length w.meets)
+
+-- what was put of a message has its size
+sized : (m : Msg) (before after : List ℕ) → ((message : Msg) (payload : List ℕ) → IsWrittenPayload message payload → HasPayloadSize message payload)
+    → Writes (IsWrittenPayload m) before after → ((n : ℕ) → m ≡ Unknown n → after ≡ before ++ n ∷ []) → length after ≡ length before + payload_size m
+sized (Unknown n) before after sizes w alone = ap length (alone n refl) ∙ length-append before (n ∷ [])
+sized m before after sizes w alone = ap length w.parts ∙ omega (arith, length-append before w.bytes, sizes m w.bytes w.meets)
+
+pub has_size : {T E : Type 0} (r : Result T E) (m : Msg) (before after : List ℕ) → ((message : Msg) (payload : List ℕ) → IsWrittenPayload message payload → HasPayloadSize message payload)
+    → OnOk r (Writes (IsWrittenPayload m) before after) → ((n : ℕ) → m ≡ Unknown n → OnOk r (after ≡ before ++ n ∷ [])) → OnOk r (length after ≡ length before + payload_size m)
+has_size (Ok x) m before after sizes w alone = sized m before after sizes w alone
+has_size (Err e) m before after sizes w alone = tt

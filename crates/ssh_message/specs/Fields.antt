@@ -1,7 +1,8 @@
 -- What the fields of a message are written as.
-use Rattle.std.specs.Prelude.{ℕ, List, [], ◌∷◌}
-use Rattle.ssh_model.specs.DataTypes.{IsByte, IsWrittenBoolean, IsUint32, IsString, IsNameList}
-use Rattle.ssh_model.specs.Message.{◌▸◌, IsCookie, IsRest}
+use Rattle.std.specs.Prelude.{ℕ, ◌+◌, List, [], ◌∷◌, length}
+use Rattle.ssh_model.specs.Wire.Sizes.{names_size, text_size}
+use Rattle.ssh_model.specs.Wire.DataTypes.{IsByte, IsWrittenBoolean, IsUint32, IsString, IsNameList}
+use Rattle.ssh_model.specs.Wire.Message.{◌▸◌, IsCookie, IsRest}
 use Rattle.ssh_types.specs.Values.{names, names_text}
 use Rattle.ssh_message.specs.declared.write.field.Field.{Field}
 use Rattle.ssh_message.specs.declared.write.field.Field.TheVariants as field
@@ -16,6 +17,18 @@ FieldFits f = Unit {0}
 abbrev pub AreFit : List Field → Type 0
 AreFit [] = Unit {0}
 AreFit (f ∷ fs) = FieldFits f × AreFit fs
+
+-- how many bytes a field has, and fields one after the other
+abbrev pub field_size : Field → ℕ
+field_size (field.Boolean truth) = 1
+field_size (field.Uint32 number) = 4
+field_size (field.Text text) = text_size text.now
+field_size (field.Names list) = names_size (names list)
+field_size (field.Cookie cookie) = 16
+
+abbrev pub all_sizes : List Field → ℕ
+all_sizes [] = 0
+all_sizes (f ∷ fs) = field_size f + all_sizes fs
 
 -- the bytes of a field
 abbrev pub IsField : Field → List ℕ → Type 0
@@ -33,3 +46,7 @@ AreFields (f ∷ fs) rest = IsField f ▸ AreFields fs rest
 -- the same after the number of a message
 abbrev pub IsRowOf : ℕ → List Field → List ℕ → List ℕ → Type 0
 IsRowOf number fields rest = IsByte number ▸ AreFields fields rest
+
+-- how many these are
+abbrev pub row_size : List Field → List ℕ → ℕ
+row_size fields rest = 1 + (all_sizes fields + length rest)

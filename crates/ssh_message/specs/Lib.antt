@@ -3,3 +3,5 @@ pub mod Meaning
 pub mod Methods
 pub mod Parts
 pub mod Written
+pub mod Announced
+pub mod Extensions

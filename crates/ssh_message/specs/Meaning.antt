@@ -1,9 +1,10 @@
 -- What the messages of this crate mean, and what is said of a payload.
 use Rattle.std.specs.Prelude.{ℕ, Bool, Some, None, List}
-use Rattle.ssh_model.specs.DataTypes.{IsUint32}
-use Rattle.ssh_model.specs.Message as model
-use Rattle.ssh_model.specs.Message.{Msg, IsPayload}
+use Rattle.ssh_model.specs.Wire.DataTypes.{IsUint32}
+use Rattle.ssh_model.specs.Wire.Message as model
+use Rattle.ssh_model.specs.Wire.Message.{Msg, IsPayload}
 use Rattle.ssh_types.specs.Values.{names}
+use Rattle.ssh_message.specs.Announced.{extensions_of}
 use Rattle.ssh_message.specs.declared.message.Proposal.{Proposal}
 use Rattle.ssh_message.specs.declared.message.Method.{Method}
 use Rattle.ssh_message.specs.declared.message.Method.TheVariants as method
@@ -43,6 +44,7 @@ meaning (message.Unimplemented number) = model.Unimplemented number
 meaning (message.Debug display message language) = model.Debug display message.now language.now
 meaning (message.ServiceRequest service) = model.ServiceRequest service.now
 meaning (message.ServiceAccept service) = model.ServiceAccept service.now
+meaning (message.ExtInfo extensions) = model.ExtInfo (extensions_of extensions)
 meaning (message.KexInit proposal) = model.KexInit (proposal_meaning proposal)
 meaning message.NewKeys = model.NewKeys
 meaning (message.KexEcdhInit q_c) = model.KexEcdhInit q_c.now

@@ -1,9 +1,9 @@
 -- Fields that follow one another, each as a value and the bytes that spell it.
 use Rattle.std.specs.Prelude.{List, ℕ}
-use Rattle.std.proofs.Common.{refl, sym, ◌∙◌}
-use Rattle.ssh_model.specs.Reading.{OneForm}
-use Rattle.ssh_model.specs.Message.{Then, IsEnd, IsCookie}
-use Rattle.ssh_types.proofs.Fronts.{same_front, one_uint32}
+use Rattle.std.proofs.Common.{refl}
+use Rattle.ssh_model.specs.Wire.Reading.{OneForm}
+use Rattle.ssh_model.specs.Wire.Message.{Then, IsEnd}
+use Rattle.ssh_model.specs.Laws.Spellings.{one_uint32}
 use Rattle.ssh_message.specs.Meaning.{IsZero}
 
 -- a value, and then those of what follows
@@ -18,12 +18,6 @@ IsNothing _ bytes = IsEnd bytes
 pub record NoWhole {V : Type 0} (Spells : V → List ℕ → Type 0) (bytes : List ℕ) : Type 0 where
   pub none : (value : V) → Spells value bytes → ⊥
 
--- ---- the fields of an offer that no other message has
-
-pub one_cookie : OneForm IsCookie
-one_cookie v w a b x y p q e =
-    let s = same_front a b x y (p.count ∙ sym q.count) e in
-    (sym p.same ∙ (s.0 ∙ q.same), s.0, s.1)
-
+-- the reserved number of an offer
 pub one_zero : OneForm IsZero
 one_zero v w a b x y p q e = let s = one_uint32 0 0 a b x y p q e in (refl, s.1, s.2)

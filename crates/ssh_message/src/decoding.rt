@@ -1,11 +1,12 @@
 ghost use Rattle.std.specs.Prelude.{◌≡◌, ◌∷◌, List, ℕ, IfOk, IfErr, IsOkAnd};
-ghost use Rattle.ssh_model.specs.Message.{Msg, IsPayload, IsWrittenPayload, Suits};
+ghost use Rattle.ssh_model.specs.Wire.Message.{Msg, IsPayload, IsWrittenPayload, FitsContext, message_number};
+ghost use Rattle.ssh_model.specs.Sessions.Turns.{number_of};
 ghost use Rattle.ssh_message.specs.Meaning.{meaning, NoMessage};
 ghost use Rattle.ssh_message.specs.Written.{Fits};
 
 use crate::message::{BadMessage, Message};
 use crate::read::{authentication, connection, exchange, transport};
-use ssh_model::one_message;
+use ssh_model::{one_message, payload_numbers};
 use ssh_types::Reader;
 
 /// The message that the payload is (RFC 4252 to 4254, RFC 5656 section 4). Its texts are slices of the payload, and
@@ -20,6 +21,8 @@ use ssh_types::Reader;
 pub fn decode(probing: bool, payload: &[u8]) -> Result<Message<'_>, BadMessage>
     // The payload is the message that is answered.
     ensures found { IfOk result (λ m. IsPayload probing (meaning m) payload.now) }
+    // Its number is the first byte.
+    ensures number { IfOk result (λ m. message_number (meaning m) ≡ number_of payload.now) }
     // It can be written.
     ensures fits { IfOk result (λ m. Fits m) }
     // Nothing is refused that is a message.
@@ -27,9 +30,10 @@ pub fn decode(probing: bool, payload: &[u8]) -> Result<Message<'_>, BadMessage>
     // Whatever message the payload is, that one is answered.
     ensures only { (m : Msg) → IsPayload probing m payload.now → IsOkAnd result (λ x. meaning x ≡ m) }
     // What was written for a message is read as that message, where the context fits.
-    ensures again { (m : Msg) → Suits probing m → IsWrittenPayload m payload.now → IsOkAnd result (λ x. meaning x ≡ m) }
+    ensures again { (m : Msg) → FitsContext probing m → IsWrittenPayload m payload.now → IsOkAnd result (λ x. meaning x ≡ m) }
 {
     one_message();
+    payload_numbers();
     read(probing, payload)
 }
 
@@ -57,6 +61,7 @@ fn body<'a>(probing: bool, number: u8, fields: &mut Reader<'a>) -> Result<Messag
         4 => transport::debug(fields),
         5 => transport::service_request(fields),
         6 => transport::service_accept(fields),
+        7 => transport::ext_info(fields),
         20 => exchange::kexinit(fields),
         21 => transport::newkeys(fields),
         30 => exchange::kex_ecdh_init(fields),

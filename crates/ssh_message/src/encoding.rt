@@ -1,11 +1,13 @@
-ghost use Rattle.std.specs.Prelude.{◌≡◌, ℕ, [], ◌∷◌, ◌++◌, OnOk, OnErr};
-ghost use Rattle.ssh_model.specs.Reading.{Writes};
-ghost use Rattle.ssh_model.specs.Message.{IsWrittenPayload, Unknown};
+ghost use Rattle.std.specs.Prelude.{◌≡◌, ◌<◌, ◌+◌, ℕ, [], ◌∷◌, ◌++◌, length, vec_capacity, OnOk, OnErr};
+ghost use Rattle.ssh_model.specs.Wire.Reading.{Writes};
+ghost use Rattle.ssh_model.specs.Wire.Message.{IsWrittenPayload, Unknown};
+ghost use Rattle.ssh_model.specs.Wire.Sizes.{payload_size};
 ghost use Rattle.ssh_message.specs.Meaning.{meaning};
 ghost use Rattle.ssh_message.specs.Written.{Fits};
 
 use crate::message::Message;
 use crate::write::{authentication, connection, exchange, transport};
+use ssh_model::payload_sizes;
 use std::alloc::AllocError;
 
 /// Puts the payload of the message at the end of `out`. An `Unknown` is put as its number alone.
@@ -16,12 +18,26 @@ use std::alloc::AllocError;
 ///
 /// # Errors
 ///
-/// `AllocError` where memory is wanting; `out` is then as before.
+/// `AllocError` where the payload does not fit the capacity of `out` and memory was refused; `out` is then as before.
 pub fn encode(message: &Message<'_>, out: &mut Vec<u8>) -> Result<(), AllocError>
     requires { Fits message.now }
     ensures written { OnOk result (Writes (IsWrittenPayload (meaning message.now)) out.old.items out.new.items) }
     ensures unknown { (n : ℕ) → meaning message.now ≡ Unknown n → OnOk result (out.new.items ≡ out.old.items ++ n ∷ []) }
+    ensures size { OnOk result (length out.new.items ≡ length out.old.items + payload_size (meaning message.now)) }
     ensures kept { OnErr result (out.new.items ≡ out.old.items) }
+    ensures full { OnErr result (vec_capacity out.old < length out.old.items + payload_size (meaning message.now)) }
+{
+    payload_sizes();
+    put(message, out)
+}
+
+// Puts the payload by the row of its number.
+fn put(message: &Message<'_>, out: &mut Vec<u8>) -> Result<(), AllocError>
+    requires { Fits message.now }
+    ensures written { OnOk result (Writes (IsWrittenPayload (meaning message.now)) out.old.items out.new.items) }
+    ensures unknown { (n : ℕ) → meaning message.now ≡ Unknown n → OnOk result (out.new.items ≡ out.old.items ++ n ∷ []) }
+    ensures kept { OnErr result (out.new.items ≡ out.old.items) }
+    ensures full { OnErr result (vec_capacity out.old < length out.old.items + payload_size (meaning message.now)) }
 {
     match *message {
         Message::Disconnect {
@@ -38,6 +54,7 @@ pub fn encode(message: &Message<'_>, out: &mut Vec<u8>) -> Result<(), AllocError
         } => transport::debug(out, display, message, language),
         Message::ServiceRequest { service } => transport::service_request(out, service),
         Message::ServiceAccept { service } => transport::service_accept(out, service),
+        Message::ExtInfo { extensions } => transport::ext_info(out, &extensions),
         Message::KexInit(proposal) => exchange::kexinit(out, &proposal),
         Message::NewKeys => transport::newkeys(out),
         Message::KexEcdhInit { q_c } => exchange::kex_ecdh_init(out, q_c),

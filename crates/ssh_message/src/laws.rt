@@ -1,5 +1,5 @@
 ghost use Rattle.std.specs.Prelude.{◌≡◌, Bool, List, ℕ};
-ghost use Rattle.ssh_model.specs.Message.{Msg, IsPayload, IsWrittenPayload, Suits};
+ghost use Rattle.ssh_model.specs.Wire.Message.{Msg, IsPayload, IsWrittenPayload, FitsContext};
 
 /// A payload is one message at most, for an end that waits for the answer to a key probe and for one that does not.
 pub fn one_message()
@@ -12,5 +12,5 @@ pub fn one_message()
 /// `decode`, what was written is read as the same message.
 #[tactic(auto, using(crate::proofs::Payloads::written_is_read))]
 pub fn written_is_read()
-    ensures { (probing : Bool) (m : Msg) (payload : List ℕ) → Suits probing m → IsWrittenPayload m payload → IsPayload probing m payload }
+    ensures { (probing : Bool) (m : Msg) (payload : List ℕ) → FitsContext probing m → IsWrittenPayload m payload → IsPayload probing m payload }
 {}

@@ -30,6 +30,7 @@
 
 mod decoding;
 mod encoding;
+mod extensions;
 mod laws;
 mod line;
 mod message;
@@ -39,6 +40,7 @@ mod write;
 
 pub use decoding::decode;
 pub use encoding::encode;
+pub use extensions::{Extension, Extensions, ExtensionsBuf, ExtensionsIter};
 pub use laws::{one_message, written_is_read};
 pub use line::Line;
 pub use message::{BadMessage, Message, Method, Proposal};

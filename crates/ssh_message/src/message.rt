@@ -1,4 +1,5 @@
-use ssh_types::{NameList, Refusal};
+use crate::extensions::Extensions;
+use ssh_types::{NameList, ReadRefusal};
 use thiserror::Error;
 
 /// A message. Its texts are slices of the payload that it was read from, or of whatever its maker has.
@@ -31,6 +32,10 @@ pub enum Message<'a> {
     /// 6: grants the service (RFC 4253 section 10).
     ServiceAccept {
         service: &'a [u8],
+    },
+    /// 7: the extensions that the sender announces (RFC 8308 section 2.3).
+    ExtInfo {
+        extensions: Extensions<'a>,
     },
     /// 20: what an end offers for a key exchange (RFC 4253 section 7.1).
     KexInit(Proposal<'a>),
@@ -149,7 +154,7 @@ pub enum Message<'a> {
 
 impl<'a> Message<'a> {
     ghost use Rattle.std.specs.Prelude.{◌≡◌};
-    ghost use Rattle.ssh_model.specs.Message.{message_number};
+    ghost use Rattle.ssh_model.specs.Wire.Message.{message_number};
     ghost use Rattle.ssh_message.specs.Meaning.{meaning};
 
     /// The number of the message, as it stands at the front of its payload.
@@ -163,6 +168,7 @@ impl<'a> Message<'a> {
             Message::Debug { .. } => 4,
             Message::ServiceRequest { .. } => 5,
             Message::ServiceAccept { .. } => 6,
+            Message::ExtInfo { .. } => 7,
             Message::KexInit(_) => 20,
             Message::NewKeys => 21,
             Message::KexEcdhInit { .. } => 30,
@@ -239,8 +245,8 @@ pub enum Method<'a> {
 #[error("a malformed message")]
 pub struct BadMessage;
 
-impl From<Refusal> for BadMessage {
-    fn from(_refusal: Refusal) -> BadMessage {
+impl From<ReadRefusal> for BadMessage {
+    fn from(_refusal: ReadRefusal) -> BadMessage {
         BadMessage
     }
 }

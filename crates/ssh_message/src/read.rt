@@ -1,5 +1,6 @@
 // Reading: one function a message, from what follows its number.
 
+pub(crate) mod announced;
 pub(crate) mod authentication;
 pub(crate) mod connection;
 pub(crate) mod exchange;

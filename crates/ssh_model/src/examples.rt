@@ -1,34 +1,37 @@
 //! What the definitions say of two toy ends.
 
 ghost use Rattle.std.specs.Prelude.{◌≡◌, ℕ, ◌∷◌, ◌++◌, true, false, List, [], Some, None, codes, replicate, length, take, map};
-ghost use Rattle.ssh_model.specs.History.{IsIn, Side, Side.Client, Side.Server, peer};
-ghost use Rattle.ssh_model.specs.ExampleHistories.{taken, refusal, ask_refusal, says, hears, says_on, hears_on, offer_of, opened, lined, offered, first_reply, completed, keyed, userauth, connection, asking, served, right_request, wrong_request, probe, right_signature, requesting, probing_client, failed, admitted, fed_again, rekeying, offered_again, completed_again, open_message, confirm_message, channel_opened, channel_confirmed, heard_data, heard_eof, heard_request, closed_by_peer, guessing, said_data, said_request, wide_channel, requests, connection_asks, with_methods, friendly, plain_crypto, first_inputs, mac_key};
-ghost use Rattle.ssh_model.specs.Example.{toy_key, toy, secret, from_to};
-ghost use Rattle.ssh_model.specs.ExampleRun.{session};
-ghost use Rattle.ssh_model.specs.Message.{Method.NoMethod, Method.Password, Method.Publickey, Method.Other, Msg.Disconnect, Msg.Ignore, Msg.Unimplemented, Msg.Debug, Msg.ServiceRequest, Msg.ServiceAccept, Msg.KexInit, Msg.NewKeys, Msg.KexEcdhInit, Msg.KexEcdhReply, Msg.UserauthRequest, Msg.UserauthFailure, Msg.UserauthSuccess, Msg.UserauthBanner, Msg.UserauthPkOk, Msg.GlobalRequest, Msg.RequestSuccess, Msg.RequestFailure, Msg.ChannelOpenConfirmation, Msg.ChannelOpenFailure, Msg.ChannelWindowAdjust, Msg.ChannelData, Msg.ChannelExtendedData, Msg.ChannelEof, Msg.ChannelClose, Msg.ChannelRequest, Msg.ChannelSuccess, Msg.ChannelFailure, Msg.Unknown};
-ghost use Rattle.ssh_model.specs.Refusal.{refusal_name, refusal_reason};
-ghost use Rattle.ssh_model.specs.Party.{AreLawful, marker_of, lists_of};
-ghost use Rattle.ssh_model.specs.Session.{Item, part, has_died, sent, took, Ask.AskService, Ask.AskNone, Ask.AskPassword, Ask.AskProbe, Ask.AskSign, Ask.AskRekey, Ask.AskOpen, Ask.AskConfirm, Ask.AskRefuse, Ask.AskData, Ask.AskAdjust, Ask.AskEof, Ask.AskClose, Ask.AskRequest, Ask.AskReply, Ask.AskGlobal, Ask.AskGlobalReply, Ask.AskDisconnect, Fact.Completed, Fact.Service, Fact.Accepted, Fact.Authenticated, Fact.Failed, Fact.Banner, Fact.KeyOk, Fact.Ignored, Fact.Debugged, Fact.NotImplemented, Fact.Disconnected, Fact.Global, Fact.GlobalDone, Fact.Opening, Fact.Opened, Fact.Confirmed, Fact.OpenFailed, Fact.GotData, Fact.Adjusted, Fact.Ended, Fact.Closed, Fact.Requested, Fact.RequestDone, Item.TookGuess, Item.Told, Item.Died};
-ghost use Rattle.ssh_model.specs.Epoch.{epoch, wire_number};
-ghost use Rattle.ssh_model.specs.Exchange.{Inputs, exchange_hash, derived};
-ghost use Rattle.ssh_model.specs.Exchanges.{exchange, exchanges, first_common, common, choice, iv_letter, cipher_letter, mac_letter, key_of, sending_key, taking_key};
-ghost use Rattle.ssh_model.specs.Phase.{is_wrong_guess, own_names, blocked, authenticated};
-ghost use Rattle.ssh_model.specs.Authentication.{is_known_key, signed_text, is_accepted, is_good_probe};
-ghost use Rattle.ssh_model.specs.Transport.{hash_to_sign, reply_now};
-ghost use Rattle.ssh_model.specs.Connection.{notes, is_full, is_many, owes_many, is_rekey_due};
-ghost use Rattle.ssh_model.specs.Turn.{Answer, OnAsk, Run};
-ghost use Rattle.ssh_model.specs.Honest.{IsHonest};
-ghost use Rattle.ssh_model.specs.Safe.{TookUnder, HasAccepted};
-ghost use Rattle.ssh_model.specs.Choice.{client_marker, server_marker, Kind.Kex};
-ghost use Rattle.ssh_model.specs.ChannelState.{is_confirmed, has_closed};
+ghost use Rattle.ssh_model.specs.Side.{Side, Side.Client, Side.Server, peer};
+ghost use Rattle.ssh_model.specs.Lists.{IsIn};
+ghost use Rattle.ssh_model.specs.Example.Histories.{taken, refusal, ask_refusal, says, hears, says_on, hears_on, offer_of, opened, lined, offered, first_reply, completed, keyed, userauth, connection, asking, served, right_request, wrong_request, probe, right_signature, requesting, probing_client, failed, admitted, fed_again, rekeying, offered_again, completed_again, open_message, confirm_message, channel_opened, channel_confirmed, heard_data, heard_eof, heard_request, closed_by_peer, guessing, said_data, said_request, wide_channel, requests, connection_asks, with_methods, patient, friendly, plain_crypto, first_inputs, mac_key};
+ghost use Rattle.ssh_model.specs.Example.Toys.{toy_key, toy, secret, every_refusal, every_ask_refusal, from_to};
+ghost use Rattle.ssh_model.specs.Example.Run.{session};
+ghost use Rattle.ssh_model.specs.Wire.Message.{Method.NoMethod, Method.Password, Method.Publickey, Method.Other, Msg.Disconnect, Msg.Ignore, Msg.Unimplemented, Msg.Debug, Msg.ServiceRequest, Msg.ServiceAccept, Msg.KexInit, Msg.NewKeys, Msg.KexEcdhInit, Msg.KexEcdhReply, Msg.UserauthRequest, Msg.UserauthFailure, Msg.UserauthSuccess, Msg.UserauthBanner, Msg.UserauthPkOk, Msg.GlobalRequest, Msg.RequestSuccess, Msg.RequestFailure, Msg.ChannelOpenConfirmation, Msg.ChannelOpenFailure, Msg.ChannelWindowAdjust, Msg.ChannelData, Msg.ChannelExtendedData, Msg.ChannelEof, Msg.ChannelClose, Msg.ChannelRequest, Msg.ChannelSuccess, Msg.ChannelFailure, Msg.Unknown};
+ghost use Rattle.ssh_model.specs.Sessions.Refusals.{first_refusal, refusal_number, refusal_name, refusal_reason, ask_refusal_number, ask_refusal_name, Refusal, Refusal.Unexpected, Refusal.NoCommon, Refusal.NotStrict, Refusal.BadPoint, Refusal.BadHost, Refusal.NoService, Refusal.TooManyTries, Refusal.UnknownChannel, Refusal.WindowOverrun, Refusal.WindowTooLarge, Refusal.OwedFull, AskRefusal.NotYet, AskRefusal.Busy, AskRefusal.NoChannel, AskRefusal.NoRoom, AskRefusal.TooLong, AskRefusal.TableFull, AskRefusal.NothingOwed, AskRefusal.RekeyDue, AskRefusal.TooMuch, AskRefusal.WrongSide, AskRefusal};
+ghost use Rattle.ssh_model.specs.Sessions.Parties.{AreLawful, marker_of, lists_of};
+ghost use Rattle.ssh_model.specs.Sessions.Items.{Item, part, has_died, sent, took, Ask.AskService, Ask.AskNone, Ask.AskPassword, Ask.AskProbe, Ask.AskSign, Ask.AskRekey, Ask.AskOpen, Ask.AskConfirm, Ask.AskRefuse, Ask.AskData, Ask.AskAdjust, Ask.AskEof, Ask.AskClose, Ask.AskRequest, Ask.AskReply, Ask.AskGlobal, Ask.AskGlobalReply, Ask.AskDisconnect, Fact.Completed, Fact.Service, Fact.Accepted, Fact.Authenticated, Fact.Failed, Fact.Banner, Fact.KeyOk, Fact.Ignored, Fact.Debugged, Fact.NotImplemented, Fact.Disconnected, Fact.Global, Fact.GlobalDone, Fact.Opening, Fact.Opened, Fact.Confirmed, Fact.OpenFailed, Fact.GotData, Fact.Adjusted, Fact.Ended, Fact.Closed, Fact.Requested, Fact.RequestDone, Item.TookGuess, Item.Told, Item.Died};
+ghost use Rattle.ssh_model.specs.Sessions.Epochs.{epoch};
+ghost use Rattle.ssh_model.specs.KeyExchange.Exchange.{Inputs, exchange_hash, derived};
+ghost use Rattle.ssh_model.specs.KeyExchange.Exchanges.{sending_number, taking_number, exchange, exchanges, first_common, common, choice, iv_letter, cipher_letter, mac_letter, key_of, sending_key, taking_key};
+ghost use Rattle.ssh_model.specs.Sessions.Phases.{is_wrong_guess, own_names, blocked, authenticated};
+ghost use Rattle.ssh_model.specs.Authentication.Requests.{judge_of, is_known_key, signed_text, is_accepted, is_good_probe};
+ghost use Rattle.ssh_model.specs.Sessions.Transport.{hash_to_sign, reply_now};
+ghost use Rattle.ssh_model.specs.Channels.Connection.{notes, is_full, is_limit_reached, is_owed_limit_reached, is_rekey_due};
+ghost use Rattle.ssh_model.specs.Sessions.Turns.{ask_checks, Answer, OnAsk, Run};
+ghost use Rattle.ssh_model.specs.Sessions.Honest.{IsHonest};
+ghost use Rattle.ssh_model.specs.Sessions.Claims.{TookUnder, HasAccepted};
+ghost use Rattle.ssh_model.specs.Sessions.TurnClaims.{AreGood};
+ghost use Rattle.ssh_model.specs.KeyExchange.Choice.{client_marker, server_marker, Kind.Kex};
+ghost use Rattle.ssh_model.specs.Channels.Numbers.{is_confirmed, has_closed};
 
-/// The toy parts keep what is promised of parts.
+/// The toy parts keep what is promised of parts, and the toy settings are good.
 pub fn toy_parts()
-    ensures { AreLawful toy }
+    ensures lawful { AreLawful toy }
+    ensures good { (side : Side) → AreGood toy side }
 {}
 
-/// There is an honest run of two ends: with two exchanges, of which the second has other keys, an accepted request, and data
-/// on a channel.
+/// There is an honest run of two ends: with two exchanges, of which the second has other keys, an accepted request, and
+/// data on a channel.
 pub fn honest_run()
     ensures runs { Run toy session }
     ensures honest { IsHonest toy session }
@@ -48,66 +51,66 @@ pub fn may_take_examples()
     ensures after_wrong_guess { (side : Side) → taken side (hears (KexInit (guessing side true)) ∷ lined side) ≡ from_to 30 49 }
     ensures after_skipped_packet { taken Server (TookGuess [] ∷ hears (KexInit (guessing Server true)) ∷ lined Server) ≡ 1 ∷ 30 ∷ [] }
     ensures after_right_guess { taken Server (hears (KexInit (record (offer_of Client true) { follows = true })) ∷ lined Server) ≡ 1 ∷ 30 ∷ [] }
-    ensures by_keyed_server { taken Server (keyed Server) ≡ from_to 0 5 ++ from_to 7 19 ++ from_to 22 29 ++ from_to 32 49 ++ from_to 54 59 ++ from_to 61 79 }
-    ensures by_keyed_client { taken Client (keyed Client) ≡ from_to 0 4 ++ from_to 7 19 ++ from_to 22 29 ++ from_to 32 49 ++ from_to 54 59 ++ from_to 61 79 }
-    ensures by_server_after_service { taken Server (served Server) ≡ from_to 0 4 ++ from_to 7 19 ++ from_to 22 29 ++ from_to 32 50 ++ from_to 54 59 ++ from_to 61 79 }
-    ensures by_client_that_asks_for_service { taken Client asking ≡ from_to 0 4 ++ from_to 6 19 ++ from_to 22 29 ++ from_to 32 49 ++ from_to 54 59 ++ from_to 61 79 }
-    ensures by_client_after_service { taken Client (served Client) ≡ from_to 0 4 ++ from_to 7 19 ++ from_to 22 29 ++ from_to 32 49 ++ from_to 53 59 ++ from_to 61 79 }
-    ensures by_client_that_requests { taken Client requesting ≡ from_to 0 4 ++ from_to 7 19 ++ from_to 22 29 ++ from_to 32 49 ++ from_to 51 59 ++ from_to 61 79 }
-    ensures by_client_that_probes { taken Client probing_client ≡ from_to 0 4 ++ from_to 7 19 ++ from_to 22 29 ++ from_to 32 49 ++ from_to 51 79 }
-    ensures by_authenticated_client { taken Client (admitted Client) ≡ from_to 0 4 ++ from_to 7 20 ++ from_to 22 29 ++ from_to 32 49 ++ from_to 54 59 ++ from_to 61 255 }
-    ensures by_authenticated_server { taken Server (admitted Server) ≡ from_to 0 4 ++ from_to 7 20 ++ from_to 22 29 ++ from_to 32 50 ++ from_to 54 59 ++ from_to 61 255 }
-    ensures by_client_that_rekeys { taken Client (rekeying Client) ≡ from_to 0 4 ++ from_to 7 20 ++ from_to 22 29 ++ from_to 32 49 ++ from_to 54 59 ++ from_to 61 255 }
-    ensures in_later_exchange { taken Client (offered_again Client) ≡ from_to 0 4 ++ from_to 7 19 ++ from_to 22 29 ++ 31 ∷ [] }
-    ensures in_later_exchange_of_server { taken Server (offered_again Server) ≡ from_to 0 4 ++ from_to 7 19 ++ from_to 22 30 }
-    ensures after_later_exchange { (side : Side) → taken side (completed_again side) ≡ from_to 0 4 ++ from_to 7 19 ++ from_to 21 29 }
+    ensures by_keyed_server { taken Server (keyed Server) ≡ from_to 0 5 ++ from_to 8 19 ++ from_to 22 29 ++ from_to 32 49 ++ from_to 54 59 ++ from_to 61 79 }
+    ensures by_keyed_client { taken Client (keyed Client) ≡ from_to 0 4 ++ from_to 8 19 ++ from_to 22 29 ++ from_to 32 49 ++ from_to 54 59 ++ from_to 61 79 }
+    ensures by_server_after_service { taken Server (served Server) ≡ from_to 0 4 ++ from_to 8 19 ++ from_to 22 29 ++ from_to 32 50 ++ from_to 54 59 ++ from_to 61 79 }
+    ensures by_client_that_asks_for_service { taken Client asking ≡ from_to 0 4 ++ from_to 6 6 ++ from_to 8 19 ++ from_to 22 29 ++ from_to 32 49 ++ from_to 54 59 ++ from_to 61 79 }
+    ensures by_client_after_service { taken Client (served Client) ≡ from_to 0 4 ++ from_to 8 19 ++ from_to 22 29 ++ from_to 32 49 ++ from_to 53 59 ++ from_to 61 79 }
+    ensures by_client_that_requests { taken Client requesting ≡ from_to 0 4 ++ from_to 8 19 ++ from_to 22 29 ++ from_to 32 49 ++ from_to 51 59 ++ from_to 61 79 }
+    ensures by_client_that_probes { taken Client probing_client ≡ from_to 0 4 ++ from_to 8 19 ++ from_to 22 29 ++ from_to 32 49 ++ from_to 51 79 }
+    ensures by_authenticated_client { taken Client (admitted Client) ≡ from_to 0 4 ++ from_to 8 20 ++ from_to 22 29 ++ from_to 32 49 ++ from_to 54 59 ++ from_to 61 255 }
+    ensures by_authenticated_server { taken Server (admitted Server) ≡ from_to 0 4 ++ from_to 8 20 ++ from_to 22 29 ++ from_to 32 50 ++ from_to 54 59 ++ from_to 61 255 }
+    ensures by_client_that_rekeys { taken Client (rekeying Client) ≡ from_to 0 4 ++ from_to 8 20 ++ from_to 22 29 ++ from_to 32 49 ++ from_to 54 59 ++ from_to 61 255 }
+    ensures in_later_exchange { taken Client (offered_again Client) ≡ from_to 0 4 ++ from_to 8 19 ++ from_to 22 29 ++ 31 ∷ [] }
+    ensures in_later_exchange_of_server { taken Server (offered_again Server) ≡ from_to 0 4 ++ from_to 8 19 ++ from_to 22 30 }
+    ensures after_later_exchange { (side : Side) → taken side (completed_again side) ≡ from_to 0 4 ++ from_to 8 19 ++ from_to 21 29 }
     ensures after_later_wrong_guess { (side : Side) → taken side (hears (KexInit (guessing side false)) ∷ rekeying side) ≡ from_to 30 49 }
 {}
 
 /// What an end refuses a message for, or none.
 pub fn refusal_examples()
     ensures service { refusal Server (keyed Server) (ServiceRequest userauth) ≡ None }
-    ensures other_service { refusal Server (keyed Server) (ServiceRequest (codes "ssh-x")) ≡ Some 13 }
+    ensures other_service { refusal Server (keyed Server) (ServiceRequest (codes "ssh-x")) ≡ Some NoService }
     ensures accepted_service { refusal Client asking (ServiceAccept userauth) ≡ None }
-    ensures other_accepted_service { refusal Client asking (ServiceAccept connection) ≡ Some 7 }
+    ensures other_accepted_service { refusal Client asking (ServiceAccept connection) ≡ Some Unexpected }
     ensures first_kexinit { (side : Side) → refusal side (lined side) (KexInit (offer_of (peer side) true)) ≡ None }
-    ensures no_marker { (side : Side) → refusal side (lined side) (KexInit (offer_of (peer side) false)) ≡ Some 9 }
-    ensures marker_of_other_role { (side : Side) → refusal side (lined side) (KexInit (offer_of side true)) ≡ Some 9 }
-    ensures no_marker_before_no_common { (side : Side) → refusal side (lined side) (KexInit (record (offer_of (peer side) false) { host = [] })) ≡ Some 9 }
-    ensures no_common_method { (side : Side) → refusal side (lined side) (KexInit (record (offer_of (peer side) true) { kex = client_marker ∷ server_marker ∷ [] })) ≡ Some 8 }
-    ensures no_common_host_key { refusal Client (lined Client) (KexInit (record (offer_of Server true) { host = codes "x" ∷ [] })) ≡ Some 8 }
-    ensures no_common_encryption { refusal Client (lined Client) (KexInit (record (offer_of Server true) { enc_cs = codes "x" ∷ [] })) ≡ Some 8 }
-    ensures no_common_encryption_back { refusal Client (lined Client) (KexInit (record (offer_of Server true) { enc_sc = codes "x" ∷ [] })) ≡ Some 8 }
-    ensures no_common_mac { refusal Client (lined Client) (KexInit (record (offer_of Server true) { mac_cs = codes "x" ∷ [] })) ≡ Some 8 }
-    ensures no_common_mac_back { refusal Client (lined Client) (KexInit (record (offer_of Server true) { mac_sc = codes "x" ∷ [] })) ≡ Some 8 }
-    ensures no_common_compression { refusal Client (lined Client) (KexInit (record (offer_of Server true) { comp_cs = codes "zlib" ∷ [] })) ≡ Some 8 }
-    ensures no_common_compression_back { refusal Client (lined Client) (KexInit (record (offer_of Server true) { comp_sc = codes "zlib" ∷ [] })) ≡ Some 8 }
+    ensures no_marker { (side : Side) → refusal side (lined side) (KexInit (offer_of (peer side) false)) ≡ Some NotStrict }
+    ensures marker_of_other_role { (side : Side) → refusal side (lined side) (KexInit (offer_of side true)) ≡ Some NotStrict }
+    ensures no_marker_before_no_common { (side : Side) → refusal side (lined side) (KexInit (record (offer_of (peer side) false) { host = [] })) ≡ Some NotStrict }
+    ensures no_common_method { (side : Side) → refusal side (lined side) (KexInit (record (offer_of (peer side) true) { kex = client_marker ∷ server_marker ∷ [] })) ≡ Some NoCommon }
+    ensures no_common_host_key { refusal Client (lined Client) (KexInit (record (offer_of Server true) { host = codes "x" ∷ [] })) ≡ Some NoCommon }
+    ensures no_common_encryption { refusal Client (lined Client) (KexInit (record (offer_of Server true) { enc_cs = codes "x" ∷ [] })) ≡ Some NoCommon }
+    ensures no_common_encryption_back { refusal Client (lined Client) (KexInit (record (offer_of Server true) { enc_sc = codes "x" ∷ [] })) ≡ Some NoCommon }
+    ensures no_common_mac { refusal Client (lined Client) (KexInit (record (offer_of Server true) { mac_cs = codes "x" ∷ [] })) ≡ Some NoCommon }
+    ensures no_common_mac_back { refusal Client (lined Client) (KexInit (record (offer_of Server true) { mac_sc = codes "x" ∷ [] })) ≡ Some NoCommon }
+    ensures no_common_compression { refusal Client (lined Client) (KexInit (record (offer_of Server true) { comp_cs = codes "zlib" ∷ [] })) ≡ Some NoCommon }
+    ensures no_common_compression_back { refusal Client (lined Client) (KexInit (record (offer_of Server true) { comp_sc = codes "zlib" ∷ [] })) ≡ Some NoCommon }
     ensures other_languages { refusal Client (lined Client) (KexInit (record (offer_of Server true) { lang_cs = codes "x" ∷ []; lang_sc = codes "y" ∷ [] })) ≡ None }
     ensures later_kexinit { (side : Side) → refusal side (fed_again side) (KexInit (offer_of (peer side) false)) ≡ None }
     ensures later_kexinit_with_marker { (side : Side) → refusal side (fed_again side) (KexInit (offer_of (peer side) true)) ≡ None }
-    ensures no_material { (side : Side) → refusal side (admitted side) (KexInit (offer_of (peer side) false)) ≡ Some 12 }
-    ensures no_common_before_no_material { (side : Side) → refusal side (admitted side) (KexInit (record (offer_of (peer side) false) { host = [] })) ≡ Some 8 }
+    ensures no_material { (side : Side) → refusal side (admitted side) (KexInit (offer_of (peer side) false)) ≡ Some Refusal.NoMaterial }
+    ensures no_common_before_no_material { (side : Side) → refusal side (admitted side) (KexInit (record (offer_of (peer side) false) { host = [] })) ≡ Some NoCommon }
     ensures material_in_use { (side : Side) → refusal side (rekeying side) (KexInit (offer_of (peer side) false)) ≡ None }
     ensures point { refusal Server (offered Server) (KexEcdhInit (secret 1)) ≡ None }
-    ensures short_point { refusal Server (offered Server) (KexEcdhInit (replicate 31 1)) ≡ Some 10 }
-    ensures long_point { refusal Server (offered Server) (KexEcdhInit (replicate 33 1)) ≡ Some 10 }
-    ensures point_that_shares_nothing { refusal Server (offered Server) (KexEcdhInit (secret 2)) ≡ Some 10 }
+    ensures short_point { refusal Server (offered Server) (KexEcdhInit (replicate 31 1)) ≡ Some BadPoint }
+    ensures long_point { refusal Server (offered Server) (KexEcdhInit (replicate 33 1)) ≡ Some BadPoint }
+    ensures point_that_shares_nothing { refusal Server (offered Server) (KexEcdhInit (secret 2)) ≡ Some BadPoint }
     ensures reply { refusal Client (offered Client) first_reply ≡ None }
-    ensures signature_of_other_point { refusal Client (offered Client) (KexEcdhReply toy_key (secret 3) (take 32 (hash_to_sign toy (offered Server) (secret 1)))) ≡ Some 11 }
-    ensures bad_point_before_bad_host { refusal Client (offered Client) (KexEcdhReply [] (secret 1) []) ≡ Some 10 }
-    ensures long_point_of_reply { refusal Client (offered Client) (KexEcdhReply toy_key (replicate 33 2) []) ≡ Some 10 }
-    ensures other_host_key { refusal Client (offered Client) (KexEcdhReply (codes "host") (secret 2) (take 32 (hash_to_sign toy (offered Server) (secret 1)))) ≡ Some 11 }
-    ensures other_signature { refusal Client (offered Client) (KexEcdhReply toy_key (secret 2) []) ≡ Some 11 }
+    ensures signature_of_other_point { refusal Client (offered Client) (KexEcdhReply toy_key (secret 3) (take 4096 (hash_to_sign toy (offered Server) (secret 1)))) ≡ Some BadHost }
+    ensures bad_point_before_bad_host { refusal Client (offered Client) (KexEcdhReply [] (secret 1) []) ≡ Some BadPoint }
+    ensures long_point_of_reply { refusal Client (offered Client) (KexEcdhReply toy_key (replicate 33 2) []) ≡ Some BadPoint }
+    ensures other_host_key { refusal Client (offered Client) (KexEcdhReply (codes "host") (secret 2) (take 4096 (hash_to_sign toy (offered Server) (secret 1)))) ≡ Some BadHost }
+    ensures other_signature { refusal Client (offered Client) (KexEcdhReply toy_key (secret 2) []) ≡ Some BadHost }
     ensures tries_left { refusal Server (failed 1) wrong_request ≡ None }
-    ensures no_tries_left { refusal Server (failed 2) wrong_request ≡ Some 15 }
+    ensures no_tries_left { refusal Server (failed 2) wrong_request ≡ Some TooManyTries }
     ensures right_after_tries { refusal Server (failed 2) right_request ≡ None }
     ensures good_probe_after_tries { refusal Server (failed 2) (probe (codes "k")) ≡ None }
-    ensures bad_probe_after_tries { refusal Server (failed 2) (probe (codes "l")) ≡ Some 15 }
-    ensures bare_request_after_tries { refusal Server (failed 2) (UserauthRequest (codes "u") connection NoMethod) ≡ Some 15 }
-    ensures new_password_after_tries { refusal Server (failed 2) (UserauthRequest (codes "u") connection (Password (codes "p") (Some (codes "p")))) ≡ Some 15 }
-    ensures bad_signature_after_tries { refusal Server (failed 2) (UserauthRequest (codes "u") connection (Publickey (codes "toy") (codes "k") (Some []))) ≡ Some 15 }
-    ensures other_method_after_tries { refusal Server (failed 2) (UserauthRequest (codes "u") connection (Other (codes "x") [])) ≡ Some 15 }
-    ensures other_service_after_tries { refusal Server (failed 2) (UserauthRequest (codes "u") userauth (Password (codes "p") None)) ≡ Some 15 }
+    ensures bad_probe_after_tries { refusal Server (failed 2) (probe (codes "l")) ≡ Some TooManyTries }
+    ensures bare_request_after_tries { refusal Server (failed 2) (UserauthRequest (codes "u") connection NoMethod) ≡ Some TooManyTries }
+    ensures new_password_after_tries { refusal Server (failed 2) (UserauthRequest (codes "u") connection (Password (codes "p") (Some (codes "p")))) ≡ Some TooManyTries }
+    ensures bad_signature_after_tries { refusal Server (failed 2) (UserauthRequest (codes "u") connection (Publickey (codes "toy") (codes "k") (Some []))) ≡ Some TooManyTries }
+    ensures other_method_after_tries { refusal Server (failed 2) (UserauthRequest (codes "u") connection (Other (codes "x") [])) ≡ Some TooManyTries }
+    ensures other_service_after_tries { refusal Server (failed 2) (UserauthRequest (codes "u") userauth (Password (codes "p") None)) ≡ Some TooManyTries }
     ensures authenticated_after_tries { refusal Server (says UserauthSuccess ∷ failed 2) wrong_request ≡ None }
     ensures free_of_refusal { refusal Client (admitted Client) (Ignore []) ≡ None }
     ensures unknown_number { refusal Client (admitted Client) (Unknown 200) ≡ None }
@@ -116,105 +119,105 @@ pub fn refusal_examples()
 /// What an end refuses a message of the connection for, or none.
 pub fn channel_refusal_examples()
     ensures many_global_requests { refusal Client (replicate 255 (hears (GlobalRequest [] true [])) ++ admitted Client) (GlobalRequest [] true []) ≡ None }
-    ensures too_many_global_requests { refusal Client (replicate 256 (hears (GlobalRequest [] true [])) ++ admitted Client) (GlobalRequest [] true []) ≡ Some 19 }
+    ensures too_many_global_requests { refusal Client (replicate 256 (hears (GlobalRequest [] true [])) ++ admitted Client) (GlobalRequest [] true []) ≡ Some OwedFull }
     ensures global_request_without_reply { refusal Client (replicate 256 (hears (GlobalRequest [] true [])) ++ admitted Client) (GlobalRequest [] false []) ≡ None }
     ensures replied_global_request { refusal Client (says RequestFailure ∷ replicate 256 (hears (GlobalRequest [] true [])) ++ admitted Client) (GlobalRequest [] true []) ≡ None }
-    ensures reply_to_no_global_request { refusal Client (says (GlobalRequest [] false []) ∷ admitted Client) (RequestSuccess []) ≡ Some 7 }
-    ensures failure_of_no_global_request { refusal Client (admitted Client) RequestFailure ≡ Some 7 }
+    ensures reply_to_no_global_request { refusal Client (says (GlobalRequest [] false []) ∷ admitted Client) (RequestSuccess []) ≡ Some Unexpected }
+    ensures failure_of_no_global_request { refusal Client (admitted Client) RequestFailure ≡ Some Unexpected }
     ensures reply_to_global_request { refusal Client (says (GlobalRequest [] true []) ∷ admitted Client) (RequestSuccess []) ≡ None }
     ensures failure_of_global_request { refusal Client (says (GlobalRequest [] true []) ∷ admitted Client) RequestFailure ≡ None }
-    ensures second_reply_to_global_request { refusal Client (hears RequestFailure ∷ says (GlobalRequest [] true []) ∷ admitted Client) RequestFailure ≡ Some 7 }
+    ensures second_reply_to_global_request { refusal Client (hears RequestFailure ∷ says (GlobalRequest [] true []) ∷ admitted Client) RequestFailure ≡ Some Unexpected }
     ensures channel_open { refusal Server (admitted Server) open_message ≡ None }
     ensures confirmation { refusal Client (channel_opened Client) confirm_message ≡ None }
-    ensures confirmation_of_no_channel { refusal Client (admitted Client) confirm_message ≡ Some 16 }
-    ensures second_confirmation { refusal Client (channel_confirmed Client) confirm_message ≡ Some 7 }
-    ensures confirmation_while_close_is_owed { refusal Client (closed_by_peer Client) confirm_message ≡ Some 7 }
-    ensures confirmation_after_both_closed { refusal Client (hears_on 3 (ChannelClose 3) ∷ says_on 3 (ChannelClose 5) ∷ channel_confirmed Client) confirm_message ≡ Some 16 }
-    ensures confirmation_by_who_opened { refusal Server (channel_opened Server) (ChannelOpenConfirmation 5 3 10 8 []) ≡ Some 7 }
+    ensures confirmation_of_no_channel { refusal Client (admitted Client) confirm_message ≡ Some UnknownChannel }
+    ensures second_confirmation { refusal Client (channel_confirmed Client) confirm_message ≡ Some Unexpected }
+    ensures confirmation_while_close_is_owed { refusal Client (closed_by_peer Client) confirm_message ≡ Some Unexpected }
+    ensures confirmation_after_both_closed { refusal Client (hears_on 3 (ChannelClose 3) ∷ says_on 3 (ChannelClose 5) ∷ channel_confirmed Client) confirm_message ≡ Some UnknownChannel }
+    ensures confirmation_by_who_opened { refusal Server (channel_opened Server) (ChannelOpenConfirmation 5 3 10 8 []) ≡ Some Unexpected }
     ensures open_failure { refusal Client (channel_opened Client) (ChannelOpenFailure 3 1 [] []) ≡ None }
-    ensures open_failure_of_no_channel { refusal Client (admitted Client) (ChannelOpenFailure 3 1 [] []) ≡ Some 16 }
-    ensures failure_after_confirmation { refusal Client (channel_confirmed Client) (ChannelOpenFailure 3 1 [] []) ≡ Some 7 }
-    ensures failure_while_close_is_owed { refusal Client (closed_by_peer Client) (ChannelOpenFailure 3 1 [] []) ≡ Some 7 }
+    ensures open_failure_of_no_channel { refusal Client (admitted Client) (ChannelOpenFailure 3 1 [] []) ≡ Some UnknownChannel }
+    ensures failure_after_confirmation { refusal Client (channel_confirmed Client) (ChannelOpenFailure 3 1 [] []) ≡ Some Unexpected }
+    ensures failure_while_close_is_owed { refusal Client (closed_by_peer Client) (ChannelOpenFailure 3 1 [] []) ≡ Some Unexpected }
     ensures adjust { refusal Client (channel_confirmed Client) (ChannelWindowAdjust 3 4294967275) ≡ None }
-    ensures adjust_too_far { refusal Client (channel_confirmed Client) (ChannelWindowAdjust 3 4294967276) ≡ Some 18 }
+    ensures adjust_too_far { refusal Client (channel_confirmed Client) (ChannelWindowAdjust 3 4294967276) ≡ Some WindowTooLarge }
     ensures adjust_after_data { refusal Client (says_on 3 (ChannelData 5 (codes "x")) ∷ channel_confirmed Client) (ChannelWindowAdjust 3 4294967276) ≡ None }
-    ensures adjust_of_no_channel { refusal Client (channel_opened Client) (ChannelWindowAdjust 3 4294967296) ≡ Some 16 }
+    ensures adjust_of_no_channel { refusal Client (channel_opened Client) (ChannelWindowAdjust 3 4294967296) ≡ Some UnknownChannel }
     ensures adjust_after_close { refusal Client (says_on 3 (ChannelClose 5) ∷ channel_confirmed Client) (ChannelWindowAdjust 3 1) ≡ None }
-    ensures adjust_after_close_of_peer { refusal Client (closed_by_peer Client) (ChannelWindowAdjust 3 1) ≡ Some 16 }
+    ensures adjust_after_close_of_peer { refusal Client (closed_by_peer Client) (ChannelWindowAdjust 3 1) ≡ Some UnknownChannel }
     ensures channel_data { refusal Client (channel_confirmed Client) (ChannelData 3 (replicate 8 0)) ≡ None }
-    ensures data_of_no_channel { refusal Client (channel_confirmed Client) (ChannelData 5 []) ≡ Some 16 }
-    ensures data_before_confirmation { refusal Client (channel_opened Client) (ChannelData 3 []) ≡ Some 16 }
-    ensures data_to_unconfirmed { refusal Server (channel_opened Server) (ChannelData 5 []) ≡ Some 16 }
-    ensures data_over_size { refusal Client (channel_confirmed Client) (ChannelData 3 (replicate 9 0)) ≡ Some 17 }
-    ensures data_over_window { refusal Client (heard_data ∷ channel_confirmed Client) (ChannelData 3 (replicate 3 0)) ≡ Some 17 }
+    ensures data_of_no_channel { refusal Client (channel_confirmed Client) (ChannelData 5 []) ≡ Some UnknownChannel }
+    ensures data_before_confirmation { refusal Client (channel_opened Client) (ChannelData 3 []) ≡ Some UnknownChannel }
+    ensures data_to_unconfirmed { refusal Server (channel_opened Server) (ChannelData 5 []) ≡ Some UnknownChannel }
+    ensures data_over_size { refusal Client (channel_confirmed Client) (ChannelData 3 (replicate 9 0)) ≡ Some WindowOverrun }
+    ensures data_over_window { refusal Client (heard_data ∷ channel_confirmed Client) (ChannelData 3 (replicate 3 0)) ≡ Some WindowOverrun }
     ensures data_within_window { refusal Client (heard_data ∷ channel_confirmed Client) (ChannelData 3 (replicate 2 0)) ≡ None }
     ensures data_after_adjust { refusal Client (says_on 3 (ChannelWindowAdjust 5 1) ∷ heard_data ∷ channel_confirmed Client) (ChannelData 3 (replicate 3 0)) ≡ None }
-    ensures data_after_eof { refusal Client (heard_eof ∷ channel_confirmed Client) (ChannelData 3 []) ≡ Some 7 }
-    ensures data_after_eof_over_window { refusal Client (heard_eof ∷ channel_confirmed Client) (ChannelData 3 (replicate 9 0)) ≡ Some 7 }
+    ensures data_after_eof { refusal Client (heard_eof ∷ channel_confirmed Client) (ChannelData 3 []) ≡ Some Unexpected }
+    ensures data_after_eof_over_window { refusal Client (heard_eof ∷ channel_confirmed Client) (ChannelData 3 (replicate 9 0)) ≡ Some Unexpected }
     ensures data_after_close { refusal Client (says_on 3 (ChannelClose 5) ∷ channel_confirmed Client) (ChannelData 3 (replicate 8 0)) ≡ None }
-    ensures data_after_close_of_peer { refusal Client (closed_by_peer Client) (ChannelData 3 []) ≡ Some 16 }
+    ensures data_after_close_of_peer { refusal Client (closed_by_peer Client) (ChannelData 3 []) ≡ Some UnknownChannel }
     ensures extended_data { refusal Client (channel_confirmed Client) (ChannelExtendedData 3 1 (replicate 8 0)) ≡ None }
-    ensures extended_data_over_size { refusal Client (channel_confirmed Client) (ChannelExtendedData 3 1 (replicate 9 0)) ≡ Some 17 }
-    ensures extended_data_over_window { refusal Client (heard_data ∷ channel_confirmed Client) (ChannelExtendedData 3 1 (replicate 3 0)) ≡ Some 17 }
-    ensures extended_data_after_eof { refusal Client (heard_eof ∷ channel_confirmed Client) (ChannelExtendedData 3 1 (replicate 9 0)) ≡ Some 7 }
-    ensures extended_data_of_no_channel { refusal Client (channel_confirmed Client) (ChannelExtendedData 5 1 []) ≡ Some 16 }
+    ensures extended_data_over_size { refusal Client (channel_confirmed Client) (ChannelExtendedData 3 1 (replicate 9 0)) ≡ Some WindowOverrun }
+    ensures extended_data_over_window { refusal Client (heard_data ∷ channel_confirmed Client) (ChannelExtendedData 3 1 (replicate 3 0)) ≡ Some WindowOverrun }
+    ensures extended_data_after_eof { refusal Client (heard_eof ∷ channel_confirmed Client) (ChannelExtendedData 3 1 (replicate 9 0)) ≡ Some Unexpected }
+    ensures extended_data_of_no_channel { refusal Client (channel_confirmed Client) (ChannelExtendedData 5 1 []) ≡ Some UnknownChannel }
     ensures eof { refusal Client (channel_confirmed Client) (ChannelEof 3) ≡ None }
-    ensures second_eof { refusal Client (heard_eof ∷ channel_confirmed Client) (ChannelEof 3) ≡ Some 7 }
-    ensures eof_of_no_channel { refusal Client (channel_opened Client) (ChannelEof 3) ≡ Some 16 }
+    ensures second_eof { refusal Client (heard_eof ∷ channel_confirmed Client) (ChannelEof 3) ≡ Some Unexpected }
+    ensures eof_of_no_channel { refusal Client (channel_opened Client) (ChannelEof 3) ≡ Some UnknownChannel }
     ensures close { refusal Client (heard_eof ∷ channel_confirmed Client) (ChannelClose 3) ≡ None }
-    ensures close_of_no_channel { refusal Client (channel_opened Client) (ChannelClose 3) ≡ Some 16 }
-    ensures second_close { refusal Client (hears_on 3 (ChannelClose 3) ∷ says_on 3 (ChannelClose 5) ∷ channel_confirmed Client) (ChannelClose 3) ≡ Some 16 }
+    ensures close_of_no_channel { refusal Client (channel_opened Client) (ChannelClose 3) ≡ Some UnknownChannel }
+    ensures second_close { refusal Client (hears_on 3 (ChannelClose 3) ∷ says_on 3 (ChannelClose 5) ∷ channel_confirmed Client) (ChannelClose 3) ≡ Some UnknownChannel }
     ensures many_requests { refusal Client (replicate 255 heard_request ++ channel_confirmed Client) (ChannelRequest 3 [] true []) ≡ None }
-    ensures too_many_requests { refusal Client (replicate 256 heard_request ++ channel_confirmed Client) (ChannelRequest 3 [] true []) ≡ Some 19 }
+    ensures too_many_requests { refusal Client (replicate 256 heard_request ++ channel_confirmed Client) (ChannelRequest 3 [] true []) ≡ Some OwedFull }
     ensures request_without_reply { refusal Client (replicate 256 heard_request ++ channel_confirmed Client) (ChannelRequest 3 [] false []) ≡ None }
     ensures request_after_close { refusal Client (says_on 3 (ChannelClose 5) ∷ replicate 256 heard_request ++ channel_confirmed Client) (ChannelRequest 3 [] true []) ≡ None }
-    ensures request_of_no_channel { refusal Client (channel_opened Client) (ChannelRequest 3 [] true []) ≡ Some 16 }
+    ensures request_of_no_channel { refusal Client (channel_opened Client) (ChannelRequest 3 [] true []) ≡ Some UnknownChannel }
     ensures reply_to_request { refusal Client (says_on 3 (ChannelRequest 5 [] true []) ∷ channel_confirmed Client) (ChannelSuccess 3) ≡ None }
     ensures failure_of_request { refusal Client (says_on 3 (ChannelRequest 5 [] true []) ∷ channel_confirmed Client) (ChannelFailure 3) ≡ None }
-    ensures reply_to_no_request { refusal Client (says_on 3 (ChannelRequest 5 [] false []) ∷ channel_confirmed Client) (ChannelSuccess 3) ≡ Some 7 }
-    ensures failure_of_no_request { refusal Client (channel_confirmed Client) (ChannelFailure 3) ≡ Some 7 }
-    ensures reply_of_no_channel { refusal Client (channel_opened Client) (ChannelSuccess 3) ≡ Some 16 }
-    ensures failure_of_no_channel { refusal Client (channel_opened Client) (ChannelFailure 3) ≡ Some 16 }
+    ensures reply_to_no_request { refusal Client (says_on 3 (ChannelRequest 5 [] false []) ∷ channel_confirmed Client) (ChannelSuccess 3) ≡ Some Unexpected }
+    ensures failure_of_no_request { refusal Client (channel_confirmed Client) (ChannelFailure 3) ≡ Some Unexpected }
+    ensures reply_of_no_channel { refusal Client (channel_opened Client) (ChannelSuccess 3) ≡ Some UnknownChannel }
+    ensures failure_of_no_channel { refusal Client (channel_opened Client) (ChannelFailure 3) ≡ Some UnknownChannel }
 {}
 
 /// What an ask for the transport or for authentication is refused for, or none.
 pub fn ask_examples()
     ensures service { ask_refusal Client (keyed Client) AskService ≡ None }
-    ensures service_at_server { ask_refusal Server (opened Server) AskService ≡ Some 11 }
-    ensures service_before_newkeys { ask_refusal Client (completed Client) AskService ≡ Some 1 }
-    ensures second_service { ask_refusal Client asking AskService ≡ Some 2 }
+    ensures service_at_server { ask_refusal Server (opened Server) AskService ≡ Some WrongSide }
+    ensures service_before_newkeys { ask_refusal Client (completed Client) AskService ≡ Some NotYet }
+    ensures second_service { ask_refusal Client asking AskService ≡ Some Busy }
     ensures requests { map (ask_refusal Client (served Client)) requests ≡ replicate 4 None }
-    ensures requests_at_server { map (ask_refusal Server (served Server)) requests ≡ replicate 4 (Some 11) }
-    ensures requests_without_service { map (ask_refusal Client asking) requests ≡ replicate 4 (Some 1) }
-    ensures requests_while_one_waits { map (ask_refusal Client requesting) requests ≡ replicate 4 (Some 2) }
-    ensures requests_when_authenticated { map (ask_refusal Client (admitted Client)) requests ≡ replicate 4 (Some 6) }
+    ensures requests_at_server { map (ask_refusal Server (served Server)) requests ≡ replicate 4 (Some WrongSide) }
+    ensures requests_without_service { map (ask_refusal Client asking) requests ≡ replicate 4 (Some NotYet) }
+    ensures requests_while_one_waits { map (ask_refusal Client requesting) requests ≡ replicate 4 (Some Busy) }
+    ensures requests_when_authenticated { map (ask_refusal Client (admitted Client)) requests ≡ replicate 4 (Some AskRefusal.Ended) }
     ensures requests_after_failure { map (ask_refusal Client (hears (UserauthFailure [] false) ∷ requesting)) requests ≡ replicate 4 None }
     ensures requests_after_key_ok { map (ask_refusal Client (hears (UserauthPkOk (codes "toy") (codes "k")) ∷ probing_client)) requests ≡ replicate 4 None }
     ensures long_user { ask_refusal Client (served Client) (AskNone (replicate 33969 0)) ≡ None }
-    ensures too_long_user { ask_refusal Client (served Client) (AskNone (replicate 33970 0)) ≡ Some 5 }
-    ensures authenticated_before_too_long { ask_refusal Client (admitted Client) (AskNone (replicate 33970 0)) ≡ Some 6 }
+    ensures too_long_user { ask_refusal Client (served Client) (AskNone (replicate 33970 0)) ≡ Some TooLong }
+    ensures authenticated_before_too_long { ask_refusal Client (admitted Client) (AskNone (replicate 33970 0)) ≡ Some AskRefusal.Ended }
     ensures long_password { ask_refusal Client (served Client) (AskPassword (codes "u") (replicate 33959 0)) ≡ None }
-    ensures too_long_password { ask_refusal Client (served Client) (AskPassword (codes "u") (replicate 33960 0)) ≡ Some 5 }
+    ensures too_long_password { ask_refusal Client (served Client) (AskPassword (codes "u") (replicate 33960 0)) ≡ Some TooLong }
     ensures long_key { ask_refusal Client (served Client) (AskProbe (codes "u") (codes "toy") (replicate 33951 0)) ≡ None }
-    ensures too_long_key { ask_refusal Client (served Client) (AskProbe (codes "u") (codes "toy") (replicate 33952 0)) ≡ Some 5 }
+    ensures too_long_key { ask_refusal Client (served Client) (AskProbe (codes "u") (codes "toy") (replicate 33952 0)) ≡ Some TooLong }
     ensures long_key_with_signature { ask_refusal Client (served Client) (AskSign (codes "u") (codes "toy") (replicate 29851 0)) ≡ None }
-    ensures too_long_key_with_signature { ask_refusal Client (served Client) (AskSign (codes "u") (codes "toy") (replicate 29852 0)) ≡ Some 5 }
+    ensures too_long_key_with_signature { ask_refusal Client (served Client) (AskSign (codes "u") (codes "toy") (replicate 29852 0)) ≡ Some TooLong }
     ensures rekey { (side : Side) → ask_refusal side (fed_again side) AskRekey ≡ None }
-    ensures rekey_before_authentication { (side : Side) → ask_refusal side (served side) AskRekey ≡ Some 1 }
-    ensures rekey_while_blocked { (side : Side) → ask_refusal side (rekeying side) AskRekey ≡ Some 2 }
-    ensures rekey_before_newkeys_is_taken { (side : Side) → ask_refusal side (completed_again side) AskRekey ≡ Some 2 }
-    ensures rekey_without_material { (side : Side) → ask_refusal side (admitted side) AskRekey ≡ Some 12 }
+    ensures rekey_before_authentication { (side : Side) → ask_refusal side (served side) AskRekey ≡ Some NotYet }
+    ensures rekey_while_blocked { (side : Side) → ask_refusal side (rekeying side) AskRekey ≡ Some Busy }
+    ensures rekey_before_newkeys_is_taken { (side : Side) → ask_refusal side (completed_again side) AskRekey ≡ Some Busy }
+    ensures rekey_without_material { (side : Side) → ask_refusal side (admitted side) AskRekey ≡ Some AskRefusal.NoMaterial }
     ensures disconnect { (side : Side) → ask_refusal side (opened side) (AskDisconnect (replicate 1024 0)) ≡ None }
-    ensures long_disconnect { (side : Side) → ask_refusal side (opened side) (AskDisconnect (replicate 1025 0)) ≡ Some 5 }
+    ensures long_disconnect { (side : Side) → ask_refusal side (opened side) (AskDisconnect (replicate 1025 0)) ≡ Some TooLong }
     ensures disconnect_while_blocked { (side : Side) → ask_refusal side (rekeying side) (AskDisconnect []) ≡ None }
 {}
 
 /// What an ask for the connection is refused for, or none.
 pub fn channel_ask_examples()
-    ensures not_authenticated { map (ask_refusal Client (served Client)) connection_asks ≡ replicate 14 (Some 1) }
-    ensures blocked_by_own_kexinit { map (ask_refusal Client (rekeying Client)) connection_asks ≡ replicate 14 (Some 2) }
-    ensures rekey_is_due { map (ask_refusal Client (replicate 62 (says (Ignore [])) ++ admitted Client)) connection_asks ≡ replicate 14 (Some 9) }
-    ensures blocked_before_rekey_is_due { ask_refusal Client (replicate 62 (says (Ignore [])) ++ rekeying Client) (AskEof 3) ≡ Some 2 }
+    ensures not_authenticated { map (ask_refusal Client (served Client)) connection_asks ≡ replicate 14 (Some NotYet) }
+    ensures blocked_by_own_kexinit { map (ask_refusal Client (rekeying Client)) connection_asks ≡ replicate 14 (Some Busy) }
+    ensures rekey_is_due { map (ask_refusal Client (replicate 62 (says (Ignore [])) ++ admitted Client)) connection_asks ≡ replicate 14 (Some RekeyDue) }
+    ensures blocked_before_rekey_is_due { ask_refusal Client (replicate 62 (says (Ignore [])) ++ rekeying Client) (AskEof 3) ≡ Some Busy }
     ensures rekey_is_not_due { ask_refusal Client (replicate 61 (says (Ignore [])) ++ admitted Client) (AskOpen [] 0 1 []) ≡ None }
     ensures rekey_though_due { ask_refusal Client (replicate 62 (says (Ignore [])) ++ fed_again Client) AskRekey ≡ None }
     ensures service_though_due { ask_refusal Client (replicate 64 (says (Ignore [])) ++ keyed Client) AskService ≡ None }
@@ -222,69 +225,71 @@ pub fn channel_ask_examples()
     ensures disconnect_though_due { ask_refusal Client (replicate 62 (says (Ignore [])) ++ admitted Client) (AskDisconnect []) ≡ None }
     ensures open_by_server { ask_refusal Server (admitted Server) (AskOpen (codes "x") 0 1 []) ≡ None }
     ensures open_of_largest_data { ask_refusal Client (admitted Client) (AskOpen [] 0 32768 []) ≡ None }
-    ensures open_of_larger_data { ask_refusal Client (admitted Client) (AskOpen [] 0 32769 []) ≡ Some 10 }
-    ensures open_of_no_data { ask_refusal Client (admitted Client) (AskOpen [] 0 0 []) ≡ Some 10 }
+    ensures open_of_larger_data { ask_refusal Client (admitted Client) (AskOpen [] 0 32769 []) ≡ Some TooMuch }
+    ensures open_of_no_data { ask_refusal Client (admitted Client) (AskOpen [] 0 0 []) ≡ Some TooMuch }
     ensures long_open { ask_refusal Client (admitted Client) (AskOpen (codes "session") 0 1 (replicate 33976 0)) ≡ None }
-    ensures too_long_open { ask_refusal Client (admitted Client) (AskOpen (codes "session") 0 1 (replicate 33977 0)) ≡ Some 5 }
-    ensures too_much_before_too_long { ask_refusal Client (admitted Client) (AskOpen (codes "session") 0 0 (replicate 33977 0)) ≡ Some 10 }
+    ensures too_long_open { ask_refusal Client (admitted Client) (AskOpen (codes "session") 0 1 (replicate 33977 0)) ≡ Some TooLong }
+    ensures too_much_before_too_long { ask_refusal Client (admitted Client) (AskOpen (codes "session") 0 0 (replicate 33977 0)) ≡ Some TooMuch }
     ensures confirm { ask_refusal Server (channel_opened Server) (AskConfirm 5 20 16 []) ≡ None }
-    ensures confirm_of_no_open { ask_refusal Server (channel_opened Server) (AskConfirm 3 20 16 []) ≡ Some 3 }
-    ensures confirm_of_own_open { ask_refusal Client (channel_opened Client) (AskConfirm 3 20 16 []) ≡ Some 3 }
-    ensures second_confirm { ask_refusal Server (channel_confirmed Server) (AskConfirm 5 20 0 []) ≡ Some 3 }
-    ensures confirm_of_larger_data { ask_refusal Server (channel_opened Server) (AskConfirm 5 20 32769 []) ≡ Some 10 }
-    ensures confirm_of_no_data { ask_refusal Server (channel_opened Server) (AskConfirm 5 20 0 []) ≡ Some 10 }
+    ensures confirm_of_no_open { ask_refusal Server (channel_opened Server) (AskConfirm 3 20 16 []) ≡ Some NoChannel }
+    ensures confirm_of_own_open { ask_refusal Client (channel_opened Client) (AskConfirm 3 20 16 []) ≡ Some NoChannel }
+    ensures second_confirm { ask_refusal Server (channel_confirmed Server) (AskConfirm 5 20 0 []) ≡ Some NoChannel }
+    ensures confirm_of_larger_data { ask_refusal Server (channel_opened Server) (AskConfirm 5 20 32769 []) ≡ Some TooMuch }
+    ensures confirm_of_no_data { ask_refusal Server (channel_opened Server) (AskConfirm 5 20 0 []) ≡ Some TooMuch }
     ensures long_confirm { ask_refusal Server (channel_opened Server) (AskConfirm 5 20 16 (replicate 33983 0)) ≡ None }
-    ensures too_long_confirm { ask_refusal Server (channel_opened Server) (AskConfirm 5 20 16 (replicate 33984 0)) ≡ Some 5 }
+    ensures too_long_confirm { ask_refusal Server (channel_opened Server) (AskConfirm 5 20 16 (replicate 33984 0)) ≡ Some TooLong }
     ensures refuse { ask_refusal Server (channel_opened Server) (AskRefuse 5 1) ≡ None }
-    ensures refuse_of_no_open { ask_refusal Server (channel_confirmed Server) (AskRefuse 5 1) ≡ Some 3 }
+    ensures refuse_of_no_open { ask_refusal Server (channel_confirmed Server) (AskRefuse 5 1) ≡ Some NoChannel }
     ensures give_data { ask_refusal Client (channel_confirmed Client) (AskData 3 None (replicate 16 0)) ≡ None }
-    ensures data_on_no_channel { ask_refusal Client (channel_opened Client) (AskData 3 None []) ≡ Some 3 }
-    ensures data_after_own_eof { ask_refusal Client (says_on 3 (ChannelEof 5) ∷ channel_confirmed Client) (AskData 3 None (replicate 17 0)) ≡ Some 6 }
-    ensures data_after_own_close { ask_refusal Client (says_on 3 (ChannelClose 5) ∷ channel_confirmed Client) (AskData 3 None []) ≡ Some 6 }
-    ensures data_after_both_closed { ask_refusal Client (hears_on 3 (ChannelClose 3) ∷ says_on 3 (ChannelClose 5) ∷ channel_confirmed Client) (AskData 3 None []) ≡ Some 3 }
-    ensures data_over_most_of_peer { ask_refusal Client (channel_confirmed Client) (AskData 3 None (replicate 17 0)) ≡ Some 5 }
-    ensures data_over_room { ask_refusal Client (said_data ∷ channel_confirmed Client) (AskData 3 None (replicate 5 0)) ≡ Some 4 }
+    ensures data_on_no_channel { ask_refusal Client (channel_opened Client) (AskData 3 None []) ≡ Some NoChannel }
+    ensures data_after_own_eof { ask_refusal Client (says_on 3 (ChannelEof 5) ∷ channel_confirmed Client) (AskData 3 None (replicate 17 0)) ≡ Some AskRefusal.Ended }
+    ensures data_after_own_close { ask_refusal Client (says_on 3 (ChannelClose 5) ∷ channel_confirmed Client) (AskData 3 None []) ≡ Some AskRefusal.Ended }
+    ensures data_after_both_closed { ask_refusal Client (hears_on 3 (ChannelClose 3) ∷ says_on 3 (ChannelClose 5) ∷ channel_confirmed Client) (AskData 3 None []) ≡ Some NoChannel }
+    ensures data_over_most_of_peer { ask_refusal Client (channel_confirmed Client) (AskData 3 None (replicate 17 0)) ≡ Some TooLong }
+    ensures data_over_room { ask_refusal Client (said_data ∷ channel_confirmed Client) (AskData 3 None (replicate 5 0)) ≡ Some NoRoom }
     ensures data_within_room { ask_refusal Client (said_data ∷ channel_confirmed Client) (AskData 3 None (replicate 4 0)) ≡ None }
-    ensures too_long_before_no_room { ask_refusal Client (said_data ∷ channel_confirmed Client) (AskData 3 None (replicate 17 0)) ≡ Some 5 }
+    ensures too_long_before_no_room { ask_refusal Client (said_data ∷ channel_confirmed Client) (AskData 3 None (replicate 17 0)) ≡ Some TooLong }
     ensures largest_data { ask_refusal Client wide_channel (AskData 3 None (replicate 32768 0)) ≡ None }
-    ensures larger_data { ask_refusal Client wide_channel (AskData 3 None (replicate 32769 0)) ≡ Some 5 }
-    ensures extended_data_over_room { ask_refusal Client (said_data ∷ channel_confirmed Client) (AskData 3 (Some 1) (replicate 5 0)) ≡ Some 4 }
-    ensures extended_data_over_most { ask_refusal Client (channel_confirmed Client) (AskData 3 (Some 1) (replicate 17 0)) ≡ Some 5 }
+    ensures larger_data { ask_refusal Client wide_channel (AskData 3 None (replicate 32769 0)) ≡ Some TooLong }
+    ensures extended_data_over_room { ask_refusal Client (said_data ∷ channel_confirmed Client) (AskData 3 (Some 1) (replicate 5 0)) ≡ Some NoRoom }
+    ensures extended_data_over_most { ask_refusal Client (channel_confirmed Client) (AskData 3 (Some 1) (replicate 17 0)) ≡ Some TooLong }
     ensures grant { ask_refusal Client (channel_confirmed Client) (AskAdjust 3 4294967285) ≡ None }
-    ensures grant_too_much { ask_refusal Client (channel_confirmed Client) (AskAdjust 3 4294967286) ≡ Some 10 }
+    ensures grant_too_much { ask_refusal Client (channel_confirmed Client) (AskAdjust 3 4294967286) ≡ Some TooMuch }
     ensures grant_after_data { ask_refusal Client (heard_data ∷ channel_confirmed Client) (AskAdjust 3 4294967293) ≡ None }
-    ensures grant_on_no_channel { ask_refusal Client (channel_opened Client) (AskAdjust 3 1) ≡ Some 3 }
-    ensures grant_after_own_close { ask_refusal Client (says_on 3 (ChannelClose 5) ∷ channel_confirmed Client) (AskAdjust 3 1) ≡ Some 6 }
+    ensures grant_on_no_channel { ask_refusal Client (channel_opened Client) (AskAdjust 3 1) ≡ Some NoChannel }
+    ensures grant_after_own_close { ask_refusal Client (says_on 3 (ChannelClose 5) ∷ channel_confirmed Client) (AskAdjust 3 1) ≡ Some AskRefusal.Ended }
     ensures grant_after_own_eof { ask_refusal Client (says_on 3 (ChannelEof 5) ∷ channel_confirmed Client) (AskAdjust 3 1) ≡ None }
     ensures end_of_data { ask_refusal Client (channel_confirmed Client) (AskEof 3) ≡ None }
-    ensures second_own_eof { ask_refusal Client (says_on 3 (ChannelEof 5) ∷ channel_confirmed Client) (AskEof 3) ≡ Some 6 }
-    ensures eof_after_own_close { ask_refusal Client (says_on 3 (ChannelClose 5) ∷ channel_confirmed Client) (AskEof 3) ≡ Some 6 }
-    ensures eof_on_no_channel { ask_refusal Client (channel_opened Client) (AskEof 3) ≡ Some 3 }
+    ensures second_own_eof { ask_refusal Client (says_on 3 (ChannelEof 5) ∷ channel_confirmed Client) (AskEof 3) ≡ Some AskRefusal.Ended }
+    ensures eof_after_own_close { ask_refusal Client (says_on 3 (ChannelClose 5) ∷ channel_confirmed Client) (AskEof 3) ≡ Some AskRefusal.Ended }
+    ensures eof_on_no_channel { ask_refusal Client (channel_opened Client) (AskEof 3) ≡ Some NoChannel }
     ensures close_after_own_eof { ask_refusal Client (says_on 3 (ChannelEof 5) ∷ channel_confirmed Client) (AskClose 3) ≡ None }
-    ensures second_own_close { ask_refusal Client (says_on 3 (ChannelClose 5) ∷ channel_confirmed Client) (AskClose 3) ≡ Some 6 }
-    ensures close_on_no_channel { ask_refusal Client (channel_opened Client) (AskClose 3) ≡ Some 3 }
-    ensures many_own_requests { ask_refusal Client (replicate 255 said_request ++ channel_confirmed Client) (AskRequest 3 [] true []) ≡ Some 9 }
-    ensures too_many_own_requests { ask_refusal Client (replicate 256 said_request ++ channel_confirmed Client) (AskRequest 3 [] true []) ≡ Some 2 }
-    ensures own_request_without_reply { ask_refusal Client (replicate 256 said_request ++ channel_confirmed Client) (AskRequest 3 [] false []) ≡ Some 9 }
-    ensures request_on_no_channel { ask_refusal Client (channel_opened Client) (AskRequest 3 [] true []) ≡ Some 3 }
-    ensures request_after_own_close { ask_refusal Client (says_on 3 (ChannelClose 5) ∷ channel_confirmed Client) (AskRequest 3 [] true []) ≡ Some 6 }
+    ensures second_own_close { ask_refusal Client (says_on 3 (ChannelClose 5) ∷ channel_confirmed Client) (AskClose 3) ≡ Some AskRefusal.Ended }
+    ensures close_on_no_channel { ask_refusal Client (channel_opened Client) (AskClose 3) ≡ Some NoChannel }
+    ensures many_own_requests { ask_refusal Client (replicate 255 said_request ++ channel_confirmed Client) (AskRequest 3 [] true []) ≡ Some RekeyDue }
+    ensures too_many_own_requests { ask_refusal Client (replicate 256 said_request ++ channel_confirmed Client) (AskRequest 3 [] true []) ≡ Some Busy }
+    ensures own_request_without_reply { ask_refusal Client (replicate 256 said_request ++ channel_confirmed Client) (AskRequest 3 [] false []) ≡ Some RekeyDue }
+    ensures too_many_requests_on_a_channel { first_refusal (ask_checks patient Client (replicate 256 said_request ++ channel_confirmed Client) (AskRequest 3 [] true [])) ≡ Some Busy }
+    ensures request_on_unused_number { first_refusal (ask_checks patient Client (replicate 256 said_request ++ channel_confirmed Client) (AskRequest 900 [] true [])) ≡ Some NoChannel }
+    ensures request_on_no_channel { ask_refusal Client (channel_opened Client) (AskRequest 3 [] true []) ≡ Some NoChannel }
+    ensures request_after_own_close { ask_refusal Client (says_on 3 (ChannelClose 5) ∷ channel_confirmed Client) (AskRequest 3 [] true []) ≡ Some AskRefusal.Ended }
     ensures long_request { ask_refusal Client (channel_confirmed Client) (AskRequest 3 (codes "x") true (replicate 33989 0)) ≡ None }
-    ensures too_long_request { ask_refusal Client (channel_confirmed Client) (AskRequest 3 (codes "x") true (replicate 33990 0)) ≡ Some 5 }
+    ensures too_long_request { ask_refusal Client (channel_confirmed Client) (AskRequest 3 (codes "x") true (replicate 33990 0)) ≡ Some TooLong }
     ensures request_reply { ask_refusal Client (heard_request ∷ channel_confirmed Client) (AskReply 3 true) ≡ None }
-    ensures reply_to_nothing { ask_refusal Client (channel_confirmed Client) (AskReply 3 false) ≡ Some 8 }
-    ensures second_reply { ask_refusal Client (says_on 3 (ChannelFailure 5) ∷ heard_request ∷ channel_confirmed Client) (AskReply 3 true) ≡ Some 8 }
-    ensures reply_on_no_channel { ask_refusal Client (channel_opened Client) (AskReply 3 true) ≡ Some 3 }
-    ensures reply_after_own_close { ask_refusal Client (says_on 3 (ChannelClose 5) ∷ channel_confirmed Client) (AskReply 3 true) ≡ Some 6 }
+    ensures reply_to_nothing { ask_refusal Client (channel_confirmed Client) (AskReply 3 false) ≡ Some NothingOwed }
+    ensures second_reply { ask_refusal Client (says_on 3 (ChannelFailure 5) ∷ heard_request ∷ channel_confirmed Client) (AskReply 3 true) ≡ Some NothingOwed }
+    ensures reply_on_no_channel { ask_refusal Client (channel_opened Client) (AskReply 3 true) ≡ Some NoChannel }
+    ensures reply_after_own_close { ask_refusal Client (says_on 3 (ChannelClose 5) ∷ channel_confirmed Client) (AskReply 3 true) ≡ Some AskRefusal.Ended }
     ensures global_request { ask_refusal Client (admitted Client) (AskGlobal (codes "x") true (replicate 33993 0)) ≡ None }
-    ensures too_long_global_request { ask_refusal Client (admitted Client) (AskGlobal (codes "x") true (replicate 33994 0)) ≡ Some 5 }
-    ensures many_own_globals { ask_refusal Client (replicate 255 (says (GlobalRequest [] true [])) ++ admitted Client) (AskGlobal [] true []) ≡ Some 9 }
-    ensures too_many_own_globals { ask_refusal Client (replicate 256 (says (GlobalRequest [] true [])) ++ admitted Client) (AskGlobal [] true []) ≡ Some 2 }
-    ensures own_global_without_reply { ask_refusal Client (replicate 256 (says (GlobalRequest [] true [])) ++ admitted Client) (AskGlobal [] false []) ≡ Some 9 }
+    ensures too_long_global_request { ask_refusal Client (admitted Client) (AskGlobal (codes "x") true (replicate 33994 0)) ≡ Some TooLong }
+    ensures many_own_globals { ask_refusal Client (replicate 255 (says (GlobalRequest [] true [])) ++ admitted Client) (AskGlobal [] true []) ≡ Some RekeyDue }
+    ensures too_many_own_globals { ask_refusal Client (replicate 256 (says (GlobalRequest [] true [])) ++ admitted Client) (AskGlobal [] true []) ≡ Some Busy }
+    ensures own_global_without_reply { ask_refusal Client (replicate 256 (says (GlobalRequest [] true [])) ++ admitted Client) (AskGlobal [] false []) ≡ Some RekeyDue }
     ensures global_reply { ask_refusal Client (hears (GlobalRequest [] true []) ∷ admitted Client) (AskGlobalReply true (replicate 33999 0)) ≡ None }
-    ensures too_long_global_reply { ask_refusal Client (hears (GlobalRequest [] true []) ∷ admitted Client) (AskGlobalReply true (replicate 34000 0)) ≡ Some 5 }
-    ensures global_reply_to_nothing { ask_refusal Client (hears (GlobalRequest [] false []) ∷ admitted Client) (AskGlobalReply true (replicate 34000 0)) ≡ Some 8 }
+    ensures too_long_global_reply { ask_refusal Client (hears (GlobalRequest [] true []) ∷ admitted Client) (AskGlobalReply true (replicate 34000 0)) ≡ Some TooLong }
+    ensures global_reply_to_nothing { ask_refusal Client (hears (GlobalRequest [] false []) ∷ admitted Client) (AskGlobalReply true (replicate 34000 0)) ≡ Some NothingOwed }
     ensures global_failure { ask_refusal Client (hears (GlobalRequest [] true []) ∷ admitted Client) (AskGlobalReply false []) ≡ None }
-    ensures global_failure_of_nothing { ask_refusal Client (admitted Client) (AskGlobalReply false []) ≡ Some 8 }
+    ensures global_failure_of_nothing { ask_refusal Client (admitted Client) (AskGlobalReply false []) ≡ Some NothingOwed }
 {}
 
 /// What an end adds to a message of the transport or of authentication that it took, the newest first.
@@ -350,7 +355,7 @@ pub fn sending_examples()
     ensures none_sent { OnAsk toy Client (served Client) (AskNone (codes "u")) (says (UserauthRequest (codes "u") connection NoMethod) ∷ []) }
     ensures password_sent { OnAsk toy Client (served Client) (AskPassword (codes "u") (codes "p")) (says right_request ∷ []) }
     ensures probe_sent { OnAsk toy Client (served Client) (AskProbe (codes "u") (codes "toy") (codes "k")) (says (probe (codes "k")) ∷ []) }
-    ensures signature_sent { OnAsk toy Client (served Client) (AskSign (codes "u") (codes "toy") (codes "k")) (says (UserauthRequest (codes "u") connection (Publickey (codes "toy") (codes "k") (Some right_signature))) ∷ []) }
+    ensures signature_sent { OnAsk toy Client (served Client) (AskSign (codes "u") (codes "toy") (codes "k")) (says (UserauthRequest (codes "u") connection (Publickey (codes "toy") (codes "k") (Some (take 4096 right_signature)))) ∷ []) }
     ensures rekey_sent { (side : Side) → OnAsk toy side (fed_again side) AskRekey (says (KexInit (offer_of side false)) ∷ []) }
     ensures disconnect_sent { OnAsk toy Client (opened Client) (AskDisconnect (codes "x")) (Died ∷ says (Disconnect 11 (codes "x") []) ∷ []) }
     ensures open_sent { OnAsk toy Client (admitted Client) (AskOpen (codes "session") 10 8 []) (Told (Opening 3) ∷ says_on 3 open_message ∷ []) }
@@ -387,13 +392,13 @@ pub fn choice_examples()
 
 /// Epochs, numbers and keys of a direction.
 pub fn number_examples()
-    ensures number_before_newkeys { wire_number (sent (offered Client)) ≡ 2 }
-    ensures number_after_newkeys { (side : Side) → wire_number (sent (completed side)) ≡ 0 }
-    ensures number_taken_before_newkeys { wire_number (took (completed Client)) ≡ 2 }
-    ensures number_taken_after_newkeys { (side : Side) → wire_number (took (keyed side)) ≡ 0 }
-    ensures number_later { wire_number (sent (admitted Client)) ≡ 2 }
-    ensures number_after_later_newkeys { (side : Side) → wire_number (sent (completed_again side)) ≡ 0 }
-    ensures skipped_packet_has_number { wire_number (took (TookGuess [] ∷ hears (KexInit (guessing Server true)) ∷ lined Server)) ≡ 2 }
+    ensures number_before_newkeys { sending_number Client (offered Client) ≡ 2 }
+    ensures number_after_newkeys { (side : Side) → sending_number side (completed side) ≡ 0 }
+    ensures number_taken_before_newkeys { taking_number Client (completed Client) ≡ 2 }
+    ensures number_taken_after_newkeys { (side : Side) → taking_number side (keyed side) ≡ 0 }
+    ensures number_later { sending_number Client (admitted Client) ≡ 2 }
+    ensures number_after_later_newkeys { (side : Side) → sending_number side (completed_again side) ≡ 0 }
+    ensures skipped_packet_has_number { taking_number Server (TookGuess [] ∷ hears (KexInit (guessing Server true)) ∷ lined Server) ≡ 2 }
     ensures epoch_before_newkeys { (side : Side) → epoch (sent (offered side)) ≡ 0 }
     ensures epoch_after_newkeys { (side : Side) → epoch (sent (completed side)) ≡ 1 }
     ensures epoch_of_peer { (side : Side) → epoch (took (completed side)) ≡ 0 }
@@ -427,26 +432,30 @@ pub fn authentication_examples()
     ensures probe_of_other_key { is_good_probe toy (codes "u") connection (Publickey (codes "toy") (codes "l") None) ≡ false }
     ensures probe_for_other_service { is_good_probe toy (codes "u") userauth (Publickey (codes "toy") (codes "k") None) ≡ false }
     ensures probe_not_configured { is_good_probe (with_methods (codes "password" ∷ [])) (codes "u") connection (Publickey (codes "toy") (codes "k") None) ≡ false }
-    ensures longest_key { is_known_key friendly [] (replicate 64 0) (replicate 16384 0) ≡ true }
-    ensures longer_key { is_known_key friendly [] [] (replicate 16385 0) ≡ false }
-    ensures longer_algorithm { is_known_key friendly [] (replicate 65 0) [] ≡ false }
+    ensures longest_key { is_known_key (judge_of friendly) [] (replicate 64 0) (replicate 16384 0) ≡ true }
+    ensures longer_key { is_known_key (judge_of friendly) [] [] (replicate 16385 0) ≡ false }
+    ensures longer_algorithm { is_known_key (judge_of friendly) [] (replicate 65 0) [] ≡ false }
     ensures what_is_signed { signed_text (codes "s") (codes "u") (codes "c") (codes "t") (codes "k") ≡ 0 ∷ 0 ∷ 0 ∷ 1 ∷ 115 ∷ 50 ∷ 0 ∷ 0 ∷ 0 ∷ 1 ∷ 117 ∷ 0 ∷ 0 ∷ 0 ∷ 1 ∷ 99 ∷ 0 ∷ 0 ∷ 0 ∷ 9 ∷ 112 ∷ 117 ∷ 98 ∷ 108 ∷ 105 ∷ 99 ∷ 107 ∷ 101 ∷ 121 ∷ 1 ∷ 0 ∷ 0 ∷ 0 ∷ 1 ∷ 116 ∷ 0 ∷ 0 ∷ 0 ∷ 1 ∷ 107 ∷ [] }
 {}
 
-/// What holds where no more channels or owed replies fit: with 1,024 channels an end has no place for another, and it owes at most 256 replies.
+/// What holds where no more channels or owed replies fit: with 1,024 channels an end has no place for another, and it
+/// owes at most 256 replies.
 pub fn limits()
-    ensures open_refused_while_many_are_owed { (h : List Item) → is_full Client h ≡ true → owes_many Client h ≡ true → refusal Client h open_message ≡ Some 19 }
-    ensures open_while_few_are_owed { (h : List Item) → owes_many Client h ≡ false → refusal Client h open_message ≡ None }
+    ensures open_refused_while_many_are_owed { (h : List Item) → is_full Client h ≡ true → is_owed_limit_reached Client h ≡ true → refusal Client h open_message ≡ Some OwedFull }
+    ensures open_while_few_are_owed { (h : List Item) → is_owed_limit_reached Client h ≡ false → refusal Client h open_message ≡ None }
     ensures open_with_place { (h : List Item) → is_full Client h ≡ false → refusal Client h open_message ≡ None }
-    ensures close_refused_while_many_are_owed { (h : List Item) (x : ℕ) → is_confirmed x (notes Client h) ≡ true → has_closed x (notes Client h) ≡ false → owes_many Client h ≡ true → refusal Client h (ChannelClose x) ≡ Some 19 }
+    ensures close_refused_while_many_are_owed { (h : List Item) (x : ℕ) → is_confirmed x (notes Client h) ≡ true → has_closed x (notes Client h) ≡ false → is_owed_limit_reached Client h ≡ true → refusal Client h (ChannelClose x) ≡ Some OwedFull }
     ensures close_that_owes_nothing { (h : List Item) (x : ℕ) → is_confirmed x (notes Client h) ≡ true → has_closed x (notes Client h) ≡ true → refusal Client h (ChannelClose x) ≡ None }
-    ensures many { map is_many (255 ∷ 256 ∷ []) ≡ false ∷ true ∷ [] }
-    ensures many_are_owed_while_blocked { (h : List Item) → blocked h ≡ false → owes_many Client h ≡ false }
-    ensures open_asked_without_place { (h : List Item) (window most : ℕ) → authenticated Client h ≡ true → blocked h ≡ false → is_rekey_due toy Client h ≡ false → is_full Client h ≡ true → ask_refusal Client h (AskOpen [] window most []) ≡ Some 7 }
+    ensures many { map is_limit_reached (255 ∷ 256 ∷ []) ≡ false ∷ true ∷ [] }
+    ensures many_are_owed_while_blocked { (h : List Item) → blocked h ≡ false → is_owed_limit_reached Client h ≡ false }
+    ensures open_asked_without_place { (h : List Item) (window most : ℕ) → authenticated Client h ≡ true → blocked h ≡ false → is_rekey_due toy Client h ≡ false → is_full Client h ≡ true → ask_refusal Client h (AskOpen [] window most []) ≡ Some TableFull }
 {}
 
-/// The reason codes of refusals (RFC 4253 section 11.1).
-pub fn reasons()
-    ensures codes_of_refusals { map refusal_reason (from_to 1 19) ≡ None ∷ None ∷ map Some (2 ∷ 2 ∷ 5 ∷ 2 ∷ 2 ∷ 3 ∷ 3 ∷ 3 ∷ 9 ∷ 3 ∷ 7 ∷ 2 ∷ 14 ∷ 2 ∷ 2 ∷ 2 ∷ 2 ∷ []) }
-    ensures names_of_refusals { map refusal_name (from_to 1 19) ≡ codes "BadLine" ∷ codes "BadVersion" ∷ codes "BadLength" ∷ codes "BadPadding" ∷ codes "BadTag" ∷ codes "BadMessage" ∷ codes "Unexpected" ∷ codes "NoCommon" ∷ codes "NotStrict" ∷ codes "BadPoint" ∷ codes "BadHost" ∷ codes "NoMaterial" ∷ codes "NoService" ∷ codes "NumberSpent" ∷ codes "TooManyTries" ∷ codes "UnknownChannel" ∷ codes "WindowOverrun" ∷ codes "WindowTooLarge" ∷ codes "OwedFull" ∷ [] }
+/// The numbers and the names of refusals, and their reason codes (RFC 4253 section 11.1).
+pub fn refusals()
+    ensures numbers { map refusal_number every_refusal ≡ from_to 1 19 }
+    ensures reason_codes { map refusal_reason every_refusal ≡ None ∷ None ∷ map Some (2 ∷ 2 ∷ 5 ∷ 2 ∷ 2 ∷ 3 ∷ 3 ∷ 3 ∷ 9 ∷ 3 ∷ 7 ∷ 2 ∷ 14 ∷ 2 ∷ 2 ∷ 2 ∷ 2 ∷ []) }
+    ensures names { map refusal_name every_refusal ≡ codes "BadLine" ∷ codes "BadVersion" ∷ codes "BadLength" ∷ codes "BadPadding" ∷ codes "BadTag" ∷ codes "BadMessage" ∷ codes "Unexpected" ∷ codes "NoCommon" ∷ codes "NotStrict" ∷ codes "BadPoint" ∷ codes "BadHost" ∷ codes "NoMaterial" ∷ codes "NoService" ∷ codes "NumberSpent" ∷ codes "TooManyTries" ∷ codes "UnknownChannel" ∷ codes "WindowOverrun" ∷ codes "WindowTooLarge" ∷ codes "OwedFull" ∷ [] }
+    ensures ask_numbers { map ask_refusal_number every_ask_refusal ≡ from_to 1 12 }
+    ensures ask_names { map ask_refusal_name every_ask_refusal ≡ codes "NotYet" ∷ codes "Busy" ∷ codes "NoChannel" ∷ codes "NoRoom" ∷ codes "TooLong" ∷ codes "Ended" ∷ codes "TableFull" ∷ codes "NothingOwed" ∷ codes "RekeyDue" ∷ codes "TooMuch" ∷ codes "WrongSide" ∷ codes "NoMaterial" ∷ [] }
 {}

@@ -1,9 +1,10 @@
 ghost use Rattle.std.specs.Prelude.{◌≡◌, ◌++◌, ◌⊎◌, ℕ, Bool, true, false, List, [], ◌∷◌, codes, replicate, Option, Some, None};
-ghost use Rattle.ssh_model.specs.Line.{IsLineBegun, IsVersionLine, LineUnit, line_end};
-ghost use Rattle.ssh_model.specs.Outcome.{HasUnit, Outcome, Outcome.OtherLine, Outcome.RefusedLine, Outcome.VersionLine};
+ghost use Rattle.ssh_model.specs.Wire.Line.{IsLineBegun, IsVersionLine, LineUnit, line_end};
+ghost use Rattle.ssh_model.specs.Wire.Outcome.{HasUnit, Outcome, Outcome.OtherLine, Outcome.RefusedLine, Outcome.VersionLine};
+ghost use Rattle.ssh_model.specs.Sessions.Refusals.{Refusal.BadLine, Refusal.BadVersion};
 
-/// Before the version line (RFC 4253 section 4.2) no unit of the stream is a beginning of another, a unit has one outcome and
-/// at least one byte, and bytes have a unit in front exactly where they are not the beginning of a line.
+/// Before the version line (RFC 4253 section 4.2) no unit of the stream is a prefix of another, a unit has one outcome
+/// and at least one byte, and bytes have a unit in front exactly where they are not a prefix of a line.
 pub fn line_units()
     ensures stand_alone { (from_server : Bool) (others : ℕ) (unit more other : List ℕ) (a b : Outcome) → LineUnit from_server others unit a → LineUnit from_server others other b → unit ++ more ≡ other → more ≡ [] }
     ensures have_one_outcome { (from_server : Bool) (others : ℕ) (unit : List ℕ) (a b : Outcome) → LineUnit from_server others unit a → LineUnit from_server others unit b → a ≡ b }
@@ -25,16 +26,16 @@ pub fn line_examples()
     ensures version_after_others { LineUnit true 64 (codes "SSH-2.0-x" ++ line_end) (VersionLine (codes "SSH-2.0-x")) }
     ensures comments { IsVersionLine (codes "2.0") (codes "x") (Some (codes "of-y z")) (codes "SSH-2.0-x of-y z" ++ line_end) }
     ensures old_version_of_a_server { LineUnit true 0 (codes "SSH-1.99-x" ++ line_end) (VersionLine (codes "SSH-1.99-x")) }
-    ensures old_version_of_a_client { LineUnit false 0 (codes "SSH-1.99-x" ++ line_end) (RefusedLine 2) }
-    ensures only_one_minus { LineUnit true 0 (codes "SSH-2.0" ++ line_end) (RefusedLine 1) }
-    ensures no_software { LineUnit true 0 (codes "SSH-2.0-" ++ line_end) (RefusedLine 1) }
+    ensures old_version_of_a_client { LineUnit false 0 (codes "SSH-1.99-x" ++ line_end) (RefusedLine BadVersion) }
+    ensures only_one_minus { LineUnit true 0 (codes "SSH-2.0" ++ line_end) (RefusedLine BadLine) }
+    ensures no_software { LineUnit true 0 (codes "SSH-2.0-" ++ line_end) (RefusedLine BadLine) }
     ensures other_line_of_a_server { LineUnit true 63 (codes "hello" ++ line_end) (OtherLine (codes "hello")) }
-    ensures one_other_line_too_many { LineUnit true 64 (codes "hello" ++ line_end) (RefusedLine 1) }
-    ensures other_line_of_a_client { LineUnit false 0 (codes "hello" ++ line_end) (RefusedLine 1) }
-    ensures lf_alone { LineUnit false 0 (codes "SSH-2.0-x" ++ 10 ∷ []) (RefusedLine 1) }
-    ensures cr_alone { LineUnit false 0 (codes "SSH-2.0-x" ++ 13 ∷ 13 ∷ []) (RefusedLine 1) }
-    ensures zero_byte { LineUnit false 0 (codes "SSH-2.0" ++ 0 ∷ []) (RefusedLine 1) }
+    ensures one_other_line_too_many { LineUnit true 64 (codes "hello" ++ line_end) (RefusedLine BadLine) }
+    ensures other_line_of_a_client { LineUnit false 0 (codes "hello" ++ line_end) (RefusedLine BadLine) }
+    ensures lf_alone { LineUnit false 0 (codes "SSH-2.0-x" ++ 10 ∷ []) (RefusedLine BadLine) }
+    ensures cr_alone { LineUnit false 0 (codes "SSH-2.0-x" ++ 13 ∷ 13 ∷ []) (RefusedLine BadLine) }
+    ensures zero_byte { LineUnit false 0 (codes "SSH-2.0" ++ 0 ∷ []) (RefusedLine BadLine) }
     ensures longest { LineUnit false 0 (codes "SSH-2.0-x " ++ (replicate 243 97 ++ line_end)) (VersionLine (codes "SSH-2.0-x " ++ replicate 243 97)) }
-    ensures longer { LineUnit false 0 (codes "SSH-2.0-x " ++ (replicate 244 97 ++ 13 ∷ [])) (RefusedLine 1) }
+    ensures longer { LineUnit false 0 (codes "SSH-2.0-x " ++ (replicate 244 97 ++ 13 ∷ [])) (RefusedLine BadLine) }
     ensures begun { IsLineBegun (codes "SSH-2.0-x" ++ 13 ∷ []) }
 {}

@@ -1,36 +1,37 @@
 ghost use Rattle.std.specs.Prelude.{◌++◌, ◌↔◌, ℕ, List};
-ghost use Rattle.ssh_model.specs.History.{Side};
-ghost use Rattle.ssh_model.specs.Party.{Parties, AreLawful};
-ghost use Rattle.ssh_model.specs.Session.{Done, part};
-ghost use Rattle.ssh_model.specs.Turn.{Run};
-ghost use Rattle.ssh_model.specs.Delivery.{Delivered, InPieces};
-ghost use Rattle.ssh_model.specs.Events.{Event, Plays, World, reading_of};
-ghost use Rattle.ssh_model.specs.Honest.{IsHonest};
-ghost use Rattle.ssh_model.specs.Seal.{IsSealing};
-ghost use Rattle.ssh_model.specs.Safe.{Agreement, Authorized, Beginning, Undisturbed, Windows, WindowsAt};
+ghost use Rattle.ssh_model.specs.Side.{Side};
+ghost use Rattle.ssh_model.specs.Sessions.Parties.{Parties, AreLawful, BothOffer};
+ghost use Rattle.ssh_model.specs.Sessions.Items.{Done, part};
+ghost use Rattle.ssh_model.specs.Sessions.Turns.{Run};
+ghost use Rattle.ssh_model.specs.Wire.Delivery.{Delivered, InPieces};
+ghost use Rattle.ssh_model.specs.Sessions.Events.{Event, Plays, World, reading_of};
+ghost use Rattle.ssh_model.specs.Sessions.Honest.{IsHonest};
+ghost use Rattle.ssh_model.specs.Wire.Sealing.{IsSealing};
+ghost use Rattle.ssh_model.specs.Sessions.Claims.{Agreement, Authorized, Beginning, Undisturbed, Windows, WindowsAt};
 
-/// In an honest run the ends agree on the eight inputs of each exchange that the client completed, or under whose keys
-/// the server took a message.
+/// In an honest run of two ends that offer strict key exchange they agree on the eight inputs of each exchange that the
+/// client completed, or under whose keys the server took a message.
 pub fn agreement<K>()
-    ensures { (p : Parties K) → AreLawful p → (run : List Done) → Run p run → IsHonest p run → Agreement p run }
+    ensures { (p : Parties K) → AreLawful p → BothOffer p → (run : List Done) → Run p run → IsHonest p run → Agreement p run }
 {}
 
-/// In an honest run what each end took after its first NEWKEYS is a beginning of what the other sent after its own,
-/// payload by payload.
+/// In an honest run of two ends that offer strict key exchange what each end took after its first NEWKEYS is a prefix
+/// of what the other sent after its own, payload by payload.
 pub fn beginning<K>()
-    ensures { (p : Parties K) → AreLawful p → (run : List Done) → Run p run → IsHonest p run → Beginning run }
+    ensures { (p : Parties K) → AreLawful p → BothOffer p → (run : List Done) → Run p run → IsHonest p run → Beginning run }
 {}
 
-/// In an honest run no channel is held, and no message numbered 80 or above was sent or taken, unless the server
-/// accepted a request that the client had sent.
+/// In an honest run of two ends that offer strict key exchange no channel is held, and no message numbered 80 or above
+/// was sent or taken, unless the server accepted a request that the client had sent.
 pub fn authorized<K>()
-    ensures { (p : Parties K) → AreLawful p → (run : List Done) → Run p run → IsHonest p run → Authorized p run }
+    ensures { (p : Parties K) → AreLawful p → BothOffer p → (run : List Done) → Run p run → IsHonest p run → Authorized p run }
 {}
 
-/// In an honest run no window is overrun: on every channel, at each end, data sent is at most the window taken, each part
-/// of which the other end had sent, and data taken is at most the window granted.
+/// In an honest run of two ends that offer strict key exchange no window is overrun: on every channel, at each end,
+/// data sent is at most the window taken, each part of which the other end had sent, and data taken is at most the
+/// window granted.
 pub fn windows<K>()
-    ensures { (p : Parties K) → AreLawful p → (run : List Done) → Run p run → IsHonest p run → Windows run }
+    ensures { (p : Parties K) → AreLawful p → BothOffer p → (run : List Done) → Run p run → IsHonest p run → Windows run }
 {}
 
 /// Each end keeps its windows in every run, whatever comes to it.
@@ -38,10 +39,11 @@ pub fn windows_at_each_end<K>()
     ensures { (p : Parties K) → AreLawful p → (run : List Done) → Run p run → (side : Side) → WindowsAt side (part side run) }
 {}
 
-/// In an honest run neither end refuses the other for its channels or windows, the data taken on a channel are a beginning
-/// of those sent on it, and each channel on which data was taken has a partner.
+/// In an honest run of two ends that offer strict key exchange neither end refuses the other for its channels or
+/// windows, the data taken on a channel are a prefix of those sent on it, and each channel on which data was taken has
+/// a partner.
 pub fn undisturbed<K>()
-    ensures { (p : Parties K) → AreLawful p → (run : List Done) → Run p run → IsHonest p run → Undisturbed run }
+    ensures { (p : Parties K) → AreLawful p → BothOffer p → (run : List Done) → Run p run → IsHonest p run → Undisturbed run }
 {}
 
 /// Whatever is asked, fed and delivered gives a run, so each law of runs holds of it at every moment.
@@ -49,13 +51,13 @@ pub fn every_play<K>()
     ensures { (p : Parties K) → (before after : World) (events : List Event) → Plays p before events after → Run p before.run → Run p after.run }
 {}
 
-/// A beginning of an honest run is honest.
+/// A prefix of an honest run is honest.
 pub fn honest_beginnings<K>()
     ensures { (p : Parties K) → (more run : List Done) → IsHonest p (more ++ run) → IsHonest p run }
 {}
 
-/// A piece that is delivered to an end and then another allow the same histories and leave the same bytes as the one piece
-/// of both.
+/// A piece that is delivered to an end and then another allow the same histories and leave the same bytes as the one
+/// piece of both.
 pub fn session_pieces<K>()
     ensures { (p : Parties K) → IsSealing p.crypto → (side : Side) (run last : List Done) (one two rest : List ℕ) →
         Delivered (reading_of p side) run (one ++ two) last rest ↔ InPieces (reading_of p side) run one two last rest }

@@ -1,12 +1,12 @@
 ghost use Rattle.std.specs.Prelude.{◌≡◌, ◌++◌, ◌⊎◌, ◌↔◌, ℕ, Bool, false, List, []};
-ghost use Rattle.ssh_model.specs.DataTypes.{AreBytes};
-ghost use Rattle.ssh_model.specs.Delivery.{Delivered, InPieces, Waits};
-ghost use Rattle.ssh_model.specs.Outcome.{HasUnit, Outcome};
-ghost use Rattle.ssh_model.specs.Seal.{Crypto, IsSealing};
-ghost use Rattle.ssh_model.specs.Unit.{IsStage, IsUnit, IsUnitBegun, Stage, reading};
+ghost use Rattle.ssh_model.specs.Wire.DataTypes.{AreBytes};
+ghost use Rattle.ssh_model.specs.Wire.Delivery.{Delivered, InPieces, Waits};
+ghost use Rattle.ssh_model.specs.Wire.Outcome.{HasUnit, Outcome};
+ghost use Rattle.ssh_model.specs.Wire.Sealing.{Crypto, IsSealing};
+ghost use Rattle.ssh_model.specs.Wire.Unit.{IsStage, IsUnit, IsUnitBegun, Stage, reading};
 
-/// At one stage no unit of the stream is a beginning of another, a unit has one outcome and at least one byte, and bytes have a
-/// unit in front exactly where they are not the beginning of one.
+/// At one stage no unit of the stream is a prefix of another, a unit has one outcome and at least one byte, and bytes
+/// have a unit in front exactly where they are not a prefix of one.
 pub fn stream_units<K>()
     ensures stand_alone { (c : Crypto K) (stage : Stage K) (unit more other : List ℕ) (a b : Outcome) → IsSealing c → IsUnit c stage unit a → IsUnit c stage other b → unit ++ more ≡ other → more ≡ [] }
     ensures have_one_outcome { (c : Crypto K) (stage : Stage K) (unit : List ℕ) (a b : Outcome) → IsSealing c → IsUnit c stage unit a → IsUnit c stage unit b → a ≡ b }
@@ -36,7 +36,7 @@ pub fn any_pieces<E: StreamEnd>()
         Delivered (reading E.crypto E.stage E.after E.is_dead) h (one ++ two) last rest ↔ InPieces (reading E.crypto E.stage E.after E.is_dead) h one two last rest }
 {}
 
-/// An end that is not dead waits exactly where it has the beginning of a unit.
+/// An end that is not dead waits exactly where it has a prefix of a unit.
 pub fn waits_where_begun<E: StreamEnd>()
     ensures begun_waits { IsSealing E.crypto → (h : E.History) (bytes : List ℕ) → IsUnitBegun E.crypto (E.stage h) bytes → Waits (reading E.crypto E.stage E.after E.is_dead) h bytes }
     ensures waits_begun { IsSealing E.crypto → (h : E.History) (bytes : List ℕ) → E.is_dead h ≡ false → IsStage (E.stage h) → AreBytes bytes → Waits (reading E.crypto E.stage E.after E.is_dead) h bytes →

@@ -6,7 +6,6 @@ pub mod Receiving
 pub mod Readings
 pub mod Opening
 pub mod Writing
-pub mod Largest
 pub mod FirstOthers
 pub mod Softwares
 pub mod VersionLines

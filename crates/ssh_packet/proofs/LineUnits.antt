@@ -1,8 +1,9 @@
 -- One byte more of a line.
 use Rattle.std.proofs.Common.{◌≡◌, ℕ, ◌+◌, ◌<◌, ◌⊎◌, inl, inr, Bool, true, false, List, [], ◌∷◌, ◌++◌, length, take, drop, Option, Some, None, is_some, IfSome, refl, ap, sym, subst, ◌∙◌, arith, append_assoc, append-nil, get_or, length-append}
 use Rattle.std.proofs.lemmas.List.{take_more}
-use Rattle.ssh_model.specs.Outcome.{Outcome, Outcome.RefusedLine}
-use Rattle.ssh_model.specs.Line.{IsText, IsLineBegun, IsLineBegun.in_text, IsLineBegun.at_line_end, LineIs, LineUnit, LineUnit.line, LineUnit.zero_byte, LineUnit.lf_without_cr, LineUnit.too_long, line_end}
+use Rattle.ssh_model.specs.Sessions.Refusals as session
+use Rattle.ssh_model.specs.Wire.Outcome.{Outcome, Outcome.RefusedLine}
+use Rattle.ssh_model.specs.Wire.Line.{IsText, IsLineBegun, IsLineBegun.in_text, IsLineBegun.at_line_end, LineIs, LineUnit, LineUnit.line, LineUnit.zero_byte, LineUnit.lf_without_cr, LineUnit.too_long, line_end}
 use Rattle.ssh_packet.specs.Lines.{Ended, Ended.WithVersion, Ended.WithRefusal, LineReading, with_cr, begun_by, ended_by, IsKept}
 use Rattle.ssh_packet.specs.LineKinds.{IsKind}
 use Rattle.ssh_packet.specs.LineSteps.{EndsSo, Finds, GoesOn, EndsWith, LineFinds, Shows, Takes}
@@ -22,13 +23,13 @@ complete s n text o t room is = line text (record { is_text = t; parts = refl; s
 
 pub complete_kind : (s : Bool) (n : ℕ) (text : List ℕ) (kind : LineKind) → IsText text → length text < 254 → IsKind s n text kind → EndsSo s n text (text ++ 13 ∷ 10 ∷ []) kind
 complete_kind s n text Other t room k = (complete s n text _ t room k.0, k.1)
-complete_kind s n text (Version minus) t room k = (complete s n text _ t room k.0, k.1)
+complete_kind s n text (Version minus) t room k = (complete s n text _ t room k.0, k.1, omega (arith, room))
 complete_kind s n text (Refused refusal) t room k = complete s n text _ t room k
 
 -- ---- bytes in the text of a line
 
 -- a byte after a text with which no line goes on
-pub bad_byte : (s : Bool) (n : ℕ) (text : List ℕ) (cr : Bool) (byte : ℕ) → cr ≡ false → IsText text → length (with_cr cr text) < 255 → (byte ≡ 0) ⊎ ((byte ≡ 10) ⊎ (length text ≡ 254)) → LineUnit s n (with_cr cr text ++ byte ∷ []) (RefusedLine 1)
+pub bad_byte : (s : Bool) (n : ℕ) (text : List ℕ) (cr : Bool) (byte : ℕ) → cr ≡ false → IsText text → length (with_cr cr text) < 255 → (byte ≡ 0) ⊎ ((byte ≡ 10) ⊎ (length text ≡ 254)) → LineUnit s n (with_cr cr text ++ byte ∷ []) (RefusedLine session.Refusal.BadLine)
 bad_byte s n text true byte e t room bad = let f : true ≡ false = e in cc f
 bad_byte s n text false byte e t room (inl zero) = zero_byte text t room (ap (λ (b : ℕ). text ++ b ∷ []) zero)
 bad_byte s n text false byte e t room (inr (inl lf)) = lf_without_cr text t room (ap (λ (b : ℕ). text ++ b ∷ []) lf)
@@ -91,7 +92,7 @@ ended_so : (s : Bool) (n : ℕ) (buffer : List ℕ) (filled : ℕ) (cr : Bool) (
 ended_so s n buffer filled cr None byte minus going k =
     let text : List ℕ = take filled buffer in
     let place = k.1 in
-    (WithVersion (drop 4 (take minus text)) (drop (minus + 1) text), ((text, k.0, place.has), refl))
+    (WithVersion text (drop 4 (take minus text)) (drop (minus + 1) text), ((k.0, place.has), refl))
 ended_so s n buffer filled cr (Some (verdict.Version other)) byte minus going k = cc going
 ended_so s n buffer filled cr (Some (verdict.Refused refusal)) byte minus going k = cc going
 

@@ -4,28 +4,28 @@ use Rattle.std.specs.Prelude.{Option, Some, None}
 use Rattle.std.proofs.Math.Seq.{take-append_seam, drop-append_seam, drop-cons}
 use Rattle.std.proofs.lemmas.Bool.{le-leb}
 use Rattle.std.proofs.lemmas.List.{length-take-le, take-append-drop}
-use Rattle.ssh_model.specs.DataTypes.{AreBytes, IsUint32}
-use Rattle.ssh_model.specs.Packet.{IsBody, IsPacket, is_size}
-use Rattle.ssh_model.specs.Seal.{Crypto, IsSealing, IsWhole, is_wire_size, block_under, tag_under, opened_under}
+use Rattle.ssh_model.specs.Wire.DataTypes.{AreBytes, IsUint32}
+use Rattle.ssh_model.specs.Wire.Packet.{Blocks, IsBody, IsPacket, is_size}
+use Rattle.ssh_model.specs.Wire.Sealing.{Crypto, IsSealing, IsWhole, is_wire_size, blocks_under, tag_under, opened_under}
 use Rattle.ssh_packet.specs.Reading.{Finds, HasPadding, Reading, empty, inner}
 use Rattle.ssh_packet.specs.declared.refusal.PacketRefusal.TheVariants.{BadPadding}
 use Rattle.ssh_packet.specs.declared.reader.ReadStep.TheVariants.{Packet, Refused}
 use Rattle.ssh_packet.specs.Sizes.{size_facts}
 
 -- a whole packet has the size of one
-pub whole_size : (block tag : ℕ) (bytes : List ℕ) → IsWhole block tag bytes → IsTrue (is_wire_size block tag (length bytes))
-whole_size block tag bytes w =
+pub whole_size : (blocks : Blocks) (tag : ℕ) (bytes : List ℕ) → IsWhole blocks tag bytes → IsTrue (is_wire_size blocks tag (length bytes))
+whole_size blocks tag bytes w =
     let h = w.has in
     let e : length bytes ≡ 4 + h.count + tag = h.whole in
     let less : leb tag (4 + h.count + tag) ≡ true = le-leb tag (4 + h.count + tag) (omega arith) in
     let rest : 4 + h.count + tag - tag ≡ 4 + h.count = omega arith in
     rw (e, less, rest) h.size
 
-pub whole_room : (block tag : ℕ) (bytes : List ℕ) → IsWhole block tag bytes → tag + 16 ≤ length bytes
-whole_room block tag bytes w = omega (arith, w.has.whole, (size_facts block tag (4 + w.has.count) w.has.size).from)
+pub whole_room : (blocks : Blocks) (tag : ℕ) (bytes : List ℕ) → IsWhole blocks tag bytes → tag + 12 ≤ length bytes
+whole_room blocks tag bytes w = omega (arith, w.has.whole, (size_facts blocks tag (4 + w.has.count) w.has.size).from)
 
-pub whole_most : (block tag : ℕ) (bytes : List ℕ) → IsWhole block tag bytes → length bytes ≤ 35000
-whole_most block tag bytes w = omega (arith, w.has.whole, (size_facts block tag (4 + w.has.count) w.has.size).to)
+pub whole_most : (blocks : Blocks) (tag : ℕ) (bytes : List ℕ) → IsWhole blocks tag bytes → length bytes ≤ 35000
+whole_most blocks tag bytes w = omega (arith, w.has.whole, (size_facts blocks tag (4 + w.has.count) w.has.size).to)
 
 -- ---- the packet that was opened
 
@@ -34,16 +34,16 @@ pub record IsOpened (tag : ℕ) (bytes packet : List ℕ) : Type 0 where
   pub front : take 4 packet ≡ take 4 bytes
   pub size : length packet + tag ≡ length bytes
 
-pub opened_whole : {K : Type 0} (c : Crypto K) (key : Option K) (number : ℕ) (bytes : List ℕ) → IsSealing c → number < 2 ^ 32 → AreBytes bytes → IsWhole (block_under c key) (tag_under c key) bytes
+pub opened_whole : {K : Type 0} (c : Crypto K) (key : Option K) (number : ℕ) (bytes : List ℕ) → IsSealing c → number < 2 ^ 32 → AreBytes bytes → IsWhole (blocks_under c key) (tag_under c key) bytes
     → IsOpened (tag_under c key) bytes (opened_under c key number bytes).bytes
 opened_whole {K} c None number bytes laws n b w = record { front = refl; size = omega arith }
 opened_whole {K} c (Some key) number bytes laws n b w =
-    let size = whole_size (c.block key) (c.tag key) bytes w in
+    let size = whole_size (c.blocks key) (c.tag key) bytes w in
     record { front = laws.opened_front key number bytes n b size; size = laws.opened_length key number bytes n b size }
 
 -- the length field in front of the packet
-field_is : (block tag : ℕ) (bytes packet : List ℕ) → IsWhole block tag bytes → IsOpened tag bytes packet → IsUint32 (length (drop 4 packet)) (take 4 packet)
-field_is block tag bytes packet w o =
+field_is : (blocks : Blocks) (tag : ℕ) (bytes packet : List ℕ) → IsWhole blocks tag bytes → IsOpened tag bytes packet → IsUint32 (length (drop 4 packet)) (take 4 packet)
+field_is blocks tag bytes packet w o =
     let h = w.has in
     let first : take 4 bytes ≡ h.field = ap (take 4) h.parts ∙ ap (λ (n : ℕ). take n (h.field ++ h.rest)) (sym h.counts.count) ∙ take-append_seam h.field h.rest in
     let count : h.count ≡ length (drop 4 packet) = omega (arith, h.whole, o.size, length-drop 4 packet) in
@@ -65,20 +65,20 @@ body_is packet p byte =
       padding_to = omega arith;
     }
 
-pub packet_found : (block tag : ℕ) (bytes packet : List ℕ) → IsWhole block tag bytes → IsOpened tag bytes packet → HasPadding packet → get_or packet 4 0 < 256 → IsPacket block tag (inner packet) packet
-packet_found block tag bytes packet w o p byte =
+pub packet_found : (blocks : Blocks) (tag : ℕ) (bytes packet : List ℕ) → IsWhole blocks tag bytes → IsOpened tag bytes packet → HasPadding packet → get_or packet 4 0 < 256 → IsPacket blocks tag (inner packet) packet
+packet_found blocks tag bytes packet w o p byte =
     let h = w.has in
     let same : 4 + h.count ≡ length packet = omega (arith, h.whole, o.size) in
     record {
       body = drop 4 packet;
       is_body = body_is packet p byte;
-      string = record { front = take 4 packet; size = field_is block tag bytes packet w o; parts = sym (take-append-drop 4 packet) };
-      size = subst (λ (n : ℕ). IsTrue (is_size block tag n)) same h.size;
+      string = record { front = take 4 packet; size = field_is blocks tag bytes packet w o; parts = sym (take-append-drop 4 packet) };
+      size = subst (λ (n : ℕ). IsTrue (is_size blocks tag n)) same h.size;
     }
 
 -- the padding of a packet is told by its fifth byte
-pub padding_told : (block tag : ℕ) (payload packet : List ℕ) → IsPacket block tag payload packet → HasPadding packet
-padding_told block tag payload packet p =
+pub padding_told : (blocks : Blocks) (tag : ℕ) (payload packet : List ℕ) → IsPacket blocks tag payload packet → HasPadding packet
+padding_told blocks tag payload packet p =
     let b = p.is_body in
     let s = p.string in
     let four = s.size.count in
@@ -97,13 +97,13 @@ pub record IsJudged {K : Type 0} (c : Crypto K) (key : Option K) (number tag : �
   pub number_fits : number < 2 ^ 32
   pub are_bytes : AreBytes bytes
   pub tag_is : tag ≡ tag_under c key
-  pub whole : IsWhole (block_under c key) tag bytes
+  pub whole : IsWhole (blocks_under c key) tag bytes
   pub good : (opened_under c key number bytes).good ≡ true
   pub packet : take (length bytes - tag_under c key) left ≡ (opened_under c key number bytes).bytes
   pub size : length left ≡ length bytes
 
-whole_is : {K : Type 0} (c : Crypto K) (key : Option K) (number tag : ℕ) (bytes left : List ℕ) → IsJudged c key number tag bytes left → IsWhole (block_under c key) (tag_under c key) bytes
-whole_is {K} c key number tag bytes left j = subst (λ (n : ℕ). IsWhole (block_under c key) n bytes) j.tag_is j.whole
+whole_is : {K : Type 0} (c : Crypto K) (key : Option K) (number tag : ℕ) (bytes left : List ℕ) → IsJudged c key number tag bytes left → IsWhole (blocks_under c key) (tag_under c key) bytes
+whole_is {K} c key number tag bytes left j = subst (λ (n : ℕ). IsWhole (blocks_under c key) n bytes) j.tag_is j.whole
 
 packet_is : {K : Type 0} (c : Crypto K) (key : Option K) (number tag : ℕ) (bytes left : List ℕ) → IsJudged c key number tag bytes left → take (length left - tag) left ≡ (opened_under c key number bytes).bytes
 packet_is {K} c key number tag bytes left j =
@@ -117,13 +117,13 @@ judged_packet {K} c key number tag bytes left new j byte has after =
     let w = whole_is c key number tag bytes left j in
     let o = opened_whole c key number bytes j.laws j.number_fits j.are_bytes w in
     let packet = (opened_under c key number bytes).bytes in
-    let found : IsPacket (block_under c key) (tag_under c key) (inner packet) packet =
-    packet_found (block_under c key) (tag_under c key) bytes packet w o (subst HasPadding e has) (subst (λ (x : List ℕ). get_or x 4 0 < 256) e byte) in
+    let found : IsPacket (blocks_under c key) (tag_under c key) (inner packet) packet =
+    packet_found (blocks_under c key) (tag_under c key) bytes packet w o (subst HasPadding e has) (subst (λ (x : List ℕ). get_or x 4 0 < 256) e byte) in
     let shown : inner packet ≡ new.payload = ap inner (sym e) ∙ sym (ap (λ (r : Reading). r.payload) after) in (
       record {
-        size = whole_size (block_under c key) (tag_under c key) bytes w;
+        size = whole_size (blocks_under c key) (tag_under c key) bytes w;
         good = j.good;
-        packet = subst (λ (x : List ℕ). IsPacket (block_under c key) (tag_under c key) x packet) shown found;
+        packet = subst (λ (x : List ℕ). IsPacket (blocks_under c key) (tag_under c key) x packet) shown found;
       },
       after ∙ ap (λ (x : List ℕ). record empty { payload = x }) (ap inner e ∙ shown),
     )
@@ -136,7 +136,7 @@ judged_padding {K} c key number tag bytes left new j none after =
       record {
         whole = whole_is c key number tag bytes left j;
         good = j.good;
-        none = λ payload p. none (subst HasPadding (sym e) (padding_told (block_under c key) (tag_under c key) payload (opened_under c key number bytes).bytes p));
+        none = λ payload p. none (subst HasPadding (sym e) (padding_told (blocks_under c key) (tag_under c key) payload (opened_under c key number bytes).bytes p));
       },
       after,
     )

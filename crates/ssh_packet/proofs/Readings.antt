@@ -1,6 +1,7 @@
 -- The value of a reader by its parts.
 use Rattle.std.proofs.Common.{◌≡◌, ℕ, List, [], Option, None, ap, sym, subst, arith, ◌∙◌}
-use Rattle.ssh_model.specs.Seal.{Crypto, IsBegun, IsBegun.no_length, block_under, tag_under}
+use Rattle.ssh_model.specs.Wire.Packet.{Blocks}
+use Rattle.ssh_model.specs.Wire.Sealing.{Crypto, IsBegun, IsBegun.no_length, blocks_under, tag_under}
 use Rattle.ssh_packet.specs.Reading.{Finds, Reading, empty}
 use Rattle.ssh_packet.specs.declared.reader.ReadStep.{ReadStep}
 use Rattle.ssh_packet.specs.declared.reader.ReadStep.TheVariants.{Packet, More, Refused}
@@ -14,13 +15,13 @@ holds_rest r rest e p f =
 
 -- ---- between packets, and in one
 
-pub none_begun : (block tag : ℕ) (r : Reading) → r.rest ≡ [] → IsBegun block tag r.rest
-none_begun block tag r e = subst (λ (x : List ℕ). IsBegun block tag x) (sym e) (no_length (omega arith))
+pub none_begun : (blocks : Blocks) (tag : ℕ) (r : Reading) → r.rest ≡ [] → IsBegun blocks tag r.rest
+none_begun blocks tag r e = subst (λ (x : List ℕ). IsBegun blocks tag x) (sym e) (no_length (omega arith))
 
-pub begun_before : (block tag : ℕ) (old new : Reading) → new ≡ old → IsBegun block tag old.rest → IsBegun block tag new.rest
-begun_before block tag old new e b = subst (λ (r : Reading). IsBegun block tag r.rest) (sym e) b
+pub begun_before : (blocks : Blocks) (tag : ℕ) (old new : Reading) → new ≡ old → IsBegun blocks tag old.rest → IsBegun blocks tag new.rest
+begun_before blocks tag old new e b = subst (λ (r : Reading). IsBegun blocks tag r.rest) (sym e) b
 
-pub still_begun : {K : Type 0} (c : Crypto K) (key : Option K) (number : ℕ) (bytes : List ℕ) (step : ReadStep) (new : Reading) → Finds c key number bytes step new → IsBegun (block_under c key) (tag_under c key) new.rest
-still_begun c key number bytes Packet new f = none_begun (block_under c key) (tag_under c key) new (ap (λ (r : Reading). r.rest) f.1)
-still_begun c key number bytes More new f = begun_before (block_under c key) (tag_under c key) (record empty { rest = bytes }) new f.1 f.0
-still_begun c key number bytes (Refused refusal) new f = none_begun (block_under c key) (tag_under c key) new (ap (λ (r : Reading). r.rest) f.1)
+pub still_begun : {K : Type 0} (c : Crypto K) (key : Option K) (number : ℕ) (bytes : List ℕ) (step : ReadStep) (new : Reading) → Finds c key number bytes step new → IsBegun (blocks_under c key) (tag_under c key) new.rest
+still_begun c key number bytes Packet new f = none_begun (blocks_under c key) (tag_under c key) new (ap (λ (r : Reading). r.rest) f.1)
+still_begun c key number bytes More new f = begun_before (blocks_under c key) (tag_under c key) (record empty { rest = bytes }) new f.1 f.0
+still_begun c key number bytes (Refused refusal) new f = none_begun (blocks_under c key) (tag_under c key) new (ap (λ (r : Reading). r.rest) f.1)

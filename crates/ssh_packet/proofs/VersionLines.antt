@@ -2,8 +2,9 @@
 use Rattle.std.proofs.Common.{◌≡◌, ℕ, ◌+◌, Bool, true, false, List, ◌∷◌, ◌++◌, take, drop, inl, inr, refl, ap, sym, subst, ◌∙◌, arith}
 use Rattle.std.specs.List.{list_all}
 use Rattle.std.proofs.lemmas.List.{drop-take, drop-drop}
-use Rattle.ssh_model.specs.Outcome.{Outcome.VersionLine, Outcome.RefusedLine}
-use Rattle.ssh_model.specs.Line.{HasVersion, IsAccepted, LineIs, LineIs.bad_version, LineIs.bad_software, LineIs.version, is_version_byte, opening}
+use Rattle.ssh_model.specs.Sessions.Refusals.{Refusal.BadLine, Refusal.BadVersion}
+use Rattle.ssh_model.specs.Wire.Outcome.{Outcome.VersionLine, Outcome.RefusedLine}
+use Rattle.ssh_model.specs.Wire.Line.{HasVersion, IsAccepted, LineIs, LineIs.bad_version, LineIs.bad_software, LineIs.version, is_version_byte, opening}
 use Rattle.ssh_packet.specs.LineKinds.{HasMinusAt, HasSoftware}
 use Rattle.ssh_packet.proofs.Softwares.{IsFirstMinus}
 
@@ -22,10 +23,10 @@ Tells r P = (r ≡ true → P) × (P → r ≡ true)
 untold : (r : Bool) (P : Type 0) → Tells r P → r ≡ false → P → ⊥
 untold r P t f p = let e : true ≡ false = sym (t.1 p) ∙ f in cc e
 
-pub not_accepted : (s : Bool) (n at : ℕ) (rest text : List ℕ) (r : Bool) → IsSplit at rest text → Tells r (IsAccepted s (take at rest)) → r ≡ false → LineIs s n text (RefusedLine 2)
+pub not_accepted : (s : Bool) (n at : ℕ) (rest text : List ℕ) (r : Bool) → IsSplit at rest text → Tells r (IsAccepted s (take at rest)) → r ≡ false → LineIs s n text (RefusedLine BadVersion)
 not_accepted s n at rest text r split t f = bad_version (take at rest) (drop (at + 1) rest) (has_version at rest text split) (untold r (IsAccepted s (take at rest)) t f)
 
-pub not_software : (s : Bool) (n at : ℕ) (rest text : List ℕ) (q r : Bool) → IsSplit at rest text → Tells q (IsAccepted s (take at rest)) → q ≡ true → Tells r (HasSoftware (drop (at + 1) rest)) → r ≡ false → LineIs s n text (RefusedLine 1)
+pub not_software : (s : Bool) (n at : ℕ) (rest text : List ℕ) (q r : Bool) → IsSplit at rest text → Tells q (IsAccepted s (take at rest)) → q ≡ true → Tells r (HasSoftware (drop (at + 1) rest)) → r ≡ false → LineIs s n text (RefusedLine BadLine)
 not_software s n at rest text q r split t e u f =
     bad_software (take at rest) (drop (at + 1) rest) (has_version at rest text split) (t.0 e) (λ software comments is. untold r (HasSoftware (drop (at + 1) rest)) u f (software, comments, is))
 

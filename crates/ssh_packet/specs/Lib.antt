@@ -1,6 +1,6 @@
 pub mod Sealing
 pub mod Sizes
-pub mod MacOnlyLaws
+pub mod Bytes
 pub mod Refusals
 pub mod Reading
 pub mod Writing

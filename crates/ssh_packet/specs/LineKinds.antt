@@ -1,8 +1,8 @@
 -- What the text of a complete line is to a reader of lines.
 use Rattle.std.specs.Prelude.{◌≤◌, ◌<◌, ◌+◌, ℕ, Bool, List, length, take, drop, Option}
-use Rattle.ssh_model.specs.Outcome.{Outcome.OtherLine, Outcome.VersionLine, Outcome.RefusedLine}
-use Rattle.ssh_model.specs.Line.{HasVersion, IsSoftware, LineIs, most_others}
-use Rattle.ssh_packet.specs.Refusals.{line_refusal_number}
+use Rattle.ssh_model.specs.Wire.Outcome.{Outcome.OtherLine, Outcome.VersionLine, Outcome.RefusedLine}
+use Rattle.ssh_model.specs.Wire.Line.{HasVersion, IsSoftware, LineIs, most_others}
+use Rattle.ssh_packet.specs.Refusals.{line_refusal}
 use Rattle.ssh_packet.specs.declared.version.LineKind.{LineKind}
 use Rattle.ssh_packet.specs.declared.version.LineKind.TheVariants.{Other, Version, Refused}
 
@@ -15,7 +15,7 @@ pub record HasMinusAt (minus : ℕ) (text : List ℕ) : Type 0 where
 abbrev pub IsKind : (from_server : Bool) (others : ℕ) (text : List ℕ) → LineKind → Type 0
 IsKind from_server others text Other = LineIs from_server others text (OtherLine text) × (others < most_others)
 IsKind from_server others text (Version minus) = LineIs from_server others text (VersionLine text) × HasMinusAt minus text
-IsKind from_server others text (Refused refusal) = LineIs from_server others text (RefusedLine (line_refusal_number refusal))
+IsKind from_server others text (Refused refusal) = LineIs from_server others text (RefusedLine (line_refusal refusal))
 
 -- The bytes are the software's version, and comments where there are any.
 abbrev pub HasSoftware : List ℕ → Type 0

@@ -1,10 +1,10 @@
 -- What one call of a reader of lines finds.
-use Rattle.std.specs.Prelude.{◌≡◌, ◌<◌, ◌+◌, ℕ, Bool, false, List, [], ◌∷◌, ◌++◌, length, take, None, Some, IfSome}
-use Rattle.ssh_model.specs.Outcome.{Outcome.OtherLine, Outcome.VersionLine, Outcome.RefusedLine}
-use Rattle.ssh_model.specs.Line.{HasVersion, IsLineBegun, IsText, LineUnit, most_others}
+use Rattle.std.specs.Prelude.{◌≡◌, ◌<◌, ◌≤◌, ◌+◌, ℕ, Bool, false, List, [], ◌∷◌, ◌++◌, length, take, None, Some, IfSome}
+use Rattle.ssh_model.specs.Wire.Outcome.{Outcome.OtherLine, Outcome.VersionLine, Outcome.RefusedLine}
+use Rattle.ssh_model.specs.Wire.Line.{HasVersion, IsLineBegun, IsText, LineUnit, most_others}
 use Rattle.ssh_packet.specs.Lines.{with_cr, Ended, Ended.WithVersion, Ended.WithRefusal, LineReading}
 use Rattle.ssh_packet.specs.LineKinds.{HasMinusAt}
-use Rattle.ssh_packet.specs.Refusals.{line_refusal_number}
+use Rattle.ssh_packet.specs.Refusals.{line_refusal}
 use Rattle.ssh_packet.specs.declared.line_reader.LineStep.{LineStep}
 use Rattle.ssh_packet.specs.declared.line_reader.LineStep.TheVariants.{Other, Version, More, Refused}
 use Rattle.ssh_packet.specs.declared.version.LineKind.{LineKind}
@@ -17,8 +17,8 @@ use Rattle.ssh_packet.specs.declared.line_reader.Found.TheVariants as found
 -- The unit of this text ends so.
 abbrev pub EndsSo : (from_server : Bool) (others : ℕ) (text unit : List ℕ) → LineKind → Type 0
 EndsSo from_server others text unit kind.Other = LineUnit from_server others unit (OtherLine text) × (others < most_others)
-EndsSo from_server others text unit (kind.Version minus) = LineUnit from_server others unit (VersionLine text) × HasMinusAt minus text
-EndsSo from_server others text unit (kind.Refused refusal) = LineUnit from_server others unit (RefusedLine (line_refusal_number refusal))
+EndsSo from_server others text unit (kind.Version minus) = LineUnit from_server others unit (VersionLine text) × HasMinusAt minus text × (length text ≤ 253)
+EndsSo from_server others text unit (kind.Refused refusal) = LineUnit from_server others unit (RefusedLine (line_refusal refusal))
 
 -- What a byte is after this text of a line, and CR where it was read.
 abbrev pub IsByteKind : (from_server : Bool) (others : ℕ) (text : List ℕ) (after_cr : Bool) (code : ℕ) → ByteKind → Type 0
@@ -26,11 +26,11 @@ IsByteKind from_server others text after_cr code byte.Text = (after_cr ≡ false
 IsByteKind from_server others text after_cr code byte.Return = (after_cr ≡ false) × (code ≡ 13) × (length text < 254)
 IsByteKind from_server others text after_cr code (byte.End end) = EndsSo from_server others text (with_cr after_cr text ++ code ∷ []) end
 
--- What a reader ended with, by the unit of the stream with which it did: the two texts of a version line are what stands
+-- What a reader ended with, by the unit of the stream with which it did: the two parts of a version line are what stands
 -- before its second minus and after it.
 abbrev pub IsEnd : (from_server : Bool) (others : ℕ) (unit : List ℕ) → Ended → Type 0
-IsEnd from_server others unit (WithVersion protoversion software) = (text : List ℕ) × LineUnit from_server others unit (VersionLine text) × HasVersion protoversion software text
-IsEnd from_server others unit (WithRefusal refusal) = LineUnit from_server others unit (RefusedLine (line_refusal_number refusal))
+IsEnd from_server others unit (WithVersion text protoversion software) = LineUnit from_server others unit (VersionLine text) × HasVersion protoversion software text
+IsEnd from_server others unit (WithRefusal refusal) = LineUnit from_server others unit (RefusedLine (line_refusal refusal))
 
 -- The bytes were a unit, and the reader ended with it.
 abbrev pub EndsWith : LineReading → List ℕ → LineReading → Ended → Type 0
@@ -46,7 +46,7 @@ Finds old bytes found.More new = IsLineBegun bytes × (new ≡ record old { begu
 Finds old bytes found.Other new = GoesOn old bytes new
 Finds old bytes found.Ended new = (ended : Ended) × EndsWith old bytes new ended
 
--- a step shows these texts
+-- a step shows these parts
 abbrev pub ShowsVersion : (protoversion software : List ℕ) → LineStep → Type 0
 ShowsVersion protoversion software (Version first second) = (first.now ≡ protoversion) × (second.now ≡ software)
 ShowsVersion protoversion software Other = ⊥
@@ -55,14 +55,14 @@ ShowsVersion protoversion software (Refused refusal) = ⊥
 
 -- a step shows what the reader ended with
 abbrev pub Shows : Ended → LineStep → Type 0
-Shows (WithVersion protoversion software) step = ShowsVersion protoversion software step
+Shows (WithVersion text protoversion software) step = ShowsVersion protoversion software step
 Shows (WithRefusal refusal) step = step ≡ Refused refusal
 
 -- the same of the step that the call answers
 abbrev pub LineFinds : LineReading → List ℕ → LineStep → LineReading → Type 0
 LineFinds old bytes More new = IsLineBegun bytes × (new ≡ record old { begun = bytes })
 LineFinds old bytes Other new = GoesOn old bytes new
-LineFinds old bytes (Version first second) new = EndsWith old bytes new (WithVersion (first.now) (second.now))
+LineFinds old bytes (Version first second) new = (text : List ℕ) × EndsWith old bytes new (WithVersion text (first.now) (second.now))
 LineFinds old bytes (Refused refusal) new = EndsWith old bytes new (WithRefusal refusal)
 
 -- What one call did. A reader that had ended uses nothing, and shows the same again; another goes to the end of one line

@@ -1,13 +1,13 @@
 -- What a reader of lines holds.
 use Rattle.std.specs.Prelude.{◌≤◌, ◌<◌, ◌+◌, ℕ, Bool, true, false, List, [], ◌∷◌, ◌++◌, length, take, drop, Option, None, Some}
-use Rattle.ssh_model.specs.Line.{IsText}
+use Rattle.ssh_model.specs.Wire.Line.{IsText}
 use Rattle.ssh_packet.specs.declared.refusal.LineRefusal.{LineRefusal}
 use Rattle.ssh_packet.specs.declared.line_reader.Verdict.{Verdict}
 use Rattle.ssh_packet.specs.declared.line_reader.Verdict.TheVariants as verdict
 
--- what a reader of lines ended with: the two texts of a version line, or a refusal
+-- what a reader of lines ended with: the text of a version line, with its two parts, or a refusal
 pub data Ended : Type 0 where
-  WithVersion : (protoversion software : List ℕ) → Ended
+  WithVersion : (text protoversion software : List ℕ) → Ended
   WithRefusal : LineRefusal → Ended
 
 -- whose lines are read, the other lines taken, the bytes of the line begun, and what the reader ended with
@@ -16,6 +16,12 @@ pub record LineReading : Type 0 where
   pub others : ℕ
   pub begun : List ℕ
   pub ended : Option Ended
+
+-- the text of the version line that was taken
+abbrev pub version_in : Option Ended → Option (List ℕ)
+version_in None = None
+version_in (Some (WithVersion text protoversion software)) = Some text
+version_in (Some (WithRefusal refusal)) = None
 
 -- nothing is begun, and no line was taken
 abbrev pub no_lines : Bool → LineReading
@@ -34,11 +40,11 @@ begun_by (Some end) after_cr text = []
 
 abbrev pub ended_by : Option Verdict → List ℕ → Option Ended
 ended_by None text = None
-ended_by (Some (verdict.Version minus)) text = Some (WithVersion (drop 4 (take minus text)) (drop (minus + 1) text))
+ended_by (Some (verdict.Version minus)) text = Some (WithVersion text (drop 4 (take minus text)) (drop (minus + 1) text))
 ended_by (Some (verdict.Refused refusal)) text = Some (WithRefusal refusal)
 
--- A line begun is a text that leaves room, and the second minus of a version line stands in its text.
+-- A line begun is a text that leaves room, and the second minus of a version line stands in its text, which leaves room for CR LF.
 abbrev pub IsKept : Option Verdict → Bool → ℕ → List ℕ → Type 0
 IsKept None after_cr filled line = IsText (take filled line) × (length (with_cr after_cr (take filled line)) < 255)
-IsKept (Some (verdict.Version minus)) after_cr filled line = (4 ≤ minus) × (minus < filled)
+IsKept (Some (verdict.Version minus)) after_cr filled line = (4 ≤ minus) × (minus < filled) × (filled ≤ 253)
 IsKept (Some (verdict.Refused refusal)) after_cr filled line = Unit {0}

@@ -1,6 +1,7 @@
 -- What a reader of packets holds, and what one call of it finds.
 use Rattle.std.specs.Prelude.{◌≡◌, ◌≤◌, ◌<◌, ◌+◌, ◌-◌, ℕ, List, [], length, take, drop, slice_index, Option, None, Some}
-use Rattle.ssh_model.specs.Seal.{Crypto, IsWire, IsBadLength, IsBadTag, IsBadPadding, IsBegun, IsWhole, block_under, tag_under}
+use Rattle.ssh_model.specs.Wire.Packet.{Blocks}
+use Rattle.ssh_model.specs.Wire.Sealing.{Crypto, IsWire, IsBadLength, IsBadTag, IsBadPadding, IsBegun, IsWhole, blocks_under, tag_under}
 use Rattle.ssh_packet.specs.declared.refusal.PacketRefusal.{PacketRefusal}
 use Rattle.ssh_packet.specs.declared.refusal.PacketRefusal.TheVariants.{BadLength, BadPadding, BadTag}
 use Rattle.ssh_packet.specs.declared.reader.Received.{Received}
@@ -20,21 +21,21 @@ empty = record { rest = []; payload = []; refused = None }
 
 -- the bytes are refused so, under the key and the number
 abbrev pub IsRefused : {K : Type 0} → Crypto K → Option K → ℕ → PacketRefusal → List ℕ → Type 0
-IsRefused c key number BadLength bytes = IsBadLength (block_under c key) (tag_under c key) bytes
+IsRefused c key number BadLength bytes = IsBadLength (blocks_under c key) (tag_under c key) bytes
 IsRefused c key number BadPadding bytes = IsBadPadding c key number bytes
 IsRefused c key number BadTag bytes = IsBadTag c key number bytes
 
 -- What a reader that held the beginning of these bytes found when it had used them all.
 abbrev pub Finds : {K : Type 0} → Crypto K → Option K → ℕ → List ℕ → ReadStep → Reading → Type 0
 Finds c key number bytes Packet new = IsWire c key number new.payload bytes × (new ≡ record empty { payload = new.payload })
-Finds c key number bytes More new = IsBegun (block_under c key) (tag_under c key) bytes × (new ≡ record empty { rest = bytes })
+Finds c key number bytes More new = IsBegun (blocks_under c key) (tag_under c key) bytes × (new ≡ record empty { rest = bytes })
 Finds c key number bytes (Refused refusal) new = IsRefused c key number refusal bytes × (new ≡ record empty { refused = Some refusal })
 
 -- What stands in the buffer after bytes were received.
-abbrev pub IsReceived : ℕ → ℕ → List ℕ → Received → Type 0
-IsReceived block tag bytes received.More = IsBegun block tag bytes
-IsReceived block tag bytes received.BadLength = IsBadLength block tag bytes
-IsReceived block tag bytes received.Whole = IsWhole block tag bytes
+abbrev pub IsReceived : Blocks → ℕ → List ℕ → Received → Type 0
+IsReceived blocks tag bytes received.More = IsBegun blocks tag bytes
+IsReceived blocks tag bytes received.BadLength = IsBadLength blocks tag bytes
+IsReceived blocks tag bytes received.Whole = IsWhole blocks tag bytes
 
 -- The padding of an opened packet, by its fifth byte, has at least four bytes and leaves a payload.
 pub record HasPadding (packet : List ℕ) : Type 0 where

@@ -1,22 +1,52 @@
 -- Writing packets.
-use Rattle.std.specs.Prelude.{◌≡◌, ℕ, ◌+◌, ◌-◌, ◌%◌, nat_lt, if◌then◌else◌, List, ◌∷◌, ◌++◌, length}
-use Rattle.ssh_model.specs.DataTypes.{IsUint32}
+use Rattle.std.specs.Prelude.{◌≡◌, ℕ, ◌+◌, ◌-◌, ◌%◌, nat_lt, if◌then◌else◌, List, ◌∷◌, ◌++◌, length, Option}
+use Rattle.ssh_model.specs.Wire.DataTypes.{IsUint32}
+use Rattle.ssh_model.specs.Wire.Packet.{Blocks, counted}
+use Rattle.ssh_model.specs.Wire.Reading.{Writes}
+use Rattle.ssh_model.specs.Wire.Sealing.{Crypto, sealed_under}
 
--- how many bytes fill up the last block, where four are wanted
-abbrev pub padding_for : ℕ → ℕ → ℕ
-padding_for block count =
-    let gap = block - (5 + count) % block in
-    if nat_lt gap 4 then gap + block else gap
+-- how many bytes fill up the last block behind so many that count, where four are wanted
+abbrev pub gap_behind : ℕ → ℕ → ℕ
+gap_behind size front =
+    let gap = size - front % size in
+    if nat_lt gap 4 then gap + size else gap
 
-abbrev pub HasLength : ℕ → List ℕ → Type 0
-HasLength count bytes = length bytes ≡ count
+-- how many bytes of padding stand behind a payload of so many bytes
+abbrev pub padding_for : Blocks → ℕ → ℕ
+padding_for blocks count = gap_behind blocks.size (counted blocks (5 + count))
 
--- The bytes are the four parts of a packet, with any padding of so many bytes, and room for a tag of so many.
-pub record HasParts (count tag : ℕ) (payload bytes : List ℕ) : Type 0 where
+-- how many bytes the least packet of such a payload has with its tag
+abbrev pub packet_size : Blocks → ℕ → ℕ → ℕ
+packet_size blocks tag count = 5 + count + padding_for blocks count + tag
+
+-- What stands behind a payload: so many bytes of padding, which were given, and room for a tag of so many.
+pub record IsTail (count tag : ℕ) (IsGiven : List ℕ → Type 0) (bytes : List ℕ) : Type 0 where
+  pub padding : List ℕ
+  pub room : List ℕ
+  pub filled : length padding ≡ count
+  pub given : IsGiven padding
+  pub left : length room ≡ tag
+  pub parts : bytes ≡ padding ++ room
+
+-- The bytes are the four parts of a packet, with so many bytes of padding, which were given, and room for a tag of so many.
+pub record HasParts (count tag : ℕ) (IsGiven : List ℕ → Type 0) (payload bytes : List ℕ) : Type 0 where
   pub length_field : List ℕ
   pub padding : List ℕ
   pub room : List ℕ
   pub filled : length padding ≡ count
+  pub given : IsGiven padding
   pub left : length room ≡ tag
   pub counts : IsUint32 (1 + length payload + count) length_field
   pub parts : bytes ≡ (length_field ++ (count ∷ payload ++ padding)) ++ room
+
+-- The bytes are what sealing gives for the packet of a payload and this padding.
+pub record IsPadded {K : Type 0} (c : Crypto K) (key : Option K) (number : ℕ) (payload padding bytes : List ℕ) : Type 0 where
+  pub length_field : List ℕ
+  pub counts : IsUint32 (1 + length payload + length padding) length_field
+  pub sealed : bytes ≡ sealed_under c key number (length_field ++ (length padding ∷ payload ++ padding))
+
+-- Such bytes were put at the end, and the padding was given.
+pub record Pads {K : Type 0} (c : Crypto K) (key : Option K) (number : ℕ) (payload : List ℕ) (IsGiven : List ℕ → Type 0) (old new : List ℕ) : Type 0 where
+  pub padding : List ℕ
+  pub given : IsGiven padding
+  pub writes : Writes (IsPadded c key number payload padding) old new

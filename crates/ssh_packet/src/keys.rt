@@ -1,18 +1,25 @@
 ghost use Rattle.std.specs.Prelude.{◌≡◌, ◌≤◌};
 ghost use Rattle.std.specs.Option.{option_copied};
-ghost use Rattle.ssh_model.specs.Packet.{IsBlock};
-ghost use Rattle.ssh_model.specs.Seal.{block_under, tag_under};
+ghost use Rattle.ssh_model.specs.Wire.Packet.{IsBlock};
+ghost use Rattle.ssh_model.specs.Wire.Sealing.{blocks_under, tag_under};
 
+use crate::blocks::Blocks;
 use crate::sealing::Sealing;
 
-// The block size under a key; in clear 8.
-pub(crate) fn block_of<S: Sealing>(key: Option<&S::Key>) -> usize
-    ensures value { result ≡ block_under S.crypto (option_copied key.entry) }
-    ensures block { IsBlock result }
+// The blocks under a key; in clear of 8 bytes, and packet_length counts.
+pub(crate) fn blocks_of<S: Sealing>(key: Option<&S::Key>) -> Blocks
+    ensures value { result ≡ blocks_under S.crypto (option_copied key.entry) }
+    ensures size { IsBlock result.size }
 {
     match key {
-        Some(key) => S::block(key),
-        None => 8,
+        Some(key) => Blocks {
+            size: S::block(key),
+            counts_length: S::counts_length(key),
+        },
+        None => Blocks {
+            size: 8,
+            counts_length: true,
+        },
     }
 }
 

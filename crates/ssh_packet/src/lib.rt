@@ -23,6 +23,8 @@
 //! struct Zeros;
 //!
 //! impl Filler for Zeros {
+//!     ghost gives = { λ before bytes after. bytes ≡ replicate (length bytes) 0 };
+//!
 //!     fn fill(&mut self, out: &mut [u8]) {
 //!         out.fill(0);
 //!     }
@@ -40,9 +42,11 @@
 //! ```
 #![tactic(auto)]
 
+mod blocks;
 mod hmac;
 mod keys;
 mod laws;
+mod limits;
 mod line_reader;
 mod mac_only;
 mod reader;
@@ -53,12 +57,10 @@ mod writer;
 
 pub use hmac::HmacKey;
 pub use laws::every_sealed_is_a_wire;
+pub use limits::{LARGEST_PACKET, LENGTH_FIELD, LONGEST_PAYLOAD};
 pub use line_reader::{LineReader, LineStep};
 pub use mac_only::MacOnly;
 pub use reader::{PacketReader, ReadStep};
 pub use refusal::{LineRefusal, PacketRefusal};
 pub use sealing::{Lengths, Sealing};
 pub use writer::{Filler, write_packet};
-
-#[cfg(test)]
-mod tests;

@@ -1,16 +1,15 @@
-ghost use Rattle.std.specs.Prelude.{◌≡◌, ◌<◌, ◌≤◌, ◌+◌, ◌++◌, ◌∷◌, [], length, take, drop, IfSome, None};
+ghost use Rattle.std.specs.Prelude.{◌≡◌, ◌≢◌, ◌⊎◌, ◌<◌, ◌≤◌, ◌+◌, ◌++◌, ◌∷◌, [], true, false, length, take, drop, IfSome, None};
 ghost use Rattle.std.specs.Borrow.{sem};
 ghost use Rattle.std.specs.Io.BufRead.{Rests};
-ghost use Rattle.ssh_model.specs.Line.{IsLineBegun, IsText};
-ghost use Rattle.ssh_packet.specs.Lines.{no_lines, with_cr};
+ghost use Rattle.std.specs.Option.{option_copied};
+ghost use Rattle.ssh_model.specs.Wire.Line.{IsLineBegun, IsText};
+ghost use Rattle.ssh_packet.specs.Lines.{no_lines, version_in, with_cr};
 ghost use Rattle.ssh_packet.specs.LineSteps.{EndsSo, IsByteKind, Shows, ShowsVersion};
 
+use crate::limits::LONGEST_LINE;
 use crate::refusal::LineRefusal;
 use crate::version::{LineKind, judge};
 use std::marker::Model;
-
-// The bytes of the longest line, CR LF included.
-const LONGEST: usize = 255;
 
 /// What one call of `LineReader::take` found in the stream.
 #[derive(Clone, Copy, Debug, PartialEq, Eq)]
@@ -58,7 +57,7 @@ enum Found {
 pub struct LineReader {
     from_server: bool,
     others: usize,
-    line: [u8; LONGEST],
+    line: [u8; LONGEST_LINE],
     filled: usize,
     after_cr: bool,
     ended: Option<Verdict>,
@@ -86,7 +85,7 @@ impl LineReader {
         LineReader {
             from_server,
             others: 0,
-            line: [0; LONGEST],
+            line: [0; LONGEST_LINE],
             filled: 0,
             after_cr: false,
             ended: None,
@@ -116,6 +115,17 @@ impl LineReader {
             Found::More => (used, LineStep::More),
             Found::Other => (used, LineStep::Other),
             Found::Ended => (used, self.shown()),
+        }
+    }
+
+    /// The text of the version line without CR LF, at most 253 bytes, once it was taken.
+    pub fn version_line(&self) -> Option<&[u8]>
+        ensures text { option_copied result ≡ version_in self.now.ended }
+        ensures most { IfSome (version_in self.now.ended) (λ text. length text ≤ 253) }
+    {
+        match self.ended {
+            Some(Verdict::Version(_)) => Some(&self.line[..self.filled]),
+            _ => None,
         }
     }
 
@@ -203,8 +213,7 @@ fn byte_kind(from_server: bool, others: usize, text: &[u8], after_cr: bool, byte
     if after_cr {
         return ByteKind::End(last_kind(from_server, others, text, byte));
     }
-    let full = text.len() == LONGEST - 1;
-    if byte == 0 || byte == b'\n' || full {
+    if is_bad(text, byte) {
         return ByteKind::End(LineKind::Refused(LineRefusal::BadLine));
     }
     if byte == b'\r' {
@@ -212,6 +221,14 @@ fn byte_kind(from_server: bool, others: usize, text: &[u8], after_cr: bool, byte
     } else {
         ByteKind::Text
     }
+}
+
+// The byte can't stand behind this text in a line: a line has no byte 0, an LF only behind CR, and room for LF.
+fn is_bad(text: &[u8], byte: u8) -> bool
+    ensures bad { result ≡ true → (byte ≡ 0) ⊎ ((byte ≡ 10) ⊎ (length text.now ≡ 254)) }
+    ensures good { result ≡ false → (byte ≢ 0) × (byte ≢ 10) × (length text.now ≢ 254) }
+{
+    byte == 0 || byte == b'\n' || text.len() == LONGEST_LINE - 1
 }
 
 // What the byte after CR makes of a line of this text.

@@ -1,5 +1,5 @@
-ghost use Rattle.ssh_packet.specs.MacOnlyLaws.{mac_only_laws};
-ghost use Rattle.ssh_model.specs.MacOnly.{mac_only};
+ghost use Rattle.ssh_model.specs.Wire.MacOnlyLaws.{mac_only_laws};
+ghost use Rattle.ssh_model.specs.Wire.MacOnly.{mac_only};
 
 use crate::hmac::HmacKey;
 use crate::sealing::{Lengths, Sealing};
@@ -9,7 +9,7 @@ use std::alloc::{AllocError, Global};
 const TAG: usize = 32;
 
 /// The sealing of encryption `none` with MAC `hmac-sha2-256` (RFC 6668): packets in clear, each with a tag of 32 bytes
-/// that covers its number and all of its bytes (RFC 4253 section 6.4). Blocks have 8 bytes. It knows that pair of
+/// that covers its number and all of its bytes (RFC 4253 section 6.4). Blocks have 8 bytes, and packet_length counts. It knows that pair of
 /// names alone, and takes no IV, no key of a cipher and 32 bytes of MAC key. No method needs memory.
 #[derive(Clone, Copy, Debug, PartialEq, Eq)]
 pub struct MacOnly;
@@ -44,6 +44,10 @@ impl Sealing for MacOnly {
 
     fn block(_key: &HmacKey) -> usize {
         8
+    }
+
+    fn counts_length(_key: &HmacKey) -> bool {
+        true
     }
 
     fn tag_len(_key: &HmacKey) -> usize {

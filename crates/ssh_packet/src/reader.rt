@@ -1,22 +1,20 @@
 ghost use Rattle.std.specs.Prelude.{◌≡◌, ◌≢◌, ◌↔◌, IsTrue, ◌<◌, ◌≤◌, ◌+◌, ◌-◌, ◌++◌, ◌^◌, ℕ, List, [], true, false, length, take, min, drop, IfSome, IfNone, OnOk, IfOk, Some, None, slice_index};
-ghost use Rattle.std.specs.Vec.{vec_len};
+ghost use Rattle.std.specs.Vec.{vec_capacity, vec_len};
 ghost use Rattle.std.specs.Option.{option_copied};
-ghost use Rattle.ssh_model.specs.DataTypes.{AreBytes};
-ghost use Rattle.ssh_model.specs.Packet.{IsBlock, IsPacket, is_size as fits_size};
-ghost use Rattle.ssh_model.specs.Seal.{HasSize, IsBadLength, IsBegun, IsWhole, block_under, is_wire_size, opened_under, tag_under};
+ghost use Rattle.ssh_model.specs.Wire.DataTypes.{AreBytes};
+ghost use Rattle.ssh_model.specs.Wire.Packet.{IsBlock, IsPacket, is_size as fits_size};
+ghost use Rattle.ssh_model.specs.Wire.Sealing.{HasSize, IsBadLength, IsBegun, IsWhole, blocks_under, is_wire_size, opened_under, tag_under};
 ghost use Rattle.ssh_packet.specs.Reading.{Finds, HasPadding, IsReceived, Reading, empty, inner};
 
-use crate::keys::{block_of, tag_of};
+use crate::blocks::Blocks;
+use crate::keys::{blocks_of, tag_of};
+use crate::limits::{LARGEST_PACKET, LENGTH_FIELD};
 use crate::refusal::PacketRefusal;
 use crate::sealing::Sealing;
-use ssh_types::{Reader, are_bytes, one_form};
+use ssh_types::Reader;
+use ssh_types::laws::{are_bytes, one_form};
 use std::alloc::{AllocError, Global};
 use std::marker::Model;
-
-// The bytes of the largest packet with its tag, and those of a length field.
-const LARGEST: usize = 35_000;
-
-const FIELD: usize = 4;
 
 /// What one call of `PacketReader::take` found in the stream.
 #[derive(Clone, Copy, Debug, PartialEq, Eq)]
@@ -41,13 +39,14 @@ pub struct PacketReader {
 
 impl Model for PacketReader {
     ghost use Rattle.std.specs.Prelude.{◌≡◌, ◌≤◌, ◌+◌, take, drop, length};
+    ghost use Rattle.std.specs.Vec.{vec_capacity};
     ghost use Rattle.ssh_packet.specs.Reading.{Reading};
 
     ghost Value = { Reading };
 
     ghost view = { λ r. record { rest = take r.filled r.buffer.items; payload = take r.shown (drop 5 r.buffer.items); refused = r.refused } };
 
-    ghost invariant = { λ r. (length r.buffer.items ≡ 35000) × (r.filled ≤ 35000) × (r.shown + 5 ≤ 35000) };
+    ghost invariant = { λ r. (length r.buffer.items ≡ 35000) × (vec_capacity r.buffer ≡ 35000) × (r.filled ≤ 35000) × (r.shown + 5 ≤ 35000) };
 }
 
 // What stands in the buffer after bytes were received.
@@ -63,12 +62,13 @@ impl PacketReader {
     pub fn new(alloc: Global) -> Result<PacketReader, AllocError>
         ensures { IfOk result (λ reader. reader ≡ empty) }
     {
-        Ok(PacketReader::over(vec![in alloc; 0; LARGEST]?))
+        Ok(PacketReader::over(zeros(alloc)?))
     }
 
     // A reader that nothing was given to, over its buffer.
     fn over(buffer: Vec<u8>) -> PacketReader
-        requires { vec_len buffer ≡ 35000 }
+        requires size { vec_len buffer ≡ 35000 }
+        requires capacity { vec_capacity buffer ≡ 35000 }
         ensures { result ≡ empty }
     {
         PacketReader {
@@ -79,9 +79,11 @@ impl PacketReader {
         }
     }
 
-    /// The payload that the last `take` found, without its padding; no bytes where it found none, and before the first.
+    /// The payload that the last `take` found, without its padding, at most 35,000 bytes; no bytes where it found none, and
+    /// before the first.
     pub fn payload(&self) -> &[u8]
-        ensures { result.now ≡ self.now.payload }
+        ensures payload { result.now ≡ self.now.payload }
+        ensures most { length self.now.payload ≤ 35000 }
     {
         &self.buffer[5..5 + self.shown]
     }
@@ -93,6 +95,13 @@ impl PacketReader {
         self.filled
     }
 
+    /// How many bytes the buffer has room for: those of the largest packet, for good.
+    pub fn capacity(&self) -> usize
+        ensures { result ≡ 35000 }
+    {
+        self.buffer.capacity()
+    }
+
     /// Takes bytes to the end of one packet and no further, and answers how many and what they were. Under `None`
     /// packets are in clear, with blocks of 8 bytes and no tag.
     ///
@@ -101,8 +110,8 @@ impl PacketReader {
     /// of the packet begun, and the caller counts the packets (RFC 4253 section 6.4). A reader that refused answers the
     /// same for good and uses nothing. No call needs memory.
     ///
-    /// While a packet is begun, the block size and the tag length have to stay the same: the key may change between
-    /// packets, where `held` is 0.
+    /// While a packet is begun, the blocks and the tag length have to stay the same: the key may change between packets,
+    /// where `held` is 0.
     #[tactic(auto, using(crate::proofs::Readings::still_begun, crate::proofs::Readings::none_begun, crate::proofs::Readings::begun_before))]
     pub fn take<S: Sealing>(
         &mut self,
@@ -110,20 +119,20 @@ impl PacketReader {
         number: u32,
         bytes: &[u8],
     ) -> (usize, ReadStep)
-        requires begun { IsBegun (block_under S.crypto (option_copied key)) (tag_under S.crypto (option_copied key)) self.old.rest }
+        requires begun { IsBegun (blocks_under S.crypto (option_copied key)) (tag_under S.crypto (option_copied key)) self.old.rest }
         ensures used { result.0 ≤ length bytes.now }
         ensures progress { self.old.refused ≡ None → 0 < length bytes.now → 0 < result.0 }
         ensures more { result.1 ≡ ReadStep.More → result.0 ≡ length bytes.now }
         ensures found { self.old.refused ≡ None → Finds S.crypto (option_copied key.entry) number (self.old.rest ++ take result.0 bytes.now) result.1 self.new }
         ensures refused { IfSome self.old.refused (λ refusal. (result ≡ (0, ReadStep.Refused refusal)) × (self.new ≡ self.old)) }
-        ensures begun { IsBegun (block_under S.crypto (option_copied key.entry)) (tag_under S.crypto (option_copied key.entry)) self.new.rest }
+        ensures begun { IsBegun (blocks_under S.crypto (option_copied key.entry)) (tag_under S.crypto (option_copied key.entry)) self.new.rest }
     {
         if let Some(refusal) = self.refused {
             return (0, ReadStep::Refused(refusal));
         }
-        let block = block_of::<S>(key);
+        let blocks = blocks_of::<S>(key);
         let tag = tag_of::<S>(key);
-        let (used, received) = self.receive(block, tag, bytes);
+        let (used, received) = self.receive(blocks, tag, bytes);
         match received {
             Received::More => (used, ReadStep::More),
             Received::BadLength => (used, self.refuse(PacketRefusal::BadLength)),
@@ -134,7 +143,7 @@ impl PacketReader {
     // Judges the whole packet that is there.
     fn judge<S: Sealing>(&mut self, key: Option<&S::Key>, number: u32, tag: usize) -> ReadStep
         requires tag { tag ≡ tag_under S.crypto (option_copied key) }
-        requires whole { IsWhole (block_under S.crypto (option_copied key)) tag self.old.rest }
+        requires whole { IsWhole (blocks_under S.crypto (option_copied key)) tag self.old.rest }
         requires clear { self.old ≡ record empty { rest = self.old.rest } }
         ensures found { Finds S.crypto (option_copied key.entry) number self.old.rest result self.new }
         ensures not_more { result ≢ ReadStep.More }
@@ -151,7 +160,7 @@ impl PacketReader {
 
     // Opens the whole packet where it lies.
     fn open<S: Sealing>(&mut self, key: Option<&S::Key>, number: u32) -> bool
-        requires whole { IsWhole (block_under S.crypto (option_copied key)) (tag_under S.crypto (option_copied key)) self.old.rest }
+        requires whole { IsWhole (blocks_under S.crypto (option_copied key)) (tag_under S.crypto (option_copied key)) self.old.rest }
         requires clear { self.old ≡ record empty { rest = self.old.rest } }
         ensures good { result ≡ (opened_under S.crypto (option_copied key.entry) number self.old.rest).good }
         ensures bytes { take (length self.old.rest - tag_under S.crypto (option_copied key.entry)) self.new.rest ≡ (opened_under S.crypto (option_copied key.entry) number self.old.rest).bytes }
@@ -166,7 +175,7 @@ impl PacketReader {
 
     // Shows the payload of the opened packet, where its padding leaves one, and lets go of its bytes.
     fn show(&mut self, tag: usize) -> bool
-        requires room { tag + 16 ≤ length self.old.rest }
+        requires room { tag + 12 ≤ length self.old.rest }
         requires clear { self.old ≡ record empty { rest = self.old.rest } }
         ensures byte { slice_index (take (length self.old.rest - tag) self.old.rest) 4 < 256 }
         ensures padding { IsTrue result ↔ HasPadding (take (length self.old.rest - tag) self.old.rest) }
@@ -194,23 +203,22 @@ impl PacketReader {
     }
 
     // Adds bytes to the end of the length field and, where a packet has that length, to the packet's end.
-    fn receive(&mut self, block: usize, tag: usize, bytes: &[u8]) -> (usize, Received)
-        requires block { IsBlock block }
+    fn receive(&mut self, blocks: Blocks, tag: usize, bytes: &[u8]) -> (usize, Received)
         requires tag { tag ≤ 64 }
-        requires begun { IsBegun block tag self.old.rest }
+        requires begun { IsBegun blocks tag self.old.rest }
         requires unrefused { self.old.refused ≡ None }
         ensures used { result.0 ≤ length bytes.now }
         ensures progress { 0 < length bytes.now → 0 < result.0 }
         ensures after { self.new ≡ record empty { rest = self.old.rest ++ take result.0 bytes.now } }
-        ensures received { IsReceived block tag self.new.rest result.1 }
+        ensures received { IsReceived blocks tag self.new.rest result.1 }
         ensures more { result.1 ≡ Received.More → result.0 ≡ length bytes.now }
     {
         one_form();
-        let front = self.fill(FIELD, bytes);
-        if self.held() < FIELD {
+        let front = self.fill(LENGTH_FIELD, bytes);
+        if self.held() < LENGTH_FIELD {
             return (front, Received::More);
         }
-        let Some(size) = self.size(block, tag) else {
+        let Some(size) = self.size(blocks, tag) else {
             return (front, Received::BadLength);
         };
         let after = bytes.split_at(front).1;
@@ -222,16 +230,15 @@ impl PacketReader {
     }
 
     // The size of the packet begun, with its tag.
-    fn size(&self, block: usize, tag: usize) -> Option<usize>
+    fn size(&self, blocks: Blocks, tag: usize) -> Option<usize>
         requires field { 4 ≤ length self.now.rest }
-        requires block { IsBlock block }
         requires tag { tag ≤ 64 }
-        ensures size { IfSome result (λ n. HasSize block tag n self.now.rest) }
+        ensures size { IfSome result (λ n. HasSize blocks tag n self.now.rest) }
         ensures most { IfSome result (λ n. n ≤ 35000) }
-        ensures none { IfNone result (length self.now.rest ≡ 4 → IsBadLength block tag self.now.rest) }
-        ensures other { IfNone result ((n : ℕ) → HasSize block tag n self.now.rest → ⊥) }
+        ensures none { IfNone result (length self.now.rest ≡ 4 → IsBadLength blocks tag self.now.rest) }
+        ensures other { IfNone result ((n : ℕ) → HasSize blocks tag n self.now.rest → ⊥) }
     {
-        size_of(&self.buffer[..self.filled], block, tag)
+        size_of(&self.buffer[..self.filled], blocks, tag)
     }
 
     // Adds bytes up to this size, as many as there are, and answers how many.
@@ -249,16 +256,27 @@ impl PacketReader {
     }
 }
 
+// As many zeros as the largest packet has bytes, with room for no more.
+fn zeros(alloc: Global) -> Result<Vec<u8>, AllocError>
+    ensures size { IfOk result (λ buffer. vec_len buffer ≡ 35000) }
+    ensures capacity { IfOk result (λ buffer. vec_capacity buffer ≡ 35000) }
+{
+    let mut buffer = Vec::with_capacity(alloc, LARGEST_PACKET)?;
+    for _ in 0..LARGEST_PACKET {
+        buffer.push_reserved(0);
+    }
+    Ok(buffer)
+}
+
 // The size of the packet with its tag that begins so, by its length field; `None` where no packet has that length.
 #[tactic(auto, using(crate::proofs::Fields::has_size))]
-fn size_of(bytes: &[u8], block: usize, tag: usize) -> Option<usize>
+fn size_of(bytes: &[u8], blocks: Blocks, tag: usize) -> Option<usize>
     requires field { 4 ≤ length bytes.now }
-    requires block { IsBlock block }
     requires tag { tag ≤ 64 }
-    ensures size { IfSome result (λ n. HasSize block tag n bytes.now) }
+    ensures size { IfSome result (λ n. HasSize blocks tag n bytes.now) }
     ensures most { IfSome result (λ n. n ≤ 35000) }
-    ensures none { IfNone result (length bytes.now ≡ 4 → IsBadLength block tag bytes.now) }
-    ensures other { IfNone result ((n : ℕ) → HasSize block tag n bytes.now → ⊥) }
+    ensures none { IfNone result (length bytes.now ≡ 4 → IsBadLength blocks tag bytes.now) }
+    ensures other { IfNone result ((n : ℕ) → HasSize blocks tag n bytes.now → ⊥) }
 {
     one_form();
     are_bytes(bytes);
@@ -266,27 +284,32 @@ fn size_of(bytes: &[u8], block: usize, tag: usize) -> Option<usize>
     let Ok(count) = reader.u32() else {
         return None;
     };
-    let size = FIELD + count as usize;
-    if !is_size(block, tag, size) {
+    let size = LENGTH_FIELD + count as usize;
+    if !is_size(blocks, tag, size) {
         return None;
     }
     Some(size + tag)
 }
 
 // A packet without its tag may have this size.
-fn is_size(block: usize, tag: usize, size: usize) -> bool
-    requires block { IsBlock block }
+fn is_size(blocks: Blocks, tag: usize, size: usize) -> bool
     requires tag { tag ≤ 64 }
-    requires size { size < 2 ^ 33 }
-    ensures { result ≡ fits_size block tag size }
+    requires from { 4 ≤ size }
+    requires to { size < 2 ^ 33 }
+    ensures { result ≡ fits_size blocks tag size }
 {
-    size.is_multiple_of(block.max(8)) && size >= block.max(16) && size + tag <= LARGEST
+    let (counted, least) = if blocks.counts_length {
+        (size, blocks.size.max(16))
+    } else {
+        (size - LENGTH_FIELD, LENGTH_FIELD + blocks.size.max(8))
+    };
+    counted.is_multiple_of(blocks.size.max(8)) && size >= least && size + tag <= LARGEST_PACKET
 }
 
 // Opens the packet that the first bytes of the buffer are.
 fn open_front<S: Sealing>(key: &S::Key, number: u32, buffer: &mut [u8], size: usize) -> bool
     requires within { size ≤ length buffer.old }
-    requires size { IsTrue (is_wire_size (S.crypto.block key.now) (S.crypto.tag key.now) size) }
+    requires size { IsTrue (is_wire_size (S.crypto.blocks key.now) (S.crypto.tag key.now) size) }
     ensures good { result ≡ (S.crypto.opened key.now number (take size buffer.old)).good }
     ensures bytes { take (size - S.crypto.tag key.now) (take size buffer.new) ≡ (S.crypto.opened key.now number (take size buffer.old)).bytes }
 {
@@ -299,6 +322,7 @@ fn put_at(buffer: &mut Vec<u8>, at: usize, bytes: &[u8])
     requires { at + length bytes.now ≤ vec_len buffer.old }
     ensures front { take (at + length bytes.now) buffer.new.items ≡ take at buffer.old.items ++ bytes.now }
     ensures size { length buffer.new.items ≡ length buffer.old.items }
+    ensures capacity { vec_capacity buffer.new ≡ vec_capacity buffer.old }
 {
     buffer[at..at + bytes.len()].copy_from_slice(bytes);
 }

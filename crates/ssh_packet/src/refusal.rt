@@ -1,13 +1,11 @@
-ghost use Rattle.std.specs.Prelude.{◌≡◌};
-ghost use Rattle.ssh_packet.specs.Refusals.{line_refusal_name, line_refusal_number, refusal_name, refusal_number};
-
+use ssh_types::Refusal;
 use thiserror::Error;
 
 /// Why the bytes of the peer are no packet (RFC 4253 section 6). As text it is a sentence for a log.
 #[derive(Clone, Copy, Debug, PartialEq, Eq, Error)]
 pub enum PacketRefusal {
-    /// No packet has this length field: it makes no whole blocks, fewer than 16 bytes or one block, or more than 35,000
-    /// bytes with the tag. It comes as soon as the field's four bytes are there.
+    /// No packet has this length field: it makes no whole blocks, fewer bytes than the least packet has, or more than 35,000
+    /// with the tag. It comes as soon as the field's four bytes are there.
     #[error("no packet has this length")]
     BadLength,
     /// The padding is shorter than four bytes, or leaves no payload. It comes once the whole packet is there, and only
@@ -20,26 +18,18 @@ pub enum PacketRefusal {
     BadTag,
 }
 
-impl PacketRefusal {
-    /// The number of the refusal: 3 of `BadLength`, 4 of `BadPadding`, 5 of `BadTag`.
-    pub fn number(self) -> u8
-        ensures { result ≡ refusal_number self }
-    {
-        match self {
-            PacketRefusal::BadLength => 3,
-            PacketRefusal::BadPadding => 4,
-            PacketRefusal::BadTag => 5,
-        }
-    }
+impl From<PacketRefusal> for Refusal {
+    ghost use Rattle.std.specs.Prelude.{◌≡◌};
+    ghost use Rattle.ssh_packet.specs.Refusals.{packet_refusal};
+    ghost use Rattle.ssh_types.specs.Refusals.{refusal_of};
 
-    /// The name of the refusal, as the variant is spelled.
-    pub fn name(self) -> &'static str
-        ensures { result.now ≡ refusal_name self }
-    {
-        match self {
-            PacketRefusal::BadLength => "BadLength",
-            PacketRefusal::BadPadding => "BadPadding",
-            PacketRefusal::BadTag => "BadTag",
+    ghost from_gives = { λ refusal all. refusal_of all ≡ packet_refusal refusal };
+
+    fn from(refusal: PacketRefusal) -> Refusal {
+        match refusal {
+            PacketRefusal::BadLength => Refusal::BadLength,
+            PacketRefusal::BadPadding => Refusal::BadPadding,
+            PacketRefusal::BadTag => Refusal::BadTag,
         }
     }
 }
@@ -58,24 +48,17 @@ pub enum LineRefusal {
     BadVersion,
 }
 
-impl LineRefusal {
-    /// The number of the refusal: 1 of `BadLine`, 2 of `BadVersion`.
-    pub fn number(self) -> u8
-        ensures { result ≡ line_refusal_number self }
-    {
-        match self {
-            LineRefusal::BadLine => 1,
-            LineRefusal::BadVersion => 2,
-        }
-    }
+impl From<LineRefusal> for Refusal {
+    ghost use Rattle.std.specs.Prelude.{◌≡◌};
+    ghost use Rattle.ssh_packet.specs.Refusals.{line_refusal};
+    ghost use Rattle.ssh_types.specs.Refusals.{refusal_of};
 
-    /// The name of the refusal, as the variant is spelled.
-    pub fn name(self) -> &'static str
-        ensures { result.now ≡ line_refusal_name self }
-    {
-        match self {
-            LineRefusal::BadLine => "BadLine",
-            LineRefusal::BadVersion => "BadVersion",
+    ghost from_gives = { λ refusal all. refusal_of all ≡ line_refusal refusal };
+
+    fn from(refusal: LineRefusal) -> Refusal {
+        match refusal {
+            LineRefusal::BadLine => Refusal::BadLine,
+            LineRefusal::BadVersion => Refusal::BadVersion,
         }
     }
 }

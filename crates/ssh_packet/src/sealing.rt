@@ -1,6 +1,6 @@
 ghost use Rattle.std.specs.Prelude.{◌≡◌, ◌-◌, ◌≤◌, ℕ, IfOk, IsSomeAnd, IsTrue, List, length, take};
 ghost use Rattle.std.specs.Option.{option_map};
-ghost use Rattle.ssh_model.specs.Seal.{Crypto, IsSealing, is_wire_size};
+ghost use Rattle.ssh_model.specs.Wire.Sealing.{Crypto, IsSealing, is_wire_size};
 ghost use Rattle.ssh_packet.specs.Sealing.{lengths_of};
 
 use std::alloc::{AllocError, Global};
@@ -21,7 +21,8 @@ pub struct Lengths {
 /// both leave the first four bytes, the packet's length, which so stands in clear.
 ///
 /// No method but `make` can fail. `seal` and `open` work in place, on a packet that a length field may count: whole
-/// blocks of `block` bytes, at least 16 bytes, and at most 35,000 with the tag.
+/// blocks of `block` bytes, at least 16 bytes, or at least one block behind packet_length where that doesn't count, and
+/// at most 35,000 bytes with the tag.
 pub trait Sealing {
     /// The keys of one direction in one epoch.
     type Key: Drop;
@@ -48,7 +49,13 @@ pub trait Sealing {
 
     /// The block size in bytes: 8, 16, 32 or 64.
     fn block(key: &Self::Key) -> usize
-        ensures { result ≡ crypto.block key.now };
+        ensures { result ≡ (crypto.blocks key.now).size };
+
+    /// Whether the four bytes of packet_length count in the blocks, as RFC 4253 section 6 has it. They don't where
+    /// packet_length stands in clear beside a cipher: under AES-GCM (RFC 5647 section 7.2) and in the encrypt-then-MAC modes of
+    /// OpenSSH. There a packet without these four bytes fills whole blocks, at least one.
+    fn counts_length(key: &Self::Key) -> bool
+        ensures { result ≡ (crypto.blocks key.now).counts_length };
 
     /// The length of the tag in bytes, at most 64.
     fn tag_len(key: &Self::Key) -> usize
@@ -57,13 +64,13 @@ pub trait Sealing {
     /// Seals a packet in place, as the one of this number. The last `tag_len` bytes are room for the tag, and what
     /// stands in them before is of no account.
     fn seal(key: &Self::Key, number: u32, packet: &mut [u8])
-        requires { IsTrue (is_wire_size (crypto.block key.now) (crypto.tag key.now) (length packet.old)) }
+        requires { IsTrue (is_wire_size (crypto.blocks key.now) (crypto.tag key.now) (length packet.old)) }
         ensures { packet.new ≡ crypto.sealed key.now number (take (length packet.old - crypto.tag key.now) packet.old) };
 
     /// Opens a packet with its tag in place, as the one of this number, and answers whether the tag is good. What the
     /// bytes of the tag are afterwards is left open.
     fn open(key: &Self::Key, number: u32, packet: &mut [u8]) -> bool
-        requires { IsTrue (is_wire_size (crypto.block key.now) (crypto.tag key.now) (length packet.old)) }
+        requires { IsTrue (is_wire_size (crypto.blocks key.now) (crypto.tag key.now) (length packet.old)) }
         ensures good { result ≡ (crypto.opened key.now number packet.old).good }
         ensures bytes { take (length packet.old - crypto.tag key.now) packet.new ≡ (crypto.opened key.now number packet.old).bytes };
 

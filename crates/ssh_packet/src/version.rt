@@ -1,11 +1,9 @@
 ghost use Rattle.std.specs.Prelude.{◌≡◌, ◌<◌, ◌↔◌, ◌==◌, IfSome, IsTrue, List, length, not, position, ℕ};
-ghost use Rattle.ssh_model.specs.Line.{IsAccepted, IsOther, is_version_byte as is_printable};
+ghost use Rattle.ssh_model.specs.Wire.Line.{IsAccepted, IsOther, is_version_byte as is_printable};
 ghost use Rattle.ssh_packet.specs.LineKinds.{HasSoftware, IsKind};
 
+use crate::limits::MOST_OTHERS;
 use crate::refusal::LineRefusal;
-
-// So many other lines a server may send before its version line.
-const MOST_OTHERS: usize = 64;
 
 // What a whole line is; of a version line, where its second minus stands.
 #[derive(Clone, Copy)]

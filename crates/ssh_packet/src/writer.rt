@@ -1,19 +1,27 @@
-ghost use Rattle.std.specs.Prelude.{◌≡◌, ◌≤◌, ◌+◌, ◌-◌, ◌++◌, ℕ, List, length, take, drop, IsTrue, OnErr, OnOk};
+ghost use Rattle.std.specs.Prelude.{◌≡◌, ◌<◌, ◌≤◌, ◌+◌, ◌-◌, ◌++◌, ℕ, List, length, take, drop, IsTrue, OnErr, OnOk, vec_capacity};
 ghost use Rattle.std.specs.Option.{option_copied};
-ghost use Rattle.ssh_model.specs.Packet.{IsBlock};
-ghost use Rattle.ssh_model.specs.Reading.{Extends, Writes};
-ghost use Rattle.ssh_model.specs.Seal.{IsSealed, block_under, is_wire_size, tag_under};
-ghost use Rattle.ssh_packet.specs.Writing.{HasLength, HasParts, padding_for};
+ghost use Rattle.ssh_model.specs.Wire.Packet.{IsBlock};
+ghost use Rattle.ssh_model.specs.Wire.Reading.{Extends, Writes};
+ghost use Rattle.ssh_model.specs.Wire.Sealing.{IsSealed, blocks_under, is_wire_size, sealed_under, tag_under};
+ghost use Rattle.ssh_packet.specs.Writing.{HasParts, IsTail, Pads, packet_size, padding_for};
 
-use crate::keys::{block_of, tag_of};
+use crate::blocks::Blocks;
+use crate::keys::{blocks_of, tag_of};
+use crate::limits::{MOST_PADDING, MOST_TAG};
 use crate::sealing::Sealing;
-use ssh_types::{Put, are_bytes};
+use ssh_types::Put;
+use ssh_types::laws::are_bytes;
 use std::alloc::AllocError;
 
-/// Gives the bytes of the padding: random ones under a cipher (RFC 4253 section 6).
+/// Gives the bytes of the padding: random ones under a cipher (RFC 4253 section 6). Its ghost member `gives` says which bytes
+/// a call may give: from the value before it, to the value after it. It is a relation, so that a filler whose bytes come from
+/// outside has one too.
 pub trait Filler {
-    /// Fills all of `out`, with any bytes. A packet asks once, for at most 255 bytes.
-    fn fill(&mut self, out: &mut [u8]);
+    ghost gives: { Self → List ℕ → Self → Type 0 };
+
+    /// Fills all of `out`. A packet asks once, for at most 255 bytes, and they are its padding.
+    fn fill(&mut self, out: &mut [u8])
+        ensures { gives self.old out.new self.new };
 }
 
 /// Writes the packet of a payload at the end of `out`, sealed under the key as the packet of this number; under `None`
@@ -21,7 +29,12 @@ pub trait Filler {
 ///
 /// The padding is the least that the standard allows: at least four bytes, up to a whole number of blocks. The payload
 /// has at least one byte, and its packet at most 35,000 with its tag, so every payload of up to 34,000 bytes has room
-/// under any sealing. The one error is that memory runs out: then `out` has its old bytes.
+/// under any sealing.
+///
+/// # Errors
+///
+/// Only where the packet doesn't fit the capacity of `out` and memory is refused: then `out` has its old bytes. How far the
+/// filler went is left open.
 pub fn write_packet<S: Sealing, F: Filler>(
     payload: &[u8],
     key: Option<&S::Key>,
@@ -30,41 +43,56 @@ pub fn write_packet<S: Sealing, F: Filler>(
     out: &mut Vec<u8>,
 ) -> Result<(), AllocError>
     requires some { 1 ≤ length payload.now }
-    requires fits { 5 + length payload.now + padding_for (block_under S.crypto (option_copied key)) (length payload.now) + tag_under S.crypto (option_copied key) ≤ 35000 }
+    requires fits { packet_size (blocks_under S.crypto (option_copied key)) (tag_under S.crypto (option_copied key)) (length payload.now) ≤ 35000 }
     ensures written { OnOk result (Writes (IsSealed S.crypto (option_copied key.entry) number payload.now) out.old.items out.new.items) }
+    ensures padded { OnOk result (Pads S.crypto (option_copied key.entry) number payload.now (λ padding. F.gives filler.old padding filler.new) out.old.items out.new.items) }
     ensures kept { OnErr result (out.new.items ≡ out.old.items) }
+    ensures full { OnErr result (vec_capacity out.old < length out.old.items + packet_size (blocks_under S.crypto (option_copied key.entry)) (tag_under S.crypto (option_copied key.entry)) (length payload.now)) }
 {
     let start = out.as_slice().len();
     let tag = tag_of::<S>(key);
-    let padding = least_padding(block_of::<S>(key), payload.len());
+    let padding = least_padding(blocks_of::<S>(key), payload.len());
     if let Err(error) = put_parts(payload, padding, tag, filler, out) {
         out.truncate(start);
         return Err(error);
     }
     are_bytes(out.split_at(start).1);
-    if let Some(key) = key {
-        seal_from::<S>(key, number, out, start);
-    }
+    seal_from::<S>(key, number, out, start);
     Ok(())
 }
 
-// Seals the packet that begins at `start` and ends with the bytes.
-fn seal_from<S: Sealing>(key: &S::Key, number: u32, bytes: &mut [u8], start: usize)
+// Seals the packet that begins at `start` and ends with the bytes; in clear nothing is done.
+fn seal_from<S: Sealing>(key: Option<&S::Key>, number: u32, bytes: &mut Vec<u8>, start: usize)
+    requires within { start ≤ length bytes.old.items }
+    requires size { IsTrue (is_wire_size (blocks_under S.crypto (option_copied key)) (tag_under S.crypto (option_copied key)) (length bytes.old.items - start)) }
+    ensures { bytes.new.items ≡ take start bytes.old.items ++ sealed_under S.crypto (option_copied key.entry) number (take (length bytes.old.items - start - tag_under S.crypto (option_copied key.entry)) (drop start bytes.old.items)) }
+{
+    if let Some(key) = key {
+        seal_slice::<S>(key, number, bytes, start);
+    }
+}
+
+// Seals the packet from `start` on.
+fn seal_slice<S: Sealing>(key: &S::Key, number: u32, bytes: &mut [u8], start: usize)
     requires within { start ≤ length bytes.old }
-    requires size { IsTrue (is_wire_size (S.crypto.block key.now) (S.crypto.tag key.now) (length bytes.old - start)) }
+    requires size { IsTrue (is_wire_size (S.crypto.blocks key.now) (S.crypto.tag key.now) (length bytes.old - start)) }
     ensures { bytes.new ≡ take start bytes.old ++ S.crypto.sealed key.now number (take (length bytes.old - start - S.crypto.tag key.now) (drop start bytes.old)) }
 {
     S::seal(key, number, &mut bytes[start..])
 }
 
 // How many bytes fill up the last block, where four are wanted.
-fn least_padding(block: usize, count: usize) -> usize
-    requires block { IsBlock block }
-    requires count { count ≤ 35000 }
-    ensures { result ≡ padding_for block count }
+fn least_padding(blocks: Blocks, count: usize) -> usize
+    requires { count ≤ 35000 }
+    ensures { result ≡ padding_for blocks count }
 {
-    let gap = block - (5 + count) % block;
-    if gap < 4 { gap + block } else { gap }
+    let front = if blocks.counts_length {
+        5 + count
+    } else {
+        1 + count
+    };
+    let gap = blocks.size - front % blocks.size;
+    if gap < 4 { gap + blocks.size } else { gap }
 }
 
 // Writes the parts of a packet, and room for its tag.
@@ -78,8 +106,9 @@ fn put_parts<F: Filler>(
     requires padding { padding ≤ 255 }
     requires tag { tag ≤ 64 }
     requires payload { length payload.now ≤ 35000 }
-    ensures written { OnOk result (Writes (HasParts padding tag payload.now) out.old.items out.new.items) }
+    ensures written { OnOk result (Writes (HasParts padding tag (λ padding. F.gives filler.old padding filler.new) payload.now) out.old.items out.new.items) }
     ensures kept { OnErr result (Extends out.old.items out.new.items) }
+    ensures full { OnErr result (vec_capacity out.old < length out.old.items + (5 + length payload.now + padding + tag)) }
 {
     out.put_u32((1 + payload.len() + padding) as u32)?;
     out.put_u8(padding as u8)?;
@@ -97,10 +126,22 @@ fn put_padding<F: Filler>(
 ) -> Result<(), AllocError>
     requires padding { padding ≤ 255 }
     requires tag { tag ≤ 64 }
-    ensures written { OnOk result (Writes (HasLength (padding + tag)) out.old.items out.new.items) }
+    ensures written { OnOk result (Writes (IsTail padding tag (λ padding. F.gives filler.old padding filler.new)) out.old.items out.new.items) }
     ensures kept { OnErr result (out.new.items ≡ out.old.items) }
+    ensures full { OnErr result (vec_capacity out.old < length out.old.items + (padding + tag)) }
 {
-    let mut room = [0; 319];
-    filler.fill(&mut room[..padding]);
-    out.extend_from_slice(&room[..padding + tag])
+    let mut room = [0; MOST_PADDING + MOST_TAG];
+    fill_front(padding, filler, &mut room);
+    out.extend_from_slice(&room[..padding + tag])?;
+    Ok(())
+}
+
+// Fills the first bytes of a room.
+#[tactic(auto, using(crate::proofs::Buffers::front_again))]
+fn fill_front<F: Filler>(count: usize, filler: &mut F, room: &mut [u8])
+    requires { count ≤ length room.old }
+    ensures given { F.gives filler.old (take count room.new) filler.new }
+    ensures size { length room.new ≡ length room.old }
+{
+    filler.fill(&mut room[..count]);
 }

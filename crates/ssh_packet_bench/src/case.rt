@@ -1,6 +1,7 @@
 ghost use Rattle.std.specs.Prelude.{◌≤◌, length};
 
-use ssh_packet::{Filler, HmacKey, MacOnly, PacketReader, write_packet};
+use ssh_packet::{HmacKey, MacOnly, PacketReader, write_packet};
+use ssh_toys::ToyFiller;
 use std::alloc::{AllocError, Global};
 use std::io;
 use std::marker::Model;
@@ -13,14 +14,7 @@ const KEY: [u8; 32] = [0x11; 32];
 const TAG: usize = 32;
 
 // The padding is zeros.
-#[derive(Drop)]
-struct Zeros;
-
-impl Filler for Zeros {
-    fn fill(&mut self, out: &mut [u8]) {
-        out.fill(0);
-    }
-}
+const ZEROS: ToyFiller = ToyFiller { byte: 0 };
 
 /// A sealed packet with number 0, the text that its tag covers, and a reader between packets.
 #[derive(Drop)]
@@ -34,14 +28,15 @@ pub struct Case {
 }
 
 impl Model for Case {
-    ghost use Rattle.ssh_model.specs.Seal.{IsBegun};
+    ghost use Rattle.ssh_model.specs.Wire.Packet.{with_length};
+    ghost use Rattle.ssh_model.specs.Wire.Sealing.{IsBegun};
     ghost use Rattle.ssh_packet.specs.Reading.{Reading};
 
     ghost Value = { Reading };
 
     ghost view = { λ c. c.reader };
 
-    ghost invariant = { λ c. IsBegun 8 32 c.reader.rest };
+    ghost invariant = { λ c. IsBegun (with_length 8) 32 c.reader.rest };
 }
 
 impl Case {
@@ -51,8 +46,9 @@ impl Case {
         requires to { length payload.now ≤ 34000 }
     {
         let key = HmacKey::new(&KEY);
+        let mut filler = ZEROS;
         let mut wire = Vec::new(alloc);
-        write_packet::<MacOnly, Zeros>(payload, Some(&key), 0, &mut Zeros, &mut wire)?;
+        write_packet::<MacOnly, ToyFiller>(payload, Some(&key), 0, &mut filler, &mut wire)?;
         let mut text = Vec::new(alloc);
         text.extend_from_slice(&0u32.to_be_bytes())?;
         text.extend_from_slice(&wire[..wire.len().saturating_sub(TAG)])?;
@@ -72,10 +68,11 @@ impl Case {
     {
         let key = &self.key;
         let out = &mut self.wire;
+        let mut filler = ZEROS;
         let start = Instant::now(rt)?;
         for _ in 0..count {
             out.clear();
-            write_packet::<MacOnly, Zeros>(payload, Some(key), 0, &mut Zeros, out)?;
+            write_packet::<MacOnly, ToyFiller>(payload, Some(key), 0, &mut filler, out)?;
         }
         start.elapsed(rt)
     }

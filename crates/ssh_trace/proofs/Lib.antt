@@ -1,5 +1,5 @@
 pub mod Logs
-pub mod Finds
 pub mod Turning
 pub mod Playing
 pub mod Showing
+pub mod Counts

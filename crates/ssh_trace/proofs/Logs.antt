@@ -1,7 +1,8 @@
 -- Records that are put after a run.
 use Rattle.std.proofs.Common.{◌≡◌, List, [], ◌∷◌, ◌++◌, refl}
-use Rattle.ssh_model.specs.History as history
-use Rattle.ssh_trace.specs.History.{logged, side_of, item_of}
+use Rattle.ssh_model.specs.OneEpoch.History as history
+use Rattle.ssh_types.specs.Sides.{side_of}
+use Rattle.ssh_trace.specs.History.{logged, item_of}
 use Rattle.ssh_trace.specs.declared.history.Done.{Done}
 
 pub logged_one : (run : List history.Done) (dones : List Done) (done : Done) → logged run (dones ++ done ∷ []) ≡ history.By (side_of done.side) (item_of done.item) ∷ logged run dones

@@ -1,14 +1,15 @@
 -- Events of the pair, for every run that it stands at.
 use Rattle.std.proofs.Common.{◌≡◌, ℕ, zero, suc, arith, ◌<◌, List, [], ◌∷◌, ◌++◌, length, get_or, refl, sym, ap, subst, ◌∙◌, append-nil, append_assoc, Ok, Err}
 use Rattle.std.specs.Prelude.{Result, OnOk}
-use Rattle.ssh_model.specs.MacOnly.{mac_only}
-use Rattle.ssh_model.specs.History.{Side, Side.Client, Side.Server, Item, Done.By, all_by, part}
-use Rattle.ssh_model.specs.History as history
-use Rattle.ssh_model.specs.EpochRun.{Asks, Event, Event.Ask, Event.Deliver, Gets, Keys, Run, Run.ends, Run.goes, Step, Step.asks, Step.gets, World, after}
+use Rattle.ssh_model.specs.Wire.MacOnly.{mac_only}
+use Rattle.ssh_model.specs.Side.{Side.Client, Side.Server}
+use Rattle.ssh_model.specs.OneEpoch.History.{Item, Done.By, all_by, part}
+use Rattle.ssh_model.specs.OneEpoch.History as history
+use Rattle.ssh_model.specs.OneEpoch.Runs.{Asks, Event, Event.Ask, Event.Deliver, Gets, Keys, Run, Run.ends, Run.goes, Step, Step.asks, Step.gets, World, next_world}
 use Rattle.ssh_trace.specs.History.{AreFilled, event_of, events_of, logged}
 use Rattle.ssh_trace.specs.EpochEnd.{End, EndSums, left_of}
 use Rattle.ssh_trace.specs.Turns.{Asked, Delivered}
-use Rattle.ssh_trace.specs.Pair.{PairState, Plays, PlaysOne, StandsAt, keys_of}
+use Rattle.ssh_trace.specs.Pair.{PairState, Plays, PlaysOne, ShareKeys, StandsAt, keys_of}
 use Rattle.ssh_trace.specs.declared.history.Done.{Done}
 use Rattle.ssh_trace.specs.declared.history.Event as rust
 
@@ -41,12 +42,12 @@ at_left h rest e s = subst (λ (x : List ℕ). EndSums h x e) s.rest_is s
 -- ---- one event
 
 pub client_asked : (event : Event) (payload : List ℕ) (pair : PairState) (end : End) (a b : List Done) (out put other : List ℕ) → event ≡ Ask Client payload
-    → Asked pair.client_key Client payload pair.client end a b out put → (w : World) → StandsAt w pair → PlaysOne event pair (record pair { client = end }) a b out put other other w
+    → Asked pair.client.sending_key Client payload pair.client end a b out put → (w : World) → StandsAt w pair → PlaysOne event pair (record pair { client = end }) a b out put other other w
 client_asked event payload pair end a b out put other is asked w s =
     let t = asked (part Client w.run) (at_left (part Client w.run) w.client_rest pair.client s.client) in
-    let turn : Asks mac_only pair.client_key (part Client w.run) w.client_rest payload t.items t.bytes (left_of end) =
-    subst (λ (x : List ℕ). Asks mac_only pair.client_key (part Client w.run) x payload t.items t.bytes (left_of end)) (sym s.client.rest_is) t.asks in
-    let next : World = after w Client t.items (left_of end) t.bytes in
+    let turn : Asks mac_only pair.client.sending_key (part Client w.run) w.client_rest payload t.items t.bytes (left_of end) =
+    subst (λ (x : List ℕ). Asks mac_only pair.client.sending_key (part Client w.run) x payload t.items t.bytes (left_of end)) (sym s.client.rest_is) t.asks in
+    let next : World = next_world w Client t.items (left_of end) t.bytes in
     record {
       end = next;
       step = subst (λ (e : Event). Step mac_only (keys_of pair) w e next) (sym is) (asks Client payload turn);
@@ -60,12 +61,12 @@ client_asked event payload pair end a b out put other is asked w s =
     }
 
 pub server_asked : (event : Event) (payload : List ℕ) (pair : PairState) (end : End) (a b : List Done) (out put other : List ℕ) → event ≡ Ask Server payload
-    → Asked pair.server_key Server payload pair.server end a b out put → (w : World) → StandsAt w pair → PlaysOne event pair (record pair { server = end }) a b other other out put w
+    → Asked pair.server.sending_key Server payload pair.server end a b out put → (w : World) → StandsAt w pair → PlaysOne event pair (record pair { server = end }) a b other other out put w
 server_asked event payload pair end a b out put other is asked w s =
     let t = asked (part Server w.run) (at_left (part Server w.run) w.server_rest pair.server s.server) in
-    let turn : Asks mac_only pair.server_key (part Server w.run) w.server_rest payload t.items t.bytes (left_of end) =
-    subst (λ (x : List ℕ). Asks mac_only pair.server_key (part Server w.run) x payload t.items t.bytes (left_of end)) (sym s.server.rest_is) t.asks in
-    let next : World = after w Server t.items (left_of end) t.bytes in
+    let turn : Asks mac_only pair.server.sending_key (part Server w.run) w.server_rest payload t.items t.bytes (left_of end) =
+    subst (λ (x : List ℕ). Asks mac_only pair.server.sending_key (part Server w.run) x payload t.items t.bytes (left_of end)) (sym s.server.rest_is) t.asks in
+    let next : World = next_world w Server t.items (left_of end) t.bytes in
     record {
       end = next;
       step = subst (λ (e : Event). Step mac_only (keys_of pair) w e next) (sym is) (asks Server payload turn);
@@ -79,12 +80,13 @@ server_asked event payload pair end a b out put other is asked w s =
     }
 
 pub client_delivered : (event : Event) (bytes : List ℕ) (pair : PairState) (end : End) (a b : List Done) (out other : List ℕ) → event ≡ Deliver Client bytes
-    → Delivered pair.server_key Client bytes pair.client end a b → (w : World) → StandsAt w pair → PlaysOne event pair (record pair { client = end }) a b out out other other w
-client_delivered event bytes pair end a b out other is delivered w s =
+    → ShareKeys pair.client pair.server → Delivered pair.client.taking_key Client bytes pair.client end a b → (w : World) → StandsAt w pair → PlaysOne event pair (record pair { client = end }) a b out out other other w
+client_delivered event bytes pair end a b out other is share delivered w s =
     let t = delivered (part Client w.run) (at_left (part Client w.run) w.client_rest pair.client s.client) in
-    let turn : Gets mac_only pair.server_key (part Client w.run) (w.client_rest ++ bytes) t.items (left_of end) =
-    subst (λ (x : List ℕ). Gets mac_only pair.server_key (part Client w.run) (x ++ bytes) t.items (left_of end)) (sym s.client.rest_is) t.gets in
-    let next : World = after w Client t.items (left_of end) [] in
+    let turn : Gets mac_only pair.server.sending_key (part Client w.run) (w.client_rest ++ bytes) t.items (left_of end) =
+    subst (λ (k : List ℕ). Gets mac_only k (part Client w.run) (w.client_rest ++ bytes) t.items (left_of end)) share.to_client
+    (subst (λ (x : List ℕ). Gets mac_only pair.client.taking_key (part Client w.run) (x ++ bytes) t.items (left_of end)) (sym s.client.rest_is) t.gets) in
+    let next : World = next_world w Client t.items (left_of end) [] in
     record {
       end = next;
       step = subst (λ (e : Event). Step mac_only (keys_of pair) w e next) (sym is) (gets Client bytes turn);
@@ -98,12 +100,13 @@ client_delivered event bytes pair end a b out other is delivered w s =
     }
 
 pub server_delivered : (event : Event) (bytes : List ℕ) (pair : PairState) (end : End) (a b : List Done) (out other : List ℕ) → event ≡ Deliver Server bytes
-    → Delivered pair.client_key Server bytes pair.server end a b → (w : World) → StandsAt w pair → PlaysOne event pair (record pair { server = end }) a b out out other other w
-server_delivered event bytes pair end a b out other is delivered w s =
+    → ShareKeys pair.client pair.server → Delivered pair.server.taking_key Server bytes pair.server end a b → (w : World) → StandsAt w pair → PlaysOne event pair (record pair { server = end }) a b out out other other w
+server_delivered event bytes pair end a b out other is share delivered w s =
     let t = delivered (part Server w.run) (at_left (part Server w.run) w.server_rest pair.server s.server) in
-    let turn : Gets mac_only pair.client_key (part Server w.run) (w.server_rest ++ bytes) t.items (left_of end) =
-    subst (λ (x : List ℕ). Gets mac_only pair.client_key (part Server w.run) (x ++ bytes) t.items (left_of end)) (sym s.server.rest_is) t.gets in
-    let next : World = after w Server t.items (left_of end) [] in
+    let turn : Gets mac_only pair.client.sending_key (part Server w.run) (w.server_rest ++ bytes) t.items (left_of end) =
+    subst (λ (k : List ℕ). Gets mac_only k (part Server w.run) (w.server_rest ++ bytes) t.items (left_of end)) share.to_server
+    (subst (λ (x : List ℕ). Gets mac_only pair.server.taking_key (part Server w.run) (x ++ bytes) t.items (left_of end)) (sym s.server.rest_is) t.gets) in
+    let next : World = next_world w Server t.items (left_of end) [] in
     record {
       end = next;
       step = subst (λ (e : Event). Step mac_only (keys_of pair) w e next) (sym is) (gets Server bytes turn);

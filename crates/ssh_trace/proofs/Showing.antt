@@ -3,8 +3,9 @@ use Rattle.std.proofs.Common.{◌≡◌, ℕ, ◌-◌, ◌<◌, true, false, Lis
 use Rattle.std.specs.Prelude.{Result, IfOk, None}
 use Rattle.std.proofs.lemmas.List.{take-append-drop, take_all}
 use Rattle.hex.specs.Hex.{decode_of}
-use Rattle.ssh_model.specs.MacOnly.{mac_only}
-use Rattle.ssh_model.specs.Seal.{IsBegun}
+use Rattle.ssh_model.specs.Wire.MacOnly.{mac_only}
+use Rattle.ssh_model.specs.Wire.Packet.{with_length}
+use Rattle.ssh_model.specs.Wire.Sealing.{IsBegun}
 use Rattle.ssh_packet.specs.Reading.{Finds, Reading, empty}
 use Rattle.ssh_packet.specs.declared.reader.ReadStep.{ReadStep}
 use Rattle.ssh_packet.specs.declared.reader.ReadStep.TheVariants as read
@@ -19,8 +20,8 @@ pub found_first : (reader new : Reading) (step : ReadStep) (used : ℕ) (bytes :
 found_first reader new step used bytes e f =
     subst (λ (x : List ℕ). Finds mac_only None 0 (x ++ take used bytes) step new) (ap (λ (r : Reading). r.rest) e) (f (ap (λ (r : Reading). r.refused) e))
 
-pub begun_all : (used : ℕ) (bytes : List ℕ) (new : Reading) → Finds mac_only None 0 (take used bytes) read.More new → used ≡ length bytes → IsBegun 8 0 bytes
-begun_all used bytes new f e = subst (λ (x : List ℕ). IsBegun 8 0 x) (ap (λ (n : ℕ). take n bytes) e ∙ take_all (length bytes) bytes (omega arith)) f.0
+pub begun_all : (used : ℕ) (bytes : List ℕ) (new : Reading) → Finds mac_only None 0 (take used bytes) read.More new → used ≡ length bytes → IsBegun (with_length 8) 0 bytes
+begun_all used bytes new f e = subst (λ (x : List ℕ). IsBegun (with_length 8) 0 x) (ap (λ (n : ℕ). take n bytes) e ∙ take_all (length bytes) bytes (omega arith)) f.0
 
 front : (Is : List ℕ → Type 0) (used : ℕ) (bytes : List ℕ) → Is (take used bytes) → Front Is bytes
 front Is used bytes is = record { after = drop used bytes; reads = record { bytes = take used bytes; meets = is; parts = sym (take-append-drop used bytes) } }

@@ -1,20 +1,25 @@
 -- Turns of an end, for every history that it sums up.
-use Rattle.std.proofs.Common.{◌≡◌, ℕ, ◌+◌, ◌<◌, ◌≤◌, ◌^◌, Bool, true, false, cond, List, [], ◌∷◌, ◌++◌, length, take, drop, refl, sym, ap, subst, ◌∙◌, arith, append-nil, append_assoc, inl, inr}
+use Rattle.std.proofs.Common.{◌≡◌, ℕ, ◌+◌, ◌≤◌, Bool, true, false, cond, List, [], ◌∷◌, ◌++◌, length, take, drop, refl, sym, ap, subst, ◌∙◌, arith, append-nil, append_assoc, inl, inr}
 use Rattle.std.specs.Prelude.{Some}
 use Rattle.std.proofs.lemmas.Bool.{cases_Bool}
 use Rattle.std.proofs.lemmas.List.{take-append-drop, drop-drop, drop_all}
-use Rattle.ssh_model.specs.MacOnly.{mac_only}
-use Rattle.ssh_model.specs.Seal.{IsSealed, IsBegun}
-use Rattle.ssh_model.specs.History.{Side, Item, Item.Asked, Item.AskRefused, Item.Sent, Item.Took, Item.Refused, Item.Died, Done.By, all_by, has_died, sent, took}
-use Rattle.ssh_model.specs.History as history
-use Rattle.ssh_model.specs.EpochRun.{Takes, Waits, Gets, Gets.dead, Gets.waits, Gets.takes, Asks}
-use Rattle.ssh_model.specs.EpochRun as epoch
-use Rattle.ssh_trace.specs.History.{logged, refusal_number}
-use Rattle.ssh_trace.specs.EpochEnd.{End, EndFinds, EndSums, IsKept, RefusesAsk, Sends, SpendsNumbers, left_of}
-use Rattle.ssh_trace.specs.Turns.{AskedWith, DeliveredWith, Notes, TurnWith}
+use Rattle.ssh_model.specs.Wire.MacOnly.{mac_only}
+use Rattle.ssh_model.specs.Wire.Outcome.{Outcome.Opens, Outcome.RefusedPacket}
+use Rattle.ssh_model.specs.Wire.Sealing.{IsSealed}
+use Rattle.ssh_model.specs.Wire.Unit.{IsPacketBegun, PacketUnit, PacketUnit.opens, PacketUnit.bad_length, PacketUnit.spent, PacketUnit.bad_tag, PacketUnit.bad_padding}
+use Rattle.ssh_model.specs.Side.{Side}
+use Rattle.ssh_model.specs.Sessions.Refusals as session
+use Rattle.ssh_model.specs.OneEpoch.History.{Item, Item.Asked, Item.AskRefused, Item.Sent, Item.Took, Item.Refused, Item.Died, Done.By, all_by, has_died, sent, took}
+use Rattle.ssh_model.specs.OneEpoch.History as history
+use Rattle.ssh_model.specs.OneEpoch.Runs.{Takes, Waits, Gets, Gets.dead, Gets.waits, Gets.takes, Asks}
+use Rattle.ssh_model.specs.OneEpoch.Runs as epoch
+use Rattle.ssh_types.specs.Refusals.{refusal_of}
+use Rattle.ssh_types.specs.declared.refusal.Refusal as rust
+use Rattle.ssh_transport.specs.declared.packets.step.PacketStep.TheVariants as step
+use Rattle.ssh_trace.specs.History.{logged}
+use Rattle.ssh_trace.specs.EpochEnd.{End, EndFinds, EndSums, RefusesAsk, Sends, SpendsNumbers, left_of}
+use Rattle.ssh_trace.specs.Turns.{AskedWith, DeliveredWith, Notes, Turn, TurnWith}
 use Rattle.ssh_trace.specs.declared.history.Done.{Done}
-use Rattle.ssh_trace.specs.declared.history.EpochRefusal.{EpochRefusal}
-use Rattle.ssh_trace.specs.declared.epoch_end.TakeStep.TheVariants as step
 
 -- these records add one item
 abbrev pub Adds : Side → Item → List Done → List Done → Type 0
@@ -36,9 +41,10 @@ pub asked_dead : (key payload out : List ℕ) (side : Side) (h : List Item) (e :
 asked_dead key payload out side h e log s d =
     record { items = []; bytes = []; asks = epoch.dead (sym s.dead_is ∙ d); put = sym (append-nil out); notes = record { records = λ run. refl; sums = s } }
 
-pub asked_sent : (key payload out after : List ℕ) (side : Side) (h : List Item) (old new : End) (a b c : List Done) → EndSums h (left_of old) old → old.dead ≡ false → Sends key payload old new out after
-    → Adds side Asked a b → Adds side (Sent payload) b c → AskedWith key side payload h old new a c out after
-asked_sent key payload out after side h old new a b c s alive t f g =
+pub asked_sent : (payload out after : List ℕ) (side : Side) (h : List Item) (old new : End) (a b c : List Done) → EndSums h (left_of old) old → old.dead ≡ false → Sends payload old new out after
+    → Adds side Asked a b → Adds side (Sent payload) b c → AskedWith old.sending_key side payload h old new a c out after
+asked_sent payload out after side h old new a b c s alive t f g =
+    let key = old.sending_key in
     let died = alive_is h (left_of old) old s alive in
     let e = t.new_is in
     let w = t.writes in
@@ -72,7 +78,7 @@ asked_too_long key payload out after side h old new a b c s alive t f g =
 
 -- a dead end keeps no bytes
 none_left : (e : End) → e.dead ≡ true → left_of e ≡ []
-none_left e d = ap (λ (b : Bool). cond b [] e.reading.rest) d
+none_left e d = ap (λ (b : Bool). cond b [] e.begun) d
 
 pub asked_spent : (key payload out after : List ℕ) (side : Side) (h : List Item) (old new : End) (a b c d : List Done) → EndSums h (left_of old) old → old.dead ≡ false → SpendsNumbers payload old new out after
     → Adds side Asked a b → Adds side (Refused 14) b c → Adds side Died c d → AskedWith key side payload h old new a d out after
@@ -90,14 +96,15 @@ asked_spent key payload out after side h old new a b c d s alive t f g i =
 
 -- ---- parts of a delivery
 
-live_left : (e : End) → e.dead ≡ false → left_of e ≡ e.reading.rest
-live_left e a = ap (λ (b : Bool). cond b [] e.reading.rest) a
+live_left : (e : End) → e.dead ≡ false → left_of e ≡ e.begun
+live_left e a = ap (λ (b : Bool). cond b [] e.begun) a
 
-pub turn_more : (key used : List ℕ) (side : Side) (h : List Item) (old new : End) (log : List Done) → EndSums h (left_of old) old → old.dead ≡ false → EndFinds key (old.reading.rest ++ used) old step.More new → TurnWith key side used h old new log log
-turn_more key used side h old new log s alive f =
+pub turn_more : (used : List ℕ) (side : Side) (h : List Item) (old new : End) (log : List Done) → EndSums h (left_of old) old → old.dead ≡ false → EndFinds (old.begun ++ used) old step.More new → TurnWith old.taking_key side used h old new log log
+turn_more used side h old new log s alive f =
+    let key = old.taking_key in
     let e = f.1 in
     let new_alive : new.dead ≡ false = ap (λ (x : End). x.dead) e ∙ alive in
-    let left : left_of new ≡ left_of old ++ used = live_left new new_alive ∙ ap (λ (x : End). x.reading.rest) e ∙ ap (λ (x : List ℕ). x ++ used) (sym (live_left old alive)) in
+    let left : left_of new ≡ left_of old ++ used = live_left new new_alive ∙ ap (λ (x : End). x.begun) e ∙ ap (λ (x : List ℕ). x ++ used) (sym (live_left old alive)) in
     record {
       items = [];
       goes = λ after more rest g. let same : left_of new ++ after ≡ left_of old ++ (used ++ after) = ap (λ (x : List ℕ). x ++ after) left ∙ append_assoc (left_of old) used after in
@@ -108,39 +115,51 @@ turn_more key used side h old new log s alive f =
       };
     }
 
+-- what an end of one epoch makes of a unit
+takes_payload : (key : List ℕ) (n : ℕ) (unit payload : List ℕ) → PacketUnit mac_only (Some key) n n unit (Opens payload) → Takes mac_only key n unit (Took payload ∷ [])
+takes_payload key n unit payload (opens p has are wire) = epoch.payload p has.0 wire
+
+takes_refusal : (key : List ℕ) (n : ℕ) (unit : List ℕ) (refusal : session.Refusal) → PacketUnit mac_only (Some key) n n unit (RefusedPacket refusal) → Takes mac_only key n unit (Died ∷ Refused (session.refusal_number refusal) ∷ [])
+takes_refusal key n unit _ (bad_length b) = epoch.bad_length b
+takes_refusal key n unit _ (spent m all four has) = epoch.spent m all four has
+takes_refusal key n unit _ (bad_tag has are b) = epoch.bad_tag has.0 b
+takes_refusal key n unit _ (bad_padding has are b) = epoch.bad_padding has.0 b
+
 -- a unit is used up, and nothing is left
-unit_goes : (key used : List ℕ) (h items : List Item) (old new : End) → EndSums h (left_of old) old → old.dead ≡ false → Takes mac_only key old.taken (old.reading.rest ++ used) items → left_of new ≡ []
-    → (after : List ℕ) (more : List Item) (rest : List ℕ) → Gets mac_only key (items ++ h) (left_of new ++ after) more rest → Gets mac_only key h (left_of old ++ (used ++ after)) (more ++ items) rest
-unit_goes key used h items old new s alive t none after more rest g =
-    let unit : old.reading.rest ++ used ≡ left_of old ++ used = ap (λ (x : List ℕ). x ++ used) (sym (live_left old alive)) in
+unit_goes : (used : List ℕ) (h items : List Item) (old new : End) → EndSums h (left_of old) old → old.dead ≡ false → Takes mac_only old.taking_key old.taken (old.begun ++ used) items → left_of new ≡ []
+    → (after : List ℕ) (more : List Item) (rest : List ℕ) → Gets mac_only old.taking_key (items ++ h) (left_of new ++ after) more rest → Gets mac_only old.taking_key h (left_of old ++ (used ++ after)) (more ++ items) rest
+unit_goes used h items old new s alive t none after more rest g =
+    let key = old.taking_key in
+    let unit : old.begun ++ used ≡ left_of old ++ used = ap (λ (x : List ℕ). x ++ used) (sym (live_left old alive)) in
     let taken : Takes mac_only key (length (took h)) (left_of old ++ used) items =
-    subst (λ (x : List ℕ). Takes mac_only key (length (took h)) x items) unit (subst (λ (n : ℕ). Takes mac_only key n (old.reading.rest ++ used) items) s.taken_is t) in
+    subst (λ (x : List ℕ). Takes mac_only key (length (took h)) x items) unit (subst (λ (n : ℕ). Takes mac_only key n (old.begun ++ used) items) s.taken_is t) in
     takes (left_of old ++ used) after (alive_is h (left_of old) old s alive) (sym (append_assoc (left_of old) used after)) taken (subst (λ (x : List ℕ). Gets mac_only key (items ++ h) (x ++ after) more rest) none g)
 
-pub turn_taken : (key used : List ℕ) (side : Side) (h : List Item) (old new : End) (a b : List Done) → EndSums h (left_of old) old → old.dead ≡ false → EndFinds key (old.reading.rest ++ used) old step.Taken new
-    → Adds side (Took new.reading.payload) a b → TurnWith key side used h old new a b
-turn_taken key used side h old new a b s alive f log =
+pub turn_taken : (used : List ℕ) (side : Side) (h : List Item) (old new : End) (a b : List Done) → EndSums h (left_of old) old → old.dead ≡ false → EndFinds (old.begun ++ used) old step.Payload new
+    → Adds side (Took new.payload) a b → TurnWith old.taking_key side used h old new a b
+turn_taken used side h old new a b s alive f log =
     let e = f.1 in
     let new_alive : new.dead ≡ false = ap (λ (x : End). x.dead) e ∙ alive in
-    let none : left_of new ≡ [] = live_left new new_alive ∙ ap (λ (x : End). x.reading.rest) e in
+    let none : left_of new ≡ [] = live_left new new_alive ∙ ap (λ (x : End). x.begun) e in
     record {
-      items = Took new.reading.payload ∷ [];
-      goes = unit_goes key used h (Took new.reading.payload ∷ []) old new s alive f.0 none;
+      items = Took new.payload ∷ [];
+      goes = unit_goes used h (Took new.payload ∷ []) old new s alive (takes_payload old.taking_key old.taken (old.begun ++ used) new.payload f.0) none;
       notes = record {
         records = log;
         sums = record { dead_is = ap (λ (x : End). x.dead) e ∙ s.dead_is; sent_is = ap (λ (x : End). x.sent) e ∙ s.sent_is; taken_is = ap (λ (x : End). x.taken) e ∙ omega (arith, s.taken_is); rest_is = refl };
       };
     }
 
-pub turn_rejected : (key used : List ℕ) (side : Side) (h : List Item) (old new : End) (refusal : EpochRefusal) (a b c : List Done) → EndSums h (left_of old) old → old.dead ≡ false
-    → EndFinds key (old.reading.rest ++ used) old (step.Rejected refusal) new → Adds side (Refused (refusal_number refusal)) a b → Adds side Died b c → TurnWith key side used h old new a c
-turn_rejected key used side h old new refusal a b c s alive f first second =
+pub turn_refused : (used : List ℕ) (side : Side) (h : List Item) (old new : End) (refusal : rust.Refusal) (a b c : List Done) → EndSums h (left_of old) old → old.dead ≡ false
+    → EndFinds (old.begun ++ used) old (step.Refused refusal) new → Adds side (Refused (session.refusal_number (refusal_of refusal))) a b → Adds side Died b c → TurnWith old.taking_key side used h old new a c
+turn_refused used side h old new refusal a b c s alive f first second =
     let died = f.1 in
+    let number = session.refusal_number (refusal_of refusal) in
     record {
-      items = Died ∷ Refused (refusal_number refusal) ∷ [];
-      goes = unit_goes key used h (Died ∷ Refused (refusal_number refusal) ∷ []) old new s alive f.0 (none_left new died.dead);
+      items = Died ∷ Refused number ∷ [];
+      goes = unit_goes used h (Died ∷ Refused number ∷ []) old new s alive (takes_refusal old.taking_key old.taken (old.begun ++ used) (refusal_of refusal) f.0) (none_left new died.dead);
       notes = record {
-        records = two side (Refused (refusal_number refusal)) Died a b c first second;
+        records = two side (Refused number) Died a b c first second;
         sums = record { dead_is = died.dead; sent_is = died.sent ∙ s.sent_is; taken_is = died.taken ∙ s.taken_is; rest_is = refl };
       };
     }
@@ -161,10 +180,11 @@ all_by_append : (side : Side) (xs ys : List Item) → all_by side (xs ++ ys) ≡
 all_by_append side [] ys = refl
 all_by_append side (x ∷ xs) ys = ap (λ (z : List history.Done). By side x ∷ z) (all_by_append side xs ys)
 
-pub go_on : (key piece rest : List ℕ) (side : Side) (at_ count : ℕ) (h : List Item) (old middle new : End) (a b c : List Done) → rest ≡ drop at_ piece → Going key side piece at_ h old middle a b
-    → ((k : List Item) → EndSums k (left_of middle) middle → TurnWith key side (take count rest) k middle new b c) → Going key side piece (at_ + count) h old new a c
-go_on key piece rest side at_ count h old middle new a b c behind g turn =
-    let t = turn (g.items ++ h) g.notes.sums in
+pub go_on : (key piece rest : List ℕ) (side : Side) (at_ count : ℕ) (h : List Item) (old middle new : End) (a b c : List Done) → rest ≡ drop at_ piece → Going key side piece at_ h old middle a b → middle.taking_key ≡ key
+    → Turn middle.taking_key side (take count rest) middle new b c → Going key side piece (at_ + count) h old new a c
+go_on key piece rest side at_ count h old middle new a b c behind g same turn =
+    let t : TurnWith key side (take count rest) (g.items ++ h) middle new b c =
+    subst (λ (k : List ℕ). TurnWith k side (take count rest) (g.items ++ h) middle new b c) same (turn (g.items ++ h) g.notes.sums) in
     let join : take count rest ++ drop (at_ + count) piece ≡ drop at_ piece =
     ap (λ (x : List ℕ). take count x ++ drop (at_ + count) piece) behind ∙ ap (λ (x : List ℕ). take count (drop at_ piece) ++ x) (sym (drop-drop count at_ piece)) ∙ take-append-drop count (drop at_ piece) in
     record {
@@ -189,23 +209,22 @@ dead_end key piece side at_ h old new a b g d =
       notes = g.notes;
     }
 
-living_end : (key piece : List ℕ) (side : Side) (at_ : ℕ) (h : List Item) (old new : End) (a b : List Done) → Going key side piece at_ h old new a b → length piece ≤ at_ → IsKept new → new.dead ≡ false → DeliveredWith key side piece h old new a b
+living_end : (key piece : List ℕ) (side : Side) (at_ : ℕ) (h : List Item) (old new : End) (a b : List Done) → Going key side piece at_ h old new a b → length piece ≤ at_ → IsPacketBegun mac_only (Some key) new.taken new.begun → new.dead ≡ false → DeliveredWith key side piece h old new a b
 living_end key piece side at_ h old new a b g over k alive =
     let s = g.notes.sums in
     let all : left_of new ++ drop at_ piece ≡ left_of new = ap (λ (x : List ℕ). left_of new ++ x) (drop_all at_ piece over) ∙ append-nil (left_of new) in
-    let wait : Waits mac_only key (length (took (g.items ++ h))) (left_of new) = record {
-      begun = subst (λ (x : List ℕ). IsBegun 8 32 x) (sym (live_left new alive)) k.begun;
-      unspent = λ long. subst (λ (n : ℕ). n < 2 ^ 32) s.taken_is ((k.live alive).unspent (subst (λ (x : List ℕ). 4 ≤ length x) (live_left new alive) long));
-    } in
+    let wait : Waits mac_only key (length (took (g.items ++ h))) new.begun = subst (λ (n : ℕ). Waits mac_only key n new.begun) s.taken_is (record { begun = k.begun; unspent = k.unspent }) in
     record {
       items = g.items;
-      gets = g.goes [] (left_of new) (subst (λ (x : List ℕ). Gets mac_only key (g.items ++ h) x [] (left_of new)) (sym all) (epoch.waits (alive_is (g.items ++ h) (left_of new) new s alive) wait));
+      gets = g.goes [] (left_of new) (subst (λ (x : List ℕ). Gets mac_only key (g.items ++ h) x [] (left_of new)) (sym all)
+          (epoch.waits (alive_is (g.items ++ h) (left_of new) new s alive) (subst (λ (x : List ℕ). Waits mac_only key (length (took (g.items ++ h))) x) (sym (live_left new alive)) wait)));
       notes = g.notes;
     }
 
-pub whole_piece : (key piece : List ℕ) (side : Side) (at_ : ℕ) (h : List Item) (old new : End) (a b : List Done) → Going key side piece at_ h old new a b → length piece ≤ at_ → IsKept new → DeliveredWith key side piece h old new a b
-whole_piece key piece side at_ h old new a b g over k =
+pub whole_piece : (key piece : List ℕ) (side : Side) (at_ : ℕ) (h : List Item) (old new : End) (a b : List Done) → Going key side piece at_ h old new a b → length piece ≤ at_ → new.taking_key ≡ key
+    → (new.dead ≡ false → IsPacketBegun mac_only (Some new.taking_key) new.taken new.begun) → DeliveredWith key side piece h old new a b
+whole_piece key piece side at_ h old new a b g over same k =
     elim (cases_Bool new.dead) [
       | inl d ↦ dead_end key piece side at_ h old new a b g d
-      | inr alive ↦ living_end key piece side at_ h old new a b g over k alive
+      | inr alive ↦ living_end key piece side at_ h old new a b g over (subst (λ (x : List ℕ). IsPacketBegun mac_only (Some x) new.taken new.begun) same (k alive)) alive
     ]

@@ -1,39 +1,62 @@
 -- One end of an epoch.
-use Rattle.std.specs.Prelude.{◌≡◌, ◌≤◌, ◌<◌, ◌+◌, ◌^◌, ℕ, Bool, true, false, if◌then◌else◌, List, [], ◌∷◌, length, None, Some}
-use Rattle.ssh_model.specs.History.{Item, has_died, sent, took, Item.Took, Item.Refused, Item.Died}
-use Rattle.ssh_model.specs.MacOnly.{mac_only}
-use Rattle.ssh_model.specs.Reading.{Writes}
-use Rattle.ssh_model.specs.Seal.{IsBegun, IsSealed}
-use Rattle.ssh_model.specs.EpochRun.{Takes, Waits}
-use Rattle.ssh_packet.specs.Reading.{Reading, empty}
-use Rattle.ssh_trace.specs.History.{refusal_number}
+use Rattle.std.specs.Prelude.{◌≡◌, ◌≤◌, ◌<◌, ◌+◌, ◌%◌, ◌^◌, ℕ, Bool, true, false, if◌then◌else◌, List, [], length, Option, None, Some, unwrap_or}
+use Rattle.ssh_model.specs.OneEpoch.History.{Item, has_died, sent, took}
+use Rattle.ssh_model.specs.Wire.MacOnly.{mac_only}
+use Rattle.ssh_model.specs.Wire.Outcome.{Outcome.Opens, Outcome.RefusedPacket}
+use Rattle.ssh_model.specs.Wire.Reading.{Writes}
+use Rattle.ssh_model.specs.Wire.Sealing.{IsSealed}
+use Rattle.ssh_model.specs.Wire.Unit.{IsPacketBegun, PacketUnit}
+use Rattle.ssh_types.specs.Refusals.{refusal_of}
+use Rattle.ssh_transport.specs.Directions.{Direction, Receiver}
+use Rattle.ssh_transport.specs.declared.packets.step.PacketStep.{PacketStep}
+use Rattle.ssh_transport.specs.declared.packets.step.PacketStep.TheVariants.{Payload, More, Refused}
 use Rattle.ssh_trace.specs.declared.epoch_end.AskStep.{AskStep}
 use Rattle.ssh_trace.specs.declared.epoch_end.AskStep.TheVariants as ask
-use Rattle.ssh_trace.specs.declared.epoch_end.TakeStep.{TakeStep}
-use Rattle.ssh_trace.specs.declared.epoch_end.TakeStep.TheVariants.{More, Taken, Rejected}
 
--- its reader, how many payloads it sent and took, and whether it is dead
+-- its keys, how many payloads it sent and took, the bytes of the packet begun, the payload taken last, and whether it is dead
 pub record End : Type 0 where
-  pub reading : Reading
+  pub sending_key : List ℕ
+  pub taking_key : List ℕ
   pub sent : ℕ
   pub taken : ℕ
+  pub begun : List ℕ
+  pub payload : List ℕ
   pub dead : Bool
 
 -- an end that nothing happened to
-abbrev pub new_end : End
-new_end = record { reading = empty; sent = 0; taken = 0; dead = false }
+abbrev pub new_end : List ℕ → List ℕ → End
+new_end sending_key taking_key = record { sending_key = sending_key; taking_key = taking_key; sent = 0; taken = 0; begun = []; payload = []; dead = false }
 
--- A living end's reader has refused nothing, and where all numbers are taken it holds no whole length field.
-pub record IsLive (end : End) : Type 0 where
-  pub unrefused : end.reading.refused ≡ None
-  pub unspent : 4 ≤ length end.reading.rest → end.taken < 2 ^ 32
+-- ---- an end by its fields
 
--- what holds of every end
-pub record IsKept (end : End) : Type 0 where
-  pub begun : IsBegun 8 32 end.reading.rest
-  pub sent_to : end.sent ≤ 2 ^ 32
-  pub taken_to : end.taken ≤ 2 ^ 32
-  pub live : end.dead ≡ false → IsLive end
+abbrev pub key_in : Option (List ℕ) → List ℕ
+key_in key = unwrap_or key []
+
+abbrev pub end_of : Direction (List ℕ) → Receiver (List ℕ) → Bool → End
+end_of sender receiver dead = record {
+  sending_key = key_in sender.key;
+  taking_key = key_in receiver.direction.key;
+  sent = sender.count;
+  taken = receiver.direction.count;
+  begun = receiver.begun;
+  payload = receiver.payload;
+  dead = dead;
+}
+
+-- What holds of every end: both directions are under keys, their numbers are those of the only epoch, and a living end has
+-- refused nothing.
+pub record IsKept (sender : Direction (List ℕ)) (receiver : Receiver (List ℕ)) (dead : Bool) : Type 0 where
+  pub sending : sender.key ≡ Some (key_in sender.key)
+  pub taking : receiver.direction.key ≡ Some (key_in receiver.direction.key)
+  pub next_sent : sender.number ≡ sender.count % 2 ^ 32
+  pub next_taken : receiver.direction.number ≡ receiver.direction.count % 2 ^ 32
+  pub live : dead ≡ false → receiver.ended ≡ None
+
+-- ---- what an end does
+
+pub record SameKeys (old new : End) : Type 0 where
+  pub sending : new.sending_key ≡ old.sending_key
+  pub taking : new.taking_key ≡ old.taking_key
 
 -- it died, and did nothing else
 pub record HasDied (old new : End) : Type 0 where
@@ -41,18 +64,18 @@ pub record HasDied (old new : End) : Type 0 where
   pub sent : new.sent ≡ old.sent
   pub taken : new.taken ≡ old.taken
 
--- What an end under the key of its peer made of bytes when it had used them all.
-abbrev pub EndFinds : List ℕ → List ℕ → End → TakeStep → End → Type 0
-EndFinds key bytes old More new = Waits mac_only key old.taken bytes × (new ≡ record old { reading = record empty { rest = bytes } })
-EndFinds key bytes old Taken new =
-    Takes mac_only key old.taken bytes (Took new.reading.payload ∷ []) × (new ≡ record old { reading = record empty { payload = new.reading.payload }; taken = old.taken + 1 })
-EndFinds key bytes old (Rejected refusal) new = Takes mac_only key old.taken bytes (Died ∷ Refused (refusal_number refusal) ∷ []) × HasDied old new
+-- What an end made of bytes when it had used them all.
+abbrev pub EndFinds : List ℕ → End → PacketStep → End → Type 0
+EndFinds bytes old More new = IsPacketBegun mac_only (Some old.taking_key) old.taken bytes × (new ≡ record old { begun = bytes; payload = [] })
+EndFinds bytes old Payload new =
+    PacketUnit mac_only (Some old.taking_key) old.taken old.taken bytes (Opens new.payload) × (new ≡ record old { begun = []; payload = new.payload; taken = old.taken + 1 })
+EndFinds bytes old (Refused refusal) new = PacketUnit mac_only (Some old.taking_key) old.taken old.taken bytes (RefusedPacket (refusal_of refusal)) × HasDied old new
 
--- What an end under its key made of the ask to send a payload, with the bytes put out before and after.
-pub record Sends (key payload : List ℕ) (old new : End) (before after : List ℕ) : Type 0 where
+-- What an end made of the ask to send a payload, with the bytes put out before and after.
+pub record Sends (payload : List ℕ) (old new : End) (before after : List ℕ) : Type 0 where
   pub short : length payload ≤ 34000
   pub left : old.sent < 2 ^ 32
-  pub writes : Writes (IsSealed mac_only (Some key) old.sent payload) before after
+  pub writes : Writes (IsSealed mac_only (Some old.sending_key) old.sent payload) before after
   pub new_is : new ≡ record old { sent = old.sent + 1 }
 
 pub record RefusesAsk (payload : List ℕ) (old new : End) (before after : List ℕ) : Type 0 where
@@ -66,16 +89,16 @@ pub record SpendsNumbers (payload : List ℕ) (old new : End) (before after : Li
   pub died : HasDied old new
   pub none : after ≡ before
 
-abbrev pub EndAsks : List ℕ → List ℕ → End → AskStep → End → List ℕ → List ℕ → Type 0
-EndAsks key payload old ask.Sent new before after = Sends key payload old new before after
-EndAsks key payload old ask.TooLong new before after = RefusesAsk payload old new before after
-EndAsks key payload old ask.Spent new before after = SpendsNumbers payload old new before after
+abbrev pub EndAsks : List ℕ → End → AskStep → End → List ℕ → List ℕ → Type 0
+EndAsks payload old ask.Sent new before after = Sends payload old new before after
+EndAsks payload old ask.TooLong new before after = RefusesAsk payload old new before after
+EndAsks payload old ask.Spent new before after = SpendsNumbers payload old new before after
 
 -- ---- what the state of an end says of its history
 
 -- the bytes that an end has not used; a dead one keeps none
 abbrev pub left_of : End → List ℕ
-left_of end = if end.dead then [] else end.reading.rest
+left_of end = if end.dead then [] else end.begun
 
 -- The end sums up a history, the newest item first, with the bytes that it has not used.
 pub record EndSums (h : List Item) (rest : List ℕ) (end : End) : Type 0 where

@@ -1,44 +1,23 @@
 -- The items of a transcript as the definitions have them.
-use Rattle.std.specs.Prelude.{ℕ, ◌≤◌, List, [], ◌∷◌, length, codes}
-use Rattle.ssh_model.specs.History as history
-use Rattle.ssh_model.specs.EpochRun as epoch
-use Rattle.ssh_packet.specs.Refusals as packet
-use Rattle.ssh_trace.specs.declared.history.Side.{Side}
-use Rattle.ssh_trace.specs.declared.history.Side.TheVariants.{Client, Server}
-use Rattle.ssh_trace.specs.declared.history.AskRefusal.{AskRefusal}
-use Rattle.ssh_trace.specs.declared.history.AskRefusal.TheVariants.{TooLong}
-use Rattle.ssh_trace.specs.declared.history.EpochRefusal.{EpochRefusal}
-use Rattle.ssh_trace.specs.declared.history.EpochRefusal.TheVariants.{Packet, NumberSpent}
+use Rattle.std.specs.Prelude.{◌≤◌, List, [], ◌∷◌, length}
+use Rattle.ssh_model.specs.OneEpoch.History as history
+use Rattle.ssh_model.specs.OneEpoch.Runs as epoch
+use Rattle.ssh_model.specs.Sessions.Refusals.{ask_refusal_number, refusal_number}
+use Rattle.ssh_types.specs.AskRefusals.{ask_refusal_of}
+use Rattle.ssh_types.specs.Refusals.{refusal_of}
+use Rattle.ssh_types.specs.Sides.{side_of}
 use Rattle.ssh_trace.specs.declared.history.Item.{Item}
 use Rattle.ssh_trace.specs.declared.history.Item.TheVariants as item
 use Rattle.ssh_trace.specs.declared.history.Done.{Done}
 use Rattle.ssh_trace.specs.declared.history.Event.{Event}
 use Rattle.ssh_trace.specs.declared.history.Event.TheVariants.{Ask, Deliver}
 
-abbrev pub ask_refusal_number : AskRefusal → ℕ
-ask_refusal_number TooLong = 5
-
-abbrev pub ask_refusal_name : AskRefusal → List ℕ
-ask_refusal_name TooLong = codes "TooLong"
-
-abbrev pub refusal_number : EpochRefusal → ℕ
-refusal_number (Packet refusal) = packet.refusal_number refusal
-refusal_number NumberSpent = 14
-
-abbrev pub refusal_name : EpochRefusal → List ℕ
-refusal_name (Packet refusal) = packet.refusal_name refusal
-refusal_name NumberSpent = codes "NumberSpent"
-
-abbrev pub side_of : Side → history.Side
-side_of Client = history.Client
-side_of Server = history.Server
-
 abbrev pub item_of : Item → history.Item
 item_of item.Asked = history.Asked
-item_of (item.AskRefused refusal) = history.AskRefused (ask_refusal_number refusal)
+item_of (item.AskRefused refusal) = history.AskRefused (ask_refusal_number (ask_refusal_of refusal))
 item_of (item.Took payload) = history.Took payload.items
 item_of (item.Sent payload) = history.Sent payload.items
-item_of (item.Refused refusal) = history.Refused (refusal_number refusal)
+item_of (item.Refused refusal) = history.Refused (refusal_number (refusal_of refusal))
 item_of item.Died = history.Died
 
 -- all that was done, the newest first, with these records, the oldest first, put after it

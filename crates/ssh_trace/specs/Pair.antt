@@ -1,24 +1,28 @@
 -- The pair of two ends in one epoch.
 use Rattle.std.specs.Prelude.{◌≡◌, ℕ, Bool, List, ◌++◌}
-use Rattle.ssh_model.specs.MacOnly.{mac_only}
-use Rattle.ssh_model.specs.History.{Side.Client, Side.Server, part}
-use Rattle.ssh_model.specs.History as history
-use Rattle.ssh_model.specs.EpochRun.{Event, Keys, Run, Step, World}
+use Rattle.ssh_model.specs.Wire.MacOnly.{mac_only}
+use Rattle.ssh_model.specs.Side.{Side.Client, Side.Server}
+use Rattle.ssh_model.specs.OneEpoch.History.{part}
+use Rattle.ssh_model.specs.OneEpoch.History as history
+use Rattle.ssh_model.specs.OneEpoch.Runs.{Event, Keys, Run, Step, World}
 use Rattle.ssh_trace.specs.History.{logged}
 use Rattle.ssh_trace.specs.EpochEnd.{End, EndSums}
 use Rattle.ssh_trace.specs.declared.history.Done.{Done}
 
--- the keys of the two directions, the two ends, and whether a call found no memory
+-- the two ends, and whether a call found no memory
 pub record PairState : Type 0 where
-  pub client_key : List ℕ
-  pub server_key : List ℕ
   pub client : End
   pub server : End
   pub failed : Bool
 
--- the two keys as the sealing has them
+-- the keys of the two directions
 abbrev pub keys_of : PairState → Keys (List ℕ)
-keys_of pair = record { client = pair.client_key; server = pair.server_key }
+keys_of pair = record { client = pair.client.sending_key; server = pair.server.sending_key }
+
+-- Each end opens under the key under which the other seals.
+pub record ShareKeys (client server : End) : Type 0 where
+  pub to_client : client.taking_key ≡ server.sending_key
+  pub to_server : server.taking_key ≡ client.sending_key
 
 -- The pair stands where a run stands: each end sums up its part of all that was done.
 pub record StandsAt (w : World) (pair : PairState) : Type 0 where

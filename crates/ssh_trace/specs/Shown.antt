@@ -1,10 +1,10 @@
 -- What a text in hexadecimal digits shows of one packet in clear.
 use Rattle.std.specs.Prelude.{◌≡◌, ◌<◌, ℕ, List, length, IsErr, Ok, None}
 use Rattle.hex.specs.Hex.{decode_of}
-use Rattle.ssh_model.specs.MacOnly.{mac_only}
-use Rattle.ssh_model.specs.Packet.{IsPacket}
-use Rattle.ssh_model.specs.Reading.{Reads}
-use Rattle.ssh_model.specs.Seal.{IsBadLength, IsBadPadding, IsBegun}
+use Rattle.ssh_model.specs.Wire.MacOnly.{mac_only}
+use Rattle.ssh_model.specs.Wire.Packet.{IsPacket, with_length}
+use Rattle.ssh_model.specs.Wire.Reading.{Reads}
+use Rattle.ssh_model.specs.Wire.Sealing.{IsBadLength, IsBadPadding, IsBegun}
 use Rattle.ssh_packet.specs.declared.refusal.PacketRefusal.TheVariants.{BadLength, BadPadding, BadTag}
 use Rattle.ssh_trace.specs.declared.shown.Shown.{Shown}
 use Rattle.ssh_trace.specs.declared.shown.Shown.TheVariants.{Incomplete, NotHex, Payload, Refused, Trailing}
@@ -18,17 +18,17 @@ pub record Front (Is : List ℕ → Type 0) (bytes : List ℕ) : Type 0 where
 pub record HasBehind (count : ℕ) (bytes : List ℕ) : Type 0 where
   pub payload : List ℕ
   pub after : List ℕ
-  pub reads : Reads (IsPacket 8 0 payload) bytes after
+  pub reads : Reads (IsPacket (with_length 8) 0 payload) bytes after
   pub behind : length after ≡ count
   pub some : 0 < count
 
 -- what bytes show. In clear there is no tag to be bad
 abbrev pub ShowsBytes : List ℕ → Shown → Type 0
-ShowsBytes bytes (Refused BadLength) = Front (IsBadLength 8 0) bytes
-ShowsBytes bytes Incomplete = IsBegun 8 0 bytes
+ShowsBytes bytes (Refused BadLength) = Front (IsBadLength (with_length 8) 0) bytes
+ShowsBytes bytes Incomplete = IsBegun (with_length 8) 0 bytes
 ShowsBytes bytes (Refused BadPadding) = Front (IsBadPadding mac_only None 0) bytes
 ShowsBytes bytes (Trailing count) = HasBehind count bytes
-ShowsBytes bytes (Payload payload) = IsPacket 8 0 payload.items bytes
+ShowsBytes bytes (Payload payload) = IsPacket (with_length 8) 0 payload.items bytes
 ShowsBytes bytes (Refused BadTag) = ⊥
 ShowsBytes bytes NotHex = ⊥
 

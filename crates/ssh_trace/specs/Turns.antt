@@ -1,9 +1,10 @@
 -- What an ask and a delivery do, for every history that the end sums up.
 use Rattle.std.specs.Prelude.{◌≡◌, ℕ, List, ◌++◌}
-use Rattle.ssh_model.specs.MacOnly.{mac_only}
-use Rattle.ssh_model.specs.History.{Side, Item, all_by}
-use Rattle.ssh_model.specs.History as history
-use Rattle.ssh_model.specs.EpochRun.{Asks, Gets}
+use Rattle.ssh_model.specs.Wire.MacOnly.{mac_only}
+use Rattle.ssh_model.specs.Side.{Side}
+use Rattle.ssh_model.specs.OneEpoch.History.{Item, all_by}
+use Rattle.ssh_model.specs.OneEpoch.History as history
+use Rattle.ssh_model.specs.OneEpoch.Runs.{Asks, Gets}
 use Rattle.ssh_trace.specs.History.{logged}
 use Rattle.ssh_trace.specs.EpochEnd.{End, EndSums, left_of}
 use Rattle.ssh_trace.specs.declared.history.Done.{Done}

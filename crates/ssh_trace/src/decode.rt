@@ -5,7 +5,9 @@ use crate::answer::{Answer, finish};
 use crate::history::Memory;
 use crate::shown::{Shown, packet_of};
 use crate::status::Status;
+use crate::word_fault::HexFault;
 use ssh_message::Line;
+use ssh_types::Refusal;
 use std::alloc::{AllocError, Global};
 use std::io::Write;
 use thiserror::Error;
@@ -13,8 +15,8 @@ use thiserror::Error;
 /// Why there is nothing to print of a text.
 #[derive(Debug, Drop, Error)]
 enum DecodeFault {
-    #[error("HEX is pairs of hexadecimal digits")]
-    NotHex,
+    #[error("{0}: HEX is pairs of hexadecimal digits")]
+    NotHex(HexFault),
     #[error("out of memory")]
     OutOfMemory,
 }
@@ -53,8 +55,9 @@ pub fn decode_to<W: Write, E: Write>(
 
 fn decoded(alloc: Global, text: &str) -> Result<Answer, DecodeFault> {
     match packet_of(alloc, text)? {
-        Shown::NotHex => Err(DecodeFault::NotHex),
+        Shown::NotHex => Err(DecodeFault::NotHex(HexFault::of(text))),
         Shown::Refused(refusal) => {
+            let refusal = Refusal::from(refusal);
             let (number, name) = (refusal.number(), refusal.name());
             refused(format!(in alloc; "refused {number} {name}\n")?)
         }

@@ -1,31 +1,33 @@
 //! What becomes of an ask, and of bytes that come, with the records of it.
 
 ghost use Rattle.std.specs.Prelude.{◌≡◌, ◌⊎◌, ◌<◌, ◌≤◌, false, true, length, take, IfOk, OnOk};
-ghost use Rattle.ssh_trace.specs.History.{side_of};
+ghost use Rattle.ssh_types.specs.Sides.{side_of};
+ghost use Rattle.ssh_trace.specs.EpochEnd.{SameKeys};
 ghost use Rattle.ssh_trace.specs.Turns.{Asked, Delivered, Turn};
 
-use crate::epoch_end::{AskStep, EpochEnd, TakeStep};
-use crate::history::{AskRefusal, Done, EpochRefusal, Item, Side, note, note_sent, note_took};
-use ssh_packet::HmacKey;
+use crate::epoch_end::{AskStep, EpochEnd};
+use crate::history::{Done, Item, note, note_sent, note_took};
+use ssh_transport::PacketStep;
+use ssh_types::{AskRefusal, Refusal, Side};
 use std::alloc::{AllocError, Global};
 
 /// Asks an end to send a payload. A dead end does nothing.
 pub(crate) fn ask(
     end: &mut EpochEnd,
     alloc: Global,
-    key: &HmacKey,
     side: Side,
     payload: &[u8],
     log: &mut Vec<Done>,
     out: &mut Vec<u8>,
 ) -> Result<(), AllocError>
     requires { 1 ≤ length payload.now }
-    ensures { OnOk result (Asked key.now (side_of side) payload.now end.old end.new log.old.items log.new.items out.old.items out.new.items) }
+    ensures asked { OnOk result (Asked end.old.sending_key (side_of side) payload.now end.old end.new log.old.items log.new.items out.old.items out.new.items) }
+    ensures keys { SameKeys end.old end.new }
 {
     if end.is_dead() {
         return Ok(());
     }
-    match end.ask(key, payload, out)? {
+    match end.ask(payload, out)? {
         AskStep::Sent => {
             note(log, side, Item::Asked)?;
             note_sent(alloc, log, side, payload)?;
@@ -38,7 +40,7 @@ pub(crate) fn ask(
         }
         AskStep::Spent => {
             note(log, side, Item::Asked)?;
-            note(log, side, Item::Refused(EpochRefusal::NumberSpent))?;
+            note(log, side, Item::Refused(Refusal::NumberSpent))?;
             note(log, side, Item::Died)?;
             Ok(())
         }
@@ -49,12 +51,12 @@ pub(crate) fn ask(
 pub(crate) fn deliver(
     end: &mut EpochEnd,
     alloc: Global,
-    key: &HmacKey,
     side: Side,
     piece: &[u8],
     log: &mut Vec<Done>,
 ) -> Result<(), AllocError>
-    ensures { OnOk result (Delivered key.now (side_of side) piece.now end.old end.new log.old.items log.new.items) }
+    ensures delivered { OnOk result (Delivered end.old.taking_key (side_of side) piece.now end.old end.new log.old.items log.new.items) }
+    ensures keys { SameKeys end.old end.new }
 {
     let mut at = 0;
     while at < piece.len() {
@@ -62,9 +64,9 @@ pub(crate) fn deliver(
             return Ok(());
         }
         let rest = piece.split_at(at).1;
-        at += deliver_once(end, alloc, key, side, rest, log)?;
+        at += deliver_once(end, alloc, side, rest, log)?;
     }
-    end.kept();
+    let _ = end.held();
     Ok(())
 }
 
@@ -72,7 +74,6 @@ pub(crate) fn deliver(
 fn deliver_once(
     end: &mut EpochEnd,
     alloc: Global,
-    key: &HmacKey,
     side: Side,
     bytes: &[u8],
     log: &mut Vec<Done>,
@@ -80,16 +81,17 @@ fn deliver_once(
     requires alive { end.old.dead ≡ false }
     ensures used { IfOk result (λ count. count ≤ length bytes.now) }
     ensures progress { IfOk result (λ count. 0 < length bytes.now → 0 < count) }
-    ensures turn { IfOk result (λ count. Turn key.now (side_of side) (take count bytes.now) end.old end.new log.old.items log.new.items) }
+    ensures turn { IfOk result (λ count. Turn end.old.taking_key (side_of side) (take count bytes.now) end.old end.new log.old.items log.new.items) }
+    ensures keys { SameKeys end.old end.new }
 {
-    let (used, step) = end.take(key, bytes);
+    let (used, step) = end.take(bytes);
     match step {
-        TakeStep::More => Ok(used),
-        TakeStep::Taken => {
+        PacketStep::More => Ok(used),
+        PacketStep::Payload => {
             note_took(alloc, log, side, end.payload())?;
             Ok(used)
         }
-        TakeStep::Rejected(refusal) => {
+        PacketStep::Refused(refusal) => {
             note(log, side, Item::Refused(refusal))?;
             note(log, side, Item::Died)?;
             Ok(used)

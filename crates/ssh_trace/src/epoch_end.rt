@@ -1,42 +1,31 @@
-ghost use Rattle.std.specs.Prelude.{◌≡◌, ◌<◌, ◌≤◌, ◌+◌, ◌++◌, ◌^◌, ℕ, List, [], ◌∷◌, true, false, length, take, IfOk, OnErr};
-ghost use Rattle.ssh_trace.specs.EpochEnd.{End, EndAsks, EndFinds, IsKept, new_end};
+ghost use Rattle.std.specs.Prelude.{◌≡◌, ◌<◌, ◌≤◌, ◌+◌, ◌++◌, ◌^◌, ℕ, List, Some, false, length, take, IfOk, OnErr};
+ghost use Rattle.ssh_model.specs.Wire.MacOnly.{mac_only};
+ghost use Rattle.ssh_model.specs.Wire.Unit.{IsPacketBegun};
+ghost use Rattle.ssh_trace.specs.EpochEnd.{EndAsks, EndFinds, SameKeys, new_end};
 
-use crate::history::EpochRefusal;
-use ssh_packet::{Filler, HmacKey, MacOnly, PacketReader, ReadStep, write_packet};
+use ssh_packet::{HmacKey, LONGEST_PAYLOAD, MacOnly};
+use ssh_toys::ToyFiller;
+use ssh_transport::{PacketReceiver, PacketSender, PacketStep};
 use std::alloc::{AllocError, Global};
 use std::marker::Model;
 
-// The packets of one direction in one epoch.
-const NUMBERS: u64 = 4_294_967_296;
-
-// The bytes of the longest payload that is sent.
-const LONGEST: usize = 34_000;
-
-/// One end of an epoch.
+/// One end of an epoch: what it sends is sealed under one key, and what it takes is opened under another. Its padding is
+/// zeros.
 #[derive(Drop)]
 pub(crate) struct EpochEnd {
-    reader: PacketReader,
-    sent: u64,
-    taken: u64,
+    sender: PacketSender<MacOnly>,
+    receiver: PacketReceiver<MacOnly>,
     dead: bool,
 }
 
 impl Model for EpochEnd {
-    ghost use Rattle.ssh_trace.specs.EpochEnd.{End, IsKept};
+    ghost use Rattle.ssh_trace.specs.EpochEnd.{End, IsKept, end_of};
 
     ghost Value = { End };
 
-    ghost view = { λ e. record { reading = e.reader; sent = e.sent; taken = e.taken; dead = e.dead } };
+    ghost view = { λ e. end_of e.sender e.receiver e.dead };
 
-    ghost invariant = { λ e. IsKept (record { reading = e.reader; sent = e.sent; taken = e.taken; dead = e.dead }) };
-}
-
-/// What an end made of bytes.
-#[derive(Clone, Copy)]
-pub(crate) enum TakeStep {
-    More,
-    Taken,
-    Rejected(EpochRefusal),
+    ghost invariant = { λ e. IsKept e.sender e.receiver e.dead };
 }
 
 /// What an end made of an ask.
@@ -47,24 +36,17 @@ pub(crate) enum AskStep {
     Spent,
 }
 
-// The padding is zeros.
-#[derive(Drop)]
-struct Zeros;
-
-impl Filler for Zeros {
-    fn fill(&mut self, out: &mut [u8]) {
-        out.fill(0);
-    }
-}
-
 impl EpochEnd {
-    pub fn new(alloc: Global) -> Result<EpochEnd, AllocError>
-        ensures { IfOk result (λ end. end ≡ new_end) }
+    pub fn new(
+        alloc: Global,
+        sending_key: HmacKey,
+        taking_key: HmacKey,
+    ) -> Result<EpochEnd, AllocError>
+        ensures { IfOk result (λ end. end ≡ new_end sending_key taking_key) }
     {
         Ok(EpochEnd {
-            reader: PacketReader::new(alloc)?,
-            sent: 0,
-            taken: 0,
+            sender: PacketSender::under(sending_key),
+            receiver: PacketReceiver::under(alloc, taking_key)?,
             dead: false,
         })
     }
@@ -77,96 +59,55 @@ impl EpochEnd {
 
     /// The payload that was taken last.
     pub fn payload(&self) -> &[u8]
-        ensures { result.now ≡ self.now.reading.payload }
+        ensures { result.now ≡ self.now.payload }
     {
-        self.reader.payload()
+        self.receiver.payload()
     }
 
-    // What holds of every end: a fact for proofs.
-    pub fn kept(&self)
-        ensures { IsKept self.now }
+    /// How many bytes of a packet begun are held. Of a living end what they are is a packet begun.
+    pub fn held(&self) -> usize
+        ensures held { result ≡ length self.now.begun }
+        ensures begun { self.now.dead ≡ false → IsPacketBegun mac_only (Some self.now.taking_key) self.now.taken self.now.begun }
     {
-        let _ = &self.reader;
+        self.receiver.held()
     }
 
     /// Sends a payload.
-    pub fn ask(
-        &mut self,
-        key: &HmacKey,
-        payload: &[u8],
-        out: &mut Vec<u8>,
-    ) -> Result<AskStep, AllocError>
+    #[tactic(auto, using(crate::proofs::Counts::sealed_as))]
+    pub fn ask(&mut self, payload: &[u8], out: &mut Vec<u8>) -> Result<AskStep, AllocError>
         requires alive { self.old.dead ≡ false }
         requires some { 1 ≤ length payload.now }
-        ensures asked { IfOk result (λ step. EndAsks key.now payload.now self.old step self.new out.old.items out.new.items) }
+        ensures asked { IfOk result (λ step. EndAsks payload.now self.old step self.new out.old.items out.new.items) }
+        ensures keys { SameKeys self.old self.new }
         ensures kept { OnErr result (self.new ≡ self.old) }
         ensures out { OnErr result (out.new.items ≡ out.old.items) }
     {
-        if payload.len() > LONGEST {
+        if payload.len() > LONGEST_PAYLOAD {
             return Ok(AskStep::TooLong);
         }
-        if self.sent >= NUMBERS {
+        if self.sender.is_spent() {
             self.dead = true;
             return Ok(AskStep::Spent);
         }
-        let number = self.sent as u32;
-        write_packet::<MacOnly, Zeros>(payload, Some(key), number, &mut Zeros, out)?;
-        self.sent += 1;
+        let mut zeros = ToyFiller { byte: 0 };
+        self.sender.send(payload, &mut zeros, out)?;
         Ok(AskStep::Sent)
     }
 
     /// Takes bytes to the end of one packet.
-    pub fn take(&mut self, key: &HmacKey, bytes: &[u8]) -> (usize, TakeStep)
+    #[tactic(auto, using(crate::proofs::Counts::unit_of))]
+    pub fn take(&mut self, bytes: &[u8]) -> (usize, PacketStep)
         requires alive { self.old.dead ≡ false }
         ensures used { result.0 ≤ length bytes.now }
         ensures progress { 0 < length bytes.now → 0 < result.0 }
-        ensures more { result.1 ≡ TakeStep.More → result.0 ≡ length bytes.now }
-        ensures found { EndFinds key.now (self.old.reading.rest ++ take result.0 bytes.now) self.old result.1 self.new }
+        ensures more { result.1 ≡ PacketStep.More → result.0 ≡ length bytes.now }
+        ensures found { EndFinds (self.old.begun ++ take result.0 bytes.now) self.old result.1 self.new }
+        ensures keys { SameKeys self.old self.new }
     {
-        if self.taken >= NUMBERS {
-            return self.take_field(key, bytes);
+        let (used, step) = self.receiver.take(bytes);
+        if matches!(step, PacketStep::Refused(_)) {
+            self.dead = true;
         }
-        let (used, step) = self
-            .reader
-            .take::<MacOnly>(Some(key), self.taken as u32, bytes);
-        match step {
-            ReadStep::Packet => {
-                self.taken += 1;
-                (used, TakeStep::Taken)
-            }
-            ReadStep::More => (used, TakeStep::More),
-            ReadStep::Refused(refusal) => {
-                self.dead = true;
-                (used, TakeStep::Rejected(EpochRefusal::Packet(refusal)))
-            }
-        }
-    }
-
-    // Takes at most a length field, where all numbers are used.
-    fn take_field(&mut self, key: &HmacKey, bytes: &[u8]) -> (usize, TakeStep)
-        requires alive { self.old.dead ≡ false }
-        requires spent { self.old.taken ≡ 2 ^ 32 }
-        ensures used { result.0 ≤ length bytes.now }
-        ensures progress { 0 < length bytes.now → 0 < result.0 }
-        ensures more { result.1 ≡ TakeStep.More → result.0 ≡ length bytes.now }
-        ensures found { EndFinds key.now (self.old.reading.rest ++ take result.0 bytes.now) self.old result.1 self.new }
-    {
-        let room = 4 - self.reader.held();
-        let field = bytes.split_at(room.min(bytes.len())).0;
-        let (used, step) = self.reader.take::<MacOnly>(Some(key), 0, field);
-        match step {
-            ReadStep::Packet => unreachable!(),
-            ReadStep::More => {
-                if self.reader.held() < 4 {
-                    return (used, TakeStep::More);
-                }
-                self.dead = true;
-                (used, TakeStep::Rejected(EpochRefusal::NumberSpent))
-            }
-            ReadStep::Refused(refusal) => {
-                self.dead = true;
-                (used, TakeStep::Rejected(EpochRefusal::Packet(refusal)))
-            }
-        }
+        (used, step)
     }
 }

@@ -1,18 +1,20 @@
 //! Two ends that share the two keys of one epoch.
 
 ghost use Rattle.std.specs.Prelude.{◌≡◌, ◌≤◌, ◌∷◌, [], length, false, true, IfOk, IsErr, OnErr, OnOk};
-ghost use Rattle.ssh_model.specs.EpochRun as epoch;
-ghost use Rattle.ssh_model.specs.EpochRun.{World, fresh};
-ghost use Rattle.ssh_model.specs.History.{IsHonestEpoch, TakenInOrder};
-ghost use Rattle.ssh_model.specs.MacOnly.{key_block};
-ghost use Rattle.ssh_trace.specs.History.{AreFilled, event_of, events_of, logged, side_of};
+ghost use Rattle.ssh_model.specs.OneEpoch.Runs as epoch;
+ghost use Rattle.ssh_model.specs.OneEpoch.Runs.{World, fresh};
+ghost use Rattle.ssh_model.specs.OneEpoch.History.{IsHonestEpoch, TakenInOrder};
+ghost use Rattle.ssh_model.specs.Wire.MacOnly.{key_block};
+ghost use Rattle.ssh_types.specs.Sides.{side_of};
+ghost use Rattle.ssh_trace.specs.History.{AreFilled, event_of, events_of, logged};
 ghost use Rattle.ssh_trace.specs.Pair.{PairState, Plays, PlaysOne, StandsAt, keys_of};
 
 use crate::deliver::{ask, deliver};
 use crate::epoch_end::EpochEnd;
-use crate::history::{Event, Memory, Side, Transcript};
+use crate::history::{Event, Memory, Transcript};
 use ssh_model::taken_in_order;
 use ssh_packet::HmacKey;
+use ssh_types::Side;
 use std::alloc::{AllocError, Global};
 use std::marker::Model;
 
@@ -22,19 +24,19 @@ use std::marker::Model;
 #[derive(Drop)]
 pub struct EpochPair {
     alloc: Global,
-    client_key: HmacKey,
-    server_key: HmacKey,
     client: EpochEnd,
     server: EpochEnd,
     failed: bool,
 }
 
 impl Model for EpochPair {
-    ghost use Rattle.ssh_trace.specs.Pair.{PairState};
+    ghost use Rattle.ssh_trace.specs.Pair.{PairState, ShareKeys};
 
     ghost Value = { PairState };
 
-    ghost view = { λ p. record { client_key = p.client_key; server_key = p.server_key; client = p.client; server = p.server; failed = p.failed } };
+    ghost view = { λ p. record { client = p.client; server = p.server; failed = p.failed } };
+
+    ghost invariant = { λ p. ShareKeys p.client p.server };
 }
 
 impl EpochPair {
@@ -50,10 +52,8 @@ impl EpochPair {
     {
         Ok(EpochPair {
             alloc,
-            client_key: HmacKey::new(client_key),
-            server_key: HmacKey::new(server_key),
-            client: EpochEnd::new(alloc)?,
-            server: EpochEnd::new(alloc)?,
+            client: EpochEnd::new(alloc, HmacKey::new(client_key), HmacKey::new(server_key))?,
+            server: EpochEnd::new(alloc, HmacKey::new(server_key), HmacKey::new(client_key))?,
             failed: false,
         })
     }
@@ -131,7 +131,6 @@ impl EpochPair {
             Side::Client => ask(
                 &mut self.client,
                 self.alloc,
-                &self.client_key,
                 Side::Client,
                 payload,
                 &mut transcript.items,
@@ -140,7 +139,6 @@ impl EpochPair {
             Side::Server => ask(
                 &mut self.server,
                 self.alloc,
-                &self.server_key,
                 Side::Server,
                 payload,
                 &mut transcript.items,
@@ -166,7 +164,6 @@ impl EpochPair {
             Side::Client => deliver(
                 &mut self.client,
                 self.alloc,
-                &self.server_key,
                 Side::Client,
                 bytes,
                 &mut transcript.items,
@@ -174,7 +171,6 @@ impl EpochPair {
             Side::Server => deliver(
                 &mut self.server,
                 self.alloc,
-                &self.client_key,
                 Side::Server,
                 bytes,
                 &mut transcript.items,

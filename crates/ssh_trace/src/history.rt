@@ -1,77 +1,13 @@
 //! What the two ends of an epoch are asked and given, and what they do.
 
 ghost use Rattle.std.specs.Prelude.{◌≡◌, ◌∷◌, List, OnOk};
-ghost use Rattle.ssh_model.specs.History as history;
-ghost use Rattle.ssh_trace.specs.History.{ask_refusal_name, ask_refusal_number, item_of, logged, refusal_name, refusal_number, side_of};
+ghost use Rattle.ssh_model.specs.OneEpoch.History as history;
+ghost use Rattle.ssh_types.specs.Sides.{side_of};
+ghost use Rattle.ssh_trace.specs.History.{item_of, logged};
 
-use ssh_packet::PacketRefusal;
+use ssh_types::{AskRefusal, Refusal, Side};
 use std::alloc::{AllocError, Global};
 use thiserror::Error;
-
-/// An end of the pair.
-#[derive(Clone, Copy, Debug, PartialEq, Eq)]
-pub enum Side {
-    Client,
-    Server,
-}
-
-/// Why an ask was refused. A refused ask sends nothing.
-#[derive(Clone, Copy, Debug, PartialEq, Eq)]
-pub enum AskRefusal {
-    /// The payload has more than 34,000 bytes.
-    TooLong,
-}
-
-impl AskRefusal {
-    /// The number of the refusal, 5.
-    pub fn number(self) -> u8
-        ensures { result ≡ ask_refusal_number self }
-    {
-        match self {
-            AskRefusal::TooLong => 5,
-        }
-    }
-
-    /// The name of the refusal.
-    pub fn name(self) -> &'static str
-        ensures { result.now ≡ ask_refusal_name self }
-    {
-        match self {
-            AskRefusal::TooLong => "TooLong",
-        }
-    }
-}
-
-/// Why an end refused its peer, or itself. It is dead then.
-#[derive(Clone, Copy, Debug, PartialEq, Eq)]
-pub enum EpochRefusal {
-    /// What came is no packet.
-    Packet(PacketRefusal),
-    /// All 2^32 numbers of the epoch are used.
-    NumberSpent,
-}
-
-impl EpochRefusal {
-    /// The number of the refusal: 3, 4, 5 or 14.
-    pub fn number(self) -> u8
-        ensures { result ≡ refusal_number self }
-    {
-        match self {
-            EpochRefusal::Packet(refusal) => refusal.number(),
-            EpochRefusal::NumberSpent => 14,
-        }
-    }
-
-    /// The name of the refusal.
-    pub fn name(self) -> &'static str
-        ensures { result.now ≡ refusal_name self }
-    {
-        match self {
-            EpochRefusal::Packet(refusal) => refusal.name(),
-            EpochRefusal::NumberSpent => "NumberSpent",
-        }
-    }
-}
 
 /// What an end did.
 #[derive(Debug, Drop)]
@@ -85,7 +21,7 @@ pub enum Item {
     /// It sent this payload.
     Sent(Vec<u8>),
     /// It refused its peer, or found its own numbers spent.
-    Refused(EpochRefusal),
+    Refused(Refusal),
     /// It is dead from now on.
     Died,
 }
@@ -114,7 +50,7 @@ pub struct Transcript {
     pub server_bytes: Vec<u8>,
 }
 
-/// Want of memory for a transcript, or for the buffers of a pair. A pair that answered it has failed for good.
+/// An allocation failed, for a transcript or for the buffers of a pair. A pair that answered it has failed for good.
 #[derive(Clone, Copy, Debug, PartialEq, Eq, Error)]
 #[error("out of memory")]
 pub struct Memory;

@@ -17,15 +17,13 @@ mod shown;
 mod status;
 mod stream;
 mod transcript;
+mod word_fault;
 mod words;
 
 pub use answer::report;
 pub use decode::decode_to;
 pub use epoch_pair::EpochPair;
-pub use history::{AskRefusal, Done, EpochRefusal, Event, Item, Memory, Side, Transcript};
+pub use history::{Done, Event, Item, Memory, Transcript};
 pub use play::play_to;
 pub use shown::{Shown, packet_of};
 pub use status::Status;
-
-#[cfg(test)]
-mod tests;

@@ -4,6 +4,7 @@ use crate::script::{command_of, is_skipped, keys_of};
 use crate::script_fault::{LineFault, ScriptFault};
 use crate::status::Status;
 use crate::transcript::write_items;
+use crate::word_fault::WordFault;
 use std::alloc::Global;
 use std::io::{Read, Write};
 use std::str;
@@ -33,12 +34,16 @@ fn played<R: Read>(alloc: Global, script: &mut R) -> Result<Answer, ScriptFault>
     for bytes in text.as_slice().split(|byte| *byte == b'\n') {
         line = line.saturating_add(1);
         if let Err(fault) = session.take(bytes) {
-            return Err(ScriptFault::Line { line, fault });
+            let message = format!(in alloc; "{fault}")?;
+            return Err(ScriptFault::Line { line, message });
         }
     }
     match session.end() {
         Ok(answer) => Ok(answer),
-        Err(fault) => Err(ScriptFault::Line { line, fault }),
+        Err(fault) => {
+            let message = format!(in alloc; "{fault}")?;
+            Err(ScriptFault::Line { line, message })
+        }
     }
 }
 
@@ -63,21 +68,25 @@ impl Session {
     }
 
     // Plays one line, without its line break.
-    fn take(&mut self, bytes: &[u8]) -> Result<(), LineFault> {
-        let Ok(line) = str::from_utf8(bytes) else {
-            return Err(LineFault::NotUtf8);
+    fn take<'a>(&mut self, bytes: &'a [u8]) -> Result<(), LineFault<'a>> {
+        let line = match str::from_utf8(bytes) {
+            Ok(line) => line,
+            Err(error) => return Err(LineFault::NotUtf8(error.valid_up_to().saturating_add(1))),
         };
         if is_skipped(line) {
             return Ok(());
         }
+        if line.ends_with('\r') {
+            return Err(LineFault::CarriageReturn);
+        }
         let words: Vec<&str> = line.split(' ').collect(self.alloc)?;
         if words.iter().any(|word| word.is_empty()) {
-            return Err(LineFault::EmptyWord);
+            return Err(LineFault::Words(WordFault::EmptyWord));
         }
         self.run(words.as_slice())
     }
 
-    fn run(&mut self, words: &[&str]) -> Result<(), LineFault> {
+    fn run<'a>(&mut self, words: &[&'a str]) -> Result<(), LineFault<'a>> {
         let Some(player) = &mut self.player else {
             let keys = keys_of(words)?;
             self.player = Some(Player::new(self.alloc, &keys)?);
@@ -91,7 +100,7 @@ impl Session {
         Ok(())
     }
 
-    fn end(self) -> Result<Answer, LineFault> {
+    fn end(self) -> Result<Answer, LineFault<'static>> {
         if self.player.is_none() {
             return Err(LineFault::NoEpoch);
         }

@@ -1,24 +1,14 @@
 //! Runs the commands of a script against a pair of ends.
 
-ghost use Rattle.std.specs.Prelude.{◌≡◌};
 ghost use Rattle.ssh_trace.specs.History.{AreFilled, events_of};
 
 use crate::epoch_pair::EpochPair;
-use crate::history::{Done, Event, Item, Memory, Side};
+use crate::history::{Done, Event, Item};
 use crate::script::{Command, Count, Keys};
-use crate::script_fault::LineFault;
+use crate::script_fault::RunFault;
 use crate::stream::Stream;
+use ssh_types::Side;
 use std::alloc::Global;
-
-impl From<Memory> for LineFault {
-    ghost use Rattle.ssh_trace.specs.declared.script_fault.LineFault.TheVariants.{Memory};
-
-    ghost from_gives = { λ _ e. e ≡ Memory };
-
-    fn from(_error: Memory) -> LineFault {
-        LineFault::Memory
-    }
-}
 
 /// The pair, and what each of its ends put out.
 #[derive(Drop)]
@@ -30,7 +20,7 @@ pub(crate) struct Player {
 }
 
 impl Player {
-    pub fn new(alloc: Global, keys: &Keys) -> Result<Player, LineFault> {
+    pub fn new(alloc: Global, keys: &Keys) -> Result<Player, RunFault> {
         Ok(Player {
             alloc,
             pair: EpochPair::new(alloc, &keys.client, &keys.server)?,
@@ -40,7 +30,7 @@ impl Player {
     }
 
     /// Runs one command, and gives what the ends did.
-    pub fn run(&mut self, command: &Command) -> Result<Vec<Done>, LineFault> {
+    pub fn run(&mut self, command: &Command) -> Result<Vec<Done>, RunFault> {
         match command {
             Command::Ask { side, payload } => self.ask(*side, payload.as_slice()),
             Command::Give { side, bytes } => self.play(&[Event::Deliver(*side, bytes.as_slice())]),
@@ -52,64 +42,57 @@ impl Player {
     }
 
     // An empty payload has no message number, and so can't be sent.
-    fn ask(&mut self, side: Side, payload: &[u8]) -> Result<Vec<Done>, LineFault> {
+    fn ask(&mut self, side: Side, payload: &[u8]) -> Result<Vec<Done>, RunFault> {
         if payload.is_empty() {
-            return Err(LineFault::EmptyPayload);
+            return Err(RunFault::EmptyPayload);
         }
         self.play(&[Event::Ask(side, payload)])
     }
 
-    fn pass(&mut self, from: Side, count: Count) -> Result<Vec<Done>, LineFault> {
+    fn pass(&mut self, from: Side, count: Count) -> Result<Vec<Done>, RunFault> {
         let piece = self.next(from, count)?;
-        self.play(&[Event::Deliver(peer_of(from), piece.as_slice())])
+        self.play(&[Event::Deliver(from.peer(), piece.as_slice())])
     }
 
-    fn drip(&mut self, from: Side) -> Result<Vec<Done>, LineFault> {
+    fn drip(&mut self, from: Side) -> Result<Vec<Done>, RunFault> {
         let waiting = self.next(from, Count::All)?;
-        let to = peer_of(from);
+        let to = from.peer();
         let mut all = Vec::new(self.alloc);
         for piece in waiting.as_slice().chunks(1) {
             for done in self.play(&[Event::Deliver(to, piece)])? {
-                all.push(done).map_err(|_| LineFault::Memory)?;
+                all.push(done).map_err(|_| RunFault::Memory)?;
             }
         }
         Ok(all)
     }
 
-    fn lose(&mut self, from: Side, count: u32) -> Result<Vec<Done>, LineFault> {
+    fn lose(&mut self, from: Side, count: u32) -> Result<Vec<Done>, RunFault> {
         self.next(from, Count::Next(count))?;
         Ok(Vec::new(self.alloc))
     }
 
-    fn again(&mut self, from: Side, start: u32, count: u32) -> Result<Vec<Done>, LineFault> {
+    fn again(&mut self, from: Side, start: u32, count: u32) -> Result<Vec<Done>, RunFault> {
         let piece = match from {
             Side::Client => self.client.part(start, count)?,
             Side::Server => self.server.part(start, count)?,
         };
-        self.play(&[Event::Deliver(peer_of(from), piece.as_slice())])
+        self.play(&[Event::Deliver(from.peer(), piece.as_slice())])
     }
 
-    fn next(&mut self, from: Side, count: Count) -> Result<Vec<u8>, LineFault> {
+    fn next(&mut self, from: Side, count: Count) -> Result<Vec<u8>, RunFault> {
         match from {
             Side::Client => self.client.next(count),
             Side::Server => self.server.next(count),
         }
     }
 
-    fn play(&mut self, events: &[Event<'_>]) -> Result<Vec<Done>, LineFault>
+    fn play(&mut self, events: &[Event<'_>]) -> Result<Vec<Done>, RunFault>
         requires { AreFilled (events_of events.now) }
     {
         let transcript = self.pair.play(events)?;
         self.client.put_out(transcript.client_bytes.as_slice())?;
         self.server.put_out(transcript.server_bytes.as_slice())?;
         Ok(transcript.items)
-    }
-}
-
-fn peer_of(side: Side) -> Side {
-    match side {
-        Side::Client => Side::Server,
-        Side::Server => Side::Client,
     }
 }
 

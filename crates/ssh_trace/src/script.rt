@@ -1,8 +1,8 @@
 //! The lines of a script of one epoch.
 
-use crate::history::Side;
-use crate::script_fault::{Form, LineFault};
+use crate::word_fault::{Form, WordFault};
 use crate::words;
+use ssh_types::Side;
 use std::alloc::Global;
 
 /// The keys of the two directions.
@@ -44,47 +44,62 @@ pub(crate) fn is_skipped(line: &str) -> bool {
 }
 
 /// The keys of the first line that isn't skipped.
-pub(crate) fn keys_of(words: &[&str]) -> Result<Keys, LineFault> {
-    match words {
-        ["epoch", client, server] => Ok(Keys {
-            client: words::key(client)?,
-            server: words::key(server)?,
-        }),
-        ["epoch", ..] => Err(LineFault::Words(Form::Epoch)),
-        _ => Err(LineFault::NotEpoch),
+pub(crate) fn keys_of<'a>(words: &[&'a str]) -> Result<Keys, WordFault<'a>> {
+    let Some((word, rest)) = words.split_first() else {
+        return Err(WordFault::EmptyWord);
+    };
+    if *word != "epoch" {
+        return Err(WordFault::NotEpoch(word));
     }
+    let [client, server] = rest else {
+        return other_words(Form::Epoch, rest);
+    };
+    Ok(Keys {
+        client: words::key(client)?,
+        server: words::key(server)?,
+    })
 }
 
 /// What a further line does, by its words.
-pub(crate) fn command_of(alloc: Global, words: &[&str]) -> Result<Command, LineFault> {
-    let Some((form, rest)) = words.split_first() else {
-        return Err(LineFault::EmptyWord);
+pub(crate) fn command_of<'a>(alloc: Global, words: &[&'a str]) -> Result<Command, WordFault<'a>> {
+    let Some((word, rest)) = words.split_first() else {
+        return Err(WordFault::EmptyWord);
     };
-    match *form {
+    match *word {
         "ask" => ask(alloc, rest),
         "pass" => pass(rest),
         "drip" => drip(rest),
         "lose" => lose(rest),
         "give" => give(alloc, rest),
         "again" => again(rest),
-        "epoch" => Err(LineFault::SecondEpoch),
-        "" => Err(LineFault::EmptyWord),
-        _ => Err(LineFault::UnknownForm),
+        "epoch" => Err(WordFault::SecondEpoch),
+        "" => Err(WordFault::EmptyWord),
+        word => Err(WordFault::UnknownForm(word)),
     }
 }
 
-fn ask(alloc: Global, words: &[&str]) -> Result<Command, LineFault> {
-    let [side, "raw", payload] = words else {
-        return Err(LineFault::Words(Form::Ask));
+// The words behind the first are more or less than this form has.
+fn other_words<'a, T: Drop>(form: Form, words: &[&'a str]) -> Result<T, WordFault<'a>> {
+    let count = words.len();
+    Err(WordFault::Words { form, count })
+}
+
+fn ask<'a>(alloc: Global, words: &[&'a str]) -> Result<Command, WordFault<'a>> {
+    let [side, kind, payload] = words else {
+        return other_words(Form::Ask, words);
     };
     let side = words::side(side)?;
+    if *kind != "raw" {
+        let (form, met) = (Form::Ask, *kind);
+        return Err(WordFault::Word { form, met });
+    }
     let payload = words::bytes(alloc, payload)?;
     Ok(Command::Ask { side, payload })
 }
 
-fn pass(words: &[&str]) -> Result<Command, LineFault> {
+fn pass<'a>(words: &[&'a str]) -> Result<Command, WordFault<'a>> {
     let [from, to, count] = words else {
-        return Err(LineFault::Words(Form::Pass));
+        return other_words(Form::Pass, words);
     };
     let from = words::sender(from, to)?;
     let count = match *count {
@@ -94,35 +109,39 @@ fn pass(words: &[&str]) -> Result<Command, LineFault> {
     Ok(Command::Pass { from, count })
 }
 
-fn drip(words: &[&str]) -> Result<Command, LineFault> {
-    let [from, to, "all"] = words else {
-        return Err(LineFault::Words(Form::Drip));
+fn drip<'a>(words: &[&'a str]) -> Result<Command, WordFault<'a>> {
+    let [from, to, count] = words else {
+        return other_words(Form::Drip, words);
     };
     let from = words::sender(from, to)?;
+    if *count != "all" {
+        let (form, met) = (Form::Drip, *count);
+        return Err(WordFault::Word { form, met });
+    }
     Ok(Command::Drip { from })
 }
 
-fn lose(words: &[&str]) -> Result<Command, LineFault> {
+fn lose<'a>(words: &[&'a str]) -> Result<Command, WordFault<'a>> {
     let [from, to, count] = words else {
-        return Err(LineFault::Words(Form::Lose));
+        return other_words(Form::Lose, words);
     };
     let from = words::sender(from, to)?;
     let count = words::number(count)?;
     Ok(Command::Lose { from, count })
 }
 
-fn give(alloc: Global, words: &[&str]) -> Result<Command, LineFault> {
+fn give<'a>(alloc: Global, words: &[&'a str]) -> Result<Command, WordFault<'a>> {
     let [side, bytes] = words else {
-        return Err(LineFault::Words(Form::Give));
+        return other_words(Form::Give, words);
     };
     let side = words::side(side)?;
     let bytes = words::bytes(alloc, bytes)?;
     Ok(Command::Give { side, bytes })
 }
 
-fn again(words: &[&str]) -> Result<Command, LineFault> {
+fn again<'a>(words: &[&'a str]) -> Result<Command, WordFault<'a>> {
     let [from, to, start, count] = words else {
-        return Err(LineFault::Words(Form::Again));
+        return other_words(Form::Again, words);
     };
     let from = words::sender(from, to)?;
     let start = words::number(start)?;

@@ -1,74 +1,18 @@
+//! Why a script, or a line of one, isn't played.
+
 ghost use Rattle.std.specs.Prelude.{◌≡◌};
 
+use crate::history::Memory;
+use crate::word_fault::{Form, WordFault};
 use std::alloc::AllocError;
 use std::io;
 use thiserror::Error;
 
-/// A form of line that a script of one epoch has.
-#[derive(Clone, Copy, Debug, PartialEq, Eq)]
-pub(crate) enum Form {
-    Epoch,
-    Ask,
-    Pass,
-    Drip,
-    Lose,
-    Give,
-    Again,
-}
-
-impl Form {
-    /// How a line of this form is written.
-    pub fn shown(self) -> &'static str {
-        match self {
-            Form::Epoch => "epoch K1 K2",
-            Form::Ask => "ask SIDE raw HEX",
-            Form::Pass => "pass F T N, pass F T all",
-            Form::Drip => "drip F T all",
-            Form::Lose => "lose F T N",
-            Form::Give => "give SIDE HEX",
-            Form::Again => "again F T A N",
-        }
-    }
-}
-
-/// What is wrong with one line of a script.
+/// Why a command of a script can't be run.
 #[derive(Clone, Copy, Debug, PartialEq, Eq, Error)]
-pub(crate) enum LineFault {
-    /// The bytes aren't UTF-8.
-    #[error("the line isn't UTF-8")]
-    NotUtf8,
-    /// Nothing but skipped lines was there, up to the script's end.
-    #[error("the script ends without its line: {}", Form::Epoch.shown())]
-    NoEpoch,
-    /// Another line stands before the keys.
-    #[error("the first line of a script is: {}", Form::Epoch.shown())]
-    NotEpoch,
-    /// The keys are given again.
-    #[error("the keys are given once, in the first line")]
-    SecondEpoch,
-    /// A space at the line's begin or end, or two in a row.
-    #[error("words are parted by one space")]
-    EmptyWord,
-    /// The first word is of no line.
-    #[error("no line of a script begins with this word")]
-    UnknownForm,
-    /// The number of words, or a fixed word, is another one.
-    #[error("this line is written: {}", .0.shown())]
-    Words(Form),
-    #[error("a side is c or s")]
-    Side,
-    #[error("F and T are the two different sides")]
-    SameSide,
-    #[error("HEX is pairs of hexadecimal digits, or - for no bytes")]
-    Hex,
-    #[error("a key is 32 bytes, in 64 hexadecimal digits")]
-    Key,
+pub(crate) enum RunFault {
     #[error("a payload has at least one byte")]
     EmptyPayload,
-    #[error("a number is decimal digits")]
-    NotNumber,
-    #[error("a number is at most 4294967295")]
-    NumberTooLarge,
     /// Fewer bytes wait than the line wants.
     #[error("{wanted} bytes are wanted, and {waiting} wait")]
     FewWaiting {
@@ -86,14 +30,43 @@ pub(crate) enum LineFault {
     Memory,
 }
 
-impl From<AllocError> for LineFault {
-    ghost use Rattle.ssh_trace.specs.declared.script_fault.LineFault.TheVariants.{Memory};
+impl From<AllocError> for RunFault {
+    ghost use Rattle.ssh_trace.specs.declared.script_fault.RunFault.TheVariants.{Memory};
 
     ghost from_gives = { λ _ e. e ≡ Memory };
 
-    fn from(_error: AllocError) -> LineFault {
-        LineFault::Memory
+    fn from(_error: AllocError) -> RunFault {
+        RunFault::Memory
     }
+}
+
+impl From<Memory> for RunFault {
+    ghost use Rattle.ssh_trace.specs.declared.script_fault.RunFault.TheVariants.{Memory};
+
+    ghost from_gives = { λ _ e. e ≡ Memory };
+
+    fn from(_error: Memory) -> RunFault {
+        RunFault::Memory
+    }
+}
+
+/// Why a line of a script isn't played.
+#[derive(Clone, Copy, Debug, PartialEq, Eq, Error)]
+pub(crate) enum LineFault<'a> {
+    /// The first byte that begins no character, counted from 1.
+    #[error("byte {0} isn't UTF-8")]
+    NotUtf8(usize),
+    #[error("a CR stands at the line's end: lines end with LF alone")]
+    CarriageReturn,
+    /// Nothing but skipped lines was there, up to the script's end.
+    #[error("the script ends without its line {}", Form::Epoch.shown())]
+    NoEpoch,
+    #[error("{0}")]
+    Words(#[from] WordFault<'a>),
+    #[error("{0}")]
+    Run(#[from] RunFault),
+    #[error("out of memory")]
+    Memory(#[from(alloc)] AllocError),
 }
 
 /// Why a script was not played to its end.
@@ -101,9 +74,9 @@ impl From<AllocError> for LineFault {
 pub(crate) enum ScriptFault {
     #[error("can't read the script: {0}")]
     Unreadable(io::Error),
-    /// The line, counted from 1.
-    #[error("line {line}: {fault}")]
-    Line { line: usize, fault: LineFault },
+    /// The line, counted from 1, and what is wrong with it.
+    #[error("line {line}: {message}")]
+    Line { line: usize, message: String },
     #[error("out of memory")]
     Memory,
 }

@@ -1,6 +1,7 @@
 //! One clear packet in hexadecimal digits.
 
-ghost use Rattle.std.specs.Prelude.{IfOk};
+ghost use Rattle.std.specs.Prelude.{◌≡◌, ◌%◌, Ok, IfOk, length};
+ghost use Rattle.ssh_trace.specs.declared.shown.Shown.TheVariants.{NotHex};
 ghost use Rattle.ssh_trace.specs.Shown.{Shows, ShowsBytes};
 
 use crate::history::Memory;
@@ -24,10 +25,12 @@ pub enum Shown {
     Payload(Vec<u8>),
 }
 
-/// Reads the one clear packet that `text` is in hexadecimal digits. The empty text is `Shown::Incomplete`. `Memory` is
-/// want of memory.
+/// Reads the one clear packet that `text` is in hexadecimal digits. The empty text is `Shown::Incomplete`.
+///
+/// `Memory` where memory for the bytes or for the reader is wanting. A text of odd length takes none: it is `NotHex`.
 pub fn packet_of(alloc: Global, text: &str) -> Result<Shown, Memory>
-    ensures { IfOk result (Shows text.now) }
+    ensures shows { IfOk result (Shows text.now) }
+    ensures odd { length text.now % 2 ≡ 1 → result ≡ Ok NotHex }
 {
     let bytes = match hex::decode(alloc, text) {
         Ok(bytes) => bytes,

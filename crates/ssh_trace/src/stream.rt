@@ -1,7 +1,7 @@
 ghost use Rattle.std.specs.Prelude.{◌≡◌, ◌≤◌, ◌+◌, ◌++◌, [], vec_len, take, drop, IfOk, OnOk, OnErr};
 
 use crate::script::Count;
-use crate::script_fault::LineFault;
+use crate::script_fault::RunFault;
 use std::alloc::{AllocError, Global};
 
 /// All bytes that a side ever put out. The first of them are passed, the others wait.
@@ -34,7 +34,7 @@ impl Stream {
     }
 
     /// The next waiting bytes, which wait no longer.
-    pub fn next(&mut self, count: Count) -> Result<Vec<u8>, LineFault>
+    pub fn next(&mut self, count: Count) -> Result<Vec<u8>, RunFault>
         ensures next { IfOk result (λ piece. piece.items
             ≡ take (vec_len piece) (drop self.old.passed self.old.bytes.items)) }
         ensures passed { IfOk result (λ piece. self.new.passed ≡ self.old.passed + vec_len piece) }
@@ -49,7 +49,7 @@ impl Stream {
         };
         let Some(next) = waiting.get(..wanted) else {
             let waiting = waiting.len();
-            return Err(LineFault::FewWaiting { wanted, waiting });
+            return Err(RunFault::FewWaiting { wanted, waiting });
         };
         let next = Vec::from_slice(self.alloc, next)?;
         self.passed += wanted;
@@ -57,7 +57,7 @@ impl Stream {
     }
 
     /// Bytes that were put out, waiting or not.
-    pub fn part(&self, start: u32, count: u32) -> Result<Vec<u8>, LineFault>
+    pub fn part(&self, start: u32, count: u32) -> Result<Vec<u8>, RunFault>
         ensures { IfOk result (λ piece. (piece.items ≡ take count (drop start self.now.bytes.items))
             × (start + count ≤ vec_len self.now.bytes)) }
     {
@@ -65,7 +65,7 @@ impl Stream {
         let rest = whole.get(start as usize..);
         let Some(part) = rest.and_then(|rest| rest.get(..count as usize)) else {
             let whole = whole.len();
-            return Err(LineFault::NotPutOut {
+            return Err(RunFault::NotPutOut {
                 start,
                 count,
                 whole,

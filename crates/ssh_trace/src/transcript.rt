@@ -1,7 +1,8 @@
 //! The lines of a transcript, one for each thing that an end did.
 
-use crate::history::{Done, Item, Side};
+use crate::history::{Done, Item};
 use ssh_message::name;
+use ssh_types::Side;
 use std::alloc::AllocError;
 
 /// Writes the lines of these items.

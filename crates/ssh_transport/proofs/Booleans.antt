@@ -1,6 +1,6 @@
 -- Tests that compute, and what they tell.
 use Rattle.std.proofs.Common.{◌≡◌, ℕ, Bool, true, false, ◌&&◌, ◌||◌, eqb, List, [], ◌∷◌, get_or, arith, refl, sym, ap, subst, ◌∙◌, inl, inr, ◌⊎◌}
-use Rattle.std.specs.Prelude.{nat_eq}
+use Rattle.std.specs.Prelude.{nat_eq, not}
 use Rattle.std.specs.List.{Contains, list_all}
 use Rattle.std.specs.Cmp.Lexicographic.{pointwise}
 use Rattle.std.proofs.lemmas.Bool.{and_parts, eqb-true}
@@ -22,6 +22,18 @@ first_of false b p = absurd cc
 pub second_of : (a b : Bool) → b ≡ true → (a || b) ≡ true
 second_of true b q = refl
 second_of false b q = q
+
+pub neither : (a b : Bool) → (a || b) ≡ false → (a ≡ false) × (b ≡ false)
+neither false b h = (refl, h)
+neither true b h = absurd cc
+
+pub no_one : (a b : Bool) → a ≡ false → b ≡ false → (a || b) ≡ false
+no_one false b p q = q
+no_one true b p q = absurd cc
+
+pub not_true : (a : Bool) → not a ≡ true → a ≡ false
+not_true false h = refl
+not_true true h = absurd cc
 
 -- a test that failed is one that did not hold
 pub not_both : (a : Bool) → a ≡ false → a ≡ true → ⊥

@@ -7,7 +7,7 @@ use Rattle.std.proofs.lemmas.List.Splits.{slice_split_none, slice_split_at, join
 use Rattle.std.proofs.lemmas.List.{take_more, map-append}
 use Rattle.std.proofs.lemmas.List.Elements.{All-from_recursion}
 use denote.Ref.{Bor}
-use Rattle.ssh_model.specs.DataTypes.{IsNameText, is_comma, is_name, is_name_byte}
+use Rattle.ssh_model.specs.Wire.DataTypes.{IsNameText, is_comma, is_name, is_name_byte}
 use Rattle.ssh_types.specs.Names.{are_names, names_of}
 
 no_comma : (c : ℕ) → is_name_byte c ≡ true → is_comma c ≡ false
@@ -80,7 +80,7 @@ added first others i d h =
 
 -- ---- how long the text of a list is
 
-name_length : (name : List ℕ) → is_name name ≡ true → length name ≤ 64
+pub name_length : (name : List ℕ) → is_name name ≡ true → length name ≤ 64
 name_length name h =
     let p = and_parts ((leb 1 (length name) && leb (length name) 64) && list_all is_name_byte name) (leb (count_by (λ c. eqb c 64) name) 1) h in
     let q = and_parts (leb 1 (length name) && leb (length name) 64) (list_all is_name_byte name) p.0 in

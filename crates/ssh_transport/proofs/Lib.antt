@@ -1,7 +1,9 @@
 pub mod Booleans
-pub mod Intakes
+pub mod Receiving
 pub mod Lines
 pub mod Lists
 pub mod Joined
 pub mod Kept
 pub mod Offers
+pub mod Announced
+pub mod Numbers

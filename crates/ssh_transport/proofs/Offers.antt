@@ -1,13 +1,14 @@
 -- The kex list with its marker, and how long the payload of a KEXINIT is.
-use Rattle.std.proofs.Common.{Vec, Global, ◌≡◌, ℕ, ◌≤◌, ◌+◌, ◌*◌, Bool, true, false, List, [], ◌∷◌, ◌++◌, length, arith, refl, sym, ap, subst, ◌∙◌, append_assoc, length-append, lit≤}
-use Rattle.std.specs.Prelude.{codes, Result, Ok, Err, IfOk, OnOk}
+use Rattle.std.proofs.Common.{◌≡◌, ℕ, ◌≤◌, ◌+◌, ◌*◌, Bool, true, false, List, [], ◌∷◌, ◌++◌, length, arith, refl, sym, ap, subst, ◌∙◌, append_assoc, length-append, lit≤}
+use Rattle.std.specs.Prelude.{codes, if◌then◌else◌, Result, Ok, Err, OnOk}
 use Rattle.std.specs.List.{join_with_byte, list_all}
+use Rattle.std.proofs.lemmas.List.{append-nil}
 use Rattle.std.proofs.lemmas.List.Folds.{list_all-append}
-use Rattle.ssh_model.specs.DataTypes.{IsByte, IsNameList, IsNameText, IsUint32, IsWrittenBoolean, is_name}
-use Rattle.ssh_model.specs.History.{Side}
-use Rattle.ssh_model.specs.Message.{IsCookie, IsEnd, IsWrittenPayload, KexInit, Proposal, Then}
-use Rattle.ssh_model.specs.Party.{Settings, marker_of}
-use Rattle.ssh_model.specs.Reading.{Writes}
+use Rattle.ssh_model.specs.Wire.DataTypes.{IsByte, IsNameList, IsNameText, IsUint32, IsWrittenBoolean, is_name}
+use Rattle.ssh_model.specs.Side.{Side}
+use Rattle.ssh_model.specs.Wire.Message.{IsCookie, IsEnd, IsWrittenPayload, KexInit, Proposal, Then}
+use Rattle.ssh_model.specs.Sessions.Parties.{Settings, extension_marker_of, first_markers, is_offered, marker_of}
+use Rattle.ssh_model.specs.Wire.Reading.{Writes}
 use Rattle.ssh_types.specs.Names.{are_names, names_of}
 use Rattle.ssh_transport.specs.Config.{IsList}
 use Rattle.ssh_transport.specs.Offers.{offer_with, offered_kex}
@@ -16,43 +17,66 @@ use Rattle.ssh_transport.proofs.Joined.{joined_length, names_of_joined, one_more
 
 -- ---- one name more
 
-marker_name : (side : Side) → is_name (marker_of side) ≡ true
+pub marker_name : (side : Side) → is_name (marker_of side) ≡ true
 marker_name Side.Client = refl
 marker_name Side.Server = refl
+
+pub extension_marker_name : (side : Side) → is_name (extension_marker_of side) ≡ true
+extension_marker_name Side.Client = refl
+extension_marker_name Side.Server = refl
 
 more_names : (names : List (List ℕ)) (name : List ℕ) → list_all is_name names ≡ true → is_name name ≡ true → list_all is_name (names ++ name ∷ []) ≡ true
 more_names names name h n = list_all-append is_name names (name ∷ []) ∙ both (list_all is_name names) (list_all is_name (name ∷ [])) h (both (is_name name) true n refl)
 
-more_text : (names : List (List ℕ)) (name text : List ℕ) → 1 ≤ length names → text ≡ join_with_byte 44 names → text ++ 44 ∷ name ≡ join_with_byte 44 (names ++ name ∷ [])
+more_text : (names : List (List ℕ)) (name text : List ℕ) → 1 ≤ length names → text ≡ join_with_byte 44 names → (text ++ 44 ∷ []) ++ name ≡ join_with_byte 44 (names ++ name ∷ [])
 more_text [] name text some e = absurd (omega arith)
-more_text (first ∷ names) name text some e =
-    sym (append_assoc text (44 ∷ []) name) ∙ ap (λ (l : List ℕ). (l ++ 44 ∷ []) ++ name) e ∙ sym (one_more first names name)
+more_text (first ∷ names) name text some e = ap (λ (l : List ℕ). (l ++ 44 ∷ []) ++ name) e ∙ sym (one_more first names name)
 
-marked : (names : List (List ℕ)) (name text : List ℕ) → IsList names → is_name name ≡ true → IsNameText names text → IsNameText (names ++ name ∷ []) (text ++ 44 ∷ name)
-marked names name text list n t = record {
+-- the text that a name was added to
+pub marked : (names : List (List ℕ)) (name text : List ℕ) → 1 ≤ length names → is_name name ≡ true → IsNameText names text → IsNameText (names ++ name ∷ []) ((text ++ 44 ∷ []) ++ name)
+marked names name text some n t = record {
   all = more_names names name t.all n;
-  joined = more_text names name text list.some t.joined;
+  joined = more_text names name text some t.joined;
 }
 
-pub with_marker : {E : Type 0} (result : Result (Vec ℕ Global) E) (kex : List (List ℕ)) (side : Side) (first : Bool) (front marker : List ℕ) → IsList kex → IsNameText kex front → first ≡ true → marker ≡ marker_of side →
-    IfOk result (λ text. text.items ≡ front ++ 44 ∷ marker) → IfOk result (λ text. IsNameText (offered_kex kex side first) text.items)
-with_marker result kex side false front marker list t f m e = absurd cc
-with_marker (Err error) kex side true front marker list t f m e = tt
-with_marker (Ok text) kex side true front marker list t f m e =
-    let parts : text.items ≡ front ++ 44 ∷ marker_of side = e ∙ ap (λ (l : List ℕ). front ++ 44 ∷ l) m in
-    subst (λ (l : List ℕ). IsNameText (kex ++ marker_of side ∷ []) l) (sym parts) (marked kex (marker_of side) front list (marker_name side) t)
+pub marked_where : (wanted : Bool) (list : List (List ℕ)) (name text new : List ℕ) → wanted ≡ true → is_name name ≡ true → new ≡ (text ++ 44 ∷ []) ++ name → 1 ≤ length list → IsNameText list text →
+    IsNameText (list ++ (if wanted then name ∷ [] else [])) new
+marked_where true list name text new w n e some t = subst (λ (l : List ℕ). IsNameText (list ++ name ∷ []) l) (sym e) (marked list name text some n t)
+marked_where false list name text new w n e some t = absurd cc
+
+pub unmarked_where : (wanted : Bool) (list : List (List ℕ)) (name text : List ℕ) → wanted ≡ false → IsNameText list text → IsNameText (list ++ (if wanted then name ∷ [] else [])) text
+unmarked_where false list name text w t = subst (λ (l : List (List ℕ)). IsNameText l text) (sym (append-nil list)) t
+unmarked_where true list name text w t = absurd cc
+
+-- names with both markers, or one of them, or none
+pub behind_names : (kex : List (List ℕ)) (s : Settings) (side : Side) →
+    (kex ++ (if s.takes_extensions then extension_marker_of side ∷ [] else [])) ++ (if is_offered s.strictness then marker_of side ∷ [] else []) ≡ kex ++ first_markers s side
+behind_names kex s side = append_assoc kex (if s.takes_extensions then extension_marker_of side ∷ [] else []) (if is_offered s.strictness then marker_of side ∷ [] else [])
 
 -- ---- how long the kex list is
 
-pub offered_few : (kex : List (List ℕ)) (side : Side) (first : Bool) → IsList kex → length (offered_kex kex side first) ≤ 17
-offered_few kex side true list = omega (arith, list.most, length-append kex (marker_of side ∷ []))
-offered_few kex side false list = omega (arith, list.most)
+one_at_most : (wanted : Bool) (name : List ℕ) → length (if wanted then name ∷ [] else []) ≤ 1
+one_at_most true name = lit≤ tt
+one_at_most false name = lit≤ tt
 
-pub offered_short : (kex : List (List ℕ)) (side : Side) (first : Bool) (text : List ℕ) → IsList kex → IsNameText (offered_kex kex side first) text → length text ≤ 1105
-offered_short kex side first text list t =
-    let few : length (offered_kex kex side first) ≤ 17 = offered_few kex side first list in
-    let size : length (join_with_byte 44 (offered_kex kex side first)) ≤ 65 * length (offered_kex kex side first) = joined_length (offered_kex kex side first) t.all in
-    let same : length text ≡ length (join_with_byte 44 (offered_kex kex side first)) = ap (λ (l : List ℕ). length l) t.joined in
+markers_few : (s : Settings) (side : Side) → length (first_markers s side) ≤ 2
+markers_few s side =
+    omega (
+      arith,
+      length-append (if s.takes_extensions then extension_marker_of side ∷ [] else []) (if is_offered s.strictness then marker_of side ∷ [] else []),
+      one_at_most s.takes_extensions (extension_marker_of side),
+      one_at_most (is_offered s.strictness) (marker_of side),
+    )
+
+pub offered_few : (s : Settings) (side : Side) (first : Bool) → IsList s.kex → length (offered_kex s side first) ≤ 18
+offered_few s side true list = omega (arith, list.most, length-append s.kex (first_markers s side), markers_few s side)
+offered_few s side false list = omega (arith, list.most)
+
+pub offered_short : (s : Settings) (side : Side) (first : Bool) (text : List ℕ) → IsList s.kex → IsNameText (offered_kex s side first) text → length text ≤ 1170
+offered_short s side first text list t =
+    let few : length (offered_kex s side first) ≤ 18 = offered_few s side first list in
+    let size : length (join_with_byte 44 (offered_kex s side first)) ≤ 65 * length (offered_kex s side first) = joined_length (offered_kex s side first) t.all in
+    let same : length text ≡ length (join_with_byte 44 (offered_kex s side first)) = ap (λ (l : List ℕ). length l) t.joined in
     omega arith
 
 -- ---- a text of names
@@ -63,12 +87,11 @@ names_of_text names text t = ap names_of t.joined ∙ names_of_joined names t.al
 pub text_passes : (names : List (List ℕ)) (text : List ℕ) → IsNameText names text → are_names text ≡ true
 text_passes names text t = ap (λ (l : List (List ℕ)). list_all is_name l) (names_of_text names text t) ∙ t.all
 
--- what a list holds that is made of a view of the kex text
-pub listed_kex : (kex : List (List ℕ)) (side : Side) (first : Bool) (text view : List ℕ) (listed : List (List ℕ)) → IsNameText (offered_kex kex side first) text → view ≡ text → listed ≡ names_of view →
-    listed ≡ offered_kex kex side first
-listed_kex kex side first text view listed t v l = l ∙ ap names_of v ∙ names_of_text (offered_kex kex side first) text t
+-- what a list holds that is made of a view of a text of names
+pub listed_names : (names : List (List ℕ)) (text view : List ℕ) (listed : List (List ℕ)) → IsNameText names text → view ≡ text → listed ≡ names_of view → listed ≡ names
+listed_names names text view listed t v l = l ∙ ap names_of v ∙ names_of_text names text t
 
-list_length : (names : List (List ℕ)) (bytes : List ℕ) → length names ≤ 17 → IsNameList names bytes → length bytes ≤ 1109
+list_length : (names : List (List ℕ)) (bytes : List ℕ) → length names ≤ 18 → IsNameList names bytes → length bytes ≤ 1174
 list_length names bytes most list =
     let text : length (join_with_byte 44 names) ≤ 65 * length names = joined_length names list.text.all in
     let body : length list.body ≡ length (join_with_byte 44 names) = ap (λ (l : List ℕ). length l) list.text.joined in
@@ -95,7 +118,7 @@ number_at_most n bytes u = omega (arith, u.count)
 end_at_most : AtMost 0 IsEnd
 end_at_most bytes e = let size : length bytes ≡ 0 = ap (λ (l : List ℕ). length l) e in omega arith
 
-names_at_most : (names : List (List ℕ)) → length names ≤ 17 → AtMost 1109 (IsNameList names)
+names_at_most : (names : List (List ℕ)) → length names ≤ 18 → AtMost 1174 (IsNameList names)
 names_at_most names most bytes list = list_length names bytes most list
 
 both_at_most : (m n : ℕ) (First Second : List ℕ → Type 0) → AtMost m First → AtMost n Second → AtMost (m + n) (Then First Second)
@@ -105,43 +128,43 @@ both_at_most m n First Second f s bytes t =
     let parts : length bytes ≡ length (t.front ++ t.back) = ap (λ (l : List ℕ). length l) t.parts in
     omega (arith, length-append t.front t.back)
 
--- ten lists of at most 17 names
+-- ten lists of at most 18 names
 record AreFew (p : Proposal) : Type 0 where
-  pub kex : length p.kex ≤ 17
-  pub host : length p.host ≤ 17
-  pub enc_cs : length p.enc_cs ≤ 17
-  pub enc_sc : length p.enc_sc ≤ 17
-  pub mac_cs : length p.mac_cs ≤ 17
-  pub mac_sc : length p.mac_sc ≤ 17
-  pub comp_cs : length p.comp_cs ≤ 17
-  pub comp_sc : length p.comp_sc ≤ 17
-  pub lang_cs : length p.lang_cs ≤ 17
-  pub lang_sc : length p.lang_sc ≤ 17
+  pub kex : length p.kex ≤ 18
+  pub host : length p.host ≤ 18
+  pub enc_cs : length p.enc_cs ≤ 18
+  pub enc_sc : length p.enc_sc ≤ 18
+  pub mac_cs : length p.mac_cs ≤ 18
+  pub mac_sc : length p.mac_sc ≤ 18
+  pub comp_cs : length p.comp_cs ≤ 18
+  pub comp_sc : length p.comp_sc ≤ 18
+  pub lang_cs : length p.lang_cs ≤ 18
+  pub lang_sc : length p.lang_sc ≤ 18
 
-payload_at_most : (p : Proposal) → AreFew p → AtMost 11112 (IsWrittenPayload (KexInit p))
+payload_at_most : (p : Proposal) → AreFew p → AtMost 11762 (IsWrittenPayload (KexInit p))
 payload_at_most p few =
-    both_at_most 1 11111 _ _ (byte_at_most 20)
-    (both_at_most 16 11095 _ _ (cookie_at_most p.cookie)
-    (both_at_most 1109 9986 _ _ (names_at_most p.kex few.kex)
-    (both_at_most 1109 8877 _ _ (names_at_most p.host few.host)
-    (both_at_most 1109 7768 _ _ (names_at_most p.enc_cs few.enc_cs)
-    (both_at_most 1109 6659 _ _ (names_at_most p.enc_sc few.enc_sc)
-    (both_at_most 1109 5550 _ _ (names_at_most p.mac_cs few.mac_cs)
-    (both_at_most 1109 4441 _ _ (names_at_most p.mac_sc few.mac_sc)
-    (both_at_most 1109 3332 _ _ (names_at_most p.comp_cs few.comp_cs)
-    (both_at_most 1109 2223 _ _ (names_at_most p.comp_sc few.comp_sc)
-    (both_at_most 1109 1114 _ _ (names_at_most p.lang_cs few.lang_cs)
-    (both_at_most 1109 5 _ _ (names_at_most p.lang_sc few.lang_sc)
+    both_at_most 1 11761 _ _ (byte_at_most 20)
+    (both_at_most 16 11745 _ _ (cookie_at_most p.cookie)
+    (both_at_most 1174 10571 _ _ (names_at_most p.kex few.kex)
+    (both_at_most 1174 9397 _ _ (names_at_most p.host few.host)
+    (both_at_most 1174 8223 _ _ (names_at_most p.enc_cs few.enc_cs)
+    (both_at_most 1174 7049 _ _ (names_at_most p.enc_sc few.enc_sc)
+    (both_at_most 1174 5875 _ _ (names_at_most p.mac_cs few.mac_cs)
+    (both_at_most 1174 4701 _ _ (names_at_most p.mac_sc few.mac_sc)
+    (both_at_most 1174 3527 _ _ (names_at_most p.comp_cs few.comp_cs)
+    (both_at_most 1174 2353 _ _ (names_at_most p.comp_sc few.comp_sc)
+    (both_at_most 1174 1179 _ _ (names_at_most p.lang_cs few.lang_cs)
+    (both_at_most 1174 5 _ _ (names_at_most p.lang_sc few.lang_sc)
     (both_at_most 1 4 _ _ (boolean_at_most p.follows)
     (both_at_most 4 0 _ _ (number_at_most 0) end_at_most)))))))))))))
 
-offer_few : (s : Settings) (kex : List (List ℕ)) (cookie : List ℕ) → IsList s.host → IsList s.encryption → IsList s.mac → length kex ≤ 17 → AreFew (offer_with s kex cookie)
+offer_few : (s : Settings) (kex : List (List ℕ)) (cookie : List ℕ) → IsList s.host → IsList s.encryption → IsList s.mac → length kex ≤ 18 → AreFew (offer_with s kex cookie)
 offer_few s kex cookie host encryption mac most =
-    let hosts : length s.host ≤ 17 = omega (arith, host.most) in
-    let encryptions : length s.encryption ≤ 17 = omega (arith, encryption.most) in
-    let macs : length s.mac ≤ 17 = omega (arith, mac.most) in
-    let one : length (codes "none" ∷ []) ≤ 17 = lit≤ tt in
-    let none : 0 ≤ 17 = lit≤ tt in
+    let hosts : length s.host ≤ 18 = omega (arith, host.most) in
+    let encryptions : length s.encryption ≤ 18 = omega (arith, encryption.most) in
+    let macs : length s.mac ≤ 18 = omega (arith, mac.most) in
+    let one : length (codes "none" ∷ []) ≤ 18 = lit≤ tt in
+    let none : 0 ≤ 18 = lit≤ tt in
     record {
       kex = most;
       host = hosts;
@@ -155,10 +178,10 @@ offer_few s kex cookie host encryption mac most =
       lang_sc = none;
     }
 
-short_offer : (s : Settings) (kex : List (List ℕ)) (cookie old new : List ℕ) → IsList s.host → IsList s.encryption → IsList s.mac → length kex ≤ 17 →
+short_offer : (s : Settings) (kex : List (List ℕ)) (cookie old new : List ℕ) → IsList s.host → IsList s.encryption → IsList s.mac → length kex ≤ 18 →
     Writes (IsWrittenPayload (KexInit (offer_with s kex cookie))) old new → length new ≤ length old + 34000
 short_offer s kex cookie old new host encryption mac most w =
-    let size : length w.bytes ≤ 11112 = payload_at_most (offer_with s kex cookie) (offer_few s kex cookie host encryption mac most) w.bytes w.meets in
+    let size : length w.bytes ≤ 11762 = payload_at_most (offer_with s kex cookie) (offer_few s kex cookie host encryption mac most) w.bytes w.meets in
     let parts : length new ≡ length (old ++ w.bytes) = ap (λ (l : List ℕ). length l) w.parts in
     omega (arith, length-append old w.bytes)
 
@@ -166,6 +189,6 @@ when_ok : {T E P Q : Type 0} (result : Result T E) → (P → Q) → OnOk result
 when_ok (Ok value) f h = f h
 when_ok (Err error) f h = tt
 
-pub short_put : {T E : Type 0} (result : Result T E) (s : Settings) (kex : List (List ℕ)) (cookie old new : List ℕ) → IsList s.host → IsList s.encryption → IsList s.mac → length kex ≤ 17 →
+pub short_put : {T E : Type 0} (result : Result T E) (s : Settings) (kex : List (List ℕ)) (cookie old new : List ℕ) → IsList s.host → IsList s.encryption → IsList s.mac → length kex ≤ 18 →
     OnOk result (Writes (IsWrittenPayload (KexInit (offer_with s kex cookie))) old new) → OnOk result (length new ≤ length old + 34000)
 short_put result s kex cookie old new host encryption mac most = when_ok result (short_offer s kex cookie old new host encryption mac most)

@@ -1,10 +1,12 @@
 -- The settings that an end is made with, and which of them are good.
-use Rattle.std.specs.Prelude.{◌≡◌, ℕ, ◌≤◌, ◌^◌, ◌⊎◌, Option, IsSome, IsTrue, List, ◌++◌, length, codes}
-use Rattle.std.specs.List.{Contains, list_all}
-use Rattle.ssh_model.specs.DataTypes.{is_name}
-use Rattle.ssh_model.specs.Line.{IsVersionLine, comment_text, line_end}
-use Rattle.ssh_model.specs.Party.{Settings}
-use Rattle.ssh_model.specs.Seal.{Crypto}
+use Rattle.std.specs.Prelude.{◌≡◌, ℕ, ◌≤◌, ◌^◌, ◌⊎◌, Bool, false, nat_eq, nat_le, Option, IsSome, IsTrue, List, [], ◌++◌, length, map, codes}
+use Rattle.std.specs.Cmp.Lexicographic.{pointwise}
+use Rattle.std.specs.List.{Contains, IsDistinct, list_all}
+use Rattle.ssh_model.specs.Wire.DataTypes.{is_name}
+use Rattle.ssh_model.specs.Wire.Line.{IsVersionLine, comment_text, line_end}
+use Rattle.ssh_model.specs.Sessions.Parties.{Settings, Strictness}
+use Rattle.ssh_model.specs.Wire.Message.{Extension}
+use Rattle.ssh_model.specs.Wire.Sealing.{Crypto}
 
 -- what an end is given
 pub record Given : Type 0 where
@@ -21,6 +23,10 @@ pub record Given : Type 0 where
   -- how many requests for authentication may fail, and the methods that a server names
   pub tries : ℕ
   pub methods : List (List ℕ)
+  pub strictness : Strictness
+  -- whether it takes extensions, and those that it announces (RFC 8308)
+  pub takes_extensions : Bool
+  pub extensions : List Extension
 
 -- the text of the version line: the version of the protocol is 2.0
 abbrev pub version_text : List ℕ → Option (List ℕ) → List ℕ
@@ -37,6 +43,9 @@ settings_given g = record {
   epoch_limit = g.epoch_limit;
   tries = g.tries;
   methods = g.methods;
+  strictness = g.strictness;
+  takes_extensions = g.takes_extensions;
+  extensions = g.extensions;
 }
 
 -- ---- the version line
@@ -87,18 +96,43 @@ IsBadList c g = AreLists c g → ⊥
 -- ---- the limits
 
 -- Own: 64 to 2 ^ 31 packets of an epoch, and 1 to 20 failed requests.
-pub record AreLimits (g : Given) : Type 0 where
-  pub some_packets : 64 ≤ g.epoch_limit
-  pub most_packets : g.epoch_limit ≤ 2 ^ 31
-  pub some_tries : 1 ≤ g.tries
-  pub most_tries : g.tries ≤ 20
+pub record IsEpochLimit (packets : ℕ) : Type 0 where
+  pub some : 64 ≤ packets
+  pub most : packets ≤ 2 ^ 31
 
-abbrev pub IsBadLimit : Given → Type 0
-IsBadLimit g = AreLimits g → ⊥
+pub record IsTries (tries : ℕ) : Type 0 where
+  pub some : 1 ≤ tries
+  pub most : tries ≤ 20
+
+-- ---- the extensions
+
+-- the names of extensions, and that two names are the same
+abbrev pub extension_names : List Extension → List (List ℕ)
+extension_names extensions = map (λ x. x.name) extensions
+
+abbrev pub is_same : List ℕ → List ℕ → Bool
+is_same xs ys = pointwise nat_eq xs ys
+
+-- a value of at most 1,024 bytes
+abbrev pub is_short_value : Extension → Bool
+is_short_value x = nat_le (length x.value) 1024
+
+-- Own: an end that takes none announces none, nor are there over 16, and no name stands there twice.
+pub record AreExtensions (g : Given) : Type 0 where
+  pub taken : g.takes_extensions ≡ false → g.extensions ≡ []
+  pub most : length g.extensions ≤ 16
+  pub names : IsTrue (list_all is_name (extension_names g.extensions))
+  pub values : IsTrue (list_all is_short_value g.extensions)
+  pub once : IsDistinct is_same (extension_names g.extensions)
+
+abbrev pub IsBadExtension : Given → Type 0
+IsBadExtension g = AreExtensions g → ⊥
 
 -- ---- all of it
 
 pub record AreGood {K : Type 0} (c : Crypto K) (g : Given) : Type 0 where
   pub line : HasLine g
   pub lists : AreLists c g
-  pub limits : AreLimits g
+  pub epoch_limit : IsEpochLimit g.epoch_limit
+  pub tries : IsTries g.tries
+  pub extensions : AreExtensions g

@@ -4,4 +4,4 @@ pub mod Values
 pub mod Errors
 pub mod Meaning
 pub mod Offers
-pub mod Lanes
+pub mod Directions

@@ -1,12 +1,14 @@
 -- What a config stands for.
 use Rattle.ssh_transport.specs.declared.config.Config.{Config}
-use Rattle.ssh_model.specs.Party.{Settings}
+use Rattle.ssh_model.specs.Sessions.Parties.{Settings}
 use Rattle.ssh_transport.specs.Config.{Given, settings_given}
 use Rattle.ssh_transport.specs.Checks.{kept}
+use Rattle.ssh_transport.specs.Values.{strictness_of}
+use Rattle.ssh_message.specs.Announced.{owned_extensions}
 
 -- what the config was given
 abbrev pub given_of : {S : _} {K : _} {B : _} → Config S K B → Given
-given_of x = kept x.line.items x.software_len x.kex.items x.host.items x.encryption.items x.mac.items x.epoch_limit x.tries x.methods.items
+given_of x = kept x.line.items x.software_len x.kex.items x.host.items x.encryption.items x.mac.items x.epoch_limit x.tries x.methods.items (strictness_of x.strictness) x.takes_extensions (owned_extensions x.extensions)
 
 -- the settings as the model of an end has them
 abbrev pub settings_of : {S : _} {K : _} {B : _} → Config S K B → Settings

@@ -1,19 +1,12 @@
 -- What an end offers in a KEXINIT of its own (RFC 4253 section 7.1), from its settings.
 use Rattle.std.specs.Prelude.{ℕ, Bool, false, if◌then◌else◌, List, [], ◌∷◌, ◌++◌, codes}
-use Rattle.ssh_model.specs.History.{Side}
-use Rattle.ssh_model.specs.Message.{Proposal}
-use Rattle.ssh_model.specs.Party.{Settings, marker_of}
-use Rattle.ssh_transport.specs.declared.role.Role.{Role}
-use Rattle.ssh_transport.specs.declared.role.Role.TheVariants as role
+use Rattle.ssh_model.specs.Side.{Side}
+use Rattle.ssh_model.specs.Wire.Message.{Proposal}
+use Rattle.ssh_model.specs.Sessions.Parties.{Settings, first_markers}
 
--- the side of an end, as the model has it
-abbrev pub side_of : Role → Side
-side_of role.Client = Side.Client
-side_of role.Server = Side.Server
-
--- The marker of strict key exchange stands last in the first KEXINIT and in no later one.
-abbrev pub offered_kex : List (List ℕ) → Side → (first : Bool) → List (List ℕ)
-offered_kex kex side first = if first then kex ++ marker_of side ∷ [] else kex
+-- The markers of extensions and of strict key exchange stand last in the first KEXINIT and in no later one.
+abbrev pub offered_kex : Settings → Side → (first : Bool) → List (List ℕ)
+offered_kex s side first = if first then s.kex ++ first_markers s side else s.kex
 
 -- these kex names with what is the same in every KEXINIT of an end
 abbrev pub offer_with : Settings → (kex : List (List ℕ)) → (cookie : List ℕ) → Proposal
@@ -33,4 +26,4 @@ offer_with s kex cookie = record {
 }
 
 abbrev pub offer_of : Settings → Side → (first : Bool) → (cookie : List ℕ) → Proposal
-offer_of s side first cookie = offer_with s (offered_kex s.kex side first) cookie
+offer_of s side first cookie = offer_with s (offered_kex s side first) cookie

@@ -1,8 +1,17 @@
 -- What the types of this crate stand for.
 use Rattle.std.specs.Prelude.{map}
 use Rattle.std.specs.Option.{option_copied}
+use Rattle.ssh_message.specs.Announced.{extension_of}
+use Rattle.ssh_model.specs.Sessions.Parties as model
+use Rattle.ssh_transport.specs.declared.config.strictness.Strictness.{Strictness}
+use Rattle.ssh_transport.specs.declared.config.strictness.Strictness.TheVariants.{Require, Offer, Off}
 use Rattle.ssh_transport.specs.declared.config.settings.Settings.{Settings}
 use Rattle.ssh_transport.specs.Config.{Given}
+
+abbrev pub strictness_of : Strictness → model.Strictness
+strictness_of Require = model.Strictness.Require
+strictness_of Offer = model.Strictness.Offer
+strictness_of Off = model.Strictness.Off
 
 abbrev pub given : Settings → Given
 given s = record {
@@ -15,4 +24,7 @@ given s = record {
   epoch_limit = s.epoch_limit;
   tries = s.tries;
   methods = map (λ name. name.now) s.methods.now;
+  strictness = strictness_of s.strictness;
+  takes_extensions = s.takes_extensions;
+  extensions = map extension_of s.extensions.now;
 }

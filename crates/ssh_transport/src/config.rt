@@ -2,22 +2,27 @@
 
 ghost use Rattle.std.specs.Prelude.{◌≡◌, ◌≤◌, ◌+◌, IsTrue, length};
 ghost use Rattle.ssh_transport.specs.Config.{version_text};
+ghost use Rattle.ssh_message.specs.Announced.{owned_extensions};
 ghost use Rattle.ssh_transport.specs.Checks.{are_good, comments_in, kept, software_in};
+ghost use Rattle.ssh_transport.specs.Values.{strictness_of};
 
 mod checks;
 mod error;
 mod laws;
 mod settings;
+mod strictness;
 mod texts;
 
 use checks::check;
-pub use error::{ConfigError, ConfigRefusal};
+pub use error::{ConfigError, ConfigLimit, ConfigList, ConfigRefusal, ExtensionFault, ListFault};
 pub use laws::every_config_is_good;
 pub use settings::Settings;
+use ssh_message::{Extensions, ExtensionsBuf};
 use ssh_packet::Sealing;
 use ssh_types::NameList;
 use std::alloc::{AllocError, Global};
 use std::marker::PhantomData;
+pub use strictness::Strictness;
 use texts::{names_in, names_text, version_line};
 
 // The bytes of a version line before the software.
@@ -38,10 +43,13 @@ pub struct Config<S: Sealing> {
     epoch_limit: u32,
     tries: u32,
     methods: Vec<u8>,
+    strictness: Strictness,
+    takes_extensions: bool,
+    extensions: ExtensionsBuf,
     sealing: PhantomData<S>,
     ghost line_is: { line.items ≡ version_text (software_in software_len line.items) (comments_in software_len line.items) },
     ghost software_fits: { 8 + software_len ≤ length line.items },
-    ghost good: { IsTrue (are_good S.crypto (kept line.items software_len kex.items host.items encryption.items mac.items epoch_limit tries methods.items)) },
+    ghost good: { IsTrue (are_good S.crypto (kept line.items software_len kex.items host.items encryption.items mac.items epoch_limit tries methods.items (strictness_of strictness) takes_extensions (owned_extensions extensions))) },
 }
 
 // Written out, since a derive would ask it of the sealing too.
@@ -57,6 +65,9 @@ impl<S: Sealing> Drop for Config<S> {
             epoch_limit: _,
             tries: _,
             methods: _,
+            strictness: _,
+            takes_extensions: _,
+            extensions: _,
             sealing: _,
         } = self;
     }
@@ -65,10 +76,11 @@ impl<S: Sealing> Drop for Config<S> {
 impl<S: Sealing> Config<S> {
     ghost use Rattle.std.specs.Prelude.{◌^◌, ◌++◌, IfOk, IfErr};
     ghost use Rattle.std.specs.Option.{option_copied};
-    ghost use Rattle.ssh_model.specs.Line.{line_end};
+    ghost use Rattle.ssh_model.specs.Wire.Line.{line_end};
     ghost use Rattle.ssh_types.specs.Values.{names, names_text as text_of};
     ghost use Rattle.ssh_transport.specs.Config.{AreGood, IsList, IsLineOf};
     ghost use Rattle.ssh_transport.specs.Errors.{IsError};
+    ghost use Rattle.ssh_message.specs.Announced.{extensions_of};
     ghost use Rattle.ssh_transport.specs.Values.{given};
     ghost use Rattle.ssh_transport.specs.Meaning.{given_of, settings_of};
 
@@ -82,10 +94,13 @@ impl<S: Sealing> Config<S> {
     ///    or has a byte outside 33 to 126 or a minus; the comments have a byte 0, 10 or 13; or the line is longer than 255
     ///    bytes with CR LF.
     /// 2. `BadList`: a list is empty, has over 16 texts or a text that is no name (RFC 4251 section 6); `kex` has a name
-    ///    other than the two of RFC 8731, `curve25519-sha256` and `curve25519-sha256@libssh.org`; the sealing does
-    ///    not know a pair of an encryption and a MAC of the lists; or `methods` has a name other than `publickey` and
-    ///    `password`.
-    /// 3. `BadLimit`: `epoch_limit` is outside 64 to 2^31, or `tries` outside 1 to 20.
+    ///    other than the two of RFC 8731, `curve25519-sha256` and `curve25519-sha256@libssh.org`; `methods` has a name
+    ///    other than `publickey` and `password`; or the sealing does not know a pair of an encryption and a MAC of the
+    ///    lists. It says which list and why, by the first fault in this order: the texts of `kex`, `host`, `encryption`,
+    ///    `mac` and `methods`, the names of `kex` and of `methods`, the pairs.
+    /// 3. `BadLimit`: `epoch_limit` is outside 64 to 2^31, or else `tries` is outside 1 to 20.
+    /// 4. `BadExtension`: `extensions` has any where `takes_extensions` doesn't hold, over 16, one whose name is no name (RFC
+    ///    4251 section 6), one whose value has over 1,024 bytes, or two of one name. It says which, in this order.
     ///
     /// `Memory` comes only where memory was refused. It is asked for after all these tests.
     pub fn new(alloc: Global, settings: &Settings<'_>) -> Result<Config<S>, ConfigError>
@@ -109,6 +124,7 @@ impl<S: Sealing> Config<S> {
         let encryption = names_text(alloc, settings.encryption)?;
         let mac = names_text(alloc, settings.mac)?;
         let methods = names_text(alloc, settings.methods)?;
+        let extensions = ExtensionsBuf::new(alloc, settings.extensions)?;
         Ok(Config {
             line,
             software_len: settings.software.len(),
@@ -119,6 +135,9 @@ impl<S: Sealing> Config<S> {
             epoch_limit: settings.epoch_limit,
             tries: settings.tries,
             methods,
+            strictness: settings.strictness,
+            takes_extensions: settings.takes_extensions,
+            extensions,
             sealing: PhantomData,
         })
     }
@@ -221,5 +240,26 @@ impl<S: Sealing> Config<S> {
     {
         every_config_is_good(self);
         names_in(&self.methods)
+    }
+
+    /// Whether keys are exchanged strictly.
+    pub fn strictness(&self) -> Strictness
+        ensures { strictness_of result ≡ (given_of self.now).strictness }
+    {
+        self.strictness
+    }
+
+    /// Tests whether the end takes extensions of its peer (RFC 8308 section 2.1).
+    pub fn takes_extensions(&self) -> bool
+        ensures { result ≡ (given_of self.now).takes_extensions }
+    {
+        self.takes_extensions
+    }
+
+    /// The extensions that the end announces to a peer that takes some, at most 16.
+    pub fn extensions(&self) -> Extensions<'_>
+        ensures { extensions_of result ≡ (given_of self.now).extensions }
+    {
+        self.extensions.as_extensions()
     }
 }

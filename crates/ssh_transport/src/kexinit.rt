@@ -1,85 +1,84 @@
 //! What an end offers in a KEXINIT of its own.
 
-ghost use Rattle.std.specs.Prelude.{◌≡◌, ◌<◌, ◌≤◌, ◌+◌, ◌^◌, ◌++◌, ◌∷◌, [], Bool, IfOk, IsTrue, List, OnErr, OnOk, codes, length, ℕ};
-ghost use Rattle.ssh_model.specs.DataTypes.{IsNameText};
-ghost use Rattle.ssh_model.specs.History.{Side};
-ghost use Rattle.ssh_model.specs.Message.{IsWrittenPayload, KexInit};
-ghost use Rattle.ssh_model.specs.Party.{Parties, marker_of, offer, settings_of as settings_at};
-ghost use Rattle.ssh_model.specs.Reading.{Writes};
+ghost use Rattle.std.specs.Prelude.{◌≡◌, ◌<◌, ◌≤◌, ◌+◌, ◌^◌, ◌++◌, ◌∷◌, [], Bool, if◌then◌else◌, IfOk, IsTrue, List, OnErr, OnOk, codes, length, ℕ};
+ghost use Rattle.ssh_model.specs.Wire.DataTypes.{IsNameText, is_name};
+ghost use Rattle.ssh_model.specs.Side as model;
+ghost use Rattle.ssh_model.specs.Wire.Message.{IsWrittenPayload, KexInit};
+ghost use Rattle.ssh_model.specs.Sessions.Parties.{Parties, offer, settings_of as settings_at};
+ghost use Rattle.ssh_model.specs.Wire.Reading.{Writes};
 ghost use Rattle.ssh_message.specs.Meaning.{proposal_meaning};
 ghost use Rattle.ssh_message.specs.Written.{ProposalFits};
+ghost use Rattle.ssh_types.specs.Sides.{side_of};
 ghost use Rattle.ssh_types.specs.Names.{are_names, names_of};
 ghost use Rattle.ssh_types.specs.Values.{names, names_text as text_of};
-ghost use Rattle.ssh_transport.specs.Config.{IsList};
 ghost use Rattle.ssh_transport.specs.Meaning.{settings_of};
-ghost use Rattle.ssh_transport.specs.Offers.{offer_of, offer_with, offered_kex, side_of};
+ghost use Rattle.ssh_transport.specs.Offers.{offer_of, offer_with, offered_kex};
 
 use crate::config::{Config, every_config_is_good};
-use crate::role::Role;
+use ssh_kex::{extension_marker, strict_marker};
 use ssh_message::{Message, Proposal, encode};
 use ssh_packet::Sealing;
-use ssh_types::NameList;
+use ssh_types::{NameList, Side};
 use std::alloc::{AllocError, Global};
 
 /// What an end of a session offers in a KEXINIT is what its settings say. A fact for proofs, at no cost.
 pub fn offer_of_settings<K>()
-    ensures { (p : Parties K) (side : Side) (first : Bool) (cookie : List ℕ) → offer p side first cookie ≡ offer_of (settings_at p side) side first cookie }
+    ensures { (p : Parties K) (side : model.Side) (first : Bool) (cookie : List ℕ) → offer p side first cookie ≡ offer_of (settings_at p side) side first cookie }
 {}
 
-// Puts the payload of a KEXINIT of this end behind `out` (RFC 4253 section 7.1): the names of its config in both
-// directions, no compression, no languages and no guess. The first one has the marker of strict key exchange last in its
-// kex list. Where memory is wanting, `out` is as before.
-pub(crate) fn put_kexinit<S: Sealing>(
+/// Puts the payload of a KEXINIT of this end behind `out` (RFC 4253 section 7.1): the names of its config in both
+/// directions, no compression, no languages and no guess. The first one has its markers last in its kex list: that of
+/// extensions where the end takes some, and then that of strict key exchange where the end offers it. It has at most 34,000
+/// bytes.
+///
+/// # Errors
+///
+/// Only where an allocation fails, of the kex list or of `out`, which then has its old bytes.
+pub fn put_kexinit<S: Sealing>(
     alloc: Global,
     config: &Config<S>,
-    role: Role,
+    side: Side,
     first: bool,
     cookie: &[u8; 16],
     out: &mut Vec<u8>,
 ) -> Result<(), AllocError>
-    ensures written { OnOk result (Writes (IsWrittenPayload (KexInit (offer_of (settings_of config.now) (side_of role) first cookie.now))) out.old.items out.new.items) }
+    ensures written { OnOk result (Writes (IsWrittenPayload (KexInit (offer_of (settings_of config.now) (side_of side) first cookie.now))) out.old.items out.new.items) }
     ensures short { OnOk result (length out.new.items ≤ length out.old.items + 34000) }
     ensures kept { OnErr result (out.new.items ≡ out.old.items) }
 {
-    let kex = kex_text(alloc, &config.kex(), role, first)?;
+    every_config_is_good(config);
+    let kex = kex_text(alloc, config, side, first)?;
     put_offer(config, list_in(&kex), cookie, out)
 }
 
-// The kex names joined by commas. In the first KEXINIT the marker stands behind them.
-fn kex_text(
+// The kex names joined by commas. In the first KEXINIT the markers stand behind them.
+fn kex_text<S: Sealing>(
     alloc: Global,
-    kex: &NameList<'_>,
-    role: Role,
+    config: &Config<S>,
+    side: Side,
     first: bool,
 ) -> Result<Vec<u8>, AllocError>
-    requires { IsList (names kex.now) }
-    ensures { IfOk result (λ text. IsNameText (offered_kex (names kex.now) (side_of role) first) text.items) }
+    ensures { IfOk result (λ text. IsNameText (offered_kex (settings_of config.now) (side_of side) first) text.items) }
 {
-    if first {
-        appended(alloc, kex.as_bytes(), marker(role))
-    } else {
-        kex.as_bytes().to_vec(alloc)
+    let names = config.kex().as_bytes().to_vec(alloc)?;
+    if !first {
+        return Ok(names);
     }
+    let names = appended(names, config.takes_extensions(), extension_marker(side))?;
+    appended(names, config.strictness().is_offered(), strict_marker(side))
 }
 
-// One name more behind the names of a text.
-fn appended(alloc: Global, names: &[u8], name: &[u8]) -> Result<Vec<u8>, AllocError>
-    ensures { IfOk result (λ text. text.items ≡ names.now ++ 44 ∷ name.now) }
+// One name more behind the names of a text, where it is wanted.
+fn appended(mut names: Vec<u8>, wanted: bool, name: &[u8]) -> Result<Vec<u8>, AllocError>
+    requires { IsTrue (is_name name.now) }
+    ensures { IfOk result (λ text. (list : List (List ℕ)) → 1 ≤ length list → IsNameText list names.items → IsNameText (list ++ (if wanted then name.now ∷ [] else [])) text.items) }
 {
-    let mut text = names.to_vec(alloc)?;
-    text.push(b',')?;
-    text.extend_from_slice(name)?;
-    Ok(text)
-}
-
-// The name by which an end says that it keeps to strict key exchange.
-fn marker(role: Role) -> &'static [u8]
-    ensures { result.now ≡ marker_of (side_of role) }
-{
-    match role {
-        Role::Client => b"kex-strict-c-v00@openssh.com",
-        Role::Server => b"kex-strict-s-v00@openssh.com",
+    if !wanted {
+        return Ok(names);
     }
+    names.push(b',')?;
+    names.extend_from_slice(name)?;
+    Ok(names)
 }
 
 // The names of a text that has names alone.
@@ -99,7 +98,7 @@ fn put_offer<S: Sealing>(
     cookie: &[u8; 16],
     out: &mut Vec<u8>,
 ) -> Result<(), AllocError>
-    requires few { length (names kex) ≤ 17 }
+    requires few { length (names kex) ≤ 18 }
     requires short { length (text_of kex) < 2 ^ 32 }
     ensures written { OnOk result (Writes (IsWrittenPayload (KexInit (offer_with (settings_of config.now) (names kex.entry) cookie.now))) out.old.items out.new.items) }
     ensures short { OnOk result (length out.new.items ≤ length out.old.items + 34000) }

@@ -9,11 +9,12 @@ use Rattle.std.proofs.lemmas.List.Quantifiers.{position-Some}
 use Rattle.std.proofs.lemmas.List.Sums.{fails_before_first, count_by-le-length}
 use Rattle.std.proofs.lemmas.List.Splits.{slice_split_none, slice_split_at, length-slice_split, join_with_byte-slice_split}
 use Rattle.std.proofs.lemmas.List.Elements.{All-from_recursion}
-use Rattle.ssh_model.specs.DataTypes.{is_comma, is_name_byte, is_name, IsString, IsNameText, IsNameList}
-use Rattle.ssh_model.specs.Reading.{Reads, NoFront, OneForm, Writes}
+use Rattle.ssh_model.specs.Wire.DataTypes.{is_comma, is_name_byte, is_name, IsString, IsNameText, IsNameList}
+use Rattle.ssh_model.specs.Wire.Reading.{Reads, NoFront, Writes}
 use Rattle.ssh_types.specs.Names.{names_of, are_names}
 use Rattle.ssh_types.specs.Values.{IsBadNames}
-use Rattle.ssh_types.proofs.Fronts.{one_string}
+use Rattle.ssh_model.specs.Wire.Sizes.{names_size}
+use Rattle.ssh_model.specs.Laws.Spellings.{one_string}
 
 no_comma : (c : ℕ) → is_name_byte c ≡ true → is_comma c ≡ false
 no_comma c h =
@@ -155,8 +156,6 @@ reads_names names text before after r t =
 pub writes_names : (names : List (List ℕ)) (text before after : List ℕ) → IsNameText names text → Writes (IsString text) before after → Writes (IsNameList names) before after
 writes_names names text before after t w = record { bytes = w.bytes; meets = record { body = text; text = t; string = w.meets }; parts = w.parts }
 
-pub one_name_list : OneForm IsNameList
-one_name_list m n a b x y p q e =
-    let one = one_string p.body q.body a b x y p.string q.string e in
-    let text = one.0 in
-    (sym (names_of_text m p.body p.text) ∙ ap names_of text ∙ names_of_text n q.body q.text, one.1, one.2)
+-- the size of names by the text that they are joined to
+pub joined_size : (names : List (List ℕ)) (text : List ℕ) → IsNameText names text → names_size names ≡ 4 + length text
+joined_size names text t = ap (λ (bytes : List ℕ). 4 + length bytes) (sym t.joined)

@@ -1,10 +1,10 @@
 -- Strings that hold the shortest bytes of a whole number.
 use Rattle.std.proofs.Common.{ℕ, List, sym, ap, subst, ◌∙◌}
 use Rattle.std.specs.Prelude.{ℤ}
-use Rattle.ssh_model.specs.DataTypes.{IsString, IsShortest, integer, IsMpint}
-use Rattle.ssh_model.specs.Reading.{Reads, NoFront, OneForm, Writes}
+use Rattle.ssh_model.specs.Wire.DataTypes.{IsString, IsShortest, integer, IsMpint}
+use Rattle.ssh_model.specs.Wire.Reading.{Reads, NoFront, OneForm, Writes}
 use Rattle.ssh_types.specs.Values.{IsUncanonical}
-use Rattle.ssh_types.proofs.Fronts.{one_string}
+use Rattle.ssh_model.specs.Laws.Spellings.{one_string}
 
 -- no string, no number
 pub no_mpint_short : (before : List ℕ) → NoFront IsString before → NoFront IsMpint before

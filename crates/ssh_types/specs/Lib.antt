@@ -1,4 +1,9 @@
 pub mod Digits
 pub mod Names
-pub mod Refusals
+pub mod ReadRefusals
 pub mod Values
+pub mod Refusals
+pub mod Sides
+pub mod Spellings
+pub mod WholeNumbers
+pub mod AskRefusals

@@ -1,13 +1,14 @@
 -- What the types of this crate stand for, and which refusal comes when.
-use Rattle.std.specs.Prelude.{List, ℕ, ℤ}
+use Rattle.std.specs.Prelude.{List, ℕ, ℤ, take}
 use Rattle.ssh_types.specs.declared.mpint.MpInt.{MpInt}
 use Rattle.ssh_types.specs.declared.name.Name.{Name}
+use Rattle.ssh_types.specs.declared.name_buf.NameBuf.{NameBuf}
 use Rattle.ssh_types.specs.declared.name_list.NameList.{NameList}
 use Rattle.ssh_types.specs.declared.name_list.Names.{Names}
-use Rattle.ssh_types.specs.declared.refusal.Refusal.{Refusal}
-use Rattle.ssh_types.specs.declared.refusal.Refusal.TheVariants.{Short, BadNames, NotCanonical, LeftOver}
-use Rattle.ssh_model.specs.DataTypes.{integer, IsString, IsShortest, IsNameText}
-use Rattle.ssh_model.specs.Reading.{Reads, NoFront}
+use Rattle.ssh_types.specs.declared.read_refusal.ReadRefusal.{ReadRefusal}
+use Rattle.ssh_types.specs.declared.read_refusal.ReadRefusal.TheVariants.{Short, BadNames, NotCanonical, LeftOver}
+use Rattle.ssh_model.specs.Wire.DataTypes.{integer, IsString, IsShortest, IsNameText}
+use Rattle.ssh_model.specs.Wire.Reading.{Reads, NoFront}
 use Rattle.ssh_types.specs.Digits.{marked_bytes}
 use Rattle.ssh_types.specs.Names.{names_of}
 
@@ -22,6 +23,10 @@ value_of m = integer (bytes_of m)
 -- the bytes of a name
 abbrev pub name_text : Name → List ℕ
 name_text name = name.bytes.now
+
+-- the bytes of a name that owns them
+abbrev pub owned_text : NameBuf → List ℕ
+owned_text name = take name.len name.bytes
 
 -- the text of a list, with its commas
 abbrev pub names_text : NameList → List ℕ
@@ -50,14 +55,14 @@ pub record IsBadNames (before : List ℕ) : Type 0 where
   pub none : (list : List (List ℕ)) → IsNameText list text → ⊥
 
 -- why no number was read
-abbrev pub IsMpintRefusal : Refusal → List ℕ → Type 0
+abbrev pub IsMpintRefusal : ReadRefusal → List ℕ → Type 0
 IsMpintRefusal Short before = NoFront IsString before
 IsMpintRefusal NotCanonical before = IsUncanonical before
 IsMpintRefusal BadNames before = ⊥
 IsMpintRefusal LeftOver before = ⊥
 
 -- why no names were read
-abbrev pub IsNamesRefusal : Refusal → List ℕ → Type 0
+abbrev pub IsNamesRefusal : ReadRefusal → List ℕ → Type 0
 IsNamesRefusal Short before = NoFront IsString before
 IsNamesRefusal BadNames before = IsBadNames before
 IsNamesRefusal NotCanonical before = ⊥

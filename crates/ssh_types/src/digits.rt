@@ -1,7 +1,6 @@
 // The bytes of a whole number.
 
 ghost use Rattle.std.specs.Prelude.{◌≡◌};
-ghost use Rattle.ssh_model.specs.DataTypes.{AreBytes};
 ghost use Rattle.ssh_types.specs.Digits.{is_canonical as passes_canonical, marked_bytes, starts_with_zero};
 
 // A zero byte in front as a mark, and the bytes after it.
@@ -26,9 +25,3 @@ pub(crate) fn is_canonical(marked: bool, digits: &[u8]) -> bool
         [first, second, ..] => *first > 0 && (*first < 255 || *second < 128),
     }
 }
-
-/// Each byte of a slice is below 256: a fact for proofs, at no cost.
-#[tactic(auto, using(crate::proofs::Integers::bytes_by_index))]
-pub fn are_bytes(bytes: &[u8])
-    ensures { AreBytes bytes.now }
-{}

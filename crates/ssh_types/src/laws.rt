@@ -1,6 +1,8 @@
+//! Facts for proofs, each the contract of a function without a body. A call of one costs nothing.
+
 ghost use Rattle.std.specs.Prelude.{◌≡◌, ◌↔◌, Bool, List, ℕ, ℤ};
-ghost use Rattle.ssh_model.specs.DataTypes.{IsByte, IsBoolean, IsWrittenBoolean, IsUint32, IsUint64, IsString, IsShortest, IsMpint, IsNameList};
-ghost use Rattle.ssh_model.specs.Reading.{OneForm, OneSpelling};
+ghost use Rattle.ssh_model.specs.Wire.DataTypes.{AreBytes, IsByte, IsBoolean, IsWrittenBoolean, IsUint32, IsUint64, IsString, IsShortest, IsMpint, IsNameList};
+ghost use Rattle.ssh_model.specs.Wire.Reading.{OneForm, OneSpelling};
 
 /// What spells one value begins with nothing that spells another, so what was written is read again,
 /// whatever follows it.
@@ -31,7 +33,13 @@ pub fn written_boolean()
 {}
 
 /// Two whole numbers are equal exactly if their shortest bytes are.
-#[tactic(auto, using(crate::proofs::Integers::one_shortest, crate::proofs::Integers::one_integer))]
+#[tactic(auto, using(crate::specs::WholeNumbers::one_shortest, crate::specs::WholeNumbers::one_integer))]
 pub fn one_number()
     ensures { (y z : ℤ) (a b : List ℕ) → IsShortest y a → IsShortest z b → (y ≡ z) ↔ (a ≡ b) }
+{}
+
+/// Each byte of a slice is below 256: a fact for proofs, at no cost.
+#[tactic(auto, using(crate::specs::WholeNumbers::bytes_by_index))]
+pub fn are_bytes(bytes: &[u8])
+    ensures { AreBytes bytes.now }
 {}

@@ -5,7 +5,7 @@
 //!
 //! What is read or written is a spelling of the value, as `ssh_model` defines the spellings. A read is refused only
 //! where no front of the bytes spells a value of the type, and a refused reader is as before. Since the spelling of one
-//! value begins with that of no other (`one_form`), what was written is read again, whatever follows it.
+//! value begins with that of no other (`laws::one_form`), what was written is read again, whatever follows it.
 //!
 //! A message of two lists and a number, written and read again:
 //!
@@ -27,24 +27,27 @@
 //! ```
 #![tactic(auto)]
 
+mod ask_refusal;
 mod digits;
-mod laws;
+pub mod laws;
 mod mpint;
 mod name;
+mod name_buf;
 mod name_bytes;
 mod name_list;
 mod put;
+mod read_refusal;
 mod reader;
 mod refusal;
+mod side;
 
-pub use digits::are_bytes;
-pub use laws::{one_form, one_number, one_spelling, written_boolean};
+pub use ask_refusal::AskRefusal;
 pub use mpint::MpInt;
 pub use name::Name;
+pub use name_buf::{MOST_NAME_BYTES, NameBuf};
 pub use name_list::{NameList, Names};
 pub use put::Put;
+pub use read_refusal::ReadRefusal;
 pub use reader::Reader;
 pub use refusal::Refusal;
-
-#[cfg(test)]
-mod tests;
+pub use side::Side;

@@ -1,7 +1,8 @@
 ghost use Rattle.std.specs.Prelude.{IsTrue};
 ghost use Rattle.ssh_types.specs.Digits.{is_canonical as passes_canonical};
 
-use crate::digits::{are_bytes, is_canonical, split_mark};
+use crate::digits::{is_canonical, split_mark};
+use crate::laws::are_bytes;
 
 /// A whole number of any size, as its shortest bytes in two's complement, the most significant first (the mpint of
 /// RFC 4251 section 5). Zero has no bytes.
@@ -18,11 +19,11 @@ pub struct MpInt<'a> {
 
 impl<'a> MpInt<'a> {
     ghost use Rattle.std.specs.Prelude.{◌≡◌, ◌↔◌, ◌++◌, pos, ◌≤◌, ◌+◌, length, false, IfSome, IfNone, ℤ};
-    ghost use Rattle.ssh_model.specs.DataTypes.{IsShortest, number};
+    ghost use Rattle.ssh_model.specs.Wire.DataTypes.{IsShortest, number};
     ghost use Rattle.ssh_types.specs.Digits.{marked_bytes, starts_with_zero};
     ghost use Rattle.ssh_types.specs.Values.{bytes_of, value_of};
 
-    #[tactic(auto, using(crate::proofs::Integers::unsigned_marked, crate::proofs::Integers::unsigned_low, crate::proofs::Integers::bytes_by_index))]
+    #[tactic(auto, using(crate::specs::WholeNumbers::unsigned_marked, crate::specs::WholeNumbers::unsigned_low, crate::specs::WholeNumbers::bytes_by_index))]
     /// The number that the bytes are, unsigned, the most significant first. Zero bytes in front are left away, and the mark
     /// is set where the first bit after them would else be read as a sign.
     pub fn from_unsigned(bytes: &'a [u8]) -> MpInt<'a>
@@ -46,7 +47,7 @@ impl<'a> MpInt<'a> {
     }
 
     /// The number whose shortest bytes these are, or `None` where they are the shortest of no number.
-    #[tactic(auto, using(crate::proofs::Integers::shortest_parts, crate::proofs::Integers::spare_parts, crate::proofs::Integers::bytes_by_index))]
+    #[tactic(auto, using(crate::specs::WholeNumbers::shortest_parts, crate::specs::WholeNumbers::spare_parts, crate::specs::WholeNumbers::bytes_by_index))]
     pub fn from_shortest(bytes: &'a [u8]) -> Option<MpInt<'a>>
         ensures found { IfSome result (λ m. IsShortest (value_of m) bytes.now) }
         ensures bytes { IfSome result (λ m. bytes_of m ≡ bytes.now) }
@@ -61,7 +62,7 @@ impl<'a> MpInt<'a> {
     }
 
     /// Tests whether both are the same number.
-    #[tactic(auto, using(crate::proofs::Integers::same_value))]
+    #[tactic(auto, using(crate::specs::WholeNumbers::same_value))]
     pub fn is_same(&self, other: &MpInt<'_>) -> bool
         ensures { IsTrue result ↔ (value_of self.now ≡ value_of other.now) }
     {
@@ -79,7 +80,7 @@ impl<'a> MpInt<'a> {
     }
 
     // The bytes in two parts: the zero byte where there is one, and the digits.
-    #[tactic(auto, using(crate::proofs::Integers::kept_shortest))]
+    #[tactic(auto, using(crate::specs::WholeNumbers::kept_shortest))]
     pub(crate) fn halves(&self) -> (&'a [u8], &'a [u8])
         ensures whole { result.0.now ++ result.1.now ≡ bytes_of self.now }
         ensures shortest { IsShortest (value_of self.now) (result.0.now ++ result.1.now) }

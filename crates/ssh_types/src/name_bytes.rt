@@ -2,7 +2,7 @@
 
 ghost use Rattle.std.specs.Prelude.{◌≡◌, ◌==◌, [], ◌∷◌, IfSome, IfNone, count_by};
 ghost use Rattle.std.specs.List.{list_all, position, slice_split};
-ghost use Rattle.ssh_model.specs.DataTypes.{is_comma, is_name as passes_name, is_name_byte};
+ghost use Rattle.ssh_model.specs.Wire.DataTypes.{is_comma, is_name as passes_name, is_name_byte};
 ghost use Rattle.ssh_types.specs.Names.{are_names as passes_names};
 
 // The bytes are a name.

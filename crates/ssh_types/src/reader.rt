@@ -1,12 +1,12 @@
-ghost use Rattle.ssh_types.specs.declared.refusal.Refusal.TheVariants.{Short, BadNames, NotCanonical, LeftOver};
+ghost use Rattle.ssh_types.specs.declared.read_refusal.ReadRefusal.TheVariants.{Short, BadNames, NotCanonical, LeftOver};
 ghost use Rattle.std.specs.Prelude.{◌≡◌, ◌<◌, ◌^◌, ◌++◌, List, [], ℕ, length, IfOk, IfErr, OnOk, OnErr};
-ghost use Rattle.ssh_model.specs.DataTypes.{IsByte, IsBoolean, IsUint32, IsUint64, IsString, IsMpint, IsNameList};
-ghost use Rattle.ssh_model.specs.Reading.{Reads, NoFront};
+ghost use Rattle.ssh_model.specs.Wire.DataTypes.{IsByte, IsBoolean, IsUint32, IsUint64, IsString, IsMpint, IsNameList};
+ghost use Rattle.ssh_model.specs.Wire.Reading.{Reads, NoFront};
 
-use crate::digits::are_bytes;
+use crate::laws::are_bytes;
 use crate::mpint::MpInt;
 use crate::name_list::NameList;
-use crate::refusal::Refusal;
+use crate::read_refusal::ReadRefusal;
 use byteorder::{BigEndian, ByteOrder};
 use std::marker::Model;
 
@@ -43,12 +43,12 @@ impl<'a> Reader<'a> {
     }
 
     // The first bytes, as many as are asked for.
-    fn take(&mut self, count: usize) -> Result<&'a [u8], Refusal>
+    fn take(&mut self, count: usize) -> Result<&'a [u8], ReadRefusal>
         ensures found { IfOk result (λ bytes. (length bytes.now ≡ count) × (self.old ≡ bytes.now ++ self.new)) }
         ensures refused { IfErr result (λ e. (e ≡ Short) × (self.new ≡ self.old) × (length self.old < count)) }
     {
         if self.rest.len() < count {
-            return Err(Refusal::Short);
+            return Err(ReadRefusal::Short);
         }
         let (bytes, rest) = self.rest.split_at(count);
         self.rest = rest;
@@ -58,7 +58,7 @@ impl<'a> Reader<'a> {
     /// Reads a byte.
     ///
     /// `Short` where no byte is left.
-    pub fn u8(&mut self) -> Result<u8, Refusal>
+    pub fn u8(&mut self) -> Result<u8, ReadRefusal>
         ensures found { IfOk result (λ n. Reads (IsByte n) self.old self.new) }
         ensures refused { IfErr result (λ e. (e ≡ Short) × (self.new ≡ self.old) × NoFront IsByte self.old) }
     {
@@ -69,7 +69,7 @@ impl<'a> Reader<'a> {
     /// Reads a truth value of one byte: 0 is false, and every other byte is true.
     ///
     /// `Short` where no byte is left.
-    pub fn boolean(&mut self) -> Result<bool, Refusal>
+    pub fn boolean(&mut self) -> Result<bool, ReadRefusal>
         ensures found { IfOk result (λ truth. Reads (IsBoolean truth) self.old self.new) }
         ensures refused { IfErr result (λ e. (e ≡ Short) × (self.new ≡ self.old) × NoFront IsBoolean self.old) }
     {
@@ -80,7 +80,7 @@ impl<'a> Reader<'a> {
     /// Reads a uint32: four bytes, the most significant first.
     ///
     /// `Short` where fewer than four bytes are left.
-    pub fn u32(&mut self) -> Result<u32, Refusal>
+    pub fn u32(&mut self) -> Result<u32, ReadRefusal>
         ensures found { IfOk result (λ n. Reads (IsUint32 n) self.old self.new) }
         ensures refused { IfErr result (λ e. (e ≡ Short) × (self.new ≡ self.old) × NoFront IsUint32 self.old) }
     {
@@ -92,7 +92,7 @@ impl<'a> Reader<'a> {
     /// Reads a uint64: eight bytes, the most significant first.
     ///
     /// `Short` where fewer than eight bytes are left.
-    pub fn u64(&mut self) -> Result<u64, Refusal>
+    pub fn u64(&mut self) -> Result<u64, ReadRefusal>
         ensures found { IfOk result (λ n. Reads (IsUint64 n) self.old self.new) }
         ensures refused { IfErr result (λ e. (e ≡ Short) × (self.new ≡ self.old) × NoFront IsUint64 self.old) }
     {
@@ -105,7 +105,7 @@ impl<'a> Reader<'a> {
     ///
     /// `Short` where the length or the bytes after it aren't all there.
     #[tactic(auto, using(crate::proofs::Fronts::no_string_short, crate::proofs::Fronts::no_string_long, crate::proofs::Fronts::reads_string))]
-    pub fn string(&mut self) -> Result<&'a [u8], Refusal>
+    pub fn string(&mut self) -> Result<&'a [u8], ReadRefusal>
         ensures found { IfOk result (λ text. Reads (IsString text.now) self.old self.new) }
         ensures length { IfOk result (λ text. length text.now < 2 ^ 32) }
         ensures refused { IfErr result (λ e. (e ≡ Short) × (self.new ≡ self.old) × NoFront IsString self.old) }
@@ -122,7 +122,7 @@ impl<'a> Reader<'a> {
     /// `Short` where no whole string is there, and `NotCanonical` where one is there whose bytes are not the shortest of
     /// their number: an unnecessary 0 or 255 stands in front.
     #[tactic(auto, using(crate::proofs::Mpints::no_mpint_short, crate::proofs::Mpints::no_mpint_form, crate::proofs::Mpints::reads_mpint, crate::proofs::Mpints::is_uncanonical))]
-    pub fn mpint(&mut self) -> Result<MpInt<'a>, Refusal>
+    pub fn mpint(&mut self) -> Result<MpInt<'a>, ReadRefusal>
         ensures found { IfOk result (λ m. Reads (IsMpint (value_of m)) self.old self.new) }
         ensures length { IfOk result (λ m. length (bytes_of m) < 2 ^ 32) }
         ensures refused { IfErr result (λ e. IsMpintRefusal e self.old × NoFront IsMpint self.old) }
@@ -131,7 +131,7 @@ impl<'a> Reader<'a> {
         let mut ahead = self.fork();
         let bytes = ahead.string()?;
         let Some(number) = MpInt::from_shortest(bytes) else {
-            return Err(Refusal::NotCanonical);
+            return Err(ReadRefusal::NotCanonical);
         };
         *self = ahead;
         Ok(number)
@@ -142,7 +142,7 @@ impl<'a> Reader<'a> {
     /// `Short` where no whole string is there, and `BadNames` where one is there and a part of it between commas is no
     /// name.
     #[tactic(auto, using(crate::proofs::Joined::no_names_short, crate::proofs::Joined::no_names_form, crate::proofs::Joined::reads_names, crate::proofs::Joined::is_bad_names))]
-    pub fn names(&mut self) -> Result<NameList<'a>, Refusal>
+    pub fn names(&mut self) -> Result<NameList<'a>, ReadRefusal>
         ensures found { IfOk result (λ list. Reads (IsNameList (names list)) self.old self.new) }
         ensures length { IfOk result (λ list. length (names_text list) < 2 ^ 32) }
         ensures refused { IfErr result (λ e. IsNamesRefusal e self.old × NoFront IsNameList self.old) }
@@ -151,7 +151,7 @@ impl<'a> Reader<'a> {
         let mut ahead = self.fork();
         let text = ahead.string()?;
         let Some(list) = NameList::new(text) else {
-            return Err(Refusal::BadNames);
+            return Err(ReadRefusal::BadNames);
         };
         *self = ahead;
         Ok(list)
@@ -170,7 +170,7 @@ impl<'a> Reader<'a> {
     /// Tests that nothing is left. The reader is unchanged either way.
     ///
     /// `LeftOver` where bytes are left.
-    pub fn end(&mut self) -> Result<(), Refusal>
+    pub fn end(&mut self) -> Result<(), ReadRefusal>
         ensures found { OnOk result (self.old ≡ []) }
         ensures refused { IfErr result (λ e. (e ≡ LeftOver) × (0 < length self.old)) }
         ensures kept { self.new ≡ self.old }
@@ -178,7 +178,7 @@ impl<'a> Reader<'a> {
         if self.rest.is_empty() {
             Ok(())
         } else {
-            Err(Refusal::LeftOver)
+            Err(ReadRefusal::LeftOver)
         }
     }
 }

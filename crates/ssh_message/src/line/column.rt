@@ -1,4 +1,4 @@
-use ssh_types::{Reader, Refusal};
+use ssh_types::{ReadRefusal, Reader};
 use std::fmt;
 
 // A field of a message as a line shows it, by its name.
@@ -14,6 +14,8 @@ pub(crate) enum Column {
     Cookie(&'static str),
     // all that is left, in hexadecimal
     Rest(&'static str),
+    // a count, and so many names with their values, in hexadecimal
+    Extensions,
 }
 
 // The fields of the messages with this number, in their order. The last number of a KEXINIT, always 0, isn't shown.
@@ -33,6 +35,7 @@ pub(crate) fn columns(number: u8) -> &'static [Column] {
         ],
         5 => &[Column::Text("service")],
         6 => &[Column::Text("service")],
+        7 => &[Column::Extensions],
         20 => &[
             Column::Cookie("cookie"),
             Column::Names("kex"),
@@ -135,6 +138,7 @@ impl Column {
                 let low = fields.u64().map_err(no_field)?;
                 write!(f, " {name}={high:016x}{low:016x}")
             }
+            Column::Extensions => show_extensions(fields, f),
             Column::Rest(name) => {
                 let rest = Hex(fields.rest());
                 write!(f, " {name}={rest}")
@@ -143,8 +147,22 @@ impl Column {
     }
 }
 
+fn show_extensions<W: fmt::Write>(
+    fields: &mut Reader<'_>,
+    f: &mut fmt::Formatter<W>,
+) -> fmt::Result {
+    let count = fields.u32().map_err(no_field)?;
+    write!(f, " count={count}")?;
+    for _ in 0..count {
+        let name = Hex(fields.string().map_err(no_field)?);
+        let value = Hex(fields.string().map_err(no_field)?);
+        write!(f, " ext={name}:{value}")?;
+    }
+    Ok(())
+}
+
 // No payload that is a message comes to this.
-fn no_field(_refusal: Refusal) -> fmt::Error {
+fn no_field(_refusal: ReadRefusal) -> fmt::Error {
     fmt::Error
 }
 

@@ -2,15 +2,14 @@
 // is its first value and then its second, up to the end.
 
 ghost use Rattle.std.specs.Prelude.{◌≡◌, List, ℕ, Bool, length, IfOk, IfErr};
-ghost use Rattle.ssh_model.specs.DataTypes.{IsBoolean, IsUint32, IsString, IsNameList};
-ghost use Rattle.ssh_model.specs.Reading.{Reads, NoFront, OneForm};
-ghost use Rattle.ssh_model.specs.Message.{IsCookie, IsRest};
+ghost use Rattle.ssh_model.specs.Wire.DataTypes.{IsBoolean, IsUint32, IsString, IsNameList};
+ghost use Rattle.ssh_model.specs.Wire.Reading.{Reads, NoFront, OneForm};
+ghost use Rattle.ssh_model.specs.Wire.Message.{IsCookie, IsRest};
 ghost use Rattle.ssh_types.specs.Values.{names, names_text};
 ghost use Rattle.ssh_message.specs.Meaning.{IsZero};
-ghost use Rattle.ssh_message.specs.Parts.{Both, IsNothing, NoWhole, one_cookie, one_zero};
+ghost use Rattle.ssh_message.specs.Parts.{Both, IsNothing, NoWhole, one_zero};
 ghost use Rattle.ssh_message.specs.Written.{IsShort};
-ghost use Rattle.ssh_types.proofs.Fronts.{one_boolean, one_uint32, one_string};
-ghost use Rattle.ssh_types.proofs.Joined.{one_name_list};
+ghost use Rattle.ssh_model.specs.Laws.Spellings.{one_boolean, one_cookie, one_uint32, one_string, one_name_list};
 
 use crate::message::BadMessage;
 use ssh_types::{NameList, Reader};

@@ -76,6 +76,16 @@ pub(crate) fn service_accept<'a>(fields: &mut Reader<'a>) -> Result<Message<'a>,
     Ok(Message::ServiceAccept { service })
 }
 
+#[tactic(auto, using(crate::proofs::Fields::fields, crate::proofs::Rows::no_ext_info))]
+pub(crate) fn ext_info<'a>(fields: &mut Reader<'a>) -> Result<Message<'a>, BadMessage>
+    ensures found { IfOk result (λ m. IsMeant m (7 ∷ fields.old)) }
+    ensures fits { IfOk result (λ m. Fits m) }
+    ensures refused { IfErr result (λ _. IsNone (7 ∷ fields.old)) }
+{
+    let extensions = Whole::whole(fields)?;
+    Ok(Message::ExtInfo { extensions })
+}
+
 #[tactic(auto, using(crate::proofs::Fields::fields, crate::proofs::Rows::no_new_keys))]
 pub(crate) fn newkeys<'a>(fields: &mut Reader<'a>) -> Result<Message<'a>, BadMessage>
     ensures found { IfOk result (λ m. IsMeant m (21 ∷ fields.old)) }

@@ -1,9 +1,10 @@
 // The messages of authentication (RFC 4252).
 
-ghost use Rattle.std.specs.Prelude.{◌≡◌, OnOk, OnErr};
-ghost use Rattle.ssh_model.specs.DataTypes.{IsWrittenBoolean};
-ghost use Rattle.ssh_model.specs.Reading.{Writes};
-ghost use Rattle.ssh_model.specs.Message.{IsRow, UserauthRequest, UserauthFailure, UserauthSuccess, UserauthBanner, UserauthPkOk};
+ghost use Rattle.std.specs.Prelude.{◌≡◌, OnOk, OnErr, ◌<◌, ◌+◌, length, vec_capacity};
+ghost use Rattle.ssh_model.specs.Wire.Sizes.{payload_size};
+ghost use Rattle.ssh_model.specs.Wire.DataTypes.{IsWrittenBoolean};
+ghost use Rattle.ssh_model.specs.Wire.Reading.{Writes};
+ghost use Rattle.ssh_model.specs.Wire.Message.{IsRow, UserauthRequest, UserauthFailure, UserauthSuccess, UserauthBanner, UserauthPkOk};
 ghost use Rattle.ssh_types.specs.Values.{names, names_text};
 ghost use Rattle.ssh_message.specs.Meaning.{method_meaning};
 ghost use Rattle.ssh_message.specs.Written.{IsShort, MethodFits};
@@ -26,6 +27,7 @@ pub(crate) fn request<'a>(
     requires method { MethodFits method.now }
     ensures written { OnOk result (Writes (IsRow IsWrittenBoolean (UserauthRequest user.now service.now (method_meaning method.now))) out.old.items out.new.items) }
     ensures kept { OnErr result (out.new.items ≡ out.old.items) }
+    ensures full { OnErr result (vec_capacity out.old < length out.old.items + payload_size (UserauthRequest user.now service.now (method_meaning method.now))) }
 {
     match *method {
         Method::None => method::none(out, user, service),
@@ -59,6 +61,7 @@ pub(crate) fn failure(
     requires { IsShort (names_text methods.now) }
     ensures written { OnOk result (Writes (IsRow IsWrittenBoolean (UserauthFailure (names methods.now) partial)) out.old.items out.new.items) }
     ensures kept { OnErr result (out.new.items ≡ out.old.items) }
+    ensures full { OnErr result (vec_capacity out.old < length out.old.items + payload_size (UserauthFailure (names methods.now) partial)) }
 {
     put_row(
         out,
@@ -71,6 +74,7 @@ pub(crate) fn failure(
 pub(crate) fn success(out: &mut Vec<u8>) -> Result<(), AllocError>
     ensures written { OnOk result (Writes (IsRow IsWrittenBoolean UserauthSuccess) out.old.items out.new.items) }
     ensures kept { OnErr result (out.new.items ≡ out.old.items) }
+    ensures full { OnErr result (vec_capacity out.old < length out.old.items + payload_size UserauthSuccess) }
 {
     put_row(out, 52, &[], b"")
 }
@@ -84,6 +88,7 @@ pub(crate) fn banner<'a>(
     requires language { IsShort language.now }
     ensures written { OnOk result (Writes (IsRow IsWrittenBoolean (UserauthBanner message.now language.now)) out.old.items out.new.items) }
     ensures kept { OnErr result (out.new.items ≡ out.old.items) }
+    ensures full { OnErr result (vec_capacity out.old < length out.old.items + payload_size (UserauthBanner message.now language.now)) }
 {
     put_row(out, 53, &[Field::Text(message), Field::Text(language)], b"")
 }
@@ -97,6 +102,7 @@ pub(crate) fn pk_ok<'a>(
     requires key { IsShort key.now }
     ensures written { OnOk result (Writes (IsRow IsWrittenBoolean (UserauthPkOk algorithm.now key.now)) out.old.items out.new.items) }
     ensures kept { OnErr result (out.new.items ≡ out.old.items) }
+    ensures full { OnErr result (vec_capacity out.old < length out.old.items + payload_size (UserauthPkOk algorithm.now key.now)) }
 {
     put_row(out, 60, &[Field::Text(algorithm), Field::Text(key)], b"")
 }

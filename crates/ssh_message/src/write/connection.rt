@@ -1,9 +1,10 @@
 // The messages of channels (RFC 4254).
 
-ghost use Rattle.std.specs.Prelude.{◌≡◌, OnOk, OnErr};
-ghost use Rattle.ssh_model.specs.DataTypes.{IsWrittenBoolean};
-ghost use Rattle.ssh_model.specs.Reading.{Writes};
-ghost use Rattle.ssh_model.specs.Message.{IsRow, GlobalRequest, RequestSuccess, RequestFailure, ChannelOpen, ChannelOpenConfirmation, ChannelOpenFailure, ChannelWindowAdjust, ChannelData, ChannelExtendedData, ChannelEof, ChannelClose, ChannelRequest, ChannelSuccess, ChannelFailure};
+ghost use Rattle.std.specs.Prelude.{◌≡◌, OnOk, OnErr, ◌<◌, ◌+◌, length, vec_capacity};
+ghost use Rattle.ssh_model.specs.Wire.Sizes.{payload_size};
+ghost use Rattle.ssh_model.specs.Wire.DataTypes.{IsWrittenBoolean};
+ghost use Rattle.ssh_model.specs.Wire.Reading.{Writes};
+ghost use Rattle.ssh_model.specs.Wire.Message.{IsRow, GlobalRequest, RequestSuccess, RequestFailure, ChannelOpen, ChannelOpenConfirmation, ChannelOpenFailure, ChannelWindowAdjust, ChannelData, ChannelExtendedData, ChannelEof, ChannelClose, ChannelRequest, ChannelSuccess, ChannelFailure};
 ghost use Rattle.ssh_message.specs.Written.{IsShort};
 
 use crate::write::field::Field;
@@ -19,6 +20,7 @@ pub(crate) fn global_request(
     requires { IsShort name.now }
     ensures written { OnOk result (Writes (IsRow IsWrittenBoolean (GlobalRequest name.now want rest.now)) out.old.items out.new.items) }
     ensures kept { OnErr result (out.new.items ≡ out.old.items) }
+    ensures full { OnErr result (vec_capacity out.old < length out.old.items + payload_size (GlobalRequest name.now want rest.now)) }
 {
     put_row(out, 80, &[Field::Text(name), Field::Boolean(want)], rest)
 }
@@ -26,6 +28,7 @@ pub(crate) fn global_request(
 pub(crate) fn request_success(out: &mut Vec<u8>, rest: &[u8]) -> Result<(), AllocError>
     ensures written { OnOk result (Writes (IsRow IsWrittenBoolean (RequestSuccess rest.now)) out.old.items out.new.items) }
     ensures kept { OnErr result (out.new.items ≡ out.old.items) }
+    ensures full { OnErr result (vec_capacity out.old < length out.old.items + payload_size (RequestSuccess rest.now)) }
 {
     put_row(out, 81, &[], rest)
 }
@@ -33,6 +36,7 @@ pub(crate) fn request_success(out: &mut Vec<u8>, rest: &[u8]) -> Result<(), Allo
 pub(crate) fn request_failure(out: &mut Vec<u8>) -> Result<(), AllocError>
     ensures written { OnOk result (Writes (IsRow IsWrittenBoolean RequestFailure) out.old.items out.new.items) }
     ensures kept { OnErr result (out.new.items ≡ out.old.items) }
+    ensures full { OnErr result (vec_capacity out.old < length out.old.items + payload_size RequestFailure) }
 {
     put_row(out, 82, &[], b"")
 }
@@ -48,6 +52,7 @@ pub(crate) fn channel_open(
     requires { IsShort kind.now }
     ensures written { OnOk result (Writes (IsRow IsWrittenBoolean (ChannelOpen kind.now sender window max rest.now)) out.old.items out.new.items) }
     ensures kept { OnErr result (out.new.items ≡ out.old.items) }
+    ensures full { OnErr result (vec_capacity out.old < length out.old.items + payload_size (ChannelOpen kind.now sender window max rest.now)) }
 {
     let fields = [
         Field::Text(kind),
@@ -68,6 +73,7 @@ pub(crate) fn channel_open_confirmation(
 ) -> Result<(), AllocError>
     ensures written { OnOk result (Writes (IsRow IsWrittenBoolean (ChannelOpenConfirmation recipient sender window max rest.now)) out.old.items out.new.items) }
     ensures kept { OnErr result (out.new.items ≡ out.old.items) }
+    ensures full { OnErr result (vec_capacity out.old < length out.old.items + payload_size (ChannelOpenConfirmation recipient sender window max rest.now)) }
 {
     let fields = [
         Field::Uint32(recipient),
@@ -89,6 +95,7 @@ pub(crate) fn channel_open_failure<'a>(
     requires language { IsShort language.now }
     ensures written { OnOk result (Writes (IsRow IsWrittenBoolean (ChannelOpenFailure recipient reason description.now language.now)) out.old.items out.new.items) }
     ensures kept { OnErr result (out.new.items ≡ out.old.items) }
+    ensures full { OnErr result (vec_capacity out.old < length out.old.items + payload_size (ChannelOpenFailure recipient reason description.now language.now)) }
 {
     let fields = [
         Field::Uint32(recipient),
@@ -106,6 +113,7 @@ pub(crate) fn channel_window_adjust(
 ) -> Result<(), AllocError>
     ensures written { OnOk result (Writes (IsRow IsWrittenBoolean (ChannelWindowAdjust recipient bytes)) out.old.items out.new.items) }
     ensures kept { OnErr result (out.new.items ≡ out.old.items) }
+    ensures full { OnErr result (vec_capacity out.old < length out.old.items + payload_size (ChannelWindowAdjust recipient bytes)) }
 {
     put_row(
         out,
@@ -119,6 +127,7 @@ pub(crate) fn channel_data(out: &mut Vec<u8>, recipient: u32, body: &[u8]) -> Re
     requires { IsShort body.now }
     ensures written { OnOk result (Writes (IsRow IsWrittenBoolean (ChannelData recipient body.now)) out.old.items out.new.items) }
     ensures kept { OnErr result (out.new.items ≡ out.old.items) }
+    ensures full { OnErr result (vec_capacity out.old < length out.old.items + payload_size (ChannelData recipient body.now)) }
 {
     put_row(out, 94, &[Field::Uint32(recipient), Field::Text(body)], b"")
 }
@@ -132,6 +141,7 @@ pub(crate) fn channel_extended_data(
     requires { IsShort body.now }
     ensures written { OnOk result (Writes (IsRow IsWrittenBoolean (ChannelExtendedData recipient kind body.now)) out.old.items out.new.items) }
     ensures kept { OnErr result (out.new.items ≡ out.old.items) }
+    ensures full { OnErr result (vec_capacity out.old < length out.old.items + payload_size (ChannelExtendedData recipient kind body.now)) }
 {
     put_row(
         out,
@@ -148,6 +158,7 @@ pub(crate) fn channel_extended_data(
 pub(crate) fn channel_eof(out: &mut Vec<u8>, recipient: u32) -> Result<(), AllocError>
     ensures written { OnOk result (Writes (IsRow IsWrittenBoolean (ChannelEof recipient)) out.old.items out.new.items) }
     ensures kept { OnErr result (out.new.items ≡ out.old.items) }
+    ensures full { OnErr result (vec_capacity out.old < length out.old.items + payload_size (ChannelEof recipient)) }
 {
     put_row(out, 96, &[Field::Uint32(recipient)], b"")
 }
@@ -155,6 +166,7 @@ pub(crate) fn channel_eof(out: &mut Vec<u8>, recipient: u32) -> Result<(), Alloc
 pub(crate) fn channel_close(out: &mut Vec<u8>, recipient: u32) -> Result<(), AllocError>
     ensures written { OnOk result (Writes (IsRow IsWrittenBoolean (ChannelClose recipient)) out.old.items out.new.items) }
     ensures kept { OnErr result (out.new.items ≡ out.old.items) }
+    ensures full { OnErr result (vec_capacity out.old < length out.old.items + payload_size (ChannelClose recipient)) }
 {
     put_row(out, 97, &[Field::Uint32(recipient)], b"")
 }
@@ -169,6 +181,7 @@ pub(crate) fn channel_request(
     requires { IsShort name.now }
     ensures written { OnOk result (Writes (IsRow IsWrittenBoolean (ChannelRequest recipient name.now want rest.now)) out.old.items out.new.items) }
     ensures kept { OnErr result (out.new.items ≡ out.old.items) }
+    ensures full { OnErr result (vec_capacity out.old < length out.old.items + payload_size (ChannelRequest recipient name.now want rest.now)) }
 {
     put_row(
         out,
@@ -185,6 +198,7 @@ pub(crate) fn channel_request(
 pub(crate) fn channel_success(out: &mut Vec<u8>, recipient: u32) -> Result<(), AllocError>
     ensures written { OnOk result (Writes (IsRow IsWrittenBoolean (ChannelSuccess recipient)) out.old.items out.new.items) }
     ensures kept { OnErr result (out.new.items ≡ out.old.items) }
+    ensures full { OnErr result (vec_capacity out.old < length out.old.items + payload_size (ChannelSuccess recipient)) }
 {
     put_row(out, 99, &[Field::Uint32(recipient)], b"")
 }
@@ -192,6 +206,7 @@ pub(crate) fn channel_success(out: &mut Vec<u8>, recipient: u32) -> Result<(), A
 pub(crate) fn channel_failure(out: &mut Vec<u8>, recipient: u32) -> Result<(), AllocError>
     ensures written { OnOk result (Writes (IsRow IsWrittenBoolean (ChannelFailure recipient)) out.old.items out.new.items) }
     ensures kept { OnErr result (out.new.items ≡ out.old.items) }
+    ensures full { OnErr result (vec_capacity out.old < length out.old.items + payload_size (ChannelFailure recipient)) }
 {
     put_row(out, 100, &[Field::Uint32(recipient)], b"")
 }

@@ -1,9 +1,10 @@
 // The messages of a key exchange (RFC 4253 section 7.1 and RFC 5656 section 4).
 
-ghost use Rattle.std.specs.Prelude.{◌≡◌, OnOk, OnErr};
-ghost use Rattle.ssh_model.specs.DataTypes.{IsWrittenBoolean};
-ghost use Rattle.ssh_model.specs.Reading.{Writes};
-ghost use Rattle.ssh_model.specs.Message.{IsRow, KexInit, KexEcdhInit, KexEcdhReply};
+ghost use Rattle.std.specs.Prelude.{◌≡◌, OnOk, OnErr, ◌<◌, ◌+◌, length, vec_capacity};
+ghost use Rattle.ssh_model.specs.Wire.Sizes.{payload_size};
+ghost use Rattle.ssh_model.specs.Wire.DataTypes.{IsWrittenBoolean};
+ghost use Rattle.ssh_model.specs.Wire.Reading.{Writes};
+ghost use Rattle.ssh_model.specs.Wire.Message.{IsRow, KexInit, KexEcdhInit, KexEcdhReply};
 ghost use Rattle.ssh_message.specs.Meaning.{proposal_meaning};
 ghost use Rattle.ssh_message.specs.Written.{IsShort, ProposalFits};
 
@@ -16,6 +17,7 @@ pub(crate) fn kexinit(out: &mut Vec<u8>, proposal: &Proposal<'_>) -> Result<(), 
     requires { ProposalFits proposal.now }
     ensures written { OnOk result (Writes (IsRow IsWrittenBoolean (KexInit (proposal_meaning proposal.now))) out.old.items out.new.items) }
     ensures kept { OnErr result (out.new.items ≡ out.old.items) }
+    ensures full { OnErr result (vec_capacity out.old < length out.old.items + payload_size (KexInit (proposal_meaning proposal.now))) }
 {
     let fields = [
         Field::Cookie(proposal.cookie),
@@ -39,6 +41,7 @@ pub(crate) fn kex_ecdh_init(out: &mut Vec<u8>, q_c: &[u8]) -> Result<(), AllocEr
     requires { IsShort q_c.now }
     ensures written { OnOk result (Writes (IsRow IsWrittenBoolean (KexEcdhInit q_c.now)) out.old.items out.new.items) }
     ensures kept { OnErr result (out.new.items ≡ out.old.items) }
+    ensures full { OnErr result (vec_capacity out.old < length out.old.items + payload_size (KexEcdhInit q_c.now)) }
 {
     put_row(out, 30, &[Field::Text(q_c)], b"")
 }
@@ -54,6 +57,7 @@ pub(crate) fn kex_ecdh_reply<'a>(
     requires signature { IsShort signature.now }
     ensures written { OnOk result (Writes (IsRow IsWrittenBoolean (KexEcdhReply k_s.now q_s.now signature.now)) out.old.items out.new.items) }
     ensures kept { OnErr result (out.new.items ≡ out.old.items) }
+    ensures full { OnErr result (vec_capacity out.old < length out.old.items + payload_size (KexEcdhReply k_s.now q_s.now signature.now)) }
 {
     put_row(
         out,

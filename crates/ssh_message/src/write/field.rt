@@ -1,9 +1,9 @@
 // A field of a message, and how it is written (RFC 4251 section 5).
 
-ghost use Rattle.std.specs.Prelude.{◌≡◌, OnOk, OnErr};
-ghost use Rattle.ssh_model.specs.Message.{IsCookie};
-ghost use Rattle.ssh_model.specs.Reading.{Writes};
-ghost use Rattle.ssh_message.specs.Fields.{FieldFits, IsField};
+ghost use Rattle.std.specs.Prelude.{◌≡◌, ◌<◌, ◌≤◌, ◌+◌, length, vec_capacity, OnOk, OnErr};
+ghost use Rattle.ssh_model.specs.Wire.Message.{IsCookie};
+ghost use Rattle.ssh_model.specs.Wire.Reading.{Writes};
+ghost use Rattle.ssh_message.specs.Fields.{field_size, FieldFits, IsField};
 
 use ssh_types::{NameList, Put};
 use std::alloc::AllocError;
@@ -24,7 +24,10 @@ pub(crate) enum Field<'a> {
 pub(crate) fn put_field(out: &mut Vec<u8>, field: &Field<'_>) -> Result<(), AllocError>
     requires { FieldFits field.now }
     ensures written { OnOk result (Writes (IsField field.now) out.old.items out.new.items) }
+    ensures size { OnOk result (length out.new.items ≡ length out.old.items + field_size field.now) }
     ensures kept { OnErr result (out.new.items ≡ out.old.items) }
+    ensures full { OnErr result (vec_capacity out.old < length out.old.items + field_size field.now) }
+    ensures grows { vec_capacity out.old ≤ vec_capacity out.new }
 {
     match *field {
         Field::Boolean(truth) => out.put_boolean(truth),
@@ -38,7 +41,10 @@ pub(crate) fn put_field(out: &mut Vec<u8>, field: &Field<'_>) -> Result<(), Allo
 // Puts 16 bytes.
 fn put_cookie(out: &mut Vec<u8>, cookie: &[u8; 16]) -> Result<(), AllocError>
     ensures written { OnOk result (Writes (IsCookie cookie.now) out.old.items out.new.items) }
+    ensures size { OnOk result (length out.new.items ≡ length out.old.items + 16) }
     ensures kept { OnErr result (out.new.items ≡ out.old.items) }
+    ensures full { OnErr result (vec_capacity out.old < length out.old.items + 16) }
+    ensures grows { vec_capacity out.old ≤ vec_capacity out.new }
 {
     out.extend_from_slice(cookie.as_slice())
 }

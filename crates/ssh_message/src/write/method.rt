@@ -1,9 +1,10 @@
 // The requests for authentication, one function a method (RFC 4252 sections 5.2, 7 and 8).
 
-ghost use Rattle.std.specs.Prelude.{◌≡◌, Some, None, OnOk, OnErr};
-ghost use Rattle.ssh_model.specs.DataTypes.{IsWrittenBoolean};
-ghost use Rattle.ssh_model.specs.Reading.{Writes};
-ghost use Rattle.ssh_model.specs.Message.{IsRow, IsOther, UserauthRequest, NoMethod, Password, Publickey, Other};
+ghost use Rattle.std.specs.Prelude.{◌≡◌, Some, None, OnOk, OnErr, ◌<◌, ◌+◌, length, vec_capacity};
+ghost use Rattle.ssh_model.specs.Wire.Sizes.{payload_size};
+ghost use Rattle.ssh_model.specs.Wire.DataTypes.{IsWrittenBoolean};
+ghost use Rattle.ssh_model.specs.Wire.Reading.{Writes};
+ghost use Rattle.ssh_model.specs.Wire.Message.{IsRow, IsOther, UserauthRequest, NoMethod, Password, Publickey, Other};
 ghost use Rattle.ssh_message.specs.Written.{IsShort};
 
 use crate::write::field::Field;
@@ -19,6 +20,7 @@ pub(crate) fn none<'a>(
     requires service { IsShort service.now }
     ensures written { OnOk result (Writes (IsRow IsWrittenBoolean (UserauthRequest user.now service.now NoMethod)) out.old.items out.new.items) }
     ensures kept { OnErr result (out.new.items ≡ out.old.items) }
+    ensures full { OnErr result (vec_capacity out.old < length out.old.items + payload_size (UserauthRequest user.now service.now NoMethod)) }
 {
     put_row(
         out,
@@ -43,6 +45,7 @@ pub(crate) fn password<'a>(
     requires password { IsShort password.now }
     ensures written { OnOk result (Writes (IsRow IsWrittenBoolean (UserauthRequest user.now service.now (Password password.now None))) out.old.items out.new.items) }
     ensures kept { OnErr result (out.new.items ≡ out.old.items) }
+    ensures full { OnErr result (vec_capacity out.old < length out.old.items + payload_size (UserauthRequest user.now service.now (Password password.now None))) }
 {
     let fields = [
         Field::Text(user),
@@ -67,6 +70,7 @@ pub(crate) fn new_password<'a>(
     requires new_password { IsShort new_password.now }
     ensures written { OnOk result (Writes (IsRow IsWrittenBoolean (UserauthRequest user.now service.now (Password password.now (Some new_password.now)))) out.old.items out.new.items) }
     ensures kept { OnErr result (out.new.items ≡ out.old.items) }
+    ensures full { OnErr result (vec_capacity out.old < length out.old.items + payload_size (UserauthRequest user.now service.now (Password password.now (Some new_password.now)))) }
 {
     let fields = [
         Field::Text(user),
@@ -92,6 +96,7 @@ pub(crate) fn probe<'a>(
     requires key { IsShort key.now }
     ensures written { OnOk result (Writes (IsRow IsWrittenBoolean (UserauthRequest user.now service.now (Publickey algorithm.now key.now None))) out.old.items out.new.items) }
     ensures kept { OnErr result (out.new.items ≡ out.old.items) }
+    ensures full { OnErr result (vec_capacity out.old < length out.old.items + payload_size (UserauthRequest user.now service.now (Publickey algorithm.now key.now None))) }
 {
     let fields = [
         Field::Text(user),
@@ -119,6 +124,7 @@ pub(crate) fn signed<'a>(
     requires signature { IsShort signature.now }
     ensures written { OnOk result (Writes (IsRow IsWrittenBoolean (UserauthRequest user.now service.now (Publickey algorithm.now key.now (Some signature.now)))) out.old.items out.new.items) }
     ensures kept { OnErr result (out.new.items ≡ out.old.items) }
+    ensures full { OnErr result (vec_capacity out.old < length out.old.items + payload_size (UserauthRequest user.now service.now (Publickey algorithm.now key.now (Some signature.now)))) }
 {
     let fields = [
         Field::Text(user),
@@ -145,6 +151,7 @@ pub(crate) fn other<'a>(
     requires name { IsShort name.now }
     ensures written { OnOk result (Writes (IsRow IsWrittenBoolean (UserauthRequest user.now service.now (Other name.now rest.now))) out.old.items out.new.items) }
     ensures kept { OnErr result (out.new.items ≡ out.old.items) }
+    ensures full { OnErr result (vec_capacity out.old < length out.old.items + payload_size (UserauthRequest user.now service.now (Other name.now rest.now))) }
 {
     put_row(
         out,

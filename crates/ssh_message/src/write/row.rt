@@ -1,8 +1,8 @@
 // The payload of a message: its number, its fields, and what follows them.
 
-ghost use Rattle.std.specs.Prelude.{◌≡◌, OnOk, OnErr};
-ghost use Rattle.ssh_model.specs.Reading.{Writes};
-ghost use Rattle.ssh_message.specs.Fields.{AreFit, IsRowOf};
+ghost use Rattle.std.specs.Prelude.{◌≡◌, ◌<◌, ◌+◌, length, vec_capacity, OnOk, OnErr};
+ghost use Rattle.ssh_model.specs.Wire.Reading.{Writes};
+ghost use Rattle.ssh_message.specs.Fields.{row_size, AreFit, IsRowOf};
 ghost use Rattle.ssh_message.specs.Written.{Grown};
 
 use crate::write::field::{Field, put_field};
@@ -19,6 +19,7 @@ pub(crate) fn put_row(
     requires { AreFit fields.now }
     ensures written { OnOk result (Writes (IsRowOf number fields.now rest.now) out.old.items out.new.items) }
     ensures kept { OnErr result (out.new.items ≡ out.old.items) }
+    ensures full { OnErr result (vec_capacity out.old < length out.old.items + row_size fields.now rest.now) }
 {
     let start = out.len();
     if let Err(error) = put_parts(out, number, fields, rest) {
@@ -38,6 +39,7 @@ fn put_parts(
     requires { AreFit fields.now }
     ensures written { OnOk result (Writes (IsRowOf number fields.now rest.now) out.old.items out.new.items) }
     ensures grown { OnErr result (Grown out.old.items out.new.items) }
+    ensures full { OnErr result (vec_capacity out.old < length out.old.items + row_size fields.now rest.now) }
 {
     out.put_u8(number)?;
     for field in fields {

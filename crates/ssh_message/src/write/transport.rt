@@ -1,11 +1,14 @@
 // The messages of the transport (RFC 4253).
 
-ghost use Rattle.std.specs.Prelude.{◌≡◌, [], ◌∷◌, ◌++◌, OnOk, OnErr};
-ghost use Rattle.ssh_model.specs.DataTypes.{IsWrittenBoolean};
-ghost use Rattle.ssh_model.specs.Reading.{Writes};
-ghost use Rattle.ssh_model.specs.Message.{IsRow, Disconnect, Ignore, Unimplemented, Debug, ServiceRequest, ServiceAccept, NewKeys, Unknown};
+ghost use Rattle.std.specs.Prelude.{◌≡◌, [], ◌∷◌, ◌++◌, OnOk, OnErr, ◌<◌, ◌+◌, length, vec_capacity};
+ghost use Rattle.ssh_model.specs.Wire.Sizes.{payload_size};
+ghost use Rattle.ssh_model.specs.Wire.DataTypes.{IsWrittenBoolean};
+ghost use Rattle.ssh_model.specs.Wire.Reading.{Writes};
+ghost use Rattle.ssh_model.specs.Wire.Message.{IsRow, Disconnect, Ignore, Unimplemented, Debug, ServiceRequest, ServiceAccept, ExtInfo, NewKeys, Unknown};
+ghost use Rattle.ssh_message.specs.Announced.{extensions_of};
 ghost use Rattle.ssh_message.specs.Written.{IsShort};
 
+use crate::extensions::Extensions;
 use crate::write::field::Field;
 use crate::write::row::put_row;
 use ssh_types::Put;
@@ -21,6 +24,7 @@ pub(crate) fn disconnect<'a>(
     requires language { IsShort language.now }
     ensures written { OnOk result (Writes (IsRow IsWrittenBoolean (Disconnect reason description.now language.now)) out.old.items out.new.items) }
     ensures kept { OnErr result (out.new.items ≡ out.old.items) }
+    ensures full { OnErr result (vec_capacity out.old < length out.old.items + payload_size (Disconnect reason description.now language.now)) }
 {
     put_row(
         out,
@@ -38,6 +42,7 @@ pub(crate) fn ignore(out: &mut Vec<u8>, body: &[u8]) -> Result<(), AllocError>
     requires { IsShort body.now }
     ensures written { OnOk result (Writes (IsRow IsWrittenBoolean (Ignore body.now)) out.old.items out.new.items) }
     ensures kept { OnErr result (out.new.items ≡ out.old.items) }
+    ensures full { OnErr result (vec_capacity out.old < length out.old.items + payload_size (Ignore body.now)) }
 {
     put_row(out, 2, &[Field::Text(body)], b"")
 }
@@ -45,6 +50,7 @@ pub(crate) fn ignore(out: &mut Vec<u8>, body: &[u8]) -> Result<(), AllocError>
 pub(crate) fn unimplemented(out: &mut Vec<u8>, number: u32) -> Result<(), AllocError>
     ensures written { OnOk result (Writes (IsRow IsWrittenBoolean (Unimplemented number)) out.old.items out.new.items) }
     ensures kept { OnErr result (out.new.items ≡ out.old.items) }
+    ensures full { OnErr result (vec_capacity out.old < length out.old.items + payload_size (Unimplemented number)) }
 {
     put_row(out, 3, &[Field::Uint32(number)], b"")
 }
@@ -59,6 +65,7 @@ pub(crate) fn debug<'a>(
     requires language { IsShort language.now }
     ensures written { OnOk result (Writes (IsRow IsWrittenBoolean (Debug display message.now language.now)) out.old.items out.new.items) }
     ensures kept { OnErr result (out.new.items ≡ out.old.items) }
+    ensures full { OnErr result (vec_capacity out.old < length out.old.items + payload_size (Debug display message.now language.now)) }
 {
     put_row(
         out,
@@ -76,6 +83,7 @@ pub(crate) fn service_request(out: &mut Vec<u8>, service: &[u8]) -> Result<(), A
     requires { IsShort service.now }
     ensures written { OnOk result (Writes (IsRow IsWrittenBoolean (ServiceRequest service.now)) out.old.items out.new.items) }
     ensures kept { OnErr result (out.new.items ≡ out.old.items) }
+    ensures full { OnErr result (vec_capacity out.old < length out.old.items + payload_size (ServiceRequest service.now)) }
 {
     put_row(out, 5, &[Field::Text(service)], b"")
 }
@@ -84,13 +92,26 @@ pub(crate) fn service_accept(out: &mut Vec<u8>, service: &[u8]) -> Result<(), Al
     requires { IsShort service.now }
     ensures written { OnOk result (Writes (IsRow IsWrittenBoolean (ServiceAccept service.now)) out.old.items out.new.items) }
     ensures kept { OnErr result (out.new.items ≡ out.old.items) }
+    ensures full { OnErr result (vec_capacity out.old < length out.old.items + payload_size (ServiceAccept service.now)) }
 {
     put_row(out, 6, &[Field::Text(service)], b"")
+}
+
+#[tactic(auto, using(crate::proofs::Announcing::writes_extensions, crate::proofs::Announcing::announced_size))]
+pub(crate) fn ext_info(out: &mut Vec<u8>, extensions: &Extensions<'_>) -> Result<(), AllocError>
+    ensures written { OnOk result (Writes (IsRow IsWrittenBoolean (ExtInfo (extensions_of extensions.now))) out.old.items out.new.items) }
+    ensures kept { OnErr result (out.new.items ≡ out.old.items) }
+    ensures full { OnErr result (vec_capacity out.old < length out.old.items + payload_size (ExtInfo (extensions_of extensions.now))) }
+{
+    let count = extensions.count();
+    let bytes = extensions.as_bytes();
+    put_row(out, 7, &[Field::Uint32(count)], bytes)
 }
 
 pub(crate) fn newkeys(out: &mut Vec<u8>) -> Result<(), AllocError>
     ensures written { OnOk result (Writes (IsRow IsWrittenBoolean NewKeys) out.old.items out.new.items) }
     ensures kept { OnErr result (out.new.items ≡ out.old.items) }
+    ensures full { OnErr result (vec_capacity out.old < length out.old.items + payload_size NewKeys) }
 {
     put_row(out, 21, &[], b"")
 }
@@ -100,6 +121,7 @@ pub(crate) fn unknown(out: &mut Vec<u8>, number: u8) -> Result<(), AllocError>
     ensures written { OnOk result (Writes (IsRow IsWrittenBoolean (Unknown number)) out.old.items out.new.items) }
     ensures alone { OnOk result (out.new.items ≡ out.old.items ++ number ∷ []) }
     ensures kept { OnErr result (out.new.items ≡ out.old.items) }
+    ensures full { OnErr result (vec_capacity out.old < length out.old.items + payload_size (Unknown number)) }
 {
     out.put_u8(number)
 }

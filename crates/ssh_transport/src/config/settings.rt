@@ -1,3 +1,6 @@
+use crate::config::strictness::Strictness;
+use ssh_message::Extension;
+
 /// What a config is made of. Nothing is checked here: `Config::new` does that.
 #[derive(Clone, Copy, Debug)]
 pub struct Settings<'a> {
@@ -20,4 +23,11 @@ pub struct Settings<'a> {
     pub tries: u32,
     /// The methods of authentication that a server names (RFC 4252).
     pub methods: &'a [&'a [u8]],
+    /// Whether keys are exchanged strictly.
+    pub strictness: Strictness,
+    /// Whether the end takes extensions of its peer, as its first KEXINIT then says (RFC 8308 section 2.1).
+    pub takes_extensions: bool,
+    /// What it announces to a peer that takes extensions, at most 16 with values of at most 1,024 bytes. None where it takes
+    /// none itself.
+    pub extensions: &'a [Extension<'a>],
 }

@@ -3,8 +3,8 @@
 ghost use Rattle.std.specs.Prelude.{◌≡◌, ◌<◌, ◌≤◌, ◌+◌, ◌++◌, IfOk, IsTrue, List, length, map};
 ghost use Rattle.std.specs.List.{join_with_byte, list_all};
 ghost use Rattle.std.specs.Option.{option_copied};
-ghost use Rattle.ssh_model.specs.DataTypes.{is_name};
-ghost use Rattle.ssh_model.specs.Line.{comment_text};
+ghost use Rattle.ssh_model.specs.Wire.DataTypes.{is_name};
+ghost use Rattle.ssh_model.specs.Wire.Line.{comment_text};
 ghost use Rattle.ssh_types.specs.Names.{are_names, names_of};
 ghost use Rattle.ssh_types.specs.Values.{names, names_text as text_of};
 ghost use Rattle.ssh_transport.specs.Config.{version_text};

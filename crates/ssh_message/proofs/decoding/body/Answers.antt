@@ -84,3 +84,6 @@ returns-in-99-clause-found c = in_context c.args.probing c.channel_success.resul
 
 pub returns-in-100-clause-found : goal.returns-in-100-clause-found
 returns-in-100-clause-found c = in_context c.args.probing c.channel_failure.result c.args.fields.now c.in-100.is c.channel_failure.ensures.found
+
+pub returns-in-7-clause-found : goal.returns-in-7-clause-found
+returns-in-7-clause-found c = in_context c.args.probing c.ext_info.result c.args.fields.now c.in-7.is c.ext_info.ensures.found

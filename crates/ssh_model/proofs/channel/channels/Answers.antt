@@ -1,5 +1,5 @@
-use Rattle.ssh_model.proofs.ChannelPair.{windows_kept, not_refused, data_in_order}
-use Rattle.ssh_model.proofs.ChannelPartner.{partnered}
+use Rattle.ssh_model.proofs.Channels.Pair.{windows_kept, not_refused, data_in_order}
+use Rattle.ssh_model.proofs.Channels.Partner.{partnered}
 use Rattle.ssh_model.proofs.channel.channels.Goals as goal
 
 pub returns-clause-windows : goal.returns-clause-windows

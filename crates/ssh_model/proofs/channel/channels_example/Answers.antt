@@ -1,4 +1,4 @@
-use Rattle.ssh_model.proofs.ChannelExample.{example}
+use Rattle.ssh_model.proofs.Channels.Example.{example}
 use Rattle.ssh_model.proofs.channel.channels_example.Goals as goal
 
 pub returns : goal.returns

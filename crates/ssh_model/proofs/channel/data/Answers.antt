@@ -1,4 +1,4 @@
-use Rattle.ssh_model.proofs.ChannelWhole.{data_begins}
+use Rattle.ssh_model.proofs.Channels.Whole.{data_begins}
 use Rattle.ssh_model.proofs.channel.data.Goals as goal
 
 pub returns : goal.returns

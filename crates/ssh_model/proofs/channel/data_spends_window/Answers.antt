@@ -1,4 +1,4 @@
-use Rattle.ssh_model.proofs.ChannelLaws.{took_data, said_data}
+use Rattle.ssh_model.proofs.Channels.Laws.{took_data, said_data}
 use Rattle.ssh_model.proofs.channel.data_spends_window.Goals as goal
 
 pub returns-clause-taken : goal.returns-clause-taken

@@ -1,4 +1,4 @@
-use Rattle.ssh_model.proofs.ChannelWhole.{welcome}
+use Rattle.ssh_model.proofs.Channels.Whole.{welcome}
 use Rattle.ssh_model.proofs.channel.no_refusal.Goals as goal
 
 pub returns : goal.returns

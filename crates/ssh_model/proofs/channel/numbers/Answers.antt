@@ -1,4 +1,4 @@
-use Rattle.ssh_model.proofs.ChannelLaws.{free_is, held_is, over_lists, place_is, full_is}
+use Rattle.ssh_model.proofs.Channels.Laws.{free_is, held_is, over_lists, place_is, full_is}
 use Rattle.ssh_model.proofs.channel.numbers.Goals as goal
 
 pub returns-clause-free : goal.returns-clause-free

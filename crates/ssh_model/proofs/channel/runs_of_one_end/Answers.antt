@@ -1,4 +1,4 @@
-use Rattle.ssh_model.proofs.ChannelEnd.{part_turns, end_run, each_here, each_there}
+use Rattle.ssh_model.proofs.Channels.End.{part_turns, end_run, each_here, each_there}
 use Rattle.ssh_model.proofs.channel.runs_of_one_end.Goals as goal
 
 pub returns-clause-turns : goal.returns-clause-turns

@@ -1,4 +1,4 @@
-use Rattle.ssh_model.proofs.ChannelLaws.{request_taken, request_late, reply_said, request_said, reply_taken}
+use Rattle.ssh_model.proofs.Channels.Laws.{request_taken, request_late, reply_said, request_said, reply_taken}
 use Rattle.ssh_model.proofs.channel.waiting_requests.Goals as goal
 
 pub returns-clause-taken : goal.returns-clause-taken

@@ -1,4 +1,4 @@
-use Rattle.ssh_model.proofs.ChannelWhole.{within_holds}
+use Rattle.ssh_model.proofs.Channels.Whole.{within_holds}
 use Rattle.ssh_model.proofs.channel.windows.Goals as goal
 
 pub returns : goal.returns

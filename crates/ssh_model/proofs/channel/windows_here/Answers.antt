@@ -1,4 +1,4 @@
-use Rattle.ssh_model.proofs.ChannelEnd.{windows_here}
+use Rattle.ssh_model.proofs.Channels.End.{windows_here}
 use Rattle.ssh_model.proofs.channel.windows_here.Goals as goal
 
 pub returns : goal.returns

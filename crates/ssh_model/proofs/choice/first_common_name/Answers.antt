@@ -1,8 +1,5 @@
-use Rattle.ssh_model.proofs.Firsts.{first_is, none_is}
+use Rattle.ssh_model.proofs.KeyExchange.Firsts.{first_is, none_is, first_only}
 use Rattle.ssh_model.proofs.choice.first_common_name.Goals as goal
 
-pub returns-clause-is_first : goal.returns-clause-is_first
-returns-clause-is_first c = first_is
-
-pub returns-clause-is_none : goal.returns-clause-is_none
-returns-clause-is_none c = none_is
+pub returns : goal.returns
+returns c = record { is_first = first_is; is_none = none_is; is_only = first_only }

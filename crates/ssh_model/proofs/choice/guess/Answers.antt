@@ -1,4 +1,4 @@
-use Rattle.ssh_model.proofs.Firsts.{right_guess, wrong_guess, no_guess}
+use Rattle.ssh_model.proofs.KeyExchange.Firsts.{right_guess, wrong_guess, no_guess}
 use Rattle.ssh_model.proofs.choice.guess.Goals as goal
 
 pub returns-clause-is_right : goal.returns-clause-is_right

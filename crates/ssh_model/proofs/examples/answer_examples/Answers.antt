@@ -1,4 +1,4 @@
-use Rattle.ssh_model.proofs.ExampleAnswers.{disconnect_row, ignore_row, unimplemented_row, debug_row, first_unknown_row, second_unknown_row, unknown_after_skipped_packet_row, unknown_while_blocked_row, service_request_row, service_accept_row, first_kexinit_at_server_row, first_kexinit_at_client_row, kexinit_answered_at_server_row, kexinit_answered_at_client_row, kexinit_crossing_at_client_row, kexinit_crossing_at_server_row, exchange_at_server_row, exchange_at_client_row, owed_reply_of_server_row, owed_reply_of_client_row, newkeys_of_peer_row, right_password_row, right_signature_row, known_key_row, wrong_password_row, request_after_success_row, failed_request_row, accepted_request_row, shown_banner_row, good_key_row}
+use Rattle.ssh_model.proofs.Example.Answers.{disconnect_row, ignore_row, unimplemented_row, debug_row, first_unknown_row, second_unknown_row, unknown_after_skipped_packet_row, unknown_while_blocked_row, service_request_row, service_accept_row, first_kexinit_at_server_row, first_kexinit_at_client_row, kexinit_answered_at_server_row, kexinit_answered_at_client_row, kexinit_crossing_at_client_row, kexinit_crossing_at_server_row, exchange_at_server_row, exchange_at_client_row, owed_reply_of_server_row, owed_reply_of_client_row, newkeys_of_peer_row, right_password_row, right_signature_row, known_key_row, wrong_password_row, request_after_success_row, failed_request_row, accepted_request_row, shown_banner_row, good_key_row}
 use Rattle.ssh_model.proofs.examples.answer_examples.Goals as goal
 
 pub returns : goal.returns

@@ -1,5 +1,5 @@
-use Rattle.ssh_model.proofs.ExampleRun.{session_runs}
-use Rattle.ssh_model.proofs.ExampleHonest.{session_is_honest, two_exchanges, request_accepted, data_came, later_keys, both_live}
+use Rattle.ssh_model.proofs.Example.Run.{session_runs}
+use Rattle.ssh_model.proofs.Example.Honest.{session_is_honest, two_exchanges, request_accepted, data_came, later_keys, both_live}
 use Rattle.ssh_model.proofs.examples.honest_run.Goals as goal
 
 pub returns : goal.returns

@@ -1,4 +1,4 @@
-use Rattle.ssh_model.proofs.ExampleLimits.{open_refused_while_many_are_owed_row, open_while_few_are_owed_row, open_with_place_row, close_refused_while_many_are_owed_row, close_that_owes_nothing_row, many_row, many_are_owed_while_blocked_row, open_asked_without_place_row}
+use Rattle.ssh_model.proofs.Example.Limits.{open_refused_while_many_are_owed_row, open_while_few_are_owed_row, open_with_place_row, close_refused_while_many_are_owed_row, close_that_owes_nothing_row, many_row, many_are_owed_while_blocked_row, open_asked_without_place_row}
 use Rattle.ssh_model.proofs.examples.limits.Goals as goal
 
 pub returns : goal.returns

@@ -1,4 +1,4 @@
-use Rattle.ssh_model.proofs.ExampleSending.{service_sent_row, none_sent_row, password_sent_row, probe_sent_row, signature_sent_row, rekey_sent_row, disconnect_sent_row, open_sent_row, confirm_sent_row, refuse_sent_row, data_sent_row, extended_data_sent_row, adjust_sent_row, eof_sent_row, close_sent_row, request_sent_row, success_sent_row, failure_sent_row, global_request_sent_row, global_success_sent_row, global_failure_sent_row}
+use Rattle.ssh_model.proofs.Example.Sending.{service_sent_row, none_sent_row, password_sent_row, probe_sent_row, signature_sent_row, rekey_sent_row, disconnect_sent_row, open_sent_row, confirm_sent_row, refuse_sent_row, data_sent_row, extended_data_sent_row, adjust_sent_row, eof_sent_row, close_sent_row, request_sent_row, success_sent_row, failure_sent_row, global_request_sent_row, global_success_sent_row, global_failure_sent_row}
 use Rattle.ssh_model.proofs.examples.sending_examples.Goals as goal
 
 pub returns : goal.returns

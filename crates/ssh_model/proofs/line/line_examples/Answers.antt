@@ -1,4 +1,4 @@
-use Rattle.ssh_model.proofs.LineExamples.{version_row, late_version_row, comments_row, old_server_row, old_client_row, one_minus_row, no_software_row, other_server_row, many_others_row, other_client_row, lf_row, cr_row, zero_row, longest_row, longer_row, begun_row}
+use Rattle.ssh_model.proofs.Wire.LineExamples.{version_row, late_version_row, comments_row, old_server_row, old_client_row, one_minus_row, no_software_row, other_server_row, many_others_row, other_client_row, lf_row, cr_row, zero_row, longest_row, longer_row, begun_row}
 use Rattle.ssh_model.proofs.line.line_examples.Goals as goal
 
 pub returns : goal.returns

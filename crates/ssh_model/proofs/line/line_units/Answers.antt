@@ -1,6 +1,6 @@
-use Rattle.ssh_model.proofs.LineGaps.{line_found}
-use Rattle.ssh_model.proofs.Lines.{line_alone, line_some, line_begun}
-use Rattle.ssh_model.proofs.LineOutcomes.{line_outcome}
+use Rattle.ssh_model.proofs.Wire.LineGaps.{line_found}
+use Rattle.ssh_model.proofs.Wire.Lines.{line_alone, line_some, line_begun}
+use Rattle.ssh_model.proofs.Wire.LineOutcomes.{line_outcome}
 use Rattle.ssh_model.proofs.line.line_units.Goals as goal
 
 pub returns : goal.returns

@@ -1,4 +1,4 @@
-use Rattle.ssh_model.proofs.LineOutcomes.{version_line}
+use Rattle.ssh_model.proofs.Wire.LineOutcomes.{version_line}
 use Rattle.ssh_model.proofs.line.one_version.Goals as goal
 
 pub returns : goal.returns

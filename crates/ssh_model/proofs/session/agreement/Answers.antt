@@ -1,4 +1,4 @@
-use Rattle.ssh_model.proofs.Choices.{agreement_holds}
+use Rattle.ssh_model.proofs.KeyExchange.Choices.{agreement_holds}
 use Rattle.ssh_model.proofs.session.agreement.Goals as goal
 
 pub returns : goal.returns

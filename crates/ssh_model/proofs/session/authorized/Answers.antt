@@ -1,4 +1,4 @@
-use Rattle.ssh_model.proofs.Accepted.{authorized_holds}
+use Rattle.ssh_model.proofs.Sessions.Accepted.{authorized_holds}
 use Rattle.ssh_model.proofs.session.authorized.Goals as goal
 
 pub returns : goal.returns

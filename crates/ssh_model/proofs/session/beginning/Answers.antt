@@ -1,4 +1,4 @@
-use Rattle.ssh_model.proofs.Whole.{beginning_holds}
+use Rattle.ssh_model.proofs.Sessions.Whole.{beginning_holds}
 use Rattle.ssh_model.proofs.session.beginning.Goals as goal
 
 pub returns : goal.returns

@@ -1,4 +1,4 @@
-use Rattle.ssh_model.proofs.Played.{plays_run}
+use Rattle.ssh_model.proofs.Sessions.Played.{plays_run}
 use Rattle.ssh_model.proofs.session.every_play.Goals as goal
 
 pub returns : goal.returns

@@ -1,4 +1,4 @@
-use Rattle.ssh_model.proofs.Played.{beginning_is_honest}
+use Rattle.ssh_model.proofs.Sessions.Played.{beginning_is_honest}
 use Rattle.ssh_model.proofs.session.honest_beginnings.Goals as goal
 
 pub returns : goal.returns

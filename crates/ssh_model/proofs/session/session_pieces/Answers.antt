@@ -1,4 +1,4 @@
-use Rattle.ssh_model.proofs.Played.{session_pieces}
+use Rattle.ssh_model.proofs.Sessions.Played.{session_pieces}
 use Rattle.ssh_model.proofs.session.session_pieces.Goals as goal
 
 pub returns : goal.returns

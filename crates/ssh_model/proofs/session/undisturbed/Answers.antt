@@ -1,4 +1,4 @@
-use Rattle.ssh_model.proofs.Undisturbed.{undisturbed_holds}
+use Rattle.ssh_model.proofs.Sessions.Undisturbed.{undisturbed_holds}
 use Rattle.ssh_model.proofs.session.undisturbed.Goals as goal
 
 pub returns : goal.returns

@@ -1,4 +1,4 @@
-use Rattle.ssh_model.proofs.ChannelRun.{windows_hold}
+use Rattle.ssh_model.proofs.Channels.Run.{windows_hold}
 use Rattle.ssh_model.proofs.session.windows.Goals as goal
 
 pub returns : goal.returns

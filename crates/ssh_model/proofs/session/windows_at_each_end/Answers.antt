@@ -1,4 +1,4 @@
-use Rattle.ssh_model.proofs.ChannelRun.{windows_at}
+use Rattle.ssh_model.proofs.Channels.Run.{windows_at}
 use Rattle.ssh_model.proofs.session.windows_at_each_end.Goals as goal
 
 pub returns : goal.returns

@@ -1,4 +1,4 @@
-use Rattle.ssh_model.proofs.Units.{reading_pieces}
+use Rattle.ssh_model.proofs.Wire.Units.{reading_pieces}
 use Rattle.ssh_model.proofs.stream.any_pieces.Goals as goal
 
 pub returns : goal.returns

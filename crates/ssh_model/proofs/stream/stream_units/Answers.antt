@@ -1,4 +1,4 @@
-use Rattle.ssh_model.proofs.Units.{unit_found, unit_alone, unit_outcome, unit_some, unit_begun}
+use Rattle.ssh_model.proofs.Wire.Units.{unit_found, unit_alone, unit_outcome, unit_some, unit_begun}
 use Rattle.ssh_model.proofs.stream.stream_units.Goals as goal
 
 pub returns : goal.returns

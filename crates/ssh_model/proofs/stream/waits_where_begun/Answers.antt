@@ -1,4 +1,4 @@
-use Rattle.ssh_model.proofs.Units.{reading_waits, reading_begun}
+use Rattle.ssh_model.proofs.Wire.Units.{reading_waits, reading_begun}
 use Rattle.ssh_model.proofs.stream.waits_where_begun.Goals as goal
 
 pub returns : goal.returns

@@ -1,4 +1,4 @@
-use Rattle.ssh_model.proofs.AnswerLaws.{same_answer}
+use Rattle.ssh_model.proofs.Sessions.AnswerLaws.{same_answer}
 use Rattle.ssh_model.proofs.turn.answers_are_fixed.Goals as goal
 
 pub returns : goal.returns

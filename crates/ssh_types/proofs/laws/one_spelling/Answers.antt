@@ -1,4 +1,4 @@
-use Rattle.ssh_types.proofs.Spellings.{byte_spelling, boolean_spelling, uint32_spelling, uint64_spelling, string_spelling, mpint_spelling, names_spelling}
+use Rattle.ssh_types.specs.Spellings.{byte_spelling, boolean_spelling, uint32_spelling, uint64_spelling, string_spelling, mpint_spelling, names_spelling}
 use Rattle.ssh_types.proofs.laws.one_spelling.Goals as goal
 
 pub returns-clause-byte : goal.returns-clause-byte

@@ -1,5 +1,5 @@
 use Rattle.std.proofs.Common.{◌≡◌, take, false}
-use Rattle.ssh_model.specs.EpochRun.{World}
+use Rattle.ssh_model.specs.OneEpoch.Runs.{World}
 use Rattle.ssh_trace.specs.History.{events_of}
 use Rattle.ssh_trace.specs.Pair.{Plays, StandsAt, keys_of}
 use Rattle.ssh_trace.proofs.epoch_pair.EpochPair.play.Given as goal

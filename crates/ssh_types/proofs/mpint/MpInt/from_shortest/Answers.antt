@@ -1,5 +1,5 @@
 use Rattle.std.proofs.Common.{◌∙◌, sym}
-use Rattle.ssh_types.proofs.Integers.{shortest_parts, spare_parts}
+use Rattle.ssh_types.specs.WholeNumbers.{shortest_parts, spare_parts}
 use Rattle.ssh_types.proofs.mpint.MpInt.from_shortest.Goals as goal
 
 pub returns-then-not-is_canonical-clause-none : goal.returns-then-not-is_canonical-clause-none

@@ -1,0 +1,47 @@
+-- The extensions of an EXT_INFO as they stand in its payload (RFC 8308 section 2.3).
+use Rattle.std.specs.Prelude.{ℕ, zero, suc, Bool, true, false, ◌&&◌, nat_le, List, [], ◌∷◌, length, take, drop}
+use Rattle.ssh_model.specs.Wire.DataTypes.{number}
+use Rattle.ssh_model.specs.Wire.Message as model
+
+-- ---- the string that stands in front
+
+-- the length that is in front of it
+abbrev pub string_length : List ℕ → ℕ
+string_length bytes = number (take 4 bytes)
+
+-- its text, and what follows it
+abbrev pub string_in : List ℕ → List ℕ
+string_in bytes = take (string_length bytes) (drop 4 bytes)
+
+abbrev pub after_string : List ℕ → List ℕ
+after_string bytes = drop (string_length bytes) (drop 4 bytes)
+
+-- It stands there whole.
+abbrev pub has_string : List ℕ → Bool
+has_string bytes = nat_le 4 (length bytes) && nat_le (string_length bytes) (length (drop 4 bytes))
+
+-- ---- names and values
+
+-- the extension that stands in front, what follows it, and that it stands there whole
+abbrev pub extension_in : List ℕ → model.Extension
+extension_in bytes = record { name = string_in bytes; value = string_in (after_string bytes) }
+
+abbrev pub after_extension : List ℕ → List ℕ
+after_extension bytes = after_string (after_string bytes)
+
+abbrev pub has_extension : List ℕ → Bool
+has_extension bytes = has_string bytes && has_string (after_string bytes)
+
+abbrev pub is_empty : List ℕ → Bool
+is_empty [] = true
+is_empty _ = false
+
+-- so many of them
+abbrev pub extensions_in : ℕ → List ℕ → List model.Extension
+extensions_in zero bytes = []
+extensions_in (suc count) bytes = extension_in bytes ∷ extensions_in count (after_extension bytes)
+
+-- There are so many, and nothing follows the last.
+abbrev pub are_extensions : ℕ → List ℕ → Bool
+are_extensions zero bytes = is_empty bytes
+are_extensions (suc count) bytes = has_extension bytes && are_extensions count (after_extension bytes)

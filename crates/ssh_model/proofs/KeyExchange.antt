@@ -1,0 +1,5 @@
+pub mod Texts
+pub mod Choices
+pub mod Offers
+pub mod Firsts
+pub mod OneChoice

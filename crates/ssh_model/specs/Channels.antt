@@ -1,0 +1,12 @@
+pub mod History
+pub mod Message
+pub mod Notes
+pub mod Rows
+pub mod Rules
+pub mod Claims
+pub mod Numbers
+pub mod SinceOpen
+pub mod Connection
+pub mod Places
+pub mod Kept
+pub mod Summary

@@ -1,0 +1,351 @@
+-- Histories of the two toy ends, up to where an example is asked for. Payloads are left empty: only messages matter.
+use Rattle.std.specs.Prelude.{ℕ, Bool, true, false, Option, Some, None, List, [], ◌∷◌, ◌++◌, take, replicate, codes}
+use Rattle.std.specs.List.{filter}
+use Rattle.sha2.specs.Sha256.{sha256}
+use Rattle.ssh_model.specs.Side.{Side, Side.Client, Side.Server, peer}
+use Rattle.ssh_model.specs.Wire.Message.{Msg, Msg.KexInit, Msg.NewKeys, Msg.KexEcdhInit, Msg.KexEcdhReply}
+use Rattle.ssh_model.specs.Wire.Message.{Msg.ServiceRequest, Msg.ServiceAccept, Msg.UserauthRequest}
+use Rattle.ssh_model.specs.Wire.Message.{Msg.UserauthFailure, Msg.UserauthSuccess, Msg.ChannelOpen}
+use Rattle.ssh_model.specs.Wire.Message.{Msg.ChannelOpenConfirmation, Msg.ChannelData, Msg.ChannelEof, Msg.ChannelClose}
+use Rattle.ssh_model.specs.Wire.Message.{Msg.ChannelRequest, Method.Password, Method.Publickey, Proposal}
+use Rattle.ssh_model.specs.Sessions.Refusals.{Refusal, AskRefusal, first_refusal}
+use Rattle.ssh_model.specs.Sessions.Parties.{Parties, settings_of, offer}
+use Rattle.ssh_model.specs.Sessions.Items.{Ask, Ask.AskService, Ask.AskNone, Ask.AskPassword, Ask.AskProbe, Ask.AskSign}
+use Rattle.ssh_model.specs.Sessions.Items.{Ask.AskOpen, Ask.AskConfirm, Ask.AskRefuse, Ask.AskData, Ask.AskAdjust}
+use Rattle.ssh_model.specs.Sessions.Items.{Ask.AskEof, Ask.AskClose, Ask.AskRequest, Ask.AskReply, Ask.AskGlobal}
+use Rattle.ssh_model.specs.Sessions.Items.{Ask.AskGlobalReply, Fact.Completed, Fact.Service, Fact.Accepted}
+use Rattle.ssh_model.specs.Sessions.Items.{Fact.Authenticated, Fact.Opening, Fact.Opened, Fact.Confirmed, Fact.Closed}
+use Rattle.ssh_model.specs.Sessions.Items.{Item, Item.Fed, Item.Asked, Item.SentLine, Item.TookLine, Item.Sent}
+use Rattle.ssh_model.specs.Sessions.Items.{Item.Took, Item.Told}
+use Rattle.ssh_model.specs.Wire.MacOnly.{key_block, mac_only}
+use Rattle.ssh_model.specs.Wire.Sealing.{Crypto}
+use Rattle.ssh_model.specs.KeyExchange.Exchange.{Inputs, exchange_hash, derived}
+use Rattle.ssh_model.specs.KeyExchange.Exchanges.{exchange, exchanges, session_id, mac_letter}
+use Rattle.ssh_model.specs.Sessions.Phases.{may_take}
+use Rattle.ssh_model.specs.Authentication.Requests.{signed_text}
+use Rattle.ssh_model.specs.Sessions.Transport.{hash_to_sign}
+use Rattle.ssh_model.specs.Sessions.Turns.{answer_checks, ask_checks}
+use Rattle.ssh_model.specs.Example.Toys.{toy_settings, naming_toys, toy, toy_key, cookie, secret, from_to}
+
+-- ---- what is asked of the definitions
+
+-- the numbers that the end may take next
+abbrev pub taken_by : Parties (List ℕ) → Side → List Item → List ℕ
+taken_by p side h = filter (λ n. may_take p side h n) (from_to 0 255)
+
+-- the numbers that the toys may take next
+abbrev pub taken : Side → List Item → List ℕ
+taken side h = taken_by toy side h
+
+-- what it refuses a message for, and an ask
+abbrev pub refusal_by : Parties (List ℕ) → Side → List Item → Msg → Option Refusal
+refusal_by p side h message = first_refusal (answer_checks p side h message)
+
+-- what they refuse a message for
+abbrev pub refusal : Side → List Item → Msg → Option Refusal
+refusal side h message = refusal_by toy side h message
+
+-- what they refuse an ask for
+abbrev pub ask_refusal : Side → List Item → Ask → Option AskRefusal
+ask_refusal side h ask = first_refusal (ask_checks toy side h ask)
+
+-- ---- items
+
+-- the end sent a message
+abbrev pub says : Msg → Item
+says message = Sent None message []
+
+-- the end took a message
+abbrev pub hears : Msg → Item
+hears message = Took None message []
+
+-- on the channel of this number
+abbrev pub says_on : ℕ → Msg → Item
+says_on x message = Sent (Some x) message []
+
+-- the end took a message on the channel of this number
+abbrev pub hears_on : ℕ → Msg → Item
+hears_on x message = Took (Some x) message []
+
+-- ---- the first exchange
+
+-- the version line of a side
+abbrev pub line_of : Side → List ℕ
+line_of side = (settings_of toy side).line
+
+-- the bytes of the cookies and of the secrets, of the first exchange and of the second
+abbrev pub cookie_byte : Side → (first : Bool) → ℕ
+cookie_byte Client true = 193
+cookie_byte Client false = 162
+cookie_byte Server true = 209
+cookie_byte Server false = 178
+
+-- the bytes of the secrets, of the first exchange and of the second
+abbrev pub secret_byte : Side → (first : Bool) → ℕ
+secret_byte Client true = 1
+secret_byte Client false = 4
+secret_byte Server true = 2
+secret_byte Server false = 8
+
+-- the pair of an exchange
+abbrev pub feeding : Side → (first : Bool) → Item
+feeding side first = Fed (cookie (cookie_byte side first)) (secret (secret_byte side first))
+
+-- the KEXINIT of an exchange
+abbrev pub offer_by : Parties (List ℕ) → Side → (first : Bool) → Proposal
+offer_by p side first = offer p side first (cookie (cookie_byte side first))
+
+-- the opening: the line and the first KEXINIT were sent
+abbrev pub opened_by : Parties (List ℕ) → Side → List Item
+opened_by p side = says (KexInit (offer_by p side true)) ∷ SentLine (line_of side) ∷ feeding side true ∷ []
+
+-- the line of the peer was taken
+abbrev pub lined_by : Parties (List ℕ) → Side → List Item
+lined_by p side = TookLine (line_of (peer side)) ∷ opened_by p side
+
+-- its KEXINIT was taken
+abbrev pub offered_by : Parties (List ℕ) → Side → List Item
+offered_by p Client = says (KexEcdhInit (secret 1)) ∷ hears (KexInit (offer_by p Server true)) ∷ lined_by p Client
+offered_by p Server = hears (KexInit (offer_by p Client true)) ∷ lined_by p Server
+
+-- the server's reply in the first exchange
+abbrev pub first_reply_by : Parties (List ℕ) → Msg
+first_reply_by p = KexEcdhReply toy_key (secret 2) (take 4096 (hash_to_sign p (offered_by p Server) (secret 1)))
+
+-- the exchange is completed
+abbrev pub completed_by : Parties (List ℕ) → Side → List Item
+completed_by p Client = Told (Completed 1) ∷ says NewKeys ∷ hears (first_reply_by p) ∷ offered_by p Client
+completed_by p Server =
+    Told (Completed 1) ∷ says NewKeys ∷ says (first_reply_by p) ∷ hears (KexEcdhInit (secret 1)) ∷ offered_by p Server
+
+-- NEWKEYS of the peer was taken
+abbrev pub keyed_by : Parties (List ℕ) → Side → List Item
+keyed_by p side = hears NewKeys ∷ completed_by p side
+
+-- the same of the ends that most examples are about
+abbrev pub offer_of : Side → (first : Bool) → Proposal
+offer_of side first = offer_by toy side first
+
+-- the opening
+abbrev pub opened : Side → List Item
+opened side = opened_by toy side
+
+-- after the peer's line
+abbrev pub lined : Side → List Item
+lined side = lined_by toy side
+
+-- after its KEXINIT
+abbrev pub offered : Side → List Item
+offered side = offered_by toy side
+
+-- the server's reply
+abbrev pub first_reply : Msg
+first_reply = first_reply_by toy
+
+-- after the exchange
+abbrev pub completed : Side → List Item
+completed side = completed_by toy side
+
+-- after the peer's NEWKEYS
+abbrev pub keyed : Side → List Item
+keyed side = keyed_by toy side
+
+-- ---- authentication
+
+abbrev pub userauth : List ℕ
+userauth = codes "ssh-userauth"
+
+-- the service of channels
+abbrev pub connection : List ℕ
+connection = codes "ssh-connection"
+
+-- the client asked for the service
+abbrev pub asking : List Item
+asking = says (ServiceRequest userauth) ∷ Asked AskService ∷ keyed Client
+
+-- the service is accepted
+abbrev pub served : Side → List Item
+served Client = Told Service ∷ hears (ServiceAccept userauth) ∷ asking
+served Server = says (ServiceAccept userauth) ∷ hears (ServiceRequest userauth) ∷ keyed Server
+
+-- requests for authentication, of which the first is right
+abbrev pub right_request : Msg
+right_request = UserauthRequest (codes "u") connection (Password (codes "p") None)
+
+-- a request with a wrong password
+abbrev pub wrong_request : Msg
+wrong_request = UserauthRequest (codes "u") connection (Password (codes "q") None)
+
+-- a request that asks for a key
+abbrev pub probe : (key : List ℕ) → Msg
+probe key = UserauthRequest (codes "u") connection (Publickey (codes "toy") key None)
+
+-- the signature of the client, by the session id
+abbrev pub right_signature : List ℕ
+right_signature =
+    let session = session_id (exchanges toy Client (served Client)) in
+    sha256 (signed_text session (codes "u") connection (codes "toy") (codes "k"))
+
+-- the client sent the right request
+abbrev pub requesting : List Item
+requesting = says right_request ∷ Asked (AskPassword (codes "u") (codes "p")) ∷ served Client
+
+-- the client asked for a key
+abbrev pub probing_client : List Item
+probing_client = says (probe (codes "k")) ∷ Asked (AskProbe (codes "u") (codes "toy") (codes "k")) ∷ served Client
+
+-- requests failed so often
+abbrev pub failed : ℕ → List Item
+failed n = replicate n (says (UserauthFailure (codes "publickey" ∷ codes "password" ∷ []) false)) ++ served Server
+
+-- the user is authenticated
+abbrev pub admitted : Side → List Item
+admitted Client = Told Authenticated ∷ hears UserauthSuccess ∷ requesting
+admitted Server = Told (Accepted (codes "u")) ∷ says UserauthSuccess ∷ hears right_request ∷ served Server
+
+-- ---- a second exchange
+
+-- the pair of the second exchange was fed
+abbrev pub fed_again : Side → List Item
+fed_again side = feeding side false ∷ admitted side
+
+-- its own KEXINIT was sent
+abbrev pub rekeying : Side → List Item
+rekeying side = says (KexInit (offer_of side false)) ∷ fed_again side
+
+-- that of the peer was taken
+abbrev pub offered_again : Side → List Item
+offered_again Client = says (KexEcdhInit (secret 4)) ∷ hears (KexInit (offer_of Server false)) ∷ rekeying Client
+offered_again Server = hears (KexInit (offer_of Client false)) ∷ rekeying Server
+
+-- the message of the exchange was taken
+abbrev pub completed_again : Side → List Item
+completed_again Client = says NewKeys ∷ hears (KexEcdhReply toy_key (secret 8) []) ∷ offered_again Client
+completed_again Server =
+    says NewKeys ∷ says (KexEcdhReply toy_key (secret 8) []) ∷ hears (KexEcdhInit (secret 4)) ∷ offered_again Server
+
+-- ---- a channel: number 3 of the client, with a window of 10 and data of at most 8 bytes, and number 5 of the server,
+-- with a window of 20 and data of at most 16 bytes
+
+-- the OPEN of the client
+abbrev pub open_message : Msg
+open_message = ChannelOpen (codes "session") 3 10 8 []
+
+-- the answer of the server
+abbrev pub confirm_message : Msg
+confirm_message = ChannelOpenConfirmation 3 5 20 16 []
+
+-- the OPEN was sent and taken
+abbrev pub channel_opened : Side → List Item
+channel_opened Client = Told (Opening 3) ∷ says_on 3 open_message ∷ admitted Client
+channel_opened Server = Told (Opened 5 (codes "session") 10 8 []) ∷ hears_on 5 open_message ∷ admitted Server
+
+-- it was confirmed
+abbrev pub channel_confirmed : Side → List Item
+channel_confirmed Client = Told (Confirmed 3 20 16 []) ∷ hears_on 3 confirm_message ∷ channel_opened Client
+channel_confirmed Server = says_on 5 confirm_message ∷ channel_opened Server
+
+-- data for the client that fill its window but for 2 bytes
+abbrev pub heard_data : Item
+heard_data = hears_on 3 (ChannelData 3 (replicate 8 0))
+
+-- EOF for the client
+abbrev pub heard_eof : Item
+heard_eof = hears_on 3 (ChannelEof 3)
+
+-- a request for the client
+abbrev pub heard_request : Item
+heard_request = hears_on 3 (ChannelRequest 3 [] true [])
+
+-- the peer said CLOSE while this end was blocked, so that its own is owed
+abbrev pub closed_by_peer : Side → List Item
+closed_by_peer Client =
+    Told (Closed 3) ∷ hears_on 3 (ChannelClose 3) ∷ says (KexInit (offer_of Client false)) ∷ feeding Client false
+    ∷ channel_confirmed Client
+closed_by_peer Server =
+    Told (Closed 5) ∷ hears_on 5 (ChannelClose 5) ∷ says (KexInit (offer_of Server false)) ∷ feeding Server false
+    ∷ channel_confirmed Server
+
+-- what an end would take with a wrong guess
+abbrev pub guessing_by : Parties (List ℕ) → Side → (first : Bool) → Proposal
+guessing_by p side first =
+    record (offer_by p (peer side) first) { host = codes "x" ∷ codes "toy@example.com" ∷ []; follows = true }
+
+-- what the toys would take with a wrong guess
+abbrev pub guessing : Side → (first : Bool) → Proposal
+guessing side first = guessing_by toy side first
+
+-- data of the client that fill the window of the server but for 4 bytes
+abbrev pub said_data : Item
+said_data = says_on 3 (ChannelData 5 (replicate 16 0))
+
+-- a request of the client
+abbrev pub said_request : Item
+said_request = says_on 3 (ChannelRequest 5 [] true [])
+
+-- a channel of which the server takes much
+abbrev pub wide_channel : List Item
+wide_channel = hears_on 3 (ChannelOpenConfirmation 3 5 100000 100000 []) ∷ channel_opened Client
+
+-- ---- asks
+
+-- the asks for authentication
+abbrev pub requests : List Ask
+requests =
+    AskNone (codes "u") ∷ AskPassword (codes "u") (codes "p") ∷ AskProbe (codes "u") (codes "toy") (codes "k")
+    ∷ AskSign (codes "u") (codes "toy") (codes "k") ∷ []
+
+-- the asks for messages of the connection
+abbrev pub connection_asks : List Ask
+connection_asks =
+    AskOpen [] 0 1 [] ∷ AskConfirm 3 0 1 [] ∷ AskRefuse 3 1 ∷ AskData 3 None [] ∷ AskData 3 (Some 1) [] ∷ AskAdjust 3 0
+    ∷ AskEof 3 ∷ AskClose 3
+    ∷ AskRequest 3 [] true [] ∷ AskReply 3 true ∷ AskReply 3 false ∷ AskGlobal [] true [] ∷ AskGlobalReply true []
+    ∷ AskGlobalReply false [] ∷ []
+
+-- ---- other parts and settings
+
+-- a server that names other methods
+abbrev pub with_methods : List (List ℕ) → Parties (List ℕ)
+with_methods methods = record toy { server = record (toy_settings (line_of Server)) { methods = methods } }
+
+-- a client that may send many packets before a new exchange is due
+abbrev pub patient : Parties (List ℕ)
+patient = record toy { client = record (toy_settings (line_of Client)) { epoch_limit = 2147483648 } }
+
+-- a server that knows every key
+abbrev pub friendly : Parties (List ℕ)
+friendly = record toy { knows_key = λ user algorithm key. true }
+
+-- a sealing with lengths of its own, whose keys show what they are made of
+abbrev pub plain_crypto : Crypto (List ℕ)
+plain_crypto = record mac_only {
+  lengths = λ enc mac. Some (record { iv = 2; cipher = 3; mac = 4 });
+  made = λ enc mac iv cipher key. iv ++ cipher ++ key;
+}
+
+-- where the peer offers another encryption and another MAC in each direction
+abbrev pub naming_offer : Side → Proposal
+naming_offer side =
+    record (offer_by naming_toys side true) {
+      enc_cs = codes "a" ∷ [];
+      enc_sc = codes "b" ∷ [];
+      mac_cs = codes "c"
+          ∷ [];
+      mac_sc = codes "d" ∷ [];
+    }
+
+-- after NEWKEYS of both, with another encryption and another MAC in each direction
+abbrev pub keyed_naming : Side → List Item
+keyed_naming side =
+    hears NewKeys ∷ says NewKeys ∷ hears (KexInit (naming_offer (peer side))) ∷ opened_by naming_toys side
+
+-- ---- the first exchange of an end, and its key of a direction
+
+-- the inputs of the first exchange
+abbrev pub first_inputs : Side → Inputs
+first_inputs side = exchange toy side 0 (completed side)
+
+-- the MAC key of a direction
+abbrev pub mac_key : Side → Inputs → List ℕ
+mac_key from x = key_block (derived x.shared (exchange_hash x) (mac_letter from) (exchange_hash x) 32)

@@ -1,0 +1,3 @@
+pub mod Choice
+pub mod Exchange
+pub mod Exchanges

@@ -1,0 +1,88 @@
+-- The key exchange: the text that both ends hash, its hash, and the bytes of the keys (RFC 4253 sections 7.2 and 8,
+-- RFC 5656 section 4, RFC 8731 section 3).
+use Rattle.std.specs.Prelude.{ℕ, zero, suc, ◌/◌, ◌%◌, ◌^◌, ◌<◌, nat_lt, nat_le, if◌then◌else◌, List, [], ◌∷◌, ◌++◌}
+use Rattle.std.specs.Prelude.{length, take}
+use Rattle.std.specs.Int.{w32, to_be_bytes}
+use Rattle.sha2.specs.Sha256.{sha256}
+
+-- What both ends hash. The lines are those of RFC 4253 section 4.2 without CR LF.
+pub record Inputs : Type 0 where
+  -- V_C and V_S, the lines of the client and of the server
+  pub client_version : List ℕ
+  pub server_version : List ℕ
+  -- I_C and I_S, the payloads of their KEXINIT messages
+  pub client_init : List ℕ
+  pub server_init : List ℕ
+  -- K_S, the host key of the server
+  pub host_key : List ℕ
+  -- Q_C and Q_S, the public points of the client and of the server
+  pub client_point : List ℕ
+  pub server_point : List ℕ
+  -- K, the shared number
+  pub shared : ℕ
+
+-- ---- the spellings of RFC 4251 section 5, as functions
+
+-- a string: its length as a uint32, and its bytes
+unfoldable pub string_of : List ℕ → List ℕ
+string_of text = to_be_bytes w32 (length text) ++ text
+
+-- The bytes of a number, the most significant first and none of them a zero in front; 0 has none. A number has
+-- fewer bytes than itself, so as many places are enough.
+unfoldable pub digits : ℕ → ℕ → List ℕ
+digits zero n = []
+digits (suc places) n = if nat_lt 0 n then digits places (n / 256) ++ (n % 256) ∷ [] else []
+
+-- a zero byte in front where the top bit would else be read as a sign
+abbrev pub positive : List ℕ → List ℕ
+positive [] = []
+positive (b ∷ bs) = if nat_le 128 b then 0 ∷ b ∷ bs else b ∷ bs
+
+-- what follows the length of a number's mpint: its shortest bytes in two's complement
+unfoldable pub mpint_body : ℕ → List ℕ
+mpint_body n = positive (digits n n)
+
+-- an mpint, of a number that is not negative
+abbrev pub mpint_of : ℕ → List ℕ
+mpint_of n = string_of (mpint_body n)
+
+-- ---- the text and its hash (RFC 5656 section 4)
+
+-- Each length fits into the uint32 that stands in front.
+pub record Fits (x : Inputs) : Type 0 where
+  pub client_version : length x.client_version < 2 ^ 32
+  pub server_version : length x.server_version < 2 ^ 32
+  pub client_init : length x.client_init < 2 ^ 32
+  pub server_init : length x.server_init < 2 ^ 32
+  pub host_key : length x.host_key < 2 ^ 32
+  pub client_point : length x.client_point < 2 ^ 32
+  pub server_point : length x.server_point < 2 ^ 32
+  pub shared : length (mpint_body x.shared) < 2 ^ 32
+
+-- what is hashed: the inputs one after the other, K as an mpint and all else as strings
+abbrev pub exchange_text : Inputs → List ℕ
+exchange_text x =
+    string_of x.client_version ++ string_of x.server_version ++ string_of x.client_init ++ string_of x.server_init
+    ++ string_of x.host_key ++ string_of x.client_point ++ string_of x.server_point ++ mpint_of x.shared
+
+-- H, the exchange hash. The session id is that of the first exchange.
+abbrev pub exchange_hash : Inputs → List ℕ
+exchange_hash x = sha256 (exchange_text x)
+
+-- ---- the keys (RFC 4253 section 7.2)
+
+-- So many blocks, each after those before it: the first is the hash of the front and what begins, and each further
+-- one is the hash of the front and all blocks so far.
+unfoldable pub blocks : List ℕ → List ℕ → ℕ → List ℕ
+blocks front begin zero = []
+blocks front begin (suc zero) = sha256 (front ++ begin)
+blocks front begin (suc (suc n)) = blocks front begin (suc n) ++ sha256 (front ++ blocks front begin (suc n))
+
+-- what each block begins with: K as an mpint, and H
+abbrev pub key_front : ℕ → List ℕ → List ℕ
+key_front shared hash = mpint_of shared ++ hash
+
+-- A key of n bytes: the first n bytes of the blocks, the first of which is the hash of K, H, a letter and the session
+-- id. A block has more than one byte, so n blocks are enough.
+abbrev pub derived : ℕ → List ℕ → ℕ → List ℕ → ℕ → List ℕ
+derived shared hash letter session n = take n (blocks (key_front shared hash) (letter ∷ session) n)

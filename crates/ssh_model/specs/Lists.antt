@@ -1,0 +1,16 @@
+-- Relations of lists that grow at their heads.
+use Rattle.std.specs.Prelude.{◌≡◌, ℕ, List, [], ◌∷◌, ◌++◌, ◌⊎◌}
+
+-- The value stands in the list.
+abbrev pub IsIn : {A : Type 0} → A → List A → Type 0
+IsIn x [] = ⊥
+IsIn x (y ∷ l) = (x ≡ y) ⊎ IsIn x l
+
+-- The old list is what is left of the other when some of its newest are taken away.
+abbrev pub IsOlder : {A : Type 0} → List A → List A → Type 0
+IsOlder old [] = old ≡ []
+IsOlder old (x ∷ l) = (old ≡ (x ∷ l)) ⊎ IsOlder old l
+
+-- the first list is a prefix of the second
+abbrev pub Begins : List (List ℕ) → List (List ℕ) → Type 0
+Begins xs ys = (rest : List (List ℕ)) × (xs ++ rest ≡ ys)

@@ -1,0 +1,63 @@
+-- What the two ends of one sealed epoch did, in one list of items with their sides. The newest item comes first, so
+-- that "earlier" is the tail.
+use Rattle.std.specs.Prelude.{◌≡◌, ℕ, List, [], ◌∷◌, length, reverse, map, ◌⊎◌, Bool, true, false}
+use Rattle.ssh_model.specs.Side.{Side, Side.Client, Side.Server, peer}
+use Rattle.ssh_model.specs.Lists.{Begins}
+
+-- What one end did. Payloads are lists of bytes, refusals go by their numbers.
+pub data Item : Type 0 where
+  Asked : Item
+  AskRefused : ℕ → Item
+  Sent : List ℕ → Item
+  Took : List ℕ → Item
+  Refused : ℕ → Item
+  Died : Item
+
+-- an item of one side
+pub data Done : Type 0 where
+  By : Side → Item → Done
+
+-- items of one side
+abbrev pub all_by : Side → List Item → List Done
+all_by side items = map (By side) items
+
+-- the history of one end, out of all that was done
+abbrev pub part : Side → List Done → List Item
+part side [] = []
+part Client (By Client i ∷ run) = i ∷ part Client run
+part Server (By Server i ∷ run) = i ∷ part Server run
+part side (_ ∷ run) = part side run
+
+-- the payloads that an end sent, and those that it took
+abbrev pub sent : List Item → List (List ℕ)
+sent [] = []
+sent (Sent p ∷ h) = p ∷ sent h
+sent (_ ∷ h) = sent h
+
+-- the payloads that an end took
+abbrev pub took : List Item → List (List ℕ)
+took [] = []
+took (Took p ∷ h) = p ∷ took h
+took (_ ∷ h) = took h
+
+-- The end died.
+abbrev pub has_died : List Item → Bool
+has_died [] = false
+has_died (Died ∷ h) = true
+has_died (_ ∷ h) = has_died h
+
+-- Among these payloads, the newest first, this one has the number n: n older ones lie below it.
+abbrev pub HasNumber : List ℕ → ℕ → List (List ℕ) → Type 0
+HasNumber payload n [] = ⊥
+HasNumber payload n (p ∷ older) = ((payload ≡ p) × (n ≡ length older)) ⊎ HasNumber payload n older
+
+-- Each payload that was taken had been sent by the peer under the same number, earlier.
+abbrev pub IsHonestEpoch : List Done → Type 0
+IsHonestEpoch [] = Unit {0}
+IsHonestEpoch (By side (Took p) ∷ run) =
+    HasNumber p (length (took (part side run))) (sent (part (peer side) run)) × IsHonestEpoch run
+IsHonestEpoch (_ ∷ run) = IsHonestEpoch run
+
+-- What each side took is a prefix of what the other sent, both in the order of time.
+abbrev pub TakenInOrder : List Done → Type 0
+TakenInOrder run = (side : Side) → Begins (reverse (took (part side run))) (reverse (sent (part (peer side) run)))

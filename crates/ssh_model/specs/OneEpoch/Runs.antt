@@ -1,0 +1,103 @@
+-- Two ends in one sealed epoch: each direction under one key, both numbers from zero.
+use Rattle.std.specs.Prelude.{◌≡◌, ◌≤◌, ◌<◌, ◌^◌, ℕ, List, [], ◌∷◌, ◌++◌, length, false, true, Some}
+use Rattle.ssh_model.specs.Wire.Sealing.{Crypto, IsWire, IsSealed, IsBadLength, IsBadTag, IsBadPadding, HasSize}
+use Rattle.ssh_model.specs.Wire.Unit.{IsPacketBegun}
+use Rattle.ssh_model.specs.Side.{Side, Side.Client, Side.Server, peer}
+use Rattle.ssh_model.specs.OneEpoch.History.{Item, Item.Asked, Item.AskRefused, Item.Sent, Item.Took, Item.Refused}
+use Rattle.ssh_model.specs.OneEpoch.History.{Item.Died, Done, all_by, part, sent, took, has_died}
+
+-- the keys of the two directions, by the side that sends
+pub record Keys (K : Type 0) : Type 0 where
+  pub client : K
+  pub server : K
+
+-- the key under which a side sends
+abbrev pub key_of : {K : Type 0} → Keys K → Side → K
+key_of keys Client = keys.client
+key_of keys Server = keys.server
+
+-- What an end that took so many packets makes of the bytes of one unit, which are all that it uses. A length
+-- field is refused (3) before the numbers that are spent (14), those before the tag (5), and that before the
+-- padding (4).
+pub data Takes {K : Type 0} (c : Crypto K) (key : K) (number : ℕ) (unit : List ℕ) : List Item → Type 0 where
+  payload : (bytes : List ℕ) → number < 2 ^ 32 → IsWire c (Some key) number bytes unit →
+      Takes c key number unit (Took bytes ∷ [])
+  bad_length : IsBadLength (c.blocks key) (c.tag key) unit → Takes c key number unit (Died ∷ Refused 3 ∷ [])
+  spent : (size_on_wire : ℕ) → number ≡ 2 ^ 32 → length unit ≡ 4 →
+      HasSize (c.blocks key) (c.tag key) size_on_wire unit →
+      Takes c key number unit (Died ∷ Refused 14 ∷ [])
+  bad_tag : number < 2 ^ 32 → IsBadTag c (Some key) number unit → Takes c key number unit (Died ∷ Refused 5 ∷ [])
+  bad_padding : number < 2 ^ 32 → IsBadPadding c (Some key) number unit →
+      Takes c key number unit (Died ∷ Refused 4 ∷ [])
+
+-- What no unit is yet: a packet begun.
+abbrev pub Waits : {K : Type 0} → Crypto K → K → ℕ → List ℕ → Type 0
+Waits c key number rest = IsPacketBegun c (Some key) number rest
+
+-- What an end with this history does with bytes that it has not used: the items that it adds, the newest
+-- first, and the bytes that are left. An end that is dead uses none and keeps none.
+pub data Gets {K : Type 0} (c : Crypto K) (key : K) : List Item → List ℕ → List Item → List ℕ → Type 0 where
+  dead : {h : List Item} (bytes : List ℕ) → has_died h ≡ true → Gets c key h bytes [] []
+  waits : {h : List Item} {rest : List ℕ} → has_died h ≡ false → Waits c key (length (took h)) rest →
+      Gets c key h rest [] rest
+  takes : {h items more : List Item} {bytes rest : List ℕ} (unit after : List ℕ) → has_died h ≡ false →
+      bytes ≡ unit ++ after →
+      Takes c key (length (took h)) unit items → Gets c key (items ++ h) after more rest →
+      Gets c key h bytes (more ++ items) rest
+
+-- What an end with this history, and with bytes that it has not used, does with the ask to send a payload: the items
+-- that it adds, the newest first, the bytes that it puts out, and the bytes that are left.
+pub data Asks {K : Type 0} (c : Crypto K) (key : K) (h : List Item) (rest payload : List ℕ) : List Item → List ℕ →
+    List ℕ → Type 0 where
+  dead : has_died h ≡ true → Asks c key h rest payload [] [] rest
+  too_long : has_died h ≡ false → 34000 < length payload → Asks c key h rest payload (AskRefused 5 ∷ Asked ∷ []) [] rest
+  spent : has_died h ≡ false → length payload ≤ 34000 → length (sent h) ≡ 2 ^ 32 →
+      Asks c key h rest payload (Died ∷ Refused 14 ∷ Asked ∷ []) [] []
+  sends : (bytes : List ℕ) → has_died h ≡ false → length payload ≤ 34000 → length (sent h) < 2 ^ 32 →
+      IsSealed c (Some key) (length (sent h)) payload bytes →
+      Asks c key h rest payload (Sent payload ∷ Asked ∷ []) bytes rest
+
+-- what may happen to the two ends
+pub data Event : Type 0 where
+  Ask : Side → List ℕ → Event
+  Deliver : Side → List ℕ → Event
+
+-- Where a run stands: all that was done, the newest first, the bytes that each end has not used, and the bytes
+-- that each end put out.
+pub record World : Type 0 where
+  pub run : List Done
+  pub client_rest : List ℕ
+  pub server_rest : List ℕ
+  pub client_bytes : List ℕ
+  pub server_bytes : List ℕ
+
+-- the world in which nothing was done
+abbrev pub fresh : World
+fresh = record { run = []; client_rest = []; server_rest = []; client_bytes = []; server_bytes = [] }
+
+-- the world with what one side did, the bytes that it has not used now, and those that it put out
+abbrev pub next_world : World → Side → List Item → List ℕ → List ℕ → World
+next_world w Client items rest bytes =
+    record w { run = all_by Client items ++ w.run; client_rest = rest; client_bytes = w.client_bytes ++ bytes }
+next_world w Server items rest bytes =
+    record w { run = all_by Server items ++ w.run; server_rest = rest; server_bytes = w.server_bytes ++ bytes }
+
+-- the bytes that a side has not used
+abbrev pub rest_of : World → Side → List ℕ
+rest_of w Client = w.client_rest
+rest_of w Server = w.server_rest
+
+-- One event of a run. What comes to a side was sealed under the key of its peer.
+pub data Step {K : Type 0} (c : Crypto K) (keys : Keys K) (w : World) : Event → World → Type 0 where
+  asks : {items : List Item} {bytes rest : List ℕ} (side : Side) (payload : List ℕ) →
+      Asks c (key_of keys side) (part side w.run) (rest_of w side) payload items bytes rest →
+      Step c keys w (Ask side payload) (next_world w side items rest bytes)
+  gets : {items : List Item} {rest : List ℕ} (side : Side) (bytes : List ℕ) →
+      Gets c (key_of keys (peer side)) (part side w.run) (rest_of w side ++ bytes) items rest →
+      Step c keys w (Deliver side bytes) (next_world w side items rest [])
+
+-- A run: events in their order, from one world to another.
+pub data Run {K : Type 0} (c : Crypto K) (keys : Keys K) : World → List Event → World → Type 0 where
+  ends : {w : World} → Run c keys w [] w
+  goes : {w between end : World} {event : Event} {events : List Event} → Step c keys w event between →
+      Run c keys between events end → Run c keys w (event ∷ events) end

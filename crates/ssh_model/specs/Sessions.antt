@@ -1,0 +1,12 @@
+pub mod Epochs
+pub mod Honest
+pub mod Parties
+pub mod Phases
+pub mod Refusals
+pub mod Claims
+pub mod Items
+pub mod Transport
+pub mod Turns
+pub mod Sizes
+pub mod Events
+pub mod TurnClaims

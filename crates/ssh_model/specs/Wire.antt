@@ -1,0 +1,12 @@
+pub mod Reading
+pub mod DataTypes
+pub mod Message
+pub mod Packet
+pub mod Sealing
+pub mod MacOnly
+pub mod MacOnlyLaws
+pub mod Outcome
+pub mod Line
+pub mod Delivery
+pub mod Unit
+pub mod Sizes

@@ -1,0 +1,6 @@
+use Rattle.std.proofs.Common.{◌≡◌}
+use Rattle.std.specs.Prelude.{vec_len, vec_capacity}
+use Rattle.ssh_packet.proofs.reader.zeros.Given as goal
+
+abbrev pub invariant-loop : goal.invariant-loop
+invariant-loop l = (vec_len l.buffer ≡ l.counter) × (vec_capacity l.buffer ≡ 35000)

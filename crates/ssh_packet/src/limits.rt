@@ -1,0 +1,23 @@
+//! The limits of packets and of the lines before them.
+
+/// The bytes of the largest packet, its tag included. Packets of so many have to be taken (RFC 4253 section 6.1), and no
+/// larger one is taken or written here.
+pub const LARGEST_PACKET: usize = 35_000;
+
+/// The bytes of the longest payload that an end sends: whatever the sealing, its packet is none larger than the largest.
+pub const LONGEST_PAYLOAD: usize = 34_000;
+
+/// The bytes of packet_length (RFC 4253 section 6).
+pub const LENGTH_FIELD: usize = 4;
+
+// The most bytes of padding, whose number is one byte (RFC 4253 section 6).
+pub(crate) const MOST_PADDING: usize = 255;
+
+// The most bytes of a tag, as those of hmac-sha2-512 (RFC 6668 section 2).
+pub(crate) const MOST_TAG: usize = 64;
+
+// The bytes of the longest line, CR LF included (RFC 4253 section 4.2).
+pub(crate) const LONGEST_LINE: usize = 255;
+
+// How many other lines a server may send before its version line.
+pub(crate) const MOST_OTHERS: usize = 64;

@@ -1,0 +1,39 @@
+ghost use Rattle.std.specs.Prelude.{◌≡◌, bit_xor, nat_eq, if◌then◌else◌, Some, None, replicate};
+ghost use Rattle.std.specs.Cmp.Lexicographic.{pointwise};
+ghost use Rattle.std.specs.Simd.Lanes.{zip2};
+
+use ssh_kex::Agreement;
+
+/// The public point of a secret is the secret, and what two ends share is the exclusive or of their secrets.
+#[derive(Clone, Copy, Debug, PartialEq, Eq)]
+pub struct ToyAgreement;
+
+impl Agreement for ToyAgreement {
+    ghost public_of = { λ _ secret. secret };
+
+    ghost shared_of = { λ _ secret theirs. if pointwise nat_eq (zip2 bit_xor secret theirs) (replicate 32 0) then None else Some (zip2 bit_xor secret theirs) };
+
+    fn public(&self, secret: &[u8; 32]) -> [u8; 32] {
+        *secret
+    }
+
+    fn shared(&self, secret: &[u8; 32], theirs: &[u8; 32]) -> Option<[u8; 32]> {
+        let shared = exclusive_or(secret, theirs);
+        if shared == [0; 32] {
+            return None;
+        }
+        Some(shared)
+    }
+}
+
+// The exclusive or, byte by byte.
+#[tactic(auto, using(crate::proofs::Sums::all_of))]
+fn exclusive_or(one: &[u8; 32], other: &[u8; 32]) -> [u8; 32]
+    ensures { result ≡ zip2 bit_xor one.now other.now }
+{
+    let mut bytes = [0; 32];
+    for i in 0..32 {
+        bytes[i] = one[i] ^ other[i];
+    }
+    bytes
+}

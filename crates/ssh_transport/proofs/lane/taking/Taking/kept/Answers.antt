@@ -1,5 +1,0 @@
-use Rattle.ssh_transport.proofs.Intakes.{begun_packet}
-use Rattle.ssh_transport.proofs.lane.taking.Taking.kept.Goals as goal
-
-pub returns-clause-begun : goal.returns-clause-begun
-returns-clause-begun g c = λ live. begun_packet (record { same = c.self.view_is; kept = c.self.invariant; live = live })

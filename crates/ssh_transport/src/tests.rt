@@ -1,4 +1,0 @@
-mod config;
-mod kexinit;
-mod lane;
-mod parts;

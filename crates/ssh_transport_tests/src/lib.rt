@@ -1,0 +1,13 @@
+//! Tests of the public calls of `ssh_transport`: settings at both sides of each bound, KEXINITs, parts made of toys, and the
+//! packets of a direction through its epochs.
+#![tactic(auto)]
+
+#[cfg(test)]
+mod config;
+pub mod epochs;
+#[cfg(test)]
+mod kexinit;
+#[cfg(test)]
+mod packets;
+#[cfg(test)]
+mod parts;
