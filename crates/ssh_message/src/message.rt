@@ -1,5 +1,5 @@
 use crate::extensions::Extensions;
-use ssh_types::{NameList, ReadRefusal};
+use ssh_types::{NameList, ReadRefusal, Refusal};
 use thiserror::Error;
 
 /// A message. Its texts are slices of the payload that it was read from, or of whatever its maker has.
@@ -248,5 +248,16 @@ pub struct BadMessage;
 impl From<ReadRefusal> for BadMessage {
     fn from(_refusal: ReadRefusal) -> BadMessage {
         BadMessage
+    }
+}
+
+impl From<BadMessage> for Refusal {
+    ghost use Rattle.std.specs.Prelude.{◌≡◌};
+    ghost use Rattle.ssh_types.specs.declared.refusal.Refusal.TheVariants as refusals;
+
+    ghost from_gives = { λ _ refusal. refusal ≡ refusals.BadMessage };
+
+    fn from(_fault: BadMessage) -> Refusal {
+        Refusal::BadMessage
     }
 }

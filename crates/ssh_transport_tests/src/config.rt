@@ -108,7 +108,7 @@ fn a_config_shows_what_it_was_given(rt: HostRuntime) -> Result<(), Fail> {
 
 #[test]
 fn a_config_shows_its_strictness_and_its_extensions(rt: HostRuntime) -> Result<(), Fail> {
-    let extensions = [
+    let extensions: &[Extension<'_>] = &[
         Extension {
             name: b"server-sig-algs",
             value: b"ssh-ed25519",
@@ -121,7 +121,7 @@ fn a_config_shows_its_strictness_and_its_extensions(rt: HostRuntime) -> Result<(
     let settings = Settings {
         strictness: Strictness::Offer,
         takes_extensions: true,
-        extensions: &extensions,
+        extensions,
         ..good()
     };
     let config = Config::<MacOnly>::new(rt.alloc(), &settings)?;
@@ -503,16 +503,32 @@ fn extensions(rt: HostRuntime) -> Result<(), Fail> {
     Ok(())
 }
 
+// An extension of this name, with an empty value.
+fn empty(name: &[u8]) -> Extension<'_> {
+    Extension { name, value: b"" }
+}
+
 #[test]
 fn at_most_sixteen_extensions(rt: HostRuntime) -> Result<(), Fail> {
-    let mut extensions = [Extension {
-        name: b"a",
-        value: b"",
-    }; 17];
-    let names = b"abcdefghijklmnopq";
-    for (place, extension) in extensions.iter_mut().enumerate() {
-        extension.name = &names[place..place + 1];
-    }
+    let extensions = [
+        empty(b"a"),
+        empty(b"b"),
+        empty(b"c"),
+        empty(b"d"),
+        empty(b"e"),
+        empty(b"f"),
+        empty(b"g"),
+        empty(b"h"),
+        empty(b"i"),
+        empty(b"j"),
+        empty(b"k"),
+        empty(b"l"),
+        empty(b"m"),
+        empty(b"n"),
+        empty(b"o"),
+        empty(b"p"),
+        empty(b"q"),
+    ];
     assert_eq!(rt; extension_fault(rt.alloc(), true, &[]), None);
     assert_eq!(rt; extension_fault(rt.alloc(), false, &[]), None);
     assert_eq!(rt; extension_fault(rt.alloc(), true, &extensions[..16]), None);

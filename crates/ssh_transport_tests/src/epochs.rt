@@ -1,6 +1,6 @@
 //! A NEWKEYS that is taken, with the epoch that begins after it.
 
-ghost use Rattle.std.specs.Prelude.{◌≡◌, ◌<◌, ◌-◌, ◌^◌, None};
+ghost use Rattle.std.specs.Prelude.{◌≡◌, ◌<◌, ◌+◌, ◌-◌, ◌^◌, IsTrue, None};
 
 use ssh_packet::{HmacKey, MacOnly};
 use ssh_transport::{PacketReceiver, PacketStep};
@@ -18,6 +18,8 @@ pub fn take_newkeys(
 ) -> bool
     requires live { receiver.old.ended ≡ None }
     requires epoch { receiver.old.direction.epoch < 2 ^ 32 - 1 }
+    ensures live { IsTrue result → receiver.new.ended ≡ None }
+    ensures epoch { IsTrue result → receiver.new.direction.epoch ≡ receiver.old.direction.epoch + 1 }
 {
     let (_, step) = receiver.take(bytes);
     if step != PacketStep::Payload {

@@ -6,8 +6,12 @@
 mod config;
 pub mod epochs;
 #[cfg(test)]
+mod incoming;
+#[cfg(test)]
 mod kexinit;
 #[cfg(test)]
 mod packets;
 #[cfg(test)]
 mod parts;
+#[cfg(test)]
+mod reading;

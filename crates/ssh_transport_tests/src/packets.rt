@@ -84,9 +84,9 @@ fn numbers_go_on_where_keys_are_not_exchanged_strictly(rt: HostRuntime) -> Resul
     assert_eq!(rt; out.as_slice(), wanted.as_slice());
     let mut receiver = PacketReceiver::<MacOnly>::new(rt.alloc())?;
     assert!(rt; take_newkeys(&mut receiver, &out, HmacKey::new(&[1; 32]), false));
-    let out = &out[16..];
+    let out = out.get(16..).unwrap_or(&[]);
     assert!(rt; take_newkeys(&mut receiver, out, HmacKey::new(&[2; 32]), false));
-    let out = &out[48..];
+    let out = out.get(48..).unwrap_or(&[]);
     assert_eq!(rt; receiver.take(out), (48, PacketStep::Payload));
     assert_eq!(rt; (receiver.number(), receiver.count()), (3, 1));
     Ok(())
