@@ -2,12 +2,13 @@ ghost use Rattle.std.specs.Prelude.{◌≡◌, ◌↔◌, IsTrue};
 ghost use Rattle.std.specs.List.{Contains};
 ghost use Rattle.ssh_model.specs.KeyExchange.Choice.{client_extension_marker, client_marker, server_extension_marker, server_marker};
 ghost use Rattle.ssh_model.specs.KeyExchange.Exchanges.{has_marker};
+ghost use Rattle.ssh_model.specs.Wire.DataTypes.{is_name};
 ghost use Rattle.ssh_model.specs.Sessions.Parties.{extension_marker_of, marker_of};
 ghost use Rattle.ssh_types.specs.Sides.{side_of};
-ghost use Rattle.ssh_types.specs.Values.{names};
+ghost use Rattle.ssh_types.specs.Values.{name_text, names};
 
 use ssh_message::Proposal;
-use ssh_types::{NameList, Side};
+use ssh_types::{Name, NameList, Side};
 
 /// The marker of strict key exchange in the kex list of a client.
 pub(crate) const CLIENT_MARKER: &[u8] = b"kex-strict-c-v00@openssh.com";
@@ -72,24 +73,32 @@ impl<'a> From<Proposal<'a>> for KexLists<'a> {
 
 /// The name by which the end of this side offers strict key exchange, in the kex list of its first KEXINIT (OpenSSH's
 /// PROTOCOL).
-pub fn strict_marker(side: Side) -> &'static [u8]
-    ensures { result.now ≡ marker_of (side_of side) }
+pub fn strict_marker(side: Side) -> Name<'static>
+    ensures { name_text result ≡ marker_of (side_of side) }
 {
     match side {
-        Side::Client => CLIENT_MARKER,
-        Side::Server => SERVER_MARKER,
+        Side::Client => name_of(CLIENT_MARKER),
+        Side::Server => name_of(SERVER_MARKER),
     }
 }
 
 /// The name by which the end of this side says, in the kex list of its first KEXINIT, that it takes extensions (RFC 8308
 /// section 2.1).
-pub fn extension_marker(side: Side) -> &'static [u8]
-    ensures { result.now ≡ extension_marker_of (side_of side) }
+pub fn extension_marker(side: Side) -> Name<'static>
+    ensures { name_text result ≡ extension_marker_of (side_of side) }
 {
     match side {
-        Side::Client => CLIENT_EXTENSION_MARKER,
-        Side::Server => SERVER_EXTENSION_MARKER,
+        Side::Client => name_of(CLIENT_EXTENSION_MARKER),
+        Side::Server => name_of(SERVER_EXTENSION_MARKER),
     }
+}
+
+// The name that a text is.
+fn name_of(text: &'static [u8]) -> Name<'static>
+    requires { IsTrue (is_name text.now) }
+    ensures { name_text result ≡ text.now }
+{
+    Name::new(text).unwrap()
 }
 
 /// Tests whether the kex list has the client's marker of strict key exchange, and whether it has the server's.

@@ -10,7 +10,7 @@ use Rattle.ssh_message.specs.declared.extensions.Extension.{Extension}
 use Rattle.ssh_transport.specs.Checks.{are_distinct}
 use Rattle.ssh_transport.specs.Config.{extension_names, is_same, is_short_value}
 use Rattle.ssh_transport.proofs.Booleans.{both}
-use Rattle.ssh_transport.proofs.Joined.{name_length}
+use Rattle.ssh_model.specs.Laws.Names.{name_facts}
 
 -- ---- no two of one name
 
@@ -42,7 +42,7 @@ all_short [] h k = refl
 all_short (x ∷ xs) h k =
     let p = and_parts (is_name x.name) (list_all is_name (extension_names xs)) h in
     let q = and_parts (is_short_value x) (list_all is_short_value xs) k in
-    let name : length x.name ≤ 64 = name_length x.name p.0 in
+    let name : length x.name ≤ 64 = (name_facts x.name p.0).most in
     let value : length x.value ≤ 1024 = leb-true (length x.value) 1024 q.0 in
     both (is_short x) (list_all is_short xs)
     (both (ltb (length x.name) (2 ^ 32)) (ltb (length x.value) (2 ^ 32)) (lt-ltb (length x.name) (2 ^ 32) (omega (arith, name))) (lt-ltb (length x.value) (2 ^ 32) (omega (arith, value))))

@@ -10,7 +10,6 @@ use Rattle.ssh_model.specs.Wire.Sealing.{Crypto}
 use Rattle.ssh_transport.specs.Config.{AreGood, Given, version_text}
 use Rattle.ssh_transport.specs.Checks.{are_good, comments_in, kept, software_in}
 use Rattle.ssh_transport.proofs.Lists.{good_pass}
-use Rattle.ssh_types.specs.Names.{names_of}
 
 software_kept : (software : List ℕ) (comments : Option (List ℕ)) → software_in (length software) (version_text software comments) ≡ software
 software_kept software comments = take-append_seam software (comment_text comments)
@@ -33,18 +32,18 @@ comments_kept software (Some text) =
     (ap (λ (n : ℕ). drop n line) (sym before) ∙ ap (λ (l : List ℕ). drop (length front) l) parts ∙ drop-append_seam front text)
 
 -- the parts of a config as they are made
-pub record AreMade (g : Given) (line kex host encryption mac methods : List ℕ) (strictness : Strictness) (takes_extensions : Bool) (extensions : List Extension) : Type 0 where
+pub record AreMade (g : Given) (line : List ℕ) (kex host encryption mac methods : List (List ℕ)) (strictness : Strictness) (takes_extensions : Bool) (extensions : List Extension) : Type 0 where
   pub line_is : line ≡ version_text g.software g.comments
-  pub kex_is : names_of kex ≡ g.kex
-  pub host_is : names_of host ≡ g.host
-  pub encryption_is : names_of encryption ≡ g.encryption
-  pub mac_is : names_of mac ≡ g.mac
-  pub methods_is : names_of methods ≡ g.methods
+  pub kex_is : kex ≡ g.kex
+  pub host_is : host ≡ g.host
+  pub encryption_is : encryption ≡ g.encryption
+  pub mac_is : mac ≡ g.mac
+  pub methods_is : methods ≡ g.methods
   pub strictness_is : strictness ≡ g.strictness
   pub takes_extensions_is : takes_extensions ≡ g.takes_extensions
   pub extensions_is : extensions ≡ g.extensions
 
-module _ {g : Given} {line kex host encryption mac methods : List ℕ} {strictness : Strictness} {takes_extensions : Bool} {extensions : List Extension}
+module _ {g : Given} {line : List ℕ} {kex host encryption mac methods : List (List ℕ)} {strictness : Strictness} {takes_extensions : Bool} {extensions : List Extension}
     (made : AreMade g line kex host encryption mac methods strictness takes_extensions extensions) where
   software_is : software_in (length g.software) line ≡ g.software
   software_is = ap (software_in (length g.software)) made.line_is ∙ software_kept g.software g.comments

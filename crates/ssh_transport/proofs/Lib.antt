@@ -2,7 +2,6 @@ pub mod Booleans
 pub mod Receiving
 pub mod Lines
 pub mod Lists
-pub mod Joined
 pub mod Kept
 pub mod Offers
 pub mod Announced

@@ -1,10 +1,12 @@
 -- The tests of lists and limits, and what they tell.
-use Rattle.std.proofs.Common.{◌≡◌, ℕ, Bool, true, false, ◌&&◌, leb, ◌||◌, List, [], ◌∷◌, ◌++◌, length, Some, None, refl, sym, ap, ◌∙◌, inl, inr}
-use Rattle.std.specs.Prelude.{Option, is_none, not, codes}
+use Rattle.std.proofs.Common.{◌≡◌, ◌<◌, ℕ, Bool, true, false, ◌&&◌, leb, ◌||◌, List, [], ◌∷◌, ◌++◌, length, Some, None, refl, sym, ap, ◌∙◌, inl, inr}
+use Rattle.std.specs.Prelude.{Option, is_none, not, codes, get_or, map}
 use Rattle.std.specs.Option.{option_or}
 use Rattle.std.specs.List.{AllByRecursion, IsDistinct, list_all, list_any}
-use Rattle.std.proofs.lemmas.Bool.{and_parts, leb-true, le-leb}
+use Rattle.std.proofs.lemmas.Bool.{and_parts, cases_Bool, leb-true, le-leb}
 use Rattle.ssh_model.specs.Wire.DataTypes.{is_name}
+use Rattle.std.proofs.lemmas.List.Folds.{list_all-map, list_all_at}
+use denote.Ref.{Bor}
 use Rattle.ssh_model.specs.Wire.Message.{Extension}
 use Rattle.ssh_model.specs.Wire.Sealing.{Crypto}
 use Rattle.ssh_transport.specs.declared.config.error.ConfigList.{ConfigList}
@@ -298,3 +300,14 @@ good_pass c g good =
     (both (has_line g.software g.comments) (is_none (lists_fault c g)) (passes_line g (version_text g.software g.comments ++ line_end) good.line) (ap (λ (x : Fault). is_none x) (lists_pass c g good.lists)))
     (both (is_epoch_limit g.epoch_limit) (is_tries g.tries) (epoch_limit_passes g.epoch_limit good.epoch_limit) (tries_pass g.tries good.tries)))
     (ap (λ (x : Option ExtensionFault). is_none x) (extensions_pass g good.extensions))
+
+-- ---- texts that are names
+
+-- each of them is one
+pub each_is_name : (texts : List (Bor (List ℕ))) (i : ℕ) (d : Bor (List ℕ)) → i < length texts → list_all is_name (map (λ name. name.now) texts) ≡ true → is_name (get_or texts i d).now ≡ true
+each_is_name texts i d lt h =
+    let all : list_all (λ (text : Bor (List ℕ)). is_name text.now) texts ≡ true = sym (list_all-map is_name (λ (text : Bor (List ℕ)). text.now) texts) ∙ h in
+    elim (cases_Bool (is_name (get_or texts i d).now)) [
+      | inl t ↦ t
+      | inr f ↦ absurd (let e : true ≡ false = sym all ∙ list_all_at (λ (text : Bor (List ℕ)). is_name text.now) texts i d lt f in cc)
+    ]

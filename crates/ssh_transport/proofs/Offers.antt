@@ -13,7 +13,7 @@ use Rattle.ssh_types.specs.Names.{are_names, names_of}
 use Rattle.ssh_transport.specs.Config.{IsList}
 use Rattle.ssh_transport.specs.Offers.{offer_with, offered_kex}
 use Rattle.ssh_transport.proofs.Booleans.{both}
-use Rattle.ssh_transport.proofs.Joined.{joined_length, names_of_joined, one_more}
+use Rattle.ssh_model.specs.Laws.Names.{joined_length}
 
 -- ---- one name more
 
@@ -25,28 +25,13 @@ pub extension_marker_name : (side : Side) → is_name (extension_marker_of side)
 extension_marker_name Side.Client = refl
 extension_marker_name Side.Server = refl
 
-more_names : (names : List (List ℕ)) (name : List ℕ) → list_all is_name names ≡ true → is_name name ≡ true → list_all is_name (names ++ name ∷ []) ≡ true
-more_names names name h n = list_all-append is_name names (name ∷ []) ∙ both (list_all is_name names) (list_all is_name (name ∷ [])) h (both (is_name name) true n refl)
+pub marked : (wanted : Bool) (list new : List (List ℕ)) (name : List ℕ) → wanted ≡ true → new ≡ list ++ name ∷ [] → new ≡ list ++ (if wanted then name ∷ [] else [])
+marked true list new name w e = e
+marked false list new name w e = absurd cc
 
-more_text : (names : List (List ℕ)) (name text : List ℕ) → 1 ≤ length names → text ≡ join_with_byte 44 names → (text ++ 44 ∷ []) ++ name ≡ join_with_byte 44 (names ++ name ∷ [])
-more_text [] name text some e = absurd (omega arith)
-more_text (first ∷ names) name text some e = ap (λ (l : List ℕ). (l ++ 44 ∷ []) ++ name) e ∙ sym (one_more first names name)
-
--- the text that a name was added to
-pub marked : (names : List (List ℕ)) (name text : List ℕ) → 1 ≤ length names → is_name name ≡ true → IsNameText names text → IsNameText (names ++ name ∷ []) ((text ++ 44 ∷ []) ++ name)
-marked names name text some n t = record {
-  all = more_names names name t.all n;
-  joined = more_text names name text some t.joined;
-}
-
-pub marked_where : (wanted : Bool) (list : List (List ℕ)) (name text new : List ℕ) → wanted ≡ true → is_name name ≡ true → new ≡ (text ++ 44 ∷ []) ++ name → 1 ≤ length list → IsNameText list text →
-    IsNameText (list ++ (if wanted then name ∷ [] else [])) new
-marked_where true list name text new w n e some t = subst (λ (l : List ℕ). IsNameText (list ++ name ∷ []) l) (sym e) (marked list name text some n t)
-marked_where false list name text new w n e some t = absurd cc
-
-pub unmarked_where : (wanted : Bool) (list : List (List ℕ)) (name text : List ℕ) → wanted ≡ false → IsNameText list text → IsNameText (list ++ (if wanted then name ∷ [] else [])) text
-unmarked_where false list name text w t = subst (λ (l : List (List ℕ)). IsNameText l text) (sym (append-nil list)) t
-unmarked_where true list name text w t = absurd cc
+pub unmarked : (wanted : Bool) (list : List (List ℕ)) (name : List ℕ) → wanted ≡ false → list ≡ list ++ (if wanted then name ∷ [] else [])
+unmarked false list name w = sym (append-nil list)
+unmarked true list name w = absurd cc
 
 -- names with both markers, or one of them, or none
 pub behind_names : (kex : List (List ℕ)) (s : Settings) (side : Side) →
@@ -71,25 +56,6 @@ markers_few s side =
 pub offered_few : (s : Settings) (side : Side) (first : Bool) → IsList s.kex → length (offered_kex s side first) ≤ 18
 offered_few s side true list = omega (arith, list.most, length-append s.kex (first_markers s side), markers_few s side)
 offered_few s side false list = omega (arith, list.most)
-
-pub offered_short : (s : Settings) (side : Side) (first : Bool) (text : List ℕ) → IsList s.kex → IsNameText (offered_kex s side first) text → length text ≤ 1170
-offered_short s side first text list t =
-    let few : length (offered_kex s side first) ≤ 18 = offered_few s side first list in
-    let size : length (join_with_byte 44 (offered_kex s side first)) ≤ 65 * length (offered_kex s side first) = joined_length (offered_kex s side first) t.all in
-    let same : length text ≡ length (join_with_byte 44 (offered_kex s side first)) = ap (λ (l : List ℕ). length l) t.joined in
-    omega arith
-
--- ---- a text of names
-
-names_of_text : (names : List (List ℕ)) (text : List ℕ) → IsNameText names text → names_of text ≡ names
-names_of_text names text t = ap names_of t.joined ∙ names_of_joined names t.all
-
-pub text_passes : (names : List (List ℕ)) (text : List ℕ) → IsNameText names text → are_names text ≡ true
-text_passes names text t = ap (λ (l : List (List ℕ)). list_all is_name l) (names_of_text names text t) ∙ t.all
-
--- what a list holds that is made of a view of a text of names
-pub listed_names : (names : List (List ℕ)) (text view : List ℕ) (listed : List (List ℕ)) → IsNameText names text → view ≡ text → listed ≡ names_of view → listed ≡ names
-listed_names names text view listed t v l = l ∙ ap names_of v ∙ names_of_text names text t
 
 list_length : (names : List (List ℕ)) (bytes : List ℕ) → length names ≤ 18 → IsNameList names bytes → length bytes ≤ 1174
 list_length names bytes most list =

@@ -7,7 +7,6 @@ use Rattle.ssh_model.specs.Wire.Line.{is_version_byte, is_text_byte}
 use Rattle.ssh_model.specs.Sessions.Parties.{Strictness}
 use Rattle.ssh_model.specs.Wire.Message.{Extension}
 use Rattle.ssh_model.specs.Wire.Sealing.{Crypto}
-use Rattle.ssh_types.specs.Names.{names_of}
 use Rattle.ssh_transport.specs.Config.{Given, extension_names, is_same, is_short_value, version_text}
 use Rattle.ssh_transport.specs.declared.config.error.ConfigList.{ConfigList}
 use Rattle.ssh_transport.specs.declared.config.error.ConfigList.TheVariants.{Kex, Host, Encryption, Mac, Methods}
@@ -109,7 +108,7 @@ abbrev pub are_good : {K : Type 0} → Crypto K → Given → Bool
 are_good c g =
     ((has_line g.software g.comments && is_none (lists_fault c g)) && (is_epoch_limit g.epoch_limit && is_tries g.tries)) && is_none (extension_fault g.takes_extensions g.extensions)
 
--- ---- what a config keeps: the text of the version line with the length of the software in it, and lists as texts
+-- ---- what a config keeps: the text of the version line with the length of the software in it, and the lists
 
 abbrev pub software_in : ℕ → List ℕ → List ℕ
 software_in n line = take n (drop 8 line)
@@ -117,17 +116,17 @@ software_in n line = take n (drop 8 line)
 abbrev pub comments_in : ℕ → List ℕ → Option (List ℕ)
 comments_in n line = if nat_lt (8 + n) (length line) then Some (drop (9 + n) line) else None
 
-abbrev pub kept : List ℕ → ℕ → List ℕ → List ℕ → List ℕ → List ℕ → ℕ → ℕ → List ℕ → Strictness → Bool → List Extension → Given
+abbrev pub kept : List ℕ → ℕ → (kex host encryption mac : List (List ℕ)) → ℕ → ℕ → (methods : List (List ℕ)) → Strictness → Bool → List Extension → Given
 kept line n kex host encryption mac epoch_limit tries methods strictness takes_extensions extensions = record {
   software = software_in n line;
   comments = comments_in n line;
-  kex = names_of kex;
-  host = names_of host;
-  encryption = names_of encryption;
-  mac = names_of mac;
+  kex = kex;
+  host = host;
+  encryption = encryption;
+  mac = mac;
   epoch_limit = epoch_limit;
   tries = tries;
-  methods = names_of methods;
+  methods = methods;
   strictness = strictness;
   takes_extensions = takes_extensions;
   extensions = extensions;

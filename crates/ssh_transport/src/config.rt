@@ -4,6 +4,7 @@ ghost use Rattle.std.specs.Prelude.{◌≡◌, ◌≤◌, ◌+◌, IsTrue, lengt
 ghost use Rattle.ssh_transport.specs.Config.{version_text};
 ghost use Rattle.ssh_message.specs.Announced.{owned_extensions};
 ghost use Rattle.ssh_transport.specs.Checks.{are_good, comments_in, kept, software_in};
+ghost use Rattle.ssh_types.specs.Values.{owned_names};
 ghost use Rattle.ssh_transport.specs.Values.{strictness_of};
 
 mod checks;
@@ -19,11 +20,11 @@ pub use laws::every_config_is_good;
 pub use settings::Settings;
 use ssh_message::{Extensions, ExtensionsBuf};
 use ssh_packet::Sealing;
-use ssh_types::NameList;
+use ssh_types::{NameList, NameListBuf};
 use std::alloc::{AllocError, Global};
 use std::marker::PhantomData;
 pub use strictness::Strictness;
-use texts::{names_in, names_text, version_line};
+use texts::{names_of, short_list, version_line};
 
 // The bytes of a version line before the software.
 const FRONT: usize = 8;
@@ -31,25 +32,25 @@ const FRONT: usize = 8;
 /// The settings of one end, checked once: what its version line says, which algorithms it offers, and its limits.
 ///
 /// `S` is the sealing of the end. It decides which encryptions go with which MACs, and every config holds such pairs
-/// alone, lists of 1 to 16 names and limits within their bounds (`every_config_is_good`). Each list is kept as one text,
-/// as a KEXINIT has it (RFC 4253 section 7.1).
+/// alone, lists of 1 to 16 names and limits within their bounds (`every_config_is_good`). Each list is kept as a
+/// KEXINIT has it (RFC 4253 section 7.1).
 pub struct Config<S: Sealing> {
     line: Vec<u8>,
     software_len: usize,
-    kex: Vec<u8>,
-    host: Vec<u8>,
-    encryption: Vec<u8>,
-    mac: Vec<u8>,
+    kex: NameListBuf,
+    host: NameListBuf,
+    encryption: NameListBuf,
+    mac: NameListBuf,
     epoch_limit: u32,
     tries: u32,
-    methods: Vec<u8>,
+    methods: NameListBuf,
     strictness: Strictness,
     takes_extensions: bool,
     extensions: ExtensionsBuf,
     sealing: PhantomData<S>,
     ghost line_is: { line.items ≡ version_text (software_in software_len line.items) (comments_in software_len line.items) },
     ghost software_fits: { 8 + software_len ≤ length line.items },
-    ghost good: { IsTrue (are_good S.crypto (kept line.items software_len kex.items host.items encryption.items mac.items epoch_limit tries methods.items (strictness_of strictness) takes_extensions (owned_extensions extensions))) },
+    ghost good: { IsTrue (are_good S.crypto (kept line.items software_len (owned_names kex) (owned_names host) (owned_names encryption) (owned_names mac) epoch_limit tries (owned_names methods) (strictness_of strictness) takes_extensions (owned_extensions extensions))) },
 }
 
 // Written out, since a derive would ask it of the sealing too.
@@ -119,11 +120,11 @@ impl<S: Sealing> Config<S> {
         ensures { IfOk result (λ config. given_of config ≡ given settings.now) }
     {
         let line = version_line(alloc, settings.software, settings.comments)?;
-        let kex = names_text(alloc, settings.kex)?;
-        let host = names_text(alloc, settings.host)?;
-        let encryption = names_text(alloc, settings.encryption)?;
-        let mac = names_text(alloc, settings.mac)?;
-        let methods = names_text(alloc, settings.methods)?;
+        let kex = names_of(alloc, settings.kex)?;
+        let host = names_of(alloc, settings.host)?;
+        let encryption = names_of(alloc, settings.encryption)?;
+        let mac = names_of(alloc, settings.mac)?;
+        let methods = names_of(alloc, settings.methods)?;
         let extensions = ExtensionsBuf::new(alloc, settings.extensions)?;
         Ok(Config {
             line,
@@ -179,7 +180,7 @@ impl<S: Sealing> Config<S> {
         ensures short { length (text_of result) ≤ 1040 }
     {
         every_config_is_good(self);
-        names_in(&self.kex)
+        short_list(&self.kex)
     }
 
     /// The algorithms of host keys, the one liked best first.
@@ -189,7 +190,7 @@ impl<S: Sealing> Config<S> {
         ensures short { length (text_of result) ≤ 1040 }
     {
         every_config_is_good(self);
-        names_in(&self.host)
+        short_list(&self.host)
     }
 
     /// The encryptions of both directions, the one liked best first.
@@ -199,7 +200,7 @@ impl<S: Sealing> Config<S> {
         ensures short { length (text_of result) ≤ 1040 }
     {
         every_config_is_good(self);
-        names_in(&self.encryption)
+        short_list(&self.encryption)
     }
 
     /// The MACs of both directions, the one liked best first.
@@ -209,7 +210,7 @@ impl<S: Sealing> Config<S> {
         ensures short { length (text_of result) ≤ 1040 }
     {
         every_config_is_good(self);
-        names_in(&self.mac)
+        short_list(&self.mac)
     }
 
     /// After so many packets sent under the keys of one exchange the next exchange is due: 64 to 2^31.
@@ -239,7 +240,7 @@ impl<S: Sealing> Config<S> {
         ensures short { length (text_of result) ≤ 1040 }
     {
         every_config_is_good(self);
-        names_in(&self.methods)
+        short_list(&self.methods)
     }
 
     /// Whether keys are exchanged strictly.

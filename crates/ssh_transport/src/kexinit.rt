@@ -1,7 +1,6 @@
 //! What an end offers in a KEXINIT of its own.
 
 ghost use Rattle.std.specs.Prelude.{◌≡◌, ◌<◌, ◌≤◌, ◌+◌, ◌^◌, ◌++◌, ◌∷◌, [], Bool, if◌then◌else◌, IfOk, IsTrue, List, OnErr, OnOk, codes, length, ℕ};
-ghost use Rattle.ssh_model.specs.Wire.DataTypes.{IsNameText, is_name};
 ghost use Rattle.ssh_model.specs.Side as model;
 ghost use Rattle.ssh_model.specs.Wire.Message.{IsWrittenPayload, KexInit};
 ghost use Rattle.ssh_model.specs.Sessions.Parties.{Parties, offer, settings_of as settings_at};
@@ -10,7 +9,7 @@ ghost use Rattle.ssh_message.specs.Meaning.{proposal_meaning};
 ghost use Rattle.ssh_message.specs.Written.{ProposalFits};
 ghost use Rattle.ssh_types.specs.Sides.{side_of};
 ghost use Rattle.ssh_types.specs.Names.{are_names, names_of};
-ghost use Rattle.ssh_types.specs.Values.{names, names_text as text_of};
+ghost use Rattle.ssh_types.specs.Values.{name_text, names, names_text as text_of, owned_names};
 ghost use Rattle.ssh_transport.specs.Meaning.{settings_of};
 ghost use Rattle.ssh_transport.specs.Offers.{offer_of, offer_with, offered_kex};
 
@@ -18,7 +17,7 @@ use crate::config::{Config, every_config_is_good};
 use ssh_kex::{extension_marker, strict_marker};
 use ssh_message::{Message, Proposal, encode};
 use ssh_packet::Sealing;
-use ssh_types::{NameList, Side};
+use ssh_types::{Name, NameList, NameListBuf, Side};
 use std::alloc::{AllocError, Global};
 
 /// What an end of a session offers in a KEXINIT is what its settings say. A fact for proofs, at no cost.
@@ -47,48 +46,37 @@ pub fn put_kexinit<S: Sealing>(
     ensures kept { OnErr result (out.new.items ≡ out.old.items) }
 {
     every_config_is_good(config);
-    let kex = kex_text(alloc, config, side, first)?;
-    put_offer(config, list_in(&kex), cookie, out)
+    let kex = kex_names(alloc, config, side, first)?;
+    put_offer(config, kex.as_list(), cookie, out)
 }
 
-// The kex names joined by commas. In the first KEXINIT the markers stand behind them.
-fn kex_text<S: Sealing>(
+// The names of the kex list. In the first KEXINIT the markers stand last.
+fn kex_names<S: Sealing>(
     alloc: Global,
     config: &Config<S>,
     side: Side,
     first: bool,
-) -> Result<Vec<u8>, AllocError>
-    ensures { IfOk result (λ text. IsNameText (offered_kex (settings_of config.now) (side_of side) first) text.items) }
+) -> Result<NameListBuf, AllocError>
+    ensures { IfOk result (λ list. owned_names list ≡ offered_kex (settings_of config.now) (side_of side) first) }
 {
-    let names = config.kex().as_bytes().to_vec(alloc)?;
+    let names = NameListBuf::copied(alloc, &config.kex())?;
     if !first {
         return Ok(names);
     }
-    let names = appended(names, config.takes_extensions(), extension_marker(side))?;
-    appended(names, config.strictness().is_offered(), strict_marker(side))
+    let names = pushed(names, config.takes_extensions(), extension_marker(side))?;
+    pushed(names, config.strictness().is_offered(), strict_marker(side))
 }
 
-// One name more behind the names of a text, where it is wanted.
-fn appended(mut names: Vec<u8>, wanted: bool, name: &[u8]) -> Result<Vec<u8>, AllocError>
-    requires { IsTrue (is_name name.now) }
-    ensures { IfOk result (λ text. (list : List (List ℕ)) → 1 ≤ length list → IsNameText list names.items → IsNameText (list ++ (if wanted then name.now ∷ [] else [])) text.items) }
+// One name more, where it is wanted.
+#[tactic(auto, using(crate::proofs::Offers::marked, crate::proofs::Offers::unmarked))]
+fn pushed(mut names: NameListBuf, wanted: bool, name: Name<'_>) -> Result<NameListBuf, AllocError>
+    ensures { IfOk result (λ list. owned_names list ≡ owned_names names ++ (if wanted then name_text name.entry ∷ [] else [])) }
 {
     if !wanted {
         return Ok(names);
     }
-    names.push(b',')?;
-    names.extend_from_slice(name)?;
+    names.push(name)?;
     Ok(names)
-}
-
-// The names of a text that has names alone.
-#[tactic(auto, using(crate::proofs::Joined::some_list))]
-fn list_in(text: &[u8]) -> NameList<'_>
-    requires { IsTrue (are_names text.now) }
-    ensures names { names result ≡ names_of text.now }
-    ensures text { text_of result ≡ text.now }
-{
-    NameList::new(text).unwrap()
 }
 
 // Puts the payload of a KEXINIT with these kex names.
@@ -148,4 +136,13 @@ fn no_names() -> NameList<'static>
     ensures short { length (text_of result) ≤ 1040 }
 {
     list_in(b"")
+}
+
+// The names of a text that has names alone.
+fn list_in(text: &'static [u8]) -> NameList<'static>
+    requires { IsTrue (are_names text.now) }
+    ensures names { names result ≡ names_of text.now }
+    ensures text { text_of result ≡ text.now }
+{
+    NameList::new(text).unwrap()
 }

@@ -1,57 +1,33 @@
 -- Names joined by commas are the names between commas.
-use Rattle.std.proofs.Common.{◌≡◌, ℕ, ◌≤◌, true, false, cond, ◌&&◌, leb, eqb, List, [], ◌∷◌, length, ltb, ◌++◌, ◌+◌, take-append-drop, subst, refl, sym, ap, inl, inr, ◌∙◌, arith}
-use Rattle.std.specs.Prelude.{Some, None, take, drop, get_or}
-use Rattle.std.specs.List.{join_with_byte, slice_split, list_all, All, AllByRecursion, count_by, position, position_or_len}
-use Rattle.std.proofs.lemmas.Bool.{and_parts, leb-true, cases_Bool, cond-true, ltb-false}
+use Rattle.std.proofs.Common.{◌≡◌, ℕ, ◌≤◌, Bool, true, false, ◌&&◌, List, [], ◌∷◌, length, ltb, ◌++◌, ◌+◌, ◌*◌, take-append-drop, subst, refl, sym, ap, inl, inr, ◌∙◌, arith}
+use Rattle.std.specs.Prelude.{Result, Ok, Err, OnOk, OnErr, Some, None, take, drop, get_or}
+use Rattle.std.specs.List.{join_with_byte, slice_split, list_all, All, position, position_or_len}
+use Rattle.std.proofs.lemmas.Bool.{and_parts, cases_Bool, cond-true, ltb-false}
 use Rattle.std.proofs.lemmas.Grind.{common_steps}
 use Rattle.std.proofs.lemmas.List.{drop_more}
 use Rattle.std.proofs.lemmas.List.Quantifiers.{position-Some}
 use Rattle.std.proofs.lemmas.List.Sums.{fails_before_first, count_by-le-length}
 use Rattle.std.proofs.lemmas.List.Splits.{slice_split_none, slice_split_at, length-slice_split, join_with_byte-slice_split}
-use Rattle.std.proofs.lemmas.List.Elements.{All-from_recursion}
-use Rattle.ssh_model.specs.Wire.DataTypes.{is_comma, is_name_byte, is_name, IsString, IsNameText, IsNameList}
+use Rattle.std.proofs.lemmas.List.Folds.{list_all-append}
+use Rattle.ssh_model.specs.Wire.DataTypes.{is_comma, is_name, IsString, IsNameText, IsNameList}
 use Rattle.ssh_model.specs.Wire.Reading.{Reads, NoFront, Writes}
-use Rattle.ssh_types.specs.Names.{names_of, are_names}
+use Rattle.ssh_types.specs.Names.{Pushes, names_of, are_names}
 use Rattle.ssh_types.specs.Values.{IsBadNames}
 use Rattle.ssh_model.specs.Wire.Sizes.{names_size}
+use Rattle.ssh_model.specs.Laws.Names.{name_facts, one_more, split_joined, text_length}
 use Rattle.ssh_model.specs.Laws.Spellings.{one_string}
-
-no_comma : (c : ℕ) → is_name_byte c ≡ true → is_comma c ≡ false
-no_comma c h =
-    let p = and_parts (leb 33 c && leb c 126) (cond (is_comma c) false true) h in
-    elim (cases_Bool (is_comma c)) [
-      | inl t ↦ absurd (let e : false ≡ true = sym (cond-true (is_comma c) false true t) ∙ p.1 in cc)
-      | inr f ↦ f
-    ]
-
-no_commas : (name : List ℕ) → list_all is_name_byte name ≡ true → AllByRecursion (λ c. is_comma c ≡ false) name
-no_commas [] h = tt
-no_commas (c ∷ cs) h = let p = and_parts (is_name_byte c) (list_all is_name_byte cs) h in (no_comma c p.0, no_commas cs p.1)
-
--- what a name's test says
-name_facts : (name : List ℕ) → is_name name ≡ true → (1 ≤ length name) × All (λ c. is_comma c ≡ false) name
-name_facts name h =
-    let p = and_parts ((leb 1 (length name) && leb (length name) 64) && list_all is_name_byte name) (leb (count_by (λ c. eqb c 64) name) 1) h in
-    let q = and_parts (leb 1 (length name) && leb (length name) 64) (list_all is_name_byte name) p.0 in
-    let r = and_parts (leb 1 (length name)) (leb (length name) 64) q.0 in
-    (leb-true 1 (length name) r.0, All-from_recursion _ _ (no_commas name q.1))
 
 -- a name and more of them
 first_of_all : (name : List ℕ) (names : List (List ℕ)) → list_all is_name (name ∷ names) ≡ true → (is_name name ≡ true) × (list_all is_name names ≡ true)
 first_of_all name names h = and_parts (is_name name) (list_all is_name names) h
 
--- the names between commas are those that were joined
-split_joined : (name : List ℕ) (names : List (List ℕ)) → list_all is_name (name ∷ names) ≡ true → slice_split is_comma (join_with_byte 44 (name ∷ names)) ≡ name ∷ names
-split_joined name [] h = let p = first_of_all name [] h in slice_split_none is_comma name (name_facts name p.0).1
-split_joined name (next ∷ names) h =
-    let p = first_of_all name (next ∷ names) h in
-    slice_split_at is_comma name 44 (join_with_byte 44 (next ∷ names)) (name_facts name p.0).1 refl
-    ∙ ap (λ (l : List (List ℕ)). name ∷ l) (split_joined next names p.1)
-
 -- What is split at commas is joined by them again.
 pub text_of_names : (text : List ℕ) → are_names text ≡ true → IsNameText (names_of text) text
 text_of_names [] h = record { all = h; joined = refl }
 text_of_names (c ∷ cs) h = record { all = h; joined = sym (join_with_byte-slice_split 44 (c ∷ cs)) }
+
+pub checked_length : (text : List ℕ) → are_names text ≡ true → length text ≤ 65 * length (names_of text)
+checked_length text h = text_length (names_of text) text (text_of_names text h)
 
 starts_empty : (names : List (List ℕ)) (name : List ℕ) → 1 ≤ length name → [] ≡ join_with_byte 44 (name ∷ names) → ⊥
 starts_empty [] name some e = let l = ap length e in omega arith
@@ -67,7 +43,7 @@ pub names_of_text : (names : List (List ℕ)) (text : List ℕ) → IsNameText n
 names_of_text [] text t = ap names_of t.joined
 names_of_text (name ∷ names) text t =
     let p = first_of_all name names t.all in
-    starts names name text (name_facts name p.0).0 t.joined ∙ ap (slice_split is_comma) t.joined ∙ split_joined name names t.all
+    starts names name text (name_facts name p.0).some t.joined ∙ ap (slice_split is_comma) t.joined ∙ split_joined name names t.all
 
 pub no_text : (text : List ℕ) → are_names text ≡ false → (names : List (List ℕ)) → IsNameText names text → ⊥
 no_text text spoilt names t =
@@ -159,3 +135,49 @@ writes_names names text before after t w = record { bytes = w.bytes; meets = rec
 -- the size of names by the text that they are joined to
 pub joined_size : (names : List (List ℕ)) (text : List ℕ) → IsNameText names text → names_size names ≡ 4 + length text
 joined_size names text t = ap (λ (bytes : List ℕ). 4 + length bytes) (sym t.joined)
+
+-- ---- one name more
+
+more_text : (names : List (List ℕ)) (name text : List ℕ) → 1 ≤ length text → IsNameText names text → text ++ (44 ∷ name) ≡ join_with_byte 44 (names ++ name ∷ [])
+more_text [] name text some t = absurd (let l = ap length t.joined in omega arith)
+more_text (first ∷ names) name text some t = ap (λ (l : List ℕ). l ++ (44 ∷ name)) t.joined ∙ sym (one_more first names name)
+
+-- both hold
+both : (a b : Bool) → a ≡ true → b ≡ true → (a && b) ≡ true
+both true true h k = refl
+both true false h k = absurd cc
+both false b h k = absurd cc
+
+all_more : (names : List (List ℕ)) (name : List ℕ) → list_all is_name names ≡ true → is_name name ≡ true → list_all is_name (names ++ name ∷ []) ≡ true
+all_more names name h n =
+    list_all-append is_name names (name ∷ [])
+    ∙ both (list_all is_name names) (list_all is_name (name ∷ [])) h (both (is_name name) true n refl)
+
+-- What a text of names and one name more are: names again, and which.
+pub record IsPushed (old : List (List ℕ)) (name new : List ℕ) : Type 0 where
+  pub all : are_names new ≡ true
+  pub names : names_of new ≡ old ++ name ∷ []
+
+pushed : (names : List (List ℕ)) (name new : List ℕ) → IsNameText (names ++ name ∷ []) new → IsPushed names name new
+pushed names name new t =
+    let which = names_of_text (names ++ name ∷ []) new t in
+    record { all = ap (list_all is_name) which ∙ t.all; names = which }
+
+first_name : (text name new : List ℕ) → text ≡ [] → is_name name ≡ true → new ≡ text ++ name → IsPushed (names_of text) name new
+first_name [] name new none n e = pushed [] name new (record { all = both (is_name name) true n refl; joined = e })
+first_name (c ∷ cs) name new none n e = absurd cc
+
+one_name_more : (text name new : List ℕ) → 1 ≤ length text → are_names text ≡ true → is_name name ≡ true → new ≡ text ++ (44 ∷ name) → IsPushed (names_of text) name new
+one_name_more text name new some h n e =
+    let t = text_of_names text h in
+    pushed (names_of text) name new (record { all = all_more (names_of text) name h n; joined = e ∙ more_text (names_of text) name text some t })
+
+pub pushes_first : {X Y : Type 0} (result : Result X Y) (text name new : List ℕ) → text ≡ [] → is_name name ≡ true →
+    OnOk result (new ≡ text ++ name) → OnErr result (new ≡ text) → Pushes result text name new
+pushes_first (Ok x) text name new none n e k = let p = first_name text name new none n e in record { names = p.all; pushed = p.names }
+pushes_first (Err x) text name new none n e k = record { names = ap are_names (k ∙ none); pushed = tt }
+
+pub pushes_more : {X Y : Type 0} (result : Result X Y) (text name new : List ℕ) → 1 ≤ length text → are_names text ≡ true → is_name name ≡ true →
+    OnOk result (new ≡ text ++ (44 ∷ name)) → OnErr result (new ≡ text) → Pushes result text name new
+pushes_more (Ok x) text name new some h n e k = let p = one_name_more text name new some h n e in record { names = p.all; pushed = p.names }
+pushes_more (Err x) text name new some h n e k = record { names = ap are_names k ∙ h; pushed = tt }

@@ -1,5 +1,5 @@
 -- The names that stand between the commas of a text.
-use Rattle.std.specs.Prelude.{ℕ, Bool, List, [], ◌∷◌}
+use Rattle.std.specs.Prelude.{◌≡◌, ℕ, Bool, true, List, [], ◌∷◌, ◌++◌, Result, OnOk}
 use Rattle.std.specs.List.{slice_split, list_all}
 use Rattle.ssh_model.specs.Wire.DataTypes.{is_comma, is_name}
 
@@ -10,3 +10,8 @@ names_of (c ∷ cs) = slice_split is_comma (c ∷ cs)
 
 abbrev pub are_names : List ℕ → Bool
 are_names text = list_all is_name (names_of text)
+
+-- What became of a text of names to which a name was added, or wasn't.
+pub record Pushes {X Y : Type 0} (result : Result X Y) (text name new : List ℕ) : Type 0 where
+  pub names : are_names new ≡ true
+  pub pushed : OnOk result (names_of new ≡ names_of text ++ name ∷ [])

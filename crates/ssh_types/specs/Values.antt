@@ -5,6 +5,7 @@ use Rattle.ssh_types.specs.declared.name.Name.{Name}
 use Rattle.ssh_types.specs.declared.name_buf.NameBuf.{NameBuf}
 use Rattle.ssh_types.specs.declared.name_list.NameList.{NameList}
 use Rattle.ssh_types.specs.declared.name_list.Names.{Names}
+use Rattle.ssh_types.specs.declared.name_list_buf.NameListBuf.{NameListBuf}
 use Rattle.ssh_types.specs.declared.read_refusal.ReadRefusal.{ReadRefusal}
 use Rattle.ssh_types.specs.declared.read_refusal.ReadRefusal.TheVariants.{Short, BadNames, NotCanonical, LeftOver}
 use Rattle.ssh_model.specs.Wire.DataTypes.{integer, IsString, IsShortest, IsNameText}
@@ -35,6 +36,10 @@ names_text list = list.text.now
 -- the names of a list, in order
 abbrev pub names : NameList → List (List ℕ)
 names list = names_of list.text.now
+
+-- the names of a list that owns its text, in order
+abbrev pub owned_names : NameListBuf → List (List ℕ)
+owned_names list = names_of list.text.items
 
 -- the names that are still to come
 abbrev pub names_left : Names → List (List ℕ)

@@ -12,7 +12,7 @@ pub struct Name<'a> {
 }
 
 impl<'a> Name<'a> {
-    ghost use Rattle.std.specs.Prelude.{◌≡◌, IfSome, IfNone, false};
+    ghost use Rattle.std.specs.Prelude.{◌≡◌, IfSome, IfNone, false, is_some};
     ghost use Rattle.ssh_types.specs.Values.{name_text};
 
     /// The name that the bytes are, or `None` where they are no name.
@@ -20,6 +20,7 @@ impl<'a> Name<'a> {
         ensures found { IfSome result (λ name. name_text name ≡ bytes.now) }
         ensures name { IfSome result (λ _. IsTrue (passes_name bytes.now)) }
         ensures none { IfNone result (passes_name bytes.now ≡ false) }
+        ensures there { is_some result ≡ passes_name bytes.now }
     {
         if !is_name(bytes) {
             return None;

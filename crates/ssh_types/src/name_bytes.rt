@@ -1,9 +1,11 @@
 // Which bytes are a name, and which are names joined by commas.
 
-ghost use Rattle.std.specs.Prelude.{◌≡◌, ◌==◌, [], ◌∷◌, IfSome, IfNone, count_by};
+ghost use Rattle.std.specs.Prelude.{◌≡◌, ◌==◌, ◌≤◌, ◌++◌, [], ◌∷◌, IfSome, IfNone, IsTrue, OnErr, OnOk, count_by, length};
 ghost use Rattle.std.specs.List.{list_all, position, slice_split};
 ghost use Rattle.ssh_model.specs.Wire.DataTypes.{is_comma, is_name as passes_name, is_name_byte};
-ghost use Rattle.ssh_types.specs.Names.{are_names as passes_names};
+ghost use Rattle.ssh_types.specs.Names.{Pushes, are_names as passes_names};
+
+use std::alloc::AllocError;
 
 // The bytes are a name.
 pub(crate) fn is_name(bytes: &[u8]) -> bool
@@ -54,4 +56,62 @@ fn first_comma(text: &[u8]) -> Option<usize>
     ensures { result ≡ position is_comma text.now }
 {
     text.iter().position(|c| *c == b',')
+}
+
+// Puts a name behind the names of a text.
+pub(crate) fn push_name(text: &mut Vec<u8>, name: &[u8]) -> Result<(), AllocError>
+    requires names { IsTrue (passes_names text.old.items) }
+    requires name { IsTrue (passes_name name.now) }
+    ensures pushed { Pushes result text.old.items name.now text.new.items }
+    ensures kept { OnErr result (text.new.items ≡ text.old.items) }
+{
+    if text.is_empty() {
+        return push_first(text, name);
+    }
+    push_behind(text, name)
+}
+
+// Puts a name into an empty text.
+#[tactic(auto, using(crate::proofs::Joined::pushes_first))]
+fn push_first(text: &mut Vec<u8>, name: &[u8]) -> Result<(), AllocError>
+    requires none { text.old.items ≡ [] }
+    requires name { IsTrue (passes_name name.now) }
+    ensures pushed { Pushes result text.old.items name.now text.new.items }
+    ensures kept { OnErr result (text.new.items ≡ text.old.items) }
+{
+    put(text, name)
+}
+
+// Puts bytes behind a text.
+fn put(text: &mut Vec<u8>, bytes: &[u8]) -> Result<(), AllocError>
+    ensures put { OnOk result (text.new.items ≡ text.old.items ++ bytes.now) }
+    ensures kept { OnErr result (text.new.items ≡ text.old.items) }
+{
+    text.extend_from_slice(bytes)
+}
+
+// Puts a comma and a name behind a text.
+#[tactic(auto, using(crate::proofs::Joined::pushes_more))]
+fn push_behind(text: &mut Vec<u8>, name: &[u8]) -> Result<(), AllocError>
+    requires some { 1 ≤ length text.old.items }
+    requires names { IsTrue (passes_names text.old.items) }
+    requires name { IsTrue (passes_name name.now) }
+    ensures pushed { Pushes result text.old.items name.now text.new.items }
+    ensures kept { OnErr result (text.new.items ≡ text.old.items) }
+{
+    put_behind(text, name)
+}
+
+// Puts a comma and bytes behind a text.
+fn put_behind(text: &mut Vec<u8>, bytes: &[u8]) -> Result<(), AllocError>
+    ensures put { OnOk result (text.new.items ≡ text.old.items ++ (44 ∷ bytes.now)) }
+    ensures kept { OnErr result (text.new.items ≡ text.old.items) }
+{
+    let start = text.len();
+    text.push(b',')?;
+    if let Err(error) = text.extend_from_slice(bytes) {
+        text.truncate(start);
+        return Err(error);
+    }
+    Ok(())
 }

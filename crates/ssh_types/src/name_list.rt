@@ -18,7 +18,7 @@ pub struct Names<'a> {
 }
 
 impl<'a> NameList<'a> {
-    ghost use Rattle.std.specs.Prelude.{◌≡◌, ◌↔◌, ℕ, ◌<◌, ◌^◌, length, List, [], ◌∷◌, IfSome, IfNone};
+    ghost use Rattle.std.specs.Prelude.{◌≡◌, ◌↔◌, ℕ, ◌<◌, ◌^◌, length, List, [], ◌∷◌, IfSome, IfNone, is_some};
     ghost use Rattle.std.specs.List.{slice_get, Contains};
     ghost use Rattle.std.specs.Option.{option_map};
     ghost use Rattle.ssh_model.specs.Wire.DataTypes.{IsNameText};
@@ -30,11 +30,28 @@ impl<'a> NameList<'a> {
         ensures found { IfSome result (λ list. IsNameText (names list) text.now) }
         ensures text { IfSome result (λ list. names_text list ≡ text.now) }
         ensures none { IfNone result ((list : List (List ℕ)) → IsNameText list text.now → ⊥) }
+        ensures there { is_some result ≡ passes_names text.now }
     {
         if !are_names(text) {
             return None;
         }
         Some(NameList { text })
+    }
+
+    // The list that a checked text is.
+    pub(crate) fn of_checked(text: &'a [u8]) -> NameList<'a>
+        requires { IsTrue (passes_names text.now) }
+        ensures { names_text result ≡ text.now }
+    {
+        NameList { text }
+    }
+
+    // The names joined by commas.
+    pub(crate) fn text(&self) -> &'a [u8]
+        ensures text { result.now ≡ names_text self.now }
+        ensures names { IsTrue (passes_names result.now) }
+    {
+        self.text
     }
 
     /// The names joined by commas.
@@ -43,7 +60,7 @@ impl<'a> NameList<'a> {
         ensures text { result.now ≡ names_text self.now }
         ensures names { IsNameText (names self.now) result.now }
     {
-        self.text
+        self.text()
     }
 
     /// Tests whether the list has no names.

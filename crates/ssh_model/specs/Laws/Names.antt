@@ -1,6 +1,6 @@
 -- A text of names joined by commas is that of one list of names.
-use Rattle.std.proofs.Common.{◌≡◌, ℕ, ◌≤◌, true, false, ◌&&◌, leb, eqb, List, [], ◌∷◌, length, refl, sym, ap, inl, inr}
-use Rattle.std.proofs.Common.{◌∙◌, arith}
+use Rattle.std.proofs.Common.{◌≡◌, ℕ, ◌≤◌, ◌+◌, ◌*◌, true, false, ◌&&◌, leb, eqb, List, [], ◌∷◌, ◌++◌, length, refl, sym, ap}
+use Rattle.std.proofs.Common.{◌∙◌, arith, inl, inr, append_assoc, length-append}
 use Rattle.std.specs.List.{join_with_byte, slice_split, list_all, All, count_by}
 use Rattle.std.proofs.lemmas.Bool.{and_parts, leb-true, cases_Bool, cond-true}
 use Rattle.std.proofs.lemmas.List.Sums.{AllPass-from_list_all}
@@ -15,23 +15,32 @@ no_comma c h =
       | inr f ↦ f
     ]
 
--- a name has a byte and no comma
-name_facts : (name : List ℕ) → is_name name ≡ true → (1 ≤ length name) × All (λ c. is_comma c ≡ false) name
+-- a name has 1 to 64 bytes, and no comma
+pub record NameFacts (name : List ℕ) : Type 0 where
+  pub some : 1 ≤ length name
+  pub most : length name ≤ 64
+  pub plain : All (λ c. is_comma c ≡ false) name
+
+pub name_facts : (name : List ℕ) → is_name name ≡ true → NameFacts name
 name_facts name h =
     let p = and_parts ((leb 1 (length name) && leb (length name) 64)
     && list_all is_name_byte name) (leb (count_by (λ c. eqb c 64) name) 1) h in
     let q = and_parts (leb 1 (length name) && leb (length name) 64) (list_all is_name_byte name) p.0 in
     let r = and_parts (leb 1 (length name)) (leb (length name) 64) q.0 in
-    (leb-true 1 (length name) r.0, λ k d lt. no_comma _ (AllPass-from_list_all is_name_byte name q.1 k d lt))
+    record {
+      some = leb-true 1 (length name) r.0;
+      most = leb-true (length name) 64 r.1;
+      plain = λ k d lt. no_comma _ (AllPass-from_list_all is_name_byte name q.1 k d lt);
+    }
 
 -- the names between commas are those that were joined
 pub split_joined : (name : List ℕ) (names : List (List ℕ)) → list_all is_name (name ∷ names) ≡ true →
     slice_split is_comma (join_with_byte 44 (name ∷ names)) ≡ name ∷ names
-split_joined name [] h = slice_split_none is_comma name (name_facts name (and_parts (is_name name) true h).0).1
+split_joined name [] h = slice_split_none is_comma name (name_facts name (and_parts (is_name name) true h).0).plain
 split_joined name (next ∷ names) h =
     let p = and_parts (is_name name) (list_all is_name (next ∷ names)) h in
     slice_split_at is_comma name 44 (join_with_byte 44 (next
-    ∷ names)) (name_facts name p.0).1 refl ∙ ap (λ (l : List (List ℕ)). name ∷ l) (split_joined next names p.1)
+    ∷ names)) (name_facts name p.0).plain refl ∙ ap (λ (l : List (List ℕ)). name ∷ l) (split_joined next names p.1)
 
 -- no text of a name is empty
 not_empty : (names : List (List ℕ)) (name : List ℕ) → 1 ≤ length name → [] ≡ join_with_byte 44 (name ∷ names) → ⊥
@@ -44,10 +53,39 @@ pub one_text : (names others : List (List ℕ)) (text : List ℕ) → IsNameText
 one_text [] [] text t u = refl
 one_text [] (name ∷ names) text t u =
     let good = and_parts (is_name name) (list_all is_name names) u.all in
-    absurd (not_empty names name (name_facts name good.0).0 (sym t.joined ∙ u.joined))
+    absurd (not_empty names name (name_facts name good.0).some (sym t.joined ∙ u.joined))
 one_text (name ∷ names) [] text t u =
     let good = and_parts (is_name name) (list_all is_name names) t.all in
-    absurd (not_empty names name (name_facts name good.0).0 (sym u.joined ∙ t.joined))
+    absurd (not_empty names name (name_facts name good.0).some (sym u.joined ∙ t.joined))
 one_text (name ∷ names) (other ∷ others) text t u =
     let same = ap (slice_split is_comma) (sym t.joined ∙ u.joined) in
     sym (split_joined name names t.all) ∙ same ∙ split_joined other others u.all
+
+-- A name and a comma have at most 65 bytes.
+pub joined_length : (names : List (List ℕ)) → list_all is_name names ≡ true →
+    length (join_with_byte 44 names) ≤ 65 * length names
+joined_length [] h = omega arith
+joined_length (name ∷ []) h =
+    let p = and_parts (is_name name) true h in
+    let most : length name ≤ 64 = (name_facts name p.0).most in
+    omega arith
+joined_length (name ∷ next ∷ names) h =
+    let p = and_parts (is_name name) (list_all is_name (next ∷ names)) h in
+    let most : length name ≤ 64 = (name_facts name p.0).most in
+    let rest : length (join_with_byte 44 (next ∷ names)) ≤ 65 * length (next ∷ names) =
+    joined_length (next ∷ names) p.1 in
+    omega (arith, length-append name (44 ∷ join_with_byte 44 (next ∷ names)))
+
+pub text_length : (names : List (List ℕ)) (text : List ℕ) → IsNameText names text → length text ≤ 65 * length names
+text_length names text t =
+    let joined : length (join_with_byte 44 names) ≤ 65 * length names = joined_length names t.all in
+    let same : length text ≡ length (join_with_byte 44 names) = ap (λ (l : List ℕ). length l) t.joined in
+    omega arith
+
+-- one name more stands behind a comma
+pub one_more : (first : List ℕ) (names : List (List ℕ)) (name : List ℕ) →
+    join_with_byte 44 (first ∷ (names ++ name ∷ [])) ≡ join_with_byte 44 (first ∷ names) ++ (44 ∷ name)
+one_more first [] name = refl
+one_more first (next ∷ names) name =
+    ap (λ (l : List ℕ). first ++ (44 ∷ l)) (one_more next names name)
+    ∙ sym (append_assoc first (44 ∷ join_with_byte 44 (next ∷ names)) (44 ∷ name))

@@ -1,5 +1,6 @@
 use Rattle.std.proofs.Common.{map, refl}
 use Rattle.ssh_message.specs.Announced.{extension_of, owned_extensions}
+use Rattle.ssh_types.specs.Values.{owned_names}
 use Rattle.ssh_transport.specs.Config.{Given}
 use Rattle.ssh_transport.specs.Values.{given}
 use Rattle.ssh_transport.proofs.Announced.{all_short}
@@ -12,7 +13,7 @@ new-requires-clause-short g c = all_short (map extension_of c.args.settings.now.
 pub invariant_of-result : goal.invariant_of-result
 invariant_of-result g c =
     let settings : Given = given c.args.settings.now in
-    let made : AreMade settings c.in_ok-line.line.items c.in_ok-kex.kex.items c.in_ok-host.host.items c.in_ok-encryption.encryption.items c.in_ok-mac.mac.items c.in_ok-methods.methods.items settings.strictness settings.takes_extensions (owned_extensions c.in_ok-extensions.extensions) = record {
+    let made : AreMade settings c.in_ok-line.line.items (owned_names c.in_ok-kex.kex) (owned_names c.in_ok-host.host) (owned_names c.in_ok-encryption.encryption) (owned_names c.in_ok-mac.mac) (owned_names c.in_ok-methods.methods) settings.strictness settings.takes_extensions (owned_extensions c.in_ok-extensions.extensions) = record {
       line_is = c.in_ok-line.ensures;
       kex_is = c.in_ok-kex.ensures;
       host_is = c.in_ok-host.ensures;
@@ -32,7 +33,7 @@ invariant_of-result g c =
 pub returns : goal.returns
 returns g c =
     let settings : Given = given c.args.settings.now in
-    let made : AreMade settings c.in_ok-line.line.items c.in_ok-kex.kex.items c.in_ok-host.host.items c.in_ok-encryption.encryption.items c.in_ok-mac.mac.items c.in_ok-methods.methods.items settings.strictness settings.takes_extensions (owned_extensions c.in_ok-extensions.extensions) = record {
+    let made : AreMade settings c.in_ok-line.line.items (owned_names c.in_ok-kex.kex) (owned_names c.in_ok-host.host) (owned_names c.in_ok-encryption.encryption) (owned_names c.in_ok-mac.mac) (owned_names c.in_ok-methods.methods) settings.strictness settings.takes_extensions (owned_extensions c.in_ok-extensions.extensions) = record {
       line_is = c.in_ok-line.ensures;
       kex_is = c.in_ok-kex.ensures;
       host_is = c.in_ok-host.ensures;
