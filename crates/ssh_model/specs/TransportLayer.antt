@@ -1,0 +1,4 @@
+pub mod Directions
+pub mod Kept
+pub mod View
+pub mod Summary

@@ -1,0 +1,73 @@
+//! Laws of what a transport keeps (RFC 4253): over it a message and an ask are what they are in a session. A layer is
+//! proved against what it keeps alone, and these laws make of it what is said of histories.
+
+ghost use Rattle.std.specs.Prelude.{◌≡◌, ◌<◌, ℕ, Bool, List, [], ◌∷◌, Option, None, true, false};
+ghost use Rattle.ssh_model.specs.Side.{Side, Side.Client, Side.Server};
+ghost use Rattle.ssh_model.specs.Wire.Message.{Msg, Msg.KexInit, Msg.UserauthSuccess};
+ghost use Rattle.ssh_model.specs.KeyExchange.Choice.{Chosen};
+ghost use Rattle.ssh_model.specs.Sessions.Refusals.{first_refusal};
+ghost use Rattle.ssh_model.specs.Sessions.Transport.{transport_ask_checks};
+ghost use Rattle.ssh_model.specs.Sessions.Turns.{answer_checks, can_feed};
+ghost use Rattle.ssh_model.specs.Sessions.Parties.{Parties, agreement_of, offer, settings_of};
+ghost use Rattle.ssh_model.specs.Sessions.Items.{Ask, Item, Item.Fed, Item.SentLine, Item.Sent, Item.Took, Item.TookLine, Item.TookOtherLine, Payload, Payload.NewkeysOf, Payload.OtherOf};
+ghost use Rattle.ssh_model.specs.Sessions.Epochs.{epoch};
+ghost use Rattle.ssh_model.specs.Sessions.Phases.{has_line, may_take};
+ghost use Rattle.ssh_model.specs.TransportLayer.Directions as directions;
+ghost use Rattle.ssh_model.specs.TransportLayer.Directions.{Direction, counted, new_direction, renewed};
+ghost use Rattle.ssh_model.specs.TransportLayer.Kept.{Transport, new_transport, after_sent, after_taken, after_line, after_other_line, after_success, is_fed, message_ask_checks, message_checks, takes};
+ghost use Rattle.ssh_model.specs.TransportLayer.Summary.{SumsUp, IsAwaited, IsPlain, IsTransportMessage, LeavesTransport};
+
+/// A direction sums up the payloads that went through it, the newest first: its number is that of the next packet (RFC
+/// 4253 section 6.4, and OpenSSH's strict key exchange), its count is of those after the last NEWKEYS, and its epoch of
+/// the NEWKEYS. It does so before the first payload, after each, and after a NEWKEYS once the next epoch has begun.
+/// Before the first NEWKEYS it is the same whether keys are exchanged strictly or not.
+#[tactic(auto, using(crate::proofs::TransportLayer::Steps::none_summed, crate::proofs::TransportLayer::Steps::other_summed, crate::proofs::TransportLayer::Steps::newkeys_summed, crate::proofs::TransportLayer::Steps::either_way))]
+pub fn directions<K>()
+    ensures none { (strict : Bool) → directions.SumsUp strict [] (new_direction {K = K}) }
+    ensures other { (strict : Bool) (l : List Payload) (direction : Direction K) (bytes : List ℕ) → directions.SumsUp strict l direction → directions.SumsUp strict (OtherOf bytes ∷ l) (counted direction) }
+    ensures newkeys { (strict : Bool) (l : List Payload) (direction : Direction K) (key : K) (bytes : List ℕ) → directions.SumsUp strict l direction → directions.SumsUp strict (NewkeysOf bytes ∷ l) (renewed strict key (counted direction)) }
+    ensures first_epoch { (strict other : Bool) (l : List Payload) (direction : Direction K) → epoch l ≡ 0 → directions.SumsUp strict l direction → directions.SumsUp other l direction }
+{}
+
+/// What a new transport keeps sums up the history of its opening.
+#[tactic(auto, using(crate::proofs::TransportLayer::Items::opened))]
+pub fn new_transports<K>()
+    ensures { (p : Parties K) (side : Side) (cookie secret payload : List ℕ) → SumsUp p side (Sent None (KexInit (offer p side true cookie)) payload ∷ SentLine (settings_of p side).line ∷ Fed cookie secret ∷ []) (new_transport (settings_of p side) side secret payload) }
+{}
+
+/// What is kept goes on summing up the history with each line of the peer.
+#[tactic(auto, using(crate::proofs::TransportLayer::Items::line_taken, crate::proofs::TransportLayer::Items::other_line_taken))]
+pub fn lines<K>()
+    ensures version { (p : Parties K) (side : Side) (history : List Item) (s : Transport K) (line : List ℕ) → SumsUp p side history s → SumsUp p side (TookLine line ∷ history) (after_line line s) }
+    ensures other { (p : Parties K) (side : Side) (history : List Item) (s : Transport K) (line : List ℕ) → has_line history ≡ false → SumsUp p side history s → SumsUp p side (TookOtherLine line ∷ history) (after_other_line s) }
+{}
+
+/// What is kept goes on summing up the history with the items of other layers: of what is asked and told it keeps nothing,
+/// of a message that is sent or taken that a packet went, and of USERAUTH_SUCCESS that the user is authenticated.
+#[tactic(auto, using(crate::proofs::TransportLayer::Items::left, crate::proofs::TransportLayer::Items::plain_sent, crate::proofs::TransportLayer::Items::plain_taken, crate::proofs::TransportLayer::Items::success_sent, crate::proofs::TransportLayer::Items::success_taken))]
+pub fn items_of_other_layers<K>()
+    ensures left { (p : Parties K) (side : Side) (history : List Item) (s : Transport K) (item : Item) → LeavesTransport item → SumsUp p side history s → SumsUp p side (item ∷ history) s }
+    ensures sent { (p : Parties K) (side : Side) (history : List Item) (s : Transport K) (channel : Option ℕ) (message : Msg) (payload : List ℕ) → IsPlain message → SumsUp p side history s → SumsUp p side (Sent channel message payload ∷ history) (after_sent s) }
+    ensures taken { (p : Parties K) (side : Side) (history : List Item) (s : Transport K) (channel : Option ℕ) (message : Msg) (payload : List ℕ) → IsPlain message → SumsUp p side history s → SumsUp p side (Took channel message payload ∷ history) (after_taken s) }
+    ensures success_sent { (p : Parties K) (history : List Item) (s : Transport K) (channel : Option ℕ) (payload : List ℕ) → SumsUp p Server history s → SumsUp p Server (Sent channel UserauthSuccess payload ∷ history) (after_success (after_sent s)) }
+    ensures success_taken { (p : Parties K) (history : List Item) (s : Transport K) (channel : Option ℕ) (payload : List ℕ) → SumsUp p Client history s → SumsUp p Client (Took channel UserauthSuccess payload ∷ history) (after_success (after_taken s)) }
+{}
+
+/// What is kept takes the numbers below 50 that a session takes.
+#[tactic(auto, using(crate::proofs::TransportLayer::Numbers::numbers_are))]
+pub fn numbers<K>()
+    ensures { (p : Parties K) (side : Side) (history : List Item) (s : Transport K) → SumsUp p side history s → s.dead ≡ false → (number : ℕ) → number < 50 → may_take p side history number ≡ takes s number }
+{}
+
+/// What is kept refuses a message as a session does: an exchange's point and reply where they are awaited.
+#[tactic(auto, using(crate::proofs::TransportLayer::Checks::messages_same))]
+pub fn checks<K>()
+    ensures { (p : Parties K) (side : Side) (history : List Item) (s : Transport K) → SumsUp p side history s → s.dead ≡ false → (message : Msg) (c : Chosen) → IsTransportMessage message → IsAwaited s c message → first_refusal (answer_checks p side history message) ≡ first_refusal (message_checks (agreement_of p side) p.trusts c s message) }
+{}
+
+/// What is kept refuses an ask as a session does, and is fed where a session is.
+#[tactic(auto, using(crate::proofs::TransportLayer::Checks::asks_same, crate::proofs::TransportLayer::Checks::feeds_same))]
+pub fn ask_checks<K>()
+    ensures asks { (p : Parties K) (side : Side) (history : List Item) (s : Transport K) → SumsUp p side history s → s.dead ≡ false → (ask : Ask) → first_refusal (transport_ask_checks p side history ask) ≡ first_refusal (message_ask_checks s ask) }
+    ensures feeds { (p : Parties K) (side : Side) (history : List Item) (s : Transport K) → SumsUp p side history s → can_feed history ≡ is_fed s }
+{}
