@@ -4,3 +4,6 @@ pub mod Items
 pub mod Numbers
 pub mod Underway
 pub mod Checks
+pub mod Kexinits
+pub mod Completing
+pub mod Rows

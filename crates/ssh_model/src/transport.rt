@@ -1,7 +1,7 @@
 //! Laws of what a transport keeps (RFC 4253): over it a message and an ask are what they are in a session. A layer is
 //! proved against what it keeps alone, and these laws make of it what is said of histories.
 
-ghost use Rattle.std.specs.Prelude.{◌≡◌, ◌<◌, ℕ, Bool, List, [], ◌∷◌, Option, None, true, false};
+ghost use Rattle.std.specs.Prelude.{◌≡◌, ◌<◌, ◌+◌, ℕ, Bool, List, [], ◌∷◌, Option, None, true, false};
 ghost use Rattle.ssh_model.specs.Side.{Side, Side.Client, Side.Server};
 ghost use Rattle.ssh_model.specs.Wire.Message.{Msg, Msg.KexInit, Msg.UserauthSuccess};
 ghost use Rattle.ssh_model.specs.KeyExchange.Choice.{Chosen};
@@ -9,13 +9,13 @@ ghost use Rattle.ssh_model.specs.Sessions.Refusals.{first_refusal};
 ghost use Rattle.ssh_model.specs.Sessions.Transport.{transport_ask_checks};
 ghost use Rattle.ssh_model.specs.Sessions.Turns.{answer_checks, can_feed};
 ghost use Rattle.ssh_model.specs.Sessions.Parties.{Parties, agreement_of, offer, settings_of};
-ghost use Rattle.ssh_model.specs.Sessions.Items.{Ask, Item, Item.Fed, Item.SentLine, Item.Sent, Item.Took, Item.TookLine, Item.TookOtherLine, Payload, Payload.NewkeysOf, Payload.OtherOf};
+ghost use Rattle.ssh_model.specs.Sessions.Items.{Ask, Item, Item.Fed, Item.SentLine, Item.Sent, Item.Took, Item.TookLine, Item.TookGuess, Item.TookOtherLine, Spelled, Payload, Payload.NewkeysOf, Payload.OtherOf};
 ghost use Rattle.ssh_model.specs.Sessions.Epochs.{epoch};
-ghost use Rattle.ssh_model.specs.Sessions.Phases.{has_line, may_take};
+ghost use Rattle.ssh_model.specs.Sessions.Phases.{Phase.Guessed, has_line, may_take};
 ghost use Rattle.ssh_model.specs.TransportLayer.Directions as directions;
 ghost use Rattle.ssh_model.specs.TransportLayer.Directions.{Direction, counted, new_direction, renewed};
-ghost use Rattle.ssh_model.specs.TransportLayer.Kept.{Transport, new_transport, after_sent, after_taken, after_line, after_other_line, after_success, is_fed, message_ask_checks, message_checks, takes};
-ghost use Rattle.ssh_model.specs.TransportLayer.Summary.{SumsUp, IsAwaited, IsPlain, IsTransportMessage, LeavesTransport};
+ghost use Rattle.ssh_model.specs.TransportLayer.Kept.{Answered, Asks, Completes, Takes, Transport, new_transport, after_sent, after_taken, after_line, after_other_line, after_success, after_fed, after_guess, is_fed, message_ask_checks, message_checks, takes};
+ghost use Rattle.ssh_model.specs.TransportLayer.Summary.{Accepts, Allows, Ends, SumsUp, parts_of, IsAwaited, IsPlain, IsTransportMessage, LeavesTransport};
 
 /// A direction sums up the payloads that went through it, the newest first: its number is that of the next packet (RFC
 /// 4253 section 6.4, and OpenSSH's strict key exchange), its count is of those after the last NEWKEYS, and its epoch of
@@ -70,4 +70,33 @@ pub fn checks<K>()
 pub fn ask_checks<K>()
     ensures asks { (p : Parties K) (side : Side) (history : List Item) (s : Transport K) → SumsUp p side history s → s.dead ≡ false → (ask : Ask) → first_refusal (transport_ask_checks p side history ask) ≡ first_refusal (message_ask_checks s ask) }
     ensures feeds { (p : Parties K) (side : Side) (history : List Item) (s : Transport K) → SumsUp p side history s → can_feed history ≡ is_fed s }
+{}
+
+/// Where nothing is refused, a message that ends no exchange is answered as in a session, and what is then kept sums up the
+/// history with the message and its answer.
+#[tactic(auto, using(crate::proofs::TransportLayer::Rows::accepted))]
+pub fn messages<K>()
+    ensures { (p : Parties K) (side : Side) (history : List Item) (s : Transport K) → SumsUp p side history s → s.dead ≡ false → (payload : List ℕ) (message : Msg) (answered : Answered) (new : Transport K) → Takes (agreement_of p side) s payload message answered new → Accepts p side history message payload answered new }
+{}
+
+/// The message that ends an exchange is answered, up to NEWKEYS and what is announced behind it, as in a session, and what
+/// is then kept sums up the history so far. The replies that the layers above owe come next, and then what is told: with
+/// these the answer is one of a session.
+#[tactic(auto, using(crate::proofs::TransportLayer::Rows::ended))]
+pub fn exchanges<K>()
+    ensures { (p : Parties K) (side : Side) (history : List Item) (s : Transport K) → SumsUp p side history s → s.dead ≡ false → (chosen : Chosen) (payload : List ℕ) (message : Msg) (sent : List Spelled) (new : Transport K) → Completes p.crypto (parts_of p side) chosen s message sent new → Ends p side history message payload sent (s.sending.epoch + 1) new }
+{}
+
+/// What is sent on an ask that nothing refuses is what a session sends, and what is then kept sums up the history with it.
+#[tactic(auto, using(crate::proofs::TransportLayer::Rows::allowed))]
+pub fn asks<K>()
+    ensures { (p : Parties K) (side : Side) (history : List Item) (s : Transport K) → SumsUp p side history s → s.dead ≡ false → (ask : Ask) (message : Msg) (payload : List ℕ) (new : Transport K) → Asks s ask message payload new → Allows p side history ask message payload new }
+{}
+
+/// What is kept goes on summing up the history with the packet after a wrong guess, and with a pair of cookie and secret
+/// that is fed where none is kept.
+#[tactic(auto, using(crate::proofs::TransportLayer::Rows::guess_taken, crate::proofs::TransportLayer::Rows::pair_fed))]
+pub fn guesses_and_material<K>()
+    ensures guess { (p : Parties K) (side : Side) (history : List Item) (s : Transport K) (payload : List ℕ) → s.phase ≡ Guessed → SumsUp p side history s → SumsUp p side (TookGuess payload ∷ history) (after_guess s) }
+    ensures fed { (p : Parties K) (side : Side) (history : List Item) (s : Transport K) (cookie secret : List ℕ) → s.material ≡ None → SumsUp p side history s → SumsUp p side (Fed cookie secret ∷ history) (after_fed cookie secret s) }
 {}

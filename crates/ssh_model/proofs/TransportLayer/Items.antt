@@ -71,7 +71,7 @@ module _ {K : Type 0} (p : Parties K) where
     accepted_is = refl;
     authenticated_is = refl;
     material = record { material_is = refl; fed_is = refl; least = omega arith; most = omega arith };
-    counts = record { own_count = refl; their_count = refl; epochs = refl; exchange_count = refl; choice_count = refl; blocked_first = λ z. refl; blocked_then = λ z. refl };
+    counts = record { own_count = refl; opened = omega arith; their_count = refl; epochs = refl; exchange_count = refl; choice_count = refl; blocked_first = λ z. refl; blocked_then = λ z. refl };
     underway = record {
       own_is = λ z. refl;
       own_offer_is = λ z. record { first = true; cookie = cookie; offer_is = refl };

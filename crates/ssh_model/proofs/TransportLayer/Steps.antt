@@ -162,3 +162,47 @@ module _ {K : Type 0} (p : Parties K) (side : Side) (v : View) (s : Transport K)
     underway = a.underway;
     points = a.points;
   }
+
+  pub requested_live : Live p side (record v { requested = true }) (record s { requested = true })
+  requested_live = record {
+    side_is = a.side_is;
+    settings_are = a.settings_are;
+    own_line = a.own_line;
+    lines = a.lines;
+    sending = a.sending;
+    taking = a.taking;
+    keys = a.keys;
+    phase_is = a.phase_is;
+    blocked_is = a.blocked_is;
+    firsts = a.firsts;
+    session_is = a.session_is;
+    requested_is = refl;
+    accepted_is = a.accepted_is;
+    authenticated_is = a.authenticated_is;
+    material = a.material;
+    counts = a.counts;
+    underway = a.underway;
+    points = a.points;
+  }
+
+  pub accepted_live : Live p side (record v { accepted = true }) (record s { accepted = true })
+  accepted_live = record {
+    side_is = a.side_is;
+    settings_are = a.settings_are;
+    own_line = a.own_line;
+    lines = a.lines;
+    sending = a.sending;
+    taking = a.taking;
+    keys = a.keys;
+    phase_is = a.phase_is;
+    blocked_is = a.blocked_is;
+    firsts = a.firsts;
+    session_is = a.session_is;
+    requested_is = a.requested_is;
+    accepted_is = refl;
+    authenticated_is = a.authenticated_is;
+    material = a.material;
+    counts = a.counts;
+    underway = a.underway;
+    points = a.points;
+  }

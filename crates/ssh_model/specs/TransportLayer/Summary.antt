@@ -6,12 +6,13 @@ use Rattle.ssh_model.specs.Wire.Sealing.{Crypto}
 use Rattle.ssh_model.specs.KeyExchange.Choice.{Chosen}
 use Rattle.ssh_model.specs.KeyExchange.Exchange.{Inputs}
 use Rattle.ssh_model.specs.KeyExchange.Exchanges.{Material, Offer, Reply, nth, no_material, no_offer, has_marker, session_id}
-use Rattle.ssh_model.specs.Sessions.Parties.{Parties, Settings, settings_of, point_by, marker_of, extension_marker_of, offer_of}
-use Rattle.ssh_model.specs.Sessions.Items.{Fact, Item, Item.Sent, Item.Told, Item.Asked, Item.AskRefused, Spelled, Spelled.SpelledBy, has_died}
+use Rattle.ssh_model.specs.Sessions.Parties.{Parties, Settings, agreement_of, settings_of, point_by, marker_of, extension_marker_of, offer_of}
+use Rattle.ssh_model.specs.Sessions.Items.{Ask, Fact, Fact.Completed, Item, Item.Sent, Item.Took, Item.Told, Item.Asked, Item.AskRefused, Spelled, Spelled.SpelledBy, has_died}
 use Rattle.ssh_model.specs.Sessions.Epochs.{epoch}
 use Rattle.ssh_model.specs.Sessions.Phases.{Phase, Phase.Start, Phase.Guessed, Phase.Exchanging, Phase.Keying}
+use Rattle.ssh_model.specs.Sessions.Transport.{TransportAnswer, CompletingAnswer, TransportAsk}
 use Rattle.ssh_model.specs.TransportLayer.Directions.{SumsUp as DirectionSumsUp}
-use Rattle.ssh_model.specs.TransportLayer.Kept.{Lines, Underway, Transport, IsChosen, first_kex}
+use Rattle.ssh_model.specs.TransportLayer.Kept.{Answered, ExchangeParts, Lines, Underway, Transport, IsChosen, first_kex}
 use Rattle.ssh_model.specs.TransportLayer.View.{View, view, key_from}
 
 -- ---- the parts of the summary. Each speaks of values that a history gives, so that it stays where they stay.
@@ -75,6 +76,7 @@ pub record MaterialSumsUp (used : ℕ) (pairs : List Material) (material : Optio
 -- in the exchange under way.
 pub record Counts (gone come : ℕ) (phase : Phase) (blocked : Bool) (own theirs exchanges choices : ℕ) : Type 0 where
   pub own_count : own ≡ gone + bit blocked
+  pub opened : 1 ≤ own
   pub their_count : theirs ≡ gone + bit (is_agreeing phase)
   pub epochs : gone ≡ come + bit (is_keying phase)
   pub exchange_count : exchanges ≡ gone
@@ -196,3 +198,37 @@ abbrev pub IsAwaited : {K : Type 0} → Transport K → Chosen → Msg → Type 
 IsAwaited s c (KexEcdhInit q_c) = IsInitAwaited s
 IsAwaited s c (KexEcdhReply k_s q_s signature) = IsReplyAwaited s c
 IsAwaited s c _ = Unit {0}
+
+-- the items of messages that are sent
+abbrev pub items_sent : List Spelled → List Item
+items_sent [] = []
+items_sent (SpelledBy message payload ∷ l) = Sent None message payload ∷ items_sent l
+
+-- a fact that is told after other items
+abbrev pub told_over : Option Fact → List Item → List Item
+told_over None items = items
+told_over (Some fact) items = Told fact ∷ items
+
+-- the items of an answer
+abbrev pub answer_items : Answered → List Item
+answer_items answered = told_over answered.fact (items_sent answered.sent)
+
+-- What is answered to a message is what a session answers, and what is kept sums up the history with it.
+pub record Accepts {K : Type 0} (p : Parties K) (side : Side) (history : List Item) (message : Msg) (payload : List ℕ) (answered : Answered) (new : Transport K) : Type 0 where
+  pub answer : TransportAnswer p side history message (answer_items answered)
+  pub sums : SumsUp p side (answer_items answered ++ (Took None message payload ∷ history)) new
+
+-- The message ends an exchange. Up to what is announced, it does what a session does, whatever is owed behind it; what is
+-- kept sums up the history so far.
+pub record Ends {K : Type 0} (p : Parties K) (side : Side) (history : List Item) (message : Msg) (payload : List ℕ) (sent : List Spelled) (position : ℕ) (new : Transport K) : Type 0 where
+  pub answer : (owed : List Item) → CompletingAnswer p owed side history message (Told (Completed position) ∷ (owed ++ items_sent sent))
+  pub sums : SumsUp p side (items_sent sent ++ (Took None message payload ∷ history)) new
+
+-- What is sent on an ask is what a session sends, and what is kept sums up the history with it.
+pub record Allows {K : Type 0} (p : Parties K) (side : Side) (history : List Item) (ask : Ask) (message : Msg) (payload : List ℕ) (new : Transport K) : Type 0 where
+  pub row : TransportAsk p side history ask (Sent None message payload ∷ [])
+  pub sums : SumsUp p side (Sent None message payload ∷ Asked ask ∷ history) new
+
+-- the handed-in parts of the end of this side that go into an exchange
+abbrev pub parts_of : {K : Type 0} → Parties K → Side → ExchangeParts
+parts_of p side = record { agreement = agreement_of p side; host_key = p.host_key; host_signature = p.host_signature }
