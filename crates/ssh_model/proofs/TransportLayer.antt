@@ -7,3 +7,7 @@ pub mod Checks
 pub mod Kexinits
 pub mod Completing
 pub mod Rows
+pub mod Packets
+pub mod Turning
+pub mod Ending
+pub mod Units

@@ -70,7 +70,7 @@ reply_same p h s a c k_s q_s signature agreeing is =
     λ i. RefusedWhere (not (length q_s == 32 && is_some (shared_by p Client (secret i) q_s))) BadPoint
     ∷ RefusedWhere (not (p.trusts (same i).host k_s (exchange_hash (x i)) signature)) BadHost ∷ []
 
-none_more : {Why : Type 0} (checks : List (Check Why)) → first_refusal (checks ++ []) ≡ first_refusal checks
+pub none_more : {Why : Type 0} (checks : List (Check Why)) → first_refusal (checks ++ []) ≡ first_refusal checks
 none_more [] = refl
 none_more (RefusedWhere holds why ∷ checks) = ap (λ (r : Option _). cond holds (Some why) r) (none_more checks)
 

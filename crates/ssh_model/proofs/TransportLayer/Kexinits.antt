@@ -102,6 +102,13 @@ module _ {K : Type 0} (p : Parties K) (side : Side) (v : View) (s : Transport K)
   here : (s.taking.epoch == 0) ≡ (epoch v.took == 0)
   here = ap (λ (n : ℕ). n == 0) a.taking.epoch_is
 
+  pub sending_after : SumsUp (has_marker (marker_of side) (first_kex (settings_of p side) side) && has_marker (marker_of (peer side)) (nth no_offer 0 (record { proposal = theirs; payload = payload } ∷ v.their_offers)).proposal.kex) v.sent s.sending
+  unfolding theirs_offer
+  sending_after =
+      let t = s.taking.epoch == 0 in
+      let w : first_is t = which t (sym here) in
+      subst (λ (b : Bool). SumsUp b v.sent s.sending) (strict_settled t w) (sending_settled t w (becomes_strict s theirs))
+
   -- with the points that there are then
   pub kexinit_live : v.blocked ≡ true → IsPayload false (KexInit theirs) payload → (points : List (List ℕ)) →
       PointsSumUp p side (epoch v.sent) (cond (is_wrong_guess theirs (own_offer (settings_of p side) side)) Guessed Exchanging) points v.their_points v.own_replies v.their_replies s.underway.secret →

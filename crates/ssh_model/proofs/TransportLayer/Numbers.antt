@@ -1,17 +1,17 @@
 -- Which numbers below 50 an end takes, by what its transport keeps.
-use Rattle.std.proofs.Common.{◌≡◌, ℕ, ◌<◌, ◌≤◌, List, refl, ap, sym, ◌∙◌, arith, Bool, true, false, not, ◌&&◌, ◌||◌, ◌==◌, eqb-true, nat_le, is_some}
+use Rattle.std.proofs.Common.{◌≡◌, ℕ, zero, suc, ◌<◌, ◌≤◌, List, refl, ap, sym, ◌∙◌, arith, Bool, true, false, not, ◌&&◌, ◌||◌, ◌==◌, eqb-true, nat_le, nat_lt, is_some}
 use Rattle.std.proofs.lemmas.Bool.{lt-leb}
 use Rattle.ssh_model.specs.Side.{Side, Side.Client, Side.Server, peer}
 use Rattle.ssh_model.specs.KeyExchange.Exchanges.{has_marker, first_taken, is_strict}
 use Rattle.ssh_model.specs.Sessions.Parties.{Parties, Settings, is_required, settings_of, marker_of, extension_marker_of}
 use Rattle.ssh_model.specs.Sessions.Items.{Item, took}
 use Rattle.ssh_model.specs.Sessions.Epochs.{epoch, count}
-use Rattle.ssh_model.specs.Sessions.Phases.{Phase, Phase.Start, Phase.Guessed, Phase.Exchanging, Phase.Keying, Phase.Normal, phase, may_take, may_take_in, may_take_service, may_take_extensions, is_allowed_at_first, is_allowed_during_exchange, awaited, is_general, is_connection, is_spare, authenticated, took_service_request, sent_service_accept, sent_service_request, took_service_accept, took_success, outstanding, probing}
+use Rattle.ssh_model.specs.Sessions.Phases.{Phase, Phase.Start, Phase.Guessed, Phase.Exchanging, Phase.Keying, Phase.Normal, phase, may_take, may_take_in, may_take_service, may_take_extensions, is_allowed_at_first, is_allowed_during_exchange, awaited, is_general, is_normal, is_connection, is_spare, authenticated, took_service_request, sent_service_accept, sent_service_request, took_service_accept, took_success, outstanding, probing}
 use Rattle.ssh_model.specs.TransportLayer.Kept.{Transport, takes, takes_in, takes_service, takes_announced, first_kex}
 use Rattle.ssh_model.specs.TransportLayer.Summary.{Live, SumsUp}
 use Rattle.ssh_model.specs.TransportLayer.View.{view, service_requested}
 
-not_number : (n k : ℕ) → (n ≡ k → ⊥) → (n == k) ≡ false
+pub not_number : (n k : ℕ) → (n ≡ k → ⊥) → (n == k) ≡ false
 not_number n k d = go (n == k) refl
   where
     go : (b : Bool) → (n == k) ≡ b → b ≡ false
@@ -71,3 +71,44 @@ module _ {K : Type 0} (p : Parties K) (side : Side) (h : List Item) (s : Transpo
 
 pub numbers_are : {K : Type 0} (p : Parties K) (side : Side) (h : List Item) (s : Transport K) → SumsUp p side h s → s.dead ≡ false → (n : ℕ) → n < 50 → may_take p side h n ≡ takes s n
 numbers_are p side h s a alive n below = numbers_same p side h s (a.live alive) n below
+
+-- ---- numbers from 50 on come in no exchange
+
+general_off : (n : ℕ) → 50 ≤ n → is_general n ≡ false
+general_off n l = go (nat_le 1 n) (nat_le n 4) (lt-leb n 4 (omega (arith, l)))
+  where
+    go : (b c : Bool) → c ≡ false → (b && c) ≡ false
+    go true c e = e
+    go false c e = refl
+
+at_first_off : (strict : Bool) (n : ℕ) → 50 ≤ n → is_allowed_at_first strict n ≡ false
+at_first_off true n l = not_number n 1 (λ e. omega (arith, e, l))
+at_first_off false n l = general_off n l
+
+or_off : (b c : Bool) → b ≡ false → c ≡ false → (b || c) ≡ false
+or_off b c e f = rw (e, f) refl
+
+during_off : (strict : Bool) (e n : ℕ) → 50 ≤ n → is_allowed_during_exchange strict e n ≡ false
+during_off strict zero n l = at_first_off strict n l
+during_off strict (suc e) n l = or_off (is_general n) _ (general_off n l) (and_off (nat_lt n 30) _ (none_below n l))
+  where
+    none_below : (m : ℕ) → 50 ≤ m → nat_lt m 30 ≡ false
+    none_below m k = grind (arith, k)
+
+awaited_off : (side : Side) (n : ℕ) → 50 ≤ n → (n == awaited side) ≡ false
+awaited_off Client n l = not_number n 31 (λ e. omega (arith, e, l))
+awaited_off Server n l = not_number n 30 (λ e. omega (arith, e, l))
+
+above_in : (q : Phase) (required : Bool) (side : Side) (h : List Item) (n : ℕ) → 50 ≤ n → is_normal q ≡ false → may_take_in q required side h n ≡ false
+above_in Start required side h n l e = or_off _ _ (at_first_off required n l) (not_number n 20 (λ f. omega (arith, f, l)))
+above_in Guessed required side h n l e = go (nat_le 30 n) (nat_le n 49) (lt-leb n 49 (omega (arith, l)))
+  where
+    go : (b c : Bool) → c ≡ false → (b && c) ≡ false
+    go true c f = f
+    go false c f = refl
+above_in Exchanging required side h n l e = or_off _ _ (during_off (is_strict side h) (epoch (took h)) n l) (awaited_off side n l)
+above_in Keying required side h n l e = or_off _ _ (during_off (is_strict side h) (epoch (took h)) n l) (not_number n 21 (λ f. omega (arith, f, l)))
+above_in Normal required side h n l e = absurd (cc e)
+
+pub above_in_exchange : {K : Type 0} (p : Parties K) (side : Side) (h : List Item) (n : ℕ) → 50 ≤ n → is_normal (phase p side h) ≡ false → may_take p side h n ≡ false
+above_in_exchange p side h n l e = above_in (phase p side h) (is_required (settings_of p side).strictness) side h n l e

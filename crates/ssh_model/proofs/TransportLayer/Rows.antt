@@ -16,7 +16,7 @@ use Rattle.ssh_model.specs.Sessions.Transport as row
 use Rattle.ssh_model.specs.TransportLayer.Directions.{SumsUp as DirectionSumsUp, Direction, counted, renewed}
 use Rattle.ssh_model.specs.TransportLayer.Kept.{Answered, Announces, Asks, Completes, IsChosen, Takes, Transport, after_completion, after_fed, after_guess, after_kexinit, after_own_kexinit, after_sent, after_taken, inputs_with, is_announcing, is_between, own_offer, own_point, server_inputs, server_reply, tells, sends}
 use Rattle.ssh_model.specs.TransportLayer.Kept as kept
-use Rattle.ssh_model.specs.TransportLayer.Summary.{Accepts, Allows, Ends, Live, SumsUp, ClientPoints, answer_items, bit, is_agreeing, parts_of}
+use Rattle.ssh_model.specs.TransportLayer.Summary.{Accepts, Allows, Ends, Live, SumsUp, ClientPoints, answer_items, items_sent, bit, is_agreeing, parts_of}
 use Rattle.ssh_model.specs.TransportLayer.View.{View, view}
 use Rattle.ssh_model.proofs.TransportLayer.Completing.{completed_live, newkeys_live}
 use Rattle.ssh_model.proofs.TransportLayer.Items as items
@@ -30,7 +30,7 @@ use Rattle.ssh_model.proofs.TransportLayer.Underway.{choice_is, client_exchange,
 small : (n : ℕ) → n < 2 ^ 32 → n % 2 ^ 32 ≡ n
 small n l = omega (arith, l)
 
-number_by : {K : Type 0} (strict : Bool) (l : List Payload) (d : Direction K) → DirectionSumsUp strict l d → d.count < 2 ^ 32 → d.number ≡ wire_number strict l
+pub number_by : {K : Type 0} (strict : Bool) (l : List Payload) (d : Direction K) → DirectionSumsUp strict l d → d.count < 2 ^ 32 → d.number ≡ wire_number strict l
 number_by true l d s few = s.number_is ∙ small (count l) (omega (arith, s.count_is, few))
 number_by false l d s few = s.number_is ∙ mod-mod (length l) (2 ^ 32)
 
@@ -369,18 +369,27 @@ module _ {K : Type 0} (p : Parties K) where
         }
 
   module _ (h : List Item) (s : Transport K) (alive : s.dead ≡ false) (c : Chosen) where
-    pub ends_row : (side : Side) (sums : SumsUp p side h s) (payload : List ℕ) (m : Msg) (l : List Spelled) (new : Transport K) → Completes p.crypto (parts_of p side) c s m l new → Ends p side h m payload l (s.sending.epoch + 1) new
-    ends_row Client sums payload m l new (kept.Completes.reply k_s q_s signature newkeys e here is x) = client_ends h s sums alive c here is k_s q_s signature payload newkeys _ new x
-    ends_row Server sums payload m l new (kept.Completes.init q_c reply newkeys e here is x) = server_ends h s sums alive c here is q_c payload reply newkeys _ new x
-    ends_row Client sums payload m l new (kept.Completes.init q_c reply newkeys e here is x) = absurd (cc (e, (sums.live alive).side_is))
-    ends_row Server sums payload m l new (kept.Completes.reply k_s q_s signature newkeys e here is x) = absurd (cc (e, (sums.live alive).side_is))
+    pub ends_row : (side : Side) (sums : SumsUp p side h s) (payload : List ℕ) (m : Msg) (last announced : List Spelled) (completed new : Transport K) → Completes p.crypto (parts_of p side) c s m last announced completed new →
+        Ends p side h m payload (announced ++ last) (s.sending.epoch + 1) new
+    ends_row Client sums payload m l l2 mid new (kept.Completes.reply k_s q_s signature newkeys e here is x) = client_ends h s sums alive c here is k_s q_s signature payload newkeys l2 new x
+    ends_row Server sums payload m l l2 mid new (kept.Completes.init q_c reply newkeys e here is x) = server_ends h s sums alive c here is q_c payload reply newkeys l2 new x
+    ends_row Client sums payload m l l2 mid new (kept.Completes.init q_c reply newkeys e here is x) = absurd (cc (e, (sums.live alive).side_is))
+    ends_row Server sums payload m l l2 mid new (kept.Completes.reply k_s q_s signature newkeys e here is x) = absurd (cc (e, (sums.live alive).side_is))
+
+    -- what is kept right after NEWKEYS
+    pub completes_row : (side : Side) (sums : SumsUp p side h s) (payload : List ℕ) (m : Msg) (last announced : List Spelled) (completed new : Transport K) → Completes p.crypto (parts_of p side) c s m last announced completed new →
+        SumsUp p side (items_sent last ++ (Took None m payload ∷ h)) completed
+    completes_row Client sums payload m l l2 mid new (kept.Completes.reply k_s q_s signature newkeys e here is x) = client_completed h s sums alive c here is k_s q_s signature payload newkeys
+    completes_row Server sums payload m l l2 mid new (kept.Completes.init q_c reply newkeys e here is x) = server_completed h s sums alive c here is q_c payload reply newkeys
+    completes_row Client sums payload m l l2 mid new (kept.Completes.init q_c reply newkeys e here is x) = absurd (cc (e, (sums.live alive).side_is))
+    completes_row Server sums payload m l l2 mid new (kept.Completes.reply k_s q_s signature newkeys e here is x) = absurd (cc (e, (sums.live alive).side_is))
 
 -- ---- the laws
 
 pub accepted : {K : Type 0} (p : Parties K) (side : Side) (h : List Item) (s : Transport K) → SumsUp p side h s → s.dead ≡ false → (payload : List ℕ) (m : Msg) (answered : Answered) (new : Transport K) → Takes (agreement_of p side) s payload m answered new → Accepts p side h m payload answered new
 accepted p side h s sums alive = takes_row p h s alive side sums
 
-pub ended : {K : Type 0} (p : Parties K) (side : Side) (h : List Item) (s : Transport K) → SumsUp p side h s → s.dead ≡ false → (c : Chosen) (payload : List ℕ) (m : Msg) (l : List Spelled) (new : Transport K) → Completes p.crypto (parts_of p side) c s m l new → Ends p side h m payload l (s.sending.epoch + 1) new
+pub ended : {K : Type 0} (p : Parties K) (side : Side) (h : List Item) (s : Transport K) → SumsUp p side h s → s.dead ≡ false → (c : Chosen) (payload : List ℕ) (m : Msg) (last announced : List Spelled) (completed new : Transport K) → Completes p.crypto (parts_of p side) c s m last announced completed new → Ends p side h m payload (announced ++ last) (s.sending.epoch + 1) new
 ended p side h s sums alive c = ends_row p h s alive c side sums
 
 pub allowed : {K : Type 0} (p : Parties K) (side : Side) (h : List Item) (s : Transport K) → SumsUp p side h s → s.dead ≡ false → (ask : Ask) (m : Msg) (payload : List ℕ) (new : Transport K) → Asks s ask m payload new → Allows p side h ask m payload new

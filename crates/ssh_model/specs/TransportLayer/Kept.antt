@@ -362,17 +362,20 @@ server_reply parts c s q_c =
     KexEcdhReply (take 4096 (parts.host_key c.host)) (own_point parts.agreement s)
     (take 4096 (parts.host_signature c.host (exchange_hash (server_inputs parts c s q_c))))
 
--- What the message that ends an exchange makes of what is kept, and what is sent with it, the newest first: up to NEWKEYS
--- and what is announced behind it. What the layers above owe, and what is told, comes after it.
-pub data Completes {K : Type 0} (crypto : Crypto K) (parts : ExchangeParts) (c : Chosen) (s : Transport K) : Msg → List Spelled → Transport K → Type 0 where
+-- What the message that ends an exchange makes of what is kept: the messages up to NEWKEYS, what is announced behind it,
+-- and what is kept right after NEWKEYS and in the end. Messages stand the newest first. What the layers above owe, and what
+-- is told, comes after these.
+pub data Completes {K : Type 0} (crypto : Crypto K) (parts : ExchangeParts) (c : Chosen) (s : Transport K) : Msg → (last announced : List Spelled) → (completed new : Transport K) → Type 0 where
   -- RFC 5656 section 4: the server right after its reply
   init : {announced : List Spelled} {new : Transport K} (q_c reply newkeys : List ℕ) → s.side ≡ Server → s.phase ≡ Exchanging → IsChosen s c →
       Announces s (after_completion crypto (server_inputs parts c s q_c) c (after_sent (after_taken s))) announced new →
-      Completes crypto parts c s (KexEcdhInit q_c) (announced ++ (SpelledBy NewKeys newkeys ∷ SpelledBy (server_reply parts c s q_c) reply ∷ [])) new
+      Completes crypto parts c s (KexEcdhInit q_c) (SpelledBy NewKeys newkeys ∷ SpelledBy (server_reply parts c s q_c) reply ∷ []) announced
+      (after_completion crypto (server_inputs parts c s q_c) c (after_sent (after_taken s))) new
   -- the client right after it trusted the host
   reply : {announced : List Spelled} {new : Transport K} (k_s q_s signature newkeys : List ℕ) → s.side ≡ Client → s.phase ≡ Exchanging → IsChosen s c →
       Announces s (after_completion crypto (inputs_with Client parts.agreement s k_s q_s) c (after_taken s)) announced new →
-      Completes crypto parts c s (KexEcdhReply k_s q_s signature) (announced ++ (SpelledBy NewKeys newkeys ∷ [])) new
+      Completes crypto parts c s (KexEcdhReply k_s q_s signature) (SpelledBy NewKeys newkeys ∷ []) announced
+      (after_completion crypto (inputs_with Client parts.agreement s k_s q_s) c (after_taken s)) new
 
 -- ---- asks
 
