@@ -8,3 +8,4 @@ pub mod Channels
 pub mod Sessions
 pub mod Example
 pub mod Laws
+pub mod TransportLayer

@@ -16,6 +16,7 @@ pub mod parts;
 pub mod session;
 mod stream;
 pub mod strictness;
+pub mod transport;
 mod turn;
 pub mod userauth;
 

@@ -146,10 +146,10 @@ pub record BothOffer {K : Type 0} (p : Parties K) : Type 0 where
   pub client : is_offered p.client.strictness ≡ true
   pub server : is_offered p.server.strictness ≡ true
 
--- What an end offers in a KEXINIT (RFC 4253 section 7.1). Its markers stand last in the first one and in no later one.
-abbrev pub offer : {K : Type 0} → Parties K → Side → (first : Bool) → (cookie : List ℕ) → Proposal
-offer p side first cookie =
-    let s = settings_of p side in
+-- What an end of these settings offers in a KEXINIT (RFC 4253 section 7.1). Its markers stand last in the first one and in
+-- no later one.
+abbrev pub offer_of : Settings → Side → (first : Bool) → (cookie : List ℕ) → Proposal
+offer_of s side first cookie =
     let uncompressed : List (List ℕ) = codes "none" ∷ [] in
     record {
       cookie = cookie;
@@ -165,6 +165,10 @@ offer p side first cookie =
       lang_sc = [];
       follows = false;
     }
+
+-- what the end of this side offers
+abbrev pub offer : {K : Type 0} → Parties K → Side → (first : Bool) → (cookie : List ℕ) → Proposal
+offer p side first cookie = offer_of (settings_of p side) side first cookie
 
 -- the lists of a proposal from which algorithms are chosen
 abbrev pub lists_of : Proposal → Lists

@@ -1,0 +1,13 @@
+pub mod Views
+pub mod Steps
+pub mod Items
+pub mod Numbers
+pub mod Underway
+pub mod Checks
+pub mod Kexinits
+pub mod Completing
+pub mod Rows
+pub mod Packets
+pub mod Turning
+pub mod Ending
+pub mod Units
