@@ -1,0 +1,4 @@
+pub mod Names
+pub mod Asks
+pub mod Clients
+pub mod Servers
