@@ -2,3 +2,4 @@ pub mod Names
 pub mod Asks
 pub mod Clients
 pub mod Servers
+pub mod Sessions

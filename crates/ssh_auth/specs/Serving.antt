@@ -1,5 +1,5 @@
 -- What a server of authentication keeps, and what it makes of a message (RFC 4252).
-use Rattle.std.specs.Prelude.{◌≡◌, ℕ, ◌<◌, ◌+◌, ◌^◌, Bool, true, false, not, Some, None, List, ◌∷◌, length, codes}
+use Rattle.std.specs.Prelude.{◌≡◌, ℕ, ◌≤◌, ◌+◌, Bool, true, false, not, Some, None, List, ◌∷◌, length, codes}
 use Rattle.ssh_model.specs.Wire.DataTypes.{IsNameText}
 use Rattle.ssh_model.specs.Wire.Message.{Msg, Msg.UserauthRequest, Msg.UserauthFailure, Msg.UserauthSuccess, Msg.UserauthPkOk, Msg.Unknown, Method, Method.Publickey, message_number}
 use Rattle.ssh_model.specs.Sessions.Refusals.{Check, Check.RefusedWhere, Refusal, Refusal.Unexpected, first_refusal}
@@ -33,7 +33,7 @@ server_of tries methods opened failures authenticated = record {
 -- The text is that of a list which can be written.
 pub record IsList (text : List ℕ) : Type 0 where
   pub names : IsNameText (names_of text) text
-  pub short : length text < 2 ^ 32
+  pub short : length text ≤ 33994
 
 -- ---- what it answers
 
@@ -54,6 +54,11 @@ IsUnknown message = ⊥
 abbrev pub IsServerRow : Judge → (session : List ℕ) → Server → Msg → ServerAnswer → kept.Server → Type 0
 IsServerRow judge session server message answer.Unimplemented new = IsUnknown message × (new ≡ server.kept)
 IsServerRow judge session server message given new = ServerTakes judge server.methods session server.kept message (answered server.methods given) new
+
+-- What is sent for an answer is short enough: what is no longer than a known key may be.
+abbrev pub IsShortAnswer : ServerAnswer → Type 0
+IsShortAnswer (answer.KeyOk algorithm key) = (length algorithm.now ≤ 64) × (length key.now ≤ 16384)
+IsShortAnswer given = Unit {0}
 
 -- what a message is refused for: a number that may not be taken, and then the checks of the rows
 abbrev pub server_refusals : Judge → (session : List ℕ) → Server → Msg → List (Check Refusal)

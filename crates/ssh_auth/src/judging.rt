@@ -1,11 +1,11 @@
 // How a request is judged (RFC 4252).
 
-ghost use Rattle.std.specs.Prelude.{◌≡◌, ◌<◌, ◌≤◌, ◌^◌, ◌&&◌, true, IfOk, OnErr, Some, codes, length};
+ghost use Rattle.std.specs.Prelude.{◌≡◌, ◌<◌, ◌≤◌, ◌^◌, ◌&&◌, true, IfOk, IsTrue, OnErr, Some, codes, length};
 ghost use Rattle.ssh_model.specs.Authentication.Requests.{is_configured as model_configured, is_for_connection, is_known_key as model_known, signed_text};
 ghost use Rattle.ssh_types.specs.Values.{names};
 ghost use Rattle.ssh_message.specs.Meaning.{method_meaning};
 ghost use Rattle.ssh_message.specs.Written.{IsShort};
-ghost use Rattle.ssh_auth.specs.Serving.{IsJudged, NeedsSignature};
+ghost use Rattle.ssh_auth.specs.Serving.{IsJudged, IsShortAnswer, NeedsSignature};
 
 use crate::answer::ServerAnswer;
 use crate::configured::{CONNECTION, PASSWORD, PUBLICKEY, is_configured};
@@ -33,6 +33,7 @@ pub(crate) fn judge_request<'a, J: UserJudge>(
 ) -> Result<ServerAnswer<'a>, AllocError>
     requires { IsShort user.now }
     ensures judged { IfOk result (λ answer. IsJudged (J.verdicts judge.now) (names methods.now) session.now user.now service.now (method_meaning method.now) answer) }
+    ensures short { IfOk result (λ answer. IsShortAnswer answer) }
     ensures memory { OnErr result (NeedsSignature (J.verdicts judge.now) (names methods.now) user.now service.now (method_meaning method.now)) }
 {
     if service != CONNECTION {
@@ -52,6 +53,7 @@ fn judge_method<'a, J: UserJudge>(
 ) -> Result<ServerAnswer<'a>, AllocError>
     requires { IsShort user.now }
     ensures judged { IfOk result (λ answer. IsJudged (J.verdicts judge.now) (names methods.now) session.now user.now (codes "ssh-connection") (method_meaning method.now) answer) }
+    ensures short { IfOk result (λ answer. IsShortAnswer answer) }
     ensures memory { OnErr result (NeedsSignature (J.verdicts judge.now) (names methods.now) user.now (codes "ssh-connection") (method_meaning method.now)) }
 {
     let right = match *method {
@@ -109,14 +111,18 @@ fn is_key<J: UserJudge>(
     algorithm: &[u8],
     key: &[u8],
 ) -> bool
-    ensures { result ≡ (model_configured (names methods.now) (codes "publickey") && model_known (J.verdicts judge.now) user.now algorithm.now key.now) }
+    ensures known { result ≡ (model_configured (names methods.now) (codes "publickey") && model_known (J.verdicts judge.now) user.now algorithm.now key.now) }
+    ensures short { IsTrue result → length algorithm.now ≤ 64 }
+    ensures key { IsTrue result → length key.now ≤ 16384 }
 {
     is_configured(methods, PUBLICKEY) && is_known_key(judge, user, algorithm, key)
 }
 
 // Tests whether the key is the user's. A longer one than is known is not put to the judge.
 fn is_known_key<J: UserJudge>(judge: &J, user: &[u8], algorithm: &[u8], key: &[u8]) -> bool
-    ensures { result ≡ model_known (J.verdicts judge.now) user.now algorithm.now key.now }
+    ensures known { result ≡ model_known (J.verdicts judge.now) user.now algorithm.now key.now }
+    ensures short { IsTrue result → length algorithm.now ≤ 64 }
+    ensures key { IsTrue result → length key.now ≤ 16384 }
 {
     key.len() <= MOST_KEY_BYTES
         && algorithm.len() <= MOST_ALGORITHM_BYTES

@@ -6,6 +6,7 @@ mod ask;
 mod client;
 mod configured;
 mod judging;
+pub mod laws;
 mod number;
 mod parts;
 mod refusal;

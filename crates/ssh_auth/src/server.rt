@@ -1,12 +1,15 @@
 //! The server of authentication.
 
-ghost use Rattle.std.specs.Prelude.{◌≡◌, ◌<◌, ◌≤◌, ◌^◌, false, true, IfErr, IfOk, OnErr, OnOk, length};
+ghost use Rattle.std.specs.Prelude.{◌≡◌, ◌<◌, ◌≤◌, false, true, IfErr, IfOk, IfSome, OnErr, OnOk, length};
+ghost use Rattle.std.specs.Option.{option_map};
 ghost use Rattle.ssh_model.specs.Wire.Message as model;
 ghost use Rattle.ssh_model.specs.Authentication.Kept.{new_server, opened_server, server_takes};
 ghost use Rattle.ssh_types.specs.Values.{names, names_text};
 ghost use Rattle.ssh_message.specs.Meaning.{meaning, method_meaning};
 ghost use Rattle.ssh_message.specs.Written.{Fits, IsShort};
-ghost use Rattle.ssh_auth.specs.Serving.{ServerAnswers, ServerRefuses, settled};
+ghost use Rattle.ssh_model.specs.Wire.DataTypes.{IsNameText};
+ghost use Rattle.ssh_model.specs.Wire.Sizes.{payload_size};
+ghost use Rattle.ssh_auth.specs.Serving.{IsShortAnswer, ServerAnswers, ServerRefuses, answered, settled};
 ghost use Rattle.ssh_auth.specs.declared.answer.ServerAnswer.TheVariants as answers;
 ghost use Rattle.ssh_auth.specs.declared.refusal.AuthRefusal.TheVariants as refusals;
 
@@ -47,13 +50,13 @@ impl Model for AuthServer {
 impl AuthServer {
     /// A server that lets `tries` requests fail and names these methods (RFC 4252 section 5.1). SERVICE_ACCEPT was not sent.
     ///
-    /// The text of the methods is shorter than 2^32 bytes.
+    /// The text of the methods has at most 33,994 bytes, so that a USERAUTH_FAILURE has at most 34,000.
     ///
     /// # Errors
     ///
     /// Only where memory is refused for a copy of the methods.
     pub fn new(alloc: Global, tries: u32, methods: &NameList<'_>) -> Result<AuthServer, AllocError>
-        requires { length (names_text methods.now) < 2 ^ 32 }
+        requires { length (names_text methods.now) ≤ 33994 }
         ensures tries { IfOk result (λ server. server.tries ≡ tries) }
         ensures methods { IfOk result (λ server. server.methods ≡ names methods.now) }
         ensures kept { IfOk result (λ server. server.kept ≡ new_server) }
@@ -93,9 +96,31 @@ impl AuthServer {
     /// The methods that the server names in each USERAUTH_FAILURE.
     pub fn methods(&self) -> NameList<'_>
         ensures names { names result ≡ self.now.methods }
-        ensures short { length (names_text result) < 2 ^ 32 }
+        ensures text { IsNameText (names result) (names_text result) }
+        ensures short { length (names_text result) ≤ 33994 }
     {
         NameList::new(&self.methods).unwrap()
+    }
+
+    /// The message that is to be sent for an answer of `take`: `None` where nothing is sent, and where UNIMPLEMENTED is. It
+    /// fits, and its payload has at most 34,000 bytes. It needs no memory.
+    pub fn message<'a>(&'a self, answer: &ServerAnswer<'a>) -> Option<Message<'a>>
+        requires { IsShortAnswer answer.now }
+        ensures message { option_map meaning result ≡ (answered self.now.methods answer.now).message }
+        ensures fits { IfSome result (λ message. Fits message) }
+        ensures short { IfSome result (λ message. payload_size (meaning message) ≤ 34000) }
+    {
+        match *answer {
+            ServerAnswer::Ignored | ServerAnswer::Unimplemented => None,
+            ServerAnswer::Accepted { .. } => Some(Message::UserauthSuccess),
+            ServerAnswer::KeyOk { algorithm, key } => {
+                Some(Message::UserauthPkOk { algorithm, key })
+            }
+            ServerAnswer::Failed => Some(Message::UserauthFailure {
+                methods: self.methods(),
+                partial: false,
+            }),
+        }
     }
 
     /// Takes a message of authentication, with the session id of the connection (RFC 4253 section 7.2), and answers what is to
@@ -122,6 +147,7 @@ impl AuthServer {
     ) -> Result<ServerAnswer<'a>, TakeError>
         requires { Fits message.now }
         ensures answered { IfOk result (λ answer. ServerAnswers (J.verdicts judge.now) session.now self.old (meaning message.now) answer self.new) }
+        ensures short { IfOk result (λ answer. IsShortAnswer answer) }
         ensures refused { IfErr result (λ error. ServerRefuses (J.verdicts judge.now) session.now self.old (meaning message.now) error) }
         ensures kept { OnErr result (self.new ≡ self.old) }
     {
@@ -151,6 +177,7 @@ impl AuthServer {
         requires short { IsShort user.now }
         requires opened { self.old.kept.opened ≡ true }
         ensures answered { IfOk result (λ answer. ServerAnswers (J.verdicts judge.now) session.now self.old (model.UserauthRequest user.now service.now (method_meaning method.now)) answer self.new) }
+        ensures short { IfOk result (λ answer. IsShortAnswer answer) }
         ensures refused { IfErr result (λ error. ServerRefuses (J.verdicts judge.now) session.now self.old (model.UserauthRequest user.now service.now (method_meaning method.now)) error) }
         ensures kept { OnErr result (self.new ≡ self.old) }
     {
