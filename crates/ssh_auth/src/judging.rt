@@ -65,21 +65,14 @@ fn judge_method<'a, J: UserJudge>(
         Method::Publickey {
             algorithm,
             key,
-            signature: None,
-        } => {
-            if is_key(judge, methods, user, algorithm, key) {
-                return Ok(ServerAnswer::KeyOk { algorithm, key });
-            }
-            false
-        }
-        Method::Publickey {
-            algorithm,
-            key,
-            signature: Some(signature),
+            signature,
         } => {
             if !is_key(judge, methods, user, algorithm, key) {
                 return Ok(ServerAnswer::Failed);
             }
+            let Some(signature) = signature else {
+                return Ok(ServerAnswer::KeyOk { algorithm, key });
+            };
             is_signed(alloc, judge, session, user, algorithm, key, signature)?
         }
         _ => false,
