@@ -1,1 +1,2 @@
 pub mod LengthInClear
+pub mod Users

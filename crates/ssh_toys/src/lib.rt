@@ -8,8 +8,10 @@ mod agreement;
 mod filler;
 mod host;
 mod length_in_clear;
+mod user;
 
 pub use agreement::ToyAgreement;
 pub use filler::ToyFiller;
 pub use host::{HOST_KEY, ToySigner, ToyTrust};
 pub use length_in_clear::LengthInClear;
+pub use user::{ToyCredential, ToyJudge, ToyUserSigner};

@@ -1,0 +1,5 @@
+pub mod Names
+pub mod Asks
+pub mod Clients
+pub mod Servers
+pub mod Sessions

@@ -1,0 +1,98 @@
+-- What a client of authentication makes of a message and of an ask (RFC 4252).
+use Rattle.std.specs.Prelude.{◌≡◌, ℕ, Bool, true, Some, None, List, take, codes}
+use Rattle.ssh_model.specs.Wire.Message as model
+use Rattle.ssh_model.specs.Wire.Message.{Msg, Method.NoMethod, Method.Password, Method.Publickey, message_number}
+use Rattle.ssh_model.specs.Sessions.Refusals.{first_refusal}
+use Rattle.ssh_model.specs.Sessions.Items.{Ask, Ask.AskNone, Ask.AskPassword, Ask.AskProbe, Ask.AskSign, Fact.Authenticated, Fact.Failed, Fact.Banner, Fact.KeyOk}
+use Rattle.ssh_model.specs.Sessions.Sizes.{request_size}
+use Rattle.ssh_model.specs.Authentication.Rows.{password_size, probe_size, sign_size}
+use Rattle.ssh_model.specs.Authentication.Kept as kept
+use Rattle.ssh_model.specs.Authentication.Kept.{Answered, Client, ClientSends, ClientTakes, client_checks, client_takes, request_by, told}
+use Rattle.ssh_types.specs.Values.{names}
+use Rattle.ssh_auth.specs.Refusals.{auth_ask_refusal}
+use Rattle.ssh_auth.specs.Serving.{IsUnknown}
+use Rattle.ssh_auth.specs.declared.answer.ClientAnswer.{ClientAnswer}
+use Rattle.ssh_auth.specs.declared.answer.ClientAnswer.TheVariants as answer
+use Rattle.ssh_auth.specs.declared.ask.UserAsk.{UserAsk}
+use Rattle.ssh_auth.specs.declared.ask.UserAsk.TheVariants as ask
+use Rattle.ssh_auth.specs.declared.client.Outstanding.{Outstanding}
+use Rattle.ssh_auth.specs.declared.client.Outstanding.TheVariants as outstanding
+use Rattle.ssh_auth.specs.declared.refusal.AskError.{AskError}
+use Rattle.ssh_auth.specs.declared.refusal.AskError.TheVariants.{Refused, Memory}
+use Rattle.ssh_auth.specs.declared.signature.Signature.{Signature}
+use Rattle.ssh_auth.specs.declared.request.RequestMethod.{RequestMethod}
+use Rattle.ssh_auth.specs.declared.request.RequestMethod.TheVariants as method
+
+-- ---- what it keeps
+
+abbrev pub outstanding_of : Outstanding → kept.Outstanding
+outstanding_of outstanding.Nothing = kept.Outstanding.Nothing
+outstanding_of outstanding.Request = kept.Outstanding.Request
+outstanding_of outstanding.Probe = kept.Outstanding.Probe
+
+-- a client by its fields
+abbrev pub client_of : (opened : Bool) → Outstanding → (authenticated : Bool) → Client
+client_of opened waits authenticated = record { opened = opened; outstanding = outstanding_of waits; authenticated = authenticated }
+
+-- ---- what it makes of a message
+
+-- what is told; of an UNIMPLEMENTED the layer below knows the number
+abbrev pub client_answered : ClientAnswer → Answered
+client_answered (answer.Failed methods partial) = told (Failed (names methods) partial)
+client_answered answer.Authenticated = told Authenticated
+client_answered (answer.Banner message) = told (Banner message.now)
+client_answered (answer.KeyOk algorithm key) = told (KeyOk algorithm.now key.now)
+client_answered answer.Unimplemented = record { message = None; fact = None }
+
+-- The answer is that of the row of the message, and this is then kept.
+abbrev pub IsClientRow : Client → Msg → ClientAnswer → Client → Type 0
+IsClientRow client message answer.Unimplemented new = IsUnknown message × (new ≡ client)
+IsClientRow client message given new = ClientTakes client message (client_answered given) new
+
+-- The client takes the message and tells this of it, and this is the client then.
+pub record ClientAnswers (old : Client) (message : Msg) (given : ClientAnswer) (new : Client) : Type 0 where
+  pub unrefused : client_takes old (message_number message) ≡ true
+  pub row : IsClientRow old message given new
+
+-- ---- what it makes of an ask
+
+abbrev pub ask_of : UserAsk → Ask
+ask_of (ask.None user) = AskNone user.now
+ask_of (ask.Password user password) = AskPassword user.now password.now
+ask_of (ask.Probe user algorithm key) = AskProbe user.now algorithm.now key.now
+ask_of (ask.Sign user algorithm key) = AskSign user.now algorithm.now key.now
+
+-- the bytes of its payload, with a signature of 4,096 bytes
+abbrev pub ask_size : UserAsk → ℕ
+ask_size (ask.None user) = request_size user.now (codes "none")
+ask_size (ask.Password user password) = password_size user.now password.now
+ask_size (ask.Probe user algorithm key) = probe_size user.now algorithm.now key.now
+ask_size (ask.Sign user algorithm key) = sign_size user.now algorithm.now key.now
+
+-- the request that is to be sent
+abbrev pub signature_in : Signature → List ℕ
+signature_in signature = take signature.length signature.bytes
+
+abbrev pub method_in : RequestMethod → model.Method
+method_in method.None = NoMethod
+method_in (method.Password password) = Password password.now None
+method_in (method.Probe algorithm key) = Publickey algorithm.now key.now None
+method_in (method.Signed algorithm key signature) = Publickey algorithm.now key.now (Some (signature_in signature))
+
+-- signatures have at most 4,096 bytes
+abbrev pub short_signature : ((user algorithm key text : List ℕ) → List ℕ) → (user algorithm key text : List ℕ) → List ℕ
+short_signature signature user algorithm key text = take 4096 (signature user algorithm key text)
+
+-- The client sends the request on this ask, and this is the client then.
+pub record ClientAsks (signature : (user algorithm key text : List ℕ) → List ℕ) (session : List ℕ) (old : Client) (asked : Ask) (request : Msg) (new : Client) : Type 0 where
+  pub unrefused : first_refusal (client_checks old asked) ≡ None
+  pub row : ClientSends (short_signature signature) session old asked request new
+
+-- Something is to be signed.
+abbrev pub IsSigned : Ask → Type 0
+IsSigned (AskSign user algorithm key) = Unit {0}
+IsSigned asked = ⊥
+
+abbrev pub ClientRefuses : Client → Ask → AskError → Type 0
+ClientRefuses client asked (Refused refusal) = first_refusal (client_checks client asked) ≡ Some (auth_ask_refusal refusal)
+ClientRefuses client asked Memory = IsSigned asked × (first_refusal (client_checks client asked) ≡ None)

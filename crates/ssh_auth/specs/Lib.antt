@@ -1,0 +1,5 @@
+pub mod Texts
+pub mod Refusals
+pub mod Serving
+pub mod Asking
+pub mod Sessions

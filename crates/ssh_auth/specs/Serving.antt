@@ -1,0 +1,116 @@
+-- What a server of authentication keeps, and what it makes of a message (RFC 4252).
+use Rattle.std.specs.Prelude.{◌≡◌, ℕ, ◌≤◌, ◌+◌, Bool, true, false, not, Some, None, List, ◌∷◌, length, codes}
+use Rattle.ssh_model.specs.Wire.DataTypes.{IsNameText}
+use Rattle.ssh_model.specs.Wire.Message.{Msg, Msg.UserauthRequest, Msg.UserauthFailure, Msg.UserauthSuccess, Msg.UserauthPkOk, Msg.Unknown, Method, Method.Publickey, message_number}
+use Rattle.ssh_model.specs.Sessions.Refusals.{Check, Check.RefusedWhere, Refusal, Refusal.Unexpected, first_refusal}
+use Rattle.ssh_model.specs.Sessions.Items.{Fact.Accepted, Fact.Ignored}
+use Rattle.ssh_model.specs.Authentication.Requests.{Judge, accepts, approves, fails, is_configured, is_for_connection, is_known_key}
+use Rattle.ssh_model.specs.Authentication.Kept as kept
+use Rattle.ssh_model.specs.Authentication.Kept.{Answered, ServerTakes, replied, server_checks, server_takes, told}
+use Rattle.ssh_types.specs.Names.{names_of}
+use Rattle.ssh_auth.specs.Refusals.{auth_refusal}
+use Rattle.ssh_auth.specs.declared.answer.ServerAnswer.{ServerAnswer}
+use Rattle.ssh_auth.specs.declared.answer.ServerAnswer.TheVariants as answer
+use Rattle.ssh_auth.specs.declared.refusal.TakeError.{TakeError}
+use Rattle.ssh_auth.specs.declared.refusal.TakeError.TheVariants.{Refused, Memory}
+
+-- ---- what it keeps
+
+-- How many requests may fail, the methods that it names, and what the model of a server keeps.
+pub record Server : Type 0 where
+  pub tries : ℕ
+  pub methods : List (List ℕ)
+  pub kept : kept.Server
+
+-- a server by its fields, the methods as one text
+abbrev pub server_of : (tries : ℕ) → (methods : List ℕ) → (opened : Bool) → (failures : ℕ) → (authenticated : Bool) → Server
+server_of tries methods opened failures authenticated = record {
+  tries = tries;
+  methods = names_of methods;
+  kept = record { opened = opened; failures = failures; authenticated = authenticated };
+}
+
+-- The text is that of a list which can be written.
+pub record IsList (text : List ℕ) : Type 0 where
+  pub names : IsNameText (names_of text) text
+  pub short : length text ≤ 33994
+
+-- ---- what it answers
+
+-- what is sent and told; of an UNIMPLEMENTED the layer below knows the number
+abbrev pub answered : (methods : List (List ℕ)) → ServerAnswer → Answered
+answered methods answer.Ignored = told Ignored
+answered methods (answer.Accepted user) = record { message = Some UserauthSuccess; fact = Some (Accepted user.now) }
+answered methods (answer.KeyOk algorithm key) = replied (UserauthPkOk algorithm.now key.now)
+answered methods answer.Failed = replied (UserauthFailure methods false)
+answered methods answer.Unimplemented = record { message = None; fact = None }
+
+-- The number of the message is unknown.
+abbrev pub IsUnknown : Msg → Type 0
+IsUnknown (Unknown number) = Unit {0}
+IsUnknown message = ⊥
+
+-- The answer is that of the row of the message, and this is then kept.
+abbrev pub IsServerRow : Judge → (session : List ℕ) → Server → Msg → ServerAnswer → kept.Server → Type 0
+IsServerRow judge session server message answer.Unimplemented new = IsUnknown message × (new ≡ server.kept)
+IsServerRow judge session server message given new = ServerTakes judge server.methods session server.kept message (answered server.methods given) new
+
+-- What is sent for an answer is short enough: what is no longer than a known key may be.
+abbrev pub IsShortAnswer : ServerAnswer → Type 0
+IsShortAnswer (answer.KeyOk algorithm key) = (length algorithm.now ≤ 64) × (length key.now ≤ 16384)
+IsShortAnswer given = Unit {0}
+
+-- what a message is refused for: a number that may not be taken, and then the checks of the rows
+abbrev pub server_refusals : Judge → (session : List ℕ) → Server → Msg → List (Check Refusal)
+server_refusals judge session server message =
+    RefusedWhere (not (server_takes server.kept (message_number message))) Unexpected ∷ server_checks judge server.tries server.methods session server.kept message
+
+-- The server answers the message so, and this is the server then.
+pub record ServerAnswers (judge : Judge) (session : List ℕ) (old : Server) (message : Msg) (given : ServerAnswer) (new : Server) : Type 0 where
+  pub unrefused : first_refusal (server_refusals judge session old message) ≡ None
+  pub tries : new.tries ≡ old.tries
+  pub methods : new.methods ≡ old.methods
+  pub row : IsServerRow judge session old message given new.kept
+
+-- ---- how a request is judged before it is counted
+
+-- The signature of a request is due to be looked at: it is for the connection, by a method that the server names and a key that it
+-- knows.
+pub record IsSignatureDue (judge : Judge) (methods : List (List ℕ)) (user service algorithm key : List ℕ) : Type 0 where
+  pub connection : is_for_connection service ≡ true
+  pub configured : is_configured methods (codes "publickey") ≡ true
+  pub known : is_known_key judge user algorithm key ≡ true
+
+abbrev pub NeedsSignature : Judge → (methods : List (List ℕ)) → (user service : List ℕ) → Method → Type 0
+NeedsSignature judge methods user service (Publickey algorithm key (Some signature)) = IsSignatureDue judge methods user service algorithm key
+NeedsSignature judge methods user service how = ⊥
+
+abbrev pub IsJudged : Judge → (methods : List (List ℕ)) → (session user service : List ℕ) → Method → ServerAnswer → Type 0
+IsJudged judge methods session user service how (answer.Accepted who) = (who.now ≡ user) × (accepts judge methods session user service how ≡ true)
+IsJudged judge methods session user service how (answer.KeyOk algorithm key) =
+    (how ≡ Publickey algorithm.now key.now None) × (approves judge methods user service how ≡ true)
+IsJudged judge methods session user service how answer.Failed = fails judge methods session user service how ≡ true
+IsJudged judge methods session user service how given = ⊥
+
+-- ---- what it does not answer
+
+-- The signature of a request is looked at: it came in time besides.
+pub record IsLookedAt (judge : Judge) (server : Server) (user service algorithm key : List ℕ) : Type 0 where
+  pub opened : server.kept.opened ≡ true
+  pub in_time : server.kept.authenticated ≡ false
+  pub due : IsSignatureDue judge server.methods user service algorithm key
+
+-- The text that a signature covers is made.
+abbrev pub NeedsText : Judge → Server → Msg → Type 0
+NeedsText judge server (UserauthRequest user service (Publickey algorithm key (Some signature))) = IsLookedAt judge server user service algorithm key
+NeedsText judge server message = ⊥
+
+abbrev pub ServerRefuses : Judge → (session : List ℕ) → Server → Msg → TakeError → Type 0
+ServerRefuses judge session server message (Refused refusal) = first_refusal (server_refusals judge session server message) ≡ Some (auth_refusal refusal)
+ServerRefuses judge session server message Memory = NeedsText judge server message
+
+-- What is kept of a judged request: the user is let in, or the failure is counted.
+abbrev pub settled : Server → ServerAnswer → Server
+settled server (answer.Accepted user) = record server { kept = record server.kept { authenticated = true } }
+settled server answer.Failed = record server { kept = record server.kept { failures = server.kept.failures + 1 } }
+settled server given = server

@@ -1,0 +1,22 @@
+-- What a signature of a request covers.
+use Rattle.std.specs.Prelude.{ℕ, ◌<◌, ◌^◌, List, ◌∷◌, ◌++◌, length, codes}
+use Rattle.ssh_model.specs.KeyExchange.Exchange.{string_of}
+use Rattle.ssh_model.specs.Authentication.Requests.{signed_text}
+use Rattle.ssh_auth.specs.declared.signed_text.SignedText.{SignedText}
+
+abbrev pub text_of : SignedText → List ℕ
+text_of t = signed_text t.session.now t.user.now t.service.now t.algorithm.now t.key.now
+
+-- Each length fits into the uint32 that stands in front.
+pub record IsShortText (t : SignedText) : Type 0 where
+  pub user : length t.user.now < 2 ^ 32
+  pub service : length t.service.now < 2 ^ 32
+  pub algorithm : length t.algorithm.now < 2 ^ 32
+  pub key : length t.key.now < 2 ^ 32
+
+-- its two parts, put together in the order in which they are written
+abbrev pub front_of : (session user service : List ℕ) → List ℕ
+front_of session user service = string_of session ++ 50 ∷ string_of user ++ string_of service
+
+abbrev pub back_of : (algorithm key : List ℕ) → List ℕ
+back_of algorithm key = string_of (codes "publickey") ++ 1 ∷ string_of algorithm ++ string_of key

@@ -1,0 +1,259 @@
+//! The client of authentication.
+
+ghost use Rattle.std.specs.Prelude.{◌≡◌, ◌≤◌, ◌<◌, ◌+◌, ◌^◌, false, true, Bool, IfErr, IfOk, OnErr, OnOk, None, Some, length};
+ghost use Rattle.ssh_model.specs.Wire.Message.{message_number};
+ghost use Rattle.ssh_model.specs.Sessions.Refusals.{first_refusal};
+ghost use Rattle.ssh_model.specs.Sessions.Sizes as sizes;
+ghost use Rattle.ssh_model.specs.Authentication.Rows as sizes_of;
+ghost use Rattle.ssh_model.specs.Authentication.Kept.{client_checks, client_takes, is_key_probe, is_outstanding as model_outstanding, new_client, opened_client};
+ghost use Rattle.ssh_message.specs.Meaning.{meaning};
+ghost use Rattle.ssh_auth.specs.Refusals.{auth_ask_refusal};
+ghost use Rattle.ssh_auth.specs.Asking.{ClientAnswers, ClientAsks, ClientRefuses, ask_of, ask_size};
+ghost use Rattle.ssh_auth.specs.declared.refusal.AuthRefusal.TheVariants as refusals;
+
+use crate::answer::ClientAnswer;
+use crate::ask::UserAsk;
+use crate::configured::{CONNECTION, PASSWORD, PUBLICKEY};
+use crate::number::is_spare;
+use crate::parts::UserSigner;
+use crate::refusal::{AskError, AuthAskRefusal, AuthRefusal};
+use crate::request::UserRequest;
+use ssh_message::Message;
+use std::alloc::Global;
+use std::marker::Model;
+
+// The most bytes that a payload has which an end sends.
+const MOST_PAYLOAD_BYTES: u128 = 34_000;
+
+// The most bytes of a signature.
+const MOST_SIGNATURE_BYTES: u128 = 4_096;
+
+/// What a client keeps of authentication (RFC 4252): whether SERVICE_ACCEPT was taken, whether a request or a key probe is
+/// outstanding, and whether USERAUTH_SUCCESS was taken.
+///
+/// Nothing of it depends on the messages of other layers but SERVICE_ACCEPT, which `open` tells.
+#[derive(Drop)]
+pub struct AuthClient {
+    alloc: Global,
+    opened: bool,
+    outstanding: Outstanding,
+    authenticated: bool,
+}
+
+// What is not answered yet.
+#[derive(Clone, Copy)]
+enum Outstanding {
+    Nothing,
+    Request,
+    Probe,
+}
+
+impl Model for AuthClient {
+    ghost use Rattle.ssh_model.specs.Authentication.Kept.{Client};
+    ghost use Rattle.ssh_auth.specs.Asking.{client_of};
+
+    ghost Value = { Client };
+
+    ghost view = { λ c. client_of c.opened c.outstanding c.authenticated };
+}
+
+impl AuthClient {
+    /// A client that took no SERVICE_ACCEPT. It takes no memory; `ask` takes some for a text to be signed.
+    pub fn new(alloc: Global) -> AuthClient
+        ensures { result ≡ new_client }
+    {
+        AuthClient {
+            alloc,
+            opened: false,
+            outstanding: Outstanding::Nothing,
+            authenticated: false,
+        }
+    }
+
+    /// Is called once SERVICE_ACCEPT was taken for `ssh-userauth` (RFC 4253 section 10). It needs no memory.
+    pub fn open(&mut self)
+        ensures { self.new ≡ opened_client self.old }
+    {
+        self.opened = true;
+    }
+
+    /// Tests whether a message of this number, 50 to 79, may come now outside a key exchange: USERAUTH_FAILURE and
+    /// USERAUTH_SUCCESS while a request is outstanding, USERAUTH_BANNER from SERVICE_ACCEPT until the user is let in,
+    /// USERAUTH_PK_OK while a key probe is outstanding, and numbers that no message has. It needs no memory.
+    pub fn may_take(&self, number: u8) -> bool
+        ensures { result ≡ client_takes self.now number }
+    {
+        ((number == 51 || number == 52) && self.is_outstanding())
+            || (number == 53 && self.opened && !self.authenticated)
+            || (number == 60 && self.probing())
+            || is_spare(number)
+    }
+
+    /// Whether a key probe is outstanding, as `decode` of `ssh_message` asks. It needs no memory.
+    pub fn probing(&self) -> bool
+        ensures { result ≡ is_key_probe self.now.outstanding }
+    {
+        matches!(self.outstanding, Outstanding::Probe)
+    }
+
+    // Whether a request is outstanding.
+    fn is_outstanding(&self) -> bool
+        ensures { result ≡ model_outstanding self.now.outstanding }
+    {
+        !matches!(self.outstanding, Outstanding::Nothing)
+    }
+
+    /// Takes a message of authentication, and answers what is to be told. It needs no memory.
+    ///
+    /// # Errors
+    ///
+    /// `Unexpected` where the message may not come here; the client is then as before.
+    pub fn take<'a>(&mut self, message: &Message<'a>) -> Result<ClientAnswer<'a>, AuthRefusal>
+        ensures answered { IfOk result (λ answer. ClientAnswers self.old (meaning message.now) answer self.new) }
+        ensures unexpected { OnErr result (client_takes self.old (message_number (meaning message.now)) ≡ false) }
+        ensures refused { IfErr result (λ refusal. refusal ≡ refusals.Unexpected) }
+        ensures kept { OnErr result (self.new ≡ self.old) }
+    {
+        if !self.may_take(message.number()) {
+            return Err(AuthRefusal::Unexpected);
+        }
+        match *message {
+            Message::UserauthFailure { methods, partial } => {
+                self.outstanding = Outstanding::Nothing;
+                Ok(ClientAnswer::Failed { methods, partial })
+            }
+            Message::UserauthSuccess => {
+                self.outstanding = Outstanding::Nothing;
+                self.authenticated = true;
+                Ok(ClientAnswer::Authenticated)
+            }
+            Message::UserauthBanner { message, .. } => Ok(ClientAnswer::Banner { message }),
+            Message::UserauthPkOk { algorithm, key } => {
+                self.outstanding = Outstanding::Nothing;
+                Ok(ClientAnswer::KeyOk { algorithm, key })
+            }
+            Message::Unknown(_) => Ok(ClientAnswer::Unimplemented),
+            _ => unreachable!(),
+        }
+    }
+
+    /// Makes the request that is asked for, with the session id of the connection (RFC 4253 section 7.2). It is then
+    /// outstanding. Memory is asked for only where something is to be signed, for the text (`put_signed_text`).
+    ///
+    /// # Errors
+    ///
+    /// The client is then as before.
+    ///
+    /// - `Refused`, the first of these that holds: `NotYet`, SERVICE_ACCEPT was not taken; `Busy`, a request is outstanding;
+    ///   `Ended`, USERAUTH_SUCCESS was taken; `TooLong`, the payload would have over 34,000 bytes, where it is signed with
+    ///   a signature of 4,096 bytes.
+    /// - `Memory`: memory was refused for the text to be signed.
+    pub fn ask<'a, S: UserSigner>(
+        &mut self,
+        session: &[u8; 32],
+        signer: &S,
+        ask: &UserAsk<'a>,
+    ) -> Result<UserRequest<'a>, AskError>
+        ensures sent { IfOk result (λ request. ClientAsks (S.signature_of signer.now) session.now self.old (ask_of ask.now) request self.new) }
+        ensures refused { IfErr result (λ error. ClientRefuses self.old (ask_of ask.now) error) }
+        ensures kept { OnErr result (self.new ≡ self.old) }
+    {
+        self.check(ask)?;
+        match *ask {
+            UserAsk::None { user } => {
+                self.outstanding = Outstanding::Request;
+                Ok(UserRequest::none(user))
+            }
+            UserAsk::Password { user, password } => {
+                self.outstanding = Outstanding::Request;
+                Ok(UserRequest::password(user, password))
+            }
+            UserAsk::Probe {
+                user,
+                algorithm,
+                key,
+            } => {
+                self.outstanding = Outstanding::Probe;
+                Ok(UserRequest::probe(user, algorithm, key))
+            }
+            UserAsk::Sign {
+                user,
+                algorithm,
+                key,
+            } => {
+                let request = UserRequest::signed(
+                    self.alloc, session, signer, user, algorithm, key,
+                )?;
+                self.outstanding = Outstanding::Request;
+                Ok(request)
+            }
+        }
+    }
+
+    // The checks of an ask, in their order.
+    #[tactic(auto, using(crate::proofs::Asks::checks_are))]
+    fn check(&self, ask: &UserAsk<'_>) -> Result<(), AuthAskRefusal>
+        ensures fine { OnOk result (first_refusal (client_checks self.now (ask_of ask.now)) ≡ None) }
+        ensures short { OnOk result (ask_size ask.now ≤ 34000) }
+        ensures refused { IfErr result (λ refusal. first_refusal (client_checks self.now (ask_of ask.now)) ≡ Some (auth_ask_refusal refusal)) }
+    {
+        if !self.opened {
+            return Err(AuthAskRefusal::NotYet);
+        }
+        if self.is_outstanding() {
+            return Err(AuthAskRefusal::Busy);
+        }
+        if self.authenticated {
+            return Err(AuthAskRefusal::Ended);
+        }
+        if payload_size(ask) > MOST_PAYLOAD_BYTES {
+            return Err(AuthAskRefusal::TooLong);
+        }
+        Ok(())
+    }
+}
+
+// The bytes of the payload, with a signature of 4,096 bytes where it is signed.
+fn payload_size(ask: &UserAsk<'_>) -> u128
+    ensures { result ≡ ask_size ask.now }
+{
+    match *ask {
+        UserAsk::None { user } => request_size(user, b"none"),
+        UserAsk::Password { user, password } => {
+            request_size(user, PASSWORD) + 1 + text_size(password)
+        }
+        UserAsk::Probe {
+            user,
+            algorithm,
+            key,
+        } => probe_size(user, algorithm, key),
+        UserAsk::Sign {
+            user,
+            algorithm,
+            key,
+        } => probe_size(user, algorithm, key) + 4 + MOST_SIGNATURE_BYTES,
+    }
+}
+
+fn probe_size(user: &[u8], algorithm: &[u8], key: &[u8]) -> u128
+    ensures size { result ≡ sizes_of.probe_size user.now algorithm.now key.now }
+    ensures most { result < 2 ^ 68 }
+{
+    request_size(user, PUBLICKEY) + 1 + text_size(algorithm) + text_size(key)
+}
+
+// The bytes up to the name of the method.
+fn request_size(user: &[u8], method: &[u8]) -> u128
+    ensures size { result ≡ sizes.request_size user.now method.now }
+    ensures most { result < 2 ^ 67 }
+{
+    1 + text_size(user) + text_size(CONNECTION) + text_size(method)
+}
+
+// The bytes of a string.
+fn text_size(text: &[u8]) -> u128
+    ensures size { result ≡ sizes.string_size text.now }
+    ensures most { result < 2 ^ 65 }
+{
+    4 + text.len() as u128
+}

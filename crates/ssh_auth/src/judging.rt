@@ -1,0 +1,142 @@
+// How a request is judged (RFC 4252).
+
+ghost use Rattle.std.specs.Prelude.{◌≡◌, ◌<◌, ◌≤◌, ◌^◌, ◌&&◌, true, IfOk, IsTrue, OnErr, Some, codes, length};
+ghost use Rattle.ssh_model.specs.Authentication.Requests.{is_configured as model_configured, is_for_connection, is_known_key as model_known, signed_text};
+ghost use Rattle.ssh_types.specs.Values.{names};
+ghost use Rattle.ssh_message.specs.Meaning.{method_meaning};
+ghost use Rattle.ssh_message.specs.Written.{IsShort};
+ghost use Rattle.ssh_auth.specs.Serving.{IsJudged, IsShortAnswer, NeedsSignature};
+
+use crate::answer::ServerAnswer;
+use crate::configured::{CONNECTION, PASSWORD, PUBLICKEY, is_configured};
+use crate::parts::UserJudge;
+use crate::signed_text::request_text;
+use ssh_message::Method;
+use ssh_types::NameList;
+use std::alloc::{AllocError, Global};
+
+// Own bounds: a longer key, or one under a longer name, is not known.
+const MOST_KEY_BYTES: usize = 16_384;
+
+const MOST_ALGORITHM_BYTES: usize = 64;
+
+// Judges a request: it is accepted, a good probe, or fails. An error comes only where memory is refused for the text that a
+// signature covers.
+pub(crate) fn judge_request<'a, J: UserJudge>(
+    alloc: Global,
+    judge: &J,
+    methods: &NameList<'_>,
+    session: &[u8; 32],
+    user: &'a [u8],
+    service: &[u8],
+    method: &Method<'a>,
+) -> Result<ServerAnswer<'a>, AllocError>
+    requires { IsShort user.now }
+    ensures judged { IfOk result (λ answer. IsJudged (J.verdicts judge.now) (names methods.now) session.now user.now service.now (method_meaning method.now) answer) }
+    ensures short { IfOk result (λ answer. IsShortAnswer answer) }
+    ensures memory { OnErr result (NeedsSignature (J.verdicts judge.now) (names methods.now) user.now service.now (method_meaning method.now)) }
+{
+    if service != CONNECTION {
+        return Ok(ServerAnswer::Failed);
+    }
+    judge_method(alloc, judge, methods, session, user, method)
+}
+
+// Judges a request for the connection.
+fn judge_method<'a, J: UserJudge>(
+    alloc: Global,
+    judge: &J,
+    methods: &NameList<'_>,
+    session: &[u8; 32],
+    user: &'a [u8],
+    method: &Method<'a>,
+) -> Result<ServerAnswer<'a>, AllocError>
+    requires { IsShort user.now }
+    ensures judged { IfOk result (λ answer. IsJudged (J.verdicts judge.now) (names methods.now) session.now user.now (codes "ssh-connection") (method_meaning method.now) answer) }
+    ensures short { IfOk result (λ answer. IsShortAnswer answer) }
+    ensures memory { OnErr result (NeedsSignature (J.verdicts judge.now) (names methods.now) user.now (codes "ssh-connection") (method_meaning method.now)) }
+{
+    let right = match *method {
+        Method::None => judge.none(user),
+        Method::Password {
+            password,
+            new_password: None,
+        } => is_password(judge, methods, user, password),
+        Method::Publickey {
+            algorithm,
+            key,
+            signature,
+        } => {
+            if !is_key(judge, methods, user, algorithm, key) {
+                return Ok(ServerAnswer::Failed);
+            }
+            let Some(signature) = signature else {
+                return Ok(ServerAnswer::KeyOk { algorithm, key });
+            };
+            is_signed(alloc, judge, session, user, algorithm, key, signature)?
+        }
+        _ => false,
+    };
+    Ok(if right {
+        ServerAnswer::Accepted { user }
+    } else {
+        ServerAnswer::Failed
+    })
+}
+
+// Tests whether the server names passwords and this one is right.
+fn is_password<J: UserJudge>(
+    judge: &J,
+    methods: &NameList<'_>,
+    user: &[u8],
+    password: &[u8],
+) -> bool
+    ensures { result ≡ (model_configured (names methods.now) (codes "password") && (J.verdicts judge.now).password_is_right user.now password.now) }
+{
+    is_configured(methods, PASSWORD) && judge.password(user, password)
+}
+
+// Tests whether the server names public keys and knows this one.
+fn is_key<J: UserJudge>(
+    judge: &J,
+    methods: &NameList<'_>,
+    user: &[u8],
+    algorithm: &[u8],
+    key: &[u8],
+) -> bool
+    ensures known { result ≡ (model_configured (names methods.now) (codes "publickey") && model_known (J.verdicts judge.now) user.now algorithm.now key.now) }
+    ensures short { IsTrue result → length algorithm.now ≤ 64 }
+    ensures key { IsTrue result → length key.now ≤ 16384 }
+{
+    is_configured(methods, PUBLICKEY) && is_known_key(judge, user, algorithm, key)
+}
+
+// Tests whether the key is the user's. A longer one than is known is not put to the judge.
+fn is_known_key<J: UserJudge>(judge: &J, user: &[u8], algorithm: &[u8], key: &[u8]) -> bool
+    ensures known { result ≡ model_known (J.verdicts judge.now) user.now algorithm.now key.now }
+    ensures short { IsTrue result → length algorithm.now ≤ 64 }
+    ensures key { IsTrue result → length key.now ≤ 16384 }
+{
+    key.len() <= MOST_KEY_BYTES
+        && algorithm.len() <= MOST_ALGORITHM_BYTES
+        && judge.key_known(user, algorithm, key)
+}
+
+// Tests whether the signature of a request for the connection is right.
+fn is_signed<J: UserJudge>(
+    alloc: Global,
+    judge: &J,
+    session: &[u8; 32],
+    user: &[u8],
+    algorithm: &[u8],
+    key: &[u8],
+    signature: &[u8],
+) -> Result<bool, AllocError>
+    requires user { IsShort user.now }
+    requires algorithm { IsShort algorithm.now }
+    requires key { IsShort key.now }
+    ensures { IfOk result (λ right. right ≡ (J.verdicts judge.now).signature_is_right algorithm.now key.now (signed_text session.now user.now (codes "ssh-connection") algorithm.now key.now) signature.now) }
+{
+    let text = request_text(alloc, session, user, algorithm, key)?;
+    Ok(judge.signature(algorithm, key, &text, signature))
+}

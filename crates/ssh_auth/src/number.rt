@@ -1,0 +1,14 @@
+// Numbers of messages.
+
+ghost use Rattle.std.specs.Prelude.{◌≡◌};
+ghost use Rattle.ssh_model.specs.Sessions.Phases.{is_spare as model_spare};
+
+// Tests whether the number is below those of the connection and no message has it (RFC 4250 section 4.1.2).
+pub(crate) fn is_spare(number: u8) -> bool
+    ensures { result ≡ model_spare number }
+{
+    match number {
+        1..=7 | 20..=21 | 30..=31 | 50..=53 | 60 => false,
+        _ => number < 80,
+    }
+}

@@ -1,0 +1,130 @@
+//! Why a message or an ask is refused.
+
+ghost use Rattle.ssh_auth.specs.declared.refusal.TakeError.TheVariants as take_error;
+ghost use Rattle.ssh_auth.specs.declared.refusal.AskError.TheVariants as ask_error;
+
+use ssh_types::{AskRefusal, Refusal};
+use std::alloc::AllocError;
+use thiserror::Error;
+
+/// Why an end refuses its peer over a message of authentication (RFC 4252).
+#[derive(Clone, Copy, Debug, PartialEq, Eq, Error)]
+pub enum AuthRefusal {
+    /// A message that may not come here.
+    #[error("a message came that may not come here")]
+    Unexpected,
+    /// A request failed, and so many failed before that no more may (RFC 4252 section 4).
+    #[error("too many requests for authentication failed")]
+    TooManyTries,
+}
+
+impl From<AuthRefusal> for Refusal {
+    ghost use Rattle.std.specs.Prelude.{◌≡◌};
+    ghost use Rattle.ssh_auth.specs.Refusals.{auth_refusal};
+    ghost use Rattle.ssh_types.specs.Refusals.{refusal_of};
+
+    ghost from_gives = { λ refusal all. refusal_of all ≡ auth_refusal refusal };
+
+    fn from(refusal: AuthRefusal) -> Refusal {
+        match refusal {
+            AuthRefusal::Unexpected => Refusal::Unexpected,
+            AuthRefusal::TooManyTries => Refusal::TooManyTries,
+        }
+    }
+}
+
+/// Why a server did not answer a message.
+#[derive(Clone, Copy, Debug, PartialEq, Eq, Error)]
+pub enum TakeError {
+    /// The peer is refused.
+    #[error("{0}")]
+    Refused(AuthRefusal),
+    /// Memory was refused for the text that a signature covers.
+    #[error("out of memory")]
+    Memory,
+}
+
+impl From<AuthRefusal> for TakeError {
+    ghost use Rattle.std.specs.Prelude.{◌≡◌};
+
+    ghost from_gives = { λ refusal error. error ≡ take_error.Refused refusal };
+
+    fn from(refusal: AuthRefusal) -> TakeError {
+        TakeError::Refused(refusal)
+    }
+}
+
+impl From<AllocError> for TakeError {
+    ghost use Rattle.std.specs.Prelude.{◌≡◌};
+
+    ghost from_gives = { λ _ error. error ≡ take_error.Memory };
+
+    fn from(_error: AllocError) -> TakeError {
+        TakeError::Memory
+    }
+}
+
+/// Why a client refuses an ask for authentication. Nothing is sent then.
+#[derive(Clone, Copy, Debug, PartialEq, Eq, Error)]
+pub enum AuthAskRefusal {
+    /// The service was not granted yet (RFC 4253 section 10).
+    #[error("the ask comes too early")]
+    NotYet,
+    /// A request is not answered yet.
+    #[error("another request is under way")]
+    Busy,
+    /// The user is let in already.
+    #[error("it is over already")]
+    Ended,
+    /// The payload would have over 34,000 bytes, with a signature of 4,096 bytes where it is signed.
+    #[error("the message would be too long")]
+    TooLong,
+}
+
+impl From<AuthAskRefusal> for AskRefusal {
+    ghost use Rattle.std.specs.Prelude.{◌≡◌};
+    ghost use Rattle.ssh_auth.specs.Refusals.{auth_ask_refusal};
+    ghost use Rattle.ssh_types.specs.AskRefusals.{ask_refusal_of};
+
+    ghost from_gives = { λ refusal all. ask_refusal_of all ≡ auth_ask_refusal refusal };
+
+    fn from(refusal: AuthAskRefusal) -> AskRefusal {
+        match refusal {
+            AuthAskRefusal::NotYet => AskRefusal::NotYet,
+            AuthAskRefusal::Busy => AskRefusal::Busy,
+            AuthAskRefusal::Ended => AskRefusal::Ended,
+            AuthAskRefusal::TooLong => AskRefusal::TooLong,
+        }
+    }
+}
+
+/// Why a client made no request.
+#[derive(Clone, Copy, Debug, PartialEq, Eq, Error)]
+pub enum AskError {
+    /// The ask is refused.
+    #[error("{0}")]
+    Refused(AuthAskRefusal),
+    /// Memory was refused for the text to be signed.
+    #[error("out of memory")]
+    Memory,
+}
+
+impl From<AuthAskRefusal> for AskError {
+    ghost use Rattle.std.specs.Prelude.{◌≡◌};
+
+    ghost from_gives = { λ refusal error. error ≡ ask_error.Refused refusal };
+
+    fn from(refusal: AuthAskRefusal) -> AskError {
+        AskError::Refused(refusal)
+    }
+}
+
+impl From<AllocError> for AskError {
+    ghost use Rattle.std.specs.Prelude.{◌≡◌};
+
+    ghost from_gives = { λ _ error. error ≡ ask_error.Memory };
+
+    fn from(_error: AllocError) -> AskError {
+        AskError::Memory
+    }
+}

@@ -1,0 +1,224 @@
+//! The server of authentication.
+
+ghost use Rattle.std.specs.Prelude.{◌≡◌, ◌<◌, ◌≤◌, false, true, IfErr, IfOk, IfSome, OnErr, OnOk, length};
+ghost use Rattle.std.specs.Option.{option_map};
+ghost use Rattle.ssh_model.specs.Wire.Message as model;
+ghost use Rattle.ssh_model.specs.Authentication.Kept.{new_server, opened_server, server_takes};
+ghost use Rattle.ssh_types.specs.Values.{names, names_text};
+ghost use Rattle.ssh_message.specs.Meaning.{meaning, method_meaning};
+ghost use Rattle.ssh_message.specs.Written.{Fits, IsShort};
+ghost use Rattle.ssh_model.specs.Wire.DataTypes.{IsNameText};
+ghost use Rattle.ssh_model.specs.Wire.Sizes.{payload_size};
+ghost use Rattle.ssh_auth.specs.Serving.{IsShortAnswer, ServerAnswers, ServerRefuses, answered, settled};
+ghost use Rattle.ssh_auth.specs.declared.answer.ServerAnswer.TheVariants as answers;
+ghost use Rattle.ssh_auth.specs.declared.refusal.AuthRefusal.TheVariants as refusals;
+
+use crate::answer::ServerAnswer;
+use crate::judging::judge_request;
+use crate::number::is_spare;
+use crate::parts::UserJudge;
+use crate::refusal::{AuthRefusal, TakeError};
+use ssh_message::{Message, Method};
+use ssh_types::NameList;
+use std::alloc::{AllocError, Global};
+use std::marker::Model;
+
+/// What a server keeps of authentication (RFC 4252): whether SERVICE_ACCEPT was sent, how many requests failed, and whether
+/// USERAUTH_SUCCESS was sent; besides, how many requests may fail and the methods that it names.
+///
+/// Nothing of it depends on the messages of other layers but SERVICE_ACCEPT, which `open` tells.
+#[derive(Drop)]
+pub struct AuthServer {
+    alloc: Global,
+    tries: u32,
+    methods: Vec<u8>,
+    opened: bool,
+    failures: u32,
+    authenticated: bool,
+}
+
+impl Model for AuthServer {
+    ghost use Rattle.ssh_auth.specs.Serving.{IsList, Server, server_of};
+
+    ghost Value = { Server };
+
+    ghost view = { λ s. server_of s.tries s.methods.items s.opened s.failures s.authenticated };
+
+    ghost invariant = { λ s. IsList s.methods.items };
+}
+
+impl AuthServer {
+    /// A server that lets `tries` requests fail and names these methods (RFC 4252 section 5.1). SERVICE_ACCEPT was not sent.
+    ///
+    /// The text of the methods has at most 33,994 bytes, so that a USERAUTH_FAILURE has at most 34,000.
+    ///
+    /// # Errors
+    ///
+    /// Only where memory is refused for a copy of the methods.
+    pub fn new(alloc: Global, tries: u32, methods: &NameList<'_>) -> Result<AuthServer, AllocError>
+        requires { length (names_text methods.now) ≤ 33994 }
+        ensures tries { IfOk result (λ server. server.tries ≡ tries) }
+        ensures methods { IfOk result (λ server. server.methods ≡ names methods.now) }
+        ensures kept { IfOk result (λ server. server.kept ≡ new_server) }
+    {
+        Ok(AuthServer {
+            alloc,
+            tries,
+            methods: methods.as_bytes().to_vec(alloc)?,
+            opened: false,
+            failures: 0,
+            authenticated: false,
+        })
+    }
+
+    /// Is called once SERVICE_ACCEPT was sent for `ssh-userauth` (RFC 4253 section 10). It needs no memory.
+    pub fn open(&mut self)
+        ensures { self.new ≡ record self.old { kept = opened_server self.old.kept } }
+    {
+        self.opened = true;
+    }
+
+    /// Tests whether a message of this number, 50 to 79, may come now outside a key exchange: USERAUTH_REQUEST once
+    /// SERVICE_ACCEPT was sent, and numbers that no message has. It needs no memory.
+    pub fn may_take(&self, number: u8) -> bool
+        ensures { result ≡ server_takes self.now.kept number }
+    {
+        (number == 50 && self.opened) || is_spare(number)
+    }
+
+    /// Whether a key probe is outstanding, as `decode` of `ssh_message` asks: a server sends none.
+    pub fn probing(&self) -> bool
+        ensures { result ≡ false }
+    {
+        false
+    }
+
+    /// The methods that the server names in each USERAUTH_FAILURE.
+    pub fn methods(&self) -> NameList<'_>
+        ensures names { names result ≡ self.now.methods }
+        ensures text { IsNameText (names result) (names_text result) }
+        ensures short { length (names_text result) ≤ 33994 }
+    {
+        NameList::new(&self.methods).unwrap()
+    }
+
+    /// The message that is to be sent for an answer of `take`: `None` where nothing is sent, and where UNIMPLEMENTED is. It
+    /// fits, and its payload has at most 34,000 bytes. It needs no memory.
+    pub fn message<'a>(&'a self, answer: &ServerAnswer<'a>) -> Option<Message<'a>>
+        requires { IsShortAnswer answer.now }
+        ensures message { option_map meaning result ≡ (answered self.now.methods answer.now).message }
+        ensures fits { IfSome result (λ message. Fits message) }
+        ensures short { IfSome result (λ message. payload_size (meaning message) ≤ 34000) }
+    {
+        match *answer {
+            ServerAnswer::Ignored | ServerAnswer::Unimplemented => None,
+            ServerAnswer::Accepted { .. } => Some(Message::UserauthSuccess),
+            ServerAnswer::KeyOk { algorithm, key } => {
+                Some(Message::UserauthPkOk { algorithm, key })
+            }
+            ServerAnswer::Failed => Some(Message::UserauthFailure {
+                methods: self.methods(),
+                partial: false,
+            }),
+        }
+    }
+
+    /// Takes a message of authentication, with the session id of the connection (RFC 4253 section 7.2), and answers what is to
+    /// be sent and told. The message fits, as whatever `decode` answers does.
+    ///
+    /// Once USERAUTH_SUCCESS was sent a request is ignored. Before, it is accepted where its service is `ssh-connection` and
+    /// the judge accepts it by `none`, by a password that is not to be changed, or by a signature of a known key; the last two
+    /// where the server names the method. A key probe for a known key is answered `KeyOk`. Every other request fails and is
+    /// counted. A key over 16,384 bytes, or one under a name over 64 bytes, is not known.
+    ///
+    /// # Errors
+    ///
+    /// The server is then as before.
+    ///
+    /// - `Refused(Unexpected)`: the message may not come here.
+    /// - `Refused(TooManyTries)`: a request fails, and as many failed before as may.
+    /// - `Memory`: memory was refused for the text that a signature covers, the only memory that is ever asked for here. The
+    ///   request was signed and by a known key.
+    pub fn take<'a, J: UserJudge>(
+        &mut self,
+        session: &[u8; 32],
+        judge: &J,
+        message: &Message<'a>,
+    ) -> Result<ServerAnswer<'a>, TakeError>
+        requires { Fits message.now }
+        ensures answered { IfOk result (λ answer. ServerAnswers (J.verdicts judge.now) session.now self.old (meaning message.now) answer self.new) }
+        ensures short { IfOk result (λ answer. IsShortAnswer answer) }
+        ensures refused { IfErr result (λ error. ServerRefuses (J.verdicts judge.now) session.now self.old (meaning message.now) error) }
+        ensures kept { OnErr result (self.new ≡ self.old) }
+    {
+        if !self.may_take(message.number()) {
+            return Err(TakeError::Refused(AuthRefusal::Unexpected));
+        }
+        match *message {
+            Message::UserauthRequest {
+                user,
+                service,
+                method,
+            } => self.take_request(session, judge, user, service, &method),
+            Message::Unknown(_) => Ok(ServerAnswer::Unimplemented),
+            _ => unreachable!(),
+        }
+    }
+
+    // Takes a request, which may come.
+    fn take_request<'a, J: UserJudge>(
+        &mut self,
+        session: &[u8; 32],
+        judge: &J,
+        user: &'a [u8],
+        service: &'a [u8],
+        method: &Method<'a>,
+    ) -> Result<ServerAnswer<'a>, TakeError>
+        requires short { IsShort user.now }
+        requires opened { self.old.kept.opened ≡ true }
+        ensures answered { IfOk result (λ answer. ServerAnswers (J.verdicts judge.now) session.now self.old (model.UserauthRequest user.now service.now (method_meaning method.now)) answer self.new) }
+        ensures short { IfOk result (λ answer. IsShortAnswer answer) }
+        ensures refused { IfErr result (λ error. ServerRefuses (J.verdicts judge.now) session.now self.old (model.UserauthRequest user.now service.now (method_meaning method.now)) error) }
+        ensures kept { OnErr result (self.new ≡ self.old) }
+    {
+        if self.authenticated {
+            return Ok(ServerAnswer::Ignored);
+        }
+        let answer = judge_request(
+            self.alloc,
+            judge,
+            &self.methods(),
+            session,
+            user,
+            service,
+            method,
+        )?;
+        self.settle(&answer)?;
+        Ok(answer)
+    }
+
+    // Keeps what a judged request changes, or refuses one that fails too often.
+    fn settle(&mut self, answer: &ServerAnswer<'_>) -> Result<(), AuthRefusal>
+        ensures settled { OnOk result (self.new ≡ settled self.old answer.now) }
+        ensures counted { OnOk result (answer.now ≡ answers.Failed → self.old.kept.failures < self.old.tries) }
+        ensures refused { IfErr result (λ refusal. refusal ≡ refusals.TooManyTries) }
+        ensures failed { OnErr result (answer.now ≡ answers.Failed) }
+        ensures spent { OnErr result (self.old.tries ≤ self.old.kept.failures) }
+        ensures kept { OnErr result (self.new ≡ self.old) }
+    {
+        match *answer {
+            ServerAnswer::Accepted { .. } => {
+                self.authenticated = true;
+                Ok(())
+            }
+            ServerAnswer::Failed => {
+                if self.failures >= self.tries {
+                    return Err(AuthRefusal::TooManyTries);
+                }
+                self.failures += 1;
+                Ok(())
+            }
+            _ => Ok(()),
+        }
+    }
+}

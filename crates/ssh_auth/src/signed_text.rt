@@ -1,0 +1,146 @@
+//! What a signature of a request covers.
+
+ghost use Rattle.std.specs.Prelude.{◌≡◌, ◌<◌, ◌≤◌, ◌+◌, ◌^◌, ◌++◌, ◌∷◌, [], IfOk, OnOk, OnErr, codes, length, vec_capacity};
+ghost use Rattle.ssh_model.specs.Wire.Reading.{Extends};
+ghost use Rattle.ssh_model.specs.KeyExchange.Exchange.{string_of};
+ghost use Rattle.ssh_model.specs.Authentication.Requests.{signed_text};
+ghost use Rattle.ssh_auth.specs.Texts.{IsShortText, back_of, front_of, text_of};
+
+use crate::configured::{CONNECTION, PUBLICKEY};
+use std::alloc::{AllocError, Global};
+
+// The number of USERAUTH_REQUEST (RFC 4252 section 6).
+const REQUEST: u8 = 50;
+
+/// What is signed in a request by `publickey` (RFC 4252 section 7).
+#[derive(Clone, Copy, Debug, PartialEq, Eq)]
+pub struct SignedText<'a> {
+    /// The session id: the hash of the first key exchange (RFC 4253 section 7.2).
+    pub session: &'a [u8; 32],
+    /// The name of the user.
+    pub user: &'a [u8],
+    /// The name of the service that is asked for.
+    pub service: &'a [u8],
+    /// The name of the algorithm of the key.
+    pub algorithm: &'a [u8],
+    /// The public key.
+    pub key: &'a [u8],
+}
+
+/// Puts the text to be signed at the end of `out` (RFC 4252 section 7): the string session id, the byte 50, the strings
+/// user, service and `publickey`, the boolean TRUE, the strings algorithm and key.
+///
+/// Each text is shorter than 2^32 bytes.
+///
+/// # Errors
+///
+/// `AllocError` where the text does not fit the capacity of `out` and memory was refused; `out` is then as before.
+pub fn put_signed_text(out: &mut Vec<u8>, text: &SignedText<'_>) -> Result<(), AllocError>
+    requires { IsShortText text.now }
+    ensures written { OnOk result (out.new.items ≡ out.old.items ++ text_of text.now) }
+    ensures kept { OnErr result (out.new.items ≡ out.old.items) }
+    ensures full { OnErr result (vec_capacity out.old < length out.old.items + length (text_of text.now)) }
+{
+    let start = out.len();
+    if let Err(error) = put_parts(out, text) {
+        out.truncate(start);
+        return Err(error);
+    }
+    Ok(())
+}
+
+// The text of a request for the connection. It fails only where memory is refused.
+pub(crate) fn request_text(
+    alloc: Global,
+    session: &[u8; 32],
+    user: &[u8],
+    algorithm: &[u8],
+    key: &[u8],
+) -> Result<Vec<u8>, AllocError>
+    requires user { length user.now < 2 ^ 32 }
+    requires algorithm { length algorithm.now < 2 ^ 32 }
+    requires key { length key.now < 2 ^ 32 }
+    ensures { IfOk result (λ text. text.items ≡ signed_text session.now user.now (codes "ssh-connection") algorithm.now key.now) }
+{
+    let mut text = Vec::new(alloc);
+    let signed = SignedText {
+        session,
+        user,
+        service: CONNECTION,
+        algorithm,
+        key,
+    };
+    put_signed_text(&mut text, &signed)?;
+    Ok(text)
+}
+
+// Puts the text to be signed. Where memory is wanting some of its bytes may stand there.
+fn put_parts(out: &mut Vec<u8>, text: &SignedText<'_>) -> Result<(), AllocError>
+    requires { IsShortText text.now }
+    ensures written { OnOk result (out.new.items ≡ out.old.items ++ text_of text.now) }
+    ensures grown { OnErr result (Extends out.old.items out.new.items) }
+    ensures full { OnErr result (vec_capacity out.old < length out.old.items + length (text_of text.now)) }
+{
+    let session = text.session;
+    put_front(out, session, text.user, text.service)?;
+    put_back(out, text.algorithm, text.key)
+}
+
+// The part before the name of the method.
+fn put_front(
+    out: &mut Vec<u8>,
+    session: &[u8; 32],
+    user: &[u8],
+    service: &[u8],
+) -> Result<(), AllocError>
+    requires user { length user.now < 2 ^ 32 }
+    requires service { length service.now < 2 ^ 32 }
+    ensures written { OnOk result (out.new.items ≡ out.old.items ++ front_of session.now user.now service.now) }
+    ensures grown { OnErr result (Extends out.old.items out.new.items) }
+    ensures full { OnErr result (vec_capacity out.old < length out.old.items + length (front_of session.now user.now service.now)) }
+    ensures grows { vec_capacity out.old ≤ vec_capacity out.new }
+{
+    put_text(out, session.as_slice())?;
+    put_byte(out, REQUEST)?;
+    put_text(out, user)?;
+    put_text(out, service)
+}
+
+// The part from the name of the method on.
+fn put_back(out: &mut Vec<u8>, algorithm: &[u8], key: &[u8]) -> Result<(), AllocError>
+    requires algorithm { length algorithm.now < 2 ^ 32 }
+    requires key { length key.now < 2 ^ 32 }
+    ensures written { OnOk result (out.new.items ≡ out.old.items ++ back_of algorithm.now key.now) }
+    ensures grown { OnErr result (Extends out.old.items out.new.items) }
+    ensures full { OnErr result (vec_capacity out.old < length out.old.items + length (back_of algorithm.now key.now)) }
+{
+    put_text(out, PUBLICKEY)?;
+    put_byte(out, 1)?;
+    put_text(out, algorithm)?;
+    put_text(out, key)
+}
+
+// A byte.
+fn put_byte(out: &mut Vec<u8>, byte: u8) -> Result<(), AllocError>
+    ensures written { OnOk result (out.new.items ≡ out.old.items ++ byte ∷ []) }
+    ensures grown { OnErr result (Extends out.old.items out.new.items) }
+    ensures full { OnErr result (vec_capacity out.old < length out.old.items + 1) }
+    ensures grows { vec_capacity out.old ≤ vec_capacity out.new }
+{
+    out.push(byte)?;
+    Ok(())
+}
+
+// A string: its length as a uint32, and its bytes (RFC 4251 section 5).
+#[tactic(auto, unfolding(ssh_model::specs::KeyExchange::Exchange::string_of))]
+fn put_text(out: &mut Vec<u8>, text: &[u8]) -> Result<(), AllocError>
+    requires { length text.now < 2 ^ 32 }
+    ensures written { OnOk result (out.new.items ≡ out.old.items ++ string_of text.now) }
+    ensures grown { OnErr result (Extends out.old.items out.new.items) }
+    ensures full { OnErr result (vec_capacity out.old < length out.old.items + length (string_of text.now)) }
+    ensures grows { vec_capacity out.old ≤ vec_capacity out.new }
+{
+    let length = text.len() as u32;
+    out.extend_from_slice(&length.to_be_bytes())?;
+    out.extend_from_slice(text)
+}
