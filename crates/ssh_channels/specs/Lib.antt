@@ -1,3 +1,4 @@
 pub mod Entries
+pub mod Rows
 pub mod Table
 pub mod Values

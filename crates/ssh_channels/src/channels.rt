@@ -1,17 +1,29 @@
 //! The channels of one end.
 
-ghost use Rattle.std.specs.Prelude.{◌≡◌, IfOk};
-ghost use Rattle.ssh_model.specs.Channels.Kept.{no_channels};
+ghost use Rattle.std.specs.Prelude.{◌≡◌, ◌<◌, ◌&&◌, Some, None, IfOk, IfErr, IfSome, IfNone, OnErr, true, false, length};
+ghost use Rattle.ssh_types.specs.Refusals.{refusal_of};
+ghost use Rattle.ssh_model.specs.Sessions.Refusals as model;
+ghost use Rattle.ssh_model.specs.Channels.Connection.{is_limit_reached};
+ghost use Rattle.ssh_model.specs.Channels.Places.{at, is_at, is_open};
+ghost use Rattle.ssh_model.specs.Channels.Kept.{no_channels, count_where, is_queue_full, is_table_full, owe};
+ghost use Rattle.ssh_channels.specs.Entries.{place_of};
+ghost use Rattle.ssh_channels.specs.Values.{reply_of};
 
 use crate::Reply;
-use crate::table::Table;
+use crate::entry::Entry;
+use crate::table::{NUMBERS, Table};
+use ssh_types::Refusal;
 use std::alloc::{AllocError, Global};
 use std::collections::VecDeque;
 use std::marker::Model;
 
+mod closing;
 mod data;
+mod globals;
+mod opening;
+mod requests;
 
-/// How many replies are owed at most, and how many requests of one channel, and global ones, of one side wait.
+// How many replies are owed at most, and how many requests of one channel, and global ones, of one side wait.
 const LIMIT: usize = 256;
 
 /// The channels of one end.
@@ -52,4 +64,54 @@ impl Channels {
             globals_there: 0,
         })
     }
+
+    // The channel of a message that comes on an open one.
+    fn open_entry(&self, number: u32) -> Result<Entry, Refusal>
+        ensures found { IfOk result (λ entry. at self.now.places number ≡ Some (place_of entry)) }
+        ensures open { IfOk result (λ entry. is_open (place_of entry) ≡ true) }
+        ensures refused { IfErr result (λ e. refusal_of e ≡ model.Refusal.UnknownChannel) }
+        ensures closed { OnErr result (is_at is_open (at self.now.places number) ≡ false) }
+    {
+        match self.table.get(number) {
+            Some(entry) if entry.is_open() => Ok(entry),
+            _ => Err(Refusal::UnknownChannel),
+        }
+    }
+
+    // Each number is in use.
+    fn is_table_full(&self) -> bool
+        ensures { result ≡ is_table_full self.now.places }
+    {
+        self.table.count() >= NUMBERS
+    }
+
+    // One reply more cannot be owed.
+    fn is_queue_full(&self, blocked: bool) -> bool
+        ensures { result ≡ is_queue_full blocked self.now.owed }
+    {
+        blocked && self.owed.len() >= LIMIT
+    }
+
+    // A reply is owed behind the others.
+    fn owe(&mut self, reply: Reply)
+        requires { length self.old.owed < 256 }
+        ensures { self.new ≡ owe (reply_of reply) self.old }
+    {
+        self.owed.push_back_reserved(reply);
+    }
+}
+
+// One request more that waits, where a reply is wanted; `None` where no more can wait.
+fn count_where(want: bool, waiting: u32) -> Option<u32>
+    ensures counted { IfSome result (λ count. count ≡ count_where want waiting) }
+    ensures fits { IfSome result (λ count. (want && is_limit_reached waiting) ≡ false) }
+    ensures many { IfNone result ((want && is_limit_reached waiting) ≡ true) }
+{
+    if !want {
+        return Some(waiting);
+    }
+    if waiting as usize >= LIMIT {
+        return None;
+    }
+    Some(waiting + 1)
 }

@@ -9,7 +9,7 @@ use std::alloc::{AllocError, Global};
 use std::marker::Model;
 
 /// How many local numbers there are.
-const NUMBERS: usize = 1024;
+pub(crate) const NUMBERS: usize = 1024;
 
 /// The channels of an end by their local numbers: for each number in use the key of an entry.
 #[derive(Drop)]

@@ -1,13 +1,12 @@
 //! Data and windows (RFC 4254 section 5.2).
 
-ghost use Rattle.std.specs.Prelude.{◌≡◌, Some, None, IfOk, IfErr, OnOk, OnErr, IsTrue, true, false};
+ghost use Rattle.std.specs.Prelude.{◌≡◌, Some, None, IfOk, IfErr, OnOk, OnErr, length};
 ghost use Rattle.ssh_types.specs.Refusals.{refusal_of};
 ghost use Rattle.ssh_model.specs.Wire.Message as Msg;
 ghost use Rattle.ssh_model.specs.Sessions.Refusals.{first_refusal};
-ghost use Rattle.ssh_model.specs.Sessions.Refusals as model;
-ghost use Rattle.ssh_model.specs.Channels.Places.{at, is_at, is_open};
-ghost use Rattle.ssh_model.specs.Channels.Kept.{Takes, take_checks};
-ghost use Rattle.ssh_channels.specs.Entries.{place_of};
+ghost use Rattle.ssh_model.specs.Channels.Places.{at};
+ghost use Rattle.ssh_model.specs.Channels.Kept.{Takes, data_checks, take_checks};
+ghost use Rattle.ssh_channels.specs.Rows.{data_message};
 ghost use Rattle.ssh_channels.specs.Values.{taken_of};
 
 use super::Channels;
@@ -16,19 +15,6 @@ use crate::{Fact, Taken};
 use ssh_types::Refusal;
 
 impl Channels {
-    // The channel of a message that comes on an open one.
-    fn open_entry(&self, number: u32) -> Result<Entry, Refusal>
-        ensures found { IfOk result (λ entry. at self.now.places number ≡ Some (place_of entry)) }
-        ensures open { IfOk result (λ entry. is_open (place_of entry) ≡ true) }
-        ensures refused { IfErr result (λ e. refusal_of e ≡ model.Refusal.UnknownChannel) }
-        ensures closed { OnErr result (is_at is_open (at self.now.places number) ≡ false) }
-    {
-        match self.table.get(number) {
-            Some(entry) if entry.is_open() => Ok(entry),
-            _ => Err(Refusal::UnknownChannel),
-        }
-    }
-
     /// CHANNEL_WINDOW_ADJUST.
     #[tactic(auto, using(crate::proofs::Taking::adjust_taken))]
     pub(super) fn take_adjust<'a>(
@@ -62,6 +48,49 @@ impl Channels {
             fact: Some(Fact::Adjusted {
                 channel: recipient,
                 bytes,
+            }),
+        })
+    }
+
+    /// CHANNEL_DATA, or CHANNEL_EXTENDED_DATA of a kind.
+    #[tactic(auto, using(crate::proofs::Taking::data_taken))]
+    pub(super) fn take_data<'a>(
+        &mut self,
+        blocked: bool,
+        recipient: u32,
+        kind: Option<u32>,
+        body: &'a [u8],
+    ) -> Result<Taken<'a>, Refusal>
+        ensures refused { IfErr result (λ e. first_refusal (data_checks (at self.old.places recipient) (length body.now)) ≡ Some (refusal_of e)) }
+        ensures kept { OnErr result (self.new ≡ self.old) }
+        ensures passed { OnOk result (first_refusal (data_checks (at self.old.places recipient) (length body.now)) ≡ None) }
+        ensures taken { IfOk result (λ t. Takes blocked self.old (data_message recipient kind body.now) (taken_of t) self.new) }
+    {
+        let entry = match self.open_entry(recipient) {
+            Ok(entry) => entry,
+            Err(refusal) => return Err(refusal),
+        };
+        if entry.eof_taken {
+            return Err(Refusal::Unexpected);
+        }
+        let size = body.len();
+        if size > entry.receive_window as usize || size > entry.max_packet_here as usize {
+            return Err(Refusal::WindowOverrun);
+        }
+        self.table.set(
+            recipient,
+            Entry {
+                receive_window: entry.receive_window - size as u32,
+                ..entry
+            },
+        );
+        Ok(Taken {
+            channel: Some(recipient),
+            reply: None,
+            fact: Some(Fact::GotData {
+                channel: recipient,
+                kind,
+                body,
             }),
         })
     }

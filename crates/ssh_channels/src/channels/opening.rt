@@ -1,0 +1,175 @@
+//! The opening of channels (RFC 4254 section 5.1).
+
+ghost use Rattle.std.specs.Prelude.{◌≡◌, ◌<◌, Some, None, IfOk, IfErr, OnOk, OnErr, true, false};
+ghost use Rattle.ssh_types.specs.Refusals.{refusal_of};
+ghost use Rattle.ssh_model.specs.Wire.Message as Msg;
+ghost use Rattle.ssh_model.specs.Sessions.Refusals as model;
+ghost use Rattle.ssh_model.specs.Sessions.Refusals.{first_refusal};
+ghost use Rattle.ssh_model.specs.Channels.Places.{at, is_opening};
+ghost use Rattle.ssh_model.specs.Channels.Kept.{IsUnused, Takes, is_queue_full, is_table_full, opening_checks, put, take_checks, used, waiting_place};
+ghost use Rattle.ssh_channels.specs.Entries.{place_of};
+ghost use Rattle.ssh_channels.specs.Values.{taken_of};
+
+use super::Channels;
+use crate::entry::Entry;
+use crate::{Fact, Reply, Taken};
+use ssh_types::Refusal;
+use std::alloc::AllocError;
+
+impl Channels {
+    /// CHANNEL_OPEN where no number is free: it is refused, at once or, within a key exchange, later.
+    #[tactic(auto, using(crate::proofs::Taking::open_declined))]
+    pub(super) fn decline_open<'a>(
+        &mut self,
+        blocked: bool,
+        kind: &'a [u8],
+        sender: u32,
+        window: u32,
+        max_packet: u32,
+        rest: &'a [u8],
+    ) -> Result<Taken<'a>, Refusal>
+        requires { is_table_full self.old.places ≡ true }
+        ensures refused { IfErr result (λ e. refusal_of e ≡ model.Refusal.OwedFull) }
+        ensures many { OnErr result (is_queue_full blocked self.old.owed ≡ true) }
+        ensures kept { OnErr result (self.new ≡ self.old) }
+        ensures few { OnOk result (is_queue_full blocked self.old.owed ≡ false) }
+        ensures taken { IfOk result (λ t. Takes blocked self.old (Msg.ChannelOpen kind.now sender window max_packet rest.now) (taken_of t) self.new) }
+    {
+        let reply = Reply::OpenFailure { recipient: sender };
+        if !blocked {
+            return Ok(Taken {
+                channel: None,
+                reply: Some(reply),
+                fact: None,
+            });
+        }
+        if self.is_queue_full(blocked) {
+            return Err(Refusal::OwedFull);
+        }
+        self.owe(reply);
+        Ok(Taken {
+            channel: None,
+            reply: None,
+            fact: None,
+        })
+    }
+
+    /// CHANNEL_OPEN where a number is free: the channel waits there for this end's answer.
+    #[tactic(auto, using(crate::proofs::Taking::opened))]
+    pub(super) fn accept_open<'a>(
+        &mut self,
+        blocked: bool,
+        kind: &'a [u8],
+        sender: u32,
+        window: u32,
+        max_packet: u32,
+        rest: &'a [u8],
+    ) -> Result<Taken<'a>, AllocError>
+        requires { is_table_full self.old.places ≡ false }
+        ensures kept { OnErr result (self.new ≡ self.old) }
+        ensures taken { IfOk result (λ t. Takes blocked self.old (Msg.ChannelOpen kind.now sender window max_packet rest.now) (taken_of t) self.new) }
+    {
+        let entry = Entry::waiting(sender, window, max_packet);
+        let number = match self.table.insert(entry) {
+            Ok(number) => number,
+            Err(error) => return Err(error),
+        };
+        Ok(Taken {
+            channel: Some(number),
+            reply: None,
+            fact: Some(Fact::Opened {
+                channel: number,
+                kind,
+                window,
+                max_packet,
+                rest,
+            }),
+        })
+    }
+
+    // The channel of an answer to this end's OPEN.
+    fn opening_entry(&self, number: u32) -> Result<Entry, Refusal>
+        ensures found { IfOk result (λ entry. at self.now.places number ≡ Some (place_of entry)) }
+        ensures opening { IfOk result (λ entry. is_opening (place_of entry) ≡ true) }
+        ensures refused { IfErr result (λ e. first_refusal (opening_checks (at self.now.places number)) ≡ Some (refusal_of e)) }
+    {
+        match self.table.get(number) {
+            Some(entry) if entry.is_own && !entry.is_answered => Ok(entry),
+            Some(_) => Err(Refusal::Unexpected),
+            None => Err(Refusal::UnknownChannel),
+        }
+    }
+
+    /// CHANNEL_OPEN_CONFIRMATION.
+    #[tactic(auto, using(crate::proofs::Taking::confirmed))]
+    pub(super) fn take_confirmation<'a>(
+        &mut self,
+        blocked: bool,
+        recipient: u32,
+        sender: u32,
+        window: u32,
+        max_packet: u32,
+        rest: &'a [u8],
+    ) -> Result<Taken<'a>, Refusal>
+        ensures refused { IfErr result (λ e. first_refusal (opening_checks (at self.old.places recipient)) ≡ Some (refusal_of e)) }
+        ensures kept { OnErr result (self.new ≡ self.old) }
+        ensures passed { OnOk result (first_refusal (opening_checks (at self.old.places recipient)) ≡ None) }
+        ensures taken { IfOk result (λ t. Takes blocked self.old (Msg.ChannelOpenConfirmation recipient sender window max_packet rest.now) (taken_of t) self.new) }
+    {
+        let entry = match self.opening_entry(recipient) {
+            Ok(entry) => entry,
+            Err(refusal) => return Err(refusal),
+        };
+        self.table.set(
+            recipient,
+            Entry {
+                is_answered: true,
+                peer_number: sender,
+                send_window: window,
+                max_packet_there: max_packet,
+                ..entry
+            },
+        );
+        Ok(Taken {
+            channel: Some(recipient),
+            reply: None,
+            fact: Some(Fact::Confirmed {
+                channel: recipient,
+                window,
+                max_packet,
+                rest,
+            }),
+        })
+    }
+
+    /// CHANNEL_OPEN_FAILURE.
+    #[tactic(auto, using(crate::proofs::Taking::open_failed))]
+    pub(super) fn take_failure<'a>(
+        &mut self,
+        blocked: bool,
+        recipient: u32,
+        reason: u32,
+        description: &'a [u8],
+        language: &'a [u8],
+    ) -> Result<Taken<'a>, Refusal>
+        ensures refused { IfErr result (λ e. first_refusal (opening_checks (at self.old.places recipient)) ≡ Some (refusal_of e)) }
+        ensures kept { OnErr result (self.new ≡ self.old) }
+        ensures passed { OnOk result (first_refusal (opening_checks (at self.old.places recipient)) ≡ None) }
+        ensures taken { IfOk result (λ t. Takes blocked self.old (Msg.ChannelOpenFailure recipient reason description.now language.now) (taken_of t) self.new) }
+    {
+        let _entry = match self.opening_entry(recipient) {
+            Ok(entry) => entry,
+            Err(refusal) => return Err(refusal),
+        };
+        self.table.remove(recipient);
+        Ok(Taken {
+            channel: Some(recipient),
+            reply: None,
+            fact: Some(Fact::OpenFailed {
+                channel: recipient,
+                reason,
+                description,
+            }),
+        })
+    }
+}
