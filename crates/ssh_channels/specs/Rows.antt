@@ -1,8 +1,11 @@
 -- What a message is refused for, and the words in which the rows of single messages and asks are said.
-use Rattle.std.specs.Prelude.{ℕ, Bool, true, false, not, Option, Some, None, List, ◌∷◌, []}
+use Rattle.std.specs.Prelude.{◌≡◌, ℕ, Bool, true, false, not, Option, Some, None, List, ◌∷◌, []}
 use Rattle.ssh_model.specs.Wire.Message.{Msg, Msg.GlobalRequest, Msg.RequestSuccess, Msg.RequestFailure, Msg.ChannelOpen, Msg.ChannelOpenConfirmation, Msg.ChannelOpenFailure, Msg.ChannelWindowAdjust, Msg.ChannelData, Msg.ChannelExtendedData, Msg.ChannelEof, Msg.ChannelClose, Msg.ChannelRequest, Msg.ChannelSuccess, Msg.ChannelFailure}
-use Rattle.ssh_model.specs.Sessions.Refusals.{Check, Check.RefusedWhere, Refusal, Refusal.Unexpected}
-use Rattle.ssh_model.specs.Channels.Kept.{Channels, take_checks}
+use Rattle.ssh_types.specs.Refusals.{refusal_of}
+use Rattle.ssh_model.specs.Sessions.Refusals.{Check, Check.RefusedWhere, Refusal, Refusal.Unexpected, first_refusal}
+use Rattle.ssh_model.specs.Channels.Kept.{Channels, is_table_full, take_checks}
+use Rattle.ssh_channels.specs.declared.error.TakeError.{TakeError}
+use Rattle.ssh_channels.specs.declared.error.TakeError.TheVariants.{Refused, Memory}
 
 -- a message of the connection (RFC 4254)
 abbrev pub is_connection : Msg → Bool
@@ -40,3 +43,18 @@ reply_message recipient false = ChannelFailure recipient
 abbrev pub global_reply_message : Bool → List ℕ → Msg
 global_reply_message true rest = RequestSuccess rest
 global_reply_message false rest = RequestFailure
+
+-- ---- why a message is not taken, and why nothing is sent on an ask
+
+-- The message or the ask is for a new channel, and a number is free.
+abbrev pub OpensChannel : Msg → Type 0
+OpensChannel (ChannelOpen kind sender window max_packet rest) = Unit {0}
+OpensChannel _ = ⊥
+
+pub record WantsPlace (channels : Channels) (message : Msg) : Type 0 where
+  pub opens : OpensChannel message
+  pub free : is_table_full channels.places ≡ false
+
+abbrev pub IsTakeError : (is_blocked : Bool) → Channels → Msg → TakeError → Type 0
+IsTakeError is_blocked channels message (Refused refusal) = first_refusal (message_checks is_blocked channels message) ≡ Some (refusal_of refusal)
+IsTakeError is_blocked channels message Memory = WantsPlace channels message

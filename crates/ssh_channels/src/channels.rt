@@ -22,6 +22,7 @@ mod data;
 mod globals;
 mod opening;
 mod requests;
+mod taking;
 
 // How many replies are owed at most, and how many requests of one channel, and global ones, of one side wait.
 const LIMIT: usize = 256;

@@ -8,15 +8,43 @@ ghost use Rattle.ssh_model.specs.Sessions.Refusals.{first_refusal};
 ghost use Rattle.ssh_model.specs.Channels.Places.{at, is_opening};
 ghost use Rattle.ssh_model.specs.Channels.Kept.{IsUnused, Takes, is_queue_full, is_table_full, opening_checks, put, take_checks, used, waiting_place};
 ghost use Rattle.ssh_channels.specs.Entries.{place_of};
+ghost use Rattle.ssh_channels.specs.Rows.{IsTakeError};
 ghost use Rattle.ssh_channels.specs.Values.{taken_of};
 
 use super::Channels;
 use crate::entry::Entry;
-use crate::{Fact, Reply, Taken};
+use crate::{Fact, Reply, TakeError, Taken};
 use ssh_types::Refusal;
 use std::alloc::AllocError;
 
 impl Channels {
+    /// CHANNEL_OPEN.
+    pub(super) fn take_open<'a>(
+        &mut self,
+        blocked: bool,
+        kind: &'a [u8],
+        sender: u32,
+        window: u32,
+        max_packet: u32,
+        rest: &'a [u8],
+    ) -> Result<Taken<'a>, TakeError>
+        ensures refused { IfErr result (λ e. IsTakeError blocked self.old (Msg.ChannelOpen kind.now sender window max_packet rest.now) e) }
+        ensures kept { OnErr result (self.new ≡ self.old) }
+        ensures passed { OnOk result (first_refusal (take_checks blocked self.old (Msg.ChannelOpen kind.now sender window max_packet rest.now)) ≡ None) }
+        ensures taken { IfOk result (λ t. Takes blocked self.old (Msg.ChannelOpen kind.now sender window max_packet rest.now) (taken_of t) self.new) }
+    {
+        if !self.is_table_full() {
+            return match self.accept_open(blocked, kind, sender, window, max_packet, rest) {
+                Ok(taken) => Ok(taken),
+                Err(_) => Err(TakeError::Memory),
+            };
+        }
+        match self.decline_open(blocked, kind, sender, window, max_packet, rest) {
+            Ok(taken) => Ok(taken),
+            Err(refusal) => Err(TakeError::Refused(refusal)),
+        }
+    }
+
     /// CHANNEL_OPEN where no number is free: it is refused, at once or, within a key exchange, later.
     #[tactic(auto, using(crate::proofs::Taking::open_declined))]
     pub(super) fn decline_open<'a>(
