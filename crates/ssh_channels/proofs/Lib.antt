@@ -1,2 +1,4 @@
 pub mod Tables
 pub mod Taking
+pub mod Sessions
+pub mod Unblocking

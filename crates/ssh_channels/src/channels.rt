@@ -22,7 +22,9 @@ mod data;
 mod globals;
 mod opening;
 mod requests;
+mod showing;
 mod taking;
+mod unblocking;
 
 // How many replies are owed at most, and how many requests of one channel, and global ones, of one side wait.
 const LIMIT: usize = 256;

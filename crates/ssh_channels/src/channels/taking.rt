@@ -5,11 +5,13 @@ ghost use Rattle.ssh_message.specs.Meaning.{meaning};
 ghost use Rattle.ssh_model.specs.Sessions.Refusals.{first_refusal};
 ghost use Rattle.ssh_model.specs.Channels.Kept.{Takes};
 ghost use Rattle.ssh_channels.specs.Rows.{IsTakeError, message_checks};
+ghost use Rattle.ssh_channels.specs.Sessions.{TakesInSession};
 ghost use Rattle.ssh_channels.specs.Values.{taken_of};
 
 use super::Channels;
 use crate::{TakeError, Taken};
 use ssh_message::Message;
+use ssh_model::connection::messages;
 use ssh_types::Refusal;
 
 impl Channels {
@@ -21,6 +23,22 @@ impl Channels {
     /// `Refused` where the message may not come here, with the first refusal that holds; a message that is none of the
     /// connection is `Unexpected`. `Memory` where there was none for a new channel. The channels are then as before.
     pub fn take<'a>(&mut self, message: &Message<'a>, blocked: bool) -> Result<Taken<'a>, TakeError>
+        ensures refused { IfErr result (λ e. IsTakeError blocked self.old (meaning message.now) e) }
+        ensures kept { OnErr result (self.new ≡ self.old) }
+        ensures passed { OnOk result (first_refusal (message_checks blocked self.old (meaning message.now)) ≡ None) }
+        ensures taken { IfOk result (λ t. Takes blocked self.old (meaning message.now) (taken_of t) self.new) }
+        ensures in_session { TakesInSession blocked self.old (meaning message.now) self.new result }
+    {
+        messages();
+        match self.take_row(message, blocked) {
+            Ok(taken) => Ok(taken),
+            Err(TakeError::Refused(refusal)) => Err(TakeError::Refused(refusal)),
+            Err(TakeError::Memory) => Err(TakeError::Memory),
+        }
+    }
+
+    // The message by the row of its number.
+    fn take_row<'a>(&mut self, message: &Message<'a>, blocked: bool) -> Result<Taken<'a>, TakeError>
         ensures refused { IfErr result (λ e. IsTakeError blocked self.old (meaning message.now) e) }
         ensures kept { OnErr result (self.new ≡ self.old) }
         ensures passed { OnOk result (first_refusal (message_checks blocked self.old (meaning message.now)) ≡ None) }
