@@ -1,9 +1,15 @@
 -- What a message is refused for, and the words in which the rows of single messages and asks are said.
-use Rattle.std.specs.Prelude.{◌≡◌, ℕ, Bool, true, false, not, Option, Some, None, List, ◌∷◌, []}
+use Rattle.std.specs.Prelude.{◌≡◌, ℕ, Bool, true, false, not, ◌&&◌, Option, Some, None, List, ◌∷◌, []}
 use Rattle.ssh_model.specs.Wire.Message.{Msg, Msg.GlobalRequest, Msg.RequestSuccess, Msg.RequestFailure, Msg.ChannelOpen, Msg.ChannelOpenConfirmation, Msg.ChannelOpenFailure, Msg.ChannelWindowAdjust, Msg.ChannelData, Msg.ChannelExtendedData, Msg.ChannelEof, Msg.ChannelClose, Msg.ChannelRequest, Msg.ChannelSuccess, Msg.ChannelFailure}
 use Rattle.ssh_types.specs.Refusals.{refusal_of}
+use Rattle.ssh_types.specs.AskRefusals.{ask_refusal_of}
 use Rattle.ssh_model.specs.Sessions.Refusals.{Check, Check.RefusedWhere, Refusal, Refusal.Unexpected, first_refusal}
-use Rattle.ssh_model.specs.Channels.Kept.{Channels, is_table_full, take_checks}
+use Rattle.ssh_model.specs.Sessions.Items.{Ask, Ask.AskOpen, Ask.AskRequest, Ask.AskGlobal}
+use Rattle.ssh_model.specs.Channels.Places.{at, is_at}
+use Rattle.ssh_model.specs.Channels.Connection.{is_limit_reached}
+use Rattle.ssh_model.specs.Channels.Kept.{Channels, is_table_full, send_checks, take_checks}
+use Rattle.ssh_channels.specs.declared.error.AskError.{AskError}
+use Rattle.ssh_channels.specs.declared.error.AskError.TheVariants as ask_error
 use Rattle.ssh_channels.specs.declared.error.TakeError.{TakeError}
 use Rattle.ssh_channels.specs.declared.error.TakeError.TheVariants.{Refused, Memory}
 
@@ -46,15 +52,26 @@ global_reply_message false rest = RequestFailure
 
 -- ---- why a message is not taken, and why nothing is sent on an ask
 
--- The message or the ask is for a new channel, and a number is free.
-abbrev pub OpensChannel : Msg → Type 0
-OpensChannel (ChannelOpen kind sender window max_packet rest) = Unit {0}
-OpensChannel _ = ⊥
-
-pub record WantsPlace (channels : Channels) (message : Msg) : Type 0 where
-  pub opens : OpensChannel message
-  pub free : is_table_full channels.places ≡ false
+-- The message opens a channel, and a number is free.
+abbrev pub OpensChannel : Channels → Msg → Type 0
+OpensChannel channels (ChannelOpen kind sender window max_packet rest) = is_table_full channels.places ≡ false
+OpensChannel channels _ = ⊥
 
 abbrev pub IsTakeError : (is_blocked : Bool) → Channels → Msg → TakeError → Type 0
 IsTakeError is_blocked channels message (Refused refusal) = first_refusal (message_checks is_blocked channels message) ≡ Some (refusal_of refusal)
-IsTakeError is_blocked channels message Memory = WantsPlace channels message
+IsTakeError is_blocked channels message Memory = OpensChannel channels message
+
+-- A request more cannot wait for a reply, so an ask for one is refused before it is said that an exchange is due.
+abbrev pub is_busy : Channels → Ask → Bool
+is_busy channels (AskRequest number name want rest) = want && is_at (λ kept. is_limit_reached kept.waiting_there) (at channels.places number)
+is_busy channels (AskGlobal name want rest) = want && is_limit_reached channels.globals_there
+is_busy channels _ = false
+
+-- The ask is for a channel, and nothing refuses it.
+abbrev pub AsksForChannel : (is_blocked is_due : Bool) → Channels → Ask → Type 0
+AsksForChannel is_blocked is_due channels (AskOpen kind window max_packet rest) = first_refusal (send_checks is_blocked is_due channels (AskOpen kind window max_packet rest)) ≡ None
+AsksForChannel is_blocked is_due channels _ = ⊥
+
+abbrev pub IsAskError : (is_blocked is_due : Bool) → Channels → Ask → AskError → Type 0
+IsAskError is_blocked is_due channels ask (ask_error.Refused refusal) = first_refusal (send_checks is_blocked is_due channels ask) ≡ Some (ask_refusal_of refusal)
+IsAskError is_blocked is_due channels ask ask_error.Memory = AsksForChannel is_blocked is_due channels ask

@@ -11,7 +11,7 @@ use Rattle.ssh_model.specs.Channels.Places.{channel_state, count, room}
 use Rattle.ssh_model.specs.Channels.Connection.{connection_checks, notes, owed_replies}
 use Rattle.ssh_model.specs.Channels.Kept.{Channels}
 use Rattle.ssh_model.specs.Channels.Summary.{SumsUp, Accepts, SendsOwed}
-use Rattle.ssh_channels.specs.Rows.{is_connection, WantsPlace}
+use Rattle.ssh_channels.specs.Rows.{is_connection}
 use Rattle.ssh_channels.specs.Values.{reply_of, state_of, taken_of}
 use Rattle.ssh_channels.specs.declared.error.TakeError.{TakeError}
 use Rattle.ssh_channels.specs.declared.error.TakeError.TheVariants.{Refused, Memory}

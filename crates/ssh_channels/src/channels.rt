@@ -2,6 +2,7 @@
 
 ghost use Rattle.std.specs.Prelude.{◌≡◌, ◌<◌, ◌&&◌, Some, None, IfOk, IfErr, IfSome, IfNone, OnErr, true, false, length};
 ghost use Rattle.ssh_types.specs.Refusals.{refusal_of};
+ghost use Rattle.ssh_types.specs.AskRefusals.{ask_refusal_of};
 ghost use Rattle.ssh_model.specs.Sessions.Refusals as model;
 ghost use Rattle.ssh_model.specs.Channels.Connection.{is_limit_reached};
 ghost use Rattle.ssh_model.specs.Channels.Places.{at, is_at, is_open};
@@ -12,7 +13,7 @@ ghost use Rattle.ssh_channels.specs.Values.{reply_of};
 use crate::Reply;
 use crate::entry::Entry;
 use crate::table::{NUMBERS, Table};
-use ssh_types::Refusal;
+use ssh_types::{AskRefusal, Refusal};
 use std::alloc::{AllocError, Global};
 use std::collections::VecDeque;
 use std::marker::Model;
@@ -20,9 +21,11 @@ use std::marker::Model;
 mod closing;
 mod data;
 mod globals;
+mod offering;
 mod opening;
 mod requests;
 mod showing;
+mod sizes;
 mod taking;
 mod unblocking;
 
@@ -78,6 +81,19 @@ impl Channels {
         match self.table.get(number) {
             Some(entry) if entry.is_open() => Ok(entry),
             _ => Err(Refusal::UnknownChannel),
+        }
+    }
+
+    // The channel of an ask for an open one.
+    fn confirmed_entry(&self, number: u32) -> Result<Entry, AskRefusal>
+        ensures found { IfOk result (λ entry. at self.now.places number ≡ Some (place_of entry)) }
+        ensures open { IfOk result (λ entry. is_open (place_of entry) ≡ true) }
+        ensures refused { IfErr result (λ e. ask_refusal_of e ≡ model.AskRefusal.NoChannel) }
+        ensures closed { OnErr result (is_at is_open (at self.now.places number) ≡ false) }
+    {
+        match self.table.get(number) {
+            Some(entry) if entry.is_open() => Ok(entry),
+            _ => Err(AskRefusal::NoChannel),
         }
     }
 

@@ -26,7 +26,7 @@ pub(crate) struct Entry {
 impl Entry {
     ghost use Rattle.std.specs.Prelude.{◌≡◌};
     ghost use Rattle.ssh_model.specs.Channels.Places.{is_open};
-    ghost use Rattle.ssh_model.specs.Channels.Kept.{opening_place, waiting_place};
+    ghost use Rattle.ssh_model.specs.Channels.Kept.{is_ended, opening_place, waiting_place};
     ghost use Rattle.ssh_channels.specs.Entries.{place_of};
 
     /// The peer's OPEN waits for this end's answer.
@@ -69,5 +69,12 @@ impl Entry {
         ensures { result ≡ is_open (place_of self.now) }
     {
         self.is_answered && !self.close_taken
+    }
+
+    /// EOF was sent, or CLOSE said, so no data goes out any more.
+    pub fn is_ended(&self) -> bool
+        ensures { result ≡ is_ended (place_of self.now) }
+    {
+        self.eof_sent || self.close_said
     }
 }
