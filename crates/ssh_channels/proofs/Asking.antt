@@ -1,10 +1,14 @@
 -- The rows of the asks, from what they send and what they change.
 use Rattle.std.proofs.Common.{◌≡◌, ◌≤◌, ℕ, ◌+◌, ◌-◌, Bool, true, false, Option, Some, None, length, List, [], refl}
 use Rattle.ssh_model.specs.Wire.Message.{Msg.GlobalRequest, Msg.ChannelOpen, Msg.ChannelOpenConfirmation, Msg.ChannelOpenFailure, Msg.ChannelWindowAdjust, Msg.ChannelEof, Msg.ChannelClose, Msg.ChannelRequest}
+use Rattle.ssh_model.specs.Sessions.Refusals.{AskRefusal.Busy, AskRefusal.RekeyDue, first_refusal}
 use Rattle.ssh_model.specs.Sessions.Items.{Ask, Ask.AskOpen, Ask.AskConfirm, Ask.AskRefuse, Ask.AskData, Ask.AskAdjust, Ask.AskEof, Ask.AskClose, Ask.AskRequest, Ask.AskReply, Ask.AskGlobal, Ask.AskGlobalReply, Fact.Opening}
 use Rattle.ssh_model.specs.Channels.Places.{at}
-use Rattle.ssh_model.specs.Channels.Kept.{Channels, IsUnused, Sent, Sends, Sends.opens, Sends.confirm, Sends.refuse, Sends.gives_data, Sends.gives_extended, Sends.adjust, Sends.eof, Sends.close, Sends.request, Sends.reply_yes, Sends.reply_no, Sends.global, Sends.global_yes, Sends.global_no, change, put, count_where, opening_place, peer_of, sends_on, sends_globally}
-use Rattle.ssh_channels.specs.Rows.{data_message, reply_message, global_reply_message}
+use Rattle.ssh_model.specs.Channels.Kept.{Channels, IsUnused, Sent, Sends, Sends.opens, Sends.confirm, Sends.refuse, Sends.gives_data, Sends.gives_extended, Sends.adjust, Sends.eof, Sends.close, Sends.request, Sends.reply_yes, Sends.reply_no, Sends.global, Sends.global_yes, Sends.global_no, change, put, count_where, opening_place, peer_of, send_checks, sends_on, sends_globally}
+use Rattle.ssh_channels.specs.Rows.{data_message, is_busy, reply_message, global_reply_message}
+use Rattle.ssh_channels.specs.Values.{ask_of}
+use Rattle.ssh_channels.specs.declared.ask.Ask as code
+use Rattle.ssh_channels.specs.declared.ask.Ask.TheVariants as ask
 
 module _ (channels : Channels) where
   pub opening_sent : (number : ℕ) (kind : List ℕ) (window max_packet : ℕ) (rest : List ℕ) (sent : Sent) (new : Channels) → IsUnused channels.places number → window ≤ 4294967295
@@ -57,3 +61,46 @@ module _ (channels : Channels) where
       → new ≡ record channels { globals_here = channels.globals_here - 1 } → Sends channels (AskGlobalReply answer rest) sent new
   global_reply_sent true rest sent new s n = rw (s, n) (global_yes rest)
   global_reply_sent false rest sent new s n = rw (s, n) (global_no rest)
+
+-- ---- an ask within a key exchange, or where one is due
+
+pub refused_while_blocked : (is_due : Bool) (channels : Channels) (ask : code.Ask) → first_refusal (send_checks true is_due channels (ask_of ask)) ≡ Some Busy
+refused_while_blocked is_due channels (ask.Open kind window max_packet rest) = refl
+refused_while_blocked is_due channels (ask.Confirm channel window max_packet rest) = refl
+refused_while_blocked is_due channels (ask.Refuse channel reason) = refl
+refused_while_blocked is_due channels (ask.Data channel kind body) = refl
+refused_while_blocked is_due channels (ask.Adjust channel bytes) = refl
+refused_while_blocked is_due channels (ask.Eof channel) = refl
+refused_while_blocked is_due channels (ask.Close channel) = refl
+refused_while_blocked is_due channels (ask.Request channel name want rest) = refl
+refused_while_blocked is_due channels (ask.Reply channel success) = refl
+refused_while_blocked is_due channels (ask.Global name want rest) = refl
+refused_while_blocked is_due channels (ask.GlobalReply true rest) = refl
+refused_while_blocked is_due channels (ask.GlobalReply false rest) = refl
+
+pub refused_as_busy : (is_due : Bool) (channels : Channels) (ask : code.Ask) → is_busy channels (ask_of ask) ≡ true → first_refusal (send_checks false is_due channels (ask_of ask)) ≡ Some Busy
+refused_as_busy is_due channels (ask.Open kind window max_packet rest) e = absurd (cc e)
+refused_as_busy is_due channels (ask.Confirm channel window max_packet rest) e = absurd (cc e)
+refused_as_busy is_due channels (ask.Refuse channel reason) e = absurd (cc e)
+refused_as_busy is_due channels (ask.Data channel kind body) e = absurd (cc e)
+refused_as_busy is_due channels (ask.Adjust channel bytes) e = absurd (cc e)
+refused_as_busy is_due channels (ask.Eof channel) e = absurd (cc e)
+refused_as_busy is_due channels (ask.Close channel) e = absurd (cc e)
+refused_as_busy is_due channels (ask.Request channel name want rest) e = rw e refl
+refused_as_busy is_due channels (ask.Reply channel success) e = absurd (cc e)
+refused_as_busy is_due channels (ask.Global name want rest) e = rw e refl
+refused_as_busy is_due channels (ask.GlobalReply success rest) e = absurd (cc e)
+
+pub refused_as_due : (channels : Channels) (ask : code.Ask) → is_busy channels (ask_of ask) ≡ false → first_refusal (send_checks false true channels (ask_of ask)) ≡ Some RekeyDue
+refused_as_due channels (ask.Open kind window max_packet rest) e = refl
+refused_as_due channels (ask.Confirm channel window max_packet rest) e = refl
+refused_as_due channels (ask.Refuse channel reason) e = refl
+refused_as_due channels (ask.Data channel kind body) e = refl
+refused_as_due channels (ask.Adjust channel bytes) e = refl
+refused_as_due channels (ask.Eof channel) e = refl
+refused_as_due channels (ask.Close channel) e = refl
+refused_as_due channels (ask.Request channel name want rest) e = rw e refl
+refused_as_due channels (ask.Reply channel success) e = refl
+refused_as_due channels (ask.Global name want rest) e = rw e refl
+refused_as_due channels (ask.GlobalReply true rest) e = refl
+refused_as_due channels (ask.GlobalReply false rest) e = refl

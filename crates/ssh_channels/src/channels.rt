@@ -18,6 +18,7 @@ use std::alloc::{AllocError, Global};
 use std::collections::VecDeque;
 use std::marker::Model;
 
+mod asking;
 mod closing;
 mod data;
 mod globals;

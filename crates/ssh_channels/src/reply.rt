@@ -1,5 +1,7 @@
-ghost use Rattle.std.specs.Prelude.{◌≡◌};
+ghost use Rattle.std.specs.Prelude.{◌≡◌, ◌≤◌};
 ghost use Rattle.ssh_message.specs.Meaning.{meaning};
+ghost use Rattle.ssh_message.specs.Written.{Fits};
+ghost use Rattle.ssh_model.specs.Wire.Sizes.{payload_size};
 ghost use Rattle.ssh_model.specs.Channels.Summary.{reply_channel, reply_sent};
 ghost use Rattle.ssh_channels.specs.Values.{reply_of};
 
@@ -30,7 +32,9 @@ impl Reply {
 
     /// The message that says so.
     pub fn message(self) -> Message<'static>
-        ensures { meaning result ≡ reply_sent (reply_of self) }
+        ensures means { meaning result ≡ reply_sent (reply_of self) }
+        ensures fits { Fits result }
+        ensures short { payload_size (meaning result) ≤ 34000 }
     {
         match self {
             Reply::OpenFailure { recipient } => Message::ChannelOpenFailure {
