@@ -1,6 +1,6 @@
 //! EOF and CLOSE (RFC 4254 section 5.3).
 
-ghost use Rattle.std.specs.Prelude.{◌≡◌, ◌≤◌, Some, None, IfOk, IfErr, OnOk, OnErr, false};
+ghost use Rattle.std.specs.Prelude.{◌≡◌, Bool, ◌≤◌, Some, None, IfOk, IfErr, OnOk, OnErr, false};
 ghost use Rattle.ssh_types.specs.AskRefusals.{ask_refusal_of};
 ghost use Rattle.ssh_types.specs.Refusals.{refusal_of};
 ghost use Rattle.ssh_message.specs.Meaning.{meaning};
@@ -21,15 +21,11 @@ use ssh_types::{AskRefusal, Refusal};
 impl Channels {
     /// CHANNEL_EOF.
     #[tactic(auto, using(crate::proofs::Taking::eof_taken))]
-    pub(super) fn take_eof<'a>(
-        &mut self,
-        blocked: bool,
-        recipient: u32,
-    ) -> Result<Taken<'a>, Refusal>
-        ensures refused { IfErr result (λ e. first_refusal (take_checks blocked self.old (Msg.ChannelEof recipient)) ≡ Some (refusal_of e)) }
+    pub(super) fn take_eof<'a>(&mut self, recipient: u32) -> Result<Taken<'a>, Refusal>
+        ensures refused { IfErr result (λ e. first_refusal (take_checks false self.old (Msg.ChannelEof recipient)) ≡ Some (refusal_of e)) }
         ensures kept { OnErr result (self.new ≡ self.old) }
-        ensures passed { OnOk result (first_refusal (take_checks blocked self.old (Msg.ChannelEof recipient)) ≡ None) }
-        ensures taken { IfOk result (λ t. Takes blocked self.old (Msg.ChannelEof recipient) (taken_of t) self.new) }
+        ensures passed { OnOk result (first_refusal (take_checks false self.old (Msg.ChannelEof recipient)) ≡ None) }
+        ensures taken { IfOk result (λ t. (is_blocked : Bool) → Takes is_blocked self.old (Msg.ChannelEof recipient) (taken_of t) self.new) }
     {
         let entry = match self.open_entry(recipient) {
             Ok(entry) => entry,

@@ -1,6 +1,6 @@
 //! Data and windows (RFC 4254 section 5.2).
 
-ghost use Rattle.std.specs.Prelude.{◌≡◌, ◌≤◌, Some, None, IfOk, IfErr, OnOk, OnErr, false, length};
+ghost use Rattle.std.specs.Prelude.{◌≡◌, Bool, ◌≤◌, Some, None, IfOk, IfErr, OnOk, OnErr, false, length};
 ghost use Rattle.ssh_types.specs.AskRefusals.{ask_refusal_of};
 ghost use Rattle.ssh_types.specs.Refusals.{refusal_of};
 ghost use Rattle.ssh_message.specs.Meaning.{meaning};
@@ -26,14 +26,13 @@ impl Channels {
     #[tactic(auto, using(crate::proofs::Taking::adjust_taken))]
     pub(super) fn take_adjust<'a>(
         &mut self,
-        blocked: bool,
         recipient: u32,
         bytes: u32,
     ) -> Result<Taken<'a>, Refusal>
-        ensures refused { IfErr result (λ e. first_refusal (take_checks blocked self.old (Msg.ChannelWindowAdjust recipient bytes)) ≡ Some (refusal_of e)) }
+        ensures refused { IfErr result (λ e. first_refusal (take_checks false self.old (Msg.ChannelWindowAdjust recipient bytes)) ≡ Some (refusal_of e)) }
         ensures kept { OnErr result (self.new ≡ self.old) }
-        ensures passed { OnOk result (first_refusal (take_checks blocked self.old (Msg.ChannelWindowAdjust recipient bytes)) ≡ None) }
-        ensures taken { IfOk result (λ t. Takes blocked self.old (Msg.ChannelWindowAdjust recipient bytes) (taken_of t) self.new) }
+        ensures passed { OnOk result (first_refusal (take_checks false self.old (Msg.ChannelWindowAdjust recipient bytes)) ≡ None) }
+        ensures taken { IfOk result (λ t. (is_blocked : Bool) → Takes is_blocked self.old (Msg.ChannelWindowAdjust recipient bytes) (taken_of t) self.new) }
     {
         let entry = match self.open_entry(recipient) {
             Ok(entry) => entry,
@@ -63,7 +62,6 @@ impl Channels {
     #[tactic(auto, using(crate::proofs::Taking::data_taken))]
     pub(super) fn take_data<'a>(
         &mut self,
-        blocked: bool,
         recipient: u32,
         kind: Option<u32>,
         body: &'a [u8],
@@ -71,7 +69,7 @@ impl Channels {
         ensures refused { IfErr result (λ e. first_refusal (data_checks (at self.old.places recipient) (length body.now)) ≡ Some (refusal_of e)) }
         ensures kept { OnErr result (self.new ≡ self.old) }
         ensures passed { OnOk result (first_refusal (data_checks (at self.old.places recipient) (length body.now)) ≡ None) }
-        ensures taken { IfOk result (λ t. Takes blocked self.old (data_message recipient kind body.now) (taken_of t) self.new) }
+        ensures taken { IfOk result (λ t. (is_blocked : Bool) → Takes is_blocked self.old (data_message recipient kind body.now) (taken_of t) self.new) }
     {
         let entry = match self.open_entry(recipient) {
             Ok(entry) => entry,

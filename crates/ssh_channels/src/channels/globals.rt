@@ -1,6 +1,6 @@
 //! Global requests and their replies (RFC 4254 section 4).
 
-ghost use Rattle.std.specs.Prelude.{◌≡◌, ◌≤◌, Some, None, IfOk, IfErr, OnOk, OnErr, true, false, []};
+ghost use Rattle.std.specs.Prelude.{◌≡◌, Bool, ◌≤◌, Some, None, IfOk, IfErr, OnOk, OnErr, true, false, []};
 ghost use Rattle.ssh_types.specs.AskRefusals.{ask_refusal_of};
 ghost use Rattle.ssh_types.specs.Refusals.{refusal_of};
 ghost use Rattle.ssh_message.specs.Meaning.{meaning};
@@ -24,15 +24,14 @@ impl Channels {
     #[tactic(auto, using(crate::proofs::Taking::global_taken))]
     pub(super) fn take_global<'a>(
         &mut self,
-        blocked: bool,
         name: &'a [u8],
         want: bool,
         rest: &'a [u8],
     ) -> Result<Taken<'a>, Refusal>
-        ensures refused { IfErr result (λ e. first_refusal (take_checks blocked self.old (Msg.GlobalRequest name.now want rest.now)) ≡ Some (refusal_of e)) }
+        ensures refused { IfErr result (λ e. first_refusal (take_checks false self.old (Msg.GlobalRequest name.now want rest.now)) ≡ Some (refusal_of e)) }
         ensures kept { OnErr result (self.new ≡ self.old) }
-        ensures passed { OnOk result (first_refusal (take_checks blocked self.old (Msg.GlobalRequest name.now want rest.now)) ≡ None) }
-        ensures taken { IfOk result (λ t. Takes blocked self.old (Msg.GlobalRequest name.now want rest.now) (taken_of t) self.new) }
+        ensures passed { OnOk result (first_refusal (take_checks false self.old (Msg.GlobalRequest name.now want rest.now)) ≡ None) }
+        ensures taken { IfOk result (λ t. (is_blocked : Bool) → Takes is_blocked self.old (Msg.GlobalRequest name.now want rest.now) (taken_of t) self.new) }
     {
         self.globals_here = match count_where(want, self.globals_here) {
             Some(count) => count,
@@ -49,15 +48,14 @@ impl Channels {
     #[tactic(auto, using(crate::proofs::Taking::global_done))]
     pub(super) fn take_global_reply<'a>(
         &mut self,
-        blocked: bool,
         success: bool,
         rest: &'a [u8],
     ) -> Result<Taken<'a>, Refusal>
         requires { success ≡ false → rest.now ≡ [] }
-        ensures refused { IfErr result (λ e. first_refusal (take_checks blocked self.old (Msg.RequestFailure)) ≡ Some (refusal_of e)) }
+        ensures refused { IfErr result (λ e. first_refusal (take_checks false self.old (Msg.RequestFailure)) ≡ Some (refusal_of e)) }
         ensures kept { OnErr result (self.new ≡ self.old) }
-        ensures passed { OnOk result (first_refusal (take_checks blocked self.old (Msg.RequestFailure)) ≡ None) }
-        ensures taken { IfOk result (λ t. Takes blocked self.old (global_reply_message success rest.now) (taken_of t) self.new) }
+        ensures passed { OnOk result (first_refusal (take_checks false self.old (Msg.RequestFailure)) ≡ None) }
+        ensures taken { IfOk result (λ t. (is_blocked : Bool) → Takes is_blocked self.old (global_reply_message success rest.now) (taken_of t) self.new) }
     {
         if self.globals_there == 0 {
             return Err(Refusal::Unexpected);

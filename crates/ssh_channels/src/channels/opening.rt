@@ -1,12 +1,13 @@
 //! The opening of channels (RFC 4254 section 5.1).
 
-ghost use Rattle.std.specs.Prelude.{◌≡◌, ◌<◌, Some, None, IfOk, IfErr, OnOk, OnErr, true, false};
+ghost use Rattle.std.specs.Prelude.{◌≡◌, ℕ, Bool, List, Some, None, IfOk, IfErr, OnOk, OnErr, true, false};
 ghost use Rattle.ssh_types.specs.Refusals.{refusal_of};
 ghost use Rattle.ssh_model.specs.Wire.Message as Msg;
 ghost use Rattle.ssh_model.specs.Sessions.Refusals as model;
 ghost use Rattle.ssh_model.specs.Sessions.Refusals.{first_refusal};
 ghost use Rattle.ssh_model.specs.Channels.Places.{at, is_opening};
-ghost use Rattle.ssh_model.specs.Channels.Kept.{IsUnused, Takes, is_queue_full, is_table_full, opening_checks, put, take_checks, used, waiting_place};
+ghost use Rattle.ssh_model.specs.Channels.Kept as DueReply;
+ghost use Rattle.ssh_model.specs.Channels.Kept.{Takes, is_queue_full, is_table_full, opening_checks, owed_where, sent_at_once, take_checks};
 ghost use Rattle.ssh_channels.specs.Entries.{place_of};
 ghost use Rattle.ssh_channels.specs.Rows.{IsTakeError};
 ghost use Rattle.ssh_channels.specs.Values.{taken_of};
@@ -19,6 +20,7 @@ use std::alloc::AllocError;
 
 impl Channels {
     /// CHANNEL_OPEN.
+    #[tactic(auto, using(crate::proofs::Taking::open_declined))]
     pub(super) fn take_open<'a>(
         &mut self,
         blocked: bool,
@@ -34,34 +36,25 @@ impl Channels {
         ensures taken { IfOk result (λ t. Takes blocked self.old (Msg.ChannelOpen kind.now sender window max_packet rest.now) (taken_of t) self.new) }
     {
         if !self.is_table_full() {
-            return match self.accept_open(blocked, kind, sender, window, max_packet, rest) {
+            return match self.accept_open(kind, sender, window, max_packet, rest) {
                 Ok(taken) => Ok(taken),
                 Err(_) => Err(TakeError::Memory),
             };
         }
-        match self.decline_open(blocked, kind, sender, window, max_packet, rest) {
+        match self.decline_open(blocked, sender) {
             Ok(taken) => Ok(taken),
             Err(refusal) => Err(TakeError::Refused(refusal)),
         }
     }
 
     /// CHANNEL_OPEN where no number is free: it is refused, at once or, within a key exchange, later.
-    #[tactic(auto, using(crate::proofs::Taking::open_declined))]
-    pub(super) fn decline_open<'a>(
-        &mut self,
-        blocked: bool,
-        kind: &'a [u8],
-        sender: u32,
-        window: u32,
-        max_packet: u32,
-        rest: &'a [u8],
-    ) -> Result<Taken<'a>, Refusal>
-        requires { is_table_full self.old.places ≡ true }
+    fn decline_open<'a>(&mut self, blocked: bool, sender: u32) -> Result<Taken<'a>, Refusal>
         ensures refused { IfErr result (λ e. refusal_of e ≡ model.Refusal.OwedFull) }
         ensures many { OnErr result (is_queue_full blocked self.old.owed ≡ true) }
         ensures kept { OnErr result (self.new ≡ self.old) }
         ensures few { OnOk result (is_queue_full blocked self.old.owed ≡ false) }
-        ensures taken { IfOk result (λ t. Takes blocked self.old (Msg.ChannelOpen kind.now sender window max_packet rest.now) (taken_of t) self.new) }
+        ensures answered { IfOk result (λ t. taken_of t ≡ record { channel = None; reply = sent_at_once blocked (DueReply.RefusesOpen sender); fact = None }) }
+        ensures owed { OnOk result (self.new ≡ owed_where blocked (DueReply.RefusesOpen sender) self.old) }
     {
         let reply = Reply::OpenFailure { recipient: sender };
         if !blocked {
@@ -84,9 +77,8 @@ impl Channels {
 
     /// CHANNEL_OPEN where a number is free: the channel waits there for this end's answer.
     #[tactic(auto, using(crate::proofs::Taking::opened))]
-    pub(super) fn accept_open<'a>(
+    fn accept_open<'a>(
         &mut self,
-        blocked: bool,
         kind: &'a [u8],
         sender: u32,
         window: u32,
@@ -95,7 +87,7 @@ impl Channels {
     ) -> Result<Taken<'a>, AllocError>
         requires { is_table_full self.old.places ≡ false }
         ensures kept { OnErr result (self.new ≡ self.old) }
-        ensures taken { IfOk result (λ t. Takes blocked self.old (Msg.ChannelOpen kind.now sender window max_packet rest.now) (taken_of t) self.new) }
+        ensures taken { IfOk result (λ t. (is_blocked : Bool) → Takes is_blocked self.old (Msg.ChannelOpen kind.now sender window max_packet rest.now) (taken_of t) self.new) }
     {
         let entry = Entry::waiting(sender, window, max_packet);
         let number = match self.table.insert(entry) {
@@ -132,7 +124,6 @@ impl Channels {
     #[tactic(auto, using(crate::proofs::Taking::confirmed))]
     pub(super) fn take_confirmation<'a>(
         &mut self,
-        blocked: bool,
         recipient: u32,
         sender: u32,
         window: u32,
@@ -142,7 +133,7 @@ impl Channels {
         ensures refused { IfErr result (λ e. first_refusal (opening_checks (at self.old.places recipient)) ≡ Some (refusal_of e)) }
         ensures kept { OnErr result (self.new ≡ self.old) }
         ensures passed { OnOk result (first_refusal (opening_checks (at self.old.places recipient)) ≡ None) }
-        ensures taken { IfOk result (λ t. Takes blocked self.old (Msg.ChannelOpenConfirmation recipient sender window max_packet rest.now) (taken_of t) self.new) }
+        ensures taken { IfOk result (λ t. (is_blocked : Bool) → Takes is_blocked self.old (Msg.ChannelOpenConfirmation recipient sender window max_packet rest.now) (taken_of t) self.new) }
     {
         let entry = match self.opening_entry(recipient) {
             Ok(entry) => entry,
@@ -174,16 +165,14 @@ impl Channels {
     #[tactic(auto, using(crate::proofs::Taking::open_failed))]
     pub(super) fn take_failure<'a>(
         &mut self,
-        blocked: bool,
         recipient: u32,
         reason: u32,
         description: &'a [u8],
-        language: &'a [u8],
     ) -> Result<Taken<'a>, Refusal>
         ensures refused { IfErr result (λ e. first_refusal (opening_checks (at self.old.places recipient)) ≡ Some (refusal_of e)) }
         ensures kept { OnErr result (self.new ≡ self.old) }
         ensures passed { OnOk result (first_refusal (opening_checks (at self.old.places recipient)) ≡ None) }
-        ensures taken { IfOk result (λ t. Takes blocked self.old (Msg.ChannelOpenFailure recipient reason description.now language.now) (taken_of t) self.new) }
+        ensures taken { IfOk result (λ t. (is_blocked : Bool) (language : List ℕ) → Takes is_blocked self.old (Msg.ChannelOpenFailure recipient reason description.now language) (taken_of t) self.new) }
     {
         let _entry = match self.opening_entry(recipient) {
             Ok(entry) => entry,

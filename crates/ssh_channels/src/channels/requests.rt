@@ -1,6 +1,6 @@
 //! Requests on channels and their replies (RFC 4254 section 5.4).
 
-ghost use Rattle.std.specs.Prelude.{◌≡◌, ◌≤◌, Some, None, IfOk, IfErr, OnOk, OnErr, false};
+ghost use Rattle.std.specs.Prelude.{◌≡◌, Bool, ◌≤◌, Some, None, IfOk, IfErr, OnOk, OnErr, false};
 ghost use Rattle.ssh_types.specs.AskRefusals.{ask_refusal_of};
 ghost use Rattle.ssh_types.specs.Refusals.{refusal_of};
 ghost use Rattle.ssh_message.specs.Meaning.{meaning};
@@ -26,16 +26,15 @@ impl Channels {
     #[tactic(auto, using(crate::proofs::Taking::request_taken))]
     pub(super) fn take_request<'a>(
         &mut self,
-        blocked: bool,
         recipient: u32,
         name: &'a [u8],
         want: bool,
         rest: &'a [u8],
     ) -> Result<Taken<'a>, Refusal>
-        ensures refused { IfErr result (λ e. first_refusal (take_checks blocked self.old (Msg.ChannelRequest recipient name.now want rest.now)) ≡ Some (refusal_of e)) }
+        ensures refused { IfErr result (λ e. first_refusal (take_checks false self.old (Msg.ChannelRequest recipient name.now want rest.now)) ≡ Some (refusal_of e)) }
         ensures kept { OnErr result (self.new ≡ self.old) }
-        ensures passed { OnOk result (first_refusal (take_checks blocked self.old (Msg.ChannelRequest recipient name.now want rest.now)) ≡ None) }
-        ensures taken { IfOk result (λ t. Takes blocked self.old (Msg.ChannelRequest recipient name.now want rest.now) (taken_of t) self.new) }
+        ensures passed { OnOk result (first_refusal (take_checks false self.old (Msg.ChannelRequest recipient name.now want rest.now)) ≡ None) }
+        ensures taken { IfOk result (λ t. (is_blocked : Bool) → Takes is_blocked self.old (Msg.ChannelRequest recipient name.now want rest.now) (taken_of t) self.new) }
     {
         let entry = match self.open_entry(recipient) {
             Ok(entry) => entry,
@@ -69,14 +68,13 @@ impl Channels {
     #[tactic(auto, using(crate::proofs::Taking::request_done))]
     pub(super) fn take_reply<'a>(
         &mut self,
-        blocked: bool,
         recipient: u32,
         success: bool,
     ) -> Result<Taken<'a>, Refusal>
         ensures refused { IfErr result (λ e. first_refusal (reply_checks (at self.old.places recipient)) ≡ Some (refusal_of e)) }
         ensures kept { OnErr result (self.new ≡ self.old) }
         ensures passed { OnOk result (first_refusal (reply_checks (at self.old.places recipient)) ≡ None) }
-        ensures taken { IfOk result (λ t. Takes blocked self.old (reply_message recipient success) (taken_of t) self.new) }
+        ensures taken { IfOk result (λ t. (is_blocked : Bool) → Takes is_blocked self.old (reply_message recipient success) (taken_of t) self.new) }
     {
         let entry = match self.open_entry(recipient) {
             Ok(entry) => entry,

@@ -45,11 +45,9 @@ impl Channels {
         ensures taken { IfOk result (λ t. Takes blocked self.old (meaning message.now) (taken_of t) self.new) }
     {
         let taken = match *message {
-            Message::GlobalRequest { name, want, rest } => {
-                self.take_global(blocked, name, want, rest)
-            }
-            Message::RequestSuccess { rest } => self.take_global_reply(blocked, true, rest),
-            Message::RequestFailure => self.take_global_reply(blocked, false, b""),
+            Message::GlobalRequest { name, want, rest } => { self.take_global(name, want, rest) }
+            Message::RequestSuccess { rest } => self.take_global_reply(true, rest),
+            Message::RequestFailure => self.take_global_reply(false, b""),
             Message::ChannelOpen {
                 kind,
                 sender,
@@ -63,34 +61,32 @@ impl Channels {
                 window,
                 max,
                 rest,
-            } => self.take_confirmation(blocked, recipient, sender, window, max, rest),
+            } => self.take_confirmation(recipient, sender, window, max, rest),
             Message::ChannelOpenFailure {
                 recipient,
                 reason,
                 description,
-                language,
-            } => self.take_failure(blocked, recipient, reason, description, language),
+                ..
+            } => self.take_failure(recipient, reason, description),
             Message::ChannelWindowAdjust { recipient, bytes } => {
-                self.take_adjust(blocked, recipient, bytes)
+                self.take_adjust(recipient, bytes)
             }
-            Message::ChannelData { recipient, body } => {
-                self.take_data(blocked, recipient, None, body)
-            }
+            Message::ChannelData { recipient, body } => { self.take_data(recipient, None, body) }
             Message::ChannelExtendedData {
                 recipient,
                 kind,
                 body,
-            } => self.take_data(blocked, recipient, Some(kind), body),
-            Message::ChannelEof { recipient } => self.take_eof(blocked, recipient),
+            } => self.take_data(recipient, Some(kind), body),
+            Message::ChannelEof { recipient } => self.take_eof(recipient),
             Message::ChannelClose { recipient } => self.take_close(blocked, recipient),
             Message::ChannelRequest {
                 recipient,
                 name,
                 want,
                 rest,
-            } => self.take_request(blocked, recipient, name, want, rest),
-            Message::ChannelSuccess { recipient } => self.take_reply(blocked, recipient, true),
-            Message::ChannelFailure { recipient } => self.take_reply(blocked, recipient, false),
+            } => self.take_request(recipient, name, want, rest),
+            Message::ChannelSuccess { recipient } => self.take_reply(recipient, true),
+            Message::ChannelFailure { recipient } => self.take_reply(recipient, false),
             _ => Err(Refusal::Unexpected),
         };
         Ok(taken?)
