@@ -1,5 +1,4 @@
 pub mod Tables
 pub mod Taking
-pub mod Sessions
 pub mod Unblocking
 pub mod Asking

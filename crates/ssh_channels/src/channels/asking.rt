@@ -33,11 +33,7 @@ impl Channels {
         ensures in_session { AsksInSession blocked due self.old (ask_of ask.now) self.new result }
     {
         asks();
-        match self.ask_now(ask, blocked, due) {
-            Ok(sent) => Ok(sent),
-            Err(AskError::Refused(refusal)) => Err(AskError::Refused(refusal)),
-            Err(AskError::Memory) => Err(AskError::Memory),
-        }
+        self.ask_now(ask, blocked, due)
     }
 
     // The ask, unless a key exchange is under way or due.

@@ -30,11 +30,7 @@ impl Channels {
         ensures in_session { TakesInSession blocked self.old (meaning message.now) self.new result }
     {
         messages();
-        match self.take_row(message, blocked) {
-            Ok(taken) => Ok(taken),
-            Err(TakeError::Refused(refusal)) => Err(TakeError::Refused(refusal)),
-            Err(TakeError::Memory) => Err(TakeError::Memory),
-        }
+        self.take_row(message, blocked)
     }
 
     // The message by the row of its number.

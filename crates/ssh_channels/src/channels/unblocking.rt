@@ -17,10 +17,7 @@ impl Channels {
         ensures in_session { UnblocksInSession self.old result self.new }
     {
         owed_replies_given();
-        match self.give_owed() {
-            Some(reply) => Some(reply),
-            None => None,
-        }
+        self.give_owed()
     }
 
     // The oldest reply leaves the queue, and a CLOSE its channel.
