@@ -1,0 +1,4 @@
+pub mod Tables
+pub mod Taking
+pub mod Unblocking
+pub mod Asking

@@ -1,0 +1,5 @@
+pub mod Entries
+pub mod Rows
+pub mod Sessions
+pub mod Table
+pub mod Values

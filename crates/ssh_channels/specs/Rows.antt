@@ -1,0 +1,77 @@
+-- What a message is refused for, and the words in which the rows of single messages and asks are said.
+use Rattle.std.specs.Prelude.{◌≡◌, ℕ, Bool, true, false, not, ◌&&◌, Option, Some, None, List, ◌∷◌, []}
+use Rattle.ssh_model.specs.Wire.Message.{Msg, Msg.GlobalRequest, Msg.RequestSuccess, Msg.RequestFailure, Msg.ChannelOpen, Msg.ChannelOpenConfirmation, Msg.ChannelOpenFailure, Msg.ChannelWindowAdjust, Msg.ChannelData, Msg.ChannelExtendedData, Msg.ChannelEof, Msg.ChannelClose, Msg.ChannelRequest, Msg.ChannelSuccess, Msg.ChannelFailure}
+use Rattle.ssh_types.specs.Refusals.{refusal_of}
+use Rattle.ssh_types.specs.AskRefusals.{ask_refusal_of}
+use Rattle.ssh_model.specs.Sessions.Refusals.{Check, Check.RefusedWhere, Refusal, Refusal.Unexpected, first_refusal}
+use Rattle.ssh_model.specs.Sessions.Items.{Ask, Ask.AskOpen, Ask.AskRequest, Ask.AskGlobal}
+use Rattle.ssh_model.specs.Channels.Places.{at, is_at}
+use Rattle.ssh_model.specs.Channels.Connection.{is_limit_reached}
+use Rattle.ssh_model.specs.Channels.Kept.{Channels, is_table_full, send_checks, take_checks}
+use Rattle.ssh_channels.specs.declared.error.AskError.{AskError}
+use Rattle.ssh_channels.specs.declared.error.AskError.TheVariants as ask_error
+use Rattle.ssh_channels.specs.declared.error.TakeError.{TakeError}
+use Rattle.ssh_channels.specs.declared.error.TakeError.TheVariants.{Refused, Memory}
+
+-- a message of the connection (RFC 4254)
+abbrev pub is_connection : Msg → Bool
+is_connection (GlobalRequest name want rest) = true
+is_connection (RequestSuccess rest) = true
+is_connection RequestFailure = true
+is_connection (ChannelOpen kind sender window max_packet rest) = true
+is_connection (ChannelOpenConfirmation recipient sender window max_packet rest) = true
+is_connection (ChannelOpenFailure recipient reason description language) = true
+is_connection (ChannelWindowAdjust recipient bytes) = true
+is_connection (ChannelData recipient body) = true
+is_connection (ChannelExtendedData recipient kind body) = true
+is_connection (ChannelEof recipient) = true
+is_connection (ChannelClose recipient) = true
+is_connection (ChannelRequest recipient name want rest) = true
+is_connection (ChannelSuccess recipient) = true
+is_connection (ChannelFailure recipient) = true
+is_connection _ = false
+
+-- A message of another layer may not come here.
+abbrev pub message_checks : (is_blocked : Bool) → Channels → Msg → List (Check Refusal)
+message_checks is_blocked channels message = RefusedWhere (not (is_connection message)) Unexpected ∷ take_checks is_blocked channels message
+
+-- data, extended data where a kind is given
+abbrev pub data_message : (recipient : ℕ) → Option ℕ → List ℕ → Msg
+data_message recipient None body = ChannelData recipient body
+data_message recipient (Some kind) body = ChannelExtendedData recipient kind body
+
+-- the reply to a request on a channel
+abbrev pub reply_message : (recipient : ℕ) → Bool → Msg
+reply_message recipient true = ChannelSuccess recipient
+reply_message recipient false = ChannelFailure recipient
+
+-- the reply to a global request
+abbrev pub global_reply_message : Bool → List ℕ → Msg
+global_reply_message true rest = RequestSuccess rest
+global_reply_message false rest = RequestFailure
+
+-- ---- why a message is not taken, and why nothing is sent on an ask
+
+-- The message opens a channel, and a number is free.
+abbrev pub OpensChannel : Channels → Msg → Type 0
+OpensChannel channels (ChannelOpen kind sender window max_packet rest) = is_table_full channels.places ≡ false
+OpensChannel channels _ = ⊥
+
+abbrev pub IsTakeError : (is_blocked : Bool) → Channels → Msg → TakeError → Type 0
+IsTakeError is_blocked channels message (Refused refusal) = first_refusal (message_checks is_blocked channels message) ≡ Some (refusal_of refusal)
+IsTakeError is_blocked channels message Memory = OpensChannel channels message
+
+-- A request more cannot wait for a reply, so an ask for one is refused before it is said that an exchange is due.
+abbrev pub is_busy : Channels → Ask → Bool
+is_busy channels (AskRequest number name want rest) = want && is_at (λ kept. is_limit_reached kept.waiting_there) (at channels.places number)
+is_busy channels (AskGlobal name want rest) = want && is_limit_reached channels.globals_there
+is_busy channels _ = false
+
+-- The ask is for a channel, and nothing refuses it.
+abbrev pub AsksForChannel : (is_blocked is_due : Bool) → Channels → Ask → Type 0
+AsksForChannel is_blocked is_due channels (AskOpen kind window max_packet rest) = first_refusal (send_checks is_blocked is_due channels (AskOpen kind window max_packet rest)) ≡ None
+AsksForChannel is_blocked is_due channels _ = ⊥
+
+abbrev pub IsAskError : (is_blocked is_due : Bool) → Channels → Ask → AskError → Type 0
+IsAskError is_blocked is_due channels ask (ask_error.Refused refusal) = first_refusal (send_checks is_blocked is_due channels ask) ≡ Some (ask_refusal_of refusal)
+IsAskError is_blocked is_due channels ask ask_error.Memory = AsksForChannel is_blocked is_due channels ask

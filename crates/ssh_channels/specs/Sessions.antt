@@ -1,0 +1,79 @@
+-- What a call answers after any history that the channels sum up.
+use Rattle.std.specs.Prelude.{◌≡◌, ℕ, Bool, true, List, [], Option, Some, None, option_map, Result, Ok, Err}
+use Rattle.ssh_types.specs.AskRefusals.{ask_refusal_of}
+use Rattle.ssh_types.specs.Refusals.{refusal_of}
+use Rattle.ssh_model.specs.Side.{Side}
+use Rattle.ssh_model.specs.Wire.Message.{Msg}
+use Rattle.ssh_model.specs.Sessions.Refusals.{first_refusal}
+use Rattle.ssh_model.specs.Sessions.Items.{Ask, Item}
+use Rattle.ssh_model.specs.Sessions.Phases.{blocked}
+use Rattle.ssh_model.specs.Channels.History as channel
+use Rattle.ssh_model.specs.Channels.Places.{channel_state, count, room}
+use Rattle.ssh_model.specs.Channels.Connection.{channel_ask_checks, connection_checks, notes, owed_replies}
+use Rattle.ssh_model.specs.Channels.Kept.{Channels}
+use Rattle.ssh_model.specs.Channels.Summary.{SumsUp, Accepts, Allows, SendsOwed}
+use Rattle.ssh_channels.specs.Rows.{is_connection}
+use Rattle.ssh_channels.specs.Values.{reply_of, sent_of, state_of, taken_of}
+use Rattle.ssh_channels.specs.declared.error.AskError.{AskError}
+use Rattle.ssh_channels.specs.declared.error.AskError.TheVariants as ask_error
+use Rattle.ssh_channels.specs.declared.error.TakeError.{TakeError}
+use Rattle.ssh_channels.specs.declared.error.TakeError.TheVariants.{Refused, Memory}
+use Rattle.ssh_channels.specs.declared.fact.Taken.{Taken}
+use Rattle.ssh_channels.specs.declared.fact.Sent.{Sent}
+use Rattle.ssh_channels.specs.declared.reply.Reply.{Reply}
+use Rattle.ssh_channels.specs.declared.state.ChannelState.{ChannelState}
+
+-- A message is answered as in a session, and the channels then sum up the history with it; or it is refused as in a session.
+abbrev pub AnswersInSession : Side → List Item → Msg → Channels → Result Taken TakeError → Type 0
+AnswersInSession side history message new (Ok taken) = Accepts side history message (taken_of taken) new
+AnswersInSession side history message new (Err (Refused refusal)) = is_connection message ≡ true → first_refusal (connection_checks side history message) ≡ Some (refusal_of refusal)
+AnswersInSession side history message new (Err Memory) = Unit {0}
+
+-- The same after every history in which the end is within a key exchange of its own or not.
+abbrev pub TakesInSession : (is_blocked : Bool) → (old : Channels) → Msg → (new : Channels) → Result Taken TakeError → Type 0
+TakesInSession is_blocked old message new result =
+    (side : Side) (history : List Item) → SumsUp side history (owed_replies side history) old → blocked history ≡ is_blocked → AnswersInSession side history message new result
+
+-- ---- asks
+
+-- What is sent is what a session sends, and the channels then sum up the history with it.
+pub record Allowed (side : Side) (history : List Item) (is_due : Bool) (ask : Ask) (sent : Sent) (new : Channels) : Type 0 where
+  pub passed : first_refusal (channel_ask_checks (blocked history) is_due side history ask) ≡ None
+  pub allows : Allows side history is_due ask (sent_of sent) new
+
+-- An ask is allowed, or it is refused as in a session, after the check that the end is authenticated.
+abbrev pub SendsInSession : Side → List Item → (is_due : Bool) → Ask → Channels → Result Sent AskError → Type 0
+SendsInSession side history is_due ask new (Ok sent) = Allowed side history is_due ask sent new
+SendsInSession side history is_due ask new (Err (ask_error.Refused refusal)) = first_refusal (channel_ask_checks (blocked history) is_due side history ask) ≡ Some (ask_refusal_of refusal)
+SendsInSession side history is_due ask new (Err ask_error.Memory) = Unit {0}
+
+-- The same after every history in which the end is within a key exchange of its own or not.
+abbrev pub AsksInSession : (is_blocked is_due : Bool) → (old : Channels) → Ask → (new : Channels) → Result Sent AskError → Type 0
+AsksInSession is_blocked is_due old ask new result =
+    (side : Side) (history : List Item) → SumsUp side history (owed_replies side history) old → blocked history ≡ is_blocked → SendsInSession side history is_due ask new result
+
+-- ---- replies that were owed
+
+-- The oldest that waits is given, and the channels then sum up the history with it; or none waits, and they are as before.
+abbrev pub GivesOwed : Side → List Item → List channel.Item → (old : Channels) → Option Reply → (new : Channels) → Type 0
+GivesOwed side history waiting old (Some reply) new = SendsOwed side history waiting (reply_of reply) new
+GivesOwed side history waiting old None new = (waiting ≡ []) × (new ≡ old)
+
+-- The same after every history, whatever replies wait.
+abbrev pub UnblocksInSession : (old : Channels) → Option Reply → (new : Channels) → Type 0
+UnblocksInSession old reply new =
+    (side : Side) (history : List Item) (waiting : List channel.Item) → SumsUp side history waiting old → GivesOwed side history waiting old reply new
+
+-- ---- what is shown
+
+abbrev pub IsStateInSession : Channels → ℕ → Option ChannelState → Type 0
+IsStateInSession channels number state =
+    (side : Side) (history : List Item) (waiting : List channel.Item) → SumsUp side history waiting channels → option_map state_of state ≡ channel_state side (notes side history) waiting number
+
+abbrev pub IsRoomInSession : Channels → ℕ → Option ℕ → Type 0
+IsRoomInSession channels number left =
+    (side : Side) (history : List Item) (waiting : List channel.Item) → SumsUp side history waiting channels → left ≡ room (notes side history) number
+
+abbrev pub IsCountInSession : Channels → ℕ → Type 0
+IsCountInSession channels used =
+    (side : Side) (history : List Item) (waiting : List channel.Item) → SumsUp side history waiting channels → used ≡ count (notes side history) waiting

@@ -1,0 +1,137 @@
+//! The channels of one end.
+
+ghost use Rattle.std.specs.Prelude.{◌≡◌, ◌<◌, ◌&&◌, Some, None, IfOk, IfErr, IfSome, IfNone, OnErr, true, false, length};
+ghost use Rattle.ssh_types.specs.Refusals.{refusal_of};
+ghost use Rattle.ssh_types.specs.AskRefusals.{ask_refusal_of};
+ghost use Rattle.ssh_model.specs.Sessions.Refusals as model;
+ghost use Rattle.ssh_model.specs.Channels.Connection.{is_limit_reached};
+ghost use Rattle.ssh_model.specs.Channels.Places.{at, is_at, is_open};
+ghost use Rattle.ssh_model.specs.Channels.Kept.{no_channels, count_where, is_queue_full, is_table_full, owe};
+ghost use Rattle.ssh_channels.specs.Entries.{place_of};
+ghost use Rattle.ssh_channels.specs.Values.{reply_of};
+
+use crate::Reply;
+use crate::entry::Entry;
+use crate::table::{NUMBERS, Table};
+use ssh_types::{AskRefusal, Refusal};
+use std::alloc::{AllocError, Global};
+use std::collections::VecDeque;
+use std::marker::Model;
+
+mod asking;
+mod closing;
+mod data;
+mod globals;
+mod offering;
+mod opening;
+mod requests;
+mod showing;
+mod sizes;
+mod taking;
+mod unblocking;
+
+// How many replies are owed at most, and how many requests of one channel, and global ones, of one side wait.
+const LIMIT: usize = 256;
+
+/// The channels of one end.
+#[derive(Drop)]
+pub struct Channels {
+    table: Table,
+    // The oldest first.
+    owed: VecDeque<Reply>,
+    // Global requests of the peer, and of this end, that wait for a reply.
+    globals_here: u32,
+    globals_there: u32,
+}
+
+impl Model for Channels {
+    ghost use Rattle.std.specs.Prelude.{◌≤◌, map};
+    ghost use Rattle.std.specs.VecDeque.{deque_capacity};
+    ghost use Rattle.ssh_model.specs.Channels.Kept as kept;
+    ghost use Rattle.ssh_channels.specs.Values.{reply_of};
+
+    ghost Value = { kept.Channels };
+
+    ghost view = { λ c. record { places = c.table; owed = map reply_of c.owed.items; globals_here = c.globals_here; globals_there = c.globals_there } };
+
+    ghost invariant = { λ c. 256 ≤ deque_capacity c.owed };
+}
+
+impl Channels {
+    /// No channels, and nothing that waits or is owed.
+    pub fn new(alloc: Global) -> Result<Channels, AllocError>
+        ensures { IfOk result (λ channels. channels ≡ no_channels) }
+    {
+        let table = Table::new(alloc)?;
+        let owed = VecDeque::with_capacity(alloc, LIMIT)?;
+        Ok(Channels {
+            table,
+            owed,
+            globals_here: 0,
+            globals_there: 0,
+        })
+    }
+
+    // The channel of a message that comes on an open one.
+    fn open_entry(&self, number: u32) -> Result<Entry, Refusal>
+        ensures found { IfOk result (λ entry. at self.now.places number ≡ Some (place_of entry)) }
+        ensures open { IfOk result (λ entry. is_open (place_of entry) ≡ true) }
+        ensures refused { IfErr result (λ e. refusal_of e ≡ model.Refusal.UnknownChannel) }
+        ensures closed { OnErr result (is_at is_open (at self.now.places number) ≡ false) }
+    {
+        match self.table.get(number) {
+            Some(entry) if entry.is_open() => Ok(entry),
+            _ => Err(Refusal::UnknownChannel),
+        }
+    }
+
+    // The channel of an ask for an open one.
+    fn confirmed_entry(&self, number: u32) -> Result<Entry, AskRefusal>
+        ensures found { IfOk result (λ entry. at self.now.places number ≡ Some (place_of entry)) }
+        ensures open { IfOk result (λ entry. is_open (place_of entry) ≡ true) }
+        ensures refused { IfErr result (λ e. ask_refusal_of e ≡ model.AskRefusal.NoChannel) }
+        ensures closed { OnErr result (is_at is_open (at self.now.places number) ≡ false) }
+    {
+        match self.table.get(number) {
+            Some(entry) if entry.is_open() => Ok(entry),
+            _ => Err(AskRefusal::NoChannel),
+        }
+    }
+
+    // Each number is in use.
+    fn is_table_full(&self) -> bool
+        ensures { result ≡ is_table_full self.now.places }
+    {
+        self.table.count() >= NUMBERS
+    }
+
+    // One reply more cannot be owed.
+    fn is_queue_full(&self, blocked: bool) -> bool
+        ensures { result ≡ is_queue_full blocked self.now.owed }
+    {
+        blocked && self.owed.len() >= LIMIT
+    }
+
+    // A reply is owed behind the others.
+    fn owe(&mut self, reply: Reply)
+        requires { length self.old.owed < 256 }
+        ensures { self.new ≡ owe (reply_of reply) self.old }
+    {
+        self.owed.push_back_reserved(reply);
+    }
+}
+
+// One request more that waits, where a reply is wanted; `None` where no more can wait.
+fn count_where(want: bool, waiting: u32) -> Option<u32>
+    ensures counted { IfSome result (λ count. count ≡ count_where want waiting) }
+    ensures fits { IfSome result (λ count. (want && is_limit_reached waiting) ≡ false) }
+    ensures many { IfNone result ((want && is_limit_reached waiting) ≡ true) }
+{
+    if !want {
+        return Some(waiting);
+    }
+    if waiting as usize >= LIMIT {
+        return None;
+    }
+    Some(waiting + 1)
+}

@@ -1,0 +1,174 @@
+//! EOF and CLOSE (RFC 4254 section 5.3).
+
+ghost use Rattle.std.specs.Prelude.{◌≡◌, Bool, ◌≤◌, Some, None, IfOk, IfErr, OnOk, OnErr, false};
+ghost use Rattle.ssh_types.specs.AskRefusals.{ask_refusal_of};
+ghost use Rattle.ssh_types.specs.Refusals.{refusal_of};
+ghost use Rattle.ssh_message.specs.Meaning.{meaning};
+ghost use Rattle.ssh_message.specs.Written.{Fits};
+ghost use Rattle.ssh_model.specs.Wire.Message as Msg;
+ghost use Rattle.ssh_model.specs.Wire.Sizes.{payload_size};
+ghost use Rattle.ssh_model.specs.Sessions.Items as Ask;
+ghost use Rattle.ssh_model.specs.Sessions.Refusals.{first_refusal};
+ghost use Rattle.ssh_model.specs.Channels.Kept.{Sends, Takes, send_checks, take_checks};
+ghost use Rattle.ssh_channels.specs.Values.{sent_of, taken_of};
+
+use super::Channels;
+use crate::entry::Entry;
+use crate::{Fact, Reply, Sent, Taken};
+use ssh_message::Message;
+use ssh_types::{AskRefusal, Refusal};
+
+impl Channels {
+    /// CHANNEL_EOF.
+    #[tactic(auto, using(crate::proofs::Taking::eof_taken))]
+    pub(super) fn take_eof<'a>(&mut self, recipient: u32) -> Result<Taken<'a>, Refusal>
+        ensures refused { IfErr result (λ e. first_refusal (take_checks false self.old (Msg.ChannelEof recipient)) ≡ Some (refusal_of e)) }
+        ensures kept { OnErr result (self.new ≡ self.old) }
+        ensures passed { OnOk result (first_refusal (take_checks false self.old (Msg.ChannelEof recipient)) ≡ None) }
+        ensures taken { IfOk result (λ t. (is_blocked : Bool) → Takes is_blocked self.old (Msg.ChannelEof recipient) (taken_of t) self.new) }
+    {
+        let entry = match self.open_entry(recipient) {
+            Ok(entry) => entry,
+            Err(refusal) => return Err(refusal),
+        };
+        if entry.eof_taken {
+            return Err(Refusal::Unexpected);
+        }
+        self.table.set(
+            recipient,
+            Entry {
+                eof_taken: true,
+                ..entry
+            },
+        );
+        Ok(Taken {
+            channel: Some(recipient),
+            reply: None,
+            fact: Some(Fact::Ended { channel: recipient }),
+        })
+    }
+
+    /// CHANNEL_CLOSE. It is answered by a CLOSE unless one was said, at once or, within a key exchange, later; with both
+    /// the number is free.
+    #[tactic(auto, using(crate::proofs::Taking::closed))]
+    pub(super) fn take_close<'a>(
+        &mut self,
+        blocked: bool,
+        recipient: u32,
+    ) -> Result<Taken<'a>, Refusal>
+        ensures refused { IfErr result (λ e. first_refusal (take_checks blocked self.old (Msg.ChannelClose recipient)) ≡ Some (refusal_of e)) }
+        ensures kept { OnErr result (self.new ≡ self.old) }
+        ensures passed { OnOk result (first_refusal (take_checks blocked self.old (Msg.ChannelClose recipient)) ≡ None) }
+        ensures taken { IfOk result (λ t. Takes blocked self.old (Msg.ChannelClose recipient) (taken_of t) self.new) }
+    {
+        let entry = match self.open_entry(recipient) {
+            Ok(entry) => entry,
+            Err(refusal) => return Err(refusal),
+        };
+        let fact = Some(Fact::Closed { channel: recipient });
+        if entry.close_said {
+            self.table.remove(recipient);
+            return Ok(Taken {
+                channel: Some(recipient),
+                reply: None,
+                fact,
+            });
+        }
+        let reply = Reply::Close {
+            channel: recipient,
+            recipient: entry.peer_number,
+        };
+        if !blocked {
+            self.table.remove(recipient);
+            return Ok(Taken {
+                channel: Some(recipient),
+                reply: Some(reply),
+                fact,
+            });
+        }
+        if self.is_queue_full(blocked) {
+            return Err(Refusal::OwedFull);
+        }
+        self.owe(reply);
+        self.table.set(
+            recipient,
+            Entry {
+                close_said: true,
+                close_owed: true,
+                close_taken: true,
+                ..entry
+            },
+        );
+        Ok(Taken {
+            channel: Some(recipient),
+            reply: None,
+            fact,
+        })
+    }
+
+    /// Asks for EOF.
+    #[tactic(auto, using(crate::proofs::Asking::eof_sent))]
+    pub(super) fn ask_eof<'a>(&mut self, channel: u32) -> Result<Sent<'a>, AskRefusal>
+        ensures refused { IfErr result (λ e. first_refusal (send_checks false false self.old (Ask.AskEof channel)) ≡ Some (ask_refusal_of e)) }
+        ensures kept { OnErr result (self.new ≡ self.old) }
+        ensures passed { OnOk result (first_refusal (send_checks false false self.old (Ask.AskEof channel)) ≡ None) }
+        ensures sent { IfOk result (λ t. Sends self.old (Ask.AskEof channel) (sent_of t) self.new) }
+        ensures fits { IfOk result (λ t. Fits t.message) }
+        ensures short { IfOk result (λ t. payload_size (meaning t.message) ≤ 34000) }
+    {
+        let entry = match self.confirmed_entry(channel) {
+            Ok(entry) => entry,
+            Err(refusal) => return Err(refusal),
+        };
+        if entry.is_ended() {
+            return Err(AskRefusal::Ended);
+        }
+        self.table.set(
+            channel,
+            Entry {
+                eof_sent: true,
+                ..entry
+            },
+        );
+        Ok(Sent {
+            channel: Some(channel),
+            message: Message::ChannelEof {
+                recipient: entry.peer_number,
+            },
+            fact: None,
+        })
+    }
+
+    /// Asks for CLOSE.
+    #[tactic(auto, using(crate::proofs::Asking::close_sent))]
+    pub(super) fn ask_close<'a>(&mut self, channel: u32) -> Result<Sent<'a>, AskRefusal>
+        ensures refused { IfErr result (λ e. first_refusal (send_checks false false self.old (Ask.AskClose channel)) ≡ Some (ask_refusal_of e)) }
+        ensures kept { OnErr result (self.new ≡ self.old) }
+        ensures passed { OnOk result (first_refusal (send_checks false false self.old (Ask.AskClose channel)) ≡ None) }
+        ensures sent { IfOk result (λ t. Sends self.old (Ask.AskClose channel) (sent_of t) self.new) }
+        ensures fits { IfOk result (λ t. Fits t.message) }
+        ensures short { IfOk result (λ t. payload_size (meaning t.message) ≤ 34000) }
+    {
+        let entry = match self.confirmed_entry(channel) {
+            Ok(entry) => entry,
+            Err(refusal) => return Err(refusal),
+        };
+        if entry.close_said {
+            return Err(AskRefusal::Ended);
+        }
+        self.table.set(
+            channel,
+            Entry {
+                close_said: true,
+                ..entry
+            },
+        );
+        Ok(Sent {
+            channel: Some(channel),
+            message: Message::ChannelClose {
+                recipient: entry.peer_number,
+            },
+            fact: None,
+        })
+    }
+}

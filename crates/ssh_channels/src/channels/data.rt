@@ -1,0 +1,202 @@
+//! Data and windows (RFC 4254 section 5.2).
+
+ghost use Rattle.std.specs.Prelude.{◌≡◌, Bool, ◌≤◌, Some, None, IfOk, IfErr, OnOk, OnErr, false, length};
+ghost use Rattle.ssh_types.specs.AskRefusals.{ask_refusal_of};
+ghost use Rattle.ssh_types.specs.Refusals.{refusal_of};
+ghost use Rattle.ssh_message.specs.Meaning.{meaning};
+ghost use Rattle.ssh_message.specs.Written.{Fits};
+ghost use Rattle.ssh_model.specs.Wire.Message as Msg;
+ghost use Rattle.ssh_model.specs.Wire.Sizes.{payload_size};
+ghost use Rattle.ssh_model.specs.Sessions.Items as Ask;
+ghost use Rattle.ssh_model.specs.Sessions.Refusals.{first_refusal};
+ghost use Rattle.ssh_model.specs.Channels.Places.{at};
+ghost use Rattle.ssh_model.specs.Channels.Kept.{Sends, Takes, data_checks, send_checks, take_checks};
+ghost use Rattle.ssh_channels.specs.Rows.{data_message};
+ghost use Rattle.ssh_channels.specs.Values.{sent_of, taken_of};
+
+use super::Channels;
+use super::sizes::LARGEST_DATA;
+use crate::entry::Entry;
+use crate::{Fact, Sent, Taken};
+use ssh_message::Message;
+use ssh_types::{AskRefusal, Refusal};
+
+impl Channels {
+    /// CHANNEL_WINDOW_ADJUST.
+    #[tactic(auto, using(crate::proofs::Taking::adjust_taken))]
+    pub(super) fn take_adjust<'a>(
+        &mut self,
+        recipient: u32,
+        bytes: u32,
+    ) -> Result<Taken<'a>, Refusal>
+        ensures refused { IfErr result (λ e. first_refusal (take_checks false self.old (Msg.ChannelWindowAdjust recipient bytes)) ≡ Some (refusal_of e)) }
+        ensures kept { OnErr result (self.new ≡ self.old) }
+        ensures passed { OnOk result (first_refusal (take_checks false self.old (Msg.ChannelWindowAdjust recipient bytes)) ≡ None) }
+        ensures taken { IfOk result (λ t. (is_blocked : Bool) → Takes is_blocked self.old (Msg.ChannelWindowAdjust recipient bytes) (taken_of t) self.new) }
+    {
+        let entry = match self.open_entry(recipient) {
+            Ok(entry) => entry,
+            Err(refusal) => return Err(refusal),
+        };
+        if bytes > u32::MAX - entry.send_window {
+            return Err(Refusal::WindowTooLarge);
+        }
+        self.table.set(
+            recipient,
+            Entry {
+                send_window: entry.send_window + bytes,
+                ..entry
+            },
+        );
+        Ok(Taken {
+            channel: Some(recipient),
+            reply: None,
+            fact: Some(Fact::Adjusted {
+                channel: recipient,
+                bytes,
+            }),
+        })
+    }
+
+    /// CHANNEL_DATA, or CHANNEL_EXTENDED_DATA of a kind.
+    #[tactic(auto, using(crate::proofs::Taking::data_taken))]
+    pub(super) fn take_data<'a>(
+        &mut self,
+        recipient: u32,
+        kind: Option<u32>,
+        body: &'a [u8],
+    ) -> Result<Taken<'a>, Refusal>
+        ensures refused { IfErr result (λ e. first_refusal (data_checks (at self.old.places recipient) (length body.now)) ≡ Some (refusal_of e)) }
+        ensures kept { OnErr result (self.new ≡ self.old) }
+        ensures passed { OnOk result (first_refusal (data_checks (at self.old.places recipient) (length body.now)) ≡ None) }
+        ensures taken { IfOk result (λ t. (is_blocked : Bool) → Takes is_blocked self.old (data_message recipient kind body.now) (taken_of t) self.new) }
+    {
+        let entry = match self.open_entry(recipient) {
+            Ok(entry) => entry,
+            Err(refusal) => return Err(refusal),
+        };
+        if entry.eof_taken {
+            return Err(Refusal::Unexpected);
+        }
+        let size = body.len();
+        if size > entry.receive_window as usize || size > entry.max_packet_here as usize {
+            return Err(Refusal::WindowOverrun);
+        }
+        self.table.set(
+            recipient,
+            Entry {
+                receive_window: entry.receive_window - size as u32,
+                ..entry
+            },
+        );
+        Ok(Taken {
+            channel: Some(recipient),
+            reply: None,
+            fact: Some(Fact::GotData {
+                channel: recipient,
+                kind,
+                body,
+            }),
+        })
+    }
+
+    /// Asks for data, extended data where a kind is given.
+    #[tactic(auto, using(crate::proofs::Asking::data_sent))]
+    pub(super) fn ask_data<'a>(
+        &mut self,
+        channel: u32,
+        kind: Option<u32>,
+        body: &'a [u8],
+    ) -> Result<Sent<'a>, AskRefusal>
+        ensures refused { IfErr result (λ e. first_refusal (send_checks false false self.old (Ask.AskData channel kind body.now)) ≡ Some (ask_refusal_of e)) }
+        ensures kept { OnErr result (self.new ≡ self.old) }
+        ensures passed { OnOk result (first_refusal (send_checks false false self.old (Ask.AskData channel kind body.now)) ≡ None) }
+        ensures sent { IfOk result (λ t. Sends self.old (Ask.AskData channel kind body.now) (sent_of t) self.new) }
+        ensures fits { IfOk result (λ t. Fits t.message) }
+        ensures short { IfOk result (λ t. payload_size (meaning t.message) ≤ 34000) }
+    {
+        let entry = match self.confirmed_entry(channel) {
+            Ok(entry) => entry,
+            Err(refusal) => return Err(refusal),
+        };
+        if entry.is_ended() {
+            return Err(AskRefusal::Ended);
+        }
+        let size = body.len();
+        if size > LARGEST_DATA as usize || size > entry.max_packet_there as usize {
+            return Err(AskRefusal::TooLong);
+        }
+        if size > entry.send_window as usize {
+            return Err(AskRefusal::NoRoom);
+        }
+        self.table.set(
+            channel,
+            Entry {
+                send_window: entry.send_window - size as u32,
+                ..entry
+            },
+        );
+        Ok(Sent {
+            channel: Some(channel),
+            message: data_message(entry.peer_number, kind, body),
+            fact: None,
+        })
+    }
+
+    /// Asks for a larger window.
+    #[tactic(auto, using(crate::proofs::Asking::adjust_sent))]
+    pub(super) fn ask_adjust<'a>(
+        &mut self,
+        channel: u32,
+        bytes: u32,
+    ) -> Result<Sent<'a>, AskRefusal>
+        ensures refused { IfErr result (λ e. first_refusal (send_checks false false self.old (Ask.AskAdjust channel bytes)) ≡ Some (ask_refusal_of e)) }
+        ensures kept { OnErr result (self.new ≡ self.old) }
+        ensures passed { OnOk result (first_refusal (send_checks false false self.old (Ask.AskAdjust channel bytes)) ≡ None) }
+        ensures sent { IfOk result (λ t. Sends self.old (Ask.AskAdjust channel bytes) (sent_of t) self.new) }
+        ensures fits { IfOk result (λ t. Fits t.message) }
+        ensures short { IfOk result (λ t. payload_size (meaning t.message) ≤ 34000) }
+    {
+        let entry = match self.confirmed_entry(channel) {
+            Ok(entry) => entry,
+            Err(refusal) => return Err(refusal),
+        };
+        if entry.close_said {
+            return Err(AskRefusal::Ended);
+        }
+        if bytes > u32::MAX - entry.receive_window {
+            return Err(AskRefusal::TooMuch);
+        }
+        self.table.set(
+            channel,
+            Entry {
+                receive_window: entry.receive_window + bytes,
+                ..entry
+            },
+        );
+        Ok(Sent {
+            channel: Some(channel),
+            message: Message::ChannelWindowAdjust {
+                recipient: entry.peer_number,
+                bytes,
+            },
+            fact: None,
+        })
+    }
+}
+
+// CHANNEL_DATA, or CHANNEL_EXTENDED_DATA of a kind.
+fn data_message<'a>(recipient: u32, kind: Option<u32>, body: &'a [u8]) -> Message<'a>
+    ensures means { meaning result ≡ data_message recipient kind body.now }
+    ensures fits { length body.now ≤ 32768 → Fits result }
+    ensures short { length body.now ≤ 32768 → payload_size (meaning result) ≤ 34000 }
+{
+    match kind {
+        None => Message::ChannelData { recipient, body },
+        Some(kind) => Message::ChannelExtendedData {
+            recipient,
+            kind,
+            body,
+        },
+    }
+}

@@ -1,0 +1,152 @@
+//! Global requests and their replies (RFC 4254 section 4).
+
+ghost use Rattle.std.specs.Prelude.{◌≡◌, Bool, ◌≤◌, Some, None, IfOk, IfErr, OnOk, OnErr, true, false, []};
+ghost use Rattle.ssh_types.specs.AskRefusals.{ask_refusal_of};
+ghost use Rattle.ssh_types.specs.Refusals.{refusal_of};
+ghost use Rattle.ssh_message.specs.Meaning.{meaning};
+ghost use Rattle.ssh_message.specs.Written.{Fits};
+ghost use Rattle.ssh_model.specs.Wire.Message as Msg;
+ghost use Rattle.ssh_model.specs.Wire.Sizes.{payload_size};
+ghost use Rattle.ssh_model.specs.Sessions.Items as Ask;
+ghost use Rattle.ssh_model.specs.Sessions.Refusals.{first_refusal};
+ghost use Rattle.ssh_model.specs.Channels.Kept.{Sends, Takes, send_checks, take_checks};
+ghost use Rattle.ssh_channels.specs.Rows.{global_reply_message};
+ghost use Rattle.ssh_channels.specs.Values.{sent_of, taken_of};
+
+use super::sizes::{is_too_long, is_too_long_with};
+use super::{Channels, count_where};
+use crate::{Fact, Sent, Taken};
+use ssh_message::Message;
+use ssh_types::{AskRefusal, Refusal};
+
+impl Channels {
+    /// GLOBAL_REQUEST.
+    #[tactic(auto, using(crate::proofs::Taking::global_taken))]
+    pub(super) fn take_global<'a>(
+        &mut self,
+        name: &'a [u8],
+        want: bool,
+        rest: &'a [u8],
+    ) -> Result<Taken<'a>, Refusal>
+        ensures refused { IfErr result (λ e. first_refusal (take_checks false self.old (Msg.GlobalRequest name.now want rest.now)) ≡ Some (refusal_of e)) }
+        ensures kept { OnErr result (self.new ≡ self.old) }
+        ensures passed { OnOk result (first_refusal (take_checks false self.old (Msg.GlobalRequest name.now want rest.now)) ≡ None) }
+        ensures taken { IfOk result (λ t. (is_blocked : Bool) → Takes is_blocked self.old (Msg.GlobalRequest name.now want rest.now) (taken_of t) self.new) }
+    {
+        self.globals_here = match count_where(want, self.globals_here) {
+            Some(count) => count,
+            None => return Err(Refusal::OwedFull),
+        };
+        Ok(Taken {
+            channel: None,
+            reply: None,
+            fact: Some(Fact::Global { name, want, rest }),
+        })
+    }
+
+    /// REQUEST_SUCCESS, or REQUEST_FAILURE, which has nothing behind it.
+    #[tactic(auto, using(crate::proofs::Taking::global_done))]
+    pub(super) fn take_global_reply<'a>(
+        &mut self,
+        success: bool,
+        rest: &'a [u8],
+    ) -> Result<Taken<'a>, Refusal>
+        requires { success ≡ false → rest.now ≡ [] }
+        ensures refused { IfErr result (λ e. first_refusal (take_checks false self.old (Msg.RequestFailure)) ≡ Some (refusal_of e)) }
+        ensures kept { OnErr result (self.new ≡ self.old) }
+        ensures passed { OnOk result (first_refusal (take_checks false self.old (Msg.RequestFailure)) ≡ None) }
+        ensures taken { IfOk result (λ t. (is_blocked : Bool) → Takes is_blocked self.old (global_reply_message success rest.now) (taken_of t) self.new) }
+    {
+        if self.globals_there == 0 {
+            return Err(Refusal::Unexpected);
+        }
+        self.globals_there -= 1;
+        Ok(Taken {
+            channel: None,
+            reply: None,
+            fact: Some(Fact::GlobalDone { success, rest }),
+        })
+    }
+
+    /// Asks for a global request.
+    #[tactic(auto, using(crate::proofs::Asking::global_sent))]
+    pub(super) fn ask_global<'a>(
+        &mut self,
+        name: &'a [u8],
+        want: bool,
+        rest: &'a [u8],
+    ) -> Result<Sent<'a>, AskRefusal>
+        ensures refused { IfErr result (λ e. first_refusal (send_checks false false self.old (Ask.AskGlobal name.now want rest.now)) ≡ Some (ask_refusal_of e)) }
+        ensures kept { OnErr result (self.new ≡ self.old) }
+        ensures passed { OnOk result (first_refusal (send_checks false false self.old (Ask.AskGlobal name.now want rest.now)) ≡ None) }
+        ensures sent { IfOk result (λ t. Sends self.old (Ask.AskGlobal name.now want rest.now) (sent_of t) self.new) }
+        ensures fits { IfOk result (λ t. Fits t.message) }
+        ensures short { IfOk result (λ t. payload_size (meaning t.message) ≤ 34000) }
+    {
+        let waiting = match count_where(want, self.globals_there) {
+            Some(count) => count,
+            None => return Err(AskRefusal::Busy),
+        };
+        if is_too_long_with(2, name, rest) {
+            return Err(AskRefusal::TooLong);
+        }
+        self.globals_there = waiting;
+        Ok(Sent {
+            channel: None,
+            message: Message::GlobalRequest { name, want, rest },
+            fact: None,
+        })
+    }
+
+    /// Asks for a reply to the oldest global request that waits.
+    #[tactic(auto, using(crate::proofs::Asking::global_reply_sent))]
+    pub(super) fn ask_global_reply<'a>(
+        &mut self,
+        success: bool,
+        rest: &'a [u8],
+    ) -> Result<Sent<'a>, AskRefusal>
+        ensures refused { IfErr result (λ e. first_refusal (send_checks false false self.old (Ask.AskGlobalReply success rest.now)) ≡ Some (ask_refusal_of e)) }
+        ensures kept { OnErr result (self.new ≡ self.old) }
+        ensures passed { OnOk result (first_refusal (send_checks false false self.old (Ask.AskGlobalReply success rest.now)) ≡ None) }
+        ensures sent { IfOk result (λ t. Sends self.old (Ask.AskGlobalReply success rest.now) (sent_of t) self.new) }
+        ensures fits { IfOk result (λ t. Fits t.message) }
+        ensures short { IfOk result (λ t. payload_size (meaning t.message) ≤ 34000) }
+    {
+        if success {
+            return self.ask_global_success(rest);
+        }
+        if self.globals_here == 0 {
+            return Err(AskRefusal::NothingOwed);
+        }
+        self.globals_here -= 1;
+        Ok(Sent {
+            channel: None,
+            message: Message::RequestFailure,
+            fact: None,
+        })
+    }
+
+    // Asks for REQUEST_SUCCESS.
+    #[tactic(auto, using(crate::proofs::Asking::global_reply_sent))]
+    fn ask_global_success<'a>(&mut self, rest: &'a [u8]) -> Result<Sent<'a>, AskRefusal>
+        ensures refused { IfErr result (λ e. first_refusal (send_checks false false self.old (Ask.AskGlobalReply true rest.now)) ≡ Some (ask_refusal_of e)) }
+        ensures kept { OnErr result (self.new ≡ self.old) }
+        ensures passed { OnOk result (first_refusal (send_checks false false self.old (Ask.AskGlobalReply true rest.now)) ≡ None) }
+        ensures sent { IfOk result (λ t. Sends self.old (Ask.AskGlobalReply true rest.now) (sent_of t) self.new) }
+        ensures fits { IfOk result (λ t. Fits t.message) }
+        ensures short { IfOk result (λ t. payload_size (meaning t.message) ≤ 34000) }
+    {
+        if self.globals_here == 0 {
+            return Err(AskRefusal::NothingOwed);
+        }
+        if is_too_long(1, rest) {
+            return Err(AskRefusal::TooLong);
+        }
+        self.globals_here -= 1;
+        Ok(Sent {
+            channel: None,
+            message: Message::RequestSuccess { rest },
+            fact: None,
+        })
+    }
+}

@@ -1,0 +1,205 @@
+//! Requests on channels and their replies (RFC 4254 section 5.4).
+
+ghost use Rattle.std.specs.Prelude.{◌≡◌, Bool, ◌≤◌, Some, None, IfOk, IfErr, OnOk, OnErr, false};
+ghost use Rattle.ssh_types.specs.AskRefusals.{ask_refusal_of};
+ghost use Rattle.ssh_types.specs.Refusals.{refusal_of};
+ghost use Rattle.ssh_message.specs.Meaning.{meaning};
+ghost use Rattle.ssh_message.specs.Written.{Fits};
+ghost use Rattle.ssh_model.specs.Wire.Message as Msg;
+ghost use Rattle.ssh_model.specs.Wire.Sizes.{payload_size};
+ghost use Rattle.ssh_model.specs.Sessions.Items as Ask;
+ghost use Rattle.ssh_model.specs.Sessions.Refusals.{first_refusal};
+ghost use Rattle.ssh_model.specs.Channels.Places.{at};
+ghost use Rattle.ssh_model.specs.Channels.Kept.{Sends, Takes, reply_checks, send_checks, take_checks};
+ghost use Rattle.ssh_channels.specs.Rows.{reply_message};
+ghost use Rattle.ssh_channels.specs.Values.{sent_of, taken_of};
+
+use super::sizes::is_too_long_with;
+use super::{Channels, count_where};
+use crate::entry::Entry;
+use crate::{Fact, Sent, Taken};
+use ssh_message::Message;
+use ssh_types::{AskRefusal, Refusal};
+
+impl Channels {
+    /// CHANNEL_REQUEST. One that comes after this end's CLOSE does not wait for a reply.
+    #[tactic(auto, using(crate::proofs::Taking::request_taken))]
+    pub(super) fn take_request<'a>(
+        &mut self,
+        recipient: u32,
+        name: &'a [u8],
+        want: bool,
+        rest: &'a [u8],
+    ) -> Result<Taken<'a>, Refusal>
+        ensures refused { IfErr result (λ e. first_refusal (take_checks false self.old (Msg.ChannelRequest recipient name.now want rest.now)) ≡ Some (refusal_of e)) }
+        ensures kept { OnErr result (self.new ≡ self.old) }
+        ensures passed { OnOk result (first_refusal (take_checks false self.old (Msg.ChannelRequest recipient name.now want rest.now)) ≡ None) }
+        ensures taken { IfOk result (λ t. (is_blocked : Bool) → Takes is_blocked self.old (Msg.ChannelRequest recipient name.now want rest.now) (taken_of t) self.new) }
+    {
+        let entry = match self.open_entry(recipient) {
+            Ok(entry) => entry,
+            Err(refusal) => return Err(refusal),
+        };
+        let waits = want && !entry.close_said;
+        let waiting_here = match count_where(waits, entry.waiting_here) {
+            Some(count) => count,
+            None => return Err(Refusal::OwedFull),
+        };
+        self.table.set(
+            recipient,
+            Entry {
+                waiting_here,
+                ..entry
+            },
+        );
+        Ok(Taken {
+            channel: Some(recipient),
+            reply: None,
+            fact: Some(Fact::Requested {
+                channel: recipient,
+                name,
+                want,
+                rest,
+            }),
+        })
+    }
+
+    /// CHANNEL_SUCCESS or CHANNEL_FAILURE.
+    #[tactic(auto, using(crate::proofs::Taking::request_done))]
+    pub(super) fn take_reply<'a>(
+        &mut self,
+        recipient: u32,
+        success: bool,
+    ) -> Result<Taken<'a>, Refusal>
+        ensures refused { IfErr result (λ e. first_refusal (reply_checks (at self.old.places recipient)) ≡ Some (refusal_of e)) }
+        ensures kept { OnErr result (self.new ≡ self.old) }
+        ensures passed { OnOk result (first_refusal (reply_checks (at self.old.places recipient)) ≡ None) }
+        ensures taken { IfOk result (λ t. (is_blocked : Bool) → Takes is_blocked self.old (reply_message recipient success) (taken_of t) self.new) }
+    {
+        let entry = match self.open_entry(recipient) {
+            Ok(entry) => entry,
+            Err(refusal) => return Err(refusal),
+        };
+        if entry.waiting_there == 0 {
+            return Err(Refusal::Unexpected);
+        }
+        self.table.set(
+            recipient,
+            Entry {
+                waiting_there: entry.waiting_there - 1,
+                ..entry
+            },
+        );
+        Ok(Taken {
+            channel: Some(recipient),
+            reply: None,
+            fact: Some(Fact::RequestDone {
+                channel: recipient,
+                success,
+            }),
+        })
+    }
+
+    /// Asks for a request.
+    #[tactic(auto, using(crate::proofs::Asking::request_sent))]
+    pub(super) fn ask_request<'a>(
+        &mut self,
+        channel: u32,
+        name: &'a [u8],
+        want: bool,
+        rest: &'a [u8],
+    ) -> Result<Sent<'a>, AskRefusal>
+        ensures refused { IfErr result (λ e. first_refusal (send_checks false false self.old (Ask.AskRequest channel name.now want rest.now)) ≡ Some (ask_refusal_of e)) }
+        ensures kept { OnErr result (self.new ≡ self.old) }
+        ensures passed { OnOk result (first_refusal (send_checks false false self.old (Ask.AskRequest channel name.now want rest.now)) ≡ None) }
+        ensures sent { IfOk result (λ t. Sends self.old (Ask.AskRequest channel name.now want rest.now) (sent_of t) self.new) }
+        ensures fits { IfOk result (λ t. Fits t.message) }
+        ensures short { IfOk result (λ t. payload_size (meaning t.message) ≤ 34000) }
+    {
+        let entry = match self.table.get(channel) {
+            Some(entry) => entry,
+            None => return Err(AskRefusal::NoChannel),
+        };
+        let waiting_there = match count_where(want, entry.waiting_there) {
+            Some(count) => count,
+            None => return Err(AskRefusal::Busy),
+        };
+        if !entry.is_open() {
+            return Err(AskRefusal::NoChannel);
+        }
+        if entry.close_said {
+            return Err(AskRefusal::Ended);
+        }
+        if is_too_long_with(6, name, rest) {
+            return Err(AskRefusal::TooLong);
+        }
+        self.table.set(
+            channel,
+            Entry {
+                waiting_there,
+                ..entry
+            },
+        );
+        Ok(Sent {
+            channel: Some(channel),
+            message: Message::ChannelRequest {
+                recipient: entry.peer_number,
+                name,
+                want,
+                rest,
+            },
+            fact: None,
+        })
+    }
+
+    /// Asks for a reply to the oldest request that waits.
+    #[tactic(auto, using(crate::proofs::Asking::reply_sent))]
+    pub(super) fn ask_reply<'a>(
+        &mut self,
+        channel: u32,
+        success: bool,
+    ) -> Result<Sent<'a>, AskRefusal>
+        ensures refused { IfErr result (λ e. first_refusal (send_checks false false self.old (Ask.AskReply channel success)) ≡ Some (ask_refusal_of e)) }
+        ensures kept { OnErr result (self.new ≡ self.old) }
+        ensures passed { OnOk result (first_refusal (send_checks false false self.old (Ask.AskReply channel success)) ≡ None) }
+        ensures sent { IfOk result (λ t. Sends self.old (Ask.AskReply channel success) (sent_of t) self.new) }
+        ensures fits { IfOk result (λ t. Fits t.message) }
+        ensures short { IfOk result (λ t. payload_size (meaning t.message) ≤ 34000) }
+    {
+        let entry = match self.confirmed_entry(channel) {
+            Ok(entry) => entry,
+            Err(refusal) => return Err(refusal),
+        };
+        if entry.close_said {
+            return Err(AskRefusal::Ended);
+        }
+        if entry.waiting_here == 0 {
+            return Err(AskRefusal::NothingOwed);
+        }
+        self.table.set(
+            channel,
+            Entry {
+                waiting_here: entry.waiting_here - 1,
+                ..entry
+            },
+        );
+        Ok(Sent {
+            channel: Some(channel),
+            message: reply_message(entry.peer_number, success),
+            fact: None,
+        })
+    }
+}
+
+// CHANNEL_SUCCESS or CHANNEL_FAILURE.
+fn reply_message<'a>(recipient: u32, success: bool) -> Message<'a>
+    ensures means { meaning result ≡ reply_message recipient success }
+    ensures fits { Fits result }
+    ensures short { payload_size (meaning result) ≤ 34000 }
+{
+    if success {
+        Message::ChannelSuccess { recipient }
+    } else {
+        Message::ChannelFailure { recipient }
+    }
+}

@@ -1,0 +1,70 @@
+//! What is shown of the channels.
+
+ghost use Rattle.std.specs.Prelude.{◌≡◌, option_map};
+ghost use Rattle.ssh_model.specs.Channels.Places.{at, shown_room, shown_state};
+ghost use Rattle.ssh_model.specs.Channels.Kept.{used};
+ghost use Rattle.ssh_channels.specs.Sessions.{IsCountInSession, IsRoomInSession, IsStateInSession};
+ghost use Rattle.ssh_channels.specs.Values.{state_of};
+
+use super::Channels;
+use crate::ChannelState;
+use ssh_model::connection::shown;
+
+impl Channels {
+    /// The state of the channel with this number; `None` where the number is not in use.
+    pub fn state(&self, channel: u32) -> Option<ChannelState>
+        ensures kept { option_map state_of result ≡ shown_state (at self.now.places channel) }
+        ensures in_session { IsStateInSession self.now channel result }
+    {
+        shown();
+        self.kept_state(channel)
+    }
+
+    /// The window left for data of this end; `None` where the channel is not confirmed, or the peer closed it.
+    pub fn room(&self, channel: u32) -> Option<u32>
+        ensures kept { result ≡ shown_room (at self.now.places channel) }
+        ensures in_session { IsRoomInSession self.now channel result }
+    {
+        shown();
+        self.kept_room(channel)
+    }
+
+    /// How many numbers are in use: those of channels that are open or being opened, and of those at which a CLOSE is owed.
+    pub fn count(&self) -> usize
+        ensures kept { result ≡ used self.now.places }
+        ensures in_session { IsCountInSession self.now result }
+    {
+        shown();
+        self.table.count()
+    }
+
+    fn kept_state(&self, channel: u32) -> Option<ChannelState>
+        ensures { option_map state_of result ≡ shown_state (at self.now.places channel) }
+    {
+        let entry = match self.table.get(channel) {
+            Some(entry) => entry,
+            None => return None,
+        };
+        if entry.is_answered {
+            return Some(ChannelState::Confirmed {
+                eof_sent: entry.eof_sent,
+                eof_taken: entry.eof_taken,
+                close_sent: entry.close_said && !entry.close_owed,
+                close_taken: entry.close_taken,
+            });
+        }
+        if entry.is_own {
+            return Some(ChannelState::Opening);
+        }
+        Some(ChannelState::Waiting)
+    }
+
+    fn kept_room(&self, channel: u32) -> Option<u32>
+        ensures { result ≡ shown_room (at self.now.places channel) }
+    {
+        match self.table.get(channel) {
+            Some(entry) if entry.is_open() => Some(entry.send_window),
+            _ => None,
+        }
+    }
+}

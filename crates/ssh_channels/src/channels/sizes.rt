@@ -1,0 +1,41 @@
+//! The sizes of what is sent.
+
+ghost use Rattle.std.specs.Prelude.{◌≡◌, ◌+◌, ◌≤◌, length};
+ghost use Rattle.ssh_model.specs.Channels.Connection.{is_max_packet};
+ghost use Rattle.ssh_model.specs.Sessions.Sizes.{string_size};
+ghost use Rattle.ssh_model.specs.Sessions.Sizes as model;
+
+// The most bytes of a payload.
+const LONGEST_PAYLOAD: usize = 34_000;
+
+// The most bytes of data that an end takes in one message, as it offers, and that it sends in one.
+pub(super) const LARGEST_DATA: u32 = 32_768;
+
+/// A payload of so many bytes and these is too long for a packet.
+pub(super) fn is_too_long(fixed: usize, rest: &[u8]) -> bool
+    requires { fixed ≤ 100 }
+    ensures { result ≡ model.is_too_long (fixed + length rest.now) }
+{
+    rest.len() > LONGEST_PAYLOAD - fixed
+}
+
+/// The same with a string in it.
+pub(super) fn is_too_long_with(fixed: usize, text: &[u8], rest: &[u8]) -> bool
+    requires { fixed ≤ 100 }
+    ensures { result ≡ model.is_too_long (fixed + string_size text.now + length rest.now) }
+{
+    if text.len() > LONGEST_PAYLOAD {
+        return true;
+    }
+    if rest.len() > LONGEST_PAYLOAD {
+        return true;
+    }
+    fixed + (4 + text.len()) + rest.len() > LONGEST_PAYLOAD
+}
+
+/// An end may offer to take data of so many bytes in one message.
+pub(super) fn is_max_packet(max_packet: u32) -> bool
+    ensures { result ≡ is_max_packet max_packet }
+{
+    1 <= max_packet && max_packet <= LARGEST_DATA
+}
