@@ -1,9 +1,9 @@
 //! What holds of one end alone, whatever comes to it.
 
 ghost use Rattle.std.specs.Prelude.{◌≡◌, ◌<◌, ◌^◌, ◌-◌, ℕ, List, [], ◌∷◌, length, map, true, false, Option, Some, None};
-ghost use Rattle.ssh_model.specs.Side.{Side};
+ghost use Rattle.ssh_model.specs.Side.{Side, part};
 ghost use Rattle.ssh_model.specs.Sessions.Parties.{Parties, AreLawful};
-ghost use Rattle.ssh_model.specs.Sessions.Items.{Ask, Item, Item.Asked, Item.SentLine, Item.Sent, Item.Refused, Item.Died, Done, has_died, part, sent};
+ghost use Rattle.ssh_model.specs.Sessions.Items.{Ask, Item, Item.Asked, Item.SentLine, Item.Sent, Item.Refused, Item.Died, Done, has_died, sent};
 ghost use Rattle.ssh_model.specs.Sessions.Turns.{AsksTurn, EndRun, OnOutcome, OnUnit, Refuses, Run, Turn, ask_checks, can_feed, stage};
 ghost use Rattle.ssh_model.specs.Sessions.TurnClaims.{AreGood, DiesAt, EndsWithLine, EndsWithPacket, HasNumbers, HasUint32s, KeepsToExchange, shown};
 ghost use Rattle.ssh_model.specs.Sessions.Events.{Event, IsFirst, Plays, PutsOut, World, rest_of};

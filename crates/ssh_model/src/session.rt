@@ -1,7 +1,7 @@
 ghost use Rattle.std.specs.Prelude.{◌++◌, ◌↔◌, ℕ, List};
-ghost use Rattle.ssh_model.specs.Side.{Side};
+ghost use Rattle.ssh_model.specs.Side.{Side, part};
 ghost use Rattle.ssh_model.specs.Sessions.Parties.{Parties, AreLawful, BothOffer};
-ghost use Rattle.ssh_model.specs.Sessions.Items.{Done, part};
+ghost use Rattle.ssh_model.specs.Sessions.Items.{Done};
 ghost use Rattle.ssh_model.specs.Sessions.Turns.{Run};
 ghost use Rattle.ssh_model.specs.Wire.Delivery.{Delivered, InPieces};
 ghost use Rattle.ssh_model.specs.Sessions.Events.{Event, Plays, World, reading_of};

@@ -1,8 +1,8 @@
 ghost use Rattle.std.specs.Prelude.{◌≡◌, ℕ, List, map, Option};
 ghost use Rattle.ssh_model.specs.Wire.Message.{Msg};
-ghost use Rattle.ssh_model.specs.Side.{Side};
+ghost use Rattle.ssh_model.specs.Side.{Side, part};
 ghost use Rattle.ssh_model.specs.Sessions.Parties.{Parties, AreLawful};
-ghost use Rattle.ssh_model.specs.Sessions.Items.{Ask, Item, Done, part};
+ghost use Rattle.ssh_model.specs.Sessions.Items.{Ask, Item, Done};
 ghost use Rattle.ssh_model.specs.Sessions.Phases.{Phase.Guessed, phase};
 ghost use Rattle.ssh_model.specs.Sessions.Turns.{Answer, AsksTurn, FeedsTurn, OnPayload, OnUnit, Run};
 ghost use Rattle.ssh_model.specs.Sessions.TurnClaims.{AreAlike, HasNumbers, IsSkipped, shown};

@@ -2,8 +2,8 @@
 use Rattle.std.proofs.Common.{◌≡◌, ℕ, zero, suc, arith, ◌<◌, List, [], ◌∷◌, ◌++◌, length, get_or, refl, sym, ap, subst, ◌∙◌, append-nil, append_assoc, Ok, Err}
 use Rattle.std.specs.Prelude.{Result, OnOk}
 use Rattle.ssh_model.specs.Wire.MacOnly.{mac_only}
-use Rattle.ssh_model.specs.Side.{Side.Client, Side.Server}
-use Rattle.ssh_model.specs.OneEpoch.History.{Item, Done.By, all_by, part}
+use Rattle.ssh_model.specs.Side.{Side.Client, Side.Server, DoneBy.By, done_by, part}
+use Rattle.ssh_model.specs.OneEpoch.History.{Item}
 use Rattle.ssh_model.specs.OneEpoch.History as history
 use Rattle.ssh_model.specs.OneEpoch.Runs.{Asks, Event, Event.Ask, Event.Deliver, Gets, Keys, Run, Run.ends, Run.goes, Step, Step.asks, Step.gets, World, next_world}
 use Rattle.ssh_trace.specs.History.{AreFilled, event_of, events_of, logged}
@@ -19,19 +19,19 @@ map_ok (Err e) f p = p
 
 -- ---- each end's part of all that was done
 
-client_own : (items : List Item) (run : List history.Done) → part Client (all_by Client items ++ run) ≡ items ++ part Client run
+client_own : (items : List Item) (run : List history.Done) → part Client (done_by Client items ++ run) ≡ items ++ part Client run
 client_own [] run = refl
 client_own (i ∷ items) run = ap (λ (x : List Item). i ∷ x) (client_own items run)
 
-client_other : (items : List Item) (run : List history.Done) → part Client (all_by Server items ++ run) ≡ part Client run
+client_other : (items : List Item) (run : List history.Done) → part Client (done_by Server items ++ run) ≡ part Client run
 client_other [] run = refl
 client_other (i ∷ items) run = client_other items run
 
-server_own : (items : List Item) (run : List history.Done) → part Server (all_by Server items ++ run) ≡ items ++ part Server run
+server_own : (items : List Item) (run : List history.Done) → part Server (done_by Server items ++ run) ≡ items ++ part Server run
 server_own [] run = refl
 server_own (i ∷ items) run = ap (λ (x : List Item). i ∷ x) (server_own items run)
 
-server_other : (items : List Item) (run : List history.Done) → part Server (all_by Client items ++ run) ≡ part Server run
+server_other : (items : List Item) (run : List history.Done) → part Server (done_by Client items ++ run) ≡ part Server run
 server_other [] run = refl
 server_other (i ∷ items) run = server_other items run
 
@@ -55,7 +55,7 @@ client_asked event payload pair end a b out put other is asked w s =
         client = subst (λ (h : List Item). EndSums h (left_of end) end) (sym (client_own t.items w.run)) t.notes.sums;
         server = subst (λ (h : List Item). EndSums h w.server_rest pair.server) (sym (server_other t.items w.run)) s.server;
       };
-      items_are = λ run e. ap (λ (x : List history.Done). all_by Client t.items ++ x) e ∙ sym (t.notes.records run);
+      items_are = λ run e. ap (λ (x : List history.Done). done_by Client t.items ++ x) e ∙ sym (t.notes.records run);
       client_bytes_are = λ before e. ap (λ (x : List ℕ). x ++ t.bytes) e ∙ append_assoc before out t.bytes ∙ ap (λ (x : List ℕ). before ++ x) (sym t.put);
       server_bytes_are = λ before e. e;
     }
@@ -74,7 +74,7 @@ server_asked event payload pair end a b out put other is asked w s =
         client = subst (λ (h : List Item). EndSums h w.client_rest pair.client) (sym (client_other t.items w.run)) s.client;
         server = subst (λ (h : List Item). EndSums h (left_of end) end) (sym (server_own t.items w.run)) t.notes.sums;
       };
-      items_are = λ run e. ap (λ (x : List history.Done). all_by Server t.items ++ x) e ∙ sym (t.notes.records run);
+      items_are = λ run e. ap (λ (x : List history.Done). done_by Server t.items ++ x) e ∙ sym (t.notes.records run);
       client_bytes_are = λ before e. e;
       server_bytes_are = λ before e. ap (λ (x : List ℕ). x ++ t.bytes) e ∙ append_assoc before out t.bytes ∙ ap (λ (x : List ℕ). before ++ x) (sym t.put);
     }
@@ -94,7 +94,7 @@ client_delivered event bytes pair end a b out other is share delivered w s =
         client = subst (λ (h : List Item). EndSums h (left_of end) end) (sym (client_own t.items w.run)) t.notes.sums;
         server = subst (λ (h : List Item). EndSums h w.server_rest pair.server) (sym (server_other t.items w.run)) s.server;
       };
-      items_are = λ run e. ap (λ (x : List history.Done). all_by Client t.items ++ x) e ∙ sym (t.notes.records run);
+      items_are = λ run e. ap (λ (x : List history.Done). done_by Client t.items ++ x) e ∙ sym (t.notes.records run);
       client_bytes_are = λ before e. append-nil w.client_bytes ∙ e;
       server_bytes_are = λ before e. e;
     }
@@ -114,7 +114,7 @@ server_delivered event bytes pair end a b out other is share delivered w s =
         client = subst (λ (h : List Item). EndSums h w.client_rest pair.client) (sym (client_other t.items w.run)) s.client;
         server = subst (λ (h : List Item). EndSums h (left_of end) end) (sym (server_own t.items w.run)) t.notes.sums;
       };
-      items_are = λ run e. ap (λ (x : List history.Done). all_by Server t.items ++ x) e ∙ sym (t.notes.records run);
+      items_are = λ run e. ap (λ (x : List history.Done). done_by Server t.items ++ x) e ∙ sym (t.notes.records run);
       client_bytes_are = λ before e. e;
       server_bytes_are = λ before e. append-nil w.server_bytes ∙ e;
     }

@@ -6,12 +6,12 @@ use Rattle.std.proofs.lemmas.List.{take-append-drop, drop-drop, drop_all}
 use Rattle.ssh_model.specs.Wire.MacOnly.{mac_only}
 use Rattle.ssh_model.specs.Wire.Outcome.{Outcome.Opens, Outcome.RefusedPacket}
 use Rattle.ssh_model.specs.Wire.Sealing.{IsSealed}
-use Rattle.ssh_model.specs.Wire.Unit.{IsPacketBegun, PacketUnit, PacketUnit.opens, PacketUnit.bad_length, PacketUnit.spent, PacketUnit.bad_tag, PacketUnit.bad_padding}
-use Rattle.ssh_model.specs.Side.{Side}
+use Rattle.ssh_model.specs.Wire.Unit.{IsPacketBegun, PacketUnit}
+use Rattle.ssh_model.specs.Side.{Side, DoneBy.By, done_by}
 use Rattle.ssh_model.specs.Sessions.Refusals as session
-use Rattle.ssh_model.specs.OneEpoch.History.{Item, Item.Asked, Item.AskRefused, Item.Sent, Item.Took, Item.Refused, Item.Died, Done.By, all_by, has_died, sent, took}
+use Rattle.ssh_model.specs.OneEpoch.History.{Item, Item.Asked, Item.AskRefused, Item.Sent, Item.Took, Item.Refused, Item.Died, has_died, sent, took}
 use Rattle.ssh_model.specs.OneEpoch.History as history
-use Rattle.ssh_model.specs.OneEpoch.Runs.{Takes, Waits, Gets, Gets.dead, Gets.waits, Gets.takes, Asks}
+use Rattle.ssh_model.specs.OneEpoch.Runs.{Takes, Gets, Gets.dead, Gets.waits, Gets.takes, Asks}
 use Rattle.ssh_model.specs.OneEpoch.Runs as epoch
 use Rattle.ssh_types.specs.Refusals.{refusal_of}
 use Rattle.ssh_types.specs.declared.refusal.Refusal as rust
@@ -62,16 +62,16 @@ asked_sent payload out after side h old new a b c s alive t f g =
     }
 
 pub asked_too_long : (key payload out after : List ℕ) (side : Side) (h : List Item) (old new : End) (a b c : List Done) → EndSums h (left_of old) old → old.dead ≡ false → RefusesAsk payload old new out after
-    → Adds side Asked a b → Adds side (AskRefused 5) b c → AskedWith key side payload h old new a c out after
+    → Adds side Asked a b → Adds side (AskRefused session.TooLong) b c → AskedWith key side payload h old new a c out after
 asked_too_long key payload out after side h old new a b c s alive t f g =
     let e = t.new_is in
     record {
-      items = AskRefused 5 ∷ Asked ∷ [];
+      items = AskRefused session.TooLong ∷ Asked ∷ [];
       bytes = [];
-      asks = subst (λ (x : List ℕ). Asks mac_only key h (left_of old) payload (AskRefused 5 ∷ Asked ∷ []) [] x) (sym (ap left_of e)) (epoch.too_long (alive_is h (left_of old) old s alive) t.long);
+      asks = subst (λ (x : List ℕ). Asks mac_only key h (left_of old) payload (AskRefused session.TooLong ∷ Asked ∷ []) [] x) (sym (ap left_of e)) (epoch.too_long (alive_is h (left_of old) old s alive) t.long);
       put = t.none ∙ sym (append-nil out);
       notes = record {
-        records = two side Asked (AskRefused 5) a b c f g;
+        records = two side Asked (AskRefused session.TooLong) a b c f g;
         sums = record { dead_is = ap (λ (x : End). x.dead) e ∙ s.dead_is; sent_is = ap (λ (x : End). x.sent) e ∙ s.sent_is; taken_is = ap (λ (x : End). x.taken) e ∙ s.taken_is; rest_is = refl };
       };
     }
@@ -81,15 +81,15 @@ none_left : (e : End) → e.dead ≡ true → left_of e ≡ []
 none_left e d = ap (λ (b : Bool). cond b [] e.begun) d
 
 pub asked_spent : (key payload out after : List ℕ) (side : Side) (h : List Item) (old new : End) (a b c d : List Done) → EndSums h (left_of old) old → old.dead ≡ false → SpendsNumbers payload old new out after
-    → Adds side Asked a b → Adds side (Refused 14) b c → Adds side Died c d → AskedWith key side payload h old new a d out after
+    → Adds side Asked a b → Adds side (Refused session.NumberSpent) b c → Adds side Died c d → AskedWith key side payload h old new a d out after
 asked_spent key payload out after side h old new a b c d s alive t f g i =
     record {
-      items = Died ∷ Refused 14 ∷ Asked ∷ [];
+      items = Died ∷ Refused session.NumberSpent ∷ Asked ∷ [];
       bytes = [];
-      asks = subst (λ (x : List ℕ). Asks mac_only key h (left_of old) payload (Died ∷ Refused 14 ∷ Asked ∷ []) [] x) (sym (none_left new t.died.dead)) (epoch.spent (alive_is h (left_of old) old s alive) t.short (sym s.sent_is ∙ t.spent));
+      asks = subst (λ (x : List ℕ). Asks mac_only key h (left_of old) payload (Died ∷ Refused session.NumberSpent ∷ Asked ∷ []) [] x) (sym (none_left new t.died.dead)) (epoch.spent (alive_is h (left_of old) old s alive) t.short (sym s.sent_is ∙ t.spent));
       put = t.none ∙ sym (append-nil out);
       notes = record {
-        records = three side Asked (Refused 14) Died a b c d f g i;
+        records = three side Asked (Refused session.NumberSpent) Died a b c d f g i;
         sums = record { dead_is = t.died.dead; sent_is = t.died.sent ∙ s.sent_is; taken_is = t.died.taken ∙ s.taken_is; rest_is = refl };
       };
     }
@@ -115,16 +115,6 @@ turn_more used side h old new log s alive f =
       };
     }
 
--- what an end of one epoch makes of a unit
-takes_payload : (key : List ℕ) (n : ℕ) (unit payload : List ℕ) → PacketUnit mac_only (Some key) n n unit (Opens payload) → Takes mac_only key n unit (Took payload ∷ [])
-takes_payload key n unit payload (opens p has are wire) = epoch.payload p has.0 wire
-
-takes_refusal : (key : List ℕ) (n : ℕ) (unit : List ℕ) (refusal : session.Refusal) → PacketUnit mac_only (Some key) n n unit (RefusedPacket refusal) → Takes mac_only key n unit (Died ∷ Refused (session.refusal_number refusal) ∷ [])
-takes_refusal key n unit _ (bad_length b) = epoch.bad_length b
-takes_refusal key n unit _ (spent m all four has) = epoch.spent m all four has
-takes_refusal key n unit _ (bad_tag has are b) = epoch.bad_tag has.0 b
-takes_refusal key n unit _ (bad_padding has are b) = epoch.bad_padding has.0 b
-
 -- a unit is used up, and nothing is left
 unit_goes : (used : List ℕ) (h items : List Item) (old new : End) → EndSums h (left_of old) old → old.dead ≡ false → Takes mac_only old.taking_key old.taken (old.begun ++ used) items → left_of new ≡ []
     → (after : List ℕ) (more : List Item) (rest : List ℕ) → Gets mac_only old.taking_key (items ++ h) (left_of new ++ after) more rest → Gets mac_only old.taking_key h (left_of old ++ (used ++ after)) (more ++ items) rest
@@ -143,7 +133,7 @@ turn_taken used side h old new a b s alive f log =
     let none : left_of new ≡ [] = live_left new new_alive ∙ ap (λ (x : End). x.begun) e in
     record {
       items = Took new.payload ∷ [];
-      goes = unit_goes used h (Took new.payload ∷ []) old new s alive (takes_payload old.taking_key old.taken (old.begun ++ used) new.payload f.0) none;
+      goes = unit_goes used h (Took new.payload ∷ []) old new s alive (epoch.payload new.payload f.0) none;
       notes = record {
         records = log;
         sums = record { dead_is = ap (λ (x : End). x.dead) e ∙ s.dead_is; sent_is = ap (λ (x : End). x.sent) e ∙ s.sent_is; taken_is = ap (λ (x : End). x.taken) e ∙ omega (arith, s.taken_is); rest_is = refl };
@@ -151,15 +141,14 @@ turn_taken used side h old new a b s alive f log =
     }
 
 pub turn_refused : (used : List ℕ) (side : Side) (h : List Item) (old new : End) (refusal : rust.Refusal) (a b c : List Done) → EndSums h (left_of old) old → old.dead ≡ false
-    → EndFinds (old.begun ++ used) old (step.Refused refusal) new → Adds side (Refused (session.refusal_number (refusal_of refusal))) a b → Adds side Died b c → TurnWith old.taking_key side used h old new a c
+    → EndFinds (old.begun ++ used) old (step.Refused refusal) new → Adds side (Refused (refusal_of refusal)) a b → Adds side Died b c → TurnWith old.taking_key side used h old new a c
 turn_refused used side h old new refusal a b c s alive f first second =
     let died = f.1 in
-    let number = session.refusal_number (refusal_of refusal) in
     record {
-      items = Died ∷ Refused number ∷ [];
-      goes = unit_goes used h (Died ∷ Refused number ∷ []) old new s alive (takes_refusal old.taking_key old.taken (old.begun ++ used) (refusal_of refusal) f.0) (none_left new died.dead);
+      items = Died ∷ Refused (refusal_of refusal) ∷ [];
+      goes = unit_goes used h (Died ∷ Refused (refusal_of refusal) ∷ []) old new s alive (epoch.refuses (refusal_of refusal) f.0) (none_left new died.dead);
       notes = record {
-        records = two side (Refused number) Died a b c first second;
+        records = two side (Refused (refusal_of refusal)) Died a b c first second;
         sums = record { dead_is = died.dead; sent_is = died.sent ∙ s.sent_is; taken_is = died.taken ∙ s.taken_is; rest_is = refl };
       };
     }
@@ -176,7 +165,7 @@ pub nothing_yet : (key piece : List ℕ) (side : Side) (h : List Item) (old : En
 nothing_yet key piece side h old log s =
     record { items = []; goes = λ more left g. subst (λ (x : List Item). Gets mac_only key h (left_of old ++ piece) x left) (sym (append-nil more)) g; notes = record { records = λ run. refl; sums = s } }
 
-all_by_append : (side : Side) (xs ys : List Item) → all_by side (xs ++ ys) ≡ all_by side xs ++ all_by side ys
+all_by_append : (side : Side) (xs ys : List Item) → done_by side (xs ++ ys) ≡ done_by side xs ++ done_by side ys
 all_by_append side [] ys = refl
 all_by_append side (x ∷ xs) ys = ap (λ (z : List history.Done). By side x ∷ z) (all_by_append side xs ys)
 
@@ -194,8 +183,8 @@ go_on key piece rest side at_ count h old middle new a b c behind g same turn =
           let second = g.goes (more ++ t.items) left (subst (λ (k : List ℕ). Gets mac_only key (g.items ++ h) (left_of middle ++ k) (more ++ t.items) left) join first) in
           subst (λ (k : List Item). Gets mac_only key h (left_of old ++ piece) k left) (append_assoc more t.items g.items) second;
       notes = record {
-        records = λ run. t.notes.records run ∙ ap (λ (x : List history.Done). all_by side t.items ++ x) (g.notes.records run)
-            ∙ sym (append_assoc (all_by side t.items) (all_by side g.items) (logged run a)) ∙ ap (λ (x : List history.Done). x ++ logged run a) (sym (all_by_append side t.items g.items));
+        records = λ run. t.notes.records run ∙ ap (λ (x : List history.Done). done_by side t.items ++ x) (g.notes.records run)
+            ∙ sym (append_assoc (done_by side t.items) (done_by side g.items) (logged run a)) ∙ ap (λ (x : List history.Done). x ++ logged run a) (sym (all_by_append side t.items g.items));
         sums = subst (λ (k : List Item). EndSums k (left_of new) new) (sym (append_assoc t.items g.items h)) t.notes.sums;
       };
     }
@@ -213,11 +202,11 @@ living_end : (key piece : List ℕ) (side : Side) (at_ : ℕ) (h : List Item) (o
 living_end key piece side at_ h old new a b g over k alive =
     let s = g.notes.sums in
     let all : left_of new ++ drop at_ piece ≡ left_of new = ap (λ (x : List ℕ). left_of new ++ x) (drop_all at_ piece over) ∙ append-nil (left_of new) in
-    let wait : Waits mac_only key (length (took (g.items ++ h))) new.begun = subst (λ (n : ℕ). Waits mac_only key n new.begun) s.taken_is (record { begun = k.begun; unspent = k.unspent }) in
+    let wait : IsPacketBegun mac_only (Some key) (length (took (g.items ++ h))) new.begun = subst (λ (n : ℕ). IsPacketBegun mac_only (Some key) n new.begun) s.taken_is (record { begun = k.begun; unspent = k.unspent }) in
     record {
       items = g.items;
       gets = g.goes [] (left_of new) (subst (λ (x : List ℕ). Gets mac_only key (g.items ++ h) x [] (left_of new)) (sym all)
-          (epoch.waits (alive_is (g.items ++ h) (left_of new) new s alive) (subst (λ (x : List ℕ). Waits mac_only key (length (took (g.items ++ h))) x) (sym (live_left new alive)) wait)));
+          (epoch.waits (alive_is (g.items ++ h) (left_of new) new s alive) (subst (λ (x : List ℕ). IsPacketBegun mac_only (Some key) (length (took (g.items ++ h))) x) (sym (live_left new alive)) wait)));
       notes = g.notes;
     }
 

@@ -2,7 +2,7 @@
 use Rattle.std.specs.Prelude.{◌≤◌, List, [], ◌∷◌, length}
 use Rattle.ssh_model.specs.OneEpoch.History as history
 use Rattle.ssh_model.specs.OneEpoch.Runs as epoch
-use Rattle.ssh_model.specs.Sessions.Refusals.{ask_refusal_number, refusal_number}
+use Rattle.ssh_model.specs.Side.{DoneBy.By}
 use Rattle.ssh_types.specs.AskRefusals.{ask_refusal_of}
 use Rattle.ssh_types.specs.Refusals.{refusal_of}
 use Rattle.ssh_types.specs.Sides.{side_of}
@@ -14,16 +14,16 @@ use Rattle.ssh_trace.specs.declared.history.Event.TheVariants.{Ask, Deliver}
 
 abbrev pub item_of : Item → history.Item
 item_of item.Asked = history.Asked
-item_of (item.AskRefused refusal) = history.AskRefused (ask_refusal_number (ask_refusal_of refusal))
+item_of (item.AskRefused refusal) = history.AskRefused (ask_refusal_of refusal)
 item_of (item.Took payload) = history.Took payload.items
 item_of (item.Sent payload) = history.Sent payload.items
-item_of (item.Refused refusal) = history.Refused (refusal_number (refusal_of refusal))
+item_of (item.Refused refusal) = history.Refused (refusal_of refusal)
 item_of item.Died = history.Died
 
 -- all that was done, the newest first, with these records, the oldest first, put after it
 abbrev pub logged : List history.Done → List Done → List history.Done
 logged run [] = run
-logged run (done ∷ dones) = logged (history.By (side_of done.side) (item_of done.item) ∷ run) dones
+logged run (done ∷ dones) = logged (By (side_of done.side) (item_of done.item) ∷ run) dones
 
 abbrev pub event_of : Event → epoch.Event
 event_of (Ask side payload) = epoch.Ask (side_of side) payload.now

@@ -1,8 +1,8 @@
 -- What an ask and a delivery do, for every history that the end sums up.
 use Rattle.std.specs.Prelude.{◌≡◌, ℕ, List, ◌++◌}
 use Rattle.ssh_model.specs.Wire.MacOnly.{mac_only}
-use Rattle.ssh_model.specs.Side.{Side}
-use Rattle.ssh_model.specs.OneEpoch.History.{Item, all_by}
+use Rattle.ssh_model.specs.Side.{Side, done_by}
+use Rattle.ssh_model.specs.OneEpoch.History.{Item}
 use Rattle.ssh_model.specs.OneEpoch.History as history
 use Rattle.ssh_model.specs.OneEpoch.Runs.{Asks, Gets}
 use Rattle.ssh_trace.specs.History.{logged}
@@ -11,7 +11,7 @@ use Rattle.ssh_trace.specs.declared.history.Done.{Done}
 
 -- These items, the newest first, were put into the records, and the end sums them up too.
 pub record Notes (side : Side) (h items : List Item) (new : End) (log_old log_new : List Done) : Type 0 where
-  pub records : (run : List history.Done) → logged run log_new ≡ all_by side items ++ logged run log_old
+  pub records : (run : List history.Done) → logged run log_new ≡ done_by side items ++ logged run log_old
   pub sums : EndSums (items ++ h) (left_of new) new
 
 -- an ask

@@ -1,10 +1,10 @@
 -- A channel on which data were taken has a partner.
 use Rattle.std.proofs.Common.{◌≡◌, ℕ, List, [], ◌∷◌, ◌⊎◌, inl, inr, refl, sym, ◌∙◌, subst, Bool, true, false}
-use Rattle.ssh_model.specs.Side.{Side, Side.Client, Side.Server, peer}
+use Rattle.ssh_model.specs.Side.{Side, Side.Client, Side.Server, peer, part}
 use Rattle.ssh_model.specs.Lists.{IsIn}
 use Rattle.ssh_model.specs.Channels.Message.{Message, Message.Open, Message.OpenConfirmation, Message.OpenFailure, Message.Eof, Message.Close, Channel, Channel.Opened, mine, is_open, Stage, Stage.Quiet, stage, talked, begun, MayFollow, data_of}
 use Rattle.ssh_model.specs.Channels.Notes.{Note, said_all, took_all, said, took}
-use Rattle.ssh_model.specs.Channels.Rows.{Done, part, PairRun, Ordered}
+use Rattle.ssh_model.specs.Channels.Rows.{Done, PairRun, Ordered}
 use Rattle.ssh_model.specs.Channels.Claims.{HasPartner, Partnered}
 use Rattle.ssh_model.proofs.Channels.Lists.{Kept, more, more_older}
 use Rattle.ssh_model.proofs.Channels.Lines.{on_older, mine_twice}

@@ -1,10 +1,10 @@
 -- Whole runs as their channels see them: windows, no refusal between the two ends, and data in order.
 use Rattle.std.proofs.Common.{◌≡◌, ℕ, List, [], ◌∷◌, ◌++◌, ◌⊎◌, inl, inr, refl, ap, sym, ◌∙◌, subst, append_assoc, append-nil, Option, Some, None}
-use Rattle.ssh_model.specs.Side.{Side, Side.Client, Side.Server, peer}
+use Rattle.ssh_model.specs.Side.{Side, Side.Client, Side.Server, peer, DoneBy.By, done_by, part}
 use Rattle.ssh_model.specs.Lists.{IsOlder}
 use Rattle.ssh_model.specs.Wire.Message.{Msg.NewKeys, Msg.KexInit}
 use Rattle.ssh_model.specs.Sessions.Parties.{Parties, AreLawful, BothOffer}
-use Rattle.ssh_model.specs.Sessions.Items.{Item, Item.Sent, Item.Took, Done, Done.By, done_by, part}
+use Rattle.ssh_model.specs.Sessions.Items.{Item, Item.Sent, Item.Took, Done}
 use Rattle.ssh_model.specs.Channels.Message.{Message}
 use Rattle.ssh_model.specs.Channels.History as channel
 use Rattle.ssh_model.specs.Channels.Rows as row
@@ -28,9 +28,9 @@ use Rattle.ssh_model.proofs.Channels.Pair.{windows_kept}
 -- the run of the channels
 pub channel_run : List Done → List row.Done
 channel_run [] = []
-channel_run (By side i ∷ run) = row.done_by side (channel_items (i ∷ [])) ++ channel_run run
+channel_run (By side i ∷ run) = done_by side (channel_items (i ∷ [])) ++ channel_run run
 
-pub part_seen : (s : Side) (run : List Done) → row.part s (channel_run run) ≡ channel_items (part s run)
+pub part_seen : (s : Side) (run : List Done) → part s (channel_run run) ≡ channel_items (part s run)
 unfolding channel_run
 part_seen s [] = refl
 part_seen Client (By Client i ∷ run) =
@@ -40,17 +40,17 @@ part_seen Server (By Client i ∷ run) = channel_end.part_other Client (channel_
 part_seen Server (By Server i ∷ run) =
     channel_end.part_own Server (channel_items (i ∷ [])) (channel_run run) ∙ (ap (λ l. channel_items (i ∷ []) ++ l) (part_seen Server run) ∙ sym (items_behind (i ∷ []) (part Server run)))
 
-done_behind : (side : Side) (a b : List channel.Item) → row.done_by side (a ++ b) ≡ row.done_by side a ++ row.done_by side b
+done_behind : (side : Side) (a b : List channel.Item) → done_by side (a ++ b) ≡ done_by side a ++ done_by side b
 done_behind side [] b = refl
-done_behind side (x ∷ a) b = ap (λ l. row.Done.By side x ∷ l) (done_behind side a b)
+done_behind side (x ∷ a) b = ap (λ l. By side x ∷ l) (done_behind side a b)
 
-items_seen : (side : Side) (items : List Item) (run : List Done) → channel_run (done_by side items ++ run) ≡ row.done_by side (channel_items items) ++ channel_run run
+items_seen : (side : Side) (items : List Item) (run : List Done) → channel_run (done_by side items ++ run) ≡ done_by side (channel_items items) ++ channel_run run
 unfolding channel_run
 items_seen side [] run = refl
 items_seen side (i ∷ items) run =
-    ap (λ l. row.done_by side (channel_items (i ∷ [])) ++ l) (items_seen side items run)
-    ∙ (sym (append_assoc (row.done_by side (channel_items (i ∷ []))) (row.done_by side (channel_items items)) (channel_run run))
-    ∙ ap (λ l. l ++ channel_run run) (sym (done_behind side (channel_items (i ∷ [])) (channel_items items)) ∙ ap (row.done_by side) (sym (items_behind (i ∷ []) items))))
+    ap (λ l. done_by side (channel_items (i ∷ [])) ++ l) (items_seen side items run)
+    ∙ (sym (append_assoc (done_by side (channel_items (i ∷ []))) (done_by side (channel_items items)) (channel_run run))
+    ∙ ap (λ l. l ++ channel_run run) (sym (done_behind side (channel_items (i ∷ [])) (channel_items items)) ∙ ap (done_by side) (sym (items_behind (i ∷ []) items))))
 
 -- an item is one on channels, or none
 single_sent : (c : Option ℕ) (o : Option Message) → (sent_on c o [] ≡ []) ⊎ ((x : channel.Item) × (sent_on c o [] ≡ x ∷ []))
@@ -73,7 +73,7 @@ module _ {K : Type 0} (p : Parties K) where
   order run g f Client = older_reading _ _ _ _ (kept p run g).to_client (taken_reads p (part Client run) (f Client)) (sent_reads p (part Server run) (f Server))
   order run g f Server = older_reading _ _ _ _ (kept p run g).to_server (taken_reads p (part Server run) (f Server)) (sent_reads p (part Client run) (f Client))
 
-  order_seen : (run : List Done) → Given p run → BothFormed p run → (s : Side) → IsOlder (channel.received (row.part s (channel_run run))) (channel.sent (row.part (peer s) (channel_run run)))
+  order_seen : (run : List Done) → Given p run → BothFormed p run → (s : Side) → IsOlder (channel.received (part s (channel_run run))) (channel.sent (part (peer s) (channel_run run)))
   order_seen run g f s = rw (part_seen s run, part_seen (peer s) run) (order run g f s)
 
   pub ordered : (run : List Done) → Given p run → BothFormed p run → row.Ordered (channel_run run)
@@ -81,15 +81,15 @@ module _ {K : Type 0} (p : Parties K) where
   ordered [] g f = tt
   ordered (By side i ∷ run) g f = go (channel_items (i ∷ [])) refl (single i) (ordered run (given_tail p side i run g) (formed_tail p side i run f))
     where
-      here : (s : Side) → IsOlder (channel.received (row.part s (row.done_by side (channel_items (i ∷ [])) ++ channel_run run))) (channel.sent (row.part (peer s) (row.done_by side (channel_items (i ∷ [])) ++ channel_run run)))
+      here : (s : Side) → IsOlder (channel.received (part s (done_by side (channel_items (i ∷ [])) ++ channel_run run))) (channel.sent (part (peer s) (done_by side (channel_items (i ∷ [])) ++ channel_run run)))
       here = order_seen (By side i ∷ run) g f
 
-      go : (l : List channel.Item) → channel_items (i ∷ []) ≡ l → ((l ≡ []) ⊎ ((x : channel.Item) × (l ≡ x ∷ []))) → row.Ordered (channel_run run) → row.Ordered (row.done_by side (channel_items (i ∷ [])) ++ channel_run run)
-      go l e (inl n) rest = subst (λ w. row.Ordered (row.done_by side w ++ channel_run run)) (sym (e ∙ n)) rest
+      go : (l : List channel.Item) → channel_items (i ∷ []) ≡ l → ((l ≡ []) ⊎ ((x : channel.Item) × (l ≡ x ∷ []))) → row.Ordered (channel_run run) → row.Ordered (done_by side (channel_items (i ∷ [])) ++ channel_run run)
+      go l e (inl n) rest = subst (λ w. row.Ordered (done_by side w ++ channel_run run)) (sym (e ∙ n)) rest
       go l e (inr n) rest =
           let one : channel_items (i ∷ []) ≡ n.0 ∷ [] = e ∙ n.1 in
-          let P : List channel.Item → Type 0 = λ w. (s : Side) → IsOlder (channel.received (row.part s (row.done_by side w ++ channel_run run))) (channel.sent (row.part (peer s) (row.done_by side w ++ channel_run run))) in
-          subst (λ w. row.Ordered (row.done_by side w ++ channel_run run)) (sym one) (subst P one here, rest)
+          let P : List channel.Item → Type 0 = λ w. (s : Side) → IsOlder (channel.received (part s (done_by side w ++ channel_run run))) (channel.sent (part (peer s) (done_by side w ++ channel_run run))) in
+          subst (λ w. row.Ordered (done_by side w ++ channel_run run)) (sym one) (subst P one here, rest)
 
 -- ---- the turns
 
@@ -98,22 +98,22 @@ opening_seen p side items o = ap channel_items o.items_are
 
 module _ {K : Type 0} (p : Parties K) (laws : AreLawful p) where
   then_seen : (side : Side) (h items : List Item) (run : List Done) → part side run ≡ h → Seen side h items → row.PairRun (channel_run run) → row.PairRun (channel_run (done_by side items ++ run))
-  then_seen side h items run e (nothing n) r = subst row.PairRun (sym (items_seen side items run ∙ ap (λ l. row.done_by side l ++ channel_run run) n)) r
+  then_seen side h items run e (nothing n) r = subst row.PairRun (sym (items_seen side items run ∙ ap (λ l. done_by side l ++ channel_run run) n)) r
   then_seen side h items run e (turn t) r =
-      let f : row.part side (channel_run run) ≡ channel_items h = part_seen side run ∙ ap channel_items e in
+      let f : part side (channel_run run) ≡ channel_items h = part_seen side run ∙ ap channel_items e in
       subst row.PairRun (sym (items_seen side items run)) (row.PairRun.then_turn side r (subst (λ l. row.Turn side l (channel_items items)) (sym f) t))
 
-  begun : row.PairRun (row.done_by Server (channel.Item.KexinitSent ∷ []) ++ (row.done_by Client (channel.Item.KexinitSent ∷ []) ++ []))
+  begun : row.PairRun (done_by Server (channel.Item.KexinitSent ∷ []) ++ (done_by Client (channel.Item.KexinitSent ∷ []) ++ []))
   begun = row.PairRun.then_turn Server (row.PairRun.then_turn Client row.PairRun.begins (row.Turn.rekeys refl)) (row.Turn.rekeys refl)
 
   start_seen : (client server : List Item) → IsOpening p Client client → IsOpening p Server server
-      → channel_run (done_by Server server ++ done_by Client client) ≡ row.done_by Server (channel.Item.KexinitSent ∷ []) ++ (row.done_by Client (channel.Item.KexinitSent ∷ []) ++ [])
+      → channel_run (done_by Server server ++ done_by Client client) ≡ done_by Server (channel.Item.KexinitSent ∷ []) ++ (done_by Client (channel.Item.KexinitSent ∷ []) ++ [])
   unfolding channel_run
   start_seen client server a b =
-      let one = items_seen Server server (done_by Client client) ∙ ap (λ l. row.done_by Server l ++ channel_run (done_by Client client)) (opening_seen p Server server b) in
-      let two : channel_run (done_by Client client) ≡ row.done_by Client (channel.Item.KexinitSent ∷ []) ++ [] =
-      ap channel_run (sym (append-nil (done_by Client client))) ∙ (items_seen Client client [] ∙ ap (λ l. row.done_by Client l ++ []) (opening_seen p Client client a)) in
-      one ∙ ap (λ l. row.done_by Server (channel.Item.KexinitSent ∷ []) ++ l) two
+      let one = items_seen Server server (done_by Client client) ∙ ap (λ l. done_by Server l ++ channel_run (done_by Client client)) (opening_seen p Server server b) in
+      let two : channel_run (done_by Client client) ≡ done_by Client (channel.Item.KexinitSent ∷ []) ++ [] =
+      ap channel_run (sym (append-nil (done_by Client client))) ∙ (items_seen Client client [] ∙ ap (λ l. done_by Client l ++ []) (opening_seen p Client client a)) in
+      one ∙ ap (λ l. done_by Server (channel.Item.KexinitSent ∷ []) ++ l) two
 
   pub seen : (run : List Done) → Run p run → row.PairRun (channel_run run)
   seen run (start client server a b) = subst row.PairRun (sym (start_seen client server a b)) begun
@@ -145,4 +145,4 @@ module _ {K : Type 0} (p : Parties K) (laws : AreLawful p) where
   windows_hold offer run r h side =
       let w = windows_kept (channel_run run) (seen run r) (all_ordered offer run r h) side in
       let P : List channel.Item → List channel.Item → Type 0 = λ a b. safe.Within (channel.noted side a) (channel.noted (peer side) b) in
-      subst (λ a. P a (channel_items (part (peer side) run))) (part_seen side run) (subst (λ b. P (row.part side (channel_run run)) b) (part_seen (peer side) run) w)
+      subst (λ a. P a (channel_items (part (peer side) run))) (part_seen side run) (subst (λ b. P (part side (channel_run run)) b) (part_seen (peer side) run) w)

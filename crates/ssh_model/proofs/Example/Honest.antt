@@ -2,12 +2,12 @@
 use Rattle.std.proofs.Common.{◌≡◌, ℕ, List, [], ◌∷◌, ◌⊎◌, inl, inr, refl, ap, sym, ◌∙◌, arith, get_or}
 use Rattle.std.specs.Prelude.{length, codes, false, None}
 use Rattle.sha2.specs.Sha256.{sha256, digest_bytes, hash_after, compress, rounds, schedule, first_words}
-use Rattle.ssh_model.specs.Side.{Side, Side.Client, Side.Server}
+use Rattle.ssh_model.specs.Side.{Side, Side.Client, Side.Server, part}
 use Rattle.ssh_model.specs.Lists.{IsIn}
 use Rattle.ssh_model.specs.Wire.Message.{Method.Password}
 use Rattle.ssh_model.specs.KeyExchange.Choice.{methods}
 use Rattle.ssh_model.specs.KeyExchange.Exchange.{Inputs, string_of, mpint_body, digits, exchange_text, exchange_hash}
-use Rattle.ssh_model.specs.Sessions.Items.{Fact.GotData, Item.Told, part, has_died}
+use Rattle.ssh_model.specs.Sessions.Items.{Fact.GotData, Item.Told, has_died}
 use Rattle.ssh_model.specs.KeyExchange.Exchanges.{nth, no_exchange, exchanges}
 use Rattle.ssh_model.specs.Sessions.Honest.{AreDistinct, TagsHold, SignaturesHold, IsCompleted, cookies, IsHonest}
 use Rattle.ssh_model.specs.Sessions.Claims.{TookUnder, HasAccepted}

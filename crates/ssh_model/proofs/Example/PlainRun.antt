@@ -1,7 +1,7 @@
 -- The toy session without strict key exchange is an honest run, and what the client took is no prefix of what was sent.
 use Rattle.std.proofs.Common.{◌≡◌, ℕ, ◌<◌, true, List, [], ◌∷◌, inl, inr, refl, sym, ◌∙◌, arith, None, ap}
 use Rattle.std.specs.Prelude.{codes}
-use Rattle.ssh_model.specs.Side.{Side, Side.Client, Side.Server}
+use Rattle.ssh_model.specs.Side.{Side, Side.Client, Side.Server, part}
 use Rattle.ssh_model.specs.Example.Toys.{plain, toy_key, cookie, secret}
 use Rattle.ssh_model.specs.Example.PlainRun.{farewell, plain_reply, plain_session, plain0, plain1, plain2, plain3, plain4, plain5, plain6, plain7, plain8, plain9, plain10, plain11, plain12}
 use Rattle.ssh_model.specs.Example.Run.{payload_of, sends, takes, offer_message_by, start_by}
@@ -14,7 +14,7 @@ use Rattle.ssh_model.specs.KeyExchange.Choice.{methods}
 use Rattle.ssh_model.specs.KeyExchange.Exchange.{Inputs, exchange_text}
 use Rattle.ssh_model.specs.Sessions.Refusals.{first_refusal}
 use Rattle.ssh_model.specs.Sessions.Parties.{AreLawful}
-use Rattle.ssh_model.specs.Sessions.Items.{Ask.AskService, Ask.AskDisconnect, Fact.Completed, Fact.Ignored, Fact.Disconnected, Item.Told, Item.Died, part}
+use Rattle.ssh_model.specs.Sessions.Items.{Ask.AskService, Ask.AskDisconnect, Fact.Completed, Fact.Ignored, Fact.Disconnected, Item.Told, Item.Died}
 use Rattle.ssh_model.specs.KeyExchange.Exchanges.{nth, no_exchange, exchange, exchanges}
 use Rattle.ssh_model.specs.Channels.Numbers.{largest_window}
 use Rattle.ssh_model.specs.Channels.History.{has_place, some_free}

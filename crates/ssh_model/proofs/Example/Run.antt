@@ -5,13 +5,13 @@ use Rattle.std.proofs.lemmas.Cmp.{nat_list_eq_equiv}
 use Rattle.std.proofs.lemmas.List.{take_all}
 use Rattle.sha2.specs.Sha256.{sha256}
 use Rattle.sha2.proofs.Facts256.{length-sha256}
-use Rattle.ssh_model.specs.Side.{Side.Client, Side.Server}
+use Rattle.ssh_model.specs.Side.{Side.Client, Side.Server, part}
 use Rattle.ssh_model.specs.Wire.Message.{Msg.NewKeys, Msg.KexEcdhInit, Msg.ServiceRequest, Msg.ServiceAccept, Msg.UserauthSuccess, Msg.ChannelClose, Method.Password}
 use Rattle.ssh_model.specs.Wire.MacOnly.{is_text}
 use Rattle.ssh_model.specs.KeyExchange.Choice.{methods}
 use Rattle.ssh_model.specs.KeyExchange.Exchange.{exchange_text}
 use Rattle.ssh_model.specs.Sessions.Refusals.{first_refusal}
-use Rattle.ssh_model.specs.Sessions.Items.{Ask.AskService, Ask.AskPassword, Ask.AskRekey, Ask.AskOpen, Ask.AskConfirm, Ask.AskData, Ask.AskClose, Fact.Completed, Fact.Service, Fact.Accepted, Fact.Authenticated, Fact.Opened, Fact.Confirmed, Fact.GotData, Fact.Closed, Item.Told, part}
+use Rattle.ssh_model.specs.Sessions.Items.{Ask.AskService, Ask.AskPassword, Ask.AskRekey, Ask.AskOpen, Ask.AskConfirm, Ask.AskData, Ask.AskClose, Fact.Completed, Fact.Service, Fact.Accepted, Fact.Authenticated, Fact.Opened, Fact.Confirmed, Fact.GotData, Fact.Closed, Item.Told}
 use Rattle.ssh_model.specs.KeyExchange.Exchanges.{exchange}
 use Rattle.ssh_model.specs.Channels.Message.{Message.Close}
 use Rattle.ssh_model.specs.Channels.Numbers.{largest_window}

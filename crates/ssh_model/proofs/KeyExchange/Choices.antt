@@ -1,11 +1,11 @@
 -- Ends that agree on the inputs of an exchange agree on its algorithms.
 use Rattle.std.proofs.Common.{◌≡◌, ℕ, suc, ◌<◌, List, [], ◌∷◌, length, inl, inr, refl, ap, sym, ◌∙◌, arith, subst, Bool, true, false, cond, ◌==◌, eq-eqb}
-use Rattle.ssh_model.specs.Side.{Side, Side.Client, Side.Server}
+use Rattle.ssh_model.specs.Side.{Side, Side.Client, Side.Server, part}
 use Rattle.ssh_model.specs.Wire.Message.{Msg.NewKeys}
 use Rattle.ssh_model.specs.KeyExchange.Choice.{Chosen}
 use Rattle.ssh_model.specs.KeyExchange.Exchange.{Inputs}
 use Rattle.ssh_model.specs.Sessions.Parties.{Parties, AreLawful, BothOffer, lists_of}
-use Rattle.ssh_model.specs.Sessions.Items.{Item, Item.Sent, Done, part, sent, messages_sent, messages_taken}
+use Rattle.ssh_model.specs.Sessions.Items.{Item, Item.Sent, Done, sent, messages_sent, messages_taken}
 use Rattle.ssh_model.specs.Sessions.Epochs.{epoch}
 use Rattle.ssh_model.specs.KeyExchange.Exchanges.{Offer, nth, no_offer, offers, no_exchange, none_chosen, exchange, exchanges, choice, choices, chosen}
 use Rattle.ssh_model.specs.Sessions.Honest.{IsHonest}

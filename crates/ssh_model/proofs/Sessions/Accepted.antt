@@ -1,11 +1,11 @@
 -- Nothing of the connection comes before an accepted request.
 use Rattle.std.proofs.Common.{◌≡◌, ℕ, zero, suc, ◌<◌, List, [], ◌∷◌, inl, inr, refl, ap, sym, ◌∙◌, subst, arith, Bool, true, false, eqb, ◌||◌}
 use Rattle.std.proofs.lemmas.Bool.{eq-eqb}
-use Rattle.ssh_model.specs.Side.{Side, Side.Client, Side.Server}
+use Rattle.ssh_model.specs.Side.{Side, Side.Client, Side.Server, DoneBy.By, part}
 use Rattle.ssh_model.specs.Lists.{IsIn, IsOlder}
 use Rattle.ssh_model.specs.Wire.Message.{Msg, Msg.NewKeys, Msg.UserauthRequest, Msg.UserauthSuccess, Msg.Unknown, FitsContext, is_unknown, message_number}
 use Rattle.ssh_model.specs.Sessions.Parties.{Parties, AreLawful, BothOffer}
-use Rattle.ssh_model.specs.Sessions.Items.{Payload, Payload.OtherOf, bytes_of, Item, Item.Sent, Item.Took, Done, Done.By, part, sent, took, messages_sent}
+use Rattle.ssh_model.specs.Sessions.Items.{Payload, Payload.OtherOf, bytes_of, Item, Item.Sent, Item.Took, Done, sent, took, messages_sent}
 use Rattle.ssh_model.specs.Sessions.Epochs.{epoch, after_first, from_epoch}
 use Rattle.ssh_model.specs.Sessions.Phases.{authenticated, sent_success, took_success}
 use Rattle.ssh_model.specs.Channels.Numbers.{is_held}

@@ -1,10 +1,10 @@
 -- Events give runs, a beginning of an honest run is honest, and the cutting of a stream into pieces does not matter.
 use Rattle.std.proofs.Common.{ℕ, List, [], ◌∷◌, ◌++◌, sym, subst, ◌↔◌}
-use Rattle.ssh_model.specs.Side.{Side, Side.Client, Side.Server}
+use Rattle.ssh_model.specs.Side.{Side, Side.Client, Side.Server, DoneBy.By, part}
 use Rattle.ssh_model.specs.Wire.Message.{Msg.NewKeys}
 use Rattle.ssh_model.specs.Wire.Sealing.{IsSealing}
 use Rattle.ssh_model.specs.Sessions.Parties.{Parties}
-use Rattle.ssh_model.specs.Sessions.Items.{Item, Item.Sent, Done, Done.By, part, has_died}
+use Rattle.ssh_model.specs.Sessions.Items.{Item, Item.Sent, Done, has_died}
 use Rattle.ssh_model.specs.Wire.Delivery.{Delivered, Delivered.dead, Delivered.waits, Delivered.takes, InPieces}
 use Rattle.ssh_model.specs.Sessions.Turns.{Turn.feeds, Turn.asks, Run, Run.start, Run.then_turn, stage, Turn}
 use Rattle.ssh_model.specs.Sessions.Events.{Event, IsFirst, Uses, reading_of, World, OnEvent, OnEvent.asks, OnEvent.feeds, OnEvent.delivers, Plays, Plays.ends, Plays.goes}

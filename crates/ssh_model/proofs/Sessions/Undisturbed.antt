@@ -1,11 +1,11 @@
 -- Neither end refuses the other for its channels.
 use Rattle.std.proofs.Common.{◌≡◌, ℕ, zero, suc, ◌<◌, ◌≤◌, List, [], ◌∷◌, ◌++◌, reverse, refl, ap, sym, ◌∙◌, arith, subst, append-nil, Bool, true, false, ◌&&◌, Option, Some}
-use Rattle.ssh_model.specs.Side.{Side, Side.Client, Side.Server, peer}
+use Rattle.ssh_model.specs.Side.{Side, Side.Client, Side.Server, peer, done_by, part}
 use Rattle.ssh_model.specs.Lists.{IsOlder}
 use Rattle.ssh_model.specs.Wire.Message.{Msg, Msg.NewKeys, Msg.KexInit, Msg.KexEcdhInit, Msg.KexEcdhReply, Msg.ServiceRequest, Msg.ServiceAccept, Msg.UserauthRequest, Msg.GlobalRequest, Msg.RequestSuccess, Msg.RequestFailure, Msg.ChannelOpen, Msg.ChannelOpenConfirmation, Msg.ChannelOpenFailure, Msg.ChannelWindowAdjust, Msg.ChannelData, Msg.ChannelExtendedData, Msg.ChannelEof, Msg.ChannelClose, Msg.ChannelRequest, Msg.ChannelSuccess, Msg.ChannelFailure, IsPayload, message_number}
 use Rattle.ssh_model.specs.Sessions.Refusals.{Check, Check.RefusedWhere, first_refusal, Refusal, Refusal.BadMessage, Refusal.Unexpected}
 use Rattle.ssh_model.specs.Sessions.Parties.{Parties, BothOffer, AreLawful}
-use Rattle.ssh_model.specs.Sessions.Items.{Ask, Item, Item.Refused, Payload.OtherOf, Done, done_by, part, sent, took}
+use Rattle.ssh_model.specs.Sessions.Items.{Ask, Item, Item.Refused, Payload.OtherOf, Done, sent, took}
 use Rattle.ssh_model.specs.Sessions.Epochs.{epoch, after_first, from_epoch}
 use Rattle.ssh_model.specs.Channels.Message.{Message}
 use Rattle.ssh_model.specs.Channels.History as channel
@@ -188,7 +188,7 @@ module _ {K : Type 0} (p : Parties K) where
   welcome run g v r side x m b c e s t w =
       let k = keyed_above side (part side run) x m b s (high_on_channel m c e) t in
       let o = older_reading _ _ _ _ (next run g side b w) (next_reads (part side run) x m b c (v side).formed e s k) (sent_reads p (part (peer side) run) (v (peer side)).formed) in
-      let o' : IsOlder (c ∷ channel.received (row.part side (channel_run run))) (channel.sent (row.part (peer side) (channel_run run))) = rw (part_seen side run, part_seen (peer side) run) o in
+      let o' : IsOlder (c ∷ channel.received (part side (channel_run run))) (channel.sent (part (peer side) (channel_run run))) = rw (part_seen side run, part_seen (peer side) run) o in
       let q = not_refused (channel_run run) r (ordered p run g (λ y. (v y).formed)) side c o' in
       subst (λ l. safe.Welcome c (channel.noted side l)) (part_seen side run) q
 
@@ -282,9 +282,9 @@ module _ {K : Type 0} (p : Parties K) (laws : AreLawful p) where
     in_order = λ side i.
         let d = data_in_order (channel_run run) (seen p laws run r) (all_ordered p laws offer run r h) side i in
         let P : List channel.Item → List channel.Item → Type 0 = λ a b. (rest : List (Option ℕ × List ℕ)) × (reverse (safe.data_received side i a) ++ rest ≡ reverse (safe.data_sent (peer side) i b)) in
-        subst (λ a. P a (channel_items (part (peer side) run))) (part_seen side run) (subst (λ b. P (row.part side (channel_run run)) b) (part_seen (peer side) run) d);
+        subst (λ a. P a (channel_items (part (peer side) run))) (part_seen side run) (subst (λ b. P (part side (channel_run run)) b) (part_seen (peer side) run) d);
     partners = λ side i some.
         let q = partnered (channel_run run) (seen p laws run r) (all_ordered p laws offer run r h) side i (λ e. some (sym (ap (safe.data_received side i) (part_seen side run)) ∙ e)) in
         let P : List channel.Item → List channel.Item → Type 0 = λ a b. safe.HasPartner i (channel.noted side a) (channel.noted (peer side) b) in
-        subst (λ a. P a (channel_items (part (peer side) run))) (part_seen side run) (subst (λ b. P (row.part side (channel_run run)) b) (part_seen (peer side) run) q);
+        subst (λ a. P a (channel_items (part (peer side) run))) (part_seen side run) (subst (λ b. P (part side (channel_run run)) b) (part_seen (peer side) run) q);
   }

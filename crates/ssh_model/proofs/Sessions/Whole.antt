@@ -1,11 +1,11 @@
 -- The invariant over whole runs, and the agreement and the beginning that follow from it.
 use Rattle.std.proofs.Common.{◌≡◌, ℕ, suc, ◌<◌, List, [], ◌∷◌, ◌++◌, ◌⊎◌, inl, inr, refl, sym, arith, subst, append-nil, Some}
-use Rattle.ssh_model.specs.Side.{Side, Side.Client, Side.Server}
+use Rattle.ssh_model.specs.Side.{Side, Side.Client, Side.Server, DoneBy.By, done_by, part}
 use Rattle.ssh_model.specs.Lists.{IsOlder, IsIn}
 use Rattle.ssh_model.specs.Wire.Message.{Msg.NewKeys}
 use Rattle.ssh_model.specs.KeyExchange.Exchange.{Inputs, Fits, exchange_hash}
 use Rattle.ssh_model.specs.Sessions.Parties.{Parties, AreLawful, BothOffer}
-use Rattle.ssh_model.specs.Sessions.Items.{Item, Item.Fed, Item.Sent, Item.Took, Item.TookGuess, Item.Refused, Payload, Payload.NewkeysOf, Payload.OtherOf, bytes_of, Done, Done.By, done_by, part, sent, took}
+use Rattle.ssh_model.specs.Sessions.Items.{Item, Item.Fed, Item.Sent, Item.Took, Item.TookGuess, Item.Refused, Payload, Payload.NewkeysOf, Payload.OtherOf, bytes_of, Done, sent, took}
 use Rattle.ssh_model.specs.Sessions.Epochs.{epoch, count, after_first}
 use Rattle.ssh_model.specs.KeyExchange.Exchanges.{exchange, exchanges}
 use Rattle.ssh_model.specs.Sessions.Honest.{AreDistinct, TagsHold, SignaturesHold, HasHash, IsCompleted, IsHonest, cookies, signed}

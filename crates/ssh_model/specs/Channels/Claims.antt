@@ -1,12 +1,12 @@
 -- What is claimed of channels: windows (RFC 4254 section 5.2), no refusal between the two ends, and data in order (own).
 use Rattle.std.specs.Prelude.{◌≡◌, ℕ, ◌≤◌, List, [], ◌∷◌, ◌++◌, reverse, ◌⊎◌, false, cond, Option, Some, None}
-use Rattle.ssh_model.specs.Side.{Side, Side.Client, Side.Server, peer}
+use Rattle.ssh_model.specs.Side.{Side, Side.Client, Side.Server, peer, part}
 use Rattle.ssh_model.specs.Lists.{IsIn, IsOlder}
 use Rattle.ssh_model.specs.Channels.Message.{Message, Message.Open, Message.OpenFailure, Message.Data, Channel, Channel.Opened, same, window, spent, data_of}
 use Rattle.ssh_model.specs.Channels.Notes.{Note, said, took, OpenedAt, channel_at}
 use Rattle.ssh_model.specs.Channels.Numbers.{is_unknown_channel, is_window_overrun, is_window_too_large}
 use Rattle.ssh_model.specs.Channels.History.{Item, Item.Sent, Item.Received, sent, received, noted}
-use Rattle.ssh_model.specs.Channels.Rows.{Done, part, PairRun, Ordered}
+use Rattle.ssh_model.specs.Channels.Rows.{Done, PairRun, Ordered}
 
 -- ---- of the notes of one end, and those of the other
 

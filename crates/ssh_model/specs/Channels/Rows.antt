@@ -1,6 +1,6 @@
 -- What may be asked and taken on a channel, row by row, and the runs of two ends as one list.
 use Rattle.std.specs.Prelude.{◌≡◌, ℕ, ◌+◌, ◌≤◌, List, [], ◌∷◌, ◌++◌, length, map, Bool, true, false, Option, Some, None}
-use Rattle.ssh_model.specs.Side.{Side, Side.Client, Side.Server, peer}
+use Rattle.ssh_model.specs.Side.{DoneBy, Side, Side.Client, Side.Server, done_by, part, peer}
 use Rattle.ssh_model.specs.Lists.{IsOlder}
 use Rattle.ssh_model.specs.Channels.Message.{Message, Message.Open, Message.OpenConfirmation, Message.OpenFailure, Message.WindowAdjust, Message.Data, Message.Eof, Message.Close, Message.Request, Message.Reply}
 use Rattle.ssh_model.specs.Channels.Notes.{Note}
@@ -70,18 +70,8 @@ pub data EndTurns : Side → List Item → Type 0 where
   then_turn : {side : Side} {history items : List Item} → EndTurns side history → Turn side history items → EndTurns side (items ++ history)
 
 -- an item of one side
-pub data Done : Type 0 where
-  By : Side → Item → Done
-
--- the history of one end, out of all that was done
-abbrev pub part : Side → List Done → List Item
-part side [] = []
-part Client (By Client item ∷ run) = item ∷ part Client run
-part Server (By Server item ∷ run) = item ∷ part Server run
-part side (_ ∷ run) = part side run
-
-abbrev pub done_by : Side → List Item → List Done
-done_by side items = map (By side) items
+abbrev pub Done : Type 0
+Done = DoneBy Item
 
 -- the runs of two ends, whatever comes to either
 pub data PairRun : List Done → Type 0 where

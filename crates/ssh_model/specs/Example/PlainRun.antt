@@ -2,12 +2,11 @@
 -- an IGNORE that nobody sent comes to the client before there are keys, and makes up in its count for the packet that
 -- is lost.
 use Rattle.std.specs.Prelude.{true, List, [], ◌∷◌, ◌++◌, codes}
-use Rattle.ssh_model.specs.Side.{Side.Client, Side.Server}
+use Rattle.ssh_model.specs.Side.{Side.Client, Side.Server, part, done_by}
 use Rattle.ssh_model.specs.Wire.Message.{Msg, Msg.Disconnect, Msg.Ignore, Msg.NewKeys, Msg.KexEcdhInit}
 use Rattle.ssh_model.specs.Wire.Message.{Msg.ServiceRequest, Msg.ServiceAccept}
 use Rattle.ssh_model.specs.Sessions.Items.{Ask.AskService, Ask.AskDisconnect, Fact.Completed, Fact.Ignored}
 use Rattle.ssh_model.specs.Sessions.Items.{Fact.Disconnected, Item.Asked, Item.TookLine, Item.Told, Item.Died, Done}
-use Rattle.ssh_model.specs.Sessions.Items.{part, done_by}
 use Rattle.ssh_model.specs.Sessions.Transport.{reply_now}
 use Rattle.ssh_model.specs.Example.Toys.{plain, secret}
 use Rattle.ssh_model.specs.Example.Histories.{line_of, userauth}

@@ -3,7 +3,7 @@
 use Rattle.std.specs.Prelude.{ℕ, Bool, true, false, Some, None, List, [], ◌∷◌, ◌++◌, if◌then◌else◌, codes}
 use Rattle.std.specs.List.{join_with_byte}
 use Rattle.std.specs.Int.{w32, to_be_bytes}
-use Rattle.ssh_model.specs.Side.{Side, Side.Client, Side.Server}
+use Rattle.ssh_model.specs.Side.{Side, Side.Client, Side.Server, part, done_by}
 use Rattle.ssh_model.specs.Wire.Message.{Msg, Msg.Disconnect, Msg.Ignore, Msg.KexInit, Msg.NewKeys, Msg.KexEcdhInit}
 use Rattle.ssh_model.specs.Wire.Message.{Msg.KexEcdhReply, Msg.ServiceRequest, Msg.ServiceAccept, Msg.UserauthRequest}
 use Rattle.ssh_model.specs.Wire.Message.{Msg.UserauthSuccess, Msg.ChannelOpen, Msg.ChannelOpenConfirmation}
@@ -13,7 +13,7 @@ use Rattle.ssh_model.specs.Sessions.Items.{Ask.AskService, Ask.AskPassword, Ask.
 use Rattle.ssh_model.specs.Sessions.Items.{Ask.AskData, Ask.AskClose, Fact.Completed, Fact.Service, Fact.Accepted}
 use Rattle.ssh_model.specs.Sessions.Items.{Fact.Authenticated, Fact.Opening, Fact.Opened, Fact.Confirmed, Fact.GotData}
 use Rattle.ssh_model.specs.Sessions.Items.{Fact.Closed, Item, Item.Asked, Item.SentLine, Item.TookLine, Item.Sent}
-use Rattle.ssh_model.specs.Sessions.Items.{Item.Took, Item.Told, Done, part, done_by}
+use Rattle.ssh_model.specs.Sessions.Items.{Item.Took, Item.Told, Done}
 use Rattle.ssh_model.specs.Sessions.Parties.{Parties}
 use Rattle.ssh_model.specs.Sessions.Transport.{reply_now}
 use Rattle.ssh_model.specs.Example.Toys.{toy, secret}

@@ -1,32 +1,22 @@
 -- What the two ends of one sealed epoch did, in one list of items with their sides. The newest item comes first, so
 -- that "earlier" is the tail.
-use Rattle.std.specs.Prelude.{◌≡◌, ℕ, List, [], ◌∷◌, length, reverse, map, ◌⊎◌, Bool, true, false}
-use Rattle.ssh_model.specs.Side.{Side, Side.Client, Side.Server, peer}
+use Rattle.std.specs.Prelude.{◌≡◌, ℕ, List, [], ◌∷◌, length, reverse, ◌⊎◌, Bool, true, false}
+use Rattle.ssh_model.specs.Sessions.Refusals.{AskRefusal, Refusal}
+use Rattle.ssh_model.specs.Side.{DoneBy, DoneBy.By, Side, part, peer}
 use Rattle.ssh_model.specs.Lists.{Begins}
 
--- What one end did. Payloads are lists of bytes, refusals go by their numbers.
+-- What one end did. A payload is its bytes: of messages one epoch says nothing.
 pub data Item : Type 0 where
   Asked : Item
-  AskRefused : ℕ → Item
+  AskRefused : AskRefusal → Item
   Sent : List ℕ → Item
   Took : List ℕ → Item
-  Refused : ℕ → Item
+  Refused : Refusal → Item
   Died : Item
 
 -- an item of one side
-pub data Done : Type 0 where
-  By : Side → Item → Done
-
--- items of one side
-abbrev pub all_by : Side → List Item → List Done
-all_by side items = map (By side) items
-
--- the history of one end, out of all that was done
-abbrev pub part : Side → List Done → List Item
-part side [] = []
-part Client (By Client i ∷ run) = i ∷ part Client run
-part Server (By Server i ∷ run) = i ∷ part Server run
-part side (_ ∷ run) = part side run
+abbrev pub Done : Type 0
+Done = DoneBy Item
 
 -- the payloads that an end sent, and those that it took
 abbrev pub sent : List Item → List (List ℕ)

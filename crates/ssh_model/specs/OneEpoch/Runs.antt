@@ -1,10 +1,12 @@
 -- Two ends in one sealed epoch: each direction under one key, both numbers from zero.
 use Rattle.std.specs.Prelude.{◌≡◌, ◌≤◌, ◌<◌, ◌^◌, ℕ, List, [], ◌∷◌, ◌++◌, length, false, true, Some}
-use Rattle.ssh_model.specs.Wire.Sealing.{Crypto, IsWire, IsSealed, IsBadLength, IsBadTag, IsBadPadding, HasSize}
-use Rattle.ssh_model.specs.Wire.Unit.{IsPacketBegun}
-use Rattle.ssh_model.specs.Side.{Side, Side.Client, Side.Server, peer}
+use Rattle.ssh_model.specs.Wire.Sealing.{Crypto, IsSealed}
+use Rattle.ssh_model.specs.Wire.Outcome.{Outcome.Opens, Outcome.RefusedPacket}
+use Rattle.ssh_model.specs.Wire.Unit.{IsPacketBegun, PacketUnit}
+use Rattle.ssh_model.specs.Sessions.Refusals.{AskRefusal.TooLong, Refusal, Refusal.NumberSpent}
+use Rattle.ssh_model.specs.Side.{Side, Side.Client, Side.Server, peer, done_by, part}
 use Rattle.ssh_model.specs.OneEpoch.History.{Item, Item.Asked, Item.AskRefused, Item.Sent, Item.Took, Item.Refused}
-use Rattle.ssh_model.specs.OneEpoch.History.{Item.Died, Done, all_by, part, sent, took, has_died}
+use Rattle.ssh_model.specs.OneEpoch.History.{Item.Died, Done, sent, took, has_died}
 
 -- the keys of the two directions, by the side that sends
 pub record Keys (K : Type 0) : Type 0 where
@@ -16,29 +18,18 @@ abbrev pub key_of : {K : Type 0} → Keys K → Side → K
 key_of keys Client = keys.client
 key_of keys Server = keys.server
 
--- What an end that took so many packets makes of the bytes of one unit, which are all that it uses. A length
--- field is refused (3) before the numbers that are spent (14), those before the tag (5), and that before the
--- padding (4).
+-- What an end that took so many packets under its only key makes of the bytes of one unit, which are all that it uses.
 pub data Takes {K : Type 0} (c : Crypto K) (key : K) (number : ℕ) (unit : List ℕ) : List Item → Type 0 where
-  payload : (bytes : List ℕ) → number < 2 ^ 32 → IsWire c (Some key) number bytes unit →
+  payload : (bytes : List ℕ) → PacketUnit c (Some key) number number unit (Opens bytes) →
       Takes c key number unit (Took bytes ∷ [])
-  bad_length : IsBadLength (c.blocks key) (c.tag key) unit → Takes c key number unit (Died ∷ Refused 3 ∷ [])
-  spent : (size_on_wire : ℕ) → number ≡ 2 ^ 32 → length unit ≡ 4 →
-      HasSize (c.blocks key) (c.tag key) size_on_wire unit →
-      Takes c key number unit (Died ∷ Refused 14 ∷ [])
-  bad_tag : number < 2 ^ 32 → IsBadTag c (Some key) number unit → Takes c key number unit (Died ∷ Refused 5 ∷ [])
-  bad_padding : number < 2 ^ 32 → IsBadPadding c (Some key) number unit →
-      Takes c key number unit (Died ∷ Refused 4 ∷ [])
-
--- What no unit is yet: a packet begun.
-abbrev pub Waits : {K : Type 0} → Crypto K → K → ℕ → List ℕ → Type 0
-Waits c key number rest = IsPacketBegun c (Some key) number rest
+  refuses : (refusal : Refusal) → PacketUnit c (Some key) number number unit (RefusedPacket refusal) →
+      Takes c key number unit (Died ∷ Refused refusal ∷ [])
 
 -- What an end with this history does with bytes that it has not used: the items that it adds, the newest
 -- first, and the bytes that are left. An end that is dead uses none and keeps none.
 pub data Gets {K : Type 0} (c : Crypto K) (key : K) : List Item → List ℕ → List Item → List ℕ → Type 0 where
   dead : {h : List Item} (bytes : List ℕ) → has_died h ≡ true → Gets c key h bytes [] []
-  waits : {h : List Item} {rest : List ℕ} → has_died h ≡ false → Waits c key (length (took h)) rest →
+  waits : {h : List Item} {rest : List ℕ} → has_died h ≡ false → IsPacketBegun c (Some key) (length (took h)) rest →
       Gets c key h rest [] rest
   takes : {h items more : List Item} {bytes rest : List ℕ} (unit after : List ℕ) → has_died h ≡ false →
       bytes ≡ unit ++ after →
@@ -50,9 +41,9 @@ pub data Gets {K : Type 0} (c : Crypto K) (key : K) : List Item → List ℕ →
 pub data Asks {K : Type 0} (c : Crypto K) (key : K) (h : List Item) (rest payload : List ℕ) : List Item → List ℕ →
     List ℕ → Type 0 where
   dead : has_died h ≡ true → Asks c key h rest payload [] [] rest
-  too_long : has_died h ≡ false → 34000 < length payload → Asks c key h rest payload (AskRefused 5 ∷ Asked ∷ []) [] rest
+  too_long : has_died h ≡ false → 34000 < length payload → Asks c key h rest payload (AskRefused TooLong ∷ Asked ∷ []) [] rest
   spent : has_died h ≡ false → length payload ≤ 34000 → length (sent h) ≡ 2 ^ 32 →
-      Asks c key h rest payload (Died ∷ Refused 14 ∷ Asked ∷ []) [] []
+      Asks c key h rest payload (Died ∷ Refused NumberSpent ∷ Asked ∷ []) [] []
   sends : (bytes : List ℕ) → has_died h ≡ false → length payload ≤ 34000 → length (sent h) < 2 ^ 32 →
       IsSealed c (Some key) (length (sent h)) payload bytes →
       Asks c key h rest payload (Sent payload ∷ Asked ∷ []) bytes rest
@@ -78,9 +69,9 @@ fresh = record { run = []; client_rest = []; server_rest = []; client_bytes = []
 -- the world with what one side did, the bytes that it has not used now, and those that it put out
 abbrev pub next_world : World → Side → List Item → List ℕ → List ℕ → World
 next_world w Client items rest bytes =
-    record w { run = all_by Client items ++ w.run; client_rest = rest; client_bytes = w.client_bytes ++ bytes }
+    record w { run = done_by Client items ++ w.run; client_rest = rest; client_bytes = w.client_bytes ++ bytes }
 next_world w Server items rest bytes =
-    record w { run = all_by Server items ++ w.run; server_rest = rest; server_bytes = w.server_bytes ++ bytes }
+    record w { run = done_by Server items ++ w.run; server_rest = rest; server_bytes = w.server_bytes ++ bytes }
 
 -- the bytes that a side has not used
 abbrev pub rest_of : World → Side → List ℕ

@@ -1,14 +1,14 @@
 -- What is claimed of the runs of two ends.
 use Rattle.std.specs.Prelude.{◌≡◌, ℕ, suc, ◌<◌, ◌≤◌, true, false, List, [], ◌∷◌, ◌++◌, ◌⊎◌, reverse, length, map}
 use Rattle.std.specs.Prelude.{Option, Bool, ◌||◌}
-use Rattle.ssh_model.specs.Side.{Side, Side.Client, Side.Server, peer}
+use Rattle.ssh_model.specs.Side.{Side, Side.Client, Side.Server, peer, DoneBy.By, part}
 use Rattle.ssh_model.specs.Lists.{Begins}
 use Rattle.ssh_model.specs.Wire.Message.{Msg, Msg.UserauthRequest, Method}
 use Rattle.ssh_model.specs.Sessions.Parties.{Parties}
 use Rattle.ssh_model.specs.Sessions.Refusals.{Refusal, Refusal.UnknownChannel, Refusal.WindowOverrun}
 use Rattle.ssh_model.specs.Sessions.Refusals.{Refusal.WindowTooLarge}
 use Rattle.ssh_model.specs.Sessions.Items.{Item, Item.Took, Item.TookGuess, Item.Refused, Payload, bytes_of, Done}
-use Rattle.ssh_model.specs.Sessions.Items.{Done.By, part, sent, took, Spelled, Spelled.SpelledBy, messages_sent}
+use Rattle.ssh_model.specs.Sessions.Items.{sent, took, Spelled, Spelled.SpelledBy, messages_sent}
 use Rattle.ssh_model.specs.Sessions.Epochs.{epoch, after_first}
 use Rattle.ssh_model.specs.KeyExchange.Exchanges.{nth, no_exchange, none_chosen, exchanges, choices}
 use Rattle.ssh_model.specs.Sessions.Phases.{sent_success}

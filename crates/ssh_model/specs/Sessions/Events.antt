@@ -1,14 +1,14 @@
 -- What comes to two ends, and the runs that it gives: asks, pairs of cookie and secret, and delivered bytes. Losses,
 -- repeats, changes of order and injections are choices of these bytes.
 use Rattle.std.specs.Prelude.{◌≡◌, ℕ, Option, cond, List, [], ◌∷◌, ◌++◌}
-use Rattle.ssh_model.specs.Side.{Side, Side.Client, Side.Server}
+use Rattle.ssh_model.specs.Side.{Side, Side.Client, Side.Server, done_by, part}
 use Rattle.ssh_model.specs.Wire.Message.{Msg}
 use Rattle.ssh_model.specs.Wire.Sealing.{IsSealed}
 use Rattle.ssh_model.specs.Wire.Line.{line_end}
 use Rattle.ssh_model.specs.Wire.Unit.{reading}
 use Rattle.ssh_model.specs.Wire.Delivery.{Rules, Delivered}
 use Rattle.ssh_model.specs.Sessions.Parties.{Parties}
-use Rattle.ssh_model.specs.Sessions.Items.{Ask, Item, Item.SentLine, Item.Sent, Done, done_by, part, has_died}
+use Rattle.ssh_model.specs.Sessions.Items.{Ask, Item, Item.SentLine, Item.Sent, Done, has_died}
 use Rattle.ssh_model.specs.KeyExchange.Exchanges.{sending_key, sending_number}
 use Rattle.ssh_model.specs.Sessions.Turns.{OnUnit, AsksTurn, FeedsTurn, IsOpening, stage}
 

@@ -1,12 +1,12 @@
 -- When a run of two ends is honest: what is assumed of tags, signatures, hashes and cookies.
 use Rattle.std.specs.Prelude.{◌≡◌, ℕ, ◌<◌, List, [], ◌∷◌, ◌⊎◌, Option, Some}
-use Rattle.ssh_model.specs.Side.{Side, Side.Client, Side.Server, peer}
+use Rattle.ssh_model.specs.Side.{Side, Side.Client, Side.Server, peer, DoneBy.By, part}
 use Rattle.ssh_model.specs.Lists.{IsIn}
 use Rattle.ssh_model.specs.Wire.Message.{Msg.NewKeys, Msg.KexEcdhReply}
 use Rattle.ssh_model.specs.KeyExchange.Exchange.{Inputs, exchange_text, exchange_hash}
 use Rattle.ssh_model.specs.Sessions.Parties.{Parties}
 use Rattle.ssh_model.specs.Sessions.Items.{Item, Item.Fed, Item.Sent, Item.Took, Item.TookGuess, Item.Refused, Done}
-use Rattle.ssh_model.specs.Sessions.Items.{Done.By, part, sent, took}
+use Rattle.ssh_model.specs.Sessions.Items.{sent, took}
 use Rattle.ssh_model.specs.Sessions.Epochs.{epoch}
 use Rattle.ssh_model.specs.KeyExchange.Exchanges.{KeyName, exchange, exchanges, sending_name, taking_name}
 use Rattle.ssh_model.specs.KeyExchange.Exchanges.{sending_number, taking_number}

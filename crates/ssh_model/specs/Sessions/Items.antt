@@ -1,7 +1,7 @@
 -- What the two ends of a session did, in one list of items with their sides, the newest first, so that "earlier" is
 -- the tail. What is asked of an end, what it is told, and what it sends and takes are values of their own.
-use Rattle.std.specs.Prelude.{ℕ, Bool, List, [], ◌∷◌, map, Option, true, false}
-use Rattle.ssh_model.specs.Side.{Side, Side.Client, Side.Server}
+use Rattle.std.specs.Prelude.{ℕ, Bool, List, [], ◌∷◌, Option, true, false}
+use Rattle.ssh_model.specs.Side.{DoneBy}
 use Rattle.ssh_model.specs.Wire.Message.{Extension, Msg, Msg.NewKeys}
 use Rattle.ssh_model.specs.Sessions.Refusals.{Refusal, AskRefusal}
 
@@ -78,19 +78,8 @@ pub data Item : Type 0 where
   Died : Item
 
 -- an item of one side
-pub data Done : Type 0 where
-  By : Side → Item → Done
-
--- items of one side
-abbrev pub done_by : Side → List Item → List Done
-done_by side items = map (By side) items
-
--- the history of one end, out of all that was done
-abbrev pub part : Side → List Done → List Item
-part side [] = []
-part Client (By Client i ∷ run) = i ∷ part Client run
-part Server (By Server i ∷ run) = i ∷ part Server run
-part side (_ ∷ run) = part side run
+abbrev pub Done : Type 0
+Done = DoneBy Item
 
 -- The end died.
 abbrev pub has_died : List Item → Bool

@@ -3,14 +3,14 @@
 use Rattle.std.specs.Prelude.{◌≡◌, ℕ, ◌<◌, ◌≤◌, ◌^◌, ◌-◌, Bool, true, false, not, ◌&&◌, nat_lt, Option, Some, None}
 use Rattle.std.specs.Prelude.{List, [], ◌∷◌, ◌++◌, length}
 use Rattle.ssh_model.specs.Wire.DataTypes.{AreBytes}
-use Rattle.ssh_model.specs.Side.{Side, Side.Client, Side.Server}
+use Rattle.ssh_model.specs.Side.{Side, Side.Client, Side.Server, done_by, part}
 use Rattle.ssh_model.specs.Wire.Message.{Msg, Msg.KexInit, Msg.Disconnect, FitsContext, IsPayload, IsWrittenPayload}
 use Rattle.ssh_model.specs.Sessions.Refusals.{Check, first_refusal, Refusal, Refusal.BadMessage, Refusal.Unexpected}
 use Rattle.ssh_model.specs.Sessions.Refusals.{Refusal.NumberSpent, AskRefusal, refusal_name, refusal_reason}
 use Rattle.ssh_model.specs.Sessions.Parties.{Parties, settings_of, offer}
 use Rattle.ssh_model.specs.Sessions.Items.{Ask, Fact.Ignored, Fact.Opened, Item, Item.Fed, Item.Asked, Item.AskRefused}
 use Rattle.ssh_model.specs.Sessions.Items.{Item.SentLine, Item.TookLine, Item.TookOtherLine, Item.Sent, Item.Took}
-use Rattle.ssh_model.specs.Sessions.Items.{Item.TookGuess, Item.Told, Item.Refused, Item.Died, Done, done_by, part}
+use Rattle.ssh_model.specs.Sessions.Items.{Item.TookGuess, Item.Told, Item.Refused, Item.Died, Done}
 use Rattle.ssh_model.specs.Sessions.Items.{has_died, sent, took}
 use Rattle.ssh_model.specs.Sessions.Epochs.{count}
 use Rattle.ssh_model.specs.KeyExchange.Exchanges.{fed, taking_key, taking_number}
