@@ -14,8 +14,8 @@ pub enum ServerAnswer<'a> {
     /// USERAUTH_FAILURE is sent with the methods that the server names, and FALSE: there was no partial success (RFC
     /// 4252 section 5.1). Nothing is told.
     Failed,
-    /// UNIMPLEMENTED is sent with the sequence number of the packet, which the layer below knows (RFC 4253 section 11.4).
-    /// Nothing is told.
+    /// UNIMPLEMENTED is sent with the sequence number of the packet, which the layer below knows (RFC 4253 section
+    /// 11.4). Nothing is told.
     Unimplemented,
 }
 
@@ -39,7 +39,7 @@ pub enum ClientAnswer<'a> {
         algorithm: &'a [u8],
         key: &'a [u8],
     },
-    /// Nothing is told. UNIMPLEMENTED is sent with the sequence number of the packet, which the layer below knows (RFC 4253
-    /// section 11.4).
+    /// Nothing is told. UNIMPLEMENTED is sent with the sequence number of the packet, which the layer below knows
+    /// (RFC 4253 section 11.4).
     Unimplemented,
 }

@@ -28,8 +28,8 @@ const MOST_PAYLOAD_BYTES: u128 = 34_000;
 // The most bytes of a signature.
 const MOST_SIGNATURE_BYTES: u128 = 4_096;
 
-/// What a client keeps of authentication (RFC 4252): whether SERVICE_ACCEPT was taken, whether a request or a key probe is
-/// outstanding, and whether USERAUTH_SUCCESS was taken.
+/// What a client keeps of authentication (RFC 4252): whether SERVICE_ACCEPT was taken, whether a request or a key
+/// probe is outstanding, and whether USERAUTH_SUCCESS was taken.
 ///
 /// Nothing of it depends on the messages of other layers but SERVICE_ACCEPT, which `open` tells.
 #[derive(Drop)]
@@ -144,9 +144,9 @@ impl AuthClient {
     ///
     /// The client is then as before.
     ///
-    /// - `Refused`, the first of these that holds: `NotYet`, SERVICE_ACCEPT was not taken; `Busy`, a request is outstanding;
-    ///   `Ended`, USERAUTH_SUCCESS was taken; `TooLong`, the payload would have over 34,000 bytes, where it is signed with
-    ///   a signature of 4,096 bytes.
+    /// - `Refused`, the first of these that holds: `NotYet`, SERVICE_ACCEPT was not taken; `Busy`, a request is
+    ///   outstanding; `Ended`, USERAUTH_SUCCESS was taken; `TooLong`, the payload would have over 34,000 bytes, where
+    ///   it is signed with a signature of 4,096 bytes.
     /// - `Memory`: memory was refused for the text to be signed.
     pub fn ask<'a, S: UserSigner>(
         &mut self,

@@ -20,8 +20,8 @@ const MOST_KEY_BYTES: usize = 16_384;
 
 const MOST_ALGORITHM_BYTES: usize = 64;
 
-// Judges a request: it is accepted, a good probe, or fails. An error comes only where memory is refused for the text that a
-// signature covers.
+// Judges a request: it is accepted, a good probe, or fails. An error comes only where memory is refused for the text
+// that a signature covers.
 pub(crate) fn judge_request<'a, J: UserJudge>(
     alloc: Global,
     judge: &J,

@@ -1,5 +1,5 @@
-//! Laws of authentication in a session: what a server and a client keep sums up the history of their end, before and after
-//! each call. Facts for proofs, at no cost.
+//! Laws of authentication in a session: what a server and a client keep sums up the history of their end, before and
+//! after each call. Facts for proofs, at no cost.
 
 ghost use Rattle.std.specs.Prelude.{◌≡◌, ◌≤◌, ◌<◌, ℕ, List, [], ◌∷◌, None, Option};
 ghost use Rattle.ssh_model.specs.Side.{Side.Client, Side.Server};
@@ -25,8 +25,9 @@ use ssh_model::userauth::{
     client_asks, client_beginnings, client_messages, server_beginnings, server_messages,
 };
 
-/// A server that sums up the history of its end takes the numbers from 50 to 79 that a session takes, refuses a message as a
-/// session does, and answers it as a session does. It then sums up the history with the message and the answer.
+/// A server that sums up the history of its end takes the numbers from 50 to 79 that a session takes, refuses a
+/// message as a session does, and answers it as a session does. It then sums up the history with the message and the
+/// answer.
 #[tactic(auto, using(crate::proofs::Sessions::server_refused, crate::proofs::Sessions::server_answered))]
 pub fn server_turns<K>()
     ensures numbers { (number : ℕ) → 50 ≤ number → number < 80 → (p : Parties K) (history : List Item) (judge : Judge) (session : List ℕ) (server : serving.Server) → IsServerOf p history judge session server → phase p Server history ≡ Normal → may_take p Server history number ≡ server_takes server.kept number }
@@ -37,9 +38,9 @@ pub fn server_turns<K>()
     server_messages::<K>();
 }
 
-/// A client that sums up the history of its end takes the numbers from 50 to 79 that a session takes, and says whether a key
-/// probe is outstanding. It tells of a message what a session tells, and then sums up the history with the message and the
-/// fact.
+/// A client that sums up the history of its end takes the numbers from 50 to 79 that a session takes, and says
+/// whether a key probe is outstanding. It tells of a message what a session tells, and then sums up the history with
+/// the message and the fact.
 #[tactic(auto, using(crate::proofs::Sessions::client_told))]
 pub fn client_turns<K>()
     ensures numbers { (number : ℕ) → 50 ≤ number → number < 80 → (p : Parties K) (history : List Item) (client : kept.Client) → ClientSumsUp history client → phase p Client history ≡ Normal → may_take p Client history number ≡ client_takes client number }
@@ -50,8 +51,8 @@ pub fn client_turns<K>()
     client_messages::<K>();
 }
 
-/// A client that sums up the history of its end refuses an ask as a session does, and else sends what a session sends. It then
-/// sums up the history with the ask and the request.
+/// A client that sums up the history of its end refuses an ask as a session does, and else sends what a session
+/// sends. It then sums up the history with the ask and the request.
 #[tactic(auto, using(crate::proofs::Sessions::client_asked))]
 pub fn client_ask_turns<K>()
     ensures refused { (history : List Item) (client : kept.Client) → ClientSumsUp history client → (ask : Ask) → first_refusal (authentication_ask_checks Client history ask) ≡ first_refusal (client_checks client ask) }

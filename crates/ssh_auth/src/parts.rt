@@ -3,9 +3,9 @@
 ghost use Rattle.std.specs.Prelude.{◌≡◌, ◌≤◌, ℕ, List, take};
 ghost use Rattle.ssh_model.specs.Authentication.Requests.{Judge};
 
-/// Whom a server lets in. Each answer is a function of the part and the arguments, and true is acceptance. A method that
-/// the server does not name is never put to it, nor is a request for another service, a key over 16,384 bytes or one
-/// under an algorithm name over 64 bytes.
+/// Whom a server lets in. Each answer is a function of the part and the arguments, and true is acceptance. A method
+/// that the server does not name is never put to it, nor is a request for another service, a key over 16,384 bytes or
+/// one under an algorithm name over 64 bytes.
 pub trait UserJudge {
     ghost verdicts: { Self → Judge };
 

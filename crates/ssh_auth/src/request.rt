@@ -17,8 +17,8 @@ use ssh_message::{Message, Method};
 use std::alloc::{AllocError, Global};
 use std::marker::Model;
 
-/// A request for the service `ssh-connection`, as a client sends it (RFC 4252 section 5). Its user, password and key are slices
-/// of what was asked.
+/// A request for the service `ssh-connection`, as a client sends it (RFC 4252 section 5). Its user, password and key
+/// are slices of what was asked.
 #[derive(Drop)]
 pub struct UserRequest<'a> {
     user: &'a [u8],

@@ -23,8 +23,8 @@ use ssh_types::NameList;
 use std::alloc::{AllocError, Global};
 use std::marker::Model;
 
-/// What a server keeps of authentication (RFC 4252): whether SERVICE_ACCEPT was sent, how many requests failed, and whether
-/// USERAUTH_SUCCESS was sent; besides, how many requests may fail and the methods that it names.
+/// What a server keeps of authentication (RFC 4252): whether SERVICE_ACCEPT was sent, how many requests failed, and
+/// whether USERAUTH_SUCCESS was sent; besides, how many requests may fail and the methods that it names.
 ///
 /// Nothing of it depends on the messages of other layers but SERVICE_ACCEPT, which `open` tells.
 #[derive(Drop)]
@@ -48,7 +48,8 @@ impl Model for AuthServer {
 }
 
 impl AuthServer {
-    /// A server that lets `tries` requests fail and names these methods (RFC 4252 section 5.1). SERVICE_ACCEPT was not sent.
+    /// A server that lets `tries` requests fail and names these methods (RFC 4252 section 5.1). SERVICE_ACCEPT was
+    /// not sent.
     ///
     /// The text of the methods has at most 33,994 bytes, so that a USERAUTH_FAILURE has at most 34,000.
     ///
@@ -102,8 +103,8 @@ impl AuthServer {
         NameList::new(&self.methods).unwrap()
     }
 
-    /// The message that is to be sent for an answer of `take`: `None` where nothing is sent, and where UNIMPLEMENTED is. It
-    /// fits, and its payload has at most 34,000 bytes. It needs no memory.
+    /// The message that is to be sent for an answer of `take`: `None` where nothing is sent, and where UNIMPLEMENTED
+    /// is. It fits, and its payload has at most 34,000 bytes. It needs no memory.
     pub fn message<'a>(&'a self, answer: &ServerAnswer<'a>) -> Option<Message<'a>>
         requires { IsShortAnswer answer.now }
         ensures message { option_map meaning result ≡ (answered self.now.methods answer.now).message }
@@ -123,13 +124,14 @@ impl AuthServer {
         }
     }
 
-    /// Takes a message of authentication, with the session id of the connection (RFC 4253 section 7.2), and answers what is to
-    /// be sent and told. The message fits, as whatever `decode` answers does.
+    /// Takes a message of authentication, with the session id of the connection (RFC 4253 section 7.2), and answers
+    /// what is to be sent and told. The message fits, as whatever `decode` answers does.
     ///
-    /// Once USERAUTH_SUCCESS was sent a request is ignored. Before, it is accepted where its service is `ssh-connection` and
-    /// the judge accepts it by `none`, by a password that is not to be changed, or by a signature of a known key; the last two
-    /// where the server names the method. A key probe for a known key is answered `KeyOk`. Every other request fails and is
-    /// counted. A key over 16,384 bytes, or one under a name over 64 bytes, is not known.
+    /// Once USERAUTH_SUCCESS was sent a request is ignored. Before, it is accepted where its service is
+    /// `ssh-connection` and the judge accepts it by `none`, by a password that is not to be changed, or by a
+    /// signature of a known key; the last two where the server names the method. A key probe for a known key is
+    /// answered `KeyOk`. Every other request fails and is counted. A key over 16,384 bytes, or one under a name over
+    /// 64 bytes, is not known.
     ///
     /// # Errors
     ///
@@ -137,8 +139,8 @@ impl AuthServer {
     ///
     /// - `Refused(Unexpected)`: the message may not come here.
     /// - `Refused(TooManyTries)`: a request fails, and as many failed before as may.
-    /// - `Memory`: memory was refused for the text that a signature covers, the only memory that is ever asked for here. The
-    ///   request was signed and by a known key.
+    /// - `Memory`: memory was refused for the text that a signature covers, the only memory that is ever asked for
+    ///   here. The request was signed and by a known key.
     pub fn take<'a, J: UserJudge>(
         &mut self,
         session: &[u8; 32],

@@ -1,0 +1,222 @@
+//! A session in which OpenSSH 9.2p1 (Debian 12) is the server and an independent client logs in: each request is
+//! judged as OpenSSH judged it and answered by the same bytes, and a client that is asked the same sends the same
+//! bytes.
+
+ghost use Rattle.std.specs.Prelude.{◌&&◌, false};
+ghost use Rattle.ssh_model.specs.Wire.MacOnly.{is_text};
+
+use crate::ends::methods;
+use ssh_auth::{
+    AuthClient, AuthServer, ClientAnswer, ServerAnswer, SignedText, UserAsk, UserJudge, UserSigner,
+    put_signed_text,
+};
+use ssh_message::{decode, encode};
+use std::test::*;
+
+const NONE: &[u8] = b"\
+    2\x00\x00\x00\x04root\x00\x00\x00\x0essh-connection\x00\x00\x00\x04none";
+
+const BANNER: &[u8] = b"\
+    5\x00\x00\x00\x0fa banner line\x0d\x0a\x00\x00\x00\x00";
+
+const FAILURE: &[u8] = b"\
+    3\x00\x00\x00'publickey,password,keyboard-interactive\x00";
+
+const PROBE: &[u8] = b"\
+    2\x00\x00\x00\x04root\x00\x00\x00\x0essh-connection\x00\x00\x00\x09publickey\x00\x00\x00\x00\x0bssh-\
+    ed25519\x00\x00\x003\x00\x00\x00\x0bssh-ed25519\x00\x00\x00 k\x9f:\x1f\x92\xc9\xa9/oY\xe8\xa9Hf\xa8\
+    \xe5a q\xacl\x88\x9d$6_Z\xb6@%-e";
+
+const KEY_OK: &[u8] = b"\
+    <\x00\x00\x00\x0bssh-ed25519\x00\x00\x003\x00\x00\x00\x0bssh-ed25519\x00\x00\x00 k\x9f:\x1f\x92\xc9\
+    \xa9/oY\xe8\xa9Hf\xa8\xe5a q\xacl\x88\x9d$6_Z\xb6@%-e";
+
+const SIGNED: &[u8] = b"\
+    2\x00\x00\x00\x04root\x00\x00\x00\x0essh-connection\x00\x00\x00\x09publickey\x01\x00\x00\x00\x0bssh-\
+    ed25519\x00\x00\x003\x00\x00\x00\x0bssh-ed25519\x00\x00\x00 k\x9f:\x1f\x92\xc9\xa9/oY\xe8\xa9Hf\xa8\
+    \xe5a q\xacl\x88\x9d$6_Z\xb6@%-e\x00\x00\x00S\x00\x00\x00\x0bssh-ed25519\x00\x00\x00@\xc4\xdb+\xfcc\
+    \xf9\xdd1\xb6j\xf9\xc9\xe61\xea\x17\x7f\xc1\xa6\x97\xae\xbd\xa6\xd3j$80\x01nA4\x9ewe\x89\xdd\xbf\xbd\
+    v\x9c\x9f\xcf3\xb4\x98\x9d1D\x9f\x89\x92\x08{-\xaf\x1d46\xf3\xcbRF\x06";
+
+const SUCCESS: &[u8] = b"\
+    4";
+
+const SESSION: [u8; 32] = *b"\
+    \xc7\xaf\xa3\xae\x9f\xd0R\xfb\xa8VMd\xf7\xb0\x91@\x0d\x06#}\xa7\x0e(r;\xe4\xa4\xd0\xf4\xce\x97]";
+
+const KEY: &[u8] = b"\
+    \x00\x00\x00\x0bssh-ed25519\x00\x00\x00 k\x9f:\x1f\x92\xc9\xa9/oY\xe8\xa9Hf\xa8\xe5a q\xacl\x88\x9d$\
+    6_Z\xb6@%-e";
+
+const SIGNATURE: [u8; 83] = *b"\
+    \x00\x00\x00\x0bssh-ed25519\x00\x00\x00@\xc4\xdb+\xfcc\xf9\xdd1\xb6j\xf9\xc9\xe61\xea\x17\x7f\xc1\
+    \xa6\x97\xae\xbd\xa6\xd3j$80\x01nA4\x9ewe\x89\xdd\xbf\xbdv\x9c\x9f\xcf3\xb4\x98\x9d1D\x9f\x89\x92\
+    \x08{-\xaf\x1d46\xf3\xcbRF\x06";
+
+// What the signature covers: it was verified as Ed25519 of this text by another implementation.
+const TEXT: &[u8] = b"\
+    \x00\x00\x00 \xc7\xaf\xa3\xae\x9f\xd0R\xfb\xa8VMd\xf7\xb0\x91@\x0d\x06#}\xa7\x0e(r;\xe4\xa4\xd0\xf4\
+    \xce\x97]2\x00\x00\x00\x04root\x00\x00\x00\x0essh-connection\x00\x00\x00\x09publickey\x01\x00\x00\
+    \x00\x0bssh-ed25519\x00\x00\x003\x00\x00\x00\x0bssh-ed25519\x00\x00\x00 k\x9f:\x1f\x92\xc9\xa9/oY\
+    \xe8\xa9Hf\xa8\xe5a q\xacl\x88\x9d$6_Z\xb6@%-e";
+
+const METHODS: &[u8] = b"publickey,password,keyboard-interactive";
+
+// Knows the one key, and its one signature of the one text.
+#[derive(Drop)]
+struct RecordedJudge<'a> {
+    text: &'a [u8],
+}
+
+impl UserJudge for RecordedJudge<'_> {
+    ghost use Rattle.ssh_auth_tests.specs.declared.recorded.TheConstants.{ED25519, KEY, ROOT, SIGNATURE};
+
+    ghost verdicts = { λ judge. record { admits = λ _. false; password_is_right = λ _ _. false; knows_key = λ user algorithm key. is_text user ROOT.now && (is_text algorithm ED25519.now && is_text key KEY.now); signature_is_right = λ _ _ text signature. is_text text judge.text.now && is_text signature SIGNATURE } };
+
+    fn none(&self, _user: &[u8]) -> bool {
+        false
+    }
+
+    fn password(&self, _user: &[u8], _word: &[u8]) -> bool {
+        false
+    }
+
+    fn key_known(&self, user: &[u8], algorithm: &[u8], key: &[u8]) -> bool {
+        user == ROOT && (algorithm == ED25519 && key == KEY)
+    }
+
+    fn signature(&self, _algorithm: &[u8], _key: &[u8], text: &[u8], signature: &[u8]) -> bool {
+        text == self.text && signature == SIGNATURE.as_slice()
+    }
+}
+
+// Gives the one signature.
+struct RecordedSigner;
+
+impl UserSigner for RecordedSigner {
+    ghost use Rattle.ssh_auth_tests.specs.declared.recorded.TheConstants.{SIGNATURE};
+
+    ghost signature_of = { λ _ _ _ _ _. SIGNATURE };
+
+    fn sign(
+        &self,
+        _user: &[u8],
+        _algorithm: &[u8],
+        _key: &[u8],
+        _text: &[u8],
+        out: &mut [u8; 4096],
+    ) -> usize {
+        out[..83].copy_from_slice(&SIGNATURE);
+        83
+    }
+}
+
+const ROOT: &[u8] = b"root";
+
+const ED25519: &[u8] = b"ssh-ed25519";
+
+#[test]
+fn the_signed_text(rt: HostRuntime) -> Result<(), Fail> {
+    let mut text = Vec::new(rt.alloc());
+    let signed = SignedText {
+        session: &SESSION,
+        user: ROOT,
+        service: b"ssh-connection",
+        algorithm: ED25519,
+        key: KEY,
+    };
+    put_signed_text(&mut text, &signed)?;
+    assert_eq!(rt; text.as_slice(), TEXT);
+    Ok(())
+}
+
+#[test]
+fn requests_are_answered_as_openssh_answers(rt: HostRuntime) -> Result<(), Fail> {
+    let methods = methods(METHODS)?;
+    let mut server = AuthServer::new(rt.alloc(), 6, &methods)?;
+    server.open();
+    let judge = RecordedJudge { text: TEXT };
+    let table = [
+        (NONE, ServerAnswer::Failed, FAILURE),
+        (
+            PROBE,
+            ServerAnswer::KeyOk {
+                algorithm: ED25519,
+                key: KEY,
+            },
+            KEY_OK,
+        ),
+        (SIGNED, ServerAnswer::Accepted { user: ROOT }, SUCCESS),
+    ];
+    for (at, (request, told, sent)) in table.iter().enumerate() {
+        let message = decode(server.probing(), request)?;
+        let answer = server.take(&SESSION, &judge, &message)?;
+        assert_eq!(rt; answer, *told, "at {at}");
+        let mut out = Vec::new(rt.alloc());
+        let reply = server.message(&answer).ok_or("no message")?;
+        encode(&reply, &mut out)?;
+        assert_eq!(rt; out.as_slice(), *sent, "at {at}");
+    }
+    Ok(())
+}
+
+#[test]
+fn another_session_makes_the_signature_wrong(rt: HostRuntime) -> Result<(), Fail> {
+    let methods = methods(METHODS)?;
+    let mut server = AuthServer::new(rt.alloc(), 6, &methods)?;
+    server.open();
+    let message = decode(server.probing(), SIGNED)?;
+    let answer = server.take(&[7; 32], &RecordedJudge { text: TEXT }, &message)?;
+    assert_eq!(rt; answer, ServerAnswer::Failed);
+    Ok(())
+}
+
+#[test]
+fn asks_send_what_openssh_took(rt: HostRuntime) -> Result<(), Fail> {
+    let mut client = AuthClient::new(rt.alloc());
+    client.open();
+    let methods = methods(METHODS)?;
+    let banner = ClientAnswer::Banner {
+        message: b"a banner line\r\n",
+    };
+    assert_eq!(rt; client.take(&decode(client.probing(), BANNER)?), Ok(banner));
+    let failed = ClientAnswer::Failed {
+        methods,
+        partial: false,
+    };
+    let table = [
+        (UserAsk::None { user: ROOT }, NONE, FAILURE, failed),
+        (
+            UserAsk::Probe {
+                user: ROOT,
+                algorithm: ED25519,
+                key: KEY,
+            },
+            PROBE,
+            KEY_OK,
+            ClientAnswer::KeyOk {
+                algorithm: ED25519,
+                key: KEY,
+            },
+        ),
+        (
+            UserAsk::Sign {
+                user: ROOT,
+                algorithm: ED25519,
+                key: KEY,
+            },
+            SIGNED,
+            SUCCESS,
+            ClientAnswer::Authenticated,
+        ),
+    ];
+    for (at, (ask, sent, answer, told)) in table.iter().enumerate() {
+        let request = client.ask(&SESSION, &RecordedSigner, ask)?;
+        let mut out = Vec::new(rt.alloc());
+        encode(&request.message(), &mut out)?;
+        assert_eq!(rt; out.as_slice(), *sent, "at {at}");
+        let message = decode(client.probing(), answer)?;
+        assert_eq!(rt; client.take(&message), Ok(*told), "at {at}");
+    }
+    Ok(())
+}
