@@ -22,7 +22,6 @@ mod asking;
 mod closing;
 mod data;
 mod globals;
-mod offering;
 mod opening;
 mod requests;
 mod showing;

@@ -1,4 +1,54 @@
-//! Channels and global requests of one end (RFC 4254).
+//! The channels and global requests of one end (RFC 4254), without what they carry.
+//!
+//! `Channels` takes the messages of the connection, which `ssh_message` decoded, and answers for each what is replied at
+//! once and what the user is told, or why the peer is refused. What the user asks it answers with the message that is
+//! sent, or with why nothing is. A refused message or ask leaves it as it was.
+//!
+//! A channel goes by this end's own number. A number is in use from the OPEN on, and until CLOSE was both sent and taken.
+//! There are 1,024 of them. Each window is kept as the bytes that are left of it, 2^32 - 1 at most. At most 256 requests of
+//! a channel, and 256 global ones, wait for a reply at each end.
+//!
+//! Within a key exchange of this end nothing of the connection is sent. A reply that falls due then is owed, at most
+//! 256 of them, and `unblock` gives one after the other once the exchange is over.
+//!
+//! `Channels::new` takes memory, and so does a new channel. No other call does.
+//!
+//! What each call answers, and what is then kept, is a row of the model (`Takes`, `Sends`, `Unblocks`). Each call also
+//! says what that is in a session: whatever the end did before, as long as the channels sum it up, the message, the ask or
+//! the reply is answered as the session has it, and the channels then sum up what was done.
+//!
+//! The peer opens a channel, is sent data, and closes within a key exchange:
+//!
+//! ```rust
+//! let mut channels = Channels::new(alloc)?;
+//! let open = Message::ChannelOpen {
+//!     kind: b"session",
+//!     sender: 5,
+//!     window: 1024,
+//!     max: 32_768,
+//!     rest: b"",
+//! };
+//! channels.take(&open, false)?;               // told: Opened { channel: 0, .. }
+//! let confirm = Ask::Confirm {
+//!     channel: 0,
+//!     window: 4096,
+//!     max_packet: 32_768,
+//!     rest: b"",
+//! };
+//! channels.ask(&confirm, false, false)?;      // sent: ChannelOpenConfirmation { recipient: 5, sender: 0, .. }
+//! let data = Ask::Data {
+//!     channel: 0,
+//!     kind: None,
+//!     body: b"hello",
+//! };
+//! channels.ask(&data, false, false)?;         // sent: ChannelData { recipient: 5, .. }
+//! let left = channels.room(0);                // Some(1019)
+//!
+//! let close = Message::ChannelClose { recipient: 0 };
+//! channels.take(&close, true)?;               // told: Closed { channel: 0 }; no reply yet
+//! let first = channels.unblock();             // Some(Reply::Close { channel: 0, recipient: 5 })
+//! let second = channels.unblock();            // None, and the number 0 is free
+//! ```
 #![tactic(auto)]
 
 mod ask;
