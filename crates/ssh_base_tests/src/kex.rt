@@ -4,7 +4,7 @@ use ssh_types::NameList;
 use std::process::Abort;
 use std::test::*;
 
-mod handed_in;
+mod supplied;
 mod key_lengths;
 mod memory;
 mod recorded;

@@ -6,7 +6,7 @@
 //! is what `ssh_model` defines, in the standard's words. Ends that hashed equal texts agree on all that stands in them
 //! (`laws::equal_texts_have_equal_inputs`).
 //!
-//! `Agreement`, `HostSigner` and `HostTrust` are the parts that are handed in.
+//! `Agreement`, `HostSigner` and `HostTrust` are the supplied parts.
 //!
 //! The keys of a connection, from the lists on:
 //!

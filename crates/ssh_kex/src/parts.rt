@@ -1,4 +1,4 @@
-//! The parts of a key exchange that are handed in.
+//! The supplied parts of a key exchange.
 
 ghost use Rattle.std.specs.Prelude.{◌≡◌, ◌≤◌, ℕ, Bool, List, length, take, replicate, Option, IfSome};
 ghost use Rattle.std.specs.Option.{option_map};

@@ -51,20 +51,20 @@ pub enum Message<'a> {
         q_s: &'a [u8],
         signature: &'a [u8],
     },
-    /// 50: asks to be let in (RFC 4252 section 5).
+    /// 50: asks for authentication (RFC 4252 section 5).
     UserauthRequest {
         user: &'a [u8],
         service: &'a [u8],
         method: Method<'a>,
     },
-    /// 51: not let in, and the methods that can go on (RFC 4252 section 5.1).
+    /// 51: not authenticated, and the methods that can go on (RFC 4252 section 5.1).
     UserauthFailure {
         methods: NameList<'a>,
         partial: bool,
     },
-    /// 52: let in (RFC 4252 section 5.1).
+    /// 52: authenticated (RFC 4252 section 5.1).
     UserauthSuccess,
-    /// 53: a text to show before anyone is let in (RFC 4252 section 5.4).
+    /// 53: a text to show before anyone is authenticated (RFC 4252 section 5.4).
     UserauthBanner {
         message: &'a [u8],
         language: &'a [u8],
@@ -216,7 +216,7 @@ pub struct Proposal<'a> {
     pub follows: bool,
 }
 
-/// How a client asks to be let in (RFC 4252).
+/// How a client asks for authentication (RFC 4252).
 #[derive(Clone, Copy, Debug, PartialEq, Eq)]
 pub enum Method<'a> {
     /// `none` (section 5.2).

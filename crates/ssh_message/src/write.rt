@@ -1,4 +1,4 @@
-// Writing: one function a message, each of which puts the whole payload at the end, or nothing where memory is wanting.
+// Writing: one function a message, each of which puts the whole payload at the end, or nothing where an allocation fails.
 
 pub(crate) mod authentication;
 pub(crate) mod connection;

@@ -41,7 +41,7 @@ pub fn dead_ends<K>()
         has_died (part side after.run) ≡ true → rest_of after side ≡ [] }
 {}
 
-/// An end dies for want of memory only at a unit whose turn sends something or makes a channel, and at an ask that it
+/// An end dies of a failed allocation only at a unit whose turn sends something or makes a channel, and at an ask that it
 /// doesn't refuse.
 pub fn deaths<K>()
     ensures units { (p : Parties K) (side : Side) (h : List Item) (unit : List ℕ) → OnUnit p side h unit (Died ∷ []) → DiesAt p side h unit }

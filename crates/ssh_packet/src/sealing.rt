@@ -16,7 +16,7 @@ pub struct Lengths {
     pub mac: usize,
 }
 
-/// A sealing of packets: a cipher and a MAC, handed in (RFC 4253 sections 6.3 and 6.4). Its ghost member `crypto` says
+/// A sealing of packets: a cipher and a MAC, supplied (RFC 4253 sections 6.3 and 6.4). Its ghost member `crypto` says
 /// what it computes, and `laws` what holds of that: opening restores what was sealed under the same key and number, and
 /// both leave the first four bytes, the packet's length, which so stands in clear.
 ///
@@ -35,7 +35,7 @@ pub trait Sealing {
         ensures { option_map lengths_of result ≡ crypto.lengths enc.now mac.now };
 
     /// The key that these bytes make, for a pair of names that `lengths` knows and material of those lengths. It fails
-    /// only where memory runs out.
+    /// only where an allocation fails.
     fn make(
         alloc: Global,
         enc: &[u8],

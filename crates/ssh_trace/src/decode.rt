@@ -42,7 +42,7 @@ impl From<AllocError> for DecodeFault {
 /// `trailing N`, where N bytes follow the packet; `refused 6 BadMessage`.
 ///
 /// `Status::Done` where a message was printed, `Status::Refused` for another line. `Status::Fault`, with a message on
-/// `err` and nothing on `out`, for a text that isn't hexadecimal and where memory ran out; and where writing to `out`
+/// `err` and nothing on `out`, for a text that isn't hexadecimal and where an allocation failed; and where writing to `out`
 /// failed.
 pub fn decode_to<W: Write, E: Write>(
     alloc: Global,

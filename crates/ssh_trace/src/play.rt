@@ -14,7 +14,7 @@ use std::str;
 ///
 /// `Status::Done` where no end refused its peer, `Status::Refused` where one did. `Status::Fault`, with a message on
 /// `err` and nothing on `out`, where the script can't be read, a line of it is wrong (the message gives its number,
-/// from 1), or memory ran out; and where writing to `out` failed.
+/// from 1), or an allocation failed; and where writing to `out` failed.
 pub fn play_to<R: Read, W: Write, E: Write>(
     alloc: Global,
     script: &mut R,

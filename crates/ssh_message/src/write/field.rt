@@ -20,7 +20,7 @@ pub(crate) enum Field<'a> {
     Cookie(&'a [u8; 16]),
 }
 
-// Puts the field at the end. Where memory is wanting nothing is put.
+// Puts the field at the end. Where an allocation fails nothing is put.
 pub(crate) fn put_field(out: &mut Vec<u8>, field: &Field<'_>) -> Result<(), AllocError>
     requires { FieldFits field.now }
     ensures written { OnOk result (Writes (IsField field.now) out.old.items out.new.items) }

@@ -379,7 +379,7 @@ module _ {K : Type 0} (p : Parties K) (side : Side) where
 -- ---- the turns
 
 module _ {K : Type 0} (p : Parties K) where
-  -- an end that the service let in is not in its first exchange
+  -- an end that the service was granted to is not in its first exchange
   unblocked : (side : Side) (h : List Item) → 0 < epoch (took h) → is_in side (sent_success h) (took_success h) ≡ false → Serves p side h → blocked h ≡ true → ⊥
   unblocked side h n f v e = go (v.held e)
     where

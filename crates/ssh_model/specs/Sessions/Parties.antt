@@ -1,4 +1,4 @@
--- What an end is made with: its settings, and the parts that are handed in. The parts are functions, since a part
+-- What an end is made with: its settings, and the parts that are supplied. The parts are functions, since a part
 -- gives the same answer to the same question.
 use Rattle.std.specs.Prelude.{◌≡◌, ℕ, ◌≤◌, ◌==◌, ◌&&◌, not, nat_lt, cond, Bool, true, false, Option, Some, None, List, [], ◌∷◌, ◌++◌, length, take, codes, if◌then◌else◌}
 use Rattle.std.specs.List.{list_all}
@@ -79,7 +79,7 @@ abbrev pub agreement_of : {K : Type 0} → Parties K → Side → Agreement
 agreement_of p Client = p.client_agreement
 agreement_of p Server = p.server_agreement
 
--- What is promised of the handed-in parts and the settings: the laws of the sealing, and version lines of at most 255
+-- What is promised of the supplied parts and the settings: the laws of the sealing, and version lines of at most 255
 -- bytes with CR LF. Of the other parts nothing is promised: what they answer counts only within the bounds below.
 pub record AreLawful {K : Type 0} (p : Parties K) : Type 0 where
   pub sealing : IsSealing p.crypto

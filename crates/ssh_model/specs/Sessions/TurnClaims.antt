@@ -47,7 +47,7 @@ fixed_part (Told (Opening x)) = Told (Opening 0)
 fixed_part (Told (Opened x kind window max rest)) = Told (Opened 0 kind window max rest)
 fixed_part i = i
 
--- The items of two turns are the same but for what is left free, or one end died there for want of memory.
+-- The items of two turns are the same but for what is left free, or one end died there of a failed allocation.
 abbrev pub AreAlike : List Item → List Item → Type 0
 AreAlike items others = (map fixed_part items ≡ map fixed_part others) ⊎ ((items ≡ Died ∷ []) ⊎ (others ≡ Died ∷ []))
 

@@ -188,7 +188,7 @@ pub data FeedsTurn (side : Side) (h : List Item) (cookie secret : List ℕ) : Li
   feeds : can_feed h ≡ true → IsMaterial cookie secret → FeedsTurn side h cookie secret (Fed cookie secret ∷ [])
   answers_false : can_feed h ≡ false → FeedsTurn side h cookie secret []
 
--- What an end does with an ask. A dead end does nothing. One that would send may die for want of memory instead.
+-- What an end does with an ask. A dead end does nothing. One that would send may die of a failed allocation instead.
 pub data AsksTurn {K : Type 0} (p : Parties K) (side : Side) (h : List Item) (ask : Ask) : List Item → Type 0 where
   refuses : (refusal : AskRefusal) → has_died h ≡ false → first_refusal (ask_checks p side h ask) ≡ Some refusal →
       AsksTurn p side h ask (AskRefused refusal ∷ Asked ask ∷ [])

@@ -345,7 +345,7 @@ pub data Announces {K : Type 0} (s completed : Transport K) : List Spelled → T
       Announces s completed (SpelledBy (ExtInfo s.settings.extensions) payload ∷ []) (after_sent completed)
   nothing : is_announcing s ≡ false → Announces s completed [] completed
 
--- the handed-in parts of an end that go into an exchange: the agreement, and at a server its host key and signature by
+-- the supplied parts of an end that go into an exchange: the agreement, and at a server its host key and signature by
 -- algorithm
 pub record ExchangeParts : Type 0 where
   pub agreement : Agreement

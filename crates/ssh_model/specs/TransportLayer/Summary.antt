@@ -229,6 +229,6 @@ pub record Allows {K : Type 0} (p : Parties K) (side : Side) (history : List Ite
   pub row : TransportAsk p side history ask (Sent None message payload ∷ [])
   pub sums : SumsUp p side (Sent None message payload ∷ Asked ask ∷ history) new
 
--- the handed-in parts of the end of this side that go into an exchange
+-- the supplied parts of the end of this side that go into an exchange
 abbrev pub parts_of : {K : Type 0} → Parties K → Side → ExchangeParts
 parts_of p side = record { agreement = agreement_of p side; host_key = p.host_key; host_signature = p.host_signature }

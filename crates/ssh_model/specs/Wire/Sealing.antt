@@ -1,4 +1,4 @@
--- Sealing and opening packets (RFC 4253 sections 6 and 6.4), by a handed-in sealing.
+-- Sealing and opening packets (RFC 4253 sections 6 and 6.4), by a supplied sealing.
 use Rattle.std.specs.Prelude.{◌≡◌, ◌≤◌, ◌<◌, ◌+◌, ◌-◌, ◌^◌, ℕ, Bool, true, false, ◌&&◌, nat_le, IsTrue, List, ◌++◌}
 use Rattle.std.specs.Prelude.{length, take, Option, Some, None, IfSome}
 use Rattle.ssh_model.specs.Wire.DataTypes.{AreBytes, IsUint32}

@@ -1,4 +1,4 @@
-//! The parts that are handed in, called through their traits.
+//! The supplied parts, called through their traits.
 
 use ssh_kex::{Agreement, HostSigner, HostTrust};
 use ssh_toys::{HOST_KEY, ToyAgreement, ToySigner, ToyTrust};
