@@ -1,9 +1,14 @@
 -- What a layer of authentication keeps, and what each message and each ask makes of it (RFC 4252): no history here. One
 -- clause or constructor is one row.
-use Rattle.std.specs.Prelude.{◌≡◌, ℕ, ◌+◌, Bool, true, false, not, ◌==◌, ◌&&◌, ◌||◌, nat_le, Option, Some, None, List, [], ◌∷◌, codes}
-use Rattle.ssh_model.specs.Wire.Message.{Msg, Msg.UserauthRequest, Msg.UserauthFailure, Msg.UserauthSuccess, Msg.UserauthBanner, Msg.UserauthPkOk, Method, Method.NoMethod, Method.Password, Method.Publickey}
+use Rattle.std.specs.Prelude.{◌≡◌, ℕ, ◌+◌, Bool, true, false, not, ◌==◌, ◌&&◌, ◌||◌, nat_le, Option, Some, None, List}
+use Rattle.std.specs.Prelude.{[], ◌∷◌, codes}
+use Rattle.ssh_model.specs.Wire.Message.{Msg, Msg.UserauthRequest, Msg.UserauthFailure, Msg.UserauthSuccess}
+use Rattle.ssh_model.specs.Wire.Message.{Msg.UserauthBanner, Msg.UserauthPkOk, Method, Method.NoMethod}
+use Rattle.ssh_model.specs.Wire.Message.{Method.Password, Method.Publickey}
 use Rattle.ssh_model.specs.Sessions.Refusals.{Check, Check.RefusedWhere, Refusal, Refusal.TooManyTries, AskRefusal}
-use Rattle.ssh_model.specs.Sessions.Items.{Ask, Ask.AskNone, Ask.AskPassword, Ask.AskProbe, Ask.AskSign, Fact, Fact.Accepted, Fact.Authenticated, Fact.Failed, Fact.Banner, Fact.KeyOk, Fact.Ignored}
+use Rattle.ssh_model.specs.Sessions.Items.{Ask, Ask.AskNone, Ask.AskPassword, Ask.AskProbe, Ask.AskSign, Fact}
+use Rattle.ssh_model.specs.Sessions.Items.{Fact.Accepted, Fact.Authenticated, Fact.Failed, Fact.Banner, Fact.KeyOk}
+use Rattle.ssh_model.specs.Sessions.Items.{Fact.Ignored}
 use Rattle.ssh_model.specs.Sessions.Sizes.{request_size}
 use Rattle.ssh_model.specs.Sessions.Phases.{is_spare}
 use Rattle.ssh_model.specs.Authentication.Requests.{Judge, accepts, approves, fails, signed_text}
@@ -39,23 +44,29 @@ abbrev pub replied : Msg → Answered
 replied message = record { message = Some message; fact = None }
 
 -- with a judge, so many tries, the methods that it names, and the session id
-abbrev pub server_checks : Judge → (tries : ℕ) → (methods : List (List ℕ)) → (session : List ℕ) → Server → Msg → List (Check Refusal)
+abbrev pub server_checks : Judge → (tries : ℕ) → (methods : List (List ℕ)) → (session : List ℕ) → Server → Msg →
+    List (Check Refusal)
 server_checks judge tries methods session server (UserauthRequest user service method) =
-    RefusedWhere (not server.authenticated && fails judge methods session user service method && nat_le tries server.failures) TooManyTries ∷ []
+    RefusedWhere (not server.authenticated && fails judge methods session user service method
+    && nat_le tries server.failures) TooManyTries ∷ []
 server_checks judge tries methods session server _ = []
 
-pub data ServerTakes (judge : Judge) (methods : List (List ℕ)) (session : List ℕ) (server : Server) : Msg → Answered → Server → Type 0 where
+pub data ServerTakes (judge : Judge) (methods : List (List ℕ)) (session : List ℕ) (server : Server) : Msg → Answered →
+    Server → Type 0 where
   -- RFC 4252 section 5: after SUCCESS further requests are ignored
   too_late : (user service : List ℕ) (method : Method) → server.authenticated ≡ true →
       ServerTakes judge methods session server (UserauthRequest user service method) (told Ignored) server
-  accepted : (user service : List ℕ) (method : Method) → server.authenticated ≡ false → accepts judge methods session user service method ≡ true →
+  accepted : (user service : List ℕ) (method : Method) → server.authenticated ≡ false →
+      accepts judge methods session user service method ≡ true →
       ServerTakes judge methods session server (UserauthRequest user service method)
       (record { message = Some UserauthSuccess; fact = Some (Accepted user) }) (record server { authenticated = true })
   -- RFC 4252 section 7
   probed : (user service algorithm key : List ℕ) → server.authenticated ≡ false →
       approves judge methods user service (Publickey algorithm key None) ≡ true →
-      ServerTakes judge methods session server (UserauthRequest user service (Publickey algorithm key None)) (replied (UserauthPkOk algorithm key)) server
-  failed : (user service : List ℕ) (method : Method) → server.authenticated ≡ false → fails judge methods session user service method ≡ true →
+      ServerTakes judge methods session server (UserauthRequest user service (Publickey algorithm key None))
+      (replied (UserauthPkOk algorithm key)) server
+  failed : (user service : List ℕ) (method : Method) → server.authenticated ≡ false →
+      fails judge methods session user service method ≡ true →
       ServerTakes judge methods session server (UserauthRequest user service method)
       (replied (UserauthFailure methods false)) (record server { failures = server.failures + 1 })
 
@@ -95,18 +106,26 @@ client_takes client number =
 
 pub data ClientTakes (client : Client) : Msg → Answered → Client → Type 0 where
   failure : (methods : List (List ℕ)) (partial : Bool) →
-      ClientTakes client (UserauthFailure methods partial) (told (Failed methods partial)) (record client { outstanding = Nothing })
-  success : ClientTakes client UserauthSuccess (told Authenticated) (record client { outstanding = Nothing; authenticated = true })
-  banner : (message language : List ℕ) → ClientTakes client (UserauthBanner message language) (told (Banner message)) client
-  key_ok : (algorithm key : List ℕ) → ClientTakes client (UserauthPkOk algorithm key) (told (KeyOk algorithm key)) (record client { outstanding = Nothing })
+      ClientTakes client (UserauthFailure methods partial) (told (Failed methods partial))
+      (record client { outstanding = Nothing })
+  success : ClientTakes client UserauthSuccess (told Authenticated)
+      (record client { outstanding = Nothing; authenticated = true })
+  banner : (message language : List ℕ) →
+      ClientTakes client (UserauthBanner message language) (told (Banner message)) client
+  key_ok : (algorithm key : List ℕ) →
+      ClientTakes client (UserauthPkOk algorithm key)
+      (told (KeyOk algorithm key)) (record client { outstanding = Nothing })
 
 -- what an ask of the client is refused for
 abbrev pub client_checks : Client → Ask → List (Check AskRefusal)
-client_checks client (AskNone user) = request_checks client.opened (is_outstanding client.outstanding) client.authenticated (request_size user (codes "none"))
+client_checks client (AskNone user) =
+    request_checks client.opened (is_outstanding client.outstanding) client.authenticated
+    (request_size user (codes "none"))
 client_checks client (AskPassword user password) =
     request_checks client.opened (is_outstanding client.outstanding) client.authenticated (password_size user password)
 client_checks client (AskProbe user algorithm key) =
-    request_checks client.opened (is_outstanding client.outstanding) client.authenticated (probe_size user algorithm key)
+    request_checks client.opened (is_outstanding client.outstanding) client.authenticated
+    (probe_size user algorithm key)
 client_checks client (AskSign user algorithm key) =
     request_checks client.opened (is_outstanding client.outstanding) client.authenticated (sign_size user algorithm key)
 client_checks client _ = []
@@ -115,13 +134,20 @@ client_checks client _ = []
 abbrev pub request_by : (user : List ℕ) → Method → Msg
 request_by user method = UserauthRequest user (codes "ssh-connection") method
 
-pub data ClientSends (signature : (user algorithm key text : List ℕ) → List ℕ) (session : List ℕ) (client : Client) : Ask → Msg → Client → Type 0 where
-  none : (user : List ℕ) → ClientSends signature session client (AskNone user) (request_by user NoMethod) (record client { outstanding = Request })
+pub data ClientSends (signature : (user algorithm key text : List ℕ) → List ℕ) (session : List ℕ)
+    (client : Client) : Ask → Msg → Client → Type 0 where
+  none : (user : List ℕ) →
+      ClientSends signature session client (AskNone user) (request_by user NoMethod)
+      (record client { outstanding = Request })
   password : (user word : List ℕ) →
-      ClientSends signature session client (AskPassword user word) (request_by user (Password word None)) (record client { outstanding = Request })
+      ClientSends signature session client (AskPassword user word) (request_by user (Password word None))
+      (record client { outstanding = Request })
   probe : (user algorithm key : List ℕ) →
-      ClientSends signature session client (AskProbe user algorithm key) (request_by user (Publickey algorithm key None)) (record client { outstanding = Probe })
+      ClientSends signature session client (AskProbe user algorithm key)
+      (request_by user (Publickey algorithm key None)) (record client { outstanding = Probe })
   sign : (user algorithm key : List ℕ) →
       ClientSends signature session client (AskSign user algorithm key)
-      (request_by user (Publickey algorithm key (Some (signature user algorithm key (signed_text session user (codes "ssh-connection") algorithm key)))))
+      (request_by user
+      (Publickey algorithm key
+      (Some (signature user algorithm key (signed_text session user (codes "ssh-connection") algorithm key)))))
       (record client { outstanding = Request })

@@ -1,13 +1,16 @@
 -- When a layer of authentication sums up a history, and how its rows are rows of a session (own).
 use Rattle.std.specs.Prelude.{◌≡◌, ℕ, Option, Some, None, List, [], ◌∷◌, ◌++◌}
 use Rattle.ssh_model.specs.Side.{Side.Client, Side.Server}
-use Rattle.ssh_model.specs.Wire.Message.{Msg, Msg.ServiceAccept, Msg.UserauthRequest, Msg.UserauthFailure, Msg.UserauthSuccess, Msg.UserauthPkOk, Method, Method.Publickey}
+use Rattle.ssh_model.specs.Wire.Message.{Msg, Msg.ServiceAccept, Msg.UserauthRequest, Msg.UserauthFailure}
+use Rattle.ssh_model.specs.Wire.Message.{Msg.UserauthSuccess, Msg.UserauthPkOk, Method, Method.Publickey}
 use Rattle.ssh_model.specs.Sessions.Parties.{Parties}
 use Rattle.ssh_model.specs.Sessions.Items.{Ask, Fact, Item, Item.Sent, Item.Took, Item.Told, Item.Asked}
-use Rattle.ssh_model.specs.Sessions.Phases.{sent_service_accept, took_service_accept, sent_success, took_success, failures, outstanding}
+use Rattle.ssh_model.specs.Sessions.Phases.{sent_service_accept, took_service_accept, sent_success, took_success}
+use Rattle.ssh_model.specs.Sessions.Phases.{failures, outstanding}
 use Rattle.ssh_model.specs.Authentication.Rows.{AuthenticationAnswer, AuthenticationAsk}
 use Rattle.ssh_model.specs.Authentication.Kept as kept
-use Rattle.ssh_model.specs.Authentication.Kept.{Answered, Outstanding, Outstanding.Nothing, Outstanding.Request, Outstanding.Probe}
+use Rattle.ssh_model.specs.Authentication.Kept.{Answered, Outstanding, Outstanding.Nothing, Outstanding.Request}
+use Rattle.ssh_model.specs.Authentication.Kept.{Outstanding.Probe}
 
 -- ---- the summaries
 
@@ -45,17 +48,22 @@ items_of payload answered = told_over answered.fact (sent_with payload answered.
 
 -- What a server answers is what a session answers, whatever payloads spell the messages, and what is kept sums up the
 -- history with it.
-pub record ServerAccepts {K : Type 0} (p : Parties K) (history : List Item) (message : Msg) (answered : Answered) (server : kept.Server) : Type 0 where
+pub record ServerAccepts {K : Type 0} (p : Parties K) (history : List Item) (message : Msg) (answered : Answered)
+    (server : kept.Server) : Type 0 where
   pub answer : (payload : List ℕ) → AuthenticationAnswer p Server history message (items_of payload answered)
-  pub sums : (taken payload : List ℕ) → ServerSumsUp (items_of payload answered ++ (Took None message taken ∷ history)) server
+  pub sums : (taken payload : List ℕ) →
+      ServerSumsUp (items_of payload answered ++ (Took None message taken ∷ history)) server
 
 -- the same of a client
-pub record ClientAccepts {K : Type 0} (p : Parties K) (history : List Item) (message : Msg) (answered : Answered) (client : kept.Client) : Type 0 where
+pub record ClientAccepts {K : Type 0} (p : Parties K) (history : List Item) (message : Msg) (answered : Answered)
+    (client : kept.Client) : Type 0 where
   pub answer : (payload : List ℕ) → AuthenticationAnswer p Client history message (items_of payload answered)
-  pub sums : (taken payload : List ℕ) → ClientSumsUp (items_of payload answered ++ (Took None message taken ∷ history)) client
+  pub sums : (taken payload : List ℕ) →
+      ClientSumsUp (items_of payload answered ++ (Took None message taken ∷ history)) client
 
 -- What a client sends on an ask is what a session sends, and what is kept sums up the history with it.
-pub record ClientAllows {K : Type 0} (p : Parties K) (history : List Item) (ask : Ask) (message : Msg) (client : kept.Client) : Type 0 where
+pub record ClientAllows {K : Type 0} (p : Parties K) (history : List Item) (ask : Ask) (message : Msg)
+    (client : kept.Client) : Type 0 where
   pub row : (payload : List ℕ) → AuthenticationAsk p Client history ask (Sent None message payload ∷ [])
   pub sums : (payload : List ℕ) → ClientSumsUp (Sent None message payload ∷ Asked ask ∷ history) client
 

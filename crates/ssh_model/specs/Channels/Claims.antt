@@ -1,8 +1,10 @@
--- What is claimed of channels: windows (RFC 4254 section 5.2), no refusal between the two ends, and data in order (own).
+-- What is claimed of channels: windows (RFC 4254 section 5.2), no refusal between the two ends, and data in order
+-- (own).
 use Rattle.std.specs.Prelude.{◌≡◌, ℕ, ◌≤◌, List, [], ◌∷◌, ◌++◌, reverse, ◌⊎◌, false, cond, Option, Some, None}
 use Rattle.ssh_model.specs.Side.{Side, Side.Client, Side.Server, peer, part}
 use Rattle.ssh_model.specs.Lists.{IsIn, IsOlder}
-use Rattle.ssh_model.specs.Channels.Message.{Message, Message.Open, Message.OpenFailure, Message.Data, Channel, Channel.Opened, same, window, spent, data_of}
+use Rattle.ssh_model.specs.Channels.Message.{Message, Message.Open, Message.OpenFailure, Message.Data, Channel}
+use Rattle.ssh_model.specs.Channels.Message.{Channel.Opened, same, window, spent, data_of}
 use Rattle.ssh_model.specs.Channels.Notes.{Note, said, took, OpenedAt, channel_at}
 use Rattle.ssh_model.specs.Channels.Numbers.{is_unknown_channel, is_window_overrun, is_window_too_large}
 use Rattle.ssh_model.specs.Channels.History.{Item, Item.Sent, Item.Received, sent, received, noted}
@@ -13,9 +15,12 @@ use Rattle.ssh_model.specs.Channels.Rows.{Done, PairRun, Ordered}
 -- On every channel, data said is at most the window taken, and data taken at most the window granted.
 abbrev pub WindowsHere : List Note → Type 0
 WindowsHere notes =
-    (channel : Channel) → (spent (said channel notes) ≤ window (took channel notes)) × (spent (took channel notes) ≤ window (said channel notes))
+    (channel : Channel) →
+    (spent (said channel notes) ≤ window (took channel notes))
+    × (spent (took channel notes) ≤ window (said channel notes))
 
--- No window is overrun, and each part of the window taken had been sent: what this end took on a channel, the parts of its
+-- No window is overrun, and each part of the window taken had been sent: what this end took on a channel, the parts
+-- of its
 -- window among it, is a prefix of what the other end said on it.
 pub record Within (notes others : List Note) : Type 0 where
   pub sends : (channel : Channel) → spent (said channel notes) ≤ window (took channel notes)
@@ -25,7 +30,9 @@ pub record Within (notes others : List Note) : Type 0 where
 -- The data taken on a channel are a prefix of those that the other end said on it.
 abbrev pub DataBegins : List Note → List Note → Type 0
 DataBegins notes others =
-    (channel : Channel) → (rest : List (Option ℕ × List ℕ)) × (reverse (data_of (took channel notes)) ++ rest ≡ reverse (data_of (said channel others)))
+    (channel : Channel) →
+    (rest : List (Option ℕ × List ℕ))
+    × (reverse (data_of (took channel notes)) ++ rest ≡ reverse (data_of (said channel others)))
 
 -- none of the three reasons to refuse a message
 pub record Welcome (message : Message) (notes : List Note) : Type 0 where
@@ -44,37 +51,44 @@ WindowsKept side run = Within (notes_of side run) (notes_of (peer side) run)
 -- What comes next to this end is refused for none of the three reasons.
 abbrev pub NotRefused : Side → List Done → Type 0
 NotRefused side run =
-    (message : Message) → IsOlder (message ∷ received (part side run)) (sent (part (peer side) run)) → Welcome message (notes_of side run)
+    (message : Message) → IsOlder (message ∷ received (part side run)) (sent (part (peer side) run)) →
+    Welcome message (notes_of side run)
 
 -- the data, each with its type, that an end sent on a channel, and those that it took on it
 abbrev pub data_sent : Side → Channel → List Item → List (Option ℕ × List ℕ)
 data_sent side channel [] = []
 data_sent side channel (Sent (Some number) (Data to kind body) ∷ history) =
-    cond (same channel (channel_at number (noted side history))) ((kind, body) ∷ data_sent side channel history) (data_sent side channel history)
+    cond (same channel (channel_at number (noted side history))) ((kind, body) ∷ data_sent side channel history)
+    (data_sent side channel history)
 data_sent side channel (_ ∷ history) = data_sent side channel history
 
 abbrev pub data_received : Side → Channel → List Item → List (Option ℕ × List ℕ)
 data_received side channel [] = []
 data_received side channel (Received (Some number) (Data to kind body) ∷ history) =
-    cond (same channel (channel_at number (noted side history))) ((kind, body) ∷ data_received side channel history) (data_received side channel history)
+    cond (same channel (channel_at number (noted side history))) ((kind, body) ∷ data_received side channel history)
+    (data_received side channel history)
 data_received side channel (_ ∷ history) = data_received side channel history
 
 -- The data taken on each channel are a prefix of those sent on it, in the order of time.
 abbrev pub DataInOrder : Side → List Done → Type 0
 DataInOrder side run = (channel : Channel) → (rest : List (Option ℕ × List ℕ))
-    × (reverse (data_received side channel (part side run)) ++ rest ≡ reverse (data_sent (peer side) channel (part (peer side) run)))
+    × (reverse (data_received side channel (part side run))
+    ++ rest ≡ reverse (data_sent (peer side) channel (part (peer side) run)))
 
 -- The channel has a partner: the same OPEN was said by one end and taken by the other.
 abbrev pub HasPartner : Channel → List Note → List Note → Type 0
 HasPartner channel notes others =
     (from : ℕ) × (window : ℕ) × (max_packet : ℕ)
-    × ((IsIn (Open from window max_packet) (said channel notes) × IsIn (Open from window max_packet) (took channel others))
-    ⊎ (IsIn (Open from window max_packet) (took channel notes) × IsIn (Open from window max_packet) (said channel others)))
+    × ((IsIn (Open from window max_packet) (said channel notes)
+    × IsIn (Open from window max_packet) (took channel others))
+    ⊎ (IsIn (Open from window max_packet) (took channel notes)
+    × IsIn (Open from window max_packet) (said channel others)))
 
 -- Each channel on which this end took data has a partner.
 abbrev pub Partnered : Side → List Done → Type 0
 Partnered side run =
-    (channel : Channel) → (data_received side channel (part side run) ≡ [] → ⊥) → HasPartner channel (notes_of side run) (notes_of (peer side) run)
+    (channel : Channel) → (data_received side channel (part side run) ≡ [] → ⊥) →
+    HasPartner channel (notes_of side run) (notes_of (peer side) run)
 
 -- ---- a run that meets every premise
 

@@ -1,16 +1,36 @@
 -- What an end answers to the messages of the connection (RFC 4254), and to the asks for them. One clause or constructor
 -- is one row. What is known of channels is read off the notes of their messages.
-use Rattle.std.specs.Prelude.{◌≡◌, ℕ, suc, ◌+◌, ◌-◌, Bool, true, false, not, ◌==◌, ◌&&◌, ◌||◌, nat_le, nat_lt, Option, Some, None, List, [], ◌∷◌, length}
+use Rattle.std.specs.Prelude.{◌≡◌, ℕ, suc, ◌+◌, ◌-◌, Bool, true, false, not, ◌==◌, ◌&&◌, ◌||◌, nat_le, nat_lt, Option}
+use Rattle.std.specs.Prelude.{Some, None, List, [], ◌∷◌, length}
 use Rattle.ssh_model.specs.Side.{Side}
-use Rattle.ssh_model.specs.Wire.Message.{Msg, Msg.KexInit, Msg.NewKeys, Msg.GlobalRequest, Msg.RequestSuccess, Msg.RequestFailure, Msg.ChannelOpen, Msg.ChannelOpenConfirmation, Msg.ChannelOpenFailure, Msg.ChannelWindowAdjust, Msg.ChannelData, Msg.ChannelExtendedData, Msg.ChannelEof, Msg.ChannelClose, Msg.ChannelRequest, Msg.ChannelSuccess, Msg.ChannelFailure, Msg.Unknown}
-use Rattle.ssh_model.specs.Sessions.Refusals.{Check, Check.RefusedWhere, Refusal, Refusal.Unexpected, Refusal.UnknownChannel, Refusal.WindowOverrun, Refusal.WindowTooLarge, Refusal.OwedFull, AskRefusal, AskRefusal.NotYet, AskRefusal.Busy, AskRefusal.NoChannel, AskRefusal.NoRoom, AskRefusal.TooLong, AskRefusal.TableFull, AskRefusal.NothingOwed, AskRefusal.RekeyDue, AskRefusal.TooMuch}
+use Rattle.ssh_model.specs.Wire.Message.{Msg, Msg.KexInit, Msg.NewKeys, Msg.GlobalRequest, Msg.RequestSuccess}
+use Rattle.ssh_model.specs.Wire.Message.{Msg.RequestFailure, Msg.ChannelOpen, Msg.ChannelOpenConfirmation}
+use Rattle.ssh_model.specs.Wire.Message.{Msg.ChannelOpenFailure, Msg.ChannelWindowAdjust, Msg.ChannelData}
+use Rattle.ssh_model.specs.Wire.Message.{Msg.ChannelExtendedData, Msg.ChannelEof, Msg.ChannelClose}
+use Rattle.ssh_model.specs.Wire.Message.{Msg.ChannelRequest, Msg.ChannelSuccess, Msg.ChannelFailure, Msg.Unknown}
+use Rattle.ssh_model.specs.Sessions.Refusals.{Check, Check.RefusedWhere, Refusal, Refusal.Unexpected}
+use Rattle.ssh_model.specs.Sessions.Refusals.{Refusal.UnknownChannel, Refusal.WindowOverrun, Refusal.WindowTooLarge}
+use Rattle.ssh_model.specs.Sessions.Refusals.{Refusal.OwedFull, AskRefusal, AskRefusal.NotYet, AskRefusal.Busy}
+use Rattle.ssh_model.specs.Sessions.Refusals.{AskRefusal.NoChannel, AskRefusal.NoRoom, AskRefusal.TooLong}
+use Rattle.ssh_model.specs.Sessions.Refusals.{AskRefusal.TableFull, AskRefusal.NothingOwed, AskRefusal.RekeyDue}
+use Rattle.ssh_model.specs.Sessions.Refusals.{AskRefusal.TooMuch}
 use Rattle.ssh_model.specs.Sessions.Parties.{Parties, settings_of}
-use Rattle.ssh_model.specs.Sessions.Items.{Ask, Ask.AskOpen, Ask.AskConfirm, Ask.AskRefuse, Ask.AskData, Ask.AskAdjust, Ask.AskEof, Ask.AskClose, Ask.AskRequest, Ask.AskReply, Ask.AskGlobal, Ask.AskGlobalReply, Fact.Global, Fact.GlobalDone, Fact.Opening, Fact.Opened, Fact.Confirmed, Fact.OpenFailed, Fact.GotData, Fact.Adjusted, Fact.Ended, Fact.Closed, Fact.Requested, Fact.RequestDone, Item, Item.Sent, Item.Took, Item.Told, sent}
+use Rattle.ssh_model.specs.Sessions.Items.{Ask, Ask.AskOpen, Ask.AskConfirm, Ask.AskRefuse, Ask.AskData}
+use Rattle.ssh_model.specs.Sessions.Items.{Ask.AskAdjust, Ask.AskEof, Ask.AskClose, Ask.AskRequest, Ask.AskReply}
+use Rattle.ssh_model.specs.Sessions.Items.{Ask.AskGlobal, Ask.AskGlobalReply, Fact.Global, Fact.GlobalDone}
+use Rattle.ssh_model.specs.Sessions.Items.{Fact.Opening, Fact.Opened, Fact.Confirmed, Fact.OpenFailed, Fact.GotData}
+use Rattle.ssh_model.specs.Sessions.Items.{Fact.Adjusted, Fact.Ended, Fact.Closed, Fact.Requested, Fact.RequestDone}
+use Rattle.ssh_model.specs.Sessions.Items.{Item, Item.Sent, Item.Took, Item.Told, sent}
 use Rattle.ssh_model.specs.Sessions.Epochs.{count}
 use Rattle.ssh_model.specs.Sessions.Phases.{authenticated, blocked}
-use Rattle.ssh_model.specs.Channels.Message.{Message, Message.Open, Message.OpenConfirmation, Message.OpenFailure, Message.WindowAdjust, Message.Data, Message.Eof, Message.Close, Message.Request, Message.Reply}
+use Rattle.ssh_model.specs.Channels.Message.{Message, Message.Open, Message.OpenConfirmation, Message.OpenFailure}
+use Rattle.ssh_model.specs.Channels.Message.{Message.WindowAdjust, Message.Data, Message.Eof, Message.Close}
+use Rattle.ssh_model.specs.Channels.Message.{Message.Request, Message.Reply}
 use Rattle.ssh_model.specs.Channels.Notes.{Note}
-use Rattle.ssh_model.specs.Channels.Numbers.{largest_window, is_held, is_confirmed, is_offered, is_waiting, has_ended, has_closed, peer_ended, send_window, receive_window, max_packet_there, peer_number, waiting_here, waiting_there, is_unknown_channel, is_window_overrun, is_window_too_large}
+use Rattle.ssh_model.specs.Channels.Numbers.{largest_window, is_held, is_confirmed, is_offered, is_waiting, has_ended}
+use Rattle.ssh_model.specs.Channels.Numbers.{has_closed, peer_ended, send_window, receive_window, max_packet_there}
+use Rattle.ssh_model.specs.Channels.Numbers.{peer_number, waiting_here, waiting_there, is_unknown_channel}
+use Rattle.ssh_model.specs.Channels.Numbers.{is_window_overrun, is_window_too_large}
 use Rattle.ssh_model.specs.Channels.History.{due, noted, owed, is_owed, is_free, has_place, at_once}
 use Rattle.ssh_model.specs.Channels.History as channel
 use Rattle.ssh_model.specs.Sessions.Sizes.{string_size, is_too_long}
@@ -19,7 +39,8 @@ use Rattle.ssh_model.specs.Sessions.Sizes.{string_size, is_too_long}
 
 abbrev pub on_channel : Msg → Option Message
 on_channel (ChannelOpen kind sender window max rest) = Some (Open sender window max)
-on_channel (ChannelOpenConfirmation recipient sender window max rest) = Some (OpenConfirmation recipient sender window max)
+on_channel (ChannelOpenConfirmation recipient sender window max rest) =
+    Some (OpenConfirmation recipient sender window max)
 on_channel (ChannelOpenFailure recipient reason description language) = Some (OpenFailure recipient)
 on_channel (ChannelWindowAdjust recipient bytes) = Some (WindowAdjust recipient bytes)
 on_channel (ChannelData recipient body) = Some (Data recipient None body)
@@ -63,7 +84,8 @@ reply_message _ = Unknown 0
 -- the sent messages of these replies
 pub data AreReplies : List channel.Item → List Item → Type 0 where
   none : AreReplies [] []
-  reply : {l : List channel.Item} {items : List Item} (at : Option ℕ) (m : Message) (payload : List ℕ) → AreReplies l items →
+  reply : {l : List channel.Item} {items : List Item} (at : Option ℕ) (m : Message) (payload : List ℕ) →
+      AreReplies l items →
       AreReplies (channel.Item.Sent at m ∷ l) (Sent at (reply_message m) payload ∷ items)
 
 -- ---- numbers and requests in use
@@ -99,37 +121,48 @@ is_owed_limit_reached side h = blocked h && is_limit_reached (length (owed_repli
 
 -- A number is in use also while a CLOSE is owed at it.
 abbrev pub connection_checks : Side → List Item → Msg → List (Check Refusal)
-connection_checks side h (GlobalRequest name want rest) = RefusedWhere (want && is_limit_reached (globals_here h)) OwedFull ∷ []
+connection_checks side h (GlobalRequest name want rest) =
+    RefusedWhere (want && is_limit_reached (globals_here h)) OwedFull ∷ []
 connection_checks side h (RequestSuccess rest) = RefusedWhere (globals_there h == 0) Unexpected ∷ []
 connection_checks side h RequestFailure = RefusedWhere (globals_there h == 0) Unexpected ∷ []
-connection_checks side h (ChannelOpen kind sender window max rest) = RefusedWhere (is_full side h && is_owed_limit_reached side h) OwedFull ∷ []
+connection_checks side h (ChannelOpen kind sender window max rest) =
+    RefusedWhere (is_full side h && is_owed_limit_reached side h) OwedFull ∷ []
 connection_checks side h (ChannelOpenConfirmation recipient sender window max rest) =
-    RefusedWhere (is_unknown_channel (OpenConfirmation recipient sender window max) (notes side h) && not (is_owed recipient (owed_replies side h))) UnknownChannel
+    RefusedWhere (is_unknown_channel (OpenConfirmation recipient sender window max) (notes side h)
+    && not (is_owed recipient (owed_replies side h))) UnknownChannel
     ∷ RefusedWhere (not (is_offered side recipient (notes side h))) Unexpected ∷ []
 connection_checks side h (ChannelOpenFailure recipient reason description language) =
-    RefusedWhere (is_unknown_channel (OpenFailure recipient) (notes side h) && not (is_owed recipient (owed_replies side h))) UnknownChannel
+    RefusedWhere (is_unknown_channel (OpenFailure recipient) (notes side h)
+    && not (is_owed recipient (owed_replies side h))) UnknownChannel
     ∷ RefusedWhere (not (is_offered side recipient (notes side h))) Unexpected ∷ []
 connection_checks side h (ChannelWindowAdjust recipient bytes) =
     RefusedWhere (is_unknown_channel (WindowAdjust recipient bytes) (notes side h)) UnknownChannel
     ∷ RefusedWhere (is_window_too_large (WindowAdjust recipient bytes) (notes side h)) WindowTooLarge ∷ []
 connection_checks side h (ChannelData recipient body) =
-    RefusedWhere (is_unknown_channel (Data recipient None body) (notes side h)) UnknownChannel ∷ RefusedWhere (peer_ended recipient (notes side h)) Unexpected
+    RefusedWhere (is_unknown_channel (Data recipient None body) (notes side h)) UnknownChannel
+    ∷ RefusedWhere (peer_ended recipient (notes side h)) Unexpected
     ∷ RefusedWhere (is_window_overrun (Data recipient None body) (notes side h)) WindowOverrun ∷ []
 connection_checks side h (ChannelExtendedData recipient kind body) =
-    RefusedWhere (is_unknown_channel (Data recipient (Some kind) body) (notes side h)) UnknownChannel ∷ RefusedWhere (peer_ended recipient (notes side h)) Unexpected
+    RefusedWhere (is_unknown_channel (Data recipient (Some kind) body) (notes side h)) UnknownChannel
+    ∷ RefusedWhere (peer_ended recipient (notes side h)) Unexpected
     ∷ RefusedWhere (is_window_overrun (Data recipient (Some kind) body) (notes side h)) WindowOverrun ∷ []
 connection_checks side h (ChannelEof recipient) =
-    RefusedWhere (is_unknown_channel (Eof recipient) (notes side h)) UnknownChannel ∷ RefusedWhere (peer_ended recipient (notes side h)) Unexpected ∷ []
+    RefusedWhere (is_unknown_channel (Eof recipient) (notes side h)) UnknownChannel
+    ∷ RefusedWhere (peer_ended recipient (notes side h)) Unexpected ∷ []
 connection_checks side h (ChannelClose recipient) =
     RefusedWhere (is_unknown_channel (Close recipient) (notes side h)) UnknownChannel
     ∷ RefusedWhere (not (has_closed recipient (notes side h)) && is_owed_limit_reached side h) OwedFull ∷ []
 connection_checks side h (ChannelRequest recipient name want rest) =
     RefusedWhere (is_unknown_channel (Request recipient want) (notes side h)) UnknownChannel
-    ∷ RefusedWhere (want && not (has_closed recipient (notes side h)) && is_limit_reached (waiting_here recipient (notes side h))) OwedFull ∷ []
+    ∷ RefusedWhere
+    (want && not (has_closed recipient (notes side h))
+    && is_limit_reached (waiting_here recipient (notes side h))) OwedFull ∷ []
 connection_checks side h (ChannelSuccess recipient) =
-    RefusedWhere (is_unknown_channel (Reply recipient true) (notes side h)) UnknownChannel ∷ RefusedWhere (waiting_there recipient (notes side h) == 0) Unexpected ∷ []
+    RefusedWhere (is_unknown_channel (Reply recipient true) (notes side h)) UnknownChannel
+    ∷ RefusedWhere (waiting_there recipient (notes side h) == 0) Unexpected ∷ []
 connection_checks side h (ChannelFailure recipient) =
-    RefusedWhere (is_unknown_channel (Reply recipient false) (notes side h)) UnknownChannel ∷ RefusedWhere (waiting_there recipient (notes side h) == 0) Unexpected ∷ []
+    RefusedWhere (is_unknown_channel (Reply recipient false) (notes side h)) UnknownChannel
+    ∷ RefusedWhere (waiting_there recipient (notes side h) == 0) Unexpected ∷ []
 connection_checks side h _ = []
 
 -- ---- what is answered
@@ -144,34 +177,48 @@ pub data ConnectionAnswer : Side → List Item → Option ℕ → Msg → List I
   -- RFC 4254 section 4
   global : {side : Side} {h : List Item} (name : List ℕ) (want : Bool) (rest : List ℕ) →
       ConnectionAnswer side h None (GlobalRequest name want rest) (Told (Global name want rest) ∷ [])
-  global_success : {side : Side} {h : List Item} (rest : List ℕ) → ConnectionAnswer side h None (RequestSuccess rest) (Told (GlobalDone true rest) ∷ [])
-  global_failure : {side : Side} {h : List Item} → ConnectionAnswer side h None RequestFailure (Told (GlobalDone false []) ∷ [])
+  global_success : {side : Side} {h : List Item} (rest : List ℕ) →
+      ConnectionAnswer side h None (RequestSuccess rest) (Told (GlobalDone true rest) ∷ [])
+  global_failure : {side : Side} {h : List Item} →
+      ConnectionAnswer side h None RequestFailure (Told (GlobalDone false []) ∷ [])
   -- RFC 4254 section 5.1: at any free number; where there is none it is refused and not told
-  opened : {side : Side} {h : List Item} (x : ℕ) (kind : List ℕ) (sender window max : ℕ) (rest : List ℕ) → is_free side (channel_items h) x ≡ true →
-      ConnectionAnswer side h (Some x) (ChannelOpen kind sender window max rest) (Told (Opened x kind window max rest) ∷ [])
-  not_opened : {side : Side} {h replies : List Item} (kind : List ℕ) (sender window max : ℕ) (rest : List ℕ) → is_full side h ≡ true →
+  opened : {side : Side} {h : List Item} (x : ℕ) (kind : List ℕ) (sender window max : ℕ) (rest : List ℕ) →
+      is_free side (channel_items h) x ≡ true →
+      ConnectionAnswer side h (Some x) (ChannelOpen kind sender window max rest)
+      (Told (Opened x kind window max rest) ∷ [])
+  not_opened : {side : Side} {h replies : List Item} (kind : List ℕ) (sender window max : ℕ) (rest : List ℕ) →
+      is_full side h ≡ true →
       AreDue side h None (Open sender window max) replies →
       ConnectionAnswer side h None (ChannelOpen kind sender window max rest) replies
   confirmation : {side : Side} {h : List Item} (recipient sender window max : ℕ) (rest : List ℕ) →
-      ConnectionAnswer side h (Some recipient) (ChannelOpenConfirmation recipient sender window max rest) (Told (Confirmed recipient window max rest) ∷ [])
+      ConnectionAnswer side h (Some recipient) (ChannelOpenConfirmation recipient sender window max rest)
+      (Told (Confirmed recipient window max rest) ∷ [])
   failure : {side : Side} {h : List Item} (recipient reason : ℕ) (description language : List ℕ) →
-      ConnectionAnswer side h (Some recipient) (ChannelOpenFailure recipient reason description language) (Told (OpenFailed recipient reason description) ∷ [])
+      ConnectionAnswer side h (Some recipient) (ChannelOpenFailure recipient reason description language)
+      (Told (OpenFailed recipient reason description) ∷ [])
   -- RFC 4254 section 5.2
   adjust : {side : Side} {h : List Item} (recipient bytes : ℕ) →
-      ConnectionAnswer side h (Some recipient) (ChannelWindowAdjust recipient bytes) (Told (Adjusted recipient bytes) ∷ [])
+      ConnectionAnswer side h (Some recipient) (ChannelWindowAdjust recipient bytes)
+      (Told (Adjusted recipient bytes) ∷ [])
   got_data : {side : Side} {h : List Item} (recipient : ℕ) (body : List ℕ) →
       ConnectionAnswer side h (Some recipient) (ChannelData recipient body) (Told (GotData recipient None body) ∷ [])
   got_extended : {side : Side} {h : List Item} (recipient kind : ℕ) (body : List ℕ) →
-      ConnectionAnswer side h (Some recipient) (ChannelExtendedData recipient kind body) (Told (GotData recipient (Some kind) body) ∷ [])
+      ConnectionAnswer side h (Some recipient) (ChannelExtendedData recipient kind body)
+      (Told (GotData recipient (Some kind) body) ∷ [])
   -- RFC 4254 section 5.3: a CLOSE is answered with a CLOSE, unless one was sent
-  eof : {side : Side} {h : List Item} (recipient : ℕ) → ConnectionAnswer side h (Some recipient) (ChannelEof recipient) (Told (Ended recipient) ∷ [])
-  close : {side : Side} {h replies : List Item} (recipient : ℕ) → AreDue side h (Some recipient) (Close recipient) replies →
+  eof : {side : Side} {h : List Item} (recipient : ℕ) →
+      ConnectionAnswer side h (Some recipient) (ChannelEof recipient) (Told (Ended recipient) ∷ [])
+  close : {side : Side} {h replies : List Item} (recipient : ℕ) →
+      AreDue side h (Some recipient) (Close recipient) replies →
       ConnectionAnswer side h (Some recipient) (ChannelClose recipient) (Told (Closed recipient) ∷ replies)
   -- RFC 4254 section 5.4
   request : {side : Side} {h : List Item} (recipient : ℕ) (name : List ℕ) (want : Bool) (rest : List ℕ) →
-      ConnectionAnswer side h (Some recipient) (ChannelRequest recipient name want rest) (Told (Requested recipient name want rest) ∷ [])
-  success : {side : Side} {h : List Item} (recipient : ℕ) → ConnectionAnswer side h (Some recipient) (ChannelSuccess recipient) (Told (RequestDone recipient true) ∷ [])
-  no_success : {side : Side} {h : List Item} (recipient : ℕ) → ConnectionAnswer side h (Some recipient) (ChannelFailure recipient) (Told (RequestDone recipient false) ∷ [])
+      ConnectionAnswer side h (Some recipient) (ChannelRequest recipient name want rest)
+      (Told (Requested recipient name want rest) ∷ [])
+  success : {side : Side} {h : List Item} (recipient : ℕ) →
+      ConnectionAnswer side h (Some recipient) (ChannelSuccess recipient) (Told (RequestDone recipient true) ∷ [])
+  no_success : {side : Side} {h : List Item} (recipient : ℕ) →
+      ConnectionAnswer side h (Some recipient) (ChannelFailure recipient) (Told (RequestDone recipient false) ∷ [])
 
 -- ---- asks
 
@@ -181,45 +228,65 @@ is_rekey_due p side h = nat_le (settings_of p side).epoch_limit (count (sent h))
 
 -- for any of them, where also too many requests may wait
 abbrev pub common_checks : (is_blocked is_due busy : Bool) → List (Check AskRefusal) → List (Check AskRefusal)
-common_checks is_blocked is_due busy checks = RefusedWhere (is_blocked || busy) Busy ∷ RefusedWhere is_due RekeyDue ∷ checks
+common_checks is_blocked is_due busy checks =
+    RefusedWhere (is_blocked || busy) Busy ∷ RefusedWhere is_due RekeyDue ∷ checks
 
 -- an end offers to take data of 1 to 32,768 bytes in a message
 abbrev pub is_max_packet : ℕ → Bool
 is_max_packet max_packet = nat_le 1 max_packet && nat_le max_packet 32768
 
--- What is refused of an ask for a message of the connection, where the end is blocked or not, and an exchange is due or not.
+-- What is refused of an ask for a message of the connection, where the end is blocked or not, and an exchange is due
+-- or not.
 abbrev pub channel_ask_checks : (is_blocked is_due : Bool) → Side → List Item → Ask → List (Check AskRefusal)
 channel_ask_checks is_blocked is_due side h (AskOpen kind window max_packet rest) =
-    common_checks is_blocked is_due false (RefusedWhere (is_full side h) TableFull ∷ RefusedWhere (not (is_max_packet max_packet)) TooMuch ∷ RefusedWhere (is_too_long (13 + string_size kind + length rest)) TooLong ∷ [])
+    common_checks is_blocked is_due false
+    (RefusedWhere (is_full side h) TableFull ∷ RefusedWhere (not (is_max_packet max_packet)) TooMuch
+    ∷ RefusedWhere (is_too_long (13 + string_size kind + length rest)) TooLong ∷ [])
 channel_ask_checks is_blocked is_due side h (AskConfirm x window max_packet rest) =
-    common_checks is_blocked is_due false (RefusedWhere (not (is_waiting side x (notes side h))) NoChannel ∷ RefusedWhere (not (is_max_packet max_packet)) TooMuch ∷ RefusedWhere (is_too_long (17 + length rest)) TooLong ∷ [])
-channel_ask_checks is_blocked is_due side h (AskRefuse x reason) = common_checks is_blocked is_due false (RefusedWhere (not (is_waiting side x (notes side h))) NoChannel ∷ [])
+    common_checks is_blocked is_due false
+    (RefusedWhere (not (is_waiting side x (notes side h))) NoChannel
+    ∷ RefusedWhere (not (is_max_packet max_packet)) TooMuch
+    ∷ RefusedWhere (is_too_long (17 + length rest)) TooLong ∷ [])
+channel_ask_checks is_blocked is_due side h (AskRefuse x reason) =
+    common_checks is_blocked is_due false (RefusedWhere (not (is_waiting side x (notes side h))) NoChannel ∷ [])
 channel_ask_checks is_blocked is_due side h (AskData x kind body) =
     common_checks is_blocked is_due false
-    (RefusedWhere (not (is_confirmed x (notes side h))) NoChannel ∷ RefusedWhere (has_ended x (notes side h)) AskRefusal.Ended
+    (RefusedWhere (not (is_confirmed x (notes side h))) NoChannel
+    ∷ RefusedWhere (has_ended x (notes side h)) AskRefusal.Ended
     ∷ RefusedWhere (nat_lt 32768 (length body) || nat_lt (max_packet_there x (notes side h)) (length body)) TooLong
     ∷ RefusedWhere (nat_lt (send_window x (notes side h)) (length body)) NoRoom ∷ [])
 channel_ask_checks is_blocked is_due side h (AskAdjust x bytes) =
     common_checks is_blocked is_due false
-    (RefusedWhere (not (is_confirmed x (notes side h))) NoChannel ∷ RefusedWhere (has_closed x (notes side h)) AskRefusal.Ended
+    (RefusedWhere (not (is_confirmed x (notes side h))) NoChannel
+    ∷ RefusedWhere (has_closed x (notes side h)) AskRefusal.Ended
     ∷ RefusedWhere (nat_lt largest_window (bytes + receive_window x (notes side h))) TooMuch ∷ [])
 channel_ask_checks is_blocked is_due side h (AskEof x) =
-    common_checks is_blocked is_due false (RefusedWhere (not (is_confirmed x (notes side h))) NoChannel ∷ RefusedWhere (has_ended x (notes side h)) AskRefusal.Ended ∷ [])
+    common_checks is_blocked is_due false
+    (RefusedWhere (not (is_confirmed x (notes side h))) NoChannel
+    ∷ RefusedWhere (has_ended x (notes side h)) AskRefusal.Ended ∷ [])
 channel_ask_checks is_blocked is_due side h (AskClose x) =
-    common_checks is_blocked is_due false (RefusedWhere (not (is_confirmed x (notes side h))) NoChannel ∷ RefusedWhere (has_closed x (notes side h)) AskRefusal.Ended ∷ [])
+    common_checks is_blocked is_due false
+    (RefusedWhere (not (is_confirmed x (notes side h))) NoChannel
+    ∷ RefusedWhere (has_closed x (notes side h)) AskRefusal.Ended ∷ [])
 channel_ask_checks is_blocked is_due side h (AskRequest x name want rest) =
-    common_checks is_blocked is_due (want && is_held x (notes side h) && is_limit_reached (waiting_there x (notes side h)))
-    (RefusedWhere (not (is_confirmed x (notes side h))) NoChannel ∷ RefusedWhere (has_closed x (notes side h)) AskRefusal.Ended
+    common_checks is_blocked is_due
+    (want && is_held x (notes side h) && is_limit_reached (waiting_there x (notes side h)))
+    (RefusedWhere (not (is_confirmed x (notes side h))) NoChannel
+    ∷ RefusedWhere (has_closed x (notes side h)) AskRefusal.Ended
     ∷ RefusedWhere (is_too_long (6 + string_size name + length rest)) TooLong ∷ [])
 channel_ask_checks is_blocked is_due side h (AskReply x answer) =
     common_checks is_blocked is_due false
-    (RefusedWhere (not (is_confirmed x (notes side h))) NoChannel ∷ RefusedWhere (has_closed x (notes side h)) AskRefusal.Ended
+    (RefusedWhere (not (is_confirmed x (notes side h))) NoChannel
+    ∷ RefusedWhere (has_closed x (notes side h)) AskRefusal.Ended
     ∷ RefusedWhere (waiting_here x (notes side h) == 0) NothingOwed ∷ [])
 channel_ask_checks is_blocked is_due side h (AskGlobal name want rest) =
-    common_checks is_blocked is_due (want && is_limit_reached (globals_there h)) (RefusedWhere (is_too_long (2 + string_size name + length rest)) TooLong ∷ [])
+    common_checks is_blocked is_due (want && is_limit_reached (globals_there h))
+    (RefusedWhere (is_too_long (2 + string_size name + length rest)) TooLong ∷ [])
 channel_ask_checks is_blocked is_due side h (AskGlobalReply true rest) =
-    common_checks is_blocked is_due false (RefusedWhere (globals_here h == 0) NothingOwed ∷ RefusedWhere (is_too_long (1 + length rest)) TooLong ∷ [])
-channel_ask_checks is_blocked is_due side h (AskGlobalReply false rest) = common_checks is_blocked is_due false (RefusedWhere (globals_here h == 0) NothingOwed ∷ [])
+    common_checks is_blocked is_due false
+    (RefusedWhere (globals_here h == 0) NothingOwed ∷ RefusedWhere (is_too_long (1 + length rest)) TooLong ∷ [])
+channel_ask_checks is_blocked is_due side h (AskGlobalReply false rest) =
+    common_checks is_blocked is_due false (RefusedWhere (globals_here h == 0) NothingOwed ∷ [])
 channel_ask_checks is_blocked is_due side h _ = []
 
 -- Where there is a check, the end has to be authenticated first.
@@ -228,32 +295,46 @@ after_authentication is_authenticated [] = []
 after_authentication is_authenticated (check ∷ checks) = RefusedWhere (not is_authenticated) NotYet ∷ check ∷ checks
 
 abbrev pub connection_ask_checks : {K : Type 0} → Parties K → Side → List Item → Ask → List (Check AskRefusal)
-connection_ask_checks p side h ask = after_authentication (authenticated side h) (channel_ask_checks (blocked h) (is_rekey_due p side h) side h ask)
+connection_ask_checks p side h ask =
+    after_authentication (authenticated side h) (channel_ask_checks (blocked h) (is_rekey_due p side h) side h ask)
 
 -- what it sends on an ask that it does not refuse
 pub data ConnectionAsk : Side → List Item → Ask → List Item → Type 0 where
-  opens : {side : Side} {h : List Item} (x : ℕ) (kind : List ℕ) (window max_packet : ℕ) (rest payload : List ℕ) → is_free side (channel_items h) x ≡ true →
-      ConnectionAsk side h (AskOpen kind window max_packet rest) (Told (Opening x) ∷ Sent (Some x) (ChannelOpen kind x window max_packet rest) payload ∷ [])
+  opens : {side : Side} {h : List Item} (x : ℕ) (kind : List ℕ) (window max_packet : ℕ) (rest payload : List ℕ) →
+      is_free side (channel_items h) x ≡ true →
+      ConnectionAsk side h (AskOpen kind window max_packet rest)
+      (Told (Opening x) ∷ Sent (Some x) (ChannelOpen kind x window max_packet rest) payload ∷ [])
   confirm : {side : Side} {h : List Item} (x window max_packet : ℕ) (rest payload : List ℕ) →
-      ConnectionAsk side h (AskConfirm x window max_packet rest) (Sent (Some x) (ChannelOpenConfirmation (peer_number x (notes side h)) x window max_packet rest) payload ∷ [])
+      ConnectionAsk side h (AskConfirm x window max_packet rest)
+      (Sent (Some x) (ChannelOpenConfirmation (peer_number x (notes side h)) x window max_packet rest) payload ∷ [])
   refuse : {side : Side} {h : List Item} (x reason : ℕ) (payload : List ℕ) →
-      ConnectionAsk side h (AskRefuse x reason) (Sent (Some x) (ChannelOpenFailure (peer_number x (notes side h)) reason [] []) payload ∷ [])
+      ConnectionAsk side h (AskRefuse x reason)
+      (Sent (Some x) (ChannelOpenFailure (peer_number x (notes side h)) reason [] []) payload ∷ [])
   sends : {side : Side} {h : List Item} (x : ℕ) (body payload : List ℕ) →
-      ConnectionAsk side h (AskData x None body) (Sent (Some x) (ChannelData (peer_number x (notes side h)) body) payload ∷ [])
+      ConnectionAsk side h (AskData x None body)
+      (Sent (Some x) (ChannelData (peer_number x (notes side h)) body) payload ∷ [])
   sends_extended : {side : Side} {h : List Item} (x kind : ℕ) (body payload : List ℕ) →
-      ConnectionAsk side h (AskData x (Some kind) body) (Sent (Some x) (ChannelExtendedData (peer_number x (notes side h)) kind body) payload ∷ [])
+      ConnectionAsk side h (AskData x (Some kind) body)
+      (Sent (Some x) (ChannelExtendedData (peer_number x (notes side h)) kind body) payload ∷ [])
   adjust : {side : Side} {h : List Item} (x bytes : ℕ) (payload : List ℕ) →
-      ConnectionAsk side h (AskAdjust x bytes) (Sent (Some x) (ChannelWindowAdjust (peer_number x (notes side h)) bytes) payload ∷ [])
-  eof : {side : Side} {h : List Item} (x : ℕ) (payload : List ℕ) → ConnectionAsk side h (AskEof x) (Sent (Some x) (ChannelEof (peer_number x (notes side h))) payload ∷ [])
+      ConnectionAsk side h (AskAdjust x bytes)
+      (Sent (Some x) (ChannelWindowAdjust (peer_number x (notes side h)) bytes) payload ∷ [])
+  eof : {side : Side} {h : List Item} (x : ℕ) (payload : List ℕ) →
+      ConnectionAsk side h (AskEof x) (Sent (Some x) (ChannelEof (peer_number x (notes side h))) payload ∷ [])
   close : {side : Side} {h : List Item} (x : ℕ) (payload : List ℕ) →
       ConnectionAsk side h (AskClose x) (Sent (Some x) (ChannelClose (peer_number x (notes side h))) payload ∷ [])
   request : {side : Side} {h : List Item} (x : ℕ) (name : List ℕ) (want : Bool) (rest payload : List ℕ) →
-      ConnectionAsk side h (AskRequest x name want rest) (Sent (Some x) (ChannelRequest (peer_number x (notes side h)) name want rest) payload ∷ [])
+      ConnectionAsk side h (AskRequest x name want rest)
+      (Sent (Some x) (ChannelRequest (peer_number x (notes side h)) name want rest) payload ∷ [])
   reply_yes : {side : Side} {h : List Item} (x : ℕ) (payload : List ℕ) →
-      ConnectionAsk side h (AskReply x true) (Sent (Some x) (ChannelSuccess (peer_number x (notes side h))) payload ∷ [])
+      ConnectionAsk side h (AskReply x true)
+      (Sent (Some x) (ChannelSuccess (peer_number x (notes side h))) payload ∷ [])
   reply_no : {side : Side} {h : List Item} (x : ℕ) (payload : List ℕ) →
-      ConnectionAsk side h (AskReply x false) (Sent (Some x) (ChannelFailure (peer_number x (notes side h))) payload ∷ [])
+      ConnectionAsk side h (AskReply x false)
+      (Sent (Some x) (ChannelFailure (peer_number x (notes side h))) payload ∷ [])
   global : {side : Side} {h : List Item} (name : List ℕ) (want : Bool) (rest payload : List ℕ) →
       ConnectionAsk side h (AskGlobal name want rest) (Sent None (GlobalRequest name want rest) payload ∷ [])
-  global_yes : {side : Side} {h : List Item} (rest payload : List ℕ) → ConnectionAsk side h (AskGlobalReply true rest) (Sent None (RequestSuccess rest) payload ∷ [])
-  global_no : {side : Side} {h : List Item} (rest payload : List ℕ) → ConnectionAsk side h (AskGlobalReply false rest) (Sent None RequestFailure payload ∷ [])
+  global_yes : {side : Side} {h : List Item} (rest payload : List ℕ) →
+      ConnectionAsk side h (AskGlobalReply true rest) (Sent None (RequestSuccess rest) payload ∷ [])
+  global_no : {side : Side} {h : List Item} (rest payload : List ℕ) →
+      ConnectionAsk side h (AskGlobalReply false rest) (Sent None RequestFailure payload ∷ [])

@@ -1,13 +1,16 @@
--- What one end sent and received on channels, with KEXINIT and NEWKEYS sent, the newest first, and the notes that it makes.
+-- What one end sent and received on channels, with KEXINIT and NEWKEYS sent, the newest first, and the notes that it
+-- makes.
 -- An end is blocked from its KEXINIT to its NEWKEYS (RFC 4253 section 7.1): what it says then is owed.
-use Rattle.std.specs.Prelude.{ℕ, zero, suc, List, [], ◌∷◌, ◌++◌, Bool, true, false, cond, not, ◌&&◌, ◌||◌, nat_lt, ◌==◌, Option, Some, None}
+use Rattle.std.specs.Prelude.{ℕ, zero, suc, List, [], ◌∷◌, ◌++◌, Bool, true, false, cond, not, ◌&&◌, ◌||◌, nat_lt}
+use Rattle.std.specs.Prelude.{◌==◌, Option, Some, None}
 use Rattle.ssh_model.specs.Side.{Side}
 use Rattle.ssh_model.specs.Channels.Message.{Message, Message.Open, Message.OpenFailure, Message.Close}
 use Rattle.ssh_model.specs.Channels.Notes.{Note, Note.Said, Note.Took, Note.Refused, channel_at}
 use Rattle.ssh_model.specs.Channels.Numbers.{is_held, has_closed, peer_number}
 use Rattle.ssh_model.specs.Channels.Rules.{next_own, next_theirs}
 
--- A message with the local number of its channel; an OPEN that is refused for want of a place has none, its OPEN_FAILURE
+-- A message with the local number of its channel; an OPEN that is refused for want of a place has none, its
+-- OPEN_FAILURE
 -- neither.
 pub data Item : Type 0 where
   Sent : (number : Option ℕ) (message : Message) → Item
@@ -32,23 +35,29 @@ blocked (KexinitSent ∷ history) = true
 blocked (NewkeysSent ∷ history) = false
 blocked (_ ∷ history) = blocked history
 
--- the replies that a message makes due: OPEN_FAILURE for want of a place, and CLOSE unless it was said (RFC 4254 section 5.3)
+-- the replies that a message makes due: OPEN_FAILURE for want of a place, and CLOSE unless it was said (RFC 4254
+-- section 5.3)
 abbrev pub due : Option ℕ → Message → List Note → List Item
 due None (Open from window max_packet) notes = Sent None (OpenFailure from) ∷ []
-due (Some number) (Close to) notes = cond (has_closed number notes) [] (Sent (Some number) (Close (peer_number number notes)) ∷ [])
+due (Some number) (Close to) notes =
+    cond (has_closed number notes) [] (Sent (Some number) (Close (peer_number number notes)) ∷ [])
 due _ _ notes = []
 
 -- What is sent is said, but a reply was said when it fell due.
 abbrev pub note_sent : Side → Option ℕ → Message → List Note → List Note
 note_sent side None message notes = notes
-note_sent side (Some number) (Open from window max_packet) notes = Said number (next_own side notes) (Open from window max_packet) ∷ notes
-note_sent side (Some number) (Close to) notes = cond (has_closed number notes) notes (Said number (channel_at number notes) (Close to) ∷ notes)
+note_sent side (Some number) (Open from window max_packet) notes =
+    Said number (next_own side notes) (Open from window max_packet) ∷ notes
+note_sent side (Some number) (Close to) notes =
+    cond (has_closed number notes) notes (Said number (channel_at number notes) (Close to) ∷ notes)
 note_sent side (Some number) message notes = Said number (channel_at number notes) message ∷ notes
 
 abbrev pub note_received : Side → Option ℕ → Message → List Note → List Note
-note_received side None (Open from window max_packet) notes = Refused (next_theirs side notes) from window max_packet ∷ notes
+note_received side None (Open from window max_packet) notes =
+    Refused (next_theirs side notes) from window max_packet ∷ notes
 note_received side None message notes = notes
-note_received side (Some number) (Open from window max_packet) notes = Took number (next_theirs side notes) (Open from window max_packet) ∷ notes
+note_received side (Some number) (Open from window max_packet) notes =
+    Took number (next_theirs side notes) (Open from window max_packet) ∷ notes
 note_received side (Some number) (Close to) notes =
     let channel = channel_at number notes in
     cond (has_closed number notes) (Took number channel (Close to) ∷ notes)
@@ -77,7 +86,8 @@ is_owed number (_ ∷ replies) = is_owed number replies
 
 -- A new channel can have this number: local numbers are below 1,024 (own).
 abbrev pub is_free : Side → List Item → ℕ → Bool
-is_free side history number = nat_lt number 1024 && (not (is_held number (noted side history)) && not (is_owed number (owed side history)))
+is_free side history number =
+    nat_lt number 1024 && (not (is_held number (noted side history)) && not (is_owed number (owed side history)))
 
 -- There is a free number, so a place for a new channel. With none there are 1,024 channels.
 unfoldable pub some_free : Side → List Item → ℕ → Bool

@@ -1,9 +1,24 @@
--- The channels of an end as it keeps them, and what each message and each ask makes of them (RFC 4254): no history here. One
+-- The channels of an end as it keeps them, and what each message and each ask makes of them (RFC 4254): no history
+-- here. One
 -- clause or constructor is one row.
-use Rattle.std.specs.Prelude.{◌≡◌, ℕ, ◌+◌, ◌-◌, ◌<◌, ◌≤◌, Bool, true, false, not, ◌==◌, ◌&&◌, ◌||◌, nat_le, nat_lt, Option, Some, None, is_some, option_map, List, [], ◌∷◌, ◌++◌, length, replicate, count_by, slice_set}
-use Rattle.ssh_model.specs.Wire.Message.{Msg, Msg.GlobalRequest, Msg.RequestSuccess, Msg.RequestFailure, Msg.ChannelOpen, Msg.ChannelOpenConfirmation, Msg.ChannelOpenFailure, Msg.ChannelWindowAdjust, Msg.ChannelData, Msg.ChannelExtendedData, Msg.ChannelEof, Msg.ChannelClose, Msg.ChannelRequest, Msg.ChannelSuccess, Msg.ChannelFailure}
-use Rattle.ssh_model.specs.Sessions.Refusals.{Check, Check.RefusedWhere, Refusal, Refusal.Unexpected, Refusal.UnknownChannel, Refusal.WindowOverrun, Refusal.WindowTooLarge, Refusal.OwedFull, AskRefusal, AskRefusal.NoChannel, AskRefusal.NoRoom, AskRefusal.TooLong, AskRefusal.TableFull, AskRefusal.NothingOwed, AskRefusal.TooMuch}
-use Rattle.ssh_model.specs.Sessions.Items.{Ask, Ask.AskOpen, Ask.AskConfirm, Ask.AskRefuse, Ask.AskData, Ask.AskAdjust, Ask.AskEof, Ask.AskClose, Ask.AskRequest, Ask.AskReply, Ask.AskGlobal, Ask.AskGlobalReply, Fact, Fact.Global, Fact.GlobalDone, Fact.Opening, Fact.Opened, Fact.Confirmed, Fact.OpenFailed, Fact.GotData, Fact.Adjusted, Fact.Ended, Fact.Closed, Fact.Requested, Fact.RequestDone}
+use Rattle.std.specs.Prelude.{◌≡◌, ℕ, ◌+◌, ◌-◌, ◌<◌, ◌≤◌, Bool, true, false, not, ◌==◌, ◌&&◌, ◌||◌, nat_le, nat_lt}
+use Rattle.std.specs.Prelude.{Option, Some, None, is_some, option_map, List, [], ◌∷◌, ◌++◌, length, replicate}
+use Rattle.std.specs.Prelude.{count_by, slice_set}
+use Rattle.ssh_model.specs.Wire.Message.{Msg, Msg.GlobalRequest, Msg.RequestSuccess, Msg.RequestFailure}
+use Rattle.ssh_model.specs.Wire.Message.{Msg.ChannelOpen, Msg.ChannelOpenConfirmation, Msg.ChannelOpenFailure}
+use Rattle.ssh_model.specs.Wire.Message.{Msg.ChannelWindowAdjust, Msg.ChannelData, Msg.ChannelExtendedData}
+use Rattle.ssh_model.specs.Wire.Message.{Msg.ChannelEof, Msg.ChannelClose, Msg.ChannelRequest, Msg.ChannelSuccess}
+use Rattle.ssh_model.specs.Wire.Message.{Msg.ChannelFailure}
+use Rattle.ssh_model.specs.Sessions.Refusals.{Check, Check.RefusedWhere, Refusal, Refusal.Unexpected}
+use Rattle.ssh_model.specs.Sessions.Refusals.{Refusal.UnknownChannel, Refusal.WindowOverrun, Refusal.WindowTooLarge}
+use Rattle.ssh_model.specs.Sessions.Refusals.{Refusal.OwedFull, AskRefusal, AskRefusal.NoChannel, AskRefusal.NoRoom}
+use Rattle.ssh_model.specs.Sessions.Refusals.{AskRefusal.TooLong, AskRefusal.TableFull, AskRefusal.NothingOwed}
+use Rattle.ssh_model.specs.Sessions.Refusals.{AskRefusal.TooMuch}
+use Rattle.ssh_model.specs.Sessions.Items.{Ask, Ask.AskOpen, Ask.AskConfirm, Ask.AskRefuse, Ask.AskData}
+use Rattle.ssh_model.specs.Sessions.Items.{Ask.AskAdjust, Ask.AskEof, Ask.AskClose, Ask.AskRequest, Ask.AskReply}
+use Rattle.ssh_model.specs.Sessions.Items.{Ask.AskGlobal, Ask.AskGlobalReply, Fact, Fact.Global, Fact.GlobalDone}
+use Rattle.ssh_model.specs.Sessions.Items.{Fact.Opening, Fact.Opened, Fact.Confirmed, Fact.OpenFailed, Fact.GotData}
+use Rattle.ssh_model.specs.Sessions.Items.{Fact.Adjusted, Fact.Ended, Fact.Closed, Fact.Requested, Fact.RequestDone}
 use Rattle.ssh_model.specs.Sessions.Sizes.{string_size, is_too_long}
 use Rattle.ssh_model.specs.Channels.Places.{Place, at, is_at, is_open, is_opening, is_waiting_place}
 use Rattle.ssh_model.specs.Channels.Connection.{is_limit_reached, is_max_packet, common_checks}
@@ -117,41 +132,54 @@ abbrev pub data_checks : Option Place → (size : ℕ) → List (Check Refusal)
 data_checks place size =
     open_checks place
     (RefusedWhere (is_at (λ kept. kept.eof_taken) place) Unexpected
-    ∷ RefusedWhere (is_at (λ kept. nat_lt kept.receive_window size || nat_lt kept.max_packet_here size) place) WindowOverrun ∷ [])
+    ∷ RefusedWhere
+    (is_at (λ kept. nat_lt kept.receive_window size || nat_lt kept.max_packet_here size) place) WindowOverrun ∷ [])
 
 abbrev pub opening_checks : Option Place → List (Check Refusal)
-opening_checks place = RefusedWhere (not (is_some place)) UnknownChannel ∷ RefusedWhere (not (is_at is_opening place)) Unexpected ∷ []
+opening_checks place =
+    RefusedWhere (not (is_some place)) UnknownChannel ∷ RefusedWhere (not (is_at is_opening place)) Unexpected ∷ []
 
 abbrev pub reply_checks : Option Place → List (Check Refusal)
 reply_checks place = open_checks place (RefusedWhere (is_at (λ kept. kept.waiting_there == 0) place) Unexpected ∷ [])
 
 -- what a message is refused for, where the end is blocked or not
 abbrev pub take_checks : (is_blocked : Bool) → Channels → Msg → List (Check Refusal)
-take_checks is_blocked channels (GlobalRequest name want rest) = RefusedWhere (want && is_limit_reached channels.globals_here) OwedFull ∷ []
+take_checks is_blocked channels (GlobalRequest name want rest) =
+    RefusedWhere (want && is_limit_reached channels.globals_here) OwedFull ∷ []
 take_checks is_blocked channels (RequestSuccess rest) = RefusedWhere (channels.globals_there == 0) Unexpected ∷ []
 take_checks is_blocked channels RequestFailure = RefusedWhere (channels.globals_there == 0) Unexpected ∷ []
 take_checks is_blocked channels (ChannelOpen kind sender window max_packet rest) =
     RefusedWhere (is_table_full channels.places && is_queue_full is_blocked channels.owed) OwedFull ∷ []
-take_checks is_blocked channels (ChannelOpenConfirmation recipient sender window max_packet rest) = opening_checks (at channels.places recipient)
-take_checks is_blocked channels (ChannelOpenFailure recipient reason description language) = opening_checks (at channels.places recipient)
+take_checks is_blocked channels (ChannelOpenConfirmation recipient sender window max_packet rest) =
+    opening_checks (at channels.places recipient)
+take_checks is_blocked channels (ChannelOpenFailure recipient reason description language) =
+    opening_checks (at channels.places recipient)
 take_checks is_blocked channels (ChannelWindowAdjust recipient bytes) =
     open_checks (at channels.places recipient)
-    (RefusedWhere (is_at (λ kept. nat_lt 4294967295 (bytes + kept.send_window)) (at channels.places recipient)) WindowTooLarge ∷ [])
+    (RefusedWhere
+    (is_at (λ kept. nat_lt 4294967295 (bytes + kept.send_window)) (at channels.places recipient)) WindowTooLarge
+    ∷ [])
 take_checks is_blocked channels (ChannelData recipient body) = data_checks (at channels.places recipient) (length body)
-take_checks is_blocked channels (ChannelExtendedData recipient kind body) = data_checks (at channels.places recipient) (length body)
+take_checks is_blocked channels (ChannelExtendedData recipient kind body) =
+    data_checks (at channels.places recipient) (length body)
 take_checks is_blocked channels (ChannelEof recipient) =
-    open_checks (at channels.places recipient) (RefusedWhere (is_at (λ kept. kept.eof_taken) (at channels.places recipient)) Unexpected ∷ [])
+    open_checks (at channels.places recipient)
+    (RefusedWhere (is_at (λ kept. kept.eof_taken) (at channels.places recipient)) Unexpected ∷ [])
 take_checks is_blocked channels (ChannelClose recipient) =
     open_checks (at channels.places recipient)
-    (RefusedWhere (not (has_said_close (at channels.places recipient)) && is_queue_full is_blocked channels.owed) OwedFull ∷ [])
+    (RefusedWhere
+    (not (has_said_close (at channels.places recipient)) && is_queue_full is_blocked channels.owed) OwedFull ∷ [])
 take_checks is_blocked channels (ChannelRequest recipient name want rest) =
     open_checks (at channels.places recipient)
-    (RefusedWhere (want && is_at (λ kept. not kept.close_said && is_limit_reached kept.waiting_here) (at channels.places recipient)) OwedFull ∷ [])
+    (RefusedWhere
+    (want && is_at (λ kept. not kept.close_said && is_limit_reached kept.waiting_here)
+    (at channels.places recipient)) OwedFull ∷ [])
 take_checks is_blocked channels (ChannelSuccess recipient) = reply_checks (at channels.places recipient)
 take_checks is_blocked channels (ChannelFailure recipient) = reply_checks (at channels.places recipient)
 take_checks is_blocked channels _ = []
 
--- What is answered to a taken message: the local number that stands beside it, the reply that is sent at once, and what is told.
+-- What is answered to a taken message: the local number that stands beside it, the reply that is sent at once, and
+-- what is told.
 pub record Taken : Type 0 where
   pub channel : Option ℕ
   pub reply : Option DueReply
@@ -176,7 +204,8 @@ close_reply false is_blocked number to = sent_at_once is_blocked (AnswersClose n
 
 abbrev pub close_taken : (is_said is_blocked : Bool) → (number to : ℕ) → Channels → Channels
 close_taken false true number to channels =
-    owe (AnswersClose number to) (change number (λ kept. record kept { close_said = true; close_owed = true; close_taken = true }) channels)
+    owe (AnswersClose number to)
+    (change number (λ kept. record kept { close_said = true; close_owed = true; close_taken = true }) channels)
 close_taken is_said is_blocked number to channels = put number None channels
 
 pub data Takes (is_blocked : Bool) (channels : Channels) : Msg → Taken → Channels → Type 0 where
@@ -185,47 +214,68 @@ pub data Takes (is_blocked : Bool) (channels : Channels) : Msg → Taken → Cha
       Takes is_blocked channels (GlobalRequest name want rest) (tells None (Global name want rest))
       (record channels { globals_here = count_where want channels.globals_here })
   request_success : (rest : List ℕ) →
-      Takes is_blocked channels (RequestSuccess rest) (tells None (GlobalDone true rest)) (record channels { globals_there = channels.globals_there - 1 })
+      Takes is_blocked channels (RequestSuccess rest) (tells None (GlobalDone true rest))
+      (record channels { globals_there = channels.globals_there - 1 })
   request_failure :
-      Takes is_blocked channels RequestFailure (tells None (GlobalDone false [])) (record channels { globals_there = channels.globals_there - 1 })
+      Takes is_blocked channels RequestFailure (tells None (GlobalDone false []))
+      (record channels { globals_there = channels.globals_there - 1 })
   -- RFC 4254 section 5.1: at any number that is not used; where there is none it is refused and not told
-  open_taken : (number : ℕ) (kind : List ℕ) (sender window max_packet : ℕ) (rest : List ℕ) → IsUnused channels.places number →
-      Takes is_blocked channels (ChannelOpen kind sender window max_packet rest) (tells (Some number) (Opened number kind window max_packet rest))
+  open_taken : (number : ℕ) (kind : List ℕ) (sender window max_packet : ℕ) (rest : List ℕ) →
+      IsUnused channels.places number →
+      Takes is_blocked channels (ChannelOpen kind sender window max_packet rest)
+      (tells (Some number) (Opened number kind window max_packet rest))
       (put number (Some (waiting_place sender window max_packet)) channels)
   open_refused : (kind : List ℕ) (sender window max_packet : ℕ) (rest : List ℕ) → is_table_full channels.places ≡ true →
       Takes is_blocked channels (ChannelOpen kind sender window max_packet rest)
-      (record { channel = None; reply = sent_at_once is_blocked (RefusesOpen sender); fact = None }) (owed_where is_blocked (RefusesOpen sender) channels)
+      (record { channel = None; reply = sent_at_once is_blocked (RefusesOpen sender); fact = None })
+      (owed_where is_blocked (RefusesOpen sender) channels)
   confirmation : (recipient sender window max_packet : ℕ) (rest : List ℕ) →
-      Takes is_blocked channels (ChannelOpenConfirmation recipient sender window max_packet rest) (tells (Some recipient) (Confirmed recipient window max_packet rest))
-      (change recipient (λ kept. record kept { is_answered = true; peer_number = sender; send_window = window; max_packet_there = max_packet }) channels)
+      Takes is_blocked channels (ChannelOpenConfirmation recipient sender window max_packet rest)
+      (tells (Some recipient) (Confirmed recipient window max_packet rest))
+      (change recipient
+      (λ kept. record kept {
+        is_answered = true;
+        peer_number = sender;
+        send_window = window;
+        max_packet_there = max_packet;
+      }) channels)
   failure : (recipient reason : ℕ) (description language : List ℕ) →
-      Takes is_blocked channels (ChannelOpenFailure recipient reason description language) (tells (Some recipient) (OpenFailed recipient reason description))
+      Takes is_blocked channels (ChannelOpenFailure recipient reason description language)
+      (tells (Some recipient) (OpenFailed recipient reason description))
       (put recipient None channels)
   -- RFC 4254 section 5.2
   adjust : (recipient bytes : ℕ) →
-      Takes is_blocked channels (ChannelWindowAdjust recipient bytes) (tells (Some recipient) (Adjusted recipient bytes))
+      Takes is_blocked channels (ChannelWindowAdjust recipient bytes)
+      (tells (Some recipient) (Adjusted recipient bytes))
       (change recipient (λ kept. record kept { send_window = kept.send_window + bytes }) channels)
   got_data : (recipient : ℕ) (body : List ℕ) →
       Takes is_blocked channels (ChannelData recipient body) (tells (Some recipient) (GotData recipient None body))
       (change recipient (λ kept. record kept { receive_window = kept.receive_window - length body }) channels)
   got_extended : (recipient kind : ℕ) (body : List ℕ) →
-      Takes is_blocked channels (ChannelExtendedData recipient kind body) (tells (Some recipient) (GotData recipient (Some kind) body))
+      Takes is_blocked channels (ChannelExtendedData recipient kind body)
+      (tells (Some recipient) (GotData recipient (Some kind) body))
       (change recipient (λ kept. record kept { receive_window = kept.receive_window - length body }) channels)
   -- RFC 4254 section 5.3
   eof : (recipient : ℕ) →
-      Takes is_blocked channels (ChannelEof recipient) (tells (Some recipient) (Ended recipient)) (change recipient (λ kept. record kept { eof_taken = true }) channels)
+      Takes is_blocked channels (ChannelEof recipient) (tells (Some recipient) (Ended recipient))
+      (change recipient (λ kept. record kept { eof_taken = true }) channels)
   close : (recipient : ℕ) →
       Takes is_blocked channels (ChannelClose recipient)
       (record {
         channel = Some recipient;
-        reply = close_reply (has_said_close (at channels.places recipient)) is_blocked recipient (peer_of (at channels.places recipient));
+        reply =
+            close_reply (has_said_close (at channels.places recipient)) is_blocked recipient
+            (peer_of (at channels.places recipient));
         fact = Some (Closed recipient);
       })
-      (close_taken (has_said_close (at channels.places recipient)) is_blocked recipient (peer_of (at channels.places recipient)) channels)
+      (close_taken (has_said_close (at channels.places recipient)) is_blocked recipient
+      (peer_of (at channels.places recipient)) channels)
   -- RFC 4254 section 5.4: a request that comes after this end's CLOSE does not wait
   request : (recipient : ℕ) (name : List ℕ) (want : Bool) (rest : List ℕ) →
-      Takes is_blocked channels (ChannelRequest recipient name want rest) (tells (Some recipient) (Requested recipient name want rest))
-      (change recipient (λ kept. record kept { waiting_here = count_where (want && not kept.close_said) kept.waiting_here }) channels)
+      Takes is_blocked channels (ChannelRequest recipient name want rest)
+      (tells (Some recipient) (Requested recipient name want rest))
+      (change recipient
+      (λ kept. record kept { waiting_here = count_where (want && not kept.close_said) kept.waiting_here }) channels)
   success : (recipient : ℕ) →
       Takes is_blocked channels (ChannelSuccess recipient) (tells (Some recipient) (RequestDone recipient true))
       (change recipient (λ kept. record kept { waiting_there = kept.waiting_there - 1 }) channels)
@@ -242,17 +292,22 @@ freed_by (AnswersClose number to) channels = put number None channels
 
 -- The oldest owed reply is given, or there is none.
 pub data Unblocks (channels : Channels) : Option DueReply → Channels → Type 0 where
-  oldest : (reply : DueReply) (owed : List DueReply) → channels.owed ≡ reply ∷ owed → Unblocks channels (Some reply) (freed_by reply (record channels { owed = owed }))
+  oldest : (reply : DueReply) (owed : List DueReply) → channels.owed ≡ reply ∷ owed →
+      Unblocks channels (Some reply) (freed_by reply (record channels { owed = owed }))
   nothing : channels.owed ≡ [] → Unblocks channels None channels
 
 -- ---- asks
 
 -- on a channel that is confirmed, where another check may hold
-abbrev pub confirmed_checks : (is_blocked is_due busy : Bool) → Option Place → List (Check AskRefusal) → List (Check AskRefusal)
-confirmed_checks is_blocked is_due busy place checks = common_checks is_blocked is_due busy (RefusedWhere (not (is_at is_open place)) NoChannel ∷ checks)
+abbrev pub confirmed_checks : (is_blocked is_due busy : Bool) → Option Place → List (Check AskRefusal) →
+    List (Check AskRefusal)
+confirmed_checks is_blocked is_due busy place checks =
+    common_checks is_blocked is_due busy (RefusedWhere (not (is_at is_open place)) NoChannel ∷ checks)
 
-abbrev pub waiting_checks : (is_blocked is_due : Bool) → Option Place → List (Check AskRefusal) → List (Check AskRefusal)
-waiting_checks is_blocked is_due place checks = common_checks is_blocked is_due false (RefusedWhere (not (is_at is_waiting_place place)) NoChannel ∷ checks)
+abbrev pub waiting_checks : (is_blocked is_due : Bool) → Option Place → List (Check AskRefusal) →
+    List (Check AskRefusal)
+waiting_checks is_blocked is_due place checks =
+    common_checks is_blocked is_due false (RefusedWhere (not (is_at is_waiting_place place)) NoChannel ∷ checks)
 
 abbrev pub is_ended : Place → Bool
 is_ended kept = kept.eof_sent || kept.close_said
@@ -266,31 +321,43 @@ send_checks is_blocked is_due channels (AskOpen kind window max_packet rest) =
 send_checks is_blocked is_due channels (AskConfirm number window max_packet rest) =
     waiting_checks is_blocked is_due (at channels.places number)
     (RefusedWhere (not (is_max_packet max_packet)) TooMuch ∷ RefusedWhere (is_too_long (17 + length rest)) TooLong ∷ [])
-send_checks is_blocked is_due channels (AskRefuse number reason) = waiting_checks is_blocked is_due (at channels.places number) []
+send_checks is_blocked is_due channels (AskRefuse number reason) =
+    waiting_checks is_blocked is_due (at channels.places number) []
 send_checks is_blocked is_due channels (AskData number kind body) =
     confirmed_checks is_blocked is_due false (at channels.places number)
     (RefusedWhere (is_at is_ended (at channels.places number)) AskRefusal.Ended
-    ∷ RefusedWhere (nat_lt 32768 (length body) || is_at (λ kept. nat_lt kept.max_packet_there (length body)) (at channels.places number)) TooLong
+    ∷ RefusedWhere
+    (nat_lt 32768 (length body)
+    || is_at (λ kept. nat_lt kept.max_packet_there (length body)) (at channels.places number)) TooLong
     ∷ RefusedWhere (is_at (λ kept. nat_lt kept.send_window (length body)) (at channels.places number)) NoRoom ∷ [])
 send_checks is_blocked is_due channels (AskAdjust number bytes) =
     confirmed_checks is_blocked is_due false (at channels.places number)
     (RefusedWhere (has_said_close (at channels.places number)) AskRefusal.Ended
-    ∷ RefusedWhere (is_at (λ kept. nat_lt 4294967295 (bytes + kept.receive_window)) (at channels.places number)) TooMuch ∷ [])
+    ∷ RefusedWhere
+    (is_at (λ kept. nat_lt 4294967295 (bytes + kept.receive_window)) (at channels.places number)) TooMuch ∷ [])
 send_checks is_blocked is_due channels (AskEof number) =
-    confirmed_checks is_blocked is_due false (at channels.places number) (RefusedWhere (is_at is_ended (at channels.places number)) AskRefusal.Ended ∷ [])
+    confirmed_checks is_blocked is_due false (at channels.places number)
+    (RefusedWhere (is_at is_ended (at channels.places number)) AskRefusal.Ended ∷ [])
 send_checks is_blocked is_due channels (AskClose number) =
-    confirmed_checks is_blocked is_due false (at channels.places number) (RefusedWhere (has_said_close (at channels.places number)) AskRefusal.Ended ∷ [])
+    confirmed_checks is_blocked is_due false (at channels.places number)
+    (RefusedWhere (has_said_close (at channels.places number)) AskRefusal.Ended ∷ [])
 send_checks is_blocked is_due channels (AskRequest number name want rest) =
-    confirmed_checks is_blocked is_due (want && is_at (λ kept. is_limit_reached kept.waiting_there) (at channels.places number)) (at channels.places number)
-    (RefusedWhere (has_said_close (at channels.places number)) AskRefusal.Ended ∷ RefusedWhere (is_too_long (6 + string_size name + length rest)) TooLong ∷ [])
+    confirmed_checks is_blocked is_due
+    (want && is_at (λ kept. is_limit_reached kept.waiting_there) (at channels.places number))
+    (at channels.places number)
+    (RefusedWhere (has_said_close (at channels.places number)) AskRefusal.Ended
+    ∷ RefusedWhere (is_too_long (6 + string_size name + length rest)) TooLong ∷ [])
 send_checks is_blocked is_due channels (AskReply number answer) =
     confirmed_checks is_blocked is_due false (at channels.places number)
     (RefusedWhere (has_said_close (at channels.places number)) AskRefusal.Ended
     ∷ RefusedWhere (is_at (λ kept. kept.waiting_here == 0) (at channels.places number)) NothingOwed ∷ [])
 send_checks is_blocked is_due channels (AskGlobal name want rest) =
-    common_checks is_blocked is_due (want && is_limit_reached channels.globals_there) (RefusedWhere (is_too_long (2 + string_size name + length rest)) TooLong ∷ [])
+    common_checks is_blocked is_due (want && is_limit_reached channels.globals_there)
+    (RefusedWhere (is_too_long (2 + string_size name + length rest)) TooLong ∷ [])
 send_checks is_blocked is_due channels (AskGlobalReply true rest) =
-    common_checks is_blocked is_due false (RefusedWhere (channels.globals_here == 0) NothingOwed ∷ RefusedWhere (is_too_long (1 + length rest)) TooLong ∷ [])
+    common_checks is_blocked is_due false
+    (RefusedWhere (channels.globals_here == 0) NothingOwed ∷ RefusedWhere (is_too_long (1 + length rest)) TooLong
+    ∷ [])
 send_checks is_blocked is_due channels (AskGlobalReply false rest) =
     common_checks is_blocked is_due false (RefusedWhere (channels.globals_here == 0) NothingOwed ∷ [])
 send_checks is_blocked is_due channels _ = []
@@ -308,31 +375,45 @@ abbrev pub sends_globally : Msg → Sent
 sends_globally message = record { channel = None; message = message; fact = None }
 
 pub data Sends (channels : Channels) : Ask → Sent → Channels → Type 0 where
-  opens : (number : ℕ) (kind : List ℕ) (window max_packet : ℕ) (rest : List ℕ) → IsUnused channels.places number → window ≤ 4294967295 →
+  opens : (number : ℕ) (kind : List ℕ) (window max_packet : ℕ) (rest : List ℕ) → IsUnused channels.places number →
+      window ≤ 4294967295 →
       Sends channels (AskOpen kind window max_packet rest)
-      (record { channel = Some number; message = ChannelOpen kind number window max_packet rest; fact = Some (Opening number) })
+      (record {
+        channel = Some number;
+        message = ChannelOpen kind number window max_packet rest;
+        fact = Some (Opening number);
+      })
       (put number (Some (opening_place window max_packet)) channels)
   confirm : (number window max_packet : ℕ) (rest : List ℕ) → window ≤ 4294967295 →
       Sends channels (AskConfirm number window max_packet rest)
       (sends_on number (ChannelOpenConfirmation (peer_of (at channels.places number)) number window max_packet rest))
-      (change number (λ kept. record kept { is_answered = true; receive_window = window; max_packet_here = max_packet }) channels)
+      (change number
+      (λ kept. record kept { is_answered = true; receive_window = window; max_packet_here = max_packet }) channels)
   refuse : (number reason : ℕ) →
-      Sends channels (AskRefuse number reason) (sends_on number (ChannelOpenFailure (peer_of (at channels.places number)) reason [] [])) (put number None channels)
+      Sends channels (AskRefuse number reason)
+      (sends_on number (ChannelOpenFailure (peer_of (at channels.places number)) reason [] []))
+      (put number None channels)
   gives_data : (number : ℕ) (body : List ℕ) →
-      Sends channels (AskData number None body) (sends_on number (ChannelData (peer_of (at channels.places number)) body))
+      Sends channels (AskData number None body)
+      (sends_on number (ChannelData (peer_of (at channels.places number)) body))
       (change number (λ kept. record kept { send_window = kept.send_window - length body }) channels)
   gives_extended : (number kind : ℕ) (body : List ℕ) →
-      Sends channels (AskData number (Some kind) body) (sends_on number (ChannelExtendedData (peer_of (at channels.places number)) kind body))
+      Sends channels (AskData number (Some kind) body)
+      (sends_on number (ChannelExtendedData (peer_of (at channels.places number)) kind body))
       (change number (λ kept. record kept { send_window = kept.send_window - length body }) channels)
   adjust : (number bytes : ℕ) →
-      Sends channels (AskAdjust number bytes) (sends_on number (ChannelWindowAdjust (peer_of (at channels.places number)) bytes))
+      Sends channels (AskAdjust number bytes)
+      (sends_on number (ChannelWindowAdjust (peer_of (at channels.places number)) bytes))
       (change number (λ kept. record kept { receive_window = kept.receive_window + bytes }) channels)
   eof : (number : ℕ) →
-      Sends channels (AskEof number) (sends_on number (ChannelEof (peer_of (at channels.places number)))) (change number (λ kept. record kept { eof_sent = true }) channels)
+      Sends channels (AskEof number) (sends_on number (ChannelEof (peer_of (at channels.places number))))
+      (change number (λ kept. record kept { eof_sent = true }) channels)
   close : (number : ℕ) →
-      Sends channels (AskClose number) (sends_on number (ChannelClose (peer_of (at channels.places number)))) (change number (λ kept. record kept { close_said = true }) channels)
+      Sends channels (AskClose number) (sends_on number (ChannelClose (peer_of (at channels.places number))))
+      (change number (λ kept. record kept { close_said = true }) channels)
   request : (number : ℕ) (name : List ℕ) (want : Bool) (rest : List ℕ) →
-      Sends channels (AskRequest number name want rest) (sends_on number (ChannelRequest (peer_of (at channels.places number)) name want rest))
+      Sends channels (AskRequest number name want rest)
+      (sends_on number (ChannelRequest (peer_of (at channels.places number)) name want rest))
       (change number (λ kept. record kept { waiting_there = count_where want kept.waiting_there }) channels)
   reply_yes : (number : ℕ) →
       Sends channels (AskReply number true) (sends_on number (ChannelSuccess (peer_of (at channels.places number))))
@@ -344,6 +425,8 @@ pub data Sends (channels : Channels) : Ask → Sent → Channels → Type 0 wher
       Sends channels (AskGlobal name want rest) (sends_globally (GlobalRequest name want rest))
       (record channels { globals_there = count_where want channels.globals_there })
   global_yes : (rest : List ℕ) →
-      Sends channels (AskGlobalReply true rest) (sends_globally (RequestSuccess rest)) (record channels { globals_here = channels.globals_here - 1 })
+      Sends channels (AskGlobalReply true rest) (sends_globally (RequestSuccess rest))
+      (record channels { globals_here = channels.globals_here - 1 })
   global_no : (rest : List ℕ) →
-      Sends channels (AskGlobalReply false rest) (sends_globally RequestFailure) (record channels { globals_here = channels.globals_here - 1 })
+      Sends channels (AskGlobalReply false rest) (sends_globally RequestFailure)
+      (record channels { globals_here = channels.globals_here - 1 })

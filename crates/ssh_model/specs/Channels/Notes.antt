@@ -1,7 +1,8 @@
 -- What one end said and took on channels, the newest first, and what can be read off it (own).
 use Rattle.std.specs.Prelude.{◌≡◌, ℕ, suc, ◌-◌, List, [], ◌∷◌, ◌⊎◌, true, false, cond, ◌==◌}
 use Rattle.ssh_model.specs.Side.{Side.Client}
-use Rattle.ssh_model.specs.Channels.Message.{Message, Message.Open, Message.OpenFailure, Message.Request, Message.Reply, Channel, Channel.Opened, same, stage, closed, over}
+use Rattle.ssh_model.specs.Channels.Message.{Message, Message.Open, Message.OpenFailure, Message.Request}
+use Rattle.ssh_model.specs.Channels.Message.{Message.Reply, Channel, Channel.Opened, same, stage, closed, over}
 
 -- a message with its channel
 pub data Line : Type 0 where
@@ -58,8 +59,10 @@ OpenedAt number channel (_ ∷ notes) = OpenedAt number channel notes
 -- the channel that was opened last at this number
 abbrev pub channel_at : ℕ → List Note → Channel
 channel_at number [] = Opened Client 0
-channel_at number (Said at channel (Open from window max_packet) ∷ notes) = cond (number == at) channel (channel_at number notes)
-channel_at number (Took at channel (Open from window max_packet) ∷ notes) = cond (number == at) channel (channel_at number notes)
+channel_at number (Said at channel (Open from window max_packet) ∷ notes) =
+    cond (number == at) channel (channel_at number notes)
+channel_at number (Took at channel (Open from window max_packet) ∷ notes) =
+    cond (number == at) channel (channel_at number notes)
 channel_at number (_ ∷ notes) = channel_at number notes
 
 -- the channel was opened at this number and is not over
@@ -69,7 +72,8 @@ pub record At (number : ℕ) (channel : Channel) (notes : List Note) : Type 0 wh
 
 -- all channels that were opened at this number are over
 abbrev pub Free : ℕ → List Note → Type 0
-Free number notes = (channel : Channel) → OpenedAt number channel notes → over (said channel notes) (took channel notes) ≡ true
+Free number notes =
+    (channel : Channel) → OpenedAt number channel notes → over (said channel notes) (took channel notes) ≡ true
 
 -- ---- requests that wait for a reply (RFC 4254 section 5.4)
 

@@ -1,7 +1,10 @@
 -- What the notes of an end tell of a local number: what its channel is at, as an end computes it (own).
-use Rattle.std.specs.Prelude.{ℕ, ◌+◌, ◌-◌, List, [], ◌∷◌, length, Bool, true, false, cond, not, ◌&&◌, ◌||◌, nat_lt, ◌==◌}
+use Rattle.std.specs.Prelude.{ℕ, ◌+◌, ◌-◌, List, [], ◌∷◌, length, Bool, true, false, cond, not, ◌&&◌, ◌||◌, nat_lt}
+use Rattle.std.specs.Prelude.{◌==◌}
 use Rattle.ssh_model.specs.Side.{Side}
-use Rattle.ssh_model.specs.Channels.Message.{Message, Message.Open, Message.OpenConfirmation, Message.OpenFailure, Message.WindowAdjust, Message.Data, mine, recipient, window, spent, sender, max_packet, stage, closed, ended, begun, over}
+use Rattle.ssh_model.specs.Channels.Message.{Message, Message.Open, Message.OpenConfirmation, Message.OpenFailure}
+use Rattle.ssh_model.specs.Channels.Message.{Message.WindowAdjust, Message.Data, mine, recipient, window, spent}
+use Rattle.ssh_model.specs.Channels.Message.{sender, max_packet, stage, closed, ended, begun, over}
 use Rattle.ssh_model.specs.Channels.Notes.{Note, Note.Said, Note.Took, said, took, channel_at, waits_here, waits_there}
 
 -- the largest window: 2^32 - 1 (RFC 4254 section 5.2)
@@ -22,8 +25,10 @@ is_empty _ = false
 -- an OPEN was said or taken at this number
 abbrev pub has_open : ℕ → List Note → Bool
 has_open number [] = false
-has_open number (Said at channel (Open from window max_packet) ∷ notes) = cond (number == at) true (has_open number notes)
-has_open number (Took at channel (Open from window max_packet) ∷ notes) = cond (number == at) true (has_open number notes)
+has_open number (Said at channel (Open from window max_packet) ∷ notes) =
+    cond (number == at) true (has_open number notes)
+has_open number (Took at channel (Open from window max_packet) ∷ notes) =
+    cond (number == at) true (has_open number notes)
 has_open number (_ ∷ notes) = has_open number notes
 
 -- A channel has this number, and it is not over.
@@ -33,17 +38,22 @@ is_held number notes = has_open number notes && not (over (said_at number notes)
 -- Both ends began, and the peer did not close (RFC 4254 sections 5.1 and 5.3).
 abbrev pub is_confirmed : ℕ → List Note → Bool
 is_confirmed number notes =
-    is_held number notes && (begun (said_at number notes) && (begun (took_at number notes) && not (closed (stage (took_at number notes)))))
+    is_held number notes
+    && (begun (said_at number notes)
+    && (begun (took_at number notes) && not (closed (stage (took_at number notes)))))
 
 -- This end opened the channel, and the peer did not answer.
 abbrev pub is_offered : Side → ℕ → List Note → Bool
 is_offered side number notes =
-    is_held number notes && (mine side (channel_at number notes) && (begun (said_at number notes) && is_empty (took_at number notes)))
+    is_held number notes
+    && (mine side (channel_at number notes) && (begun (said_at number notes) && is_empty (took_at number notes)))
 
 -- The peer opened the channel, and this end did not answer.
 abbrev pub is_waiting : Side → ℕ → List Note → Bool
 is_waiting side number notes =
-    is_held number notes && (not (mine side (channel_at number notes)) && (begun (took_at number notes) && is_empty (said_at number notes)))
+    is_held number notes
+    && (not (mine side (channel_at number notes))
+    && (begun (took_at number notes) && is_empty (said_at number notes)))
 
 -- this end said EOF or CLOSE, or CLOSE; the peer said EOF or CLOSE (RFC 4254 section 5.3)
 abbrev pub has_ended : ℕ → List Note → Bool
@@ -91,7 +101,8 @@ is_unknown_channel message notes = not (is_confirmed (recipient message) notes)
 
 -- data over the window left, or larger than this end takes
 abbrev pub is_window_overrun : Message → List Note → Bool
-is_window_overrun (Data to kind body) notes = nat_lt (receive_window to notes) (length body) || nat_lt (max_packet_here to notes) (length body)
+is_window_overrun (Data to kind body) notes =
+    nat_lt (receive_window to notes) (length body) || nat_lt (max_packet_here to notes) (length body)
 is_window_overrun message notes = false
 
 -- The window left would pass the largest.

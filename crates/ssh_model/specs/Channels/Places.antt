@@ -1,9 +1,13 @@
--- What an end keeps of each local number in use, and what it shows of it, read off its notes and the replies that it owes (own).
-use Rattle.std.specs.Prelude.{◌≡◌, ℕ, zero, suc, ◌-◌, List, [], ◌∷◌, Bool, true, false, cond, not, ◌&&◌, ◌||◌, Option, Some, None, slice_index_or}
+-- What an end keeps of each local number in use, and what it shows of it, read off its notes and the replies that it
+-- owes (own).
+use Rattle.std.specs.Prelude.{◌≡◌, ℕ, zero, suc, ◌-◌, List, [], ◌∷◌, Bool, true, false, cond, not, ◌&&◌, ◌||◌, Option}
+use Rattle.std.specs.Prelude.{Some, None, slice_index_or}
 use Rattle.ssh_model.specs.Side.{Side}
-use Rattle.ssh_model.specs.Channels.Message.{Message, Message.OpenFailure, Message.Close, mine, window, spent, sender, max_packet, has_eof, stage, closed, begun}
+use Rattle.ssh_model.specs.Channels.Message.{Message, Message.OpenFailure, Message.Close, mine, window, spent, sender}
+use Rattle.ssh_model.specs.Channels.Message.{max_packet, has_eof, stage, closed, begun}
 use Rattle.ssh_model.specs.Channels.Notes.{Note, channel_at}
-use Rattle.ssh_model.specs.Channels.Numbers.{said_at, took_at, has_open, is_held, is_confirmed, is_offered, is_waiting, has_closed, send_window, waiting_here, waiting_there}
+use Rattle.ssh_model.specs.Channels.Numbers.{said_at, took_at, has_open, is_held, is_confirmed, is_offered}
+use Rattle.ssh_model.specs.Channels.Numbers.{is_waiting, has_closed, send_window, waiting_here, waiting_there}
 use Rattle.ssh_model.specs.Channels.History.{Item, Item.Sent, is_owed}
 
 -- What an end keeps of a channel (RFC 4254 section 5).
@@ -50,7 +54,8 @@ place_of own said took here there = record {
 
 unfoldable pub place_at : Side → ℕ → List Note → Place
 place_at side number notes =
-    place_of (mine side (channel_at number notes)) (said_at number notes) (took_at number notes) (waiting_here number notes) (waiting_there number notes)
+    place_of (mine side (channel_at number notes)) (said_at number notes) (took_at number notes)
+    (waiting_here number notes) (waiting_there number notes)
 
 -- A number is in use while it is held, and while a CLOSE is owed at it.
 abbrev pub in_use : List Note → List Item → ℕ → Bool
@@ -75,7 +80,8 @@ pub record IsOver (number : ℕ) (notes : List Note) : Type 0 where
 abbrev pub AreOwed : List Item → List Note → Type 0
 AreOwed [] notes = Unit {0}
 AreOwed (Sent None (OpenFailure to) ∷ owed) notes = AreOwed owed notes
-AreOwed (Sent (Some number) (Close to) ∷ owed) notes = IsOver number notes × ((is_owed number owed ≡ false) × AreOwed owed notes)
+AreOwed (Sent (Some number) (Close to) ∷ owed) notes =
+    IsOver number notes × ((is_owed number owed ≡ false) × AreOwed owed notes)
 AreOwed _ notes = ⊥
 
 -- ---- what an end shows of a number

@@ -2,8 +2,11 @@
 use Rattle.std.specs.Prelude.{◌≡◌, ℕ, ◌+◌, ◌≤◌, List, [], ◌∷◌, map, true, false}
 use Rattle.ssh_model.specs.Side.{Side, peer}
 use Rattle.ssh_model.specs.Lists.{IsOlder}
-use Rattle.ssh_model.specs.Channels.Message.{Message, Message.Open, Channel, Channel.Opened, mine, is_open, ToIs, FromIs, size, gives, window, spent, sender, max_packet, stage, begun, MayFollow}
-use Rattle.ssh_model.specs.Channels.Notes.{payload, Note, Note.Said, Note.Took, Note.Refused, said_all, took_all, said, took, opens, At, Free}
+use Rattle.ssh_model.specs.Channels.Message.{Message, Message.Open, Channel, Channel.Opened, mine, is_open, ToIs}
+use Rattle.ssh_model.specs.Channels.Message.{FromIs, size, gives, window, spent, sender, max_packet, stage, begun}
+use Rattle.ssh_model.specs.Channels.Message.{MayFollow}
+use Rattle.ssh_model.specs.Channels.Notes.{payload, Note, Note.Said, Note.Took, Note.Refused, said_all, took_all}
+use Rattle.ssh_model.specs.Channels.Notes.{said, took, opens, At, Free}
 use Rattle.ssh_model.specs.Channels.Numbers.{largest_window}
 
 -- The message is the next that this end takes of what the other said.
@@ -18,7 +21,8 @@ pub record Says (side : Side) (notes : List Note) (number : ℕ) (channel : Chan
   pub heard : begun (took channel notes) ≡ true
   pub to : ToIs (sender (took channel notes)) message
   pub from : FromIs number message
-  -- RFC 4254 section 5.2: data within the window and the size that the peer takes, and a window that stays within 2^32 - 1
+  -- RFC 4254 section 5.2: data within the window and the size that the peer takes, and a window that stays within
+  -- 2^32 - 1
   pub fits : size message + spent (said channel notes) ≤ window (took channel notes)
   pub small : size message ≤ max_packet (took channel notes)
   pub bounded : gives message + window (said channel notes) ≤ largest_window + spent (took channel notes)
@@ -43,11 +47,13 @@ next_theirs side notes = Opened (peer side) (opens (took_all notes))
 -- the runs of one end, whatever comes
 pub data EndRun : Side → List Note → Type 0 where
   start : {side : Side} → EndRun side []
-  opening : {side : Side} {notes : List Note} (number window max_packet : ℕ) → EndRun side notes → Free number notes → window ≤ largest_window →
+  opening : {side : Side} {notes : List Note} (number window max_packet : ℕ) → EndRun side notes → Free number notes →
+      window ≤ largest_window →
       EndRun side (Said number (next_own side notes) (Open number window max_packet) ∷ notes)
   saying : {side : Side} {notes : List Note} (number : ℕ) (channel : Channel) (message : Message) → EndRun side notes →
       Says side notes number channel message → EndRun side (Said number channel message ∷ notes)
-  take_open : {side : Side} {notes : List Note} (number from window max_packet : ℕ) → EndRun side notes → Free number notes →
+  take_open : {side : Side} {notes : List Note} (number from window max_packet : ℕ) → EndRun side notes →
+      Free number notes →
       EndRun side (Took number (next_theirs side notes) (Open from window max_packet) ∷ notes)
   refuse_open : {side : Side} {notes : List Note} (from window max_packet : ℕ) → EndRun side notes →
       EndRun side (Refused (next_theirs side notes) from window max_packet ∷ notes)
@@ -58,13 +64,21 @@ pub data EndRun : Side → List Note → Type 0 where
 pub data Run : Side → List Note → List Note → Type 0 where
   start : {side : Side} → Run side [] []
   swap : {side : Side} {notes others : List Note} → Run side notes others → Run (peer side) others notes
-  opening : {side : Side} {notes others : List Note} (number window max_packet : ℕ) → Run side notes others → Free number notes →
-      window ≤ largest_window → Run side (Said number (next_own side notes) (Open number window max_packet) ∷ notes) others
-  saying : {side : Side} {notes others : List Note} (number : ℕ) (channel : Channel) (message : Message) → Run side notes others →
+  opening : {side : Side} {notes others : List Note} (number window max_packet : ℕ) → Run side notes others →
+      Free number notes →
+      window ≤ largest_window →
+      Run side (Said number (next_own side notes) (Open number window max_packet) ∷ notes) others
+  saying : {side : Side} {notes others : List Note} (number : ℕ) (channel : Channel) (message : Message) →
+      Run side notes others →
       Says side notes number channel message → Run side (Said number channel message ∷ notes) others
-  take_open : {side : Side} {notes others : List Note} (number from window max_packet : ℕ) → Run side notes others → Free number notes →
-      Next (Open from window max_packet) notes others → Run side (Took number (next_theirs side notes) (Open from window max_packet) ∷ notes) others
+  take_open : {side : Side} {notes others : List Note} (number from window max_packet : ℕ) → Run side notes others →
+      Free number notes →
+      Next (Open from window max_packet) notes others →
+      Run side (Took number (next_theirs side notes) (Open from window max_packet) ∷ notes) others
   refuse_open : {side : Side} {notes others : List Note} (from window max_packet : ℕ) → Run side notes others →
-      Next (Open from window max_packet) notes others → Run side (Refused (next_theirs side notes) from window max_packet ∷ notes) others
-  take : {side : Side} {notes others : List Note} (number : ℕ) (channel : Channel) (message : Message) → Run side notes others →
-      Takes side notes number channel message → Next message notes others → Run side (Took number channel message ∷ notes) others
+      Next (Open from window max_packet) notes others →
+      Run side (Refused (next_theirs side notes) from window max_packet ∷ notes) others
+  take : {side : Side} {notes others : List Note} (number : ℕ) (channel : Channel) (message : Message) →
+      Run side notes others →
+      Takes side notes number channel message → Next message notes others →
+      Run side (Took number channel message ∷ notes) others

@@ -1,7 +1,11 @@
 -- When the channels that an end keeps sum up its history, and how its rows are rows of a session (own).
 use Rattle.std.specs.Prelude.{◌≡◌, ℕ, Bool, Option, Some, None, List, [], ◌∷◌, ◌++◌, length, map, reverse}
 use Rattle.ssh_model.specs.Side.{Side}
-use Rattle.ssh_model.specs.Wire.Message.{Msg, Msg.NewKeys, Msg.GlobalRequest, Msg.RequestSuccess, Msg.RequestFailure, Msg.ChannelOpen, Msg.ChannelOpenConfirmation, Msg.ChannelOpenFailure, Msg.ChannelWindowAdjust, Msg.ChannelData, Msg.ChannelExtendedData, Msg.ChannelEof, Msg.ChannelClose, Msg.ChannelRequest, Msg.ChannelSuccess, Msg.ChannelFailure}
+use Rattle.ssh_model.specs.Wire.Message.{Msg, Msg.NewKeys, Msg.GlobalRequest, Msg.RequestSuccess, Msg.RequestFailure}
+use Rattle.ssh_model.specs.Wire.Message.{Msg.ChannelOpen, Msg.ChannelOpenConfirmation, Msg.ChannelOpenFailure}
+use Rattle.ssh_model.specs.Wire.Message.{Msg.ChannelWindowAdjust, Msg.ChannelData, Msg.ChannelExtendedData}
+use Rattle.ssh_model.specs.Wire.Message.{Msg.ChannelEof, Msg.ChannelClose, Msg.ChannelRequest, Msg.ChannelSuccess}
+use Rattle.ssh_model.specs.Wire.Message.{Msg.ChannelFailure}
 use Rattle.ssh_model.specs.Sessions.Refusals.{first_refusal}
 use Rattle.ssh_model.specs.Sessions.Items as session
 use Rattle.ssh_model.specs.Sessions.Items.{Ask, Fact, Item, Item.Told, Item.Asked}
@@ -9,7 +13,8 @@ use Rattle.ssh_model.specs.Channels.Message.{Message.OpenFailure, Message.Close}
 use Rattle.ssh_model.specs.Channels.Rules.{EndRun}
 use Rattle.ssh_model.specs.Channels.History as channel
 use Rattle.ssh_model.specs.Channels.Places.{AreOwed, at, place}
-use Rattle.ssh_model.specs.Channels.Connection.{connection_checks, ConnectionAnswer, ConnectionAsk, AreReplies, notes, owed_replies, globals_here, globals_there}
+use Rattle.ssh_model.specs.Channels.Connection.{connection_checks, ConnectionAnswer, ConnectionAsk, AreReplies, notes}
+use Rattle.ssh_model.specs.Channels.Connection.{owed_replies, globals_here, globals_there}
 use Rattle.ssh_model.specs.Channels.Kept.{DueReply, DueReply.RefusesOpen, DueReply.AnswersClose, Channels, Taken, Sent}
 
 -- ---- replies
@@ -56,7 +61,8 @@ replied (Some reply) = reply_item reply ∷ []
 
 -- What is answered is what a session answers, whatever payloads spell the message and its reply, and the channels then
 -- sum up the history with it.
-pub record Accepts (side : Side) (history : List Item) (message : Msg) (taken : Taken) (channels : Channels) : Type 0 where
+pub record Accepts (side : Side) (history : List Item) (message : Msg) (taken : Taken)
+    (channels : Channels) : Type 0 where
   pub passed : first_refusal (connection_checks side history message) ≡ None
   pub answer : (replies : List Item) → AreReplies (replied taken.reply) replies →
       ConnectionAnswer side history taken.channel message (told taken.fact replies)
@@ -66,20 +72,25 @@ pub record Accepts (side : Side) (history : List Item) (message : Msg) (taken : 
 
 -- ---- an owed reply sent
 
--- The reply is the oldest that was waiting; it is one of the sent messages of those that wait; and the channels then sum
+-- The reply is the oldest that was waiting; it is one of the sent messages of those that wait; and the channels then
+-- sum
 -- up the history with it.
-pub record SendsOwed (side : Side) (history : List Item) (waiting : List channel.Item) (reply : DueReply) (channels : Channels) : Type 0 where
+pub record SendsOwed (side : Side) (history : List Item) (waiting : List channel.Item) (reply : DueReply)
+    (channels : Channels) : Type 0 where
   pub oldest : waiting ≡ pending channels.owed ++ (reply_item reply ∷ [])
   pub row : (older : List channel.Item) (items : List Item) (payload : List ℕ) → AreReplies older items →
       AreReplies (reply_item reply ∷ older) (session.Item.Sent (reply_channel reply) (reply_sent reply) payload ∷ items)
   pub sums : (payload : List ℕ) →
-      SumsUp side (session.Item.Sent (reply_channel reply) (reply_sent reply) payload ∷ history) (pending channels.owed) channels
+      SumsUp side (session.Item.Sent (reply_channel reply) (reply_sent reply) payload ∷ history)
+      (pending channels.owed) channels
 
 -- ---- an ask
 
 -- What is sent is what a session sends, whatever payload spells it, and the channels then sum up the history with it.
-pub record Allows (side : Side) (history : List Item) (is_due : Bool) (ask : Ask) (sent : Sent) (channels : Channels) : Type 0 where
-  pub row : (payload : List ℕ) → ConnectionAsk side history ask (told sent.fact (session.Item.Sent sent.channel sent.message payload ∷ []))
+pub record Allows (side : Side) (history : List Item) (is_due : Bool) (ask : Ask) (sent : Sent)
+    (channels : Channels) : Type 0 where
+  pub row : (payload : List ℕ) →
+      ConnectionAsk side history ask (told sent.fact (session.Item.Sent sent.channel sent.message payload ∷ []))
   pub sums : (payload : List ℕ) →
       let later = told sent.fact (session.Item.Sent sent.channel sent.message payload ∷ []) ++ (Asked ask ∷ history) in
       SumsUp side later (owed_replies side later) channels

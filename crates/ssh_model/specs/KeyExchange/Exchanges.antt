@@ -1,14 +1,17 @@
 -- The exchanges of a session, read off the history of one end, with the key names and keys that they give.
-use Rattle.std.specs.Prelude.{ℕ, zero, suc, Bool, false, cond, ◌==◌, ◌&&◌, Option, Some, None, unwrap_or, List, [], ◌∷◌, length, find, is_some}
+use Rattle.std.specs.Prelude.{ℕ, zero, suc, Bool, false, cond, ◌==◌, ◌&&◌, Option, Some, None, unwrap_or, List, []}
+use Rattle.std.specs.Prelude.{◌∷◌, length, find, is_some}
 use Rattle.ssh_model.specs.Wire.DataTypes.{number}
 use Rattle.ssh_model.specs.Side.{Side, Side.Client, Side.Server, peer}
 use Rattle.ssh_model.specs.Wire.Message.{Msg.KexInit, Msg.NewKeys, Msg.KexEcdhInit, Msg.KexEcdhReply, Proposal}
 use Rattle.ssh_model.specs.Wire.MacOnly.{is_text}
 use Rattle.ssh_model.specs.Wire.Sealing.{Crypto, Lengths}
-use Rattle.ssh_model.specs.KeyExchange.Choice.{Lists, Chosen, Kind, Kind.Kex, Kind.HostKey, Kind.EncCs, Kind.EncSc, Kind.MacCs, Kind.MacSc, Kind.CompCs, Kind.CompSc, offered}
+use Rattle.ssh_model.specs.KeyExchange.Choice.{Lists, Chosen, Kind, Kind.Kex, Kind.HostKey, Kind.EncCs, Kind.EncSc}
+use Rattle.ssh_model.specs.KeyExchange.Choice.{Kind.MacCs, Kind.MacSc, Kind.CompCs, Kind.CompSc, offered}
 use Rattle.ssh_model.specs.KeyExchange.Exchange.{Inputs, exchange_hash, derived}
 use Rattle.ssh_model.specs.Sessions.Parties.{Parties, shared_by, marker_of, extension_marker_of, lists_of}
-use Rattle.ssh_model.specs.Sessions.Items.{Item, Item.Fed, Item.SentLine, Item.TookLine, Item.Sent, sent, took, Spelled, Spelled.SpelledBy, messages_sent, messages_taken}
+use Rattle.ssh_model.specs.Sessions.Items.{Item, Item.Fed, Item.SentLine, Item.TookLine, Item.Sent, sent, took}
+use Rattle.ssh_model.specs.Sessions.Items.{Spelled, Spelled.SpelledBy, messages_sent, messages_taken}
 use Rattle.ssh_model.specs.Sessions.Epochs.{epoch, wire_number}
 
 -- the one with n older ones below it, in a list that is newest first
@@ -53,7 +56,21 @@ pub record Offer : Type 0 where
 -- what stands where there is no KEXINIT
 abbrev pub no_offer : Offer
 no_offer = record {
-  proposal = record { cookie = []; kex = []; host = []; enc_cs = []; enc_sc = []; mac_cs = []; mac_sc = []; comp_cs = []; comp_sc = []; lang_cs = []; lang_sc = []; follows = false };
+  proposal =
+      record {
+        cookie = [];
+        kex = [];
+        host = [];
+        enc_cs = [];
+        enc_sc = [];
+        mac_cs = [];
+        mac_sc = [];
+        comp_cs = [];
+        comp_sc = [];
+        lang_cs = [];
+        lang_sc = [];
+        follows = false;
+      };
   payload = [];
 }
 
@@ -82,7 +99,8 @@ no_reply = record { host_key = []; point = []; signature = [] }
 -- the messages 31 among messages
 abbrev pub replies : List Spelled → List Reply
 replies [] = []
-replies (SpelledBy (KexEcdhReply k_s q_s signature) payload ∷ l) = record { host_key = k_s; point = q_s; signature = signature } ∷ replies l
+replies (SpelledBy (KexEcdhReply k_s q_s signature) payload ∷ l) =
+    record { host_key = k_s; point = q_s; signature = signature } ∷ replies l
 replies (_ ∷ l) = replies l
 
 -- ---- the exchanges
@@ -102,7 +120,8 @@ exchange p Client e h = record {
   host_key = (nth no_reply e (replies (messages_taken h))).host_key;
   client_point = nth [] e (points (messages_sent h));
   server_point = (nth no_reply e (replies (messages_taken h))).point;
-  shared = shared_number p Client (nth no_material e (fed h)).secret (nth no_reply e (replies (messages_taken h))).point;
+  shared =
+      shared_number p Client (nth no_material e (fed h)).secret (nth no_reply e (replies (messages_taken h))).point;
 }
 exchange p Server e h = record {
   client_version = took_line h;
@@ -123,7 +142,17 @@ exchanges p side (_ ∷ h) = exchanges p side h
 
 -- what stands where no exchange was completed
 abbrev pub no_exchange : Inputs
-no_exchange = record { client_version = []; server_version = []; client_init = []; server_init = []; host_key = []; client_point = []; server_point = []; shared = 0 }
+no_exchange =
+    record {
+      client_version = [];
+      server_version = [];
+      client_init = [];
+      server_init = [];
+      host_key = [];
+      client_point = [];
+      server_point = [];
+      shared = 0;
+    }
 
 -- ---- what the first KEXINITs settle
 
@@ -141,7 +170,8 @@ first_taken h = (nth no_offer 0 (offers (messages_taken h))).proposal
 
 -- Key exchange is strict where the first KEXINIT of each end carries its marker; a session without it is called plain.
 abbrev pub is_strict : Side → List Item → Bool
-is_strict side h = has_marker (marker_of side) (first_sent h).kex && has_marker (marker_of (peer side)) (first_taken h).kex
+is_strict side h =
+    has_marker (marker_of side) (first_sent h).kex && has_marker (marker_of (peer side)) (first_taken h).kex
 
 -- the sequence numbers of the packets that come next
 abbrev pub sending_number : Side → List Item → ℕ
@@ -174,7 +204,8 @@ pub record KeyName : Type 0 where
 -- the name of a direction's key in epoch e: none before the first NEWKEYS, then that of the exchange before it
 abbrev pub key_name : Side → ℕ → List Inputs → Option KeyName
 key_name from zero xs = None
-key_name from (suc e) xs = Some (record { from = from; hash = exchange_hash (nth no_exchange e xs); session = session_id xs })
+key_name from (suc e) xs =
+    Some (record { from = from; hash = exchange_hash (nth no_exchange e xs); session = session_id xs })
 
 -- ---- the algorithms of an exchange
 
@@ -227,7 +258,8 @@ choice side e h = chosen (client_lists side e h) (server_lists side e h)
 
 -- what stands where nothing was chosen
 abbrev pub none_chosen : Chosen
-none_chosen = record { kex = []; host = []; enc_cs = []; enc_sc = []; mac_cs = []; mac_sc = []; comp_cs = []; comp_sc = [] }
+none_chosen =
+    record { kex = []; host = []; enc_cs = []; enc_sc = []; mac_cs = []; mac_sc = []; comp_cs = []; comp_sc = [] }
 
 -- what was chosen in the exchanges that an end completed
 abbrev pub choices : Side → List Item → List Chosen

@@ -41,7 +41,8 @@ pub data Gets {K : Type 0} (c : Crypto K) (key : K) : List Item → List ℕ →
 pub data Asks {K : Type 0} (c : Crypto K) (key : K) (h : List Item) (rest payload : List ℕ) : List Item → List ℕ →
     List ℕ → Type 0 where
   dead : has_died h ≡ true → Asks c key h rest payload [] [] rest
-  too_long : has_died h ≡ false → 34000 < length payload → Asks c key h rest payload (AskRefused TooLong ∷ Asked ∷ []) [] rest
+  too_long : has_died h ≡ false → 34000 < length payload →
+      Asks c key h rest payload (AskRefused TooLong ∷ Asked ∷ []) [] rest
   spent : has_died h ≡ false → length payload ≤ 34000 → length (sent h) ≡ 2 ^ 32 →
       Asks c key h rest payload (Died ∷ Refused NumberSpent ∷ Asked ∷ []) [] []
   sends : (bytes : List ℕ) → has_died h ≡ false → length payload ≤ 34000 → length (sent h) < 2 ^ 32 →

@@ -1,10 +1,12 @@
 -- What an end is made with: its settings, and the parts that are supplied. The parts are functions, since a part
 -- gives the same answer to the same question.
-use Rattle.std.specs.Prelude.{◌≡◌, ℕ, ◌≤◌, ◌==◌, ◌&&◌, not, nat_lt, cond, Bool, true, false, Option, Some, None, List, [], ◌∷◌, ◌++◌, length, take, codes, if◌then◌else◌}
+use Rattle.std.specs.Prelude.{◌≡◌, ℕ, ◌≤◌, ◌==◌, ◌&&◌, not, nat_lt, cond, Bool, true, false, Option, Some, None, List}
+use Rattle.std.specs.Prelude.{[], ◌∷◌, ◌++◌, length, take, codes, if◌then◌else◌}
 use Rattle.std.specs.List.{list_all}
 use Rattle.ssh_model.specs.Side.{Side, Side.Client, Side.Server}
 use Rattle.ssh_model.specs.Wire.Message.{Extension, Proposal}
-use Rattle.ssh_model.specs.KeyExchange.Choice.{Lists, client_marker, server_marker, client_extension_marker, server_extension_marker}
+use Rattle.ssh_model.specs.KeyExchange.Choice.{Lists, client_marker, server_marker, client_extension_marker}
+use Rattle.ssh_model.specs.KeyExchange.Choice.{server_extension_marker}
 use Rattle.ssh_model.specs.Wire.Sealing.{Crypto, IsSealing}
 
 -- Whether an end exchanges keys strictly (OpenSSH's PROTOCOL): it refuses a peer that doesn't, or offers it and goes on
@@ -139,14 +141,16 @@ extension_marker_of Server = server_extension_marker
 -- the markers in the first KEXINIT, in their order
 abbrev pub first_markers : Settings → Side → List (List ℕ)
 first_markers s side =
-    (if s.takes_extensions then extension_marker_of side ∷ [] else []) ++ (if is_offered s.strictness then marker_of side ∷ [] else [])
+    (if s.takes_extensions then extension_marker_of side ∷ [] else [])
+    ++ (if is_offered s.strictness then marker_of side ∷ [] else [])
 
 -- both ends offer strict key exchange
 pub record BothOffer {K : Type 0} (p : Parties K) : Type 0 where
   pub client : is_offered p.client.strictness ≡ true
   pub server : is_offered p.server.strictness ≡ true
 
--- What an end of these settings offers in a KEXINIT (RFC 4253 section 7.1). Its markers stand last in the first one and in
+-- What an end of these settings offers in a KEXINIT (RFC 4253 section 7.1). Its markers stand last in the first one
+-- and in
 -- no later one.
 abbrev pub offer_of : Settings → Side → (first : Bool) → (cookie : List ℕ) → Proposal
 offer_of s side first cookie =
