@@ -1,5 +1,5 @@
 -- What a server answers is the row of the message.
-use Rattle.std.proofs.Common.{◌≡◌, ◌<◌, ℕ, Bool, true, false, not, ◌&&◌, ◌||◌, nat_le, List, [], ◌∷◌, refl, sym, subst, arith}
+use Rattle.std.proofs.Common.{◌≡◌, ◌<◌, ℕ, Bool, true, false, not, ◌&&◌, ◌||◌, nat_le, List, [], ◌∷◌, refl, sym, subst, ◌∙◌, arith}
 use Rattle.std.specs.Prelude.{None}
 use Rattle.ssh_model.specs.Wire.Message.{Msg.UserauthRequest, Method, Method.Publickey}
 use Rattle.ssh_model.specs.Sessions.Refusals.{Check.RefusedWhere, Refusal.TooManyTries, Refusal.Unexpected, first_refusal}
@@ -21,13 +21,13 @@ unrefused judge session server user service how opened fine = go server.kept.ope
     go true true e f = cc f
 
 -- An ignored request.
-pub ignored : (judge : Judge) (session : List ℕ) (server : Server) (user service : List ℕ) (how : Method) → server.kept.opened ≡ true → server.kept.authenticated ≡ true
+pub ignored : (judge : Judge) (session : List ℕ) (server : Server) (user service : List ℕ) (how : Method) (test : Bool) → server.kept.opened ≡ true → test ≡ server.kept.authenticated → test ≡ true
     → ServerAnswers judge session server (UserauthRequest user service how) answer.Ignored server
-ignored judge session server user service how opened late = record {
-  unrefused = unrefused judge session server user service how opened (go server.kept.authenticated _ _ late);
+ignored judge session server user service how test opened is tested = record {
+  unrefused = unrefused judge session server user service how opened (go server.kept.authenticated _ _ (sym is ∙ tested));
   tries = refl;
   methods = refl;
-  row = ServerTakes.too_late user service how late;
+  row = ServerTakes.too_late user service how (sym is ∙ tested);
 }
   where
     go : (a b c : Bool) → a ≡ true → (not a && b && c) ≡ false
@@ -35,12 +35,16 @@ ignored judge session server user service how opened late = record {
     go false b c e = cc e
 
 -- A judged request, and what is kept of it.
-pub judged : (judge : Judge) (session : List ℕ) (old new : Server) (user service : List ℕ) (how : Method) (given : ServerAnswer) → old.kept.opened ≡ true → old.kept.authenticated ≡ false
-    → IsJudged judge old.methods session user service how given → (given ≡ answer.Failed → old.kept.failures < old.tries) → new ≡ settled old given
+pub judged : (judge : Judge) (session : List ℕ) (old new : Server) (user service : List ℕ) (how : Method) (given : ServerAnswer) (methods : List (List ℕ)) (test : Bool) → old.kept.opened ≡ true → test ≡ old.kept.authenticated → test ≡ false
+    → methods ≡ old.methods → IsJudged judge methods session user service how given → (given ≡ answer.Failed → old.kept.failures < old.tries) → new ≡ settled old given
     → ServerAnswers judge session old (UserauthRequest user service how) given new
-judged judge session old new user service how given opened in_time verdict counted so =
-    subst (λ n. ServerAnswers judge session old (UserauthRequest user service how) given n) (sym so) (go given verdict counted)
+judged judge session old new user service how given methods test opened is tested same verdict counted so =
+    subst (λ n. ServerAnswers judge session old (UserauthRequest user service how) given n) (sym so)
+    (go given (subst (λ m. IsJudged judge m session user service how given) same verdict) counted)
   where
+    in_time : old.kept.authenticated ≡ false
+    in_time = sym is ∙ tested
+
     accepted_fine : (t a b o : Bool) → a ≡ true → (t && (not a && b) && o) ≡ false
     accepted_fine true true b o e = refl
     accepted_fine false true b o e = refl

@@ -108,6 +108,7 @@ impl AuthClient {
     /// # Errors
     ///
     /// `Unexpected` where the message may not come here; the client is then as before.
+    #[tactic(auto, using(crate::proofs::Clients::taken, crate::proofs::Clients::failure_row, crate::proofs::Clients::success_row, crate::proofs::Clients::banner_row, crate::proofs::Clients::key_row))]
     pub fn take<'a>(&mut self, message: &Message<'a>) -> Result<ClientAnswer<'a>, AuthRefusal>
         ensures answered { IfOk result (λ answer. ClientAnswers self.old (meaning message.now) answer self.new) }
         ensures unexpected { OnErr result (client_takes self.old (message_number (meaning message.now)) ≡ false) }
@@ -148,6 +149,7 @@ impl AuthClient {
     ///   outstanding; `Ended`, USERAUTH_SUCCESS was taken; `TooLong`, the payload would have over 34,000 bytes, where
     ///   it is signed with a signature of 4,096 bytes.
     /// - `Memory`: memory was refused for the text to be signed.
+    #[tactic(auto, using(crate::proofs::Clients::none_row, crate::proofs::Clients::password_row, crate::proofs::Clients::probe_row, crate::proofs::Clients::sign_row))]
     pub fn ask<'a, S: UserSigner>(
         &mut self,
         session: &[u8; 32],

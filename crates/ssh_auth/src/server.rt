@@ -167,6 +167,13 @@ impl AuthServer {
         }
     }
 
+    // Whether USERAUTH_SUCCESS was sent.
+    fn is_authenticated(&self) -> bool
+        ensures { result ≡ self.now.kept.authenticated }
+    {
+        self.authenticated
+    }
+
     // Takes a request, which may come.
     fn take_request<'a, J: UserJudge>(
         &mut self,
@@ -183,7 +190,7 @@ impl AuthServer {
         ensures refused { IfErr result (λ error. ServerRefuses (J.verdicts judge.now) session.now self.old (model.UserauthRequest user.now service.now (method_meaning method.now)) error) }
         ensures kept { OnErr result (self.new ≡ self.old) }
     {
-        if self.authenticated {
+        if self.is_authenticated() {
             return Ok(ServerAnswer::Ignored);
         }
         let answer = judge_request(

@@ -17,6 +17,7 @@ impl Signature {
     ghost use Rattle.ssh_auth.specs.Asking.{short_signature, signature_in};
 
     // The signer's of a text.
+    #[tactic(auto, using(crate::proofs::Clients::short))]
     pub(crate) fn of<S: UserSigner>(
         signer: &S,
         user: &[u8],
