@@ -9,3 +9,4 @@ pub mod State
 pub mod LineTurns
 pub mod Puts
 pub mod Kexinits
+pub mod Judging

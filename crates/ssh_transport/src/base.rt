@@ -6,14 +6,17 @@ ghost use Rattle.ssh_model.specs.Sessions.Turns.{number_of};
 ghost use Rattle.ssh_transport.specs.LineTurns.{LineTaken};
 ghost use Rattle.ssh_transport.specs.State.{dead_state};
 
+mod judging;
 mod kexinit;
 mod kexinit_payload;
 mod line_turn;
 mod material;
 mod numbers;
+mod opening;
 mod phase;
 mod refusing;
 mod sending;
+mod service;
 
 use crate::config::Config;
 use crate::packets::{PacketReceiver, PacketSender};
