@@ -6,3 +6,8 @@ pub mod Kept
 pub mod Offers
 pub mod Announced
 pub mod Numbers
+pub mod Refusals
+pub mod OwnMarkers
+pub mod LineTurns
+pub mod Kexinits
+pub mod Sending

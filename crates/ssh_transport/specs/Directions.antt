@@ -1,6 +1,7 @@
 -- One direction's packets at one end: what the sender and the receiver of them hold.
 use Rattle.std.specs.Prelude.{◌≡◌, ◌≤◌, ◌<◌, ◌+◌, ◌%◌, ◌^◌, ◌==◌, ℕ, Bool, if◌then◌else◌, List, [], ◌∷◌, length, Option, None, Some}
 use Rattle.ssh_model.specs.Wire.DataTypes.{AreBytes}
+pub use Rattle.ssh_model.specs.TransportLayer.Directions.{Direction, SumsUp, counted, new_direction, renewed}
 use Rattle.ssh_model.specs.Sessions.Epochs.{count, epoch, wire_number}
 use Rattle.ssh_model.specs.Sessions.Items as session
 use Rattle.ssh_model.specs.Wire.Outcome.{Outcome.Opens, Outcome.RefusedPacket}
@@ -12,38 +13,13 @@ use Rattle.ssh_types.specs.declared.refusal.Refusal.{Refusal}
 use Rattle.ssh_transport.specs.declared.packets.step.PacketStep.{PacketStep}
 use Rattle.ssh_transport.specs.declared.packets.step.PacketStep.TheVariants.{Payload, More, Refused}
 
--- The key of the direction, the sequence number of its next packet, how many packets went under that key, and how many
--- NEWKEYS went before.
-pub record Direction (K : Type 0) : Type 0 where
-  pub key : Option K
-  pub number : ℕ
-  pub count : ℕ
-  pub epoch : ℕ
-
 -- a direction by its fields
 abbrev pub direction_of : {K : Type 0} → Option K → ℕ → ℕ → ℕ → Direction K
 direction_of key number count epoch = record { key = key; number = number; count = count; epoch = epoch }
 
--- nothing went yet, and packets are in clear
-abbrev pub new_direction : {K : Type 0} → Direction K
-new_direction = record { key = None; number = 0; count = 0; epoch = 0 }
-
 -- nothing went yet, and packets are sealed under a key from the first one on
 abbrev pub sealed_direction : {K : Type 0} → K → Direction K
 sealed_direction key = record { key = Some key; number = 0; count = 0; epoch = 0 }
-
--- one packet more
-abbrev pub counted : {K : Type 0} → Direction K → Direction K
-counted direction = record direction { number = (direction.number + 1) % 2 ^ 32; count = direction.count + 1 }
-
--- The epoch after a NEWKEYS. Its numbers begin at zero where keys are exchanged strictly, and go on where they are not.
-abbrev pub renewed : {K : Type 0} → (strict : Bool) → K → Direction K → Direction K
-renewed strict key direction = record {
-  key = Some key;
-  number = if strict then 0 else direction.number;
-  count = 0;
-  epoch = direction.epoch + 1;
-}
 
 -- the number of the next packet, and 2 ^ 32 where the epoch has had all of them
 abbrev pub next_number : {K : Type 0} → Direction K → ℕ
@@ -52,12 +28,6 @@ next_number direction = if direction.count == 2 ^ 32 then 2 ^ 32 else direction.
 -- the payload of NEWKEYS (RFC 4253 section 7.3)
 abbrev pub newkeys : List ℕ
 newkeys = 21 ∷ []
-
--- The direction sums up the payloads that went through it, the newest first.
-pub record SumsUp {K : Type 0} (strict : Bool) (l : List session.Payload) (direction : Direction K) : Type 0 where
-  pub number_is : direction.number ≡ wire_number strict l % 2 ^ 32
-  pub count_is : direction.count ≡ count l
-  pub epoch_is : direction.epoch ≡ epoch l
 
 -- ---- what a receiver holds besides
 

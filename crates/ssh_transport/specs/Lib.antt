@@ -5,3 +5,8 @@ pub mod Errors
 pub mod Meaning
 pub mod Offers
 pub mod Directions
+pub mod State
+pub mod LineTurns
+pub mod Puts
+pub mod Kexinits
+pub mod Judging

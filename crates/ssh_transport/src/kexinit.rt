@@ -123,7 +123,7 @@ fn proposal<'a, S: Sealing>(
 }
 
 // The one compression of both directions.
-fn uncompressed() -> NameList<'static>
+pub(crate) fn uncompressed() -> NameList<'static>
     ensures names { names result ≡ codes "none" ∷ [] }
     ensures short { length (text_of result) ≤ 1040 }
 {
@@ -131,7 +131,7 @@ fn uncompressed() -> NameList<'static>
 }
 
 // The languages of both directions.
-fn no_names() -> NameList<'static>
+pub(crate) fn no_names() -> NameList<'static>
     ensures names { names result ≡ [] }
     ensures short { length (text_of result) ≤ 1040 }
 {

@@ -36,6 +36,7 @@
 //! ```
 #![tactic(auto)]
 
+mod base;
 mod config;
 mod kexinit;
 mod packets;

@@ -1,0 +1,50 @@
+-- What an end puts out.
+use Rattle.std.specs.Prelude.{◌≡◌, ℕ, ◌<◌, ◌^◌, true, List, [], ◌∷◌, ◌++◌}
+use Rattle.ssh_model.specs.Wire.Message.{Msg}
+use Rattle.ssh_model.specs.Wire.Sealing.{Crypto, IsSealed}
+use Rattle.ssh_model.specs.Sessions.Items.{Spelled, Spelled.SpelledBy}
+use Rattle.ssh_model.specs.Sessions.Refusals.{Refusal}
+use Rattle.ssh_model.specs.TransportLayer.Directions.{Direction}
+use Rattle.ssh_model.specs.TransportLayer.Kept.{Transport}
+use Rattle.ssh_model.specs.TransportLayer.Turns.{PutsPackets, SaysWhy}
+
+-- The bytes put out, and the payloads listed, before a call and after it.
+pub record Outs : Type 0 where
+  pub before : List ℕ
+  pub after : List ℕ
+  pub listed : List (List ℕ)
+  pub relisted : List (List ℕ)
+
+-- the payloads of messages, the oldest first
+abbrev pub payloads_of : List Spelled → List (List ℕ)
+payloads_of [] = []
+payloads_of (SpelledBy message payload ∷ l) = payloads_of l ++ payload ∷ []
+
+-- The payload was put out as the next packet of the direction, and listed.
+pub record PutsPayload {K : Type 0} (c : Crypto K) (direction : Direction K) (payload : List ℕ) (o : Outs) : Type 0 where
+  pub left : direction.count < 2 ^ 32
+  pub wire : List ℕ
+  pub sealed : IsSealed c direction.key direction.number payload wire
+  pub parts : o.after ≡ o.before ++ wire
+  pub lists : o.relisted ≡ o.listed ++ payload ∷ []
+
+-- These messages were, the newest first.
+pub record Puts {K : Type 0} (c : Crypto K) (direction : Direction K) (l : List Spelled) (o : Outs) : Type 0 where
+  pub more : List ℕ
+  pub packets : PutsPackets c direction l more
+  pub parts : o.after ≡ o.before ++ more
+  pub lists : o.relisted ≡ o.listed ++ payloads_of l
+
+-- A message was, by a payload that spells it.
+pub record Sends {K : Type 0} (c : Crypto K) (direction : Direction K) (message : Msg) (o : Outs) : Type 0 where
+  pub payload : List ℕ
+  pub puts : Puts c direction (SpelledBy message payload ∷ []) o
+
+-- The peer was refused: why was said, or nothing, and the end is over.
+pub record Refuses {K : Type 0} (c : Crypto K) (old : Transport K) (refusal : Refusal) (new : Transport K) (o : Outs) : Type 0 where
+  pub said : List Spelled
+  pub more : List ℕ
+  pub says : SaysWhy c old refusal said more
+  pub parts : o.after ≡ o.before ++ more
+  pub lists : o.relisted ≡ o.listed ++ payloads_of said
+  pub dead : new.dead ≡ true
