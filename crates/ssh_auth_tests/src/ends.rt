@@ -74,12 +74,13 @@ pub(crate) fn client(alloc: Global) -> AuthClient {
 // The server takes a payload, and the payload that it sends is put behind `out`.
 pub(crate) fn serve<'a, J: UserJudge>(
     server: &mut AuthServer,
+    session: &[u8; 32],
     judge: &J,
     payload: &'a [u8],
     out: &mut Vec<u8>,
 ) -> Result<ServerAnswer<'a>, Fail> {
     let message = decode(server.probing(), payload)?;
-    let answer = server.take(&SESSION, judge, &message)?;
+    let answer = server.take(session, judge, &message)?;
     if let Some(reply) = server.message(&answer) {
         encode(&reply, out)?;
     }
@@ -89,11 +90,12 @@ pub(crate) fn serve<'a, J: UserJudge>(
 // The payload of what the client is asked for is put behind `out`.
 pub(crate) fn request<S: UserSigner>(
     client: &mut AuthClient,
+    session: &[u8; 32],
     signer: &S,
     ask: &UserAsk<'_>,
     out: &mut Vec<u8>,
 ) -> Result<(), Fail> {
-    let request = client.ask(&SESSION, signer, ask)?;
+    let request = client.ask(session, signer, ask)?;
     encode(&request.message(), out)?;
     Ok(())
 }

@@ -2,15 +2,16 @@
 //! judged as OpenSSH judged it and answered by the same bytes, and a client that is asked the same sends the same
 //! bytes.
 
-ghost use Rattle.std.specs.Prelude.{◌&&◌, false};
+ghost use Rattle.std.specs.Prelude.{◌≡◌, ◌&&◌, false, take};
 ghost use Rattle.ssh_model.specs.Wire.MacOnly.{is_text};
 
-use crate::ends::methods;
+use crate::ends::{client, methods, request, serve};
 use ssh_auth::{
-    AuthClient, AuthServer, ClientAnswer, ServerAnswer, SignedText, UserAsk, UserJudge, UserSigner,
+    AuthServer, ClientAnswer, ServerAnswer, SignedText, UserAsk, UserJudge, UserSigner,
     put_signed_text,
 };
-use ssh_message::{decode, encode};
+use ssh_message::decode;
+use std::alloc::Global;
 use std::test::*;
 
 const NONE: &[u8] = b"\
@@ -62,16 +63,18 @@ const TEXT: &[u8] = b"\
 
 const METHODS: &[u8] = b"publickey,password,keyboard-interactive";
 
-// Knows the one key, and its one signature of the one text.
-#[derive(Drop)]
+// Knows one key of one user, and one signature of one text.
+#[derive(Clone, Copy)]
 struct RecordedJudge<'a> {
+    user: &'a [u8],
+    algorithm: &'a [u8],
+    key: &'a [u8],
     text: &'a [u8],
+    signature: &'a [u8],
 }
 
 impl UserJudge for RecordedJudge<'_> {
-    ghost use Rattle.ssh_auth_tests.specs.declared.recorded.TheConstants.{ED25519, KEY, ROOT, SIGNATURE};
-
-    ghost verdicts = { λ judge. record { admits = λ _. false; password_is_right = λ _ _. false; knows_key = λ user algorithm key. is_text user ROOT.now && (is_text algorithm ED25519.now && is_text key KEY.now); signature_is_right = λ _ _ text signature. is_text text judge.text.now && is_text signature SIGNATURE } };
+    ghost verdicts = { λ judge. record { admits = λ _. false; password_is_right = λ _ _. false; knows_key = λ user algorithm key. is_text user judge.user.now && (is_text algorithm judge.algorithm.now && is_text key judge.key.now); signature_is_right = λ _ _ text signature. is_text text judge.text.now && is_text signature judge.signature.now } };
 
     fn none(&self, _user: &[u8]) -> bool {
         false
@@ -82,21 +85,30 @@ impl UserJudge for RecordedJudge<'_> {
     }
 
     fn key_known(&self, user: &[u8], algorithm: &[u8], key: &[u8]) -> bool {
-        user == ROOT && (algorithm == ED25519 && key == KEY)
+        user == self.user && (algorithm == self.algorithm && key == self.key)
     }
 
     fn signature(&self, _algorithm: &[u8], _key: &[u8], text: &[u8], signature: &[u8]) -> bool {
-        text == self.text && signature == SIGNATURE.as_slice()
+        text == self.text && signature == self.signature
     }
 }
 
-// Gives the one signature.
-struct RecordedSigner;
+const JUDGE: RecordedJudge<'static> = RecordedJudge {
+    user: ROOT,
+    algorithm: ED25519,
+    key: KEY,
+    text: TEXT,
+    signature: &SIGNATURE,
+};
 
-impl UserSigner for RecordedSigner {
-    ghost use Rattle.ssh_auth_tests.specs.declared.recorded.TheConstants.{SIGNATURE};
+// Gives one signature.
+#[derive(Clone, Copy)]
+struct RecordedSigner<'a> {
+    signature: &'a [u8; 83],
+}
 
-    ghost signature_of = { λ _ _ _ _ _. SIGNATURE };
+impl UserSigner for RecordedSigner<'_> {
+    ghost signature_of = { λ signer _ _ _ _. signer.signature.now };
 
     fn sign(
         &self,
@@ -106,10 +118,22 @@ impl UserSigner for RecordedSigner {
         _text: &[u8],
         out: &mut [u8; 4096],
     ) -> usize {
-        out[..83].copy_from_slice(&SIGNATURE);
+        let signature = self.signature;
+        put_signature(signature, out);
         83
     }
 }
+
+#[tactic(auto, using(crate::proofs::Fronts::front_of))]
+fn put_signature(signature: &[u8; 83], out: &mut [u8; 4096])
+    ensures { take 83 out.new ≡ signature.now }
+{
+    out[..83].copy_from_slice(signature);
+}
+
+const SIGNER: RecordedSigner<'static> = RecordedSigner {
+    signature: &SIGNATURE,
+};
 
 const ROOT: &[u8] = b"root";
 
@@ -130,31 +154,29 @@ fn the_signed_text(rt: HostRuntime) -> Result<(), Fail> {
     Ok(())
 }
 
+// A server with the methods of the recorded one.
+fn recorded_server(alloc: Global) -> Result<AuthServer, Fail> {
+    let mut server = AuthServer::new(alloc, 6, &methods(METHODS)?)?;
+    server.open();
+    Ok(server)
+}
+
 #[test]
 fn requests_are_answered_as_openssh_answers(rt: HostRuntime) -> Result<(), Fail> {
-    let methods = methods(METHODS)?;
-    let mut server = AuthServer::new(rt.alloc(), 6, &methods)?;
-    server.open();
-    let judge = RecordedJudge { text: TEXT };
+    let mut server = recorded_server(rt.alloc())?;
+    let key_ok = ServerAnswer::KeyOk {
+        algorithm: ED25519,
+        key: KEY,
+    };
     let table = [
         (NONE, ServerAnswer::Failed, FAILURE),
-        (
-            PROBE,
-            ServerAnswer::KeyOk {
-                algorithm: ED25519,
-                key: KEY,
-            },
-            KEY_OK,
-        ),
+        (PROBE, key_ok, KEY_OK),
         (SIGNED, ServerAnswer::Accepted { user: ROOT }, SUCCESS),
     ];
-    for (at, (request, told, sent)) in table.iter().enumerate() {
-        let message = decode(server.probing(), request)?;
-        let answer = server.take(&SESSION, &judge, &message)?;
-        assert_eq!(rt; answer, *told, "at {at}");
+    for (at, (payload, told, sent)) in table.iter().enumerate() {
         let mut out = Vec::new(rt.alloc());
-        let reply = server.message(&answer).ok_or("no message")?;
-        encode(&reply, &mut out)?;
+        let answer = serve(&mut server, &SESSION, &JUDGE, payload, &mut out)?;
+        assert_eq!(rt; answer, *told, "at {at}");
         assert_eq!(rt; out.as_slice(), *sent, "at {at}");
     }
     Ok(())
@@ -162,58 +184,45 @@ fn requests_are_answered_as_openssh_answers(rt: HostRuntime) -> Result<(), Fail>
 
 #[test]
 fn another_session_makes_the_signature_wrong(rt: HostRuntime) -> Result<(), Fail> {
-    let methods = methods(METHODS)?;
-    let mut server = AuthServer::new(rt.alloc(), 6, &methods)?;
-    server.open();
-    let message = decode(server.probing(), SIGNED)?;
-    let answer = server.take(&[7; 32], &RecordedJudge { text: TEXT }, &message)?;
+    let mut server = recorded_server(rt.alloc())?;
+    let mut out = Vec::new(rt.alloc());
+    let answer = serve(&mut server, &[7; 32], &JUDGE, SIGNED, &mut out)?;
     assert_eq!(rt; answer, ServerAnswer::Failed);
     Ok(())
 }
 
 #[test]
 fn asks_send_what_openssh_took(rt: HostRuntime) -> Result<(), Fail> {
-    let mut client = AuthClient::new(rt.alloc());
-    client.open();
-    let methods = methods(METHODS)?;
+    let mut client = client(rt.alloc());
     let banner = ClientAnswer::Banner {
         message: b"a banner line\r\n",
     };
     assert_eq!(rt; client.take(&decode(client.probing(), BANNER)?), Ok(banner));
     let failed = ClientAnswer::Failed {
-        methods,
+        methods: methods(METHODS)?,
         partial: false,
     };
+    let (user, algorithm, key) = (ROOT, ED25519, KEY);
+    let none = UserAsk::None { user };
+    let probe = UserAsk::Probe {
+        user,
+        algorithm,
+        key,
+    };
+    let sign = UserAsk::Sign {
+        user,
+        algorithm,
+        key,
+    };
+    let key_ok = ClientAnswer::KeyOk { algorithm, key };
     let table = [
-        (UserAsk::None { user: ROOT }, NONE, FAILURE, failed),
-        (
-            UserAsk::Probe {
-                user: ROOT,
-                algorithm: ED25519,
-                key: KEY,
-            },
-            PROBE,
-            KEY_OK,
-            ClientAnswer::KeyOk {
-                algorithm: ED25519,
-                key: KEY,
-            },
-        ),
-        (
-            UserAsk::Sign {
-                user: ROOT,
-                algorithm: ED25519,
-                key: KEY,
-            },
-            SIGNED,
-            SUCCESS,
-            ClientAnswer::Authenticated,
-        ),
+        (none, NONE, FAILURE, failed),
+        (probe, PROBE, KEY_OK, key_ok),
+        (sign, SIGNED, SUCCESS, ClientAnswer::Authenticated),
     ];
     for (at, (ask, sent, answer, told)) in table.iter().enumerate() {
-        let request = client.ask(&SESSION, &RecordedSigner, ask)?;
         let mut out = Vec::new(rt.alloc());
-        encode(&request.message(), &mut out)?;
+        request(&mut client, &SESSION, &SIGNER, ask, &mut out)?;
         assert_eq!(rt; out.as_slice(), *sent, "at {at}");
         let message = decode(client.probing(), answer)?;
         assert_eq!(rt; client.take(&message), Ok(*told), "at {at}");

@@ -1,119 +1,139 @@
 //! Whole exchanges of a client and a server.
 
-use crate::ends::{CREDENTIALS, client, request, serve, server};
-use ssh_auth::{ClientAnswer, ServerAnswer, UserAsk};
+use crate::ends::{CREDENTIALS, SESSION, client, request, serve, server};
+use crate::payloads::{PROBE, RIGHT, WRONG};
+use ssh_auth::{AuthClient, AuthServer, ClientAnswer, ServerAnswer, UserAsk};
 use ssh_message::decode;
 use ssh_toys::{ToyJudge, ToyUserSigner};
 use ssh_types::NameList;
+use std::alloc::Global;
+use std::process::Abort;
 use std::test::*;
 
 const JUDGE: ToyJudge<'static> = ToyJudge {
     credentials: CREDENTIALS,
 };
 
-// A wrong password is answered by FAILURE with the methods, the right one by SUCCESS. A further good request is
-// ignored: it is told, and nothing is sent.
+const KEY: &[u8] = &[0xaa];
+
+const ALGORITHM: &[u8] = b"toy@example.com";
+
+const FAILURE: &[u8] = b"\x33\0\0\0\x12publickey,password\0";
+
+const SUCCESS: &[u8] = b"\x34";
+
+const KEY_OK: &[u8] = b"\x3c\0\0\0\x0ftoy@example.com\0\0\0\x01\xaa";
+
+// What the client is asked for, and what the server tells, sends and lets the client tell.
+#[derive(Clone, Copy)]
+struct Exchange<'a> {
+    ask: UserAsk<'a>,
+    request: &'a [u8],
+    told: ServerAnswer<'a>,
+    answer: &'a [u8],
+    heard: ClientAnswer<'a>,
+}
+
+// Both ends do what is said.
+fn check(
+    rt: &impl Abort,
+    alloc: Global,
+    client: &mut AuthClient,
+    server: &mut AuthServer,
+    exchange: &Exchange<'_>,
+) -> Result<(), Fail> {
+    let mut sent = Vec::new(alloc);
+    request(client, &SESSION, &ToyUserSigner, &exchange.ask, &mut sent)?;
+    let asked = exchange.request;
+    assert_eq!(rt; sent.as_slice(), asked);
+    let mut answer = Vec::new(alloc);
+    let told = serve(server, &SESSION, &JUDGE, &sent, &mut answer)?;
+    assert_eq!(rt; told, exchange.told);
+    assert_eq!(rt; answer.as_slice(), exchange.answer);
+    let heard = client.take(&decode(client.probing(), &answer)?)?;
+    assert_eq!(rt; heard, exchange.heard);
+    Ok(())
+}
+
+// A wrong password is answered by FAILURE with the methods, the right one by SUCCESS.
 #[test]
 fn passwords(rt: HostRuntime) -> Result<(), Fail> {
     let mut server = server(rt.alloc(), 20)?;
     let mut client = client(rt.alloc());
-    let methods = NameList::new(b"publickey,password").ok_or("no names")?;
-
-    let mut sent = Vec::new(rt.alloc());
-    let wrong = UserAsk::Password {
-        user: b"u",
-        password: b"q",
+    let wrong = Exchange {
+        ask: UserAsk::Password {
+            user: b"u",
+            password: b"q",
+        },
+        request: WRONG,
+        told: ServerAnswer::Failed,
+        answer: FAILURE,
+        heard: ClientAnswer::Failed {
+            methods: NameList::new(b"publickey,password").ok_or("no names")?,
+            partial: false,
+        },
     };
-    request(&mut client, &ToyUserSigner, &wrong, &mut sent)?;
-    let expected = b"\x32\0\0\0\x01u\0\0\0\x0essh-connection\0\0\0\x08password\0\0\0\0\x01q";
-    assert_eq!(rt; sent.as_slice(), expected.as_slice());
-    let mut answer = Vec::new(rt.alloc());
-    let told = serve(&mut server, &JUDGE, &sent, &mut answer)?;
-    assert_eq!(rt; told, ServerAnswer::Failed);
-    assert_eq!(rt;
-        answer.as_slice(),
-        b"\x33\0\0\0\x12publickey,password\0".as_slice()
-    );
-    let told = client.take(&decode(client.probing(), &answer)?)?;
-    assert_eq!(rt;
-        told,
-        ClientAnswer::Failed {
-            methods,
-            partial: false
-        }
-    );
-
-    let mut sent = Vec::new(rt.alloc());
-    let right = UserAsk::Password {
-        user: b"u",
-        password: b"p",
+    check(&rt, rt.alloc(), &mut client, &mut server, &wrong)?;
+    let right = Exchange {
+        ask: UserAsk::Password {
+            user: b"u",
+            password: b"p",
+        },
+        request: RIGHT,
+        told: ServerAnswer::Accepted { user: b"u" },
+        answer: SUCCESS,
+        heard: ClientAnswer::Authenticated,
     };
-    request(&mut client, &ToyUserSigner, &right, &mut sent)?;
-    let mut answer = Vec::new(rt.alloc());
-    let told = serve(&mut server, &JUDGE, &sent, &mut answer)?;
-    assert_eq!(rt; told, ServerAnswer::Accepted { user: b"u" });
-    assert_eq!(rt; answer.as_slice(), b"\x34".as_slice());
-    let told = client.take(&decode(client.probing(), &answer)?)?;
-    assert_eq!(rt; told, ClientAnswer::Authenticated);
-
-    let mut answer = Vec::new(rt.alloc());
-    let told = serve(&mut server, &JUDGE, &sent, &mut answer)?;
-    assert_eq!(rt; told, ServerAnswer::Ignored);
-    assert!(rt; answer.is_empty());
+    check(&rt, rt.alloc(), &mut client, &mut server, &right)?;
     Ok(())
 }
 
-// A probe for a known key is answered by PK_OK, and the signature by it by SUCCESS.
+// A further good request after SUCCESS is ignored: it is told, and nothing is sent.
+#[test]
+fn a_request_after_success(rt: HostRuntime) -> Result<(), Fail> {
+    let mut server = server(rt.alloc(), 20)?;
+    let mut out = Vec::new(rt.alloc());
+    serve(&mut server, &SESSION, &JUDGE, RIGHT, &mut out)?;
+    assert_eq!(rt; out.as_slice(), SUCCESS);
+    for payload in [RIGHT, WRONG] {
+        let told = serve(&mut server, &SESSION, &JUDGE, payload, &mut out)?;
+        assert_eq!(rt; told, ServerAnswer::Ignored);
+        assert_eq!(rt; out.as_slice(), SUCCESS);
+    }
+    Ok(())
+}
+
+// A probe for a known key is answered by PK_OK, and the signature by it, a request of 98 bytes, by SUCCESS.
 #[test]
 fn keys(rt: HostRuntime) -> Result<(), Fail> {
     let mut server = server(rt.alloc(), 20)?;
     let mut client = client(rt.alloc());
-
-    let mut sent = Vec::new(rt.alloc());
-    let probe = UserAsk::Probe {
-        user: b"u",
-        algorithm: b"toy@example.com",
-        key: &[0xaa],
+    let (user, algorithm, key) = (b"u", ALGORITHM, KEY);
+    let probe = Exchange {
+        ask: UserAsk::Probe {
+            user,
+            algorithm,
+            key,
+        },
+        request: PROBE,
+        told: ServerAnswer::KeyOk { algorithm, key },
+        answer: KEY_OK,
+        heard: ClientAnswer::KeyOk { algorithm, key },
     };
-    request(&mut client, &ToyUserSigner, &probe, &mut sent)?;
-    assert_eq!(rt; sent.len(), 62);
-    assert!(rt; client.probing());
-    let mut answer = Vec::new(rt.alloc());
-    let told = serve(&mut server, &JUDGE, &sent, &mut answer)?;
-    let algorithm = b"toy@example.com".as_slice();
-    assert_eq!(rt;
-        told,
-        ServerAnswer::KeyOk {
-            algorithm,
-            key: &[0xaa]
-        }
-    );
-    assert_eq!(rt;
-        answer.as_slice(),
-        b"\x3c\0\0\0\x0ftoy@example.com\0\0\0\x01\xaa".as_slice()
-    );
-    let told = client.take(&decode(client.probing(), &answer)?)?;
-    assert_eq!(rt;
-        told,
-        ClientAnswer::KeyOk {
-            algorithm,
-            key: &[0xaa]
-        }
-    );
+    check(&rt, rt.alloc(), &mut client, &mut server, &probe)?;
     assert!(rt; !client.probing());
-
     let mut sent = Vec::new(rt.alloc());
-    let sign = UserAsk::Sign {
-        user: b"u",
-        algorithm: b"toy@example.com",
-        key: &[0xaa],
+    let ask = UserAsk::Sign {
+        user,
+        algorithm,
+        key,
     };
-    request(&mut client, &ToyUserSigner, &sign, &mut sent)?;
+    request(&mut client, &SESSION, &ToyUserSigner, &ask, &mut sent)?;
     assert_eq!(rt; sent.len(), 98);
     let mut answer = Vec::new(rt.alloc());
-    let told = serve(&mut server, &JUDGE, &sent, &mut answer)?;
+    let told = serve(&mut server, &SESSION, &JUDGE, &sent, &mut answer)?;
     assert_eq!(rt; told, ServerAnswer::Accepted { user: b"u" });
-    assert_eq!(rt; answer.as_slice(), b"\x34".as_slice());
+    assert_eq!(rt; answer.as_slice(), SUCCESS);
     Ok(())
 }
 
@@ -121,15 +141,17 @@ fn keys(rt: HostRuntime) -> Result<(), Fail> {
 #[test]
 fn a_probe_may_be_answered_by_success(rt: HostRuntime) -> Result<(), Fail> {
     let mut client = client(rt.alloc());
+    let (user, algorithm, key) = (b"u", ALGORITHM, KEY);
     let mut sent = Vec::new(rt.alloc());
-    let probe = UserAsk::Probe {
-        user: b"u",
-        algorithm: b"toy@example.com",
-        key: &[0xaa],
+    let ask = UserAsk::Probe {
+        user,
+        algorithm,
+        key,
     };
-    request(&mut client, &ToyUserSigner, &probe, &mut sent)?;
+    request(&mut client, &SESSION, &ToyUserSigner, &ask, &mut sent)?;
+    assert!(rt; client.probing());
     assert!(rt; client.may_take(52));
-    let told = client.take(&decode(client.probing(), b"\x34")?)?;
+    let told = client.take(&decode(client.probing(), SUCCESS)?)?;
     assert_eq!(rt; told, ClientAnswer::Authenticated);
     Ok(())
 }
