@@ -22,5 +22,5 @@ test: ## The whole gate, everything from nothing: docs/TIMES.md has how long it 
 falsify: ## Tries the wrong bodies of crates/*/falsify that the gate leaves out; CRATE=name for those of one crate.
 	@sh tools/falsify.sh
 
-bench: ## Ratios of this core's work to the hashes that it has to compute, in one run.
+bench: ## Ratios of this core's work: to the hashes that it has to compute, and of many channels to one.
 	@sh tools/bench.sh

@@ -1,9 +1,6 @@
 //! The channels of one end.
 
-ghost use Rattle.std.specs.Prelude.{◌≡◌, ◌<◌, ◌&&◌, Some, None, IfOk, IfErr, IfSome, IfNone, OnErr, true, false, length};
-ghost use Rattle.ssh_types.specs.Refusals.{refusal_of};
-ghost use Rattle.ssh_types.specs.AskRefusals.{ask_refusal_of};
-ghost use Rattle.ssh_model.specs.Sessions.Refusals as model;
+ghost use Rattle.std.specs.Prelude.{◌≡◌, ◌<◌, ◌&&◌, Some, None, IfOk, IfSome, IfNone, true, false, length};
 ghost use Rattle.ssh_model.specs.Channels.Connection.{is_limit_reached};
 ghost use Rattle.ssh_model.specs.Channels.Places.{at, is_at, is_open};
 ghost use Rattle.ssh_model.specs.Channels.Kept.{no_channels, count_where, is_queue_full, is_table_full, owe};
@@ -13,7 +10,6 @@ ghost use Rattle.ssh_channels.specs.Values.{reply_of};
 use crate::Reply;
 use crate::entry::Entry;
 use crate::table::{NUMBERS, Table};
-use ssh_types::{AskRefusal, Refusal};
 use std::alloc::{AllocError, Global};
 use std::collections::VecDeque;
 use std::marker::Model;
@@ -71,29 +67,15 @@ impl Channels {
         })
     }
 
-    // The channel of a message that comes on an open one.
-    fn open_entry(&self, number: u32) -> Result<Entry, Refusal>
-        ensures found { IfOk result (λ entry. at self.now.places number ≡ Some (place_of entry)) }
-        ensures open { IfOk result (λ entry. is_open (place_of entry) ≡ true) }
-        ensures refused { IfErr result (λ e. refusal_of e ≡ model.Refusal.UnknownChannel) }
-        ensures closed { OnErr result (is_at is_open (at self.now.places number) ≡ false) }
+    // What is kept of a channel that is confirmed and that the peer did not close.
+    fn open_entry(&self, number: u32) -> Option<Entry>
+        ensures found { IfSome result (λ entry. at self.now.places number ≡ Some (place_of entry)) }
+        ensures open { IfSome result (λ entry. is_open (place_of entry) ≡ true) }
+        ensures closed { IfNone result (is_at is_open (at self.now.places number) ≡ false) }
     {
         match self.table.get(number) {
-            Some(entry) if entry.is_open() => Ok(entry),
-            _ => Err(Refusal::UnknownChannel),
-        }
-    }
-
-    // The channel of an ask for an open one.
-    fn confirmed_entry(&self, number: u32) -> Result<Entry, AskRefusal>
-        ensures found { IfOk result (λ entry. at self.now.places number ≡ Some (place_of entry)) }
-        ensures open { IfOk result (λ entry. is_open (place_of entry) ≡ true) }
-        ensures refused { IfErr result (λ e. ask_refusal_of e ≡ model.AskRefusal.NoChannel) }
-        ensures closed { OnErr result (is_at is_open (at self.now.places number) ≡ false) }
-    {
-        match self.table.get(number) {
-            Some(entry) if entry.is_open() => Ok(entry),
-            _ => Err(AskRefusal::NoChannel),
+            Some(entry) if entry.is_open() => Some(entry),
+            _ => None,
         }
     }
 

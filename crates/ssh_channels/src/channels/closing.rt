@@ -27,9 +27,8 @@ impl Channels {
         ensures passed { OnOk result (first_refusal (take_checks false self.old (Msg.ChannelEof recipient)) ≡ None) }
         ensures taken { IfOk result (λ t. (is_blocked : Bool) → Takes is_blocked self.old (Msg.ChannelEof recipient) (taken_of t) self.new) }
     {
-        let entry = match self.open_entry(recipient) {
-            Ok(entry) => entry,
-            Err(refusal) => return Err(refusal),
+        let Some(entry) = self.open_entry(recipient) else {
+            return Err(Refusal::UnknownChannel);
         };
         if entry.eof_taken {
             return Err(Refusal::Unexpected);
@@ -61,9 +60,8 @@ impl Channels {
         ensures passed { OnOk result (first_refusal (take_checks blocked self.old (Msg.ChannelClose recipient)) ≡ None) }
         ensures taken { IfOk result (λ t. Takes blocked self.old (Msg.ChannelClose recipient) (taken_of t) self.new) }
     {
-        let entry = match self.open_entry(recipient) {
-            Ok(entry) => entry,
-            Err(refusal) => return Err(refusal),
+        let Some(entry) = self.open_entry(recipient) else {
+            return Err(Refusal::UnknownChannel);
         };
         let fact = Some(Fact::Closed { channel: recipient });
         if entry.close_said {
@@ -116,9 +114,8 @@ impl Channels {
         ensures fits { IfOk result (λ t. Fits t.message) }
         ensures short { IfOk result (λ t. payload_size (meaning t.message) ≤ 34000) }
     {
-        let entry = match self.confirmed_entry(channel) {
-            Ok(entry) => entry,
-            Err(refusal) => return Err(refusal),
+        let Some(entry) = self.open_entry(channel) else {
+            return Err(AskRefusal::NoChannel);
         };
         if entry.is_ended() {
             return Err(AskRefusal::Ended);
@@ -149,9 +146,8 @@ impl Channels {
         ensures fits { IfOk result (λ t. Fits t.message) }
         ensures short { IfOk result (λ t. payload_size (meaning t.message) ≤ 34000) }
     {
-        let entry = match self.confirmed_entry(channel) {
-            Ok(entry) => entry,
-            Err(refusal) => return Err(refusal),
+        let Some(entry) = self.open_entry(channel) else {
+            return Err(AskRefusal::NoChannel);
         };
         if entry.close_said {
             return Err(AskRefusal::Ended);

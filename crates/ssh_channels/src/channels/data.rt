@@ -34,9 +34,8 @@ impl Channels {
         ensures passed { OnOk result (first_refusal (take_checks false self.old (Msg.ChannelWindowAdjust recipient bytes)) ≡ None) }
         ensures taken { IfOk result (λ t. (is_blocked : Bool) → Takes is_blocked self.old (Msg.ChannelWindowAdjust recipient bytes) (taken_of t) self.new) }
     {
-        let entry = match self.open_entry(recipient) {
-            Ok(entry) => entry,
-            Err(refusal) => return Err(refusal),
+        let Some(entry) = self.open_entry(recipient) else {
+            return Err(Refusal::UnknownChannel);
         };
         if bytes > u32::MAX - entry.send_window {
             return Err(Refusal::WindowTooLarge);
@@ -71,9 +70,8 @@ impl Channels {
         ensures passed { OnOk result (first_refusal (data_checks (at self.old.places recipient) (length body.now)) ≡ None) }
         ensures taken { IfOk result (λ t. (is_blocked : Bool) → Takes is_blocked self.old (data_message recipient kind body.now) (taken_of t) self.new) }
     {
-        let entry = match self.open_entry(recipient) {
-            Ok(entry) => entry,
-            Err(refusal) => return Err(refusal),
+        let Some(entry) = self.open_entry(recipient) else {
+            return Err(Refusal::UnknownChannel);
         };
         if entry.eof_taken {
             return Err(Refusal::Unexpected);
@@ -115,9 +113,8 @@ impl Channels {
         ensures fits { IfOk result (λ t. Fits t.message) }
         ensures short { IfOk result (λ t. payload_size (meaning t.message) ≤ 34000) }
     {
-        let entry = match self.confirmed_entry(channel) {
-            Ok(entry) => entry,
-            Err(refusal) => return Err(refusal),
+        let Some(entry) = self.open_entry(channel) else {
+            return Err(AskRefusal::NoChannel);
         };
         if entry.is_ended() {
             return Err(AskRefusal::Ended);
@@ -157,9 +154,8 @@ impl Channels {
         ensures fits { IfOk result (λ t. Fits t.message) }
         ensures short { IfOk result (λ t. payload_size (meaning t.message) ≤ 34000) }
     {
-        let entry = match self.confirmed_entry(channel) {
-            Ok(entry) => entry,
-            Err(refusal) => return Err(refusal),
+        let Some(entry) = self.open_entry(channel) else {
+            return Err(AskRefusal::NoChannel);
         };
         if entry.close_said {
             return Err(AskRefusal::Ended);

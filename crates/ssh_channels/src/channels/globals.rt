@@ -33,10 +33,10 @@ impl Channels {
         ensures passed { OnOk result (first_refusal (take_checks false self.old (Msg.GlobalRequest name.now want rest.now)) ≡ None) }
         ensures taken { IfOk result (λ t. (is_blocked : Bool) → Takes is_blocked self.old (Msg.GlobalRequest name.now want rest.now) (taken_of t) self.new) }
     {
-        self.globals_here = match count_where(want, self.globals_here) {
-            Some(count) => count,
-            None => return Err(Refusal::OwedFull),
+        let Some(waiting) = count_where(want, self.globals_here) else {
+            return Err(Refusal::OwedFull);
         };
+        self.globals_here = waiting;
         Ok(Taken {
             channel: None,
             reply: None,
@@ -83,9 +83,8 @@ impl Channels {
         ensures fits { IfOk result (λ t. Fits t.message) }
         ensures short { IfOk result (λ t. payload_size (meaning t.message) ≤ 34000) }
     {
-        let waiting = match count_where(want, self.globals_there) {
-            Some(count) => count,
-            None => return Err(AskRefusal::Busy),
+        let Some(waiting) = count_where(want, self.globals_there) else {
+            return Err(AskRefusal::Busy);
         };
         if is_too_long_with(2, name, rest) {
             return Err(AskRefusal::TooLong);

@@ -97,10 +97,7 @@ impl Channels {
         ensures taken { IfOk result (λ t. (is_blocked : Bool) → Takes is_blocked self.old (Msg.ChannelOpen kind.now sender window max_packet rest.now) (taken_of t) self.new) }
     {
         let entry = Entry::waiting(sender, window, max_packet);
-        let number = match self.table.insert(entry) {
-            Ok(number) => number,
-            Err(error) => return Err(error),
-        };
+        let number = self.table.insert(entry)?;
         Ok(Taken {
             channel: Some(number),
             reply: None,
@@ -142,10 +139,7 @@ impl Channels {
         ensures passed { OnOk result (first_refusal (opening_checks (at self.old.places recipient)) ≡ None) }
         ensures taken { IfOk result (λ t. (is_blocked : Bool) → Takes is_blocked self.old (Msg.ChannelOpenConfirmation recipient sender window max_packet rest.now) (taken_of t) self.new) }
     {
-        let entry = match self.opening_entry(recipient) {
-            Ok(entry) => entry,
-            Err(refusal) => return Err(refusal),
-        };
+        let entry = self.opening_entry(recipient)?;
         self.table.set(
             recipient,
             Entry {
@@ -181,10 +175,7 @@ impl Channels {
         ensures passed { OnOk result (first_refusal (opening_checks (at self.old.places recipient)) ≡ None) }
         ensures taken { IfOk result (λ t. (is_blocked : Bool) (language : List ℕ) → Takes is_blocked self.old (Msg.ChannelOpenFailure recipient reason description.now language) (taken_of t) self.new) }
     {
-        let _entry = match self.opening_entry(recipient) {
-            Ok(entry) => entry,
-            Err(refusal) => return Err(refusal),
-        };
+        let _entry = self.opening_entry(recipient)?;
         self.table.remove(recipient);
         Ok(Taken {
             channel: Some(recipient),
@@ -268,10 +259,7 @@ impl Channels {
         ensures fits { IfOk result (λ t. Fits t.message) }
         ensures short { IfOk result (λ t. payload_size (meaning t.message) ≤ 34000) }
     {
-        let entry = match self.waiting_entry(channel) {
-            Ok(entry) => entry,
-            Err(refusal) => return Err(refusal),
-        };
+        let entry = self.waiting_entry(channel)?;
         if !is_max_packet(max_packet) {
             return Err(AskRefusal::TooMuch);
         }
@@ -314,10 +302,7 @@ impl Channels {
         ensures fits { IfOk result (λ t. Fits t.message) }
         ensures short { IfOk result (λ t. payload_size (meaning t.message) ≤ 34000) }
     {
-        let entry = match self.waiting_entry(channel) {
-            Ok(entry) => entry,
-            Err(refusal) => return Err(refusal),
-        };
+        let entry = self.waiting_entry(channel)?;
         self.table.remove(channel);
         Ok(Sent {
             channel: Some(channel),

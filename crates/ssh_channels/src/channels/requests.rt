@@ -36,14 +36,12 @@ impl Channels {
         ensures passed { OnOk result (first_refusal (take_checks false self.old (Msg.ChannelRequest recipient name.now want rest.now)) ≡ None) }
         ensures taken { IfOk result (λ t. (is_blocked : Bool) → Takes is_blocked self.old (Msg.ChannelRequest recipient name.now want rest.now) (taken_of t) self.new) }
     {
-        let entry = match self.open_entry(recipient) {
-            Ok(entry) => entry,
-            Err(refusal) => return Err(refusal),
+        let Some(entry) = self.open_entry(recipient) else {
+            return Err(Refusal::UnknownChannel);
         };
         let waits = want && !entry.close_said;
-        let waiting_here = match count_where(waits, entry.waiting_here) {
-            Some(count) => count,
-            None => return Err(Refusal::OwedFull),
+        let Some(waiting_here) = count_where(waits, entry.waiting_here) else {
+            return Err(Refusal::OwedFull);
         };
         self.table.set(
             recipient,
@@ -76,9 +74,8 @@ impl Channels {
         ensures passed { OnOk result (first_refusal (reply_checks (at self.old.places recipient)) ≡ None) }
         ensures taken { IfOk result (λ t. (is_blocked : Bool) → Takes is_blocked self.old (reply_message recipient success) (taken_of t) self.new) }
     {
-        let entry = match self.open_entry(recipient) {
-            Ok(entry) => entry,
-            Err(refusal) => return Err(refusal),
+        let Some(entry) = self.open_entry(recipient) else {
+            return Err(Refusal::UnknownChannel);
         };
         if entry.waiting_there == 0 {
             return Err(Refusal::Unexpected);
@@ -116,13 +113,11 @@ impl Channels {
         ensures fits { IfOk result (λ t. Fits t.message) }
         ensures short { IfOk result (λ t. payload_size (meaning t.message) ≤ 34000) }
     {
-        let entry = match self.table.get(channel) {
-            Some(entry) => entry,
-            None => return Err(AskRefusal::NoChannel),
+        let Some(entry) = self.table.get(channel) else {
+            return Err(AskRefusal::NoChannel);
         };
-        let waiting_there = match count_where(want, entry.waiting_there) {
-            Some(count) => count,
-            None => return Err(AskRefusal::Busy),
+        let Some(waiting_there) = count_where(want, entry.waiting_there) else {
+            return Err(AskRefusal::Busy);
         };
         if !entry.is_open() {
             return Err(AskRefusal::NoChannel);
@@ -166,9 +161,8 @@ impl Channels {
         ensures fits { IfOk result (λ t. Fits t.message) }
         ensures short { IfOk result (λ t. payload_size (meaning t.message) ≤ 34000) }
     {
-        let entry = match self.confirmed_entry(channel) {
-            Ok(entry) => entry,
-            Err(refusal) => return Err(refusal),
+        let Some(entry) = self.open_entry(channel) else {
+            return Err(AskRefusal::NoChannel);
         };
         if entry.close_said {
             return Err(AskRefusal::Ended);

@@ -41,10 +41,7 @@ impl Channels {
     fn kept_state(&self, channel: u32) -> Option<ChannelState>
         ensures { option_map state_of result ≡ shown_state (at self.now.places channel) }
     {
-        let entry = match self.table.get(channel) {
-            Some(entry) => entry,
-            None => return None,
-        };
+        let entry = self.table.get(channel)?;
         if entry.is_answered {
             return Some(ChannelState::Confirmed {
                 eof_sent: entry.eof_sent,

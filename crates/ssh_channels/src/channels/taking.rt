@@ -41,7 +41,7 @@ impl Channels {
         ensures taken { IfOk result (λ t. Takes blocked self.old (meaning message.now) (taken_of t) self.new) }
     {
         let taken = match *message {
-            Message::GlobalRequest { name, want, rest } => { self.take_global(name, want, rest) }
+            Message::GlobalRequest { name, want, rest } => self.take_global(name, want, rest),
             Message::RequestSuccess { rest } => self.take_global_reply(true, rest),
             Message::RequestFailure => self.take_global_reply(false, b""),
             Message::ChannelOpen {
@@ -64,10 +64,8 @@ impl Channels {
                 description,
                 ..
             } => self.take_failure(recipient, reason, description),
-            Message::ChannelWindowAdjust { recipient, bytes } => {
-                self.take_adjust(recipient, bytes)
-            }
-            Message::ChannelData { recipient, body } => { self.take_data(recipient, None, body) }
+            Message::ChannelWindowAdjust { recipient, bytes } => self.take_adjust(recipient, bytes),
+            Message::ChannelData { recipient, body } => self.take_data(recipient, None, body),
             Message::ChannelExtendedData {
                 recipient,
                 kind,
