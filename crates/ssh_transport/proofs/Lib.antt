@@ -12,3 +12,4 @@ pub mod OwnMarkers
 pub mod LineTurns
 pub mod Kexinits
 pub mod Sending
+pub mod Sharing

@@ -21,6 +21,7 @@ mod phase;
 mod refusing;
 mod sending;
 mod service;
+mod sharing;
 
 use crate::config::Config;
 use crate::packets::{PacketReceiver, PacketSender};

@@ -83,6 +83,6 @@ impl<S: Sealing, F: Filler + Drop> Base<S, F> {
 }
 
 // The length that the type says: a fact for proofs.
-fn has_32_bytes(bytes: &[u8; 32])
+pub(crate) fn has_32_bytes(bytes: &[u8; 32])
     ensures { length bytes.now ≡ 32 }
 {}
