@@ -11,3 +11,4 @@ pub mod OwnMarkers
 pub mod LineTurns
 pub mod Kexinits
 pub mod Sending
+pub mod Sharing

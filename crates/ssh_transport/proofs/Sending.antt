@@ -1,14 +1,19 @@
 -- What was put out spells a message.
-use Rattle.std.proofs.Common.{◌≡◌, ℕ, List, [], ◌∷◌, ◌++◌, refl, ap, sym, ◌∙◌, append-nil, subst, true}
+use Rattle.std.proofs.Common.{◌≡◌, ℕ, List, [], ◌∷◌, ◌++◌, refl, ap, sym, ◌∙◌, append-nil, subst, arith, true, false}
 use Rattle.std.specs.Prelude.{Result, Ok, Err, OnOk, Some, None, ◌^◌}
-use Rattle.ssh_model.specs.Wire.Message.{Msg, Msg.Disconnect}
+use Rattle.ssh_model.specs.Wire.Message.{Msg, Msg.Disconnect, Msg.KexInit, Msg.NewKeys}
 use Rattle.ssh_model.specs.Wire.Sealing.{Crypto}
 use Rattle.ssh_model.specs.Sessions.Refusals.{Refusal, refusal_name, refusal_reason}
 use Rattle.ssh_model.specs.Sessions.Items.{Spelled.SpelledBy}
 use Rattle.ssh_model.specs.Sessions.Turns.{IsSpelled}
 use Rattle.ssh_model.specs.TransportLayer.Directions.{Direction}
-use Rattle.ssh_model.specs.TransportLayer.Kept.{Transport}
+use Rattle.ssh_model.specs.KeyExchange.Exchanges.{Material}
+use Rattle.ssh_model.specs.Sessions.Parties.{offer_of}
+use Rattle.ssh_model.specs.TransportLayer.Kept.{Transport, after_own_kexinit}
 use Rattle.ssh_model.specs.TransportLayer.Turns as turns
+use Rattle.ssh_transport.specs.Directions.{newkeys}
+use Rattle.ssh_transport.specs.Offering.{OwnSent}
+use Rattle.ssh_transport.specs.State.{State}
 use Rattle.ssh_transport.specs.Puts.{Outs, PutsPayload, Refuses, Sends}
 
 pub on_ok : {A E P Q : Type 0} (r : Result A E) → (P → Q) → OnOk r P → OnOk r Q
@@ -60,3 +65,26 @@ farewell c old refusal new o reason name e n d x =
       lists = y.puts.lists;
       dead = d;
     }
+
+pub own_sent : {K A E : Type 0} (c : Crypto K) (s o : State K) (m : Material) (payload own : List ℕ) (new : State K) (out : Outs) (r : Result A E) → s ≡ o → own ≡ payload →
+    IsSpelled (KexInit (offer_of o.kept.settings o.kept.side false m.cookie)) payload → OnOk r (PutsPayload c s.kept.sending payload out) → OnOk r (new ≡ record s { kept = after_own_kexinit m own s.kept }) → OnOk r (OwnSent c o m new out)
+own_sent {K} c s o m payload own new out (Ok x) same kept spelled puts after =
+    let y : PutsPayload c o.kept.sending payload out = subst (λ (w : State K). PutsPayload c w.kept.sending payload out) same puts in
+    let z : new ≡ record s { kept = after_own_kexinit m payload s.kept } = subst (λ (t : List ℕ). new ≡ record s { kept = after_own_kexinit m t s.kept }) kept after in
+    record {
+      payload = payload;
+      puts = record {
+        more = y.wire;
+        packets = turns.PutsPackets.packet _ payload y.wire turns.PutsPackets.nothing spelled y.left y.sealed;
+        parts = y.parts;
+        lists = y.lists;
+      };
+      after = subst (λ (w : State K). new ≡ record w { kept = after_own_kexinit m payload w.kept }) same z;
+    }
+own_sent c s o m payload own new out (Err e) same kept spelled puts after = tt
+
+newkeys_spelled : IsSpelled NewKeys newkeys
+newkeys_spelled = record { context = tt; row = record { front = newkeys; back = []; first = refl; second = refl; parts = refl }; size = omega arith }
+
+pub newkeys_out : {K : Type 0} (c : Crypto K) (d : Direction K) (o : Outs) → PutsPayload c d newkeys o → Sends c d NewKeys o
+newkeys_out c d o x = spelled_out c d NewKeys newkeys o newkeys_spelled x

@@ -10,3 +10,5 @@ pub mod LineTurns
 pub mod Puts
 pub mod Kexinits
 pub mod Judging
+pub mod Hashing
+pub mod Offering

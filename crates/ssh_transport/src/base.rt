@@ -6,17 +6,22 @@ ghost use Rattle.ssh_model.specs.Sessions.Turns.{number_of};
 ghost use Rattle.ssh_transport.specs.LineTurns.{LineTaken};
 ghost use Rattle.ssh_transport.specs.State.{dead_state};
 
+mod answering;
+mod completing;
+mod hashing;
 mod judging;
 mod kexinit;
 mod kexinit_payload;
 mod line_turn;
 mod material;
 mod numbers;
+mod offering;
 mod opening;
 mod phase;
 mod refusing;
 mod sending;
 mod service;
+mod sharing;
 
 use crate::config::Config;
 use crate::packets::{PacketReceiver, PacketSender};

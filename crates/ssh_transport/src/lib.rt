@@ -39,6 +39,7 @@
 mod base;
 mod config;
 mod kexinit;
+mod key_making;
 mod packets;
 mod parts;
 

@@ -105,7 +105,7 @@ module _ {K : Type 0} (p : Parties K) (side : Side) (v : View) (s : Transport K)
   keyed_points Server gone op tp own tr secret x = record { point_count = x.point_count; reply_count = x.reply_count }
 
   pub newkeys_live : (b : List ℕ) (key : K) → v.phase ≡ Keying → s.pending ≡ Some key →
-      Live p side (record v { took = NewkeysOf b ∷ v.took; phase = Normal }) (record s { taking = renewed s.strict key (counted s.taking); phase = Normal })
+      Live p side (record v { took = NewkeysOf b ∷ v.took; phase = Normal }) (record s { taking = renewed s.strict key (counted s.taking); phase = Normal; pending = None })
   newkeys_live b key here has =
       let one : bit (is_keying v.phase) ≡ 1 = ap (λ (q : Phase). bit (is_keying q)) here in
       let none : bit (is_agreeing v.phase) ≡ 0 = ap (λ (q : Phase). bit (is_agreeing q)) here in

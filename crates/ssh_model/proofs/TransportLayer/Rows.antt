@@ -175,12 +175,12 @@ module _ {K : Type 0} (p : Parties K) where
   }
 
   module _ (side : Side) (h : List Item) (s : Transport K) (sums : SumsUp p side h s) (alive : s.dead ≡ false) where
-    newkeys_taken : (payload : List ℕ) (key : K) → s.phase ≡ Keying → s.pending ≡ Some key → SumsUp p side (Took None NewKeys payload ∷ h) (record s { taking = renewed s.strict key (counted s.taking); phase = Normal })
+    newkeys_taken : (payload : List ℕ) (key : K) → s.phase ≡ Keying → s.pending ≡ Some key → SumsUp p side (Took None NewKeys payload ∷ h) (record s { taking = renewed s.strict key (counted s.taking); phase = Normal; pending = None })
     newkeys_taken payload key here has = record {
       dead_is = sums.dead_is;
       live = λ z.
           let a = sums.live alive in
-          subst (λ (v : View). Live p side v (record s { taking = renewed s.strict key (counted s.taking); phase = Normal })) (newkeys_seen side h payload)
+          subst (λ (v : View). Live p side v (record s { taking = renewed s.strict key (counted s.taking); phase = Normal; pending = None })) (newkeys_seen side h payload)
           (newkeys_live p side (view p side h) s a payload key (sym a.phase_is ∙ here) has);
     }
 

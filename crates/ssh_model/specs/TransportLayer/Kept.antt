@@ -316,7 +316,7 @@ pub data Takes {K : Type 0} (agreement : Agreement) (s : Transport K) (payload :
       (after_sent (after_own_kexinit material own (after_kexinit theirs payload s)))
   -- the epoch of the key that was made when the exchange was completed
   newkeys : (key : K) → s.phase ≡ Keying → s.pending ≡ Some key →
-      Takes agreement s payload NewKeys (sends []) (record s { taking = renewed s.strict key (counted s.taking); phase = Normal })
+      Takes agreement s payload NewKeys (sends []) (record s { taking = renewed s.strict key (counted s.taking); phase = Normal; pending = None })
 
 -- ---- the end of an exchange
 
