@@ -1,6 +1,6 @@
 //! Which payloads an end may take, by their numbers.
 
-ghost use Rattle.std.specs.Prelude.{◌≡◌, ◌≤◌, ◌-◌, ◌||◌, ◌&&◌, ◌==◌, not, Bool};
+ghost use Rattle.std.specs.Prelude.{◌≡◌, ◌≤◌, ◌-◌, ◌||◌, ◌&&◌, ◌==◌, not, nat_lt, Bool};
 ghost use Rattle.ssh_model.specs.KeyExchange.Exchanges.{has_marker};
 ghost use Rattle.ssh_model.specs.Sessions.Parties.{extension_marker_of, is_offered as is_offering, marker_of};
 ghost use Rattle.ssh_model.specs.Sessions.Phases as model;
@@ -53,7 +53,7 @@ impl<S: Sealing, F: Filler + Drop> Base<S, F> {
         if self.taking.epoch() == 0 {
             return at_first(self.strict, number);
         }
-        is_general(number) || (number < 30 && !is_known(number))
+        is_general(number) || is_spare_early(number)
     }
 
     // Outside an exchange.
@@ -143,6 +143,13 @@ fn is_known(number: u8) -> bool
         || number == 60
         || (80 <= number && number <= 82)
         || (90 <= number && number <= 100)
+}
+
+// An unknown number below those of the key exchange methods.
+fn is_spare_early(number: u8) -> bool
+    ensures { result ≡ (nat_lt number 30 && not (messages.is_known number)) }
+{
+    number < 30 && !is_known(number)
 }
 
 // An unknown number below those of the connection.
