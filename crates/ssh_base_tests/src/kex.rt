@@ -4,10 +4,10 @@ use ssh_types::NameList;
 use std::process::Abort;
 use std::test::*;
 
-mod supplied;
 mod key_lengths;
 mod memory;
 mod recorded;
+mod supplied;
 
 use recorded::{Recorded, exchanges};
 
