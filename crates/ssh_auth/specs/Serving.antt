@@ -109,7 +109,7 @@ abbrev pub ServerRefuses : Judge → (session : List ℕ) → Server → Msg →
 ServerRefuses judge session server message (Refused refusal) = first_refusal (server_refusals judge session server message) ≡ Some (auth_refusal refusal)
 ServerRefuses judge session server message Memory = NeedsText judge server message
 
--- What is kept of a judged request: the user is let in, or the failure is counted.
+-- What is kept of a judged request: the user is authenticated, or the failure is counted.
 abbrev pub settled : Server → ServerAnswer → Server
 settled server (answer.Accepted user) = record server { kept = record server.kept { authenticated = true } }
 settled server answer.Failed = record server { kept = record server.kept { failures = server.kept.failures + 1 } }

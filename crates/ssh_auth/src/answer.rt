@@ -7,7 +7,7 @@ use ssh_types::NameList;
 pub enum ServerAnswer<'a> {
     /// Nothing is sent: USERAUTH_SUCCESS was sent before. Told is that the request was ignored (RFC 4252 section 5.1).
     Ignored,
-    /// USERAUTH_SUCCESS is sent (RFC 4252 section 5.1). Told is who was let in.
+    /// USERAUTH_SUCCESS is sent (RFC 4252 section 5.1). Told is who was authenticated.
     Accepted { user: &'a [u8] },
     /// USERAUTH_PK_OK is sent: a signature by this key would be looked at (RFC 4252 section 7). Nothing is told.
     KeyOk { algorithm: &'a [u8], key: &'a [u8] },
@@ -28,7 +28,7 @@ pub enum ClientAnswer<'a> {
         /// The request was right, and more is wanted.
         partial: bool,
     },
-    /// The user is let in (RFC 4252 section 5.1).
+    /// The user is authenticated (RFC 4252 section 5.1).
     Authenticated,
     /// A text to show (RFC 4252 section 5.4).
     Banner {

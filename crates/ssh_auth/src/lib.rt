@@ -1,7 +1,7 @@
 //! User authentication of SSH (RFC 4252): what a server and a client keep of it, what they make of each message, and
 //! which requests a client sends.
 //!
-//! An `AuthServer` takes USERAUTH_REQUEST and answers it by the verdicts of a `UserJudge` that it is handed: by
+//! An `AuthServer` takes USERAUTH_REQUEST and answers it by the verdicts of a supplied `UserJudge`: by
 //! `none`, by `password` and by `publickey` with its key probes. An `AuthClient` is asked for requests, which a
 //! `UserSigner` signs, one outstanding at a time, and takes the answers. Neither reads or writes bytes: they take
 //! decoded messages and answer what is to be sent and told. Every request is for the service `ssh-connection`.
@@ -25,7 +25,7 @@
 //!     encode(&reply, &mut out)?;                        // SUCCESS, FAILURE or PK_OK
 //! }
 //! if let ServerAnswer::Accepted { user } = answer {
-//!     println!(rt; "{user:?} is let in")?;
+//!     println!(rt; "{user:?} is authenticated")?;
 //! }
 //!
 //! let mut client = AuthClient::new(alloc);

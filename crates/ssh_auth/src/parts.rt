@@ -1,15 +1,15 @@
-//! The parts of authentication that are handed in.
+//! The supplied parts of authentication.
 
 ghost use Rattle.std.specs.Prelude.{◌≡◌, ◌≤◌, ℕ, List, take};
 ghost use Rattle.ssh_model.specs.Authentication.Requests.{Judge};
 
-/// Whom a server lets in. Each answer is a function of the part and the arguments, and true is acceptance. A method
+/// Whom a server authenticates. Each answer is a function of the part and the arguments, and true is acceptance. A method
 /// that the server does not name is never put to it, nor is a request for another service, a key over 16,384 bytes or
 /// one under an algorithm name over 64 bytes.
 pub trait UserJudge {
     ghost verdicts: { Self → Judge };
 
-    /// Tests whether the user is let in without more (RFC 4252 section 5.2).
+    /// Tests whether the user is authenticated without more (RFC 4252 section 5.2).
     fn none(&self, user: &[u8]) -> bool
         ensures { result ≡ (verdicts self.now).admits user.now };
 

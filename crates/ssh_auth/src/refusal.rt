@@ -73,7 +73,7 @@ pub enum AuthAskRefusal {
     /// A request is not answered yet.
     #[error("another request is under way")]
     Busy,
-    /// The user is let in already.
+    /// The user is authenticated already.
     #[error("it is over already")]
     Ended,
     /// The payload would have over 34,000 bytes, with a signature of 4,096 bytes where it is signed.

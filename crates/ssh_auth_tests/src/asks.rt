@@ -108,7 +108,7 @@ fn asks_that_are_too_long(rt: HostRuntime) -> Result<(), Fail> {
 }
 
 // A client takes an answer while a request is outstanding, PK_OK as the answer to a probe alone, and BANNER until it
-// is let in. It takes no request.
+// is authenticated. It takes no request.
 #[test]
 fn messages_that_a_client_takes(rt: HostRuntime) -> Result<(), Fail> {
     let methods = NameList::new(b"password").ok_or("no names")?;

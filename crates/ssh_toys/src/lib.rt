@@ -1,4 +1,4 @@
-//! Parts that can be handed to an end, for tests and for the program that plays scripts. **They protect nothing**: the filler
+//! Parts that can be supplied to an end, for tests and for the program that plays scripts. **They protect nothing**: the filler
 //! always gives the same byte, and whoever sees a public point knows what is shared. Never use them on a network.
 //!
 //! Each is proved against the contract of its part, so these contracts can be met.

@@ -6,7 +6,7 @@
 //! config is good (`every_config_is_good`): its version line has at most 255 bytes with CR LF, its lists have 1 to 16
 //! names, the sealing knows each pair of its encryptions and MACs, and its limits and extensions are within their bounds.
 //!
-//! The parts that an end is handed are named by one type of the user's own, a `ClientParts` or a `ServerParts`; their
+//! The supplied parts of an end are named by one type of the user's own, a `ClientParts` or a `ServerParts`; their
 //! values are a `ClientPartValues` or a `ServerPartValues`.
 //!
 //! What an end offers in a KEXINIT follows from its settings (`offer_of_settings`): its lists in both directions, no

@@ -1,9 +1,9 @@
-//! The parts that an end is handed.
+//! The supplied parts of an end.
 
 use ssh_kex::{Agreement, HostSigner, HostTrust};
 use ssh_packet::{Filler, Sealing};
 
-/// The types of the parts that a client is handed. It has no calls: a type of the user's own names the parts that go
+/// The types of the supplied parts of a client. It has no calls: a type of the user's own names the parts that go
 /// together, and a client takes that type as its one parameter. The values are a `ClientPartValues`.
 pub trait ClientParts {
     /// Seals and opens packets. Its calls need no value.
@@ -19,7 +19,7 @@ pub trait ClientParts {
     type HostTrust: HostTrust + Drop;
 }
 
-/// The types of the parts that a server is handed. It has no calls: a type of the user's own names the parts that go
+/// The types of the supplied parts of a server. It has no calls: a type of the user's own names the parts that go
 /// together, and a server takes that type as its one parameter. The values are a `ServerPartValues`.
 pub trait ServerParts {
     /// Seals and opens packets. Its calls need no value.
@@ -35,7 +35,7 @@ pub trait ServerParts {
     type HostSigner: HostSigner + Drop;
 }
 
-/// The parts that a client is handed: each type of `ClientParts` but the sealing, whose calls need no value.
+/// The supplied parts of a client: each type of `ClientParts` but the sealing, whose calls need no value.
 pub struct ClientPartValues<P: ClientParts> {
     /// Gives the bytes of the padding.
     pub filler: P::Filler,
@@ -56,7 +56,7 @@ impl<P: ClientParts> Drop for ClientPartValues<P> {
     }
 }
 
-/// The parts that a server is handed: each type of `ServerParts` but the sealing, whose calls need no value.
+/// The supplied parts of a server: each type of `ServerParts` but the sealing, whose calls need no value.
 pub struct ServerPartValues<P: ServerParts> {
     /// Gives the bytes of the padding.
     pub filler: P::Filler,
