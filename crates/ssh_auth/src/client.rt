@@ -103,7 +103,8 @@ impl AuthClient {
         !matches!(self.outstanding, Outstanding::Nothing)
     }
 
-    /// Takes a message of authentication, and answers what is to be told. It needs no memory.
+    /// Takes a message of authentication, and answers what is to be told. It needs no memory. What this says of the
+    /// history of a session is the law `laws::client_turns`.
     ///
     /// # Errors
     ///
@@ -139,7 +140,8 @@ impl AuthClient {
     }
 
     /// Makes the request that is asked for, with the session id of the connection (RFC 4253 section 7.2). It is then
-    /// outstanding. Memory is asked for only where something is to be signed, for the text (`put_signed_text`).
+    /// outstanding. Memory is asked for only where something is to be signed, for the text (`put_signed_text`). What
+    /// this says of the history of a session is the law `laws::client_ask_turns`.
     ///
     /// # Errors
     ///

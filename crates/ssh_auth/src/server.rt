@@ -131,7 +131,7 @@ impl AuthServer {
     /// `ssh-connection` and the judge accepts it by `none`, by a password that is not to be changed, or by a
     /// signature of a known key; the last two where the server names the method. A key probe for a known key is
     /// answered `KeyOk`. Every other request fails and is counted. A key over 16,384 bytes, or one under a name over
-    /// 64 bytes, is not known.
+    /// 64 bytes, is not known. What this says of the history of a session is the law `laws::server_turns`.
     ///
     /// # Errors
     ///
