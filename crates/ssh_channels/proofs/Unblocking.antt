@@ -1,5 +1,5 @@
 -- A reply that was owed is given.
-use Rattle.std.proofs.Common.{◌≡◌, List, [], ◌∷◌, Option, Some, None, refl}
+use Rattle.std.proofs.Common.{◌≡◌, [], ◌∷◌, Some, None, refl}
 use Rattle.ssh_model.specs.Channels.Kept.{Channels, DueReply, Unblocks, Unblocks.oldest, Unblocks.nothing, freed_by}
 
 pub given : (reply : DueReply) (old new popped : Channels) → old ≡ record popped { owed = reply ∷ popped.owed } → new ≡ freed_by reply popped → Unblocks old (Some reply) new

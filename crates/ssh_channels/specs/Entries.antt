@@ -1,5 +1,4 @@
 -- An entry of the table in the words of the model.
-use Rattle.std.specs.Prelude.{ℕ}
 use Rattle.ssh_model.specs.Channels.Places.{Place}
 use Rattle.ssh_channels.specs.declared.entry.Entry.{Entry}
 

@@ -1,5 +1,5 @@
 -- The values of this crate in the words of the model: texts without where they lie.
-use Rattle.std.specs.Prelude.{ℕ, Option, option_map}
+use Rattle.std.specs.Prelude.{option_map}
 use Rattle.ssh_message.specs.Meaning.{meaning}
 use Rattle.ssh_model.specs.Channels.Places as places
 use Rattle.ssh_model.specs.Channels.Kept as kept

@@ -1,4 +1,4 @@
-use Rattle.std.proofs.Common.{ap, refl, ◌∙◌, sym, count_by, is_some}
+use Rattle.std.proofs.Common.{refl}
 use Rattle.ssh_channels.specs.Entries.{place_of}
 use Rattle.ssh_channels.proofs.Tables.{some_free, used_places, free_place, inserted_places, inserted_table, same_places}
 use Rattle.ssh_channels.proofs.table.Table.insert.Goals as goal

@@ -1,4 +1,4 @@
-use Rattle.std.proofs.Common.{refl, ap, count_by, is_some}
+use Rattle.std.proofs.Common.{ap, count_by, is_some}
 use Rattle.ssh_channels.specs.Entries.{place_of}
 use Rattle.ssh_channels.proofs.Tables.{none_places, none_table}
 use Rattle.ssh_channels.proofs.table.Table.new.Goals as goal
