@@ -5,22 +5,22 @@ ghost use Rattle.std.specs.Prelude.{◌≡◌, ◌<◌, ◌≤◌, ◌+◌, ◌^
 ghost use Rattle.ssh_model.specs.Side.{Side, Side.Client, Side.Server};
 ghost use Rattle.ssh_model.specs.Wire.Message.{Msg, Msg.Disconnect, Msg.KexInit, Msg.UserauthSuccess};
 ghost use Rattle.ssh_model.specs.KeyExchange.Choice.{Chosen};
-ghost use Rattle.ssh_model.specs.Sessions.Refusals.{Refusal, Refusal.NumberSpent, first_refusal};
+ghost use Rattle.ssh_model.specs.Sessions.Refusals.{AskRefusal, Refusal, Refusal.NumberSpent, first_refusal};
 ghost use Rattle.ssh_model.specs.Sessions.Transport.{transport_ask_checks};
-ghost use Rattle.ssh_model.specs.Sessions.Turns.{AreSpelled, OnPayload, answer_checks, can_feed, number_of, stage};
+ghost use Rattle.ssh_model.specs.Sessions.Turns.{AreSpelled, IsSpelled, OnPayload, answer_checks, can_feed, number_of, stage};
 ghost use Rattle.ssh_model.specs.Channels.Connection.{AreReplies, owed_replies};
 ghost use Rattle.ssh_model.specs.Wire.Line.{LineUnit};
 ghost use Rattle.ssh_model.specs.Wire.Outcome.{Outcome};
 ghost use Rattle.ssh_model.specs.Wire.Unit.{IsUnit, PacketUnit};
 ghost use Rattle.ssh_model.specs.Sessions.Parties.{Parties, agreement_of, offer, settings_of};
-ghost use Rattle.ssh_model.specs.Sessions.Items.{Ask, Ask.AskDisconnect, Fact.Completed, Fact.Disconnected, Fact.Ignored, Item, Item.Asked, Item.Died, Item.Refused, Item.Told, Item.Fed, Item.SentLine, Item.Sent, Item.Took, Item.TookLine, Item.TookGuess, Item.TookOtherLine, Spelled, Spelled.SpelledBy, Payload, Payload.NewkeysOf, Payload.OtherOf};
+ghost use Rattle.ssh_model.specs.Sessions.Items.{Ask, Ask.AskDisconnect, Fact.Completed, Fact.Disconnected, Fact.Ignored, Item, Item.Asked, Item.AskRefused, Item.Died, Item.Refused, Item.Told, Item.Fed, Item.SentLine, Item.Sent, Item.Took, Item.TookLine, Item.TookGuess, Item.TookOtherLine, Spelled, Spelled.SpelledBy, Payload, Payload.NewkeysOf, Payload.OtherOf};
 ghost use Rattle.ssh_model.specs.Sessions.Epochs.{epoch};
 ghost use Rattle.ssh_model.specs.Sessions.Phases.{Phase.Guessed, is_client, has_line, may_take};
 ghost use Rattle.ssh_model.specs.TransportLayer.Directions as directions;
 ghost use Rattle.ssh_model.specs.TransportLayer.Directions.{Direction, counted, new_direction, renewed};
 ghost use Rattle.ssh_model.specs.TransportLayer.Kept.{Answered, Asks, Completes, Takes, Transport, new_transport, after_sent, after_taken, after_line, after_other_line, after_success, after_fed, after_guess, is_fed, message_ask_checks, message_checks, takes};
 ghost use Rattle.ssh_model.specs.TransportLayer.Summary.{Accepts, Allows, Ends, SumsUp, answer_items, items_sent, parts_of, IsAwaited, IsPlain, IsTransportMessage, LeavesTransport};
-ghost use Rattle.ssh_model.specs.TransportLayer.Turns.{AskTurned, EndedBy, IsRefused, PutOut, PutsPackets, Reads, SaysWhy, Turned, UnitRefused, refusal_items};
+ghost use Rattle.ssh_model.specs.TransportLayer.Turns.{AskTurned, EndedBy, IsRefused, IsTransportAsk, PutOut, PutsPackets, Reads, SaysWhy, Turned, UnitRefused, refusal_items};
 
 /// A direction sums up the payloads that went through it, the newest first: its number is that of the next packet (RFC
 /// 4253 section 6.4, and OpenSSH's strict key exchange), its count is of those after the last NEWKEYS, and its epoch of
@@ -136,4 +136,14 @@ pub fn exchange_ends<K>()
 pub fn ask_turns<K>()
     ensures sent { (p : Parties K) (side : Side) (history : List Item) (s : Transport K) → SumsUp p side history s → s.dead ≡ false → (ask : Ask) (message : Msg) (payload : List ℕ) (new : Transport K) (more : List ℕ) → first_refusal (message_ask_checks s ask) ≡ None → Asks s ask message payload new → PutsPackets p.crypto s.sending (SpelledBy message payload ∷ []) more → AskTurned p side history ask (Sent None message payload ∷ Asked ask ∷ []) more new }
     ensures disconnected { (p : Parties K) (side : Side) (history : List Item) (s : Transport K) → SumsUp p side history s → s.dead ≡ false → (description payload : List ℕ) (new : Transport K) (more : List ℕ) → first_refusal (message_ask_checks s (AskDisconnect description)) ≡ None → new.dead ≡ true → PutsPackets p.crypto s.sending (SpelledBy (Disconnect 11 description []) payload ∷ []) more → AskTurned p side history (AskDisconnect description) (Died ∷ Sent None (Disconnect 11 description []) payload ∷ Asked (AskDisconnect description) ∷ []) more new }
+{}
+
+/// An ask that is refused changes nothing; and where no number is left for what an ask or the end of an exchange would send, the
+/// end is over: both are turns of a session. The replies that the layers above owe have to be there, for an exchange would end
+/// with them.
+pub fn refused_and_spent<K>()
+    ensures ask_refused { (p : Parties K) (side : Side) (history : List Item) (s : Transport K) → SumsUp p side history s → s.dead ≡ false → (ask : Ask) (refusal : AskRefusal) → IsTransportAsk ask → first_refusal (message_ask_checks s ask) ≡ Some refusal → AskTurned p side history ask (AskRefused refusal ∷ Asked ask ∷ []) [] s }
+    ensures ask_spent { (p : Parties K) (side : Side) (history : List Item) (s : Transport K) → SumsUp p side history s → s.dead ≡ false → (ask : Ask) (message : Msg) (payload : List ℕ) (new dead : Transport K) → first_refusal (message_ask_checks s ask) ≡ None → Asks s ask message payload new → IsSpelled message payload → s.sending.count ≡ 2 ^ 32 → dead.dead ≡ true → AskTurned p side history ask (Died ∷ Refused NumberSpent None ∷ Asked ask ∷ []) [] dead }
+    ensures disconnect_spent { (p : Parties K) (side : Side) (history : List Item) (s : Transport K) → SumsUp p side history s → s.dead ≡ false → (description payload : List ℕ) (dead : Transport K) → first_refusal (message_ask_checks s (AskDisconnect description)) ≡ None → IsSpelled (Disconnect 11 description []) payload → s.sending.count ≡ 2 ^ 32 → dead.dead ≡ true → AskTurned p side history (AskDisconnect description) (Died ∷ Refused NumberSpent None ∷ Asked (AskDisconnect description) ∷ []) [] dead }
+    ensures end_spent { (p : Parties K) (side : Side) (history : List Item) (s : Transport K) → SumsUp p side history s → s.dead ≡ false → (chosen : Chosen) (message : Msg) (payload : List ℕ) (last announced : List Spelled) (completed new dead : Transport K) (owed : List Item) → Reads s message payload → IsAwaited s chosen message → first_refusal (message_checks (agreement_of p side) p.trusts chosen s message) ≡ None → Completes p.crypto (parts_of p side) chosen s message last announced completed new → AreSpelled (items_sent (announced ++ last)) → AreReplies (owed_replies side history) owed → AreSpelled owed → 2 ^ 32 < s.sending.count + length last → dead.dead ≡ true → Turned p side history payload (Died ∷ Refused NumberSpent (Some payload) ∷ []) [] dead }
 {}

@@ -1,19 +1,22 @@
 -- What was put out spells a message.
-use Rattle.std.proofs.Common.{◌≡◌, ℕ, List, [], ◌∷◌, ◌++◌, refl, ap, sym, ◌∙◌, append-nil, subst, arith, true, false}
+use Rattle.std.proofs.Common.{◌≡◌, ℕ, zero, suc, length, map, take, append_assoc, List, [], ◌∷◌, ◌++◌, refl, ap, sym, ◌∙◌, append-nil, subst, arith, true, false}
+use Rattle.std.proofs.lemmas.List.{length-map}
 use Rattle.std.specs.Prelude.{Result, Ok, Err, OnOk, Some, None, ◌^◌}
-use Rattle.ssh_model.specs.Wire.Message.{Msg, Msg.Disconnect, Msg.KexInit, Msg.NewKeys}
+use Rattle.ssh_model.specs.Wire.Message.{Msg, Msg.Disconnect, Msg.KexInit, Msg.KexEcdhInit, Msg.NewKeys}
 use Rattle.ssh_model.specs.Wire.Sealing.{Crypto}
 use Rattle.ssh_model.specs.Sessions.Refusals.{Refusal, refusal_name, refusal_reason}
-use Rattle.ssh_model.specs.Sessions.Items.{Spelled.SpelledBy}
+use Rattle.ssh_model.specs.Sessions.Items.{Spelled, Spelled.SpelledBy}
 use Rattle.ssh_model.specs.Sessions.Turns.{IsSpelled}
-use Rattle.ssh_model.specs.TransportLayer.Directions.{Direction}
+use Rattle.ssh_model.specs.TransportLayer.Directions.{Direction, counted}
 use Rattle.ssh_model.specs.KeyExchange.Exchanges.{Material}
 use Rattle.ssh_model.specs.Sessions.Parties.{offer_of}
-use Rattle.ssh_model.specs.TransportLayer.Kept.{Transport, after_own_kexinit}
+use Rattle.ssh_model.specs.TransportLayer.Kept.{Transport, after_own_kexinit, after_sent}
 use Rattle.ssh_model.specs.TransportLayer.Turns as turns
+use Rattle.ssh_model.specs.TransportLayer.Turns.{PutsPackets, counted_by}
 use Rattle.ssh_transport.specs.Directions.{newkeys}
-use Rattle.ssh_transport.specs.Offering.{OwnSent}
-use Rattle.ssh_transport.specs.State.{State}
+use Rattle.ssh_transport.specs.Offering.{BothAnswered, OwnSent}
+use Rattle.ssh_transport.specs.State.{State, noted}
+use Rattle.ssh_transport.specs.declared.base.kexinit.KexinitFacts.{KexinitFacts}
 use Rattle.ssh_transport.specs.Puts.{Outs, PutsPayload, Refuses, Sends}
 
 pub on_ok : {A E P Q : Type 0} (r : Result A E) → (P → Q) → OnOk r P → OnOk r Q
@@ -88,3 +91,55 @@ newkeys_spelled = record { context = tt; row = record { front = newkeys; back = 
 
 pub newkeys_out : {K : Type 0} (c : Crypto K) (d : Direction K) (o : Outs) → PutsPayload c d newkeys o → Sends c d NewKeys o
 newkeys_out c d o x = spelled_out c d NewKeys newkeys o newkeys_spelled x
+
+-- ---- two messages
+
+one_more : {K : Type 0} (c : Crypto K) (d : Direction K) (l : List Spelled) (early late : List ℕ) (m : Msg) (payload : List ℕ) → PutsPackets c d l early → PutsPackets c (counted_by l d) (SpelledBy m payload ∷ []) late →
+    PutsPackets c d (SpelledBy m payload ∷ l) (early ++ late)
+one_more c d l early late m payload x (turns.PutsPackets.packet m2 payload2 wire turns.PutsPackets.nothing spelled few sealed) = turns.PutsPackets.packet m payload wire x spelled few sealed
+
+pub both_answered : {K : Type 0} (c : Crypto K) (old mid new : State K) (m : Material) (point : List ℕ) (facts : KexinitFacts) (before between after : List ℕ) (listed amid relisted : List (List ℕ)) →
+    OwnSent c old m mid (record { before = before; after = between; listed = listed; relisted = amid }) → Sends c mid.kept.sending (KexEcdhInit point) (record { before = between; after = after; listed = amid; relisted = relisted }) →
+    new ≡ record mid { kept = noted facts.wrong facts.strict facts.extensions mid.receiver.payload (after_sent mid.kept) } →
+    BothAnswered c old m point facts new (record { before = before; after = after; listed = listed; relisted = relisted })
+both_answered {K} c old mid new m point facts before between after listed amid relisted x y z =
+    let late : PutsPackets c (counted old.kept.sending) (SpelledBy (KexEcdhInit point) y.payload ∷ []) y.puts.more =
+    subst (λ (w : State K). PutsPackets c w.kept.sending (SpelledBy (KexEcdhInit point) y.payload ∷ []) y.puts.more) x.after y.puts.packets in
+    record {
+      own = x.payload;
+      init = y.payload;
+      puts = record {
+        more = x.puts.more ++ y.puts.more;
+        packets = one_more c old.kept.sending _ x.puts.more y.puts.more (KexEcdhInit point) y.payload x.puts.packets late;
+        parts = y.puts.parts ∙ (ap (λ (t : List ℕ). t ++ y.puts.more) x.puts.parts ∙ append_assoc before x.puts.more y.puts.more);
+        lists = y.puts.lists ∙ (ap (λ (t : List (List ℕ)). t ++ y.payload ∷ []) x.puts.lists ∙ append_assoc listed (x.payload ∷ []) (y.payload ∷ []));
+      };
+      after = z ∙ ap (λ (w : State K). let t : State K = record w { kept = noted facts.wrong facts.strict facts.extensions w.receiver.payload (after_sent w.kept) } in t) x.after;
+    }
+
+noted_by : {K : Type 0} → KexinitFacts → State K → State K
+noted_by facts s = record s { kept = noted facts.wrong facts.strict facts.extensions s.receiver.payload s.kept }
+
+pub noted_after : {K : Type 0} (mid last new : State K) (facts : KexinitFacts) → last ≡ record mid { kept = after_sent mid.kept } →
+    new ≡ record last { kept = noted facts.wrong facts.strict facts.extensions last.receiver.payload last.kept } →
+    new ≡ record mid { kept = noted facts.wrong facts.strict facts.extensions mid.receiver.payload (after_sent mid.kept) }
+unfolding noted_by
+noted_after mid last new facts e f = f ∙ ap (noted_by facts) e
+
+-- ---- what is taken back
+
+front_of : {A : Type 0} (k rest : List A) → take (length k) (k ++ rest) ≡ k
+front_of [] rest = refl
+front_of (y ∷ k) rest = ap (λ t. y ∷ t) (front_of k rest)
+
+pub front : {A : Type 0} (l more both : List A) → both ≡ l ++ more → take (length l) both ≡ l
+front l more both e = ap (take (length l)) e ∙ front_of l more
+
+mapped_take : {A B : Type 0} (f : A → B) (n : ℕ) (l : List A) → map f (take n l) ≡ take n (map f l)
+mapped_take f zero l = refl
+mapped_take f (suc n) [] = refl
+mapped_take f (suc n) (x ∷ l) = ap (λ t. f x ∷ t) (mapped_take f n l)
+
+pub mapped_front : {A B : Type 0} (f : A → B) (l both : List A) (more : List B) → map f both ≡ map f l ++ more → map f (take (length l) both) ≡ map f l
+mapped_front f l both more e =
+    mapped_take f (length l) both ∙ (ap (λ n. take n (map f both)) (sym (length-map l f)) ∙ front (map f l) more (map f both) e)

@@ -7,6 +7,7 @@ ghost use Rattle.ssh_transport.specs.LineTurns.{LineTaken};
 ghost use Rattle.ssh_transport.specs.State.{dead_state};
 
 mod answering;
+mod choosing;
 mod completing;
 mod hashing;
 mod judging;

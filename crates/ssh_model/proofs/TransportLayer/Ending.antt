@@ -18,7 +18,7 @@ use Rattle.ssh_model.specs.TransportLayer.Kept.{Asks, Completes, Transport, mess
 use Rattle.ssh_model.specs.TransportLayer.Kept as kept
 use Rattle.ssh_model.specs.TransportLayer.Summary.{IsAwaited, Live, SumsUp, items_sent, parts_of}
 use Rattle.ssh_model.specs.TransportLayer.Turns as turns
-use Rattle.ssh_model.specs.TransportLayer.Turns.{AskTurned, EndedBy, PutOut, PutsPackets, Reads, Turned, counted_by}
+use Rattle.ssh_model.specs.TransportLayer.Turns.{AskTurned, EndedBy, IsTransportAsk, PutOut, PutsPackets, Reads, Turned, counted_by}
 use Rattle.ssh_model.specs.TransportLayer.View.{view}
 use Rattle.ssh_model.proofs.TransportLayer.Checks.{asks_same, none_more}
 use Rattle.ssh_model.proofs.TransportLayer.Items as items
@@ -133,6 +133,71 @@ module _ {K : Type 0} (p : Parties K) (side : Side) where
               (session.OnAsk.of_transport (row.TransportAsk.disconnect description payload)) o.out.spelled o.out.numbered;
           sums = record { dead_is = d; live = λ z. absurd (cc (z, d)) };
           puts = λ bytes z. put_other Died tt (o.out.puts bytes (put_other (Asked (AskDisconnect description)) tt z));
+        }
+
+    -- an ask of the transport
+    checks_same : (ask : Ask) → IsTransportAsk ask → first_refusal (ask_checks p side h ask) ≡ first_refusal (message_ask_checks s ask)
+    checks_same AskService t = none_more (transport_ask_checks p side h AskService) ∙ asks_same p h s side sums alive AskService
+    checks_same AskRekey t = none_more (transport_ask_checks p side h AskRekey) ∙ asks_same p h s side sums alive AskRekey
+    checks_same (AskDisconnect description) t = none_more (transport_ask_checks p side h (AskDisconnect description)) ∙ asks_same p h s side sums alive (AskDisconnect description)
+    checks_same ask t = elim t [ ]
+
+    pub ask_refused : (ask : Ask) (refusal : AskRefusal) → IsTransportAsk ask → first_refusal (message_ask_checks s ask) ≡ Some refusal → AskTurned p side h ask (AskRefused refusal ∷ Asked ask ∷ []) [] s
+    ask_refused ask refusal t e = record {
+      turn = session.AsksTurn.refuses refusal (sym sums.dead_is ∙ alive) (checks_same ask t ∙ e);
+      sums = items.left p side (Asked ask ∷ h) s (AskRefused refusal) tt (items.left p side h s (Asked ask) tt sums);
+      puts = λ bytes z. subst (λ (b : List ℕ). PutsOut p side (AskRefused refusal ∷ Asked ask ∷ h) b) (sym (append-nil bytes)) (put_other (AskRefused refusal) tt (put_other (Asked ask) tt z));
+    }
+
+    spent_so : (ask : Ask) (l : List Item) (dead : Transport K) → first_refusal (ask_checks p side h ask) ≡ None → session.OnAsk p side h ask l → AreSpelled l → (AreNumbered l (Asked ask ∷ h) → ⊥) → dead.dead ≡ true →
+        AskTurned p side h ask (Died ∷ Refused NumberSpent None ∷ Asked ask ∷ []) [] dead
+    spent_so ask l dead fine on spelled none d = record {
+      turn = session.AsksTurn.spends (sym sums.dead_is ∙ alive) fine on spelled none;
+      sums = record { dead_is = d; live = λ z. absurd (cc (z, d)) };
+      puts = λ bytes z. subst (λ (b : List ℕ). PutsOut p side (Died ∷ Refused NumberSpent None ∷ Asked ask ∷ h) b) (sym (append-nil bytes))
+          (put_other Died tt (put_other (Refused NumberSpent None) tt (put_other (Asked ask) tt z)));
+    }
+
+    no_number : (ask : Ask) → s.sending.count ≡ 2 ^ 32 → count (sent (Asked ask ∷ h)) < 2 ^ 32 → ⊥
+    no_number ask all few = omega (arith, all, few, (sums.live alive).sending.count_is)
+
+    pub ask_spent : (ask : Ask) (m : Msg) (payload : List ℕ) (new dead : Transport K) → first_refusal (message_ask_checks s ask) ≡ None → Asks s ask m payload new → IsSpelled m payload → s.sending.count ≡ 2 ^ 32 → dead.dead ≡ true →
+        AskTurned p side h ask (Died ∷ Refused NumberSpent None ∷ Asked ask ∷ []) [] dead
+    ask_spent ask m payload new dead fine t spelled all d =
+        spent_so ask (Sent None m payload ∷ []) dead (none_of_others ask m payload new t ∙ (asks_same p h s side sums alive ask ∙ fine)) (session.OnAsk.of_transport (allowed p side h s sums alive ask m payload new t).row) (spelled, tt)
+        (λ n. no_number ask all n.0) d
+
+    pub disconnect_spent : (description payload : List ℕ) (dead : Transport K) → first_refusal (message_ask_checks s (AskDisconnect description)) ≡ None → IsSpelled (Disconnect 11 description []) payload → s.sending.count ≡ 2 ^ 32 → dead.dead ≡ true →
+        AskTurned p side h (AskDisconnect description) (Died ∷ Refused NumberSpent None ∷ Asked (AskDisconnect description) ∷ []) [] dead
+    disconnect_spent description payload dead fine spelled all d =
+        spent_so (AskDisconnect description) (Died ∷ Sent None (Disconnect 11 description []) payload ∷ []) dead (checks_same (AskDisconnect description) tt ∙ fine) (session.OnAsk.of_transport (row.TransportAsk.disconnect description payload)) (spelled, tt)
+        (λ n. no_number (AskDisconnect description) all n.0) d
+
+    -- ---- an exchange that has too few numbers to end
+
+    last_numbered : (l more g : List Item) → AreNumbered (l ++ more) g → AreNumbered more g
+    last_numbered [] more g n = n
+    last_numbered (Sent c m q ∷ l) more g n = last_numbered l more g n.1
+    last_numbered (i ∷ l) more g n = last_numbered l more g n
+
+    too_few : (c : Chosen) (payload : List ℕ) (m : Msg) (last announced : List Spelled) (completed new : Transport K) → Completes p.crypto (parts_of p side) c s m last announced completed new → 2 ^ 32 < s.sending.count + length last →
+        AreNumbered (items_sent last) (Took None m payload ∷ h) → ⊥
+    too_few c payload m last announced completed new (kept.Completes.reply k_s q_s signature newkeys e here is y) few n = omega (arith, few, n.0, (sums.live alive).sending.count_is)
+    too_few c payload m last announced completed new (kept.Completes.init q_c reply newkeys e here is y) few n = omega (arith, few, n.0, (sums.live alive).sending.count_is)
+
+    pub end_spent : (c : Chosen) (m : Msg) (payload : List ℕ) (last announced : List Spelled) (completed new dead : Transport K) (owed : List Item) → Reads s m payload → IsAwaited s c m →
+        first_refusal (message_checks (agreement_of p side) p.trusts c s m) ≡ None → Completes p.crypto (parts_of p side) c s m last announced completed new →
+        AreSpelled (items_sent (announced ++ last)) → AreReplies (owed_replies side h) owed → AreSpelled owed → 2 ^ 32 < s.sending.count + length last → dead.dead ≡ true →
+        Turned p side h payload (Died ∷ Refused NumberSpent (Some payload) ∷ []) [] dead
+    end_spent c m payload last announced completed new dead owed r w fine t spelled replies owed_spelled few d =
+        let e = ends_row p h s alive c side sums payload m last announced completed new t in
+        let g : List Item = Took None m payload ∷ h in
+        record {
+          turn = session.OnPayload.spends None m (welcomed p side h s sums alive c m payload r w fine) (session.Answer.of_completion replies (e.answer owed)) (both_spelled owed (items_sent (announced ++ last)) owed_spelled spelled)
+              (λ n. too_few c payload m last announced completed new t few
+              (last_numbered (items_sent announced) (items_sent last) g (subst (λ (l : List Item). AreNumbered l g) (items_both announced last) (last_numbered owed (items_sent (announced ++ last)) g n))));
+          sums = record { dead_is = d; live = λ z. absurd (cc (z, d)) };
+          puts = λ bytes z. subst (λ (b : List ℕ). PutsOut p side (Died ∷ Refused NumberSpent (Some payload) ∷ h) b) (sym (append-nil bytes)) (put_other Died tt (put_other (Refused NumberSpent (Some payload)) tt z));
         }
 
 -- ---- what the layers above owe

@@ -6,7 +6,7 @@ use Rattle.ssh_model.specs.Wire.Sealing.{Crypto, IsSealed}
 use Rattle.ssh_model.specs.KeyExchange.Choice.{Chosen}
 use Rattle.ssh_model.specs.Sessions.Refusals.{Refusal, Refusal.Unexpected, Refusal.BadMessage, first_refusal, refusal_name, refusal_reason}
 use Rattle.ssh_model.specs.Sessions.Parties.{Parties, Agreement}
-use Rattle.ssh_model.specs.Sessions.Items.{Ask, Fact.Completed, Item, Item.Took, Item.Told, Item.Refused, Item.Died, Spelled, Spelled.SpelledBy}
+use Rattle.ssh_model.specs.Sessions.Items.{Ask, Ask.AskService, Ask.AskRekey, Ask.AskDisconnect, Fact.Completed, Item, Item.Took, Item.Told, Item.Refused, Item.Died, Spelled, Spelled.SpelledBy}
 use Rattle.ssh_model.specs.Sessions.Events.{PutsOut}
 use Rattle.ssh_model.specs.Sessions.Phases.{Phase.Guessed, is_normal}
 use Rattle.ssh_model.specs.Sessions.Turns.{AreNumbered, AreSpelled, AsksTurn, IsSpelled, OnPayload, Refuses, Welcomes, number_of}
@@ -96,3 +96,10 @@ pub record AskTurned {K : Type 0} (p : Parties K) (side : Side) (history : List 
   pub turn : AsksTurn p side history ask items
   pub sums : SumsUp p side (items ++ history) new
   pub puts : (bytes : List ℕ) → PutsOut p side history bytes → PutsOut p side (items ++ history) (bytes ++ more)
+
+-- an ask for a message of the transport
+abbrev pub IsTransportAsk : Ask → Type 0
+IsTransportAsk AskService = Unit {0}
+IsTransportAsk AskRekey = Unit {0}
+IsTransportAsk (AskDisconnect description) = Unit {0}
+IsTransportAsk _ = ⊥

@@ -3,7 +3,7 @@
 ghost use Rattle.std.specs.Prelude.{◌≡◌, ◌<◌, ◌+◌, ◌^◌, OnOk, OnErr, map, true};
 ghost use Rattle.ssh_model.specs.Wire.Message.{KexEcdhInit};
 ghost use Rattle.ssh_model.specs.TransportLayer.Kept.{after_sent};
-ghost use Rattle.ssh_transport.specs.Offering.{OwnAnswered};
+ghost use Rattle.ssh_transport.specs.Offering.{BothAnswered, OwnAnswered};
 ghost use Rattle.ssh_transport.specs.Puts.{Sends};
 ghost use Rattle.ssh_transport.specs.State.{noted};
 
@@ -50,6 +50,33 @@ impl<S: Sealing, F: Filler + Drop> Base<S, F> {
         ensures kept { OnErr result (sent.new.items ≡ sent.old.items) }
     {
         self.send_kexinit(material, out, sent)?;
+        self.note_kexinit(facts);
+        Ok(())
+    }
+
+    // A client that sent no KEXINIT of its own answers by it and by its point.
+    pub fn answer_by_both(
+        &mut self,
+        facts: KexinitFacts,
+        material: Material,
+        point: &[u8; 32],
+        out: &mut Vec<u8>,
+        sent: &mut Vec<Vec<u8>>,
+    ) -> Result<(), AllocError>
+        requires left { self.old.kept.sending.count + 1 < 2 ^ 32 }
+        ensures sends { OnOk result (BothAnswered S.crypto self.old (record { cookie = material.cookie; secret = material.secret }) point.now facts self.new (record { before = out.old.items; after = out.new.items; listed = map (λ v. v.items) sent.old.items; relisted = map (λ v. v.items) sent.new.items })) }
+        ensures dead { OnErr result (self.new.kept.dead ≡ true) }
+        ensures out { OnErr result (out.new.items ≡ out.old.items) }
+        ensures kept { OnErr result (map (λ v. v.items) sent.new.items ≡ map (λ v. v.items) sent.old.items) }
+    {
+        let bytes = out.len();
+        let payloads = sent.as_slice().len();
+        self.send_kexinit(material, out, sent)?;
+        if let Err(error) = self.send(&Message::KexEcdhInit { q_c: point }, out, sent) {
+            out.truncate(bytes);
+            sent.truncate(payloads);
+            return Err(error);
+        }
         self.note_kexinit(facts);
         Ok(())
     }

@@ -137,7 +137,7 @@ impl<S: Sealing, F: Filler + Drop> Base<S, F> {
     }
 
     // The lists of this end, without markers.
-    fn own_lists(&self) -> KexLists<'_>
+    pub fn own_lists(&self) -> KexLists<'_>
         ensures { lists_of result ≡ lists_offered (own_offer self.now.kept.settings self.now.kept.side) }
     {
         own_lists(&self.config)
