@@ -1,18 +1,31 @@
 -- What a transport keeps, and what each message and each ask makes of it (RFC 4253, RFC 5656): no history here. One
 -- clause or constructor is one row.
-use Rattle.std.specs.Prelude.{◌≡◌, ℕ, ◌+◌, ◌-◌, ◌^◌, ◌<◌, Bool, true, false, not, cond, if◌then◌else◌, ◌==◌, ◌&&◌, ◌||◌, nat_le, nat_lt, Option, Some, None, is_some, unwrap_or, List, [], ◌∷◌, ◌++◌, length, take, codes}
+use Rattle.std.specs.Prelude.{◌≡◌, ℕ, ◌+◌, ◌-◌, ◌^◌, ◌<◌, Bool, true, false, not, cond, if◌then◌else◌, ◌==◌, ◌&&◌}
+use Rattle.std.specs.Prelude.{◌||◌, nat_le, nat_lt, Option, Some, None, is_some, unwrap_or, List, [], ◌∷◌, ◌++◌}
+use Rattle.std.specs.Prelude.{length, take, codes}
 use Rattle.ssh_model.specs.Side.{Side, Side.Client, Side.Server, peer}
 use Rattle.ssh_model.specs.Wire.DataTypes.{number}
-use Rattle.ssh_model.specs.Wire.Message.{Msg, Msg.Disconnect, Msg.Ignore, Msg.Unimplemented, Msg.Debug, Msg.ServiceRequest, Msg.ServiceAccept, Msg.ExtInfo, Msg.KexInit, Msg.NewKeys, Msg.KexEcdhInit, Msg.KexEcdhReply, Msg.Unknown, Extension, Proposal, IsPayload}
+use Rattle.ssh_model.specs.Wire.Message.{Msg, Msg.Disconnect, Msg.Ignore, Msg.Unimplemented, Msg.Debug}
+use Rattle.ssh_model.specs.Wire.Message.{Msg.ServiceRequest, Msg.ServiceAccept, Msg.ExtInfo, Msg.KexInit, Msg.NewKeys}
+use Rattle.ssh_model.specs.Wire.Message.{Msg.KexEcdhInit, Msg.KexEcdhReply, Msg.Unknown, Extension, Proposal}
+use Rattle.ssh_model.specs.Wire.Message.{IsPayload}
 use Rattle.ssh_model.specs.Wire.MacOnly.{is_text}
 use Rattle.ssh_model.specs.Wire.Sealing.{Crypto}
 use Rattle.ssh_model.specs.KeyExchange.Choice.{Chosen, Lists}
 use Rattle.ssh_model.specs.KeyExchange.Exchange.{Inputs, exchange_hash}
 use Rattle.ssh_model.specs.KeyExchange.Exchanges.{Material, chosen, has_choice, has_marker, key_of}
-use Rattle.ssh_model.specs.Sessions.Refusals.{Check, Check.RefusedWhere, Refusal, Refusal.Unexpected, Refusal.NoCommon, Refusal.NotStrict, Refusal.BadPoint, Refusal.BadHost, Refusal.NoService, AskRefusal, AskRefusal.NotYet, AskRefusal.Busy, AskRefusal.TooLong, AskRefusal.WrongSide}
-use Rattle.ssh_model.specs.Sessions.Parties.{Settings, Agreement, is_required, only_shared, marker_of, extension_marker_of, offer_of, lists_of}
-use Rattle.ssh_model.specs.Sessions.Items.{Ask, Ask.AskService, Ask.AskRekey, Ask.AskDisconnect, Fact, Fact.Service, Fact.Ignored, Fact.GotExtensions, Fact.Debugged, Fact.NotImplemented, Spelled, Spelled.SpelledBy}
-use Rattle.ssh_model.specs.Sessions.Phases.{Phase, Phase.Start, Phase.Guessed, Phase.Exchanging, Phase.Keying, Phase.Normal, is_normal, is_client, is_wrong_guess, is_general, is_allowed_at_first, is_allowed_during_exchange, is_spare, awaited}
+use Rattle.ssh_model.specs.Sessions.Refusals.{Check, Check.RefusedWhere, Refusal, Refusal.Unexpected}
+use Rattle.ssh_model.specs.Sessions.Refusals.{Refusal.NoCommon, Refusal.NotStrict, Refusal.BadPoint, Refusal.BadHost}
+use Rattle.ssh_model.specs.Sessions.Refusals.{Refusal.NoService, AskRefusal, AskRefusal.NotYet, AskRefusal.Busy}
+use Rattle.ssh_model.specs.Sessions.Refusals.{AskRefusal.TooLong, AskRefusal.WrongSide}
+use Rattle.ssh_model.specs.Sessions.Parties.{Settings, Agreement, is_required, only_shared, marker_of}
+use Rattle.ssh_model.specs.Sessions.Parties.{extension_marker_of, offer_of, lists_of}
+use Rattle.ssh_model.specs.Sessions.Items.{Ask, Ask.AskService, Ask.AskRekey, Ask.AskDisconnect, Fact, Fact.Service}
+use Rattle.ssh_model.specs.Sessions.Items.{Fact.Ignored, Fact.GotExtensions, Fact.Debugged, Fact.NotImplemented}
+use Rattle.ssh_model.specs.Sessions.Items.{Spelled, Spelled.SpelledBy}
+use Rattle.ssh_model.specs.Sessions.Phases.{Phase, Phase.Start, Phase.Guessed, Phase.Exchanging, Phase.Keying}
+use Rattle.ssh_model.specs.Sessions.Phases.{Phase.Normal, is_normal, is_client, is_wrong_guess, is_general}
+use Rattle.ssh_model.specs.Sessions.Phases.{is_allowed_at_first, is_allowed_during_exchange, is_spare, awaited}
 use Rattle.ssh_model.specs.Sessions.Transport.{is_marked}
 use Rattle.ssh_model.specs.TransportLayer.Directions.{Direction, new_direction, counted, renewed}
 
@@ -52,7 +65,8 @@ pub record Transport (K : Type 0) : Type 0 where
   -- the first KEXINITs of both ends offer strict key exchange, and that of the peer takes extensions
   pub strict : Bool
   pub peer_takes_extensions : Bool
-  -- SERVICE_REQUEST was sent by a client or taken by a server, SERVICE_ACCEPT was taken, and USERAUTH_SUCCESS was sent by
+  -- SERVICE_REQUEST was sent by a client or taken by a server, SERVICE_ACCEPT was taken, and USERAUTH_SUCCESS was
+  -- sent by
   -- a server or taken by a client
   pub requested : Bool
   pub accepted : Bool
@@ -125,7 +139,9 @@ first_kex settings side = (offer_of settings side true []).kex
 
 -- EXT_INFO may be taken: the end takes extensions, and it would be the first payload after the peer's first NEWKEYS.
 abbrev pub takes_announced : {K : Type 0} → Transport K → Bool
-takes_announced s = has_marker (extension_marker_of s.side) (first_kex s.settings s.side) && (s.taking.epoch == 1 && s.taking.count == 0)
+takes_announced s =
+    has_marker (extension_marker_of s.side) (first_kex s.settings s.side)
+    && (s.taking.epoch == 1 && s.taking.count == 0)
 
 -- a message of service that may be taken outside an exchange
 abbrev pub takes_service : Side → (requested accepted : Bool) → ℕ → Bool
@@ -139,7 +155,8 @@ takes_in Guessed s n = nat_le 30 n && nat_le n 49
 takes_in Exchanging s n = is_allowed_during_exchange s.strict s.taking.epoch n || n == awaited s.side
 takes_in Keying s n = is_allowed_during_exchange s.strict s.taking.epoch n || n == 21
 takes_in Normal s n =
-    is_general n || takes_service s.side s.requested s.accepted n || (n == 7 && takes_announced s) || (n == 20 && s.authenticated) || is_spare n
+    is_general n || takes_service s.side s.requested s.accepted n || (n == 7 && takes_announced s)
+    || (n == 20 && s.authenticated) || is_spare n
 
 -- which numbers below 50 it takes
 abbrev pub takes : {K : Type 0} → Transport K → ℕ → Bool
@@ -190,7 +207,8 @@ own_point agreement s = take 32 (agreement.point s.underway.secret)
 abbrev pub shared_value : {K : Type 0} → Agreement → Transport K → (theirs : List ℕ) → ℕ
 shared_value agreement s theirs = number (unwrap_or (shared_with agreement s.underway.secret theirs) [])
 
--- The inputs of the exchange under way, with the host key and the peer's point (RFC 4253 section 8, RFC 5656 section 4).
+-- The inputs of the exchange under way, with the host key and the peer's point (RFC 4253 section 8, RFC 5656 section
+-- 4).
 abbrev pub inputs_with : {K : Type 0} → Side → Agreement → Transport K → (host_key theirs : List ℕ) → Inputs
 inputs_with Client agreement s host_key theirs = record {
   client_version = s.settings.line;
@@ -219,22 +237,28 @@ pub record IsChosen {K : Type 0} (s : Transport K) (c : Chosen) : Type 0 where
   pub read : IsPayload false (KexInit theirs) s.underway.theirs
   pub chosen_is : c ≡ choice_with s.side (lists_of (own_offer s.settings s.side)) (lists_of theirs)
 
--- What a message of the transport is refused for that may be taken: by an agreement, who is trusted with the host key of
+-- What a message of the transport is refused for that may be taken: by an agreement, who is trusted with the host key
+-- of
 -- the exchange, and what was chosen in it.
-abbrev pub message_checks : {K : Type 0} → Agreement → (trusts : List ℕ → List ℕ → List ℕ → List ℕ → Bool) → Chosen → Transport K → Msg → List (Check Refusal)
-message_checks agreement trusts c s (ServiceRequest service) = RefusedWhere (not (is_text service (codes "ssh-userauth"))) NoService ∷ []
-message_checks agreement trusts c s (ServiceAccept service) = RefusedWhere (not (is_text service (codes "ssh-userauth"))) Unexpected ∷ []
+abbrev pub message_checks : {K : Type 0} → Agreement → (trusts : List ℕ → List ℕ → List ℕ → List ℕ → Bool) → Chosen →
+    Transport K → Msg → List (Check Refusal)
+message_checks agreement trusts c s (ServiceRequest service) =
+    RefusedWhere (not (is_text service (codes "ssh-userauth"))) NoService ∷ []
+message_checks agreement trusts c s (ServiceAccept service) =
+    RefusedWhere (not (is_text service (codes "ssh-userauth"))) Unexpected ∷ []
 message_checks agreement trusts c s (KexInit theirs) = offer_checks s theirs
 message_checks agreement trusts c s (KexEcdhInit q_c) = RefusedWhere (not (is_good_point agreement s q_c)) BadPoint ∷ []
 message_checks agreement trusts c s (KexEcdhReply k_s q_s signature) =
     RefusedWhere (not (is_good_point agreement s q_s)) BadPoint
-    ∷ RefusedWhere (not (trusts c.host k_s (exchange_hash (inputs_with Client agreement s k_s q_s)) signature)) BadHost ∷ []
+    ∷ RefusedWhere
+    (not (trusts c.host k_s (exchange_hash (inputs_with Client agreement s k_s q_s)) signature)) BadHost ∷ []
 message_checks agreement trusts c s _ = []
 
 -- what an ask for a message of the transport is refused for
 abbrev pub message_ask_checks : {K : Type 0} → Transport K → Ask → List (Check AskRefusal)
 message_ask_checks s AskService =
-    RefusedWhere (not (is_client s.side)) WrongSide ∷ RefusedWhere (s.taking.epoch == 0) NotYet ∷ RefusedWhere s.requested Busy ∷ []
+    RefusedWhere (not (is_client s.side)) WrongSide ∷ RefusedWhere (s.taking.epoch == 0) NotYet
+    ∷ RefusedWhere s.requested Busy ∷ []
 message_ask_checks s AskRekey =
     RefusedWhere (not s.authenticated) NotYet ∷ RefusedWhere (s.blocked || not (is_normal s.phase)) Busy
     ∷ RefusedWhere (not (is_some s.material)) AskRefusal.NoMaterial ∷ []
@@ -270,7 +294,9 @@ after_kexinit theirs payload s = record s {
   phase = cond (is_wrong_guess theirs (own_offer s.settings s.side)) Guessed Exchanging;
   underway = record s.underway { theirs = payload };
   strict = if s.taking.epoch == 0 then becomes_strict s theirs else s.strict;
-  peer_takes_extensions = if s.taking.epoch == 0 then has_marker (extension_marker_of (peer s.side)) theirs.kex else s.peer_takes_extensions;
+  peer_takes_extensions =
+      if s.taking.epoch == 0 then has_marker (extension_marker_of (peer s.side)) theirs.kex
+      else s.peer_takes_extensions;
 }
 
 -- This end's own KEXINIT was sent with the pair that was kept.
@@ -283,14 +309,17 @@ after_own_kexinit material payload s = record s {
 }
 
 -- What a message of the transport that ends no exchange makes of what is kept. The payload is that of the message.
-pub data Takes {K : Type 0} (agreement : Agreement) (s : Transport K) (payload : List ℕ) : Msg → Answered → Transport K → Type 0 where
+pub data Takes {K : Type 0} (agreement : Agreement) (s : Transport K) (payload : List ℕ) : Msg → Answered →
+    Transport K → Type 0 where
   ignore : (body : List ℕ) → Takes agreement s payload (Ignore body) (tells Ignored) (after_taken s)
-  unimplemented : (number : ℕ) → Takes agreement s payload (Unimplemented number) (tells (NotImplemented number)) (after_taken s)
+  unimplemented : (number : ℕ) →
+      Takes agreement s payload (Unimplemented number) (tells (NotImplemented number)) (after_taken s)
   debug : (display : Bool) (message language : List ℕ) →
       Takes agreement s payload (Debug display message language) (tells (Debugged display message)) (after_taken s)
   -- RFC 4253 section 11.4: with the number of the packet
   unknown : (number : ℕ) (reply : List ℕ) → s.taking.count < 2 ^ 32 →
-      Takes agreement s payload (Unknown number) (sends (SpelledBy (Unimplemented s.taking.number) reply ∷ [])) (after_sent (after_taken s))
+      Takes agreement s payload (Unknown number) (sends (SpelledBy (Unimplemented s.taking.number) reply ∷ []))
+      (after_sent (after_taken s))
   -- RFC 4253 section 10
   service_request : (service reply : List ℕ) → s.side ≡ Server →
       Takes agreement s payload (ServiceRequest service) (sends (SpelledBy (ServiceAccept service) reply ∷ []))
@@ -298,17 +327,24 @@ pub data Takes {K : Type 0} (agreement : Agreement) (s : Transport K) (payload :
   service_accept : (service : List ℕ) → s.side ≡ Client →
       Takes agreement s payload (ServiceAccept service) (tells Service) (record (after_taken s) { accepted = true })
   -- RFC 8308 section 2.3
-  extensions : (announced : List Extension) → Takes agreement s payload (ExtInfo announced) (tells (GotExtensions announced)) (after_taken s)
+  extensions : (announced : List Extension) →
+      Takes agreement s payload (ExtInfo announced) (tells (GotExtensions announced)) (after_taken s)
   -- a KEXINIT after this end's own, and one that is answered with its own
-  kexinit_at_server : (theirs : Proposal) → s.side ≡ Server → is_between s.phase ≡ true → IsPayload false (KexInit theirs) payload → s.blocked ≡ true →
+  kexinit_at_server : (theirs : Proposal) → s.side ≡ Server → is_between s.phase ≡ true →
+      IsPayload false (KexInit theirs) payload → s.blocked ≡ true →
       Takes agreement s payload (KexInit theirs) (sends []) (after_kexinit theirs payload s)
-  kexinit_at_client : (theirs : Proposal) (init : List ℕ) → s.side ≡ Client → is_between s.phase ≡ true → IsPayload false (KexInit theirs) payload → s.blocked ≡ true →
-      Takes agreement s payload (KexInit theirs) (sends (SpelledBy (KexEcdhInit (own_point agreement s)) init ∷ [])) (after_sent (after_kexinit theirs payload s))
-  answered_at_server : (theirs : Proposal) (own : List ℕ) (material : Material) → s.side ≡ Server → is_between s.phase ≡ true → IsPayload false (KexInit theirs) payload →
+  kexinit_at_client : (theirs : Proposal) (init : List ℕ) → s.side ≡ Client → is_between s.phase ≡ true →
+      IsPayload false (KexInit theirs) payload → s.blocked ≡ true →
+      Takes agreement s payload (KexInit theirs) (sends (SpelledBy (KexEcdhInit (own_point agreement s)) init ∷ []))
+      (after_sent (after_kexinit theirs payload s))
+  answered_at_server : (theirs : Proposal) (own : List ℕ) (material : Material) → s.side ≡ Server →
+      is_between s.phase ≡ true → IsPayload false (KexInit theirs) payload →
       s.blocked ≡ false → s.material ≡ Some material →
-      Takes agreement s payload (KexInit theirs) (sends (SpelledBy (KexInit (offer_of s.settings Server false material.cookie)) own ∷ []))
+      Takes agreement s payload (KexInit theirs)
+      (sends (SpelledBy (KexInit (offer_of s.settings Server false material.cookie)) own ∷ []))
       (after_own_kexinit material own (after_kexinit theirs payload s))
-  answered_at_client : (theirs : Proposal) (own init : List ℕ) (material : Material) → s.side ≡ Client → is_between s.phase ≡ true → IsPayload false (KexInit theirs) payload →
+  answered_at_client : (theirs : Proposal) (own init : List ℕ) (material : Material) → s.side ≡ Client →
+      is_between s.phase ≡ true → IsPayload false (KexInit theirs) payload →
       s.blocked ≡ false → s.material ≡ Some material →
       Takes agreement s payload (KexInit theirs)
       (sends (SpelledBy (KexEcdhInit (take 32 (agreement.point material.secret))) init
@@ -316,7 +352,8 @@ pub data Takes {K : Type 0} (agreement : Agreement) (s : Transport K) (payload :
       (after_sent (after_own_kexinit material own (after_kexinit theirs payload s)))
   -- the epoch of the key that was made when the exchange was completed
   newkeys : (key : K) → s.phase ≡ Keying → s.pending ≡ Some key →
-      Takes agreement s payload NewKeys (sends []) (record s { taking = renewed s.strict key (counted s.taking); phase = Normal; pending = None })
+      Takes agreement s payload NewKeys (sends [])
+      (record s { taking = renewed s.strict key (counted s.taking); phase = Normal; pending = None })
 
 -- ---- the end of an exchange
 
@@ -362,27 +399,36 @@ server_reply parts c s q_c =
     KexEcdhReply (take 4096 (parts.host_key c.host)) (own_point parts.agreement s)
     (take 4096 (parts.host_signature c.host (exchange_hash (server_inputs parts c s q_c))))
 
--- What the message that ends an exchange makes of what is kept: the messages up to NEWKEYS, what is announced behind it,
--- and what is kept right after NEWKEYS and in the end. Messages stand the newest first. What the layers above owe, and what
+-- What the message that ends an exchange makes of what is kept: the messages up to NEWKEYS, what is announced behind
+-- it,
+-- and what is kept right after NEWKEYS and in the end. Messages stand the newest first. What the layers above owe,
+-- and what
 -- is told, comes after these.
-pub data Completes {K : Type 0} (crypto : Crypto K) (parts : ExchangeParts) (c : Chosen) (s : Transport K) : Msg → (last announced : List Spelled) → (completed new : Transport K) → Type 0 where
+pub data Completes {K : Type 0} (crypto : Crypto K) (parts : ExchangeParts) (c : Chosen) (s : Transport K) : Msg →
+    (last announced : List Spelled) → (completed new : Transport K) → Type 0 where
   -- RFC 5656 section 4: the server right after its reply
-  init : {announced : List Spelled} {new : Transport K} (q_c reply newkeys : List ℕ) → s.side ≡ Server → s.phase ≡ Exchanging → IsChosen s c →
+  init : {announced : List Spelled} {new : Transport K} (q_c reply newkeys : List ℕ) → s.side ≡ Server →
+      s.phase ≡ Exchanging → IsChosen s c →
       Announces s (after_completion crypto (server_inputs parts c s q_c) c (after_sent (after_taken s))) announced new →
-      Completes crypto parts c s (KexEcdhInit q_c) (SpelledBy NewKeys newkeys ∷ SpelledBy (server_reply parts c s q_c) reply ∷ []) announced
+      Completes crypto parts c s (KexEcdhInit q_c)
+      (SpelledBy NewKeys newkeys ∷ SpelledBy (server_reply parts c s q_c) reply ∷ []) announced
       (after_completion crypto (server_inputs parts c s q_c) c (after_sent (after_taken s))) new
   -- the client right after it trusted the host
-  reply : {announced : List Spelled} {new : Transport K} (k_s q_s signature newkeys : List ℕ) → s.side ≡ Client → s.phase ≡ Exchanging → IsChosen s c →
-      Announces s (after_completion crypto (inputs_with Client parts.agreement s k_s q_s) c (after_taken s)) announced new →
+  reply : {announced : List Spelled} {new : Transport K} (k_s q_s signature newkeys : List ℕ) → s.side ≡ Client →
+      s.phase ≡ Exchanging → IsChosen s c →
+      Announces s (after_completion crypto (inputs_with Client parts.agreement s k_s q_s) c
+      (after_taken s)) announced new →
       Completes crypto parts c s (KexEcdhReply k_s q_s signature) (SpelledBy NewKeys newkeys ∷ []) announced
       (after_completion crypto (inputs_with Client parts.agreement s k_s q_s) c (after_taken s)) new
 
 -- ---- asks
 
--- What an ask for a message of the transport sends, with its payload, and what is then kept. An ask to disconnect ends the
+-- What an ask for a message of the transport sends, with its payload, and what is then kept. An ask to disconnect
+-- ends the
 -- end.
 pub data Asks {K : Type 0} (s : Transport K) : Ask → Msg → List ℕ → Transport K → Type 0 where
   service : (payload : List ℕ) → s.side ≡ Client →
       Asks s AskService (ServiceRequest (codes "ssh-userauth")) payload (record (after_sent s) { requested = true })
   rekey : (material : Material) (payload : List ℕ) → s.blocked ≡ false → s.material ≡ Some material →
-      Asks s AskRekey (KexInit (offer_of s.settings s.side false material.cookie)) payload (after_own_kexinit material payload s)
+      Asks s AskRekey (KexInit (offer_of s.settings s.side false material.cookie)) payload
+      (after_own_kexinit material payload s)

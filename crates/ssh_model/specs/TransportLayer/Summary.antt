@@ -1,18 +1,26 @@
 -- When what a transport keeps sums up a history, and how its rows are rows of a session (own).
-use Rattle.std.specs.Prelude.{◌≡◌, ℕ, zero, suc, ◌+◌, ◌≤◌, ◌<◌, ◌^◌, Bool, true, false, cond, ◌&&◌, nat_lt, Option, Some, None, List, [], ◌∷◌, ◌++◌, length}
+use Rattle.std.specs.Prelude.{◌≡◌, ℕ, zero, suc, ◌+◌, ◌≤◌, ◌<◌, ◌^◌, Bool, true, false, cond, ◌&&◌, nat_lt, Option}
+use Rattle.std.specs.Prelude.{Some, None, List, [], ◌∷◌, ◌++◌, length}
 use Rattle.ssh_model.specs.Side.{Side, Side.Client, Side.Server, peer}
-use Rattle.ssh_model.specs.Wire.Message.{Msg, Msg.Disconnect, Msg.Ignore, Msg.Unimplemented, Msg.Debug, Msg.ExtInfo, Msg.Unknown, Msg.KexInit, Msg.NewKeys, Msg.KexEcdhInit, Msg.KexEcdhReply, Msg.ServiceRequest, Msg.ServiceAccept, Msg.UserauthSuccess, Proposal, IsPayload}
+use Rattle.ssh_model.specs.Wire.Message.{Msg, Msg.Disconnect, Msg.Ignore, Msg.Unimplemented, Msg.Debug, Msg.ExtInfo}
+use Rattle.ssh_model.specs.Wire.Message.{Msg.Unknown, Msg.KexInit, Msg.NewKeys, Msg.KexEcdhInit, Msg.KexEcdhReply}
+use Rattle.ssh_model.specs.Wire.Message.{Msg.ServiceRequest, Msg.ServiceAccept, Msg.UserauthSuccess, Proposal}
+use Rattle.ssh_model.specs.Wire.Message.{IsPayload}
 use Rattle.ssh_model.specs.Wire.Sealing.{Crypto}
 use Rattle.ssh_model.specs.KeyExchange.Choice.{Chosen}
 use Rattle.ssh_model.specs.KeyExchange.Exchange.{Inputs}
-use Rattle.ssh_model.specs.KeyExchange.Exchanges.{Material, Offer, Reply, nth, no_material, no_offer, has_marker, session_id}
-use Rattle.ssh_model.specs.Sessions.Parties.{Parties, Settings, agreement_of, settings_of, point_by, marker_of, extension_marker_of, offer_of}
-use Rattle.ssh_model.specs.Sessions.Items.{Ask, Fact, Fact.Completed, Item, Item.Sent, Item.Took, Item.Told, Item.Asked, Item.AskRefused, Spelled, Spelled.SpelledBy, has_died}
+use Rattle.ssh_model.specs.KeyExchange.Exchanges.{Material, Offer, Reply, nth, no_material, no_offer, has_marker}
+use Rattle.ssh_model.specs.KeyExchange.Exchanges.{session_id}
+use Rattle.ssh_model.specs.Sessions.Parties.{Parties, Settings, agreement_of, settings_of, point_by, marker_of}
+use Rattle.ssh_model.specs.Sessions.Parties.{extension_marker_of, offer_of}
+use Rattle.ssh_model.specs.Sessions.Items.{Ask, Fact, Fact.Completed, Item, Item.Sent, Item.Took, Item.Told}
+use Rattle.ssh_model.specs.Sessions.Items.{Item.Asked, Item.AskRefused, Spelled, Spelled.SpelledBy, has_died}
 use Rattle.ssh_model.specs.Sessions.Epochs.{epoch}
 use Rattle.ssh_model.specs.Sessions.Phases.{Phase, Phase.Start, Phase.Guessed, Phase.Exchanging, Phase.Keying}
 use Rattle.ssh_model.specs.Sessions.Transport.{TransportAnswer, CompletingAnswer, TransportAsk}
 use Rattle.ssh_model.specs.TransportLayer.Directions.{SumsUp as DirectionSumsUp}
-use Rattle.ssh_model.specs.TransportLayer.Kept.{Answered, ExchangeParts, Lines, Underway, Transport, IsChosen, first_kex}
+use Rattle.ssh_model.specs.TransportLayer.Kept.{Answered, ExchangeParts, Lines, Underway, Transport, IsChosen}
+use Rattle.ssh_model.specs.TransportLayer.Kept.{first_kex}
 use Rattle.ssh_model.specs.TransportLayer.View.{View, view, key_from}
 
 -- ---- the parts of the summary. Each speaks of values that a history gives, so that it stays where they stay.
@@ -45,16 +53,21 @@ pub record LinesSumUp (found : Bool) (others : ℕ) (line : List ℕ) (lines : L
   pub others_are : found ≡ false → lines.others ≡ others
 
 -- the keys, where so many NEWKEYS were sent and taken
-pub record KeysSumUp {K : Type 0} (c : Crypto K) (side : Side) (gone come : ℕ) (phase : Phase) (xs : List Inputs) (choices : List Chosen) (sending taking pending : Option K) : Type 0 where
+pub record KeysSumUp {K : Type 0} (c : Crypto K) (side : Side) (gone come : ℕ) (phase : Phase) (xs : List Inputs)
+    (choices : List Chosen) (sending taking pending : Option K) : Type 0 where
   pub sending_is : sending ≡ key_from c side gone xs choices
   pub taking_is : taking ≡ key_from c (peer side) come xs choices
   pub pending_is : is_keying phase ≡ true → pending ≡ key_from c (peer side) (suc come) xs choices
 
 -- what the first KEXINITs settle
-pub record FirstsSumUp (settings : Settings) (side : Side) (own theirs : List Offer) (strict peer_takes_extensions : Bool) : Type 0 where
+pub record FirstsSumUp (settings : Settings) (side : Side) (own theirs : List Offer)
+    (strict peer_takes_extensions : Bool) : Type 0 where
   pub own_is : (nth no_offer 0 own).proposal.kex ≡ first_kex settings side
-  pub strict_is : strict ≡ (has_marker (marker_of side) (first_kex settings side) && has_marker (marker_of (peer side)) (nth no_offer 0 theirs).proposal.kex)
-  pub extensions_are : peer_takes_extensions ≡ has_marker (extension_marker_of (peer side)) (nth no_offer 0 theirs).proposal.kex
+  pub strict_is : strict
+      ≡ (has_marker (marker_of side) (first_kex settings side)
+      && has_marker (marker_of (peer side)) (nth no_offer 0 theirs).proposal.kex)
+  pub extensions_are : peer_takes_extensions
+      ≡ has_marker (extension_marker_of (peer side)) (nth no_offer 0 theirs).proposal.kex
 
 -- the session id, once an exchange is completed
 abbrev pub session_after : (gone : ℕ) → List Inputs → Option (List ℕ)
@@ -72,7 +85,8 @@ pub record MaterialSumsUp (used : ℕ) (pairs : List Material) (material : Optio
   pub least : used ≤ length pairs
   pub most : length pairs ≤ suc used
 
--- Of each message that an exchange has, there is one for each exchange completed, and one more where it was sent or taken
+-- Of each message that an exchange has, there is one for each exchange completed, and one more where it was sent or
+-- taken
 -- in the exchange under way.
 pub record Counts (gone come : ℕ) (phase : Phase) (blocked : Bool) (own theirs exchanges choices : ℕ) : Type 0 where
   pub own_count : own ≡ gone + bit blocked
@@ -90,9 +104,11 @@ pub record IsOffered (settings : Settings) (side : Side) (theirs : Proposal) : T
   pub cookie : List ℕ
   pub offer_is : theirs ≡ offer_of settings side first cookie
 
--- The exchange under way: what was sent stands there while the end is blocked, and what was taken while the peer's answer
+-- The exchange under way: what was sent stands there while the end is blocked, and what was taken while the peer's
+-- answer
 -- is awaited.
-pub record UnderwaySumsUp (settings : Settings) (side : Side) (gone : ℕ) (phase : Phase) (blocked : Bool) (own theirs : List Offer) (fed : List Material) (underway : Underway) : Type 0 where
+pub record UnderwaySumsUp (settings : Settings) (side : Side) (gone : ℕ) (phase : Phase) (blocked : Bool)
+    (own theirs : List Offer) (fed : List Material) (underway : Underway) : Type 0 where
   pub own_is : blocked ≡ true → underway.own ≡ (nth no_offer gone own).payload
   pub own_offer_is : blocked ≡ true → IsOffered settings side (nth no_offer gone own).proposal
   pub secret_is : blocked ≡ true → underway.secret ≡ (nth no_material gone fed).secret
@@ -100,7 +116,8 @@ pub record UnderwaySumsUp (settings : Settings) (side : Side) (gone : ℕ) (phas
   pub read : is_agreeing phase ≡ true → IsPayload false (KexInit (nth no_offer gone theirs).proposal) underway.theirs
 
 -- A client sent a point for each KEXINIT that it took, and took a reply for each exchange that it completed.
-pub record ClientPoints (gone : ℕ) (phase : Phase) (points : List (List ℕ)) (replies : List Reply) (point : List ℕ) : Type 0 where
+pub record ClientPoints (gone : ℕ) (phase : Phase) (points : List (List ℕ)) (replies : List Reply)
+    (point : List ℕ) : Type 0 where
   pub point_count : length points ≡ gone + bit (is_agreeing phase)
   pub reply_count : length replies ≡ gone
   pub point_is : is_agreeing phase ≡ true → nth [] gone points ≡ point
@@ -111,9 +128,12 @@ pub record ServerPoints (gone : ℕ) (points : List (List ℕ)) (replies : List 
   pub reply_count : length replies ≡ gone
 
 -- the points and replies of the end of this side, whose secret this is
-abbrev pub PointsSumUp : {K : Type 0} → Parties K → Side → (gone : ℕ) → Phase → (own_points their_points : List (List ℕ)) → (own_replies their_replies : List Reply) → (secret : List ℕ) → Type 0
-PointsSumUp p Client gone phase own_points their_points own_replies their_replies secret = ClientPoints gone phase own_points their_replies (point_by p Client secret)
-PointsSumUp p Server gone phase own_points their_points own_replies their_replies secret = ServerPoints gone their_points own_replies
+abbrev pub PointsSumUp : {K : Type 0} → Parties K → Side → (gone : ℕ) → Phase →
+    (own_points their_points : List (List ℕ)) → (own_replies their_replies : List Reply) → (secret : List ℕ) → Type 0
+PointsSumUp p Client gone phase own_points their_points own_replies their_replies secret =
+    ClientPoints gone phase own_points their_replies (point_by p Client secret)
+PointsSumUp p Server gone phase own_points their_points own_replies their_replies secret =
+    ServerPoints gone their_points own_replies
 
 -- ---- the summary
 
@@ -125,7 +145,8 @@ pub record Live {K : Type 0} (p : Parties K) (side : Side) (v : View) (s : Trans
   pub lines : LinesSumUp v.has_line v.other_lines v.took_line s.lines
   pub sending : DirectionSumsUp s.strict v.sent s.sending
   pub taking : DirectionSumsUp s.strict v.took s.taking
-  pub keys : KeysSumUp p.crypto side (epoch v.sent) (epoch v.took) v.phase v.exchanges v.choices s.sending.key s.taking.key s.pending
+  pub keys : KeysSumUp p.crypto side (epoch v.sent)
+      (epoch v.took) v.phase v.exchanges v.choices s.sending.key s.taking.key s.pending
   pub phase_is : s.phase ≡ v.phase
   pub blocked_is : s.blocked ≡ v.blocked
   pub firsts : FirstsSumUp (settings_of p side) side v.own_offers v.their_offers s.strict s.peer_takes_extensions
@@ -134,9 +155,12 @@ pub record Live {K : Type 0} (p : Parties K) (side : Side) (v : View) (s : Trans
   pub accepted_is : s.accepted ≡ v.accepted
   pub authenticated_is : s.authenticated ≡ v.authenticated
   pub material : MaterialSumsUp (length v.own_offers) v.fed s.material s.fed
-  pub counts : Counts (epoch v.sent) (epoch v.took) v.phase v.blocked (length v.own_offers) (length v.their_offers) (length v.exchanges) (length v.choices)
-  pub underway : UnderwaySumsUp (settings_of p side) side (epoch v.sent) v.phase v.blocked v.own_offers v.their_offers v.fed s.underway
-  pub points : PointsSumUp p side (epoch v.sent) v.phase v.own_points v.their_points v.own_replies v.their_replies s.underway.secret
+  pub counts : Counts (epoch v.sent) (epoch v.took) v.phase v.blocked (length v.own_offers) (length v.their_offers)
+      (length v.exchanges) (length v.choices)
+  pub underway : UnderwaySumsUp (settings_of p side) side
+      (epoch v.sent) v.phase v.blocked v.own_offers v.their_offers v.fed s.underway
+  pub points : PointsSumUp p side
+      (epoch v.sent) v.phase v.own_points v.their_points v.own_replies v.their_replies s.underway.secret
 
 -- What a transport keeps sums up the history of the end of this side. Of a dead end nothing more is said.
 pub record SumsUp {K : Type 0} (p : Parties K) (side : Side) (history : List Item) (s : Transport K) : Type 0 where
@@ -214,18 +238,23 @@ abbrev pub answer_items : Answered → List Item
 answer_items answered = told_over answered.fact (items_sent answered.sent)
 
 -- What is answered to a message is what a session answers, and what is kept sums up the history with it.
-pub record Accepts {K : Type 0} (p : Parties K) (side : Side) (history : List Item) (message : Msg) (payload : List ℕ) (answered : Answered) (new : Transport K) : Type 0 where
+pub record Accepts {K : Type 0} (p : Parties K) (side : Side) (history : List Item) (message : Msg) (payload : List ℕ)
+    (answered : Answered) (new : Transport K) : Type 0 where
   pub answer : TransportAnswer p side history message (answer_items answered)
   pub sums : SumsUp p side (answer_items answered ++ (Took None message payload ∷ history)) new
 
--- The message ends an exchange. Up to what is announced, it does what a session does, whatever is owed behind it; what is
+-- The message ends an exchange. Up to what is announced, it does what a session does, whatever is owed behind it;
+-- what is
 -- kept sums up the history so far.
-pub record Ends {K : Type 0} (p : Parties K) (side : Side) (history : List Item) (message : Msg) (payload : List ℕ) (sent : List Spelled) (position : ℕ) (new : Transport K) : Type 0 where
-  pub answer : (owed : List Item) → CompletingAnswer p owed side history message (Told (Completed position) ∷ (owed ++ items_sent sent))
+pub record Ends {K : Type 0} (p : Parties K) (side : Side) (history : List Item) (message : Msg) (payload : List ℕ)
+    (sent : List Spelled) (position : ℕ) (new : Transport K) : Type 0 where
+  pub answer : (owed : List Item) →
+      CompletingAnswer p owed side history message (Told (Completed position) ∷ (owed ++ items_sent sent))
   pub sums : SumsUp p side (items_sent sent ++ (Took None message payload ∷ history)) new
 
 -- What is sent on an ask is what a session sends, and what is kept sums up the history with it.
-pub record Allows {K : Type 0} (p : Parties K) (side : Side) (history : List Item) (ask : Ask) (message : Msg) (payload : List ℕ) (new : Transport K) : Type 0 where
+pub record Allows {K : Type 0} (p : Parties K) (side : Side) (history : List Item) (ask : Ask) (message : Msg)
+    (payload : List ℕ) (new : Transport K) : Type 0 where
   pub row : TransportAsk p side history ask (Sent None message payload ∷ [])
   pub sums : SumsUp p side (Sent None message payload ∷ Asked ask ∷ history) new
 

@@ -5,10 +5,14 @@ use Rattle.ssh_model.specs.Side.{Side, Side.Client, Side.Server}
 use Rattle.ssh_model.specs.Wire.Sealing.{Crypto}
 use Rattle.ssh_model.specs.KeyExchange.Choice.{Chosen}
 use Rattle.ssh_model.specs.KeyExchange.Exchange.{Inputs}
-use Rattle.ssh_model.specs.KeyExchange.Exchanges.{Material, Offer, Reply, nth, no_material, no_offer, no_reply, no_exchange, none_chosen, fed, sent_line, took_line, offers, points, replies, exchanges, choices, chosen, shared_number, session_id, key_of}
+use Rattle.ssh_model.specs.KeyExchange.Exchanges.{Material, Offer, Reply, nth, no_material, no_offer, no_reply}
+use Rattle.ssh_model.specs.KeyExchange.Exchanges.{no_exchange, none_chosen, fed, sent_line, took_line, offers, points}
+use Rattle.ssh_model.specs.KeyExchange.Exchanges.{replies, exchanges, choices, chosen, shared_number, session_id}
+use Rattle.ssh_model.specs.KeyExchange.Exchanges.{key_of}
 use Rattle.ssh_model.specs.Sessions.Parties.{Parties, lists_of}
 use Rattle.ssh_model.specs.Sessions.Items.{Item, Payload, sent, took, messages_sent, messages_taken}
-use Rattle.ssh_model.specs.Sessions.Phases.{Phase, phase, blocked, has_line, other_lines, sent_service_request, took_service_request, took_service_accept, authenticated}
+use Rattle.ssh_model.specs.Sessions.Phases.{Phase, phase, blocked, has_line, other_lines, sent_service_request}
+use Rattle.ssh_model.specs.Sessions.Phases.{took_service_request, took_service_accept, authenticated}
 
 -- SERVICE_REQUEST was sent by a client, or taken by a server.
 abbrev pub service_requested : Side → List Item → Bool
@@ -88,10 +92,13 @@ exchange_in p Server e v = record {
 
 -- what is chosen in exchange e of a view
 abbrev pub choice_in : Side → ℕ → View → Chosen
-choice_in Client e v = chosen (lists_of (nth no_offer e v.own_offers).proposal) (lists_of (nth no_offer e v.their_offers).proposal)
-choice_in Server e v = chosen (lists_of (nth no_offer e v.their_offers).proposal) (lists_of (nth no_offer e v.own_offers).proposal)
+choice_in Client e v =
+    chosen (lists_of (nth no_offer e v.own_offers).proposal) (lists_of (nth no_offer e v.their_offers).proposal)
+choice_in Server e v =
+    chosen (lists_of (nth no_offer e v.their_offers).proposal) (lists_of (nth no_offer e v.own_offers).proposal)
 
 -- the key of a direction in epoch e, by the exchanges and choices that were completed
 abbrev pub key_from : {K : Type 0} → Crypto K → (from : Side) → ℕ → List Inputs → List Chosen → Option K
 key_from c from zero xs choices = None
-key_from c from (suc e) xs choices = Some (key_of c from (nth no_exchange e xs) (session_id xs) (nth none_chosen e choices))
+key_from c from (suc e) xs choices =
+    Some (key_of c from (nth no_exchange e xs) (session_id xs) (nth none_chosen e choices))
