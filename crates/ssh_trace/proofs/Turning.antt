@@ -15,7 +15,7 @@ use Rattle.ssh_model.specs.OneEpoch.Runs.{Takes, Gets, Gets.dead, Gets.waits, Ge
 use Rattle.ssh_model.specs.OneEpoch.Runs as epoch
 use Rattle.ssh_types.specs.Refusals.{refusal_of}
 use Rattle.ssh_types.specs.declared.refusal.Refusal as rust
-use Rattle.ssh_transport.specs.declared.packets.step.PacketStep.TheVariants as step
+use Rattle.ssh_transport_base.specs.declared.packets.step.PacketStep.TheVariants as step
 use Rattle.ssh_trace.specs.History.{logged}
 use Rattle.ssh_trace.specs.EpochEnd.{End, EndFinds, EndSums, RefusesAsk, Sends, SpendsNumbers, left_of}
 use Rattle.ssh_trace.specs.Turns.{AskedWith, DeliveredWith, Notes, Turn, TurnWith}

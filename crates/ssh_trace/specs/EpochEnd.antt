@@ -7,9 +7,9 @@ use Rattle.ssh_model.specs.Wire.Reading.{Writes}
 use Rattle.ssh_model.specs.Wire.Sealing.{IsSealed}
 use Rattle.ssh_model.specs.Wire.Unit.{IsPacketBegun, PacketUnit}
 use Rattle.ssh_types.specs.Refusals.{refusal_of}
-use Rattle.ssh_transport.specs.Directions.{Direction, Receiver}
-use Rattle.ssh_transport.specs.declared.packets.step.PacketStep.{PacketStep}
-use Rattle.ssh_transport.specs.declared.packets.step.PacketStep.TheVariants.{Payload, More, Refused}
+use Rattle.ssh_transport_base.specs.Directions.{Direction, Receiver}
+use Rattle.ssh_transport_base.specs.declared.packets.step.PacketStep.{PacketStep}
+use Rattle.ssh_transport_base.specs.declared.packets.step.PacketStep.TheVariants.{Payload, More, Refused}
 use Rattle.ssh_trace.specs.declared.epoch_end.AskStep.{AskStep}
 use Rattle.ssh_trace.specs.declared.epoch_end.AskStep.TheVariants as ask
 

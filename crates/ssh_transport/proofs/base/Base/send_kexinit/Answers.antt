@@ -1,6 +1,0 @@
-use Rattle.std.proofs.Common.{◌∙◌}
-use Rattle.ssh_transport.proofs.Sending.{own_sent}
-use Rattle.ssh_transport.proofs.base.Base.send_kexinit.Goals as goal
-
-pub returns-in-Ok-clause-sends : goal.returns-in-Ok-clause-sends
-returns-in-Ok-clause-sends g c = own_sent _ _ _ _ _ _ _ _ c.put.result c.self.view_is (c.set.ensures ∙ c.deref.ensures.value) c.in-Ok.ensures.spelled c.put.ensures.puts c.put.ensures.after

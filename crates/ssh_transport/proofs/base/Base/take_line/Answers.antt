@@ -1,7 +1,0 @@
-use Rattle.std.proofs.Common.{refl}
-use Rattle.ssh_transport.proofs.LineTurns.{begun}
-use Rattle.ssh_transport.proofs.base.Base.take_line.Goals as goal
-
-pub returns-in-More-clause-taken : goal.returns-in-More-clause-taken
-returns-in-More-clause-taken g c =
-    begun _ _ c.take.result.0 c.args.bytes.now c.take.follows.lender-at-none c.self.view_is refl c.requires (rw c.in-More.is at c.take.follows.holds-at-none)

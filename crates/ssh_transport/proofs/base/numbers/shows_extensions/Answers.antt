@@ -1,8 +1,0 @@
-use Rattle.std.proofs.Common.{sym, ◌∙◌}
-use Rattle.ssh_types.specs.Sides.{side_of}
-use Rattle.ssh_transport.specs.Meaning.{settings_of}
-use Rattle.ssh_transport.proofs.OwnMarkers.{own_extensions}
-use Rattle.ssh_transport.proofs.base.numbers.shows_extensions.Goals as goal
-
-pub returns : goal.returns
-returns g c = c.takes_extensions.ensures ∙ sym (own_extensions (settings_of c.args.config.now) (side_of c.args.side) c.every_config_is_good.ensures.lists.known_kex)

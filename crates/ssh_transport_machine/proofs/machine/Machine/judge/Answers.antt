@@ -1,0 +1,18 @@
+use Rattle.std.proofs.Common.{◌≡◌, ◌<◌, ℕ, Bool, true, false, sym, ◌∙◌, subst}
+use Rattle.ssh_model.specs.TransportLayer.Kept.{takes}
+use Rattle.ssh_transport_machine.specs.Judging.{PayloadJudged.skipped, PayloadJudged.unexpected}
+use Rattle.ssh_transport_machine.specs.State.{before_taken}
+use Rattle.ssh_transport_machine.proofs.machine.Machine.judge.Goals as goal
+
+pub returns-then-not-takes : goal.returns-then-not-takes
+returns-then-not-takes g c =
+    let n = c.number-number.ensures in
+    unexpected (subst (λ (m : ℕ). m < 50) n c.if-number-ge50.false)
+    (subst (λ (m : ℕ). takes (before_taken c.args.self.now.kept) m ≡ false) n (sym c.takes.ensures ∙ c.if-not-takes.true))
+
+pub returns-then-is_guessed : goal.returns-then-is_guessed
+returns-then-is_guessed g c =
+    let n = c.number-number.ensures in
+    skipped (subst (λ (m : ℕ). m < 50) n c.if-number-ge50.false)
+    (subst (λ (m : ℕ). takes (before_taken c.args.self.now.kept) m ≡ true) n (sym c.takes.ensures ∙ c.if-not-takes.false))
+    (c.is_guessed.ensures.guessed c.if-is_guessed.true)

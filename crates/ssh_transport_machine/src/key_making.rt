@@ -1,0 +1,103 @@
+//! The key of a direction.
+
+ghost use Rattle.std.specs.Prelude.{◌≡◌, ◌≤◌, IfOk, IsSome, length};
+ghost use Rattle.ssh_model.specs.Wire.DataTypes.{number};
+ghost use Rattle.ssh_model.specs.KeyExchange.Exchange.{derived};
+ghost use Rattle.ssh_model.specs.KeyExchange.Exchanges.{cipher_letter, iv_letter, mac_letter};
+ghost use Rattle.ssh_kex.specs.Values.{letter_of};
+ghost use Rattle.ssh_packet.specs.Sealing.{lengths_of};
+ghost use Rattle.ssh_types.specs.Sides.{side_of};
+ghost use Rattle.ssh_transport_machine.specs.Hashing.{key_with, lengths_in};
+
+use ssh_kex::{Letter, derive};
+use ssh_packet::{Lengths, Sealing};
+use ssh_types::Side;
+use std::alloc::{AllocError, Global};
+
+/// What an exchange gave: the shared number, the hash, and the session id.
+#[derive(Clone, Copy)]
+pub struct Agreed<'a> {
+    pub shared: &'a [u8; 32],
+    pub hash: &'a [u8; 32],
+    pub session: &'a [u8; 32],
+}
+
+// The key of the direction from this side (RFC 4253 section 7.2), for names that the sealing knows. It fails only where memory
+// is refused.
+pub fn key_from<S: Sealing>(
+    alloc: Global,
+    from: Side,
+    agreed: &Agreed<'_>,
+    encryption: &[u8],
+    mac: &[u8],
+) -> Result<S::Key, AllocError>
+    requires { IsSome (S.crypto.lengths encryption.now mac.now) }
+    ensures { IfOk result (λ key. key ≡ key_with S.crypto (side_of from) (number agreed.now.shared.now) agreed.now.hash.now agreed.now.session.now encryption.now mac.now) }
+{
+    let sizes = sizes_of::<S>(encryption, mac);
+    let mut iv = [0; 64];
+    let mut cipher = [0; 64];
+    let mut key = [0; 64];
+    fill(agreed, iv_of(from), &mut iv[..sizes.iv]);
+    fill(agreed, cipher_of(from), &mut cipher[..sizes.cipher]);
+    fill(agreed, mac_of(from), &mut key[..sizes.mac]);
+    S::make(
+        alloc,
+        encryption,
+        mac,
+        &iv[..sizes.iv],
+        &cipher[..sizes.cipher],
+        &key[..sizes.mac],
+    )
+}
+
+// How much key material the sealing takes.
+fn sizes_of<S: Sealing>(encryption: &[u8], mac: &[u8]) -> Lengths
+    requires { IsSome (S.crypto.lengths encryption.now mac.now) }
+    ensures sizes { lengths_of result ≡ lengths_in S.crypto encryption.now mac.now }
+    ensures iv { result.iv ≤ 64 }
+    ensures cipher { result.cipher ≤ 64 }
+    ensures mac { result.mac ≤ 64 }
+{
+    S::lengths(encryption, mac).unwrap()
+}
+
+// Key material of this letter.
+fn fill(agreed: &Agreed<'_>, letter: Letter, out: &mut [u8])
+    ensures { out.new ≡ derived (number agreed.now.shared.now) agreed.now.hash.now (letter_of letter) agreed.now.session.now (length out.old) }
+{
+    let shared = agreed.shared;
+    let hash = agreed.hash;
+    let session = agreed.session;
+    derive(shared, hash, letter, session, out);
+}
+
+// The letter of a direction's IV.
+fn iv_of(from: Side) -> Letter
+    ensures { letter_of result ≡ iv_letter (side_of from) }
+{
+    match from {
+        Side::Client => Letter::A,
+        Side::Server => Letter::B,
+    }
+}
+
+// The letter of its cipher key.
+fn cipher_of(from: Side) -> Letter
+    ensures { letter_of result ≡ cipher_letter (side_of from) }
+{
+    match from {
+        Side::Client => Letter::C,
+        Side::Server => Letter::D,
+    }
+}
+
+// The letter of its MAC key.
+fn mac_of(from: Side) -> Letter
+    ensures { letter_of result ≡ mac_letter (side_of from) }
+{
+    match from {
+        Side::Client => Letter::E,
+        Side::Server => Letter::F,
+    }
+}

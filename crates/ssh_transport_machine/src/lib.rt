@@ -1,0 +1,10 @@
+//! The machine of a transport that both roles share (RFC 4253): lines and packets that are taken, what is refused, the exchanges of
+//! keys, and service requests. A `Machine` says which end it is; the parts that only one side has are the role's.
+//!
+//! Who writes a client or a server names `ssh_transport`.
+#![tactic(auto)]
+
+mod key_making;
+mod machine;
+
+pub use machine::{Judged, KexinitFacts, LineTurn, Machine, Material, Phase, Points};

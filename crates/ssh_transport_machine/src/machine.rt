@@ -1,0 +1,166 @@
+//! What the two ends of a connection have in common: their lines, the packets of both directions, the exchanges of keys, and
+//! what they refuse. A side says which end it is.
+
+ghost use Rattle.std.specs.Prelude.{◌≡◌, ◌<◌, ◌≤◌, ◌++◌, None, length, take};
+ghost use Rattle.ssh_model.specs.Sessions.Turns.{number_of};
+ghost use Rattle.ssh_transport_machine.specs.LineTurns.{LineTaken};
+ghost use Rattle.ssh_transport_machine.specs.State.{dead_state};
+
+mod answering;
+mod choosing;
+mod completing;
+mod hashing;
+mod judging;
+mod kexinit;
+mod kexinit_payload;
+mod line_turn;
+mod material;
+mod numbers;
+mod offering;
+mod opening;
+mod phase;
+mod refusing;
+mod sending;
+mod service;
+mod sharing;
+
+pub use hashing::Points;
+pub use judging::Judged;
+pub use kexinit::KexinitFacts;
+use kexinit_payload::KexinitPayload;
+pub use line_turn::LineTurn;
+pub use material::Material;
+pub use phase::Phase;
+use ssh_packet::{Filler, LineReader, LineStep, Sealing};
+use ssh_transport_base::{Config, PacketReceiver, PacketSender};
+use ssh_types::Side;
+use std::alloc::Global;
+use std::marker::Model;
+
+/// One end, without the parts that only one side has.
+pub struct Machine<S: Sealing, F: Filler + Drop> {
+    alloc: Global,
+    side: Side,
+    config: Config<S>,
+    filler: F,
+    lines: LineReader,
+    sending: PacketSender<S>,
+    taking: PacketReceiver<S>,
+    // The key under which packets are taken after the NEWKEYS that is awaited.
+    pending: Option<S::Key>,
+    phase: Phase,
+    // From this end's KEXINIT until its NEWKEYS (RFC 4253 section 7.1).
+    blocked: bool,
+    // The payloads of both KEXINITs of the exchange under way, and the secret of this end's point.
+    own: KexinitPayload,
+    theirs: KexinitPayload,
+    secret: [u8; 32],
+    // The pair for the next KEXINIT, and how many pairs there were.
+    material: Option<Material>,
+    fed: u32,
+    session: Option<[u8; 32]>,
+    strict: bool,
+    peer_takes_extensions: bool,
+    requested: bool,
+    accepted: bool,
+    authenticated: bool,
+    dead: bool,
+}
+
+impl<S: Sealing, F: Filler + Drop> Model for Machine<S, F> {
+    ghost use Rattle.ssh_types.specs.Sides.{side_of};
+    ghost use Rattle.ssh_transport_base.specs.Meaning.{settings_of};
+    ghost use Rattle.ssh_transport_machine.specs.State.{State, lines_of, material_of, phase_of};
+
+    ghost Value = { State S.Key };
+
+    ghost view = { λ s. record {
+      reading = s.lines;
+      receiver = s.taking;
+      kept = record {
+        side = side_of s.side;
+        settings = settings_of s.config;
+        lines = lines_of s.lines;
+        sending = s.sending;
+        taking = s.taking.direction;
+        pending = s.pending;
+        phase = phase_of s.phase;
+        blocked = s.blocked;
+        underway = record { own = s.own; theirs = s.theirs; secret = s.secret };
+        material = material_of s.material;
+        fed = s.fed;
+        session = s.session;
+        strict = s.strict;
+        peer_takes_extensions = s.peer_takes_extensions;
+        requested = s.requested;
+        accepted = s.accepted;
+        authenticated = s.authenticated;
+        dead = s.dead;
+      };
+    } };
+}
+
+impl<S: Sealing, F: Filler + Drop> Drop for Machine<S, F> {
+    fn drop(self) {
+        let Machine {
+            alloc: _,
+            side: _,
+            config: _,
+            filler: _,
+            lines: _,
+            sending: _,
+            taking: _,
+            pending: _,
+            phase: _,
+            blocked: _,
+            own: _,
+            theirs: _,
+            secret: _,
+            material: _,
+            fed: _,
+            session: _,
+            strict: _,
+            peer_takes_extensions: _,
+            requested: _,
+            accepted: _,
+            authenticated: _,
+            dead: _,
+        } = self;
+    }
+}
+
+impl<S: Sealing, F: Filler + Drop> Machine<S, F> {
+    // Takes bytes to the end of one line. It needs no memory.
+    pub fn take_line(&mut self, bytes: &[u8]) -> (usize, LineTurn)
+        requires { self.old.reading.ended ≡ None }
+        ensures used { result.0 ≤ length bytes.now }
+        ensures progress { 0 < length bytes.now → 0 < result.0 }
+        ensures more { result.1 ≡ LineTurn.More → result.0 ≡ length bytes.now }
+        ensures taken { LineTaken self.old (self.old.reading.begun ++ take result.0 bytes.now) result.1 self.new }
+    {
+        let (used, step) = self.lines.take(bytes);
+        match step {
+            LineStep::More => (used, LineTurn::More),
+            LineStep::Other => (used, LineTurn::Other),
+            LineStep::Version { .. } => (used, LineTurn::Version),
+            LineStep::Refused(refusal) => {
+                self.dead = true;
+                (used, LineTurn::Refused(refusal))
+            }
+        }
+    }
+
+    // Tests whether the end is over.
+    pub fn is_dead(&self) -> bool
+        ensures { result ≡ self.now.kept.dead }
+    {
+        self.dead
+    }
+
+    // The end is over.
+    pub fn die(&mut self)
+        ensures { self.new ≡ dead_state self.old }
+    {
+        self.dead = true;
+    }
+}

@@ -1,0 +1,83 @@
+//! Answers to the peer's KEXINIT (RFC 4253 section 7.1, RFC 5656 section 4).
+
+ghost use Rattle.std.specs.Prelude.{◌≡◌, ◌<◌, ◌+◌, ◌^◌, OnOk, OnErr, map, true};
+ghost use Rattle.ssh_model.specs.Wire.Message.{KexEcdhInit};
+ghost use Rattle.ssh_model.specs.TransportLayer.Kept.{after_sent};
+ghost use Rattle.ssh_transport_machine.specs.Offering.{BothAnswered, OwnAnswered};
+ghost use Rattle.ssh_transport_machine.specs.Puts.{Sends};
+ghost use Rattle.ssh_transport_machine.specs.State.{noted};
+
+use crate::machine::Machine;
+use crate::machine::kexinit::KexinitFacts;
+use crate::machine::material::Material;
+use ssh_message::Message;
+use ssh_packet::{Filler, Sealing};
+use std::alloc::AllocError;
+
+impl<S: Sealing, F: Filler + Drop> Machine<S, F> {
+    // A client that sent its KEXINIT answers by its point.
+    pub fn answer_by_point(
+        &mut self,
+        facts: KexinitFacts,
+        point: &[u8; 32],
+        out: &mut Vec<u8>,
+        sent: &mut Vec<Vec<u8>>,
+    ) -> Result<(), AllocError>
+        requires left { self.old.kept.sending.count < 2 ^ 32 }
+        ensures sends { OnOk result (Sends S.crypto self.old.kept.sending (KexEcdhInit point.now) (record { before = out.old.items; after = out.new.items; listed = map (λ v. v.items) sent.old.items; relisted = map (λ v. v.items) sent.new.items })) }
+        ensures after { OnOk result (self.new ≡ record self.old { kept = after_sent (noted facts.wrong facts.strict facts.extensions self.old.receiver.payload self.old.kept) }) }
+        ensures dead { OnErr result (self.new.kept.dead ≡ true) }
+        ensures out { OnErr result (out.new.items ≡ out.old.items) }
+        ensures kept { OnErr result (sent.new.items ≡ sent.old.items) }
+    {
+        self.send(&Message::KexEcdhInit { q_c: point }, out, sent)?;
+        self.note_kexinit(facts);
+        Ok(())
+    }
+
+    // A server that sent no KEXINIT of its own answers by it.
+    pub fn answer_by_own(
+        &mut self,
+        facts: KexinitFacts,
+        material: Material,
+        out: &mut Vec<u8>,
+        sent: &mut Vec<Vec<u8>>,
+    ) -> Result<(), AllocError>
+        requires left { self.old.kept.sending.count < 2 ^ 32 }
+        ensures sends { OnOk result (OwnAnswered S.crypto self.old (record { cookie = material.cookie; secret = material.secret }) facts self.new (record { before = out.old.items; after = out.new.items; listed = map (λ v. v.items) sent.old.items; relisted = map (λ v. v.items) sent.new.items })) }
+        ensures dead { OnErr result (self.new.kept.dead ≡ true) }
+        ensures out { OnErr result (out.new.items ≡ out.old.items) }
+        ensures kept { OnErr result (sent.new.items ≡ sent.old.items) }
+    {
+        self.send_kexinit(material, out, sent)?;
+        self.note_kexinit(facts);
+        Ok(())
+    }
+
+    // A client that sent no KEXINIT of its own answers by it and by its point.
+    pub fn answer_by_both(
+        &mut self,
+        facts: KexinitFacts,
+        material: Material,
+        point: &[u8; 32],
+        out: &mut Vec<u8>,
+        sent: &mut Vec<Vec<u8>>,
+    ) -> Result<(), AllocError>
+        requires left { self.old.kept.sending.count + 1 < 2 ^ 32 }
+        ensures sends { OnOk result (BothAnswered S.crypto self.old (record { cookie = material.cookie; secret = material.secret }) point.now facts self.new (record { before = out.old.items; after = out.new.items; listed = map (λ v. v.items) sent.old.items; relisted = map (λ v. v.items) sent.new.items })) }
+        ensures dead { OnErr result (self.new.kept.dead ≡ true) }
+        ensures out { OnErr result (out.new.items ≡ out.old.items) }
+        ensures kept { OnErr result (map (λ v. v.items) sent.new.items ≡ map (λ v. v.items) sent.old.items) }
+    {
+        let bytes = out.len();
+        let payloads = sent.as_slice().len();
+        self.send_kexinit(material, out, sent)?;
+        if let Err(error) = self.send(&Message::KexEcdhInit { q_c: point }, out, sent) {
+            out.truncate(bytes);
+            sent.truncate(payloads);
+            return Err(error);
+        }
+        self.note_kexinit(facts);
+        Ok(())
+    }
+}

@@ -1,0 +1,83 @@
+//! The end of an exchange: NEWKEYS of both directions (RFC 4253 section 7.3).
+
+ghost use Rattle.std.specs.Prelude.{◌≡◌, ◌<◌, ◌-◌, ◌^◌, None, OnOk, OnErr, Some, false, map, true};
+ghost use Rattle.ssh_model.specs.Sessions.Phases as model;
+ghost use Rattle.ssh_model.specs.Wire.Message.{NewKeys};
+ghost use Rattle.ssh_model.specs.TransportLayer.Directions.{counted, renewed};
+ghost use Rattle.ssh_transport_base.specs.Directions.{newkeys};
+ghost use Rattle.ssh_transport_machine.specs.Puts.{PutsPayload, Sends};
+
+use crate::machine::{Machine, Phase};
+use ssh_packet::{Filler, Sealing};
+use std::alloc::AllocError;
+
+impl<S: Sealing, F: Filler + Drop> Machine<S, F> {
+    // Sends NEWKEYS, by which the exchange is completed: from then on packets are sealed under the first key, and opened under the
+    // second one once the peer's NEWKEYS is taken. The session id is that with this exchange.
+    pub fn send_newkeys(
+        &mut self,
+        key: S::Key,
+        peer_key: S::Key,
+        session: [u8; 32],
+        out: &mut Vec<u8>,
+        sent: &mut Vec<Vec<u8>>,
+    ) -> Result<(), AllocError>
+        requires left { self.old.kept.sending.count < 2 ^ 32 }
+        requires epoch { self.old.kept.sending.epoch < 2 ^ 32 - 1 }
+        ensures sends { OnOk result (Sends S.crypto self.old.kept.sending NewKeys (record { before = out.old.items; after = out.new.items; listed = map (λ v. v.items) sent.old.items; relisted = map (λ v. v.items) sent.new.items })) }
+        ensures after { OnOk result (self.new ≡ record self.old { kept = record self.old.kept { sending = renewed self.old.kept.strict key (counted self.old.kept.sending); pending = Some peer_key; phase = model.Keying; blocked = false; session = Some session } }) }
+        ensures dead { OnErr result (self.new.kept.dead ≡ true) }
+        ensures out { OnErr result (out.new.items ≡ out.old.items) }
+        ensures kept { OnErr result (sent.new.items ≡ sent.old.items) }
+    {
+        if let Err(error) = self.try_newkeys(key, out, sent) {
+            self.dead = true;
+            return Err(error);
+        }
+        self.pending = Some(peer_key);
+        self.phase = Phase::Keying;
+        self.blocked = false;
+        self.session = Some(session);
+        Ok(())
+    }
+
+    // All growths come first.
+    fn try_newkeys(
+        &mut self,
+        key: S::Key,
+        out: &mut Vec<u8>,
+        sent: &mut Vec<Vec<u8>>,
+    ) -> Result<(), AllocError>
+        requires left { self.old.kept.sending.count < 2 ^ 32 }
+        requires epoch { self.old.kept.sending.epoch < 2 ^ 32 - 1 }
+        ensures puts { OnOk result (PutsPayload S.crypto self.old.kept.sending newkeys (record { before = out.old.items; after = out.new.items; listed = map (λ v. v.items) sent.old.items; relisted = map (λ v. v.items) sent.new.items })) }
+        ensures after { OnOk result (self.new ≡ record self.old { kept = record self.old.kept { sending = renewed self.old.kept.strict key (counted self.old.kept.sending) } }) }
+        ensures out { OnErr result (out.new.items ≡ out.old.items) }
+        ensures kept { OnErr result (sent.new.items ≡ sent.old.items) }
+    {
+        let mut payload = Vec::new(self.alloc);
+        payload.push(21)?;
+        sent.reserve(1)?;
+        self.sending
+            .send_newkeys(key, self.strict, &mut self.filler, out)?;
+        sent.push_reserved(payload);
+        Ok(())
+    }
+
+    // Takes NEWKEYS, where it is awaited: the next epoch begins under the key that is pending.
+    pub fn take_newkeys(&mut self)
+        requires pending { self.old.kept.pending ≡ None → ⊥ }
+        requires shown { self.old.receiver.payload ≡ newkeys }
+        requires taken { 0 < self.old.receiver.direction.count }
+        requires epoch { self.old.receiver.direction.epoch < 2 ^ 32 - 1 }
+        ensures { (key : S.Key) → self.old.kept.pending ≡ Some key → self.new ≡ record self.old { receiver = record self.old.receiver { direction = renewed self.old.kept.strict key self.old.receiver.direction }; kept = record self.old.kept { taking = renewed self.old.kept.strict key self.old.receiver.direction; phase = model.Normal; pending = None } } }
+    {
+        match self.pending.take() {
+            Some(key) => {
+                self.taking.start_epoch(key, self.strict);
+                self.phase = Phase::Normal;
+            }
+            None => unreachable!(),
+        }
+    }
+}

@@ -1,0 +1,177 @@
+//! What an end makes of a payload that it took, before it acts.
+
+ghost use Rattle.std.specs.Prelude.{◌≡◌, ◌<◌, ◌≤◌, true, false, codes};
+ghost use Rattle.ssh_model.specs.Wire.Message.{KexInit, message_number};
+ghost use Rattle.ssh_model.specs.Wire.MacOnly.{is_text};
+ghost use Rattle.ssh_message.specs.Meaning.{meaning, proposal_meaning};
+ghost use Rattle.ssh_model.specs.Sessions.Phases as model;
+ghost use Rattle.ssh_model.specs.Sessions.Turns.{number_of};
+ghost use Rattle.ssh_model.specs.TransportLayer.Kept as kept;
+ghost use Rattle.ssh_transport_machine.specs.Judging.{IsAcceptJudged, IsRequestJudged, MessageJudged, PayloadJudged};
+ghost use Rattle.ssh_transport_machine.specs.State.{before_taken};
+
+use crate::machine::kexinit::{KexinitFacts, KexinitJudged};
+use crate::machine::{Machine, Phase};
+use ssh_message::{Message, Proposal, decode};
+use ssh_packet::{Filler, Sealing};
+use ssh_types::Refusal;
+
+/// What a payload is to an end.
+#[derive(Clone, Copy, Debug, PartialEq, Eq)]
+pub enum Judged {
+    /// Nothing that may come.
+    Refused(Refusal),
+    /// The packet after a wrong guess, which is not read.
+    Skipped,
+    /// DISCONNECT.
+    Disconnected,
+    /// IGNORE, UNIMPLEMENTED, DEBUG or EXT_INFO, which are told and not answered.
+    Told,
+    /// A message of a number that isn't known.
+    Unknown,
+    /// SERVICE_REQUEST for authentication.
+    ServiceRequested,
+    /// SERVICE_ACCEPT for it.
+    ServiceAccepted,
+    /// A KEXINIT that nothing refuses.
+    Kexinit(KexinitFacts),
+    /// NEWKEYS.
+    NewKeys,
+    /// The point of a client.
+    Init,
+    /// The reply of a server.
+    Reply,
+    /// A payload for the layers above.
+    Above,
+}
+
+impl<S: Sealing, F: Filler + Drop> Machine<S, F> {
+    // Tests the payload that is shown: by its number, then whether it is a message, and then what is checked of its message. The
+    // point of a client and the reply of a server are judged by who has the parts for it.
+    pub fn judge(&self) -> Judged
+        requires { 1 ≤ self.now.kept.taking.count }
+        ensures { PayloadJudged (before_taken self.now.kept) self.now.receiver.payload result }
+    {
+        let number = self.number();
+        if number >= 50 {
+            return self.judge_above();
+        }
+        if !self.takes(number) {
+            return Judged::Refused(Refusal::Unexpected);
+        }
+        if self.is_guessed() {
+            return Judged::Skipped;
+        }
+        self.judge_read()
+    }
+
+    // Of a number from 50 on: it comes in no exchange.
+    fn judge_above(&self) -> Judged
+        requires number { 50 ≤ number_of self.now.receiver.payload }
+        ensures { PayloadJudged (before_taken self.now.kept) self.now.receiver.payload result }
+    {
+        if self.is_normal() {
+            Judged::Above
+        } else {
+            Judged::Refused(Refusal::Unexpected)
+        }
+    }
+
+    // Of a number that may be taken, and is read.
+    fn judge_read(&self) -> Judged
+        requires count { 1 ≤ self.now.kept.taking.count }
+        requires below { number_of self.now.receiver.payload < 50 }
+        requires taken { kept.takes (before_taken self.now.kept) (number_of self.now.receiver.payload) ≡ true }
+        requires read { self.now.kept.phase ≡ model.Guessed → ⊥ }
+        ensures { PayloadJudged (before_taken self.now.kept) self.now.receiver.payload result }
+    {
+        match decode(false, self.taking.payload()) {
+            Ok(message) => self.judge_message(message),
+            Err(_) => Judged::Refused(Refusal::BadMessage),
+        }
+    }
+
+    // What is checked of a message below 50.
+    fn judge_message(&self, message: Message<'_>) -> Judged
+        requires count { 1 ≤ self.now.kept.taking.count }
+        requires below { message_number (meaning message) < 50 }
+        ensures { MessageJudged (before_taken self.now.kept) (meaning message.entry) result }
+    {
+        match message {
+            Message::Disconnect { .. } => Judged::Disconnected,
+            Message::Ignore { .. } => Judged::Told,
+            Message::Unimplemented { .. } => Judged::Told,
+            Message::Debug { .. } => Judged::Told,
+            Message::ServiceRequest { service } => judge_request(service),
+            Message::ServiceAccept { service } => judge_accept(service),
+            Message::ExtInfo { .. } => Judged::Told,
+            Message::KexInit(theirs) => self.judge_offer(theirs),
+            Message::NewKeys => Judged::NewKeys,
+            Message::KexEcdhInit { .. } => Judged::Init,
+            Message::KexEcdhReply { .. } => Judged::Reply,
+            Message::Unknown(_) => Judged::Unknown,
+            _ => unreachable!(),
+        }
+    }
+
+    // A proposal, as a message.
+    fn judge_offer(&self, theirs: Proposal<'_>) -> Judged
+        requires { 1 ≤ self.now.kept.taking.count }
+        ensures { MessageJudged (before_taken self.now.kept) (KexInit (proposal_meaning theirs.entry)) result }
+    {
+        match self.judge_kexinit(theirs) {
+            KexinitJudged::Refused(refusal) => Judged::Refused(refusal),
+            KexinitJudged::Fine(facts) => Judged::Kexinit(facts),
+        }
+    }
+
+    // The packet after a wrong guess is awaited.
+    fn is_guessed(&self) -> bool
+        ensures guessed { result ≡ true → self.now.kept.phase ≡ model.Guessed }
+        ensures other { result ≡ false → self.now.kept.phase ≡ model.Guessed → ⊥ }
+    {
+        match self.phase {
+            Phase::Guessed => true,
+            _ => false,
+        }
+    }
+
+    // Nothing of an exchange is awaited.
+    pub fn is_normal(&self) -> bool
+        ensures { result ≡ model.is_normal self.now.kept.phase }
+    {
+        match self.phase {
+            Phase::Normal => true,
+            _ => false,
+        }
+    }
+}
+
+// A request for a service.
+fn judge_request(service: &[u8]) -> Judged
+    ensures { IsRequestJudged service.now result }
+{
+    if is_userauth(service) {
+        Judged::ServiceRequested
+    } else {
+        Judged::Refused(Refusal::NoService)
+    }
+}
+
+// A service that is granted.
+fn judge_accept(service: &[u8]) -> Judged
+    ensures { IsAcceptJudged service.now result }
+{
+    if is_userauth(service) {
+        Judged::ServiceAccepted
+    } else {
+        Judged::Refused(Refusal::Unexpected)
+    }
+}
+
+// The service is that of authentication.
+fn is_userauth(service: &[u8]) -> bool
+    ensures { result ≡ is_text service.now (codes "ssh-userauth") }
+{
+    service == b"ssh-userauth".as_slice()
+}

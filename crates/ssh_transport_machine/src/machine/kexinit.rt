@@ -1,0 +1,257 @@
+//! What an end makes of its peer's KEXINIT (RFC 4253 section 7.1).
+
+ghost use Rattle.std.specs.Prelude.{◌≡◌, ◌≤◌, ◌-◌, ◌==◌, ◌&&◌, not, nat_lt, is_some, cond, if◌then◌else◌};
+ghost use Rattle.ssh_model.specs.Wire.Message.{Proposal as ModelProposal};
+ghost use Rattle.ssh_model.specs.KeyExchange.Exchanges as model;
+ghost use Rattle.ssh_model.specs.KeyExchange.Exchanges.{has_marker};
+ghost use Rattle.ssh_model.specs.Sessions.Parties.{extension_marker_of, is_required, lists_of as lists_offered, marker_of};
+ghost use Rattle.ssh_model.specs.Sessions.Phases as model_phase;
+ghost use Rattle.ssh_model.specs.Sessions.Phases.{is_wrong_guess};
+ghost use Rattle.ssh_model.specs.Side as session;
+ghost use Rattle.ssh_model.specs.Side.{peer};
+ghost use Rattle.ssh_model.specs.TransportLayer.Kept.{becomes_strict, first_kex, has_choice_with, own_offer};
+ghost use Rattle.ssh_message.specs.Meaning.{proposal_meaning};
+ghost use Rattle.ssh_types.specs.Sides.{side_of};
+ghost use Rattle.ssh_types.specs.Values.{names};
+ghost use Rattle.ssh_kex.specs.Values.{lists_of, proposed};
+ghost use Rattle.ssh_transport_machine.specs.Kexinits.{AreFacts, IsJudged};
+ghost use Rattle.ssh_transport_base.specs.Meaning.{settings_of};
+ghost use Rattle.ssh_transport_machine.specs.State.{before_taken, noted, phase_of};
+
+use crate::machine::numbers::shows_strictness;
+use crate::machine::{Machine, Phase};
+use ssh_kex::{KexLists, choose, extension_markers, guess_wrong, markers};
+use ssh_message::Proposal;
+use ssh_packet::{Filler, Sealing};
+use ssh_transport_base::{Config, no_names, uncompressed};
+use ssh_types::{Refusal, Side};
+
+/// What a KEXINIT that nothing refuses settles.
+#[derive(Clone, Copy, Debug, PartialEq, Eq)]
+pub struct KexinitFacts {
+    /// Whether a packet follows that was guessed, and wrongly: it is not read.
+    pub wrong: bool,
+    /// Whether keys are exchanged strictly from now on.
+    pub strict: bool,
+    /// Whether the peer takes extensions.
+    pub extensions: bool,
+}
+
+/// What a KEXINIT is to an end.
+#[derive(Clone, Copy, Debug, PartialEq, Eq)]
+pub enum KexinitJudged {
+    Refused(Refusal),
+    Fine(KexinitFacts),
+}
+
+impl<S: Sealing, F: Filler + Drop> Machine<S, F> {
+    // Tests a proposal in the order of the refusals.
+    pub fn judge_kexinit(&self, theirs: Proposal<'_>) -> KexinitJudged
+        requires { 1 ≤ self.now.kept.taking.count }
+        ensures { IsJudged (before_taken self.now.kept) (proposal_meaning theirs.entry) result }
+    {
+        let lists = KexLists::from(theirs);
+        if self.lacks_marker(&lists) {
+            return KexinitJudged::Refused(Refusal::NotStrict);
+        }
+        if self.comes_late(&lists) {
+            return KexinitJudged::Refused(Refusal::Unexpected);
+        }
+        if !self.can_choose(&lists) {
+            return KexinitJudged::Refused(Refusal::NoCommon);
+        }
+        if self.lacks_material() {
+            return KexinitJudged::Refused(Refusal::NoMaterial);
+        }
+        KexinitJudged::Fine(self.facts(theirs, &lists))
+    }
+
+    // What the proposal settles.
+    fn facts(&self, theirs: Proposal<'_>, lists: &KexLists<'_>) -> KexinitFacts
+        requires { lists.now ≡ proposed theirs }
+        ensures { AreFacts self.now.kept (proposal_meaning theirs.entry) result }
+    {
+        let own = self.own_lists();
+        KexinitFacts {
+            wrong: is_wrong(theirs, lists, &own),
+            strict: self.strict_with(lists),
+            extensions: self.extensions_with(lists),
+        }
+    }
+
+    // Keys are exchanged strictly with this KEXINIT: the first one settles it.
+    fn strict_with(&self, lists: &KexLists<'_>) -> bool
+        ensures { (theirs : ModelProposal) → theirs.kex ≡ names lists.now.kex → result ≡ (if self.now.kept.taking.epoch == 0 then becomes_strict self.now.kept theirs else self.now.kept.strict) }
+    {
+        if self.taking.epoch() == 0 {
+            makes_strict(&self.config, self.side, lists)
+        } else {
+            self.strict
+        }
+    }
+
+    // The peer takes extensions with this KEXINIT: the first one settles it.
+    fn extensions_with(&self, lists: &KexLists<'_>) -> bool
+        ensures { result ≡ (if self.now.kept.taking.epoch == 0 then has_marker (extension_marker_of (peer self.now.kept.side)) (names lists.now.kex) else self.now.kept.peer_takes_extensions) }
+    {
+        if self.taking.epoch() == 0 {
+            peer_extension_marker(self.side, lists)
+        } else {
+            self.peer_takes_extensions
+        }
+    }
+
+    // The peer's first KEXINIT lacks its marker, and it is required.
+    fn lacks_marker(&self, lists: &KexLists<'_>) -> bool
+        ensures { result ≡ (self.now.kept.taking.epoch == 0 && is_required self.now.kept.settings.strictness && not (has_marker (marker_of (peer self.now.kept.side)) (names lists.now.kex))) }
+    {
+        self.taking.epoch() == 0
+            && self.config.strictness().is_required()
+            && !peer_marker(self.side, lists)
+    }
+
+    // The peer's first KEXINIT makes key exchange strict, and is not its first packet.
+    fn comes_late(&self, lists: &KexLists<'_>) -> bool
+        requires { 1 ≤ self.now.kept.taking.count }
+        ensures { (theirs : ModelProposal) → theirs.kex ≡ names lists.now.kex → result ≡ (self.now.kept.taking.epoch == 0 && (becomes_strict self.now.kept theirs && nat_lt 0 (self.now.kept.taking.count - 1))) }
+    {
+        self.taking.epoch() == 0
+            && (makes_strict(&self.config, self.side, lists) && self.had_packets())
+    }
+
+    // A packet was taken in the epoch before the one whose payload is shown.
+    fn had_packets(&self) -> bool
+        requires { 1 ≤ self.now.kept.taking.count }
+        ensures { result ≡ nat_lt 0 (self.now.kept.taking.count - 1) }
+    {
+        1 < self.taking.count()
+    }
+
+    // Each kind has a common name.
+    fn can_choose(&self, theirs: &KexLists<'_>) -> bool
+        ensures { result ≡ has_choice_with self.now.kept.side (lists_offered (own_offer self.now.kept.settings self.now.kept.side)) (lists_of theirs.now) }
+    {
+        let own = self.own_lists();
+        self.has_choice_with(&own, theirs)
+    }
+
+    // The lists of this end, without markers.
+    pub fn own_lists(&self) -> KexLists<'_>
+        ensures { lists_of result ≡ lists_offered (own_offer self.now.kept.settings self.now.kept.side) }
+    {
+        own_lists(&self.config)
+    }
+
+    // Each kind has a common name in the lists of this end and of the peer.
+    fn has_choice_with(&self, own: &KexLists<'_>, theirs: &KexLists<'_>) -> bool
+        ensures { result ≡ has_choice_with self.now.kept.side (lists_of own.now) (lists_of theirs.now) }
+    {
+        can_choose(self.side, own, theirs)
+    }
+
+    // A KEXINIT would have to be sent, and there is no pair for it.
+    fn lacks_material(&self) -> bool
+        ensures { result ≡ (not self.now.kept.blocked && not (is_some self.now.kept.material)) }
+    {
+        !self.blocked && !self.has_material()
+    }
+
+    // Keeps the KEXINIT whose payload is shown, and what it settles. It needs no memory.
+    pub fn note_kexinit(&mut self, facts: KexinitFacts)
+        ensures { self.new ≡ record self.old { kept = noted facts.wrong facts.strict facts.extensions self.old.receiver.payload self.old.kept } }
+    {
+        self.theirs.set(self.taking.payload());
+        self.phase = phase_after(facts.wrong);
+        self.strict = facts.strict;
+        self.peer_takes_extensions = facts.extensions;
+    }
+
+    // A pair of cookie and secret is kept.
+    pub fn has_material(&self) -> bool
+        ensures { result ≡ is_some self.now.kept.material }
+    {
+        self.material.is_some()
+    }
+}
+
+// What is awaited after a KEXINIT.
+fn phase_after(wrong: bool) -> Phase
+    ensures { phase_of result ≡ cond wrong model_phase.Guessed model_phase.Exchanging }
+{
+    if wrong {
+        Phase::Guessed
+    } else {
+        Phase::Exchanging
+    }
+}
+
+// The peer's marker of strict key exchange stands in its kex list.
+fn peer_marker(side: Side, lists: &KexLists<'_>) -> bool
+    ensures { result ≡ has_marker (marker_of (peer (side_of side))) (names lists.now.kex) }
+{
+    let (client, server) = markers(lists);
+    match side {
+        Side::Client => server,
+        Side::Server => client,
+    }
+}
+
+// The peer's marker of extensions stands in its kex list.
+fn peer_extension_marker(side: Side, lists: &KexLists<'_>) -> bool
+    ensures { result ≡ has_marker (extension_marker_of (peer (side_of side))) (names lists.now.kex) }
+{
+    let (client, server) = extension_markers(lists);
+    match side {
+        Side::Client => server,
+        Side::Server => client,
+    }
+}
+
+// Both ends offer strict key exchange.
+fn makes_strict<S: Sealing>(config: &Config<S>, side: Side, lists: &KexLists<'_>) -> bool
+    ensures { result ≡ (has_marker (marker_of (side_of side)) (first_kex (settings_of config.now) (side_of side)) && has_marker (marker_of (peer (side_of side))) (names lists.now.kex)) }
+{
+    shows_strictness(config, side) && peer_marker(side, lists)
+}
+
+// The lists of this end, without markers.
+fn own_lists<S: Sealing>(config: &Config<S>) -> KexLists<'_>
+    ensures { lists_of result ≡ lists_offered (own_offer (settings_of config.now) session.Client) }
+{
+    KexLists {
+        kex: config.kex(),
+        host: config.host(),
+        enc_cs: config.encryption(),
+        enc_sc: config.encryption(),
+        mac_cs: config.mac(),
+        mac_sc: config.mac(),
+        comp_cs: uncompressed(),
+        comp_sc: uncompressed(),
+        lang_cs: no_names(),
+        lang_sc: no_names(),
+    }
+}
+
+// Each kind has a common name.
+fn can_choose(side: Side, own: &KexLists<'_>, theirs: &KexLists<'_>) -> bool
+    ensures { result ≡ has_choice_with (side_of side) (lists_of own.now) (lists_of theirs.now) }
+{
+    match side {
+        Side::Client => has_choice(own, theirs),
+        Side::Server => has_choice(theirs, own),
+    }
+}
+
+// A guess came, and it is wrong.
+fn is_wrong(theirs: Proposal<'_>, lists: &KexLists<'_>, own: &KexLists<'_>) -> bool
+    requires { lists.now ≡ proposed theirs }
+    ensures { (ours : ModelProposal) → lists_offered ours ≡ lists_of own.now → result ≡ is_wrong_guess (proposal_meaning theirs.entry) ours }
+{
+    theirs.follows && guess_wrong(lists, own)
+}
+
+fn has_choice(client: &KexLists<'_>, server: &KexLists<'_>) -> bool
+    ensures { result ≡ model.has_choice (lists_of client.now) (lists_of server.now) }
+{
+    choose(client, server).is_ok()
+}

@@ -1,0 +1,54 @@
+ghost use Rattle.std.specs.Prelude.{◌≡◌, ◌≤◌, IfOk, [], length};
+
+use std::alloc::{AllocError, Global};
+use std::marker::Model;
+
+// The most bytes that a payload has.
+const LONGEST_PAYLOAD: usize = 35_000;
+
+/// The payload of a KEXINIT, for which there is room from the start.
+#[derive(Drop)]
+pub struct KexinitPayload {
+    bytes: Vec<u8>,
+}
+
+impl Model for KexinitPayload {
+    ghost use Rattle.std.specs.Prelude.{◌≤◌, ℕ, List, length, vec_capacity};
+
+    ghost Value = { List ℕ };
+
+    ghost view = { λ p. p.bytes.items };
+
+    ghost invariant = { λ p. (35000 ≤ vec_capacity p.bytes) × (length p.bytes.items ≤ 35000) };
+}
+
+impl KexinitPayload {
+    /// Room for a payload, and none there. This takes the only memory.
+    pub fn new(alloc: Global) -> Result<KexinitPayload, AllocError>
+        ensures { IfOk result (λ payload. payload ≡ []) }
+    {
+        Ok(KexinitPayload {
+            bytes: Vec::with_capacity(alloc, LONGEST_PAYLOAD)?,
+        })
+    }
+
+    /// Puts a payload in place of the old one. It needs no memory.
+    pub fn set(&mut self, payload: &[u8])
+        requires { length payload.now ≤ 35000 }
+        ensures { self.new ≡ payload.now }
+    {
+        self.bytes.clear();
+        match self.bytes.extend_from_slice(payload) {
+            Ok(()) => {}
+            Err(_) => unreachable!(),
+        }
+    }
+
+    /// The payload, at most 35,000 bytes.
+    pub fn as_slice(&self) -> &[u8]
+        ensures payload { result.now ≡ self.now }
+        ensures most { length self.now ≤ 35000 }
+    {
+        &self.bytes
+    }
+}

@@ -1,0 +1,14 @@
+use ssh_packet::LineRefusal;
+
+/// What one call found while lines are read.
+#[derive(Clone, Copy, Debug, PartialEq, Eq)]
+pub enum LineTurn {
+    /// No whole line yet.
+    More,
+    /// A line that is no version line.
+    Other,
+    /// The version line.
+    Version,
+    /// No line that may come; the end is over.
+    Refused(LineRefusal),
+}

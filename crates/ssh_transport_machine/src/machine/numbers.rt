@@ -1,0 +1,180 @@
+//! Which payloads an end may take, by their numbers.
+
+ghost use Rattle.std.specs.Prelude.{◌≡◌, ◌≤◌, ◌-◌, ◌||◌, ◌&&◌, ◌==◌, not, nat_lt, Bool};
+ghost use Rattle.ssh_model.specs.KeyExchange.Exchanges.{has_marker};
+ghost use Rattle.ssh_model.specs.Sessions.Parties.{extension_marker_of, is_offered as is_offering, marker_of};
+ghost use Rattle.ssh_model.specs.Sessions.Phases as model;
+ghost use Rattle.ssh_model.specs.Sessions.Turns.{number_of};
+ghost use Rattle.ssh_model.specs.Wire.Message as messages;
+ghost use Rattle.ssh_model.specs.TransportLayer.Kept as kept;
+ghost use Rattle.ssh_model.specs.TransportLayer.Kept.{first_kex, takes_announced, takes_service};
+ghost use Rattle.ssh_types.specs.Sides.{side_of};
+ghost use Rattle.ssh_transport_base.specs.Meaning.{settings_of};
+ghost use Rattle.ssh_transport_machine.specs.State.{before_taken};
+
+use crate::machine::{Machine, Phase};
+use ssh_packet::{Filler, Sealing};
+use ssh_transport_base::{Config, every_config_is_good};
+use ssh_types::Side;
+
+impl<S: Sealing, F: Filler + Drop> Machine<S, F> {
+    // The number of the message that was taken.
+    pub fn number(&self) -> u8
+        ensures { result ≡ number_of self.now.receiver.payload }
+    {
+        number_in(self.taking.payload())
+    }
+
+    // Tests whether the payload that is shown, of this number below 50, may be taken where the end stands.
+    pub fn takes(&self, number: u8) -> bool
+        requires { 1 ≤ self.now.kept.taking.count }
+        ensures { result ≡ kept.takes (before_taken self.now.kept) number }
+    {
+        match self.phase {
+            Phase::Start => self.takes_at_first(number),
+            Phase::Guessed => 30 <= number && number <= 49,
+            Phase::Exchanging => self.takes_beside(number) || number == awaited(self.side),
+            Phase::Keying => self.takes_beside(number) || number == 21,
+            Phase::Normal => self.takes_normally(number),
+        }
+    }
+
+    // Before the first KEXINIT of the peer.
+    fn takes_at_first(&self, number: u8) -> bool
+        ensures { result ≡ kept.takes_in model.Start (before_taken self.now.kept) number }
+    {
+        at_first(self.config.strictness().is_required(), number) || number == 20
+    }
+
+    // What may come in an exchange beside the message that is awaited.
+    fn takes_beside(&self, number: u8) -> bool
+        ensures { result ≡ model.is_allowed_during_exchange self.now.kept.strict self.now.kept.taking.epoch number }
+    {
+        if self.taking.epoch() == 0 {
+            return at_first(self.strict, number);
+        }
+        is_general(number) || is_spare_early(number)
+    }
+
+    // Outside an exchange.
+    fn takes_normally(&self, number: u8) -> bool
+        requires { 1 ≤ self.now.kept.taking.count }
+        ensures { result ≡ kept.takes_in model.Normal (before_taken self.now.kept) number }
+    {
+        is_general(number)
+            || self.takes_service(number)
+            || (number == 7 && self.takes_announced())
+            || (number == 20 && self.authenticated)
+            || is_spare(number)
+    }
+
+    // A message of service that may come.
+    fn takes_service(&self, number: u8) -> bool
+        ensures { result ≡ takes_service self.now.kept.side self.now.kept.requested self.now.kept.accepted number }
+    {
+        match self.side {
+            Side::Client => number == 6 && self.requested && !self.accepted,
+            Side::Server => number == 5 && !self.requested,
+        }
+    }
+
+    // EXT_INFO may come (RFC 8308 section 2.4).
+    fn takes_announced(&self) -> bool
+        requires { 1 ≤ self.now.kept.taking.count }
+        ensures { result ≡ takes_announced (before_taken self.now.kept) }
+    {
+        shows_extensions(&self.config, self.side)
+            && (self.taking.epoch() == 1 && self.is_first_of_epoch())
+    }
+
+    // The packet whose payload is shown is the first one of the epoch.
+    fn is_first_of_epoch(&self) -> bool
+        requires { 1 ≤ self.now.kept.taking.count }
+        ensures { result ≡ (self.now.kept.taking.count - 1 == 0) }
+    {
+        self.taking.count() == 1
+    }
+}
+
+// The first KEXINIT of an end with this config has the marker of extensions.
+#[tactic(auto, using(crate::proofs::OwnMarkers::own_extensions))]
+pub fn shows_extensions<S: Sealing>(config: &Config<S>, side: Side) -> bool
+    ensures { result ≡ has_marker (extension_marker_of (side_of side)) (first_kex (settings_of config.now) (side_of side)) }
+{
+    every_config_is_good(config);
+    config.takes_extensions()
+}
+
+// The first KEXINIT of an end with this config has the marker of strict key exchange.
+#[tactic(auto, using(crate::proofs::OwnMarkers::own_strict))]
+pub fn shows_strictness<S: Sealing>(config: &Config<S>, side: Side) -> bool
+    ensures { result ≡ has_marker (marker_of (side_of side)) (first_kex (settings_of config.now) (side_of side)) }
+{
+    every_config_is_good(config);
+    config.strictness().is_offered()
+}
+
+// In the first exchange: DISCONNECT, and where keys are not exchanged strictly the other general messages.
+fn at_first(strict: bool, number: u8) -> bool
+    ensures { result ≡ model.is_allowed_at_first strict number }
+{
+    if strict {
+        number == 1
+    } else {
+        is_general(number)
+    }
+}
+
+// DISCONNECT, IGNORE, UNIMPLEMENTED and DEBUG.
+fn is_general(number: u8) -> bool
+    ensures { result ≡ model.is_general number }
+{
+    1 <= number && number <= 4
+}
+
+// The number of a message that is known.
+fn is_known(number: u8) -> bool
+    ensures { result ≡ messages.is_known number }
+{
+    (1 <= number && number <= 7)
+        || (20 <= number && number <= 21)
+        || (30 <= number && number <= 31)
+        || (50 <= number && number <= 53)
+        || number == 60
+        || (80 <= number && number <= 82)
+        || (90 <= number && number <= 100)
+}
+
+// An unknown number below those of the key exchange methods.
+fn is_spare_early(number: u8) -> bool
+    ensures { result ≡ (nat_lt number 30 && not (messages.is_known number)) }
+{
+    number < 30 && !is_known(number)
+}
+
+// An unknown number below those of the connection.
+fn is_spare(number: u8) -> bool
+    ensures { result ≡ model.is_spare number }
+{
+    number < 80 && !is_known(number)
+}
+
+// The message of the exchange that comes from the peer.
+fn awaited(side: Side) -> u8
+    ensures { result ≡ model.awaited (side_of side) }
+{
+    match side {
+        Side::Server => 30,
+        Side::Client => 31,
+    }
+}
+
+// The first byte of a payload.
+fn number_in(payload: &[u8]) -> u8
+    ensures { result ≡ number_of payload.now }
+{
+    match payload.first() {
+        Some(number) => *number,
+        None => 0,
+    }
+}

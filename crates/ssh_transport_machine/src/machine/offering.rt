@@ -1,0 +1,85 @@
+//! The KEXINIT that an end sends, and what it sends with it.
+
+ghost use Rattle.std.specs.Prelude.{◌≡◌, ◌<◌, ◌≤◌, ◌^◌, Bool, IfOk, OnOk, OnErr, false, length, map, true};
+ghost use Rattle.ssh_model.specs.Wire.Message.{KexInit};
+ghost use Rattle.ssh_model.specs.KeyExchange.Exchanges as session;
+ghost use Rattle.ssh_model.specs.Sessions.Parties.{offer_of};
+ghost use Rattle.ssh_model.specs.Sessions.Turns.{IsSpelled};
+ghost use Rattle.ssh_model.specs.TransportLayer.Kept.{after_fed, is_fed};
+ghost use Rattle.ssh_transport_machine.specs.Offering.{OwnSent};
+
+use crate::machine::Machine;
+use crate::machine::material::Material;
+use ssh_packet::{Filler, Sealing};
+use ssh_transport_base::put_kexinit;
+use std::alloc::AllocError;
+
+impl<S: Sealing, F: Filler + Drop> Machine<S, F> {
+    // Sends this end's KEXINIT with a pair of cookie and secret, which is then used up.
+    pub fn send_kexinit(
+        &mut self,
+        material: Material,
+        out: &mut Vec<u8>,
+        sent: &mut Vec<Vec<u8>>,
+    ) -> Result<(), AllocError>
+        requires left { self.old.kept.sending.count < 2 ^ 32 }
+        ensures sends { OnOk result (OwnSent S.crypto self.old (record { cookie = material.cookie; secret = material.secret }) self.new (record { before = out.old.items; after = out.new.items; listed = map (λ v. v.items) sent.old.items; relisted = map (λ v. v.items) sent.new.items })) }
+        ensures dead { OnErr result (self.new.kept.dead ≡ true) }
+        ensures out { OnErr result (out.new.items ≡ out.old.items) }
+        ensures kept { OnErr result (sent.new.items ≡ sent.old.items) }
+    {
+        match self.spell_kexinit(false, &material.cookie) {
+            Ok(payload) => {
+                self.own.set(&payload);
+                self.secret = material.secret;
+                self.material = None;
+                self.blocked = true;
+                self.put(payload, out, sent)
+            }
+            Err(error) => {
+                self.dead = true;
+                Err(error)
+            }
+        }
+    }
+
+    // The payload of a KEXINIT of this end.
+    fn spell_kexinit(&self, first: bool, cookie: &[u8; 16]) -> Result<Vec<u8>, AllocError>
+        ensures spelled { IfOk result (λ payload. IsSpelled (KexInit (offer_of self.now.kept.settings self.now.kept.side first cookie.now)) payload.items) }
+        ensures some { IfOk result (λ payload. 1 ≤ length payload.items) }
+    {
+        ssh_model::payload_sizes();
+        let mut payload = Vec::new(self.alloc);
+        put_kexinit(
+            self.alloc,
+            &self.config,
+            self.side,
+            first,
+            cookie,
+            &mut payload,
+        )?;
+        Ok(payload)
+    }
+
+    // Keeps a pair of cookie and secret for the next KEXINIT, where none is kept.
+    pub fn feed(&mut self, cookie: [u8; 16], secret: [u8; 32]) -> bool
+        ensures fed { result ≡ is_fed self.old.kept }
+        ensures kept { result ≡ true → self.new ≡ record self.old { kept = after_fed cookie secret self.old.kept } }
+        ensures same { result ≡ false → self.new ≡ self.old }
+    {
+        if !self.can_feed() {
+            return false;
+        }
+        self.material = Some(Material { cookie, secret });
+        self.fed += 1;
+        true
+    }
+
+    // Tests whether a pair may be fed.
+    fn can_feed(&self) -> bool
+        ensures fed { result ≡ is_fed self.now.kept }
+        ensures left { result ≡ true → self.now.kept.fed < 4294967295 }
+    {
+        !self.dead && !self.has_material() && self.fed < u32::MAX
+    }
+}

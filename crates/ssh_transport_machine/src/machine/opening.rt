@@ -1,0 +1,22 @@
+//! Packets that an end takes.
+
+ghost use Rattle.std.specs.Prelude.{◌≡◌, ◌<◌, ◌≤◌, ◌++◌, None, length, take};
+ghost use Rattle.ssh_transport_base.specs.Directions.{Receives};
+
+use crate::machine::Machine;
+use ssh_packet::{Filler, Sealing};
+use ssh_transport_base::PacketStep;
+
+impl<S: Sealing, F: Filler + Drop> Machine<S, F> {
+    // Takes bytes to the end of one packet. It needs no memory.
+    pub fn open(&mut self, bytes: &[u8]) -> (usize, PacketStep)
+        requires { self.old.receiver.ended ≡ None }
+        ensures used { result.0 ≤ length bytes.now }
+        ensures progress { 0 < length bytes.now → 0 < result.0 }
+        ensures more { result.1 ≡ PacketStep.More → result.0 ≡ length bytes.now }
+        ensures received { Receives S.crypto (self.old.receiver.begun ++ take result.0 bytes.now) self.old.receiver result.1 self.new.receiver }
+        ensures rest { self.new ≡ record self.old { receiver = self.new.receiver; kept = record self.old.kept { taking = self.new.receiver.direction } } }
+    {
+        self.taking.take(bytes)
+    }
+}

@@ -1,0 +1,63 @@
+//! Refusals of the peer.
+
+ghost use Rattle.std.specs.Prelude.{◌≡◌, ◌<◌, ◌≤◌, ◌^◌, IsTrue, OnOk, OnErr, false, length, map, true};
+ghost use Rattle.ssh_model.specs.Sessions.Refusals.{refusal_name};
+ghost use Rattle.ssh_types.specs.Refusals.{refusal_of};
+ghost use Rattle.ssh_transport_machine.specs.Puts.{Refuses};
+ghost use Rattle.ssh_transport_machine.specs.State.{dead_state};
+
+use crate::machine::Machine;
+use ssh_message::Message;
+use ssh_packet::{Filler, Sealing};
+use ssh_types::Refusal;
+use std::alloc::AllocError;
+
+impl<S: Sealing, F: Filler + Drop> Machine<S, F> {
+    // Refuses the peer: says why in a DISCONNECT, where the refusal has a reason code and a number is left, and is over (RFC 4253
+    // section 11.1).
+    pub fn refuse(
+        &mut self,
+        refusal: Refusal,
+        out: &mut Vec<u8>,
+        sent: &mut Vec<Vec<u8>>,
+    ) -> Result<(), AllocError>
+        ensures refuses { OnOk result (Refuses S.crypto self.old.kept (refusal_of refusal) self.new.kept (record { before = out.old.items; after = out.new.items; listed = map (λ v. v.items) sent.old.items; relisted = map (λ v. v.items) sent.new.items })) }
+        ensures dead { OnErr result (self.new ≡ dead_state self.old) }
+        ensures out { OnErr result (out.new.items ≡ out.old.items) }
+        ensures kept { OnErr result (sent.new.items ≡ sent.old.items) }
+    {
+        let Some(reason) = refusal.code() else {
+            self.dead = true;
+            return Ok(());
+        };
+        if self.is_spent() {
+            self.dead = true;
+            return Ok(());
+        }
+        let farewell = Message::Disconnect {
+            reason,
+            description: name_of(refusal),
+            language: b"",
+        };
+        self.send(&farewell, out, sent)?;
+        self.dead = true;
+        Ok(())
+    }
+
+    // Tests whether no number is left in the epoch.
+    pub fn is_spent(&self) -> bool
+        ensures spent { IsTrue result → self.now.kept.sending.count ≡ 2 ^ 32 }
+        ensures left { result ≡ false → self.now.kept.sending.count < 2 ^ 32 }
+    {
+        self.sending.is_spent()
+    }
+}
+
+// What the DISCONNECT describes.
+#[tactic(auto, using(crate::proofs::Refusals::short_name))]
+fn name_of(refusal: Refusal) -> &'static [u8]
+    ensures value { result.now ≡ refusal_name (refusal_of refusal) }
+    ensures short { length result.now ≤ 20 }
+{
+    refusal.name().as_bytes()
+}

@@ -1,0 +1,102 @@
+//! Messages that an end sends.
+
+ghost use Rattle.std.specs.Prelude.{◌≡◌, ◌<◌, ◌≤◌, ◌^◌, IfOk, OnOk, OnErr, length, map, true};
+ghost use Rattle.ssh_model.specs.Wire.Message.{FitsContext};
+ghost use Rattle.ssh_model.specs.Wire.Sizes.{payload_size};
+ghost use Rattle.ssh_model.specs.Sessions.Turns.{IsSpelled};
+ghost use Rattle.ssh_model.specs.TransportLayer.Kept.{after_sent};
+ghost use Rattle.ssh_message.specs.Meaning.{meaning};
+ghost use Rattle.ssh_message.specs.Written.{Fits};
+ghost use Rattle.ssh_transport_machine.specs.Puts.{PutsPayload, Sends};
+ghost use Rattle.ssh_transport_machine.specs.State.{dead_state};
+
+use crate::machine::Machine;
+use ssh_message::{Message, encode};
+use ssh_packet::{Filler, Sealing};
+use std::alloc::AllocError;
+
+impl<S: Sealing, F: Filler + Drop> Machine<S, F> {
+    // Sends a message. Where memory is refused nothing is put out, and the end is over.
+    pub fn send(
+        &mut self,
+        message: &Message<'_>,
+        out: &mut Vec<u8>,
+        sent: &mut Vec<Vec<u8>>,
+    ) -> Result<(), AllocError>
+        requires left { self.old.kept.sending.count < 2 ^ 32 }
+        requires fits { Fits message.now }
+        requires context { FitsContext true (meaning message.now) }
+        requires most { payload_size (meaning message.now) ≤ 34000 }
+        ensures sends { OnOk result (Sends S.crypto self.old.kept.sending (meaning message.now) (record { before = out.old.items; after = out.new.items; listed = map (λ v. v.items) sent.old.items; relisted = map (λ v. v.items) sent.new.items })) }
+        ensures after { OnOk result (self.new ≡ record self.old { kept = after_sent self.old.kept }) }
+        ensures dead { OnErr result (self.new ≡ dead_state self.old) }
+        ensures out { OnErr result (out.new.items ≡ out.old.items) }
+        ensures kept { OnErr result (sent.new.items ≡ sent.old.items) }
+    {
+        match self.spell(message) {
+            Ok(payload) => self.put(payload, out, sent),
+            Err(error) => {
+                self.dead = true;
+                Err(error)
+            }
+        }
+    }
+
+    // The payload of a message.
+    pub fn spell(&self, message: &Message<'_>) -> Result<Vec<u8>, AllocError>
+        requires fits { Fits message.now }
+        requires context { FitsContext true (meaning message.now) }
+        requires most { payload_size (meaning message.now) ≤ 34000 }
+        ensures spelled { IfOk result (λ payload. IsSpelled (meaning message.now) payload.items) }
+        ensures some { IfOk result (λ payload. 1 ≤ length payload.items) }
+    {
+        let mut payload = Vec::new(self.alloc);
+        encode(message, &mut payload)?;
+        Ok(payload)
+    }
+
+    // Puts out the packet of a payload, and lists it.
+    pub fn put(
+        &mut self,
+        payload: Vec<u8>,
+        out: &mut Vec<u8>,
+        sent: &mut Vec<Vec<u8>>,
+    ) -> Result<(), AllocError>
+        requires left { self.old.kept.sending.count < 2 ^ 32 }
+        requires some { 1 ≤ length payload.items }
+        requires most { length payload.items ≤ 34000 }
+        ensures puts { OnOk result (PutsPayload S.crypto self.old.kept.sending payload.items (record { before = out.old.items; after = out.new.items; listed = map (λ v. v.items) sent.old.items; relisted = map (λ v. v.items) sent.new.items })) }
+        ensures after { OnOk result (self.new ≡ record self.old { kept = after_sent self.old.kept }) }
+        ensures dead { OnErr result (self.new ≡ dead_state self.old) }
+        ensures out { OnErr result (out.new.items ≡ out.old.items) }
+        ensures kept { OnErr result (sent.new.items ≡ sent.old.items) }
+    {
+        if let Err(error) = self.try_put(payload, out, sent) {
+            self.dead = true;
+            return Err(error);
+        }
+        Ok(())
+    }
+
+    // All growths come first.
+    fn try_put(
+        &mut self,
+        payload: Vec<u8>,
+        out: &mut Vec<u8>,
+        sent: &mut Vec<Vec<u8>>,
+    ) -> Result<(), AllocError>
+        requires left { self.old.kept.sending.count < 2 ^ 32 }
+        requires some { 1 ≤ length payload.items }
+        requires most { length payload.items ≤ 34000 }
+        ensures puts { OnOk result (PutsPayload S.crypto self.old.kept.sending payload.items (record { before = out.old.items; after = out.new.items; listed = map (λ v. v.items) sent.old.items; relisted = map (λ v. v.items) sent.new.items })) }
+        ensures after { OnOk result (self.new ≡ record self.old { kept = after_sent self.old.kept }) }
+        ensures same { OnErr result (self.new ≡ self.old) }
+        ensures out { OnErr result (out.new.items ≡ out.old.items) }
+        ensures kept { OnErr result (sent.new.items ≡ sent.old.items) }
+    {
+        sent.reserve(1)?;
+        self.sending.send(&payload, &mut self.filler, out)?;
+        sent.push_reserved(payload);
+        Ok(())
+    }
+}
