@@ -6,6 +6,8 @@
 mod config;
 pub mod epochs;
 #[cfg(test)]
+mod extensions;
+#[cfg(test)]
 mod incoming;
 #[cfg(test)]
 mod kexinit;
