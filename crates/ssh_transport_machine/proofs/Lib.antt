@@ -4,3 +4,7 @@ pub mod LineTurns
 pub mod Kexinits
 pub mod Sending
 pub mod Sharing
+pub mod Lifting
+pub mod AskLaws
+pub mod Units
+pub mod Replying

@@ -5,3 +5,7 @@ pub mod Kexinits
 pub mod Judging
 pub mod Hashing
 pub mod Offering
+pub mod Turning
+pub mod Shown
+pub mod Asking
+pub mod Opening

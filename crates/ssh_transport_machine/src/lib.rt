@@ -5,6 +5,9 @@
 #![tactic(auto)]
 
 mod key_making;
+pub mod laws;
 mod machine;
 
-pub use machine::{Judged, KexinitFacts, LineTurn, Machine, Material, Phase, Points};
+pub use machine::{
+    Answer, AskTurn, Judged, KexinitFacts, LineTurn, Machine, Material, PayloadTurn, Phase, Points,
+};

@@ -7,6 +7,7 @@ ghost use Rattle.ssh_transport_machine.specs.LineTurns.{LineTaken};
 ghost use Rattle.ssh_transport_machine.specs.State.{dead_state};
 
 mod answering;
+mod asking;
 mod choosing;
 mod completing;
 mod hashing;
@@ -14,15 +15,21 @@ mod judging;
 mod kexinit;
 mod kexinit_payload;
 mod line_turn;
+mod making;
 mod material;
 mod numbers;
 mod offering;
 mod opening;
 mod phase;
+mod queries;
 mod refusing;
+mod replying;
 mod sending;
 mod service;
+mod serving;
 mod sharing;
+mod turn;
+mod turning;
 
 pub use hashing::Points;
 pub use judging::Judged;
@@ -36,6 +43,7 @@ use ssh_transport_base::{Config, PacketReceiver, PacketSender};
 use ssh_types::Side;
 use std::alloc::Global;
 use std::marker::Model;
+pub use turn::{Answer, AskTurn, PayloadTurn};
 
 /// One end, without the parts that only one side has.
 pub struct Machine<S: Sealing, F: Filler + Drop> {
