@@ -4,3 +4,7 @@ pub mod LineTurns
 pub mod Kexinits
 pub mod Sending
 pub mod Sharing
+pub mod Announcing
+pub mod Finishing
+pub mod Endings
+pub mod Choosing

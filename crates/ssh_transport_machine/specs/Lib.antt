@@ -5,3 +5,5 @@ pub mod Kexinits
 pub mod Judging
 pub mod Hashing
 pub mod Offering
+pub mod Finishing
+pub mod Endings

@@ -4,7 +4,8 @@
 //! Who writes a client or a server names `ssh_transport`.
 #![tactic(auto)]
 
+pub mod ending;
 mod key_making;
 mod machine;
 
-pub use machine::{Judged, KexinitFacts, LineTurn, Machine, Material, Phase, Points};
+pub use machine::{ExchangeKeys, Judged, KexinitFacts, LineTurn, Machine, Material, Phase, Points};

@@ -6,9 +6,11 @@ ghost use Rattle.ssh_model.specs.Sessions.Turns.{number_of};
 ghost use Rattle.ssh_transport_machine.specs.LineTurns.{LineTaken};
 ghost use Rattle.ssh_transport_machine.specs.State.{dead_state};
 
+mod announcing;
 mod answering;
 mod choosing;
 mod completing;
+mod finishing;
 mod hashing;
 mod judging;
 mod kexinit;
@@ -24,6 +26,7 @@ mod sending;
 mod service;
 mod sharing;
 
+pub use finishing::ExchangeKeys;
 pub use hashing::Points;
 pub use judging::Judged;
 pub use kexinit::KexinitFacts;
