@@ -8,3 +8,7 @@ pub mod Lifting
 pub mod AskLaws
 pub mod Units
 pub mod Replying
+pub mod Announcing
+pub mod Finishing
+pub mod Endings
+pub mod Choosing

@@ -94,7 +94,7 @@ newkeys_out c d o x = spelled_out c d NewKeys newkeys o newkeys_spelled x
 
 -- ---- two messages
 
-one_more : {K : Type 0} (c : Crypto K) (d : Direction K) (l : List Spelled) (early late : List ℕ) (m : Msg) (payload : List ℕ) → PutsPackets c d l early → PutsPackets c (counted_by l d) (SpelledBy m payload ∷ []) late →
+pub one_more : {K : Type 0} (c : Crypto K) (d : Direction K) (l : List Spelled) (early late : List ℕ) (m : Msg) (payload : List ℕ) → PutsPackets c d l early → PutsPackets c (counted_by l d) (SpelledBy m payload ∷ []) late →
     PutsPackets c d (SpelledBy m payload ∷ l) (early ++ late)
 one_more c d l early late m payload x (turns.PutsPackets.packet m2 payload2 wire turns.PutsPackets.nothing spelled few sealed) = turns.PutsPackets.packet m payload wire x spelled few sealed
 

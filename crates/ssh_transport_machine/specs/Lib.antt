@@ -9,3 +9,5 @@ pub mod Turning
 pub mod Shown
 pub mod Asking
 pub mod Opening
+pub mod Finishing
+pub mod Endings

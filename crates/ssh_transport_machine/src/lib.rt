@@ -4,10 +4,12 @@
 //! Who writes a client or a server names `ssh_transport`.
 #![tactic(auto)]
 
+pub mod ending;
 mod key_making;
 pub mod laws;
 mod machine;
 
 pub use machine::{
-    Answer, AskTurn, Judged, KexinitFacts, LineTurn, Machine, Material, PayloadTurn, Phase, Points,
+    Answer, AskTurn, ExchangeKeys, Judged, KexinitFacts, LineTurn, Machine, Material, PayloadTurn, Phase,
+    Points,
 };

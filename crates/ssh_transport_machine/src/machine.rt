@@ -6,10 +6,12 @@ ghost use Rattle.ssh_model.specs.Sessions.Turns.{number_of};
 ghost use Rattle.ssh_transport_machine.specs.LineTurns.{LineTaken};
 ghost use Rattle.ssh_transport_machine.specs.State.{dead_state};
 
+mod announcing;
 mod answering;
 mod asking;
 mod choosing;
 mod completing;
+mod finishing;
 mod hashing;
 mod judging;
 mod kexinit;
@@ -31,6 +33,7 @@ mod sharing;
 mod turn;
 mod turning;
 
+pub use finishing::ExchangeKeys;
 pub use hashing::Points;
 pub use judging::Judged;
 pub use kexinit::KexinitFacts;

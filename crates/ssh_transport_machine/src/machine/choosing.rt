@@ -1,54 +1,64 @@
 //! What is chosen in the exchange under way (RFC 4253 section 7.1).
 
-ghost use Rattle.std.specs.Prelude.{◌≡◌, IfSome, false};
-ghost use Rattle.ssh_model.specs.Wire.Message.{IsPayload, KexInit};
-ghost use Rattle.ssh_model.specs.KeyExchange.Exchanges.{chosen as computed_choice};
+ghost use Rattle.std.specs.Prelude.{◌≡◌, false, true};
+ghost use Rattle.ssh_model.specs.Wire.Message.{KexInit, Msg};
+ghost use Rattle.ssh_model.specs.KeyExchange.Choice.{IsChoice, Lists};
+ghost use Rattle.ssh_model.specs.KeyExchange.Exchanges.{chosen as computed_choice, has_choice};
 ghost use Rattle.ssh_model.specs.Sessions.Parties.{lists_of as lists_offered};
-ghost use Rattle.ssh_model.specs.TransportLayer.Kept.{IsChosen, choice_with, own_offer};
+ghost use Rattle.ssh_model.specs.TransportLayer.Kept.{IsChosen, choice_with, has_choice_with, own_offer};
 ghost use Rattle.ssh_message.specs.Meaning.{meaning, proposal_meaning};
 ghost use Rattle.ssh_kex.specs.Values.{chosen_of, lists_of};
+ghost use Rattle.ssh_transport_base.specs.Config.{AreGood};
+ghost use Rattle.ssh_transport_base.specs.Meaning.{given_of};
+ghost use Rattle.ssh_transport_machine.specs.Finishing.{AreKnown, HasChoice, IsChoiceOf, IsKexinit, is_choice_with};
 
 use crate::machine::Machine;
 use ssh_kex::{Choice, KexLists, choose};
 use ssh_message::{Message, Proposal, decode};
 use ssh_packet::{Filler, Sealing};
+use ssh_transport_base::every_config_is_good;
 use ssh_types::Side;
 
 impl<S: Sealing, F: Filler + Drop> Machine<S, F> {
     // The algorithms that the peer's KEXINIT, which is kept, and this end's own give. They are chosen anew, so that no memory is
     // needed.
-    pub fn choice(&self) -> Option<Choice<'_>>
-        ensures { IfSome result (λ choice. IsChosen self.now.kept (chosen_of choice)) }
+    pub fn choice(&self) -> Choice<'_>
+        requires { HasChoice self.now.kept }
+        ensures chosen { IsChosen self.now.kept (chosen_of result) }
+        ensures known { AreKnown S.crypto (chosen_of result) }
+    {
+        let theirs = self.their_proposal();
+        self.choice_with(theirs)
+    }
+
+    // The proposal of the peer's KEXINIT.
+    fn their_proposal(&self) -> Proposal<'_>
+        requires { HasChoice self.now.kept }
+        ensures { IsChoiceOf self.now.kept (proposal_meaning result) }
     {
         match decode(false, self.theirs.as_slice()) {
-            Ok(message) => self.choice_in(message),
-            Err(_) => None,
+            Ok(message) => proposal_in(message),
+            Err(_) => unreachable!(),
         }
     }
 
-    // Those with this message, which the KEXINIT is that is kept.
-    fn choice_in<'a>(&'a self, message: Message<'a>) -> Option<Choice<'a>>
-        requires { IsPayload false (meaning message) self.now.kept.underway.theirs }
-        ensures { IfSome result (λ choice. IsChosen self.now.kept (chosen_of choice)) }
+    // The choice with this proposal.
+    fn choice_with<'a>(&'a self, theirs: Proposal<'a>) -> Choice<'a>
+        requires { IsChoiceOf self.now.kept (proposal_meaning theirs) }
+        ensures chosen { IsChosen self.now.kept (chosen_of result) }
+        ensures known { AreKnown S.crypto (chosen_of result) }
     {
-        match message {
-            Message::KexInit(theirs) => self.choice_with(theirs),
-            _ => None,
-        }
-    }
-
-    // Those with this proposal.
-    fn choice_with<'a>(&'a self, theirs: Proposal<'a>) -> Option<Choice<'a>>
-        ensures { IfSome result (λ choice. chosen_of choice ≡ choice_with self.now.kept.side (lists_offered (own_offer self.now.kept.settings self.now.kept.side)) (lists_offered (proposal_meaning theirs.entry))) }
-    {
+        every_config_is_good(&self.config);
         let lists = KexLists::from(theirs);
         let own = self.own_lists();
         self.choice_of(&own, &lists)
     }
 
-    // Those of the lists of this end and of the peer.
-    fn choice_of<'a>(&'a self, own: &KexLists<'a>, theirs: &KexLists<'a>) -> Option<Choice<'a>>
-        ensures { IfSome result (λ choice. chosen_of choice ≡ choice_with self.now.kept.side (lists_of own.now) (lists_of theirs.now)) }
+    // That of the lists of this end and of the peer.
+    fn choice_of<'a>(&'a self, own: &KexLists<'a>, theirs: &KexLists<'a>) -> Choice<'a>
+        requires { has_choice_with self.now.kept.side (lists_of own.now) (lists_of theirs.now) ≡ true }
+        ensures chosen { chosen_of result ≡ choice_with self.now.kept.side (lists_of own.now) (lists_of theirs.now) }
+        ensures is_choice { is_choice_with self.now.kept.side (lists_of own.now) (lists_of theirs.now) (chosen_of result) }
     {
         match self.side {
             Side::Client => chosen(own, theirs),
@@ -58,11 +68,24 @@ impl<S: Sealing, F: Filler + Drop> Machine<S, F> {
 }
 
 // The choice of a client's lists and a server's.
-fn chosen<'a>(client: &KexLists<'a>, server: &KexLists<'a>) -> Option<Choice<'a>>
-    ensures { IfSome result (λ choice. chosen_of choice ≡ computed_choice (lists_of client.now) (lists_of server.now)) }
+fn chosen<'a>(client: &KexLists<'a>, server: &KexLists<'a>) -> Choice<'a>
+    requires { has_choice (lists_of client.now) (lists_of server.now) ≡ true }
+    ensures chosen { chosen_of result ≡ computed_choice (lists_of client.now) (lists_of server.now) }
+    ensures is_choice { IsChoice (lists_of client.now) (lists_of server.now) (chosen_of result) }
 {
     match choose(client, server) {
-        Ok(choice) => Some(choice),
-        Err(_) => None,
+        Ok(choice) => choice,
+        Err(_) => unreachable!(),
+    }
+}
+
+// The proposal of a KEXINIT.
+fn proposal_in(message: Message<'_>) -> Proposal<'_>
+    requires { IsKexinit (meaning message) }
+    ensures { KexInit (proposal_meaning result) ≡ meaning message.entry }
+{
+    match message {
+        Message::KexInit(theirs) => theirs,
+        _ => unreachable!(),
     }
 }

@@ -1,0 +1,216 @@
+//! The end of an exchange: both keys are made, NEWKEYS is sent, and behind it what is announced.
+
+ghost use Rattle.std.specs.Prelude.{◌≡◌, ◌<◌, ◌≤◌, ◌+◌, ◌-◌, ◌^◌, ◌∷◌, [], None, Some, IfOk, OnOk, OnErr, length, map, replicate, true, false};
+ghost use Rattle.std.specs.Option.{option_map};
+ghost use Rattle.ssh_model.specs.Sessions.Items.{SpelledBy};
+ghost use Rattle.ssh_model.specs.Sessions.Turns.{IsSpelled};
+ghost use Rattle.ssh_model.specs.Side.{peer};
+ghost use Rattle.ssh_model.specs.Wire.DataTypes.{number};
+ghost use Rattle.ssh_model.specs.Wire.Message.{Msg, NewKeys};
+ghost use Rattle.ssh_model.specs.TransportLayer.Kept.{after_sent};
+ghost use Rattle.ssh_kex.specs.Values.{chosen_of};
+ghost use Rattle.ssh_types.specs.Sides.{side_of};
+ghost use Rattle.ssh_transport_machine.specs.Finishing.{AreKeys, AreKnown, Finishes, IsAnnouncement, IsDue, after_announced, announced_by, forgotten, key_by, keyed, session_by};
+ghost use Rattle.ssh_transport_machine.specs.Puts.{Sends};
+
+use crate::key_making::{Agreed, key_from};
+use crate::machine::Machine;
+use ssh_kex::Choice;
+use ssh_packet::{Filler, Sealing};
+use ssh_types::Side;
+use std::alloc::AllocError;
+
+/// What an exchange gives an end: the key under which it sends, the one under which it takes, and the session id.
+#[derive(Drop)]
+pub struct ExchangeKeys<K: Drop> {
+    pub own: K,
+    pub theirs: K,
+    pub session: [u8; 32],
+}
+
+impl<S: Sealing, F: Filler + Drop> Machine<S, F> {
+    // Makes the keys of both directions (RFC 4253 section 7.2). It fails only where memory is refused.
+    pub fn exchange_keys(
+        &self,
+        choice: &Choice<'_>,
+        shared: &[u8; 32],
+        hash: &[u8; 32],
+    ) -> Result<ExchangeKeys<S::Key>, AllocError>
+        requires { AreKnown S.crypto (chosen_of choice.now) }
+        ensures { IfOk result (λ keys. AreKeys S.crypto self.now.kept (chosen_of choice.now) (number shared.now) hash.now keys.own keys.theirs keys.session) }
+    {
+        let session = self.session_with(hash);
+        let agreed = Agreed {
+            shared,
+            hash,
+            session: &session,
+        };
+        let own = self.key_of_side(self.side, &agreed, choice)?;
+        let theirs = self.key_of_side(self.side.peer(), &agreed, choice)?;
+        Ok(ExchangeKeys {
+            own,
+            theirs,
+            session,
+        })
+    }
+
+    // The session id with an exchange of this hash: the first one is it for good.
+    pub fn session_with(&self, hash: &[u8; 32]) -> [u8; 32]
+        ensures { result ≡ session_by self.now.kept hash.now }
+    {
+        match self.session {
+            Some(session) => session,
+            None => *hash,
+        }
+    }
+
+    // The key of the direction from this side.
+    fn key_of_side(
+        &self,
+        from: Side,
+        agreed: &Agreed<'_>,
+        choice: &Choice<'_>,
+    ) -> Result<S::Key, AllocError>
+        requires { AreKnown S.crypto (chosen_of choice.now) }
+        ensures { IfOk result (λ key. key ≡ key_by S.crypto (side_of from) (chosen_of choice.now) (number agreed.now.shared.now) agreed.now.hash.now agreed.now.session.now) }
+    {
+        match from {
+            Side::Client => key_from::<S>(
+                self.alloc,
+                Side::Client,
+                agreed,
+                choice.enc_cs.as_bytes(),
+                choice.mac_cs.as_bytes(),
+            ),
+            Side::Server => key_from::<S>(
+                self.alloc,
+                Side::Server,
+                agreed,
+                choice.enc_sc.as_bytes(),
+                choice.mac_sc.as_bytes(),
+            ),
+        }
+    }
+
+    // Sends NEWKEYS and what is announced behind it, by which the exchange is completed, and drops its secret.
+    pub fn finish(
+        &mut self,
+        keys: ExchangeKeys<S::Key>,
+        announcement: Option<Vec<u8>>,
+        out: &mut Vec<u8>,
+        sent: &mut Vec<Vec<u8>>,
+    ) -> Result<(), AllocError>
+        requires left { self.old.kept.sending.count < 2 ^ 32 }
+        requires epoch { self.old.kept.sending.epoch < 2 ^ 32 - 1 }
+        requires due { IsAnnouncement self.old.kept (option_map (λ v. v.items) announcement) }
+        ensures finishes { OnOk result (Finishes S.crypto self.old.kept [] keys.own (announced_by self.old.kept.settings.extensions (option_map (λ v. v.items) announcement)) (record { before = out.old.items; after = out.new.items; listed = map (λ v. v.items) sent.old.items; relisted = map (λ v. v.items) sent.new.items })) }
+        ensures after { OnOk result (self.new ≡ record self.old { kept = after_announced (option_map (λ v. v.items) announcement) (forgotten (keyed keys.own keys.theirs keys.session self.old.kept)) }) }
+        ensures dead { OnErr result (self.new.kept.dead ≡ true) }
+        ensures out { OnErr result (out.new.items ≡ out.old.items) }
+        ensures kept { OnErr result (map (λ v. v.items) sent.new.items ≡ map (λ v. v.items) sent.old.items) }
+    {
+        match announcement {
+            Some(payload) => self.finish_announcing(keys, payload, out, sent),
+            None => self.finish_silently(keys, out, sent),
+        }
+    }
+
+    // With nothing behind NEWKEYS.
+    fn finish_silently(
+        &mut self,
+        keys: ExchangeKeys<S::Key>,
+        out: &mut Vec<u8>,
+        sent: &mut Vec<Vec<u8>>,
+    ) -> Result<(), AllocError>
+        requires left { self.old.kept.sending.count < 2 ^ 32 }
+        requires epoch { self.old.kept.sending.epoch < 2 ^ 32 - 1 }
+        ensures sends { OnOk result (Sends S.crypto self.old.kept.sending NewKeys (record { before = out.old.items; after = out.new.items; listed = map (λ v. v.items) sent.old.items; relisted = map (λ v. v.items) sent.new.items })) }
+        ensures after { OnOk result (self.new ≡ record self.old { kept = forgotten (keyed keys.own keys.theirs keys.session self.old.kept) }) }
+        ensures dead { OnErr result (self.new.kept.dead ≡ true) }
+        ensures out { OnErr result (out.new.items ≡ out.old.items) }
+        ensures kept { OnErr result (sent.new.items ≡ sent.old.items) }
+    {
+        let ExchangeKeys {
+            own,
+            theirs,
+            session,
+        } = keys;
+        self.send_newkeys(own, theirs, session, out, sent)?;
+        self.secret = [0; 32];
+        Ok(())
+    }
+
+    // With this EXT_INFO behind NEWKEYS.
+    fn finish_announcing(
+        &mut self,
+        keys: ExchangeKeys<S::Key>,
+        payload: Vec<u8>,
+        out: &mut Vec<u8>,
+        sent: &mut Vec<Vec<u8>>,
+    ) -> Result<(), AllocError>
+        requires left { self.old.kept.sending.count < 2 ^ 32 }
+        requires epoch { self.old.kept.sending.epoch < 2 ^ 32 - 1 }
+        requires due { IsDue self.old.kept payload.items }
+        ensures finishes { OnOk result (Finishes S.crypto self.old.kept [] keys.own (announced_by self.old.kept.settings.extensions (Some payload.items)) (record { before = out.old.items; after = out.new.items; listed = map (λ v. v.items) sent.old.items; relisted = map (λ v. v.items) sent.new.items })) }
+        ensures after { OnOk result (self.new ≡ record self.old { kept = after_sent (forgotten (keyed keys.own keys.theirs keys.session self.old.kept)) }) }
+        ensures dead { OnErr result (self.new.kept.dead ≡ true) }
+        ensures out { OnErr result (out.new.items ≡ out.old.items) }
+        ensures kept { OnErr result (map (λ v. v.items) sent.new.items ≡ map (λ v. v.items) sent.old.items) }
+    {
+        let bytes = out.len();
+        let payloads = sent.as_slice().len();
+        self.finish_silently(keys, out, sent)?;
+        if let Err(error) = self.put(payload, out, sent) {
+            out.truncate(bytes);
+            sent.truncate(payloads);
+            return Err(error);
+        }
+        Ok(())
+    }
+
+    // The same as `finish` behind a message of the exchange, by its payload.
+    pub fn finish_behind(
+        &mut self,
+        payload: Vec<u8>,
+        keys: ExchangeKeys<S::Key>,
+        announcement: Option<Vec<u8>>,
+        out: &mut Vec<u8>,
+        sent: &mut Vec<Vec<u8>>,
+    ) -> Result<(), AllocError>
+        requires left { self.old.kept.sending.count + 1 < 2 ^ 32 }
+        requires epoch { self.old.kept.sending.epoch < 2 ^ 32 - 1 }
+        requires some { 1 ≤ length payload.items }
+        requires most { length payload.items ≤ 34000 }
+        requires due { IsAnnouncement self.old.kept (option_map (λ v. v.items) announcement) }
+        ensures finishes { (message : Msg) → IsSpelled message payload.items → OnOk result (Finishes S.crypto self.old.kept (SpelledBy message payload.items ∷ []) keys.own (announced_by self.old.kept.settings.extensions (option_map (λ v. v.items) announcement)) (record { before = out.old.items; after = out.new.items; listed = map (λ v. v.items) sent.old.items; relisted = map (λ v. v.items) sent.new.items })) }
+        ensures after { OnOk result (self.new ≡ record self.old { kept = after_announced (option_map (λ v. v.items) announcement) (forgotten (keyed keys.own keys.theirs keys.session (after_sent self.old.kept))) }) }
+        ensures dead { OnErr result (self.new.kept.dead ≡ true) }
+        ensures out { OnErr result (out.new.items ≡ out.old.items) }
+        ensures kept { OnErr result (map (λ v. v.items) sent.new.items ≡ map (λ v. v.items) sent.old.items) }
+    {
+        let bytes = out.len();
+        let payloads = sent.as_slice().len();
+        self.put(payload, out, sent)?;
+        if let Err(error) = self.finish(keys, announcement, out, sent) {
+            out.truncate(bytes);
+            sent.truncate(payloads);
+            return Err(error);
+        }
+        Ok(())
+    }
+
+    // Tests whether numbers for so many packets are left in the epoch.
+    pub fn has_numbers(&self, packets: u64) -> bool
+        ensures has { result ≡ true → self.now.kept.sending.count + packets ≤ 2 ^ 32 }
+        ensures lacks { result ≡ false → 2 ^ 32 < self.now.kept.sending.count + packets }
+    {
+        packets <= self.sending.numbers_left()
+    }
+
+    // The payload that was taken last.
+    pub fn shown(&self) -> &[u8]
+        ensures { result.now ≡ self.now.receiver.payload }
+    {
+        self.taking.payload()
+    }
+}
