@@ -13,7 +13,7 @@ use Rattle.ssh_model.specs.Sessions.Epochs.{epoch, count}
 use Rattle.ssh_model.specs.Sessions.Phases.{Phase, Phase.Exchanging, phase, blocked, has_material, is_client, is_normal, authenticated, sent_service_request}
 use Rattle.ssh_model.specs.Sessions.Transport.{can_choose, comes_too_late, is_marked, kexinit_checks, transport_checks, transport_ask_checks, secret_now}
 use Rattle.ssh_model.specs.Sessions.Turns.{answer_checks, can_feed}
-use Rattle.ssh_model.specs.TransportLayer.Kept.{Transport, offer_checks, becomes_strict, first_kex, has_choice_with, own_offer, message_checks, message_ask_checks, IsChosen, inputs_with, is_fed}
+use Rattle.ssh_model.specs.TransportLayer.Kept.{Transport, offer_checks, becomes_strict, first_kex, has_choice_with, own_offer, message_checks, message_ask_checks, IsChosen, inputs_with, can_be_fed}
 use Rattle.ssh_model.specs.TransportLayer.Summary.{Live, SumsUp, IsAwaited, IsTransportMessage, kept_after, is_agreeing}
 use Rattle.ssh_model.specs.TransportLayer.View.{view, service_requested}
 use Rattle.ssh_model.proofs.TransportLayer.Steps.{all_counted}
@@ -130,12 +130,12 @@ module _ {K : Type 0} (p : Parties K) (h : List Item) (s : Transport K) where
     asks_same alive (AskDisconnect description) = refl
     asks_same alive ask = refl
 
-    feeds_by : (dead : Bool) → s.dead ≡ dead → can_feed h ≡ is_fed s
+    feeds_by : (dead : Bool) → s.dead ≡ dead → can_feed h ≡ can_be_fed s
     feeds_by true e = ap (λ (d : Bool). not d && not (has_material h) && nat_lt (length (fed h)) (2 ^ 32 - 1)) (sym sums.dead_is ∙ e)
         ∙ sym (ap (λ (d : Bool). not d && not (is_some s.material) && nat_lt s.fed (2 ^ 32 - 1)) e)
     feeds_by false e =
         let a = sums.live e in
         λ i. not (sym sums.dead_is i) && not (sym (material_same p side h s a) i) && nat_lt (sym a.material.fed_is i) (2 ^ 32 - 1)
 
-    pub feeds_same : can_feed h ≡ is_fed s
+    pub feeds_same : can_feed h ≡ can_be_fed s
     feeds_same = feeds_by s.dead refl

@@ -128,8 +128,8 @@ abbrev pub after_success : {K : Type 0} → Transport K → Transport K
 after_success s = record s { authenticated = true }
 
 -- An end that keeps no pair, lives, and was fed fewer than 2^32 - 1 of them can be fed one.
-abbrev pub is_fed : {K : Type 0} → Transport K → Bool
-is_fed s = not s.dead && not (is_some s.material) && nat_lt s.fed (2 ^ 32 - 1)
+abbrev pub can_be_fed : {K : Type 0} → Transport K → Bool
+can_be_fed s = not s.dead && not (is_some s.material) && nat_lt s.fed (2 ^ 32 - 1)
 
 -- ---- which numbers may be taken
 
