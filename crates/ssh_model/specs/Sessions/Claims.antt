@@ -124,15 +124,15 @@ NoneRefused (_ ∷ run) = NoneRefused run
 
 -- ---- partners
 
--- An OPEN, whole: the message, the payload that spells it, and the payloads after the first NEWKEYS that went before it,
--- in the order of time.
+-- An OPEN, whole: the message, the payload that spells it, and the payloads after the first NEWKEYS that went before
+-- it, in the order of time.
 pub record WholeOpen : Type 0 where
   pub message : Msg
   pub payload : List ℕ
   pub before : List (List ℕ)
 
--- The channel is the next one, and the OPEN is this message with this payload, which went behind these payloads, a NEWKEYS
--- among them.
+-- The channel is the next one, and the OPEN is this message with this payload, which went behind these payloads, a
+-- NEWKEYS among them.
 pub record OpensNext (channel next : Channel) (whole : WholeOpen) (message : Msg) (payload : List ℕ)
     (gone : List Payload) : Type 0 where
   pub channel_is : channel ≡ next
@@ -157,8 +157,8 @@ TookOpen side channel whole (Took (Some number) (ChannelOpen kind sender window 
     (ChannelOpen kind sender window max_packet rest) payload (took h) ⊎ TookOpen side channel whole h
 TookOpen side channel whole (_ ∷ h) = TookOpen side channel whole h
 
--- The channel has a partner: the channel of the other end that has the same OPEN, whole, sent by one end and taken by the
--- other at the same place of what went after the first NEWKEYS.
+-- The channel has a partner: the channel of the other end that has the same OPEN, whole, sent by one end and taken by
+-- the other at the same place of what went after the first NEWKEYS.
 pub data HasPartner (side : Side) (channel : Channel) (run : List Done) : Type 0 where
   own : (whole : WholeOpen) → SentOpen side channel whole (part side run) →
       TookOpen (peer side) channel whole (part (peer side) run) → HasPartner side channel run

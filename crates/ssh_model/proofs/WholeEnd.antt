@@ -1,0 +1,11 @@
+pub mod Above
+pub mod Kept
+pub mod Out
+pub mod Answers
+pub mod Owed
+pub mod Payloads
+pub mod Ending
+pub mod Units
+pub mod Asks
+pub mod Reading
+pub mod Laws

@@ -1,0 +1,6 @@
+pub mod State
+pub mod Summary
+pub mod Payloads
+pub mod Units
+pub mod Asks
+pub mod Reading
