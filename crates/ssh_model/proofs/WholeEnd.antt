@@ -5,6 +5,7 @@ pub mod Answers
 pub mod Owed
 pub mod Payloads
 pub mod Ending
+pub mod Deaths
 pub mod Units
 pub mod Asks
 pub mod Reading

@@ -27,12 +27,12 @@ use Rattle.ssh_model.proofs.TransportLayer.Turning.{welcomed}
 
 -- ---- items in two parts
 
-both_spelled : (l more : List Item) → AreSpelled l → AreSpelled more → AreSpelled (l ++ more)
+pub both_spelled : (l more : List Item) → AreSpelled l → AreSpelled more → AreSpelled (l ++ more)
 both_spelled [] more a b = b
 both_spelled (Sent c m q ∷ l) more a b = (a.0, both_spelled l more a.1 b)
 both_spelled (i ∷ l) more a b = both_spelled l more a b
 
-both_numbered : (l more g : List Item) → AreNumbered l (more ++ g) → AreNumbered more g → AreNumbered (l ++ more) g
+pub both_numbered : (l more g : List Item) → AreNumbered l (more ++ g) → AreNumbered more g → AreNumbered (l ++ more) g
 both_numbered [] more g a b = b
 both_numbered (Sent c m q ∷ l) more g a b = (subst (λ (k : List Item). count (sent k) < 2 ^ 32) (sym (append_assoc l more g)) a.0, both_numbered l more g a.1 b)
 both_numbered (i ∷ l) more g a b = both_numbered l more g a b

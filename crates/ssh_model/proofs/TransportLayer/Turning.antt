@@ -55,7 +55,7 @@ module _ {K : Type 0} (p : Parties K) (side : Side) (h : List Item) (s : Transpo
   opened : 1 ≤ length (offers (messages_sent h))
   opened = (sums.live alive).counts.opened
 
-  stands_row : (payload : List ℕ) (m : Msg) (answered : Answered) (new : Transport K) → Takes (agreement_of p side) s payload m answered new → Stands p side (Took None m payload ∷ h) s.sending × AreOther answered.sent
+  pub stands_row : (payload : List ℕ) (m : Msg) (answered : Answered) (new : Transport K) → Takes (agreement_of p side) s payload m answered new → Stands p side (Took None m payload ∷ h) s.sending × AreOther answered.sent
   stands_row payload m answered new (kept.Takes.ignore body) = (stands_taken p side h None _ payload s.sending tt (stands_live p side h s (sums.live alive)), tt)
   stands_row payload m answered new (kept.Takes.unimplemented n) = (stands_taken p side h None _ payload s.sending tt (stands_live p side h s (sums.live alive)), tt)
   stands_row payload m answered new (kept.Takes.debug display text language) = (stands_taken p side h None _ payload s.sending tt (stands_live p side h s (sums.live alive)), tt)
@@ -144,7 +144,7 @@ module _ {K : Type 0} (p : Parties K) (side : Side) (h : List Item) (s : Transpo
       let o = packets_out p side (Refused why payload ∷ h) s.sending (stands_refused why payload) opened (SpelledBy (Disconnect reason (refusal_name why) []) b ∷ []) more (tt, tt) x in
       put_other Died tt (o.out.puts bytes (put_other (Refused why payload) tt z))
 
-  refused_so : (payload : List ℕ) (why : Refusal) (said : List Item) → IsRefused (agreement_of p side) p.trusts s payload why → session.Refuses h why (Some payload) said → OnPayload p side h payload said
+  pub refused_so : (payload : List ℕ) (why : Refusal) (said : List Item) → IsRefused (agreement_of p side) p.trusts s payload why → session.Refuses h why (Some payload) said → OnPayload p side h payload said
   refused_so payload why l (turns.IsRefused.unexpected below off) x = session.OnPayload.unexpected (numbers_are p side h s sums alive (number_of payload) below ∙ off) x
   refused_so payload why l (turns.IsRefused.out_of_place above busy) x = session.OnPayload.unexpected (above_in_exchange p side h (number_of payload) above (ap is_normal (sym (sums.live alive).phase_is) ∙ busy)) x
   refused_so payload why l (turns.IsRefused.bad_message below on no_guess none) x =

@@ -62,7 +62,7 @@ module _ {K : Type 0} (p : Parties K) (side : Side) (h : List Item) (e : EndStat
         puts = λ bytes z. subst (λ (l : List Item). PutsOut p side l (bytes ++ more)) (sym (behind items (Took c m payload))) (o.out.puts bytes (put_other (Took c m payload) tt z));
       }
 
-  refused_so : (payload : List ℕ) (why : Refusal) (l : List Item) → RefusesAbove p e payload why → session.Refuses h why (Some payload) l → OnPayload p side h payload l
+  pub refused_so : (payload : List ℕ) (why : Refusal) (l : List Item) → RefusesAbove p e payload why → session.Refuses h why (Some payload) l → OnPayload p side h payload l
   refused_so payload why l (end.RefusesAbove.unexpected from normal off) x = session.OnPayload.unexpected (numbers_above p side h e sums alive (number_of payload) from normal ∙ off) x
   refused_so payload why l (end.RefusesAbove.bad_message from normal on none) x =
       session.OnPayload.bad_message (numbers_above p side h e sums alive (number_of payload) from normal ∙ on) (no_guess p side h e sums alive normal) (λ m y. none m (subst (λ (b : Bool). IsPayload b m payload) (probing_now p side h e sums alive) y)) x

@@ -8,7 +8,7 @@ use Rattle.ssh_model.specs.Wire.Sealing.{IsSealed}
 use Rattle.ssh_model.specs.Wire.Outcome.{Outcome.OtherLine, Outcome.VersionLine, Outcome.RefusedLine, Outcome.Opens, Outcome.RefusedPacket}
 use Rattle.ssh_model.specs.KeyExchange.Exchanges.{Material}
 use Rattle.ssh_model.specs.Sessions.Parties.{Parties, offer, settings_of}
-use Rattle.ssh_model.specs.Sessions.Items.{Item, Item.Fed, Item.SentLine, Item.Sent, Item.TookLine, Item.TookOtherLine, Spelled.SpelledBy}
+use Rattle.ssh_model.specs.Sessions.Items.{Item, Item.Fed, Item.SentLine, Item.Sent, Item.TookLine, Item.TookOtherLine, Item.Died, Spelled.SpelledBy}
 use Rattle.ssh_model.specs.Sessions.Events.{PutsOut, PutsOut.other as put_other, PutsOut.packet as put_packet, PutsOut.version as put_version, PutsOut.nothing as put_nothing}
 use Rattle.ssh_model.specs.Sessions.Turns as session
 use Rattle.ssh_model.specs.Sessions.Turns.{FeedsTurn, FeedsTurn.feeds, FeedsTurn.answers_false, IsMaterial, IsOpening, OnUnit, can_feed}
@@ -27,6 +27,7 @@ use Rattle.ssh_model.proofs.TransportLayer.Items as layer
 use Rattle.ssh_model.proofs.TransportLayer.Rows.{pair_fed}
 use Rattle.ssh_model.proofs.TransportLayer.Turning.{unit_refused}
 use Rattle.ssh_model.proofs.TransportLayer.Units.{packets_same, lines_same}
+use Rattle.ssh_model.proofs.WholeEnd.Deaths.{said, would}
 use Rattle.ssh_model.proofs.WholeEnd.Ending.{payload_turned}
 use Rattle.ssh_model.proofs.WholeEnd.Kept.{all_kept, one_kept}
 use Rattle.ssh_model.proofs.WholeEnd.Payloads.{dead_sums}
@@ -78,6 +79,16 @@ module _ {K : Type 0} (p : Parties K) (side : Side) (h : List Item) (e : EndStat
         sums = dead_sums p side h (refusal_items why None l) new d refl;
         puts = r.puts;
       }
+  unit_turned unit items more new (end.TakesUnit.dies {items = l} b n found u x takes d) = record {
+    turn = session.OnUnit.dies (Opens b) (packets_same p side h e.transport sums.transport alive found unit (Opens b) u) (session.OnOutcome.opened b (would p side h e sums alive b l x)) takes;
+    sums = dead_sums p side h (Died ∷ []) new d refl;
+    puts = λ bytes z. nothing_out Died bytes (put_other Died tt z);
+  }
+  unit_turned unit items more new (end.TakesUnit.refused_dies why reason b n found u x d) = record {
+    turn = session.OnUnit.dies (RefusedPacket why) (packets_same p side h e.transport sums.transport alive found unit (RefusedPacket why) u) (session.OnOutcome.refused_packet why (said p side h e sums alive why None reason b x)) refl;
+    sums = dead_sums p side h (Died ∷ []) new d refl;
+    puts = λ bytes z. nothing_out Died bytes (put_other Died tt z);
+  }
 
 -- ---- a pair that is fed
 
