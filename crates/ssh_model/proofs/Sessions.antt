@@ -20,6 +20,7 @@ pub mod Stages
 pub mod Whole
 pub mod SoundTurns
 pub mod Accepted
+pub mod Partners
 pub mod Undisturbed
 pub mod Played
 pub mod Blocked

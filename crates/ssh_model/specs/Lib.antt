@@ -9,3 +9,4 @@ pub mod Sessions
 pub mod Example
 pub mod Laws
 pub mod TransportLayer
+pub mod End

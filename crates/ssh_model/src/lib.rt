@@ -5,6 +5,7 @@
 pub mod channel;
 mod choice;
 pub mod connection;
+pub mod end;
 mod epoch;
 pub mod examples;
 mod exchange;

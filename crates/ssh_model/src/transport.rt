@@ -18,7 +18,7 @@ ghost use Rattle.ssh_model.specs.Sessions.Epochs.{epoch};
 ghost use Rattle.ssh_model.specs.Sessions.Phases.{Phase.Guessed, is_client, has_line, may_take};
 ghost use Rattle.ssh_model.specs.TransportLayer.Directions as directions;
 ghost use Rattle.ssh_model.specs.TransportLayer.Directions.{Direction, counted, new_direction, renewed};
-ghost use Rattle.ssh_model.specs.TransportLayer.Kept.{Answered, Asks, Completes, Takes, Transport, new_transport, after_sent, after_taken, after_line, after_other_line, after_success, after_fed, after_guess, is_fed, message_ask_checks, message_checks, takes};
+ghost use Rattle.ssh_model.specs.TransportLayer.Kept.{Answered, Asks, Completes, Takes, Transport, new_transport, after_sent, after_taken, after_line, after_other_line, after_success, after_fed, after_guess, can_be_fed, message_ask_checks, message_checks, takes};
 ghost use Rattle.ssh_model.specs.TransportLayer.Summary.{Accepts, Allows, Ends, SumsUp, answer_items, items_sent, parts_of, IsAwaited, IsPlain, IsTransportMessage, LeavesTransport};
 ghost use Rattle.ssh_model.specs.TransportLayer.Turns.{AskTurned, EndedBy, IsRefused, IsTransportAsk, PutOut, PutsPackets, Reads, SaysWhy, Turned, UnitRefused, refusal_items};
 
@@ -74,7 +74,7 @@ pub fn checks<K>()
 #[tactic(auto, using(crate::proofs::TransportLayer::Checks::asks_same, crate::proofs::TransportLayer::Checks::feeds_same))]
 pub fn ask_checks<K>()
     ensures asks { (p : Parties K) (side : Side) (history : List Item) (s : Transport K) → SumsUp p side history s → s.dead ≡ false → (ask : Ask) → first_refusal (transport_ask_checks p side history ask) ≡ first_refusal (message_ask_checks s ask) }
-    ensures feeds { (p : Parties K) (side : Side) (history : List Item) (s : Transport K) → SumsUp p side history s → can_feed history ≡ is_fed s }
+    ensures feeds { (p : Parties K) (side : Side) (history : List Item) (s : Transport K) → SumsUp p side history s → can_feed history ≡ can_be_fed s }
 {}
 
 /// Where nothing is refused, a message that ends no exchange is answered as in a session, and what is then kept sums up the

@@ -1,12 +1,13 @@
 -- A channel on which data were taken has a partner.
-use Rattle.std.proofs.Common.{◌≡◌, ℕ, List, [], ◌∷◌, ◌⊎◌, inl, inr, refl, sym, ◌∙◌, subst, Bool, true, false}
+use Rattle.std.proofs.Common.{◌≡◌, ℕ, List, [], ◌∷◌, ◌⊎◌, inl, inr, refl, sym, ◌∙◌, subst, Bool, true, false, Option}
 use Rattle.ssh_model.specs.Side.{Side, Side.Client, Side.Server, peer, part}
 use Rattle.ssh_model.specs.Lists.{IsIn}
-use Rattle.ssh_model.specs.Channels.Message.{Message, Message.Open, Message.OpenConfirmation, Message.OpenFailure, Message.Eof, Message.Close, Channel, Channel.Opened, mine, is_open, Stage, Stage.Quiet, stage, talked, begun, MayFollow, data_of}
-use Rattle.ssh_model.specs.Channels.Notes.{Note, said_all, took_all, said, took}
+use Rattle.ssh_model.specs.Channels.Message.{Message, Message.Open, Message.OpenConfirmation, Message.OpenFailure, Message.Data, Message.Eof, Message.Close, Channel, Channel.Opened, mine, is_open, Stage, Stage.Quiet, Stage.Speaking, stage, talked, begun, MayFollow, data_of}
+use Rattle.ssh_model.specs.Channels.Notes.{Note, said_all, took_all, said, took, OpenedAt}
 use Rattle.ssh_model.specs.Channels.Rows.{Done, PairRun, Ordered}
-use Rattle.ssh_model.specs.Channels.Claims.{HasPartner, Partnered}
-use Rattle.ssh_model.proofs.Channels.Lists.{Kept, more, more_older}
+use Rattle.ssh_model.specs.Channels.Claims.{SharesOpen, Partnered, data_received}
+use Rattle.ssh_model.specs.Channels.History.{noted}
+use Rattle.ssh_model.proofs.Channels.Lists.{Kept, more, more_older, grown, grown_once}
 use Rattle.ssh_model.proofs.Channels.Lines.{on_older, mine_twice}
 use Rattle.ssh_model.proofs.Channels.Whole.{Both, both, in_older}
 use Rattle.ssh_model.proofs.Channels.Pair.{played, received_is}
@@ -39,19 +40,19 @@ data_stage (Eof t ∷ l) h e z = cc z
 data_stage (Close t ∷ l) h e z = cc z
 data_stage (m ∷ l) h e z = nonquiet m (stage l) refl h.0 z
 
-which : (s : Side) (i : Channel) → (mine s i ≡ true) ⊎ (mine (peer s) i ≡ true)
+pub which : (s : Side) (i : Channel) → (mine s i ≡ true) ⊎ (mine (peer s) i ≡ true)
 which Client (Opened Client n) = inl refl
 which Client (Opened Server n) = inr refl
 which Server (Opened Client n) = inr refl
 which Server (Opened Server n) = inl refl
 
-partner : (s : Side) (h g : List Note) (i : Channel) → Both s h g → (data_of (took i h) ≡ [] → ⊥) → HasPartner i h g
+partner : (s : Side) (h g : List Note) (i : Channel) → Both s h g → (data_of (took i h) ≡ [] → ⊥) → SharesOpen i h g
 partner s h g i v d = go (which s i)
   where
     more_here : more (took i h) ≡ true
     more_here = data_more (took i h) d
 
-    go : (mine s i ≡ true) ⊎ (mine (peer s) i ≡ true) → HasPartner i h g
+    go : (mine s i ≡ true) ⊎ (mine (peer s) i ≡ true) → SharesOpen i h g
     go (inl e) =
         let c = on_older i (took_all h) (said_all g) v.to_here in
         let b : begun (took i g) ≡ true = (v.there.good i).answered (more_older (took i h) (said i g) c (data_more (took i h) d)) in
@@ -67,3 +68,36 @@ partner s h g i v d = go (which s i)
 
 pub partnered : (run : List Done) → PairRun run → Ordered run → (s : Side) → Partnered s run
 partnered run r o s i d = partner s _ _ i (both s _ _ (played run r o s).run) (λ e. d (sym (received_is s i (part s run)) ∙ e))
+
+-- ---- both ends gave it a number
+
+data_speaks : (b : List ℕ) (t : ℕ) (k : Option ℕ) (o : Bool) (q : Stage) → MayFollow (Data t k b) q o → talked q ≡ true
+data_speaks b t k o Speaking u = refl
+data_speaks b t k o q u = elim u [ ]
+
+-- where data stands, the speaker has begun
+data_begun : (o : Bool) (l : List Message) → Kept o l → (data_of l ≡ [] → ⊥) → begun l ≡ true
+data_begun o [] k n = absurd (n refl)
+data_begun o (Data t f b ∷ l) k n = data_speaks b t f o (stage l) k.0
+data_begun o (m ∷ l) k n = (grown_once m l o k.0 (data_begun o l k.1 n)).still
+
+-- the numbers of the channel at both ends
+pub record Numbered (i : Channel) (h g : List Note) : Type 0 where
+  pub here : ℕ
+  pub there : ℕ
+  pub opened_here : OpenedAt here i h
+  pub opened_there : OpenedAt there i g
+
+numbered : (s : Side) (h g : List Note) (i : Channel) → Both s h g → (data_of (took i h) ≡ [] → ⊥) → Numbered i h g
+numbered s h g i v d =
+    let to_here = on_older i (took_all h) (said_all g) v.to_here in
+    let to_there = on_older i (took_all g) (said_all h) v.to_there in
+    let here = v.here.good i in
+    let there = v.there.good i in
+    let spoke : begun (said i g) ≡ true = (grown (mine (peer s) i) (took i h) (said i g) there.said_kept to_here (data_begun (mine (peer s) i) (took i h) here.took_kept d)).still in
+    let heard : begun (took i g) ≡ true = there.answered (more_older (took i h) (said i g) to_here (data_more (took i h) d)) in
+    let began : begun (said i h) ≡ true = (grown (mine s i) (took i g) (said i h) here.said_kept to_there heard).still in
+    record { here = _; there = _; opened_here = v.here.named i began; opened_there = v.there.named i spoke }
+
+pub numbered_both : (run : List Done) → PairRun run → Ordered run → (s : Side) (i : Channel) → (data_received s i (part s run) ≡ [] → ⊥) → Numbered i (noted s (part s run)) (noted (peer s) (part (peer s) run))
+numbered_both run r o s i d = numbered s _ _ i (both s _ _ (played run r o s).run) (λ e. d (sym (received_is s i (part s run)) ∙ e))

@@ -1,5 +1,5 @@
 -- Neither end refuses the other for its channels.
-use Rattle.std.proofs.Common.{◌≡◌, ℕ, zero, suc, ◌<◌, ◌≤◌, List, [], ◌∷◌, ◌++◌, reverse, refl, ap, sym, ◌∙◌, arith, subst, append-nil, Bool, true, false, ◌&&◌, Option, Some}
+use Rattle.std.proofs.Common.{◌≡◌, ℕ, zero, suc, ◌<◌, ◌≤◌, List, [], ◌∷◌, ◌++◌, reverse, refl, sym, arith, subst, append-nil, Bool, true, false, ◌&&◌, Option, Some}
 use Rattle.ssh_model.specs.Side.{Side, Side.Client, Side.Server, peer, done_by, part}
 use Rattle.ssh_model.specs.Lists.{IsOlder}
 use Rattle.ssh_model.specs.Wire.Message.{Msg, Msg.NewKeys, Msg.KexInit, Msg.KexEcdhInit, Msg.KexEcdhReply, Msg.ServiceRequest, Msg.ServiceAccept, Msg.UserauthRequest, Msg.GlobalRequest, Msg.RequestSuccess, Msg.RequestFailure, Msg.ChannelOpen, Msg.ChannelOpenConfirmation, Msg.ChannelOpenFailure, Msg.ChannelWindowAdjust, Msg.ChannelData, Msg.ChannelExtendedData, Msg.ChannelEof, Msg.ChannelClose, Msg.ChannelRequest, Msg.ChannelSuccess, Msg.ChannelFailure, IsPayload, message_number}
@@ -32,7 +32,7 @@ use Rattle.ssh_model.proofs.Sessions.SoundTurns.{sounds}
 use Rattle.ssh_model.proofs.Channels.Order.{Reads, Reads.reads, older_reading, taken_reads, sent_reads, high_on_channel}
 use Rattle.ssh_model.proofs.Channels.Run.{channel_run, part_seen, ordered, seen, all_ordered}
 use Rattle.ssh_model.proofs.Channels.Pair.{not_refused, data_in_order}
-use Rattle.ssh_model.proofs.Channels.Partner.{partnered}
+use Rattle.ssh_model.proofs.Sessions.Partners.{partners_hold}
 
 -- ---- items without such a refusal
 
@@ -283,8 +283,5 @@ module _ {K : Type 0} (p : Parties K) (laws : AreLawful p) where
         let d = data_in_order (channel_run run) (seen p laws run r) (all_ordered p laws offer run r h) side i in
         let P : List channel.Item → List channel.Item → Type 0 = λ a b. (rest : List (Option ℕ × List ℕ)) × (reverse (safe.data_received side i a) ++ rest ≡ reverse (safe.data_sent (peer side) i b)) in
         subst (λ a. P a (channel_items (part (peer side) run))) (part_seen side run) (subst (λ b. P (part side (channel_run run)) b) (part_seen (peer side) run) d);
-    partners = λ side i some.
-        let q = partnered (channel_run run) (seen p laws run r) (all_ordered p laws offer run r h) side i (λ e. some (sym (ap (safe.data_received side i) (part_seen side run)) ∙ e)) in
-        let P : List channel.Item → List channel.Item → Type 0 = λ a b. safe.HasPartner i (channel.noted side a) (channel.noted (peer side) b) in
-        subst (λ a. P a (channel_items (part (peer side) run))) (part_seen side run) (subst (λ b. P (part side (channel_run run)) b) (part_seen (peer side) run) q);
+    partners = partners_hold p laws offer run r h;
   }

@@ -1,20 +1,20 @@
 -- What a transport refuses, by what it keeps, is what a session refuses.
-use Rattle.std.proofs.Common.{◌≡◌, ℕ, suc, ◌<◌, List, [], ◌∷◌, ◌++◌, length, refl, ap, sym, ◌∙◌, subst, arith, Bool, true, false, not, cond, ◌&&◌, ◌||◌, ◌==◌, eqb-true, is_some, Some, None, Option}
+use Rattle.std.proofs.Common.{◌≡◌, ℕ, List, [], ◌∷◌, ◌++◌, length, refl, ap, sym, ◌∙◌, Bool, true, false, not, cond, ◌&&◌, ◌||◌, ◌==◌, eqb-true, is_some, Some, None, Option}
 use Rattle.std.specs.Prelude.{nat_lt, ◌-◌, ◌^◌}
-use Rattle.ssh_model.specs.Side.{Side, Side.Client, Side.Server, peer}
+use Rattle.ssh_model.specs.Side.{Side, Side.Client, Side.Server}
 use Rattle.ssh_model.specs.Wire.Message.{Msg, Msg.Disconnect, Msg.Ignore, Msg.Unimplemented, Msg.Debug, Msg.ServiceRequest, Msg.ServiceAccept, Msg.ExtInfo, Msg.KexInit, Msg.NewKeys, Msg.KexEcdhInit, Msg.KexEcdhReply, Msg.Unknown, Proposal}
-use Rattle.ssh_model.specs.KeyExchange.Choice.{Chosen, Lists}
-use Rattle.ssh_model.specs.KeyExchange.Exchange.{Inputs, exchange_hash}
-use Rattle.ssh_model.specs.KeyExchange.Exchanges.{Material, nth, no_material, fed, offers, has_marker, has_choice, first_sent}
+use Rattle.ssh_model.specs.KeyExchange.Choice.{Chosen}
+use Rattle.ssh_model.specs.KeyExchange.Exchange.{exchange_hash}
+use Rattle.ssh_model.specs.KeyExchange.Exchanges.{Material, nth, no_material, fed, offers, has_marker, first_sent}
 use Rattle.ssh_model.specs.Sessions.Refusals.{Check, Check.RefusedWhere, first_refusal, Refusal, Refusal.Unexpected, Refusal.NoCommon, Refusal.NotStrict, Refusal.BadPoint, Refusal.BadHost, AskRefusal, AskRefusal.NotYet, AskRefusal.Busy, AskRefusal.WrongSide}
-use Rattle.ssh_model.specs.Sessions.Parties.{Parties, Settings, is_required, settings_of, agreement_of, marker_of, lists_of, shared_by}
-use Rattle.ssh_model.specs.Sessions.Items.{Ask, Ask.AskService, Ask.AskRekey, Ask.AskDisconnect, Item, took, has_died, messages_sent}
+use Rattle.ssh_model.specs.Sessions.Parties.{Parties, is_required, settings_of, agreement_of, marker_of, lists_of, shared_by}
+use Rattle.ssh_model.specs.Sessions.Items.{Ask, Ask.AskService, Ask.AskRekey, Ask.AskDisconnect, Item, took, messages_sent}
 use Rattle.ssh_model.specs.Sessions.Epochs.{epoch, count}
-use Rattle.ssh_model.specs.Sessions.Phases.{Phase, Phase.Exchanging, phase, blocked, has_material, is_client, is_normal, authenticated, sent_service_request}
-use Rattle.ssh_model.specs.Sessions.Transport.{can_choose, comes_too_late, is_marked, kexinit_checks, transport_checks, transport_ask_checks, secret_now}
+use Rattle.ssh_model.specs.Sessions.Phases.{Phase.Exchanging, phase, has_material, is_client, is_normal, sent_service_request}
+use Rattle.ssh_model.specs.Sessions.Transport.{can_choose, comes_too_late, is_marked, kexinit_checks, transport_checks, transport_ask_checks}
 use Rattle.ssh_model.specs.Sessions.Turns.{answer_checks, can_feed}
-use Rattle.ssh_model.specs.TransportLayer.Kept.{Transport, offer_checks, becomes_strict, first_kex, has_choice_with, own_offer, message_checks, message_ask_checks, IsChosen, inputs_with, is_fed}
-use Rattle.ssh_model.specs.TransportLayer.Summary.{Live, SumsUp, IsAwaited, IsTransportMessage, kept_after, is_agreeing}
+use Rattle.ssh_model.specs.TransportLayer.Kept.{Transport, offer_checks, becomes_strict, first_kex, has_choice_with, own_offer, message_checks, message_ask_checks, IsChosen, can_be_fed}
+use Rattle.ssh_model.specs.TransportLayer.Summary.{Live, SumsUp, IsAwaited, IsTransportMessage, is_agreeing}
 use Rattle.ssh_model.specs.TransportLayer.View.{view, service_requested}
 use Rattle.ssh_model.proofs.TransportLayer.Steps.{all_counted}
 use Rattle.ssh_model.proofs.TransportLayer.Underway.{choice_is, client_exchange}
@@ -130,12 +130,12 @@ module _ {K : Type 0} (p : Parties K) (h : List Item) (s : Transport K) where
     asks_same alive (AskDisconnect description) = refl
     asks_same alive ask = refl
 
-    feeds_by : (dead : Bool) → s.dead ≡ dead → can_feed h ≡ is_fed s
+    feeds_by : (dead : Bool) → s.dead ≡ dead → can_feed h ≡ can_be_fed s
     feeds_by true e = ap (λ (d : Bool). not d && not (has_material h) && nat_lt (length (fed h)) (2 ^ 32 - 1)) (sym sums.dead_is ∙ e)
         ∙ sym (ap (λ (d : Bool). not d && not (is_some s.material) && nat_lt s.fed (2 ^ 32 - 1)) e)
     feeds_by false e =
         let a = sums.live e in
         λ i. not (sym sums.dead_is i) && not (sym (material_same p side h s a) i) && nat_lt (sym a.material.fed_is i) (2 ^ 32 - 1)
 
-    pub feeds_same : can_feed h ≡ is_fed s
+    pub feeds_same : can_feed h ≡ can_be_fed s
     feeds_same = feeds_by s.dead refl

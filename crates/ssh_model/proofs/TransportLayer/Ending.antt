@@ -1,12 +1,12 @@
 -- The turn in which a transport ends an exchange, and what it does with an ask, are those of a session.
-use Rattle.std.proofs.Common.{◌≡◌, ℕ, zero, suc, ◌+◌, ◌^◌, ◌<◌, ◌≤◌, List, [], ◌∷◌, ◌++◌, length, refl, ap, sym, ◌∙◌, subst, arith, Bool, true, false, Some, None, Option, append-nil, append_assoc}
-use Rattle.ssh_model.specs.Side.{Side, Side.Client, Side.Server}
-use Rattle.ssh_model.specs.Wire.Message.{Msg, Msg.Disconnect, Msg.KexInit, Msg.NewKeys, Msg.KexEcdhInit, Msg.KexEcdhReply, Msg.ExtInfo}
+use Rattle.std.proofs.Common.{◌≡◌, ℕ, ◌+◌, ◌^◌, ◌<◌, ◌≤◌, List, [], ◌∷◌, ◌++◌, length, refl, ap, sym, ◌∙◌, subst, arith, true, false, Some, None, append-nil, append_assoc}
+use Rattle.ssh_model.specs.Side.{Side}
+use Rattle.ssh_model.specs.Wire.Message.{Msg, Msg.Disconnect, Msg.NewKeys}
 use Rattle.ssh_model.specs.KeyExchange.Choice.{Chosen}
 use Rattle.ssh_model.specs.KeyExchange.Exchanges.{offers}
 use Rattle.ssh_model.specs.Sessions.Refusals.{AskRefusal, Refusal.NumberSpent, first_refusal}
 use Rattle.ssh_model.specs.Sessions.Parties.{Parties, agreement_of}
-use Rattle.ssh_model.specs.Sessions.Items.{Ask, Ask.AskService, Ask.AskRekey, Ask.AskDisconnect, Fact.Completed, Item, Item.Sent, Item.Took, Item.TookGuess, Item.Told, Item.Asked, Item.AskRefused, Item.Fed, Item.SentLine, Item.TookLine, Item.TookOtherLine, Item.Refused, Item.Died, Spelled, Spelled.SpelledBy, sent, messages_sent}
+use Rattle.ssh_model.specs.Sessions.Items.{Ask, Ask.AskService, Ask.AskRekey, Ask.AskDisconnect, Fact.Completed, Item, Item.Sent, Item.Took, Item.Told, Item.Asked, Item.AskRefused, Item.Refused, Item.Died, Spelled, Spelled.SpelledBy, sent, messages_sent}
 use Rattle.ssh_model.specs.Sessions.Epochs.{count}
 use Rattle.ssh_model.specs.Sessions.Events.{PutsOut, PutsOut.other as put_other}
 use Rattle.ssh_model.specs.Sessions.Transport as row
@@ -16,24 +16,23 @@ use Rattle.ssh_model.specs.Sessions.Turns.{AreNumbered, AreSpelled, AsksTurn, Is
 use Rattle.ssh_model.specs.Channels.Connection.{AreReplies, owed_replies}
 use Rattle.ssh_model.specs.TransportLayer.Kept.{Asks, Completes, Transport, message_ask_checks, message_checks}
 use Rattle.ssh_model.specs.TransportLayer.Kept as kept
-use Rattle.ssh_model.specs.TransportLayer.Summary.{IsAwaited, Live, SumsUp, items_sent, parts_of}
+use Rattle.ssh_model.specs.TransportLayer.Summary.{IsAwaited, SumsUp, items_sent, parts_of}
 use Rattle.ssh_model.specs.TransportLayer.Turns as turns
 use Rattle.ssh_model.specs.TransportLayer.Turns.{AskTurned, EndedBy, IsTransportAsk, PutOut, PutsPackets, Reads, Turned, counted_by}
-use Rattle.ssh_model.specs.TransportLayer.View.{view}
 use Rattle.ssh_model.proofs.TransportLayer.Checks.{asks_same, none_more}
 use Rattle.ssh_model.proofs.TransportLayer.Items as items
-use Rattle.ssh_model.proofs.TransportLayer.Packets.{AreOther, Stands, last_out, opened_sent, packets_out, stands_by, stands_live, stands_taken}
+use Rattle.ssh_model.proofs.TransportLayer.Packets.{AreOther, Stands, last_out, packets_out, stands_by, stands_live, stands_taken}
 use Rattle.ssh_model.proofs.TransportLayer.Rows.{allowed, completes_row, ends_row}
 use Rattle.ssh_model.proofs.TransportLayer.Turning.{welcomed}
 
 -- ---- items in two parts
 
-both_spelled : (l more : List Item) → AreSpelled l → AreSpelled more → AreSpelled (l ++ more)
+pub both_spelled : (l more : List Item) → AreSpelled l → AreSpelled more → AreSpelled (l ++ more)
 both_spelled [] more a b = b
 both_spelled (Sent c m q ∷ l) more a b = (a.0, both_spelled l more a.1 b)
 both_spelled (i ∷ l) more a b = both_spelled l more a b
 
-both_numbered : (l more g : List Item) → AreNumbered l (more ++ g) → AreNumbered more g → AreNumbered (l ++ more) g
+pub both_numbered : (l more g : List Item) → AreNumbered l (more ++ g) → AreNumbered more g → AreNumbered (l ++ more) g
 both_numbered [] more g a b = b
 both_numbered (Sent c m q ∷ l) more g a b = (subst (λ (k : List Item). count (sent k) < 2 ^ 32) (sym (append_assoc l more g)) a.0, both_numbered l more g a.1 b)
 both_numbered (i ∷ l) more g a b = both_numbered l more g a b
@@ -101,7 +100,7 @@ module _ {K : Type 0} (p : Parties K) (side : Side) where
 
     -- ---- asks
 
-    none_of_others : (ask : Ask) (m : Msg) (payload : List ℕ) (new : Transport K) → Asks s ask m payload new → first_refusal (ask_checks p side h ask) ≡ first_refusal (transport_ask_checks p side h ask)
+    pub none_of_others : (ask : Ask) (m : Msg) (payload : List ℕ) (new : Transport K) → Asks s ask m payload new → first_refusal (ask_checks p side h ask) ≡ first_refusal (transport_ask_checks p side h ask)
     none_of_others ask m payload new (kept.Asks.service payload2 e) = none_more (transport_ask_checks p side h AskService)
     none_of_others ask m payload new (kept.Asks.rekey material payload2 free has) = none_more (transport_ask_checks p side h AskRekey)
 

@@ -1,9 +1,9 @@
 -- What is kept goes on summing up a history with each item that is no row of its own.
-use Rattle.std.proofs.Common.{◌≡◌, ℕ, zero, suc, List, [], ◌∷◌, refl, ap, sym, ◌∙◌, subst, arith, Bool, true, false, ◌&&◌, Option, Some, None}
+use Rattle.std.proofs.Common.{◌≡◌, ℕ, suc, List, [], ◌∷◌, refl, sym, ◌∙◌, subst, arith, Bool, true, false, ◌&&◌, Option, None}
 use Rattle.ssh_model.specs.Side.{Side, Side.Client, Side.Server}
 use Rattle.ssh_model.specs.Wire.Message.{Msg, Msg.KexInit, Msg.UserauthSuccess}
 use Rattle.ssh_model.specs.Sessions.Parties.{Parties, offer, settings_of}
-use Rattle.ssh_model.specs.Sessions.Items.{Item, Item.Sent, Item.Took, Item.TookLine, Item.TookOtherLine, Item.Fed, Item.SentLine, Payload.OtherOf, has_died}
+use Rattle.ssh_model.specs.Sessions.Items.{Item, Item.Sent, Item.Took, Item.TookLine, Item.TookOtherLine, Item.Fed, Item.SentLine, Payload.OtherOf}
 use Rattle.ssh_model.specs.Sessions.Phases.{Phase.Start, has_line}
 use Rattle.ssh_model.specs.TransportLayer.Directions.{new_direction}
 use Rattle.ssh_model.specs.TransportLayer.Kept.{Transport, new_transport, after_sent, after_taken, after_other_line, after_line, after_success}

@@ -6,7 +6,7 @@ use Rattle.ssh_model.specs.KeyExchange.Exchanges.{has_marker, first_taken, is_st
 use Rattle.ssh_model.specs.Sessions.Parties.{Parties, Settings, is_required, settings_of, marker_of, extension_marker_of}
 use Rattle.ssh_model.specs.Sessions.Items.{Item, took}
 use Rattle.ssh_model.specs.Sessions.Epochs.{epoch, count}
-use Rattle.ssh_model.specs.Sessions.Phases.{Phase, Phase.Start, Phase.Guessed, Phase.Exchanging, Phase.Keying, Phase.Normal, phase, may_take, may_take_in, may_take_service, may_take_extensions, is_allowed_at_first, is_allowed_during_exchange, awaited, is_general, is_normal, is_connection, is_spare, authenticated, took_service_request, sent_service_accept, sent_service_request, took_service_accept, took_success, outstanding, probing}
+use Rattle.ssh_model.specs.Sessions.Phases.{Phase, Phase.Start, Phase.Guessed, Phase.Exchanging, Phase.Keying, Phase.Normal, phase, may_take, may_take_in, may_take_service, may_take_extensions, is_allowed_at_first, is_allowed_during_exchange, awaited, is_general, is_normal, is_connection, is_spare, authenticated, sent_service_request, took_service_accept, took_success, outstanding}
 use Rattle.ssh_model.specs.TransportLayer.Kept.{Transport, takes, takes_in, takes_service, takes_announced, first_kex}
 use Rattle.ssh_model.specs.TransportLayer.Summary.{Live, SumsUp}
 use Rattle.ssh_model.specs.TransportLayer.View.{view, service_requested}

@@ -1,19 +1,17 @@
 -- What is put out by what a transport keeps is what a session puts out.
-use Rattle.std.proofs.Common.{◌≡◌, ℕ, zero, suc, ◌+◌, ◌%◌, ◌^◌, ◌<◌, ◌≤◌, List, [], ◌∷◌, ◌++◌, length, refl, ap, sym, ◌∙◌, subst, arith, Bool, true, false, ◌&&◌, Some, None, Option, append-nil, append_assoc}
-use Rattle.ssh_model.specs.Side.{Side, Side.Client, Side.Server, peer}
-use Rattle.ssh_model.specs.Wire.Message.{Msg, Msg.KexInit, Msg.NewKeys, Proposal, IsPayload}
-use Rattle.ssh_model.specs.Wire.Sealing.{Crypto, IsSealed}
-use Rattle.ssh_model.specs.KeyExchange.Exchange.{Inputs}
-use Rattle.ssh_model.specs.KeyExchange.Choice.{Chosen}
-use Rattle.ssh_model.specs.KeyExchange.Exchanges.{Offer, nth, no_offer, offers, exchanges, choices, first_sent, first_taken, has_marker, is_strict, sending_key, sending_number}
+use Rattle.std.proofs.Common.{◌≡◌, ℕ, ◌^◌, ◌<◌, ◌≤◌, List, [], ◌∷◌, ◌++◌, length, refl, ap, sym, ◌∙◌, subst, arith, Bool, true, ◌&&◌, None, Option, append-nil, append_assoc}
+use Rattle.ssh_model.specs.Side.{Side, peer}
+use Rattle.ssh_model.specs.Wire.Message.{Msg, Msg.KexInit, Msg.NewKeys, Proposal}
+use Rattle.ssh_model.specs.Wire.Sealing.{IsSealed}
+use Rattle.ssh_model.specs.KeyExchange.Exchanges.{Offer, no_offer, offers, exchanges, choices, first_sent, first_taken, has_marker, is_strict, sending_key, sending_number}
 use Rattle.ssh_model.specs.Sessions.Parties.{Parties, marker_of}
-use Rattle.ssh_model.specs.Sessions.Items.{Item, Item.Sent, Item.Took, Item.Told, Item.Asked, Item.Refused, Item.Died, Payload, Payload.OtherOf, Payload.NewkeysOf, Spelled, Spelled.SpelledBy, sent, messages_sent}
-use Rattle.ssh_model.specs.Sessions.Epochs.{epoch, count, wire_number}
-use Rattle.ssh_model.specs.Sessions.Events.{PutsOut, PutsOut.packet as put_packet, PutsOut.other as put_other}
+use Rattle.ssh_model.specs.Sessions.Items.{Item, Item.Sent, Item.Took, Payload, Payload.OtherOf, Spelled, Spelled.SpelledBy, sent, messages_sent}
+use Rattle.ssh_model.specs.Sessions.Epochs.{epoch}
+use Rattle.ssh_model.specs.Sessions.Events.{PutsOut, PutsOut.packet as put_packet}
 use Rattle.ssh_model.specs.Sessions.Phases.{phase}
-use Rattle.ssh_model.specs.Sessions.Turns.{AreNumbered, AreSpelled, IsSpelled}
+use Rattle.ssh_model.specs.Sessions.Turns.{IsSpelled}
 use Rattle.ssh_model.specs.TransportLayer.Directions.{Direction, SumsUp, counted}
-use Rattle.ssh_model.specs.TransportLayer.Kept.{Transport, becomes_strict, is_between, first_kex}
+use Rattle.ssh_model.specs.TransportLayer.Kept.{Transport, is_between}
 use Rattle.ssh_model.specs.TransportLayer.Summary.{Live, items_sent}
 use Rattle.ssh_model.specs.TransportLayer.Turns.{PutsPackets, PutOut, counted_by}
 use Rattle.ssh_model.specs.TransportLayer.Turns as turns
@@ -21,7 +19,7 @@ use Rattle.ssh_model.specs.TransportLayer.View.{view, key_from}
 use Rattle.ssh_model.proofs.TransportLayer.Kexinits as kexinits
 use Rattle.ssh_model.proofs.TransportLayer.Numbers.{strict_same}
 use Rattle.ssh_model.proofs.TransportLayer.Rows.{number_by}
-use Rattle.ssh_model.proofs.TransportLayer.Steps.{other_summed, either_way}
+use Rattle.ssh_model.proofs.TransportLayer.Steps.{other_summed}
 use Rattle.ssh_model.proofs.TransportLayer.Underway.{nth_old}
 use Rattle.ssh_model.proofs.TransportLayer.Views.{key_same}
 

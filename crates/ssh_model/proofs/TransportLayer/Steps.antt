@@ -1,7 +1,7 @@
 -- What is kept goes on summing up a view with each item that is no row of its own.
-use Rattle.std.proofs.Common.{◌≡◌, ℕ, zero, suc, ◌+◌, ◌%◌, ◌^◌, ◌<◌, List, [], ◌∷◌, length, refl, ap, sym, ◌∙◌, arith, subst, Bool, true, false}
+use Rattle.std.proofs.Common.{◌≡◌, ℕ, suc, ◌+◌, ◌%◌, ◌^◌, List, [], ◌∷◌, length, refl, ap, sym, ◌∙◌, arith, Bool, true, false}
 use Rattle.std.proofs.Math.Nat.{mod-mod}
-use Rattle.ssh_model.specs.Side.{Side, Side.Client, Side.Server}
+use Rattle.ssh_model.specs.Side.{Side}
 use Rattle.ssh_model.specs.Sessions.Parties.{Parties}
 use Rattle.ssh_model.specs.Sessions.Items.{Payload, Payload.OtherOf, Payload.NewkeysOf}
 use Rattle.ssh_model.specs.Sessions.Epochs.{count, epoch, wire_number}

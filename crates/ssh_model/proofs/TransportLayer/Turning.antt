@@ -1,31 +1,28 @@
 -- What a transport does with a payload, by what it keeps, is a turn of a session.
-use Rattle.std.proofs.Common.{◌≡◌, ℕ, zero, suc, ◌+◌, ◌^◌, ◌<◌, ◌≤◌, List, [], ◌∷◌, ◌++◌, length, refl, ap, sym, ◌∙◌, subst, arith, Bool, true, false, not, ◌==◌, eqb-true, if◌then◌else◌, IsTrue, Some, None, Option, append-nil, append_assoc}
-use Rattle.ssh_model.specs.Side.{Side, Side.Client, Side.Server}
-use Rattle.ssh_model.specs.Wire.Message.{Msg, Msg.Disconnect, Msg.KexInit, Msg.NewKeys, Msg.KexEcdhInit, Msg.KexEcdhReply, Msg.UserauthPkOk, Msg.Unknown, IsPayload, FitsContext, is_known, is_unknown, message_number}
+use Rattle.std.proofs.Common.{◌≡◌, ℕ, suc, ◌+◌, ◌^◌, ◌<◌, ◌≤◌, List, [], ◌∷◌, ◌++◌, length, refl, ap, sym, ◌∙◌, subst, arith, Bool, true, false, not, ◌==◌, if◌then◌else◌, IsTrue, Some, None, Option, append-nil, append_assoc}
+use Rattle.ssh_model.specs.Side.{Side}
+use Rattle.ssh_model.specs.Wire.Message.{Msg, Msg.Disconnect, Msg.NewKeys, Msg.UserauthPkOk, Msg.Unknown, IsPayload, FitsContext, is_known, message_number}
 use Rattle.ssh_model.specs.KeyExchange.Choice.{Chosen}
 use Rattle.ssh_model.specs.KeyExchange.Exchanges.{offers}
 use Rattle.ssh_model.specs.Sessions.Refusals.{Refusal, Refusal.NumberSpent, first_refusal, refusal_name}
 use Rattle.ssh_model.specs.Sessions.Parties.{Parties, agreement_of}
-use Rattle.ssh_model.specs.Sessions.Items.{Ask, Fact, Fact.Completed, Fact.Disconnected, Fact.Ignored, Item, Item.Sent, Item.Took, Item.TookGuess, Item.Told, Item.Asked, Item.AskRefused, Item.Fed, Item.SentLine, Item.TookLine, Item.TookOtherLine, Item.Refused, Item.Died, Spelled, Spelled.SpelledBy, has_died, sent, messages_sent}
+use Rattle.ssh_model.specs.Sessions.Items.{Fact, Fact.Disconnected, Fact.Ignored, Item, Item.Sent, Item.Took, Item.TookGuess, Item.Told, Item.Refused, Item.Died, Spelled, Spelled.SpelledBy, sent, messages_sent}
 use Rattle.ssh_model.specs.Sessions.Epochs.{count}
 use Rattle.ssh_model.specs.Sessions.Events.{PutsOut, PutsOut.other as put_other}
-use Rattle.ssh_model.specs.Sessions.Phases.{Phase, Phase.Guessed, is_normal, phase, probing}
+use Rattle.ssh_model.specs.Sessions.Phases.{Phase.Guessed, is_normal, probing}
 use Rattle.ssh_model.specs.Sessions.Transport as row
 use Rattle.ssh_model.specs.Sessions.Turns as session
 use Rattle.ssh_model.specs.Sessions.Turns.{AreNumbered, AreSpelled, IsSpelled, OnPayload, Welcomes, answer_checks, number_of}
-use Rattle.ssh_model.specs.Channels.Connection.{AreReplies, owed_replies}
-use Rattle.ssh_model.specs.TransportLayer.Directions.{Direction, counted}
 use Rattle.ssh_model.specs.TransportLayer.Kept.{Answered, Completes, Takes, Transport, is_between, message_checks, takes}
 use Rattle.ssh_model.specs.TransportLayer.Kept as kept
-use Rattle.ssh_model.specs.TransportLayer.Summary.{IsAwaited, Live, SumsUp, answer_items, items_sent, parts_of, told_over}
+use Rattle.ssh_model.specs.TransportLayer.Summary.{IsAwaited, SumsUp, answer_items, items_sent, told_over}
 use Rattle.ssh_model.specs.TransportLayer.Turns as turns
 use Rattle.ssh_model.specs.TransportLayer.Turns.{EndedBy, IsRefused, PutOut, PutsPackets, Reads, SaysWhy, Turned, UnitRefused, counted_by, refusal_items}
-use Rattle.ssh_model.specs.TransportLayer.View.{view}
 use Rattle.ssh_model.proofs.TransportLayer.Checks.{messages_same}
 use Rattle.ssh_model.proofs.TransportLayer.Items as items
 use Rattle.ssh_model.proofs.TransportLayer.Numbers.{above_in_exchange, not_number, numbers_are}
-use Rattle.ssh_model.proofs.TransportLayer.Packets.{AreOther, IsOther, Stands, last_out, packets_out, stands_by, stands_live, stands_offer, stands_taken}
-use Rattle.ssh_model.proofs.TransportLayer.Rows.{accepted, completes_row, ends_row, guess_taken}
+use Rattle.ssh_model.proofs.TransportLayer.Packets.{AreOther, IsOther, Stands, packets_out, stands_by, stands_live, stands_offer, stands_taken}
+use Rattle.ssh_model.proofs.TransportLayer.Rows.{accepted, guess_taken}
 use Rattle.ssh_model.proofs.Wire.Payloads.{payload_number}
 
 -- ---- below 50 the context of a payload says nothing
@@ -58,7 +55,7 @@ module _ {K : Type 0} (p : Parties K) (side : Side) (h : List Item) (s : Transpo
   opened : 1 ≤ length (offers (messages_sent h))
   opened = (sums.live alive).counts.opened
 
-  stands_row : (payload : List ℕ) (m : Msg) (answered : Answered) (new : Transport K) → Takes (agreement_of p side) s payload m answered new → Stands p side (Took None m payload ∷ h) s.sending × AreOther answered.sent
+  pub stands_row : (payload : List ℕ) (m : Msg) (answered : Answered) (new : Transport K) → Takes (agreement_of p side) s payload m answered new → Stands p side (Took None m payload ∷ h) s.sending × AreOther answered.sent
   stands_row payload m answered new (kept.Takes.ignore body) = (stands_taken p side h None _ payload s.sending tt (stands_live p side h s (sums.live alive)), tt)
   stands_row payload m answered new (kept.Takes.unimplemented n) = (stands_taken p side h None _ payload s.sending tt (stands_live p side h s (sums.live alive)), tt)
   stands_row payload m answered new (kept.Takes.debug display text language) = (stands_taken p side h None _ payload s.sending tt (stands_live p side h s (sums.live alive)), tt)
@@ -147,7 +144,7 @@ module _ {K : Type 0} (p : Parties K) (side : Side) (h : List Item) (s : Transpo
       let o = packets_out p side (Refused why payload ∷ h) s.sending (stands_refused why payload) opened (SpelledBy (Disconnect reason (refusal_name why) []) b ∷ []) more (tt, tt) x in
       put_other Died tt (o.out.puts bytes (put_other (Refused why payload) tt z))
 
-  refused_so : (payload : List ℕ) (why : Refusal) (said : List Item) → IsRefused (agreement_of p side) p.trusts s payload why → session.Refuses h why (Some payload) said → OnPayload p side h payload said
+  pub refused_so : (payload : List ℕ) (why : Refusal) (said : List Item) → IsRefused (agreement_of p side) p.trusts s payload why → session.Refuses h why (Some payload) said → OnPayload p side h payload said
   refused_so payload why l (turns.IsRefused.unexpected below off) x = session.OnPayload.unexpected (numbers_are p side h s sums alive (number_of payload) below ∙ off) x
   refused_so payload why l (turns.IsRefused.out_of_place above busy) x = session.OnPayload.unexpected (above_in_exchange p side h (number_of payload) above (ap is_normal (sym (sums.live alive).phase_is) ∙ busy)) x
   refused_so payload why l (turns.IsRefused.bad_message below on no_guess none) x =

@@ -1,5 +1,5 @@
 -- The units of the stream of an end, by what its transport keeps.
-use Rattle.std.proofs.Common.{◌≡◌, ℕ, ◌^◌, ◌<◌, List, refl, ap, sym, ◌∙◌, subst, arith, Bool, true, false, Option}
+use Rattle.std.proofs.Common.{◌≡◌, ℕ, ◌^◌, ◌<◌, List, ap, sym, ◌∙◌, subst, true, false, Option}
 use Rattle.ssh_model.specs.Side.{Side}
 use Rattle.ssh_model.specs.Wire.Sealing.{Crypto}
 use Rattle.ssh_model.specs.Wire.Line.{LineUnit}
@@ -13,8 +13,7 @@ use Rattle.ssh_model.specs.Sessions.Epochs.{count, epoch}
 use Rattle.ssh_model.specs.Sessions.Phases.{is_client, has_line, other_lines}
 use Rattle.ssh_model.specs.Sessions.Turns.{stage, stage_after}
 use Rattle.ssh_model.specs.TransportLayer.Kept.{Transport}
-use Rattle.ssh_model.specs.TransportLayer.Summary.{Live, SumsUp}
-use Rattle.ssh_model.specs.TransportLayer.View.{view}
+use Rattle.ssh_model.specs.TransportLayer.Summary.{SumsUp}
 use Rattle.ssh_model.proofs.TransportLayer.Rows.{taking_number_is}
 use Rattle.ssh_model.proofs.TransportLayer.Views.{key_same}
 

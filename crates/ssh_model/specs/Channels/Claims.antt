@@ -75,20 +75,20 @@ DataInOrder side run = (channel : Channel) → (rest : List (Option ℕ × List 
     × (reverse (data_received side channel (part side run))
     ++ rest ≡ reverse (data_sent (peer side) channel (part (peer side) run)))
 
--- The channel has a partner: the same OPEN was said by one end and taken by the other.
-abbrev pub HasPartner : Channel → List Note → List Note → Type 0
-HasPartner channel notes others =
+-- An OPEN of these numbers was said on the channel by one end and taken by the other.
+abbrev pub SharesOpen : Channel → List Note → List Note → Type 0
+SharesOpen channel notes others =
     (from : ℕ) × (window : ℕ) × (max_packet : ℕ)
     × ((IsIn (Open from window max_packet) (said channel notes)
     × IsIn (Open from window max_packet) (took channel others))
     ⊎ (IsIn (Open from window max_packet) (took channel notes)
     × IsIn (Open from window max_packet) (said channel others)))
 
--- Each channel on which this end took data has a partner.
+-- So it is with each channel on which this end took data.
 abbrev pub Partnered : Side → List Done → Type 0
 Partnered side run =
     (channel : Channel) → (data_received side channel (part side run) ≡ [] → ⊥) →
-    HasPartner channel (notes_of side run) (notes_of (peer side) run)
+    SharesOpen channel (notes_of side run) (notes_of (peer side) run)
 
 -- ---- a run that meets every premise
 

@@ -1,6 +1,6 @@
 -- What may be asked and taken on a channel, row by row, and the runs of two ends as one list.
-use Rattle.std.specs.Prelude.{◌≡◌, ℕ, ◌+◌, ◌≤◌, List, [], ◌∷◌, ◌++◌, length, map, Bool, true, false, Option, Some, None}
-use Rattle.ssh_model.specs.Side.{DoneBy, Side, Side.Client, Side.Server, done_by, part, peer}
+use Rattle.std.specs.Prelude.{◌≡◌, ℕ, ◌+◌, ◌≤◌, List, [], ◌∷◌, ◌++◌, length, Bool, true, false, Option, Some, None}
+use Rattle.ssh_model.specs.Side.{DoneBy, Side, done_by, part, peer}
 use Rattle.ssh_model.specs.Lists.{IsOlder}
 use Rattle.ssh_model.specs.Channels.Message.{Message, Message.Open, Message.OpenConfirmation, Message.OpenFailure}
 use Rattle.ssh_model.specs.Channels.Message.{Message.WindowAdjust, Message.Data, Message.Eof, Message.Close}

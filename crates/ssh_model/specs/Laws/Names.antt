@@ -1,5 +1,5 @@
 -- A text of names joined by commas is that of one list of names.
-use Rattle.std.proofs.Common.{◌≡◌, ℕ, ◌≤◌, ◌+◌, ◌*◌, true, false, ◌&&◌, leb, eqb, List, [], ◌∷◌, ◌++◌, length, refl}
+use Rattle.std.proofs.Common.{◌≡◌, ℕ, ◌≤◌, ◌*◌, true, false, ◌&&◌, leb, eqb, List, [], ◌∷◌, ◌++◌, length, refl}
 use Rattle.std.proofs.Common.{sym, ap}
 use Rattle.std.proofs.Common.{◌∙◌, arith, inl, inr, append_assoc, length-append}
 use Rattle.std.specs.List.{join_with_byte, slice_split, list_all, All, count_by}

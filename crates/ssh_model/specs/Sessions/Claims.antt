@@ -1,21 +1,22 @@
 -- What is claimed of the runs of two ends.
 use Rattle.std.specs.Prelude.{◌≡◌, ℕ, suc, ◌<◌, ◌≤◌, true, false, List, [], ◌∷◌, ◌++◌, ◌⊎◌, reverse, length, map}
-use Rattle.std.specs.Prelude.{Option, Bool, ◌||◌}
+use Rattle.std.specs.Prelude.{Option, Some, Bool, ◌||◌}
 use Rattle.ssh_model.specs.Side.{Side, Side.Client, Side.Server, peer, DoneBy.By, part}
 use Rattle.ssh_model.specs.Lists.{Begins}
-use Rattle.ssh_model.specs.Wire.Message.{Msg, Msg.UserauthRequest, Method}
+use Rattle.ssh_model.specs.Wire.Message.{Msg, Msg.UserauthRequest, Msg.ChannelOpen, Method}
 use Rattle.ssh_model.specs.Sessions.Parties.{Parties}
 use Rattle.ssh_model.specs.Sessions.Refusals.{Refusal, Refusal.UnknownChannel, Refusal.WindowOverrun}
 use Rattle.ssh_model.specs.Sessions.Refusals.{Refusal.WindowTooLarge}
-use Rattle.ssh_model.specs.Sessions.Items.{Item, Item.Took, Item.TookGuess, Item.Refused, Payload, bytes_of, Done}
-use Rattle.ssh_model.specs.Sessions.Items.{sent, took, Spelled, Spelled.SpelledBy, messages_sent}
+use Rattle.ssh_model.specs.Sessions.Items.{Item, Item.Sent, Item.Took, Item.TookGuess, Item.Refused, Payload, bytes_of}
+use Rattle.ssh_model.specs.Sessions.Items.{Done, sent, took, Spelled, Spelled.SpelledBy, messages_sent}
 use Rattle.ssh_model.specs.Sessions.Epochs.{epoch, after_first}
 use Rattle.ssh_model.specs.KeyExchange.Exchanges.{nth, no_exchange, none_chosen, exchanges, choices}
 use Rattle.ssh_model.specs.Sessions.Phases.{sent_success}
 use Rattle.ssh_model.specs.Authentication.Requests.{is_accepted}
 use Rattle.ssh_model.specs.Channels.Numbers.{is_held}
 use Rattle.ssh_model.specs.Channels.Message.{Channel}
-use Rattle.ssh_model.specs.Channels.Claims.{Within, WindowsHere, HasPartner, data_sent, data_received}
+use Rattle.ssh_model.specs.Channels.Rules.{next_own, next_theirs}
+use Rattle.ssh_model.specs.Channels.Claims.{Within, WindowsHere, data_sent, data_received}
 use Rattle.ssh_model.specs.Channels.History.{is_owed}
 use Rattle.ssh_model.specs.Channels.Connection.{notes, owed_replies, channel_items}
 use Rattle.ssh_model.specs.Sessions.Turns.{number_of}
@@ -121,13 +122,55 @@ NoneRefused [] = Unit {0}
 NoneRefused (By side (Refused refusal payload) ∷ run) = IsOtherRefusal refusal × NoneRefused run
 NoneRefused (_ ∷ run) = NoneRefused run
 
+-- ---- partners
+
+-- An OPEN, whole: the message, the payload that spells it, and the payloads after the first NEWKEYS that went before
+-- it, in the order of time.
+pub record WholeOpen : Type 0 where
+  pub message : Msg
+  pub payload : List ℕ
+  pub before : List (List ℕ)
+
+-- The channel is the next one, and the OPEN is this message with this payload, which went behind these payloads, a
+-- NEWKEYS among them.
+pub record OpensNext (channel next : Channel) (whole : WholeOpen) (message : Msg) (payload : List ℕ)
+    (gone : List Payload) : Type 0 where
+  pub channel_is : channel ≡ next
+  pub message_is : whole.message ≡ message
+  pub payload_is : whole.payload ≡ payload
+  pub before_is : whole.before ≡ after_newkeys gone
+  pub keyed : 0 < epoch gone
+
+-- The end of this side opened the channel by this OPEN.
+abbrev pub SentOpen : Side → Channel → WholeOpen → List Item → Type 0
+SentOpen side channel whole [] = ⊥
+SentOpen side channel whole (Sent (Some number) (ChannelOpen kind sender window max_packet rest) payload ∷ h) =
+    OpensNext channel (next_own side (notes side h)) whole
+    (ChannelOpen kind sender window max_packet rest) payload (sent h) ⊎ SentOpen side channel whole h
+SentOpen side channel whole (_ ∷ h) = SentOpen side channel whole h
+
+-- It took this OPEN of the channel, which has a number there.
+abbrev pub TookOpen : Side → Channel → WholeOpen → List Item → Type 0
+TookOpen side channel whole [] = ⊥
+TookOpen side channel whole (Took (Some number) (ChannelOpen kind sender window max_packet rest) payload ∷ h) =
+    OpensNext channel (next_theirs side (notes side h)) whole
+    (ChannelOpen kind sender window max_packet rest) payload (took h) ⊎ TookOpen side channel whole h
+TookOpen side channel whole (_ ∷ h) = TookOpen side channel whole h
+
+-- The channel has a partner: the channel of the other end that has the same OPEN, whole, sent by one end and taken by
+-- the other at the same place of what went after the first NEWKEYS.
+pub data HasPartner (side : Side) (channel : Channel) (run : List Done) : Type 0 where
+  own : (whole : WholeOpen) → SentOpen side channel whole (part side run) →
+      TookOpen (peer side) channel whole (part (peer side) run) → HasPartner side channel run
+  theirs : (whole : WholeOpen) → TookOpen side channel whole (part side run) →
+      SentOpen (peer side) channel whole (part (peer side) run) → HasPartner side channel run
+
 -- Neither end refuses the other for its channels; what was taken of data on a channel, each with its type, is a prefix
--- of what the other end sent on it; and each channel on which data was taken was opened by one end and taken by the
--- other.
+-- of what the other end sent on it; and each channel on which data was taken has a partner.
 pub record Undisturbed (run : List Done) : Type 0 where
   pub unrefused : NoneRefused run
   pub in_order : (side : Side) (i : Channel) → (rest : List (Option ℕ × List ℕ))
       × (reverse (data_received side i (channel_items (part side run))) ++ rest
       ≡ reverse (data_sent (peer side) i (channel_items (part (peer side) run))))
   pub partners : (side : Side) (i : Channel) → (data_received side i (channel_items (part side run)) ≡ [] → ⊥) →
-      HasPartner i (notes side (part side run)) (notes (peer side) (part (peer side) run))
+      HasPartner side i run

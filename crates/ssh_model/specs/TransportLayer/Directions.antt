@@ -1,10 +1,8 @@
 -- The packets of one direction at one end: its key, its numbers and its epochs (RFC 4253 section 6.4, and OpenSSH's
 -- PROTOCOL, strict key exchange).
-use Rattle.std.specs.Prelude.{◌≡◌, ◌+◌, ◌%◌, ◌^◌, ◌==◌, ◌<◌, ℕ, Bool, if◌then◌else◌, List, [], ◌∷◌, ◌++◌, Option}
+use Rattle.std.specs.Prelude.{◌≡◌, ◌+◌, ◌%◌, ◌^◌, ℕ, Bool, if◌then◌else◌, List, Option}
 use Rattle.std.specs.Prelude.{None, Some}
-use Rattle.ssh_model.specs.Wire.Message.{Msg, Msg.NewKeys}
-use Rattle.ssh_model.specs.Wire.Sealing.{Crypto, IsSealed}
-use Rattle.ssh_model.specs.Sessions.Items.{Payload, Spelled, Spelled.SpelledBy}
+use Rattle.ssh_model.specs.Sessions.Items.{Payload}
 use Rattle.ssh_model.specs.Sessions.Epochs.{count, epoch, wire_number}
 
 -- The key of the direction, the sequence number of its next packet, how many packets went under that key, and how many

@@ -1,11 +1,11 @@
 -- What a transport keeps, and what each message and each ask makes of it (RFC 4253, RFC 5656): no history here. One
 -- clause or constructor is one row.
 use Rattle.std.specs.Prelude.{◌≡◌, ℕ, ◌+◌, ◌-◌, ◌^◌, ◌<◌, Bool, true, false, not, cond, if◌then◌else◌, ◌==◌, ◌&&◌}
-use Rattle.std.specs.Prelude.{◌||◌, nat_le, nat_lt, Option, Some, None, is_some, unwrap_or, List, [], ◌∷◌, ◌++◌}
+use Rattle.std.specs.Prelude.{◌||◌, nat_le, nat_lt, Option, Some, None, is_some, unwrap_or, List, [], ◌∷◌}
 use Rattle.std.specs.Prelude.{length, take, codes}
 use Rattle.ssh_model.specs.Side.{Side, Side.Client, Side.Server, peer}
 use Rattle.ssh_model.specs.Wire.DataTypes.{number}
-use Rattle.ssh_model.specs.Wire.Message.{Msg, Msg.Disconnect, Msg.Ignore, Msg.Unimplemented, Msg.Debug}
+use Rattle.ssh_model.specs.Wire.Message.{Msg, Msg.Ignore, Msg.Unimplemented, Msg.Debug}
 use Rattle.ssh_model.specs.Wire.Message.{Msg.ServiceRequest, Msg.ServiceAccept, Msg.ExtInfo, Msg.KexInit, Msg.NewKeys}
 use Rattle.ssh_model.specs.Wire.Message.{Msg.KexEcdhInit, Msg.KexEcdhReply, Msg.Unknown, Extension, Proposal}
 use Rattle.ssh_model.specs.Wire.Message.{IsPayload}
@@ -128,8 +128,8 @@ abbrev pub after_success : {K : Type 0} → Transport K → Transport K
 after_success s = record s { authenticated = true }
 
 -- An end that keeps no pair, lives, and was fed fewer than 2^32 - 1 of them can be fed one.
-abbrev pub is_fed : {K : Type 0} → Transport K → Bool
-is_fed s = not s.dead && not (is_some s.material) && nat_lt s.fed (2 ^ 32 - 1)
+abbrev pub can_be_fed : {K : Type 0} → Transport K → Bool
+can_be_fed s = not s.dead && not (is_some s.material) && nat_lt s.fed (2 ^ 32 - 1)
 
 -- ---- which numbers may be taken
 

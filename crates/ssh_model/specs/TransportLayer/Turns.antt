@@ -1,5 +1,5 @@
 -- What a transport puts out and refuses in a turn, by what it keeps, and the turns of a session that this gives (own).
-use Rattle.std.specs.Prelude.{◌≡◌, ℕ, ◌≤◌, ◌<◌, ◌^◌, Bool, true, false, Option, Some, None, List, [], ◌∷◌, ◌++◌, length}
+use Rattle.std.specs.Prelude.{◌≡◌, ℕ, ◌≤◌, ◌<◌, ◌^◌, Bool, true, false, Option, Some, None, List, [], ◌∷◌, ◌++◌}
 use Rattle.ssh_model.specs.Side.{Side}
 use Rattle.ssh_model.specs.Wire.Message.{Msg, Msg.Disconnect, IsPayload}
 use Rattle.ssh_model.specs.Wire.Sealing.{Crypto, IsSealed}

@@ -1,0 +1,12 @@
+pub mod Above
+pub mod Kept
+pub mod Out
+pub mod Answers
+pub mod Owed
+pub mod Payloads
+pub mod Ending
+pub mod Deaths
+pub mod Units
+pub mod Asks
+pub mod Reading
+pub mod Laws

@@ -1,0 +1,5 @@
+use Rattle.ssh_model.proofs.WholeEnd.Units.{end_opened}
+use Rattle.ssh_model.proofs.end.openings.Goals as goal
+
+pub returns : goal.returns
+returns g c = λ p side cookie secret payload more m x. end_opened p side cookie secret payload more m x

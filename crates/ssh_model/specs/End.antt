@@ -1,0 +1,7 @@
+pub mod State
+pub mod Summary
+pub mod Payloads
+pub mod Deaths
+pub mod Units
+pub mod Asks
+pub mod Reading

@@ -1,0 +1,86 @@
+//! Laws of what an end of a session keeps: from its transport, its authentication and its channels to one turn of a
+//! session. An end is proved against what it keeps alone, and these laws make of it what is said of histories.
+
+ghost use Rattle.std.specs.Prelude.{◌≡◌, ◌≤◌, ◌++◌, ◌↔◌, ℕ, List, [], ◌∷◌, None, true, false};
+ghost use Rattle.ssh_model.specs.Side.{Side, part};
+ghost use Rattle.ssh_model.specs.Wire.Message.{Msg, Msg.KexInit};
+ghost use Rattle.ssh_model.specs.Wire.Line.{IsLineBegun, line_end};
+ghost use Rattle.ssh_model.specs.Wire.Sealing.{IsSealing};
+ghost use Rattle.ssh_model.specs.Wire.Unit.{IsPacketBegun};
+ghost use Rattle.ssh_model.specs.Wire.Delivery.{Delivered, InPieces, Waits};
+ghost use Rattle.ssh_model.specs.KeyExchange.Exchanges.{exchanges, session_id};
+ghost use Rattle.ssh_model.specs.Sessions.Refusals.{first_refusal};
+ghost use Rattle.ssh_model.specs.Sessions.Parties.{Parties, offer, settings_of};
+ghost use Rattle.ssh_model.specs.Sessions.Items.{Ask, Done, Item, Item.Fed, Item.SentLine, Item.Sent, Spelled.SpelledBy};
+ghost use Rattle.ssh_model.specs.Sessions.Phases.{Phase.Normal, may_take, probing};
+ghost use Rattle.ssh_model.specs.Sessions.Turns.{AsksTurn, EndRun, FeedsTurn, IsMaterial, OnPayload, OnUnit, answer_checks, ask_checks};
+ghost use Rattle.ssh_model.specs.TransportLayer.Directions.{new_direction};
+ghost use Rattle.ssh_model.specs.TransportLayer.Kept.{Transport};
+ghost use Rattle.ssh_model.specs.TransportLayer.Summary.{SumsUp};
+ghost use Rattle.ssh_model.specs.TransportLayer.Turns.{PutsPackets};
+ghost use Rattle.ssh_model.specs.End.State.{EndState, above_checks, new_end, probes, session_of, takes_above};
+ghost use Rattle.ssh_model.specs.End.Summary.{EndSumsUp, EndTurned, HasOpened};
+ghost use Rattle.ssh_model.specs.End.Payloads.{ReadsAbove, TakesPayload};
+ghost use Rattle.ssh_model.specs.End.Units.{TakesPair, TakesUnit};
+ghost use Rattle.ssh_model.specs.End.Asks.{TakesAsk, end_ask_checks};
+ghost use Rattle.ssh_model.specs.End.Reading.{DeliversTo, end_reading};
+
+/// An end that was fed a pair and put out its version line with CR LF and a packet of its first KEXINIT has opened, and
+/// what it keeps sums up its opening.
+pub fn openings<K>()
+    ensures { (p : Parties K) (side : Side) (cookie secret payload more : List ℕ) → IsMaterial cookie secret → PutsPackets p.crypto new_direction (SpelledBy (KexInit (offer p side true cookie)) payload ∷ []) more →
+        HasOpened p side (Sent None (KexInit (offer p side true cookie)) payload ∷ SentLine (settings_of p side).line ∷ Fed cookie secret ∷ []) (((settings_of p side).line ++ line_end) ++ more) (new_end (settings_of p side) side secret payload) }
+{}
+
+/// Outside an exchange an end takes the numbers from 50 on that a session takes, by what it keeps; it refuses the messages
+/// that may be taken as a session does; it knows the session id, and whether a key probe is outstanding.
+pub fn layers_above<K>()
+    ensures numbers { (p : Parties K) (side : Side) (history : List Item) (e : EndState K) → EndSumsUp p side history e → e.transport.dead ≡ false → (number : ℕ) → 50 ≤ number → e.transport.phase ≡ Normal → may_take p side history number ≡ takes_above e number }
+    ensures refused { (p : Parties K) (side : Side) (history : List Item) (e : EndState K) → EndSumsUp p side history e → e.transport.dead ≡ false → (message : Msg) (payload : List ℕ) → ReadsAbove e message payload → first_refusal (answer_checks p side history message) ≡ first_refusal (above_checks p e message) }
+    ensures session { (p : Parties K) (side : Side) (history : List Item) (e : EndState K) → EndSumsUp p side history e → e.transport.dead ≡ false → e.transport.phase ≡ Normal → session_of e ≡ session_id (exchanges p side history) }
+    ensures probes { (p : Parties K) (side : Side) (history : List Item) (e : EndState K) → EndSumsUp p side history e → e.transport.dead ≡ false → probing history ≡ probes e.authentication }
+{}
+
+/// What an end makes of a payload, of whichever layer, is what a session makes of it; what it keeps goes on summing up its
+/// history, and its bytes are put out.
+pub fn payloads<K>()
+    ensures { (p : Parties K) (side : Side) (history : List Item) (e : EndState K) → EndSumsUp p side history e → e.transport.dead ≡ false → (payload : List ℕ) (items : List Item) (more : List ℕ) (new : EndState K) → TakesPayload p side e payload items more new → EndTurned p side history (OnPayload p side history payload) items more new }
+{}
+
+/// What an end makes of the next unit of its stream is a turn of a session, and its run goes on with it.
+pub fn units<K>()
+    ensures taken { (p : Parties K) (side : Side) (history : List Item) (e : EndState K) → EndSumsUp p side history e → e.transport.dead ≡ false → (unit : List ℕ) (items : List Item) (more : List ℕ) (new : EndState K) → TakesUnit p side e unit items more new → EndTurned p side history (OnUnit p side history unit) items more new }
+    ensures run { (p : Parties K) (side : Side) (history : List Item) (e : EndState K) → EndSumsUp p side history e → EndRun p side history → e.transport.dead ≡ false → (unit : List ℕ) (items : List Item) (more : List ℕ) (new : EndState K) → EndTurned p side history (OnUnit p side history unit) items more new → EndRun p side (items ++ history) }
+{}
+
+/// An end refuses an ask as a session does. What it makes of one is a turn of a session, and its run goes on with it.
+pub fn asks<K>()
+    ensures refused { (p : Parties K) (side : Side) (history : List Item) (e : EndState K) → EndSumsUp p side history e → e.transport.dead ≡ false → (ask : Ask) → first_refusal (ask_checks p side history ask) ≡ first_refusal (end_ask_checks p side e ask) }
+    ensures taken { (p : Parties K) (side : Side) (history : List Item) (e : EndState K) → EndSumsUp p side history e → (ask : Ask) (items : List Item) (more : List ℕ) (new : EndState K) → TakesAsk p side e ask items more new → EndTurned p side history (AsksTurn p side history ask) items more new }
+    ensures run { (p : Parties K) (side : Side) (history : List Item) (e : EndState K) → EndSumsUp p side history e → EndRun p side history → (ask : Ask) (items : List Item) (more : List ℕ) (new : EndState K) → EndTurned p side history (AsksTurn p side history ask) items more new → EndRun p side (items ++ history) }
+{}
+
+/// What an end makes of a pair of cookie and secret that it is fed is a turn of a session, and its run goes on with it.
+pub fn feeds<K>()
+    ensures taken { (p : Parties K) (side : Side) (history : List Item) (e : EndState K) → EndSumsUp p side history e → (cookie secret : List ℕ) (items : List Item) (new : EndState K) → TakesPair e cookie secret items new → EndTurned p side history (FeedsTurn side history cookie secret) items [] new }
+    ensures run { (p : Parties K) (side : Side) (history : List Item) (e : EndState K) → EndSumsUp p side history e → EndRun p side history → (cookie secret : List ℕ) (items : List Item) (more : List ℕ) (new : EndState K) → EndTurned p side history (FeedsTurn side history cookie secret) items more new → EndRun p side (items ++ history) }
+{}
+
+/// An end that has a prefix of a line or of a packet, by what it keeps, waits for more.
+pub fn waiting<K>()
+    ensures packets { (p : Parties K) (side : Side) (history : List Item) (s : Transport K) → SumsUp p side history s → s.dead ≡ false → IsSealing p.crypto → s.lines.found ≡ true → (bytes : List ℕ) → IsPacketBegun p.crypto s.taking.key s.taking.count bytes → Waits (end_reading p side) history bytes }
+    ensures lines { (p : Parties K) (side : Side) (history : List Item) (s : Transport K) → SumsUp p side history s → s.dead ≡ false → IsSealing p.crypto → s.lines.found ≡ false → (bytes : List ℕ) → IsLineBegun bytes → Waits (end_reading p side) history bytes }
+{}
+
+/// A piece that is delivered to an end and then another, with no ask between, allow the same histories and leave the same
+/// bytes as the one piece of both: what is left over waits at the front of what comes next.
+pub fn pieces<K>()
+    ensures { (p : Parties K) → IsSealing p.crypto → (side : Side) (history last : List Item) (one two rest : List ℕ) → Delivered (end_reading p side) history (one ++ two) last rest ↔ InPieces (end_reading p side) history one two last rest }
+{}
+
+/// What the bytes that come to one end make of it goes on with its run, and is a delivery in each run of two of which its
+/// history is a part.
+pub fn deliveries<K>()
+    ensures run { (p : Parties K) (side : Side) (history last : List Item) (bytes rest : List ℕ) → Delivered (end_reading p side) history bytes last rest → EndRun p side history → EndRun p side last }
+    ensures session { (p : Parties K) (side : Side) (run : List Done) (last : List Item) (bytes rest : List ℕ) → Delivered (end_reading p side) (part side run) bytes last rest → DeliversTo p side run bytes last rest }
+{}
