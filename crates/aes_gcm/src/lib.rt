@@ -9,7 +9,7 @@ mod packing;
 mod planes;
 mod sub_bytes;
 
-pub use aes::Schedule;
+pub use aes::{Schedule, encrypted, schedule_of};
 pub use gcm::GcmKey;
 pub use ghash::Element;
 pub use planes::Planes;
