@@ -10,3 +10,4 @@ pub mod FirstOthers
 pub mod Softwares
 pub mod VersionLines
 pub mod LineUnits
+pub mod Tags

@@ -7,3 +7,4 @@ pub mod Writing
 pub mod LineKinds
 pub mod Lines
 pub mod LineSteps
+pub mod Tags

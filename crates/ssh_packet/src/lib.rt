@@ -52,6 +52,7 @@ mod mac_only;
 mod reader;
 mod refusal;
 mod sealing;
+mod tag;
 mod version;
 mod writer;
 
@@ -63,4 +64,5 @@ pub use mac_only::MacOnly;
 pub use reader::{PacketReader, ReadStep};
 pub use refusal::{LineRefusal, PacketRefusal};
 pub use sealing::{Lengths, Sealing};
+pub use tag::is_same_tag;
 pub use writer::{Filler, write_packet};

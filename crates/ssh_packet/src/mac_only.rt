@@ -3,6 +3,7 @@ ghost use Rattle.ssh_model.specs.Wire.MacOnly.{mac_only};
 
 use crate::hmac::HmacKey;
 use crate::sealing::{Lengths, Sealing};
+use crate::tag::is_same_tag;
 use std::alloc::{AllocError, Global};
 
 // The bytes of a tag.
@@ -62,7 +63,7 @@ impl Sealing for MacOnly {
 
     fn open(key: &HmacKey, number: u32, packet: &mut [u8]) -> bool {
         let (text, tag) = packet.split_at(packet.len() - TAG);
-        tag == key.tag(number, text).as_slice()
+        is_same_tag(tag, key.tag(number, text).as_slice())
     }
 
     ghost laws = { mac_only_laws };

@@ -1,0 +1,9 @@
+//! Tests of `aes_gcm`, `x25519` and `ssh_parts` by published vectors, and by packets that another implementation sealed.
+#![tactic(auto)]
+
+#[cfg(test)]
+mod aes128;
+#[cfg(test)]
+mod aes128_gcm;
+#[cfg(test)]
+mod curve25519;

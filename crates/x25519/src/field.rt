@@ -1,0 +1,262 @@
+//! The field of 2^255 - 19 elements (RFC 7748 section 4.1), in five limbs of 51 bits and some more. No sum and no product wraps.
+
+ghost use Rattle.std.specs.Prelude.{◌≡◌, ◌<◌, ◌≤◌, ◌+◌, ◌*◌, ◌^◌};
+ghost use Rattle.x25519.specs.Field.{IsLoose, IsTight, IsWide, carried, difference, product, row_a, row_b, row_c, row_d, row_e, squared_times, sum, times_small};
+
+/// An element: the number that is the sum of its limbs, where the limb k is worth 2^(51 k). An element is tight where each limb is below
+/// 2^52, and loose where each is below 2^54.
+#[derive(Clone, Copy)]
+pub struct Element {
+    pub a: u64,
+    pub b: u64,
+    pub c: u64,
+    pub d: u64,
+    pub e: u64,
+}
+
+// A product before its carries.
+#[derive(Clone, Copy)]
+pub(crate) struct Wide {
+    a: u128,
+    b: u128,
+    c: u128,
+    d: u128,
+    e: u128,
+}
+
+pub(crate) const ZERO: Element = Element {
+    a: 0,
+    b: 0,
+    c: 0,
+    d: 0,
+    e: 0,
+};
+
+pub(crate) const ONE: Element = Element {
+    a: 1,
+    b: 0,
+    c: 0,
+    d: 0,
+    e: 0,
+};
+
+// 2^51.
+const LIMB: u128 = 0x8_0000_0000_0000;
+
+// The sum of two tight elements is loose.
+#[inline(always)]
+#[tactic(auto, unfolding(crate::specs::Field::sum))]
+pub(crate) fn sum(x: Element, y: Element) -> Element
+    requires x { IsTight x }
+    requires y { IsTight y }
+    ensures value { result ≡ sum x y }
+    ensures loose { IsLoose result }
+{
+    Element {
+        a: x.a + y.a,
+        b: x.b + y.b,
+        c: x.c + y.c,
+        d: x.d + y.d,
+        e: x.e + y.e,
+    }
+}
+
+// So is their difference. Four times the prime is added first, so that no limb falls below zero.
+#[inline(always)]
+#[tactic(auto, unfolding(crate::specs::Field::difference))]
+pub(crate) fn difference(x: Element, y: Element) -> Element
+    requires x { IsTight x }
+    requires y { IsTight y }
+    ensures value { result ≡ difference x y }
+    ensures loose { IsLoose result }
+{
+    Element {
+        a: x.a + 0x1f_ffff_ffff_ffb4 - y.a,
+        b: x.b + 0x1f_ffff_ffff_fffc - y.b,
+        c: x.c + 0x1f_ffff_ffff_fffc - y.c,
+        d: x.d + 0x1f_ffff_ffff_fffc - y.d,
+        e: x.e + 0x1f_ffff_ffff_fffc - y.e,
+    }
+}
+
+// A product of two limbs, the second one taken nineteen times or not.
+#[inline(always)]
+#[tactic(auto, using(crate::proofs::Bounds::small_product))]
+fn times(x: u64, y: u64) -> u128
+    requires x { x < 2 ^ 54 }
+    requires y { y < 2 ^ 59 }
+    ensures value { result ≡ x * y }
+    ensures most { result < 2 ^ 113 }
+{
+    x as u128 * y as u128
+}
+
+// The sum of the products that make one limb.
+#[inline(always)]
+fn five(p: u128, q: u128, r: u128, s: u128, t: u128) -> u128
+    requires p { p < 2 ^ 113 }
+    requires q { q < 2 ^ 113 }
+    requires r { r < 2 ^ 113 }
+    requires s { s < 2 ^ 113 }
+    requires t { t < 2 ^ 113 }
+    ensures value { result ≡ p + q + r + s + t }
+    ensures most { result < 2 ^ 116 }
+{
+    p + q + r + s + t
+}
+
+// The limbs of a product. The limbs above the fifth come back nineteen times, since 2^255 is 19 in the field.
+#[inline(always)]
+fn row_a(x: Element, y: Element) -> u128
+    requires x { IsLoose x }
+    requires y { IsLoose y }
+    ensures value { result ≡ row_a x y }
+    ensures most { result < 2 ^ 116 }
+{
+    five(
+        times(x.a, y.a),
+        times(x.b, y.e * 19),
+        times(x.c, y.d * 19),
+        times(x.d, y.c * 19),
+        times(x.e, y.b * 19),
+    )
+}
+
+#[inline(always)]
+fn row_b(x: Element, y: Element) -> u128
+    requires x { IsLoose x }
+    requires y { IsLoose y }
+    ensures value { result ≡ row_b x y }
+    ensures most { result < 2 ^ 116 }
+{
+    five(
+        times(x.a, y.b),
+        times(x.b, y.a),
+        times(x.c, y.e * 19),
+        times(x.d, y.d * 19),
+        times(x.e, y.c * 19),
+    )
+}
+
+#[inline(always)]
+fn row_c(x: Element, y: Element) -> u128
+    requires x { IsLoose x }
+    requires y { IsLoose y }
+    ensures value { result ≡ row_c x y }
+    ensures most { result < 2 ^ 116 }
+{
+    five(
+        times(x.a, y.c),
+        times(x.b, y.b),
+        times(x.c, y.a),
+        times(x.d, y.e * 19),
+        times(x.e, y.d * 19),
+    )
+}
+
+#[inline(always)]
+fn row_d(x: Element, y: Element) -> u128
+    requires x { IsLoose x }
+    requires y { IsLoose y }
+    ensures value { result ≡ row_d x y }
+    ensures most { result < 2 ^ 116 }
+{
+    five(
+        times(x.a, y.d),
+        times(x.b, y.c),
+        times(x.c, y.b),
+        times(x.d, y.a),
+        times(x.e, y.e * 19),
+    )
+}
+
+#[inline(always)]
+fn row_e(x: Element, y: Element) -> u128
+    requires x { IsLoose x }
+    requires y { IsLoose y }
+    ensures value { result ≡ row_e x y }
+    ensures most { result < 2 ^ 116 }
+{
+    five(
+        times(x.a, y.e),
+        times(x.b, y.d),
+        times(x.c, y.c),
+        times(x.d, y.b),
+        times(x.e, y.a),
+    )
+}
+
+// The product of two loose elements is tight.
+#[inline(always)]
+#[tactic(auto, unfolding(crate::specs::Field::product))]
+pub(crate) fn product(x: Element, y: Element) -> Element
+    requires x { IsLoose x }
+    requires y { IsLoose y }
+    ensures value { result ≡ product x y }
+    ensures tight { IsTight result }
+    ensures loose { IsLoose result }
+{
+    carried(Wide {
+        a: row_a(x, y),
+        b: row_b(x, y),
+        c: row_c(x, y),
+        d: row_d(x, y),
+        e: row_e(x, y),
+    })
+}
+
+// What each limb has from 2^51 on goes to the next limb; what the last one has, to the first, nineteen times.
+#[inline(always)]
+#[tactic(auto, unfolding(crate::specs::Field::carried))]
+fn carried(w: Wide) -> Element
+    requires { IsWide w }
+    ensures value { result ≡ carried w }
+    ensures tight { IsTight result }
+    ensures loose { IsLoose result }
+{
+    let b = w.b + w.a / LIMB;
+    let c = w.c + b / LIMB;
+    let d = w.d + c / LIMB;
+    let e = w.e + d / LIMB;
+    let first = w.a % LIMB + e / LIMB * 19;
+    let second = b % LIMB + first / LIMB;
+    Element {
+        a: (first % LIMB) as u64,
+        b: second as u64,
+        c: (c % LIMB) as u64,
+        d: (d % LIMB) as u64,
+        e: (e % LIMB) as u64,
+    }
+}
+
+// The element so many times, at most 2^17.
+#[inline(always)]
+#[tactic(auto, unfolding(crate::specs::Field::times_small))]
+pub(crate) fn times_small(x: Element, n: u64) -> Element
+    requires x { IsLoose x }
+    requires n { n ≤ 2 ^ 17 }
+    ensures value { result ≡ times_small x n }
+    ensures tight { IsTight result }
+{
+    carried(Wide {
+        a: times(x.a, n),
+        b: times(x.b, n),
+        c: times(x.c, n),
+        d: times(x.d, n),
+        e: times(x.e, n),
+    })
+}
+
+// The element squared so often.
+#[tactic(auto, using(crate::proofs::Steps::one_square), unfolding(crate::specs::Field::squared_times))]
+pub(crate) fn squared_times(x: Element, count: usize) -> Element
+    requires { IsLoose x }
+    ensures value { result ≡ squared_times x count }
+    ensures loose { IsLoose result }
+{
+    let mut y = x;
+    for i in 0..count {
+        y = product(y, y);
+    }
+    y
+}
