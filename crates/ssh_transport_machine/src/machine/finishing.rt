@@ -207,9 +207,10 @@ impl<S: Sealing, F: Filler + Drop> Machine<S, F> {
         packets <= self.sending.numbers_left()
     }
 
-    // The payload that was taken last.
+    // The payload that was taken last, at most 35,000 bytes.
     pub fn shown(&self) -> &[u8]
-        ensures { result.now ≡ self.now.receiver.payload }
+        ensures payload { result.now ≡ self.now.receiver.payload }
+        ensures most { length result.now ≤ 35000 }
     {
         self.taking.payload()
     }
