@@ -7,4 +7,6 @@ pub mod Sharing
 pub mod Lifting
 pub mod AskLaws
 pub mod Units
+pub mod Newkeys
 pub mod Replying
+pub mod Living

@@ -9,5 +9,6 @@ pub mod laws;
 mod machine;
 
 pub use machine::{
-    Answer, AskTurn, Judged, KexinitFacts, LineTurn, Machine, Material, PayloadTurn, Phase, Points,
+    Answer, AskTurn, Judged, KexinitFacts, LineTurn, Machine, Material, PacketTurn, PayloadTurn,
+    Phase, Points,
 };
