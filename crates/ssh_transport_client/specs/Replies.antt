@@ -9,6 +9,7 @@ use Rattle.ssh_model.specs.KeyExchange.Exchange.{exchange_hash}
 use Rattle.ssh_model.specs.Sessions.Parties.{Agreement}
 use Rattle.ssh_model.specs.TransportLayer.Kept.{IsChosen, Transport, inputs_with, is_good_point}
 use Rattle.ssh_kex.specs.Values.{owned_chosen}
+use Rattle.ssh_transport_machine.specs.Endings.{IsRead}
 use Rattle.ssh_transport_machine.specs.Finishing.{AreKeys, IsAnnouncement}
 use Rattle.ssh_transport_client.specs.declared.host.Reply.{Reply}
 use Rattle.ssh_transport_client.specs.declared.host.HostJudged.{HostJudged}
@@ -29,6 +30,11 @@ pub record ShowsReply (payload : List ℕ) : Type 0 where
   pub point : List ℕ
   pub signature : List ℕ
   pub read : IsPayload false (KexEcdhReply host_key point signature) payload
+
+-- The payload is a reply that is read.
+pub record ReadsReply {K : Type 0} (s : Transport K) (payload : List ℕ) : Type 0 where
+  pub read : IsRead s payload
+  pub shows : ShowsReply payload
 
 -- who is trusted with a host key: by algorithm, key, hash and signature
 abbrev pub Trusts : Type 0

@@ -54,7 +54,7 @@ pub fn judge_reply<S: Sealing, F: Filler + Drop, A: Agreement, T: HostTrust>(
     requires choice { HasChoice machine.now.kept }
     ensures { IfOk result (λ judged. IsReplyJudged S.crypto (record { point = A.public_of agreement.now; shared = A.shared_of agreement.now }) (T.judged trust.now) machine.now.kept machine.now.receiver.payload judged) }
 {
-    let payload = machine.shown();
+    let payload = machine.payload();
     match decode(false, payload) {
         Ok(message) => judge_message(machine, agreement, trust, payload, message),
         Err(_) => unreachable!(),

@@ -1,8 +1,8 @@
 -- What a KEXINIT is refused for, by four tests.
-use Rattle.std.proofs.Common.{◌≡◌, ℕ, List, [], ◌∷◌, refl, ap, sym, ◌∙◌, Bool, true, false, not, ◌&&◌, ◌==◌, is_some, Some, None, Option}
+use Rattle.std.proofs.Common.{◌≡◌, [], ◌∷◌, refl, sym, ◌∙◌, Bool, true, false, not, ◌&&◌, ◌==◌, is_some, Some, None, Option}
 use Rattle.std.specs.Prelude.{nat_lt}
 use Rattle.ssh_model.specs.Wire.Message.{Proposal}
-use Rattle.ssh_model.specs.Sessions.Refusals.{Check.RefusedWhere, first_refusal, Refusal, Refusal.NotStrict, Refusal.Unexpected, Refusal.NoCommon, Refusal.NoMaterial}
+use Rattle.ssh_model.specs.Sessions.Refusals.{Check.RefusedWhere, first_refusal, Refusal, Refusal.NotStrict, Refusal.Unexpected, Refusal.NoCommon}
 use Rattle.ssh_model.specs.Sessions.Parties.{is_required, lists_of}
 use Rattle.ssh_model.specs.Sessions.Transport.{is_marked}
 use Rattle.ssh_model.specs.TransportLayer.Kept.{Transport, becomes_strict, has_choice_with, offer_checks, own_offer}

@@ -8,3 +8,9 @@ pub mod Announcing
 pub mod Finishing
 pub mod Endings
 pub mod Choosing
+pub mod Lifting
+pub mod AskLaws
+pub mod Units
+pub mod Newkeys
+pub mod Replying
+pub mod Living

@@ -1,9 +1,7 @@
 -- What a line that is begun makes of an end.
-use Rattle.std.proofs.Common.{◌≡◌, ℕ, ◌++◌, List, take, None, refl, ap, sym, ◌∙◌, subst}
-use Rattle.ssh_model.specs.TransportLayer.Kept as kept
+use Rattle.std.proofs.Common.{◌≡◌, ℕ, ◌++◌, List, take, None, ap, sym, ◌∙◌, subst}
 use Rattle.ssh_packet.specs.Lines.{LineReading}
 use Rattle.ssh_packet.specs.LineSteps.{LineFinds, Takes}
-use Rattle.ssh_packet.specs.declared.line_reader.LineStep.{LineStep}
 use Rattle.ssh_packet.specs.declared.line_reader.LineStep.TheVariants as step
 use Rattle.ssh_transport_machine.specs.LineTurns.{LineBegun}
 use Rattle.ssh_transport_machine.specs.State.{State, lines_of}

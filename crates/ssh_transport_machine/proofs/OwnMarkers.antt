@@ -1,5 +1,5 @@
 -- Which markers the first KEXINIT of an end has.
-use Rattle.std.proofs.Common.{◌≡◌, ℕ, zero, suc, List, [], ◌∷◌, ◌++◌, ◌⊎◌, inl, inr, refl, ap, sym, ◌∙◌, subst, arith, Bool, true, false, cond, Some, Option, is_some}
+use Rattle.std.proofs.Common.{◌≡◌, ℕ, suc, List, [], ◌∷◌, ◌++◌, inl, inr, refl, sym, ◌∙◌, subst, arith, Bool, true, false, cond, Some, is_some}
 use Rattle.std.specs.Prelude.{codes}
 use Rattle.std.specs.List.{Contains, find}
 use Rattle.ssh_model.specs.Side.{Side, Side.Client, Side.Server}

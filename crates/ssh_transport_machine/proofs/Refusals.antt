@@ -1,5 +1,5 @@
 -- Each refusal has a short name.
-use Rattle.std.proofs.Common.{ℕ, ◌≤◌, List, length, arith}
+use Rattle.std.proofs.Common.{◌≤◌, length, arith}
 use Rattle.ssh_model.specs.Sessions.Refusals.{Refusal, Refusal.BadLine, Refusal.BadVersion, Refusal.BadLength, Refusal.BadPadding, Refusal.BadTag, Refusal.BadMessage, Refusal.Unexpected, Refusal.NoCommon, Refusal.NotStrict, Refusal.BadPoint, Refusal.BadHost, Refusal.NoMaterial, Refusal.NoService, Refusal.NumberSpent, Refusal.TooManyTries, Refusal.UnknownChannel, Refusal.WindowOverrun, Refusal.WindowTooLarge, Refusal.OwedFull, refusal_name}
 
 pub short_name : (refusal : Refusal) → length (refusal_name refusal) ≤ 20

@@ -1,5 +1,5 @@
 -- 32 bytes that are not all zero are a shared result.
-use Rattle.std.proofs.Common.{◌≡◌, ℕ, zero, suc, ◌<◌, ◌+◌, List, [], ◌∷◌, length, refl, ap, sym, ◌∙◌, arith, Bool, true, false, not, ◌&&◌, ◌==◌, cond, eqb-true, Option, Some, None, subst, replicate}
+use Rattle.std.proofs.Common.{◌≡◌, ℕ, suc, ◌<◌, List, [], ◌∷◌, length, refl, ap, sym, ◌∙◌, arith, Bool, true, false, not, ◌&&◌, cond, eqb-true, Option, Some, None, subst, replicate}
 use Rattle.std.specs.List.{list_all}
 use Rattle.ssh_model.specs.Wire.DataTypes.{AreBytes}
 use Rattle.ssh_model.specs.Sessions.Parties.{is_byte, is_shared, is_zero, only_shared}

@@ -7,3 +7,7 @@ pub mod Hashing
 pub mod Offering
 pub mod Finishing
 pub mod Endings
+pub mod Turning
+pub mod Shown
+pub mod Asking
+pub mod Opening

@@ -1,10 +1,13 @@
 -- What a machine holds: what a transport keeps, and the unit of its stream that is begun.
-use Rattle.std.specs.Prelude.{ℕ, ◌-◌, Bool, true, false, cond, Option, Some, None, List, []}
+use Rattle.std.specs.Prelude.{◌≡◌, ℕ, ◌≤◌, ◌+◌, ◌-◌, ◌%◌, ◌^◌, Bool, true, false, cond, is_some, Option, Some}
+use Rattle.std.specs.Prelude.{None, List, []}
 use Rattle.ssh_model.specs.KeyExchange.Exchanges as session
 use Rattle.ssh_model.specs.Sessions.Phases as model
+use Rattle.ssh_model.specs.TransportLayer.Directions.{Direction}
 use Rattle.ssh_model.specs.TransportLayer.Kept as kept
 use Rattle.ssh_model.specs.TransportLayer.Kept.{Transport}
-use Rattle.ssh_packet.specs.Lines.{Ended, Ended.WithVersion, Ended.WithRefusal, LineReading}
+use Rattle.ssh_model.specs.TransportLayer.Summary.{bit, is_keying}
+use Rattle.ssh_packet.specs.Lines.{Ended, Ended.WithVersion, LineReading}
 use Rattle.ssh_transport_base.specs.Directions.{Receiver}
 use Rattle.ssh_transport_machine.specs.declared.machine.material.Material.{Material}
 use Rattle.ssh_transport_machine.specs.declared.machine.phase.Phase.{Phase}
@@ -44,13 +47,23 @@ pub record State (K : Type 0) : Type 0 where
   pub receiver : Receiver K
   pub kept : Transport K
 
+-- In these phases the peer's part of an exchange is awaited that this end began, or answered.
+abbrev pub awaits_exchange : model.Phase → Bool
+awaits_exchange model.Phase.Keying = false
+awaits_exchange model.Phase.Normal = false
+awaits_exchange _ = true
+
 -- a state that is dead
 abbrev pub dead_state : {K : Type 0} → State K → State K
 dead_state s = record s { kept = record s.kept { dead = true } }
 
--- What was kept before the packet was taken whose payload is shown, but for its number: a payload is judged by that.
+-- the number of the packet that was the last one of a direction
+abbrev pub last_number : {K : Type 0} → Direction K → ℕ
+last_number direction = (direction.number + (2 ^ 32 - 1)) % 2 ^ 32
+
+-- What was kept before the packet was taken whose payload is shown: a payload is judged by that.
 abbrev pub before_taken : {K : Type 0} → Transport K → Transport K
-before_taken s = record s { taking = record s.taking { count = s.taking.count - 1 } }
+before_taken s = record s { taking = record s.taking { number = last_number s.taking; count = s.taking.count - 1 } }
 
 -- The KEXINIT whose packet was taken is kept, with what it settles.
 abbrev pub noted : {K : Type 0} → (wrong strict extensions : Bool) → (payload : List ℕ) → Transport K → Transport K
@@ -60,3 +73,25 @@ noted wrong strict extensions payload s = record s {
   strict = strict;
   peer_takes_extensions = extensions;
 }
+
+-- Lines of the peer are read, as many as are kept.
+pub record IsReading {K : Type 0} (s : State K) : Type 0 where
+  pub from_peer : s.reading.from_server ≡ model.is_client s.kept.side
+  pub others : s.kept.lines.others ≡ s.reading.others
+  pub going : s.reading.ended ≡ None
+
+-- The key with which the epoch after NEWKEYS begins is there, an exchange is under way where the peer's part of it is awaited,
+-- and no epoch is beyond the pairs of cookie and secret that were fed.
+pub record IsKeptLive {K : Type 0} (s : Transport K) : Type 0 where
+  pub pending : s.phase ≡ model.Phase.Keying → s.pending ≡ None → ⊥
+  pub blocked : awaits_exchange s.phase ≡ true → s.blocked ≡ true
+  pub taken_epochs : s.taking.epoch + bit (is_keying s.phase) ≤ s.sending.epoch
+  pub sent_epochs : s.sending.epoch + (bit s.blocked + bit (is_some s.material)) ≤ s.fed
+  pub fed : s.fed ≤ 2 ^ 32 - 1
+
+-- What holds of a machine that is not over: its readers go on, and are those of what it keeps.
+pub record IsLive {K : Type 0} (s : State K) : Type 0 where
+  pub lines : s.kept.lines.found ≡ false → IsReading s
+  pub taking : s.kept.taking ≡ s.receiver.direction
+  pub receiving : s.receiver.ended ≡ None
+  pub kept : IsKeptLive s.kept

@@ -6,6 +6,10 @@
 
 pub mod ending;
 mod key_making;
+pub mod laws;
 mod machine;
 
-pub use machine::{ExchangeKeys, Judged, KexinitFacts, LineTurn, Machine, Material, Phase, Points};
+pub use machine::{
+    Answer, AskTurn, ExchangeKeys, Judged, KexinitFacts, LineTurn, Machine, Material, PacketTurn,
+    PayloadTurn, Phase, Points,
+};

@@ -8,6 +8,7 @@ ghost use Rattle.ssh_transport_machine.specs.State.{dead_state};
 
 mod announcing;
 mod answering;
+mod asking;
 mod choosing;
 mod completing;
 mod finishing;
@@ -16,15 +17,23 @@ mod judging;
 mod kexinit;
 mod kexinit_payload;
 mod line_turn;
+mod making;
 mod material;
 mod numbers;
 mod offering;
 mod opening;
+mod pairs;
 mod phase;
+mod queries;
 mod refusing;
+mod replying;
 mod sending;
 mod service;
+mod serving;
 mod sharing;
+mod taking;
+mod turn;
+mod turning;
 
 pub use finishing::ExchangeKeys;
 pub use hashing::Points;
@@ -39,6 +48,7 @@ use ssh_transport_base::{Config, PacketReceiver, PacketSender};
 use ssh_types::Side;
 use std::alloc::Global;
 use std::marker::Model;
+pub use turn::{Answer, AskTurn, PacketTurn, PayloadTurn};
 
 /// One end, without the parts that only one side has.
 pub struct Machine<S: Sealing, F: Filler + Drop> {

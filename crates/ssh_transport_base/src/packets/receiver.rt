@@ -1,4 +1,4 @@
-ghost use Rattle.std.specs.Prelude.{◌≡◌, ◌<◌, ◌≤◌, ◌+◌, ◌-◌, ◌++◌, ◌^◌, IfOk, IfSome, List, [], None, length, take};
+ghost use Rattle.std.specs.Prelude.{◌≡◌, ◌<◌, ◌≤◌, ◌+◌, ◌-◌, ◌%◌, ◌++◌, ◌^◌, IfOk, IfSome, List, [], None, length, take};
 ghost use Rattle.ssh_model.specs.Wire.DataTypes.{AreBytes};
 ghost use Rattle.ssh_model.specs.Wire.Unit.{IsPacketBegun};
 ghost use Rattle.ssh_transport_base.specs.Directions.{Receives, new_direction, new_receiver, newkeys, next_number, renewed, sealed_direction};
@@ -110,6 +110,13 @@ impl<S: Sealing> PacketReceiver<S> {
         } else {
             u64::from(self.number)
         }
+    }
+
+    /// The sequence number of the packet that was taken last, where one was taken in this epoch.
+    pub fn last_number(&self) -> u32
+        ensures { result ≡ (self.now.direction.number + (2 ^ 32 - 1)) % 2 ^ 32 }
+    {
+        self.number.wrapping_sub(1)
     }
 
     /// How many packets were taken in this epoch, at most 2^32.

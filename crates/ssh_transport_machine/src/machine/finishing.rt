@@ -206,12 +206,4 @@ impl<S: Sealing, F: Filler + Drop> Machine<S, F> {
     {
         packets <= self.sending.numbers_left()
     }
-
-    // The payload that was taken last, at most 35,000 bytes.
-    pub fn shown(&self) -> &[u8]
-        ensures payload { result.now ≡ self.now.receiver.payload }
-        ensures most { length result.now ≤ 35000 }
-    {
-        self.taking.payload()
-    }
 }

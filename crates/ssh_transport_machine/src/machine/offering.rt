@@ -44,7 +44,7 @@ impl<S: Sealing, F: Filler + Drop> Machine<S, F> {
     }
 
     // The payload of a KEXINIT of this end.
-    fn spell_kexinit(&self, first: bool, cookie: &[u8; 16]) -> Result<Vec<u8>, AllocError>
+    pub fn spell_kexinit(&self, first: bool, cookie: &[u8; 16]) -> Result<Vec<u8>, AllocError>
         ensures spelled { IfOk result (λ payload. IsSpelled (KexInit (offer_of self.now.kept.settings self.now.kept.side first cookie.now)) payload.items) }
         ensures some { IfOk result (λ payload. 1 ≤ length payload.items) }
     {

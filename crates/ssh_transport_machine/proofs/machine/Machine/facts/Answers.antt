@@ -1,4 +1,4 @@
-use Rattle.std.proofs.Common.{ap, sym, ◌∙◌}
+use Rattle.std.proofs.Common.{ap, sym}
 use Rattle.ssh_model.specs.TransportLayer.Kept.{own_offer}
 use Rattle.ssh_message.specs.Meaning.{proposal_meaning}
 use Rattle.ssh_types.specs.Values.{names}

@@ -1,4 +1,4 @@
-use Rattle.std.proofs.Common.{◌≡◌, ◌<◌, ℕ, Bool, true, false, sym, ◌∙◌, subst}
+use Rattle.std.proofs.Common.{◌≡◌, ◌<◌, ℕ, true, false, sym, ◌∙◌, subst}
 use Rattle.ssh_model.specs.TransportLayer.Kept.{takes}
 use Rattle.ssh_transport_machine.specs.Judging.{PayloadJudged.skipped, PayloadJudged.unexpected}
 use Rattle.ssh_transport_machine.specs.State.{before_taken}

@@ -1,0 +1,149 @@
+-- What the rows of a machine do, from what its calls do.
+use Rattle.std.proofs.Common.{◌≡◌, ℕ, ◌+◌, ◌^◌, ◌<◌, ◌≤◌, List, [], ◌∷◌, ◌++◌, refl, ap, ◌∙◌, subst, arith, Bool, true, false, not, ◌&&◌, ◌||◌, ◌==◌, ◌-◌, Option, Some, None, is_some}
+use Rattle.std.specs.Prelude.{Result, Ok, Err, IfOk, codes}
+use Rattle.ssh_model.specs.Side.{Side, Side.Client, Side.Server}
+use Rattle.ssh_model.specs.Wire.Message.{Msg, Msg.KexInit, Msg.NewKeys, Msg.ServiceRequest, IsPayload}
+use Rattle.ssh_model.specs.Wire.Sealing.{Crypto}
+use Rattle.ssh_model.specs.KeyExchange.Exchanges.{Material}
+use Rattle.ssh_model.specs.Sessions.Items.{Ask.AskRekey, Ask.AskService}
+use Rattle.ssh_model.specs.Sessions.Parties.{offer_of}
+use Rattle.ssh_model.specs.Sessions.Phases as model
+use Rattle.ssh_model.specs.Sessions.Phases.{is_client, is_normal}
+use Rattle.ssh_model.specs.Sessions.Refusals as refusals
+use Rattle.ssh_model.specs.Sessions.Refusals.{Check.RefusedWhere, first_refusal}
+use Rattle.ssh_model.specs.Sessions.Turns.{IsSpelled, number_of}
+use Rattle.ssh_model.specs.TransportLayer.Directions.{Direction, renewed}
+use Rattle.ssh_model.specs.TransportLayer.Kept as kept
+use Rattle.ssh_model.specs.TransportLayer.Kept.{Transport, after_sent, message_ask_checks, offer_checks, takes, takes_in}
+use Rattle.ssh_model.specs.TransportLayer.Summary.{bit, is_keying}
+use Rattle.ssh_model.specs.Wire.Message.{Proposal}
+use Rattle.ssh_transport_base.specs.Directions.{newkeys}
+use Rattle.ssh_transport_machine.specs.Asking.{AskDone, OfferDone}
+use Rattle.ssh_transport_machine.specs.Judging.{MessageJudged, PayloadJudged}
+use Rattle.ssh_transport_machine.specs.Judging as judging
+use Rattle.ssh_transport_machine.specs.Offering.{OwnAnswered}
+use Rattle.ssh_transport_machine.specs.Puts.{Outs, PutsPayload}
+use Rattle.ssh_transport_machine.specs.State.{IsLive, State, before_taken, noted}
+use Rattle.ssh_transport_machine.specs.Turning as turning
+use Rattle.ssh_transport_machine.specs.Turning.{Answers, HasSpelling, IsQuiet, KexinitDone, NewkeysTaken, SentBy, SpentBy}
+use Rattle.ssh_transport_machine.specs.declared.machine.judging.Judged.{Judged}
+use Rattle.ssh_transport_machine.specs.declared.machine.judging.Judged.TheVariants as judged
+use Rattle.ssh_transport_machine.specs.declared.machine.kexinit.KexinitFacts.{KexinitFacts}
+use Rattle.ssh_transport_machine.specs.declared.machine.turn.Answer.{Answer}
+use Rattle.ssh_transport_machine.specs.declared.machine.turn.Answer.TheVariants.{Done, Spent}
+use Rattle.ssh_transport_machine.specs.declared.machine.turn.AskTurn.TheVariants as turn
+use Rattle.ssh_transport_machine.proofs.Lifting.{newkeys_awaited}
+use Rattle.ssh_transport_machine.proofs.Sending.{spelled_out}
+
+pub if_ok : {A E : Type 0} (r : Result A E) (P Q : A → Type 0) → ((x : A) → P x → Q x) → IfOk r P → IfOk r Q
+if_ok (Ok x) P Q f p = f x p
+if_ok (Err e) P Q f p = tt
+
+-- ---- what is answered
+
+pub answered_by : {K : Type 0} (c : Crypto K) (old : State K) (m : Msg) (payload : List ℕ) (new : State K) (o : Outs) → IsSpelled m payload → PutsPayload c old.kept.sending payload o → new ≡ record old { kept = after_sent old.kept } → SentBy c old m (after_sent old.kept) new o
+answered_by c old m payload new o spelled x e = record { sends = spelled_out c old.kept.sending m payload o spelled x; after = e }
+
+-- ---- asks
+
+client_of : (side : Side) (b d : Bool) → first_refusal (RefusedWhere (not (is_client side)) refusals.AskRefusal.WrongSide ∷ RefusedWhere b refusals.AskRefusal.NotYet ∷ RefusedWhere d refusals.AskRefusal.Busy ∷ []) ≡ None → side ≡ Client
+client_of Client b d e = refl
+client_of Server b d e = absurd (cc e)
+
+pub service_asked : {K : Type 0} (c : Crypto K) (old new : State K) (o : Outs) (answer : Answer) → first_refusal (message_ask_checks old.kept AskService) ≡ None →
+    Answers c old (ServiceRequest (codes "ssh-userauth")) (record (after_sent old.kept) { requested = true }) answer new o → AskDone c old AskService (turn.Answered answer) new o
+service_asked c old new o Done fine x = record {
+  fine = fine;
+  message = ServiceRequest (codes "ssh-userauth");
+  payload = x.sends.payload;
+  kept = record (after_sent old.kept) { requested = true };
+  asks = kept.Asks.service x.sends.payload (client_of old.kept.side (old.kept.taking.epoch == 0) old.kept.requested fine);
+  puts = x.sends.puts;
+  after = x.after;
+}
+service_asked c old new o Spent fine x = record {
+  fine = fine;
+  message = ServiceRequest (codes "ssh-userauth");
+  kept = record (after_sent old.kept) { requested = true };
+  spent = x;
+  asks = kept.Asks.service x.spelling.payload (client_of old.kept.side (old.kept.taking.epoch == 0) old.kept.requested fine);
+}
+
+free_of : (early shut odd lacks : Bool) → first_refusal (RefusedWhere early refusals.AskRefusal.NotYet ∷ RefusedWhere (shut || odd) refusals.AskRefusal.Busy ∷ RefusedWhere lacks refusals.AskRefusal.NoMaterial ∷ []) ≡ None → shut ≡ false
+free_of true shut odd lacks e = absurd (cc e)
+free_of false true odd lacks e = absurd (cc e)
+free_of false false odd lacks e = refl
+
+pub rekey_asked : {K : Type 0} (c : Crypto K) (old new : State K) (o : Outs) (m : Material) (answer : Answer) → first_refusal (message_ask_checks old.kept AskRekey) ≡ None → old.kept.material ≡ Some m → OfferDone c old m answer new o → AskDone c old AskRekey (turn.Answered answer) new o
+rekey_asked c old new o m Done fine has x = record {
+  fine = fine;
+  message = KexInit (offer_of old.kept.settings old.kept.side false m.cookie);
+  payload = x.payload;
+  kept = kept.after_own_kexinit m x.payload old.kept;
+  asks = kept.Asks.rekey m x.payload (free_of (not old.kept.authenticated) old.kept.blocked (not (is_normal old.kept.phase)) (not (is_some old.kept.material)) fine) has;
+  puts = x.puts;
+  after = x.after;
+}
+rekey_asked c old new o m Spent fine has x = record {
+  fine = fine;
+  message = KexInit (offer_of old.kept.settings old.kept.side false m.cookie);
+  kept = kept.after_own_kexinit m x.spelling.payload old.kept;
+  spent = x;
+  asks = kept.Asks.rekey m x.spelling.payload (free_of (not old.kept.authenticated) old.kept.blocked (not (is_normal old.kept.phase)) (not (is_some old.kept.material)) fine) has;
+}
+
+-- ---- a KEXINIT at a server
+
+pub kexinit_kept : {K : Type 0} (c : Crypto K) (s old new : State K) (facts : KexinitFacts) (bytes : List ℕ) (payloads : List (List ℕ)) → s ≡ old → s.kept.blocked ≡ true →
+    new ≡ record old { kept = noted facts.wrong facts.strict facts.extensions old.receiver.payload old.kept } → KexinitDone c old facts Done new (record { before = bytes; after = bytes; listed = payloads; relisted = payloads })
+kexinit_kept {K} c s old new facts bytes payloads same shut e =
+    turning.KexinitDone.kept (subst (λ (t : State K). t.kept.blocked ≡ true) same shut) (record { after = e; quiet = record { out = refl; sent = refl } })
+
+pub kexinit_spent : {K : Type 0} (c : Crypto K) (s old new : State K) (facts : KexinitFacts) (m : Material) (bytes : List ℕ) (payloads : List (List ℕ)) → s ≡ old → s.kept.blocked ≡ false → s.kept.material ≡ Some m → HasSpelling (KexInit (offer_of old.kept.settings old.kept.side false m.cookie)) →
+    old.kept.sending.count ≡ 2 ^ 32 → new.kept.dead ≡ true → KexinitDone c old facts Spent new (record { before = bytes; after = bytes; listed = payloads; relisted = payloads })
+kexinit_spent {K} c s old new facts m bytes payloads same free has spelling none_left dead =
+    turning.KexinitDone.spent m (subst (λ (t : State K). t.kept.blocked ≡ false) same free) (subst (λ (t : State K). t.kept.material ≡ Some m) same has) (record { spelling = spelling; none_left = none_left; dead = dead; quiet = record { out = refl; sent = refl } })
+
+pub kexinit_answered : {K : Type 0} (c : Crypto K) (s old new : State K) (facts : KexinitFacts) (m : Material) (o : Outs) → s ≡ old → s.kept.blocked ≡ false → s.kept.material ≡ Some m → OwnAnswered c old m facts new o → KexinitDone c old facts Done new o
+kexinit_answered {K} c s old new facts m o same free has x =
+    turning.KexinitDone.answered m (subst (λ (t : State K). t.kept.blocked ≡ false) same free) (subst (λ (t : State K). t.kept.material ≡ Some m) same has) x
+
+lacks_pair : (b d e shut has : Bool) → shut ≡ false → has ≡ false → first_refusal (RefusedWhere b refusals.Refusal.NotStrict ∷ RefusedWhere d refusals.Refusal.Unexpected ∷ RefusedWhere e refusals.Refusal.NoCommon ∷ RefusedWhere (not shut && not has) refusals.Refusal.NoMaterial ∷ []) ≡ None → ⊥
+lacks_pair true d e shut has f g x = cc x
+lacks_pair false true e shut has f g x = cc x
+lacks_pair false false true shut has f g x = cc x
+lacks_pair false false false true has f g x = cc f
+lacks_pair false false false false true f g x = cc g
+lacks_pair false false false false false f g x = cc x
+
+fine_pair : {K : Type 0} (s : Transport K) (theirs : Proposal) → first_refusal (offer_checks s theirs) ≡ None → s.blocked ≡ false → s.material ≡ None → ⊥
+fine_pair s theirs e free none = lacks_pair _ _ _ s.blocked (is_some s.material) free (ap is_some none) e
+
+pub kexinit_pair : {K : Type 0} (s : Transport K) (payload : List ℕ) (what : Judged) (facts : KexinitFacts) → what ≡ judged.Kexinit facts → PayloadJudged (before_taken s) payload what → s.blocked ≡ false → s.material ≡ None → ⊥
+kexinit_pair {K} s payload what facts e is free none = go (subst (λ (j : Judged). PayloadJudged (before_taken s) payload j) e is)
+  where
+    of_message : (message : Msg) → MessageJudged (before_taken s) message (judged.Kexinit facts) → ⊥
+    of_message message (judging.MessageJudged.requested service given) = given
+    of_message message (judging.MessageJudged.accepted service given) = given
+    of_message message (judging.MessageJudged.kexinit theirs f fine) = fine_pair (before_taken s) theirs fine.fine free none
+
+    go : PayloadJudged (before_taken s) payload (judged.Kexinit facts) → ⊥
+    go (judging.PayloadJudged.read message below taken no_guess is so) = of_message message so
+
+-- ---- NEWKEYS
+
+few_epochs : (come gone fed : ℕ) (b d e : ℕ) → b ≡ 1 → come + b ≤ gone → gone + (d + e) ≤ fed → fed ≤ 2 ^ 32 - 1 → come < 2 ^ 32 - 1
+few_epochs come gone fed b d e one x y z = omega (arith, one, x, y, z)
+
+pub epoch_left : {K : Type 0} (s : State K) → IsLive s → s.kept.phase ≡ model.Phase.Keying → s.receiver.direction.epoch < 2 ^ 32 - 1
+epoch_left {K} s live here =
+    subst (λ (d : Direction K). d.epoch < 2 ^ 32 - 1) live.taking
+    (few_epochs _ _ _ _ _ _ (ap (λ (ph : model.Phase). bit (is_keying ph)) here) live.kept.taken_epochs live.kept.sent_epochs live.kept.fed)
+
+pub newkeys_taken : {K : Type 0} (old new : State K) → (old.kept.pending ≡ None → ⊥) →
+    ((key : K) → old.kept.pending ≡ Some key → new ≡ record old { receiver = record old.receiver { direction = renewed old.kept.strict key old.receiver.direction }; kept = record old.kept { taking = renewed old.kept.strict key old.receiver.direction; phase = model.Phase.Normal; pending = None } }) → NewkeysTaken old new
+newkeys_taken {K} old new some f = go old.kept.pending refl
+  where
+    go : (pending : Option K) → old.kept.pending ≡ pending → NewkeysTaken old new
+    go None e = absurd (some e)
+    go (Some key) e = record { key = key; pending = e; after = f key e }

@@ -1,0 +1,144 @@
+-- What a machine makes of a line or a packet is what an end of a session does, and so is its opening.
+use Rattle.std.proofs.Common.{◌≡◌, ℕ, List, [], ◌∷◌, ◌++◌, refl, ap, sym, ◌∙◌, subst, Bool, true, false, None}
+use Rattle.ssh_model.specs.Side.{Side}
+use Rattle.ssh_model.specs.Wire.Line.{LineUnit, line_end}
+use Rattle.ssh_model.specs.Wire.Message.{Msg.KexInit}
+use Rattle.ssh_model.specs.Wire.Outcome.{Outcome, Outcome.OtherLine, Outcome.VersionLine, Outcome.RefusedLine, Outcome.RefusedPacket}
+use Rattle.ssh_model.specs.Wire.Unit.{IsPacketBegun, IsUnit, PacketUnit}
+use Rattle.ssh_model.specs.Sessions.Events.{PutsOut}
+use Rattle.ssh_model.specs.Sessions.Items.{Item, Item.Fed, Item.Sent, Item.SentLine, Item.TookLine, Item.TookOtherLine, Spelled}
+use Rattle.ssh_model.specs.Sessions.Parties.{Parties, offer, settings_of}
+use Rattle.ssh_model.specs.Sessions.Phases.{has_line, is_client}
+use Rattle.ssh_model.specs.Sessions.Refusals.{Refusal, refusal_reason}
+use Rattle.ssh_model.specs.Sessions.Turns.{stage}
+use Rattle.ssh_model.specs.TransportLayer.Directions.{Direction, counted}
+use Rattle.ssh_model.specs.TransportLayer.Kept.{Transport, after_line, after_other_line, after_taken, new_transport}
+use Rattle.ssh_model.specs.TransportLayer.Summary.{SumsUp}
+use Rattle.ssh_model.specs.TransportLayer.Turns as turns
+use Rattle.ssh_model.specs.TransportLayer.Turns.{SaysWhy, UnitRefused, refusal_items}
+use Rattle.ssh_packet.specs.Refusals.{line_refusal}
+use Rattle.ssh_packet.specs.declared.refusal.LineRefusal.{LineRefusal}
+use Rattle.ssh_packet.specs.declared.refusal.LineRefusal.TheVariants as line
+use Rattle.ssh_types.specs.Refusals.{refusal_of}
+use Rattle.ssh_types.specs.declared.refusal.Refusal.{Refusal as Refused}
+use Rattle.ssh_transport_base.specs.Directions.{Receiver, Receives}
+use Rattle.ssh_transport_base.specs.declared.packets.step.PacketStep.{PacketStep}
+use Rattle.ssh_transport_base.specs.declared.packets.step.PacketStep.TheVariants as step
+use Rattle.ssh_transport_machine.specs.LineTurns.{LineTaken}
+use Rattle.ssh_transport_machine.specs.Opening.{IsOpened}
+use Rattle.ssh_transport_machine.specs.Puts.{Outs}
+use Rattle.ssh_transport_machine.specs.Shown.{IsOpening, LineTurnOf, PacketTurnOf, opening}
+use Rattle.ssh_transport_machine.specs.State.{IsLive, State}
+use Rattle.ssh_transport_machine.specs.Turning.{Becomes, PacketDone, PacketTaken, RefusalDone}
+use Rattle.ssh_transport_machine.specs.declared.machine.line_turn.LineTurn.{LineTurn}
+use Rattle.ssh_transport_machine.specs.declared.machine.line_turn.LineTurn.TheVariants as turn
+use Rattle.ssh_transport_machine.specs.declared.machine.turn.PacketTurn.{PacketTurn}
+use Rattle.ssh_transport_machine.specs.declared.machine.turn.PacketTurn.TheVariants as packet_turn
+use Rattle.ssh_transport_machine.proofs.Lifting.{PayloadLaws, turns_lifted}
+
+-- ---- the laws of the model
+
+pub record UnitLaws (K : Type 0) : Type 0 where
+  pub packets : (p : Parties K) (side : Side) (history : List Item) (s : Transport K) → SumsUp p side history s → s.dead ≡ false → s.lines.found ≡ true → (bytes : List ℕ) (outcome : Outcome) → PacketUnit p.crypto s.taking.key s.taking.number s.taking.count bytes outcome → IsUnit p.crypto (stage p side history) bytes outcome
+  pub lines : (p : Parties K) (side : Side) (history : List Item) (s : Transport K) → SumsUp p side history s → s.dead ≡ false → s.lines.found ≡ false → (bytes : List ℕ) (outcome : Outcome) → LineUnit (is_client s.side) s.lines.others bytes outcome → IsUnit p.crypto (stage p side history) bytes outcome
+  pub refused : (p : Parties K) (side : Side) (history : List Item) (s : Transport K) → SumsUp p side history s → s.dead ≡ false → (refusal : Refusal) (sent : List Spelled) (more : List ℕ) (new : Transport K) → SaysWhy p.crypto s refusal sent more → new.dead ≡ true → UnitRefused p side history (refusal_items refusal None sent) refusal more new
+  pub version : (p : Parties K) (side : Side) (history : List Item) (s : Transport K) (text : List ℕ) → SumsUp p side history s → SumsUp p side (TookLine text ∷ history) (after_line text s)
+  pub other : (p : Parties K) (side : Side) (history : List Item) (s : Transport K) (text : List ℕ) → has_line history ≡ false → SumsUp p side history s → SumsUp p side (TookOtherLine text ∷ history) (after_other_line s)
+
+silent_line : (why : LineRefusal) → refusal_reason (line_refusal why) ≡ None
+silent_line line.BadLine = refl
+silent_line line.BadVersion = refl
+
+module _ {K : Type 0} (laws : UnitLaws K) (p : Parties K) (side : Side) (h : List Item) (old : State K) (sums : SumsUp p side h old.kept) (alive : old.kept.dead ≡ false) (live : IsLive old) where
+  module _ (none_found : old.kept.lines.found ≡ false) where
+    unit_by : (bytes : List ℕ) (outcome : Outcome) → LineUnit old.reading.from_server old.reading.others bytes outcome → IsUnit p.crypto (stage p side h) bytes outcome
+    unit_by bytes outcome x =
+        laws.lines p side h old.kept sums alive none_found bytes outcome
+        (subst (λ (b : Bool). LineUnit b old.kept.lines.others bytes outcome) (live.lines none_found).from_peer
+        (subst (λ (n : ℕ). LineUnit old.reading.from_server n bytes outcome) (sym (live.lines none_found).others) x))
+
+    pub line_lifted : (bytes : List ℕ) (done : LineTurn) (new : State K) → LineTaken old bytes done new → LineTurnOf p side h bytes done new.kept
+    line_lifted bytes turn.More new x = subst (λ (t : State K). SumsUp p side h t.kept) (sym x.after) sums
+    line_lifted bytes turn.Other new x = record {
+      text = x.text;
+      unit = unit_by bytes (OtherLine x.text) x.unit;
+      sums = subst (λ (t : State K). SumsUp p side (TookOtherLine x.text ∷ h) t.kept) (sym x.after) (laws.other p side h old.kept x.text (sym ((sums.live alive).lines.found_is) ∙ none_found) sums);
+    }
+    line_lifted bytes turn.Version new x = record {
+      text = x.text;
+      unit = unit_by bytes (VersionLine x.text) x.unit;
+      sums = subst (λ (t : State K). SumsUp p side (TookLine x.text ∷ h) t.kept) (sym x.after) (laws.version p side h old.kept x.text sums);
+    }
+    line_lifted bytes (turn.Refused why) new x = record {
+      unit = unit_by bytes (RefusedLine (line_refusal why)) x.unit;
+      turned = laws.refused p side h old.kept sums alive (line_refusal why) [] [] new.kept (turns.SaysWhy.silently (silent_line why)) (ap (λ (t : State K). t.kept.dead) x.after);
+    }
+
+  module _ (found : old.kept.lines.found ≡ true) where
+    packet_by : (bytes : List ℕ) (outcome : Outcome) → PacketUnit p.crypto old.receiver.direction.key old.receiver.direction.number old.receiver.direction.count bytes outcome → IsUnit p.crypto (stage p side h) bytes outcome
+    packet_by bytes outcome x =
+        laws.packets p side h old.kept sums alive found bytes outcome
+        (subst (λ (d : Direction K). PacketUnit p.crypto d.key d.number d.count bytes outcome) (sym live.taking) x)
+
+    taking_by : (receiver : Receiver K) (new : State K) → new ≡ record old { receiver = receiver; kept = record old.kept { taking = receiver.direction } } → new.kept ≡ record old.kept { taking = receiver.direction }
+    taking_by receiver new e = ap (λ (t : State K). t.kept) e
+
+    same_by : (receiver : Receiver K) (new : State K) → new ≡ record old { receiver = receiver; kept = record old.kept { taking = receiver.direction } } → receiver.direction ≡ old.receiver.direction → new.kept ≡ old.kept
+    same_by receiver new e d = taking_by receiver new e ∙ (λ i. record old.kept { taking = (d ∙ sym live.taking) i })
+
+    said_by : (why : Refusal) (between : Transport K) (said : List Spelled) (more : List ℕ) → between ≡ old.kept → SaysWhy p.crypto between why said more → SaysWhy p.crypto old.kept why said more
+    said_by why between said more e x = subst (λ (t : Transport K). SaysWhy p.crypto t why said more) e x
+
+    more_lifted : (bytes : List ℕ) (between new : State K) (o : Outs) → Receives p.crypto bytes old.receiver step.More between.receiver → between ≡ record old { receiver = between.receiver; kept = record old.kept { taking = between.receiver.direction } } → Becomes between between.kept new o →
+        PacketTurnOf p side h old.kept bytes packet_turn.More new o
+    more_lifted bytes between new o x e y = record {
+      begun = subst (λ (d : Direction K). IsPacketBegun p.crypto d.key d.count bytes) (sym live.taking) x.0;
+      after = ap (λ (t : State K). t.kept) y.after ∙ same_by between.receiver between e (ap (λ (r : Receiver K). r.direction) x.1);
+      quiet = y.quiet;
+    }
+
+    refusal_lifted : (bytes : List ℕ) (r why : Refused) (between new : State K) (o : Outs) → Receives p.crypto bytes old.receiver (step.Refused r) between.receiver → between ≡ record old { receiver = between.receiver; kept = record old.kept { taking = between.receiver.direction } } → RefusalDone p.crypto between r why new o →
+        PacketTurnOf p side h old.kept bytes (packet_turn.Refused why) new o
+    refusal_lifted bytes r why between new o x e y =
+        subst (λ (w : Refused). PacketTurnOf p side h old.kept bytes (packet_turn.Refused w) new o) (sym y.same) (record {
+          unit = packet_by bytes (RefusedPacket (refusal_of r)) x.0;
+          said = y.refuses.said;
+          more = y.refuses.more;
+          turned = laws.refused p side h old.kept sums alive (refusal_of r) y.refuses.said y.refuses.more new.kept (said_by (refusal_of r) between.kept y.refuses.said y.refuses.more (same_by between.receiver between e (ap (λ (w : Receiver K). w.direction) x.1)) y.refuses.says) y.refuses.dead;
+          parts = y.refuses.parts;
+          lists = y.refuses.lists;
+        })
+
+    found_by : (bytes : List ℕ) (between : State K) → Receives p.crypto bytes old.receiver step.Payload between.receiver → between ≡ record old { receiver = between.receiver; kept = record old.kept { taking = between.receiver.direction } } → between.kept ≡ after_taken old.kept
+    found_by bytes between x e = taking_by between.receiver between e ∙ (λ i. record old.kept { taking = (ap (λ (r : Receiver K). r.direction) x.1 ∙ ap (λ (d : Direction K). counted d) (sym live.taking)) i })
+
+    packet_done : PayloadLaws K → (bytes : List ℕ) (found : PacketStep) (done : PacketTurn) (between new : State K) (o : Outs) → Receives p.crypto bytes old.receiver found between.receiver → between ≡ record old { receiver = between.receiver; kept = record old.kept { taking = between.receiver.direction } } → PacketDone p.crypto between found done new o →
+        PacketTurnOf p side h old.kept bytes done new o
+    packet_done rows bytes step.More packet_turn.More between new o x e y = more_lifted bytes between new o x e y
+    packet_done rows bytes (step.Refused r) (packet_turn.Refused why) between new o x e y = refusal_lifted bytes r why between new o x e y
+    packet_done rows bytes step.Payload (packet_turn.Payload done) between new o x e y = record {
+      between = between;
+      unit = packet_by bytes (Outcome.Opens between.receiver.payload) x.0;
+      kept = found_by bytes between x e;
+      turn = turns_lifted rows p side h old.kept sums alive between done new o (found_by bytes between x e) y;
+    }
+    packet_done rows bytes _ _ between new o x e y = absurd y
+
+    pub packet_lifted : PayloadLaws K → (bytes : List ℕ) (done : PacketTurn) (new : State K) (o : Outs) → PacketTaken p.crypto old bytes done new o → PacketTurnOf p side h old.kept bytes done new o
+    packet_lifted rows bytes done new o x = packet_done rows bytes x.found done x.between new o x.receives x.rest x.does
+
+-- ---- the opening
+
+abbrev Openings : (K : Type 0) → Type 0
+Openings K = (p : Parties K) (side : Side) (cookie secret payload : List ℕ) → SumsUp p side (Sent None (KexInit (offer p side true cookie)) payload ∷ SentLine (settings_of p side).line ∷ Fed cookie secret ∷ []) (new_transport (settings_of p side) side secret payload)
+
+pub opened : {K : Type 0} → Openings K → (p : Parties K) (side : Side) (cookie secret : List ℕ) (new : State K) (o : Outs) → IsOpened p.crypto (settings_of p side) side cookie secret new o → IsOpening p side cookie secret new.kept o
+opened {K} law p side cookie secret new o x = record {
+  payload = x.payload;
+  spelled = x.spelled;
+  sums = subst (λ (t : State K). SumsUp p side (opening p side cookie secret x.payload) t.kept) (sym x.state_is) (law p side cookie secret x.payload);
+  more = ((settings_of p side).line ++ line_end) ++ x.wire;
+  puts = PutsOut.packet None (KexInit (offer p side true cookie)) x.payload x.wire x.sealed (PutsOut.version (settings_of p side).line (PutsOut.other (Fed cookie secret) tt PutsOut.nothing));
+  parts = x.parts;
+  lists = x.lists;
+}

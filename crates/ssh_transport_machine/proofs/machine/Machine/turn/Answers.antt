@@ -1,0 +1,8 @@
+use Rattle.ssh_transport_machine.proofs.Replying.{if_ok}
+use Rattle.ssh_transport_machine.proofs.machine.Machine.turn.Goals as goal
+
+pub returns-clause-turns : goal.returns-clause-turns
+returns-clause-turns g c =
+    if_ok c.act.result _ _
+    (λ done does. record { directed = c.requires.live.taking; numbered = c.few_packets.ensures; what = c.judge-judged.result; is_judged = c.judge-judged.ensures; does = does })
+    c.act.ensures.does

@@ -1,0 +1,81 @@
+-- What an end does on an ask of its user.
+use Rattle.std.specs.Prelude.{◌≡◌, ℕ, Option, None, Some, List, [], ◌∷◌, true, false}
+use Rattle.ssh_model.specs.Wire.Message.{Msg, Msg.Disconnect, Msg.KexInit}
+use Rattle.ssh_model.specs.Wire.Sealing.{Crypto}
+use Rattle.ssh_model.specs.KeyExchange.Exchanges.{Material}
+use Rattle.ssh_model.specs.Sessions.Items.{Ask, Ask.AskDisconnect, Spelled.SpelledBy}
+use Rattle.ssh_model.specs.Sessions.Parties.{offer_of}
+use Rattle.ssh_model.specs.Sessions.Refusals as model
+use Rattle.ssh_model.specs.Sessions.Refusals.{first_refusal}
+use Rattle.ssh_model.specs.TransportLayer.Kept.{Asks, Transport, message_ask_checks}
+use Rattle.ssh_types.specs.AskRefusals.{ask_refusal_of}
+use Rattle.ssh_types.specs.declared.ask_refusal.AskRefusal.{AskRefusal}
+use Rattle.ssh_transport_machine.specs.Offering.{OwnSent}
+use Rattle.ssh_transport_machine.specs.Puts.{Outs, Puts, Sends}
+use Rattle.ssh_transport_machine.specs.State.{State}
+use Rattle.ssh_transport_machine.specs.Turning.{IsQuiet, SpentBy}
+use Rattle.ssh_transport_machine.specs.declared.machine.turn.Answer.{Answer}
+use Rattle.ssh_transport_machine.specs.declared.machine.turn.Answer.TheVariants.{Done, Spent}
+use Rattle.ssh_transport_machine.specs.declared.machine.turn.AskTurn.{AskTurn}
+use Rattle.ssh_transport_machine.specs.declared.machine.turn.AskTurn.TheVariants as turn
+
+-- the refusal of an ask, where there is one
+abbrev pub refusal_with : Option AskRefusal → Option model.AskRefusal
+refusal_with None = None
+refusal_with (Some why) = Some (ask_refusal_of why)
+
+-- The ask was refused by the first check that holds, and changed nothing.
+pub record AskRefused {K : Type 0} (old : State K) (ask : Ask) (why : AskRefusal) (new : State K) (o : Outs) :
+    Type 0 where
+  pub why_is : first_refusal (message_ask_checks old.kept ask) ≡ Some (ask_refusal_of why)
+  pub after : new ≡ old
+  pub quiet : IsQuiet o
+
+-- Nothing refused it, and what it asks for was sent.
+pub record AskSent {K : Type 0} (c : Crypto K) (old : State K) (ask : Ask) (new : State K) (o : Outs) : Type 0 where
+  pub fine : first_refusal (message_ask_checks old.kept ask) ≡ None
+  pub message : Msg
+  pub payload : List ℕ
+  pub kept : Transport K
+  pub asks : Asks old.kept ask message payload kept
+  pub puts : Puts c old.kept.sending (SpelledBy message payload ∷ []) o
+  pub after : new ≡ record old { kept = kept }
+
+-- Nothing refused it, and no number was left for what it asks for: nothing was put out, and the end is over.
+pub record AskSpent {K : Type 0} (old : State K) (ask : Ask) (new : State K) (o : Outs) : Type 0 where
+  pub fine : first_refusal (message_ask_checks old.kept ask) ≡ None
+  pub message : Msg
+  pub kept : Transport K
+  pub spent : SpentBy old message new o
+  pub asks : Asks old.kept ask message spent.spelling.payload kept
+
+-- what was done on an ask for a service or for an exchange of keys
+abbrev pub AskDone : {K : Type 0} → Crypto K → State K → Ask → AskTurn → State K → Outs → Type 0
+AskDone c old ask (turn.Refused why) new o = AskRefused old ask why new o
+AskDone c old ask (turn.Answered Done) new o = AskSent c old ask new o
+AskDone c old ask (turn.Answered Spent) new o = AskSpent old ask new o
+
+-- DISCONNECT was sent, and the end is over.
+pub record DisconnectSent {K : Type 0} (c : Crypto K) (old : State K) (description : List ℕ) (new : State K) (o : Outs) :
+    Type 0 where
+  pub fine : first_refusal (message_ask_checks old.kept (AskDisconnect description)) ≡ None
+  pub sends : Sends c old.kept.sending (Disconnect 11 description []) o
+  pub dead : new.kept.dead ≡ true
+
+-- No number was left for it.
+pub record DisconnectSpent {K : Type 0} (old : State K) (description : List ℕ) (new : State K) (o : Outs) :
+    Type 0 where
+  pub fine : first_refusal (message_ask_checks old.kept (AskDisconnect description)) ≡ None
+  pub spent : SpentBy old (Disconnect 11 description []) new o
+
+-- what was done on an ask to disconnect with this description
+abbrev pub DisconnectDone : {K : Type 0} → Crypto K → State K → List ℕ → AskTurn → State K → Outs → Type 0
+DisconnectDone c old description (turn.Refused why) new o = AskRefused old (AskDisconnect description) why new o
+DisconnectDone c old description (turn.Answered Done) new o = DisconnectSent c old description new o
+DisconnectDone c old description (turn.Answered Spent) new o = DisconnectSpent old description new o
+
+-- A KEXINIT was sent with this pair, or no number was left for it.
+abbrev pub OfferDone : {K : Type 0} → Crypto K → State K → Material → Answer → State K → Outs → Type 0
+OfferDone c old material Done new o = OwnSent c old material new o
+OfferDone c old material Spent new o =
+    SpentBy old (KexInit (offer_of old.kept.settings old.kept.side false material.cookie)) new o

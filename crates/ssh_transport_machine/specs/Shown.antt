@@ -1,0 +1,206 @@
+-- The turns of a session that those of a machine are, and what each answer of a machine shows of them.
+use Rattle.std.specs.Prelude.{◌≡◌, ℕ, Bool, true, false, None, Some, List, [], ◌∷◌, ◌++◌}
+use Rattle.ssh_model.specs.Side.{Side, Side.Server}
+use Rattle.ssh_model.specs.Wire.Message.{Msg, Msg.Debug, Msg.Disconnect, Msg.ExtInfo, Msg.Ignore, Msg.KexInit}
+use Rattle.ssh_model.specs.Wire.Message.{Msg.NewKeys, Msg.ServiceAccept, Msg.ServiceRequest, Msg.Unimplemented}
+use Rattle.ssh_model.specs.Wire.Message.{Msg.Unknown, Extension, IsPayload, Proposal}
+use Rattle.ssh_model.specs.Sessions.Items.{Fact, Fact.Debugged, Fact.Disconnected, Fact.GotExtensions, Fact.Ignored}
+use Rattle.ssh_model.specs.Sessions.Items.{Fact.NotImplemented, Fact.Service, Item, Item.Died, Item.Refused, Item.Told}
+use Rattle.ssh_model.specs.Sessions.Items.{Ask, Ask.AskDisconnect, Item.Asked, Item.Fed, Item.Sent, Item.Took}
+use Rattle.ssh_model.specs.Sessions.Items.{Item.SentLine, Item.TookLine, Item.TookOtherLine}
+use Rattle.ssh_model.specs.Sessions.Items.{Item.TookGuess, Spelled, Spelled.SpelledBy}
+use Rattle.ssh_model.specs.Sessions.Parties.{Parties, offer, offer_of, settings_of}
+use Rattle.ssh_model.specs.Sessions.Events.{PutsOut}
+use Rattle.ssh_model.specs.Sessions.Turns.{IsSpelled, stage}
+use Rattle.ssh_model.specs.Wire.Outcome.{Outcome, Outcome.OtherLine, Outcome.VersionLine, Outcome.RefusedLine}
+use Rattle.ssh_model.specs.Wire.Outcome.{Outcome.Opens, Outcome.RefusedPacket}
+use Rattle.ssh_model.specs.Wire.Unit.{IsPacketBegun, IsUnit}
+use Rattle.ssh_model.specs.Sessions.Refusals as model
+use Rattle.ssh_model.specs.TransportLayer.Kept.{Transport, after_taken}
+use Rattle.ssh_model.specs.TransportLayer.Summary.{SumsUp, items_sent}
+use Rattle.ssh_model.specs.TransportLayer.Turns.{AskTurned, Turned, UnitRefused, refusal_items}
+use Rattle.ssh_packet.specs.Refusals.{line_refusal}
+use Rattle.ssh_types.specs.AskRefusals.{ask_refusal_of}
+use Rattle.ssh_types.specs.Refusals.{refusal_of}
+use Rattle.ssh_types.specs.declared.ask_refusal.AskRefusal.{AskRefusal}
+use Rattle.ssh_types.specs.declared.refusal.Refusal.{Refusal}
+use Rattle.ssh_transport_machine.specs.Judging.{PayloadJudged}
+use Rattle.ssh_transport_machine.specs.Puts.{Outs, payloads_of}
+use Rattle.ssh_transport_machine.specs.State.{State}
+use Rattle.ssh_transport_machine.specs.Turning.{IsQuiet}
+use Rattle.ssh_transport_machine.specs.declared.machine.judging.Judged.{Judged}
+use Rattle.ssh_transport_machine.specs.declared.machine.line_turn.LineTurn.{LineTurn}
+use Rattle.ssh_transport_machine.specs.declared.machine.line_turn.LineTurn.TheVariants as line_turn
+use Rattle.ssh_transport_machine.specs.declared.machine.turn.Answer.TheVariants.{Done, Spent}
+use Rattle.ssh_transport_machine.specs.declared.machine.turn.AskTurn.{AskTurn}
+use Rattle.ssh_transport_machine.specs.declared.machine.turn.AskTurn.TheVariants as ask_turn
+use Rattle.ssh_transport_machine.specs.declared.machine.turn.PacketTurn.{PacketTurn}
+use Rattle.ssh_transport_machine.specs.declared.machine.turn.PacketTurn.TheVariants as packet_turn
+use Rattle.ssh_transport_machine.specs.declared.machine.turn.PayloadTurn.{PayloadTurn}
+use Rattle.ssh_transport_machine.specs.declared.machine.turn.PayloadTurn.TheVariants as turn
+
+-- what is told of a message that is not answered
+pub data IsTold : Msg → Fact → Type 0 where
+  ignore : (body : List ℕ) → IsTold (Ignore body) Ignored
+  unimplemented : (number : ℕ) → IsTold (Unimplemented number) (NotImplemented number)
+  debug : (display : Bool) (message language : List ℕ) →
+      IsTold (Debug display message language) (Debugged display message)
+  extensions : (announced : List Extension) → IsTold (ExtInfo announced) (GotExtensions announced)
+
+-- The messages that were sent in a turn, the newest first, and all its items, by what was done with the payload: one
+-- constructor a row.
+pub data Shows {K : Type 0} (s : Transport K) (payload : List ℕ) : PayloadTurn → List Spelled → List Item → Type 0 where
+  refused : {said : List Spelled} (why : Refusal) →
+      Shows s payload (turn.Refused why) said (refusal_items (refusal_of why) (Some payload) said)
+  skipped : Shows s payload turn.Skipped [] (Told Ignored ∷ TookGuess payload ∷ [])
+  disconnected : (reason : ℕ) (description language : List ℕ) →
+      IsPayload false (Disconnect reason description language) payload →
+      Shows s payload turn.Disconnected []
+      (Died ∷ Told (Disconnected reason description) ∷ Took None (Disconnect reason description language) payload ∷ [])
+  told : (message : Msg) (fact : Fact) → IsPayload false message payload → IsTold message fact →
+      Shows s payload turn.Told [] (Told fact ∷ Took None message payload ∷ [])
+  unknown : (number : ℕ) (reply : List ℕ) → IsPayload false (Unknown number) payload →
+      Shows s payload (turn.Unknown Done) (SpelledBy (Unimplemented s.taking.number) reply ∷ [])
+      (items_sent (SpelledBy (Unimplemented s.taking.number) reply ∷ []) ++ Took None (Unknown number) payload ∷ [])
+  service_requested : (service reply : List ℕ) → IsPayload false (ServiceRequest service) payload →
+      Shows s payload (turn.ServiceRequested Done) (SpelledBy (ServiceAccept service) reply ∷ [])
+      (items_sent (SpelledBy (ServiceAccept service) reply ∷ []) ++ Took None (ServiceRequest service) payload ∷ [])
+  service_accepted : (service : List ℕ) → IsPayload false (ServiceAccept service) payload →
+      Shows s payload turn.ServiceAccepted [] (Told Service ∷ Took None (ServiceAccept service) payload ∷ [])
+  kexinit : (theirs : Proposal) → IsPayload false (KexInit theirs) payload →
+      Shows s payload (turn.Kexinit Done) [] (Took None (KexInit theirs) payload ∷ [])
+  kexinit_answered : (theirs : Proposal) (own cookie : List ℕ) → IsPayload false (KexInit theirs) payload →
+      Shows s payload (turn.Kexinit Done) (SpelledBy (KexInit (offer_of s.settings Server false cookie)) own ∷ [])
+      (items_sent (SpelledBy (KexInit (offer_of s.settings Server false cookie)) own ∷ [])
+      ++ Took None (KexInit theirs) payload ∷ [])
+  newkeys : IsPayload false NewKeys payload → Shows s payload turn.NewKeys [] (Took None NewKeys payload ∷ [])
+  unknown_spent : Shows s payload (turn.Unknown Spent) []
+      (Died ∷ Refused model.Refusal.NumberSpent (Some payload) ∷ [])
+  service_spent : Shows s payload (turn.ServiceRequested Spent) []
+      (Died ∷ Refused model.Refusal.NumberSpent (Some payload) ∷ [])
+  kexinit_spent : Shows s payload (turn.Kexinit Spent) []
+      (Died ∷ Refused model.Refusal.NumberSpent (Some payload) ∷ [])
+
+-- What was done with a payload is a turn of a session, with these items, bytes and payloads listed.
+pub record IsTurn {K : Type 0} (p : Parties K) (side : Side) (history : List Item) (s : Transport K)
+    (payload : List ℕ) (done : PayloadTurn) (new : Transport K) (o : Outs) : Type 0 where
+  pub said : List Spelled
+  pub items : List Item
+  pub more : List ℕ
+  pub shows : Shows s payload done said items
+  pub turned : Turned p side history payload items more new
+  pub parts : o.after ≡ o.before ++ more
+  pub lists : o.relisted ≡ o.listed ++ payloads_of said
+
+-- Nothing was done yet with a payload that is this.
+pub record IsLeftSo {K : Type 0} (s : Transport K) (payload : List ℕ) (what : Judged) (old new : State K) (o : Outs) :
+    Type 0 where
+  pub is_judged : PayloadJudged s payload what
+  pub after : new ≡ old
+  pub quiet : IsQuiet o
+
+-- the one or the other
+abbrev pub TurnOf : {K : Type 0} → Parties K → Side → (history : List Item) → Transport K → State K → PayloadTurn →
+    State K → Outs → Type 0
+TurnOf p side history s old (turn.Left what) new o = IsLeftSo s old.receiver.payload what old new o
+TurnOf p side history s old done new o = IsTurn p side history s old.receiver.payload done new.kept o
+
+-- ---- asks
+
+-- The messages that were sent on an ask, and all items of its turn: one constructor a row.
+pub data AskShows : Ask → AskTurn → List Spelled → List Item → Type 0 where
+  refused : (ask : Ask) (why : AskRefusal) →
+      AskShows ask (ask_turn.Refused why) [] (Item.AskRefused (ask_refusal_of why) ∷ Asked ask ∷ [])
+  sent : (ask : Ask) (message : Msg) (payload : List ℕ) →
+      AskShows ask (ask_turn.Answered Done) (SpelledBy message payload ∷ []) (Sent None message payload ∷ Asked ask ∷ [])
+  disconnected : (description payload : List ℕ) →
+      AskShows (AskDisconnect description) (ask_turn.Answered Done)
+      (SpelledBy (Disconnect 11 description []) payload ∷ [])
+      (Died ∷ Sent None (Disconnect 11 description []) payload ∷ Asked (AskDisconnect description) ∷ [])
+  spent : (ask : Ask) → AskShows ask (ask_turn.Answered Spent) []
+      (Died ∷ Refused model.Refusal.NumberSpent None ∷ Asked ask ∷ [])
+
+-- What was done on an ask is a turn of a session, with these items, bytes and payloads listed.
+pub record IsAskTurn {K : Type 0} (p : Parties K) (side : Side) (history : List Item) (ask : Ask) (done : AskTurn)
+    (new : Transport K) (o : Outs) : Type 0 where
+  pub said : List Spelled
+  pub items : List Item
+  pub more : List ℕ
+  pub shows : AskShows ask done said items
+  pub turned : AskTurned p side history ask items more new
+  pub parts : o.after ≡ o.before ++ more
+  pub lists : o.relisted ≡ o.listed ++ payloads_of said
+
+-- ---- the opening
+
+-- the history of an end that put out its version line and its first KEXINIT
+abbrev pub opening : {K : Type 0} → Parties K → Side → (cookie secret payload : List ℕ) → List Item
+opening p side cookie secret payload =
+    Sent None (KexInit (offer p side true cookie)) payload ∷ SentLine (settings_of p side).line ∷ Fed cookie secret ∷ []
+
+-- What is kept sums up that history, and this was put out and listed.
+pub record IsOpening {K : Type 0} (p : Parties K) (side : Side) (cookie secret : List ℕ) (new : Transport K)
+    (o : Outs) : Type 0 where
+  pub payload : List ℕ
+  pub spelled : IsSpelled (KexInit (offer p side true cookie)) payload
+  pub sums : SumsUp p side (opening p side cookie secret payload) new
+  pub more : List ℕ
+  pub puts : PutsOut p side (opening p side cookie secret payload) more
+  pub parts : o.after ≡ o.before ++ more
+  pub lists : o.relisted ≡ o.listed ++ payload ∷ []
+
+-- ---- lines and packets
+
+-- The unit is this, and what is kept sums up the history with it.
+pub record IsLineItem {K : Type 0} (p : Parties K) (side : Side) (history : List Item) (bytes : List ℕ)
+    (outcome : List ℕ → Outcome) (item : List ℕ → Item) (new : Transport K) : Type 0 where
+  pub text : List ℕ
+  pub unit : IsUnit p.crypto (stage p side history) bytes (outcome text)
+  pub sums : SumsUp p side (item text ∷ history) new
+
+-- The line is refused, and nothing is said.
+pub record IsLineRefusal {K : Type 0} (p : Parties K) (side : Side) (history : List Item) (bytes : List ℕ)
+    (why : model.Refusal) (new : Transport K) : Type 0 where
+  pub unit : IsUnit p.crypto (stage p side history) bytes (RefusedLine why)
+  pub turned : UnitRefused p side history (refusal_items why None []) why [] new
+
+-- what a call made of the bytes of a line begun with those that it used
+abbrev pub LineTurnOf : {K : Type 0} → Parties K → Side → (history : List Item) → List ℕ → LineTurn → Transport K →
+    Type 0
+LineTurnOf p side history bytes line_turn.More new = SumsUp p side history new
+LineTurnOf p side history bytes line_turn.Other new = IsLineItem p side history bytes OtherLine TookOtherLine new
+LineTurnOf p side history bytes line_turn.Version new = IsLineItem p side history bytes VersionLine TookLine new
+LineTurnOf p side history bytes (line_turn.Refused why) new = IsLineRefusal p side history bytes (line_refusal why) new
+
+-- The unit is a packet of this payload, and what was done with that is a turn of a session, or it is left.
+pub record IsPayloadTurn {K : Type 0} (p : Parties K) (side : Side) (history : List Item) (s : Transport K)
+    (bytes : List ℕ) (done : PayloadTurn) (new : State K) (o : Outs) : Type 0 where
+  pub between : State K
+  pub unit : IsUnit p.crypto (stage p side history) bytes (Opens between.receiver.payload)
+  pub kept : between.kept ≡ after_taken s
+  pub turn : TurnOf p side history s between done new o
+
+-- Nothing but bytes of a packet was taken.
+pub record IsPacketBegunBy {K : Type 0} (p : Parties K) (s : Transport K) (bytes : List ℕ) (new : Transport K) (o : Outs) :
+    Type 0 where
+  pub begun : IsPacketBegun p.crypto s.taking.key s.taking.count bytes
+  pub after : new ≡ s
+  pub quiet : IsQuiet o
+
+-- The packet was refused.
+pub record IsPacketRefusal {K : Type 0} (p : Parties K) (side : Side) (history : List Item) (bytes : List ℕ)
+    (why : model.Refusal) (new : Transport K) (o : Outs) : Type 0 where
+  pub unit : IsUnit p.crypto (stage p side history) bytes (RefusedPacket why)
+  pub said : List Spelled
+  pub more : List ℕ
+  pub turned : UnitRefused p side history (refusal_items why None said) why more new
+  pub parts : o.after ≡ o.before ++ more
+  pub lists : o.relisted ≡ o.listed ++ payloads_of said
+
+-- what a call made of the bytes of a packet begun with those that it used
+abbrev pub PacketTurnOf : {K : Type 0} → Parties K → Side → (history : List Item) → Transport K → List ℕ → PacketTurn →
+    State K → Outs → Type 0
+PacketTurnOf p side history s bytes packet_turn.More new o = IsPacketBegunBy p s bytes new.kept o
+PacketTurnOf p side history s bytes (packet_turn.Refused why) new o =
+    IsPacketRefusal p side history bytes (refusal_of why) new.kept o
+PacketTurnOf p side history s bytes (packet_turn.Payload done) new o = IsPayloadTurn p side history s bytes done new o

@@ -1,0 +1,171 @@
+-- What an end does with a payload that it took, once it is judged.
+use Rattle.std.specs.Prelude.{◌≡◌, ℕ, ◌≤◌, ◌^◌, true, false, List, Some, None, codes}
+use Rattle.ssh_model.specs.Side.{Side.Client, Side.Server}
+use Rattle.ssh_model.specs.Wire.Message.{Msg, Msg.KexInit, Msg.ServiceAccept, Msg.Unimplemented}
+use Rattle.ssh_model.specs.Wire.Sealing.{Crypto}
+use Rattle.ssh_model.specs.KeyExchange.Exchanges.{Material}
+use Rattle.ssh_model.specs.Sessions.Parties.{offer_of}
+use Rattle.ssh_model.specs.Sessions.Phases as model
+use Rattle.ssh_model.specs.Sessions.Turns.{IsSpelled}
+use Rattle.ssh_model.specs.TransportLayer.Directions.{renewed}
+use Rattle.ssh_model.specs.TransportLayer.Kept.{Transport, after_sent}
+use Rattle.ssh_types.specs.Refusals.{refusal_of}
+use Rattle.ssh_types.specs.declared.refusal.Refusal.{Refusal}
+use Rattle.ssh_transport_base.specs.Directions.{Receives}
+use Rattle.ssh_transport_base.specs.declared.packets.step.PacketStep.{PacketStep}
+use Rattle.ssh_transport_base.specs.declared.packets.step.PacketStep.TheVariants as step
+use Rattle.ssh_transport_machine.specs.Judging.{PayloadJudged}
+use Rattle.ssh_transport_machine.specs.Offering.{OwnAnswered}
+use Rattle.ssh_transport_machine.specs.Puts.{Outs, Refuses, Sends}
+use Rattle.ssh_transport_machine.specs.State.{State, before_taken, last_number, noted}
+use Rattle.ssh_transport_machine.specs.declared.machine.judging.Judged.{Judged}
+use Rattle.ssh_transport_machine.specs.declared.machine.judging.Judged.TheVariants as judged
+use Rattle.ssh_transport_machine.specs.declared.machine.kexinit.KexinitFacts.{KexinitFacts}
+use Rattle.ssh_transport_machine.specs.declared.machine.turn.Answer.{Answer}
+use Rattle.ssh_transport_machine.specs.declared.machine.turn.Answer.TheVariants.{Done, Spent}
+use Rattle.ssh_transport_machine.specs.declared.machine.turn.PacketTurn.{PacketTurn}
+use Rattle.ssh_transport_machine.specs.declared.machine.turn.PacketTurn.TheVariants as packet_turn
+use Rattle.ssh_transport_machine.specs.declared.machine.turn.PayloadTurn.{PayloadTurn}
+use Rattle.ssh_transport_machine.specs.declared.machine.turn.PayloadTurn.TheVariants as turn
+
+-- ---- what is answered
+
+-- Nothing was put out.
+pub record IsQuiet (o : Outs) : Type 0 where
+  pub out : o.after ≡ o.before
+  pub sent : o.relisted ≡ o.listed
+
+-- The message was sent, and this is kept.
+pub record SentBy {K : Type 0} (c : Crypto K) (old : State K) (message : Msg) (kept : Transport K) (new : State K)
+    (o : Outs) : Type 0 where
+  pub sends : Sends c old.kept.sending message o
+  pub after : new ≡ record old { kept = kept }
+
+-- The message has a payload.
+pub record HasSpelling (message : Msg) : Type 0 where
+  pub payload : List ℕ
+  pub spelled : IsSpelled message payload
+
+-- No number was left for the message: nothing was put out, and the end is over.
+pub record SpentBy {K : Type 0} (old : State K) (message : Msg) (new : State K) (o : Outs) : Type 0 where
+  pub spelling : HasSpelling message
+  pub none_left : old.kept.sending.count ≡ 2 ^ 32
+  pub dead : new.kept.dead ≡ true
+  pub quiet : IsQuiet o
+
+-- The message was sent, and then this is kept, or no number was left for it.
+abbrev pub Answers : {K : Type 0} → Crypto K → State K → Msg → Transport K → Answer → State K → Outs → Type 0
+Answers c old message kept Done new o = SentBy c old message kept new o
+Answers c old message kept Spent new o = SpentBy old message new o
+
+-- ---- the rows of payloads
+
+-- The peer was refused.
+pub record RefusalDone {K : Type 0} (c : Crypto K) (old : State K) (judged why : Refusal) (new : State K)
+    (o : Outs) : Type 0 where
+  pub same : why ≡ judged
+  pub refuses : Refuses c old.kept (refusal_of judged) new.kept o
+
+-- Nothing was put out, and this is kept.
+pub record Becomes {K : Type 0} (old : State K) (kept : Transport K) (new : State K) (o : Outs) : Type 0 where
+  pub after : new ≡ record old { kept = kept }
+  pub quiet : IsQuiet o
+
+-- A server took a KEXINIT: after its own it keeps it, and else it answers it by its own, where a number is left.
+pub data KexinitDone {K : Type 0} (c : Crypto K) (old : State K) (facts : KexinitFacts) : Answer → State K → Outs →
+    Type 0 where
+  kept : {new : State K} {o : Outs} → old.kept.blocked ≡ true →
+      Becomes old (noted facts.wrong facts.strict facts.extensions old.receiver.payload old.kept) new o →
+      KexinitDone c old facts Done new o
+  answered : {new : State K} {o : Outs} (material : Material) → old.kept.blocked ≡ false →
+      old.kept.material ≡ Some material → OwnAnswered c old material facts new o → KexinitDone c old facts Done new o
+  spent : {new : State K} {o : Outs} (material : Material) → old.kept.blocked ≡ false →
+      old.kept.material ≡ Some material →
+      SpentBy old (KexInit (offer_of old.kept.settings old.kept.side false material.cookie)) new o →
+      KexinitDone c old facts Spent new o
+
+-- the same with the side: what a client does with it is for the client
+pub record ServerKexinit {K : Type 0} (c : Crypto K) (old : State K) (facts : KexinitFacts) (answer : Answer)
+    (new : State K) (o : Outs) : Type 0 where
+  pub side_is : old.kept.side ≡ Server
+  pub done : KexinitDone c old facts answer new o
+
+-- Nothing was done yet.
+pub record IsLeft {K : Type 0} (old : State K) (what judged : Judged) (new : State K) (o : Outs) : Type 0 where
+  pub same : judged ≡ what
+  pub after : new ≡ old
+  pub quiet : IsQuiet o
+
+-- A client's KEXINIT was left to it.
+pub record ClientKexinit {K : Type 0} (old : State K) (what judged : Judged) (new : State K) (o : Outs) : Type 0 where
+  pub side_is : old.kept.side ≡ Client
+  pub left : IsLeft old what judged new o
+
+-- Packets are taken under the key that was pending.
+pub record NewkeysTaken {K : Type 0} (old new : State K) : Type 0 where
+  pub key : K
+  pub pending : old.kept.pending ≡ Some key
+  pub after : new ≡ record old {
+    receiver = record old.receiver { direction = renewed old.kept.strict key old.receiver.direction };
+    kept = record old.kept {
+      taking = renewed old.kept.strict key old.receiver.direction;
+      phase = model.Phase.Normal;
+      pending = None;
+    };
+  }
+
+-- NEWKEYS was taken, and nothing was put out.
+pub record NewkeysDone {K : Type 0} (old new : State K) (o : Outs) : Type 0 where
+  pub taken : NewkeysTaken old new
+  pub quiet : IsQuiet o
+
+-- What was done with a payload that is this to the end, one clause a row.
+abbrev pub Does : {K : Type 0} → Crypto K → State K → Judged → PayloadTurn → State K → Outs → Type 0
+Does c old (judged.Refused r) (turn.Refused why) new o = RefusalDone c old r why new o
+Does c old judged.Skipped turn.Skipped new o = Becomes old (record old.kept { phase = model.Phase.Exchanging }) new o
+Does c old judged.Disconnected turn.Disconnected new o = Becomes old (record old.kept { dead = true }) new o
+Does c old judged.Told turn.Told new o = Becomes old old.kept new o
+-- RFC 4253 section 11.4: with the number of the packet
+Does c old judged.Unknown (turn.Unknown answer) new o =
+    Answers c old (Unimplemented (last_number old.kept.taking)) (after_sent old.kept) answer new o
+Does c old judged.ServiceRequested (turn.ServiceRequested answer) new o =
+    Answers c old (ServiceAccept (codes "ssh-userauth")) (record (after_sent old.kept) { requested = true }) answer new o
+Does c old judged.ServiceAccepted turn.ServiceAccepted new o =
+    Becomes old (record old.kept { accepted = true }) new o
+Does c old (judged.Kexinit facts) (turn.Kexinit answer) new o = ServerKexinit c old facts answer new o
+Does c old (judged.Kexinit facts) (turn.Left left) new o = ClientKexinit old (judged.Kexinit facts) left new o
+Does c old judged.NewKeys turn.NewKeys new o = NewkeysDone old new o
+Does c old judged.Init (turn.Left left) new o = IsLeft old judged.Init left new o
+Does c old judged.Reply (turn.Left left) new o = IsLeft old judged.Reply left new o
+Does c old judged.Above (turn.Left left) new o = IsLeft old judged.Above left new o
+Does c old _ _ new o = ⊥
+
+-- What was done with the payload that is shown: it was judged by what was kept before its packet was taken.
+pub record Turns {K : Type 0} (c : Crypto K) (old : State K) (done : PayloadTurn) (new : State K) (o : Outs) :
+    Type 0 where
+  pub directed : old.kept.taking ≡ old.receiver.direction
+  pub numbered : old.kept.taking.count ≤ 2 ^ 32
+  pub what : Judged
+  pub is_judged : PayloadJudged (before_taken old.kept) old.receiver.payload what
+  pub does : Does c old what done new o
+
+-- ---- a packet
+
+-- What was done with what was found: nothing yet, the peer was refused for it, or what its payload asks for.
+abbrev pub PacketDone : {K : Type 0} → Crypto K → State K → PacketStep → PacketTurn → State K → Outs → Type 0
+PacketDone c between step.More packet_turn.More new o = Becomes between between.kept new o
+PacketDone c between (step.Refused r) (packet_turn.Refused why) new o = RefusalDone c between r why new o
+PacketDone c between step.Payload (packet_turn.Payload done) new o = Turns c between done new o
+PacketDone c between _ _ new o = ⊥
+
+-- What a call made of the bytes of a packet begun with those that it used.
+pub record PacketTaken {K : Type 0} (c : Crypto K) (old : State K) (bytes : List ℕ) (done : PacketTurn) (new : State K)
+    (o : Outs) : Type 0 where
+  pub found : PacketStep
+  pub between : State K
+  pub receives : Receives c bytes old.receiver found between.receiver
+  pub rest : between ≡ record old {
+    receiver = between.receiver;
+    kept = record old.kept { taking = between.receiver.direction };
+  }
+  pub does : PacketDone c between found done new o

@@ -1,0 +1,172 @@
+//! What an end does on an ask of its user: for the service of authentication, for an exchange of keys, or to disconnect.
+
+ghost use Rattle.std.specs.Prelude.{◌≡◌, ◌≤◌, IfOk, OnErr, None, codes, length, map, true};
+ghost use Rattle.ssh_model.specs.Side.{Client};
+ghost use Rattle.ssh_model.specs.Wire.Message.{ServiceRequest};
+ghost use Rattle.ssh_model.specs.Sessions.Items.{AskDisconnect, AskRekey, AskService};
+ghost use Rattle.ssh_model.specs.Sessions.Refusals.{first_refusal};
+ghost use Rattle.ssh_model.specs.TransportLayer.Kept.{after_sent, message_ask_checks};
+ghost use Rattle.ssh_transport_machine.specs.Asking.{AskDone, DisconnectDone, OfferDone, refusal_with};
+ghost use Rattle.ssh_transport_machine.specs.Turning.{Answers};
+
+use crate::machine::Machine;
+use crate::machine::material::Material;
+use crate::machine::service::USERAUTH;
+use crate::machine::turn::{Answer, AskTurn};
+use ssh_message::Message;
+use ssh_packet::{Filler, Sealing};
+use ssh_types::{AskRefusal, Side};
+use std::alloc::AllocError;
+
+// The most bytes that the description of a DISCONNECT has.
+const LONGEST_DESCRIPTION: usize = 1024;
+
+impl<S: Sealing, F: Filler + Drop> Machine<S, F> {
+    // Asks for the service of authentication (RFC 4253 section 10). Where memory is refused nothing is put out, and the end is over.
+    pub fn ask_service(
+        &mut self,
+        out: &mut Vec<u8>,
+        sent: &mut Vec<Vec<u8>>,
+    ) -> Result<AskTurn, AllocError>
+        ensures done { IfOk result (λ turn. AskDone S.crypto self.old AskService turn self.new (record { before = out.old.items; after = out.new.items; listed = map (λ v. v.items) sent.old.items; relisted = map (λ v. v.items) sent.new.items })) }
+        ensures dead { OnErr result (self.new.kept.dead ≡ true) }
+        ensures out { OnErr result (out.new.items ≡ out.old.items) }
+        ensures kept { OnErr result (sent.new.items ≡ sent.old.items) }
+    {
+        if let Some(why) = self.judge_service_ask() {
+            return Ok(AskTurn::Refused(why));
+        }
+        Ok(AskTurn::Answered(self.request_service(out, sent)?))
+    }
+
+    // Begins an exchange of keys by this end's KEXINIT (RFC 4253 section 9). Where memory is refused nothing is put out, and the end
+    // is over.
+    pub fn ask_rekey(
+        &mut self,
+        out: &mut Vec<u8>,
+        sent: &mut Vec<Vec<u8>>,
+    ) -> Result<AskTurn, AllocError>
+        ensures done { IfOk result (λ turn. AskDone S.crypto self.old AskRekey turn self.new (record { before = out.old.items; after = out.new.items; listed = map (λ v. v.items) sent.old.items; relisted = map (λ v. v.items) sent.new.items })) }
+        ensures dead { OnErr result (self.new.kept.dead ≡ true) }
+        ensures out { OnErr result (out.new.items ≡ out.old.items) }
+        ensures kept { OnErr result (sent.new.items ≡ sent.old.items) }
+    {
+        if let Some(why) = self.judge_rekey_ask() {
+            return Ok(AskTurn::Refused(why));
+        }
+        match self.material {
+            Some(material) => Ok(AskTurn::Answered(self.offer(material, out, sent)?)),
+            None => unreachable!(),
+        }
+    }
+
+    // Sends DISCONNECT by the application, with this description and no language, and is over (RFC 4253 section 11.1). Where memory
+    // is refused nothing is put out, and the end is over too.
+    pub fn ask_disconnect(
+        &mut self,
+        description: &[u8],
+        out: &mut Vec<u8>,
+        sent: &mut Vec<Vec<u8>>,
+    ) -> Result<AskTurn, AllocError>
+        ensures done { IfOk result (λ turn. DisconnectDone S.crypto self.old description.now turn self.new (record { before = out.old.items; after = out.new.items; listed = map (λ v. v.items) sent.old.items; relisted = map (λ v. v.items) sent.new.items })) }
+        ensures dead { OnErr result (self.new.kept.dead ≡ true) }
+        ensures out { OnErr result (out.new.items ≡ out.old.items) }
+        ensures kept { OnErr result (sent.new.items ≡ sent.old.items) }
+    {
+        if description.len() > LONGEST_DESCRIPTION {
+            return Ok(AskTurn::Refused(AskRefusal::TooLong));
+        }
+        let farewell = Message::Disconnect {
+            reason: 11,
+            description,
+            language: b"",
+        };
+        let answer = self.answer(&farewell, out, sent)?;
+        self.dead = true;
+        Ok(AskTurn::Answered(answer))
+    }
+
+    // Why an ask for the service is refused.
+    fn judge_service_ask(&self) -> Option<AskRefusal>
+        ensures { first_refusal (message_ask_checks self.now.kept AskService) ≡ refusal_with result }
+    {
+        match self.side {
+            Side::Client => self.judge_clients_ask(),
+            Side::Server => Some(AskRefusal::WrongSide),
+        }
+    }
+
+    // The same at a client.
+    fn judge_clients_ask(&self) -> Option<AskRefusal>
+        requires { self.now.kept.side ≡ Client }
+        ensures { first_refusal (message_ask_checks self.now.kept AskService) ≡ refusal_with result }
+    {
+        if self.taking.epoch() == 0 {
+            return Some(AskRefusal::NotYet);
+        }
+        if self.requested {
+            return Some(AskRefusal::Busy);
+        }
+        None
+    }
+
+    // Why an ask for an exchange of keys is refused.
+    fn judge_rekey_ask(&self) -> Option<AskRefusal>
+        ensures { first_refusal (message_ask_checks self.now.kept AskRekey) ≡ refusal_with result }
+    {
+        if !self.authenticated {
+            return Some(AskRefusal::NotYet);
+        }
+        if self.blocked {
+            return Some(AskRefusal::Busy);
+        }
+        if !self.is_normal() {
+            return Some(AskRefusal::Busy);
+        }
+        if !self.has_material() {
+            return Some(AskRefusal::NoMaterial);
+        }
+        None
+    }
+
+    // Asks for the service where a number is left for it.
+    fn request_service(
+        &mut self,
+        out: &mut Vec<u8>,
+        sent: &mut Vec<Vec<u8>>,
+    ) -> Result<Answer, AllocError>
+        ensures answers { IfOk result (λ answer. Answers S.crypto self.old (ServiceRequest (codes "ssh-userauth")) (record (after_sent self.old.kept) { requested = true }) answer self.new (record { before = out.old.items; after = out.new.items; listed = map (λ v. v.items) sent.old.items; relisted = map (λ v. v.items) sent.new.items })) }
+        ensures dead { OnErr result (self.new.kept.dead ≡ true) }
+        ensures out { OnErr result (out.new.items ≡ out.old.items) }
+        ensures kept { OnErr result (sent.new.items ≡ sent.old.items) }
+    {
+        let request = Message::ServiceRequest { service: USERAUTH };
+        match self.answer(&request, out, sent)? {
+            Answer::Done => {
+                self.requested = true;
+                Ok(Answer::Done)
+            }
+            Answer::Spent => Ok(Answer::Spent),
+        }
+    }
+
+    // Sends this end's KEXINIT with a pair of cookie and secret where a number is left for it.
+    fn offer(
+        &mut self,
+        material: Material,
+        out: &mut Vec<u8>,
+        sent: &mut Vec<Vec<u8>>,
+    ) -> Result<Answer, AllocError>
+        ensures done { IfOk result (λ answer. OfferDone S.crypto self.old (record { cookie = material.cookie; secret = material.secret }) answer self.new (record { before = out.old.items; after = out.new.items; listed = map (λ v. v.items) sent.old.items; relisted = map (λ v. v.items) sent.new.items })) }
+        ensures dead { OnErr result (self.new.kept.dead ≡ true) }
+        ensures out { OnErr result (out.new.items ≡ out.old.items) }
+        ensures kept { OnErr result (sent.new.items ≡ sent.old.items) }
+    {
+        if self.is_spent() {
+            self.spend_on_kexinit(&material.cookie)?;
+            return Ok(Answer::Spent);
+        }
+        self.send_kexinit(material, out, sent)?;
+        Ok(Answer::Done)
+    }
+}

@@ -1,0 +1,125 @@
+//! A new end: its version line, and its first KEXINIT (RFC 4253 sections 4.2 and 7.1).
+
+ghost use Rattle.std.specs.Prelude.{◌≡◌, ◌<◌, ◌++◌, ◌^◌, IfOk, OnErr, OnOk, map};
+ghost use Rattle.ssh_model.specs.Sessions.Phases.{is_client};
+ghost use Rattle.ssh_model.specs.Wire.Line.{line_end};
+ghost use Rattle.ssh_types.specs.Sides.{side_of};
+ghost use Rattle.ssh_transport_base.specs.Meaning.{settings_of};
+ghost use Rattle.ssh_transport_machine.specs.Opening.{IsBegun, IsOpened, unopened};
+
+use crate::machine::kexinit_payload::KexinitPayload;
+use crate::machine::{Machine, Phase};
+use ssh_packet::{Filler, LineReader, Sealing};
+use ssh_transport_base::{Config, PacketReceiver, PacketSender};
+use ssh_types::Side;
+use std::alloc::{AllocError, Global};
+
+impl<S: Sealing, F: Filler + Drop> Machine<S, F> {
+    // An end of this side that put out its version line and its first KEXINIT, with this cookie and the secret of its point. It
+    // has room for the peer's line, for packets and for both KEXINITs of an exchange from then on. Where memory is refused nothing is
+    // put out, and the parts are dropped.
+    pub fn new(
+        alloc: Global,
+        side: Side,
+        config: Config<S>,
+        filler: F,
+        cookie: [u8; 16],
+        secret: [u8; 32],
+        out: &mut Vec<u8>,
+        sent: &mut Vec<Vec<u8>>,
+    ) -> Result<Machine<S, F>, AllocError>
+        ensures opened { IfOk result (λ machine. IsOpened S.crypto (settings_of config) (side_of side) cookie secret machine (record { before = out.old.items; after = out.new.items; listed = map (λ v. v.items) sent.old.items; relisted = map (λ v. v.items) sent.new.items })) }
+        ensures out { OnErr result (out.new.items ≡ out.old.items) }
+        ensures kept { OnErr result (sent.new.items ≡ sent.old.items) }
+    {
+        let mut machine = Machine::unopened(alloc, side, config, filler, secret)?;
+        machine.begin(&cookie, out, sent)?;
+        Ok(machine)
+    }
+
+    // The same before anything was put out.
+    fn unopened(
+        alloc: Global,
+        side: Side,
+        config: Config<S>,
+        filler: F,
+        secret: [u8; 32],
+    ) -> Result<Machine<S, F>, AllocError>
+        ensures { IfOk result (λ machine. machine ≡ unopened (settings_of config) (side_of side) secret) }
+    {
+        let taking = PacketReceiver::new(alloc)?;
+        let own = KexinitPayload::new(alloc)?;
+        let theirs = KexinitPayload::new(alloc)?;
+        Ok(Machine {
+            alloc,
+            side,
+            config,
+            filler,
+            lines: LineReader::new(reads_server(side)),
+            sending: PacketSender::new(),
+            taking,
+            pending: None,
+            phase: Phase::Start,
+            blocked: true,
+            own,
+            theirs,
+            secret,
+            material: None,
+            fed: 1,
+            session: None,
+            strict: false,
+            peer_takes_extensions: false,
+            requested: false,
+            accepted: false,
+            authenticated: false,
+            dead: false,
+        })
+    }
+
+    // Puts out the version line and the first KEXINIT, or nothing.
+    fn begin(
+        &mut self,
+        cookie: &[u8; 16],
+        out: &mut Vec<u8>,
+        sent: &mut Vec<Vec<u8>>,
+    ) -> Result<(), AllocError>
+        requires left { self.old.kept.sending.count < 2 ^ 32 }
+        ensures begun { OnOk result (IsBegun S.crypto self.old cookie.now self.new (record { before = out.old.items; after = out.new.items; listed = map (λ v. v.items) sent.old.items; relisted = map (λ v. v.items) sent.new.items })) }
+        ensures out { OnErr result (out.new.items ≡ out.old.items) }
+        ensures kept { OnErr result (sent.new.items ≡ sent.old.items) }
+    {
+        let bytes = out.len();
+        let payload = self.spell_kexinit(true, cookie)?;
+        put_line(self.config.line(), out)?;
+        self.own.set(&payload);
+        if let Err(error) = self.put(payload, out, sent) {
+            out.truncate(bytes);
+            return Err(error);
+        }
+        Ok(())
+    }
+}
+
+// Puts a line with CR LF at the end, or leaves the bytes as they were.
+fn put_line(line: &[u8], out: &mut Vec<u8>) -> Result<(), AllocError>
+    ensures put { OnOk result (out.new.items ≡ out.old.items ++ (line.now ++ line_end)) }
+    ensures kept { OnErr result (out.new.items ≡ out.old.items) }
+{
+    let bytes = out.len();
+    out.extend_from_slice(line)?;
+    if let Err(error) = out.extend_from_slice(b"\r\n") {
+        out.truncate(bytes);
+        return Err(error);
+    }
+    Ok(())
+}
+
+// The lines are those of a server.
+fn reads_server(side: Side) -> bool
+    ensures { result ≡ is_client (side_of side) }
+{
+    match side {
+        Side::Client => true,
+        Side::Server => false,
+    }
+}

@@ -1,0 +1,62 @@
+//! What an end shows. No call needs memory.
+
+ghost use Rattle.std.specs.Prelude.{◌≡◌, ◌≤◌, length, nat_le};
+ghost use Rattle.std.specs.Option.{option_copied};
+ghost use Rattle.ssh_transport_base.specs.Directions.{next_number};
+
+use crate::machine::Machine;
+use ssh_packet::{Filler, Sealing};
+
+impl<S: Sealing, F: Filler + Drop> Machine<S, F> {
+    // The payload that was taken last.
+    pub fn payload(&self) -> &[u8]
+        ensures payload { result.now ≡ self.now.receiver.payload }
+        ensures most { length self.now.receiver.payload ≤ 35000 }
+    {
+        self.taking.payload()
+    }
+
+    // The sequence numbers of the next packets, to be sent and to be taken; 2^32 where an epoch has had all of them.
+    pub fn numbers(&self) -> (u64, u64)
+        ensures sending { result.0 ≡ next_number self.now.kept.sending }
+        ensures taking { result.1 ≡ next_number self.now.kept.taking }
+    {
+        (self.sending.number(), self.taking.number())
+    }
+
+    // How many NEWKEYS were sent and taken.
+    pub fn epochs(&self) -> (u32, u32)
+        ensures sending { result.0 ≡ self.now.kept.sending.epoch }
+        ensures taking { result.1 ≡ self.now.kept.taking.epoch }
+    {
+        (self.sending.epoch(), self.taking.epoch())
+    }
+
+    // Tests whether this end sent its KEXINIT, and not yet its NEWKEYS.
+    pub fn is_blocked(&self) -> bool
+        ensures { result ≡ self.now.kept.blocked }
+    {
+        self.blocked
+    }
+
+    // Tests whether so many packets were sent in this epoch that the next exchange of keys is due.
+    pub fn is_rekey_due(&self) -> bool
+        ensures { result ≡ nat_le self.now.kept.settings.epoch_limit self.now.kept.sending.count }
+    {
+        u64::from(self.config.epoch_limit()) <= self.sending.count()
+    }
+
+    // The id of the session, once an exchange of keys was completed.
+    pub fn session_id(&self) -> Option<&[u8; 32]>
+        ensures { option_copied result ≡ self.now.kept.session }
+    {
+        self.session.as_ref()
+    }
+
+    // Tests whether the user is authenticated.
+    pub fn is_authenticated(&self) -> bool
+        ensures { result ≡ self.now.kept.authenticated }
+    {
+        self.authenticated
+    }
+}

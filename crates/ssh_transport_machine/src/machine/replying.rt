@@ -1,0 +1,87 @@
+//! Messages that an end sends where a number is left for them.
+
+ghost use Rattle.std.specs.Prelude.{◌≡◌, ◌≤◌, IfOk, OnErr, codes, length, map, true};
+ghost use Rattle.ssh_model.specs.Wire.Message.{FitsContext, ServiceAccept, Unimplemented};
+ghost use Rattle.ssh_model.specs.Wire.Sizes.{payload_size};
+ghost use Rattle.ssh_model.specs.TransportLayer.Kept.{after_sent};
+ghost use Rattle.ssh_message.specs.Meaning.{meaning};
+ghost use Rattle.ssh_message.specs.Written.{Fits};
+ghost use Rattle.ssh_transport_machine.specs.State.{dead_state, last_number};
+ghost use Rattle.ssh_transport_machine.specs.Turning.{Answers};
+
+use crate::machine::Machine;
+use crate::machine::service::USERAUTH;
+use crate::machine::turn::Answer;
+use ssh_message::Message;
+use ssh_packet::{Filler, Sealing};
+use std::alloc::AllocError;
+
+impl<S: Sealing, F: Filler + Drop> Machine<S, F> {
+    // Sends a message where a number is left for it, and else is over. Where memory is refused nothing is put out, and the end is
+    // over.
+    pub fn answer(
+        &mut self,
+        message: &Message<'_>,
+        out: &mut Vec<u8>,
+        sent: &mut Vec<Vec<u8>>,
+    ) -> Result<Answer, AllocError>
+        requires fits { Fits message.now }
+        requires context { FitsContext true (meaning message.now) }
+        requires most { payload_size (meaning message.now) ≤ 34000 }
+        ensures answers { IfOk result (λ answer. Answers S.crypto self.old (meaning message.now) (after_sent self.old.kept) answer self.new (record { before = out.old.items; after = out.new.items; listed = map (λ v. v.items) sent.old.items; relisted = map (λ v. v.items) sent.new.items })) }
+        ensures dead { OnErr result (self.new ≡ dead_state self.old) }
+        ensures out { OnErr result (out.new.items ≡ out.old.items) }
+        ensures kept { OnErr result (sent.new.items ≡ sent.old.items) }
+    {
+        match self.spell(message) {
+            Ok(payload) => {
+                if self.is_spent() {
+                    self.dead = true;
+                    return Ok(Answer::Spent);
+                }
+                self.put(payload, out, sent)?;
+                Ok(Answer::Done)
+            }
+            Err(error) => {
+                self.dead = true;
+                Err(error)
+            }
+        }
+    }
+
+    // Says that the packet whose payload is shown wasn't understood (RFC 4253 section 11.4).
+    pub fn reply_unknown(
+        &mut self,
+        out: &mut Vec<u8>,
+        sent: &mut Vec<Vec<u8>>,
+    ) -> Result<Answer, AllocError>
+        ensures answers { IfOk result (λ answer. Answers S.crypto self.old (Unimplemented (last_number self.old.kept.taking)) (after_sent self.old.kept) answer self.new (record { before = out.old.items; after = out.new.items; listed = map (λ v. v.items) sent.old.items; relisted = map (λ v. v.items) sent.new.items })) }
+        ensures dead { OnErr result (self.new.kept.dead ≡ true) }
+        ensures out { OnErr result (out.new.items ≡ out.old.items) }
+        ensures kept { OnErr result (sent.new.items ≡ sent.old.items) }
+    {
+        let number = self.taking.last_number();
+        self.answer(&Message::Unimplemented { number }, out, sent)
+    }
+
+    // Grants the service that a client asked for.
+    pub fn accept_service(
+        &mut self,
+        out: &mut Vec<u8>,
+        sent: &mut Vec<Vec<u8>>,
+    ) -> Result<Answer, AllocError>
+        ensures answers { IfOk result (λ answer. Answers S.crypto self.old (ServiceAccept (codes "ssh-userauth")) (record (after_sent self.old.kept) { requested = true }) answer self.new (record { before = out.old.items; after = out.new.items; listed = map (λ v. v.items) sent.old.items; relisted = map (λ v. v.items) sent.new.items })) }
+        ensures dead { OnErr result (self.new.kept.dead ≡ true) }
+        ensures out { OnErr result (out.new.items ≡ out.old.items) }
+        ensures kept { OnErr result (sent.new.items ≡ sent.old.items) }
+    {
+        let accept = Message::ServiceAccept { service: USERAUTH };
+        match self.answer(&accept, out, sent)? {
+            Answer::Done => {
+                self.requested = true;
+                Ok(Answer::Done)
+            }
+            Answer::Spent => Ok(Answer::Spent),
+        }
+    }
+}

@@ -1,0 +1,80 @@
+//! What a server does with a client's KEXINIT.
+
+ghost use Rattle.std.specs.Prelude.{◌≡◌, IfOk, None, OnErr, OnOk, false, map, true};
+ghost use Rattle.ssh_model.specs.Wire.Message.{KexInit};
+ghost use Rattle.ssh_model.specs.Sessions.Parties.{offer_of};
+ghost use Rattle.ssh_transport_machine.specs.State.{dead_state};
+ghost use Rattle.ssh_transport_machine.specs.Turning.{Does, HasSpelling, KexinitDone};
+ghost use Rattle.ssh_transport_machine.specs.declared.machine.judging.Judged.TheVariants as judgement;
+
+use crate::machine::Machine;
+use crate::machine::judging::Judged;
+use crate::machine::kexinit::KexinitFacts;
+use crate::machine::turn::{Answer, PayloadTurn};
+use ssh_packet::{Filler, Sealing};
+use ssh_types::Side;
+use std::alloc::AllocError;
+
+impl<S: Sealing, F: Filler + Drop> Machine<S, F> {
+    // A KEXINIT that nothing refuses: a server takes it, and a client's answer is left to it.
+    pub fn act_on_kexinit(
+        &mut self,
+        facts: KexinitFacts,
+        out: &mut Vec<u8>,
+        sent: &mut Vec<Vec<u8>>,
+    ) -> Result<PayloadTurn, AllocError>
+        requires { self.old.kept.blocked ≡ false → self.old.kept.material ≡ None → ⊥ }
+        ensures does { IfOk result (λ done. Does S.crypto self.old (judgement.Kexinit facts) done self.new (record { before = out.old.items; after = out.new.items; listed = map (λ v. v.items) sent.old.items; relisted = map (λ v. v.items) sent.new.items })) }
+        ensures dead { OnErr result (self.new.kept.dead ≡ true) }
+        ensures out { OnErr result (out.new.items ≡ out.old.items) }
+        ensures kept { OnErr result (sent.new.items ≡ sent.old.items) }
+    {
+        match self.side {
+            Side::Client => Ok(PayloadTurn::Left(Judged::Kexinit(facts))),
+            Side::Server => Ok(PayloadTurn::Kexinit(self.serve_kexinit(facts, out, sent)?)),
+        }
+    }
+
+    // A server takes a KEXINIT, and answers it by its own where it had sent none.
+    fn serve_kexinit(
+        &mut self,
+        facts: KexinitFacts,
+        out: &mut Vec<u8>,
+        sent: &mut Vec<Vec<u8>>,
+    ) -> Result<Answer, AllocError>
+        requires { self.old.kept.blocked ≡ false → self.old.kept.material ≡ None → ⊥ }
+        ensures done { IfOk result (λ answer. KexinitDone S.crypto self.old facts answer self.new (record { before = out.old.items; after = out.new.items; listed = map (λ v. v.items) sent.old.items; relisted = map (λ v. v.items) sent.new.items })) }
+        ensures dead { OnErr result (self.new.kept.dead ≡ true) }
+        ensures out { OnErr result (out.new.items ≡ out.old.items) }
+        ensures kept { OnErr result (sent.new.items ≡ sent.old.items) }
+    {
+        if self.blocked {
+            self.note_kexinit(facts);
+            return Ok(Answer::Done);
+        }
+        match self.material {
+            Some(material) => {
+                if self.is_spent() {
+                    self.spend_on_kexinit(&material.cookie)?;
+                    return Ok(Answer::Spent);
+                }
+                self.answer_by_own(facts, material, out, sent)?;
+                Ok(Answer::Done)
+            }
+            None => unreachable!(),
+        }
+    }
+
+    // No number is left for a KEXINIT of this end with this cookie: the end is over.
+    pub fn spend_on_kexinit(&mut self, cookie: &[u8; 16]) -> Result<(), AllocError>
+        ensures spelled { OnOk result (HasSpelling (KexInit (offer_of self.old.kept.settings self.old.kept.side false cookie.now))) }
+        ensures dead { self.new ≡ dead_state self.old }
+    {
+        let spelled = self.spell_kexinit(false, cookie);
+        self.dead = true;
+        match spelled {
+            Ok(_) => Ok(()),
+            Err(error) => Err(error),
+        }
+    }
+}

@@ -1,0 +1,99 @@
+//! What an end does with a payload that it took: the rows that both roles share.
+
+ghost use Rattle.std.specs.Prelude.{◌≡◌, ◌≤◌, ◌^◌, IfOk, OnErr, map, true};
+ghost use Rattle.ssh_transport_machine.specs.Judging.{PayloadJudged};
+ghost use Rattle.ssh_transport_machine.specs.State.{IsLive, before_taken};
+ghost use Rattle.ssh_transport_machine.specs.Turning.{Does, NewkeysTaken, Turns};
+ghost use Rattle.ssh_transport_machine.specs.declared.machine.judging.Judged.TheVariants as judgement;
+
+use crate::machine::judging::Judged;
+use crate::machine::turn::PayloadTurn;
+use crate::machine::{Machine, Phase};
+use ssh_packet::{Filler, Sealing};
+use std::alloc::AllocError;
+
+impl<S: Sealing, F: Filler + Drop> Machine<S, F> {
+    // Does what the payload that is shown asks for; what only one role does with it is left. Where memory is refused nothing is
+    // put out, and the end is over.
+    pub fn turn(
+        &mut self,
+        out: &mut Vec<u8>,
+        sent: &mut Vec<Vec<u8>>,
+    ) -> Result<PayloadTurn, AllocError>
+        requires live { IsLive self.old }
+        requires taken { 1 ≤ self.old.kept.taking.count }
+        ensures turns { IfOk result (λ done. Turns S.crypto self.old done self.new (record { before = out.old.items; after = out.new.items; listed = map (λ v. v.items) sent.old.items; relisted = map (λ v. v.items) sent.new.items })) }
+        ensures dead { OnErr result (self.new.kept.dead ≡ true) }
+        ensures out { OnErr result (out.new.items ≡ out.old.items) }
+        ensures kept { OnErr result (sent.new.items ≡ sent.old.items) }
+    {
+        self.few_packets();
+        let judged = self.judge();
+        self.act(judged, out, sent)
+    }
+
+    // An epoch has no more packets than there are numbers: a fact for proofs.
+    fn few_packets(&self)
+        ensures { self.now.kept.taking.count ≤ 2 ^ 32 }
+    {
+        self.taking.count();
+    }
+
+    // Does what a payload asks for that was judged so.
+    fn act(
+        &mut self,
+        judged: Judged,
+        out: &mut Vec<u8>,
+        sent: &mut Vec<Vec<u8>>,
+    ) -> Result<PayloadTurn, AllocError>
+        requires live { IsLive self.old }
+        requires taken { 1 ≤ self.old.kept.taking.count }
+        requires judged { PayloadJudged (before_taken self.old.kept) self.old.receiver.payload judged }
+        ensures does { IfOk result (λ done. Does S.crypto self.old judged done self.new (record { before = out.old.items; after = out.new.items; listed = map (λ v. v.items) sent.old.items; relisted = map (λ v. v.items) sent.new.items })) }
+        ensures dead { OnErr result (self.new.kept.dead ≡ true) }
+        ensures out { OnErr result (out.new.items ≡ out.old.items) }
+        ensures kept { OnErr result (sent.new.items ≡ sent.old.items) }
+    {
+        match judged {
+            Judged::Refused(why) => {
+                self.refuse(why, out, sent)?;
+                Ok(PayloadTurn::Refused(why))
+            }
+            Judged::Skipped => {
+                self.phase = Phase::Exchanging;
+                Ok(PayloadTurn::Skipped)
+            }
+            Judged::Disconnected => {
+                self.dead = true;
+                Ok(PayloadTurn::Disconnected)
+            }
+            Judged::Told => Ok(PayloadTurn::Told),
+            Judged::Unknown => Ok(PayloadTurn::Unknown(self.reply_unknown(out, sent)?)),
+            Judged::ServiceRequested => Ok(PayloadTurn::ServiceRequested(self.accept_service(
+                out, sent,
+            )?)),
+            Judged::ServiceAccepted => {
+                self.accepted = true;
+                Ok(PayloadTurn::ServiceAccepted)
+            }
+            Judged::Kexinit(facts) => self.act_on_kexinit(facts, out, sent),
+            Judged::NewKeys => {
+                self.begin_epoch();
+                Ok(PayloadTurn::NewKeys)
+            }
+            Judged::Init => Ok(PayloadTurn::Left(Judged::Init)),
+            Judged::Reply => Ok(PayloadTurn::Left(Judged::Reply)),
+            Judged::Above => Ok(PayloadTurn::Left(Judged::Above)),
+        }
+    }
+
+    // Takes NEWKEYS where the payload that is shown is judged so.
+    fn begin_epoch(&mut self)
+        requires live { IsLive self.old }
+        requires taken { 1 ≤ self.old.kept.taking.count }
+        requires judged { PayloadJudged (before_taken self.old.kept) self.old.receiver.payload judgement.NewKeys }
+        ensures { NewkeysTaken self.old self.new }
+    {
+        self.take_newkeys();
+    }
+}
