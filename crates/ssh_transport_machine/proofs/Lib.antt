@@ -4,11 +4,13 @@ pub mod LineTurns
 pub mod Kexinits
 pub mod Sending
 pub mod Sharing
-pub mod Lifting
-pub mod AskLaws
-pub mod Units
-pub mod Replying
 pub mod Announcing
 pub mod Finishing
 pub mod Endings
 pub mod Choosing
+pub mod Lifting
+pub mod AskLaws
+pub mod Units
+pub mod Newkeys
+pub mod Replying
+pub mod Living

@@ -132,32 +132,13 @@ kexinit_pair {K} s payload what facts e is free none = go (subst (λ (j : Judged
 
 -- ---- NEWKEYS
 
--- where it is awaited, and its payload
-pub record NewkeysShown {K : Type 0} (s : Transport K) (payload : List ℕ) : Type 0 where
-  pub phase : s.phase ≡ model.Phase.Keying
-  pub payload_is : payload ≡ newkeys
-
-newkeys_payload : (payload : List ℕ) → IsPayload false NewKeys payload → payload ≡ newkeys
-newkeys_payload payload x = x.row.parts ∙ (λ i. x.row.first i ++ x.row.second i)
-
-pub newkeys_shown : {K : Type 0} (s : Transport K) (payload : List ℕ) → PayloadJudged (before_taken s) payload judged.NewKeys → NewkeysShown s payload
-newkeys_shown {K} s payload (judging.PayloadJudged.read message below taken no_guess is so) = go message is so
-  where
-    go : (message : Msg) → IsPayload false message payload → MessageJudged (before_taken s) message judged.NewKeys → NewkeysShown s payload
-    go message is (judging.MessageJudged.requested service given) = absurd given
-    go message is (judging.MessageJudged.accepted service given) = absurd given
-    go message is judging.MessageJudged.newkeys = record {
-      phase = newkeys_awaited (before_taken s) s.phase no_guess (subst (λ (n : ℕ). takes_in s.phase (before_taken s) n ≡ true) (ap number_of (newkeys_payload payload is)) taken);
-      payload_is = newkeys_payload payload is;
-    }
-
 few_epochs : (come gone fed : ℕ) (b d e : ℕ) → b ≡ 1 → come + b ≤ gone → gone + (d + e) ≤ fed → fed ≤ 2 ^ 32 - 1 → come < 2 ^ 32 - 1
 few_epochs come gone fed b d e one x y z = omega (arith, one, x, y, z)
 
 pub epoch_left : {K : Type 0} (s : State K) → IsLive s → s.kept.phase ≡ model.Phase.Keying → s.receiver.direction.epoch < 2 ^ 32 - 1
 epoch_left {K} s live here =
     subst (λ (d : Direction K). d.epoch < 2 ^ 32 - 1) live.taking
-    (few_epochs _ _ _ _ _ _ (ap (λ (ph : model.Phase). bit (is_keying ph)) here) live.taken_epochs live.sent_epochs live.fed)
+    (few_epochs _ _ _ _ _ _ (ap (λ (ph : model.Phase). bit (is_keying ph)) here) live.kept.taken_epochs live.kept.sent_epochs live.kept.fed)
 
 pub newkeys_taken : {K : Type 0} (old new : State K) → (old.kept.pending ≡ None → ⊥) →
     ((key : K) → old.kept.pending ≡ Some key → new ≡ record old { receiver = record old.receiver { direction = renewed old.kept.strict key old.receiver.direction }; kept = record old.kept { taking = renewed old.kept.strict key old.receiver.direction; phase = model.Phase.Normal; pending = None } }) → NewkeysTaken old new

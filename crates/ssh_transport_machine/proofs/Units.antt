@@ -12,7 +12,7 @@ use Rattle.ssh_model.specs.Sessions.Phases.{has_line, is_client}
 use Rattle.ssh_model.specs.Sessions.Refusals.{Refusal, refusal_reason}
 use Rattle.ssh_model.specs.Sessions.Turns.{stage}
 use Rattle.ssh_model.specs.TransportLayer.Directions.{Direction, counted}
-use Rattle.ssh_model.specs.TransportLayer.Kept.{Transport, after_line, after_other_line, new_transport}
+use Rattle.ssh_model.specs.TransportLayer.Kept.{Transport, after_line, after_other_line, after_taken, new_transport}
 use Rattle.ssh_model.specs.TransportLayer.Summary.{SumsUp}
 use Rattle.ssh_model.specs.TransportLayer.Turns as turns
 use Rattle.ssh_model.specs.TransportLayer.Turns.{SaysWhy, UnitRefused, refusal_items}
@@ -20,16 +20,21 @@ use Rattle.ssh_packet.specs.Refusals.{line_refusal}
 use Rattle.ssh_packet.specs.declared.refusal.LineRefusal.{LineRefusal}
 use Rattle.ssh_packet.specs.declared.refusal.LineRefusal.TheVariants as line
 use Rattle.ssh_types.specs.Refusals.{refusal_of}
+use Rattle.ssh_types.specs.declared.refusal.Refusal.{Refusal as Refused}
 use Rattle.ssh_transport_base.specs.Directions.{Receiver, Receives}
 use Rattle.ssh_transport_base.specs.declared.packets.step.PacketStep.{PacketStep}
 use Rattle.ssh_transport_base.specs.declared.packets.step.PacketStep.TheVariants as step
 use Rattle.ssh_transport_machine.specs.LineTurns.{LineTaken}
 use Rattle.ssh_transport_machine.specs.Opening.{IsOpened}
 use Rattle.ssh_transport_machine.specs.Puts.{Outs}
-use Rattle.ssh_transport_machine.specs.Shown.{IsOpening, LineTurnOf, PacketStepOf, opening}
+use Rattle.ssh_transport_machine.specs.Shown.{IsOpening, LineTurnOf, PacketTurnOf, opening}
 use Rattle.ssh_transport_machine.specs.State.{IsLive, State}
+use Rattle.ssh_transport_machine.specs.Turning.{Becomes, PacketDone, PacketTaken, RefusalDone}
 use Rattle.ssh_transport_machine.specs.declared.machine.line_turn.LineTurn.{LineTurn}
 use Rattle.ssh_transport_machine.specs.declared.machine.line_turn.LineTurn.TheVariants as turn
+use Rattle.ssh_transport_machine.specs.declared.machine.turn.PacketTurn.{PacketTurn}
+use Rattle.ssh_transport_machine.specs.declared.machine.turn.PacketTurn.TheVariants as packet_turn
+use Rattle.ssh_transport_machine.proofs.Lifting.{PayloadLaws, turns_lifted}
 
 -- ---- the laws of the model
 
@@ -49,8 +54,8 @@ module _ {K : Type 0} (laws : UnitLaws K) (p : Parties K) (side : Side) (h : Lis
     unit_by : (bytes : List ℕ) (outcome : Outcome) → LineUnit old.reading.from_server old.reading.others bytes outcome → IsUnit p.crypto (stage p side h) bytes outcome
     unit_by bytes outcome x =
         laws.lines p side h old.kept sums alive none_found bytes outcome
-        (subst (λ (b : Bool). LineUnit b old.kept.lines.others bytes outcome) live.from_peer
-        (subst (λ (n : ℕ). LineUnit old.reading.from_server n bytes outcome) (sym (ap (λ l. l.others) live.lines)) x))
+        (subst (λ (b : Bool). LineUnit b old.kept.lines.others bytes outcome) (live.lines none_found).from_peer
+        (subst (λ (n : ℕ). LineUnit old.reading.from_server n bytes outcome) (sym (live.lines none_found).others) x))
 
     pub line_lifted : (bytes : List ℕ) (done : LineTurn) (new : State K) → LineTaken old bytes done new → LineTurnOf p side h bytes done new.kept
     line_lifted bytes turn.More new x = subst (λ (t : State K). SumsUp p side h t.kept) (sym x.after) sums
@@ -84,26 +89,43 @@ module _ {K : Type 0} (laws : UnitLaws K) (p : Parties K) (side : Side) (h : Lis
     said_by : (why : Refusal) (between : Transport K) (said : List Spelled) (more : List ℕ) → between ≡ old.kept → SaysWhy p.crypto between why said more → SaysWhy p.crypto old.kept why said more
     said_by why between said more e x = subst (λ (t : Transport K). SaysWhy p.crypto t why said more) e x
 
-    pub packet_lifted : (bytes : List ℕ) (found : PacketStep) (receiver : Receiver K) (new : State K) → Receives p.crypto bytes old.receiver found receiver → new ≡ record old { receiver = receiver; kept = record old.kept { taking = receiver.direction } } →
-        PacketStepOf p side h old.kept bytes found receiver.payload new.kept
-    packet_lifted bytes step.Payload receiver new x e = record {
-      unit = packet_by bytes (Outcome.Opens receiver.payload) x.0;
-      after = taking_by receiver new e ∙ (λ i. record old.kept { taking = (ap (λ (r : Receiver K). r.direction) x.1 ∙ ap (λ (d : Direction K). counted d) (sym live.taking)) i });
-    }
-    packet_lifted bytes step.More receiver new x e = record {
+    more_lifted : (bytes : List ℕ) (between new : State K) (o : Outs) → Receives p.crypto bytes old.receiver step.More between.receiver → between ≡ record old { receiver = between.receiver; kept = record old.kept { taking = between.receiver.direction } } → Becomes between between.kept new o →
+        PacketTurnOf p side h old.kept bytes packet_turn.More new o
+    more_lifted bytes between new o x e y = record {
       begun = subst (λ (d : Direction K). IsPacketBegun p.crypto d.key d.count bytes) (sym live.taking) x.0;
-      after = same_by receiver new e (ap (λ (r : Receiver K). r.direction) x.1);
+      after = ap (λ (t : State K). t.kept) y.after ∙ same_by between.receiver between e (ap (λ (r : Receiver K). r.direction) x.1);
+      quiet = y.quiet;
     }
-    packet_lifted bytes (step.Refused why) receiver new x e = record {
-      unit = packet_by bytes (RefusedPacket (refusal_of why)) x.0;
-      refusal = λ last o y. record {
-        said = y.said;
-        more = y.more;
-        turned = laws.refused p side h old.kept sums alive (refusal_of why) y.said y.more last (said_by (refusal_of why) new.kept y.said y.more (same_by receiver new e (ap (λ (r : Receiver K). r.direction) x.1)) y.says) y.dead;
-        parts = y.parts;
-        lists = y.lists;
-      };
+
+    refusal_lifted : (bytes : List ℕ) (r why : Refused) (between new : State K) (o : Outs) → Receives p.crypto bytes old.receiver (step.Refused r) between.receiver → between ≡ record old { receiver = between.receiver; kept = record old.kept { taking = between.receiver.direction } } → RefusalDone p.crypto between r why new o →
+        PacketTurnOf p side h old.kept bytes (packet_turn.Refused why) new o
+    refusal_lifted bytes r why between new o x e y =
+        subst (λ (w : Refused). PacketTurnOf p side h old.kept bytes (packet_turn.Refused w) new o) (sym y.same) (record {
+          unit = packet_by bytes (RefusedPacket (refusal_of r)) x.0;
+          said = y.refuses.said;
+          more = y.refuses.more;
+          turned = laws.refused p side h old.kept sums alive (refusal_of r) y.refuses.said y.refuses.more new.kept (said_by (refusal_of r) between.kept y.refuses.said y.refuses.more (same_by between.receiver between e (ap (λ (w : Receiver K). w.direction) x.1)) y.refuses.says) y.refuses.dead;
+          parts = y.refuses.parts;
+          lists = y.refuses.lists;
+        })
+
+    found_by : (bytes : List ℕ) (between : State K) → Receives p.crypto bytes old.receiver step.Payload between.receiver → between ≡ record old { receiver = between.receiver; kept = record old.kept { taking = between.receiver.direction } } → between.kept ≡ after_taken old.kept
+    found_by bytes between x e = taking_by between.receiver between e ∙ (λ i. record old.kept { taking = (ap (λ (r : Receiver K). r.direction) x.1 ∙ ap (λ (d : Direction K). counted d) (sym live.taking)) i })
+
+    packet_done : PayloadLaws K → (bytes : List ℕ) (found : PacketStep) (done : PacketTurn) (between new : State K) (o : Outs) → Receives p.crypto bytes old.receiver found between.receiver → between ≡ record old { receiver = between.receiver; kept = record old.kept { taking = between.receiver.direction } } → PacketDone p.crypto between found done new o →
+        PacketTurnOf p side h old.kept bytes done new o
+    packet_done rows bytes step.More packet_turn.More between new o x e y = more_lifted bytes between new o x e y
+    packet_done rows bytes (step.Refused r) (packet_turn.Refused why) between new o x e y = refusal_lifted bytes r why between new o x e y
+    packet_done rows bytes step.Payload (packet_turn.Payload done) between new o x e y = record {
+      between = between;
+      unit = packet_by bytes (Outcome.Opens between.receiver.payload) x.0;
+      kept = found_by bytes between x e;
+      turn = turns_lifted rows p side h old.kept sums alive between done new o (found_by bytes between x e) y;
     }
+    packet_done rows bytes _ _ between new o x e y = absurd y
+
+    pub packet_lifted : PayloadLaws K → (bytes : List ℕ) (done : PacketTurn) (new : State K) (o : Outs) → PacketTaken p.crypto old bytes done new o → PacketTurnOf p side h old.kept bytes done new o
+    packet_lifted rows bytes done new o x = packet_done rows bytes x.found done x.between new o x.receives x.rest x.does
 
 -- ---- the opening
 

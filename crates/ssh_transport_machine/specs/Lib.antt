@@ -5,9 +5,9 @@ pub mod Kexinits
 pub mod Judging
 pub mod Hashing
 pub mod Offering
+pub mod Finishing
+pub mod Endings
 pub mod Turning
 pub mod Shown
 pub mod Asking
 pub mod Opening
-pub mod Finishing
-pub mod Endings

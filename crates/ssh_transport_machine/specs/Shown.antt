@@ -24,10 +24,8 @@ use Rattle.ssh_types.specs.AskRefusals.{ask_refusal_of}
 use Rattle.ssh_types.specs.Refusals.{refusal_of}
 use Rattle.ssh_types.specs.declared.ask_refusal.AskRefusal.{AskRefusal}
 use Rattle.ssh_types.specs.declared.refusal.Refusal.{Refusal}
-use Rattle.ssh_transport_base.specs.declared.packets.step.PacketStep.{PacketStep}
-use Rattle.ssh_transport_base.specs.declared.packets.step.PacketStep.TheVariants as step
 use Rattle.ssh_transport_machine.specs.Judging.{PayloadJudged}
-use Rattle.ssh_transport_machine.specs.Puts.{Outs, Refuses, payloads_of}
+use Rattle.ssh_transport_machine.specs.Puts.{Outs, payloads_of}
 use Rattle.ssh_transport_machine.specs.State.{State}
 use Rattle.ssh_transport_machine.specs.Turning.{IsQuiet}
 use Rattle.ssh_transport_machine.specs.declared.machine.judging.Judged.{Judged}
@@ -36,6 +34,8 @@ use Rattle.ssh_transport_machine.specs.declared.machine.line_turn.LineTurn.TheVa
 use Rattle.ssh_transport_machine.specs.declared.machine.turn.Answer.TheVariants.{Done, Spent}
 use Rattle.ssh_transport_machine.specs.declared.machine.turn.AskTurn.{AskTurn}
 use Rattle.ssh_transport_machine.specs.declared.machine.turn.AskTurn.TheVariants as ask_turn
+use Rattle.ssh_transport_machine.specs.declared.machine.turn.PacketTurn.{PacketTurn}
+use Rattle.ssh_transport_machine.specs.declared.machine.turn.PacketTurn.TheVariants as packet_turn
 use Rattle.ssh_transport_machine.specs.declared.machine.turn.PayloadTurn.{PayloadTurn}
 use Rattle.ssh_transport_machine.specs.declared.machine.turn.PayloadTurn.TheVariants as turn
 
@@ -172,38 +172,35 @@ LineTurnOf p side history bytes line_turn.Other new = IsLineItem p side history 
 LineTurnOf p side history bytes line_turn.Version new = IsLineItem p side history bytes VersionLine TookLine new
 LineTurnOf p side history bytes (line_turn.Refused why) new = IsLineRefusal p side history bytes (line_refusal why) new
 
--- The packet was found, and what was kept goes on with its payload.
-pub record IsPacketFound {K : Type 0} (p : Parties K) (side : Side) (history : List Item) (s : Transport K)
-    (bytes payload : List ℕ) (new : Transport K) : Type 0 where
-  pub unit : IsUnit p.crypto (stage p side history) bytes (Opens payload)
-  pub after : new ≡ after_taken s
+-- The unit is a packet of this payload, and what was done with that is a turn of a session, or it is left.
+pub record IsPayloadTurn {K : Type 0} (p : Parties K) (side : Side) (history : List Item) (s : Transport K)
+    (bytes : List ℕ) (done : PayloadTurn) (new : State K) (o : Outs) : Type 0 where
+  pub between : State K
+  pub unit : IsUnit p.crypto (stage p side history) bytes (Opens between.receiver.payload)
+  pub kept : between.kept ≡ after_taken s
+  pub turn : TurnOf p side history s between done new o
 
--- Nothing but bytes was taken.
-pub record IsPacketBegunBy {K : Type 0} (p : Parties K) (s : Transport K) (bytes : List ℕ) (new : Transport K) :
+-- Nothing but bytes of a packet was taken.
+pub record IsPacketBegunBy {K : Type 0} (p : Parties K) (s : Transport K) (bytes : List ℕ) (new : Transport K) (o : Outs) :
     Type 0 where
   pub begun : IsPacketBegun p.crypto s.taking.key s.taking.count bytes
   pub after : new ≡ s
+  pub quiet : IsQuiet o
 
--- The end refused a unit that holds no payload to show.
-pub record IsUnitRefusal {K : Type 0} (p : Parties K) (side : Side) (history : List Item) (why : model.Refusal)
-    (new : Transport K) (o : Outs) : Type 0 where
+-- The packet was refused.
+pub record IsPacketRefusal {K : Type 0} (p : Parties K) (side : Side) (history : List Item) (bytes : List ℕ)
+    (why : model.Refusal) (new : Transport K) (o : Outs) : Type 0 where
+  pub unit : IsUnit p.crypto (stage p side history) bytes (RefusedPacket why)
   pub said : List Spelled
   pub more : List ℕ
   pub turned : UnitRefused p side history (refusal_items why None said) why more new
   pub parts : o.after ≡ o.before ++ more
   pub lists : o.relisted ≡ o.listed ++ payloads_of said
 
--- The packet is refused, and so does a machine that then refuses its peer for that.
-pub record IsPacketRefused {K : Type 0} (p : Parties K) (side : Side) (history : List Item) (bytes : List ℕ)
-    (why : model.Refusal) (between : Transport K) : Type 0 where
-  pub unit : IsUnit p.crypto (stage p side history) bytes (RefusedPacket why)
-  pub refusal : (new : Transport K) (o : Outs) → Refuses p.crypto between why new o →
-      IsUnitRefusal p side history why new o
-
--- what a call made of the bytes of a packet begun with those that it used, which left this to be shown and this kept
-abbrev pub PacketStepOf : {K : Type 0} → Parties K → Side → (history : List Item) → Transport K → List ℕ → PacketStep →
-    (payload : List ℕ) → Transport K → Type 0
-PacketStepOf p side history s bytes step.Payload payload new = IsPacketFound p side history s bytes payload new
-PacketStepOf p side history s bytes step.More payload new = IsPacketBegunBy p s bytes new
-PacketStepOf p side history s bytes (step.Refused why) payload new =
-    IsPacketRefused p side history bytes (refusal_of why) new
+-- what a call made of the bytes of a packet begun with those that it used
+abbrev pub PacketTurnOf : {K : Type 0} → Parties K → Side → (history : List Item) → Transport K → List ℕ → PacketTurn →
+    State K → Outs → Type 0
+PacketTurnOf p side history s bytes packet_turn.More new o = IsPacketBegunBy p s bytes new.kept o
+PacketTurnOf p side history s bytes (packet_turn.Refused why) new o =
+    IsPacketRefusal p side history bytes (refusal_of why) new.kept o
+PacketTurnOf p side history s bytes (packet_turn.Payload done) new o = IsPayloadTurn p side history s bytes done new o

@@ -1,5 +1,6 @@
 -- What a machine holds: what a transport keeps, and the unit of its stream that is begun.
-use Rattle.std.specs.Prelude.{◌≡◌, ℕ, ◌≤◌, ◌+◌, ◌-◌, ◌%◌, ◌^◌, Bool, true, false, cond, is_some, Option, Some, None, List, []}
+use Rattle.std.specs.Prelude.{◌≡◌, ℕ, ◌≤◌, ◌+◌, ◌-◌, ◌%◌, ◌^◌, Bool, true, false, cond, is_some, Option, Some}
+use Rattle.std.specs.Prelude.{None, List, []}
 use Rattle.ssh_model.specs.KeyExchange.Exchanges as session
 use Rattle.ssh_model.specs.Sessions.Phases as model
 use Rattle.ssh_model.specs.TransportLayer.Directions.{Direction}
@@ -46,7 +47,7 @@ pub record State (K : Type 0) : Type 0 where
   pub receiver : Receiver K
   pub kept : Transport K
 
--- In these phases a KEXINIT of the peer is awaited, or its message that ends an exchange: this end sent its own.
+-- In these phases the peer's part of an exchange is awaited that this end began, or answered.
 abbrev pub awaits_exchange : model.Phase → Bool
 awaits_exchange model.Phase.Keying = false
 awaits_exchange model.Phase.Normal = false
@@ -73,20 +74,24 @@ noted wrong strict extensions payload s = record s {
   peer_takes_extensions = extensions;
 }
 
--- What holds of a machine that is not over: its readers are those of what it keeps, the key that NEWKEYS begins with is there,
--- and no epoch is beyond the pairs of cookie and secret that it was fed.
-pub record IsLive {K : Type 0} (s : State K) : Type 0 where
-  pub lines : s.kept.lines ≡ lines_of s.reading
+-- Lines of the peer are read, as many as are kept.
+pub record IsReading {K : Type 0} (s : State K) : Type 0 where
   pub from_peer : s.reading.from_server ≡ model.is_client s.kept.side
-  pub reading : s.kept.lines.found ≡ false → s.reading.ended ≡ None
+  pub others : s.kept.lines.others ≡ s.reading.others
+  pub going : s.reading.ended ≡ None
+
+-- The key with which the epoch after NEWKEYS begins is there, an exchange is under way where the peer's part of it is awaited,
+-- and no epoch is beyond the pairs of cookie and secret that were fed.
+pub record IsKeptLive {K : Type 0} (s : Transport K) : Type 0 where
+  pub pending : s.phase ≡ model.Phase.Keying → s.pending ≡ None → ⊥
+  pub blocked : awaits_exchange s.phase ≡ true → s.blocked ≡ true
+  pub taken_epochs : s.taking.epoch + bit (is_keying s.phase) ≤ s.sending.epoch
+  pub sent_epochs : s.sending.epoch + (bit s.blocked + bit (is_some s.material)) ≤ s.fed
+  pub fed : s.fed ≤ 2 ^ 32 - 1
+
+-- What holds of a machine that is not over: its readers go on, and are those of what it keeps.
+pub record IsLive {K : Type 0} (s : State K) : Type 0 where
+  pub lines : s.kept.lines.found ≡ false → IsReading s
   pub taking : s.kept.taking ≡ s.receiver.direction
   pub receiving : s.receiver.ended ≡ None
-  pub pending : s.kept.phase ≡ model.Phase.Keying → s.kept.pending ≡ None → ⊥
-  pub blocked : awaits_exchange s.kept.phase ≡ true → s.kept.blocked ≡ true
-  pub taken_epochs : s.kept.taking.epoch + bit (is_keying s.kept.phase) ≤ s.kept.sending.epoch
-  pub sent_epochs : s.kept.sending.epoch + (bit s.kept.blocked + bit (is_some s.kept.material)) ≤ s.kept.fed
-  pub fed : s.kept.fed ≤ 2 ^ 32 - 1
-
--- What holds of every machine.
-pub record IsSound {K : Type 0} (s : State K) : Type 0 where
-  pub live : s.kept.dead ≡ false → IsLive s
+  pub kept : IsKeptLive s.kept

@@ -11,6 +11,9 @@ use Rattle.ssh_model.specs.TransportLayer.Directions.{renewed}
 use Rattle.ssh_model.specs.TransportLayer.Kept.{Transport, after_sent}
 use Rattle.ssh_types.specs.Refusals.{refusal_of}
 use Rattle.ssh_types.specs.declared.refusal.Refusal.{Refusal}
+use Rattle.ssh_transport_base.specs.Directions.{Receives}
+use Rattle.ssh_transport_base.specs.declared.packets.step.PacketStep.{PacketStep}
+use Rattle.ssh_transport_base.specs.declared.packets.step.PacketStep.TheVariants as step
 use Rattle.ssh_transport_machine.specs.Judging.{PayloadJudged}
 use Rattle.ssh_transport_machine.specs.Offering.{OwnAnswered}
 use Rattle.ssh_transport_machine.specs.Puts.{Outs, Refuses, Sends}
@@ -20,6 +23,8 @@ use Rattle.ssh_transport_machine.specs.declared.machine.judging.Judged.TheVarian
 use Rattle.ssh_transport_machine.specs.declared.machine.kexinit.KexinitFacts.{KexinitFacts}
 use Rattle.ssh_transport_machine.specs.declared.machine.turn.Answer.{Answer}
 use Rattle.ssh_transport_machine.specs.declared.machine.turn.Answer.TheVariants.{Done, Spent}
+use Rattle.ssh_transport_machine.specs.declared.machine.turn.PacketTurn.{PacketTurn}
+use Rattle.ssh_transport_machine.specs.declared.machine.turn.PacketTurn.TheVariants as packet_turn
 use Rattle.ssh_transport_machine.specs.declared.machine.turn.PayloadTurn.{PayloadTurn}
 use Rattle.ssh_transport_machine.specs.declared.machine.turn.PayloadTurn.TheVariants as turn
 
@@ -143,3 +148,24 @@ pub record Turns {K : Type 0} (c : Crypto K) (old : State K) (done : PayloadTurn
   pub what : Judged
   pub is_judged : PayloadJudged (before_taken old.kept) old.receiver.payload what
   pub does : Does c old what done new o
+
+-- ---- a packet
+
+-- What was done with what was found: nothing yet, the peer was refused for it, or what its payload asks for.
+abbrev pub PacketDone : {K : Type 0} → Crypto K → State K → PacketStep → PacketTurn → State K → Outs → Type 0
+PacketDone c between step.More packet_turn.More new o = Becomes between between.kept new o
+PacketDone c between (step.Refused r) (packet_turn.Refused why) new o = RefusalDone c between r why new o
+PacketDone c between step.Payload (packet_turn.Payload done) new o = Turns c between done new o
+PacketDone c between _ _ new o = ⊥
+
+-- What a call made of the bytes of a packet begun with those that it used.
+pub record PacketTaken {K : Type 0} (c : Crypto K) (old : State K) (bytes : List ℕ) (done : PacketTurn) (new : State K)
+    (o : Outs) : Type 0 where
+  pub found : PacketStep
+  pub between : State K
+  pub receives : Receives c bytes old.receiver found between.receiver
+  pub rest : between ≡ record old {
+    receiver = between.receiver;
+    kept = record old.kept { taking = between.receiver.direction };
+  }
+  pub does : PacketDone c between found done new o

@@ -3,22 +3,24 @@
 
 ghost use Rattle.std.specs.Prelude.{◌≡◌, List, ℕ, false, true};
 ghost use Rattle.ssh_model.specs.Side.{Side};
+ghost use Rattle.ssh_model.specs.Wire.Message.{Msg};
+ghost use Rattle.ssh_model.specs.Wire.Sealing.{Crypto};
 ghost use Rattle.ssh_model.specs.Sessions.Items.{Ask, Ask.AskDisconnect, Item};
-ghost use Rattle.ssh_model.specs.Sessions.Parties.{Parties, settings_of};
-ghost use Rattle.ssh_model.specs.TransportLayer.Kept.{Transport, after_taken};
+ghost use Rattle.ssh_model.specs.Sessions.Parties.{Parties, Settings, settings_of};
+ghost use Rattle.ssh_model.specs.TransportLayer.Kept.{Transport, after_fed, after_sent, after_taken, is_fed};
 ghost use Rattle.ssh_model.specs.TransportLayer.Summary.{SumsUp};
 ghost use Rattle.ssh_model.specs.TransportLayer.Turns.{IsTransportAsk};
 ghost use Rattle.ssh_transport_machine.specs.Asking.{AskDone, DisconnectDone};
-ghost use Rattle.ssh_transport_base.specs.Directions.{Receiver, Receives};
-ghost use Rattle.ssh_transport_base.specs.declared.packets.step.PacketStep.{PacketStep};
 ghost use Rattle.ssh_transport_machine.specs.LineTurns.{LineTaken};
 ghost use Rattle.ssh_transport_machine.specs.Opening.{IsOpened};
 ghost use Rattle.ssh_transport_machine.specs.Puts.{Outs};
-ghost use Rattle.ssh_transport_machine.specs.Shown.{IsAskTurn, IsOpening, LineTurnOf, PacketStepOf, TurnOf};
-ghost use Rattle.ssh_transport_machine.specs.State.{IsLive, State};
-ghost use Rattle.ssh_transport_machine.specs.Turning.{Turns};
+ghost use Rattle.ssh_transport_machine.specs.Shown.{IsAskTurn, IsOpening, LineTurnOf, PacketTurnOf, TurnOf};
+ghost use Rattle.ssh_transport_machine.specs.State.{IsKeptLive, IsLive, State};
+ghost use Rattle.ssh_transport_machine.specs.Turning.{Answers, PacketTaken, Turns};
 ghost use Rattle.ssh_transport_machine.specs.declared.machine.line_turn.LineTurn.{LineTurn};
+ghost use Rattle.ssh_transport_machine.specs.declared.machine.turn.Answer.{Answer};
 ghost use Rattle.ssh_transport_machine.specs.declared.machine.turn.AskTurn.{AskTurn};
+ghost use Rattle.ssh_transport_machine.specs.declared.machine.turn.PacketTurn.{PacketTurn};
 ghost use Rattle.ssh_transport_machine.specs.declared.machine.turn.PayloadTurn.{PayloadTurn};
 
 use ssh_model::payload_numbers;
@@ -47,10 +49,12 @@ pub fn ask_turns<K>()
 /// What a machine finds in a line or a packet is what an end of a session finds; and where it refuses that, it does as one.
 pub fn unit_turns<K>()
     ensures lines { (p : Parties K) (side : Side) (history : List Item) (old : State K) → SumsUp p side history old.kept → old.kept.dead ≡ false → IsLive old → old.kept.lines.found ≡ false → (bytes : List ℕ) (done : LineTurn) (new : State K) → LineTaken old bytes done new → LineTurnOf p side history bytes done new.kept }
-    ensures packets { (p : Parties K) (side : Side) (history : List Item) (old : State K) → SumsUp p side history old.kept → old.kept.dead ≡ false → IsLive old → old.kept.lines.found ≡ true → (bytes : List ℕ) (found : PacketStep) (receiver : Receiver K) (new : State K) → Receives p.crypto bytes old.receiver found receiver → new ≡ record old { receiver = receiver; kept = record old.kept { taking = receiver.direction } } → PacketStepOf p side history old.kept bytes found receiver.payload new.kept }
+    ensures packets { (p : Parties K) (side : Side) (history : List Item) (old : State K) → SumsUp p side history old.kept → old.kept.dead ≡ false → IsLive old → old.kept.lines.found ≡ true → (bytes : List ℕ) (done : PacketTurn) (new : State K) (o : Outs) → PacketTaken p.crypto old bytes done new o → PacketTurnOf p side history old.kept bytes done new o }
 {
     units::<K>();
     lines::<K>();
+    payloads::<K>();
+    payload_numbers();
 }
 
 /// What a new machine keeps sums up the history of its opening, and it put out what an end of a session puts out.
@@ -59,3 +63,15 @@ pub fn openings<K>()
 {
     new_transports::<K>();
 }
+
+/// What holds of a machine that is not over holds of a new one, and goes on holding: with each line and packet, and with each ask.
+/// What an end does in a turn of its own keeps it where the readers are as before, and what is kept has it.
+pub fn live_machines<K>()
+    ensures opened { (c : Crypto K) (settings : Settings) (side : Side) (cookie secret : List ℕ) (new : State K) (o : Outs) → IsOpened c settings side cookie secret new o → IsLive new }
+    ensures lines { (old : State K) (bytes : List ℕ) (done : LineTurn) (new : State K) → IsLive old → LineTaken old bytes done new → new.kept.dead ≡ false → IsLive new }
+    ensures packets { (c : Crypto K) (old : State K) (bytes : List ℕ) (done : PacketTurn) (new : State K) (o : Outs) → IsLive old → PacketTaken c old bytes done new o → new.kept.dead ≡ false → IsLive new }
+    ensures asks { (c : Crypto K) (old : State K) (ask : Ask) (done : AskTurn) (new : State K) (o : Outs) → IsLive old → AskDone c old ask done new o → new.kept.dead ≡ false → IsLive new }
+    ensures answers { (c : Crypto K) (old : State K) (message : Msg) (answer : Answer) (new : State K) (o : Outs) → IsLive old → Answers c old message (after_sent old.kept) answer new o → new.kept.dead ≡ false → IsLive new }
+    ensures fed { (old new : State K) (cookie secret : List ℕ) → IsLive old → is_fed old.kept ≡ true → new ≡ record old { kept = after_fed cookie secret old.kept } → IsLive new }
+    ensures others { (old new : State K) (kept : Transport K) → new ≡ record old { kept = kept } → kept.lines ≡ old.kept.lines → kept.side ≡ old.kept.side → kept.taking ≡ old.kept.taking → IsKeptLive kept → IsLive old → IsLive new }
+{}

@@ -10,6 +10,6 @@ pub mod laws;
 mod machine;
 
 pub use machine::{
-    Answer, AskTurn, ExchangeKeys, Judged, KexinitFacts, LineTurn, Machine, Material, PayloadTurn,
-    Phase, Points,
+    Answer, AskTurn, ExchangeKeys, Judged, KexinitFacts, LineTurn, Machine, Material, PacketTurn,
+    PayloadTurn, Phase, Points,
 };

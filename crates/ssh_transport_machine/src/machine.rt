@@ -22,6 +22,7 @@ mod material;
 mod numbers;
 mod offering;
 mod opening;
+mod pairs;
 mod phase;
 mod queries;
 mod refusing;
@@ -30,6 +31,7 @@ mod sending;
 mod service;
 mod serving;
 mod sharing;
+mod taking;
 mod turn;
 mod turning;
 
@@ -46,7 +48,7 @@ use ssh_transport_base::{Config, PacketReceiver, PacketSender};
 use ssh_types::Side;
 use std::alloc::Global;
 use std::marker::Model;
-pub use turn::{Answer, AskTurn, PayloadTurn};
+pub use turn::{Answer, AskTurn, PacketTurn, PayloadTurn};
 
 /// One end, without the parts that only one side has.
 pub struct Machine<S: Sealing, F: Filler + Drop> {

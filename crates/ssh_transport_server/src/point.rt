@@ -32,7 +32,7 @@ pub fn judge_init<S: Sealing, F: Filler + Drop, A: Agreement>(
     requires { ShowsInit machine.now.receiver.payload }
     ensures { IsInitJudged (record { point = A.public_of agreement.now; shared = A.shared_of agreement.now }) machine.now.kept machine.now.receiver.payload result }
 {
-    match decode(false, machine.shown()) {
+    match decode(false, machine.payload()) {
         Ok(message) => judge_point(machine, agreement, point_in(message)),
         Err(_) => unreachable!(),
     }

@@ -206,11 +206,4 @@ impl<S: Sealing, F: Filler + Drop> Machine<S, F> {
     {
         packets <= self.sending.numbers_left()
     }
-
-    // The payload that was taken last.
-    pub fn shown(&self) -> &[u8]
-        ensures { result.now ≡ self.now.receiver.payload }
-    {
-        self.taking.payload()
-    }
 }

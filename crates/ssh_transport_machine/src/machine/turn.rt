@@ -35,6 +35,17 @@ pub enum PayloadTurn {
     Left(Judged),
 }
 
+/// What a call made of the bytes of a packet.
+#[derive(Clone, Copy, Debug, PartialEq, Eq)]
+pub enum PacketTurn {
+    /// No whole packet yet.
+    More,
+    /// No packet that may come: the peer was refused, and the end is over.
+    Refused(Refusal),
+    /// A packet was taken, and this was done with its payload.
+    Payload(PayloadTurn),
+}
+
 /// What was done on an ask.
 #[derive(Clone, Copy, Debug, PartialEq, Eq)]
 pub enum AskTurn {

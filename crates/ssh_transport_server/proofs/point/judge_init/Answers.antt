@@ -6,10 +6,10 @@ use Rattle.ssh_transport_server.proofs.point.judge_init.Goals as goal
 
 pub unreachable-requires : goal.unreachable-requires
 unreachable-requires g c =
-    let none = subst (λ (l : List ℕ). NoMessage false l) c.shown.ensures c.in-Err.ensures.refused in
+    let none = subst (λ (l : List ℕ). NoMessage false l) c.payload.ensures.payload c.in-Err.ensures.refused in
     none.none (KexEcdhInit c.requires.point) c.requires.read
 
 pub returns : goal.returns
 returns g c =
-    let read = subst (λ (l : List ℕ). IsPayload false (meaning c.in-Ok.message) l) c.shown.ensures c.in-Ok.ensures.found in
+    let read = subst (λ (l : List ℕ). IsPayload false (meaning c.in-Ok.message) l) c.payload.ensures.payload c.in-Ok.ensures.found in
     shown _ c.args.machine.now.kept c.args.machine.now.receiver.payload _ (meaning c.in-Ok.message) c.judge_point.result read c.point_in.ensures c.judge_point.ensures

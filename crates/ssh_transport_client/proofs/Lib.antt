@@ -1,0 +1,4 @@
+pub mod Replies
+pub mod Ending
+pub mod Answering
+pub mod Shown

@@ -1,0 +1,3 @@
+pub mod Replies
+pub mod Turns
+pub mod Kexinits

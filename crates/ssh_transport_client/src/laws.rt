@@ -1,0 +1,55 @@
+//! Laws of what a client makes of a server's KEXINIT and of its reply: turns of a session. Facts for proofs, at no cost.
+
+ghost use Rattle.std.specs.Prelude.{◌≡◌, ◌+◌, List, [], ◌∷◌, ℕ, Some, false};
+ghost use Rattle.ssh_model.specs.Side.{Side.Client};
+ghost use Rattle.ssh_model.specs.KeyExchange.Choice.{Chosen};
+ghost use Rattle.ssh_model.specs.Channels.Connection.{AreReplies, owed_replies};
+ghost use Rattle.ssh_model.specs.Sessions.Items.{Item, Item.Died, Item.Refused};
+ghost use Rattle.ssh_model.specs.Sessions.Parties.{Parties, agreement_of};
+ghost use Rattle.ssh_model.specs.Sessions.Refusals.{Refusal.BadHost, Refusal.BadPoint, Refusal.NumberSpent};
+ghost use Rattle.ssh_model.specs.Sessions.Turns.{AreSpelled};
+ghost use Rattle.ssh_model.specs.TransportLayer.Kept.{Transport, after_taken};
+ghost use Rattle.ssh_model.specs.TransportLayer.Summary.{SumsUp};
+ghost use Rattle.ssh_model.specs.TransportLayer.Turns.{Turned};
+ghost use Rattle.ssh_transport_machine.specs.Endings.{ExchangeEnds, IsRead, PayloadRefused};
+ghost use Rattle.ssh_transport_machine.specs.Puts.{Outs};
+ghost use Rattle.ssh_transport_machine.specs.State.{State};
+ghost use Rattle.ssh_transport_machine.specs.Judging.{PayloadJudged};
+ghost use Rattle.ssh_transport_machine.specs.declared.machine.judging.Judged.TheVariants as judged;
+ghost use Rattle.ssh_transport_machine.specs.declared.machine.kexinit.KexinitFacts.{KexinitFacts};
+ghost use Rattle.ssh_transport_machine.specs.declared.machine.turn.Answer.{Answer};
+ghost use Rattle.ssh_transport_client.specs.Kexinits.{KexinitDone, KexinitTurn};
+ghost use Rattle.ssh_transport_client.specs.Replies.{ReadsReply};
+ghost use Rattle.ssh_transport_client.specs.Turns.{HostAccepted, HostRefused, NewkeysSpent, PointRefused};
+
+use ssh_model::payload_numbers;
+use ssh_model::transport::{exchange_ends, payloads, refused_and_spent};
+use ssh_transport_machine::ending::secrets_forgotten;
+
+/// A payload that is judged to be a reply is one that is read.
+pub fn replies_shown<K>()
+    ensures { (s : Transport K) (payload : List ℕ) → PayloadJudged s payload judged.Reply → ReadsReply s payload }
+{}
+
+/// What a client does with a server's KEXINIT that nothing refuses is what a client does in a session whose parts it has.
+pub fn kexinits_taken<K>()
+    ensures { (p : Parties K) (history : List Item) (s : Transport K) → SumsUp p Client history s → s.dead ≡ false → (old new : State K) (o : Outs) → old.kept ≡ after_taken s → (facts : KexinitFacts) → PayloadJudged s old.receiver.payload (judged.Kexinit facts) → (answer : Answer) → KexinitDone p.crypto (agreement_of p Client) old facts answer new o → KexinitTurn p history old.receiver.payload answer new.kept o }
+{
+    payload_numbers();
+    payloads::<K>();
+}
+
+/// What a client does with a server's reply is what a client does in a session whose parts it has: it refuses the point, or the
+/// host, or ends the exchange up to what it announces, or has no number left for that.
+pub fn replies_taken<K>()
+    ensures ended { (p : Parties K) (history : List Item) (s : Transport K) → SumsUp p Client history s → s.dead ≡ false → (old new : State K) (o : Outs) → old.kept ≡ after_taken s → IsRead s old.receiver.payload → (chosen : Chosen) → HostAccepted p.crypto (agreement_of p Client) p.trusts old chosen new o → ExchangeEnds p Client history old.receiver.payload (s.sending.epoch + 1) new.kept o }
+    ensures bad_point { (p : Parties K) (history : List Item) (s : Transport K) → SumsUp p Client history s → s.dead ≡ false → (old new : State K) (o : Outs) → old.kept ≡ after_taken s → IsRead s old.receiver.payload → PointRefused p.crypto (agreement_of p Client) old new o → PayloadRefused p Client history old.receiver.payload BadPoint new.kept o }
+    ensures bad_host { (p : Parties K) (history : List Item) (s : Transport K) → SumsUp p Client history s → s.dead ≡ false → (old new : State K) (o : Outs) → old.kept ≡ after_taken s → IsRead s old.receiver.payload → HostRefused p.crypto (agreement_of p Client) p.trusts old new o → PayloadRefused p Client history old.receiver.payload BadHost new.kept o }
+    ensures spent { (p : Parties K) (history : List Item) (s : Transport K) → SumsUp p Client history s → s.dead ≡ false → (old new : State K) (o : Outs) → old.kept ≡ after_taken s → IsRead s old.receiver.payload → (owed : List Item) → AreReplies (owed_replies Client history) owed → AreSpelled owed → NewkeysSpent p.crypto (agreement_of p Client) p.trusts old new o → Turned p Client history old.receiver.payload (Died ∷ Refused NumberSpent (Some old.receiver.payload) ∷ []) [] new.kept }
+{
+    payload_numbers();
+    exchange_ends::<K>();
+    payloads::<K>();
+    refused_and_spent::<K>();
+    secrets_forgotten::<K>();
+}

@@ -1,0 +1,74 @@
+//! Packets that an end takes, and what it does with them.
+
+ghost use Rattle.std.specs.Prelude.{◌≡◌, ◌<◌, ◌≤◌, ◌++◌, IfOk, OnErr, length, map, take, true};
+ghost use Rattle.ssh_transport_base.specs.declared.packets.step.PacketStep.TheVariants as step;
+ghost use Rattle.ssh_transport_machine.specs.State.{IsLive};
+ghost use Rattle.ssh_transport_machine.specs.Turning.{PacketDone, PacketTaken};
+
+use crate::machine::Machine;
+use crate::machine::turn::PacketTurn;
+use ssh_packet::{Filler, Sealing};
+use ssh_transport_base::PacketStep;
+use ssh_types::Refusal;
+use std::alloc::AllocError;
+
+impl<S: Sealing, F: Filler + Drop> Machine<S, F> {
+    // Takes bytes to the end of one packet, and does what its payload asks for, or refuses the peer for it; what only one role does
+    // with a payload is left. Where memory is refused nothing is put out, and the end is over.
+    pub fn take_packet(
+        &mut self,
+        bytes: &[u8],
+        out: &mut Vec<u8>,
+        sent: &mut Vec<Vec<u8>>,
+    ) -> (usize, Result<PacketTurn, AllocError>)
+        requires { IsLive self.old }
+        ensures used { result.0 ≤ length bytes.now }
+        ensures progress { 0 < length bytes.now → 0 < result.0 }
+        ensures more { IfOk result.1 (λ done. done ≡ PacketTurn.More → result.0 ≡ length bytes.now) }
+        ensures taken { IfOk result.1 (λ done. PacketTaken S.crypto self.old (self.old.receiver.begun ++ take result.0 bytes.now) done self.new (record { before = out.old.items; after = out.new.items; listed = map (λ v. v.items) sent.old.items; relisted = map (λ v. v.items) sent.new.items })) }
+        ensures dead { OnErr result.1 (self.new.kept.dead ≡ true) }
+        ensures out { OnErr result.1 (out.new.items ≡ out.old.items) }
+        ensures kept { OnErr result.1 (sent.new.items ≡ sent.old.items) }
+    {
+        let (used, step) = self.open(bytes);
+        match step {
+            PacketStep::More => (used, Ok(PacketTurn::More)),
+            PacketStep::Refused(why) => (used, self.refuse_packet(why, out, sent)),
+            PacketStep::Payload => (used, self.turn_payload(out, sent)),
+        }
+    }
+
+    // Refuses the peer for a packet.
+    fn refuse_packet(
+        &mut self,
+        why: Refusal,
+        out: &mut Vec<u8>,
+        sent: &mut Vec<Vec<u8>>,
+    ) -> Result<PacketTurn, AllocError>
+        ensures other { IfOk result (λ done. done ≡ PacketTurn.More → ⊥) }
+        ensures done { IfOk result (λ done. PacketDone S.crypto self.old (step.Refused why) done self.new (record { before = out.old.items; after = out.new.items; listed = map (λ v. v.items) sent.old.items; relisted = map (λ v. v.items) sent.new.items })) }
+        ensures dead { OnErr result (self.new.kept.dead ≡ true) }
+        ensures out { OnErr result (out.new.items ≡ out.old.items) }
+        ensures kept { OnErr result (sent.new.items ≡ sent.old.items) }
+    {
+        self.refuse(why, out, sent)?;
+        Ok(PacketTurn::Refused(why))
+    }
+
+    // Does what the payload of a packet asks for.
+    fn turn_payload(
+        &mut self,
+        out: &mut Vec<u8>,
+        sent: &mut Vec<Vec<u8>>,
+    ) -> Result<PacketTurn, AllocError>
+        requires live { IsLive self.old }
+        requires taken { 1 ≤ self.old.kept.taking.count }
+        ensures other { IfOk result (λ done. done ≡ PacketTurn.More → ⊥) }
+        ensures done { IfOk result (λ done. PacketDone S.crypto self.old step.Payload done self.new (record { before = out.old.items; after = out.new.items; listed = map (λ v. v.items) sent.old.items; relisted = map (λ v. v.items) sent.new.items })) }
+        ensures dead { OnErr result (self.new.kept.dead ≡ true) }
+        ensures out { OnErr result (out.new.items ≡ out.old.items) }
+        ensures kept { OnErr result (sent.new.items ≡ sent.old.items) }
+    {
+        Ok(PacketTurn::Payload(self.turn(out, sent)?))
+    }
+}
