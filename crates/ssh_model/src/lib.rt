@@ -25,7 +25,7 @@ pub use choice::{computed_choice, first_common_name, guess, markers};
 pub use epoch::taken_in_order;
 pub use exchange::equal_texts;
 pub use line::{line_examples, line_units, one_version};
-pub use message::{one_message, payload_numbers, payload_sizes};
+pub use message::{one_message, payload_numbers, payload_sizes, request_spellings, spellings};
 pub use packet::{behind_examples, packet_examples, packet_units, size_examples};
 pub use stream::{StreamEnd, any_pieces, stream_units, waits_where_begun};
 pub use turn::{answers_are_fixed, guesses_are_skipped, numbers_are_fresh, turns_are_fixed};

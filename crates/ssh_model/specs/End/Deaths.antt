@@ -40,7 +40,6 @@ pub data WouldTake {K : Type 0} (p : Parties K) (side : Side) (e : EndState K) (
       Completes p.crypto (parts_of p side) chosen e.transport message last announced completed transport →
       AreSpelled (items_sent (announced ++ last)) → e.transport.sending.count + length last ≤ 2 ^ 32 →
       GivesOwed e.channels owed channels → channels.owed ≡ [] → AreSpelled owed →
-      length announced + length (messages_sent owed) ≤ 2 ^ 32 →
       WouldTake p side e payload
       ((Told (Completed (e.transport.sending.epoch + 1)) ∷ (owed ++ items_sent (announced ++ last)))
       ++ Took None message payload ∷ [])
@@ -55,3 +54,11 @@ pub data WouldTake {K : Type 0} (p : Parties K) (side : Side) (e : EndState K) (
   refused_above : (refusal : Refusal) (reason : ℕ) (said : List ℕ) → RefusesAbove p e payload refusal →
       CanSay e.transport refusal reason said →
       WouldTake p side e payload (said_items refusal (Some payload) reason said)
+
+-- All replies that are owed can be given, each with a payload that spells it.
+pub record CanSettle (channels : Channels) : Type 0 where
+  pub items : List Item
+  pub settled : Channels
+  pub gives : GivesOwed channels items settled
+  pub none_left : settled.owed ≡ []
+  pub spelled : AreSpelled items
