@@ -90,9 +90,14 @@ pub fn pieces<K>()
     ensures { (p : Parties K) → IsSealing p.crypto → (side : Side) (history last : List Item) (one two rest : List ℕ) → Delivered (end_reading p side) history (one ++ two) last rest ↔ InPieces (end_reading p side) history one two last rest }
 {}
 
-/// What the bytes that come to one end make of it goes on with its run, and is a delivery in each run of two of which its
-/// history is a part.
+/// An end that uses a unit, and then whatever it makes of the bytes behind it, has made that of all of them; one that waits
+/// keeps them; and a dead one drops them. What the bytes make of an end goes on with its run, and is a delivery in each run
+/// of two of which its history is a part.
 pub fn deliveries<K>()
+    ensures unit { (p : Parties K) (side : Side) (history : List Item) (e : EndState K) → EndSumsUp p side history e → e.transport.dead ≡ false → (unit : List ℕ) (items : List Item) (more : List ℕ) (new : EndState K) → EndTurned p side history (OnUnit p side history unit) items more new →
+        (behind : List ℕ) (last : List Item) (rest : List ℕ) → Delivered (end_reading p side) (items ++ history) behind last rest → Delivered (end_reading p side) history (unit ++ behind) last rest }
+    ensures waits { (p : Parties K) (side : Side) (history : List Item) (e : EndState K) → EndSumsUp p side history e → e.transport.dead ≡ false → (bytes : List ℕ) → Waits (end_reading p side) history bytes → Delivered (end_reading p side) history bytes history bytes }
+    ensures dead { (p : Parties K) (side : Side) (history : List Item) (e : EndState K) → EndSumsUp p side history e → e.transport.dead ≡ true → (bytes : List ℕ) → Delivered (end_reading p side) history bytes history [] }
     ensures run { (p : Parties K) (side : Side) (history last : List Item) (bytes rest : List ℕ) → Delivered (end_reading p side) history bytes last rest → EndRun p side history → EndRun p side last }
     ensures session { (p : Parties K) (side : Side) (run : List Done) (last : List Item) (bytes rest : List ℕ) → Delivered (end_reading p side) (part side run) bytes last rest → DeliversTo p side run bytes last rest }
 {}

@@ -13,6 +13,7 @@ mod line;
 mod message;
 pub mod one_end;
 mod packet;
+pub mod pair;
 pub mod parts;
 pub mod session;
 mod stream;

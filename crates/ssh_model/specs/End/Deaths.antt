@@ -15,7 +15,8 @@ use Rattle.ssh_model.specs.TransportLayer.Turns.{IsRefused, refusal_items}
 use Rattle.ssh_model.specs.End.State.{Authentication, EndState, above_checks}
 use Rattle.ssh_model.specs.End.Payloads.{Admits, AnswersAbove, GivesOwed, ReadsAbove, RefusesAbove}
 
--- The refusal can be said: it has a reason code, the DISCONNECT that says so is spelled so, and a number is left for it.
+-- The refusal can be said: it has a reason code, the DISCONNECT that says so is spelled so, and a number is left for
+-- it.
 pub record CanSay {K : Type 0} (s : Transport K) (refusal : Refusal) (reason : ℕ) (said : List ℕ) : Type 0 where
   pub reason_is : refusal_reason refusal ≡ Some reason
   pub spelled : IsSpelled (Disconnect reason (refusal_name refusal) []) said
