@@ -11,3 +11,4 @@ pub mod Packets
 pub mod Turning
 pub mod Ending
 pub mod Units
+pub mod Secrets

@@ -10,3 +10,4 @@ pub mod Units
 pub mod Asks
 pub mod Reading
 pub mod Laws
+pub mod Pair

@@ -5,3 +5,4 @@ pub mod Deaths
 pub mod Units
 pub mod Asks
 pub mod Reading
+pub mod Pair

@@ -10,26 +10,28 @@ ghost use Rattle.ssh_model.specs.Wire.Unit.{IsPacketBegun};
 ghost use Rattle.ssh_model.specs.Wire.Delivery.{Delivered, InPieces, Waits};
 ghost use Rattle.ssh_model.specs.KeyExchange.Exchanges.{exchanges, session_id};
 ghost use Rattle.ssh_model.specs.Sessions.Refusals.{first_refusal};
-ghost use Rattle.ssh_model.specs.Sessions.Parties.{Parties, offer, settings_of};
+ghost use Rattle.ssh_model.specs.Sessions.Parties.{AreLawful, Parties, offer, settings_of};
 ghost use Rattle.ssh_model.specs.Sessions.Items.{Ask, Done, Item, Item.Fed, Item.SentLine, Item.Sent, Spelled.SpelledBy};
 ghost use Rattle.ssh_model.specs.Sessions.Phases.{Phase.Normal, may_take, probing};
 ghost use Rattle.ssh_model.specs.Sessions.Turns.{AsksTurn, EndRun, FeedsTurn, IsMaterial, OnPayload, OnUnit, answer_checks, ask_checks};
 ghost use Rattle.ssh_model.specs.TransportLayer.Directions.{new_direction};
-ghost use Rattle.ssh_model.specs.TransportLayer.Kept.{Transport};
+ghost use Rattle.ssh_model.specs.TransportLayer.Kept.{Transport, after_wiping};
 ghost use Rattle.ssh_model.specs.TransportLayer.Summary.{SumsUp};
 ghost use Rattle.ssh_model.specs.TransportLayer.Turns.{PutsPackets};
 ghost use Rattle.ssh_model.specs.End.State.{EndState, above_checks, new_end, probes, session_of, takes_above};
 ghost use Rattle.ssh_model.specs.End.Summary.{EndSumsUp, EndTurned, HasOpened};
 ghost use Rattle.ssh_model.specs.End.Payloads.{ReadsAbove, TakesPayload};
+ghost use Rattle.ssh_model.specs.End.Deaths.{CanSettle};
 ghost use Rattle.ssh_model.specs.End.Units.{TakesPair, TakesUnit};
 ghost use Rattle.ssh_model.specs.End.Asks.{TakesAsk, end_ask_checks};
 ghost use Rattle.ssh_model.specs.End.Reading.{DeliversTo, end_reading};
 
 /// An end that was fed a pair and put out its version line with CR LF and a packet of its first KEXINIT has opened, and
-/// what it keeps sums up its opening.
+/// what it keeps sums up its opening, with which its run begins.
 pub fn openings<K>()
-    ensures { (p : Parties K) (side : Side) (cookie secret payload more : List ℕ) → IsMaterial cookie secret → PutsPackets p.crypto new_direction (SpelledBy (KexInit (offer p side true cookie)) payload ∷ []) more →
+    ensures opened { (p : Parties K) (side : Side) (cookie secret payload more : List ℕ) → IsMaterial cookie secret → PutsPackets p.crypto new_direction (SpelledBy (KexInit (offer p side true cookie)) payload ∷ []) more →
         HasOpened p side (Sent None (KexInit (offer p side true cookie)) payload ∷ SentLine (settings_of p side).line ∷ Fed cookie secret ∷ []) (((settings_of p side).line ++ line_end) ++ more) (new_end (settings_of p side) side secret payload) }
+    ensures run { (p : Parties K) (side : Side) (items : List Item) (bytes : List ℕ) (e : EndState K) → HasOpened p side items bytes e → EndRun p side items }
 {}
 
 /// Outside an exchange an end takes the numbers from 50 on that a session takes, by what it keeps; it refuses the messages
@@ -66,6 +68,16 @@ pub fn feeds<K>()
     ensures run { (p : Parties K) (side : Side) (history : List Item) (e : EndState K) → EndSumsUp p side history e → EndRun p side history → (cookie secret : List ℕ) (items : List Item) (more : List ℕ) (new : EndState K) → EndTurned p side history (FeedsTurn side history cookie secret) items more new → EndRun p side (items ++ history) }
 {}
 
+/// The secret of an exchange that is over may be written over: what an end keeps goes on summing up its history.
+pub fn secrets<K>()
+    ensures { (p : Parties K) (side : Side) (history : List Item) (e : EndState K) (bytes : List ℕ) → e.transport.blocked ≡ false → EndSumsUp p side history e → EndSumsUp p side history (record e { transport = after_wiping bytes e.transport }) }
+{}
+
+/// The replies that an end of lawful parties owes can all be given, and each has a spelling.
+pub fn owed_replies<K>()
+    ensures { (p : Parties K) → AreLawful p → (side : Side) (history : List Item) (e : EndState K) → EndSumsUp p side history e → e.transport.dead ≡ false → EndRun p side history → CanSettle e.channels }
+{}
+
 /// An end that has a prefix of a line or of a packet, by what it keeps, waits for more.
 pub fn waiting<K>()
     ensures packets { (p : Parties K) (side : Side) (history : List Item) (s : Transport K) → SumsUp p side history s → s.dead ≡ false → IsSealing p.crypto → s.lines.found ≡ true → (bytes : List ℕ) → IsPacketBegun p.crypto s.taking.key s.taking.count bytes → Waits (end_reading p side) history bytes }
@@ -78,9 +90,14 @@ pub fn pieces<K>()
     ensures { (p : Parties K) → IsSealing p.crypto → (side : Side) (history last : List Item) (one two rest : List ℕ) → Delivered (end_reading p side) history (one ++ two) last rest ↔ InPieces (end_reading p side) history one two last rest }
 {}
 
-/// What the bytes that come to one end make of it goes on with its run, and is a delivery in each run of two of which its
-/// history is a part.
+/// An end that uses a unit, and then whatever it makes of the bytes behind it, has made that of all of them; one that waits
+/// keeps them; and a dead one drops them. What the bytes make of an end goes on with its run, and is a delivery in each run
+/// of two of which its history is a part.
 pub fn deliveries<K>()
+    ensures unit { (p : Parties K) (side : Side) (history : List Item) (e : EndState K) → EndSumsUp p side history e → e.transport.dead ≡ false → (unit : List ℕ) (items : List Item) (more : List ℕ) (new : EndState K) → EndTurned p side history (OnUnit p side history unit) items more new →
+        (behind : List ℕ) (last : List Item) (rest : List ℕ) → Delivered (end_reading p side) (items ++ history) behind last rest → Delivered (end_reading p side) history (unit ++ behind) last rest }
+    ensures waits { (p : Parties K) (side : Side) (history : List Item) (e : EndState K) → EndSumsUp p side history e → e.transport.dead ≡ false → (bytes : List ℕ) → Waits (end_reading p side) history bytes → Delivered (end_reading p side) history bytes history bytes }
+    ensures dead { (p : Parties K) (side : Side) (history : List Item) (e : EndState K) → EndSumsUp p side history e → e.transport.dead ≡ true → (bytes : List ℕ) → Delivered (end_reading p side) history bytes history [] }
     ensures run { (p : Parties K) (side : Side) (history last : List Item) (bytes rest : List ℕ) → Delivered (end_reading p side) history bytes last rest → EndRun p side history → EndRun p side last }
     ensures session { (p : Parties K) (side : Side) (run : List Done) (last : List Item) (bytes rest : List ℕ) → Delivered (end_reading p side) (part side run) bytes last rest → DeliversTo p side run bytes last rest }
 {}

@@ -18,7 +18,7 @@ ghost use Rattle.ssh_model.specs.Sessions.Epochs.{epoch};
 ghost use Rattle.ssh_model.specs.Sessions.Phases.{Phase.Guessed, is_client, has_line, may_take};
 ghost use Rattle.ssh_model.specs.TransportLayer.Directions as directions;
 ghost use Rattle.ssh_model.specs.TransportLayer.Directions.{Direction, counted, new_direction, renewed};
-ghost use Rattle.ssh_model.specs.TransportLayer.Kept.{Answered, Asks, Completes, Takes, Transport, new_transport, after_sent, after_taken, after_line, after_other_line, after_success, after_fed, after_guess, can_be_fed, message_ask_checks, message_checks, takes};
+ghost use Rattle.ssh_model.specs.TransportLayer.Kept.{Answered, Asks, Completes, Takes, Transport, new_transport, after_sent, after_taken, after_line, after_other_line, after_success, after_fed, after_guess, after_wiping, can_be_fed, message_ask_checks, message_checks, takes};
 ghost use Rattle.ssh_model.specs.TransportLayer.Summary.{Accepts, Allows, Ends, SumsUp, answer_items, items_sent, parts_of, IsAwaited, IsPlain, IsTransportMessage, LeavesTransport};
 ghost use Rattle.ssh_model.specs.TransportLayer.Turns.{AskTurned, EndedBy, IsRefused, IsTransportAsk, PutOut, PutsPackets, Reads, SaysWhy, Turned, UnitRefused, refusal_items};
 
@@ -104,6 +104,13 @@ pub fn asks<K>()
 pub fn guesses_and_material<K>()
     ensures guess { (p : Parties K) (side : Side) (history : List Item) (s : Transport K) (payload : List ℕ) → s.phase ≡ Guessed → SumsUp p side history s → SumsUp p side (TookGuess payload ∷ history) (after_guess s) }
     ensures fed { (p : Parties K) (side : Side) (history : List Item) (s : Transport K) (cookie secret : List ℕ) → s.material ≡ None → SumsUp p side history s → SumsUp p side (Fed cookie secret ∷ history) (after_fed cookie secret s) }
+{}
+
+/// The secret of an exchange is kept no longer than the end is blocked: what is kept goes on summing up the history with
+/// anything in its place.
+#[tactic(auto, using(crate::proofs::TransportLayer::Secrets::wiped))]
+pub fn secrets<K>()
+    ensures { (p : Parties K) (side : Side) (history : List Item) (s : Transport K) (bytes : List ℕ) → s.blocked ≡ false → SumsUp p side history s → SumsUp p side history (after_wiping bytes s) }
 {}
 
 /// What a line or a packet is to an end, by what its transport keeps, it is in a session; and where it is refused for what it

@@ -1,9 +1,11 @@
 -- What the layers above answer, by what an end keeps, is what a session answers.
-use Rattle.std.proofs.Common.{◌≡◌, ℕ, ◌<◌, ◌^◌, List, [], ◌∷◌, ◌++◌, sym, ◌∙◌, subst, Bool, false, Option, Some, None}
+use Rattle.std.proofs.Common.{◌≡◌, ℕ, ◌<◌, ◌^◌, List, [], ◌∷◌, ◌++◌, sym, ◌∙◌, subst, Bool, false, Option, Some, None, not, ◌&&◌, nat_le, ◌≤◌, length, true, arith, refl}
+use Rattle.std.proofs.lemmas.Bool.{leb-false}
+use Rattle.std.proofs.lemmas.List.{length-append}
 use Rattle.ssh_model.specs.Side.{Side, Side.Client, Side.Server}
 use Rattle.ssh_model.specs.Wire.Message.{Msg, Msg.ServiceRequest, Msg.ServiceAccept, Msg.KexInit, Msg.NewKeys, Msg.KexEcdhInit, Msg.KexEcdhReply, Msg.UserauthRequest, Msg.UserauthFailure, Msg.UserauthSuccess, Msg.UserauthPkOk, Msg.Unimplemented, Msg.Unknown, Msg.GlobalRequest, Msg.RequestSuccess, Msg.RequestFailure, Msg.ChannelOpen, Msg.ChannelOpenConfirmation, Msg.ChannelOpenFailure, Msg.ChannelWindowAdjust, Msg.ChannelData, Msg.ChannelExtendedData, Msg.ChannelEof, Msg.ChannelClose, Msg.ChannelRequest, Msg.ChannelSuccess, Msg.ChannelFailure}
 use Rattle.ssh_model.specs.KeyExchange.Exchanges.{exchanges, session_id}
-use Rattle.ssh_model.specs.Sessions.Refusals.{Check, first_refusal}
+use Rattle.ssh_model.specs.Sessions.Refusals.{Check, Check.RefusedWhere, Refusal.OwedFull, first_refusal, Refusal.UnknownChannel}
 use Rattle.ssh_model.specs.Sessions.Parties.{Parties}
 use Rattle.ssh_model.specs.Sessions.Items.{Fact, Item, Item.Sent, Item.Took, Item.Told}
 use Rattle.ssh_model.specs.Sessions.Transport as transport_row
@@ -15,8 +17,9 @@ use Rattle.ssh_model.specs.Authentication.Summary.{ServerAccepts, items_of}
 use Rattle.ssh_model.specs.Channels.Message.{Message.OpenFailure, Message.Close}
 use Rattle.ssh_model.specs.Channels.Connection.{AreReplies, owed_replies}
 use Rattle.ssh_model.specs.Channels.Connection as connection
-use Rattle.ssh_model.specs.Channels.Kept.{Channels, DueReply, DueReply.RefusesOpen, DueReply.AnswersClose, Taken, take_checks}
+use Rattle.ssh_model.specs.Channels.Kept.{Channels, DueReply, DueReply.RefusesOpen, DueReply.AnswersClose, Taken, take_checks, close_taken, has_said_close, is_queue_full, is_table_full, owed_where, peer_of}
 use Rattle.ssh_model.specs.Channels.Kept as channels
+use Rattle.ssh_model.specs.Channels.Places.{at, is_at, is_open}
 use Rattle.ssh_model.specs.Channels.Summary.{replied, told}
 use Rattle.ssh_model.specs.End.State.{Authentication, Authentication.OfServer, Authentication.OfClient, EndState, above_checks, authentication_refuses, session_of}
 use Rattle.ssh_model.specs.End.Summary.{AuthenticationSumsUp, AboveSumsUp, EndSumsUp, ServerKeeps}
@@ -64,6 +67,7 @@ module _ {K : Type 0} (p : Parties K) (h : List Item) (server : kept.Server) (ha
         above = record {
           authentication_sums = record { sums = x.sums payload reply; none_made = has.none_made };
           channels_sum = channels_kept Server h n (Told _ ∷ Took None (UserauthRequest user service how) payload ∷ []) (record { channels = tt; owed = tt }, (record { channels = tt; owed = tt }, tt)) channels_sum.channels_sum;
+          few_owed = channels_sum.few_owed;
         };
       }
   server_answers m payload reply answered new (ServerTakes.accepted user service how e f) =
@@ -78,6 +82,7 @@ module _ {K : Type 0} (p : Parties K) (h : List Item) (server : kept.Server) (ha
           authentication_sums = record { sums = x.sums payload reply; none_made = has.none_made };
           channels_sum = channels_kept Server h n (Told _ ∷ Sent None UserauthSuccess reply ∷ Took None (UserauthRequest user service how) payload ∷ [])
               (record { channels = tt; owed = tt }, (record { channels = tt; owed = tt }, (record { channels = tt; owed = tt }, tt))) channels_sum.channels_sum;
+          few_owed = channels_sum.few_owed;
         };
       }
   server_answers m payload reply answered new (ServerTakes.probed user service algorithm key e f) =
@@ -91,6 +96,7 @@ module _ {K : Type 0} (p : Parties K) (h : List Item) (server : kept.Server) (ha
         above = record {
           authentication_sums = record { sums = x.sums payload reply; none_made = has.none_made };
           channels_sum = channels_kept Server h n (Sent None (UserauthPkOk algorithm key) reply ∷ Took None (UserauthRequest user service _) payload ∷ []) (record { channels = tt; owed = tt }, (record { channels = tt; owed = tt }, tt)) channels_sum.channels_sum;
+          few_owed = channels_sum.few_owed;
         };
       }
   server_answers m payload reply answered new (ServerTakes.failed user service how e f) =
@@ -104,6 +110,7 @@ module _ {K : Type 0} (p : Parties K) (h : List Item) (server : kept.Server) (ha
         above = record {
           authentication_sums = record { sums = x.sums payload reply; none_made = has.none_made };
           channels_sum = channels_kept Server h n (Sent None (UserauthFailure p.server.methods false) reply ∷ Took None (UserauthRequest user service how) payload ∷ []) (record { channels = tt; owed = tt }, (record { channels = tt; owed = tt }, tt)) channels_sum.channels_sum;
+          few_owed = channels_sum.few_owed;
         };
       }
 
@@ -122,6 +129,7 @@ module _ {K : Type 0} (p : Parties K) (h : List Item) (client : kept.Client) (n 
         above = record {
           authentication_sums = y.sums payload [];
           channels_sum = channels_kept Client h n (Told fact ∷ Took None m payload ∷ []) (record { channels = tt; owed = tt }, (off, tt)) has.channels_sum;
+          few_owed = has.few_owed;
         };
       }
 
@@ -167,6 +175,36 @@ channels_take b c new m taken (channels.Takes.close x) = tt
 channels_take b c new m taken (channels.Takes.request x y z u) = tt
 channels_take b c new m taken (channels.Takes.success x) = tt
 channels_take b c new m taken (channels.Takes.no_success x) = tt
+
+-- ---- what is owed
+
+owe_one : (r : DueReply) (l : List DueReply) → length l < 256 → length (l ++ r ∷ []) ≤ 256
+owe_one r l few = omega (arith, few, length-append l (r ∷ []))
+
+-- no check holds, so the queue has room
+not_full : (b c : Bool) → b ≡ true → first_refusal (RefusedWhere (b && c) OwedFull ∷ []) ≡ None → c ≡ false
+not_full true true e f = absurd (cc f)
+not_full true false e f = refl
+not_full false c e f = absurd (cc e)
+
+none_tail : {Why : Type 0} (holds : Bool) (why : Why) (l : List (Check Why)) → first_refusal (RefusedWhere holds why ∷ l) ≡ None → first_refusal l ≡ None
+none_tail true why l e = absurd (cc e)
+none_tail false why l e = e
+
+close_owed : (said d : Bool) (c : Channels) (x to : ℕ) → first_refusal (RefusedWhere (not said && is_queue_full d c.owed) OwedFull ∷ []) ≡ None → length c.owed ≤ 256 → length (close_taken said d x to c).owed ≤ 256
+close_owed true true c x to e few = few
+close_owed true false c x to e few = few
+close_owed false false c x to e few = few
+close_owed false true c x to e few = owe_one (AnswersClose x to) c.owed (leb-false 256 (length c.owed) (not_full true (nat_le 256 (length c.owed)) refl e))
+
+takes_owed : (b : Bool) (c new : Channels) (m : Msg) (taken : Taken) → first_refusal (take_checks b c m) ≡ None → channels.Takes b c m taken new → length c.owed ≤ 256 → length new.owed ≤ 256
+takes_owed b c new m taken fine (channels.Takes.open_refused kind sender window most rest full) few = refused_owed b fine
+  where
+    refused_owed : (d : Bool) → first_refusal (RefusedWhere (is_table_full c.places && is_queue_full d c.owed) OwedFull ∷ []) ≡ None → length (owed_where d (RefusesOpen sender) c).owed ≤ 256
+    refused_owed true f = owe_one (RefusesOpen sender) c.owed (leb-false 256 (length c.owed) (not_full (is_table_full c.places) (is_queue_full true c.owed) full f))
+    refused_owed false f = few
+takes_owed b c new m taken fine (channels.Takes.close x) few = close_owed (has_said_close (at c.places x)) b c x (peer_of (at c.places x)) (none_tail (not (is_at is_open (at c.places x))) UnknownChannel (RefusedWhere (not (has_said_close (at c.places x)) && is_queue_full b c.owed) OwedFull ∷ []) fine) few
+takes_owed b c new m taken fine x few = few
 
 connection_above : (side : Side) (m : Msg) → IsConnection m → IsTakenAbove side m
 connection_above side (ServiceRequest x) l = elim l [ ]
@@ -271,6 +309,7 @@ module _ {K : Type 0} (p : Parties K) where
             authentication_sums = connection_told side (Took taken.channel m payload ∷ h) e.authentication taken.fact (reply_items taken.reply reply)
                 (connection_replied side (Took taken.channel m payload ∷ h) e.authentication taken.reply reply (connection_taken side h e.authentication taken.channel m payload is above.authentication_sums));
             channels_sum = y.sums payload (reply_items taken.reply reply) (replies_are taken.reply reply);
+            few_owed = takes_owed e.transport.blocked e.channels new m taken (none_behind (authentication_refuses p (session_of e) e.authentication m) (take_checks e.transport.blocked e.channels m) fine) x above.few_owed;
           };
         }
 

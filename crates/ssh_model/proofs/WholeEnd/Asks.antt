@@ -1,5 +1,5 @@
 -- What an end makes of an ask, by what it keeps, is a turn of a session.
-use Rattle.std.proofs.Common.{◌≡◌, ℕ, zero, suc, ◌^◌, ◌<◌, List, [], ◌∷◌, ◌++◌, length, refl, ap, sym, ◌∙◌, subst, arith, cond, Bool, true, false, not, nat_le, Option, Some, None, append-nil, append_assoc}
+use Rattle.std.proofs.Common.{◌≡◌, ℕ, zero, suc, ◌^◌, ◌<◌, List, [], ◌∷◌, ◌++◌, length, refl, ap, sym, ◌∙◌, subst, arith, cond, Bool, true, false, not, nat_le, Option, Some, None, append-nil, append_assoc, ◌≤◌}
 use Rattle.ssh_model.specs.Side.{Side, Side.Client, Side.Server}
 use Rattle.ssh_model.specs.Wire.Message.{Msg, Msg.ServiceRequest, Msg.KexInit, Msg.KexEcdhInit, Msg.KexEcdhReply, Msg.NewKeys, Msg.UserauthRequest, Msg.UserauthSuccess, Msg.ServiceAccept, Msg.UserauthFailure, Msg.Disconnect}
 use Rattle.ssh_model.specs.KeyExchange.Exchange.{Inputs}
@@ -156,6 +156,23 @@ channels_send c new ask sent (Sends.global x y z) = tt
 channels_send c new ask sent (Sends.global_yes x) = tt
 channels_send c new ask sent (Sends.global_no x) = tt
 
+-- what is owed stays
+sends_owed : (c new : Channels) (ask : Ask) (sent : channels.Sent) → Sends c ask sent new → length c.owed ≤ 256 → length new.owed ≤ 256
+sends_owed c new ask sent (Sends.opens x y z u v w q) few = few
+sends_owed c new ask sent (Sends.confirm x y z u v) few = few
+sends_owed c new ask sent (Sends.refuse x y) few = few
+sends_owed c new ask sent (Sends.gives_data x y) few = few
+sends_owed c new ask sent (Sends.gives_extended x y z) few = few
+sends_owed c new ask sent (Sends.adjust x y) few = few
+sends_owed c new ask sent (Sends.eof x) few = few
+sends_owed c new ask sent (Sends.close x) few = few
+sends_owed c new ask sent (Sends.request x y z u) few = few
+sends_owed c new ask sent (Sends.reply_yes x) few = few
+sends_owed c new ask sent (Sends.reply_no x) few = few
+sends_owed c new ask sent (Sends.global x y z) few = few
+sends_owed c new ask sent (Sends.global_yes x) few = few
+sends_owed c new ask sent (Sends.global_no x) few = few
+
 -- ---- a client's request
 
 request_sent : (signature : List ℕ → List ℕ → List ℕ → List ℕ → List ℕ) (session : List ℕ) (client new : kept.Client) (ask : Ask) (m : Msg) → ClientSends signature session client ask m new → (b : List ℕ) → (AreUpper Client (Sent None m b ∷ []) × AreAnswers (Sent None m b ∷ [])) × Off (Sent None m b)
@@ -185,6 +202,7 @@ module _ {K : Type 0} (p : Parties K) where
         above = record {
           authentication_sums = y.sums b;
           channels_sum = channels_kept Client h e.channels (Sent None m b ∷ Asked ask ∷ []) (r.1, (record { channels = tt; owed = tt }, tt)) above.channels_sum;
+          few_owed = above.few_owed;
         };
       }
   asked_client Server h e sums alive session client new ask m b has is x =
@@ -233,6 +251,7 @@ module _ {K : Type 0} (p : Parties K) where
             authentication_sums = kept_of side (Asked ask ∷ h) e.authentication sent.fact sent.channel sent.message b (server_message sent.channel sent.message b is) (client_message sent.channel sent.message b is)
                 (authentication_kept side h e.authentication (Asked ask) tt tt above.authentication_sums);
             channels_sum = y.sums b;
+            few_owed = sends_owed e.channels new ask sent x above.few_owed;
           };
         }
 

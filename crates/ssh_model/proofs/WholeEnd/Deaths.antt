@@ -28,7 +28,7 @@ use Rattle.ssh_model.proofs.WholeEnd.Above.{welcomed_above}
 use Rattle.ssh_model.proofs.WholeEnd.Answers.{answered_above}
 use Rattle.ssh_model.proofs.WholeEnd.Ending.{all_given}
 use Rattle.ssh_model.proofs.WholeEnd.Out.{AreAnswers, all_numbered}
-use Rattle.ssh_model.proofs.WholeEnd.Owed.{given}
+use Rattle.ssh_model.proofs.WholeEnd.Owed.{given, gives_length}
 use Rattle.ssh_model.proofs.WholeEnd.Payloads as payloads
 
 -- ---- items of messages
@@ -64,6 +64,12 @@ ended_numbered p side h s c payload m last announced completed new is (kept.Comp
 ended_numbered p side h s c payload m last announced completed new is (kept.Completes.init q_c reply newkeys e here chosen (kept.Announces.extensions ext f)) few = ((omega arith, (omega (arith, few, is), (omega (arith, few, is), tt))), refl)
 ended_numbered p side h s c payload m last announced completed new is (kept.Completes.init q_c reply newkeys e here chosen (kept.Announces.nothing f)) few = ((omega (arith, few, is), (omega (arith, few, is), tt)), refl)
 
+announced_few : {K : Type 0} (p : Parties K) (side : Side) (s : Transport K) (c : Chosen) (m : Msg) (last announced : List Spelled) (completed new : Transport K) → Completes p.crypto (parts_of p side) c s m last announced completed new → length announced ≤ 1
+announced_few p side s c m last announced completed new (kept.Completes.reply k_s q_s signature newkeys e here is (kept.Announces.extensions ext f)) = omega arith
+announced_few p side s c m last announced completed new (kept.Completes.reply k_s q_s signature newkeys e here is (kept.Announces.nothing f)) = omega arith
+announced_few p side s c m last announced completed new (kept.Completes.init q_c reply newkeys e here is (kept.Announces.extensions ext f)) = omega arith
+announced_few p side s c m last announced completed new (kept.Completes.init q_c reply newkeys e here is (kept.Announces.nothing f)) = omega arith
+
 module _ {K : Type 0} (p : Parties K) (side : Side) (h : List Item) (e : EndState K) (sums : EndSumsUp p side h e) (alive : e.transport.dead ≡ false) where
   live : Live p side (view p side h) e.transport
   live = sums.transport.live alive
@@ -83,9 +89,8 @@ module _ {K : Type 0} (p : Parties K) (side : Side) (h : List Item) (e : EndStat
       (omega (arith, y.0.sums.count_is, few, fact_length answered.fact l, sent_length answered.sent)))
 
   would_end : (c : Chosen) (m : Msg) (payload : List ℕ) (last announced : List Spelled) (completed s : Transport K) (owed : List Item) (n : Channels) → Admits p side e.transport c m payload →
-      Completes p.crypto (parts_of p side) c e.transport m last announced completed s → AreSpelled (items_sent (announced ++ last)) → e.transport.sending.count + length last ≤ 2 ^ 32 → GivesOwed e.channels owed n → n.owed ≡ [] → AreSpelled owed →
-      length announced + length (messages_sent owed) ≤ 2 ^ 32 → OnPayload p side h payload ((Told (Completed (e.transport.sending.epoch + 1)) ∷ (owed ++ items_sent (announced ++ last))) ++ Took None m payload ∷ [])
-  would_end c m payload last announced completed s owed n a x spelled few o none owed_spelled left =
+      Completes p.crypto (parts_of p side) c e.transport m last announced completed s → AreSpelled (items_sent (announced ++ last)) → e.transport.sending.count + length last ≤ 2 ^ 32 → GivesOwed e.channels owed n → n.owed ≡ [] → AreSpelled owed → OnPayload p side h payload ((Told (Completed (e.transport.sending.epoch + 1)) ∷ (owed ++ items_sent (announced ++ last))) ++ Took None m payload ∷ [])
+  would_end c m payload last announced completed s owed n a x spelled few o none owed_spelled =
       let above = sums.above alive in
       let row = ends_row p h e.transport alive c side sums.transport payload m last announced completed s x in
       let v = given side h (owed_replies side h) e.authentication e.channels above.channels_sum above.authentication_sums owed n o in
@@ -93,11 +98,11 @@ module _ {K : Type 0} (p : Parties K) (side : Side) (h : List Item) (e : EndStat
       let numbered = ended_numbered p side h e.transport c payload m last announced completed s live.sending.count_is x few in
       session.OnPayload.takes None m (welcomed p side h e.transport sums.transport alive c m payload a.reads a.awaited a.unrefused) (session.Answer.of_completion replies (row.answer owed))
       (both_spelled owed (items_sent (announced ++ last)) owed_spelled spelled)
-      (both_numbered owed (items_sent (announced ++ last)) (Took None m payload ∷ h) (all_numbered (items_sent (announced ++ last) ++ (Took None m payload ∷ h)) owed v.answers (omega (arith, numbered.1, left))) numbered.0)
+      (both_numbered owed (items_sent (announced ++ last)) (Took None m payload ∷ h) (all_numbered (items_sent (announced ++ last) ++ (Took None m payload ∷ h)) owed v.answers (omega (arith, numbered.1, announced_few p side e.transport c m last announced completed s x, above.few_owed, gives_length e.channels owed n o))) numbered.0)
 
   pub would : (payload : List ℕ) (items : List Item) → WouldTake p side e payload items → OnPayload p side h payload items
   would payload items (end.WouldTake.answered c m answered s a x spelled few) = would_answer c m payload answered s a x spelled few
-  would payload items (end.WouldTake.ended {owed = owed} {channels = n} c m last announced completed s a x spelled few o none owed_spelled left) = would_end c m payload last announced completed s owed n a x spelled few o none owed_spelled left
+  would payload items (end.WouldTake.ended {owed = owed} {channels = n} c m last announced completed s a x spelled few o none owed_spelled) = would_end c m payload last announced completed s owed n a x spelled few o none owed_spelled
   would payload items (end.WouldTake.above {items = l} {authentication = a} {channels = n} m c r fine x spelled few) =
       let v = answered_above p side h e sums alive m payload c l a n r fine x in
       let st = stands_taken p side h c m payload e.transport.sending v.no_offer (stands_live p side h e.transport live) in

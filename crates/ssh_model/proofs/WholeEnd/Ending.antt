@@ -1,5 +1,6 @@
 -- The turn in which an end completes an exchange, with the replies that it owed; and all turns of a payload.
-use Rattle.std.proofs.Common.{◌≡◌, ℕ, ◌+◌, List, [], ◌∷◌, ◌++◌, refl, ap, sym, ◌∙◌, subst, true, false, None, append_assoc}
+use Rattle.std.proofs.Common.{◌≡◌, ℕ, ◌+◌, List, [], ◌∷◌, ◌++◌, refl, ap, sym, ◌∙◌, subst, true, false, None, append_assoc, ◌≤◌, length}
+use Rattle.std.proofs.lemmas.Bool.{leb-true}
 use Rattle.ssh_model.specs.Side.{Side}
 use Rattle.ssh_model.specs.Wire.Message.{Msg}
 use Rattle.ssh_model.specs.KeyExchange.Choice.{Chosen}
@@ -9,7 +10,7 @@ use Rattle.ssh_model.specs.Sessions.Events.{PutsOut, PutsOut.other as put_other}
 use Rattle.ssh_model.specs.Sessions.Turns.{OnPayload}
 use Rattle.ssh_model.specs.Channels.Connection.{AreReplies, owed_replies}
 use Rattle.ssh_model.specs.Channels.History as channel
-use Rattle.ssh_model.specs.Channels.Kept.{Channels}
+use Rattle.ssh_model.specs.Channels.Kept.{Channels, DueReply}
 use Rattle.ssh_model.specs.Channels.Summary.{pending}
 use Rattle.ssh_model.specs.Channels.Summary as channels
 use Rattle.ssh_model.specs.TransportLayer.Kept.{Completes, Transport}
@@ -70,6 +71,7 @@ module _ {K : Type 0} (p : Parties K) (side : Side) (h : List Item) (e : EndStat
           above = λ t. record {
             authentication_sums = authentication_kept side (owed ++ g) e.authentication told tt tt v.authentication;
             channels_sum = subst (λ (l : List channel.Item). channels.SumsUp side (told ∷ (owed ++ g)) l n) empty (kept_elsewhere side (owed ++ g) (pending n.owed) n told tt v.sums);
+            few_owed = subst (λ (l : List DueReply). length l ≤ 256) (sym none) (leb-true 0 256 refl);
           };
         });
         puts = λ bytes t. subst (λ (l : List Item). PutsOut p side l (bytes ++ ((early ++ late) ++ later))) (ap (λ (l : List Item). told ∷ l) (sym (append_assoc (owed ++ items_sent (announced ++ last)) (Took None m payload ∷ []) h)))

@@ -70,6 +70,7 @@ pub one_kept : (side : Side) (h : List Item) (a : Authentication) (c : Channels)
 one_kept side h a c i l has = record {
   authentication_sums = authentication_kept side h a i l.server l.client has.authentication_sums;
   channels_sum = channels_one side h c i (record { channels = l.channels; owed = l.owed }) has.channels_sum;
+  few_owed = has.few_owed;
 }
 
 pub all_kept : (side : Side) (h : List Item) (a : Authentication) (c : Channels) (l : List Item) → AreLeft l → AboveSumsUp side h a c → AboveSumsUp side (l ++ h) a c

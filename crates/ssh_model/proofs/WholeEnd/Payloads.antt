@@ -111,6 +111,7 @@ opened_at Server h (OfServer server) n service payload reply is has = record {
     none_made = has.authentication_sums.none_made;
   };
   channels_sum = channels_kept Server h n (Sent None (ServiceAccept service) reply ∷ Took None (ServiceRequest service) payload ∷ []) (record { channels = tt; owed = tt }, (record { channels = tt; owed = tt }, tt)) has.channels_sum;
+  few_owed = has.few_owed;
 }
 opened_at Server h (OfClient client) n service payload reply is has = elim has.authentication_sums [ ]
 opened_at Client h a n service payload reply is has = absurd (cc is)
@@ -120,6 +121,7 @@ accepted_at : (side : Side) (h : List Item) (a : Authentication) (n : Channels) 
 accepted_at Client h (OfClient client) n service payload is has = record {
   authentication_sums = client_kept (Took None (ServiceAccept service) payload ∷ h) _ (Told Service) tt (client_opened h client None service payload has.authentication_sums);
   channels_sum = channels_kept Client h n (Told Service ∷ Took None (ServiceAccept service) payload ∷ []) (record { channels = tt; owed = tt }, (record { channels = tt; owed = tt }, tt)) has.channels_sum;
+  few_owed = has.few_owed;
 }
 accepted_at Client h (OfServer server) n service payload is has = elim has.authentication_sums [ ]
 accepted_at Server h a n service payload is has = absurd (cc is)

@@ -1,5 +1,5 @@
 -- The bytes that come to one end: in any pieces, and in a run of two.
-use Rattle.std.proofs.Common.{◌≡◌, ℕ, List, ◌++◌, refl, ap, sym, ◌∙◌, subst, true, false, ◌↔◌}
+use Rattle.std.proofs.Common.{◌≡◌, ℕ, List, ◌++◌, refl, ap, sym, ◌∙◌, subst, true, false, ◌↔◌, []}
 use Rattle.ssh_model.specs.Side.{Side, part, done_by}
 use Rattle.ssh_model.specs.Wire.Sealing.{IsSealing}
 use Rattle.ssh_model.specs.Wire.Line.{IsLineBegun}
@@ -16,6 +16,9 @@ use Rattle.ssh_model.specs.End.Reading.{EndUses, DeliversTo, end_reading}
 use Rattle.ssh_model.proofs.Sessions.EndRuns.{part_own, part_other}
 use Rattle.ssh_model.proofs.TransportLayer.Views.{key_same}
 use Rattle.ssh_model.proofs.Wire.Units.{reading_pieces, reading_waits}
+use Rattle.ssh_model.specs.Wire.Outcome.{Outcome}
+use Rattle.ssh_model.specs.End.State.{EndState}
+use Rattle.ssh_model.specs.End.Summary.{EndSumsUp, EndTurned}
 
 module _ {K : Type 0} (p : Parties K) (side : Side) where
   pub end_pieces : IsSealing p.crypto → (history last : List Item) (one two rest : List ℕ) → Delivered (end_reading p side) history (one ++ two) last rest ↔ InPieces (end_reading p side) history one two last rest
@@ -27,6 +30,25 @@ module _ {K : Type 0} (p : Parties K) (side : Side) where
   end_delivered h last bytes rest (waits alive w) r = r
   end_delivered h last bytes rest (takes {next = next} unit more e n a d) r =
       end_delivered next last more rest d (subst (λ (l : List Item). EndRun p side l) (sym a.next_is) (then_turn r (reads unit n.0 a.on_unit)))
+
+  -- ---- unit after unit
+
+  has_unit : (h : List Item) (unit : List ℕ) (items : List Item) → OnUnit p side h unit items → (o : Outcome) × IsUnit p.crypto (stage p side h) unit o
+  has_unit h unit items (OnUnit.reads o u x) = (o, u)
+  has_unit h unit items (OnUnit.dies o u x t) = (o, u)
+
+  module _ (h : List Item) (e : EndState K) (sums : EndSumsUp p side h e) where
+    pub after_unit : e.transport.dead ≡ false → (unit : List ℕ) (items : List Item) (more : List ℕ) (new : EndState K) → EndTurned p side h (OnUnit p side h unit) items more new → (behind : List ℕ) (last : List Item) (rest : List ℕ) →
+        Delivered (end_reading p side) (items ++ h) behind last rest → Delivered (end_reading p side) h (unit ++ behind) last rest
+    after_unit alive unit items more new t behind last rest d =
+        let u = has_unit h unit items t.turn in
+        takes unit behind refl (sym sums.transport.dead_is ∙ alive, u.0, u.1) (record { items = items; on_unit = t.turn; next_is = refl }) d
+
+    pub waits_now : e.transport.dead ≡ false → (bytes : List ℕ) → Waits (end_reading p side) h bytes → Delivered (end_reading p side) h bytes h bytes
+    waits_now alive bytes w = waits (λ z. cc (z, sums.transport.dead_is, alive)) w
+
+    pub dead_now : e.transport.dead ≡ true → (bytes : List ℕ) → Delivered (end_reading p side) h bytes h []
+    dead_now d bytes = dead bytes (sym sums.transport.dead_is ∙ d)
 
   -- ---- in a run of two
 

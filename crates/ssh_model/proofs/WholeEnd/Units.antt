@@ -1,6 +1,7 @@
 -- What an end makes of a unit of its stream, of a pair that it is fed, and its opening, are those of a session.
 use Rattle.std.proofs.Common.{◌≡◌, ℕ, ◌^◌, List, [], ◌∷◌, ◌++◌, refl, sym, ◌∙◌, subst, Bool, true, false, not, ◌&&◌, is_some, Option, Some, None, append-nil, nat_lt}
 use Rattle.std.specs.Prelude.{◌-◌}
+use Rattle.std.proofs.lemmas.Bool.{leb-true}
 use Rattle.ssh_model.specs.Side.{Side, Side.Client, Side.Server}
 use Rattle.ssh_model.specs.Wire.Message.{Msg.KexInit}
 use Rattle.ssh_model.specs.Wire.Line.{line_end}
@@ -116,8 +117,8 @@ module _ {K : Type 0} (p : Parties K) (side : Side) (h : List Item) (e : EndStat
 -- ---- the opening
 
 nothing_above : (side : Side) → AboveSumsUp side [] (new_authentication side) no_channels
-nothing_above Server = record { authentication_sums = record { sums = server_starts; none_made = refl }; channels_sum = starts Server }
-nothing_above Client = record { authentication_sums = client_starts; channels_sum = starts Client }
+nothing_above Server = record { authentication_sums = record { sums = server_starts; none_made = refl }; channels_sum = starts Server; few_owed = leb-true 0 256 refl }
+nothing_above Client = record { authentication_sums = client_starts; channels_sum = starts Client; few_owed = leb-true 0 256 refl }
 
 module _ {K : Type 0} (p : Parties K) where
   abbrev opening_items : Side → (cookie secret payload : List ℕ) → List Item

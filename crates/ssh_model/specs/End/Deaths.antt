@@ -15,7 +15,8 @@ use Rattle.ssh_model.specs.TransportLayer.Turns.{IsRefused, refusal_items}
 use Rattle.ssh_model.specs.End.State.{Authentication, EndState, above_checks}
 use Rattle.ssh_model.specs.End.Payloads.{Admits, AnswersAbove, GivesOwed, ReadsAbove, RefusesAbove}
 
--- The refusal can be said: it has a reason code, the DISCONNECT that says so is spelled so, and a number is left for it.
+-- The refusal can be said: it has a reason code, the DISCONNECT that says so is spelled so, and a number is left for
+-- it.
 pub record CanSay {K : Type 0} (s : Transport K) (refusal : Refusal) (reason : ℕ) (said : List ℕ) : Type 0 where
   pub reason_is : refusal_reason refusal ≡ Some reason
   pub spelled : IsSpelled (Disconnect reason (refusal_name refusal) []) said
@@ -40,7 +41,6 @@ pub data WouldTake {K : Type 0} (p : Parties K) (side : Side) (e : EndState K) (
       Completes p.crypto (parts_of p side) chosen e.transport message last announced completed transport →
       AreSpelled (items_sent (announced ++ last)) → e.transport.sending.count + length last ≤ 2 ^ 32 →
       GivesOwed e.channels owed channels → channels.owed ≡ [] → AreSpelled owed →
-      length announced + length (messages_sent owed) ≤ 2 ^ 32 →
       WouldTake p side e payload
       ((Told (Completed (e.transport.sending.epoch + 1)) ∷ (owed ++ items_sent (announced ++ last)))
       ++ Took None message payload ∷ [])
@@ -55,3 +55,11 @@ pub data WouldTake {K : Type 0} (p : Parties K) (side : Side) (e : EndState K) (
   refused_above : (refusal : Refusal) (reason : ℕ) (said : List ℕ) → RefusesAbove p e payload refusal →
       CanSay e.transport refusal reason said →
       WouldTake p side e payload (said_items refusal (Some payload) reason said)
+
+-- All replies that are owed can be given, each with a payload that spells it.
+pub record CanSettle (channels : Channels) : Type 0 where
+  pub items : List Item
+  pub settled : Channels
+  pub gives : GivesOwed channels items settled
+  pub none_left : settled.owed ≡ []
+  pub spelled : AreSpelled items

@@ -1,5 +1,5 @@
 -- When what an end keeps sums up its history, and what a turn makes of both (own).
-use Rattle.std.specs.Prelude.{◌≡◌, ℕ, false, None, List, ◌++◌}
+use Rattle.std.specs.Prelude.{◌≡◌, ℕ, false, None, List, ◌++◌, ◌≤◌, length}
 use Rattle.ssh_model.specs.Side.{Side, Side.Client, Side.Server}
 use Rattle.ssh_model.specs.Sessions.Parties.{Parties}
 use Rattle.ssh_model.specs.Sessions.Items.{Item}
@@ -25,11 +25,12 @@ AuthenticationSumsUp Server history (OfServer server) = ServerKeeps history serv
 AuthenticationSumsUp Client history (OfClient client) = ClientSumsUp history client
 AuthenticationSumsUp side history authentication = ⊥
 
--- so do both layers above the transport, between turns
+-- So do both layers above the transport, between turns, and no more replies are owed than may be.
 pub record AboveSumsUp (side : Side) (history : List Item) (authentication : Authentication)
     (channels : Channels) : Type 0 where
   pub authentication_sums : AuthenticationSumsUp side history authentication
   pub channels_sum : channel_layer.SumsUp side history (owed_replies side history) channels
+  pub few_owed : length channels.owed ≤ 256
 
 -- What an end keeps sums up its history. Of a dead end nothing more is said.
 pub record EndSumsUp {K : Type 0} (p : Parties K) (side : Side) (history : List Item) (e : EndState K) : Type 0 where

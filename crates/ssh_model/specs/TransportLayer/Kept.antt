@@ -127,6 +127,10 @@ after_fed cookie secret s = record s { material = Some (record { cookie = cookie
 abbrev pub after_success : {K : Type 0} → Transport K → Transport K
 after_success s = record s { authenticated = true }
 
+-- The secret of the exchange that is over was written over with these bytes.
+abbrev pub after_wiping : {K : Type 0} → (bytes : List ℕ) → Transport K → Transport K
+after_wiping bytes s = record s { underway = record s.underway { secret = bytes } }
+
 -- An end that keeps no pair, lives, and was fed fewer than 2^32 - 1 of them can be fed one.
 abbrev pub can_be_fed : {K : Type 0} → Transport K → Bool
 can_be_fed s = not s.dead && not (is_some s.material) && nat_lt s.fed (2 ^ 32 - 1)

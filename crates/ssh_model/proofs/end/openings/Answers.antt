@@ -1,5 +1,9 @@
 use Rattle.ssh_model.proofs.WholeEnd.Units.{end_opened}
+use Rattle.ssh_model.specs.Sessions.Turns.{EndRun.start}
 use Rattle.ssh_model.proofs.end.openings.Goals as goal
 
 pub returns : goal.returns
-returns g c = λ p side cookie secret payload more m x. end_opened p side cookie secret payload more m x
+returns g c = record {
+  opened = λ p side cookie secret payload more m x. end_opened p side cookie secret payload more m x;
+  run = λ p side items bytes e x. start x.opening;
+}
