@@ -7,3 +7,5 @@ mod aes128;
 mod aes128_gcm;
 #[cfg(test)]
 mod curve25519;
+#[cfg(test)]
+mod either;

@@ -1,0 +1,82 @@
+//! Times sealing and opening packets under `Aes128Gcm`, and an agreement by X25519, against the HMAC-SHA-256 of the kit.
+//!
+//! `run ROUNDS` times each in so many rounds and takes the fastest. Called otherwise, it says so and times nothing.
+#![tactic(auto)]
+
+ghost use Rattle.std.specs.Prelude.{◌≤◌};
+
+use case::Case;
+use ratio::Ratio;
+use std::rt::{Clock, Env};
+use std::time::Duration;
+use std::{env, io};
+
+mod case;
+mod ratio;
+
+// How many bytes of payloads are timed at once.
+const BYTES: usize = 262_144;
+
+// How many agreements are.
+const AGREEMENTS: usize = 8;
+
+fn main(rt: HostRuntime) -> io::Result<()> {
+    let Some(rounds) = rounds_of(&rt)? else {
+        return println!(rt; "usage: ssh_parts_bench run ROUNDS");
+    };
+    println!(rt;
+        "Times of AES-128-GCM and X25519 as ratios to HMAC-SHA-256, the fastest of {rounds} rounds"
+    )?;
+    measure(&rt, 64, rounds)?;
+    measure(&rt, 1024, rounds)?;
+    measure(&rt, 32_768, rounds)?;
+    measure_agreement(&rt, rounds)
+}
+
+// The number behind the word `run`.
+fn rounds_of<R: Env + AllocGlobal>(rt: &R) -> io::Result<Option<u32>> {
+    let words: Vec<String> = env::args(rt)?.collect(rt.alloc())?;
+    match words.as_slice() {
+        [_, command, rounds] if command.as_str() == "run" => Ok(rounds.as_str().parse().ok()),
+        _ => Ok(None),
+    }
+}
+
+// Prints the ratios at payloads of this size.
+fn measure<R: Clock + Print + AllocGlobal>(rt: &R, size: usize, rounds: u32) -> io::Result<()>
+    requires from { 1 ≤ size }
+    requires to { size ≤ 34000 }
+{
+    let payload = vec![in rt.alloc(); 0x61; size]?;
+    let mut case = Case::new(rt.alloc(), &payload)?;
+    let count = BYTES / size + 1;
+    let mut seal = Duration::MAX;
+    let mut open = Duration::MAX;
+    let mut hmac = Duration::MAX;
+    for _ in 0..rounds {
+        seal = seal.min(case.seal(rt, &payload, count)?);
+        open = open.min(case.open(rt, count)?);
+        hmac = hmac.min(case.hmac(rt, &payload, count)?);
+    }
+    println!(rt;
+        "payload of {size} bytes, to the HMAC of it: sealing {}, opening {}",
+        Ratio(seal, hmac),
+        Ratio(open, hmac)
+    )
+}
+
+// Prints the ratio of an agreement to the HMAC of 1 KiB.
+fn measure_agreement<R: Clock + Print + AllocGlobal>(rt: &R, rounds: u32) -> io::Result<()> {
+    let payload = [0x61; 1024];
+    let mut case = Case::new(rt.alloc(), &payload)?;
+    let mut shared = Duration::MAX;
+    let mut hmac = Duration::MAX;
+    for _ in 0..rounds {
+        shared = shared.min(case.share(rt, AGREEMENTS)?);
+        hmac = hmac.min(case.hmac(rt, &payload, AGREEMENTS)?);
+    }
+    println!(rt;
+        "an agreement by X25519, to the HMAC of 1024 bytes: {}",
+        Ratio(shared, hmac)
+    )
+}
