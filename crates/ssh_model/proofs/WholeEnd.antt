@@ -11,3 +11,4 @@ pub mod Asks
 pub mod Reading
 pub mod Laws
 pub mod Pair
+pub mod Below

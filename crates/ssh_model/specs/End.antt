@@ -6,3 +6,4 @@ pub mod Units
 pub mod Asks
 pub mod Reading
 pub mod Pair
+pub mod Below

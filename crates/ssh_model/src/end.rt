@@ -6,21 +6,25 @@ ghost use Rattle.ssh_model.specs.Side.{Side, part};
 ghost use Rattle.ssh_model.specs.Wire.Message.{Msg, Msg.KexInit};
 ghost use Rattle.ssh_model.specs.Wire.Line.{IsLineBegun, line_end};
 ghost use Rattle.ssh_model.specs.Wire.Sealing.{IsSealing};
-ghost use Rattle.ssh_model.specs.Wire.Unit.{IsPacketBegun};
+ghost use Rattle.ssh_model.specs.Wire.Unit.{IsPacketBegun, IsUnit};
+ghost use Rattle.ssh_model.specs.Wire.Outcome.{Outcome.OtherLine, Outcome.VersionLine, Outcome.RefusedLine, Outcome.Opens, Outcome.RefusedPacket};
 ghost use Rattle.ssh_model.specs.Wire.Delivery.{Delivered, InPieces, Waits};
 ghost use Rattle.ssh_model.specs.KeyExchange.Exchanges.{exchanges, session_id};
-ghost use Rattle.ssh_model.specs.Sessions.Refusals.{first_refusal};
+ghost use Rattle.ssh_model.specs.Sessions.Refusals.{Refusal, first_refusal};
 ghost use Rattle.ssh_model.specs.Sessions.Parties.{AreLawful, Parties, offer, settings_of};
-ghost use Rattle.ssh_model.specs.Sessions.Items.{Ask, Done, Item, Item.Fed, Item.SentLine, Item.Sent, Spelled.SpelledBy};
+ghost use Rattle.ssh_model.specs.Sessions.Items.{Ask, Done, Item, Fact.Completed, Item.Fed, Item.SentLine, Item.Sent, Item.Took, Item.TookLine, Item.TookOtherLine, Item.Told, Item.Died, Spelled.SpelledBy, messages_sent};
 ghost use Rattle.ssh_model.specs.Sessions.Phases.{Phase.Normal, may_take, probing};
-ghost use Rattle.ssh_model.specs.Sessions.Turns.{AsksTurn, EndRun, FeedsTurn, IsMaterial, OnPayload, OnUnit, answer_checks, ask_checks};
+ghost use Rattle.ssh_model.specs.Sessions.Turns.{AsksTurn, EndRun, FeedsTurn, IsMaterial, OnPayload, OnUnit, answer_checks, ask_checks, stage};
 ghost use Rattle.ssh_model.specs.TransportLayer.Directions.{new_direction};
 ghost use Rattle.ssh_model.specs.TransportLayer.Kept.{Transport, after_wiping};
 ghost use Rattle.ssh_model.specs.TransportLayer.Summary.{SumsUp};
-ghost use Rattle.ssh_model.specs.TransportLayer.Turns.{PutsPackets};
-ghost use Rattle.ssh_model.specs.End.State.{EndState, above_checks, new_end, probes, session_of, takes_above};
+ghost use Rattle.ssh_model.specs.TransportLayer.Turns.{AskTurned, EndedBy, PutsPackets, Turned, UnitRefused};
+ghost use Rattle.ssh_model.specs.End.State.{EndState, above_checks, after_items, new_end, probes, session_of, takes_above};
 ghost use Rattle.ssh_model.specs.End.Summary.{EndSumsUp, EndTurned, HasOpened};
-ghost use Rattle.ssh_model.specs.End.Payloads.{ReadsAbove, TakesPayload};
+ghost use Rattle.ssh_model.specs.End.Payloads.{GivesOwed, ReadsAbove, TakesPayload};
+ghost use Rattle.ssh_model.specs.End.Below.{AreBelow, opened_by_all};
+ghost use Rattle.ssh_model.specs.Channels.Connection.{AreReplies, owed_replies};
+ghost use Rattle.ssh_model.specs.Channels.Kept.{Channels};
 ghost use Rattle.ssh_model.specs.End.Deaths.{CanSettle};
 ghost use Rattle.ssh_model.specs.End.Units.{TakesPair, TakesUnit};
 ghost use Rattle.ssh_model.specs.End.Asks.{TakesAsk, end_ask_checks};
@@ -47,6 +51,49 @@ pub fn layers_above<K>()
 /// history, and its bytes are put out.
 pub fn payloads<K>()
     ensures { (p : Parties K) (side : Side) (history : List Item) (e : EndState K) → EndSumsUp p side history e → e.transport.dead ≡ false → (payload : List ℕ) (items : List Item) (more : List ℕ) (new : EndState K) → TakesPayload p side e payload items more new → EndTurned p side history (OnPayload p side history payload) items more new }
+{}
+
+/// A turn of the transport alone is a turn of the end: the layers above keep what they kept, but that SERVICE_ACCEPT opens
+/// authentication. Where the transport is over, so is the end.
+pub fn transport_turns<K>()
+    ensures payload { (p : Parties K) (side : Side) (history : List Item) (e : EndState K) → EndSumsUp p side history e → e.transport.dead ≡ false → (payload : List ℕ) (items : List Item) (more : List ℕ) (transport : Transport K) → AreBelow items → Turned p side history payload items more transport →
+        EndTurned p side history (OnPayload p side history payload) items more (record e { transport = transport; authentication = opened_by_all items e.authentication }) }
+    ensures payload_over { (p : Parties K) (side : Side) (history : List Item) (e : EndState K) → EndSumsUp p side history e → e.transport.dead ≡ false → (payload : List ℕ) (items : List Item) (more : List ℕ) (new : EndState K) → Turned p side history payload items more new.transport → new.transport.dead ≡ true →
+        EndTurned p side history (OnPayload p side history payload) items more new }
+    ensures ask { (p : Parties K) (side : Side) (history : List Item) (e : EndState K) → EndSumsUp p side history e → e.transport.dead ≡ false → (ask : Ask) (items : List Item) (more : List ℕ) (transport : Transport K) → AreBelow items → AskTurned p side history ask items more transport →
+        EndTurned p side history (AsksTurn p side history ask) items more (record e { transport = transport; authentication = opened_by_all items e.authentication }) }
+    ensures ask_over { (p : Parties K) (side : Side) (history : List Item) (e : EndState K) → EndSumsUp p side history e → e.transport.dead ≡ false → (ask : Ask) (items : List Item) (more : List ℕ) (new : EndState K) → AskTurned p side history ask items more new.transport → new.transport.dead ≡ true →
+        EndTurned p side history (AsksTurn p side history ask) items more new }
+{}
+
+/// A unit that is a line, or a packet that is refused, is a turn of the end by what its transport makes of it, and a packet of
+/// a payload by what the end makes of that.
+pub fn unit_turns<K>()
+    ensures version { (p : Parties K) (side : Side) (history : List Item) (e : EndState K) → EndSumsUp p side history e → e.transport.dead ≡ false → (unit line : List ℕ) (transport : Transport K) → IsUnit p.crypto (stage p side history) unit (VersionLine line) → SumsUp p side (TookLine line ∷ history) transport →
+        EndTurned p side history (OnUnit p side history unit) (TookLine line ∷ []) [] (record e { transport = transport }) }
+    ensures other { (p : Parties K) (side : Side) (history : List Item) (e : EndState K) → EndSumsUp p side history e → e.transport.dead ≡ false → (unit line : List ℕ) (transport : Transport K) → IsUnit p.crypto (stage p side history) unit (OtherLine line) → SumsUp p side (TookOtherLine line ∷ history) transport →
+        EndTurned p side history (OnUnit p side history unit) (TookOtherLine line ∷ []) [] (record e { transport = transport }) }
+    ensures refused_line { (p : Parties K) (side : Side) (history : List Item) (e : EndState K) → EndSumsUp p side history e → e.transport.dead ≡ false → (unit : List ℕ) (refusal : Refusal) (items : List Item) (more : List ℕ) (new : EndState K) → IsUnit p.crypto (stage p side history) unit (RefusedLine refusal) → UnitRefused p side history items refusal more new.transport → new.transport.dead ≡ true →
+        EndTurned p side history (OnUnit p side history unit) items more new }
+    ensures refused_packet { (p : Parties K) (side : Side) (history : List Item) (e : EndState K) → EndSumsUp p side history e → e.transport.dead ≡ false → (unit : List ℕ) (refusal : Refusal) (items : List Item) (more : List ℕ) (new : EndState K) → IsUnit p.crypto (stage p side history) unit (RefusedPacket refusal) → UnitRefused p side history items refusal more new.transport → new.transport.dead ≡ true →
+        EndTurned p side history (OnUnit p side history unit) items more new }
+    ensures opened { (p : Parties K) (side : Side) (history : List Item) (e : EndState K) → EndSumsUp p side history e → e.transport.dead ≡ false → (unit payload : List ℕ) (items : List Item) (more : List ℕ) (new : EndState K) → IsUnit p.crypto (stage p side history) unit (Opens payload) → EndTurned p side history (OnPayload p side history payload) items more new →
+        EndTurned p side history (OnUnit p side history unit) items more new }
+{}
+
+/// What ends an exchange at the transport, with the replies that were owed behind it, all of them, and then what is told, is a
+/// turn of the end. The replies that are given are those that a session owes.
+pub fn exchange_ends<K>()
+    ensures ended { (p : Parties K) (side : Side) (history : List Item) (e : EndState K) → EndSumsUp p side history e → e.transport.dead ≡ false → (message : Msg) (payload : List ℕ) (position : ℕ) (items : List Item) (more later : List ℕ) (transport : Transport K) (owed : List Item) (channels : Channels) → EndedBy p side history message payload position items more transport → transport.dead ≡ false →
+        GivesOwed e.channels owed channels → channels.owed ≡ [] → PutsPackets p.crypto transport.sending (messages_sent owed) later →
+        EndTurned p side history (OnPayload p side history payload) ((Told (Completed position) ∷ (owed ++ items)) ++ Took None message payload ∷ []) (more ++ later) (record e { transport = after_items side owed transport; channels = channels }) }
+    ensures given { (p : Parties K) (side : Side) (history : List Item) (e : EndState K) → EndSumsUp p side history e → e.transport.dead ≡ false → (owed : List Item) (channels : Channels) → GivesOwed e.channels owed channels → channels.owed ≡ [] → AreReplies (owed_replies side history) owed }
+{}
+
+/// Where a session may die for want of memory, so may an end.
+pub fn deaths<K>()
+    ensures units { (p : Parties K) (side : Side) (history : List Item) (unit : List ℕ) (new : EndState K) → OnUnit p side history unit (Died ∷ []) → new.transport.dead ≡ true → EndTurned p side history (OnUnit p side history unit) (Died ∷ []) [] new }
+    ensures asks { (p : Parties K) (side : Side) (history : List Item) (ask : Ask) (new : EndState K) → AsksTurn p side history ask (Died ∷ []) → new.transport.dead ≡ true → EndTurned p side history (AsksTurn p side history ask) (Died ∷ []) [] new }
 {}
 
 /// What an end makes of the next unit of its stream is a turn of a session, and its run goes on with it.

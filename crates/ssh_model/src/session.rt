@@ -41,7 +41,7 @@ pub fn windows_at_each_end<K>()
 
 /// In an honest run of two ends that offer strict key exchange neither end refuses the other for its channels or
 /// windows, the data taken on a channel are a prefix of those sent on it, and each channel on which data was taken has
-/// a partner.
+/// a partner: both ends have its whole OPEN, at the same place of what went after the first NEWKEYS.
 pub fn undisturbed<K>()
     ensures { (p : Parties K) → AreLawful p → BothOffer p → (run : List Done) → Run p run → IsHonest p run → Undisturbed run }
 {}

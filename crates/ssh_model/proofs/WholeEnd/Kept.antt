@@ -57,7 +57,7 @@ abbrev pub AreOff : List Item → Type 0
 AreOff [] = Unit {0}
 AreOff (i ∷ l) = Off i × AreOff l
 
-channels_one : (side : Side) (h : List Item) (c : Channels) (i : Item) → Off i → channels.SumsUp side h (owed_replies side h) c → channels.SumsUp side (i ∷ h) (owed_replies side (i ∷ h)) c
+pub channels_one : (side : Side) (h : List Item) (c : Channels) (i : Item) → Off i → channels.SumsUp side h (owed_replies side h) c → channels.SumsUp side (i ∷ h) (owed_replies side (i ∷ h)) c
 channels_one side h c i l has =
     let P : List channel.Item → Type 0 = λ o. channels.SumsUp side (i ∷ h) o c in
     subst P (sym (owed_elsewhere side h i l.channels l.owed)) (kept_elsewhere side h (owed_replies side h) c i l.channels has)

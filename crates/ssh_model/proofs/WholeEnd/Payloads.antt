@@ -152,13 +152,13 @@ pub record Behind (side : Side) (g : List Item) (waiting : List channel.Item) (a
   pub none : owed_replies side g ≡ []
 
 module _ (side : Side) (h : List Item) (a : Authentication) (n : Channels) (has : AboveSumsUp side h a n) where
-  add : (g : List Item) (i : Item) → Leaves i → AuthenticationSumsUp side g a × channels.SumsUp side g (owed_replies side h) n → AuthenticationSumsUp side (i ∷ g) a × channels.SumsUp side (i ∷ g) (owed_replies side h) n
+  pub add : (g : List Item) (i : Item) → Leaves i → AuthenticationSumsUp side g a × channels.SumsUp side g (owed_replies side h) n → AuthenticationSumsUp side (i ∷ g) a × channels.SumsUp side (i ∷ g) (owed_replies side h) n
   add g i l x = (authentication_kept side g a i l.server l.client x.0, kept_elsewhere side g (owed_replies side h) n i l.channels x.1)
 
-  add_newkeys : (g : List Item) (b : List ℕ) → AuthenticationSumsUp side g a × channels.SumsUp side g (owed_replies side h) n → AuthenticationSumsUp side (Sent None NewKeys b ∷ g) a × channels.SumsUp side (Sent None NewKeys b ∷ g) (owed_replies side h) n
+  pub add_newkeys : (g : List Item) (b : List ℕ) → AuthenticationSumsUp side g a × channels.SumsUp side g (owed_replies side h) n → AuthenticationSumsUp side (Sent None NewKeys b ∷ g) a × channels.SumsUp side (Sent None NewKeys b ∷ g) (owed_replies side h) n
   add_newkeys g b x = (authentication_kept side g a (Sent None NewKeys b) tt tt x.0, kept_elsewhere side g (owed_replies side h) n (Sent None NewKeys b) tt x.1)
 
-  started : AuthenticationSumsUp side h a × channels.SumsUp side h (owed_replies side h) n
+  pub started : AuthenticationSumsUp side h a × channels.SumsUp side h (owed_replies side h) n
   started = (has.authentication_sums, has.channels_sum)
 
   pub behind_newkeys : {K : Type 0} (crypto : Crypto K) (parts : kept.ExchangeParts) (c : Chosen) (s : Transport K) (m : Msg) (payload : List ℕ) (last announced : List Spelled) (completed new : Transport K) → Completes crypto parts c s m last announced completed new →
