@@ -1,5 +1,5 @@
 -- What holds of a machine that is not over goes on holding.
-use Rattle.std.proofs.Common.{◌≡◌, ℕ, ◌+◌, ◌-◌, ◌^◌, ◌<◌, ◌≤◌, List, [], ◌∷◌, ◌++◌, refl, ap, sym, ◌∙◌, subst, arith, Bool, true, false, Option, Some, None, is_some, cond, nat_lt, not, ◌&&◌}
+use Rattle.std.proofs.Common.{◌≡◌, ℕ, ◌+◌, ◌-◌, ◌^◌, ◌≤◌, List, refl, ap, sym, ◌∙◌, subst, arith, Bool, true, false, Option, Some, None, is_some, nat_lt, not, ◌&&◌}
 use Rattle.std.proofs.lemmas.Bool.{false≢true}
 use Rattle.ssh_model.specs.Side.{Side}
 use Rattle.ssh_model.specs.Wire.Message.{Msg}
@@ -8,7 +8,7 @@ use Rattle.ssh_model.specs.KeyExchange.Exchanges.{Material}
 use Rattle.ssh_model.specs.Sessions.Items.{Ask}
 use Rattle.ssh_model.specs.Sessions.Parties.{Settings}
 use Rattle.ssh_model.specs.Sessions.Phases as model
-use Rattle.ssh_model.specs.TransportLayer.Directions.{Direction, counted}
+use Rattle.ssh_model.specs.TransportLayer.Directions.{Direction}
 use Rattle.ssh_model.specs.TransportLayer.Kept as kept
 use Rattle.ssh_model.specs.TransportLayer.Kept.{Asks, Transport, after_fed, after_own_kexinit, after_sent, is_fed}
 use Rattle.ssh_model.specs.TransportLayer.Summary.{bit, is_keying}
@@ -21,7 +21,7 @@ use Rattle.ssh_transport_machine.specs.Judging as judging
 use Rattle.ssh_transport_machine.specs.LineTurns.{LineTaken}
 use Rattle.ssh_transport_machine.specs.Opening.{IsOpened}
 use Rattle.ssh_transport_machine.specs.Puts.{Outs}
-use Rattle.ssh_transport_machine.specs.State.{IsKeptLive, IsLive, IsReading, State, awaits_exchange, before_taken, noted}
+use Rattle.ssh_transport_machine.specs.State.{IsKeptLive, IsLive, State, awaits_exchange, before_taken, noted}
 use Rattle.ssh_transport_machine.specs.Turning as turning
 use Rattle.ssh_transport_machine.specs.Turning.{Answers, Becomes, Does, KexinitDone, NewkeysDone, PacketDone, PacketTaken, Turns}
 use Rattle.ssh_transport_machine.specs.declared.machine.judging.Judged.{Judged}
@@ -153,7 +153,7 @@ module _ {K : Type 0} where
     kexinit_live facts answer (turning.KexinitDone.kept shut x) = same_side old new _ x.after refl refl refl (noted_on facts.wrong facts.strict facts.extensions old.receiver.payload old.kept shut live.kept) live
     kexinit_live facts answer (turning.KexinitDone.answered material free has x) =
         same_side old new _ x.after refl refl refl (noted_on facts.wrong facts.strict facts.extensions old.receiver.payload (after_own_kexinit material x.payload old.kept) refl (own_on material x.payload old.kept free has live.kept)) live
-    kexinit_live facts answer (turning.KexinitDone.spent material free has x) = over new.kept.dead x.dead alive
+    kexinit_live facts answer (turning.KexinitDone.spent material free has spelling x) = over new.kept.dead x.dead alive
 
     newkeys_live : old.kept.phase ≡ model.Phase.Keying → NewkeysDone old new o → IsLive new
     newkeys_live here x = subst (λ (t : State K). IsLive t) (sym x.taken.after) (record {

@@ -14,9 +14,9 @@ ghost use Rattle.ssh_transport_machine.specs.Asking.{AskDone, DisconnectDone};
 ghost use Rattle.ssh_transport_machine.specs.LineTurns.{LineTaken};
 ghost use Rattle.ssh_transport_machine.specs.Opening.{IsOpened};
 ghost use Rattle.ssh_transport_machine.specs.Puts.{Outs};
-ghost use Rattle.ssh_transport_machine.specs.Shown.{IsAskTurn, IsOpening, LineTurnOf, PacketTurnOf, TurnOf};
+ghost use Rattle.ssh_transport_machine.specs.Shown.{IsAskTurn, IsOpening, LineTurnOf, PacketTurnOf, TurnOf, WouldAnswer, WouldAnswerPacket};
 ghost use Rattle.ssh_transport_machine.specs.State.{IsKeptLive, IsLive, State};
-ghost use Rattle.ssh_transport_machine.specs.Turning.{Answers, PacketTaken, Turns};
+ghost use Rattle.ssh_transport_machine.specs.Turning.{Answers, PacketLacks, PacketTaken, TurnLacks, Turns};
 ghost use Rattle.ssh_transport_machine.specs.declared.machine.line_turn.LineTurn.{LineTurn};
 ghost use Rattle.ssh_transport_machine.specs.declared.machine.turn.Answer.{Answer};
 ghost use Rattle.ssh_transport_machine.specs.declared.machine.turn.AskTurn.{AskTurn};
@@ -48,7 +48,7 @@ pub fn ask_turns<K>()
 
 /// What a machine finds in a line or a packet is what an end of a session finds; and where it refuses that, it does as one.
 pub fn unit_turns<K>()
-    ensures lines { (p : Parties K) (side : Side) (history : List Item) (old : State K) → SumsUp p side history old.kept → old.kept.dead ≡ false → IsLive old → old.kept.lines.found ≡ false → (bytes : List ℕ) (done : LineTurn) (new : State K) → LineTaken old bytes done new → LineTurnOf p side history bytes done new.kept }
+    ensures lines { (p : Parties K) (side : Side) (history : List Item) (old : State K) → SumsUp p side history old.kept → old.kept.dead ≡ false → IsLive old → old.kept.lines.found ≡ false → (bytes : List ℕ) (done : LineTurn) (new : State K) → LineTaken old bytes done new → LineTurnOf p side history old.kept bytes done new.kept }
     ensures packets { (p : Parties K) (side : Side) (history : List Item) (old : State K) → SumsUp p side history old.kept → old.kept.dead ≡ false → IsLive old → old.kept.lines.found ≡ true → (bytes : List ℕ) (done : PacketTurn) (new : State K) (o : Outs) → PacketTaken p.crypto old bytes done new o → PacketTurnOf p side history old.kept bytes done new o }
 {
     units::<K>();
@@ -75,3 +75,15 @@ pub fn live_machines<K>()
     ensures fed { (old new : State K) (cookie secret : List ℕ) → IsLive old → is_fed old.kept ≡ true → new ≡ record old { kept = after_fed cookie secret old.kept } → IsLive new }
     ensures others { (old new : State K) (kept : Transport K) → new ≡ record old { kept = kept } → kept.lines ≡ old.kept.lines → kept.side ≡ old.kept.side → kept.taking ≡ old.kept.taking → IsKeptLive kept → IsLive old → IsLive new }
 {}
+
+/// Where a machine answers that memory was refused, something would be sent in a session on the payload or the packet: it has a
+/// spelling, and a number of its own.
+pub fn memory_deaths<K>()
+    ensures payloads { (p : Parties K) (side : Side) (history : List Item) (s : Transport K) → SumsUp p side history s → s.dead ≡ false → (old : State K) → old.kept ≡ after_taken s → TurnLacks old → WouldAnswer p side s old.receiver.payload }
+    ensures packets { (p : Parties K) (side : Side) (history : List Item) (old : State K) → SumsUp p side history old.kept → old.kept.dead ≡ false → IsLive old → old.kept.lines.found ≡ true → (bytes : List ℕ) → PacketLacks p.crypto old bytes → WouldAnswerPacket p side old.kept bytes }
+{
+    units::<K>();
+    lines::<K>();
+    payloads::<K>();
+    payload_numbers();
+}
