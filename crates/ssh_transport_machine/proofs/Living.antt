@@ -1,5 +1,5 @@
 -- What holds of a machine that is not over goes on holding.
-use Rattle.std.proofs.Common.{◌≡◌, ℕ, ◌+◌, ◌-◌, ◌^◌, ◌≤◌, List, refl, ap, sym, ◌∙◌, subst, arith, Bool, true, false, Option, Some, None, is_some, nat_lt, not, ◌&&◌}
+use Rattle.std.proofs.Common.{◌≡◌, ℕ, ◌+◌, ◌-◌, ◌^◌, ◌≤◌, List, refl, ap, sym, ◌∙◌, subst, arith, Bool, true, false, Option, Some, None, is_some, nat_lt, not, ◌&&◌, ◌<◌}
 use Rattle.std.proofs.lemmas.Bool.{false≢true}
 use Rattle.ssh_model.specs.Side.{Side}
 use Rattle.ssh_model.specs.Wire.Message.{Msg}
@@ -76,10 +76,19 @@ lacks_bit false e = refl
 room_of : (n : ℕ) → nat_lt n (2 ^ 32 - 1) ≡ true → n + 1 ≤ 2 ^ 32 - 1
 room_of n e = grind (arith, e)
 
+one_later : (come b gone : ℕ) → come + b ≤ gone → come + 1 ≤ gone + 1
+one_later come b gone l = omega (arith, l)
+
+freed : (gone fed b m : ℕ) → b ≡ 1 → gone + (b + m) ≤ fed → gone + 1 + (0 + m) ≤ fed
+freed gone fed b m e l = omega (arith, e, l)
+
+room_by : (gone fed b m : ℕ) → b ≡ 1 → gone + (b + m) ≤ fed → fed ≤ 2 ^ 32 - 1 → gone < 2 ^ 32 - 1
+room_by gone fed b m e l f = omega (arith, e, l, f)
+
 -- ---- what is kept
 
 module _ {K : Type 0} where
-  sent_on : (k : Transport K) (requested : Bool) → IsKeptLive k → IsKeptLive (record (after_sent k) { requested = requested })
+  pub sent_on : (k : Transport K) (requested : Bool) → IsKeptLive k → IsKeptLive (record (after_sent k) { requested = requested })
   sent_on k requested a = record { pending = a.pending; blocked = a.blocked; taken_epochs = a.taken_epochs; sent_epochs = a.sent_epochs; fed = a.fed }
 
   accepted_on : (k : Transport K) → IsKeptLive k → IsKeptLive (record k { accepted = true })
@@ -97,11 +106,11 @@ module _ {K : Type 0} where
     fed = a.fed;
   }
 
-  noted_on : (wrong strict extensions : Bool) (payload : List ℕ) (k : Transport K) → k.blocked ≡ true → IsKeptLive k → IsKeptLive (noted wrong strict extensions payload k)
+  pub noted_on : (wrong strict extensions : Bool) (payload : List ℕ) (k : Transport K) → k.blocked ≡ true → IsKeptLive k → IsKeptLive (noted wrong strict extensions payload k)
   noted_on true strict extensions payload k shut a = record { pending = λ e. absurd (cc e); blocked = λ e. shut; taken_epochs = fewer _ _ _ a.taken_epochs; sent_epochs = a.sent_epochs; fed = a.fed }
   noted_on false strict extensions payload k shut a = record { pending = λ e. absurd (cc e); blocked = λ e. shut; taken_epochs = fewer _ _ _ a.taken_epochs; sent_epochs = a.sent_epochs; fed = a.fed }
 
-  own_on : (m : Material) (payload : List ℕ) (k : Transport K) → k.blocked ≡ false → k.material ≡ Some m → IsKeptLive k → IsKeptLive (after_own_kexinit m payload k)
+  pub own_on : (m : Material) (payload : List ℕ) (k : Transport K) → k.blocked ≡ false → k.material ≡ Some m → IsKeptLive k → IsKeptLive (after_own_kexinit m payload k)
   own_on m payload k free has a = record {
     pending = a.pending;
     blocked = λ e. refl;
@@ -127,6 +136,22 @@ module _ {K : Type 0} where
     sent_epochs = one_pair _ _ _ _ (lacks_bit (is_some k.material) (second_of (not k.dead) (not (is_some k.material)) (nat_lt k.fed (2 ^ 32 - 1)) can)) a.sent_epochs;
     fed = room_of k.fed (third_of (not k.dead) (not (is_some k.material)) (nat_lt k.fed (2 ^ 32 - 1)) can);
   }
+
+  pub plain_on : (k : Transport K) → IsKeptLive k → IsKeptLive (after_sent k)
+  plain_on k a = sent_on k k.requested a
+
+  pub completed_on : (k : Transport K) (direction : Direction K) (key : K) (session : List ℕ) → direction.epoch ≡ k.sending.epoch + 1 → k.blocked ≡ true → IsKeptLive k →
+      IsKeptLive (record k { sending = direction; pending = Some key; phase = model.Phase.Keying; blocked = false; session = Some session })
+  completed_on k direction key session e shut a = record {
+    pending = λ f g. cc g;
+    blocked = λ f. absurd (false≢true f);
+    taken_epochs = subst (λ (n : ℕ). k.taking.epoch + 1 ≤ n) (sym e) (one_later _ _ _ a.taken_epochs);
+    sent_epochs = subst (λ (n : ℕ). n + (0 + bit (is_some k.material)) ≤ k.fed) (sym e) (freed _ _ _ _ (ap bit shut) a.sent_epochs);
+    fed = a.fed;
+  }
+
+  pub epoch_room : (k : Transport K) → k.blocked ≡ true → IsKeptLive k → k.sending.epoch < 2 ^ 32 - 1
+  epoch_room k shut a = room_by _ _ _ _ (ap bit shut) a.sent_epochs a.fed
 
 -- ---- a machine
 

@@ -1,13 +1,16 @@
 //! Laws of the machine in a session: what it does with a line, a packet, a payload or an ask is what an end of a session does,
 //! where what it keeps sums up the history of that end. Facts for proofs, at no cost.
 
-ghost use Rattle.std.specs.Prelude.{◌≡◌, List, ℕ, false, true};
+ghost use Rattle.std.specs.Prelude.{◌≡◌, ◌<◌, ◌+◌, ◌-◌, ◌^◌, Bool, List, Some, ℕ, false, true};
 ghost use Rattle.ssh_model.specs.Side.{Side};
 ghost use Rattle.ssh_model.specs.Wire.Message.{Msg};
 ghost use Rattle.ssh_model.specs.Wire.Sealing.{Crypto};
 ghost use Rattle.ssh_model.specs.Sessions.Items.{Ask, Ask.AskDisconnect, Item};
 ghost use Rattle.ssh_model.specs.Sessions.Parties.{Parties, Settings, settings_of};
-ghost use Rattle.ssh_model.specs.TransportLayer.Kept.{Transport, after_fed, after_sent, after_taken, is_fed};
+ghost use Rattle.ssh_model.specs.KeyExchange.Exchanges.{Material};
+ghost use Rattle.ssh_model.specs.Sessions.Phases.{Phase.Keying};
+ghost use Rattle.ssh_model.specs.TransportLayer.Directions.{Direction};
+ghost use Rattle.ssh_model.specs.TransportLayer.Kept.{Transport, after_fed, after_own_kexinit, after_sent, after_taken, is_fed};
 ghost use Rattle.ssh_model.specs.TransportLayer.Summary.{SumsUp};
 ghost use Rattle.ssh_model.specs.TransportLayer.Turns.{IsTransportAsk};
 ghost use Rattle.ssh_transport_machine.specs.Asking.{AskDone, DisconnectDone};
@@ -15,7 +18,7 @@ ghost use Rattle.ssh_transport_machine.specs.LineTurns.{LineTaken};
 ghost use Rattle.ssh_transport_machine.specs.Opening.{IsOpened};
 ghost use Rattle.ssh_transport_machine.specs.Puts.{Outs};
 ghost use Rattle.ssh_transport_machine.specs.Shown.{IsAskTurn, IsOpening, LineTurnOf, PacketTurnOf, TurnOf, WouldAnswer, WouldAnswerPacket};
-ghost use Rattle.ssh_transport_machine.specs.State.{IsKeptLive, IsLive, State};
+ghost use Rattle.ssh_transport_machine.specs.State.{IsKeptLive, IsLive, State, noted};
 ghost use Rattle.ssh_transport_machine.specs.Turning.{Answers, PacketLacks, PacketTaken, TurnLacks, Turns};
 ghost use Rattle.ssh_transport_machine.specs.declared.machine.line_turn.LineTurn.{LineTurn};
 ghost use Rattle.ssh_transport_machine.specs.declared.machine.turn.Answer.{Answer};
@@ -87,3 +90,13 @@ pub fn memory_deaths<K>()
     payloads::<K>();
     payload_numbers();
 }
+
+/// What holds of what a live machine keeps goes on holding in the rows of one role alone: with a payload sent, with the KEXINIT of
+/// either end, and with NEWKEYS sent, for which an epoch is left.
+pub fn live_exchanges<K>()
+    ensures sent { (k : Transport K) → IsKeptLive k → IsKeptLive (after_sent k) }
+    ensures noted { (wrong strict extensions : Bool) (payload : List ℕ) (k : Transport K) → k.blocked ≡ true → IsKeptLive k → IsKeptLive (noted wrong strict extensions payload k) }
+    ensures own { (material : Material) (payload : List ℕ) (k : Transport K) → k.blocked ≡ false → k.material ≡ Some material → IsKeptLive k → IsKeptLive (after_own_kexinit material payload k) }
+    ensures completed { (k : Transport K) (direction : Direction K) (key : K) (session : List ℕ) → direction.epoch ≡ k.sending.epoch + 1 → k.blocked ≡ true → IsKeptLive k → IsKeptLive (record k { sending = direction; pending = Some key; phase = Keying; blocked = false; session = Some session }) }
+    ensures epoch { (k : Transport K) → k.blocked ≡ true → IsKeptLive k → k.sending.epoch < 2 ^ 32 - 1 }
+{}
