@@ -11,6 +11,8 @@ use Rattle.ssh_model.specs.Sessions.Items.{Fact.Disconnected, Fact.Ignored, Item
 use Rattle.ssh_model.specs.Sessions.Parties.{Agreement, Parties, agreement_of, is_required, offer_of}
 use Rattle.ssh_model.specs.Sessions.Phases as model
 use Rattle.ssh_model.specs.Sessions.Phases.{is_allowed_at_first, is_allowed_during_exchange, is_general, is_spare}
+use Rattle.ssh_model.specs.Sessions.TurnClaims.{HasSpelling}
+use Rattle.ssh_model.proofs.Wire.Written.{service_accept_spelled, unimplemented_spelled}
 use Rattle.ssh_model.specs.Sessions.Refusals.{Refusal, Check.RefusedWhere, Refusal.NoService, Refusal.NumberSpent, Refusal.Unexpected, first_refusal}
 use Rattle.ssh_model.specs.Sessions.Turns.{AreSpelled, IsSpelled, number_of}
 use Rattle.ssh_model.specs.TransportLayer.Kept.{Answered, Takes, Transport, after_guess, after_own_kexinit, after_sent, after_taken, is_between, message_checks, sends, takes, takes_announced, takes_in, takes_service}
@@ -27,7 +29,7 @@ use Rattle.ssh_transport_machine.specs.Puts.{Outs, Puts, Refuses}
 use Rattle.ssh_transport_machine.specs.Shown.{IsLeftSo, IsTold, IsTurn, Shows, TurnOf}
 use Rattle.ssh_transport_machine.specs.Shown as shown
 use Rattle.ssh_transport_machine.specs.State.{State, before_taken, last_number, noted}
-use Rattle.ssh_transport_machine.specs.Turning.{Answers, Becomes, Does, HasSpelling, IsQuiet, KexinitDone, NewkeysDone, RefusalDone, SpentBy, Turns}
+use Rattle.ssh_transport_machine.specs.Turning.{Answers, Becomes, Does, IsQuiet, KexinitDone, NewkeysDone, RefusalDone, SpentBy, Turns}
 use Rattle.ssh_transport_machine.specs.Turning as turning
 use Rattle.ssh_transport_machine.specs.declared.machine.judging.Judged.{Judged}
 use Rattle.ssh_transport_machine.specs.declared.machine.judging.Judged.TheVariants as judged
@@ -51,6 +53,9 @@ pub record PayloadLaws (K : Type 0) : Type 0 where
 
 last_of : (n : ℕ) → n < 2 ^ 32 → ((n + 1) % 2 ^ 32 + (2 ^ 32 - 1)) % 2 ^ 32 ≡ n
 last_of n l = omega (arith, l)
+
+pub few_taken : (n : ℕ) → n + 1 ≤ 2 ^ 32 → n < 2 ^ 32
+few_taken n l = omega (arith, l)
 
 less_one : (n : ℕ) → n + 1 - 1 ≡ n
 less_one n = omega arith
@@ -76,6 +81,9 @@ text_same (x ∷ a) (y ∷ b) e =
     let head : x ≡ y = eqb-true x y (and_left (nat_eq x y) (is_text a b) e) in
     let tail = text_same a b (and_right (nat_eq x y) (is_text a b) e) in
     cc (head, tail)
+
+pub accept_spelled : (service : List ℕ) → is_text service (codes "ssh-userauth") ≡ true → HasSpelling (ServiceAccept service)
+accept_spelled service e = service_accept_spelled service (subst (λ (l : List ℕ). length l ≤ 100) (sym (text_same service (codes "ssh-userauth") e)) (omega arith))
 
 -- ---- what a number says of the phase
 
@@ -144,11 +152,11 @@ module _ {K : Type 0} (s : Transport K) where
 
 -- ---- what a payload is refused for
 
-checked : (service : List ℕ) (good : Bool) (why : Refusal) → is_text service (codes "ssh-userauth") ≡ good → first_refusal (RefusedWhere (not (is_text service (codes "ssh-userauth"))) why ∷ []) ≡ first_refusal (RefusedWhere (not good) why ∷ [])
+pub checked : (service : List ℕ) (good : Bool) (why : Refusal) → is_text service (codes "ssh-userauth") ≡ good → first_refusal (RefusedWhere (not (is_text service (codes "ssh-userauth"))) why ∷ []) ≡ first_refusal (RefusedWhere (not good) why ∷ [])
 checked service good why e = ap (λ (b : Bool). first_refusal (RefusedWhere (not b) why ∷ [])) e
 
 module _ {K : Type 0} (agreement : Agreement) (trusts : List ℕ → List ℕ → List ℕ → List ℕ → Bool) (s : Transport K) (payload : List ℕ) where
-  reads : (message : Msg) → number_of payload < 50 → takes s (number_of payload) ≡ true → (s.phase ≡ model.Phase.Guessed → ⊥) → IsPayload false message payload → IsTransportMessage message → Reads s message payload
+  pub reads : (message : Msg) → number_of payload < 50 → takes s (number_of payload) ≡ true → (s.phase ≡ model.Phase.Guessed → ⊥) → IsPayload false message payload → IsTransportMessage message → Reads s message payload
   reads message below taken no_guess is of = record { below = below; taken = taken; no_guess = no_guess; message_is = is; of_transport = of }
 
   because : (message : Msg) (why : types.Refusal) → number_of payload < 50 → takes s (number_of payload) ≡ true → (s.phase ≡ model.Phase.Guessed → ⊥) → IsPayload false message payload → MessageJudged s message (judged.Refused why) →
@@ -292,9 +300,6 @@ module _ {K : Type 0} (laws : PayloadLaws K) (p : Parties K) (side : Side) (h : 
       (subst (λ (l : List Spelled). 1 ≤ length l) (sym one) (omega arith))
       (subst (λ (l : List Spelled). 2 ^ 32 < s.sending.count + length l) (sym one) (omega (arith, none_left))) dead)
 
-  few : (n : ℕ) → n + 1 ≤ 2 ^ 32 → n < 2 ^ 32
-  few n l = omega (arith, l)
-
   unknown_row : (answer : Answer) (old new : State K) (o : Outs) → old.kept ≡ after_taken s → s.taking.number < 2 ^ 32 → s.taking.count < 2 ^ 32 → PayloadJudged s payload judged.Unknown →
       Answers p.crypto old (Unimplemented (last_number old.kept.taking)) (after_sent old.kept) answer new o → IsTurn p side h s payload (turn.Unknown answer) new.kept o
   unknown_row answer old new o same small room (judging.PayloadJudged.read message below taken no_guess is so) x = go message is so answer x
@@ -309,8 +314,9 @@ module _ {K : Type 0} (laws : PayloadLaws K) (p : Parties K) (side : Side) (h : 
           sent_turn (turn.Unknown Done) _ _ _ new.kept o (ap (λ (t : State K). t.kept) x.after ∙ ap after_sent same) y (shown.Shows.unknown number x.sends.payload is)
           (answered message _ _ y.more (reads agreement p.trusts s payload message below taken no_guess is tt) tt refl (Takes.unknown number x.sends.payload room) y.packets)
       go message is (judging.MessageJudged.unknown number) Spent x =
-          spent_turn (turn.Unknown Spent) message (Unimplemented s.taking.number) (sends (SpelledBy (Unimplemented s.taking.number) x.spelling.payload ∷ [])) x.spelling.payload _ new.kept o (reads agreement p.trusts s payload message below taken no_guess is tt) tt refl refl (Takes.unknown number x.spelling.payload room)
-          (subst (λ (n : ℕ). IsSpelled (Unimplemented n) x.spelling.payload) number_is x.spelling.spelled) (sym (ap (λ (t : Transport K). t.sending.count) same) ∙ x.none_left) x.dead x.quiet shown.Shows.unknown_spent
+          let said = unimplemented_spelled s.taking.number small in
+          spent_turn (turn.Unknown Spent) message (Unimplemented s.taking.number) (sends (SpelledBy (Unimplemented s.taking.number) said.payload ∷ [])) said.payload _ new.kept o (reads agreement p.trusts s payload message below taken no_guess is tt) tt refl refl (Takes.unknown number said.payload room)
+          said.spells (sym (ap (λ (t : Transport K). t.sending.count) same) ∙ x.none_left) x.dead x.quiet shown.Shows.unknown_spent
       go message is (judging.MessageJudged.requested service given) answer x = absurd given
       go message is (judging.MessageJudged.accepted service given) answer x = absurd given
 
@@ -328,10 +334,10 @@ module _ {K : Type 0} (laws : PayloadLaws K) (p : Parties K) (side : Side) (h : 
           (answered message _ _ y.more (reads agreement p.trusts s payload message below taken no_guess is tt) tt (checked service true NoService given)
           (Takes.service_request service x.sends.payload (requested_of s s.phase no_guess (number_at 5 message is refl taken))) y.packets)
       go message is (judging.MessageJudged.requested service given) Spent x =
-          let name : codes "ssh-userauth" ≡ service = sym (text_same service (codes "ssh-userauth") given) in
-          spent_turn (turn.ServiceRequested Spent) message (ServiceAccept service) (sends (SpelledBy (ServiceAccept service) x.spelling.payload ∷ [])) x.spelling.payload _ new.kept o (reads agreement p.trusts s payload message below taken no_guess is tt) tt (checked service true NoService given) refl
-          (Takes.service_request service x.spelling.payload (requested_of s s.phase no_guess (number_at 5 message is refl taken)))
-          (subst (λ (n : List ℕ). IsSpelled (ServiceAccept n) x.spelling.payload) name x.spelling.spelled) (sym (ap (λ (t : Transport K). t.sending.count) same) ∙ x.none_left) x.dead x.quiet shown.Shows.service_spent
+          let said = accept_spelled service given in
+          spent_turn (turn.ServiceRequested Spent) message (ServiceAccept service) (sends (SpelledBy (ServiceAccept service) said.payload ∷ [])) said.payload _ new.kept o (reads agreement p.trusts s payload message below taken no_guess is tt) tt (checked service true NoService given) refl
+          (Takes.service_request service said.payload (requested_of s s.phase no_guess (number_at 5 message is refl taken)))
+          said.spells (sym (ap (λ (t : Transport K). t.sending.count) same) ∙ x.none_left) x.dead x.quiet shown.Shows.service_spent
 
   -- ---- a KEXINIT at a server
 
@@ -357,10 +363,10 @@ module _ {K : Type 0} (laws : PayloadLaws K) (p : Parties K) (side : Side) (h : 
         y (shown.Shows.kexinit_answered theirs x.payload material.cookie is)
         (answered (KexInit theirs) _ _ y.more r tt fine.fine
         (Takes.answered_at_server theirs x.payload material side_is between is (sym (ap (λ (t : Transport K). t.blocked) same) ∙ free) (sym (ap (λ (t : Transport K). t.material) same) ∙ has)) y.packets)
-    kexinit_row answer (turning.KexinitDone.spent material free has x) =
-        spent_turn (turn.Kexinit Spent) (KexInit theirs) (KexInit (offer_of s.settings Server false material.cookie)) (sends (SpelledBy (KexInit (offer_of s.settings Server false material.cookie)) x.spelling.payload ∷ [])) x.spelling.payload _ new.kept o r tt fine.fine refl
-        (Takes.answered_at_server theirs x.spelling.payload material side_is between is (sym (ap (λ (t : Transport K). t.blocked) same) ∙ free) (sym (ap (λ (t : Transport K). t.material) same) ∙ has))
-        (subst (λ (q : Proposal). IsSpelled (KexInit q) x.spelling.payload) (offer_is material.cookie) x.spelling.spelled) (sym (ap (λ (t : Transport K). t.sending.count) same) ∙ x.none_left) x.dead x.quiet shown.Shows.kexinit_spent
+    kexinit_row answer (turning.KexinitDone.spent material free has spelling x) =
+        spent_turn (turn.Kexinit Spent) (KexInit theirs) (KexInit (offer_of s.settings Server false material.cookie)) (sends (SpelledBy (KexInit (offer_of s.settings Server false material.cookie)) spelling.payload ∷ [])) spelling.payload _ new.kept o r tt fine.fine refl
+        (Takes.answered_at_server theirs spelling.payload material side_is between is (sym (ap (λ (t : Transport K). t.blocked) same) ∙ free) (sym (ap (λ (t : Transport K). t.material) same) ∙ has))
+        (subst (λ (q : Proposal). IsSpelled (KexInit q) spelling.payload) (offer_is material.cookie) spelling.spells) (sym (ap (λ (t : Transport K). t.sending.count) same) ∙ x.none_left) x.dead x.quiet shown.Shows.kexinit_spent
 
   kexinit_judged : (facts : KexinitFacts) (answer : Answer) (old new : State K) (o : Outs) → old.kept ≡ after_taken s → s.side ≡ Server → old.receiver.payload ≡ payload → PayloadJudged s payload (judged.Kexinit facts) →
       KexinitDone p.crypto old facts answer new o → IsTurn p side h s payload (turn.Kexinit answer) new.kept o
@@ -373,7 +379,7 @@ module _ {K : Type 0} (laws : PayloadLaws K) (p : Parties K) (side : Side) (h : 
 
 -- ---- all rows
 
-below_all : (n : ℕ) → n % 2 ^ 32 < 2 ^ 32
+pub below_all : (n : ℕ) → n % 2 ^ 32 < 2 ^ 32
 below_all n = omega arith
 
 pub turns_lifted : {K : Type 0} → PayloadLaws K → (p : Parties K) (side : Side) (h : List Item) (s : Transport K) → SumsUp p side h s → s.dead ≡ false → (old : State K) (done : PayloadTurn) (new : State K) (o : Outs) → old.kept ≡ after_taken s → Turns p.crypto old done new o → TurnOf p side h s old done new o
@@ -383,7 +389,7 @@ turns_lifted {K} laws p side h s sums alive old done new o same x = go x.what do
     small = subst (λ (n : ℕ). n < 2 ^ 32) (sym (sums.live alive).taking.number_is) (below_all _)
 
     room : s.taking.count < 2 ^ 32
-    room = few laws p side h s sums alive old.receiver.payload s.taking.count (subst (λ (t : Transport K). t.taking.count ≤ 2 ^ 32) same x.numbered)
+    room = few_taken s.taking.count (subst (λ (t : Transport K). t.taking.count ≤ 2 ^ 32) same x.numbered)
 
     judged_so : PayloadJudged s old.receiver.payload x.what
     judged_so = subst (λ (t : Transport K). PayloadJudged t old.receiver.payload x.what) (ap before_taken same ∙ before s small) x.is_judged

@@ -1,5 +1,5 @@
 -- What holds of a machine that is not over goes on holding.
-use Rattle.std.proofs.Common.{◌≡◌, ℕ, ◌+◌, ◌-◌, ◌^◌, ◌<◌, ◌≤◌, List, [], ◌∷◌, ◌++◌, refl, ap, sym, ◌∙◌, subst, arith, Bool, true, false, Option, Some, None, is_some, cond, nat_lt, not, ◌&&◌}
+use Rattle.std.proofs.Common.{◌≡◌, ℕ, ◌+◌, ◌-◌, ◌^◌, ◌≤◌, List, refl, ap, sym, ◌∙◌, subst, arith, Bool, true, false, Option, Some, None, is_some, nat_lt, not, ◌&&◌, ◌<◌}
 use Rattle.std.proofs.lemmas.Bool.{false≢true}
 use Rattle.ssh_model.specs.Side.{Side}
 use Rattle.ssh_model.specs.Wire.Message.{Msg}
@@ -8,7 +8,7 @@ use Rattle.ssh_model.specs.KeyExchange.Exchanges.{Material}
 use Rattle.ssh_model.specs.Sessions.Items.{Ask}
 use Rattle.ssh_model.specs.Sessions.Parties.{Settings}
 use Rattle.ssh_model.specs.Sessions.Phases as model
-use Rattle.ssh_model.specs.TransportLayer.Directions.{Direction, counted}
+use Rattle.ssh_model.specs.TransportLayer.Directions.{Direction}
 use Rattle.ssh_model.specs.TransportLayer.Kept as kept
 use Rattle.ssh_model.specs.TransportLayer.Kept.{Asks, Transport, after_fed, after_own_kexinit, after_sent, is_fed}
 use Rattle.ssh_model.specs.TransportLayer.Summary.{bit, is_keying}
@@ -21,7 +21,7 @@ use Rattle.ssh_transport_machine.specs.Judging as judging
 use Rattle.ssh_transport_machine.specs.LineTurns.{LineTaken}
 use Rattle.ssh_transport_machine.specs.Opening.{IsOpened}
 use Rattle.ssh_transport_machine.specs.Puts.{Outs}
-use Rattle.ssh_transport_machine.specs.State.{IsKeptLive, IsLive, IsReading, State, awaits_exchange, before_taken, noted}
+use Rattle.ssh_transport_machine.specs.State.{IsKeptLive, IsLive, State, awaits_exchange, before_taken, noted}
 use Rattle.ssh_transport_machine.specs.Turning as turning
 use Rattle.ssh_transport_machine.specs.Turning.{Answers, Becomes, Does, KexinitDone, NewkeysDone, PacketDone, PacketTaken, Turns}
 use Rattle.ssh_transport_machine.specs.declared.machine.judging.Judged.{Judged}
@@ -76,10 +76,19 @@ lacks_bit false e = refl
 room_of : (n : ℕ) → nat_lt n (2 ^ 32 - 1) ≡ true → n + 1 ≤ 2 ^ 32 - 1
 room_of n e = grind (arith, e)
 
+one_later : (come b gone : ℕ) → come + b ≤ gone → come + 1 ≤ gone + 1
+one_later come b gone l = omega (arith, l)
+
+freed : (gone fed b m : ℕ) → b ≡ 1 → gone + (b + m) ≤ fed → gone + 1 + (0 + m) ≤ fed
+freed gone fed b m e l = omega (arith, e, l)
+
+room_by : (gone fed b m : ℕ) → b ≡ 1 → gone + (b + m) ≤ fed → fed ≤ 2 ^ 32 - 1 → gone < 2 ^ 32 - 1
+room_by gone fed b m e l f = omega (arith, e, l, f)
+
 -- ---- what is kept
 
 module _ {K : Type 0} where
-  sent_on : (k : Transport K) (requested : Bool) → IsKeptLive k → IsKeptLive (record (after_sent k) { requested = requested })
+  pub sent_on : (k : Transport K) (requested : Bool) → IsKeptLive k → IsKeptLive (record (after_sent k) { requested = requested })
   sent_on k requested a = record { pending = a.pending; blocked = a.blocked; taken_epochs = a.taken_epochs; sent_epochs = a.sent_epochs; fed = a.fed }
 
   accepted_on : (k : Transport K) → IsKeptLive k → IsKeptLive (record k { accepted = true })
@@ -97,11 +106,11 @@ module _ {K : Type 0} where
     fed = a.fed;
   }
 
-  noted_on : (wrong strict extensions : Bool) (payload : List ℕ) (k : Transport K) → k.blocked ≡ true → IsKeptLive k → IsKeptLive (noted wrong strict extensions payload k)
+  pub noted_on : (wrong strict extensions : Bool) (payload : List ℕ) (k : Transport K) → k.blocked ≡ true → IsKeptLive k → IsKeptLive (noted wrong strict extensions payload k)
   noted_on true strict extensions payload k shut a = record { pending = λ e. absurd (cc e); blocked = λ e. shut; taken_epochs = fewer _ _ _ a.taken_epochs; sent_epochs = a.sent_epochs; fed = a.fed }
   noted_on false strict extensions payload k shut a = record { pending = λ e. absurd (cc e); blocked = λ e. shut; taken_epochs = fewer _ _ _ a.taken_epochs; sent_epochs = a.sent_epochs; fed = a.fed }
 
-  own_on : (m : Material) (payload : List ℕ) (k : Transport K) → k.blocked ≡ false → k.material ≡ Some m → IsKeptLive k → IsKeptLive (after_own_kexinit m payload k)
+  pub own_on : (m : Material) (payload : List ℕ) (k : Transport K) → k.blocked ≡ false → k.material ≡ Some m → IsKeptLive k → IsKeptLive (after_own_kexinit m payload k)
   own_on m payload k free has a = record {
     pending = a.pending;
     blocked = λ e. refl;
@@ -128,6 +137,22 @@ module _ {K : Type 0} where
     fed = room_of k.fed (third_of (not k.dead) (not (is_some k.material)) (nat_lt k.fed (2 ^ 32 - 1)) can);
   }
 
+  pub plain_on : (k : Transport K) → IsKeptLive k → IsKeptLive (after_sent k)
+  plain_on k a = sent_on k k.requested a
+
+  pub completed_on : (k : Transport K) (direction : Direction K) (key : K) (session : List ℕ) → direction.epoch ≡ k.sending.epoch + 1 → k.blocked ≡ true → IsKeptLive k →
+      IsKeptLive (record k { sending = direction; pending = Some key; phase = model.Phase.Keying; blocked = false; session = Some session })
+  completed_on k direction key session e shut a = record {
+    pending = λ f g. cc g;
+    blocked = λ f. absurd (false≢true f);
+    taken_epochs = subst (λ (n : ℕ). k.taking.epoch + 1 ≤ n) (sym e) (one_later _ _ _ a.taken_epochs);
+    sent_epochs = subst (λ (n : ℕ). n + (0 + bit (is_some k.material)) ≤ k.fed) (sym e) (freed _ _ _ _ (ap bit shut) a.sent_epochs);
+    fed = a.fed;
+  }
+
+  pub epoch_room : (k : Transport K) → k.blocked ≡ true → IsKeptLive k → k.sending.epoch < 2 ^ 32 - 1
+  epoch_room k shut a = room_by _ _ _ _ (ap bit shut) a.sent_epochs a.fed
+
 -- ---- a machine
 
 module _ {K : Type 0} where
@@ -153,7 +178,7 @@ module _ {K : Type 0} where
     kexinit_live facts answer (turning.KexinitDone.kept shut x) = same_side old new _ x.after refl refl refl (noted_on facts.wrong facts.strict facts.extensions old.receiver.payload old.kept shut live.kept) live
     kexinit_live facts answer (turning.KexinitDone.answered material free has x) =
         same_side old new _ x.after refl refl refl (noted_on facts.wrong facts.strict facts.extensions old.receiver.payload (after_own_kexinit material x.payload old.kept) refl (own_on material x.payload old.kept free has live.kept)) live
-    kexinit_live facts answer (turning.KexinitDone.spent material free has x) = over new.kept.dead x.dead alive
+    kexinit_live facts answer (turning.KexinitDone.spent material free has spelling x) = over new.kept.dead x.dead alive
 
     newkeys_live : old.kept.phase ≡ model.Phase.Keying → NewkeysDone old new o → IsLive new
     newkeys_live here x = subst (λ (t : State K). IsLive t) (sym x.taken.after) (record {

@@ -1,5 +1,5 @@
 -- NEWKEYS is awaited where it is taken.
-use Rattle.std.proofs.Common.{◌≡◌, ℕ, List, [], ◌∷◌, ◌++◌, ap, ◌∙◌, subst, true, false}
+use Rattle.std.proofs.Common.{◌≡◌, ℕ, List, ◌++◌, ap, ◌∙◌, subst, true, false}
 use Rattle.ssh_model.specs.Wire.Message.{Msg, Msg.NewKeys, IsPayload}
 use Rattle.ssh_model.specs.Sessions.Phases as model
 use Rattle.ssh_model.specs.Sessions.Turns.{number_of}

@@ -1,8 +1,8 @@
 -- What the rows of a machine do, from what its calls do.
-use Rattle.std.proofs.Common.{◌≡◌, ℕ, ◌+◌, ◌^◌, ◌<◌, ◌≤◌, List, [], ◌∷◌, ◌++◌, refl, ap, ◌∙◌, subst, arith, Bool, true, false, not, ◌&&◌, ◌||◌, ◌==◌, ◌-◌, Option, Some, None, is_some}
-use Rattle.std.specs.Prelude.{Result, Ok, Err, IfOk, codes}
+use Rattle.std.proofs.Common.{◌≡◌, ℕ, ◌+◌, ◌^◌, ◌<◌, ◌≤◌, List, [], ◌∷◌, refl, ap, subst, arith, Bool, true, false, not, ◌&&◌, ◌||◌, ◌==◌, ◌-◌, Option, Some, None, is_some}
+use Rattle.std.specs.Prelude.{Result, Ok, Err, IfOk, OnErr, codes}
 use Rattle.ssh_model.specs.Side.{Side, Side.Client, Side.Server}
-use Rattle.ssh_model.specs.Wire.Message.{Msg, Msg.KexInit, Msg.NewKeys, Msg.ServiceRequest, IsPayload}
+use Rattle.ssh_model.specs.Wire.Message.{Msg, Msg.KexInit, Msg.ServiceRequest}
 use Rattle.ssh_model.specs.Wire.Sealing.{Crypto}
 use Rattle.ssh_model.specs.KeyExchange.Exchanges.{Material}
 use Rattle.ssh_model.specs.Sessions.Items.{Ask.AskRekey, Ask.AskService}
@@ -11,44 +11,49 @@ use Rattle.ssh_model.specs.Sessions.Phases as model
 use Rattle.ssh_model.specs.Sessions.Phases.{is_client, is_normal}
 use Rattle.ssh_model.specs.Sessions.Refusals as refusals
 use Rattle.ssh_model.specs.Sessions.Refusals.{Check.RefusedWhere, first_refusal}
-use Rattle.ssh_model.specs.Sessions.Turns.{IsSpelled, number_of}
 use Rattle.ssh_model.specs.TransportLayer.Directions.{Direction, renewed}
+use Rattle.ssh_model.specs.Sessions.TurnClaims.{HasSpelling}
+use Rattle.ssh_model.proofs.Wire.Written.{service_request_spelled}
 use Rattle.ssh_model.specs.TransportLayer.Kept as kept
 use Rattle.ssh_model.specs.TransportLayer.Kept.{Transport, after_sent, message_ask_checks, offer_checks, takes, takes_in}
 use Rattle.ssh_model.specs.TransportLayer.Summary.{bit, is_keying}
 use Rattle.ssh_model.specs.Wire.Message.{Proposal}
-use Rattle.ssh_transport_base.specs.Directions.{newkeys}
-use Rattle.ssh_transport_machine.specs.Asking.{AskDone, OfferDone}
+use Rattle.ssh_transport_machine.specs.Asking.{AskDone, AskLacks, OfferDone, OfferLacks}
 use Rattle.ssh_transport_machine.specs.Judging.{MessageJudged, PayloadJudged}
 use Rattle.ssh_transport_machine.specs.Judging as judging
 use Rattle.ssh_transport_machine.specs.Offering.{OwnAnswered}
-use Rattle.ssh_transport_machine.specs.Puts.{Outs, PutsPayload}
+use Rattle.ssh_transport_machine.specs.Puts.{Outs, Sends}
 use Rattle.ssh_transport_machine.specs.State.{IsLive, State, before_taken, noted}
 use Rattle.ssh_transport_machine.specs.Turning as turning
-use Rattle.ssh_transport_machine.specs.Turning.{Answers, HasSpelling, IsQuiet, KexinitDone, NewkeysTaken, SentBy, SpentBy}
+use Rattle.ssh_transport_machine.specs.Turning.{Answers, HasRoom, KexinitDone, KexinitLacks, NewkeysTaken, SentBy}
 use Rattle.ssh_transport_machine.specs.declared.machine.judging.Judged.{Judged}
 use Rattle.ssh_transport_machine.specs.declared.machine.judging.Judged.TheVariants as judged
 use Rattle.ssh_transport_machine.specs.declared.machine.kexinit.KexinitFacts.{KexinitFacts}
 use Rattle.ssh_transport_machine.specs.declared.machine.turn.Answer.{Answer}
 use Rattle.ssh_transport_machine.specs.declared.machine.turn.Answer.TheVariants.{Done, Spent}
 use Rattle.ssh_transport_machine.specs.declared.machine.turn.AskTurn.TheVariants as turn
-use Rattle.ssh_transport_machine.proofs.Lifting.{newkeys_awaited}
-use Rattle.ssh_transport_machine.proofs.Sending.{spelled_out}
 
 pub if_ok : {A E : Type 0} (r : Result A E) (P Q : A → Type 0) → ((x : A) → P x → Q x) → IfOk r P → IfOk r Q
 if_ok (Ok x) P Q f p = f x p
 if_ok (Err e) P Q f p = tt
 
+pub on_err : {A E P : Type 0} (r : Result A E) → P → OnErr r P
+on_err (Ok x) p = tt
+on_err (Err e) p = p
+
 -- ---- what is answered
 
-pub answered_by : {K : Type 0} (c : Crypto K) (old : State K) (m : Msg) (payload : List ℕ) (new : State K) (o : Outs) → IsSpelled m payload → PutsPayload c old.kept.sending payload o → new ≡ record old { kept = after_sent old.kept } → SentBy c old m (after_sent old.kept) new o
-answered_by c old m payload new o spelled x e = record { sends = spelled_out c old.kept.sending m payload o spelled x; after = e }
+pub sent_by : {K : Type 0} (c : Crypto K) (old : State K) (m : Msg) (new : State K) (o : Outs) → Sends c old.kept.sending m o → new ≡ record old { kept = after_sent old.kept } → SentBy c old m (after_sent old.kept) new o
+sent_by c old m new o x e = record { sends = x; after = e }
 
 -- ---- asks
 
 client_of : (side : Side) (b d : Bool) → first_refusal (RefusedWhere (not (is_client side)) refusals.AskRefusal.WrongSide ∷ RefusedWhere b refusals.AskRefusal.NotYet ∷ RefusedWhere d refusals.AskRefusal.Busy ∷ []) ≡ None → side ≡ Client
 client_of Client b d e = refl
 client_of Server b d e = absurd (cc e)
+
+request_spelled : HasSpelling (ServiceRequest (codes "ssh-userauth"))
+request_spelled = service_request_spelled (codes "ssh-userauth") (omega arith)
 
 pub service_asked : {K : Type 0} (c : Crypto K) (old new : State K) (o : Outs) (answer : Answer) → first_refusal (message_ask_checks old.kept AskService) ≡ None →
     Answers c old (ServiceRequest (codes "ssh-userauth")) (record (after_sent old.kept) { requested = true }) answer new o → AskDone c old AskService (turn.Answered answer) new o
@@ -64,9 +69,20 @@ service_asked c old new o Done fine x = record {
 service_asked c old new o Spent fine x = record {
   fine = fine;
   message = ServiceRequest (codes "ssh-userauth");
+  spelling = request_spelled;
   kept = record (after_sent old.kept) { requested = true };
+  asks = kept.Asks.service request_spelled.payload (client_of old.kept.side (old.kept.taking.epoch == 0) old.kept.requested fine);
   spent = x;
-  asks = kept.Asks.service x.spelling.payload (client_of old.kept.side (old.kept.taking.epoch == 0) old.kept.requested fine);
+}
+
+pub service_lacks : {K : Type 0} (old : State K) → first_refusal (message_ask_checks old.kept AskService) ≡ None → HasRoom old → AskLacks old AskService
+service_lacks old fine room = record {
+  fine = fine;
+  message = ServiceRequest (codes "ssh-userauth");
+  spelling = request_spelled;
+  kept = record (after_sent old.kept) { requested = true };
+  asks = kept.Asks.service request_spelled.payload (client_of old.kept.side (old.kept.taking.epoch == 0) old.kept.requested fine);
+  room = room;
 }
 
 free_of : (early shut odd lacks : Bool) → first_refusal (RefusedWhere early refusals.AskRefusal.NotYet ∷ RefusedWhere (shut || odd) refusals.AskRefusal.Busy ∷ RefusedWhere lacks refusals.AskRefusal.NoMaterial ∷ []) ≡ None → shut ≡ false
@@ -87,9 +103,20 @@ rekey_asked c old new o m Done fine has x = record {
 rekey_asked c old new o m Spent fine has x = record {
   fine = fine;
   message = KexInit (offer_of old.kept.settings old.kept.side false m.cookie);
+  spelling = x.spelling;
   kept = kept.after_own_kexinit m x.spelling.payload old.kept;
-  spent = x;
   asks = kept.Asks.rekey m x.spelling.payload (free_of (not old.kept.authenticated) old.kept.blocked (not (is_normal old.kept.phase)) (not (is_some old.kept.material)) fine) has;
+  spent = x.spent;
+}
+
+pub rekey_lacks : {K : Type 0} (old : State K) (m : Material) → first_refusal (message_ask_checks old.kept AskRekey) ≡ None → old.kept.material ≡ Some m → OfferLacks old m → AskLacks old AskRekey
+rekey_lacks old m fine has x = record {
+  fine = fine;
+  message = KexInit (offer_of old.kept.settings old.kept.side false m.cookie);
+  spelling = x.spelling;
+  kept = kept.after_own_kexinit m x.spelling.payload old.kept;
+  asks = kept.Asks.rekey m x.spelling.payload (free_of (not old.kept.authenticated) old.kept.blocked (not (is_normal old.kept.phase)) (not (is_some old.kept.material)) fine) has;
+  room = x.room;
 }
 
 -- ---- a KEXINIT at a server
@@ -102,11 +129,21 @@ kexinit_kept {K} c s old new facts bytes payloads same shut e =
 pub kexinit_spent : {K : Type 0} (c : Crypto K) (s old new : State K) (facts : KexinitFacts) (m : Material) (bytes : List ℕ) (payloads : List (List ℕ)) → s ≡ old → s.kept.blocked ≡ false → s.kept.material ≡ Some m → HasSpelling (KexInit (offer_of old.kept.settings old.kept.side false m.cookie)) →
     old.kept.sending.count ≡ 2 ^ 32 → new.kept.dead ≡ true → KexinitDone c old facts Spent new (record { before = bytes; after = bytes; listed = payloads; relisted = payloads })
 kexinit_spent {K} c s old new facts m bytes payloads same free has spelling none_left dead =
-    turning.KexinitDone.spent m (subst (λ (t : State K). t.kept.blocked ≡ false) same free) (subst (λ (t : State K). t.kept.material ≡ Some m) same has) (record { spelling = spelling; none_left = none_left; dead = dead; quiet = record { out = refl; sent = refl } })
+    turning.KexinitDone.spent m (subst (λ (t : State K). t.kept.blocked ≡ false) same free) (subst (λ (t : State K). t.kept.material ≡ Some m) same has) spelling (record { none_left = none_left; dead = dead; quiet = record { out = refl; sent = refl } })
 
 pub kexinit_answered : {K : Type 0} (c : Crypto K) (s old new : State K) (facts : KexinitFacts) (m : Material) (o : Outs) → s ≡ old → s.kept.blocked ≡ false → s.kept.material ≡ Some m → OwnAnswered c old m facts new o → KexinitDone c old facts Done new o
 kexinit_answered {K} c s old new facts m o same free has x =
     turning.KexinitDone.answered m (subst (λ (t : State K). t.kept.blocked ≡ false) same free) (subst (λ (t : State K). t.kept.material ≡ Some m) same has) x
+
+pub kexinit_lacks : {K : Type 0} (s old : State K) (m : Material) → s ≡ old → old.kept.side ≡ Server → s.kept.blocked ≡ false → s.kept.material ≡ Some m → HasSpelling (KexInit (offer_of old.kept.settings old.kept.side false m.cookie)) → HasRoom old → KexinitLacks old
+kexinit_lacks {K} s old m same side free has spelling room = record {
+  side_is = side;
+  free = subst (λ (t : State K). t.kept.blocked ≡ false) same free;
+  material = m;
+  kept = subst (λ (t : State K). t.kept.material ≡ Some m) same has;
+  spelling = spelling;
+  room = room;
+}
 
 lacks_pair : (b d e shut has : Bool) → shut ≡ false → has ≡ false → first_refusal (RefusedWhere b refusals.Refusal.NotStrict ∷ RefusedWhere d refusals.Refusal.Unexpected ∷ RefusedWhere e refusals.Refusal.NoCommon ∷ RefusedWhere (not shut && not has) refusals.Refusal.NoMaterial ∷ []) ≡ None → ⊥
 lacks_pair true d e shut has f g x = cc x

@@ -1,5 +1,5 @@
 -- What a machine makes of a line or a packet is what an end of a session does, and so is its opening.
-use Rattle.std.proofs.Common.{◌≡◌, ℕ, List, [], ◌∷◌, ◌++◌, refl, ap, sym, ◌∙◌, subst, Bool, true, false, None}
+use Rattle.std.proofs.Common.{◌≡◌, ℕ, ◌<◌, ◌^◌, List, [], ◌∷◌, ◌++◌, refl, ap, sym, ◌∙◌, subst, Bool, true, false, None}
 use Rattle.ssh_model.specs.Side.{Side}
 use Rattle.ssh_model.specs.Wire.Line.{LineUnit, line_end}
 use Rattle.ssh_model.specs.Wire.Message.{Msg.KexInit}
@@ -27,13 +27,14 @@ use Rattle.ssh_transport_base.specs.declared.packets.step.PacketStep.TheVariants
 use Rattle.ssh_transport_machine.specs.LineTurns.{LineTaken}
 use Rattle.ssh_transport_machine.specs.Opening.{IsOpened}
 use Rattle.ssh_transport_machine.specs.Puts.{Outs}
-use Rattle.ssh_transport_machine.specs.Shown.{IsOpening, LineTurnOf, PacketTurnOf, opening}
+use Rattle.ssh_transport_machine.specs.Shown.{IsOpening, LineTurnOf, PacketTurnOf, WouldAnswerPacket, opening}
 use Rattle.ssh_transport_machine.specs.State.{IsLive, State}
-use Rattle.ssh_transport_machine.specs.Turning.{Becomes, PacketDone, PacketTaken, RefusalDone}
+use Rattle.ssh_transport_machine.specs.Turning.{Becomes, FoundLacks, PacketDone, PacketLacks, PacketTaken, RefusalDone}
 use Rattle.ssh_transport_machine.specs.declared.machine.line_turn.LineTurn.{LineTurn}
 use Rattle.ssh_transport_machine.specs.declared.machine.line_turn.LineTurn.TheVariants as turn
 use Rattle.ssh_transport_machine.specs.declared.machine.turn.PacketTurn.{PacketTurn}
 use Rattle.ssh_transport_machine.specs.declared.machine.turn.PacketTurn.TheVariants as packet_turn
+use Rattle.ssh_transport_machine.proofs.Deaths.{said_so, turn_lacks}
 use Rattle.ssh_transport_machine.proofs.Lifting.{PayloadLaws, turns_lifted}
 
 -- ---- the laws of the model
@@ -51,34 +52,40 @@ silent_line line.BadVersion = refl
 
 module _ {K : Type 0} (laws : UnitLaws K) (p : Parties K) (side : Side) (h : List Item) (old : State K) (sums : SumsUp p side h old.kept) (alive : old.kept.dead ≡ false) (live : IsLive old) where
   module _ (none_found : old.kept.lines.found ≡ false) where
-    unit_by : (bytes : List ℕ) (outcome : Outcome) → LineUnit old.reading.from_server old.reading.others bytes outcome → IsUnit p.crypto (stage p side h) bytes outcome
-    unit_by bytes outcome x =
-        laws.lines p side h old.kept sums alive none_found bytes outcome
-        (subst (λ (b : Bool). LineUnit b old.kept.lines.others bytes outcome) (live.lines none_found).from_peer
-        (subst (λ (n : ℕ). LineUnit old.reading.from_server n bytes outcome) (sym (live.lines none_found).others) x))
+    line_at : (bytes : List ℕ) (outcome : Outcome) → LineUnit old.reading.from_server old.reading.others bytes outcome → LineUnit (is_client old.kept.side) old.kept.lines.others bytes outcome
+    line_at bytes outcome x =
+        subst (λ (b : Bool). LineUnit b old.kept.lines.others bytes outcome) (live.lines none_found).from_peer
+        (subst (λ (n : ℕ). LineUnit old.reading.from_server n bytes outcome) (sym (live.lines none_found).others) x)
 
-    pub line_lifted : (bytes : List ℕ) (done : LineTurn) (new : State K) → LineTaken old bytes done new → LineTurnOf p side h bytes done new.kept
+    unit_by : (bytes : List ℕ) (outcome : Outcome) → LineUnit old.reading.from_server old.reading.others bytes outcome → IsUnit p.crypto (stage p side h) bytes outcome
+    unit_by bytes outcome x = laws.lines p side h old.kept sums alive none_found bytes outcome (line_at bytes outcome x)
+
+    pub line_lifted : (bytes : List ℕ) (done : LineTurn) (new : State K) → LineTaken old bytes done new → LineTurnOf p side h old.kept bytes done new.kept
     line_lifted bytes turn.More new x = subst (λ (t : State K). SumsUp p side h t.kept) (sym x.after) sums
     line_lifted bytes turn.Other new x = record {
       text = x.text;
+      line = line_at bytes (OtherLine x.text) x.unit;
       unit = unit_by bytes (OtherLine x.text) x.unit;
       sums = subst (λ (t : State K). SumsUp p side (TookOtherLine x.text ∷ h) t.kept) (sym x.after) (laws.other p side h old.kept x.text (sym ((sums.live alive).lines.found_is) ∙ none_found) sums);
     }
     line_lifted bytes turn.Version new x = record {
       text = x.text;
+      line = line_at bytes (VersionLine x.text) x.unit;
       unit = unit_by bytes (VersionLine x.text) x.unit;
       sums = subst (λ (t : State K). SumsUp p side (TookLine x.text ∷ h) t.kept) (sym x.after) (laws.version p side h old.kept x.text sums);
     }
     line_lifted bytes (turn.Refused why) new x = record {
+      line = line_at bytes (RefusedLine (line_refusal why)) x.unit;
       unit = unit_by bytes (RefusedLine (line_refusal why)) x.unit;
       turned = laws.refused p side h old.kept sums alive (line_refusal why) [] [] new.kept (turns.SaysWhy.silently (silent_line why)) (ap (λ (t : State K). t.kept.dead) x.after);
     }
 
   module _ (found : old.kept.lines.found ≡ true) where
+    packet_at : (bytes : List ℕ) (outcome : Outcome) → PacketUnit p.crypto old.receiver.direction.key old.receiver.direction.number old.receiver.direction.count bytes outcome → PacketUnit p.crypto old.kept.taking.key old.kept.taking.number old.kept.taking.count bytes outcome
+    packet_at bytes outcome x = subst (λ (d : Direction K). PacketUnit p.crypto d.key d.number d.count bytes outcome) (sym live.taking) x
+
     packet_by : (bytes : List ℕ) (outcome : Outcome) → PacketUnit p.crypto old.receiver.direction.key old.receiver.direction.number old.receiver.direction.count bytes outcome → IsUnit p.crypto (stage p side h) bytes outcome
-    packet_by bytes outcome x =
-        laws.packets p side h old.kept sums alive found bytes outcome
-        (subst (λ (d : Direction K). PacketUnit p.crypto d.key d.number d.count bytes outcome) (sym live.taking) x)
+    packet_by bytes outcome x = laws.packets p side h old.kept sums alive found bytes outcome (packet_at bytes outcome x)
 
     taking_by : (receiver : Receiver K) (new : State K) → new ≡ record old { receiver = receiver; kept = record old.kept { taking = receiver.direction } } → new.kept ≡ record old.kept { taking = receiver.direction }
     taking_by receiver new e = ap (λ (t : State K). t.kept) e
@@ -101,6 +108,7 @@ module _ {K : Type 0} (laws : UnitLaws K) (p : Parties K) (side : Side) (h : Lis
         PacketTurnOf p side h old.kept bytes (packet_turn.Refused why) new o
     refusal_lifted bytes r why between new o x e y =
         subst (λ (w : Refused). PacketTurnOf p side h old.kept bytes (packet_turn.Refused w) new o) (sym y.same) (record {
+          packet = packet_at bytes (RefusedPacket (refusal_of r)) x.0;
           unit = packet_by bytes (RefusedPacket (refusal_of r)) x.0;
           said = y.refuses.said;
           more = y.refuses.more;
@@ -118,6 +126,7 @@ module _ {K : Type 0} (laws : UnitLaws K) (p : Parties K) (side : Side) (h : Lis
     packet_done rows bytes (step.Refused r) (packet_turn.Refused why) between new o x e y = refusal_lifted bytes r why between new o x e y
     packet_done rows bytes step.Payload (packet_turn.Payload done) between new o x e y = record {
       between = between;
+      packet = packet_at bytes (Outcome.Opens between.receiver.payload) x.0;
       unit = packet_by bytes (Outcome.Opens between.receiver.payload) x.0;
       kept = found_by bytes between x e;
       turn = turns_lifted rows p side h old.kept sums alive between done new o (found_by bytes between x e) y;
@@ -126,6 +135,18 @@ module _ {K : Type 0} (laws : UnitLaws K) (p : Parties K) (side : Side) (h : Lis
 
     pub packet_lifted : PayloadLaws K → (bytes : List ℕ) (done : PacketTurn) (new : State K) (o : Outs) → PacketTaken p.crypto old bytes done new o → PacketTurnOf p side h old.kept bytes done new o
     packet_lifted rows bytes done new o x = packet_done rows bytes x.found done x.between new o x.receives x.rest x.does
+
+    lacks_at : (bytes : List ℕ) (between : State K) (found : PacketStep) → Receives p.crypto bytes old.receiver found between.receiver → between ≡ record old { receiver = between.receiver; kept = record old.kept { taking = between.receiver.direction } } → FoundLacks between found → PayloadLaws K →
+        WouldAnswerPacket p side old.kept bytes
+    lacks_at bytes between step.More x e y rows = absurd y
+    lacks_at bytes between (step.Refused why) x e y rows =
+        WouldAnswerPacket.refused (refusal_of why) (packet_at bytes (RefusedPacket (refusal_of why)) x.0)
+        (said_so old.kept why (subst (λ (t : Transport K). t.sending.count < 2 ^ 32) (same_by between.receiver between e (ap (λ (r : Receiver K). r.direction) x.1)) y.room) y.reason)
+    lacks_at bytes between step.Payload x e y rows =
+        WouldAnswerPacket.opened between.receiver.payload (packet_at bytes (Outcome.Opens between.receiver.payload) x.0) (turn_lacks rows p side h old.kept sums alive between (found_by bytes between x e) y)
+
+    pub packet_lacks : PayloadLaws K → (bytes : List ℕ) → PacketLacks p.crypto old bytes → WouldAnswerPacket p side old.kept bytes
+    packet_lacks rows bytes x = lacks_at bytes x.between x.found x.receives x.rest x.lacks rows
 
 -- ---- the opening
 

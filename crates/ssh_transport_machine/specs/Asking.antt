@@ -6,6 +6,7 @@ use Rattle.ssh_model.specs.KeyExchange.Exchanges.{Material}
 use Rattle.ssh_model.specs.Sessions.Items.{Ask, Ask.AskDisconnect, Spelled.SpelledBy}
 use Rattle.ssh_model.specs.Sessions.Parties.{offer_of}
 use Rattle.ssh_model.specs.Sessions.Refusals as model
+use Rattle.ssh_model.specs.Sessions.TurnClaims.{HasSpelling}
 use Rattle.ssh_model.specs.Sessions.Refusals.{first_refusal}
 use Rattle.ssh_model.specs.TransportLayer.Kept.{Asks, Transport, message_ask_checks}
 use Rattle.ssh_types.specs.AskRefusals.{ask_refusal_of}
@@ -13,7 +14,7 @@ use Rattle.ssh_types.specs.declared.ask_refusal.AskRefusal.{AskRefusal}
 use Rattle.ssh_transport_machine.specs.Offering.{OwnSent}
 use Rattle.ssh_transport_machine.specs.Puts.{Outs, Puts, Sends}
 use Rattle.ssh_transport_machine.specs.State.{State}
-use Rattle.ssh_transport_machine.specs.Turning.{IsQuiet, SpentBy}
+use Rattle.ssh_transport_machine.specs.Turning.{HasRoom, IsQuiet, SpentBy}
 use Rattle.ssh_transport_machine.specs.declared.machine.turn.Answer.{Answer}
 use Rattle.ssh_transport_machine.specs.declared.machine.turn.Answer.TheVariants.{Done, Spent}
 use Rattle.ssh_transport_machine.specs.declared.machine.turn.AskTurn.{AskTurn}
@@ -45,9 +46,10 @@ pub record AskSent {K : Type 0} (c : Crypto K) (old : State K) (ask : Ask) (new 
 pub record AskSpent {K : Type 0} (old : State K) (ask : Ask) (new : State K) (o : Outs) : Type 0 where
   pub fine : first_refusal (message_ask_checks old.kept ask) ≡ None
   pub message : Msg
+  pub spelling : HasSpelling message
   pub kept : Transport K
-  pub spent : SpentBy old message new o
-  pub asks : Asks old.kept ask message spent.spelling.payload kept
+  pub asks : Asks old.kept ask message spelling.payload kept
+  pub spent : SpentBy old new o
 
 -- what was done on an ask for a service or for an exchange of keys
 abbrev pub AskDone : {K : Type 0} → Crypto K → State K → Ask → AskTurn → State K → Outs → Type 0
@@ -66,7 +68,7 @@ pub record DisconnectSent {K : Type 0} (c : Crypto K) (old : State K) (descripti
 pub record DisconnectSpent {K : Type 0} (old : State K) (description : List ℕ) (new : State K) (o : Outs) :
     Type 0 where
   pub fine : first_refusal (message_ask_checks old.kept (AskDisconnect description)) ≡ None
-  pub spent : SpentBy old (Disconnect 11 description []) new o
+  pub spent : SpentBy old new o
 
 -- what was done on an ask to disconnect with this description
 abbrev pub DisconnectDone : {K : Type 0} → Crypto K → State K → List ℕ → AskTurn → State K → Outs → Type 0
@@ -74,8 +76,33 @@ DisconnectDone c old description (turn.Refused why) new o = AskRefused old (AskD
 DisconnectDone c old description (turn.Answered Done) new o = DisconnectSent c old description new o
 DisconnectDone c old description (turn.Answered Spent) new o = DisconnectSpent old description new o
 
+-- No number was left for a KEXINIT with this pair.
+pub record OfferSpent {K : Type 0} (old : State K) (material : Material) (new : State K) (o : Outs) : Type 0 where
+  pub spelling : HasSpelling (KexInit (offer_of old.kept.settings old.kept.side false material.cookie))
+  pub spent : SpentBy old new o
+
 -- A KEXINIT was sent with this pair, or no number was left for it.
 abbrev pub OfferDone : {K : Type 0} → Crypto K → State K → Material → Answer → State K → Outs → Type 0
 OfferDone c old material Done new o = OwnSent c old material new o
-OfferDone c old material Spent new o =
-    SpentBy old (KexInit (offer_of old.kept.settings old.kept.side false material.cookie)) new o
+OfferDone c old material Spent new o = OfferSpent old material new o
+
+-- ---- where memory is refused
+
+-- Nothing refuses the ask, and this would be sent.
+pub record AskLacks {K : Type 0} (old : State K) (ask : Ask) : Type 0 where
+  pub fine : first_refusal (message_ask_checks old.kept ask) ≡ None
+  pub message : Msg
+  pub spelling : HasSpelling message
+  pub kept : Transport K
+  pub asks : Asks old.kept ask message spelling.payload kept
+  pub room : HasRoom old
+
+-- Nothing refuses the ask to disconnect, and it would be sent.
+pub record DisconnectLacks {K : Type 0} (old : State K) (description : List ℕ) : Type 0 where
+  pub fine : first_refusal (message_ask_checks old.kept (AskDisconnect description)) ≡ None
+  pub room : HasRoom old
+
+-- A KEXINIT would be sent with this pair.
+pub record OfferLacks {K : Type 0} (old : State K) (material : Material) : Type 0 where
+  pub spelling : HasSpelling (KexInit (offer_of old.kept.settings old.kept.side false material.cookie))
+  pub room : HasRoom old

@@ -1,5 +1,6 @@
 -- The turns of a session that those of a machine are, and what each answer of a machine shows of them.
-use Rattle.std.specs.Prelude.{◌≡◌, ℕ, Bool, true, false, None, Some, List, [], ◌∷◌, ◌++◌}
+use Rattle.std.specs.Prelude.{◌≡◌, ℕ, ◌+◌, ◌^◌, ◌<◌, ◌≤◌, Bool, true, false, None, Some, List, [], ◌∷◌, ◌++◌}
+use Rattle.std.specs.Prelude.{length}
 use Rattle.ssh_model.specs.Side.{Side, Side.Server}
 use Rattle.ssh_model.specs.Wire.Message.{Msg, Msg.Debug, Msg.Disconnect, Msg.ExtInfo, Msg.Ignore, Msg.KexInit}
 use Rattle.ssh_model.specs.Wire.Message.{Msg.NewKeys, Msg.ServiceAccept, Msg.ServiceRequest, Msg.Unimplemented}
@@ -9,16 +10,21 @@ use Rattle.ssh_model.specs.Sessions.Items.{Fact.NotImplemented, Fact.Service, It
 use Rattle.ssh_model.specs.Sessions.Items.{Ask, Ask.AskDisconnect, Item.Asked, Item.Fed, Item.Sent, Item.Took}
 use Rattle.ssh_model.specs.Sessions.Items.{Item.SentLine, Item.TookLine, Item.TookOtherLine}
 use Rattle.ssh_model.specs.Sessions.Items.{Item.TookGuess, Spelled, Spelled.SpelledBy}
-use Rattle.ssh_model.specs.Sessions.Parties.{Parties, offer, offer_of, settings_of}
+use Rattle.ssh_model.specs.Sessions.Parties.{Parties, agreement_of, offer, offer_of, settings_of}
 use Rattle.ssh_model.specs.Sessions.Events.{PutsOut}
-use Rattle.ssh_model.specs.Sessions.Turns.{IsSpelled, stage}
+use Rattle.ssh_model.specs.Sessions.Turns.{AreSpelled, IsSpelled, stage}
 use Rattle.ssh_model.specs.Wire.Outcome.{Outcome, Outcome.OtherLine, Outcome.VersionLine, Outcome.RefusedLine}
 use Rattle.ssh_model.specs.Wire.Outcome.{Outcome.Opens, Outcome.RefusedPacket}
-use Rattle.ssh_model.specs.Wire.Unit.{IsPacketBegun, IsUnit}
+use Rattle.ssh_model.specs.Wire.Unit.{IsPacketBegun, IsUnit, PacketUnit}
+use Rattle.ssh_model.specs.KeyExchange.Choice.{Chosen}
+use Rattle.ssh_model.specs.Sessions.Phases.{is_client}
 use Rattle.ssh_model.specs.Sessions.Refusals as model
-use Rattle.ssh_model.specs.TransportLayer.Kept.{Transport, after_taken}
-use Rattle.ssh_model.specs.TransportLayer.Summary.{SumsUp, items_sent}
-use Rattle.ssh_model.specs.TransportLayer.Turns.{AskTurned, Turned, UnitRefused, refusal_items}
+use Rattle.ssh_model.specs.Sessions.Refusals.{first_refusal, refusal_name, refusal_reason}
+use Rattle.ssh_model.specs.Sessions.TurnClaims.{HasSpelling}
+use Rattle.ssh_model.specs.Wire.Line.{LineUnit}
+use Rattle.ssh_model.specs.TransportLayer.Kept.{Answered, Takes, Transport, after_taken, message_checks}
+use Rattle.ssh_model.specs.TransportLayer.Summary.{IsAwaited, SumsUp, items_sent}
+use Rattle.ssh_model.specs.TransportLayer.Turns.{AskTurned, IsRefused, Reads, Turned, UnitRefused, refusal_items}
 use Rattle.ssh_packet.specs.Refusals.{line_refusal}
 use Rattle.ssh_types.specs.AskRefusals.{ask_refusal_of}
 use Rattle.ssh_types.specs.Refusals.{refusal_of}
@@ -152,30 +158,34 @@ pub record IsOpening {K : Type 0} (p : Parties K) (side : Side) (cookie secret :
 -- ---- lines and packets
 
 -- The unit is this, and what is kept sums up the history with it.
-pub record IsLineItem {K : Type 0} (p : Parties K) (side : Side) (history : List Item) (bytes : List ℕ)
-    (outcome : List ℕ → Outcome) (item : List ℕ → Item) (new : Transport K) : Type 0 where
+pub record IsLineItem {K : Type 0} (p : Parties K) (side : Side) (history : List Item) (s : Transport K)
+    (bytes : List ℕ) (outcome : List ℕ → Outcome) (item : List ℕ → Item) (new : Transport K) : Type 0 where
   pub text : List ℕ
+  pub line : LineUnit (is_client s.side) s.lines.others bytes (outcome text)
   pub unit : IsUnit p.crypto (stage p side history) bytes (outcome text)
   pub sums : SumsUp p side (item text ∷ history) new
 
 -- The line is refused, and nothing is said.
-pub record IsLineRefusal {K : Type 0} (p : Parties K) (side : Side) (history : List Item) (bytes : List ℕ)
-    (why : model.Refusal) (new : Transport K) : Type 0 where
+pub record IsLineRefusal {K : Type 0} (p : Parties K) (side : Side) (history : List Item) (s : Transport K)
+    (bytes : List ℕ) (why : model.Refusal) (new : Transport K) : Type 0 where
+  pub line : LineUnit (is_client s.side) s.lines.others bytes (RefusedLine why)
   pub unit : IsUnit p.crypto (stage p side history) bytes (RefusedLine why)
   pub turned : UnitRefused p side history (refusal_items why None []) why [] new
 
 -- what a call made of the bytes of a line begun with those that it used
-abbrev pub LineTurnOf : {K : Type 0} → Parties K → Side → (history : List Item) → List ℕ → LineTurn → Transport K →
-    Type 0
-LineTurnOf p side history bytes line_turn.More new = SumsUp p side history new
-LineTurnOf p side history bytes line_turn.Other new = IsLineItem p side history bytes OtherLine TookOtherLine new
-LineTurnOf p side history bytes line_turn.Version new = IsLineItem p side history bytes VersionLine TookLine new
-LineTurnOf p side history bytes (line_turn.Refused why) new = IsLineRefusal p side history bytes (line_refusal why) new
+abbrev pub LineTurnOf : {K : Type 0} → Parties K → Side → (history : List Item) → Transport K → List ℕ → LineTurn →
+    Transport K → Type 0
+LineTurnOf p side history s bytes line_turn.More new = SumsUp p side history new
+LineTurnOf p side history s bytes line_turn.Other new = IsLineItem p side history s bytes OtherLine TookOtherLine new
+LineTurnOf p side history s bytes line_turn.Version new = IsLineItem p side history s bytes VersionLine TookLine new
+LineTurnOf p side history s bytes (line_turn.Refused why) new =
+    IsLineRefusal p side history s bytes (line_refusal why) new
 
 -- The unit is a packet of this payload, and what was done with that is a turn of a session, or it is left.
 pub record IsPayloadTurn {K : Type 0} (p : Parties K) (side : Side) (history : List Item) (s : Transport K)
     (bytes : List ℕ) (done : PayloadTurn) (new : State K) (o : Outs) : Type 0 where
   pub between : State K
+  pub packet : PacketUnit p.crypto s.taking.key s.taking.number s.taking.count bytes (Opens between.receiver.payload)
   pub unit : IsUnit p.crypto (stage p side history) bytes (Opens between.receiver.payload)
   pub kept : between.kept ≡ after_taken s
   pub turn : TurnOf p side history s between done new o
@@ -188,8 +198,9 @@ pub record IsPacketBegunBy {K : Type 0} (p : Parties K) (s : Transport K) (bytes
   pub quiet : IsQuiet o
 
 -- The packet was refused.
-pub record IsPacketRefusal {K : Type 0} (p : Parties K) (side : Side) (history : List Item) (bytes : List ℕ)
-    (why : model.Refusal) (new : Transport K) (o : Outs) : Type 0 where
+pub record IsPacketRefusal {K : Type 0} (p : Parties K) (side : Side) (history : List Item) (s : Transport K)
+    (bytes : List ℕ) (why : model.Refusal) (new : Transport K) (o : Outs) : Type 0 where
+  pub packet : PacketUnit p.crypto s.taking.key s.taking.number s.taking.count bytes (RefusedPacket why)
   pub unit : IsUnit p.crypto (stage p side history) bytes (RefusedPacket why)
   pub said : List Spelled
   pub more : List ℕ
@@ -202,5 +213,33 @@ abbrev pub PacketTurnOf : {K : Type 0} → Parties K → Side → (history : Lis
     State K → Outs → Type 0
 PacketTurnOf p side history s bytes packet_turn.More new o = IsPacketBegunBy p s bytes new.kept o
 PacketTurnOf p side history s bytes (packet_turn.Refused why) new o =
-    IsPacketRefusal p side history bytes (refusal_of why) new.kept o
+    IsPacketRefusal p side history s bytes (refusal_of why) new.kept o
 PacketTurnOf p side history s bytes (packet_turn.Payload done) new o = IsPayloadTurn p side history s bytes done new o
+
+-- ---- where memory fails
+
+-- The refusal would be said: it has a reason code, the DISCONNECT that says so a payload, and a number is left for it.
+pub record WouldSay {K : Type 0} (s : Transport K) (why : model.Refusal) : Type 0 where
+  pub reason : ℕ
+  pub reason_is : refusal_reason why ≡ Some reason
+  pub spelling : HasSpelling (Disconnect reason (refusal_name why) [])
+  pub room : s.sending.count < 2 ^ 32
+
+-- Something would be sent on the payload, which has a spelling and a number of its own: an answer, or why it is refused.
+pub data WouldAnswer {K : Type 0} (p : Parties K) (side : Side) (s : Transport K) (payload : List ℕ) : Type 0 where
+  answered : (chosen : Chosen) (message : Msg) (answered : Answered) (new : Transport K) → Reads s message payload →
+      IsAwaited s chosen message →
+      first_refusal (message_checks (agreement_of p side) p.trusts chosen s message) ≡ None →
+      Takes (agreement_of p side) s payload message answered new → AreSpelled (items_sent answered.sent) →
+      1 ≤ length answered.sent → s.sending.count + length answered.sent ≤ 2 ^ 32 → WouldAnswer p side s payload
+  refused : (why : model.Refusal) → IsRefused (agreement_of p side) p.trusts s payload why → WouldSay s why →
+      WouldAnswer p side s payload
+
+-- Something would be sent on the packet.
+pub data WouldAnswerPacket {K : Type 0} (p : Parties K) (side : Side) (s : Transport K) (bytes : List ℕ) : Type 0 where
+  opened : (payload : List ℕ) →
+      PacketUnit p.crypto s.taking.key s.taking.number s.taking.count bytes (Opens payload) →
+      WouldAnswer p side s payload → WouldAnswerPacket p side s bytes
+  refused : (why : model.Refusal) →
+      PacketUnit p.crypto s.taking.key s.taking.number s.taking.count bytes (RefusedPacket why) → WouldSay s why →
+      WouldAnswerPacket p side s bytes

@@ -1,12 +1,13 @@
 -- What an end does with a payload that it took, once it is judged.
-use Rattle.std.specs.Prelude.{◌≡◌, ℕ, ◌≤◌, ◌^◌, true, false, List, Some, None, codes}
+use Rattle.std.specs.Prelude.{◌≡◌, ℕ, ◌<◌, ◌≤◌, ◌^◌, true, false, IsSome, List, Some, None, codes}
 use Rattle.ssh_model.specs.Side.{Side.Client, Side.Server}
 use Rattle.ssh_model.specs.Wire.Message.{Msg, Msg.KexInit, Msg.ServiceAccept, Msg.Unimplemented}
 use Rattle.ssh_model.specs.Wire.Sealing.{Crypto}
 use Rattle.ssh_model.specs.KeyExchange.Exchanges.{Material}
 use Rattle.ssh_model.specs.Sessions.Parties.{offer_of}
 use Rattle.ssh_model.specs.Sessions.Phases as model
-use Rattle.ssh_model.specs.Sessions.Turns.{IsSpelled}
+use Rattle.ssh_model.specs.Sessions.Refusals.{refusal_reason}
+use Rattle.ssh_model.specs.Sessions.TurnClaims.{HasSpelling}
 use Rattle.ssh_model.specs.TransportLayer.Directions.{renewed}
 use Rattle.ssh_model.specs.TransportLayer.Kept.{Transport, after_sent}
 use Rattle.ssh_types.specs.Refusals.{refusal_of}
@@ -41,14 +42,8 @@ pub record SentBy {K : Type 0} (c : Crypto K) (old : State K) (message : Msg) (k
   pub sends : Sends c old.kept.sending message o
   pub after : new ≡ record old { kept = kept }
 
--- The message has a payload.
-pub record HasSpelling (message : Msg) : Type 0 where
-  pub payload : List ℕ
-  pub spelled : IsSpelled message payload
-
--- No number was left for the message: nothing was put out, and the end is over.
-pub record SpentBy {K : Type 0} (old : State K) (message : Msg) (new : State K) (o : Outs) : Type 0 where
-  pub spelling : HasSpelling message
+-- No number was left for what would have been sent: nothing was put out, and the end is over.
+pub record SpentBy {K : Type 0} (old new : State K) (o : Outs) : Type 0 where
   pub none_left : old.kept.sending.count ≡ 2 ^ 32
   pub dead : new.kept.dead ≡ true
   pub quiet : IsQuiet o
@@ -56,7 +51,7 @@ pub record SpentBy {K : Type 0} (old : State K) (message : Msg) (new : State K) 
 -- The message was sent, and then this is kept, or no number was left for it.
 abbrev pub Answers : {K : Type 0} → Crypto K → State K → Msg → Transport K → Answer → State K → Outs → Type 0
 Answers c old message kept Done new o = SentBy c old message kept new o
-Answers c old message kept Spent new o = SpentBy old message new o
+Answers c old message kept Spent new o = SpentBy old new o
 
 -- ---- the rows of payloads
 
@@ -81,7 +76,7 @@ pub data KexinitDone {K : Type 0} (c : Crypto K) (old : State K) (facts : Kexini
       old.kept.material ≡ Some material → OwnAnswered c old material facts new o → KexinitDone c old facts Done new o
   spent : {new : State K} {o : Outs} (material : Material) → old.kept.blocked ≡ false →
       old.kept.material ≡ Some material →
-      SpentBy old (KexInit (offer_of old.kept.settings old.kept.side false material.cookie)) new o →
+      HasSpelling (KexInit (offer_of old.kept.settings old.kept.side false material.cookie)) → SpentBy old new o →
       KexinitDone c old facts Spent new o
 
 -- the same with the side: what a client does with it is for the client
@@ -149,6 +144,41 @@ pub record Turns {K : Type 0} (c : Crypto K) (old : State K) (done : PayloadTurn
   pub is_judged : PayloadJudged (before_taken old.kept) old.receiver.payload what
   pub does : Does c old what done new o
 
+-- ---- where memory is refused
+
+-- A number is left.
+abbrev pub HasRoom : {K : Type 0} → State K → Type 0
+HasRoom s = s.kept.sending.count < 2 ^ 32
+
+-- The refusal would be said.
+pub record RefusalLacks {K : Type 0} (old : State K) (why : Refusal) : Type 0 where
+  pub reason : IsSome (refusal_reason (refusal_of why))
+  pub room : HasRoom old
+
+-- A KEXINIT of this end would be sent.
+pub record KexinitLacks {K : Type 0} (old : State K) : Type 0 where
+  pub side_is : old.kept.side ≡ Server
+  pub free : old.kept.blocked ≡ false
+  pub material : Material
+  pub kept : old.kept.material ≡ Some material
+  pub spelling : HasSpelling (KexInit (offer_of old.kept.settings old.kept.side false material.cookie))
+  pub room : HasRoom old
+
+-- Of a payload that is this to the end something would be sent.
+abbrev pub WouldSend : {K : Type 0} → State K → Judged → Type 0
+WouldSend old (judged.Refused why) = RefusalLacks old why
+WouldSend old judged.Unknown = HasRoom old
+WouldSend old judged.ServiceRequested = HasRoom old
+WouldSend old (judged.Kexinit facts) = KexinitLacks old
+WouldSend old _ = ⊥
+
+-- Something would be sent of the payload that is shown.
+pub record TurnLacks {K : Type 0} (old : State K) : Type 0 where
+  pub numbered : old.kept.taking.count ≤ 2 ^ 32
+  pub what : Judged
+  pub is_judged : PayloadJudged (before_taken old.kept) old.receiver.payload what
+  pub would : WouldSend old what
+
 -- ---- a packet
 
 -- What was done with what was found: nothing yet, the peer was refused for it, or what its payload asks for.
@@ -157,6 +187,23 @@ PacketDone c between step.More packet_turn.More new o = Becomes between between.
 PacketDone c between (step.Refused r) (packet_turn.Refused why) new o = RefusalDone c between r why new o
 PacketDone c between step.Payload (packet_turn.Payload done) new o = Turns c between done new o
 PacketDone c between _ _ new o = ⊥
+
+-- Of what was found something would be sent.
+abbrev pub FoundLacks : {K : Type 0} → State K → PacketStep → Type 0
+FoundLacks between step.More = ⊥
+FoundLacks between (step.Refused why) = RefusalLacks between why
+FoundLacks between step.Payload = TurnLacks between
+
+-- Something would be sent of the bytes of a packet begun with those that a call used.
+pub record PacketLacks {K : Type 0} (c : Crypto K) (old : State K) (bytes : List ℕ) : Type 0 where
+  pub found : PacketStep
+  pub between : State K
+  pub receives : Receives c bytes old.receiver found between.receiver
+  pub rest : between ≡ record old {
+    receiver = between.receiver;
+    kept = record old.kept { taking = between.receiver.direction };
+  }
+  pub lacks : FoundLacks between found
 
 -- What a call made of the bytes of a packet begun with those that it used.
 pub record PacketTaken {K : Type 0} (c : Crypto K) (old : State K) (bytes : List ℕ) (done : PacketTurn) (new : State K)

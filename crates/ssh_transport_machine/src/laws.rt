@@ -1,22 +1,25 @@
 //! Laws of the machine in a session: what it does with a line, a packet, a payload or an ask is what an end of a session does,
 //! where what it keeps sums up the history of that end. Facts for proofs, at no cost.
 
-ghost use Rattle.std.specs.Prelude.{◌≡◌, List, ℕ, false, true};
+ghost use Rattle.std.specs.Prelude.{◌≡◌, ◌<◌, ◌+◌, ◌-◌, ◌^◌, Bool, List, Some, ℕ, false, true};
 ghost use Rattle.ssh_model.specs.Side.{Side};
 ghost use Rattle.ssh_model.specs.Wire.Message.{Msg};
 ghost use Rattle.ssh_model.specs.Wire.Sealing.{Crypto};
 ghost use Rattle.ssh_model.specs.Sessions.Items.{Ask, Ask.AskDisconnect, Item};
 ghost use Rattle.ssh_model.specs.Sessions.Parties.{Parties, Settings, settings_of};
-ghost use Rattle.ssh_model.specs.TransportLayer.Kept.{Transport, after_fed, after_sent, after_taken, is_fed};
+ghost use Rattle.ssh_model.specs.KeyExchange.Exchanges.{Material};
+ghost use Rattle.ssh_model.specs.Sessions.Phases.{Phase.Keying};
+ghost use Rattle.ssh_model.specs.TransportLayer.Directions.{Direction};
+ghost use Rattle.ssh_model.specs.TransportLayer.Kept.{Transport, after_fed, after_own_kexinit, after_sent, after_taken, is_fed};
 ghost use Rattle.ssh_model.specs.TransportLayer.Summary.{SumsUp};
 ghost use Rattle.ssh_model.specs.TransportLayer.Turns.{IsTransportAsk};
 ghost use Rattle.ssh_transport_machine.specs.Asking.{AskDone, DisconnectDone};
 ghost use Rattle.ssh_transport_machine.specs.LineTurns.{LineTaken};
 ghost use Rattle.ssh_transport_machine.specs.Opening.{IsOpened};
 ghost use Rattle.ssh_transport_machine.specs.Puts.{Outs};
-ghost use Rattle.ssh_transport_machine.specs.Shown.{IsAskTurn, IsOpening, LineTurnOf, PacketTurnOf, TurnOf};
-ghost use Rattle.ssh_transport_machine.specs.State.{IsKeptLive, IsLive, State};
-ghost use Rattle.ssh_transport_machine.specs.Turning.{Answers, PacketTaken, Turns};
+ghost use Rattle.ssh_transport_machine.specs.Shown.{IsAskTurn, IsOpening, LineTurnOf, PacketTurnOf, TurnOf, WouldAnswer, WouldAnswerPacket};
+ghost use Rattle.ssh_transport_machine.specs.State.{IsKeptLive, IsLive, State, noted};
+ghost use Rattle.ssh_transport_machine.specs.Turning.{Answers, PacketLacks, PacketTaken, TurnLacks, Turns};
 ghost use Rattle.ssh_transport_machine.specs.declared.machine.line_turn.LineTurn.{LineTurn};
 ghost use Rattle.ssh_transport_machine.specs.declared.machine.turn.Answer.{Answer};
 ghost use Rattle.ssh_transport_machine.specs.declared.machine.turn.AskTurn.{AskTurn};
@@ -48,7 +51,7 @@ pub fn ask_turns<K>()
 
 /// What a machine finds in a line or a packet is what an end of a session finds; and where it refuses that, it does as one.
 pub fn unit_turns<K>()
-    ensures lines { (p : Parties K) (side : Side) (history : List Item) (old : State K) → SumsUp p side history old.kept → old.kept.dead ≡ false → IsLive old → old.kept.lines.found ≡ false → (bytes : List ℕ) (done : LineTurn) (new : State K) → LineTaken old bytes done new → LineTurnOf p side history bytes done new.kept }
+    ensures lines { (p : Parties K) (side : Side) (history : List Item) (old : State K) → SumsUp p side history old.kept → old.kept.dead ≡ false → IsLive old → old.kept.lines.found ≡ false → (bytes : List ℕ) (done : LineTurn) (new : State K) → LineTaken old bytes done new → LineTurnOf p side history old.kept bytes done new.kept }
     ensures packets { (p : Parties K) (side : Side) (history : List Item) (old : State K) → SumsUp p side history old.kept → old.kept.dead ≡ false → IsLive old → old.kept.lines.found ≡ true → (bytes : List ℕ) (done : PacketTurn) (new : State K) (o : Outs) → PacketTaken p.crypto old bytes done new o → PacketTurnOf p side history old.kept bytes done new o }
 {
     units::<K>();
@@ -74,4 +77,26 @@ pub fn live_machines<K>()
     ensures answers { (c : Crypto K) (old : State K) (message : Msg) (answer : Answer) (new : State K) (o : Outs) → IsLive old → Answers c old message (after_sent old.kept) answer new o → new.kept.dead ≡ false → IsLive new }
     ensures fed { (old new : State K) (cookie secret : List ℕ) → IsLive old → is_fed old.kept ≡ true → new ≡ record old { kept = after_fed cookie secret old.kept } → IsLive new }
     ensures others { (old new : State K) (kept : Transport K) → new ≡ record old { kept = kept } → kept.lines ≡ old.kept.lines → kept.side ≡ old.kept.side → kept.taking ≡ old.kept.taking → IsKeptLive kept → IsLive old → IsLive new }
+{}
+
+/// Where a machine answers that memory was refused, something would be sent in a session on the payload or the packet: it has a
+/// spelling, and a number of its own.
+pub fn memory_deaths<K>()
+    ensures payloads { (p : Parties K) (side : Side) (history : List Item) (s : Transport K) → SumsUp p side history s → s.dead ≡ false → (old : State K) → old.kept ≡ after_taken s → TurnLacks old → WouldAnswer p side s old.receiver.payload }
+    ensures packets { (p : Parties K) (side : Side) (history : List Item) (old : State K) → SumsUp p side history old.kept → old.kept.dead ≡ false → IsLive old → old.kept.lines.found ≡ true → (bytes : List ℕ) → PacketLacks p.crypto old bytes → WouldAnswerPacket p side old.kept bytes }
+{
+    units::<K>();
+    lines::<K>();
+    payloads::<K>();
+    payload_numbers();
+}
+
+/// What holds of what a live machine keeps goes on holding in the rows of one role alone: with a payload sent, with the KEXINIT of
+/// either end, and with NEWKEYS sent, for which an epoch is left.
+pub fn live_exchanges<K>()
+    ensures sent { (k : Transport K) → IsKeptLive k → IsKeptLive (after_sent k) }
+    ensures noted { (wrong strict extensions : Bool) (payload : List ℕ) (k : Transport K) → k.blocked ≡ true → IsKeptLive k → IsKeptLive (noted wrong strict extensions payload k) }
+    ensures own { (material : Material) (payload : List ℕ) (k : Transport K) → k.blocked ≡ false → k.material ≡ Some material → IsKeptLive k → IsKeptLive (after_own_kexinit material payload k) }
+    ensures completed { (k : Transport K) (direction : Direction K) (key : K) (session : List ℕ) → direction.epoch ≡ k.sending.epoch + 1 → k.blocked ≡ true → IsKeptLive k → IsKeptLive (record k { sending = direction; pending = Some key; phase = Keying; blocked = false; session = Some session }) }
+    ensures epoch { (k : Transport K) → k.blocked ≡ true → IsKeptLive k → k.sending.epoch < 2 ^ 32 - 1 }
 {}

@@ -6,8 +6,8 @@ ghost use Rattle.ssh_model.specs.Wire.Message.{ServiceRequest};
 ghost use Rattle.ssh_model.specs.Sessions.Items.{AskDisconnect, AskRekey, AskService};
 ghost use Rattle.ssh_model.specs.Sessions.Refusals.{first_refusal};
 ghost use Rattle.ssh_model.specs.TransportLayer.Kept.{after_sent, message_ask_checks};
-ghost use Rattle.ssh_transport_machine.specs.Asking.{AskDone, DisconnectDone, OfferDone, refusal_with};
-ghost use Rattle.ssh_transport_machine.specs.Turning.{Answers};
+ghost use Rattle.ssh_transport_machine.specs.Asking.{AskDone, AskLacks, DisconnectDone, DisconnectLacks, OfferDone, OfferLacks, refusal_with};
+ghost use Rattle.ssh_transport_machine.specs.Turning.{Answers, HasRoom};
 
 use crate::machine::Machine;
 use crate::machine::material::Material;
@@ -30,6 +30,7 @@ impl<S: Sealing, F: Filler + Drop> Machine<S, F> {
     ) -> Result<AskTurn, AllocError>
         ensures done { IfOk result (λ turn. AskDone S.crypto self.old AskService turn self.new (record { before = out.old.items; after = out.new.items; listed = map (λ v. v.items) sent.old.items; relisted = map (λ v. v.items) sent.new.items })) }
         ensures dead { OnErr result (self.new.kept.dead ≡ true) }
+        ensures lacks { OnErr result (AskLacks self.old AskService) }
         ensures out { OnErr result (out.new.items ≡ out.old.items) }
         ensures kept { OnErr result (sent.new.items ≡ sent.old.items) }
     {
@@ -48,6 +49,7 @@ impl<S: Sealing, F: Filler + Drop> Machine<S, F> {
     ) -> Result<AskTurn, AllocError>
         ensures done { IfOk result (λ turn. AskDone S.crypto self.old AskRekey turn self.new (record { before = out.old.items; after = out.new.items; listed = map (λ v. v.items) sent.old.items; relisted = map (λ v. v.items) sent.new.items })) }
         ensures dead { OnErr result (self.new.kept.dead ≡ true) }
+        ensures lacks { OnErr result (AskLacks self.old AskRekey) }
         ensures out { OnErr result (out.new.items ≡ out.old.items) }
         ensures kept { OnErr result (sent.new.items ≡ sent.old.items) }
     {
@@ -70,6 +72,7 @@ impl<S: Sealing, F: Filler + Drop> Machine<S, F> {
     ) -> Result<AskTurn, AllocError>
         ensures done { IfOk result (λ turn. DisconnectDone S.crypto self.old description.now turn self.new (record { before = out.old.items; after = out.new.items; listed = map (λ v. v.items) sent.old.items; relisted = map (λ v. v.items) sent.new.items })) }
         ensures dead { OnErr result (self.new.kept.dead ≡ true) }
+        ensures lacks { OnErr result (DisconnectLacks self.old description.now) }
         ensures out { OnErr result (out.new.items ≡ out.old.items) }
         ensures kept { OnErr result (sent.new.items ≡ sent.old.items) }
     {
@@ -137,6 +140,7 @@ impl<S: Sealing, F: Filler + Drop> Machine<S, F> {
     ) -> Result<Answer, AllocError>
         ensures answers { IfOk result (λ answer. Answers S.crypto self.old (ServiceRequest (codes "ssh-userauth")) (record (after_sent self.old.kept) { requested = true }) answer self.new (record { before = out.old.items; after = out.new.items; listed = map (λ v. v.items) sent.old.items; relisted = map (λ v. v.items) sent.new.items })) }
         ensures dead { OnErr result (self.new.kept.dead ≡ true) }
+        ensures room { OnErr result (HasRoom self.old) }
         ensures out { OnErr result (out.new.items ≡ out.old.items) }
         ensures kept { OnErr result (sent.new.items ≡ sent.old.items) }
     {
@@ -159,11 +163,13 @@ impl<S: Sealing, F: Filler + Drop> Machine<S, F> {
     ) -> Result<Answer, AllocError>
         ensures done { IfOk result (λ answer. OfferDone S.crypto self.old (record { cookie = material.cookie; secret = material.secret }) answer self.new (record { before = out.old.items; after = out.new.items; listed = map (λ v. v.items) sent.old.items; relisted = map (λ v. v.items) sent.new.items })) }
         ensures dead { OnErr result (self.new.kept.dead ≡ true) }
+        ensures lacks { OnErr result (OfferLacks self.old (record { cookie = material.cookie; secret = material.secret })) }
         ensures out { OnErr result (out.new.items ≡ out.old.items) }
         ensures kept { OnErr result (sent.new.items ≡ sent.old.items) }
     {
+        self.offer_fits(&material.cookie);
         if self.is_spent() {
-            self.spend_on_kexinit(&material.cookie)?;
+            self.dead = true;
             return Ok(Answer::Spent);
         }
         self.send_kexinit(material, out, sent)?;

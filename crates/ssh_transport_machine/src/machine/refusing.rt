@@ -5,6 +5,7 @@ ghost use Rattle.ssh_model.specs.Sessions.Refusals.{refusal_name};
 ghost use Rattle.ssh_types.specs.Refusals.{refusal_of};
 ghost use Rattle.ssh_transport_machine.specs.Puts.{Refuses};
 ghost use Rattle.ssh_transport_machine.specs.State.{dead_state};
+ghost use Rattle.ssh_transport_machine.specs.Turning.{RefusalLacks};
 
 use crate::machine::Machine;
 use ssh_message::Message;
@@ -23,6 +24,7 @@ impl<S: Sealing, F: Filler + Drop> Machine<S, F> {
     ) -> Result<(), AllocError>
         ensures refuses { OnOk result (Refuses S.crypto self.old.kept (refusal_of refusal) self.new.kept (record { before = out.old.items; after = out.new.items; listed = map (λ v. v.items) sent.old.items; relisted = map (λ v. v.items) sent.new.items })) }
         ensures dead { OnErr result (self.new ≡ dead_state self.old) }
+        ensures lacks { OnErr result (RefusalLacks self.old refusal) }
         ensures out { OnErr result (out.new.items ≡ out.old.items) }
         ensures kept { OnErr result (sent.new.items ≡ sent.old.items) }
     {

@@ -7,7 +7,7 @@ ghost use Rattle.ssh_model.specs.TransportLayer.Kept.{after_sent};
 ghost use Rattle.ssh_message.specs.Meaning.{meaning};
 ghost use Rattle.ssh_message.specs.Written.{Fits};
 ghost use Rattle.ssh_transport_machine.specs.State.{dead_state, last_number};
-ghost use Rattle.ssh_transport_machine.specs.Turning.{Answers};
+ghost use Rattle.ssh_transport_machine.specs.Turning.{Answers, HasRoom};
 
 use crate::machine::Machine;
 use crate::machine::service::USERAUTH;
@@ -30,23 +30,16 @@ impl<S: Sealing, F: Filler + Drop> Machine<S, F> {
         requires most { payload_size (meaning message.now) ≤ 34000 }
         ensures answers { IfOk result (λ answer. Answers S.crypto self.old (meaning message.now) (after_sent self.old.kept) answer self.new (record { before = out.old.items; after = out.new.items; listed = map (λ v. v.items) sent.old.items; relisted = map (λ v. v.items) sent.new.items })) }
         ensures dead { OnErr result (self.new ≡ dead_state self.old) }
+        ensures room { OnErr result (HasRoom self.old) }
         ensures out { OnErr result (out.new.items ≡ out.old.items) }
         ensures kept { OnErr result (sent.new.items ≡ sent.old.items) }
     {
-        match self.spell(message) {
-            Ok(payload) => {
-                if self.is_spent() {
-                    self.dead = true;
-                    return Ok(Answer::Spent);
-                }
-                self.put(payload, out, sent)?;
-                Ok(Answer::Done)
-            }
-            Err(error) => {
-                self.dead = true;
-                Err(error)
-            }
+        if self.is_spent() {
+            self.dead = true;
+            return Ok(Answer::Spent);
         }
+        self.send(message, out, sent)?;
+        Ok(Answer::Done)
     }
 
     // Says that the packet whose payload is shown wasn't understood (RFC 4253 section 11.4).
@@ -57,6 +50,7 @@ impl<S: Sealing, F: Filler + Drop> Machine<S, F> {
     ) -> Result<Answer, AllocError>
         ensures answers { IfOk result (λ answer. Answers S.crypto self.old (Unimplemented (last_number self.old.kept.taking)) (after_sent self.old.kept) answer self.new (record { before = out.old.items; after = out.new.items; listed = map (λ v. v.items) sent.old.items; relisted = map (λ v. v.items) sent.new.items })) }
         ensures dead { OnErr result (self.new.kept.dead ≡ true) }
+        ensures room { OnErr result (HasRoom self.old) }
         ensures out { OnErr result (out.new.items ≡ out.old.items) }
         ensures kept { OnErr result (sent.new.items ≡ sent.old.items) }
     {
@@ -72,6 +66,7 @@ impl<S: Sealing, F: Filler + Drop> Machine<S, F> {
     ) -> Result<Answer, AllocError>
         ensures answers { IfOk result (λ answer. Answers S.crypto self.old (ServiceAccept (codes "ssh-userauth")) (record (after_sent self.old.kept) { requested = true }) answer self.new (record { before = out.old.items; after = out.new.items; listed = map (λ v. v.items) sent.old.items; relisted = map (λ v. v.items) sent.new.items })) }
         ensures dead { OnErr result (self.new.kept.dead ≡ true) }
+        ensures room { OnErr result (HasRoom self.old) }
         ensures out { OnErr result (out.new.items ≡ out.old.items) }
         ensures kept { OnErr result (sent.new.items ≡ sent.old.items) }
     {

@@ -1,10 +1,11 @@
 //! What a server does with a client's KEXINIT.
 
-ghost use Rattle.std.specs.Prelude.{◌≡◌, IfOk, None, OnErr, OnOk, false, map, true};
+ghost use Rattle.std.specs.Prelude.{◌≡◌, IfOk, None, OnErr, false, length, map, true};
 ghost use Rattle.ssh_model.specs.Wire.Message.{KexInit};
+ghost use Rattle.ssh_model.specs.Side.{Server};
 ghost use Rattle.ssh_model.specs.Sessions.Parties.{offer_of};
-ghost use Rattle.ssh_transport_machine.specs.State.{dead_state};
-ghost use Rattle.ssh_transport_machine.specs.Turning.{Does, HasSpelling, KexinitDone};
+ghost use Rattle.ssh_model.specs.Sessions.TurnClaims.{HasSpelling};
+ghost use Rattle.ssh_transport_machine.specs.Turning.{Does, KexinitDone, KexinitLacks};
 ghost use Rattle.ssh_transport_machine.specs.declared.machine.judging.Judged.TheVariants as judgement;
 
 use crate::machine::Machine;
@@ -12,6 +13,7 @@ use crate::machine::judging::Judged;
 use crate::machine::kexinit::KexinitFacts;
 use crate::machine::turn::{Answer, PayloadTurn};
 use ssh_packet::{Filler, Sealing};
+use ssh_transport_base::every_config_is_good;
 use ssh_types::Side;
 use std::alloc::AllocError;
 
@@ -26,6 +28,7 @@ impl<S: Sealing, F: Filler + Drop> Machine<S, F> {
         requires { self.old.kept.blocked ≡ false → self.old.kept.material ≡ None → ⊥ }
         ensures does { IfOk result (λ done. Does S.crypto self.old (judgement.Kexinit facts) done self.new (record { before = out.old.items; after = out.new.items; listed = map (λ v. v.items) sent.old.items; relisted = map (λ v. v.items) sent.new.items })) }
         ensures dead { OnErr result (self.new.kept.dead ≡ true) }
+        ensures lacks { OnErr result (KexinitLacks self.old) }
         ensures out { OnErr result (out.new.items ≡ out.old.items) }
         ensures kept { OnErr result (sent.new.items ≡ sent.old.items) }
     {
@@ -42,9 +45,11 @@ impl<S: Sealing, F: Filler + Drop> Machine<S, F> {
         out: &mut Vec<u8>,
         sent: &mut Vec<Vec<u8>>,
     ) -> Result<Answer, AllocError>
-        requires { self.old.kept.blocked ≡ false → self.old.kept.material ≡ None → ⊥ }
+        requires side { self.old.kept.side ≡ Server }
+        requires pair { self.old.kept.blocked ≡ false → self.old.kept.material ≡ None → ⊥ }
         ensures done { IfOk result (λ answer. KexinitDone S.crypto self.old facts answer self.new (record { before = out.old.items; after = out.new.items; listed = map (λ v. v.items) sent.old.items; relisted = map (λ v. v.items) sent.new.items })) }
         ensures dead { OnErr result (self.new.kept.dead ≡ true) }
+        ensures lacks { OnErr result (KexinitLacks self.old) }
         ensures out { OnErr result (out.new.items ≡ out.old.items) }
         ensures kept { OnErr result (sent.new.items ≡ sent.old.items) }
     {
@@ -54,8 +59,9 @@ impl<S: Sealing, F: Filler + Drop> Machine<S, F> {
         }
         match self.material {
             Some(material) => {
+                self.offer_fits(&material.cookie);
                 if self.is_spent() {
-                    self.spend_on_kexinit(&material.cookie)?;
+                    self.dead = true;
                     return Ok(Answer::Spent);
                 }
                 self.answer_by_own(facts, material, out, sent)?;
@@ -65,16 +71,16 @@ impl<S: Sealing, F: Filler + Drop> Machine<S, F> {
         }
     }
 
-    // No number is left for a KEXINIT of this end with this cookie: the end is over.
-    pub fn spend_on_kexinit(&mut self, cookie: &[u8; 16]) -> Result<(), AllocError>
-        ensures spelled { OnOk result (HasSpelling (KexInit (offer_of self.old.kept.settings self.old.kept.side false cookie.now))) }
-        ensures dead { self.new ≡ dead_state self.old }
+    // A later KEXINIT of this end fits a packet: a fact for proofs.
+    pub fn offer_fits(&self, cookie: &[u8; 16])
+        ensures { HasSpelling (KexInit (offer_of self.now.kept.settings self.now.kept.side false cookie.now)) }
     {
-        let spelled = self.spell_kexinit(false, cookie);
-        self.dead = true;
-        match spelled {
-            Ok(_) => Ok(()),
-            Err(error) => Err(error),
-        }
+        every_config_is_good(&self.config);
+        has_16_bytes(cookie);
     }
 }
+
+// The length that the type says: a fact for proofs.
+fn has_16_bytes(bytes: &[u8; 16])
+    ensures { length bytes.now ≡ 16 }
+{}

@@ -3,7 +3,7 @@
 ghost use Rattle.std.specs.Prelude.{◌≡◌, ◌<◌, ◌≤◌, ◌++◌, IfOk, OnErr, length, map, take, true};
 ghost use Rattle.ssh_transport_base.specs.declared.packets.step.PacketStep.TheVariants as step;
 ghost use Rattle.ssh_transport_machine.specs.State.{IsLive};
-ghost use Rattle.ssh_transport_machine.specs.Turning.{PacketDone, PacketTaken};
+ghost use Rattle.ssh_transport_machine.specs.Turning.{PacketDone, PacketLacks, PacketTaken, RefusalLacks, TurnLacks};
 
 use crate::machine::Machine;
 use crate::machine::turn::PacketTurn;
@@ -27,6 +27,7 @@ impl<S: Sealing, F: Filler + Drop> Machine<S, F> {
         ensures more { IfOk result.1 (λ done. done ≡ PacketTurn.More → result.0 ≡ length bytes.now) }
         ensures taken { IfOk result.1 (λ done. PacketTaken S.crypto self.old (self.old.receiver.begun ++ take result.0 bytes.now) done self.new (record { before = out.old.items; after = out.new.items; listed = map (λ v. v.items) sent.old.items; relisted = map (λ v. v.items) sent.new.items })) }
         ensures dead { OnErr result.1 (self.new.kept.dead ≡ true) }
+        ensures lacks { OnErr result.1 (PacketLacks S.crypto self.old (self.old.receiver.begun ++ take result.0 bytes.now)) }
         ensures out { OnErr result.1 (out.new.items ≡ out.old.items) }
         ensures kept { OnErr result.1 (sent.new.items ≡ sent.old.items) }
     {
@@ -48,6 +49,7 @@ impl<S: Sealing, F: Filler + Drop> Machine<S, F> {
         ensures other { IfOk result (λ done. done ≡ PacketTurn.More → ⊥) }
         ensures done { IfOk result (λ done. PacketDone S.crypto self.old (step.Refused why) done self.new (record { before = out.old.items; after = out.new.items; listed = map (λ v. v.items) sent.old.items; relisted = map (λ v. v.items) sent.new.items })) }
         ensures dead { OnErr result (self.new.kept.dead ≡ true) }
+        ensures lacks { OnErr result (RefusalLacks self.old why) }
         ensures out { OnErr result (out.new.items ≡ out.old.items) }
         ensures kept { OnErr result (sent.new.items ≡ sent.old.items) }
     {
@@ -66,6 +68,7 @@ impl<S: Sealing, F: Filler + Drop> Machine<S, F> {
         ensures other { IfOk result (λ done. done ≡ PacketTurn.More → ⊥) }
         ensures done { IfOk result (λ done. PacketDone S.crypto self.old step.Payload done self.new (record { before = out.old.items; after = out.new.items; listed = map (λ v. v.items) sent.old.items; relisted = map (λ v. v.items) sent.new.items })) }
         ensures dead { OnErr result (self.new.kept.dead ≡ true) }
+        ensures lacks { OnErr result (TurnLacks self.old) }
         ensures out { OnErr result (out.new.items ≡ out.old.items) }
         ensures kept { OnErr result (sent.new.items ≡ sent.old.items) }
     {

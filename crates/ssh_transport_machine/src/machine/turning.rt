@@ -3,7 +3,7 @@
 ghost use Rattle.std.specs.Prelude.{◌≡◌, ◌≤◌, ◌^◌, IfOk, OnErr, map, true};
 ghost use Rattle.ssh_transport_machine.specs.Judging.{PayloadJudged};
 ghost use Rattle.ssh_transport_machine.specs.State.{IsLive, before_taken};
-ghost use Rattle.ssh_transport_machine.specs.Turning.{Does, NewkeysTaken, Turns};
+ghost use Rattle.ssh_transport_machine.specs.Turning.{Does, NewkeysTaken, TurnLacks, Turns, WouldSend};
 ghost use Rattle.ssh_transport_machine.specs.declared.machine.judging.Judged.TheVariants as judgement;
 
 use crate::machine::judging::Judged;
@@ -13,8 +13,8 @@ use ssh_packet::{Filler, Sealing};
 use std::alloc::AllocError;
 
 impl<S: Sealing, F: Filler + Drop> Machine<S, F> {
-    // Does what the payload that is shown asks for; what only one role does with it is left. Where memory is refused nothing is
-    // put out, and the end is over.
+    // Does what the payload that is shown asks for; what only one role does with it is left. Memory is refused only
+    // where something would be sent: then nothing is put out, and the end is over.
     pub fn turn(
         &mut self,
         out: &mut Vec<u8>,
@@ -24,6 +24,7 @@ impl<S: Sealing, F: Filler + Drop> Machine<S, F> {
         requires taken { 1 ≤ self.old.kept.taking.count }
         ensures turns { IfOk result (λ done. Turns S.crypto self.old done self.new (record { before = out.old.items; after = out.new.items; listed = map (λ v. v.items) sent.old.items; relisted = map (λ v. v.items) sent.new.items })) }
         ensures dead { OnErr result (self.new.kept.dead ≡ true) }
+        ensures lacks { OnErr result (TurnLacks self.old) }
         ensures out { OnErr result (out.new.items ≡ out.old.items) }
         ensures kept { OnErr result (sent.new.items ≡ sent.old.items) }
     {
@@ -51,6 +52,7 @@ impl<S: Sealing, F: Filler + Drop> Machine<S, F> {
         requires judged { PayloadJudged (before_taken self.old.kept) self.old.receiver.payload judged }
         ensures does { IfOk result (λ done. Does S.crypto self.old judged done self.new (record { before = out.old.items; after = out.new.items; listed = map (λ v. v.items) sent.old.items; relisted = map (λ v. v.items) sent.new.items })) }
         ensures dead { OnErr result (self.new.kept.dead ≡ true) }
+        ensures lacks { OnErr result (WouldSend self.old judged) }
         ensures out { OnErr result (out.new.items ≡ out.old.items) }
         ensures kept { OnErr result (sent.new.items ≡ sent.old.items) }
     {

@@ -1,4 +1,4 @@
-use Rattle.std.proofs.Common.{ap}
+use Rattle.std.proofs.Common.{ap, refl}
 use Rattle.ssh_transport_machine.specs.State.{material_of}
 use Rattle.ssh_transport_machine.proofs.Replying.{kexinit_answered, kexinit_kept, kexinit_spent}
 use Rattle.ssh_transport_machine.proofs.machine.Machine.serve_kexinit.Goals as goal
@@ -8,7 +8,7 @@ returns-then-self-clause-done g c = kexinit_kept _ _ _ _ _ _ _ c.self.view_is c.
 
 pub returns-then-is_spent-clause-done : goal.returns-then-is_spent-clause-done
 returns-then-is_spent-clause-done g c =
-    kexinit_spent _ _ _ _ _ _ _ _ c.self.view_is c.if-self.false (ap material_of c.in-Some.is) c.in_ok-spend_on_kexinit-in-Some.ensures.spelled (c.is_spent.ensures.spent c.if-is_spent.true) (ap (λ s. s.kept.dead) c.spend_on_kexinit.ensures.dead)
+    kexinit_spent _ _ _ _ _ _ _ _ c.self.view_is c.if-self.false (ap material_of c.in-Some.is) c.offer_fits.ensures (c.is_spent.ensures.spent c.if-is_spent.true) refl
 
 pub returns-clause-done : goal.returns-clause-done
 returns-clause-done g c = kexinit_answered _ _ _ _ _ _ _ c.self.view_is c.if-self.false (ap material_of c.in-Some.is) c.in_ok-answer_by_own-in-Some.ensures.sends
