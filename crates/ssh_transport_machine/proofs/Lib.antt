@@ -14,3 +14,5 @@ pub mod Units
 pub mod Newkeys
 pub mod Replying
 pub mod Living
+pub mod Choices
+pub mod Keyed

@@ -79,7 +79,7 @@ room_of n e = grind (arith, e)
 -- ---- what is kept
 
 module _ {K : Type 0} where
-  sent_on : (k : Transport K) (requested : Bool) → IsKeptLive k → IsKeptLive (record (after_sent k) { requested = requested })
+  pub sent_on : (k : Transport K) (requested : Bool) → IsKeptLive k → IsKeptLive (record (after_sent k) { requested = requested })
   sent_on k requested a = record { pending = a.pending; blocked = a.blocked; taken_epochs = a.taken_epochs; sent_epochs = a.sent_epochs; fed = a.fed }
 
   accepted_on : (k : Transport K) → IsKeptLive k → IsKeptLive (record k { accepted = true })
@@ -97,11 +97,11 @@ module _ {K : Type 0} where
     fed = a.fed;
   }
 
-  noted_on : (wrong strict extensions : Bool) (payload : List ℕ) (k : Transport K) → k.blocked ≡ true → IsKeptLive k → IsKeptLive (noted wrong strict extensions payload k)
+  pub noted_on : (wrong strict extensions : Bool) (payload : List ℕ) (k : Transport K) → k.blocked ≡ true → IsKeptLive k → IsKeptLive (noted wrong strict extensions payload k)
   noted_on true strict extensions payload k shut a = record { pending = λ e. absurd (cc e); blocked = λ e. shut; taken_epochs = fewer _ _ _ a.taken_epochs; sent_epochs = a.sent_epochs; fed = a.fed }
   noted_on false strict extensions payload k shut a = record { pending = λ e. absurd (cc e); blocked = λ e. shut; taken_epochs = fewer _ _ _ a.taken_epochs; sent_epochs = a.sent_epochs; fed = a.fed }
 
-  own_on : (m : Material) (payload : List ℕ) (k : Transport K) → k.blocked ≡ false → k.material ≡ Some m → IsKeptLive k → IsKeptLive (after_own_kexinit m payload k)
+  pub own_on : (m : Material) (payload : List ℕ) (k : Transport K) → k.blocked ≡ false → k.material ≡ Some m → IsKeptLive k → IsKeptLive (after_own_kexinit m payload k)
   own_on m payload k free has a = record {
     pending = a.pending;
     blocked = λ e. refl;
