@@ -97,7 +97,7 @@ normal : {K : Type 0} (s : Transport K) (side : Side) → s.side ≡ side → ta
 normal s Client e t = cc (subst (λ (w : Side). (is_general 31 || takes_service w s.requested s.accepted 31 || (31 == 7 && takes_announced s) || (31 == 20 && s.authenticated) || is_spare 31) ≡ true) e t)
 normal s Server e t = cc (subst (λ (w : Side). (is_general 31 || takes_service w s.requested s.accepted 31 || (31 == 7 && takes_announced s) || (31 == 20 && s.authenticated) || is_spare 31) ≡ true) e t)
 
-in_phase : {K : Type 0} (s : Transport K) (phase : Phase) → (phase ≡ Guessed → ⊥) → takes_in phase s 31 ≡ true → phase ≡ Phase.Exchanging
+pub in_phase : {K : Type 0} (s : Transport K) (phase : Phase) → (phase ≡ Guessed → ⊥) → takes_in phase s 31 ≡ true → phase ≡ Phase.Exchanging
 in_phase s Phase.Start none t = absurd (start (is_required s.settings.strictness) t)
 in_phase s Phase.Guessed none t = absurd (none refl)
 in_phase s Phase.Exchanging none t = refl
@@ -123,7 +123,7 @@ says_before c s refusal said more (turns.SaysWhy.silently e) = turns.SaysWhy.sil
 says_before c s refusal said more (turns.SaysWhy.spent e) = turns.SaysWhy.spent e
 says_before c s refusal said more (turns.SaysWhy.said reason payload e x) = turns.SaysWhy.said reason payload e x
 
-abbrev Numbered : Type 0
+abbrev pub Numbered : Type 0
 Numbered = (probing : Bool) (m : Msg) (payload : List ℕ) → IsPayload probing m payload → number_of payload ≡ message_number m
 
 abbrev Forgets : (K : Type 0) → Type 0

@@ -2,3 +2,4 @@ pub mod Replies
 pub mod Ending
 pub mod Answering
 pub mod Shown
+pub mod Packets

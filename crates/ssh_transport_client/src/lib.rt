@@ -7,8 +7,10 @@
 mod host;
 mod kexinit;
 pub mod laws;
+mod packet;
 mod reply;
 
 pub use host::{HostJudged, TrustedHost, judge_reply};
 pub use kexinit::answer_kexinit;
+pub use packet::{ClientTurn, take_packet};
 pub use reply::{ReplyTurn, take_reply};

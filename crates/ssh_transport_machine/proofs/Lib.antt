@@ -16,3 +16,5 @@ pub mod Replying
 pub mod Living
 pub mod Spellings
 pub mod Deaths
+pub mod Choices
+pub mod Keyed

@@ -10,7 +10,7 @@ use Rattle.ssh_model.specs.Sessions.Parties.{Settings}
 use Rattle.ssh_model.specs.Sessions.Phases as model
 use Rattle.ssh_model.specs.TransportLayer.Directions.{Direction}
 use Rattle.ssh_model.specs.TransportLayer.Kept as kept
-use Rattle.ssh_model.specs.TransportLayer.Kept.{Asks, Transport, after_fed, after_own_kexinit, after_sent, is_fed}
+use Rattle.ssh_model.specs.TransportLayer.Kept.{Asks, Transport, after_fed, after_own_kexinit, after_sent, can_be_fed}
 use Rattle.ssh_model.specs.TransportLayer.Summary.{bit, is_keying}
 use Rattle.ssh_transport_base.specs.Directions.{Receiver, Receives}
 use Rattle.ssh_transport_base.specs.declared.packets.step.PacketStep.{PacketStep}
@@ -128,7 +128,7 @@ module _ {K : Type 0} where
     fed = a.fed;
   }
 
-  fed_on : (k : Transport K) (cookie secret : List ℕ) → is_fed k ≡ true → IsKeptLive k → IsKeptLive (after_fed cookie secret k)
+  fed_on : (k : Transport K) (cookie secret : List ℕ) → can_be_fed k ≡ true → IsKeptLive k → IsKeptLive (after_fed cookie secret k)
   fed_on k cookie secret can a = record {
     pending = a.pending;
     blocked = a.blocked;
@@ -267,7 +267,7 @@ module _ {K : Type 0} where
   answer_live c old m Done new o live x alive = same_side old new _ x.after refl refl refl (sent_on old.kept old.kept.requested live.kept) live
   answer_live c old m Spent new o live x alive = over new.kept.dead x.dead alive
 
-  pub fed_live : (old new : State K) (cookie secret : List ℕ) → IsLive old → is_fed old.kept ≡ true → new ≡ record old { kept = after_fed cookie secret old.kept } → IsLive new
+  pub fed_live : (old new : State K) (cookie secret : List ℕ) → IsLive old → can_be_fed old.kept ≡ true → new ≡ record old { kept = after_fed cookie secret old.kept } → IsLive new
   fed_live old new cookie secret live can e = same_side old new _ e refl refl refl (fed_on old.kept cookie secret can live.kept) live
 
   asked_side : (old new : State K) (next : Transport K) (ask : Ask) (m : Msg) (payload : List ℕ) → Asks old.kept ask m payload next → new ≡ record old { kept = next } → IsLive old → IsLive new

@@ -11,3 +11,4 @@ pub mod Turning
 pub mod Shown
 pub mod Asking
 pub mod Opening
+pub mod Choices

@@ -10,7 +10,7 @@ ghost use Rattle.ssh_model.specs.Sessions.Parties.{Parties, Settings, settings_o
 ghost use Rattle.ssh_model.specs.KeyExchange.Exchanges.{Material};
 ghost use Rattle.ssh_model.specs.Sessions.Phases.{Phase.Keying};
 ghost use Rattle.ssh_model.specs.TransportLayer.Directions.{Direction};
-ghost use Rattle.ssh_model.specs.TransportLayer.Kept.{Transport, after_fed, after_own_kexinit, after_sent, after_taken, is_fed};
+ghost use Rattle.ssh_model.specs.TransportLayer.Kept.{Transport, after_fed, after_own_kexinit, after_sent, after_taken, can_be_fed};
 ghost use Rattle.ssh_model.specs.TransportLayer.Summary.{SumsUp};
 ghost use Rattle.ssh_model.specs.TransportLayer.Turns.{IsTransportAsk};
 ghost use Rattle.ssh_transport_machine.specs.Asking.{AskDone, DisconnectDone};
@@ -75,7 +75,7 @@ pub fn live_machines<K>()
     ensures packets { (c : Crypto K) (old : State K) (bytes : List ℕ) (done : PacketTurn) (new : State K) (o : Outs) → IsLive old → PacketTaken c old bytes done new o → new.kept.dead ≡ false → IsLive new }
     ensures asks { (c : Crypto K) (old : State K) (ask : Ask) (done : AskTurn) (new : State K) (o : Outs) → IsLive old → AskDone c old ask done new o → new.kept.dead ≡ false → IsLive new }
     ensures answers { (c : Crypto K) (old : State K) (message : Msg) (answer : Answer) (new : State K) (o : Outs) → IsLive old → Answers c old message (after_sent old.kept) answer new o → new.kept.dead ≡ false → IsLive new }
-    ensures fed { (old new : State K) (cookie secret : List ℕ) → IsLive old → is_fed old.kept ≡ true → new ≡ record old { kept = after_fed cookie secret old.kept } → IsLive new }
+    ensures fed { (old new : State K) (cookie secret : List ℕ) → IsLive old → can_be_fed old.kept ≡ true → new ≡ record old { kept = after_fed cookie secret old.kept } → IsLive new }
     ensures others { (old new : State K) (kept : Transport K) → new ≡ record old { kept = kept } → kept.lines ≡ old.kept.lines → kept.side ≡ old.kept.side → kept.taking ≡ old.kept.taking → IsKeptLive kept → IsLive old → IsLive new }
 {}
 

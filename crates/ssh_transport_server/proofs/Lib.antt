@@ -1,3 +1,5 @@
 pub mod Points
 pub mod Replies
 pub mod Ending
+pub mod Packets
+pub mod Living

@@ -1,6 +1,6 @@
 //! Laws of what a server makes of a client's point: turns of a session. Facts for proofs, at no cost.
 
-ghost use Rattle.std.specs.Prelude.{◌≡◌, ◌+◌, List, [], ◌∷◌, Some, false};
+ghost use Rattle.std.specs.Prelude.{◌≡◌, ◌+◌, ℕ, List, [], ◌∷◌, Some, false, true};
 ghost use Rattle.ssh_model.specs.Side.{Side.Server};
 ghost use Rattle.ssh_model.specs.KeyExchange.Choice.{Chosen};
 ghost use Rattle.ssh_model.specs.Channels.Connection.{AreReplies, owed_replies};
@@ -8,17 +8,38 @@ ghost use Rattle.ssh_model.specs.Sessions.Items.{Item, Item.Died, Item.Refused};
 ghost use Rattle.ssh_model.specs.Sessions.Parties.{Parties};
 ghost use Rattle.ssh_model.specs.Sessions.Refusals.{Refusal.BadPoint, Refusal.NumberSpent};
 ghost use Rattle.ssh_model.specs.Sessions.Turns.{AreSpelled};
-ghost use Rattle.ssh_model.specs.TransportLayer.Kept.{Transport, after_taken};
+ghost use Rattle.ssh_model.specs.TransportLayer.Kept.{ExchangeParts, Transport, after_taken};
 ghost use Rattle.ssh_model.specs.TransportLayer.Summary.{SumsUp, parts_of};
 ghost use Rattle.ssh_model.specs.TransportLayer.Turns.{Turned};
+ghost use Rattle.ssh_model.specs.Wire.Sealing.{Crypto};
+ghost use Rattle.ssh_transport_machine.specs.Choices.{IsChoosing};
+ghost use Rattle.ssh_transport_machine.specs.Judging.{PayloadJudged};
+ghost use Rattle.ssh_transport_machine.specs.declared.machine.judging.Judged.TheVariants as judged;
+ghost use Rattle.ssh_transport_server.specs.Packets.{ReadsInit};
 ghost use Rattle.ssh_transport_machine.specs.Endings.{ExchangeEnds, IsRead, PayloadRefused};
 ghost use Rattle.ssh_transport_machine.specs.Puts.{Outs};
-ghost use Rattle.ssh_transport_machine.specs.State.{State};
+ghost use Rattle.ssh_transport_machine.specs.State.{IsLive, State};
 ghost use Rattle.ssh_transport_server.specs.Answers.{AnswerSpent, PointAnswered, PointRefused};
 
 use ssh_model::payload_numbers;
 use ssh_model::transport::{exchange_ends, payloads, refused_and_spent};
-use ssh_transport_machine::ending::secrets_forgotten;
+use ssh_transport_machine::ending::{exchanges_live, secrets_forgotten};
+use ssh_transport_machine::laws::live_machines;
+
+/// A payload that is judged to be a point is one that is read.
+pub fn points_shown<K>()
+    ensures { (s : Transport K) (payload : List ℕ) → PayloadJudged s payload judged.Init → ReadsInit s payload }
+{}
+
+/// What holds of a live machine goes on holding with a point that is answered, and no KEXINIT is kept that is still to be chosen by.
+pub fn points_live<K>()
+    ensures live { (c : Crypto K) (parts : ExchangeParts) (old new : State K) (chosen : Chosen) (o : Outs) → old.kept.blocked ≡ true → IsLive old → PointAnswered c parts old chosen new o → IsLive new }
+    ensures choosing { (c : Crypto K) (parts : ExchangeParts) (old new : State K) (chosen : Chosen) (o : Outs) → PointAnswered c parts old chosen new o → IsChoosing new.kept }
+    ensures side { (c : Crypto K) (parts : ExchangeParts) (old new : State K) (chosen : Chosen) (o : Outs) → PointAnswered c parts old chosen new o → new.kept.side ≡ old.kept.side }
+{
+    exchanges_live::<K>();
+    live_machines::<K>();
+}
 
 /// What a server does with a client's point is what a server does in a session whose parts it has: it refuses the point, or
 /// ends the exchange up to what it announces, or has too few numbers left for that.

@@ -7,7 +7,9 @@
 mod answer;
 mod init;
 pub mod laws;
+mod packet;
 mod point;
 
 pub use init::{InitTurn, take_init};
+pub use packet::{ServerTurn, take_packet};
 pub use point::{InitJudged, judge_init};

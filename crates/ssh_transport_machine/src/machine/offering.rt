@@ -5,7 +5,7 @@ ghost use Rattle.ssh_model.specs.Wire.Message.{KexInit};
 ghost use Rattle.ssh_model.specs.KeyExchange.Exchanges as session;
 ghost use Rattle.ssh_model.specs.Sessions.Parties.{offer_of};
 ghost use Rattle.ssh_model.specs.Sessions.Turns.{IsSpelled};
-ghost use Rattle.ssh_model.specs.TransportLayer.Kept.{after_fed, is_fed};
+ghost use Rattle.ssh_model.specs.TransportLayer.Kept.{after_fed, can_be_fed};
 ghost use Rattle.ssh_transport_machine.specs.Offering.{OwnSent};
 
 use crate::machine::Machine;
@@ -63,7 +63,7 @@ impl<S: Sealing, F: Filler + Drop> Machine<S, F> {
 
     // Keeps a pair of cookie and secret for the next KEXINIT, where none is kept.
     pub fn feed(&mut self, cookie: [u8; 16], secret: [u8; 32]) -> bool
-        ensures fed { result ≡ is_fed self.old.kept }
+        ensures fed { result ≡ can_be_fed self.old.kept }
         ensures kept { result ≡ true → self.new ≡ record self.old { kept = after_fed cookie secret self.old.kept } }
         ensures same { result ≡ false → self.new ≡ self.old }
     {
@@ -77,7 +77,7 @@ impl<S: Sealing, F: Filler + Drop> Machine<S, F> {
 
     // Tests whether a pair may be fed.
     fn can_feed(&self) -> bool
-        ensures fed { result ≡ is_fed self.now.kept }
+        ensures fed { result ≡ can_be_fed self.now.kept }
         ensures left { result ≡ true → self.now.kept.fed < 4294967295 }
     {
         !self.dead && !self.has_material() && self.fed < u32::MAX
