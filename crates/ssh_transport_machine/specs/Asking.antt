@@ -58,8 +58,8 @@ AskDone c old ask (turn.Answered Done) new o = AskSent c old ask new o
 AskDone c old ask (turn.Answered Spent) new o = AskSpent old ask new o
 
 -- DISCONNECT was sent, and the end is over.
-pub record DisconnectSent {K : Type 0} (c : Crypto K) (old : State K) (description : List ℕ) (new : State K) (o : Outs) :
-    Type 0 where
+pub record DisconnectSent {K : Type 0} (c : Crypto K) (old : State K) (description : List ℕ) (new : State K)
+    (o : Outs) : Type 0 where
   pub fine : first_refusal (message_ask_checks old.kept (AskDisconnect description)) ≡ None
   pub sends : Sends c old.kept.sending (Disconnect 11 description []) o
   pub dead : new.kept.dead ≡ true

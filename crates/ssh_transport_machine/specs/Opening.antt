@@ -22,8 +22,8 @@ unopened settings side secret = record {
 }
 
 -- It put out its version line and its first KEXINIT, and listed that.
-pub record IsOpened {K : Type 0} (c : Crypto K) (settings : Settings) (side : Side) (cookie secret : List ℕ) (new : State K)
-    (o : Outs) : Type 0 where
+pub record IsOpened {K : Type 0} (c : Crypto K) (settings : Settings) (side : Side) (cookie secret : List ℕ)
+    (new : State K) (o : Outs) : Type 0 where
   pub payload : List ℕ
   pub spelled : IsSpelled (KexInit (offer_of settings side true cookie)) payload
   pub wire : List ℕ

@@ -118,7 +118,8 @@ pub data AskShows : Ask → AskTurn → List Spelled → List Item → Type 0 wh
   refused : (ask : Ask) (why : AskRefusal) →
       AskShows ask (ask_turn.Refused why) [] (Item.AskRefused (ask_refusal_of why) ∷ Asked ask ∷ [])
   sent : (ask : Ask) (message : Msg) (payload : List ℕ) →
-      AskShows ask (ask_turn.Answered Done) (SpelledBy message payload ∷ []) (Sent None message payload ∷ Asked ask ∷ [])
+      AskShows ask (ask_turn.Answered Done) (SpelledBy message payload ∷ [])
+      (Sent None message payload ∷ Asked ask ∷ [])
   disconnected : (description payload : List ℕ) →
       AskShows (AskDisconnect description) (ask_turn.Answered Done)
       (SpelledBy (Disconnect 11 description []) payload ∷ [])
@@ -191,8 +192,8 @@ pub record IsPayloadTurn {K : Type 0} (p : Parties K) (side : Side) (history : L
   pub turn : TurnOf p side history s between done new o
 
 -- Nothing but bytes of a packet was taken.
-pub record IsPacketBegunBy {K : Type 0} (p : Parties K) (s : Transport K) (bytes : List ℕ) (new : Transport K) (o : Outs) :
-    Type 0 where
+pub record IsPacketBegunBy {K : Type 0} (p : Parties K) (s : Transport K) (bytes : List ℕ) (new : Transport K)
+    (o : Outs) : Type 0 where
   pub begun : IsPacketBegun p.crypto s.taking.key s.taking.count bytes
   pub after : new ≡ s
   pub quiet : IsQuiet o
@@ -225,7 +226,8 @@ pub record WouldSay {K : Type 0} (s : Transport K) (why : model.Refusal) : Type 
   pub spelling : HasSpelling (Disconnect reason (refusal_name why) [])
   pub room : s.sending.count < 2 ^ 32
 
--- Something would be sent on the payload, which has a spelling and a number of its own: an answer, or why it is refused.
+-- Something would be sent on the payload, which has a spelling and a number of its own: an answer, or why it is
+-- refused.
 pub data WouldAnswer {K : Type 0} (p : Parties K) (side : Side) (s : Transport K) (payload : List ℕ) : Type 0 where
   answered : (chosen : Chosen) (message : Msg) (answered : Answered) (new : Transport K) → Reads s message payload →
       IsAwaited s chosen message →

@@ -80,8 +80,8 @@ pub record IsReading {K : Type 0} (s : State K) : Type 0 where
   pub others : s.kept.lines.others ≡ s.reading.others
   pub going : s.reading.ended ≡ None
 
--- The key with which the epoch after NEWKEYS begins is there, an exchange is under way where the peer's part of it is awaited,
--- and no epoch is beyond the pairs of cookie and secret that were fed.
+-- The key with which the epoch after NEWKEYS begins is there, an exchange is under way where the peer's part of it is
+-- awaited, and no epoch is beyond the pairs of cookie and secret that were fed.
 pub record IsKeptLive {K : Type 0} (s : Transport K) : Type 0 where
   pub pending : s.phase ≡ model.Phase.Keying → s.pending ≡ None → ⊥
   pub blocked : awaits_exchange s.phase ≡ true → s.blocked ≡ true

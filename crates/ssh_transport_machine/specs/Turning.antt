@@ -124,7 +124,8 @@ Does c old judged.Told turn.Told new o = Becomes old old.kept new o
 Does c old judged.Unknown (turn.Unknown answer) new o =
     Answers c old (Unimplemented (last_number old.kept.taking)) (after_sent old.kept) answer new o
 Does c old judged.ServiceRequested (turn.ServiceRequested answer) new o =
-    Answers c old (ServiceAccept (codes "ssh-userauth")) (record (after_sent old.kept) { requested = true }) answer new o
+    Answers c old (ServiceAccept (codes "ssh-userauth"))
+    (record (after_sent old.kept) { requested = true }) answer new o
 Does c old judged.ServiceAccepted turn.ServiceAccepted new o =
     Becomes old (record old.kept { accepted = true }) new o
 Does c old (judged.Kexinit facts) (turn.Kexinit answer) new o = ServerKexinit c old facts answer new o
