@@ -3,3 +3,4 @@ pub mod Ending
 pub mod Answering
 pub mod Shown
 pub mod Packets
+pub mod Living

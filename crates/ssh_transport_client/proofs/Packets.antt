@@ -197,3 +197,14 @@ module _ {K : Type 0} (c : Crypto K) where
       IfOk r (λ given. ClientTaken c agreement trusts old bytes given new (record { before = before; after = after; listed = listed; relisted = relisted }))
   taken_if agreement trusts old mid new bytes done before between after listed amid relisted (Ok given) x y = taken_whole agreement trusts old mid new bytes done before between after listed amid relisted given x y
   taken_if agreement trusts old mid new bytes done before between after listed amid relisted (Err e) x y = tt
+
+  abbrev given_in : PacketTurn → ClientTurn → PacketTurn
+  given_in none (client.Shared given) = given
+  given_in none _ = none
+
+  pub more_if : {E : Type 0} (agreement : Agreement) (trusts : Trusts) (mid new : State K) (done : PacketTurn) (o : Outs) (used size : ℕ) (r : Result ClientTurn E) → (done ≡ packet_turn.More → used ≡ size) →
+      IfOk r (λ given. IsFinished c agreement trusts mid done given new o) → IfOk r (λ given. given ≡ client.Shared packet_turn.More → used ≡ size)
+  more_if agreement trusts mid new done o used size (Ok (client.Shared given)) whole y = λ e. whole (sym y.same ∙ ap (given_in done) e)
+  more_if agreement trusts mid new done o used size (Ok (client.Kexinit given)) whole y = λ e. absurd (cc e)
+  more_if agreement trusts mid new done o used size (Ok (client.Reply given)) whole y = λ e. absurd (cc e)
+  more_if agreement trusts mid new done o used size (Err e) whole y = tt

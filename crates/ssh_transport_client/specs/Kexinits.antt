@@ -48,7 +48,8 @@ PointDone c agreement old facts Done new o = PointSent c agreement old facts new
 PointDone c agreement old facts Spent new o = PointSpent agreement old new o
 
 -- the answer by a KEXINIT with this pair, and its point
-abbrev pub BothDone : {K : Type 0} → Crypto K → Agreement → State K → KexinitFacts → Material → Answer → State K → Outs →
+abbrev pub BothDone : {K : Type 0} → Crypto K → Agreement → State K → KexinitFacts → Material → Answer → State K → Outs
+    →
     Type 0
 BothDone c agreement old facts material Done new o =
     BothAnswered c old material (take 32 (agreement.point material.secret)) facts new o

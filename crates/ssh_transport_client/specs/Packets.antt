@@ -66,7 +66,8 @@ pub record IsReplied {K : Type 0} (c : Crypto K) (agreement : Agreement) (trusts
   pub does : ReplyTaken c agreement trusts old given new o
 
 -- what is left of a packet
-abbrev pub IsFinished : {K : Type 0} → Crypto K → Agreement → Trusts → State K → PacketTurn → ClientTurn → State K → Outs →
+abbrev pub IsFinished : {K : Type 0} → Crypto K → Agreement → Trusts → State K → PacketTurn → ClientTurn → State K →
+    Outs →
     Type 0
 IsFinished c agreement trusts old done (client.Shared given) new o = IsShared old done given new o
 IsFinished c agreement trusts old done (client.Kexinit answer) new o = IsAnswered c agreement old done answer new o

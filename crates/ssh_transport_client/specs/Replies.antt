@@ -47,27 +47,35 @@ pub record PointIsBad {K : Type 0} (agreement : Agreement) (s : Transport K) (po
   pub bad : is_good_point agreement s point ≡ false
 
 -- The point is one, and the host is not trusted.
-pub record HostIsBad {K : Type 0} (agreement : Agreement) (trusts : Trusts) (s : Transport K) (host_key point signature : List ℕ) : Type 0 where
+pub record HostIsBad {K : Type 0} (agreement : Agreement) (trusts : Trusts) (s : Transport K)
+    (host_key point signature : List ℕ) : Type 0 where
   pub chosen : Chosen
   pub chosen_is : IsChosen s chosen
   pub good : is_good_point agreement s point ≡ true
-  pub untrusted : trusts chosen.host host_key (exchange_hash (inputs_with Client agreement s host_key point)) signature ≡ false
+  pub untrusted : trusts chosen.host host_key (exchange_hash (inputs_with Client agreement s host_key point)) signature
+      ≡ false
 
 -- The point is one and the host is trusted, and these are the keys, the session id and what is announced.
-pub record HostIsTrusted {K : Type 0} (c : Crypto K) (agreement : Agreement) (trusts : Trusts) (s : Transport K) (host_key point signature : List ℕ) (chosen : Chosen) (own theirs : K)
+pub record HostIsTrusted {K : Type 0} (c : Crypto K) (agreement : Agreement) (trusts : Trusts) (s : Transport K)
+    (host_key point signature : List ℕ) (chosen : Chosen) (own theirs : K)
     (session : List ℕ) (announcement : Option (List ℕ)) : Type 0 where
   pub chosen_is : IsChosen s chosen
   pub good : is_good_point agreement s point ≡ true
-  pub trusted : trusts chosen.host host_key (exchange_hash (inputs_with Client agreement s host_key point)) signature ≡ true
-  pub keys : AreKeys c s chosen (inputs_with Client agreement s host_key point).shared (exchange_hash (inputs_with Client agreement s host_key point)) own theirs session
+  pub trusted : trusts chosen.host host_key (exchange_hash (inputs_with Client agreement s host_key point)) signature ≡
+      true
+  pub keys : AreKeys c s chosen (inputs_with Client agreement s host_key point).shared
+      (exchange_hash (inputs_with Client agreement s host_key point)) own theirs session
   pub announcement_is : IsAnnouncement s announcement
 
 -- what the texts of a reply are
-abbrev pub IsHostJudged : {K : Type 0} → Crypto K → Agreement → Trusts → Transport K → (host_key point signature : List ℕ) → HostJudged K → Type 0
+abbrev pub IsHostJudged : {K : Type 0} → Crypto K → Agreement → Trusts → Transport K →
+    (host_key point signature : List ℕ) → HostJudged K → Type 0
 IsHostJudged c agreement trusts s host_key point signature judged.BadPoint = PointIsBad agreement s point
-IsHostJudged c agreement trusts s host_key point signature judged.BadHost = HostIsBad agreement trusts s host_key point signature
+IsHostJudged c agreement trusts s host_key point signature judged.BadHost =
+    HostIsBad agreement trusts s host_key point signature
 IsHostJudged c agreement trusts s host_key point signature (judged.Trusted host) =
-    HostIsTrusted c agreement trusts s host_key point signature (owned_chosen host.choice) host.keys.own host.keys.theirs host.keys.session (option_map (λ v. v.items) host.announcement)
+    HostIsTrusted c agreement trusts s host_key point signature (owned_chosen host.choice) host.keys.own
+    host.keys.theirs host.keys.session (option_map (λ v. v.items) host.announcement)
 
 -- The payload is a reply of a bad point.
 pub record ShowsBadPoint {K : Type 0} (agreement : Agreement) (s : Transport K) (payload : List ℕ) : Type 0 where
@@ -78,7 +86,8 @@ pub record ShowsBadPoint {K : Type 0} (agreement : Agreement) (s : Transport K) 
   pub is : PointIsBad agreement s point
 
 -- It is one of a host that is not trusted.
-pub record ShowsBadHost {K : Type 0} (agreement : Agreement) (trusts : Trusts) (s : Transport K) (payload : List ℕ) : Type 0 where
+pub record ShowsBadHost {K : Type 0} (agreement : Agreement) (trusts : Trusts) (s : Transport K) (payload : List ℕ) :
+    Type 0 where
   pub host_key : List ℕ
   pub point : List ℕ
   pub signature : List ℕ
@@ -86,7 +95,8 @@ pub record ShowsBadHost {K : Type 0} (agreement : Agreement) (trusts : Trusts) (
   pub is : HostIsBad agreement trusts s host_key point signature
 
 -- It is one of a host that is.
-pub record ShowsTrusted {K : Type 0} (c : Crypto K) (agreement : Agreement) (trusts : Trusts) (s : Transport K) (payload : List ℕ) (chosen : Chosen) (own theirs : K)
+pub record ShowsTrusted {K : Type 0} (c : Crypto K) (agreement : Agreement) (trusts : Trusts) (s : Transport K)
+    (payload : List ℕ) (chosen : Chosen) (own theirs : K)
     (session : List ℕ) (announcement : Option (List ℕ)) : Type 0 where
   pub host_key : List ℕ
   pub point : List ℕ
@@ -95,8 +105,10 @@ pub record ShowsTrusted {K : Type 0} (c : Crypto K) (agreement : Agreement) (tru
   pub is : HostIsTrusted c agreement trusts s host_key point signature chosen own theirs session announcement
 
 -- what a reply is
-abbrev pub IsReplyJudged : {K : Type 0} → Crypto K → Agreement → Trusts → Transport K → (payload : List ℕ) → HostJudged K → Type 0
+abbrev pub IsReplyJudged : {K : Type 0} → Crypto K → Agreement → Trusts → Transport K → (payload : List ℕ) → HostJudged
+    K → Type 0
 IsReplyJudged c agreement trusts s payload judged.BadPoint = ShowsBadPoint agreement s payload
 IsReplyJudged c agreement trusts s payload judged.BadHost = ShowsBadHost agreement trusts s payload
 IsReplyJudged c agreement trusts s payload (judged.Trusted host) =
-    ShowsTrusted c agreement trusts s payload (owned_chosen host.choice) host.keys.own host.keys.theirs host.keys.session (option_map (λ v. v.items) host.announcement)
+    ShowsTrusted c agreement trusts s payload (owned_chosen host.choice) host.keys.own host.keys.theirs
+    host.keys.session (option_map (λ v. v.items) host.announcement)

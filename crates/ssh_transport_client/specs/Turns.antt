@@ -13,17 +13,20 @@ use Rattle.ssh_transport_client.specs.declared.reply.ReplyTurn.{ReplyTurn}
 use Rattle.ssh_transport_client.specs.declared.reply.ReplyTurn.TheVariants as turn
 
 -- The point was refused.
-pub record PointRefused {K : Type 0} (c : Crypto K) (agreement : Agreement) (old new : State K) (o : Outs) : Type 0 where
-  pub shows : ShowsBadPoint agreement old.kept old.receiver.payload
-  pub refuses : Refuses c old.kept refusal.Refusal.BadPoint new.kept o
+pub record PointRefused {K : Type 0} (c : Crypto K) (agreement : Agreement) (old new : State K) (o : Outs) : Type 0
+  where
+    pub shows : ShowsBadPoint agreement old.kept old.receiver.payload
+    pub refuses : Refuses c old.kept refusal.Refusal.BadPoint new.kept o
 
 -- The host was refused.
-pub record HostRefused {K : Type 0} (c : Crypto K) (agreement : Agreement) (trusts : Trusts) (old new : State K) (o : Outs) : Type 0 where
+pub record HostRefused {K : Type 0} (c : Crypto K) (agreement : Agreement) (trusts : Trusts) (old new : State K)
+    (o : Outs) : Type 0 where
   pub shows : ShowsBadHost agreement trusts old.kept old.receiver.payload
   pub refuses : Refuses c old.kept refusal.Refusal.BadHost new.kept o
 
 -- The host was trusted: the exchange of these algorithms is completed.
-pub record HostAccepted {K : Type 0} (c : Crypto K) (agreement : Agreement) (trusts : Trusts) (old : State K) (chosen : Chosen) (new : State K) (o : Outs) : Type 0 where
+pub record HostAccepted {K : Type 0} (c : Crypto K) (agreement : Agreement) (trusts : Trusts) (old : State K)
+    (chosen : Chosen) (new : State K) (o : Outs) : Type 0 where
   pub own : K
   pub theirs : K
   pub session : List ℕ
@@ -33,7 +36,8 @@ pub record HostAccepted {K : Type 0} (c : Crypto K) (agreement : Agreement) (tru
   pub after : new ≡ record old { kept = after_announced announcement (forgotten (keyed own theirs session old.kept)) }
 
 -- No number was left for NEWKEYS: nothing was sent, and the end is over.
-pub record NewkeysSpent {K : Type 0} (c : Crypto K) (agreement : Agreement) (trusts : Trusts) (old new : State K) (o : Outs) : Type 0 where
+pub record NewkeysSpent {K : Type 0} (c : Crypto K) (agreement : Agreement) (trusts : Trusts) (old new : State K)
+    (o : Outs) : Type 0 where
   pub chosen : Chosen
   pub own : K
   pub theirs : K
@@ -50,4 +54,5 @@ abbrev pub ReplyTaken : {K : Type 0} → Crypto K → Agreement → Trusts → S
 ReplyTaken c agreement trusts old turn.BadPoint new o = PointRefused c agreement old new o
 ReplyTaken c agreement trusts old turn.BadHost new o = HostRefused c agreement trusts old new o
 ReplyTaken c agreement trusts old turn.NumberSpent new o = NewkeysSpent c agreement trusts old new o
-ReplyTaken c agreement trusts old (turn.Completed choice) new o = HostAccepted c agreement trusts old (owned_chosen choice) new o
+ReplyTaken c agreement trusts old (turn.Completed choice) new o =
+    HostAccepted c agreement trusts old (owned_chosen choice) new o

@@ -1,30 +1,33 @@
 //! Laws of what a client makes of a server's KEXINIT and of its reply: turns of a session. Facts for proofs, at no cost.
 
-ghost use Rattle.std.specs.Prelude.{◌≡◌, ◌+◌, List, [], ◌∷◌, ℕ, Some, false};
+ghost use Rattle.std.specs.Prelude.{◌≡◌, ◌+◌, List, [], ◌∷◌, ℕ, Some, false, true};
 ghost use Rattle.ssh_model.specs.Side.{Side.Client};
 ghost use Rattle.ssh_model.specs.KeyExchange.Choice.{Chosen};
 ghost use Rattle.ssh_model.specs.Channels.Connection.{AreReplies, owed_replies};
 ghost use Rattle.ssh_model.specs.Sessions.Items.{Item, Item.Died, Item.Refused};
-ghost use Rattle.ssh_model.specs.Sessions.Parties.{Parties, agreement_of};
+ghost use Rattle.ssh_model.specs.Sessions.Parties.{Agreement, Parties, agreement_of};
 ghost use Rattle.ssh_model.specs.Sessions.Refusals.{Refusal.BadHost, Refusal.BadPoint, Refusal.NumberSpent};
 ghost use Rattle.ssh_model.specs.Sessions.Turns.{AreSpelled};
 ghost use Rattle.ssh_model.specs.TransportLayer.Kept.{Transport, after_taken};
 ghost use Rattle.ssh_model.specs.TransportLayer.Summary.{SumsUp};
 ghost use Rattle.ssh_model.specs.TransportLayer.Turns.{Turned};
+ghost use Rattle.ssh_model.specs.Wire.Sealing.{Crypto};
+ghost use Rattle.ssh_transport_machine.specs.Choices.{IsChoosing};
 ghost use Rattle.ssh_transport_machine.specs.Endings.{ExchangeEnds, IsRead, PayloadRefused};
 ghost use Rattle.ssh_transport_machine.specs.Puts.{Outs};
-ghost use Rattle.ssh_transport_machine.specs.State.{State};
+ghost use Rattle.ssh_transport_machine.specs.State.{IsLive, State, before_taken};
 ghost use Rattle.ssh_transport_machine.specs.Judging.{PayloadJudged};
 ghost use Rattle.ssh_transport_machine.specs.declared.machine.judging.Judged.TheVariants as judged;
 ghost use Rattle.ssh_transport_machine.specs.declared.machine.kexinit.KexinitFacts.{KexinitFacts};
 ghost use Rattle.ssh_transport_machine.specs.declared.machine.turn.Answer.{Answer};
 ghost use Rattle.ssh_transport_client.specs.Kexinits.{KexinitDone, KexinitTurn};
-ghost use Rattle.ssh_transport_client.specs.Replies.{ReadsReply};
+ghost use Rattle.ssh_transport_client.specs.Replies.{ReadsReply, Trusts};
 ghost use Rattle.ssh_transport_client.specs.Turns.{HostAccepted, HostRefused, NewkeysSpent, PointRefused};
 
 use ssh_model::payload_numbers;
 use ssh_model::transport::{exchange_ends, payloads, refused_and_spent};
-use ssh_transport_machine::ending::secrets_forgotten;
+use ssh_transport_machine::ending::{choices_kept, exchanges_live, secrets_forgotten};
+use ssh_transport_machine::laws::live_machines;
 
 /// A payload that is judged to be a reply is one that is read.
 pub fn replies_shown<K>()
@@ -37,6 +40,27 @@ pub fn kexinits_taken<K>()
 {
     payload_numbers();
     payloads::<K>();
+}
+
+/// What holds of a live machine goes on holding with a reply that is trusted, and no KEXINIT is kept that is still to be chosen by.
+pub fn replies_live<K>()
+    ensures live { (c : Crypto K) (agreement : Agreement) (trusts : Trusts) (old new : State K) (chosen : Chosen) (o : Outs) → old.kept.blocked ≡ true → IsLive old → HostAccepted c agreement trusts old chosen new o → IsLive new }
+    ensures choosing { (c : Crypto K) (agreement : Agreement) (trusts : Trusts) (old new : State K) (chosen : Chosen) (o : Outs) → HostAccepted c agreement trusts old chosen new o → IsChoosing new.kept }
+    ensures side { (c : Crypto K) (agreement : Agreement) (trusts : Trusts) (old new : State K) (chosen : Chosen) (o : Outs) → HostAccepted c agreement trusts old chosen new o → new.kept.side ≡ old.kept.side }
+{
+    exchanges_live::<K>();
+    live_machines::<K>();
+}
+
+/// The same with a KEXINIT that is answered, by which there is a choice.
+pub fn kexinits_live<K>()
+    ensures live { (c : Crypto K) (agreement : Agreement) (old : State K) (facts : KexinitFacts) (answer : Answer) (new : State K) (o : Outs) → IsLive old → KexinitDone c agreement old facts answer new o → new.kept.dead ≡ false → IsLive new }
+    ensures choosing { (c : Crypto K) (agreement : Agreement) (old : State K) (facts : KexinitFacts) (answer : Answer) (new : State K) (o : Outs) → PayloadJudged (before_taken old.kept) old.receiver.payload (judged.Kexinit facts) → KexinitDone c agreement old facts answer new o → new.kept.dead ≡ false → IsChoosing new.kept }
+    ensures side { (c : Crypto K) (agreement : Agreement) (old : State K) (facts : KexinitFacts) (answer : Answer) (new : State K) (o : Outs) → KexinitDone c agreement old facts answer new o → new.kept.dead ≡ false → new.kept.side ≡ old.kept.side }
+{
+    exchanges_live::<K>();
+    live_machines::<K>();
+    choices_kept::<K>();
 }
 
 /// What a client does with a server's reply is what a client does in a session whose parts it has: it refuses the point, or the

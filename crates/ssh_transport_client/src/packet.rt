@@ -54,6 +54,7 @@ pub fn take_packet<S: Sealing, F: Filler + Drop, A: Agreement, T: HostTrust>(
     requires choosing { IsChoosing machine.old.kept }
     ensures used { result.0 ≤ length bytes.now }
     ensures progress { 0 < length bytes.now → 0 < result.0 }
+    ensures more { IfOk result.1 (λ turn. turn ≡ ClientTurn.Shared PacketTurn.More → result.0 ≡ length bytes.now) }
     ensures taken { IfOk result.1 (λ turn. ClientTaken S.crypto (record { point = A.public_of agreement.now; shared = A.shared_of agreement.now }) (T.judged trust.now) machine.old (machine.old.receiver.begun ++ take result.0 bytes.now) turn machine.new (record { before = out.old.items; after = out.new.items; listed = map (λ v. v.items) sent.old.items; relisted = map (λ v. v.items) sent.new.items })) }
     ensures dead { OnErr result.1 (machine.new.kept.dead ≡ true) }
     ensures out { OnErr result.1 (out.new.items ≡ out.old.items) }

@@ -132,3 +132,13 @@ module _ {K : Type 0} (c : Crypto K) where
   pub same_list : {A E : Type 0} (old mid : State K) (bytes : List ℕ) (done : PacketTurn) (o : Outs) (relisted : List (List ℕ)) (r : Result A E) → PacketTaken c old bytes done mid o → OnErr r (is_init done ≡ true) → OnErr r (relisted ≡ o.relisted) → OnErr r (relisted ≡ o.listed)
   same_list old mid bytes done o relisted (Ok given) x e f = tt
   same_list old mid bytes done o relisted (Err error) x e f = f ∙ (quiet_before old mid bytes done o x e).sent
+
+  abbrev given_in : PacketTurn → ServerTurn → PacketTurn
+  given_in none (server.Shared given) = given
+  given_in none _ = none
+
+  pub more_if : {E : Type 0} (parts : ExchangeParts) (mid new : State K) (done : PacketTurn) (o : Outs) (used size : ℕ) (r : Result ServerTurn E) → (done ≡ packet_turn.More → used ≡ size) → IfOk r (λ given. IsFinished c parts mid done given new o) →
+      IfOk r (λ given. given ≡ server.Shared packet_turn.More → used ≡ size)
+  more_if parts mid new done o used size (Ok (server.Shared given)) whole y = λ e. whole (sym y.same ∙ ap (given_in done) e)
+  more_if parts mid new done o used size (Ok (server.Point given)) whole y = λ e. absurd (cc e)
+  more_if parts mid new done o used size (Err e) whole y = tt

@@ -63,6 +63,7 @@ pub record PointTaken {K : Type 0} (c : Crypto K) (parts : ExchangeParts) (old :
   pub does : InitTaken c parts between done new o
 
 -- what a call made of the bytes of a packet begun with those that it used
-abbrev pub ServerTaken : {K : Type 0} → Crypto K → ExchangeParts → State K → List ℕ → ServerTurn → State K → Outs → Type 0
+abbrev pub ServerTaken : {K : Type 0} → Crypto K → ExchangeParts → State K → List ℕ → ServerTurn → State K → Outs → Type
+    0
 ServerTaken c parts old bytes (server.Shared done) new o = SharedTaken c old bytes done new o
 ServerTaken c parts old bytes (server.Point done) new o = PointTaken c parts old bytes done new o

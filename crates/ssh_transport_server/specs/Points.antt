@@ -38,10 +38,11 @@ pub record ShowsBad {K : Type 0} (agreement : Agreement) (s : Transport K) (payl
   pub bad : is_good_point agreement s theirs ≡ false
 
 -- The payload is the message of this point, which shares this.
-pub record ShowsGood {K : Type 0} (agreement : Agreement) (s : Transport K) (payload point shared : List ℕ) : Type 0 where
-  pub read : IsPayload false (KexEcdhInit point) payload
-  pub size : length point ≡ 32
-  pub shares : shared_with agreement s.underway.secret point ≡ Some shared
+pub record ShowsGood {K : Type 0} (agreement : Agreement) (s : Transport K) (payload point shared : List ℕ) : Type 0
+  where
+    pub read : IsPayload false (KexEcdhInit point) payload
+    pub size : length point ≡ 32
+    pub shares : shared_with agreement s.underway.secret point ≡ Some shared
 
 -- what the point is that a payload shows
 abbrev pub IsInitJudged : {K : Type 0} → Agreement → Transport K → (payload : List ℕ) → InitJudged → Type 0

@@ -43,6 +43,7 @@ pub fn take_packet<S: Sealing, F: Filler + Drop, A: Agreement, H: HostSigner>(
     requires choosing { IsChoosing machine.old.kept }
     ensures used { result.0 ≤ length bytes.now }
     ensures progress { 0 < length bytes.now → 0 < result.0 }
+    ensures more { IfOk result.1 (λ turn. turn ≡ ServerTurn.Shared PacketTurn.More → result.0 ≡ length bytes.now) }
     ensures taken { IfOk result.1 (λ turn. ServerTaken S.crypto (record { agreement = record { point = A.public_of agreement.now; shared = A.shared_of agreement.now }; host_key = H.key_of signer.now; host_signature = H.signature_of signer.now }) machine.old (machine.old.receiver.begun ++ take result.0 bytes.now) turn machine.new (record { before = out.old.items; after = out.new.items; listed = map (λ v. v.items) sent.old.items; relisted = map (λ v. v.items) sent.new.items })) }
     ensures dead { OnErr result.1 (machine.new.kept.dead ≡ true) }
     ensures out { OnErr result.1 (out.new.items ≡ out.old.items) }

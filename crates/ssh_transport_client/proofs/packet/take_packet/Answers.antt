@@ -1,4 +1,4 @@
-use Rattle.ssh_transport_client.proofs.Packets.{ready, same_list, same_out, taken_if}
+use Rattle.ssh_transport_client.proofs.Packets.{more_if, ready, same_list, same_out, taken_if}
 use Rattle.ssh_transport_client.proofs.packet.take_packet.Goals as goal
 
 pub finish-requires : goal.finish-requires
@@ -14,3 +14,6 @@ returns-in-Ok-clause-out g c = same_out _ c.args.machine.now c.take_packet-used.
 
 pub returns-in-Ok-clause-kept : goal.returns-in-Ok-clause-kept
 returns-in-Ok-clause-kept g c = same_list _ c.args.machine.now c.take_packet-used.new.self _ c.in-Ok.done _ _ c.finish.result (rw c.in-Ok.is at c.take_packet-used.ensures.taken) c.finish.ensures.left c.finish.ensures.kept
+
+pub returns-in-Ok-clause-more : goal.returns-in-Ok-clause-more
+returns-in-Ok-clause-more g c = more_if _ _ _ c.take_packet-used.new.self _ c.in-Ok.done _ c.take_packet-used.result.0 _ c.finish.result (rw c.in-Ok.is at c.take_packet-used.ensures.more) c.finish.ensures.finished
