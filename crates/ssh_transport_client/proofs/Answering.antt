@@ -1,5 +1,5 @@
 -- What a client makes of a KEXINIT, as a turn of a session.
-use Rattle.std.proofs.Common.{◌≡◌, ℕ, zero, suc, ◌+◌, ◌<◌, ◌≤◌, ◌^◌, Bool, true, false, not, cond, ◌&&◌, ◌||◌, ◌==◌, List, [], ◌∷◌, ◌++◌, length, take, refl, ap, sym, ◌∙◌, subst, arith, append-nil, Option, Some, None}
+use Rattle.std.proofs.Common.{◌≡◌, ℕ, zero, suc, ◌+◌, ◌<◌, ◌≤◌, ◌^◌, Bool, true, false, ◌||◌, ◌==◌, List, [], ◌∷◌, ◌++◌, length, take, refl, ap, sym, ◌∙◌, subst, arith, append-nil, Some, None}
 use Rattle.std.specs.Prelude.{Result, Ok, Err, IfOk}
 use Rattle.std.proofs.lemmas.List.{take_all}
 use Rattle.ssh_model.specs.Side.{Side, Side.Client, Side.Server}
@@ -8,8 +8,8 @@ use Rattle.ssh_model.specs.Wire.Sealing.{Crypto}
 use Rattle.ssh_model.specs.KeyExchange.Choice.{Chosen}
 use Rattle.ssh_model.specs.KeyExchange.Exchanges.{Material, none_chosen}
 use Rattle.ssh_model.specs.Sessions.Items.{Item, Item.Died, Item.Refused, Item.Took, Spelled, Spelled.SpelledBy}
-use Rattle.ssh_model.specs.Sessions.Parties.{Agreement, Parties, agreement_of, is_required, offer_of}
-use Rattle.ssh_model.specs.Sessions.Phases.{Phase, Phase.Guessed, is_allowed_at_first, is_allowed_during_exchange, awaited}
+use Rattle.ssh_model.specs.Sessions.Parties.{Agreement, Parties, agreement_of, offer_of}
+use Rattle.ssh_model.specs.Sessions.Phases.{Phase, Phase.Guessed, is_allowed_during_exchange, awaited}
 use Rattle.ssh_model.specs.Sessions.Refusals.{Refusal.NumberSpent, first_refusal}
 use Rattle.ssh_model.specs.Sessions.Turns.{AreSpelled, IsSpelled, number_of}
 use Rattle.ssh_model.specs.TransportLayer.Directions.{Direction}
@@ -24,7 +24,6 @@ use Rattle.ssh_transport_machine.specs.Puts.{Outs, Sends}
 use Rattle.ssh_transport_machine.specs.Offering.{BothAnswered}
 use Rattle.ssh_transport_machine.specs.State.{State, dead_state, noted}
 use Rattle.ssh_transport_machine.specs.Turning.{HasSpelling}
-use Rattle.ssh_transport_machine.specs.declared.machine.judging.Judged.{Judged}
 use Rattle.ssh_transport_machine.specs.declared.machine.judging.Judged.TheVariants as judged
 use Rattle.ssh_transport_machine.specs.declared.machine.kexinit.KexinitFacts.{KexinitFacts}
 use Rattle.ssh_transport_machine.specs.declared.machine.turn.Answer.{Answer}

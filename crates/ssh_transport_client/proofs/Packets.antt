@@ -1,12 +1,12 @@
 -- What a machine left to a client, and what a client makes of it.
-use Rattle.std.proofs.Common.{◌≡◌, ℕ, ◌+◌, ◌-◌, ◌^◌, ◌<◌, ◌≤◌, List, [], ◌∷◌, refl, ap, sym, ◌∙◌, subst, arith, Bool, true, false, not, ◌&&◌, Option, Some, None, is_some}
+use Rattle.std.proofs.Common.{◌≡◌, ℕ, ◌+◌, ◌-◌, ◌^◌, ◌<◌, ◌≤◌, List, [], ◌∷◌, refl, ap, sym, ◌∙◌, subst, arith, Bool, true, false, not, ◌&&◌, Option, None, is_some}
 use Rattle.std.specs.Prelude.{Result, Ok, Err, IfOk, OnErr}
-use Rattle.ssh_model.specs.Side.{Side, Side.Client}
+use Rattle.ssh_model.specs.Side.{Side.Client}
 use Rattle.ssh_model.specs.Wire.Message.{Msg, Msg.KexEcdhReply, IsPayload}
 use Rattle.ssh_model.specs.Wire.Sealing.{Crypto}
 use Rattle.ssh_model.specs.KeyExchange.Exchanges.{Material}
 use Rattle.ssh_model.specs.Sessions.Parties.{Agreement}
-use Rattle.ssh_model.specs.Sessions.Refusals.{Check, Check.RefusedWhere, Refusal, Refusal.NotStrict, Refusal.Unexpected, Refusal.NoCommon, Refusal.NoMaterial, first_refusal}
+use Rattle.ssh_model.specs.Sessions.Refusals.{Check.RefusedWhere, Refusal, Refusal.NotStrict, Refusal.Unexpected, Refusal.NoCommon, first_refusal}
 use Rattle.ssh_model.specs.TransportLayer.Kept.{Transport, takes}
 use Rattle.ssh_model.specs.TransportLayer.Summary.{bit, is_agreeing}
 use Rattle.ssh_transport_base.specs.declared.packets.step.PacketStep.{PacketStep}
@@ -24,7 +24,7 @@ use Rattle.ssh_transport_machine.specs.declared.machine.turn.PacketTurn.{PacketT
 use Rattle.ssh_transport_machine.specs.declared.machine.turn.PacketTurn.TheVariants as packet_turn
 use Rattle.ssh_transport_machine.specs.declared.machine.turn.PayloadTurn.TheVariants as turn
 use Rattle.ssh_transport_client.specs.Kexinits.{KexinitDone}
-use Rattle.ssh_transport_client.specs.Packets.{ClientTaken, HasPair, IsFinished, IsReady, IsReplyReady, left_of}
+use Rattle.ssh_transport_client.specs.Packets.{ClientTaken, IsFinished, IsReady, IsReplyReady, left_of}
 use Rattle.ssh_transport_client.specs.Replies.{Trusts}
 use Rattle.ssh_transport_client.specs.Turns.{ReplyTaken}
 use Rattle.ssh_transport_client.specs.declared.packet.ClientLeft.{ClientLeft}

@@ -1,5 +1,5 @@
 -- What a client makes of the texts of a reply.
-use Rattle.std.proofs.Common.{◌≡◌, ℕ, ◌≤◌, ◌+◌, Bool, true, false, ◌&&◌, ◌==◌, if◌then◌else◌, List, [], length, take, Option, Some, None, is_some, eqb-true, unwrap_or, refl, ap, sym, ◌∙◌, subst, arith}
+use Rattle.std.proofs.Common.{◌≡◌, ℕ, ◌≤◌, Bool, true, false, ◌&&◌, ◌==◌, if◌then◌else◌, List, [], length, take, Option, Some, None, is_some, eqb-true, unwrap_or, refl, ap, sym, ◌∙◌, subst, arith}
 use Rattle.std.specs.Prelude.{Result, Ok, Err, IfOk}
 use Rattle.std.proofs.lemmas.List.{take_all}
 use Rattle.ssh_model.specs.Side.{Side, Side.Client}
@@ -8,12 +8,12 @@ use Rattle.ssh_model.specs.Wire.Message.{Msg, Msg.KexEcdhReply, IsPayload, IsWri
 use Rattle.ssh_model.specs.Wire.Sealing.{Crypto}
 use Rattle.ssh_model.specs.Wire.Sizes.{HasPayloadSize}
 use Rattle.ssh_model.specs.KeyExchange.Choice.{Chosen}
-use Rattle.ssh_model.specs.KeyExchange.Exchange.{Inputs, exchange_hash}
+use Rattle.ssh_model.specs.KeyExchange.Exchange.{exchange_hash}
 use Rattle.ssh_model.specs.Sessions.Parties.{Agreement}
 use Rattle.ssh_model.specs.TransportLayer.Kept.{IsChosen, Transport, inputs_with, is_good_point, own_point, shared_value, shared_with}
 use Rattle.ssh_transport_machine.specs.Finishing.{AreKeys, HasChoice, IsAnnouncement}
 use Rattle.ssh_transport_machine.specs.Hashing.{inputs_in}
-use Rattle.ssh_transport_client.specs.Replies.{HostIsBad, HostIsTrusted, IsHostJudged, IsReplyJudged, PointIsBad, ShowsReply, Trusts, reply_of}
+use Rattle.ssh_transport_client.specs.Replies.{HostIsBad, HostIsTrusted, IsHostJudged, IsReplyJudged, PointIsBad, Trusts}
 use Rattle.ssh_transport_client.specs.declared.host.HostJudged.{HostJudged}
 use Rattle.ssh_transport_client.specs.declared.host.HostJudged.TheVariants as judged
 

@@ -18,8 +18,10 @@ pub record IsRead {K : Type 0} (s : Transport K) (payload : List ℕ) : Type 0 w
   pub taken : takes s (number_of payload) ≡ true
   pub no_guess : s.phase ≡ model.Phase.Guessed → ⊥
 
--- The payload ends an exchange: what is done with it, up to what is announced, is what a session does, whatever is owed behind it.
-pub record ExchangeEnds {K : Type 0} (p : Parties K) (side : Side) (history : List Item) (payload : List ℕ) (position : ℕ) (new : Transport K) (o : Outs) : Type 0 where
+-- The payload ends an exchange: what is done with it, up to what is announced, is what a session does, whatever is owed
+-- behind it.
+pub record ExchangeEnds {K : Type 0} (p : Parties K) (side : Side) (history : List Item) (payload : List ℕ)
+    (position : ℕ) (new : Transport K) (o : Outs) : Type 0 where
   pub message : Msg
   pub sent : List Spelled
   pub more : List ℕ
@@ -28,7 +30,8 @@ pub record ExchangeEnds {K : Type 0} (p : Parties K) (side : Side) (history : Li
   pub lists : o.relisted ≡ o.listed ++ payloads_of sent
 
 -- The payload is refused, as a turn of a session.
-pub record PayloadRefused {K : Type 0} (p : Parties K) (side : Side) (history : List Item) (payload : List ℕ) (refusal : Refusal) (new : Transport K) (o : Outs) : Type 0 where
+pub record PayloadRefused {K : Type 0} (p : Parties K) (side : Side) (history : List Item) (payload : List ℕ)
+    (refusal : Refusal) (new : Transport K) (o : Outs) : Type 0 where
   pub said : List Spelled
   pub more : List ℕ
   pub turned : Turned p side history payload (refusal_items refusal (Some payload) said) more new

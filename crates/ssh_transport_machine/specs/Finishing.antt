@@ -1,5 +1,6 @@
 -- The end of an exchange: its keys, NEWKEYS, and what is announced behind it.
-use Rattle.std.specs.Prelude.{◌≡◌, ℕ, ◌≤◌, Bool, true, false, Option, Some, None, unwrap_or, IsSome, List, [], ◌∷◌, ◌++◌, length, replicate}
+use Rattle.std.specs.Prelude.{◌≡◌, ℕ, ◌≤◌, Bool, true, false, Option, Some, None, unwrap_or, IsSome, List, [], ◌∷◌}
+use Rattle.std.specs.Prelude.{◌++◌, length, replicate}
 use Rattle.ssh_model.specs.Side.{Side, Side.Client, Side.Server, peer}
 use Rattle.ssh_model.specs.Wire.Message.{Msg, Msg.ExtInfo, Msg.KexInit, Msg.NewKeys, Extension, Proposal, IsPayload}
 use Rattle.ssh_model.specs.Wire.Sealing.{Crypto}
@@ -51,10 +52,12 @@ session_by s hash = unwrap_or s.session hash
 
 -- the key of the direction from this side
 abbrev pub key_by : {K : Type 0} → Crypto K → Side → Chosen → (shared : ℕ) → (hash session : List ℕ) → K
-key_by c from chosen shared hash session = key_with c from shared hash session (encryption_from from chosen) (mac_from from chosen)
+key_by c from chosen shared hash session =
+    key_with c from shared hash session (encryption_from from chosen) (mac_from from chosen)
 
 -- Both keys are those of the exchange of this shared number and this hash, and the session id is that with it.
-pub record AreKeys {K : Type 0} (c : Crypto K) (s : Transport K) (chosen : Chosen) (shared : ℕ) (hash : List ℕ) (own theirs : K) (session : List ℕ) : Type 0 where
+pub record AreKeys {K : Type 0} (c : Crypto K) (s : Transport K) (chosen : Chosen) (shared : ℕ) (hash : List ℕ)
+    (own theirs : K) (session : List ℕ) : Type 0 where
   pub own_is : own ≡ key_by c s.side chosen shared hash (session_by s hash)
   pub theirs_is : theirs ≡ key_by c (peer s.side) chosen shared hash (session_by s hash)
   pub session_is : session ≡ session_by s hash
@@ -99,8 +102,10 @@ keyed own theirs session s = record s {
   session = Some session;
 }
 
--- These messages were put out, the newest first, NEWKEYS behind them, and behind that, under the new key, what is announced.
-pub record Finishes {K : Type 0} (c : Crypto K) (old : Transport K) (before : List Spelled) (own : K) (announced : List Spelled) (o : Outs) : Type 0 where
+-- These messages were put out, the newest first, NEWKEYS behind them, and behind that, under the new key, what is
+-- announced.
+pub record Finishes {K : Type 0} (c : Crypto K) (old : Transport K) (before : List Spelled) (own : K)
+    (announced : List Spelled) (o : Outs) : Type 0 where
   pub newkeys : List ℕ
   pub early : List ℕ
   pub late : List ℕ

@@ -1,15 +1,12 @@
 -- What a machine left to a server, and what a server makes of it.
-use Rattle.std.proofs.Common.{◌≡◌, ℕ, ◌+◌, ◌-◌, ◌^◌, ◌<◌, ◌≤◌, List, refl, ap, sym, ◌∙◌, subst, arith, Bool, true, false, is_some}
+use Rattle.std.proofs.Common.{◌≡◌, ℕ, ◌+◌, ◌-◌, ◌^◌, ◌<◌, ◌≤◌, List, refl, ap, sym, ◌∙◌, subst, arith, true, false}
 use Rattle.std.specs.Prelude.{Result, Ok, Err, IfOk, OnErr}
-use Rattle.ssh_model.specs.Side.{Side, Side.Server}
-use Rattle.ssh_model.specs.Wire.Message.{Msg, Msg.KexEcdhInit, IsPayload, message_number}
+use Rattle.ssh_model.specs.Side.{Side.Server}
+use Rattle.ssh_model.specs.Wire.Message.{Msg, Msg.KexEcdhInit, IsPayload}
 use Rattle.ssh_model.specs.Wire.Sealing.{Crypto}
-use Rattle.ssh_model.specs.Sessions.Phases.{Phase, Phase.Exchanging}
-use Rattle.ssh_model.specs.Sessions.Turns.{number_of}
 use Rattle.ssh_model.specs.TransportLayer.Kept.{ExchangeParts, Transport, takes}
 use Rattle.ssh_model.specs.TransportLayer.Summary.{bit, is_agreeing}
 use Rattle.ssh_transport_machine.specs.Choices.{IsChoosing}
-use Rattle.ssh_transport_machine.specs.Finishing.{HasChoice}
 use Rattle.ssh_transport_machine.specs.Judging as judging
 use Rattle.ssh_transport_machine.specs.Judging.{MessageJudged, PayloadJudged}
 use Rattle.ssh_transport_machine.specs.Puts.{Outs}
