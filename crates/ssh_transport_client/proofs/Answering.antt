@@ -23,7 +23,7 @@ use Rattle.ssh_transport_machine.specs.Kexinits.{IsFine}
 use Rattle.ssh_transport_machine.specs.Puts.{Outs, Sends}
 use Rattle.ssh_transport_machine.specs.Offering.{BothAnswered}
 use Rattle.ssh_transport_machine.specs.State.{State, dead_state, noted}
-use Rattle.ssh_transport_machine.specs.Turning.{HasSpelling}
+use Rattle.ssh_model.specs.Sessions.TurnClaims.{HasSpelling}
 use Rattle.ssh_transport_machine.specs.declared.machine.judging.Judged.TheVariants as judged
 use Rattle.ssh_transport_machine.specs.declared.machine.kexinit.KexinitFacts.{KexinitFacts}
 use Rattle.ssh_transport_machine.specs.declared.machine.turn.Answer.{Answer}
@@ -115,7 +115,7 @@ module _ {K : Type 0} (p : Parties K) (history : List Item) (s : Transport K) (s
             more = [];
             shows = kexinits.KexinitShows.spent;
             turned = spends none_chosen (KexInit theirs) payload (kept.sends (SpelledBy (KexEcdhInit (own_point (agreement_of p Client) s)) x.spelling.payload ∷ [])) (after_sent (after_kexinit theirs payload s)) new.kept reads tt fine.fine
-                (Takes.kexinit_at_client theirs x.spelling.payload side_is between is shut) (x.spelling.spelled, tt) (omega arith) few x.dead;
+                (Takes.kexinit_at_client theirs x.spelling.payload side_is between is shut) (x.spelling.spells, tt) (omega arith) few x.dead;
             parts = x.quiet.out ∙ sym (append-nil o.before);
             lists = x.quiet.sent ∙ sym (append-nil o.listed);
           }
@@ -144,7 +144,7 @@ module _ {K : Type 0} (p : Parties K) (history : List Item) (s : Transport K) (s
       by_both Spent material free has x =
           let point = take 32 ((agreement_of p Client).point material.secret) in
           let ours = offer_of s.settings Client false material.cookie in
-          let own : IsSpelled (KexInit ours) x.own.payload = subst (λ (w : Side). IsSpelled (KexInit (offer_of s.settings w false material.cookie)) x.own.payload) side_is x.own.spelled in
+          let own : IsSpelled (KexInit ours) x.own.payload = subst (λ (w : Side). IsSpelled (KexInit (offer_of s.settings w false material.cookie)) x.own.payload) side_is x.own.spells in
           record {
             said = [];
             items = Died ∷ Refused NumberSpent (Some payload) ∷ [];
@@ -152,7 +152,7 @@ module _ {K : Type 0} (p : Parties K) (history : List Item) (s : Transport K) (s
             shows = kexinits.KexinitShows.spent;
             turned = spends none_chosen (KexInit theirs) payload (kept.sends (SpelledBy (KexEcdhInit point) x.init.payload ∷ SpelledBy (KexInit ours) x.own.payload ∷ []))
                 (after_sent (after_own_kexinit material x.own.payload (after_kexinit theirs payload s))) new.kept reads tt fine.fine
-                (Takes.answered_at_client theirs x.own.payload x.init.payload material side_is between is free has) (x.init.spelled, (own, tt)) (omega arith) x.few x.dead;
+                (Takes.answered_at_client theirs x.own.payload x.init.payload material side_is between is free has) (x.init.spells, (own, tt)) (omega arith) x.few x.dead;
             parts = x.quiet.out ∙ sym (append-nil o.before);
             lists = x.quiet.sent ∙ sym (append-nil o.listed);
           }
@@ -179,9 +179,6 @@ sends_point c d o one other e x = subst (λ (t : List ℕ). Sends c d (KexEcdhIn
 
 pub spells_point : (one other : List ℕ) → one ≡ other → HasSpelling (KexEcdhInit one) → HasSpelling (KexEcdhInit other)
 spells_point one other e x = subst (λ (t : List ℕ). HasSpelling (KexEcdhInit t)) e x
-
-pub spells_own : {K : Type 0} (old mid : State K) (cookie : List ℕ) → mid ≡ dead_state old → HasSpelling (KexInit (offer_of mid.kept.settings mid.kept.side false cookie)) → HasSpelling (KexInit (offer_of old.kept.settings old.kept.side false cookie))
-spells_own {K} old mid cookie e x = subst (λ (w : State K). HasSpelling (KexInit (offer_of w.kept.settings w.kept.side false cookie))) e x
 
 pub both_point : {K : Type 0} (c : Crypto K) (old : State K) (material : Material) (facts : KexinitFacts) (new : State K) (o : Outs) (one other : List ℕ) → one ≡ other → BothAnswered c old material one facts new o → BothAnswered c old material other facts new o
 both_point c old material facts new o one other e x = subst (λ (t : List ℕ). BothAnswered c old material t facts new o) e x

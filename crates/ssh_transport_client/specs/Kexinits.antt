@@ -13,7 +13,8 @@ use Rattle.ssh_model.specs.TransportLayer.Turns.{Turned}
 use Rattle.ssh_transport_machine.specs.Offering.{BothAnswered}
 use Rattle.ssh_transport_machine.specs.Puts.{Outs, Sends, payloads_of}
 use Rattle.ssh_transport_machine.specs.State.{State, noted}
-use Rattle.ssh_transport_machine.specs.Turning.{HasSpelling, IsQuiet}
+use Rattle.ssh_model.specs.Sessions.TurnClaims.{HasSpelling}
+use Rattle.ssh_transport_machine.specs.Turning.{IsQuiet}
 use Rattle.ssh_transport_machine.specs.declared.machine.kexinit.KexinitFacts.{KexinitFacts}
 use Rattle.ssh_transport_machine.specs.declared.machine.turn.Answer.{Answer}
 use Rattle.ssh_transport_machine.specs.declared.machine.turn.Answer.TheVariants.{Done, Spent}

@@ -1,14 +1,10 @@
 //! A client's answer to its server's KEXINIT.
 
-ghost use Rattle.std.specs.Prelude.{◌≡◌, ◌≤◌, IfOk, None, OnErr, OnOk, false, length, map, true};
-ghost use Rattle.ssh_model.specs.Wire.Message.{KexEcdhInit, KexInit};
-ghost use Rattle.ssh_model.specs.Sessions.Parties.{offer_of};
-ghost use Rattle.ssh_transport_machine.specs.State.{dead_state};
-ghost use Rattle.ssh_transport_machine.specs.Turning.{HasSpelling};
+ghost use Rattle.std.specs.Prelude.{◌≡◌, ◌≤◌, IfOk, None, OnErr, false, length, map, true};
 ghost use Rattle.ssh_transport_client.specs.Kexinits.{BothDone, KexinitDone, PointDone};
 
 use ssh_kex::Agreement;
-use ssh_message::Message;
+use ssh_model::spellings;
 use ssh_packet::{Filler, Sealing};
 use ssh_transport_machine::{Answer, KexinitFacts, Machine, Material};
 use std::alloc::AllocError;
@@ -56,8 +52,9 @@ fn answer_by_point<S: Sealing, F: Filler + Drop, A: Agreement>(
 {
     let point = machine.own_point(agreement);
     has_32_bytes(&point);
+    spellings();
     if machine.is_spent() {
-        spend_on_point(machine, &point)?;
+        machine.die();
         return Ok(Answer::Spent);
     }
     machine.answer_by_point(facts, &point, out, sent)?;
@@ -80,29 +77,14 @@ fn answer_by_both<S: Sealing, F: Filler + Drop, A: Agreement>(
 {
     let point = agreement.public(&material.secret);
     has_32_bytes(&point);
+    spellings();
+    machine.offer_fits(&material.cookie);
     if !machine.has_numbers(2) {
-        spend_on_point(machine, &point)?;
-        machine.spend_on_kexinit(&material.cookie)?;
+        machine.die();
         return Ok(Answer::Spent);
     }
     machine.answer_by_both(facts, material, &point, out, sent)?;
     Ok(Answer::Done)
-}
-
-// No number is left for this point: the end is over.
-fn spend_on_point<S: Sealing, F: Filler + Drop>(
-    machine: &mut Machine<S, F>,
-    point: &[u8; 32],
-) -> Result<(), AllocError>
-    ensures spelled { OnOk result (HasSpelling (KexEcdhInit point.now)) }
-    ensures dead { machine.new ≡ dead_state machine.old }
-{
-    let spelled = machine.spell(&Message::KexEcdhInit { q_c: point });
-    machine.die();
-    match spelled {
-        Ok(_) => Ok(()),
-        Err(error) => Err(error),
-    }
 }
 
 // The length that the type says: a fact for proofs.

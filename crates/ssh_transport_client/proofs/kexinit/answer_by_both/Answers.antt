@@ -1,14 +1,14 @@
-use Rattle.std.proofs.Common.{refl, ap}
-use Rattle.ssh_transport_client.proofs.Answering.{both_point, point_by, spells_own, spells_point}
+use Rattle.std.proofs.Common.{refl, ap, arith}
+use Rattle.ssh_transport_client.proofs.Answering.{both_point, point_by, spells_point}
 use Rattle.ssh_transport_client.proofs.kexinit.answer_by_both.Goals as goal
 
 pub returns-then-not-has_numbers-clause-done : goal.returns-then-not-has_numbers-clause-done
 returns-then-not-has_numbers-clause-done g c = record {
-  own = spells_own c.args.machine.now _ _ c.in_ok-spend_on_point.ensures.dead c.in_ok-spend_on_kexinit.ensures.spelled;
+  own = c.offer_fits.ensures;
   init = spells_point _ _ (point_by (record { point = g.A.Agreement.public_of c.args.agreement.now; shared = g.A.Agreement.shared_of c.args.agreement.now }) c.args.material.secret c.public-point.result c.public-point.ensures c.has_32_bytes.ensures)
-      c.in_ok-spend_on_point.ensures.spelled;
+      (c.spellings.ensures.init c.public-point.result (omega (arith, c.has_32_bytes.ensures)));
   few = c.has_numbers.ensures.lacks c.if-not-has_numbers.true;
-  dead = ap (λ w. w.kept.dead) c.in_ok-spend_on_kexinit.ensures.dead;
+  dead = ap (λ w. w.kept.dead) c.die.ensures;
   quiet = record { out = refl; sent = refl };
 }
 

@@ -1,12 +1,12 @@
-use Rattle.std.proofs.Common.{refl, ap}
+use Rattle.std.proofs.Common.{refl, ap, arith}
 use Rattle.ssh_transport_client.proofs.Answering.{point_of, sends_point, spells_point}
 use Rattle.ssh_transport_client.proofs.kexinit.answer_by_point.Goals as goal
 
 pub returns-then-is_spent-clause-done : goal.returns-then-is_spent-clause-done
 returns-then-is_spent-clause-done g c = record {
-  spelling = spells_point _ _ (point_of (record { point = g.A.Agreement.public_of c.args.agreement.now; shared = g.A.Agreement.shared_of c.args.agreement.now }) c.args.machine.now.kept c.own_point-point.result c.own_point-point.ensures c.has_32_bytes.ensures) c.in_ok-spend_on_point.ensures.spelled;
+  spelling = spells_point _ _ (point_of (record { point = g.A.Agreement.public_of c.args.agreement.now; shared = g.A.Agreement.shared_of c.args.agreement.now }) c.args.machine.now.kept c.own_point-point.result c.own_point-point.ensures c.has_32_bytes.ensures) (c.spellings.ensures.init c.own_point-point.result (omega (arith, c.has_32_bytes.ensures)));
   none_left = c.is_spent.ensures.spent c.if-is_spent.true;
-  dead = ap (λ w. w.kept.dead) c.in_ok-spend_on_point.ensures.dead;
+  dead = ap (λ w. w.kept.dead) c.die.ensures;
   quiet = record { out = refl; sent = refl };
 }
 
