@@ -22,7 +22,7 @@ use Rattle.ssh_transport_machine.specs.Judging.{MessageJudged, PayloadJudged}
 use Rattle.ssh_transport_machine.specs.Kexinits.{IsFine}
 use Rattle.ssh_transport_machine.specs.Puts.{Outs, Sends}
 use Rattle.ssh_transport_machine.specs.Offering.{BothAnswered}
-use Rattle.ssh_transport_machine.specs.State.{State, dead_state, noted}
+use Rattle.ssh_transport_machine.specs.State.{State, noted}
 use Rattle.ssh_model.specs.Sessions.TurnClaims.{HasSpelling}
 use Rattle.ssh_transport_machine.specs.declared.machine.judging.Judged.TheVariants as judged
 use Rattle.ssh_transport_machine.specs.declared.machine.kexinit.KexinitFacts.{KexinitFacts}
