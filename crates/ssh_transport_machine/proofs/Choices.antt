@@ -97,7 +97,7 @@ module _ {K : Type 0} where
     kexinit_choosing facts answer is (turning.KexinitDone.answered material free has y) =
         moved old new _ y.after
         (record { choice = λ e. noted_choice (before_taken old.kept) old.receiver.payload facts (noted facts.wrong facts.strict facts.extensions old.receiver.payload (after_own_kexinit material y.payload old.kept)) refl refl refl is })
-    kexinit_choosing facts answer is (turning.KexinitDone.spent material free has y) = over new.kept.dead y.dead alive
+    kexinit_choosing facts answer is (turning.KexinitDone.spent material free has fits y) = over new.kept.dead y.dead alive
 
     does_choosing : (what : Judged) (done : PayloadTurn) → PayloadJudged (before_taken old.kept) old.receiver.payload what → Does c old what done new o → IsChoosing new.kept
     does_choosing (judged.Refused r) (turn.Refused why) is y = over new.kept.dead y.refuses.dead alive
