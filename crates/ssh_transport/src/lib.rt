@@ -17,3 +17,8 @@ pub use ssh_transport_base::{
     ServerParts, Settings, Strictness, directions_sum_up, every_config_is_good, offer_of_settings,
     put_kexinit,
 };
+pub use ssh_transport_client::ClientTransport;
+pub use ssh_transport_machine::{
+    Answer, AskTurn, Effect, TransportAsk, TransportFault, TransportTurn,
+};
+pub use ssh_transport_server::ServerTransport;

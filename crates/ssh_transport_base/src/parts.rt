@@ -1,5 +1,7 @@
 //! The supplied parts of an end.
 
+ghost use Rattle.std.specs.Prelude.{◌≡◌};
+
 use ssh_kex::{Agreement, HostSigner, HostTrust};
 use ssh_packet::{Filler, Sealing};
 
@@ -56,6 +58,20 @@ impl<P: ClientParts> Drop for ClientPartValues<P> {
     }
 }
 
+impl<P: ClientParts> ClientPartValues<P> {
+    /// The values one by one: filler, agreement, and who judges host keys.
+    pub fn into_parts(self) -> (P::Filler, P::Agreement, P::HostTrust)
+        ensures { result ≡ (self.filler, self.agreement, self.host_trust) }
+    {
+        let ClientPartValues {
+            filler,
+            agreement,
+            host_trust,
+        } = self;
+        (filler, agreement, host_trust)
+    }
+}
+
 /// The supplied parts of a server: each type of `ServerParts` but the sealing, whose calls need no value.
 pub struct ServerPartValues<P: ServerParts> {
     /// Gives the bytes of the padding.
@@ -74,5 +90,19 @@ impl<P: ServerParts> Drop for ServerPartValues<P> {
             agreement: _,
             host_signer: _,
         } = self;
+    }
+}
+
+impl<P: ServerParts> ServerPartValues<P> {
+    /// The values one by one: filler, agreement, and who signs by the host keys.
+    pub fn into_parts(self) -> (P::Filler, P::Agreement, P::HostSigner)
+        ensures { result ≡ (self.filler, self.agreement, self.host_signer) }
+    {
+        let ServerPartValues {
+            filler,
+            agreement,
+            host_signer,
+        } = self;
+        (filler, agreement, host_signer)
     }
 }

@@ -2,3 +2,4 @@ pub mod Replies
 pub mod Turns
 pub mod Kexinits
 pub mod Packets
+pub mod Transport

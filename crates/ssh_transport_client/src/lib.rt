@@ -9,8 +9,10 @@ mod kexinit;
 pub mod laws;
 mod packet;
 mod reply;
+mod transport;
 
 pub use host::{HostJudged, TrustedHost, judge_reply};
 pub use kexinit::answer_kexinit;
 pub use packet::{ClientTurn, take_packet};
 pub use reply::{ReplyTurn, take_reply};
+pub use transport::ClientTransport;

@@ -12,3 +12,5 @@ pub mod Shown
 pub mod Asking
 pub mod Opening
 pub mod Choices
+pub mod Outcomes
+pub mod Asks

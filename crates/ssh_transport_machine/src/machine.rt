@@ -9,6 +9,7 @@ ghost use Rattle.ssh_transport_machine.specs.State.{dead_state};
 mod announcing;
 mod answering;
 mod asking;
+mod asks;
 mod choosing;
 mod completing;
 mod finishing;

@@ -1,3 +1,4 @@
 pub mod Points
 pub mod Answers
 pub mod Packets
+pub mod Transport

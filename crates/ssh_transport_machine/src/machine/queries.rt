@@ -3,6 +3,7 @@
 ghost use Rattle.std.specs.Prelude.{◌≡◌, ◌≤◌, length, nat_le};
 ghost use Rattle.std.specs.Option.{option_copied};
 ghost use Rattle.ssh_transport_base.specs.Directions.{next_number};
+ghost use Rattle.ssh_transport_machine.specs.State.{last_number as number_before};
 
 use crate::machine::Machine;
 use ssh_packet::{Filler, Sealing};
@@ -14,6 +15,20 @@ impl<S: Sealing, F: Filler + Drop> Machine<S, F> {
         ensures most { length self.now.receiver.payload ≤ 35000 }
     {
         self.taking.payload()
+    }
+
+    // Tests whether the version line of the peer was taken.
+    pub fn has_line(&self) -> bool
+        ensures { result ≡ self.now.kept.lines.found }
+    {
+        self.lines.version_line().is_some()
+    }
+
+    // The sequence number of the packet that was taken last, where one was taken in this epoch.
+    pub fn last_number(&self) -> u32
+        ensures { result ≡ number_before self.now.kept.taking }
+    {
+        self.taking.last_number()
     }
 
     // The sequence numbers of the next packets, to be sent and to be taken; 2^32 where an epoch has had all of them.

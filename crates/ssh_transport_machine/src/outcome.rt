@@ -1,0 +1,136 @@
+//! What a transport answers to its caller.
+
+ghost use Rattle.std.specs.Prelude.{◌≡◌};
+ghost use Rattle.ssh_transport_machine.specs.Outcomes.{LineOutcome, answer_outcome as of_answer, packet_outcome as of_packet, payload_outcome as of_payload};
+
+use crate::machine::{Answer, LineTurn, PacketTurn, PayloadTurn};
+use ssh_kex::OwnedChoice;
+use ssh_message::Message;
+use ssh_types::Refusal;
+use std::alloc::AllocError;
+use thiserror::Error;
+
+/// What a transport made of the bytes of one line or one packet.
+#[derive(Clone, Copy, Debug)]
+pub enum TransportTurn {
+    /// No whole line and no whole packet yet: all bytes were used.
+    More,
+    /// A line or a packet was taken, and what it asks for was done.
+    Done(Effect),
+    /// A packet with a payload for the layers above was taken, which is shown. It has this sequence number.
+    Up(u32),
+    /// The message was taken by which NEWKEYS is sent: the exchange of these algorithms is completed.
+    Completed(OwnedChoice),
+    /// The peer was refused, or too few numbers were left in the epoch for what has to be sent (`NumberSpent`). The end is over.
+    Refused(Refusal),
+}
+
+/// What a line or a packet did that a transport took.
+#[derive(Clone, Copy, Debug, PartialEq, Eq)]
+pub enum Effect {
+    /// A line before the version line, which is dropped (RFC 4253 section 4.2).
+    OtherLine,
+    /// The version line of the peer.
+    VersionLine,
+    /// The packet after a wrong guess, which is not read (RFC 4253 section 7).
+    Skipped,
+    /// DISCONNECT: the end is over (RFC 4253 section 11.1).
+    Disconnected,
+    /// IGNORE, UNIMPLEMENTED, DEBUG or EXT_INFO, which a user is told, and which has no answer.
+    Told,
+    /// A message of a number that isn't known, answered by UNIMPLEMENTED (RFC 4253 section 11.4).
+    Unknown,
+    /// SERVICE_REQUEST, answered by SERVICE_ACCEPT (RFC 4253 section 10).
+    ServiceRequested,
+    /// SERVICE_ACCEPT.
+    ServiceAccepted,
+    /// KEXINIT, answered by what the end has to send for it (RFC 4253 section 7.1).
+    Kexinit,
+    /// NEWKEYS: the next packet is taken under the new key (RFC 4253 section 7.3).
+    NewKeys,
+}
+
+/// What a transport can be asked to send.
+#[derive(Clone, Copy, Debug)]
+pub enum TransportAsk<'a> {
+    /// SERVICE_REQUEST for authentication, at a client.
+    Service,
+    /// KEXINIT, by which an exchange of keys begins.
+    Rekey,
+    /// DISCONNECT with this description, at most 1,024 bytes. The end is over with it.
+    Disconnect(&'a [u8]),
+    /// A message of a layer above, which says when it may be sent.
+    Send(&'a Message<'a>),
+}
+
+/// Why a transport did nothing.
+#[derive(Clone, Copy, Debug, PartialEq, Eq, Error)]
+pub enum TransportFault {
+    /// Memory was refused: nothing was put out, and the end is over.
+    #[error("memory was refused")]
+    Memory,
+    /// The end was over before.
+    #[error("the end is over")]
+    Dead,
+}
+
+impl From<AllocError> for TransportFault {
+    ghost use Rattle.std.specs.Prelude.{◌≡◌};
+
+    ghost from_gives = { λ _ fault. fault ≡ TransportFault.Memory };
+
+    fn from(_error: AllocError) -> TransportFault {
+        TransportFault::Memory
+    }
+}
+
+/// What the bytes of a line come to.
+pub fn line_outcome(done: LineTurn) -> TransportTurn
+    ensures { LineOutcome done result }
+{
+    match done {
+        LineTurn::More => TransportTurn::More,
+        LineTurn::Other => TransportTurn::Done(Effect::OtherLine),
+        LineTurn::Version => TransportTurn::Done(Effect::VersionLine),
+        LineTurn::Refused(why) => TransportTurn::Refused(Refusal::from(why)),
+    }
+}
+
+/// What the bytes of a packet with this sequence number come to.
+pub fn packet_outcome(done: PacketTurn, number: u32) -> TransportTurn
+    ensures { result ≡ of_packet done number }
+{
+    match done {
+        PacketTurn::More => TransportTurn::More,
+        PacketTurn::Refused(why) => TransportTurn::Refused(why),
+        PacketTurn::Payload(done) => payload_outcome(done, number),
+    }
+}
+
+// What its payload comes to.
+fn payload_outcome(done: PayloadTurn, number: u32) -> TransportTurn
+    ensures { result ≡ of_payload done number }
+{
+    match done {
+        PayloadTurn::Refused(why) => TransportTurn::Refused(why),
+        PayloadTurn::Skipped => TransportTurn::Done(Effect::Skipped),
+        PayloadTurn::Disconnected => TransportTurn::Done(Effect::Disconnected),
+        PayloadTurn::Told => TransportTurn::Done(Effect::Told),
+        PayloadTurn::Unknown(answer) => answer_outcome(answer, Effect::Unknown),
+        PayloadTurn::ServiceRequested(answer) => answer_outcome(answer, Effect::ServiceRequested),
+        PayloadTurn::ServiceAccepted => TransportTurn::Done(Effect::ServiceAccepted),
+        PayloadTurn::Kexinit(answer) => answer_outcome(answer, Effect::Kexinit),
+        PayloadTurn::NewKeys => TransportTurn::Done(Effect::NewKeys),
+        PayloadTurn::Left(_) => TransportTurn::Up(number),
+    }
+}
+
+/// What an answer comes to by which this was done.
+pub fn answer_outcome(answer: Answer, effect: Effect) -> TransportTurn
+    ensures { result ≡ of_answer answer effect }
+{
+    match answer {
+        Answer::Done => TransportTurn::Done(effect),
+        Answer::Spent => TransportTurn::Refused(Refusal::NumberSpent),
+    }
+}

@@ -1,0 +1,92 @@
+-- The transport of a server: what it keeps, and what its calls make of bytes.
+use Rattle.std.specs.Prelude.{◌≡◌, ℕ, Bool, true, false, cond, List}
+use Rattle.ssh_model.specs.Side.{Side.Server}
+use Rattle.ssh_model.specs.Wire.Sealing.{Crypto}
+use Rattle.ssh_model.specs.TransportLayer.Kept.{ExchangeParts}
+use Rattle.ssh_types.specs.declared.refusal.Refusal.TheVariants as refusal
+use Rattle.ssh_transport_machine.specs.Asks.{WasDead}
+use Rattle.ssh_transport_machine.specs.Choices.{IsChoosing}
+use Rattle.ssh_transport_machine.specs.LineTurns.{LineTaken}
+use Rattle.ssh_transport_machine.specs.Outcomes.{LineOutcome, packet_outcome}
+use Rattle.ssh_transport_machine.specs.Puts.{Outs}
+use Rattle.ssh_transport_machine.specs.State.{IsLive, State, last_number}
+use Rattle.ssh_transport_machine.specs.Turning.{IsQuiet}
+use Rattle.ssh_transport_machine.specs.declared.machine.line_turn.LineTurn.{LineTurn}
+use Rattle.ssh_transport_machine.specs.declared.outcome.TransportFault.{TransportFault}
+use Rattle.ssh_transport_machine.specs.declared.outcome.TransportFault.TheVariants as fault
+use Rattle.ssh_transport_machine.specs.declared.outcome.TransportTurn.{TransportTurn}
+use Rattle.ssh_transport_machine.specs.declared.outcome.TransportTurn.TheVariants as outcome
+use Rattle.ssh_transport_server.specs.Packets.{ServerTaken}
+use Rattle.ssh_transport_server.specs.declared.init.InitTurn.{InitTurn}
+use Rattle.ssh_transport_server.specs.declared.init.InitTurn.TheVariants as init
+use Rattle.ssh_transport_server.specs.declared.packet.ServerTurn.{ServerTurn}
+use Rattle.ssh_transport_server.specs.declared.packet.ServerTurn.TheVariants as server
+
+-- Its machine, and what its parts compute.
+pub record ServerState (K : Type 0) : Type 0 where
+  pub machine : State K
+  pub parts : ExchangeParts
+
+-- What holds of the machine.
+pub record IsServing {K : Type 0} (s : State K) : Type 0 where
+  pub side_is : s.kept.side ≡ Server
+  pub live : s.kept.dead ≡ false → IsLive s
+  pub choosing : s.kept.dead ≡ false → IsChoosing s.kept
+
+-- the bytes of the line or the packet that is begun
+abbrev pub begun_of : {K : Type 0} → State K → List ℕ
+begun_of s = cond s.kept.lines.found s.receiver.begun s.reading.begun
+
+-- what a point is answered by
+abbrev pub init_outcome : InitTurn → TransportTurn
+init_outcome init.BadPoint = outcome.Refused refusal.BadPoint
+init_outcome init.NumberSpent = outcome.Refused refusal.NumberSpent
+init_outcome (init.Completed choice) = outcome.Completed choice
+
+-- what a packet with this number is answered by
+abbrev pub server_outcome : ServerTurn → (number : ℕ) → TransportTurn
+server_outcome (server.Shared done) number = packet_outcome done number
+server_outcome (server.Point done) number = init_outcome done
+
+-- Bytes of a line were taken.
+pub record LineTakes {K : Type 0} (old : State K) (bytes : List ℕ) (done : LineTurn) (given : TransportTurn)
+    (new : State K) (o : Outs) : Type 0 where
+  pub reading : old.kept.lines.found ≡ false
+  pub taken : LineTaken old bytes done new
+  pub quiet : IsQuiet o
+  pub shown : LineOutcome done given
+
+-- Bytes of a packet were.
+pub record PacketTakes {K : Type 0} (c : Crypto K) (parts : ExchangeParts) (old : State K) (bytes : List ℕ)
+    (done : ServerTurn) (given : TransportTurn) (new : State K) (o : Outs) : Type 0 where
+  pub reading : old.kept.lines.found ≡ true
+  pub taken : ServerTaken c parts old bytes done new o
+  pub shown : given ≡ server_outcome done (last_number new.kept.taking)
+
+-- the one or the other
+pub data UnitTakes {K : Type 0} (c : Crypto K) (parts : ExchangeParts) (old : State K) (bytes : List ℕ)
+    (given : TransportTurn) (new : State K) (o : Outs) : Type 0 where
+  line : (done : LineTurn) → LineTakes old bytes done given new o → UnitTakes c parts old bytes given new o
+  packet : (done : ServerTurn) → PacketTakes c parts old bytes done given new o →
+      UnitTakes c parts old bytes given new o
+
+-- What a call made of the bytes begun with those that it used: the transport was not over, and keeps its parts.
+pub record ServerTook {K : Type 0} (c : Crypto K) (old : ServerState K) (bytes : List ℕ) (given : TransportTurn)
+    (new : ServerState K) (o : Outs) : Type 0 where
+  pub alive : old.machine.kept.dead ≡ false
+  pub live : IsLive old.machine
+  pub takes : UnitTakes c old.parts old.machine bytes given new.machine o
+  pub parts : new.parts ≡ old.parts
+
+-- ---- where nothing is done
+
+-- Memory was refused, and the end is over.
+pub record ServerDied {K : Type 0} (old : ServerState K) (new : ServerState K) : Type 0 where
+  pub alive : old.machine.kept.dead ≡ false
+  pub dead : new.machine.kept.dead ≡ true
+  pub parts : new.parts ≡ old.parts
+
+-- why nothing was done
+abbrev pub ServerFailed : {K : Type 0} → ServerState K → TransportFault → ServerState K → Type 0
+ServerFailed old fault.Memory new = ServerDied old new
+ServerFailed old fault.Dead new = WasDead old.machine new.machine × (new.parts ≡ old.parts)
