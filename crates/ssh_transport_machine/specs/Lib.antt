@@ -14,3 +14,4 @@ pub mod Opening
 pub mod Choices
 pub mod Outcomes
 pub mod Asks
+pub mod Standing

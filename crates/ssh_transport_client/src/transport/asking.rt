@@ -27,7 +27,7 @@ impl<P: ClientParts> ClientTransport<P> {
         out: &mut Vec<u8>,
         sent: &mut Vec<Vec<u8>>,
     ) -> Result<AskTurn, TransportFault>
-        requires { IsSendable ask.entry }
+        requires { IsSendable ask }
         ensures asked { IfOk result (λ turn. AskTaken P.Sealing.crypto self.old.machine ask.entry turn self.new.machine (record { before = out.old.items; after = out.new.items; listed = map (λ v. v.items) sent.old.items; relisted = map (λ v. v.items) sent.new.items })) }
         ensures failed { IfErr result (λ fault. AskFailed self.old.machine ask.entry fault self.new.machine) }
         ensures agreement { self.new.agreement ≡ self.old.agreement }
