@@ -1,6 +1,7 @@
 -- What holds of a machine of one side goes on holding.
 use Rattle.std.proofs.Common.{◌≡◌, ℕ, List, refl, ap, sym, ◌∙◌, subst, Bool, true, false}
 use Rattle.std.proofs.lemmas.Bool.{false≢true}
+use Rattle.std.specs.Prelude.{Result, Ok, Err, IfOk, IfErr}
 use Rattle.ssh_model.specs.Side.{Side}
 use Rattle.ssh_model.specs.Wire.Message.{Msg}
 use Rattle.ssh_model.specs.Wire.Sealing.{Crypto}
@@ -152,19 +153,28 @@ module _ {K : Type 0} where
   turned c side old (ask.Send message) (ask_turn.Refused why) new o s x alive = absurd x
   turned c side old (ask.Send message) (ask_turn.Answered answer) new o s x alive = answered c side old (meaning message.now) answer new o s x alive
 
-  pub asks : (c : Crypto K) (side : Side) (old : State K) (given : TransportAsk) (done : AskTurn) (new : State K) (o : Outs) → Stands side old → AskTaken c old given done new o → Stands side new
-  asks c side old given done new o stands x = λ alive. turned c side old given done new o (stands x.alive) x.turned alive
+  taken : (c : Crypto K) (side : Side) (old : State K) (given : TransportAsk) (done : AskTurn) (new : State K) (o : Outs) → Stands side old → AskTaken c old given done new o → Stands side new
+  taken c side old given done new o stands x = λ alive. turned c side old given done new o (stands x.alive) x.turned alive
 
-  pub failed : (side : Side) (old : State K) (given : TransportAsk) (why : TransportFault) (new : State K) → Stands side old → AskFailed old given why new → Stands side new
+  failed : (side : Side) (old : State K) (given : TransportAsk) (why : TransportFault) (new : State K) → Stands side old → AskFailed old given why new → Stands side new
   failed side old given fault.Memory new stands x = λ alive. over new.kept.dead x.dead alive
   failed side old given fault.Dead new stands x = subst (λ (w : State K). Stands side w) (sym x.after) stands
 
-  pub fed : (side : Side) (old new : State K) (cookie secret : List ℕ) → Stands side old → can_be_fed old.kept ≡ true → new ≡ record old { kept = after_fed cookie secret old.kept } → Stands side new
-  fed side old new cookie secret stands can e = λ alive. let s = stands (ap (λ (w : State K). w.kept.dead) (sym e) ∙ alive) in record {
+  given_pair : (side : Side) (old new : State K) (cookie secret : List ℕ) → Stands side old → can_be_fed old.kept ≡ true → new ≡ record old { kept = after_fed cookie secret old.kept } → Stands side new
+  given_pair side old new cookie secret stands can e = λ alive. let s = stands (ap (λ (w : State K). w.kept.dead) (sym e) ∙ alive) in record {
     side_is = ap side_of e ∙ s.side_is;
     live = fed_live old new cookie secret s.live can e;
     choosing = subst (λ (w : State K). IsChoosing w.kept) (sym e) (goes_on old.kept (after_fed cookie secret old.kept) refl refl refl refl s.choosing);
   }
+
+  pub asks : (c : Crypto K) (side : Side) (old : State K) (given : TransportAsk) (result : Result AskTurn TransportFault) (new : State K) (o : Outs) → Stands side old → IfOk result (λ done. AskTaken c old given done new o) → IfErr result (λ fault. AskFailed old given fault new) →
+      Stands side new
+  asks c side old given (Ok done) new o stands x y = taken c side old given done new o stands x
+  asks c side old given (Err why) new o stands x y = failed side old given why new stands y
+
+  pub fed : (side : Side) (old : State K) (done : Bool) (new : State K) (cookie secret : List ℕ) → Stands side old → done ≡ can_be_fed old.kept → (done ≡ true → new ≡ record old { kept = after_fed cookie secret old.kept }) → (done ≡ false → new ≡ old) → Stands side new
+  fed side old true new cookie secret stands can kept_so same_so = given_pair side old new cookie secret stands (sym can) (kept_so refl)
+  fed side old false new cookie secret stands can kept_so same_so = subst (λ (w : State K). Stands side w) (sym (same_so refl)) stands
 
   pub authenticated : (side : Side) (old : State K) → Stands side old → Stands side (record old { kept = record old.kept { authenticated = true } })
   authenticated side old stands = λ alive. let s = stands alive in record {

@@ -1,7 +1,7 @@
 //! Laws of the machine that a role keeps: what holds of it until it is over goes on holding with each call. Facts for proofs, at no
 //! cost.
 
-ghost use Rattle.std.specs.Prelude.{◌≡◌, List, ℕ, false, true};
+ghost use Rattle.std.specs.Prelude.{◌≡◌, Bool, IfErr, IfOk, List, Result, ℕ, false, true};
 ghost use Rattle.ssh_model.specs.Side.{Side};
 ghost use Rattle.ssh_model.specs.Wire.Sealing.{Crypto};
 ghost use Rattle.ssh_model.specs.Sessions.Parties.{Settings};
@@ -25,9 +25,8 @@ pub fn machines_stand<K>()
     ensures opened { (c : Crypto K) (settings : Settings) (side : Side) (cookie secret : List ℕ) (new : State K) (o : Outs) → IsOpened c settings side cookie secret new o → Stands side new }
     ensures lines { (side : Side) (old : State K) (bytes : List ℕ) (done : LineTurn) (new : State K) → old.kept.dead ≡ false → Stands side old → LineTaken old bytes done new → Stands side new }
     ensures packets { (c : Crypto K) (side : Side) (old : State K) (bytes : List ℕ) (done : PacketTurn) (new : State K) (o : Outs) → old.kept.dead ≡ false → Stands side old → PacketTaken c old bytes done new o → Stands side new }
-    ensures asks { (c : Crypto K) (side : Side) (old : State K) (given : TransportAsk) (done : AskTurn) (new : State K) (o : Outs) → Stands side old → AskTaken c old given done new o → Stands side new }
-    ensures failed { (side : Side) (old : State K) (given : TransportAsk) (fault : TransportFault) (new : State K) → Stands side old → AskFailed old given fault new → Stands side new }
-    ensures fed { (side : Side) (old new : State K) (cookie secret : List ℕ) → Stands side old → can_be_fed old.kept ≡ true → new ≡ record old { kept = after_fed cookie secret old.kept } → Stands side new }
+    ensures asks { (c : Crypto K) (side : Side) (old : State K) (given : TransportAsk) (result : Result AskTurn TransportFault) (new : State K) (o : Outs) → Stands side old → IfOk result (λ done. AskTaken c old given done new o) → IfErr result (λ fault. AskFailed old given fault new) → Stands side new }
+    ensures fed { (side : Side) (old : State K) (done : Bool) (new : State K) (cookie secret : List ℕ) → Stands side old → done ≡ can_be_fed old.kept → (done ≡ true → new ≡ record old { kept = after_fed cookie secret old.kept }) → (done ≡ false → new ≡ old) → Stands side new }
     ensures authenticated { (side : Side) (old : State K) → Stands side old → Stands side (record old { kept = record old.kept { authenticated = true } }) }
     ensures over { (side : Side) (s : State K) → s.kept.dead ≡ true → Stands side s }
 {}

@@ -3,7 +3,9 @@
 ghost use Rattle.std.specs.Prelude.{◌≡◌, ◌+◌, ◌≤◌, ◌^◌, IfOk, OnErr, Some, length, take};
 ghost use Rattle.std.specs.Option.{option_map};
 ghost use Rattle.ssh_model.specs.Side as model;
+ghost use Rattle.ssh_model.specs.Wire.Message.{KexEcdhReply};
 ghost use Rattle.ssh_model.specs.Wire.Sizes.{payload_size};
+ghost use Rattle.ssh_model.specs.Sessions.Turns.{IsSpelled};
 ghost use Rattle.ssh_model.specs.TransportLayer.Kept.{IsChosen, shared_with};
 ghost use Rattle.ssh_kex.specs.Values.{chosen_of, owned_chosen};
 ghost use Rattle.ssh_transport_machine.specs.Finishing.{AreKnown, HasChoice};
@@ -11,7 +13,7 @@ ghost use Rattle.ssh_transport_server.specs.Answers.{AnswerDue, IsAnswer, IsSign
 
 use ssh_kex::{Agreement, Choice, HostSigner, OwnedChoice};
 use ssh_message::Message;
-use ssh_model::spellings;
+use ssh_model::{payload_sizes, spellings};
 use ssh_packet::{Filler, Sealing};
 use ssh_transport_machine::{ExchangeKeys, Machine, Points};
 use std::alloc::AllocError;
@@ -58,6 +60,7 @@ pub fn spell_answer<S: Sealing, F: Filler + Drop, A: Agreement, H: HostSigner>(
 {
     let choice = machine.choice();
     let signed = sign(machine, agreement, signer, &choice, point, shared);
+    answer_fits(machine, agreement, signer, &choice, point, shared, &signed);
     if !machine.has_numbers(2) {
         return Ok(Spelling::NumberSpent);
     }
@@ -81,7 +84,6 @@ fn sign<S: Sealing, F: Filler + Drop, A: Agreement, H: HostSigner>(
     requires shares { shared_with (record { point = A.public_of agreement.now; shared = A.shared_of agreement.now }) machine.now.kept.underway.secret point.now ≡ Some shared.now }
     ensures signed { IsSigned (record { agreement = record { point = A.public_of agreement.now; shared = A.shared_of agreement.now }; host_key = H.key_of signer.now; host_signature = H.signature_of signer.now }) machine.now.kept (chosen_of choice.now) point.now shared.now result.own result.hash (take result.length result.signature) }
     ensures length { result.length ≤ 4096 }
-    ensures due { AnswerDue S.crypto (record { agreement = record { point = A.public_of agreement.now; shared = A.shared_of agreement.now }; host_key = H.key_of signer.now; host_signature = H.signature_of signer.now }) machine.now.kept point.now }
 {
     let algorithm = choice.host.as_bytes();
     let own = machine.own_point(agreement);
@@ -94,14 +96,33 @@ fn sign<S: Sealing, F: Filler + Drop, A: Agreement, H: HostSigner>(
     });
     let mut signature = [0; 4096];
     let length = signer.sign(algorithm, &hash, &mut signature);
-    spellings();
-    machine.announcement_fits();
     Signed {
         own,
         hash,
         signature,
         length,
     }
+}
+
+// What answers by this has a spelling: a fact for proofs.
+fn answer_fits<S: Sealing, F: Filler + Drop, A: Agreement, H: HostSigner>(
+    machine: &Machine<S, F>,
+    agreement: &A,
+    signer: &H,
+    choice: &Choice<'_>,
+    point: &[u8; 32],
+    shared: &[u8; 32],
+    signed: &Signed,
+)
+    requires side { machine.now.kept.side ≡ model.Server }
+    requires chosen { IsChosen machine.now.kept (chosen_of choice.now) }
+    requires shares { shared_with (record { point = A.public_of agreement.now; shared = A.shared_of agreement.now }) machine.now.kept.underway.secret point.now ≡ Some shared.now }
+    requires signed { IsSigned (record { agreement = record { point = A.public_of agreement.now; shared = A.shared_of agreement.now }; host_key = H.key_of signer.now; host_signature = H.signature_of signer.now }) machine.now.kept (chosen_of choice.now) point.now shared.now signed.now.own signed.now.hash (take signed.now.length signed.now.signature) }
+    ensures { AnswerDue S.crypto (record { agreement = record { point = A.public_of agreement.now; shared = A.shared_of agreement.now }; host_key = H.key_of signer.now; host_signature = H.signature_of signer.now }) machine.now.kept point.now }
+{
+    spellings();
+    payload_sizes();
+    machine.announcement_fits();
 }
 
 // Makes the keys and the payloads of an exchange that is signed.
@@ -123,17 +144,31 @@ fn spell_signed<S: Sealing, F: Filler + Drop, A: Agreement, H: HostSigner>(
     ensures { IfOk result (λ a. IsAnswer S.crypto (record { agreement = record { point = A.public_of agreement.now; shared = A.shared_of agreement.now }; host_key = H.key_of signer.now; host_signature = H.signature_of signer.now }) machine.now.kept point.now (owned_chosen a.choice) a.reply.items a.keys.own a.keys.theirs a.keys.session (option_map (λ v. v.items) a.announcement)) }
 {
     let keys = machine.exchange_keys(&choice, shared, &signed.hash)?;
-    let reply = machine.spell(&Message::KexEcdhReply {
-        k_s: signer.key(choice.host.as_bytes()),
-        q_s: &signed.own,
-        signature: &signed.signature[..signed.length],
-    })?;
+    let reply = spell_reply(machine, signer, choice.host.as_bytes(), signed)?;
     let announcement = machine.spell_announcement()?;
     Ok(Answer {
         reply,
         keys,
         announcement,
         choice: OwnedChoice::from(choice),
+    })
+}
+
+// The payload of KEX_ECDH_REPLY (RFC 5656 section 4).
+fn spell_reply<S: Sealing, F: Filler + Drop, H: HostSigner>(
+    machine: &Machine<S, F>,
+    signer: &H,
+    algorithm: &[u8],
+    signed: &Signed,
+) -> Result<Vec<u8>, AllocError>
+    requires length { signed.now.length ≤ 4096 }
+    ensures spelled { IfOk result (λ reply. IsSpelled (KexEcdhReply (H.key_of signer.now algorithm.now) signed.now.own (take signed.now.length signed.now.signature)) reply.items) }
+    ensures some { IfOk result (λ reply. 1 ≤ length reply.items) }
+{
+    machine.spell(&Message::KexEcdhReply {
+        k_s: signer.key(algorithm),
+        q_s: &signed.own,
+        signature: &signed.signature[..signed.length],
     })
 }
 

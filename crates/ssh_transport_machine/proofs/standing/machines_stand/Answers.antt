@@ -1,4 +1,4 @@
-use Rattle.ssh_transport_machine.proofs.Roles.{asks, authenticated, dead, failed, fed, lines, opened, packets}
+use Rattle.ssh_transport_machine.proofs.Roles.{asks, authenticated, dead, fed, lines, opened, packets}
 use Rattle.ssh_transport_machine.proofs.standing.machines_stand.Goals as goal
 
 pub returns-clause-opened : goal.returns-clause-opened
@@ -12,9 +12,6 @@ returns-clause-packets g c = packets
 
 pub returns-clause-asks : goal.returns-clause-asks
 returns-clause-asks g c = asks
-
-pub returns-clause-failed : goal.returns-clause-failed
-returns-clause-failed g c = failed
 
 pub returns-clause-fed : goal.returns-clause-fed
 returns-clause-fed g c = fed
