@@ -6,6 +6,7 @@ ghost use Rattle.ssh_transport_base.specs.Meaning.{settings_of};
 ghost use Rattle.ssh_transport_machine.specs.Opening.{IsOpened};
 ghost use Rattle.ssh_transport_client.specs.Transport.{SameParts, ClientFailed, ClientTook, begun_of};
 
+mod above;
 mod asking;
 mod queries;
 

@@ -1,7 +1,7 @@
 -- What holds of a machine of one side goes on holding.
 use Rattle.std.proofs.Common.{◌≡◌, ℕ, List, refl, ap, sym, ◌∙◌, subst, Bool, true, false}
 use Rattle.std.proofs.lemmas.Bool.{false≢true}
-use Rattle.std.specs.Prelude.{Result, Ok, Err, IfOk, IfErr}
+use Rattle.std.specs.Prelude.{Result, Ok, Err, IfOk, IfErr, OnOk}
 use Rattle.ssh_model.specs.Side.{Side}
 use Rattle.ssh_model.specs.Wire.Message.{Msg}
 use Rattle.ssh_model.specs.Wire.Sealing.{Crypto}
@@ -12,6 +12,8 @@ use Rattle.ssh_model.specs.TransportLayer.Kept.{Asks, Transport, after_fed, afte
 use Rattle.ssh_message.specs.Meaning.{meaning}
 use Rattle.ssh_transport_base.specs.declared.packets.step.PacketStep.{PacketStep}
 use Rattle.ssh_transport_base.specs.declared.packets.step.PacketStep.TheVariants as step
+use Rattle.ssh_types.specs.declared.refusal.Refusal.{Refusal}
+use Rattle.ssh_transport_machine.specs.Above.{PayloadSent, PeerRefused, RefuseFailed, SendFailed}
 use Rattle.ssh_transport_machine.specs.Asking.{AskDone}
 use Rattle.ssh_transport_machine.specs.Asks.{AskFailed, AskTaken, AskTurned}
 use Rattle.ssh_transport_machine.specs.Choices.{IsChoosing}
@@ -40,7 +42,7 @@ use Rattle.ssh_transport_machine.specs.declared.outcome.TransportAsk.TheVariants
 use Rattle.ssh_transport_machine.specs.declared.outcome.TransportFault.{TransportFault}
 use Rattle.ssh_transport_machine.specs.declared.outcome.TransportFault.TheVariants as fault
 use Rattle.ssh_transport_machine.proofs.Choices.{answer_choosing, ask_choosing, goes_on, line_choosing, opened_choosing, packet_choosing}
-use Rattle.ssh_transport_machine.proofs.Living.{answer_live, ask_live, fed_live, line_live, opened_live, packet_live, same_side}
+use Rattle.ssh_transport_machine.proofs.Living.{answer_live, ask_live, fed_live, line_live, opened_live, packet_live, same_side, sent_on}
 
 over : {A : Type 0} (b : Bool) → b ≡ true → b ≡ false → A
 over b e f = absurd (false≢true (sym f ∙ e))
@@ -171,6 +173,24 @@ module _ {K : Type 0} where
       Stands side new
   asks c side old given (Ok done) new o stands x y = taken c side old given done new o stands x
   asks c side old given (Err why) new o stands x y = failed side old given why new stands y
+
+  pub refused : (c : Crypto K) (side : Side) (old : State K) (why : Refusal) (result : Result (Unit {0}) TransportFault) (new : State K) (o : Outs) → Stands side old → OnOk result (PeerRefused c old why new o) → IfErr result (λ fault. RefuseFailed old why fault new) → Stands side new
+  refused c side old why (Ok done) new o stands x y = λ alive. over new.kept.dead x.refuses.dead alive
+  refused c side old why (Err fault.Memory) new o stands x y = λ alive. over new.kept.dead y.dead alive
+  refused c side old why (Err fault.Dead) new o stands x y = subst (λ (w : State K). Stands side w) (sym y.after) stands
+
+  put : (c : Crypto K) (side : Side) (old new : State K) → new ≡ record old { kept = after_sent old.kept } → Stands side old → Stands side new
+  put c side old new e stands = λ alive. let s = stands (ap (λ (w : State K). w.kept.dead) (sym e) ∙ alive) in record {
+    side_is = ap side_of e ∙ s.side_is;
+    live = same_side old new (after_sent old.kept) e refl refl refl (sent_on old.kept old.kept.requested s.live.kept) s.live;
+    choosing = subst (λ (w : State K). IsChoosing w.kept) (sym e) (goes_on old.kept (after_sent old.kept) refl refl refl refl s.choosing);
+  }
+
+  pub sent : (c : Crypto K) (side : Side) (old : State K) (payload : List ℕ) (result : Result Answer TransportFault) (new : State K) (o : Outs) → Stands side old → IfOk result (λ answer. PayloadSent c old payload answer new o) → IfErr result (λ fault. SendFailed old fault new) → Stands side new
+  sent c side old payload (Ok Done) new o stands x y = put c side old new x.sent.after stands
+  sent c side old payload (Ok Spent) new o stands x y = λ alive. over new.kept.dead x.sent.dead alive
+  sent c side old payload (Err fault.Memory) new o stands x y = λ alive. over new.kept.dead y.dead alive
+  sent c side old payload (Err fault.Dead) new o stands x y = subst (λ (w : State K). Stands side w) (sym y.after) stands
 
   pub fed : (side : Side) (old : State K) (done : Bool) (new : State K) (cookie secret : List ℕ) → Stands side old → done ≡ can_be_fed old.kept → (done ≡ true → new ≡ record old { kept = after_fed cookie secret old.kept }) → (done ≡ false → new ≡ old) → Stands side new
   fed side old true new cookie secret stands can kept_so same_so = given_pair side old new cookie secret stands (sym can) (kept_so refl)

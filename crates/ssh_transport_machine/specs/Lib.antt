@@ -15,3 +15,4 @@ pub mod Choices
 pub mod Outcomes
 pub mod Asks
 pub mod Standing
+pub mod Above

@@ -6,6 +6,7 @@ ghost use Rattle.ssh_transport_base.specs.Meaning.{settings_of};
 ghost use Rattle.ssh_transport_machine.specs.Opening.{IsOpened};
 ghost use Rattle.ssh_transport_server.specs.Transport.{SameParts, ServerFailed, ServerTook, begun_of};
 
+mod above;
 mod asking;
 mod queries;
 

@@ -1,4 +1,4 @@
-use Rattle.ssh_transport_machine.proofs.Roles.{asks, authenticated, dead, fed, lines, opened, packets}
+use Rattle.ssh_transport_machine.proofs.Roles.{asks, authenticated, dead, fed, lines, opened, packets, refused, sent}
 use Rattle.ssh_transport_machine.proofs.standing.machines_stand.Goals as goal
 
 pub returns-clause-opened : goal.returns-clause-opened
@@ -21,3 +21,9 @@ returns-clause-authenticated g c = authenticated
 
 pub returns-clause-over : goal.returns-clause-over
 returns-clause-over g c = dead
+
+pub returns-clause-refused : goal.returns-clause-refused
+returns-clause-refused g c = refused
+
+pub returns-clause-sent : goal.returns-clause-sent
+returns-clause-sent g c = sent
