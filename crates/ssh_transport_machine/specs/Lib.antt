@@ -16,3 +16,4 @@ pub mod Outcomes
 pub mod Asks
 pub mod Standing
 pub mod Above
+pub mod Sessions

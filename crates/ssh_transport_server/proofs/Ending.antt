@@ -1,5 +1,5 @@
 -- What a server makes of a point, as a turn of a session.
-use Rattle.std.proofs.Common.{◌≡◌, ℕ, zero, suc, ◌+◌, ◌<◌, ◌^◌, Bool, true, false, not, ◌&&◌, ◌||◌, ◌==◌, List, [], ◌∷◌, ◌++◌, length, refl, ap, sym, ◌∙◌, subst, arith, append-nil, Option, Some, None}
+use Rattle.std.proofs.Common.{◌≡◌, ℕ, zero, suc, ◌+◌, ◌<◌, ◌≤◌, ◌^◌, Bool, true, false, not, ◌&&◌, ◌||◌, ◌==◌, List, [], ◌∷◌, ◌++◌, length, refl, ap, sym, ◌∙◌, subst, arith, append-nil, Option, Some, None}
 use Rattle.ssh_model.specs.Side.{Side, Side.Client, Side.Server}
 use Rattle.ssh_model.specs.Wire.Message.{Msg, Msg.KexEcdhInit, Msg.NewKeys, Extension, IsPayload, message_number}
 use Rattle.ssh_model.specs.Wire.Sealing.{Crypto}
@@ -21,8 +21,11 @@ use Rattle.ssh_transport_base.specs.Directions.{newkeys}
 use Rattle.ssh_transport_machine.specs.Endings.{ExchangeEnds, IsRead, PayloadRefused}
 use Rattle.ssh_transport_machine.specs.Finishing.{IsAnnouncement, after_announced, announced_by, forgotten, keyed}
 use Rattle.ssh_transport_machine.specs.Puts.{Outs, payloads_of}
+use Rattle.ssh_transport_machine.specs.Sessions.{WouldEnd}
+use Rattle.ssh_transport_machine.specs.Shown.{WouldAnswer, WouldSay}
 use Rattle.ssh_transport_machine.specs.State.{State}
-use Rattle.ssh_transport_server.specs.Answers.{AnswerSpent, IsAnswer, PointAnswered, PointRefused}
+use Rattle.ssh_transport_server.specs.Answers.{AnswerDue, AnswerSpent, IsAnswer, PointAnswered, PointRefused}
+use Rattle.ssh_transport_server.specs.Points.{ShowsBad, ShowsGood}
 
 pub announces : {K : Type 0} (s completed : Transport K) (announcement : Option (List ℕ)) → IsAnnouncement (after_taken s) announcement →
     Announces s completed (announced_by s.settings.extensions announcement) (after_announced announcement completed)
@@ -199,3 +202,28 @@ module _ {K : Type 0} (p : Parties K) (history : List Item) (s : Transport K) (s
         (reads y.point y.shows.read) (waited y.point y.shows.read) (not_refused (agreement_of p Server) p.trusts d.chosen s y.point y.shared y.shows.size y.shows.shares)
         (completes p.crypto (parts_of p Server) s y.point d.chosen d.reply d.own d.theirs d.session d.announcement newkeys side_is (phase_is y.point y.shows.read) d.answer)
         (all_spelled (after_taken s) said d.reply d.announcement d.answer.reply_is d.answer.announcement_is) replies spelled y.spent.few (ap (λ (w : State K). w.kept.dead) y.after)
+
+    -- ---- where memory fails
+
+    pub would_end : (point shared : List ℕ) → ShowsGood (agreement_of p Server) (after_taken s) old.receiver.payload point shared → AnswerDue p.crypto (parts_of p Server) (after_taken s) point → s.sending.count + 2 ≤ 2 ^ 32 → WouldEnd p Server s old.receiver.payload
+    would_end point shared shows d room =
+        let said = server_reply (parts_of p Server) d.chosen s point in
+        let completed = after_completion p.crypto (server_inputs (parts_of p Server) d.chosen s point) d.chosen (after_sent (after_taken s)) in
+        record {
+          chosen = d.chosen;
+          message = KexEcdhInit point;
+          last = SpelledBy NewKeys newkeys ∷ SpelledBy said d.reply ∷ [];
+          announced = announced_by s.settings.extensions d.announcement;
+          completed = completed;
+          new = after_announced d.announcement completed;
+          reads = reads point shows.read;
+          awaited = waited point shows.read;
+          unrefused = not_refused (agreement_of p Server) p.trusts d.chosen s point shared shows.size shows.shares;
+          completes = completes p.crypto (parts_of p Server) s point d.chosen d.reply d.own d.theirs d.session d.announcement newkeys side_is (phase_is point shows.read) d.answer;
+          spelled = all_spelled (after_taken s) said d.reply d.announcement d.answer.reply_is d.answer.announcement_is;
+          room = room;
+        }
+
+    pub would_refuse : ShowsBad (agreement_of p Server) (after_taken s) old.receiver.payload → WouldSay s BadPoint → WouldAnswer p Server s old.receiver.payload
+    would_refuse x says = WouldAnswer.refused BadPoint
+        (turns.IsRefused.refused (KexEcdhInit x.theirs) none_chosen BadPoint (reads x.theirs x.read) (waited x.theirs x.read) (refused (agreement_of p Server) p.trusts none_chosen s x.theirs x.bad)) says

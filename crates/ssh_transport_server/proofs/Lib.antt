@@ -4,3 +4,4 @@ pub mod Ending
 pub mod Packets
 pub mod Living
 pub mod Servers
+pub mod Units

@@ -2,3 +2,4 @@ pub mod Points
 pub mod Answers
 pub mod Packets
 pub mod Transport
+pub mod Sessions

@@ -18,15 +18,19 @@ ghost use Rattle.ssh_transport_machine.specs.declared.machine.judging.Judged.The
 ghost use Rattle.ssh_transport_server.specs.Packets.{ReadsInit, ServerTaken};
 ghost use Rattle.ssh_transport_machine.specs.Endings.{ExchangeEnds, IsRead, PayloadRefused};
 ghost use Rattle.ssh_transport_machine.specs.Puts.{Outs};
+ghost use Rattle.ssh_transport_machine.specs.Sessions.{WouldDie};
 ghost use Rattle.ssh_transport_machine.specs.Standing.{Stands};
+ghost use Rattle.ssh_transport_machine.specs.declared.outcome.TransportTurn.{TransportTurn};
+ghost use Rattle.ssh_transport_server.specs.Sessions.{ServerTurnOf};
+ghost use Rattle.ssh_transport_server.specs.Transport.{ServerDied, ServerTook};
 ghost use Rattle.ssh_transport_machine.specs.State.{IsLive, State};
 ghost use Rattle.ssh_transport_server.specs.declared.packet.ServerTurn.{ServerTurn};
 ghost use Rattle.ssh_transport_server.specs.Answers.{AnswerSpent, PointAnswered, PointRefused};
 
-use ssh_model::payload_numbers;
 use ssh_model::transport::{exchange_ends, payloads, refused_and_spent};
+use ssh_model::{payload_numbers, spellings};
 use ssh_transport_machine::ending::{exchanges_live, secrets_forgotten};
-use ssh_transport_machine::laws::live_machines;
+use ssh_transport_machine::laws::{live_machines, memory_deaths, unit_turns};
 use ssh_transport_machine::standing::machines_stand;
 
 /// A payload that is judged to be a point is one that is read.
@@ -66,4 +70,17 @@ pub fn servers_stand<K>()
     payload_numbers();
     machines_stand::<K>();
     points_live::<K>();
+}
+
+/// What a server's transport makes of a line or a packet is what a server makes of it in a session whose parts it has. Where it answers
+/// that memory was refused, something would be sent in a session.
+pub fn units_taken<K>()
+    ensures taken { (p : Parties K) (history : List Item) (old : State K) → SumsUp p Server history old.kept → (bytes : List ℕ) (given : TransportTurn) (new : State K) (o : Outs) → ServerTook p.crypto (parts_of p Server) old bytes given new o → ServerTurnOf p history old.kept bytes given new o }
+    ensures died { (p : Parties K) (history : List Item) (old : State K) → SumsUp p Server history old.kept → (bytes : List ℕ) (new : State K) → ServerDied p.crypto (parts_of p Server) old bytes new → WouldDie p Server old.kept bytes }
+{
+    payload_numbers();
+    spellings();
+    unit_turns::<K>();
+    memory_deaths::<K>();
+    points_taken::<K>();
 }
