@@ -22,6 +22,7 @@ use Rattle.ssh_transport_machine.specs.Judging.{MessageJudged, PayloadJudged}
 use Rattle.ssh_transport_machine.specs.Kexinits.{IsFine}
 use Rattle.ssh_transport_machine.specs.Puts.{Outs, Sends}
 use Rattle.ssh_transport_machine.specs.Offering.{BothAnswered}
+use Rattle.ssh_transport_machine.specs.Shown.{WouldAnswer}
 use Rattle.ssh_transport_machine.specs.State.{State, noted}
 use Rattle.ssh_model.specs.Sessions.TurnClaims.{HasSpelling}
 use Rattle.ssh_transport_machine.specs.declared.machine.judging.Judged.TheVariants as judged
@@ -29,7 +30,7 @@ use Rattle.ssh_transport_machine.specs.declared.machine.kexinit.KexinitFacts.{Ke
 use Rattle.ssh_transport_machine.specs.declared.machine.turn.Answer.{Answer}
 use Rattle.ssh_transport_machine.specs.declared.machine.turn.Answer.TheVariants.{Done, Spent}
 use Rattle.ssh_transport_client.specs.Kexinits as kexinits
-use Rattle.ssh_transport_client.specs.Kexinits.{BothDone, KexinitDone, KexinitTurn, PointDone}
+use Rattle.ssh_transport_client.specs.Kexinits.{BothDone, KexinitDone, KexinitLacks, KexinitTurn, PointDone}
 
 -- ---- what the code computes
 
@@ -171,6 +172,45 @@ module _ {K : Type 0} (p : Parties K) (history : List Item) (s : Transport K) (s
         go message is (judging.MessageJudged.requested service given) = absurd given
         go message is (judging.MessageJudged.accepted service given) = absurd given
         go message is (judging.MessageJudged.kexinit theirs f fine) = done theirs is fine (record { below = below; taken = taken; no_guess = no_guess; message_is = is; of_transport = tt }) answer y
+
+-- ---- where memory fails
+
+module _ {K : Type 0} (p : Parties K) (history : List Item) (s : Transport K) (sums : SumsUp p Client history s) (alive : s.dead ≡ false) (numbers : Numbered) (payload : List ℕ) (facts : KexinitFacts) where
+  module _ (theirs : Proposal) (is : IsPayload false (KexInit theirs) payload) (fine : IsFine s theirs facts) (reads : Reads s (KexInit theirs) payload) where
+    comes_between : is_between s.phase ≡ true
+    comes_between = between_in s s.phase reads.no_guess (subst (λ (n : ℕ). takes s n ≡ true) (numbers false (KexInit theirs) payload is) reads.taken)
+
+    at_client : s.side ≡ Client
+    at_client = (sums.live alive).side_is
+
+    lacks_point : s.blocked ≡ true → HasSpelling (KexEcdhInit (own_point (agreement_of p Client) s)) → s.sending.count < 2 ^ 32 → WouldAnswer p Client s payload
+    lacks_point shut said room =
+        WouldAnswer.answered none_chosen (KexInit theirs) (kept.sends (SpelledBy (KexEcdhInit (own_point (agreement_of p Client) s)) said.payload ∷ [])) (after_sent (after_kexinit theirs payload s)) reads tt fine.fine
+        (Takes.kexinit_at_client theirs said.payload at_client comes_between is shut) (said.spells, tt) (omega arith) (omega (arith, room))
+
+    lacks_both : (material : Material) → s.blocked ≡ false → s.material ≡ Some material → HasSpelling (KexInit (offer_of s.settings s.side false material.cookie)) → HasSpelling (KexEcdhInit (take 32 ((agreement_of p Client).point material.secret))) → s.sending.count + 2 ≤ 2 ^ 32 →
+        WouldAnswer p Client s payload
+    lacks_both material free has own init room =
+        let ours = offer_of s.settings Client false material.cookie in
+        let spelled : IsSpelled (KexInit ours) own.payload = subst (λ (w : Side). IsSpelled (KexInit (offer_of s.settings w false material.cookie)) own.payload) at_client own.spells in
+        WouldAnswer.answered none_chosen (KexInit theirs) (kept.sends (SpelledBy (KexEcdhInit (take 32 ((agreement_of p Client).point material.secret))) init.payload ∷ SpelledBy (KexInit ours) own.payload ∷ []))
+        (after_sent (after_own_kexinit material own.payload (after_kexinit theirs payload s))) reads tt fine.fine
+        (Takes.answered_at_client theirs own.payload init.payload material at_client comes_between is free has) (init.spells, (spelled, tt)) (omega arith) room
+
+    lacks : (old : State K) → old.kept ≡ after_taken s → KexinitLacks (agreement_of p Client) (record old { kept = after_taken s }) → WouldAnswer p Client s payload
+    lacks old e (kexinits.KexinitLacks.by_point shut x) = lacks_point shut x.spelling x.room
+    lacks old e (kexinits.KexinitLacks.by_both material free has x) = lacks_both material free has x.own x.init x.room
+
+  pub would_answer : PayloadJudged s payload (judged.Kexinit facts) → (old : State K) → old.kept ≡ after_taken s → KexinitLacks (agreement_of p Client) old → WouldAnswer p Client s payload
+  would_answer (judging.PayloadJudged.read message below taken no_guess is so) old e x = go message is so
+    where
+      y : KexinitLacks (agreement_of p Client) (record old { kept = after_taken s })
+      y = subst (λ (w : State K). KexinitLacks (agreement_of p Client) w) (λ i. record old { kept = e i }) x
+
+      go : (message : Msg) → IsPayload false message payload → MessageJudged s message (judged.Kexinit facts) → WouldAnswer p Client s payload
+      go message is (judging.MessageJudged.requested service given) = absurd given
+      go message is (judging.MessageJudged.accepted service given) = absurd given
+      go message is (judging.MessageJudged.kexinit theirs f fine) = lacks theirs is fine (record { below = below; taken = taken; no_guess = no_guess; message_is = is; of_transport = tt }) old e y
 
 -- ---- for the code
 

@@ -21,8 +21,10 @@ use Rattle.ssh_transport_base.specs.Directions.{newkeys}
 use Rattle.ssh_transport_machine.specs.Endings.{ExchangeEnds, IsRead, PayloadRefused}
 use Rattle.ssh_transport_machine.specs.Finishing.{IsAnnouncement, after_announced, announced_by, forgotten, keyed}
 use Rattle.ssh_transport_machine.specs.Puts.{Outs, Refuses, payloads_of}
+use Rattle.ssh_transport_machine.specs.Sessions.{WouldEnd}
+use Rattle.ssh_transport_machine.specs.Shown.{WouldAnswer, WouldSay}
 use Rattle.ssh_transport_machine.specs.State.{State}
-use Rattle.ssh_transport_client.specs.Replies.{HostIsTrusted, Trusts}
+use Rattle.ssh_transport_client.specs.Replies.{HostIsTrusted, ShowsBadHost, ShowsBadPoint, ShowsDue, Trusts}
 use Rattle.ssh_transport_client.specs.Turns.{HostAccepted, HostRefused, NewkeysSpent, PointRefused}
 
 announces : {K : Type 0} (s completed : Transport K) (announcement : Option (List ℕ)) → IsAnnouncement (after_taken s) announcement →
@@ -232,3 +234,34 @@ module _ {K : Type 0} (p : Parties K) (history : List Item) (s : Transport K) (s
         (not_refused (agreement_of p Client) p.trusts d.chosen s z.host_key z.point z.signature d.is.good d.is.trusted)
         (completes p.crypto (parts_of p Client) p.trusts s z.host_key z.point z.signature d.chosen d.own d.theirs d.session d.announcement newkeys side_is (phase_is z.host_key z.point z.signature z.read) d.is)
         (all_spelled (after_taken s) d.announcement d.is.announcement_is) replies spelled few (ap (λ (w : State K). w.kept.dead) y.after)
+
+    -- ---- where memory fails
+
+    pub would_end : ShowsDue p.crypto (agreement_of p Client) p.trusts (after_taken s) old.receiver.payload → s.sending.count < 2 ^ 32 → WouldEnd p Client s old.receiver.payload
+    would_end z room =
+        let d = z.due in
+        let completed = after_completion p.crypto (inputs_of (agreement_of p Client) s z.host_key z.point) d.chosen (after_taken s) in
+        record {
+          chosen = d.chosen;
+          message = KexEcdhReply z.host_key z.point z.signature;
+          last = SpelledBy NewKeys newkeys ∷ [];
+          announced = announced_by s.settings.extensions d.announcement;
+          completed = completed;
+          new = after_announced d.announcement completed;
+          reads = reads z.host_key z.point z.signature z.read;
+          awaited = waited d.chosen z.host_key z.point z.signature d.is.chosen_is z.read;
+          unrefused = not_refused (agreement_of p Client) p.trusts d.chosen s z.host_key z.point z.signature d.is.good d.is.trusted;
+          completes = completes p.crypto (parts_of p Client) p.trusts s z.host_key z.point z.signature d.chosen d.own d.theirs d.session d.announcement newkeys side_is (phase_is z.host_key z.point z.signature z.read) d.is;
+          spelled = all_spelled (after_taken s) d.announcement d.is.announcement_is;
+          room = omega (arith, room);
+        }
+
+    pub would_refuse_point : ShowsBadPoint (agreement_of p Client) (after_taken s) old.receiver.payload → WouldSay s BadPoint → WouldAnswer p Client s old.receiver.payload
+    would_refuse_point z says = WouldAnswer.refused BadPoint
+        (turns.IsRefused.refused (KexEcdhReply z.host_key z.point z.signature) z.is.chosen BadPoint (reads z.host_key z.point z.signature z.read) (waited z.is.chosen z.host_key z.point z.signature z.is.chosen_is z.read)
+        (bad_point (agreement_of p Client) p.trusts z.is.chosen s z.host_key z.point z.signature z.is.bad)) says
+
+    pub would_refuse_host : ShowsBadHost (agreement_of p Client) p.trusts (after_taken s) old.receiver.payload → WouldSay s BadHost → WouldAnswer p Client s old.receiver.payload
+    would_refuse_host z says = WouldAnswer.refused BadHost
+        (turns.IsRefused.refused (KexEcdhReply z.host_key z.point z.signature) z.is.chosen BadHost (reads z.host_key z.point z.signature z.read) (waited z.is.chosen z.host_key z.point z.signature z.is.chosen_is z.read)
+        (bad_host (agreement_of p Client) p.trusts z.is.chosen s z.host_key z.point z.signature z.is.good z.is.untrusted)) says

@@ -5,3 +5,4 @@ pub mod Shown
 pub mod Packets
 pub mod Living
 pub mod Clients
+pub mod Units

@@ -3,3 +3,4 @@ pub mod Turns
 pub mod Kexinits
 pub mod Packets
 pub mod Transport
+pub mod Sessions

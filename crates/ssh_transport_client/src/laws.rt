@@ -15,7 +15,11 @@ ghost use Rattle.ssh_model.specs.Wire.Sealing.{Crypto};
 ghost use Rattle.ssh_transport_machine.specs.Choices.{IsChoosing};
 ghost use Rattle.ssh_transport_machine.specs.Endings.{ExchangeEnds, IsRead, PayloadRefused};
 ghost use Rattle.ssh_transport_machine.specs.Puts.{Outs};
+ghost use Rattle.ssh_transport_machine.specs.Sessions.{WouldDie};
 ghost use Rattle.ssh_transport_machine.specs.Standing.{Stands};
+ghost use Rattle.ssh_transport_machine.specs.declared.outcome.TransportTurn.{TransportTurn};
+ghost use Rattle.ssh_transport_client.specs.Sessions.{ClientTurnOf};
+ghost use Rattle.ssh_transport_client.specs.Transport.{ClientDied, ClientTook};
 ghost use Rattle.ssh_transport_machine.specs.State.{IsLive, State, before_taken};
 ghost use Rattle.ssh_transport_client.specs.declared.packet.ClientTurn.{ClientTurn};
 ghost use Rattle.ssh_transport_machine.specs.Judging.{PayloadJudged};
@@ -27,10 +31,10 @@ ghost use Rattle.ssh_transport_client.specs.Packets.{ClientTaken};
 ghost use Rattle.ssh_transport_client.specs.Replies.{ReadsReply, Trusts};
 ghost use Rattle.ssh_transport_client.specs.Turns.{HostAccepted, HostRefused, NewkeysSpent, PointRefused};
 
-use ssh_model::payload_numbers;
 use ssh_model::transport::{exchange_ends, payloads, refused_and_spent};
+use ssh_model::{payload_numbers, spellings};
 use ssh_transport_machine::ending::{choices_kept, exchanges_live, secrets_forgotten};
-use ssh_transport_machine::laws::live_machines;
+use ssh_transport_machine::laws::{live_machines, memory_deaths, unit_turns};
 use ssh_transport_machine::standing::machines_stand;
 
 /// A payload that is judged to be a reply is one that is read.
@@ -91,4 +95,18 @@ pub fn clients_stand<K>()
     machines_stand::<K>();
     kexinits_live::<K>();
     replies_live::<K>();
+}
+
+/// What a client's transport makes of a line or a packet is what a client makes of it in a session whose parts it has. Where it answers
+/// that memory was refused, something would be sent in a session.
+pub fn units_taken<K>()
+    ensures taken { (p : Parties K) (history : List Item) (old : State K) → SumsUp p Client history old.kept → (bytes : List ℕ) (given : TransportTurn) (new : State K) (o : Outs) → ClientTook p.crypto (agreement_of p Client) p.trusts old bytes given new o → ClientTurnOf p history old.kept bytes given new o }
+    ensures died { (p : Parties K) (history : List Item) (old : State K) → SumsUp p Client history old.kept → (bytes : List ℕ) (new : State K) → ClientDied p.crypto (agreement_of p Client) p.trusts old bytes new → WouldDie p Client old.kept bytes }
+{
+    payload_numbers();
+    spellings();
+    unit_turns::<K>();
+    memory_deaths::<K>();
+    kexinits_taken::<K>();
+    replies_taken::<K>();
 }
