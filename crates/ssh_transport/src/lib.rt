@@ -1,13 +1,18 @@
-//! The transport of SSH (RFC 4253) as its users name it: the settings and the parts of one end, the KEXINIT that it sends, and the
-//! packets of one direction through its epochs. What both roles share is proved in `ssh_transport_base`, and shown here.
+//! The transport of SSH (RFC 4253) as its users name it: `ServerTransport` and `ClientTransport`, their settings and their parts, and below
+//! them the KEXINIT of an end and the packets of one direction through its epochs. It is proved in `ssh_transport_base`,
+//! `ssh_transport_machine`, `ssh_transport_server` and `ssh_transport_client`, and shown here.
 //!
 //! ```rust
 //! use ssh_packet::MacOnly;
-//! use ssh_transport::{Config, Settings, Strictness};
+//! use ssh_transport::{Config, ServerTransport, Settings, TransportTurn};
 //! use std::alloc::Global;
 //!
 //! let config = Config::<MacOnly>::new(Global, &settings)?;
-//! let line = config.line();                   // SSH-2.0-divrelca_1 a core
+//! let mut server = ServerTransport::<Parts>::new(Global, config, parts, cookie, secret, &mut out, &mut sent)?;
+//! let (used, turn) = server.take(&bytes, &mut out, &mut sent);
+//! if let Ok(TransportTurn::Up(number)) = turn {
+//!     let payload = server.payload();         // a message from 50 on
+//! }
 //! ```
 #![tactic(auto)]
 
