@@ -1,0 +1,5 @@
+//! Tests of the ends.
+#![tactic(auto)]
+
+#[cfg(test)]
+mod server_layers;
