@@ -1,7 +1,8 @@
 -- The first step, and one step more.
 use Rattle.std.proofs.Common.{◌≡◌, ℕ, ◌+◌, ◌-◌, List, refl, add-one, arith}
 use Rattle.x25519.specs.declared.field.Element.{Element}
-use Rattle.x25519.specs.Field.{AreBelow, IsTight, product, squared_times}
+use Rattle.x25519.specs.Field.{AreBelow, IsTight, product}
+use Rattle.x25519.specs.Powers.{squared_times}
 use Rattle.x25519.specs.Curve.{IsRung, begun, bit_of, one_element, rungs, step, zero_element}
 
 pub one_square : (n : ℕ) (x : Element) → squared_times x (n + 1) ≡ product (squared_times x n) (squared_times x n)
