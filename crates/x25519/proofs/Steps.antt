@@ -3,7 +3,8 @@ use Rattle.std.proofs.Common.{◌≡◌, ℕ, ◌+◌, ◌-◌, List, refl, add-
 use Rattle.x25519.specs.declared.field.Element.{Element}
 use Rattle.x25519.specs.Field.{AreBelow, IsTight, product}
 use Rattle.x25519.specs.Powers.{squared_times}
-use Rattle.x25519.specs.Curve.{IsRung, begun, bit_of, one_element, rungs, step, zero_element}
+use Rattle.x25519.specs.Bytes.{bit_of}
+use Rattle.x25519.specs.Curve.{IsRung, begun, one_element, rungs, step, zero_element}
 
 pub one_square : (n : ℕ) (x : Element) → squared_times x (n + 1) ≡ product (squared_times x n) (squared_times x n)
 unfolding squared_times

@@ -10,6 +10,11 @@ up x n = x * 2 ^ n % 2 ^ 64
 abbrev pub down : ℕ → ℕ → ℕ
 down x n = x / 2 ^ n
 
+-- the bit of this place in the number that the bytes spell
+abbrev pub bit_of : List ℕ → ℕ → ℕ
+bit_of k t = down (slice_index k (t / 8)) (t % 8) % 2
+
+-- the word that eight bytes from this place on spell
 abbrev pub word_of : List ℕ → ℕ → ℕ
 word_of bytes at =
     from_le_bytes w64 (

@@ -1,10 +1,10 @@
 -- X25519 (RFC 7748 section 5) by the Montgomery ladder.
-use Rattle.std.specs.Prelude.{ℕ, zero, suc, ◌-◌, ◌/◌, ◌%◌, ◌≤◌, List, ◌∷◌, Option, Some, None}
+use Rattle.std.specs.Prelude.{ℕ, zero, suc, ◌-◌, ◌≤◌, List, ◌∷◌, Option, Some, None}
 use Rattle.std.specs.Prelude.{if◌then◌else◌, bit_and, bit_or, bit_xor, nat_eq, replicate, slice_index, slice_set}
 use Rattle.std.specs.Cmp.Lexicographic.{pointwise}
 use Rattle.x25519.specs.declared.field.Element.{Element}
 use Rattle.x25519.specs.declared.curve.Ladder.{Ladder}
-use Rattle.x25519.specs.Bytes.{bytes_of, down, element_of}
+use Rattle.x25519.specs.Bytes.{bit_of, bytes_of, element_of}
 use Rattle.x25519.specs.Field.{IsTight, chosen, difference, product, sum, times_small}
 use Rattle.x25519.specs.Powers.{inverse}
 
@@ -19,9 +19,6 @@ abbrev pub clamped : List ℕ → List ℕ
 clamped scalar =
     let low = slice_set scalar 0 (bit_and (slice_index scalar 0) 248) in
     slice_set low 31 (bit_or (bit_and (slice_index scalar 31) 127) 64)
-
-abbrev pub bit_of : List ℕ → ℕ → ℕ
-bit_of k t = down (slice_index k (t / 8)) (t % 8) % 2
 
 -- what holds on each rung
 pub record IsRung (l : Ladder) : Type 0 where

@@ -1,7 +1,7 @@
 //! Elements as 32 bytes (RFC 7748 section 5).
 
-ghost use Rattle.std.specs.Prelude.{◌≡◌, ◌<◌, ◌≤◌, ◌^◌};
-ghost use Rattle.x25519.specs.Bytes.{bytes_of, element_of, excess, frozen, reduced, tightened, word_of};
+ghost use Rattle.std.specs.Prelude.{◌≡◌, ◌<◌, ◌≤◌, ◌*◌, ◌^◌, length};
+ghost use Rattle.x25519.specs.Bytes.{bit_of, bytes_of, element_of, excess, frozen, reduced, tightened, word_of};
 ghost use Rattle.x25519.specs.Field.{AreBelow, IsTight};
 
 use crate::field::Element;
@@ -9,7 +9,17 @@ use crate::field::Element;
 // 2^51.
 const LIMB: u64 = 0x8_0000_0000_0000;
 
-fn word_of(bytes: &[u8; 32], at: usize) -> u64
+/// The bit of this place in the number that the bytes spell, the lowest byte first.
+pub fn bit_of(bytes: &[u8], place: usize) -> u64
+    requires { place < 8 * length bytes.now }
+    ensures value { result ≡ bit_of bytes.now place }
+    ensures bit { result ≤ 1 }
+{
+    ((bytes[place / 8] as u64) >> (place % 8)) % 2
+}
+
+/// The word that eight bytes from this place on spell, the lowest byte first.
+pub fn word_of(bytes: &[u8; 32], at: usize) -> u64
     requires { at < 25 }
     ensures { result ≡ word_of bytes.now at }
 {

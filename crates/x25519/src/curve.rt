@@ -2,10 +2,10 @@
 
 ghost use Rattle.std.specs.Prelude.{◌≡◌, ◌<◌, ◌≤◌, ◌^◌, IfSome, Some, None, if◌then◌else◌, bit_xor, replicate};
 ghost use Rattle.std.specs.Cmp.Lexicographic.{pointwise};
-ghost use Rattle.x25519.specs.Curve.{IsRung, base_point, begun, bit_of, clamped, rungs, shared_of, step, x25519 as x25519_of};
+ghost use Rattle.x25519.specs.Curve.{IsRung, base_point, begun, clamped, rungs, shared_of, step, x25519 as x25519_of};
 ghost use Rattle.x25519.specs.Field.{IsTight};
 
-use crate::bytes::{bytes_of, element_of};
+use crate::bytes::{bit_of, bytes_of, element_of};
 use crate::field::{Element, ONE, ZERO, chosen, difference, is_loose, product, sum, times_small};
 use crate::powers::inverse;
 
@@ -81,15 +81,6 @@ fn rungs(k: &[u8; 32], x1: Element) -> Ladder
         l = step(l, x1, bit_of(k, 254 - i));
     }
     l
-}
-
-/// The bit of this place in a number of 32 bytes, the lowest byte first.
-pub fn bit_of(k: &[u8; 32], t: usize) -> u64
-    requires { t < 256 }
-    ensures value { result ≡ bit_of k.now t }
-    ensures bit { result ≤ 1 }
-{
-    ((k[t / 8] as u64) >> (t % 8)) % 2
 }
 
 #[inline(always)]

@@ -6,5 +6,5 @@ mod curve;
 pub mod field;
 pub mod powers;
 
-pub use curve::{bit_of, clamped, public, shared, x25519};
+pub use curve::{clamped, public, shared, x25519};
 pub use field::Element;
