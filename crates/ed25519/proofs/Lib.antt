@@ -1,4 +1,4 @@
 pub mod Steps
+pub mod Constants
 pub mod Sums
-pub mod Values
 pub mod Products

@@ -1,11 +1,11 @@
 -- A product modulo the order, bit by bit from the highest one down.
-use Rattle.std.proofs.Common.{◌≡◌, ℕ, zero, suc, ◌+◌, ◌-◌, ◌*◌, ◌/◌, ◌%◌, ◌≤◌, ◌<◌, ◌^◌, List, length, slice_index, refl, ap, sym, ◌∙◌, arith}
+use Rattle.std.proofs.Common.{◌≡◌, ℕ, zero, suc, ◌+◌, ◌-◌, ◌*◌, ◌/◌, ◌%◌, ◌≤◌, ◌<◌, ◌^◌, List, length, slice_index, ap, sym, ◌∙◌, arith}
 use Rattle.std.proofs.Math.Nat.{div-eq_of_lt, mod-add-mod}
 use Rattle.std.proofs.lemmas.Nat.{mul-mod_second}
-use Rattle.x25519.specs.Bytes.{bit_of}
+use Rattle.x25519.specs.Bytes.{bit_of, value}
 use Rattle.ed25519.specs.declared.scalar.Scalar.{Scalar}
-use Rattle.ed25519.specs.Scalar.{chosen, number, order, value, zero_scalar}
-use Rattle.ed25519.proofs.Values.{one_bit_more, value_below}
+use Rattle.ed25519.specs.Scalar.{chosen, number, order, zero_scalar}
+use Rattle.x25519.proofs.Values.{one_bit_more, value_below}
 
 -- the bits from a place on as a number, times another one
 abbrev pub product_from : List ℕ → ℕ → ℕ → ℕ

@@ -1,77 +1,70 @@
 -- Points as 32 bytes (RFC 8032 sections 5.1.2 and 5.1.3).
-use Rattle.std.specs.Prelude.{ℕ, ◌*◌, ◌/◌, ◌%◌, List, Bool, Option, Some, None, bit_or, if◌then◌else◌, nat_eq, replicate, slice_index, slice_set}
-use Rattle.std.specs.Cmp.Lexicographic.{pointwise}
-use Rattle.x25519.specs.declared.field.Element.{Element}
-use Rattle.x25519.specs.Bytes.{bytes_of, element_of}
-use Rattle.x25519.specs.Curve.{one_element}
-use Rattle.x25519.specs.Field.{difference, product, sum}
-use Rattle.x25519.specs.Powers.{inverse, root_power}
-use Rattle.ed25519.specs.declared.point.Point.{Point}
-use Rattle.ed25519.specs.Point.{opposite}
+use Rattle.std.specs.Prelude.{ℕ, ◌-◌, ◌*◌, ◌/◌, ◌%◌, ◌^◌, List, Bool, Option, Some, None, bit_or, if◌then◌else◌, nat_eq, nat_lt, slice_index, slice_set}
+use Rattle.x25519.specs.Bytes.{le_bytes, value}
+use Rattle.x25519.specs.Field.{prime}
+use Rattle.x25519.specs.Residues.{minus, plus, power, times}
+use Rattle.ed25519.specs.Point.{Extended, d}
 
--- the constant d of the curve
-abbrev pub d : Element
-d = record { a = 929955233495203; b = 466365720129213; c = 1662059464998953; d = 2033849074728123; e = 1442794654840575 }
+-- a square root of -1, which is 2^((p - 1) / 4)
+abbrev pub root_of_minus_one : ℕ
+root_of_minus_one = 19681161376707505956807079304988542015446066515923890162744021073123829784752
 
-abbrev pub root_of_minus_one : Element
-root_of_minus_one = record { a = 1718705420411056; b = 234908883556509; c = 2233514472574048; d = 2117202627021982; e = 765476049583133 }
+-- a number divided by another one
+abbrev pub quotient : ℕ → ℕ → ℕ
+quotient x z = times x (power z (prime - 2))
 
--- the bytes of y, with the lowest bit of x as the highest one
-unfoldable pub encoded : Point → List ℕ
-encoded p =
-    let x : List ℕ = bytes_of (product p.x (inverse p.z)) in
-    let y : List ℕ = bytes_of (product p.y (inverse p.z)) in
-    slice_set y 31 (bit_or (slice_index y 31) (slice_index x 0 % 2 * 128))
+-- the bytes of y, and in the highest bit the lowest one of x (section 5.1.2)
+abbrev pub with_sign : ℕ → ℕ → List ℕ
+with_sign x y = slice_set (le_bytes y) 31 (bit_or (slice_index (le_bytes y) 31) (x % 2 * 128))
+
+unfoldable pub encoded : Extended → List ℕ
+encoded p = with_sign (quotient p.x p.z) (quotient p.y p.z)
 
 -- whether v x^2 is u
-unfoldable pub is_root : Element → Element → Element → Bool
-is_root x u v = pointwise nat_eq (bytes_of (product v (product x x))) (bytes_of u)
+abbrev pub is_root : ℕ → ℕ → ℕ → Bool
+is_root x u v = nat_eq (times v (times x x)) u
 
--- u v^3 (u v^7)^(2^252 - 3)
-unfoldable pub candidate : Element → Element → Element
+-- u v^3 (u v^7)^((p - 5) / 8)
+unfoldable pub candidate : ℕ → ℕ → ℕ
 candidate u v =
-    let v3 : Element = product (product v v) v in
-    let v7 : Element = product (product v3 v3) v in
-    product (product u v3) (root_power (product u v7))
+    let v3 : ℕ = times (times v v) v in
+    let v7 : ℕ = times (times v3 v3) v in
+    times (times u v3) (power (times u v7) (2 ^ 252 - 3))
 
--- the first of the candidates that is a root
-abbrev pub root_of : Element → Element → Element → Option Element
+-- x or the product of x and the root of -1, where that is a root
+abbrev pub root_of : ℕ → ℕ → ℕ → Option ℕ
 root_of x u v =
     if is_root x u v then Some x
-    else if is_root (product x root_of_minus_one) u v then Some (product x root_of_minus_one)
+    else if is_root (times x root_of_minus_one) u v then Some (times x root_of_minus_one)
     else None
 
 -- an x of this y
-unfoldable pub root : Element → Option Element
+unfoldable pub root : ℕ → Option ℕ
 root y =
-    let u : Element = product (difference (product y y) one_element) one_element in
-    let v : Element = product (sum (product (product y y) d) one_element) one_element in
+    let u : ℕ = minus (times y y) 1 in
+    let v : ℕ = plus (times (times y y) d) 1 in
     root_of (candidate u v) u v
 
--- the x of this sign; none where it is zero and the sign is set
-unfoldable pub signed : Element → ℕ → Option Element
-signed x sign =
-    if nat_eq (slice_index (bytes_of x) 0 % 2) sign then Some x
-    else if pointwise nat_eq (bytes_of x) (replicate 32 0) then None
-    else Some (opposite x)
+-- the x of this sign; none where it is 0 and the sign is set
+abbrev pub signed : Option ℕ → ℕ → Option ℕ
+signed None sign = None
+signed (Some x) sign =
+    if nat_eq (x % 2) sign then Some x
+    else if nat_eq x 0 then None
+    else Some (minus 0 x)
 
-abbrev pub without_sign : List ℕ → List ℕ
-without_sign bytes = slice_set bytes 31 (slice_index bytes 31 % 128)
+abbrev pub point_of : Option ℕ → ℕ → Option Extended
+point_of None y = None
+point_of (Some x) y = Some (record { x = x; y = y; z = 1; t = times x y })
 
-unfoldable pub point_of : Element → Element → Point
-point_of x y = record { x = x; y = y; z = one_element; t = product x y }
+-- the number of the 255 low bits, where it is below the prime
+abbrev pub y_in : List ℕ → Option ℕ
+y_in bytes = if nat_lt (value bytes % 2 ^ 255) prime then Some (value bytes % 2 ^ 255) else None
 
-abbrev pub then_signed : Option Element → ℕ → Option Element
-then_signed None sign = None
-then_signed (Some x) sign = signed x sign
+abbrev pub with_x : Option ℕ → ℕ → Option Extended
+with_x None sign = None
+with_x (Some y) sign = point_of (signed (root y) sign) y
 
-abbrev pub with_y : Option Element → Element → Option Point
-with_y None y = None
-with_y (Some x) y = Some (point_of x y)
-
--- the point of these bytes, where they are the encoding of one
-unfoldable pub decoded : List ℕ → Option Point
-decoded bytes =
-    let y : Element = element_of bytes in
-    if pointwise nat_eq (bytes_of y) (without_sign bytes) then with_y (then_signed (root y) (slice_index bytes 31 / 128)) y
-    else None
+-- the point of these bytes, where they are the encoding of one (section 5.1.3)
+unfoldable pub decoded : List ℕ → Option Extended
+decoded bytes = with_x (y_in bytes) (slice_index bytes 31 / 128)

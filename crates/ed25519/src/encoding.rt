@@ -1,13 +1,14 @@
 //! Points as 32 bytes (RFC 8032 sections 5.1.2 and 5.1.3).
 
-ghost use Rattle.std.specs.Prelude.{◌≡◌, ◌≤◌, IfSome};
-ghost use Rattle.x25519.specs.Field.{IsTight};
-ghost use Rattle.ed25519.specs.Encoding.{candidate, decoded, encoded, is_root, point_of, root, signed, without_sign};
-ghost use Rattle.ed25519.specs.Point.{IsPoint};
+ghost use Rattle.std.specs.Prelude.{◌≡◌, ◌≤◌, IfSome, Some};
+ghost use Rattle.std.specs.Option.{option_map};
+ghost use Rattle.x25519.specs.Field.{IsTight, residue};
+ghost use Rattle.ed25519.specs.Encoding.{candidate, decoded, encoded, is_root, point_of, root, signed, with_sign, y_in};
+ghost use Rattle.ed25519.specs.Point.{IsPoint, numbers};
 
 use crate::point::Point;
-use x25519::bytes::{bytes_of, element_of};
-use x25519::field::{Element, ONE, ZERO, difference, is_loose, product, sum};
+use x25519::bytes::{bytes_of, element_of, is_below_prime, is_same, parity};
+use x25519::field::{Element, ONE, ZERO, difference, is_loose, negated, product, sum, tightened};
 use x25519::powers::{inverse, root_power};
 
 // The constant d of the curve.
@@ -32,14 +33,21 @@ const ROOT_OF_MINUS_ONE: Element = Element {
 #[tactic(auto, unfolding(crate::specs::Encoding::encoded))]
 pub(crate) fn encoded(p: Point) -> [u8; 32]
     requires { IsPoint p }
-    ensures { result ≡ encoded p }
+    ensures { result ≡ encoded (numbers p) }
 {
     is_loose(p.x);
     is_loose(p.y);
     let inverse = inverse(p.z);
-    let x = bytes_of(product(p.x, inverse));
-    let mut bytes = bytes_of(product(p.y, inverse));
-    bytes[31] |= x[0] % 2 * 128;
+    with_sign(product(p.x, inverse), product(p.y, inverse))
+}
+
+fn with_sign(x: Element, y: Element) -> [u8; 32]
+    requires x { IsTight x }
+    requires y { IsTight y }
+    ensures { result ≡ with_sign (residue x) (residue y) }
+{
+    let mut bytes = bytes_of(y);
+    bytes[31] |= parity(x) * 128;
     bytes
 }
 
@@ -47,22 +55,32 @@ pub(crate) fn encoded(p: Point) -> [u8; 32]
 // sign bit is set.
 #[tactic(auto, unfolding(crate::specs::Encoding::decoded))]
 pub(crate) fn decoded(bytes: &[u8; 32]) -> Option<Point>
-    ensures value { result ≡ decoded bytes.now }
+    ensures value { option_map numbers result ≡ decoded bytes.now }
     ensures point { IfSome result (λ p. IsPoint p) }
 {
-    let y = element_of(bytes);
-    if bytes_of(y) != without_sign(bytes) {
-        return None;
-    }
+    let y = y_in(bytes)?;
     let x = signed(root(y)?, bytes[31] / 128)?;
     Some(point_of(x, y))
 }
 
-#[tactic(auto, unfolding(crate::specs::Encoding::point_of))]
+// The y of these bytes, where it is below the prime.
+#[tactic(auto, using(crate::proofs::Constants::small_residue))]
+fn y_in(bytes: &[u8; 32]) -> Option<Element>
+    ensures value { option_map residue result ≡ y_in bytes.now }
+    ensures tight { IfSome result (λ y. IsTight y) }
+{
+    let y = element_of(bytes);
+    if is_below_prime(y) {
+        return Some(y);
+    }
+    None
+}
+
+#[tactic(auto, using(crate::proofs::Constants::one))]
 fn point_of(x: Element, y: Element) -> Point
     requires x { IsTight x }
     requires y { IsTight y }
-    ensures value { result ≡ point_of x y }
+    ensures value { Some (numbers result) ≡ point_of (Some (residue x)) (residue y) }
     ensures point { IsPoint result }
 {
     is_loose(x);
@@ -75,43 +93,33 @@ fn point_of(x: Element, y: Element) -> Point
     }
 }
 
-// The bytes with the highest bit cleared.
-fn without_sign(bytes: &[u8; 32]) -> [u8; 32]
-    ensures { result ≡ without_sign bytes.now }
-{
-    let mut y = *bytes;
-    y[31] = bytes[31] % 128;
-    y
-}
-
 // The x of one sign or the other; none where it is 0 and the sign is set.
-#[tactic(auto, unfolding(crate::specs::Encoding::signed))]
+#[tactic(auto, using(crate::proofs::Constants::zero))]
 fn signed(x: Element, sign: u8) -> Option<Element>
     requires { IsTight x }
-    ensures value { result ≡ signed x sign }
+    ensures value { option_map residue result ≡ signed (Some (residue x)) sign }
     ensures tight { IfSome result (λ x. IsTight x) }
 {
-    let bytes = bytes_of(x);
-    if bytes[0] % 2 == sign {
+    if parity(x) == sign {
         return Some(x);
     }
-    if bytes == [0; 32] {
+    if is_same(x, ZERO) {
         return None;
     }
-    Some(product(difference(ZERO, x), ONE))
+    Some(negated(x))
 }
 
 // An x of this y, whose square is (y^2 - 1) / (d y^2 + 1) (section 5.1.3, the second and third step).
-#[tactic(auto, unfolding(crate::specs::Encoding::root))]
+#[tactic(auto, unfolding(crate::specs::Encoding::root), using(crate::proofs::Constants::roots))]
 fn root(y: Element) -> Option<Element>
     requires { IsTight y }
-    ensures value { result ≡ root y }
+    ensures value { option_map residue result ≡ root (residue y) }
     ensures tight { IfSome result (λ x. IsTight x) }
 {
     is_loose(y);
     let square = product(y, y);
-    let u = product(difference(square, ONE), ONE);
-    let v = product(sum(product(square, D), ONE), ONE);
+    let u = tightened(difference(square, ONE));
+    let v = tightened(sum(product(square, D), ONE));
     let x = candidate(u, v);
     if is_root(x, u, v) {
         return Some(x);
@@ -129,7 +137,7 @@ fn root(y: Element) -> Option<Element>
 fn candidate(u: Element, v: Element) -> Element
     requires u { IsTight u }
     requires v { IsTight v }
-    ensures value { result ≡ candidate u v }
+    ensures value { residue result ≡ candidate (residue u) (residue v) }
     ensures tight { IsTight result }
 {
     is_loose(u);
@@ -140,14 +148,13 @@ fn candidate(u: Element, v: Element) -> Element
 }
 
 // Whether v x^2 is u.
-#[tactic(auto, unfolding(crate::specs::Encoding::is_root))]
 fn is_root(x: Element, u: Element, v: Element) -> bool
     requires x { IsTight x }
     requires u { IsTight u }
     requires v { IsTight v }
-    ensures { result ≡ is_root x u v }
+    ensures { result ≡ is_root (residue x) (residue u) (residue v) }
 {
     is_loose(x);
     is_loose(v);
-    bytes_of(product(v, product(x, x))) == bytes_of(u)
+    is_same(product(v, product(x, x)), u)
 }

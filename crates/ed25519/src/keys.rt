@@ -2,7 +2,8 @@
 
 ghost use Rattle.std.specs.Prelude.{◌≡◌, ◌<◌, ◌+◌, ◌*◌, ◌%◌, ◌++◌, drop, take};
 ghost use Rattle.sha2.specs.Sha512.{sha512};
-ghost use Rattle.ed25519.specs.Scalar.{bytes_of, number, order, value};
+ghost use Rattle.x25519.specs.Bytes.{le_bytes, value};
+ghost use Rattle.ed25519.specs.Scalar.{number, order};
 ghost use Rattle.ed25519.specs.Signature.{base_times, pair_of, signature_of};
 
 use crate::encoding::encoded;
@@ -54,7 +55,7 @@ impl KeyPair {
 }
 
 // The base point so many times, encoded.
-#[tactic(auto, unfolding(crate::specs::Signature::base_times))]
+#[tactic(auto, unfolding(crate::specs::Signature::base_times), using(crate::proofs::Constants::base_numbers))]
 fn base_times(number: &[u8; 32]) -> [u8; 32]
     ensures { result ≡ base_times number.now }
 {
@@ -65,7 +66,7 @@ fn base_times(number: &[u8; 32]) -> [u8; 32]
 #[tactic(auto, using(crate::proofs::Sums::response_of))]
 fn response(nonce: Scalar, challenge: &[u8; 64], scalar: &[u8; 32]) -> [u8; 32]
     requires { number nonce < order }
-    ensures { result ≡ bytes_of ((number nonce + value challenge.now * value scalar.now) % order) }
+    ensures { result ≡ le_bytes ((number nonce + value challenge.now * value scalar.now) % order) }
 {
     bytes_of(sum(nonce, times(challenge, reduced(scalar))))
 }

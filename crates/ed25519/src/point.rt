@@ -1,10 +1,11 @@
 //! The curve -x^2 + y^2 = 1 + d x^2 y^2 in extended coordinates (RFC 8032 section 5.1.4).
 
 ghost use Rattle.std.specs.Prelude.{◌≡◌, ◌≤◌};
-ghost use Rattle.ed25519.specs.Point.{IsPoint, added, chosen_point, multiplied, negated};
+ghost use Rattle.ed25519.specs.Point.{IsPoint, added, chosen, multiplied, negated, numbers};
 
 use x25519::bytes::bit_of;
-use x25519::field::{Element, ONE, ZERO, chosen, difference, is_loose, product, sum};
+use x25519::field;
+use x25519::field::{Element, ONE, ZERO, difference, is_loose, product, sum};
 
 // A point by four elements: x / z and y / z are its coordinates, and t is x y / z.
 #[derive(Clone, Copy)]
@@ -59,11 +60,11 @@ const TWICE_D: Element = Element {
 };
 
 // The sum of two points. The formulas hold for all of them: equal, opposite and neutral ones too (section 5.1.4).
-#[tactic(auto, unfolding(crate::specs::Point::added))]
+#[tactic(auto, unfolding(crate::specs::Point::added), using(crate::proofs::Constants::twice_d))]
 pub(crate) fn added(p: Point, q: Point) -> Point
     requires p { IsPoint p }
     requires q { IsPoint q }
-    ensures value { result ≡ added p q }
+    ensures value { numbers result ≡ added (numbers p) (numbers q) }
     ensures point { IsPoint result }
 {
     is_loose(p.z);
@@ -89,31 +90,31 @@ pub(crate) fn added(p: Point, q: Point) -> Point
 #[tactic(auto, unfolding(crate::specs::Point::negated))]
 pub(crate) fn negated(p: Point) -> Point
     requires { IsPoint p }
-    ensures value { result ≡ negated p }
+    ensures value { numbers result ≡ negated (numbers p) }
     ensures point { IsPoint result }
 {
     Point {
-        x: product(difference(ZERO, p.x), ONE),
+        x: field::negated(p.x),
         y: p.y,
         z: p.z,
-        t: product(difference(ZERO, p.t), ONE),
+        t: field::negated(p.t),
     }
 }
 
 // The second point where the choice is 1, and the first where it is 0. No branch depends on the choice.
-#[tactic(auto, unfolding(crate::specs::Point::chosen_point))]
+#[tactic(auto, using(crate::proofs::Steps::chosen_numbers))]
 fn chosen_point(choice: u64, p: Point, q: Point) -> Point
     requires choice { choice ≤ 1 }
     requires p { IsPoint p }
     requires q { IsPoint q }
-    ensures value { result ≡ chosen_point choice p q }
+    ensures value { numbers result ≡ chosen choice (numbers p) (numbers q) }
     ensures point { IsPoint result }
 {
     Point {
-        x: chosen(choice, p.x, q.x),
-        y: chosen(choice, p.y, q.y),
-        z: chosen(choice, p.z, q.z),
-        t: chosen(choice, p.t, q.t),
+        x: field::chosen(choice, p.x, q.x),
+        y: field::chosen(choice, p.y, q.y),
+        z: field::chosen(choice, p.z, q.z),
+        t: field::chosen(choice, p.t, q.t),
     }
 }
 
@@ -122,7 +123,7 @@ fn chosen_point(choice: u64, p: Point, q: Point) -> Point
 #[tactic(auto, using(crate::proofs::Steps::one_step))]
 pub(crate) fn multiplied(number: &[u8; 32], p: Point) -> Point
     requires { IsPoint p }
-    ensures value { result ≡ multiplied number.now p 256 }
+    ensures value { numbers result ≡ multiplied number.now (numbers p) 256 }
     ensures point { IsPoint result }
 {
     let mut q = IDENTITY;

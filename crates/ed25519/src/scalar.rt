@@ -1,7 +1,8 @@
 //! Numbers below the order L of the base point (RFC 8032 section 5.1), where L is 2^252 + 27742317777372353535851937790883648493.
 
 ghost use Rattle.std.specs.Prelude.{◌≡◌, ◌<◌, ◌≤◌, ◌+◌, ◌*◌, ◌%◌, ◌^◌, length};
-ghost use Rattle.ed25519.specs.Scalar.{bytes_of, chosen, is_below_order, number, order, value};
+ghost use Rattle.x25519.specs.Bytes.{le_bytes, value};
+ghost use Rattle.ed25519.specs.Scalar.{chosen, is_below_order, number, order};
 
 use x25519::bytes::{bit_of, word_of};
 use x25519::field::picked;
@@ -166,7 +167,7 @@ fn scalar_of(bytes: &[u8; 32]) -> Scalar
 
 // The 32 bytes of a number, the lowest first.
 pub(crate) fn bytes_of(s: Scalar) -> [u8; 32]
-    ensures { result ≡ bytes_of (number s) }
+    ensures { result ≡ le_bytes (number s) }
 {
     let v = s.a.to_le_bytes();
     let w = s.b.to_le_bytes();

@@ -1,8 +1,9 @@
 //! The verification of signatures (RFC 8032 section 5.1.7).
 
 ghost use Rattle.std.specs.Prelude.{◌≡◌, ◌%◌};
-ghost use Rattle.ed25519.specs.Point.{IsPoint};
-ghost use Rattle.ed25519.specs.Scalar.{bytes_of, order, value};
+ghost use Rattle.x25519.specs.Bytes.{le_bytes, value};
+ghost use Rattle.ed25519.specs.Point.{IsPoint, numbers};
+ghost use Rattle.ed25519.specs.Scalar.{order};
 ghost use Rattle.ed25519.specs.Signature.{challenge_of, commitment, is_signature};
 
 use crate::encoding::{decoded, encoded};
@@ -30,10 +31,10 @@ pub fn verify(public: &[u8; 32], message: &[u8], signature: &[u8; 64]) -> bool
 }
 
 // The encoding of S B - k A.
-#[tactic(auto, unfolding(crate::specs::Signature::commitment))]
+#[tactic(auto, unfolding(crate::specs::Signature::commitment), using(crate::proofs::Constants::base_numbers))]
 fn commitment(response: &[u8; 32], challenge: &[u8; 32], key: Point) -> [u8; 32]
     requires { IsPoint key }
-    ensures { result ≡ commitment response.now challenge.now key }
+    ensures { result ≡ commitment response.now challenge.now (numbers key) }
 {
     encoded(added(
         multiplied(response, BASE),

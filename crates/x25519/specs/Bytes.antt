@@ -10,6 +10,17 @@ up x n = x * 2 ^ n % 2 ^ 64
 abbrev pub down : ℕ → ℕ → ℕ
 down x n = x / 2 ^ n
 
+-- the number that bytes spell, the lowest first
+unfoldable pub value : List ℕ → ℕ
+value [] = 0
+value (byte ∷ rest) = byte + 256 * value rest
+
+-- the 32 bytes of a number, the lowest first, word by word
+unfoldable pub le_bytes : ℕ → List ℕ
+le_bytes n =
+    to_le_bytes w64 (n % 2 ^ 64)
+    ++ (to_le_bytes w64 (n / 2 ^ 64 % 2 ^ 64) ++ (to_le_bytes w64 (n / 2 ^ 128 % 2 ^ 64) ++ to_le_bytes w64 (n / 2 ^ 192 % 2 ^ 64)))
+
 -- the bit of this place in the number that the bytes spell
 abbrev pub bit_of : List ℕ → ℕ → ℕ
 bit_of k t = down (slice_index k (t / 8)) (t % 8) % 2

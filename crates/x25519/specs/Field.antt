@@ -11,6 +11,18 @@ pub record AreBelow (most : ℕ) (x : Element) : Type 0 where
   pub d : x.d < most
   pub e : x.e < most
 
+-- the prime
+abbrev pub prime : ℕ
+prime = 2 ^ 255 - 19
+
+-- the number that limbs are
+abbrev pub number : Element → ℕ
+number x = x.a + x.b * 2 ^ 51 + x.c * 2 ^ 102 + x.d * 2 ^ 153 + x.e * 2 ^ 204
+
+-- the number below the prime that it stands for
+unfoldable pub residue : Element → ℕ
+residue x = number x % prime
+
 -- what a product gives
 abbrev pub IsTight : Element → Type 0
 IsTight x = AreBelow (2 ^ 52) x

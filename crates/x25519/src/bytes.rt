@@ -1,8 +1,8 @@
 //! Elements as 32 bytes (RFC 7748 section 5).
 
-ghost use Rattle.std.specs.Prelude.{◌≡◌, ◌<◌, ◌≤◌, ◌*◌, ◌^◌, length};
-ghost use Rattle.x25519.specs.Bytes.{bit_of, bytes_of, element_of, excess, frozen, reduced, tightened, word_of};
-ghost use Rattle.x25519.specs.Field.{AreBelow, IsTight};
+ghost use Rattle.std.specs.Prelude.{◌≡◌, ◌<◌, ◌≤◌, ◌+◌, ◌*◌, ◌/◌, ◌%◌, ◌^◌, length, nat_eq, nat_lt};
+ghost use Rattle.x25519.specs.Bytes.{bit_of, bytes_of, element_of, excess, frozen, le_bytes, reduced, tightened, value, word_of};
+ghost use Rattle.x25519.specs.Field.{AreBelow, IsTight, number, prime, residue};
 
 use crate::field::Element;
 
@@ -37,9 +37,10 @@ pub fn word_of(bytes: &[u8; 32], at: usize) -> u64
 
 /// The element that the 255 low bits of 32 bytes are, the lowest byte first. The highest bit is not read, and a number from the prime on is
 /// taken as it is.
-#[tactic(auto, unfolding(crate::specs::Bytes::element_of))]
+#[tactic(auto, unfolding(crate::specs::Bytes::element_of), using(crate::proofs::Spelling::element_number))]
 pub fn element_of(bytes: &[u8; 32]) -> Element
     ensures value { result ≡ element_of bytes.now }
+    ensures number { number result ≡ value bytes.now % 2 ^ 255 }
     ensures tight { IsTight result }
 {
     let v = word_of(bytes, 0);
@@ -74,10 +75,41 @@ fn tightened(x: Element) -> Element
     }
 }
 
+/// Whether two elements stand for the same number. No branch depends on them but by the answer.
+#[tactic(auto, using(crate::proofs::Tests::same_elements))]
+pub fn is_same(x: Element, y: Element) -> bool
+    requires x { IsTight x }
+    requires y { IsTight y }
+    ensures { result ≡ nat_eq (residue x) (residue y) }
+{
+    bytes_of(x) == bytes_of(y)
+}
+
+/// The lowest bit of the number below the prime.
+#[tactic(auto, using(crate::proofs::Tests::low_bit))]
+pub fn parity(x: Element) -> u8
+    requires { IsTight x }
+    ensures value { result ≡ residue x % 2 }
+    ensures bit { result ≤ 1 }
+{
+    bytes_of(x)[0] % 2
+}
+
+/// Whether a number of 255 bits is below the prime.
+pub fn is_below_prime(x: Element) -> bool
+    requires limbs { IsTight x }
+    requires number { number x < 2 ^ 255 }
+    ensures { result ≡ nat_lt (number x) prime }
+{
+    excess(x) == 0
+}
+
 // How often the prime is in the number.
+#[tactic(auto, using(crate::proofs::Modulo::excess_number))]
 fn excess(t: Element) -> u64
     requires { IsTight t }
     ensures value { result ≡ excess t }
+    ensures number { result ≡ (number t + 19) / 2 ^ 255 }
     ensures few { result ≤ 2 }
 {
     let q = (t.a + 19) / LIMB;
@@ -109,10 +141,11 @@ fn reduced(t: Element, q: u64) -> Element
 }
 
 // The number below the prime.
-#[tactic(auto, unfolding(crate::specs::Bytes::frozen))]
+#[tactic(auto, unfolding(crate::specs::Bytes::frozen), using(crate::proofs::Modulo::frozen_number))]
 fn frozen(x: Element) -> Element
     requires { IsTight x }
     ensures value { result ≡ frozen x }
+    ensures number { number result ≡ residue x }
     ensures limbs { AreBelow (2 ^ 51) result }
 {
     let t = tightened(tightened(x));
@@ -120,10 +153,11 @@ fn frozen(x: Element) -> Element
 }
 
 /// The bytes of an element, the lowest byte first: of the number below the prime.
-#[tactic(auto, unfolding(crate::specs::Bytes::bytes_of))]
+#[tactic(auto, unfolding(crate::specs::Bytes::bytes_of), using(crate::proofs::Spelling::bytes_of_residue))]
 pub fn bytes_of(x: Element) -> [u8; 32]
     requires { IsTight x }
-    ensures { result ≡ bytes_of x }
+    ensures value { result ≡ bytes_of x }
+    ensures residue { result ≡ le_bytes (residue x) }
 {
     let t = frozen(x);
     let v = (t.a | (t.b << 51)).to_le_bytes();

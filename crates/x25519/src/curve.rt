@@ -2,8 +2,8 @@
 
 ghost use Rattle.std.specs.Prelude.{◌≡◌, ◌<◌, ◌≤◌, ◌^◌, IfSome, Some, None, if◌then◌else◌, bit_xor, replicate};
 ghost use Rattle.std.specs.Cmp.Lexicographic.{pointwise};
-ghost use Rattle.x25519.specs.Curve.{IsRung, base_point, begun, clamped, rungs, shared_of, step, x25519 as x25519_of};
-ghost use Rattle.x25519.specs.Field.{IsTight};
+ghost use Rattle.x25519.specs.Curve.{IsRung, base_point, clamped, numbers, rungs, shared_of, step, u_at, u_of, x25519 as x25519_of};
+ghost use Rattle.x25519.specs.Field.{IsTight, residue};
 
 use crate::bytes::{bit_of, bytes_of, element_of};
 use crate::field::{Element, ONE, ZERO, chosen, difference, is_loose, product, sum, times_small};
@@ -20,16 +20,25 @@ pub(crate) struct Ladder {
 }
 
 /// The function X25519 of a scalar and a point.
-#[tactic(auto, unfolding(crate::specs::Curve::x25519))]
+#[tactic(auto, unfolding(crate::specs::Curve::x25519), using(crate::proofs::Steps::residue_of))]
 pub fn x25519(scalar: &[u8; 32], point: &[u8; 32]) -> [u8; 32]
     ensures { result ≡ x25519_of scalar.now point.now }
 {
     let x1 = element_of(point);
-    let l = rungs(&clamped(scalar), x1);
+    bytes_of(u_at(rungs(&clamped(scalar), x1)))
+}
+
+// The quotient x2 / z2, after a last swap.
+#[tactic(auto, unfolding(crate::specs::Curve::u_at), using(crate::proofs::Steps::chosen_residue))]
+fn u_at(l: Ladder) -> Element
+    requires { IsRung l }
+    ensures value { residue result ≡ u_at (numbers l) }
+    ensures tight { IsTight result }
+{
     let x = chosen(l.swap, l.x2, l.x3);
     let z = chosen(l.swap, l.z2, l.z3);
     is_loose(x);
-    bytes_of(product(x, inverse(z)))
+    product(x, inverse(z))
 }
 
 /// The public point of a secret.
@@ -67,7 +76,7 @@ pub fn clamped(scalar: &[u8; 32]) -> [u8; 32]
 #[tactic(auto, using(crate::proofs::Steps::one_rung))]
 fn rungs(k: &[u8; 32], x1: Element) -> Ladder
     requires { IsTight x1 }
-    ensures value { result ≡ rungs k.now x1 255 }
+    ensures value { numbers result ≡ rungs k.now (residue x1) 255 }
     ensures rung { IsRung result }
 {
     let mut l = Ladder {
@@ -84,12 +93,12 @@ fn rungs(k: &[u8; 32], x1: Element) -> Ladder
 }
 
 #[inline(always)]
-#[tactic(auto, unfolding(crate::specs::Curve::step))]
+#[tactic(auto, unfolding(crate::specs::Curve::step), using(crate::proofs::Steps::chosen_residue))]
 fn step(l: Ladder, x1: Element, bit: u64) -> Ladder
     requires l { IsRung l }
     requires x1 { IsTight x1 }
     requires bit { bit ≤ 1 }
-    ensures value { result ≡ step l x1 bit }
+    ensures value { numbers result ≡ step (numbers l) (residue x1) bit }
     ensures rung { IsRung result }
 {
     let swap = swapped(l.swap, bit);

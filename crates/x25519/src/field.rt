@@ -1,7 +1,8 @@
 //! The field of 2^255 - 19 elements (RFC 7748 section 4.1), in five limbs of 51 bits and some more. No sum and no product wraps.
 
 ghost use Rattle.std.specs.Prelude.{◌≡◌, ◌<◌, ◌≤◌, ◌+◌, ◌*◌, ◌^◌};
-ghost use Rattle.x25519.specs.Field.{IsLoose, IsTight, IsWide, carried, chosen, difference, picked, product, row_a, row_b, row_c, row_d, row_e, sum, times_small};
+ghost use Rattle.x25519.specs.Field.{IsLoose, IsTight, IsWide, carried, chosen, difference, picked, product, residue, row_a, row_b, row_c, row_d, row_e, sum, times_small};
+ghost use Rattle.x25519.specs.Residues.{minus, plus, times as times_modulo};
 
 /// An element: the number that is the sum of its limbs, where the limb k is worth 2^(51 k). An element is tight where each limb is below
 /// 2^52, and loose where each is below 2^54.
@@ -47,11 +48,12 @@ const LIMB: u128 = 0x8_0000_0000_0000;
 
 /// The sum of two tight elements, which is loose.
 #[inline(always)]
-#[tactic(auto, unfolding(crate::specs::Field::sum))]
+#[tactic(auto, unfolding(crate::specs::Field::sum), using(crate::proofs::Modulo::sum_residue))]
 pub fn sum(x: Element, y: Element) -> Element
     requires x { IsTight x }
     requires y { IsTight y }
     ensures value { result ≡ sum x y }
+    ensures residue { residue result ≡ plus (residue x) (residue y) }
     ensures loose { IsLoose result }
 {
     Element {
@@ -65,11 +67,12 @@ pub fn sum(x: Element, y: Element) -> Element
 
 /// The difference of two tight elements, which is loose. Four times the prime is added first, so that no limb falls below zero.
 #[inline(always)]
-#[tactic(auto, unfolding(crate::specs::Field::difference))]
+#[tactic(auto, unfolding(crate::specs::Field::difference), using(crate::proofs::Modulo::difference_residue))]
 pub fn difference(x: Element, y: Element) -> Element
     requires x { IsTight x }
     requires y { IsTight y }
     ensures value { result ≡ difference x y }
+    ensures residue { residue result ≡ minus (residue x) (residue y) }
     ensures loose { IsLoose result }
 {
     Element {
@@ -190,11 +193,12 @@ fn row_e(x: Element, y: Element) -> u128
 
 /// The product of two loose elements, which is tight.
 #[inline(always)]
-#[tactic(auto, unfolding(crate::specs::Field::product))]
+#[tactic(auto, unfolding(crate::specs::Field::product), using(crate::proofs::Modulo::product_residue))]
 pub fn product(x: Element, y: Element) -> Element
     requires x { IsLoose x }
     requires y { IsLoose y }
     ensures value { result ≡ product x y }
+    ensures residue { residue result ≡ times_modulo (residue x) (residue y) }
     ensures tight { IsTight result }
     ensures loose { IsLoose result }
 {
@@ -233,11 +237,12 @@ fn carried(w: Wide) -> Element
 
 /// The element so many times, at most 2^17.
 #[inline(always)]
-#[tactic(auto, unfolding(crate::specs::Field::times_small))]
+#[tactic(auto, unfolding(crate::specs::Field::times_small), using(crate::proofs::Modulo::times_small_residue))]
 pub fn times_small(x: Element, n: u64) -> Element
     requires x { IsLoose x }
     requires n { n ≤ 2 ^ 17 }
     ensures value { result ≡ times_small x n }
+    ensures residue { residue result ≡ times_modulo (residue x) n }
     ensures tight { IsTight result }
 {
     carried(Wide {
@@ -247,6 +252,27 @@ pub fn times_small(x: Element, n: u64) -> Element
         d: times(x.d, n),
         e: times(x.e, n),
     })
+}
+
+/// The same number as a tight element.
+#[inline(always)]
+#[tactic(auto, using(crate::proofs::Modulo::times_one))]
+pub fn tightened(x: Element) -> Element
+    requires { IsLoose x }
+    ensures residue { residue result ≡ residue x }
+    ensures tight { IsTight result }
+{
+    product(x, ONE)
+}
+
+/// The opposite of a tight element, which is tight.
+#[tactic(auto, using(crate::proofs::Modulo::residue_of_zero))]
+pub fn negated(x: Element) -> Element
+    requires { IsTight x }
+    ensures residue { residue result ≡ minus 0 (residue x) }
+    ensures tight { IsTight result }
+{
+    tightened(difference(ZERO, x))
 }
 
 /// The second where the choice is 1, and the first where it is 0. No branch depends on the choice.

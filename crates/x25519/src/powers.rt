@@ -1,8 +1,9 @@
 //! Powers of elements.
 
-ghost use Rattle.std.specs.Prelude.{◌≡◌};
-ghost use Rattle.x25519.specs.Field.{IsLoose, IsTight};
+ghost use Rattle.std.specs.Prelude.{◌≡◌, ◌-◌, ◌^◌};
+ghost use Rattle.x25519.specs.Field.{IsLoose, IsTight, prime, residue};
 ghost use Rattle.x25519.specs.Powers.{ArePowers, inverse, root_power, squared_times, tower};
+ghost use Rattle.x25519.specs.Residues.{power};
 
 use crate::field::{Element, is_loose, product};
 
@@ -13,9 +14,9 @@ pub(crate) struct Powers {
     ones: Element,
 }
 
-/// The element squared so often.
+// The element squared so often.
 #[tactic(auto, using(crate::proofs::Steps::one_square), unfolding(crate::specs::Powers::squared_times))]
-pub fn squared_times(x: Element, count: usize) -> Element
+fn squared_times(x: Element, count: usize) -> Element
     requires { IsLoose x }
     ensures value { result ≡ squared_times x count }
     ensures loose { IsLoose result }
@@ -52,10 +53,11 @@ fn tower(z: Element) -> Powers
 }
 
 /// The element to the power of the prime less two: its inverse, and 0 of 0.
-#[tactic(auto, unfolding(crate::specs::Powers::inverse))]
+#[tactic(auto, unfolding(crate::specs::Powers::inverse), using(crate::proofs::Exponents::inverse_residue))]
 pub fn inverse(z: Element) -> Element
     requires { IsTight z }
     ensures value { result ≡ inverse z }
+    ensures residue { residue result ≡ power (residue z) (prime - 2) }
     ensures tight { IsTight result }
     ensures loose { IsLoose result }
 {
@@ -64,10 +66,11 @@ pub fn inverse(z: Element) -> Element
 }
 
 /// The element to the power 2^252 - 3, of which square roots are made (RFC 8032 section 5.1.3).
-#[tactic(auto, unfolding(crate::specs::Powers::root_power))]
+#[tactic(auto, unfolding(crate::specs::Powers::root_power), using(crate::proofs::Exponents::root_power_residue))]
 pub fn root_power(z: Element) -> Element
     requires { IsTight z }
     ensures value { result ≡ root_power z }
+    ensures residue { residue result ≡ power (residue z) (2 ^ 252 - 3) }
     ensures tight { IsTight result }
     ensures loose { IsLoose result }
 {

@@ -1,9 +1,10 @@
 use Rattle.std.proofs.Common.{◌≡◌, ◌/◌, ◌%◌, ◌^◌, refl, arith}
-use Rattle.ed25519.specs.Scalar.{bytes_of, number}
+use Rattle.x25519.specs.Bytes.{le_bytes}
+use Rattle.ed25519.specs.Scalar.{number}
 use Rattle.ed25519.proofs.scalar.bytes_of.Goals as goal
 
 pub returns : goal.returns
-unfolding bytes_of
+unfolding le_bytes
 returns c =
     let s = c.args.s in
     let a : number s % 2 ^ 64 ≡ s.a = omega arith in

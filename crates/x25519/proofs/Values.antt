@@ -3,8 +3,7 @@ use Rattle.std.proofs.Common.{◌≡◌, ℕ, zero, suc, ◌+◌, ◌-◌, ◌*�
 use Rattle.std.proofs.Math.Nat.{div-div-eq-div-mul, pow-suc, zero-div}
 use Rattle.std.proofs.Math.ListN.{drop_of_length-le}
 use Rattle.std.proofs.lemmas.Nat.{pow-add}
-use Rattle.x25519.specs.Bytes.{bit_of, word_of}
-use Rattle.ed25519.specs.Scalar.{value}
+use Rattle.x25519.specs.Bytes.{bit_of, value, word_of}
 
 -- ---- bits
 
