@@ -3,9 +3,9 @@ use Rattle.std.proofs.Common.{◌≡◌, ℕ, ◌<◌, refl, ◌∙◌, arith}
 use Rattle.std.proofs.Math.Nat.{mod-eq_of_lt}
 use Rattle.x25519.specs.declared.field.Element.{Element}
 use Rattle.x25519.specs.Field.{number, prime, residue}
-use Rattle.x25519.specs.Residues.{plus, times}
+use Rattle.x25519.specs.Residues.{minus, plus, times}
 use Rattle.ed25519.specs.Encoding.{root_of_minus_one}
-use Rattle.ed25519.specs.Point.{base, numbers}
+use Rattle.ed25519.specs.Point.{base, base_x, base_y, numbers}
 use Rattle.ed25519.specs.Point as point
 
 pub zero : residue (record { a = 0; b = 0; c = 0; d = 0; e = 0 }) ≡ 0
@@ -43,3 +43,21 @@ base_numbers = refl
 pub small_residue : (x : Element) (n : ℕ) → number x ≡ n → n < prime → residue x ≡ n
 unfolding residue
 small_residue x n e h = mod-eq_of_lt (omega arith) ∙ e
+
+pub d_is : times point.d 121666 ≡ minus 0 121665
+unfolding times minus
+d_is = refl
+
+pub on_curve : minus (times base_y base_y) (times base_x base_x) ≡ plus 1 (times point.d (times (times base_x base_x) (times base_y base_y)))
+unfolding times minus plus
+on_curve = refl
+
+pub y_is : times base_y 5 ≡ 4
+unfolding times
+y_is = refl
+
+pub root_is : times root_of_minus_one root_of_minus_one ≡ minus 0 1
+unfolding times minus
+root_is = refl
+
+pub ruleset curve_numbers = (d_is, on_curve, y_is, root_is)

@@ -9,6 +9,7 @@
 
 mod encoding;
 mod keys;
+pub mod laws;
 mod point;
 mod scalar;
 mod verification;

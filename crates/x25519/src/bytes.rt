@@ -1,4 +1,4 @@
-//! Elements as 32 bytes (RFC 7748 section 5).
+//! Elements as 32 bytes (RFC 7748 section 5), and what their numbers are.
 
 ghost use Rattle.std.specs.Prelude.{◌≡◌, ◌<◌, ◌≤◌, ◌+◌, ◌*◌, ◌/◌, ◌%◌, ◌^◌, length, nat_eq, nat_lt};
 ghost use Rattle.x25519.specs.Bytes.{bit_of, bytes_of, element_of, excess, frozen, le_bytes, reduced, tightened, value, word_of};
@@ -75,35 +75,6 @@ fn tightened(x: Element) -> Element
     }
 }
 
-/// Whether two elements stand for the same number. No branch depends on them but by the answer.
-#[tactic(auto, using(crate::proofs::Tests::same_elements))]
-pub fn is_same(x: Element, y: Element) -> bool
-    requires x { IsTight x }
-    requires y { IsTight y }
-    ensures { result ≡ nat_eq (residue x) (residue y) }
-{
-    bytes_of(x) == bytes_of(y)
-}
-
-/// The lowest bit of the number below the prime.
-#[tactic(auto, using(crate::proofs::Tests::low_bit))]
-pub fn parity(x: Element) -> u8
-    requires { IsTight x }
-    ensures value { result ≡ residue x % 2 }
-    ensures bit { result ≤ 1 }
-{
-    bytes_of(x)[0] % 2
-}
-
-/// Whether a number of 255 bits is below the prime.
-pub fn is_below_prime(x: Element) -> bool
-    requires limbs { IsTight x }
-    requires number { number x < 2 ^ 255 }
-    ensures { result ≡ nat_lt (number x) prime }
-{
-    excess(x) == 0
-}
-
 // How often the prime is in the number.
 #[tactic(auto, using(crate::proofs::Modulo::excess_number))]
 fn excess(t: Element) -> u64
@@ -169,4 +140,33 @@ pub fn bytes_of(x: Element) -> [u8; 32]
         w[7], x[0], x[1], x[2], x[3], x[4], x[5], x[6], x[7], y[0], y[1], y[2], y[3], y[4], y[5],
         y[6], y[7],
     ]
+}
+
+/// Whether two elements stand for the same number.
+#[tactic(auto, using(crate::proofs::Tests::same_elements))]
+pub fn is_same(x: Element, y: Element) -> bool
+    requires x { IsTight x }
+    requires y { IsTight y }
+    ensures { result ≡ nat_eq (residue x) (residue y) }
+{
+    bytes_of(x) == bytes_of(y)
+}
+
+/// The lowest bit of the number below the prime.
+#[tactic(auto, using(crate::proofs::Tests::low_bit))]
+pub fn parity(x: Element) -> u8
+    requires { IsTight x }
+    ensures value { result ≡ residue x % 2 }
+    ensures bit { result ≤ 1 }
+{
+    bytes_of(x)[0] % 2
+}
+
+/// Whether a number of 255 bits is below the prime.
+pub fn is_below_prime(x: Element) -> bool
+    requires limbs { IsTight x }
+    requires number { number x < 2 ^ 255 }
+    ensures { result ≡ nat_lt (number x) prime }
+{
+    excess(x) == 0
 }

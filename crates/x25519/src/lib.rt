@@ -1,4 +1,4 @@
-//! X25519 (RFC 7748): the function, the public point of a secret, and what two ends share; and the field under it.
+//! X25519 (RFC 7748): the function, the public point of a secret, and what two ends share; and the field of 2^255 - 19 elements under it.
 #![tactic(auto)]
 
 pub mod bytes;
