@@ -2,3 +2,4 @@ pub mod Steps
 pub mod Constants
 pub mod Sums
 pub mod Products
+pub mod Curve

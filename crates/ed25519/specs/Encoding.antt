@@ -1,5 +1,5 @@
 -- Points as 32 bytes (RFC 8032 sections 5.1.2 and 5.1.3).
-use Rattle.std.specs.Prelude.{ℕ, ◌-◌, ◌*◌, ◌/◌, ◌%◌, ◌^◌, List, Bool, Option, Some, None, bit_or, if◌then◌else◌, nat_eq, nat_lt, slice_index, slice_set}
+use Rattle.std.specs.Prelude.{◌≡◌, ℕ, ◌-◌, ◌*◌, ◌/◌, ◌%◌, ◌^◌, List, Bool, Option, Some, None, bit_or, if◌then◌else◌, nat_eq, nat_lt, slice_index, slice_set}
 use Rattle.x25519.specs.Bytes.{le_bytes, value}
 use Rattle.x25519.specs.Field.{prime}
 use Rattle.x25519.specs.Residues.{minus, plus, power, times}
@@ -68,3 +68,9 @@ with_x (Some y) sign = point_of (signed (root y) sign) y
 -- the point of these bytes, where they are the encoding of one (section 5.1.3)
 unfoldable pub decoded : List ℕ → Option Extended
 decoded bytes = with_x (y_in bytes) (slice_index bytes 31 / 128)
+
+-- The point is one of the curve: y^2 - x^2 is 1 + d x^2 y^2, for z is 1.
+pub record IsOnCurve (p : Extended) : Type 0 where
+  pub curve : minus (times p.y p.y) (times p.x p.x) ≡ plus 1 (times d (times (times p.x p.x) (times p.y p.y)))
+  pub z : p.z ≡ 1
+  pub t : p.t ≡ times p.x p.y
