@@ -1,5 +1,6 @@
 ghost use Rattle.std.specs.Prelude.{◌≤◌, length};
 
+use ed25519::{KeyPair, verify};
 use ssh_kex::Agreement;
 use ssh_packet::{HmacKey, PacketReader, write_packet};
 use ssh_parts::{Aes128Gcm, Curve25519, PacketKey};
@@ -10,16 +11,21 @@ use std::marker::Model;
 use std::rt::Clock;
 use std::time::{Duration, Instant};
 
+// The hash that is signed.
+const HASH: [u8; 32] = [7; 32];
+
 // The padding is zeros.
 const ZEROS: ToyFiller = ToyFiller { byte: 0 };
 
-/// A packet sealed with number 0, and a reader between packets.
+/// A packet sealed with number 0, a reader between packets, and a key pair with a signature.
 #[derive(Drop)]
 pub struct Case {
     key: PacketKey,
     mac: HmacKey,
     wire: Vec<u8>,
     reader: PacketReader,
+    pair: KeyPair,
+    signature: [u8; 64],
     // What the calls answered, so that none of them is idle.
     sum: usize,
 }
@@ -46,11 +52,14 @@ impl Case {
         let mut filler = ZEROS;
         let mut wire = Vec::new(alloc);
         write_packet::<Aes128Gcm, ToyFiller>(payload, Some(&key), 0, &mut filler, &mut wire)?;
+        let pair = KeyPair::from_seed(&[6; 32]);
         Ok(Case {
             key,
             mac: HmacKey::new(&[3; 32]),
             wire,
             reader: PacketReader::new(alloc)?,
+            pair,
+            signature: pair.sign(&HASH),
             sum: 0,
         })
     }
@@ -97,6 +106,24 @@ impl Case {
         let start = Instant::now(rt)?;
         for _ in 0..count {
             self.sum ^= agreed();
+        }
+        start.elapsed(rt)
+    }
+
+    /// The time of so many signatures of a hash.
+    pub fn sign<R: Clock>(&mut self, rt: &R, count: usize) -> io::Result<Duration> {
+        let start = Instant::now(rt)?;
+        for _ in 0..count {
+            self.sum ^= self.pair.sign(&HASH)[0] as usize;
+        }
+        start.elapsed(rt)
+    }
+
+    /// The time of so many verifications of one.
+    pub fn verify<R: Clock>(&mut self, rt: &R, count: usize) -> io::Result<Duration> {
+        let start = Instant::now(rt)?;
+        for _ in 0..count {
+            self.sum ^= verify(self.pair.public(), &HASH, &self.signature) as usize;
         }
         start.elapsed(rt)
     }

@@ -1,4 +1,5 @@
-//! Times sealing and opening packets under `Aes128Gcm`, and an agreement by X25519, against the HMAC-SHA-256 of the kit.
+//! Times sealing and opening packets under `Aes128Gcm`, an agreement by X25519, and signatures by Ed25519, against the HMAC-SHA-256 of the
+//! kit.
 //!
 //! `run ROUNDS` times each in so many rounds and takes the fastest. Called otherwise, it says so and times nothing.
 #![tactic(auto)]
@@ -17,20 +18,21 @@ mod ratio;
 // How many bytes of payloads are timed at once.
 const BYTES: usize = 262_144;
 
-// How many agreements are.
-const AGREEMENTS: usize = 8;
+// How many agreements, signatures and verifications are.
+const CALLS: usize = 8;
 
 fn main(rt: HostRuntime) -> io::Result<()> {
     let Some(rounds) = rounds_of(&rt)? else {
         return println!(rt; "usage: ssh_parts_bench run ROUNDS");
     };
     println!(rt;
-        "Times of AES-128-GCM and X25519 as ratios to HMAC-SHA-256, the fastest of {rounds} rounds"
+        "Times of AES-128-GCM, X25519 and Ed25519 as ratios to HMAC-SHA-256, the fastest of {rounds} rounds"
     )?;
     measure(&rt, 64, rounds)?;
     measure(&rt, 1024, rounds)?;
     measure(&rt, 32_768, rounds)?;
-    measure_agreement(&rt, rounds)
+    measure_agreement(&rt, rounds)?;
+    measure_signatures(&rt, rounds)
 }
 
 // The number behind the word `run`.
@@ -72,11 +74,30 @@ fn measure_agreement<R: Clock + Print + AllocGlobal>(rt: &R, rounds: u32) -> io:
     let mut shared = Duration::MAX;
     let mut hmac = Duration::MAX;
     for _ in 0..rounds {
-        shared = shared.min(case.share(rt, AGREEMENTS)?);
-        hmac = hmac.min(case.hmac(rt, &payload, AGREEMENTS)?);
+        shared = shared.min(case.share(rt, CALLS)?);
+        hmac = hmac.min(case.hmac(rt, &payload, CALLS)?);
     }
     println!(rt;
         "an agreement by X25519, to the HMAC of 1024 bytes: {}",
         Ratio(shared, hmac)
+    )
+}
+
+// Prints the ratios of a signature and of its verification to the HMAC of 1 KiB.
+fn measure_signatures<R: Clock + Print + AllocGlobal>(rt: &R, rounds: u32) -> io::Result<()> {
+    let payload = [0x61; 1024];
+    let mut case = Case::new(rt.alloc(), &payload)?;
+    let mut signed = Duration::MAX;
+    let mut verified = Duration::MAX;
+    let mut hmac = Duration::MAX;
+    for _ in 0..rounds {
+        signed = signed.min(case.sign(rt, CALLS)?);
+        verified = verified.min(case.verify(rt, CALLS)?);
+        hmac = hmac.min(case.hmac(rt, &payload, CALLS)?);
+    }
+    println!(rt;
+        "Ed25519, to the HMAC of 1024 bytes: a signature {}, its verification {}",
+        Ratio(signed, hmac),
+        Ratio(verified, hmac)
     )
 }

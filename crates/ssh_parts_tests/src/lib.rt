@@ -1,4 +1,4 @@
-//! Tests of `aes_gcm`, `x25519` and `ssh_parts` by published vectors, and by packets that another implementation sealed.
+//! Tests of `aes_gcm`, `x25519`, `ed25519` and `ssh_parts` by published vectors, and by packets that another implementation sealed.
 #![tactic(auto)]
 
 #[cfg(test)]
@@ -7,5 +7,9 @@ mod aes128;
 mod aes128_gcm;
 #[cfg(test)]
 mod curve25519;
+#[cfg(test)]
+mod ed25519_parts;
+#[cfg(test)]
+mod ed25519_vectors;
 #[cfg(test)]
 mod either;

@@ -1,11 +1,10 @@
 -- How large products of limbs are, and what is picked by a mask.
-use Rattle.std.proofs.Common.{◌≡◌, ℕ, zero, suc, ◌+◌, ◌*◌, ◌-◌, ◌%◌, ◌≤◌, ◌<◌, ◌^◌, bit_and, bit_xor, refl, ap, sym, ◌∙◌, arith}
+use Rattle.std.proofs.Common.{◌≡◌, ℕ, zero, suc, ◌*◌, ◌≤◌, ◌<◌, ◌^◌, bit_and, bit_xor, ap, sym, ◌∙◌, arith}
 use Rattle.std.proofs.lemmas.Nat.{and_mask, mul-lt, xor_lt}
 use Rattle.std.proofs.Math.Nat.{mod-eq_of_lt}
 use Rattle.std.specs.Int.Bits.{and_zero_r, xor_assoc, xor_self, xor_zero_l, xor_zero_r}
 use Rattle.x25519.specs.declared.field.Element.{Element}
-use Rattle.x25519.specs.Field.{AreBelow}
-use Rattle.x25519.specs.Curve.{picked, chosen}
+use Rattle.x25519.specs.Field.{AreBelow, chosen, picked}
 
 -- of a loose limb, and of one taken nineteen times
 pub small_product : (x y : ℕ) → x < 2 ^ 54 → y < 2 ^ 59 → x * y < 2 ^ 113

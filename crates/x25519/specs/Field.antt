@@ -11,6 +11,18 @@ pub record AreBelow (most : ℕ) (x : Element) : Type 0 where
   pub d : x.d < most
   pub e : x.e < most
 
+-- the prime
+abbrev pub prime : ℕ
+prime = 2 ^ 255 - 19
+
+-- the number that limbs are
+abbrev pub number : Element → ℕ
+number x = x.a + x.b * 2 ^ 51 + x.c * 2 ^ 102 + x.d * 2 ^ 153 + x.e * 2 ^ 204
+
+-- the number below the prime that it stands for
+unfoldable pub residue : Element → ℕ
+residue x = number x % prime
+
 -- what a product gives
 abbrev pub IsTight : Element → Type 0
 IsTight x = AreBelow (2 ^ 52) x
@@ -77,6 +89,16 @@ product x y = carried (record { a = row_a x y; b = row_b x y; c = row_c x y; d =
 unfoldable pub times_small : Element → ℕ → Element
 times_small x n = carried (record { a = x.a * n; b = x.b * n; c = x.c * n; d = x.d * n; e = x.e * n })
 
-unfoldable pub squared_times : Element → ℕ → Element
-squared_times x zero = x
-squared_times x (suc n) = product (squared_times x n) (squared_times x n)
+-- the first where the choice is zero, and else the second
+abbrev pub picked : ℕ → ℕ → ℕ → ℕ
+picked zero x y = x
+picked (suc n) x y = y
+
+unfoldable pub chosen : ℕ → Element → Element → Element
+chosen choice x y = record {
+  a = picked choice x.a y.a;
+  b = picked choice x.b y.b;
+  c = picked choice x.c y.c;
+  d = picked choice x.d y.d;
+  e = picked choice x.e y.e;
+}

@@ -1,7 +1,8 @@
 //! The field of 2^255 - 19 elements (RFC 7748 section 4.1), in five limbs of 51 bits and some more. No sum and no product wraps.
 
 ghost use Rattle.std.specs.Prelude.{◌≡◌, ◌<◌, ◌≤◌, ◌+◌, ◌*◌, ◌^◌};
-ghost use Rattle.x25519.specs.Field.{IsLoose, IsTight, IsWide, carried, difference, product, row_a, row_b, row_c, row_d, row_e, squared_times, sum, times_small};
+ghost use Rattle.x25519.specs.Field.{IsLoose, IsTight, IsWide, carried, chosen, difference, picked, product, residue, row_a, row_b, row_c, row_d, row_e, sum, times_small};
+ghost use Rattle.x25519.specs.Residues.{minus, plus, times as times_modulo};
 
 /// An element: the number that is the sum of its limbs, where the limb k is worth 2^(51 k). An element is tight where each limb is below
 /// 2^52, and loose where each is below 2^54.
@@ -24,7 +25,8 @@ pub(crate) struct Wide {
     e: u128,
 }
 
-pub(crate) const ZERO: Element = Element {
+/// The element 0.
+pub const ZERO: Element = Element {
     a: 0,
     b: 0,
     c: 0,
@@ -32,7 +34,8 @@ pub(crate) const ZERO: Element = Element {
     e: 0,
 };
 
-pub(crate) const ONE: Element = Element {
+/// The element 1.
+pub const ONE: Element = Element {
     a: 1,
     b: 0,
     c: 0,
@@ -43,13 +46,14 @@ pub(crate) const ONE: Element = Element {
 // 2^51.
 const LIMB: u128 = 0x8_0000_0000_0000;
 
-// The sum of two tight elements is loose.
+/// The sum of two tight elements, which is loose.
 #[inline(always)]
-#[tactic(auto, unfolding(crate::specs::Field::sum))]
-pub(crate) fn sum(x: Element, y: Element) -> Element
+#[tactic(auto, unfolding(crate::specs::Field::sum), using(crate::proofs::Modulo::sum_residue))]
+pub fn sum(x: Element, y: Element) -> Element
     requires x { IsTight x }
     requires y { IsTight y }
     ensures value { result ≡ sum x y }
+    ensures residue { residue result ≡ plus (residue x) (residue y) }
     ensures loose { IsLoose result }
 {
     Element {
@@ -61,13 +65,14 @@ pub(crate) fn sum(x: Element, y: Element) -> Element
     }
 }
 
-// So is their difference. Four times the prime is added first, so that no limb falls below zero.
+/// The difference of two tight elements, which is loose. Four times the prime is added first, so that no limb falls below zero.
 #[inline(always)]
-#[tactic(auto, unfolding(crate::specs::Field::difference))]
-pub(crate) fn difference(x: Element, y: Element) -> Element
+#[tactic(auto, unfolding(crate::specs::Field::difference), using(crate::proofs::Modulo::difference_residue))]
+pub fn difference(x: Element, y: Element) -> Element
     requires x { IsTight x }
     requires y { IsTight y }
     ensures value { result ≡ difference x y }
+    ensures residue { residue result ≡ minus (residue x) (residue y) }
     ensures loose { IsLoose result }
 {
     Element {
@@ -186,13 +191,14 @@ fn row_e(x: Element, y: Element) -> u128
     )
 }
 
-// The product of two loose elements is tight.
+/// The product of two loose elements, which is tight.
 #[inline(always)]
-#[tactic(auto, unfolding(crate::specs::Field::product))]
-pub(crate) fn product(x: Element, y: Element) -> Element
+#[tactic(auto, unfolding(crate::specs::Field::product), using(crate::proofs::Modulo::product_residue))]
+pub fn product(x: Element, y: Element) -> Element
     requires x { IsLoose x }
     requires y { IsLoose y }
     ensures value { result ≡ product x y }
+    ensures residue { residue result ≡ times_modulo (residue x) (residue y) }
     ensures tight { IsTight result }
     ensures loose { IsLoose result }
 {
@@ -229,13 +235,14 @@ fn carried(w: Wide) -> Element
     }
 }
 
-// The element so many times, at most 2^17.
+/// The element so many times, at most 2^17.
 #[inline(always)]
-#[tactic(auto, unfolding(crate::specs::Field::times_small))]
-pub(crate) fn times_small(x: Element, n: u64) -> Element
+#[tactic(auto, unfolding(crate::specs::Field::times_small), using(crate::proofs::Modulo::times_small_residue))]
+pub fn times_small(x: Element, n: u64) -> Element
     requires x { IsLoose x }
     requires n { n ≤ 2 ^ 17 }
     ensures value { result ≡ times_small x n }
+    ensures residue { residue result ≡ times_modulo (residue x) n }
     ensures tight { IsTight result }
 {
     carried(Wide {
@@ -247,16 +254,59 @@ pub(crate) fn times_small(x: Element, n: u64) -> Element
     })
 }
 
-// The element squared so often.
-#[tactic(auto, using(crate::proofs::Steps::one_square), unfolding(crate::specs::Field::squared_times))]
-pub(crate) fn squared_times(x: Element, count: usize) -> Element
+/// The same number as a tight element.
+#[inline(always)]
+#[tactic(auto, using(crate::proofs::Modulo::times_one))]
+pub fn tightened(x: Element) -> Element
     requires { IsLoose x }
-    ensures value { result ≡ squared_times x count }
-    ensures loose { IsLoose result }
+    ensures residue { residue result ≡ residue x }
+    ensures tight { IsTight result }
 {
-    let mut y = x;
-    for i in 0..count {
-        y = product(y, y);
-    }
-    y
+    product(x, ONE)
 }
+
+/// The opposite of a tight element, which is tight.
+#[tactic(auto, using(crate::proofs::Modulo::residue_of_zero))]
+pub fn negated(x: Element) -> Element
+    requires { IsTight x }
+    ensures residue { residue result ≡ minus 0 (residue x) }
+    ensures tight { IsTight result }
+{
+    tightened(difference(ZERO, x))
+}
+
+/// The second where the choice is 1, and the first where it is 0. No branch depends on the choice.
+#[inline(always)]
+#[tactic(auto, unfolding(crate::specs::Field::chosen), using(crate::proofs::Bounds::chosen_below))]
+pub fn chosen(choice: u64, x: Element, y: Element) -> Element
+    requires choice { choice ≤ 1 }
+    requires x { IsTight x }
+    requires y { IsTight y }
+    ensures value { result ≡ chosen choice x y }
+    ensures tight { IsTight result }
+{
+    Element {
+        a: picked(choice, x.a, y.a),
+        b: picked(choice, x.b, y.b),
+        c: picked(choice, x.c, y.c),
+        d: picked(choice, x.d, y.d),
+        e: picked(choice, x.e, y.e),
+    }
+}
+
+/// The second number where the choice is 1, and the first where it is 0. No branch depends on the choice.
+#[inline(always)]
+#[tactic(auto, using(crate::proofs::Bounds::picked_by_mask))]
+pub fn picked(choice: u64, x: u64, y: u64) -> u64
+    requires { choice ≤ 1 }
+    ensures { result ≡ picked choice x y }
+{
+    x ^ ((x ^ y) & choice * u64::MAX)
+}
+
+/// Law: what is tight is loose.
+#[inline(always)]
+pub fn is_loose(x: Element)
+    requires { IsTight x }
+    ensures { IsLoose x }
+{}

@@ -1,0 +1,5 @@
+pub mod Steps
+pub mod Constants
+pub mod Sums
+pub mod Products
+pub mod Curve

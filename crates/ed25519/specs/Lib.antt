@@ -1,0 +1,4 @@
+pub mod Point
+pub mod Encoding
+pub mod Scalar
+pub mod Signature

@@ -1,0 +1,18 @@
+//! Ed25519 (RFC 8032 section 5.1): key pairs, signatures and their verification.
+//!
+//! ```rust
+//! let pair = KeyPair::from_seed(&seed);
+//! let signature = pair.sign(message);
+//! let good = verify(pair.public(), message, &signature);
+//! ```
+#![tactic(auto)]
+
+mod encoding;
+mod keys;
+pub mod laws;
+mod point;
+mod scalar;
+mod verification;
+
+pub use keys::KeyPair;
+pub use verification::verify;

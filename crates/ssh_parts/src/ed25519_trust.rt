@@ -1,0 +1,35 @@
+//! What a client trusts: one host key of ssh-ed25519.
+
+ghost use Rattle.std.specs.Prelude.{◌≡◌};
+ghost use Rattle.ssh_parts.specs.Ed25519.{is_trusted, trust_in};
+
+use crate::ed25519_blobs::{NAME, has_signed, key_blob, key_in};
+use ssh_kex::HostTrust;
+
+/// Trusts one host, by its key of ssh-ed25519 (RFC 8709), and no other algorithm.
+#[derive(Clone, Copy, Debug, PartialEq, Eq)]
+pub struct Ed25519Trust {
+    /// The 32 bytes of the public key.
+    pub public: [u8; 32],
+}
+
+impl Ed25519Trust {
+    /// Trust in the host whose key goes over the wire as these bytes (RFC 8709 section 4); `None` where they are no key of ssh-ed25519.
+    pub fn from_key(key: &[u8]) -> Option<Ed25519Trust>
+        ensures { result ≡ trust_in key.now }
+    {
+        Some(Ed25519Trust {
+            public: key_in(key)?,
+        })
+    }
+}
+
+impl HostTrust for Ed25519Trust {
+    ghost judged = { λ trust. is_trusted trust.public };
+
+    fn judge(&self, algorithm: &[u8], key: &[u8], hash: &[u8; 32], signature: &[u8]) -> bool {
+        algorithm == NAME
+            && key == key_blob(&self.public).as_slice()
+            && has_signed(&self.public, hash, signature)
+    }
+}
