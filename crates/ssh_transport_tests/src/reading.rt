@@ -1,5 +1,6 @@
 //! The loop by which a program reads a stream that comes in any pieces.
 
+use crate::checking::same;
 use crate::incoming::{Found, Incoming};
 use ssh_types::Refusal;
 use std::test::*;
@@ -82,12 +83,13 @@ fn a_stream_is_read_in_any_pieces(rt: HostRuntime) -> Result<(), Fail> {
             assert!(rt; read.is_ok());
             seen = read.unwrap_or(NOTHING);
         }
-        assert_eq!(rt; seen, wanted);
-        assert_eq!(rt;
+        same!(rt, seen, wanted);
+        same!(
+            rt,
             incoming.version_line(),
             Some(b"SSH-2.0-OpenSSH_9.2p1".as_slice())
         );
-        assert_eq!(rt; incoming.payload(), b"\x15".as_slice());
+        same!(rt, incoming.payload(), b"\x15".as_slice());
     }
     Ok(())
 }
@@ -106,8 +108,8 @@ fn a_refused_stream_stays_refused(rt: HostRuntime) -> Result<(), Fail> {
     ];
     for (bytes, refusal) in table {
         let mut incoming = Incoming::new(rt.alloc())?;
-        assert_eq!(rt; read(&mut incoming, bytes, NOTHING), Err(refusal));
-        assert_eq!(rt; read(&mut incoming, NEWKEYS, NOTHING), Err(refusal));
+        same!(rt, read(&mut incoming, bytes, NOTHING), Err(refusal));
+        same!(rt, read(&mut incoming, NEWKEYS, NOTHING), Err(refusal));
     }
     Ok(())
 }
