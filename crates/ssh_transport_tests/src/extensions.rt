@@ -38,7 +38,7 @@ fn named<'a>(names: &'static [&'static [u8]], value: &'a [u8]) -> [Extension<'a>
 fn extensions(rt: HostRuntime) -> Result<(), Fail> {
     let bytes = [0u8; 1025];
     let good: &'static [&'static [u8]] = &[b"a", b"b"];
-    let table: [(&'static [&'static [u8]], usize, Option<ExtensionFault>); 9] = [
+    let table: &[(&'static [&'static [u8]], usize, Option<ExtensionFault>)] = &[
         (good, 0, None),
         (good, 1024, None),
         (good, 1025, Some(ExtensionFault::LongValue)),
@@ -53,7 +53,7 @@ fn extensions(rt: HostRuntime) -> Result<(), Fail> {
             Some(ExtensionFault::NotName),
         ),
     ];
-    for (names, size, fault) in table {
+    for &(names, size, fault) in table {
         let extensions = named(names, &bytes[..size]);
         let found = extension_fault(rt.alloc(), true, &extensions);
         same_at(&rt, (names, size), found, fault);

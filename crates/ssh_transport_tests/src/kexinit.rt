@@ -108,13 +108,13 @@ fn the_first_kexinit_of_a_client(rt: HostRuntime) -> Result<(), Fail> {
 
 #[test]
 fn the_marker_is_last_in_the_first_and_in_no_later(rt: HostRuntime) -> Result<(), Fail> {
-    let table = [
+    let table = &[
         (Side::Client, true, CLIENT_KEX, 165),
         (Side::Client, false, LATER_KEX, 136),
         (Side::Server, true, SERVER_KEX, 165),
         (Side::Server, false, LATER_KEX, 136),
     ];
-    for (side, first, kex, length) in table {
+    for &(side, first, kex, length) in table {
         let payload = payload(rt.alloc(), side, first)?;
         same!(rt, payload.len(), length);
         assert!(rt; is_offer(&payload, kex));
@@ -124,7 +124,7 @@ fn the_marker_is_last_in_the_first_and_in_no_later(rt: HostRuntime) -> Result<()
 
 #[test]
 fn the_markers_are_those_that_the_settings_offer(rt: HostRuntime) -> Result<(), Fail> {
-    let table: [(Side, Strictness, bool, &[u8], usize); 6] = [
+    let table: &[(Side, Strictness, bool, &[u8], usize)] = &[
         (Side::Client, Strictness::Off, false, LATER_KEX, 136),
         (Side::Client, Strictness::Offer, false, CLIENT_KEX, 165),
         (
@@ -156,7 +156,7 @@ fn the_markers_are_those_that_the_settings_offer(rt: HostRuntime) -> Result<(), 
             176,
         ),
     ];
-    for (side, strictness, takes_extensions, kex, length) in table {
+    for &(side, strictness, takes_extensions, kex, length) in table {
         let settings = Settings {
             strictness,
             takes_extensions,

@@ -97,7 +97,7 @@ fn a_stream_is_read_in_any_pieces(rt: HostRuntime) -> Result<(), Fail> {
 // The bytes that come, and why they are refused.
 #[test]
 fn a_refused_stream_stays_refused(rt: HostRuntime) -> Result<(), Fail> {
-    let table: [(&[u8], Refusal); 4] = [
+    let table: &[(&[u8], Refusal)] = &[
         (b"SSH-1.5-x\r\n", Refusal::BadVersion),
         (b"SSH-2.0-x\n", Refusal::BadLine),
         (b"SSH-2.0-x\r\n\0\0\0\x0d", Refusal::BadLength),
@@ -106,7 +106,7 @@ fn a_refused_stream_stays_refused(rt: HostRuntime) -> Result<(), Fail> {
             Refusal::BadPadding,
         ),
     ];
-    for (bytes, refusal) in table {
+    for &(bytes, refusal) in table {
         let mut incoming = Incoming::new(rt.alloc())?;
         same!(rt, read(&mut incoming, bytes, NOTHING), Err(refusal));
         same!(rt, read(&mut incoming, NEWKEYS, NOTHING), Err(refusal));
