@@ -1,5 +1,6 @@
 //! EOF and CLOSE.
 
+use crate::checking::same;
 use crate::end::{End, PEER, PEER_OPENS, closed, sent, told};
 use ssh_channels::{Ask, ChannelState, Fact, Reply};
 use ssh_message::Message;
@@ -18,21 +19,23 @@ const REPLY: Reply = Reply::Close {
 #[test]
 fn eof_ends_data_and_close_everything(rt: HostRuntime) -> Result<(), Fail> {
     let mut end = End::new(rt.alloc())?;
-    end.open()?;
-    end.confirm(0)?;
+    end.open(&rt);
+    end.confirm(&rt, 0);
     let eof = Ask::Eof { channel: 0 };
     let data = Ask::Data {
         channel: 0,
         kind: None,
         body: b"",
     };
-    assert_eq!(rt;
+    same!(
+        rt,
         end.ask(eof),
         Ok(sent(0, Message::ChannelEof { recipient: PEER }))
     );
-    assert_eq!(rt; end.ask_refusal(eof), Some(AskRefusal::Ended));
-    assert_eq!(rt; end.ask_refusal(data), Some(AskRefusal::Ended));
-    assert_eq!(rt;
+    same!(rt, end.ask_refusal(eof), Some(AskRefusal::Ended));
+    same!(rt, end.ask_refusal(data), Some(AskRefusal::Ended));
+    same!(
+        rt,
         end.ask(CLOSE),
         Ok(sent(0, Message::ChannelClose { recipient: PEER }))
     );
@@ -55,7 +58,7 @@ fn eof_ends_data_and_close_everything(rt: HostRuntime) -> Result<(), Fail> {
             success: true,
         },
     ] {
-        assert_eq!(rt; end.ask_refusal(ask), Some(AskRefusal::Ended));
+        same!(rt, end.ask_refusal(ask), Some(AskRefusal::Ended));
     }
     let state = ChannelState::Confirmed {
         eof_sent: true,
@@ -63,16 +66,16 @@ fn eof_ends_data_and_close_everything(rt: HostRuntime) -> Result<(), Fail> {
         close_sent: true,
         close_taken: false,
     };
-    assert_eq!(rt; (end.state(0), end.count()), (Some(state), 1));
+    same!(rt, (end.state(0), end.count()), (Some(state), 1));
     Ok(())
 }
 
 #[test]
 fn after_an_own_close_the_peer_goes_on(rt: HostRuntime) -> Result<(), Fail> {
     let mut end = End::new(rt.alloc())?;
-    end.open()?;
-    end.confirm(0)?;
-    end.ask(CLOSE)?;
+    end.open(&rt);
+    end.confirm(&rt, 0);
+    end.must_ask(&rt, CLOSE);
     let adjust = Message::ChannelWindowAdjust {
         recipient: 0,
         bytes: 1,
@@ -87,8 +90,8 @@ fn after_an_own_close_the_peer_goes_on(rt: HostRuntime) -> Result<(), Fail> {
         want: true,
         rest: b"",
     };
-    assert_eq!(rt; end.refusal(adjust), None);
-    assert_eq!(rt; end.refusal(data), None);
+    same!(rt, end.refusal(adjust), None);
+    same!(rt, end.refusal(data), None);
     // A request that comes now does not wait for a reply, so there is no limit to them.
     let requested = Fact::Requested {
         channel: 0,
@@ -97,11 +100,11 @@ fn after_an_own_close_the_peer_goes_on(rt: HostRuntime) -> Result<(), Fail> {
         rest: b"",
     };
     for _ in 0..300 {
-        assert_eq!(rt; end.take(request), Ok(told(0, requested)));
+        same!(rt, end.take(request), Ok(told(0, requested)));
     }
-    assert_eq!(rt; end.take(CLOSED), Ok(closed(0, None)));
+    same!(rt, end.take(CLOSED), Ok(closed(0, None)));
     for message in [adjust, data, request, CLOSED] {
-        assert_eq!(rt; end.refusal(message), Some(Refusal::UnknownChannel));
+        same!(rt, end.refusal(message), Some(Refusal::UnknownChannel));
     }
     Ok(())
 }
@@ -110,19 +113,27 @@ fn after_an_own_close_the_peer_goes_on(rt: HostRuntime) -> Result<(), Fail> {
 fn a_number_is_free_after_both_closes(rt: HostRuntime) -> Result<(), Fail> {
     let mut end = End::new(rt.alloc())?;
     // The peer closes first.
-    end.open()?;
-    end.confirm(0)?;
-    assert_eq!(rt; end.take(CLOSED), Ok(closed(0, Some(REPLY))));
-    assert_eq!(rt; REPLY.message(), Message::ChannelClose { recipient: PEER });
-    assert_eq!(rt; (end.state(0), end.room(0), end.count()), (None, None, 0));
+    end.open(&rt);
+    end.confirm(&rt, 0);
+    same!(rt, end.take(CLOSED), Ok(closed(0, Some(REPLY))));
+    same!(
+        rt,
+        REPLY.message(),
+        Message::ChannelClose { recipient: PEER }
+    );
+    same!(
+        rt,
+        (end.state(0), end.room(0), end.count()),
+        (None, None, 0)
+    );
     // The two CLOSEs cross.
-    assert_eq!(rt; end.open()?, Some(0));
-    end.confirm(0)?;
-    end.ask(CLOSE)?;
-    assert_eq!(rt; end.open()?, Some(1));
-    assert_eq!(rt; end.take(CLOSED), Ok(closed(0, None)));
-    assert_eq!(rt; (end.state(0), end.count()), (None, 1));
-    assert_eq!(rt; end.take(PEER_OPENS)?.channel, Some(0));
+    same!(rt, end.open(&rt), Some(0));
+    end.confirm(&rt, 0);
+    end.must_ask(&rt, CLOSE);
+    same!(rt, end.open(&rt), Some(1));
+    same!(rt, end.take(CLOSED), Ok(closed(0, None)));
+    same!(rt, (end.state(0), end.count()), (None, 1));
+    same!(rt, end.must_take(&rt, PEER_OPENS).channel, Some(0));
     Ok(())
 }
 
@@ -130,34 +141,35 @@ fn a_number_is_free_after_both_closes(rt: HostRuntime) -> Result<(), Fail> {
 fn a_close_is_owed_over_a_key_exchange(rt: HostRuntime) -> Result<(), Fail> {
     let mut end = End::new(rt.alloc())?;
     for number in 0..2 {
-        end.open()?;
-        end.confirm(number)?;
+        end.open(&rt);
+        end.confirm(&rt, number);
     }
     let other = Message::ChannelClose { recipient: 1 };
-    assert_eq!(rt; end.take_blocked(other), Ok(closed(1, None)));
-    assert_eq!(rt; end.take_blocked(CLOSED), Ok(closed(0, None)));
+    same!(rt, end.take_blocked(other), Ok(closed(1, None)));
+    same!(rt, end.take_blocked(CLOSED), Ok(closed(0, None)));
     let state = ChannelState::Confirmed {
         eof_sent: false,
         eof_taken: false,
         close_sent: false,
         close_taken: true,
     };
-    assert_eq!(rt;
+    same!(
+        rt,
         (end.state(0), end.room(0), end.count()),
         (Some(state), None, 2)
     );
-    assert_eq!(rt; end.refusal(CLOSED), Some(Refusal::UnknownChannel));
-    assert_eq!(rt; end.ask_refusal(CLOSE), Some(AskRefusal::NoChannel));
+    same!(rt, end.refusal(CLOSED), Some(Refusal::UnknownChannel));
+    same!(rt, end.ask_refusal(CLOSE), Some(AskRefusal::NoChannel));
     // The peer may have a new channel in mind, but its numbers are not free yet.
-    assert_eq!(rt; end.take_blocked(PEER_OPENS)?.channel, Some(2));
+    same!(rt, end.take_blocked(PEER_OPENS)?.channel, Some(2));
     let first = Reply::Close {
         channel: 1,
         recipient: PEER,
     };
-    assert_eq!(rt; end.unblock(), Some(first));
-    assert_eq!(rt; (end.state(1), end.state(0)), (None, Some(state)));
-    assert_eq!(rt; end.unblock(), Some(REPLY));
-    assert_eq!(rt; end.unblock(), None);
-    assert_eq!(rt; (end.state(0), end.count()), (None, 1));
+    same!(rt, end.unblock(), Some(first));
+    same!(rt, (end.state(1), end.state(0)), (None, Some(state)));
+    same!(rt, end.unblock(), Some(REPLY));
+    same!(rt, end.unblock(), None);
+    same!(rt, (end.state(0), end.count()), (None, 1));
     Ok(())
 }

@@ -1,5 +1,6 @@
 //! Data and windows.
 
+use crate::checking::{same, same_at};
 use crate::end::{End, PEER, sent, told, zeros};
 use ssh_channels::{Ask, Fact};
 use ssh_message::Message;
@@ -36,44 +37,50 @@ fn extended(body: &[u8]) -> Message<'_> {
 #[test]
 fn data_and_extended_data_use_one_window(rt: HostRuntime) -> Result<(), Fail> {
     let mut end = End::new(rt.alloc())?;
-    end.open()?;
-    end.confirm(0)?;
-    assert_eq!(rt; end.room(0), Some(10));
+    end.open(&rt);
+    end.confirm(&rt, 0);
+    same!(rt, end.room(0), Some(10));
     let message = Message::ChannelData {
         recipient: PEER,
         body: b"abcdef",
     };
-    assert_eq!(rt; end.ask(send(None, b"abcdef")), Ok(sent(0, message)));
-    assert_eq!(rt; end.room(0), Some(4));
+    same!(rt, end.ask(send(None, b"abcdef")), Ok(sent(0, message)));
+    same!(rt, end.room(0), Some(4));
     let message = Message::ChannelExtendedData {
         recipient: PEER,
         kind: 1,
         body: b"ghij",
     };
-    assert_eq!(rt; end.ask(send(Some(1), b"ghij")), Ok(sent(0, message)));
-    assert_eq!(rt; end.room(0), Some(0));
-    assert_eq!(rt;
+    same!(rt, end.ask(send(Some(1), b"ghij")), Ok(sent(0, message)));
+    same!(rt, end.room(0), Some(0));
+    same!(
+        rt,
         end.ask_refusal(send(Some(1), b"k")),
         Some(AskRefusal::NoRoom)
     );
-    assert_eq!(rt; end.room(0), Some(0));
-    assert_eq!(rt; end.ask_refusal(send(None, b"")), None);
+    same!(rt, end.room(0), Some(0));
+    same!(rt, end.ask_refusal(send(None, b"")), None);
     Ok(())
 }
 
 #[test]
 fn a_window_is_not_overrun(rt: HostRuntime) -> Result<(), Fail> {
     let mut end = End::new(rt.alloc())?;
-    end.open()?;
-    end.confirm(0)?;
-    assert_eq!(rt; end.refusal(data(&[0; 11])), Some(Refusal::WindowOverrun));
+    end.open(&rt);
+    end.confirm(&rt, 0);
+    same!(
+        rt,
+        end.refusal(data(&[0; 11])),
+        Some(Refusal::WindowOverrun)
+    );
     let got = Fact::GotData {
         channel: 0,
         kind: None,
         body: b"abcdef",
     };
-    assert_eq!(rt; end.take(data(b"abcdef")), Ok(told(0, got)));
-    assert_eq!(rt;
+    same!(rt, end.take(data(b"abcdef")), Ok(told(0, got)));
+    same!(
+        rt,
         end.refusal(extended(&[0; 5])),
         Some(Refusal::WindowOverrun)
     );
@@ -82,8 +89,8 @@ fn a_window_is_not_overrun(rt: HostRuntime) -> Result<(), Fail> {
         kind: Some(1),
         body: b"ghij",
     };
-    assert_eq!(rt; end.take(extended(b"ghij")), Ok(told(0, got)));
-    assert_eq!(rt; end.refusal(data(b"k")), Some(Refusal::WindowOverrun));
+    same!(rt, end.take(extended(b"ghij")), Ok(told(0, got)));
+    same!(rt, end.refusal(data(b"k")), Some(Refusal::WindowOverrun));
     // 2^32 - 1 bytes are the largest window.
     let largest = Ask::Adjust {
         channel: 0,
@@ -93,37 +100,38 @@ fn a_window_is_not_overrun(rt: HostRuntime) -> Result<(), Fail> {
         recipient: PEER,
         bytes: 4_294_967_295,
     };
-    assert_eq!(rt; end.ask(largest), Ok(sent(0, message)));
+    same!(rt, end.ask(largest), Ok(sent(0, message)));
     let one = Ask::Adjust {
         channel: 0,
         bytes: 1,
     };
-    assert_eq!(rt; end.ask_refusal(one), Some(AskRefusal::TooMuch));
-    assert_eq!(rt; end.refusal(data(b"k")), None);
-    assert_eq!(rt; end.ask_refusal(one), None);
+    same!(rt, end.ask_refusal(one), Some(AskRefusal::TooMuch));
+    same!(rt, end.refusal(data(b"k")), None);
+    same!(rt, end.ask_refusal(one), None);
     Ok(())
 }
 
 #[test]
 fn a_window_does_not_wrap(rt: HostRuntime) -> Result<(), Fail> {
     let mut end = End::new(rt.alloc())?;
-    end.open()?;
-    end.confirm(0)?;
-    end.ask(send(None, b"abcdefghi"))?;
-    assert_eq!(rt; end.room(0), Some(1));
-    assert_eq!(rt;
+    end.open(&rt);
+    end.confirm(&rt, 0);
+    end.must_ask(&rt, send(None, b"abcdefghi"));
+    same!(rt, end.room(0), Some(1));
+    same!(
+        rt,
         end.refusal(adjust(4_294_967_295)),
         Some(Refusal::WindowTooLarge)
     );
-    assert_eq!(rt; end.room(0), Some(1));
+    same!(rt, end.room(0), Some(1));
     let adjusted = Fact::Adjusted {
         channel: 0,
         bytes: 4_294_967_294,
     };
-    assert_eq!(rt; end.take(adjust(4_294_967_294)), Ok(told(0, adjusted)));
-    assert_eq!(rt; end.room(0), Some(4_294_967_295));
-    assert_eq!(rt; end.refusal(adjust(1)), Some(Refusal::WindowTooLarge));
-    assert_eq!(rt; end.refusal(adjust(0)), None);
+    same!(rt, end.take(adjust(4_294_967_294)), Ok(told(0, adjusted)));
+    same!(rt, end.room(0), Some(4_294_967_295));
+    same!(rt, end.refusal(adjust(1)), Some(Refusal::WindowTooLarge));
+    same!(rt, end.refusal(adjust(0)), None);
     Ok(())
 }
 
@@ -138,7 +146,7 @@ fn data_have_a_largest_size(rt: HostRuntime) -> Result<(), Fail> {
         (4_294_967_295, 32_769, Some(AskRefusal::TooLong)),
     ] {
         let mut end = End::new(rt.alloc())?;
-        end.open()?;
+        end.open(&rt);
         let confirmation = Message::ChannelOpenConfirmation {
             recipient: 0,
             sender: PEER,
@@ -146,12 +154,13 @@ fn data_have_a_largest_size(rt: HostRuntime) -> Result<(), Fail> {
             max,
             rest: b"",
         };
-        end.take(confirmation)?;
+        end.must_take(&rt, confirmation);
         let body = zeros(rt.alloc(), size)?;
-        assert_eq!(rt;
+        same_at(
+            &rt,
+            ("sent", size, max),
             end.ask_refusal(send(None, &body)),
             wanted,
-            "{size} bytes of {max}"
         );
     }
     for (max_packet, size, wanted) in [
@@ -167,13 +176,14 @@ fn data_have_a_largest_size(rt: HostRuntime) -> Result<(), Fail> {
             max_packet,
             rest: b"",
         };
-        end.ask(ask)?;
-        end.confirm(0)?;
+        end.must_ask(&rt, ask);
+        end.confirm(&rt, 0);
         let body = zeros(rt.alloc(), size)?;
-        assert_eq!(rt;
+        same_at(
+            &rt,
+            ("taken", size, max_packet),
             end.refusal(data(&body)),
             wanted,
-            "took {size} bytes of {max_packet}"
         );
     }
     Ok(())
@@ -182,15 +192,15 @@ fn data_have_a_largest_size(rt: HostRuntime) -> Result<(), Fail> {
 #[test]
 fn after_eof_no_data_go(rt: HostRuntime) -> Result<(), Fail> {
     let mut end = End::new(rt.alloc())?;
-    end.open()?;
-    end.confirm(0)?;
+    end.open(&rt);
+    end.confirm(&rt, 0);
     let eof = Message::ChannelEof { recipient: 0 };
-    assert_eq!(rt; end.take(eof), Ok(told(0, Fact::Ended { channel: 0 })));
-    assert_eq!(rt; end.refusal(eof), Some(Refusal::Unexpected));
-    assert_eq!(rt; end.refusal(data(b"")), Some(Refusal::Unexpected));
-    assert_eq!(rt; end.refusal(extended(b"")), Some(Refusal::Unexpected));
+    same!(rt, end.take(eof), Ok(told(0, Fact::Ended { channel: 0 })));
+    same!(rt, end.refusal(eof), Some(Refusal::Unexpected));
+    same!(rt, end.refusal(data(b"")), Some(Refusal::Unexpected));
+    same!(rt, end.refusal(extended(b"")), Some(Refusal::Unexpected));
     // What this end sends, and the window for it, go on.
-    assert_eq!(rt; end.refusal(adjust(1)), None);
-    assert_eq!(rt; end.ask_refusal(send(None, b"a")), None);
+    same!(rt, end.refusal(adjust(1)), None);
+    same!(rt, end.ask_refusal(send(None, b"a")), None);
     Ok(())
 }

@@ -4,6 +4,7 @@ use ssh_channels::{Ask, AskError, ChannelState, Channels, Fact, Reply, Sent, Tak
 use ssh_message::Message;
 use ssh_types::{AskRefusal, Refusal};
 use std::alloc::{AllocError, Global};
+use std::process::Abort;
 
 /// The peer's number of each channel.
 pub const PEER: u32 = 7;
@@ -82,27 +83,37 @@ impl End {
         self.channels.count()
     }
 
+    /// A message that is not refused.
+    pub fn must_take<'a>(&mut self, rt: &impl Abort, message: Message<'a>) -> Taken<'a> {
+        self.take(message).expect(rt, "a message that is taken")
+    }
+
+    /// An ask that is not refused.
+    pub fn must_ask<'a>(&mut self, rt: &impl Abort, ask: Ask<'a>) -> Sent<'a> {
+        self.ask(ask).expect(rt, "an ask that is sent")
+    }
+
     /// The number of a channel that this end opens, with a window of 10 bytes.
-    pub fn open(&mut self) -> Result<Option<u32>, AskError> {
-        let sent = self.ask(Ask::Open {
+    pub fn open(&mut self, rt: &impl Abort) -> Option<u32> {
+        let ask = Ask::Open {
             kind: b"session",
             window: 10,
             max_packet: 32_768,
             rest: b"",
-        })?;
-        Ok(sent.channel)
+        };
+        self.must_ask(rt, ask).channel
     }
 
     /// The peer confirms the channel, with a window of 10 bytes of its own.
-    pub fn confirm(&mut self, channel: u32) -> Result<(), TakeError> {
-        self.take(Message::ChannelOpenConfirmation {
+    pub fn confirm(&mut self, rt: &impl Abort, channel: u32) {
+        let confirmation = Message::ChannelOpenConfirmation {
             recipient: channel,
             sender: PEER,
             window: 10,
             max: 32_768,
             rest: b"",
-        })?;
-        Ok(())
+        };
+        self.must_take(rt, confirmation);
     }
 }
 

@@ -1,5 +1,6 @@
 //! Global requests.
 
+use crate::checking::{same, same_at};
 use crate::end::{End, zeros};
 use ssh_channels::{Ask, Fact, Sent, Taken};
 use ssh_message::Message;
@@ -50,19 +51,24 @@ fn sent(message: Message<'_>) -> Sent<'_> {
 #[test]
 fn each_request_gets_one_reply(rt: HostRuntime) -> Result<(), Fail> {
     let mut end = End::new(rt.alloc())?;
-    assert_eq!(rt; end.ask_refusal(reply(true)), Some(AskRefusal::NothingOwed));
+    same!(
+        rt,
+        end.ask_refusal(reply(true)),
+        Some(AskRefusal::NothingOwed)
+    );
     let global = Fact::Global {
         name: b"keepalive",
         want: true,
         rest: b"r",
     };
     for _ in 0..2 {
-        assert_eq!(rt; end.take(request(true)), Ok(told(global)));
+        same!(rt, end.take(request(true)), Ok(told(global)));
     }
-    end.take(request(false))?;
-    assert_eq!(rt; end.ask(reply(true)), Ok(sent(SUCCESS)));
-    assert_eq!(rt; end.ask(reply(false)), Ok(sent(Message::RequestFailure)));
-    assert_eq!(rt;
+    end.must_take(&rt, request(false));
+    same!(rt, end.ask(reply(true)), Ok(sent(SUCCESS)));
+    same!(rt, end.ask(reply(false)), Ok(sent(Message::RequestFailure)));
+    same!(
+        rt,
         end.ask_refusal(reply(false)),
         Some(AskRefusal::NothingOwed)
     );
@@ -72,26 +78,27 @@ fn each_request_gets_one_reply(rt: HostRuntime) -> Result<(), Fail> {
 #[test]
 fn a_reply_answers_a_request(rt: HostRuntime) -> Result<(), Fail> {
     let mut end = End::new(rt.alloc())?;
-    assert_eq!(rt; end.refusal(SUCCESS), Some(Refusal::Unexpected));
-    end.ask(ask(false))?;
-    assert_eq!(rt;
+    same!(rt, end.refusal(SUCCESS), Some(Refusal::Unexpected));
+    end.must_ask(&rt, ask(false));
+    same!(
+        rt,
         end.refusal(Message::RequestFailure),
         Some(Refusal::Unexpected)
     );
     for _ in 0..2 {
-        assert_eq!(rt; end.ask(ask(true)), Ok(sent(request(true))));
+        same!(rt, end.ask(ask(true)), Ok(sent(request(true))));
     }
     let done = Fact::GlobalDone {
         success: true,
         rest: b"r",
     };
-    assert_eq!(rt; end.take(SUCCESS), Ok(told(done)));
+    same!(rt, end.take(SUCCESS), Ok(told(done)));
     let failed = Fact::GlobalDone {
         success: false,
         rest: b"",
     };
-    assert_eq!(rt; end.take(Message::RequestFailure), Ok(told(failed)));
-    assert_eq!(rt; end.refusal(SUCCESS), Some(Refusal::Unexpected));
+    same!(rt, end.take(Message::RequestFailure), Ok(told(failed)));
+    same!(rt, end.refusal(SUCCESS), Some(Refusal::Unexpected));
     Ok(())
 }
 
@@ -99,18 +106,20 @@ fn a_reply_answers_a_request(rt: HostRuntime) -> Result<(), Fail> {
 fn at_most_256_requests_wait(rt: HostRuntime) -> Result<(), Fail> {
     let mut end = End::new(rt.alloc())?;
     for _ in 0..256 {
-        end.take(request(true))?;
-        end.ask(ask(true))?;
+        end.must_take(&rt, request(true));
+        end.must_ask(&rt, ask(true));
     }
-    assert_eq!(rt; end.refusal(request(true)), Some(Refusal::OwedFull));
-    assert_eq!(rt; end.refusal(request(false)), None);
-    assert_eq!(rt; end.ask_refusal(ask(true)), Some(AskRefusal::Busy));
-    assert_eq!(rt; end.ask_refusal(ask(false)), None);
-    assert_eq!(rt;
+    same!(rt, end.refusal(request(true)), Some(Refusal::OwedFull));
+    same!(rt, end.refusal(request(false)), None);
+    same!(rt, end.ask_refusal(ask(true)), Some(AskRefusal::Busy));
+    same!(rt, end.ask_refusal(ask(false)), None);
+    same!(
+        rt,
         end.refusal_while(ask(true), false, true),
         Some(AskRefusal::Busy)
     );
-    assert_eq!(rt;
+    same!(
+        rt,
         end.refusal_while(ask(false), false, true),
         Some(AskRefusal::RekeyDue)
     );
@@ -127,10 +136,10 @@ fn long_texts_are_refused(rt: HostRuntime) -> Result<(), Fail> {
             want: false,
             rest: &rest,
         };
-        assert_eq!(rt; end.ask_refusal(ask), wanted, "{size} bytes");
+        same_at(&rt, ("request", size), end.ask_refusal(ask), wanted);
     }
-    end.take(request(true))?;
-    end.take(request(true))?;
+    end.must_take(&rt, request(true));
+    end.must_take(&rt, request(true));
     for (success, size, wanted) in [
         (true, 34_000, Some(AskRefusal::TooLong)),
         (true, 33_999, None),
@@ -141,7 +150,7 @@ fn long_texts_are_refused(rt: HostRuntime) -> Result<(), Fail> {
             success,
             rest: &rest,
         };
-        assert_eq!(rt; end.ask_refusal(ask), wanted, "a reply of {size} bytes");
+        same_at(&rt, ("reply", success, size), end.ask_refusal(ask), wanted);
     }
     Ok(())
 }

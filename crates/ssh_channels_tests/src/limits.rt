@@ -1,5 +1,6 @@
 //! 1,024 channels, and 256 replies that are owed.
 
+use crate::checking::same;
 use crate::end::{End, PEER, PEER_OPENS, closed};
 use ssh_channels::{Ask, Reply, TakeError, Taken};
 use ssh_message::{Message, encode};
@@ -23,33 +24,34 @@ fn declined(reply: Option<Reply>) -> Taken<'static> {
 fn an_end_has_1024_channels(rt: HostRuntime) -> Result<(), Fail> {
     let mut end = End::new(rt.alloc())?;
     for number in 0..1024 {
-        assert_eq!(rt; end.open()?, Some(number));
+        same!(rt, end.open(&rt), Some(number));
     }
-    assert_eq!(rt; end.count(), 1024);
+    same!(rt, end.count(), 1024);
     let ask = Ask::Open {
         kind: b"session",
         window: 10,
         max_packet: 0,
         rest: b"",
     };
-    assert_eq!(rt; end.ask_refusal(ask), Some(AskRefusal::TableFull));
-    assert_eq!(rt; end.take(PEER_OPENS), Ok(declined(Some(REFUSED))));
+    same!(rt, end.ask_refusal(ask), Some(AskRefusal::TableFull));
+    same!(rt, end.take(PEER_OPENS), Ok(declined(Some(REFUSED))));
     let mut payload = Vec::new(rt.alloc());
     encode(&REFUSED.message(), &mut payload)?;
-    assert_eq!(rt; payload.as_slice(), OPEN_FAILURE);
-    assert_eq!(rt; (REFUSED.channel(), end.count()), (None, 1024));
+    same!(rt, payload.as_slice(), OPEN_FAILURE);
+    same!(rt, (REFUSED.channel(), end.count()), (None, 1024));
     // Within a key exchange it is owed.
     for _ in 0..256 {
-        assert_eq!(rt; end.take_blocked(PEER_OPENS), Ok(declined(None)));
+        same!(rt, end.take_blocked(PEER_OPENS), Ok(declined(None)));
     }
-    assert_eq!(rt;
+    same!(
+        rt,
         end.take_blocked(PEER_OPENS),
         Err(TakeError::Refused(Refusal::OwedFull))
     );
     for _ in 0..256 {
-        assert_eq!(rt; end.unblock(), Some(REFUSED));
+        same!(rt, end.unblock(), Some(REFUSED));
     }
-    assert_eq!(rt; end.unblock(), None);
+    same!(rt, end.unblock(), None);
     Ok(())
 }
 
@@ -57,7 +59,7 @@ fn an_end_has_1024_channels(rt: HostRuntime) -> Result<(), Fail> {
 fn a_full_table_has_a_place_again(rt: HostRuntime) -> Result<(), Fail> {
     let mut end = End::new(rt.alloc())?;
     for _ in 0..1024 {
-        end.open()?;
+        end.open(&rt);
     }
     let failure = Message::ChannelOpenFailure {
         recipient: 1000,
@@ -65,9 +67,9 @@ fn a_full_table_has_a_place_again(rt: HostRuntime) -> Result<(), Fail> {
         description: b"",
         language: b"",
     };
-    end.take(failure)?;
-    assert_eq!(rt; end.take(PEER_OPENS)?.channel, Some(1000));
-    assert_eq!(rt; end.take(PEER_OPENS), Ok(declined(Some(REFUSED))));
+    end.must_take(&rt, failure);
+    same!(rt, end.must_take(&rt, PEER_OPENS).channel, Some(1000));
+    same!(rt, end.take(PEER_OPENS), Ok(declined(Some(REFUSED))));
     Ok(())
 }
 
@@ -75,32 +77,34 @@ fn a_full_table_has_a_place_again(rt: HostRuntime) -> Result<(), Fail> {
 fn the_257th_close_within_a_key_exchange_is_refused(rt: HostRuntime) -> Result<(), Fail> {
     let mut end = End::new(rt.alloc())?;
     for number in 0..258 {
-        end.open()?;
-        end.confirm(number)?;
+        end.open(&rt);
+        end.confirm(&rt, number);
     }
     // One that this end closed itself needs no reply.
-    end.ask(Ask::Close { channel: 257 })?;
+    end.must_ask(&rt, Ask::Close { channel: 257 });
     for recipient in 0..256 {
-        assert_eq!(rt;
+        same!(
+            rt,
             end.take_blocked(Message::ChannelClose { recipient }),
             Ok(closed(recipient, None))
         );
     }
     let last = Message::ChannelClose { recipient: 256 };
-    assert_eq!(rt;
+    same!(
+        rt,
         end.take_blocked(last),
         Err(TakeError::Refused(Refusal::OwedFull))
     );
     let own = Message::ChannelClose { recipient: 257 };
-    assert_eq!(rt; end.take_blocked(own), Ok(closed(257, None)));
-    assert_eq!(rt; end.count(), 257);
+    same!(rt, end.take_blocked(own), Ok(closed(257, None)));
+    same!(rt, end.count(), 257);
     for channel in 0..256 {
         let reply = Reply::Close {
             channel,
             recipient: PEER,
         };
-        assert_eq!(rt; end.unblock(), Some(reply));
+        same!(rt, end.unblock(), Some(reply));
     }
-    assert_eq!(rt; (end.unblock(), end.count()), (None, 1));
+    same!(rt, (end.unblock(), end.count()), (None, 1));
     Ok(())
 }

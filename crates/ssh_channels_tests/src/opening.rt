@@ -1,5 +1,6 @@
 //! The opening of channels, and their numbers.
 
+use crate::checking::{same, same_at};
 use crate::end::{End, PEER, PEER_OPENS, sent, told, zeros};
 use ssh_channels::{Ask, ChannelState, Fact, Sent};
 use ssh_message::Message;
@@ -42,9 +43,9 @@ fn a_channel_is_opened(rt: HostRuntime) -> Result<(), Fail> {
         },
         fact: Some(Fact::Opening { channel: 0 }),
     };
-    assert_eq!(rt; end.ask(ask), Ok(opening));
-    assert_eq!(rt; end.state(0), Some(ChannelState::Opening));
-    assert_eq!(rt; (end.room(0), end.count()), (None, 1));
+    same!(rt, end.ask(ask), Ok(opening));
+    same!(rt, end.state(0), Some(ChannelState::Opening));
+    same!(rt, (end.room(0), end.count()), (None, 1));
     let confirmation = Message::ChannelOpenConfirmation {
         recipient: 0,
         sender: PEER,
@@ -58,10 +59,10 @@ fn a_channel_is_opened(rt: HostRuntime) -> Result<(), Fail> {
         max_packet: 40,
         rest: b"y",
     };
-    assert_eq!(rt; end.take(confirmation), Ok(told(0, confirmed)));
-    assert_eq!(rt; end.state(0), Some(NOTHING));
-    assert_eq!(rt; (end.room(0), end.count()), (Some(30), 1));
-    assert_eq!(rt; end.refusal(confirmation), Some(Refusal::Unexpected));
+    same!(rt, end.take(confirmation), Ok(told(0, confirmed)));
+    same!(rt, end.state(0), Some(NOTHING));
+    same!(rt, (end.room(0), end.count()), (Some(30), 1));
+    same!(rt, end.refusal(confirmation), Some(Refusal::Unexpected));
     Ok(())
 }
 
@@ -75,9 +76,9 @@ fn the_peer_opens_a_channel(rt: HostRuntime) -> Result<(), Fail> {
         max_packet: 32_768,
         rest: b"",
     };
-    assert_eq!(rt; end.take(PEER_OPENS), Ok(told(0, opened)));
-    assert_eq!(rt; end.state(0), Some(ChannelState::Waiting));
-    assert_eq!(rt; end.room(0), None);
+    same!(rt, end.take(PEER_OPENS), Ok(told(0, opened)));
+    same!(rt, end.state(0), Some(ChannelState::Waiting));
+    same!(rt, end.room(0), None);
     let confirm = Ask::Confirm {
         channel: 0,
         window: 5,
@@ -91,17 +92,17 @@ fn the_peer_opens_a_channel(rt: HostRuntime) -> Result<(), Fail> {
         max: 1,
         rest: b"z",
     };
-    assert_eq!(rt; end.ask(confirm), Ok(sent(0, confirmation)));
-    assert_eq!(rt; end.state(0), Some(NOTHING));
-    assert_eq!(rt; end.room(0), Some(10));
-    assert_eq!(rt; end.ask_refusal(confirm), Some(AskRefusal::NoChannel));
+    same!(rt, end.ask(confirm), Ok(sent(0, confirmation)));
+    same!(rt, end.state(0), Some(NOTHING));
+    same!(rt, end.room(0), Some(10));
+    same!(rt, end.ask_refusal(confirm), Some(AskRefusal::NoChannel));
     Ok(())
 }
 
 #[test]
 fn the_peer_is_refused_a_channel(rt: HostRuntime) -> Result<(), Fail> {
     let mut end = End::new(rt.alloc())?;
-    end.take(PEER_OPENS)?;
+    end.must_take(&rt, PEER_OPENS);
     let refuse = Ask::Refuse {
         channel: 0,
         reason: 1,
@@ -112,16 +113,16 @@ fn the_peer_is_refused_a_channel(rt: HostRuntime) -> Result<(), Fail> {
         description: b"",
         language: b"",
     };
-    assert_eq!(rt; end.ask(refuse), Ok(sent(0, message)));
-    assert_eq!(rt; (end.state(0), end.count()), (None, 0));
-    assert_eq!(rt; end.ask_refusal(refuse), Some(AskRefusal::NoChannel));
+    same!(rt, end.ask(refuse), Ok(sent(0, message)));
+    same!(rt, (end.state(0), end.count()), (None, 0));
+    same!(rt, end.ask_refusal(refuse), Some(AskRefusal::NoChannel));
     Ok(())
 }
 
 #[test]
 fn offers_are_bounded(rt: HostRuntime) -> Result<(), Fail> {
     let mut end = End::new(rt.alloc())?;
-    end.take(PEER_OPENS)?;
+    end.must_take(&rt, PEER_OPENS);
     for (max_packet, wanted) in [
         (0, Some(AskRefusal::TooMuch)),
         (32_769, Some(AskRefusal::TooMuch)),
@@ -134,7 +135,7 @@ fn offers_are_bounded(rt: HostRuntime) -> Result<(), Fail> {
             max_packet,
             rest: b"",
         };
-        assert_eq!(rt; end.ask_refusal(open), wanted, "opened with {max_packet}");
+        same_at(&rt, ("open", max_packet), end.ask_refusal(open), wanted);
     }
     for (max_packet, wanted) in [
         (0, Some(AskRefusal::TooMuch)),
@@ -147,10 +148,11 @@ fn offers_are_bounded(rt: HostRuntime) -> Result<(), Fail> {
             max_packet,
             rest: b"",
         };
-        assert_eq!(rt;
+        same_at(
+            &rt,
+            ("confirm", max_packet),
             end.ask_refusal(confirm),
             wanted,
-            "confirmed with {max_packet}"
         );
     }
     Ok(())
@@ -159,7 +161,7 @@ fn offers_are_bounded(rt: HostRuntime) -> Result<(), Fail> {
 #[test]
 fn long_texts_are_refused(rt: HostRuntime) -> Result<(), Fail> {
     let mut end = End::new(rt.alloc())?;
-    end.take(PEER_OPENS)?;
+    end.must_take(&rt, PEER_OPENS);
     for (size, wanted) in [(33_982, None), (33_983, Some(AskRefusal::TooLong))] {
         let rest = zeros(rt.alloc(), size)?;
         let open = Ask::Open {
@@ -168,7 +170,7 @@ fn long_texts_are_refused(rt: HostRuntime) -> Result<(), Fail> {
             max_packet: 1,
             rest: &rest,
         };
-        assert_eq!(rt; end.ask_refusal(open), wanted, "opened with {size} bytes");
+        same_at(&rt, ("open", size), end.ask_refusal(open), wanted);
     }
     for (size, wanted) in [(33_984, Some(AskRefusal::TooLong)), (33_983, None)] {
         let rest = zeros(rt.alloc(), size)?;
@@ -178,11 +180,7 @@ fn long_texts_are_refused(rt: HostRuntime) -> Result<(), Fail> {
             max_packet: 1,
             rest: &rest,
         };
-        assert_eq!(rt;
-            end.ask_refusal(confirm),
-            wanted,
-            "confirmed with {size} bytes"
-        );
+        same_at(&rt, ("confirm", size), end.ask_refusal(confirm), wanted);
     }
     Ok(())
 }
@@ -190,30 +188,30 @@ fn long_texts_are_refused(rt: HostRuntime) -> Result<(), Fail> {
 #[test]
 fn an_answer_is_for_the_channel_that_it_names(rt: HostRuntime) -> Result<(), Fail> {
     let mut end = End::new(rt.alloc())?;
-    end.open()?;
-    end.open()?;
-    end.take(PEER_OPENS)?;
-    end.confirm(1)?;
-    assert_eq!(rt; end.state(0), Some(ChannelState::Opening));
-    assert_eq!(rt; end.state(1), Some(NOTHING));
-    assert_eq!(rt; end.refusal(failure(1)), Some(Refusal::Unexpected));
-    assert_eq!(rt; end.refusal(failure(2)), Some(Refusal::Unexpected));
-    assert_eq!(rt; end.refusal(failure(3)), Some(Refusal::UnknownChannel));
+    end.open(&rt);
+    end.open(&rt);
+    end.must_take(&rt, PEER_OPENS);
+    end.confirm(&rt, 1);
+    same!(rt, end.state(0), Some(ChannelState::Opening));
+    same!(rt, end.state(1), Some(NOTHING));
+    same!(rt, end.refusal(failure(1)), Some(Refusal::Unexpected));
+    same!(rt, end.refusal(failure(2)), Some(Refusal::Unexpected));
+    same!(rt, end.refusal(failure(3)), Some(Refusal::UnknownChannel));
     let failed = Fact::OpenFailed {
         channel: 0,
         reason: 1,
         description: b"no",
     };
-    assert_eq!(rt; end.take(failure(0)), Ok(told(0, failed)));
-    assert_eq!(rt; (end.state(0), end.count()), (None, 2));
-    assert_eq!(rt; end.refusal(failure(0)), Some(Refusal::UnknownChannel));
+    same!(rt, end.take(failure(0)), Ok(told(0, failed)));
+    same!(rt, (end.state(0), end.count()), (None, 2));
+    same!(rt, end.refusal(failure(0)), Some(Refusal::UnknownChannel));
     Ok(())
 }
 
 #[test]
 fn an_unconfirmed_channel_takes_no_message(rt: HostRuntime) -> Result<(), Fail> {
     let mut end = End::new(rt.alloc())?;
-    end.open()?;
+    end.open(&rt);
     for message in [
         Message::ChannelClose { recipient: 0 },
         Message::ChannelEof { recipient: 0 },
@@ -226,10 +224,10 @@ fn an_unconfirmed_channel_takes_no_message(rt: HostRuntime) -> Result<(), Fail> 
             bytes: 1,
         },
     ] {
-        assert_eq!(rt; end.refusal(message), Some(Refusal::UnknownChannel));
+        same!(rt, end.refusal(message), Some(Refusal::UnknownChannel));
     }
     let close = Ask::Close { channel: 0 };
-    assert_eq!(rt; end.ask_refusal(close), Some(AskRefusal::NoChannel));
+    same!(rt, end.ask_refusal(close), Some(AskRefusal::NoChannel));
     Ok(())
 }
 
@@ -237,10 +235,10 @@ fn an_unconfirmed_channel_takes_no_message(rt: HostRuntime) -> Result<(), Fail> 
 fn a_number_is_used_again(rt: HostRuntime) -> Result<(), Fail> {
     let mut end = End::new(rt.alloc())?;
     for number in 0..3 {
-        assert_eq!(rt; end.open()?, Some(number));
+        same!(rt, end.open(&rt), Some(number));
     }
-    end.take(failure(1))?;
-    assert_eq!(rt; end.open()?, Some(1));
+    end.must_take(&rt, failure(1));
+    same!(rt, end.open(&rt), Some(1));
     Ok(())
 }
 
@@ -252,7 +250,7 @@ fn a_message_of_another_layer_is_unexpected(rt: HostRuntime) -> Result<(), Fail>
         Message::UserauthSuccess,
         Message::Unknown(101),
     ] {
-        assert_eq!(rt; end.refusal(message), Some(Refusal::Unexpected));
+        same!(rt, end.refusal(message), Some(Refusal::Unexpected));
     }
     Ok(())
 }

@@ -229,3 +229,10 @@ announced_size (x ∷ all) bytes h =
       length-append c.front x.value,
       c.size.count,
     )
+
+-- one extension less
+pub fewer : (count : ℕ) (bytes rest : List ℕ) → (count ≡ 0 → ⊥) → are_extensions count bytes ≡ true → rest ≡ after_extension bytes → are_extensions (count - 1) rest ≡ true
+fewer zero bytes rest some passes e = absurd (some refl)
+fewer (suc count) bytes rest some passes e =
+    let less : suc count - 1 ≡ count = omega arith in
+    (λ i. are_extensions (less i) (e i)) ∙ (and_parts (has_extension bytes) (are_extensions count (after_extension bytes)) passes).1

@@ -3,7 +3,7 @@ mod column;
 use crate::decoding::decode;
 use crate::message::{BadMessage, Message};
 use crate::naming::name;
-use column::columns;
+use column::{Column, columns};
 use ssh_types::Reader;
 use std::fmt;
 
@@ -38,16 +38,15 @@ impl<'a> Line<'a> {
 
 impl<'a> fmt::Display for Line<'a> {
     fn fmt<W: fmt::Write>(&self, f: &mut fmt::Formatter<W>) -> fmt::Result {
-        let message = self.message;
-        let number = message.number();
-        if let Message::Unknown(_) = message {
-            return write!(f, "{number} UNKNOWN");
-        }
-        let name = name(number);
+        let number = self.message.number();
+        let (name, columns): (&str, &[Column]) = match self.message {
+            Message::Unknown(_) => ("UNKNOWN", &[]),
+            _ => (name(number), columns(number)),
+        };
         write!(f, "{number} {name}")?;
         let mut fields = Reader::new(self.payload);
         let _number = fields.u8();
-        for column in columns(number) {
+        for column in columns {
             column.show(&mut fields, f)?;
         }
         Ok(())

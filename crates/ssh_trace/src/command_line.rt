@@ -42,11 +42,12 @@ pub fn call_of<'a, S: AsStr>(alloc: Global, words: &'a [S]) -> Result<Call<'a>, 
     let Some((name, rest)) = matches.subcommand() else {
         return Err(UsageFault::NoCall);
     };
-    match (name, rest.get_str("HEX"), rest.get_str("FILE")) {
-        ("decode", Some(text), _) => Ok(Call::Decode(text)),
-        ("play", _, Some(file)) => Ok(Call::Play(file)),
-        _ => Err(UsageFault::NoCall),
-    }
+    let call = match name {
+        "decode" => rest.get_str("HEX").map(Call::Decode),
+        "play" => rest.get_str("FILE").map(Call::Play),
+        _ => None,
+    };
+    call.ok_or(UsageFault::NoCall)
 }
 
 /// Says on `err` why the words are no call, with the words that the program takes.
@@ -93,28 +94,32 @@ HEX is pairs of hexadecimal digits, or - for no bytes. A number is decimal digit
 parted by one space, and lines end with LF. Empty lines do nothing, nor do those that begin with # or with > and a space.";
 
 fn command<'a>(alloc: Global) -> Result<Command<'a>, AllocError> {
-    let decode = Command::new(alloc, "decode")
-        .about("Shows the message of one clear packet as a line")
-        .arg(
-            Arg::new(alloc, "HEX")
-                .help("The packet, in hexadecimal digits")
-                .required(true),
-        )?
-        .after_help(PACKETS);
-    let play = Command::new(alloc, "play")
-        .about("Plays a script between two ends and prints what they did")
-        .arg(
-            Arg::new(alloc, "FILE")
-                .help("The script's file")
-                .required(true),
-        )?
-        .after_help(SCRIPTS);
     Command::new(alloc, PROGRAM)
         .bin_name(PROGRAM)?
         .about("Shows what two ends of SSH do")
         .after_help(STATUS)
         .subcommand_required(true)
         .arg_required_else_help(true)
-        .subcommand(decode)?
-        .subcommand(play)
+        .subcommand(decode_command(alloc)?)?
+        .subcommand(play_command(alloc)?)
+}
+
+fn decode_command<'a>(alloc: Global) -> Result<Command<'a>, AllocError> {
+    let packet = Arg::new(alloc, "HEX")
+        .help("The packet, in hexadecimal digits")
+        .required(true);
+    Command::new(alloc, "decode")
+        .about("Shows the message of one clear packet as a line")
+        .after_help(PACKETS)
+        .arg(packet)
+}
+
+fn play_command<'a>(alloc: Global) -> Result<Command<'a>, AllocError> {
+    let file = Arg::new(alloc, "FILE")
+        .help("The script's file")
+        .required(true);
+    Command::new(alloc, "play")
+        .about("Plays a script between two ends and prints what they did")
+        .after_help(SCRIPTS)
+        .arg(file)
 }

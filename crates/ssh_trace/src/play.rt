@@ -29,21 +29,29 @@ fn played<R: Read>(alloc: Global, script: &mut R) -> Result<Answer, ScriptFault>
     if let Err(error) = script.read_to_end(&mut text) {
         return Err(ScriptFault::Unreadable(error));
     }
+    played_text(alloc, text.as_slice())
+}
+
+fn played_text(alloc: Global, text: &[u8]) -> Result<Answer, ScriptFault> {
     let mut session = Session::new(alloc);
     let mut line = 0usize;
-    for bytes in text.as_slice().split(|byte| *byte == b'\n') {
+    for bytes in text.split(|byte| *byte == b'\n') {
         line = line.saturating_add(1);
         if let Err(fault) = session.take(bytes) {
-            let message = format!(in alloc; "{fault}")?;
-            return Err(ScriptFault::Line { line, message });
+            return Err(fault_at(alloc, line, fault));
         }
     }
     match session.end() {
         Ok(answer) => Ok(answer),
-        Err(fault) => {
-            let message = format!(in alloc; "{fault}")?;
-            Err(ScriptFault::Line { line, message })
-        }
+        Err(fault) => Err(fault_at(alloc, line, fault)),
+    }
+}
+
+// The fault of the line with this number, as it is told.
+fn fault_at(alloc: Global, line: usize, fault: LineFault<'_>) -> ScriptFault {
+    match format!(in alloc; "{fault}") {
+        Ok(message) => ScriptFault::Line { line, message },
+        Err(error) => ScriptFault::from(error),
     }
 }
 

@@ -1,9 +1,10 @@
+use crate::checking::{same, same_at};
 use crate::outcome::{Broken, Outcome};
 use ssh_trace::{Shown, Status, decode_to, packet_of};
 use std::test::Fail;
 
 // Packets in hexadecimal digits, what is printed of each, and the exit status.
-const PACKETS: [(&str, &str, u8); 27] = [
+const PACKETS: &[(&str, &str, u8)] = &[
     ("0000000c0a1500000000000000000000", "21 NEWKEYS\n", 0),
     (
         "0000001c0a050000000c7373682d757365726175746800000000000000000000",
@@ -115,16 +116,16 @@ const PACKETS: [(&str, &str, u8); 27] = [
 
 #[test]
 fn packets(rt: HostRuntime) {
-    for (text, line, status) in PACKETS {
+    for &(text, line, status) in PACKETS {
         let outcome = Outcome::decoding(rt.alloc(), text);
-        assert_eq!(rt; outcome.status.code(), status, "{text}");
-        assert_eq!(rt; outcome.out.as_slice(), line.as_bytes(), "{text}");
-        assert_eq!(rt; outcome.err.is_empty(), status < 2, "{text}");
+        same_at(&rt, text, outcome.status.code(), status);
+        same_at(&rt, text, outcome.out.as_slice(), line.as_bytes());
+        same_at(&rt, text, outcome.err.is_empty(), status < 2);
     }
 }
 
 // Texts that aren't pairs of hexadecimal digits, and why.
-const NO_DIGITS: [(&str, &str); 8] = [
+const NO_DIGITS: &[(&str, &str)] = &[
     ("0g", "byte 2, 'g', is no hexadecimal digit"),
     ("0", "1 digits are no pairs"),
     ("0000000", "7 digits are no pairs"),
@@ -137,14 +138,14 @@ const NO_DIGITS: [(&str, &str); 8] = [
 
 #[test]
 fn texts_of_no_packet(rt: HostRuntime) -> Result<(), Fail> {
-    for (text, fault) in NO_DIGITS {
+    for &(text, fault) in NO_DIGITS {
         let outcome = Outcome::decoding(rt.alloc(), text);
         let message = format!(in rt.alloc();
             "error: {fault}: HEX is pairs of hexadecimal digits\n"
         )?;
-        assert_eq!(rt; outcome.status, Status::Fault, "{text}");
-        assert!(rt; outcome.out.is_empty(), "{text}");
-        assert_eq!(rt; outcome.err.as_slice(), message.as_bytes(), "{text}");
+        same_at(&rt, text, outcome.status, Status::Fault);
+        same_at(&rt, text, outcome.out.is_empty(), true);
+        same_at(&rt, text, outcome.err.as_slice(), message.as_bytes());
     }
     Ok(())
 }
@@ -163,9 +164,9 @@ fn texts_are_shown(rt: HostRuntime) -> Result<(), Fail> {
 fn output_is_full(rt: HostRuntime) -> Result<(), Fail> {
     let mut err = Vec::new(rt.alloc());
     let status = decode_to(rt.alloc(), "0000000b", &mut Broken, &mut err);
-    assert_eq!(rt; status, Status::Fault);
+    same!(rt, status, Status::Fault);
     assert!(rt; err.starts_with(b"error: can't write the output: "));
     let status = decode_to(rt.alloc(), "0g", &mut Broken, &mut Broken);
-    assert_eq!(rt; status, Status::Fault);
+    same!(rt, status, Status::Fault);
     Ok(())
 }

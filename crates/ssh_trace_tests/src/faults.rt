@@ -1,9 +1,10 @@
+use crate::checking::{same, same_at};
 use crate::outcome::Outcome;
 use ssh_trace::Status;
 use std::test::Fail;
 
 // A first line, and what is wrong with the script.
-const FIRST_LINES: [(&str, &str); 13] = [
+const FIRST_LINES: &[(&str, &str)] = &[
     ("", "line 1: the script ends without its line epoch K1 K2"),
     (
         "# nothing\n> c died\n\n",
@@ -56,7 +57,7 @@ const FIRST_LINES: [(&str, &str); 13] = [
 ];
 
 // A line after the keys, and what is wrong with it.
-const LINES: [(&str, &str); 42] = [
+const LINES: &[(&str, &str)] = &[
     (
         "epoch 11 22",
         "\"epoch\" is met again: the keys are given once, in the first line",
@@ -205,12 +206,12 @@ const SPACES: &str =
 
 #[test]
 fn first_lines(rt: HostRuntime) -> Result<(), Fail> {
-    for (script, fault) in FIRST_LINES {
+    for &(script, fault) in FIRST_LINES {
         let outcome = Outcome::playing(rt.alloc(), script.as_bytes());
         let message = format!(in rt.alloc(); "error: {fault}\n")?;
-        assert_eq!(rt; outcome.status, Status::Fault, "{script}");
-        assert!(rt; outcome.out.is_empty(), "{script}");
-        assert_eq!(rt; outcome.err.as_slice(), message.as_bytes(), "{script}");
+        same_at(&rt, script, outcome.status, Status::Fault);
+        same_at(&rt, script, outcome.out.is_empty(), true);
+        same_at(&rt, script, outcome.err.as_slice(), message.as_bytes());
     }
     Ok(())
 }
@@ -218,7 +219,7 @@ fn first_lines(rt: HostRuntime) -> Result<(), Fail> {
 // Each line stands after one packet of 48 bytes, of which 15 are passed, and before a line that is wrong too.
 #[test]
 fn further_lines(rt: HostRuntime) -> Result<(), Fail> {
-    for (line, fault) in LINES {
+    for &(line, fault) in LINES {
         let mut script = String::from_str(rt.alloc(), "# keys\nepoch")?;
         for _ in 0..2 {
             write!(
@@ -229,9 +230,9 @@ fn further_lines(rt: HostRuntime) -> Result<(), Fail> {
         write!(script, "\nask c raw 15\npass c s 15\n{line}\nnothing\n")?;
         let outcome = Outcome::playing(rt.alloc(), script.as_bytes());
         let message = format!(in rt.alloc(); "error: line 5: {fault}\n")?;
-        assert_eq!(rt; outcome.status, Status::Fault, "{line}");
-        assert!(rt; outcome.out.is_empty(), "{line}");
-        assert_eq!(rt; outcome.err.as_slice(), message.as_bytes(), "{line}");
+        same_at(&rt, line, outcome.status, Status::Fault);
+        same_at(&rt, line, outcome.out.is_empty(), true);
+        same_at(&rt, line, outcome.err.as_slice(), message.as_bytes());
     }
     Ok(())
 }
@@ -239,8 +240,8 @@ fn further_lines(rt: HostRuntime) -> Result<(), Fail> {
 #[test]
 fn comments_are_text(rt: HostRuntime) {
     let outcome = Outcome::playing(rt.alloc(), b"# \xc3\xa9\n# \xff\n");
-    assert_eq!(rt; outcome.status, Status::Fault);
+    same!(rt, outcome.status, Status::Fault);
     assert!(rt; outcome.out.is_empty());
     let message = b"error: line 2: byte 3 isn't UTF-8\n";
-    assert_eq!(rt; outcome.err.as_slice(), message.as_slice());
+    same!(rt, outcome.err.as_slice(), message.as_slice());
 }

@@ -1,3 +1,4 @@
+use crate::checking::{same, same_at};
 use crate::outcome::{Broken, Outcome};
 use ssh_trace::{Status, play_to};
 use std::alloc::{AllocError, Global};
@@ -16,7 +17,7 @@ ask c raw 020000000161
 ";
 
 // Scripts after the two asks, with the lines that each prints, and the exit status.
-const AFTER_ASKS: [(&str, u8); 9] = [
+const AFTER_ASKS: &[(&str, u8)] = &[
     (
         "pass c s all
 > s took 2 IGNORE 5
@@ -119,13 +120,13 @@ fn expected(alloc: Global, script: &str) -> Result<String, AllocError> {
 
 #[test]
 fn scripts(rt: HostRuntime) -> Result<(), Fail> {
-    for (rest, status) in AFTER_ASKS {
+    for &(rest, status) in AFTER_ASKS {
         let script = format!(in rt.alloc(); "{KEYS}{ASKS}{rest}")?;
         let outcome = Outcome::playing(rt.alloc(), script.as_bytes());
         let expected = expected(rt.alloc(), script.as_str())?;
-        assert_eq!(rt; outcome.status.code(), status, "{rest}");
-        assert_eq!(rt; outcome.out.as_slice(), expected.as_bytes(), "{rest}");
-        assert!(rt; outcome.err.is_empty(), "{rest}");
+        same_at(&rt, rest, outcome.status.code(), status);
+        same_at(&rt, rest, outcome.out.as_slice(), expected.as_bytes());
+        same_at(&rt, rest, outcome.err.is_empty(), true);
     }
     Ok(())
 }
@@ -149,8 +150,8 @@ c asked raw
 c ask refused 5 TooLong
 s took 94 CHANNEL_DATA 34000
 ";
-    assert_eq!(rt; outcome.out.as_slice(), text.as_bytes());
-    assert_eq!(rt; outcome.status, Status::Done);
+    same!(rt, outcome.out.as_slice(), text.as_bytes());
+    same!(rt, outcome.status, Status::Done);
     Ok(())
 }
 
@@ -159,14 +160,14 @@ fn streams_fail(rt: HostRuntime) -> Result<(), Fail> {
     let mut out = Vec::new(rt.alloc());
     let mut err = Vec::new(rt.alloc());
     let status = play_to(rt.alloc(), &mut Broken, &mut out, &mut err);
-    assert_eq!(rt; status, Status::Fault);
+    same!(rt, status, Status::Fault);
     assert!(rt; out.is_empty());
     assert!(rt; err.starts_with(b"error: can't read the script: "));
     err.clear();
     let script = format!(in rt.alloc(); "{KEYS}ask c raw 15")?;
     let mut rest = script.as_bytes();
     let status = play_to(rt.alloc(), &mut rest, &mut Broken, &mut err);
-    assert_eq!(rt; status, Status::Fault);
+    same!(rt, status, Status::Fault);
     assert!(rt; err.starts_with(b"error: can't write the output: "));
     Ok(())
 }

@@ -1,17 +1,20 @@
+use crate::checking::{same, same_at};
 use ssh_trace::Status;
 use ssh_trace::command_line::{Call, call_of, refuse};
 use std::alloc::Global;
+use std::process::Abort;
 use std::test::Fail;
 
 #[test]
 fn calls(rt: HostRuntime) -> Result<(), Fail> {
     let alloc = rt.alloc();
     let words = ["ssh_trace", "decode", "0015"];
-    assert_eq!(rt; call_of(alloc, words.as_slice())?, Call::Decode("0015"));
+    same!(rt, call_of(alloc, words.as_slice())?, Call::Decode("0015"));
     let words = ["ssh_trace", "decode", ""];
-    assert_eq!(rt; call_of(alloc, words.as_slice())?, Call::Decode(""));
+    same!(rt, call_of(alloc, words.as_slice())?, Call::Decode(""));
     let words = ["ssh_trace", "play", "a script.txt"];
-    assert_eq!(rt;
+    same!(
+        rt,
         call_of(alloc, words.as_slice())?,
         Call::Play("a script.txt")
     );
@@ -37,9 +40,9 @@ fn other_words(rt: HostRuntime) {
         let mut err = Vec::new(rt.alloc());
         match call_of(rt.alloc(), words) {
             Ok(call) => assert!(rt; false, "{words:?} is {call:?}"),
-            Err(fault) => assert_eq!(rt; refuse(fault, &mut err), Status::Fault, "{words:?}"),
+            Err(fault) => same_at(&rt, words, refuse(fault, &mut err), Status::Fault),
         }
-        assert!(rt; !err.is_empty(), "{words:?}");
+        same_at(&rt, words, err.is_empty(), false);
     }
 }
 
@@ -53,25 +56,21 @@ fn said(alloc: Global, words: &[&str]) -> Result<String, Fail> {
     Ok(text)
 }
 
+// Stops the test where these words are not in the text.
+fn assert_says(rt: &impl Abort, text: &str, words: &str) {
+    assert!(rt; text.contains(words), "{words:?} in {text}");
+}
+
 // Whatever the file of the program is called, it is `ssh_trace` in usage.
 #[test]
 fn usage_names_the_program(rt: HostRuntime) -> Result<(), Fail> {
     let text = said(rt.alloc(), &["./a/b/other"])?;
-    assert!(rt;
-        text.as_str().contains("Usage: ssh_trace <COMMAND>"),
-        "{text}"
-    );
+    assert_says(&rt, text.as_str(), "Usage: ssh_trace <COMMAND>");
     let text = said(rt.alloc(), &["./a/b/other", "decode", "--help"])?;
-    assert!(rt;
-        text.as_str().contains("Usage: ssh_trace decode <HEX>"),
-        "{text}"
-    );
-    assert!(rt; text.as_str().contains("refused 4 BadPadding"), "{text}");
+    assert_says(&rt, text.as_str(), "Usage: ssh_trace decode <HEX>");
+    assert_says(&rt, text.as_str(), "refused 4 BadPadding");
     let text = said(rt.alloc(), &["other", "play", "--help"])?;
-    assert!(rt;
-        text.as_str().contains("Usage: ssh_trace play <FILE>"),
-        "{text}"
-    );
-    assert!(rt; text.as_str().contains("again F T A N"), "{text}");
+    assert_says(&rt, text.as_str(), "Usage: ssh_trace play <FILE>");
+    assert_says(&rt, text.as_str(), "again F T A N");
     Ok(())
 }

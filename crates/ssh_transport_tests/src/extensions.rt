@@ -1,5 +1,6 @@
 //! Extensions that settings announce, at both sides of each bound.
 
+use crate::checking::{same, same_at};
 use crate::config::good;
 use ssh_message::Extension;
 use ssh_packet::MacOnly;
@@ -37,7 +38,7 @@ fn named<'a>(names: &'static [&'static [u8]], value: &'a [u8]) -> [Extension<'a>
 fn extensions(rt: HostRuntime) -> Result<(), Fail> {
     let bytes = [0u8; 1025];
     let good: &'static [&'static [u8]] = &[b"a", b"b"];
-    let table: [(&'static [&'static [u8]], usize, Option<ExtensionFault>); 9] = [
+    let table: &[(&'static [&'static [u8]], usize, Option<ExtensionFault>)] = &[
         (good, 0, None),
         (good, 1024, None),
         (good, 1025, Some(ExtensionFault::LongValue)),
@@ -52,16 +53,12 @@ fn extensions(rt: HostRuntime) -> Result<(), Fail> {
             Some(ExtensionFault::NotName),
         ),
     ];
-    for (names, size, fault) in table {
+    for &(names, size, fault) in table {
         let extensions = named(names, &bytes[..size]);
         let found = extension_fault(rt.alloc(), true, &extensions);
-        assert_eq!(rt; found, fault, "at {names:?} {size}");
+        same_at(&rt, (names, size), found, fault);
         let found = extension_fault(rt.alloc(), false, &extensions);
-        assert_eq!(rt;
-            found,
-            Some(ExtensionFault::NotTaken),
-            "at {names:?} {size}"
-        );
+        same_at(&rt, (names, size), found, Some(ExtensionFault::NotTaken));
     }
     Ok(())
 }
@@ -92,10 +89,15 @@ fn at_most_sixteen_extensions(rt: HostRuntime) -> Result<(), Fail> {
         empty(b"p"),
         empty(b"q"),
     ];
-    assert_eq!(rt; extension_fault(rt.alloc(), true, &[]), None);
-    assert_eq!(rt; extension_fault(rt.alloc(), false, &[]), None);
-    assert_eq!(rt; extension_fault(rt.alloc(), true, &extensions[..16]), None);
-    assert_eq!(rt;
+    same!(rt, extension_fault(rt.alloc(), true, &[]), None);
+    same!(rt, extension_fault(rt.alloc(), false, &[]), None);
+    same!(
+        rt,
+        extension_fault(rt.alloc(), true, &extensions[..16]),
+        None
+    );
+    same!(
+        rt,
         extension_fault(rt.alloc(), true, &extensions),
         Some(ExtensionFault::TooMany)
     );

@@ -1,5 +1,6 @@
 //! The KEXINIT of each end, the first one and a later one.
 
+use crate::checking::same;
 use ssh_message::{Message, Proposal, decode};
 use ssh_packet::MacOnly;
 use ssh_transport::{Config, Settings, Strictness, put_kexinit};
@@ -100,22 +101,22 @@ fn the_first_kexinit_of_a_client(rt: HostRuntime) -> Result<(), Fail> {
         expected.extend_from_slice(piece)?;
     }
     let payload = payload(rt.alloc(), Side::Client, true)?;
-    assert_eq!(rt; payload, expected);
-    assert_eq!(rt; payload.len(), 165);
+    same!(rt, payload.as_slice(), expected.as_slice());
+    same!(rt, payload.len(), 165);
     Ok(())
 }
 
 #[test]
 fn the_marker_is_last_in_the_first_and_in_no_later(rt: HostRuntime) -> Result<(), Fail> {
-    let table = [
+    let table = &[
         (Side::Client, true, CLIENT_KEX, 165),
         (Side::Client, false, LATER_KEX, 136),
         (Side::Server, true, SERVER_KEX, 165),
         (Side::Server, false, LATER_KEX, 136),
     ];
-    for (side, first, kex, length) in table {
+    for &(side, first, kex, length) in table {
         let payload = payload(rt.alloc(), side, first)?;
-        assert_eq!(rt; payload.len(), length);
+        same!(rt, payload.len(), length);
         assert!(rt; is_offer(&payload, kex));
     }
     Ok(())
@@ -123,7 +124,7 @@ fn the_marker_is_last_in_the_first_and_in_no_later(rt: HostRuntime) -> Result<()
 
 #[test]
 fn the_markers_are_those_that_the_settings_offer(rt: HostRuntime) -> Result<(), Fail> {
-    let table: [(Side, Strictness, bool, &[u8], usize); 6] = [
+    let table: &[(Side, Strictness, bool, &[u8], usize)] = &[
         (Side::Client, Strictness::Off, false, LATER_KEX, 136),
         (Side::Client, Strictness::Offer, false, CLIENT_KEX, 165),
         (
@@ -155,7 +156,7 @@ fn the_markers_are_those_that_the_settings_offer(rt: HostRuntime) -> Result<(), 
             176,
         ),
     ];
-    for (side, strictness, takes_extensions, kex, length) in table {
+    for &(side, strictness, takes_extensions, kex, length) in table {
         let settings = Settings {
             strictness,
             takes_extensions,
@@ -164,7 +165,7 @@ fn the_markers_are_those_that_the_settings_offer(rt: HostRuntime) -> Result<(), 
         let config = Config::<MacOnly>::new(rt.alloc(), &settings)?;
         let mut first = Vec::new(rt.alloc());
         put_kexinit(rt.alloc(), &config, side, true, COOKIE, &mut first)?;
-        assert_eq!(rt; first.len(), length);
+        same!(rt, first.len(), length);
         assert!(rt; is_offer(&first, kex));
         let mut later = Vec::new(rt.alloc());
         put_kexinit(rt.alloc(), &config, side, false, COOKIE, &mut later)?;
@@ -179,7 +180,7 @@ fn it_is_put_behind_what_is_there(rt: HostRuntime) -> Result<(), Fail> {
     let mut out = Vec::new(rt.alloc());
     out.extend_from_slice(b"old")?;
     put_kexinit(rt.alloc(), &config, Side::Server, false, COOKIE, &mut out)?;
-    assert_eq!(rt; &out[..3], b"old".as_slice());
+    same!(rt, &out[..3], b"old".as_slice());
     assert!(rt; is_offer(&out[3..], LATER_KEX));
     Ok(())
 }

@@ -1,5 +1,6 @@
 //! Packets of one direction, sent and taken.
 
+use crate::checking::{same, same_at};
 use crate::epochs::take_newkeys;
 use ssh_packet::{HmacKey, MacOnly};
 use ssh_toys::ToyFiller;
@@ -30,14 +31,30 @@ fn receiver(alloc: Global) -> Result<PacketReceiver<MacOnly>, AllocError> {
     PacketReceiver::under(alloc, HmacKey::new(&[1; 32]))
 }
 
+// These parts, one behind the other.
+fn joined(alloc: Global, parts: &[&[u8]]) -> Result<Vec<u8>, AllocError> {
+    let mut bytes = Vec::new(alloc);
+    for part in parts {
+        bytes.extend_from_slice(part)?;
+    }
+    Ok(bytes)
+}
+
 // Two packets of a NEWKEYS under that key.
 fn two_packets(alloc: Global) -> Result<Vec<u8>, AllocError> {
-    let mut bytes = Vec::new(alloc);
-    bytes.extend_from_slice(CLEAR)?;
-    bytes.extend_from_slice(FIRST)?;
-    bytes.extend_from_slice(CLEAR)?;
-    bytes.extend_from_slice(SECOND)?;
-    Ok(bytes)
+    joined(alloc, [CLEAR, FIRST, CLEAR, SECOND].as_slice())
+}
+
+// A NEWKEYS in clear, two under the first key with its numbers from 0 on, and one under the other key as the packet 0.
+fn strict_packets(alloc: Global) -> Result<Vec<u8>, AllocError> {
+    let parts = [CLEAR, CLEAR, FIRST, CLEAR, SECOND, CLEAR, OTHER_KEY];
+    joined(alloc, parts.as_slice())
+}
+
+// A NEWKEYS in clear, one under the first key as the packet 1, and one under the other key as the packet 2.
+fn plain_packets(alloc: Global) -> Result<Vec<u8>, AllocError> {
+    let parts = [CLEAR, CLEAR, SECOND, CLEAR, GOES_ON];
+    joined(alloc, parts.as_slice())
 }
 
 #[test]
@@ -45,23 +62,19 @@ fn packets_of_each_epoch_are_sent(rt: HostRuntime) -> Result<(), Fail> {
     let mut zeros = ToyFiller { byte: 0 };
     let mut out = Vec::new(rt.alloc());
     let mut sender = PacketSender::<MacOnly>::new();
-    assert_eq!(rt; (sender.number(), sender.epoch()), (0, 0));
+    same!(rt, (sender.number(), sender.epoch()), (0, 0));
     sender.send_newkeys(HmacKey::new(&[1; 32]), true, &mut zeros, &mut out)?;
-    assert_eq!(rt; (sender.number(), sender.epoch()), (0, 1));
+    same!(rt, (sender.number(), sender.epoch()), (0, 1));
     sender.send(b"\x15", &mut zeros, &mut out)?;
-    assert_eq!(rt; (sender.number(), sender.epoch()), (1, 1));
-    assert_eq!(rt; sender.numbers_left(), 4_294_967_295);
+    same!(rt, (sender.number(), sender.epoch()), (1, 1));
+    same!(rt, sender.numbers_left(), 4_294_967_295);
     assert!(rt; !sender.is_spent());
     sender.send_newkeys(HmacKey::new(&[2; 32]), true, &mut zeros, &mut out)?;
-    assert_eq!(rt; (sender.number(), sender.epoch()), (0, 2));
+    same!(rt, (sender.number(), sender.epoch()), (0, 2));
     sender.send(b"\x15", &mut zeros, &mut out)?;
-    assert_eq!(rt; (sender.number(), sender.epoch()), (1, 2));
-    let mut wanted = Vec::new(rt.alloc());
-    wanted.extend_from_slice(CLEAR)?;
-    wanted.extend_from_slice(&two_packets(rt.alloc())?)?;
-    wanted.extend_from_slice(CLEAR)?;
-    wanted.extend_from_slice(OTHER_KEY)?;
-    assert_eq!(rt; out.as_slice(), wanted.as_slice());
+    same!(rt, (sender.number(), sender.epoch()), (1, 2));
+    let wanted = strict_packets(rt.alloc())?;
+    same!(rt, out.as_slice(), wanted.as_slice());
     Ok(())
 }
 
@@ -71,24 +84,27 @@ fn numbers_go_on_where_keys_are_not_exchanged_strictly(rt: HostRuntime) -> Resul
     let mut out = Vec::new(rt.alloc());
     let mut sender = PacketSender::<MacOnly>::new();
     sender.send_newkeys(HmacKey::new(&[1; 32]), false, &mut zeros, &mut out)?;
-    assert_eq!(rt; (sender.number(), sender.count()), (1, 0));
+    same!(rt, (sender.number(), sender.count()), (1, 0));
     sender.send_newkeys(HmacKey::new(&[2; 32]), false, &mut zeros, &mut out)?;
-    assert_eq!(rt; (sender.number(), sender.count()), (2, 0));
+    same!(rt, (sender.number(), sender.count()), (2, 0));
     sender.send(b"\x15", &mut zeros, &mut out)?;
-    assert_eq!(rt; (sender.number(), sender.count()), (3, 1));
-    assert_eq!(rt; sender.numbers_left(), 4_294_967_295);
-    let mut wanted = Vec::new(rt.alloc());
-    for part in [CLEAR, CLEAR, SECOND, CLEAR, GOES_ON] {
-        wanted.extend_from_slice(part)?;
-    }
-    assert_eq!(rt; out.as_slice(), wanted.as_slice());
+    same!(rt, (sender.number(), sender.count()), (3, 1));
+    same!(rt, sender.numbers_left(), 4_294_967_295);
+    let wanted = plain_packets(rt.alloc())?;
+    same!(rt, out.as_slice(), wanted.as_slice());
+    Ok(())
+}
+
+#[test]
+fn packets_whose_numbers_go_on_are_taken(rt: HostRuntime) -> Result<(), Fail> {
+    let bytes = plain_packets(rt.alloc())?;
     let mut receiver = PacketReceiver::<MacOnly>::new(rt.alloc())?;
-    assert!(rt; take_newkeys(&mut receiver, &out, HmacKey::new(&[1; 32]), false));
-    let out = out.get(16..).unwrap_or(&[]);
-    assert!(rt; take_newkeys(&mut receiver, out, HmacKey::new(&[2; 32]), false));
-    let out = out.get(48..).unwrap_or(&[]);
-    assert_eq!(rt; receiver.take(out), (48, PacketStep::Payload));
-    assert_eq!(rt; (receiver.number(), receiver.count()), (3, 1));
+    assert!(rt; take_newkeys(&mut receiver, &bytes, HmacKey::new(&[1; 32]), false));
+    let bytes = bytes.get(16..).unwrap_or(&[]);
+    assert!(rt; take_newkeys(&mut receiver, bytes, HmacKey::new(&[2; 32]), false));
+    let bytes = bytes.get(48..).unwrap_or(&[]);
+    same!(rt, receiver.take(bytes), (48, PacketStep::Payload));
+    same!(rt, (receiver.number(), receiver.count()), (3, 1));
     Ok(())
 }
 
@@ -98,9 +114,9 @@ fn a_sent_packet_is_taken(rt: HostRuntime) -> Result<(), Fail> {
     let mut sender = PacketSender::<MacOnly>::under(HmacKey::new(&[1; 32]));
     sender.send(b"a payload", &mut ToyFiller { byte: 0 }, &mut out)?;
     let mut receiver = receiver(rt.alloc())?;
-    assert_eq!(rt; receiver.take(&out), (out.len(), PacketStep::Payload));
-    assert_eq!(rt; receiver.payload(), b"a payload".as_slice());
-    assert_eq!(rt; receiver.number(), 1);
+    same!(rt, receiver.take(&out), (out.len(), PacketStep::Payload));
+    same!(rt, receiver.payload(), b"a payload".as_slice());
+    same!(rt, receiver.number(), 1);
     Ok(())
 }
 
@@ -108,25 +124,27 @@ fn a_sent_packet_is_taken(rt: HostRuntime) -> Result<(), Fail> {
 fn numbers_begin_again_with_an_epoch(rt: HostRuntime) -> Result<(), Fail> {
     let mut receiver = PacketReceiver::<MacOnly>::new(rt.alloc())?;
     assert!(rt; take_newkeys(&mut receiver, CLEAR, HmacKey::new(&[1; 32]), true));
-    assert_eq!(rt; receiver.payload(), b"\x15".as_slice());
-    assert_eq!(rt;
+    same!(rt, receiver.payload(), b"\x15".as_slice());
+    same!(
+        rt,
         (receiver.number(), receiver.epoch(), receiver.held()),
         (0, 1, 0)
     );
     let bytes = two_packets(rt.alloc())?;
-    assert_eq!(rt; receiver.take(&bytes), (48, PacketStep::Payload));
-    assert_eq!(rt; (receiver.number(), receiver.epoch()), (1, 1));
+    same!(rt, receiver.take(&bytes), (48, PacketStep::Payload));
+    same!(rt, (receiver.number(), receiver.epoch()), (1, 1));
     Ok(())
 }
 
 #[test]
 fn two_packets_in_one_piece(rt: HostRuntime) -> Result<(), Fail> {
     let bytes = two_packets(rt.alloc())?;
+    assert!(rt; bytes.len() == 96);
     let mut receiver = receiver(rt.alloc())?;
-    assert_eq!(rt; receiver.take(&bytes), (48, PacketStep::Payload));
-    assert_eq!(rt; receiver.take(&bytes[48..]), (48, PacketStep::Payload));
-    assert_eq!(rt; receiver.take(&[]), (0, PacketStep::More));
-    assert_eq!(rt; receiver.number(), 2);
+    same!(rt, receiver.take(&bytes), (48, PacketStep::Payload));
+    same!(rt, receiver.take(&bytes[48..]), (48, PacketStep::Payload));
+    same!(rt, receiver.take(&[]), (0, PacketStep::More));
+    same!(rt, receiver.number(), 2);
     Ok(())
 }
 
@@ -140,10 +158,10 @@ fn two_packets_byte_by_byte(rt: HostRuntime) -> Result<(), Fail> {
         } else {
             PacketStep::More
         };
-        assert_eq!(rt; receiver.take(&[*byte]), (1, wanted), "at {index}");
+        same_at(&rt, index, receiver.take(&[*byte]), (1, wanted));
     }
-    assert_eq!(rt; receiver.payload(), b"\x15".as_slice());
-    assert_eq!(rt; (receiver.number(), receiver.held()), (2, 0));
+    same!(rt, receiver.payload(), b"\x15".as_slice());
+    same!(rt, (receiver.number(), receiver.held()), (2, 0));
     Ok(())
 }
 
@@ -154,13 +172,13 @@ fn a_refusal_stays(rt: HostRuntime) -> Result<(), Fail> {
     assert!(rt; bytes.len() == 96);
     bytes[6] = 1;
     let mut changed = receiver(rt.alloc())?;
-    assert_eq!(rt; changed.take(&bytes), (48, bad_tag));
-    assert_eq!(rt; changed.take(&bytes[48..]), (0, bad_tag));
-    assert_eq!(rt; changed.number(), 0);
+    same!(rt, changed.take(&bytes), (48, bad_tag));
+    same!(rt, changed.take(&bytes[48..]), (0, bad_tag));
+    same!(rt, changed.number(), 0);
     let bad_length = PacketStep::Refused(Refusal::BadLength);
     let mut short = receiver(rt.alloc())?;
-    assert_eq!(rt; short.take(b"\0\0\0\x0b\0"), (4, bad_length));
-    assert_eq!(rt; short.take(b"\0"), (0, bad_length));
-    assert_eq!(rt; short.held(), 0);
+    same!(rt, short.take(b"\0\0\0\x0b\0"), (4, bad_length));
+    same!(rt, short.take(b"\0"), (0, bad_length));
+    same!(rt, short.held(), 0);
     Ok(())
 }

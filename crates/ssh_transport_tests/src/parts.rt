@@ -1,5 +1,6 @@
 //! The parts of a client and of a server, made of toys and used by their fields.
 
+use crate::checking::same;
 use ssh_kex::{Agreement, HostSigner, HostTrust};
 use ssh_packet::{Filler, MacOnly, Sealing};
 use ssh_toys::{HOST_KEY, ToyAgreement, ToyFiller, ToySigner, ToyTrust};
@@ -72,8 +73,13 @@ fn a_client_is_handed_its_parts(rt: HostRuntime) {
         agreement: ToyAgreement,
         host_trust: ToyTrust,
     };
-    assert_eq!(rt; client_parts(&mut parts, HOST_KEY), ([9; 4], [3; 32], true));
-    assert_eq!(rt;
+    same!(
+        rt,
+        client_parts(&mut parts, HOST_KEY),
+        ([9; 4], [3; 32], true)
+    );
+    same!(
+        rt,
         client_parts(&mut parts, b"no-host"),
         ([9; 4], [3; 32], false)
     );
@@ -88,7 +94,7 @@ fn a_server_is_handed_its_parts(rt: HostRuntime) {
         agreement: ToyAgreement,
         host_signer: ToySigner,
     };
-    assert_eq!(rt; server_parts(&mut parts), ([8; 4], [5; 32], 32));
-    assert_eq!(rt; parts.host_signer.key(b"toy@example.com"), HOST_KEY);
+    same!(rt, server_parts(&mut parts), ([8; 4], [5; 32], 32));
+    same!(rt, parts.host_signer.key(b"toy@example.com"), HOST_KEY);
     assert!(rt; server_seals::<ToyServer>(b"none", b"hmac-sha2-256"));
 }

@@ -1,5 +1,6 @@
 //! The loop by which a program reads a stream that comes in any pieces.
 
+use crate::checking::same;
 use crate::incoming::{Found, Incoming};
 use ssh_types::Refusal;
 use std::test::*;
@@ -82,12 +83,13 @@ fn a_stream_is_read_in_any_pieces(rt: HostRuntime) -> Result<(), Fail> {
             assert!(rt; read.is_ok());
             seen = read.unwrap_or(NOTHING);
         }
-        assert_eq!(rt; seen, wanted);
-        assert_eq!(rt;
+        same!(rt, seen, wanted);
+        same!(
+            rt,
             incoming.version_line(),
             Some(b"SSH-2.0-OpenSSH_9.2p1".as_slice())
         );
-        assert_eq!(rt; incoming.payload(), b"\x15".as_slice());
+        same!(rt, incoming.payload(), b"\x15".as_slice());
     }
     Ok(())
 }
@@ -95,7 +97,7 @@ fn a_stream_is_read_in_any_pieces(rt: HostRuntime) -> Result<(), Fail> {
 // The bytes that come, and why they are refused.
 #[test]
 fn a_refused_stream_stays_refused(rt: HostRuntime) -> Result<(), Fail> {
-    let table: [(&[u8], Refusal); 4] = [
+    let table: &[(&[u8], Refusal)] = &[
         (b"SSH-1.5-x\r\n", Refusal::BadVersion),
         (b"SSH-2.0-x\n", Refusal::BadLine),
         (b"SSH-2.0-x\r\n\0\0\0\x0d", Refusal::BadLength),
@@ -104,10 +106,10 @@ fn a_refused_stream_stays_refused(rt: HostRuntime) -> Result<(), Fail> {
             Refusal::BadPadding,
         ),
     ];
-    for (bytes, refusal) in table {
+    for &(bytes, refusal) in table {
         let mut incoming = Incoming::new(rt.alloc())?;
-        assert_eq!(rt; read(&mut incoming, bytes, NOTHING), Err(refusal));
-        assert_eq!(rt; read(&mut incoming, NEWKEYS, NOTHING), Err(refusal));
+        same!(rt, read(&mut incoming, bytes, NOTHING), Err(refusal));
+        same!(rt, read(&mut incoming, NEWKEYS, NOTHING), Err(refusal));
     }
     Ok(())
 }

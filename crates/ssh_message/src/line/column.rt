@@ -117,33 +117,26 @@ impl Column {
         f: &mut fmt::Formatter<W>,
     ) -> fmt::Result {
         match self {
-            Column::Boolean(name) => {
-                let truth = fields.boolean().map_err(no_field)?;
-                write!(f, " {name}={truth}")
-            }
-            Column::Uint32(name) => {
-                let number = fields.u32().map_err(no_field)?;
-                write!(f, " {name}={number}")
-            }
-            Column::Text(name) => {
-                let text = Hex(fields.string().map_err(no_field)?);
-                write!(f, " {name}={text}")
-            }
-            Column::Names(name) => {
-                let names = Ascii(fields.string().map_err(no_field)?);
-                write!(f, " {name}={names}")
-            }
-            Column::Cookie(name) => {
-                let high = fields.u64().map_err(no_field)?;
-                let low = fields.u64().map_err(no_field)?;
-                write!(f, " {name}={high:016x}{low:016x}")
-            }
+            Column::Boolean(name) => show_value(name, fields.boolean(), f),
+            Column::Uint32(name) => show_value(name, fields.u32(), f),
+            Column::Text(name) => show_value(name, hex_string(fields), f),
+            Column::Names(name) => show_value(name, letters(fields), f),
+            Column::Cookie(name) => show_value(name, cookie(fields), f),
             Column::Extensions => show_extensions(fields, f),
-            Column::Rest(name) => {
-                let rest = Hex(fields.rest());
-                write!(f, " {name}={rest}")
-            }
+            Column::Rest(name) => show_value(name, Ok(Hex(fields.rest())), f),
         }
+    }
+}
+
+// Shows a value by its name. No payload that is a message lacks one.
+fn show_value<V: fmt::Display + Drop, W: fmt::Write>(
+    name: &str,
+    value: Result<V, ReadRefusal>,
+    f: &mut fmt::Formatter<W>,
+) -> fmt::Result {
+    match value {
+        Ok(value) => write!(f, " {name}={value}"),
+        Err(_) => Err(fmt::Error),
     }
 }
 
@@ -151,19 +144,64 @@ fn show_extensions<W: fmt::Write>(
     fields: &mut Reader<'_>,
     f: &mut fmt::Formatter<W>,
 ) -> fmt::Result {
-    let count = fields.u32().map_err(no_field)?;
-    write!(f, " count={count}")?;
+    let Ok(count) = fields.u32() else {
+        return Err(fmt::Error);
+    };
+    show_value("count", Ok(count), f)?;
     for _ in 0..count {
-        let name = Hex(fields.string().map_err(no_field)?);
-        let value = Hex(fields.string().map_err(no_field)?);
-        write!(f, " ext={name}:{value}")?;
+        show_value("ext", extension(fields), f)?;
     }
     Ok(())
 }
 
-// No payload that is a message comes to this.
-fn no_field(_refusal: ReadRefusal) -> fmt::Error {
-    fmt::Error
+// The string that stands in front, in hexadecimal.
+fn hex_string<'a>(fields: &mut Reader<'a>) -> Result<Hex<'a>, ReadRefusal> {
+    Ok(Hex(fields.string()?))
+}
+
+// The string that stands in front, as letters.
+fn letters<'a>(fields: &mut Reader<'a>) -> Result<Ascii<'a>, ReadRefusal> {
+    Ok(Ascii(fields.string()?))
+}
+
+// The 16 bytes that stand in front.
+fn cookie(fields: &mut Reader<'_>) -> Result<CookieHex, ReadRefusal> {
+    let high = fields.u64()?;
+    let low = fields.u64()?;
+    Ok(CookieHex { high, low })
+}
+
+// The extension that stands in front.
+fn extension<'a>(fields: &mut Reader<'a>) -> Result<Pair<'a>, ReadRefusal> {
+    let name = hex_string(fields)?;
+    let value = hex_string(fields)?;
+    Ok(Pair { name, value })
+}
+
+// 16 bytes in hexadecimal, as two numbers.
+#[derive(Clone, Copy)]
+struct CookieHex {
+    high: u64,
+    low: u64,
+}
+
+impl fmt::Display for CookieHex {
+    fn fmt<W: fmt::Write>(&self, f: &mut fmt::Formatter<W>) -> fmt::Result {
+        write!(f, "{:016x}{:016x}", self.high, self.low)
+    }
+}
+
+// The name and the value of an extension.
+#[derive(Clone, Copy)]
+struct Pair<'a> {
+    name: Hex<'a>,
+    value: Hex<'a>,
+}
+
+impl<'a> fmt::Display for Pair<'a> {
+    fn fmt<W: fmt::Write>(&self, f: &mut fmt::Formatter<W>) -> fmt::Result {
+        write!(f, "{}:{}", self.name, self.value)
+    }
 }
 
 // Bytes as pairs of hexadecimal digits.

@@ -15,12 +15,14 @@ pub(crate) fn request<'a>(fields: &mut Reader<'a>) -> Result<Message<'a>, BadMes
     ensures fits { IfOk result (λ m. Fits m) }
     ensures refused { IfErr result (λ _. IsNone (50 ∷ fields.old)) }
 {
-    let (user, (service, method)) = Whole::whole(fields)?;
-    Ok(Message::UserauthRequest {
-        user,
-        service,
-        method,
-    })
+    match Whole::whole(fields) {
+        Ok((user, (service, method))) => Ok(Message::UserauthRequest {
+            user,
+            service,
+            method,
+        }),
+        Err(error) => Err(error),
+    }
 }
 
 #[tactic(auto, using(crate::proofs::Fields::fields, crate::proofs::Rows::no_userauth_failure))]
@@ -29,8 +31,10 @@ pub(crate) fn failure<'a>(fields: &mut Reader<'a>) -> Result<Message<'a>, BadMes
     ensures fits { IfOk result (λ m. Fits m) }
     ensures refused { IfErr result (λ _. IsNone (51 ∷ fields.old)) }
 {
-    let (methods, (partial, End)) = Whole::whole(fields)?;
-    Ok(Message::UserauthFailure { methods, partial })
+    match Whole::whole(fields) {
+        Ok((methods, (partial, End))) => Ok(Message::UserauthFailure { methods, partial }),
+        Err(error) => Err(error),
+    }
 }
 
 #[tactic(auto, using(crate::proofs::Fields::fields, crate::proofs::Rows::no_userauth_success))]
@@ -39,8 +43,10 @@ pub(crate) fn success<'a>(fields: &mut Reader<'a>) -> Result<Message<'a>, BadMes
     ensures fits { IfOk result (λ m. Fits m) }
     ensures refused { IfErr result (λ _. IsNone (52 ∷ fields.old)) }
 {
-    let End = Whole::whole(fields)?;
-    Ok(Message::UserauthSuccess)
+    match Whole::whole(fields) {
+        Ok(End) => Ok(Message::UserauthSuccess),
+        Err(error) => Err(error),
+    }
 }
 
 #[tactic(auto, using(crate::proofs::Fields::fields, crate::proofs::Rows::no_userauth_banner))]
@@ -49,8 +55,10 @@ pub(crate) fn banner<'a>(fields: &mut Reader<'a>) -> Result<Message<'a>, BadMess
     ensures fits { IfOk result (λ m. Fits m) }
     ensures refused { IfErr result (λ _. IsNone (53 ∷ fields.old)) }
 {
-    let (message, (language, End)) = Whole::whole(fields)?;
-    Ok(Message::UserauthBanner { message, language })
+    match Whole::whole(fields) {
+        Ok((message, (language, End))) => Ok(Message::UserauthBanner { message, language }),
+        Err(error) => Err(error),
+    }
 }
 
 #[tactic(auto, using(crate::proofs::Fields::fields, crate::proofs::Rows::no_userauth_pk_ok))]
@@ -59,6 +67,8 @@ pub(crate) fn pk_ok<'a>(fields: &mut Reader<'a>) -> Result<Message<'a>, BadMessa
     ensures fits { IfOk result (λ m. Fits m) }
     ensures refused { IfErr result (λ _. NoMessage true (60 ∷ fields.old)) }
 {
-    let (algorithm, (key, End)) = Whole::whole(fields)?;
-    Ok(Message::UserauthPkOk { algorithm, key })
+    match Whole::whole(fields) {
+        Ok((algorithm, (key, End))) => Ok(Message::UserauthPkOk { algorithm, key }),
+        Err(error) => Err(error),
+    }
 }
