@@ -6,7 +6,10 @@ use crate::sessions::{
 };
 use crate::step::{Script, Step};
 use ssh_kex::{ExchangeInputs, exchange_hash, exchange_text};
+use crate::toys::{client, settings};
+use ssh_transport::Strictness;
 use ssh_types::Side::{Client, Server};
+use std::alloc::{AllocError, Global};
 use std::test::*;
 
 // What a client and a server put out in a session of two exchanges with a message each behind it. These and the hashes of both
@@ -88,3 +91,96 @@ fn sessions_byte_for_byte(rt: HostRuntime) -> Result<(), Fail> {
     Ok(())
 }
 
+
+#[test]
+fn what_two_ends_show(rt: HostRuntime) -> Result<(), Fail> {
+    let mut pair = Pair::strict(rt.alloc())?;
+    for side in [Client, Server] {
+        let end = pair.party(side).end();
+        assert_eq!(rt; (end.numbers(), end.epochs()), ((1, 0), (0, 0)));
+        assert!(rt; end.blocked() && end.session_id().is_none());
+    }
+    assert_eq!(rt; pair.differs(&[FIRST], false)?, None);
+    let first = array(&hex::decode(rt.alloc(), FIRST_HASH)?);
+    for side in [Client, Server] {
+        let end = pair.party(side).end();
+        assert_eq!(rt; (end.numbers(), end.epochs()), ((0, 0), (1, 1)));
+        assert!(rt; !end.blocked() && !end.rekey_due() && !end.is_dead());
+        assert_eq!(rt; end.session_id(), Some(first));
+    }
+    assert_eq!(rt; pair.differs(&[SERVICE, AUTHENTICATION, FEEDS, SECOND], false)?, None);
+    for side in [Client, Server] {
+        let end = pair.party(side).end();
+        assert_eq!(rt; (end.numbers(), end.epochs()), ((0, 0), (2, 2)));
+        assert_eq!(rt; end.session_id(), Some(first));
+    }
+    let second = array(&hex::decode(rt.alloc(), SECOND_HASH)?);
+    for (place, size, last, hash) in [(0, 484, 0x03, first), (1, 426, 0x10, second)] {
+        let (text, computed) = exchange(rt.alloc(), &pair, place, last)?;
+        assert_eq!(rt; text.len(), size);
+        assert!(rt; text.starts_with(b"\0\0\0\x09SSH-2.0-c\0\0\0\x09SSH-2.0-s"));
+        let mut end = [last; 36];
+        end[..4].copy_from_slice(b"\0\0\0 ");
+        assert!(rt; text.ends_with(&end));
+        assert_eq!(rt; computed, hash);
+    }
+    Ok(())
+}
+
+// The text of an exchange of a pair, of which each byte that is shared is this one, and the hash of it.
+fn exchange(
+    alloc: Global,
+    pair: &Pair,
+    place: usize,
+    shared: u8,
+) -> Result<(Vec<u8>, [u8; 32]), AllocError> {
+    let (client, server) = (pair.party(Client), pair.party(Server));
+    let client_point = array(client.sent_of(30, place).and_then(|p| p.get(5..)).unwrap_or(&[]));
+    let server_point = array(server.sent_of(31, place).and_then(|p| p.get(17..)).unwrap_or(&[]));
+    let inputs = ExchangeInputs {
+        client_version: b"SSH-2.0-c",
+        server_version: b"SSH-2.0-s",
+        client_init: client.sent_of(20, place).unwrap_or(&[]),
+        server_init: server.sent_of(20, place).unwrap_or(&[]),
+        host_key: b"toy-host",
+        client_point: &client_point,
+        server_point: &server_point,
+        shared: &[shared; 32],
+    };
+    if !inputs.fits() {
+        return Ok((Vec::new(alloc), [0; 32]));
+    }
+    Ok((exchange_text(alloc, &inputs)?, exchange_hash(&inputs)))
+}
+
+// The first 32 bytes, with zeros where there are fewer.
+fn array(bytes: &[u8]) -> [u8; 32] {
+    let mut array = [0; 32];
+    for (place, byte) in array.iter_mut().zip(bytes.iter()) {
+        *place = *byte;
+    }
+    array
+}
+
+// How many bytes each call uses: to the end of a line or a packet, and no further.
+#[test]
+fn a_call_takes_one_line_or_packet(rt: HostRuntime) -> Result<(), Fail> {
+    let mut pair = Pair::strict(rt.alloc())?;
+    for (step, lines) in FIRST.get(..3).unwrap_or(&[]) {
+        assert_eq!(rt; pair.play(*step)?, *lines);
+    }
+    let mut out = Vec::new(rt.alloc());
+    let mut sent = Vec::new(rt.alloc());
+    let settings = settings(b"c", Strictness::Require);
+    let mut client = client(rt.alloc(), &settings, &mut out, &mut sent)?;
+    let mut rest = pair.party(Server).out();
+    for size in [11, 176, 96, 16, 0] {
+        let (used, turn) = client.take(rest, &mut out, &mut sent);
+        assert_eq!(rt; used, size);
+        assert!(rt; turn.is_ok());
+        rest = rest.get(used..).unwrap_or(&[]);
+    }
+    assert!(rt; rest.is_empty());
+    assert_eq!(rt; out.len(), 11 + 176 + 48 + 16);
+    Ok(())
+}

@@ -9,6 +9,10 @@ mod exchanges;
 #[cfg(test)]
 mod forging;
 #[cfg(test)]
+mod kexinits;
+#[cfg(test)]
+mod numbers;
+#[cfg(test)]
 mod pair;
 #[cfg(test)]
 mod party;

@@ -153,14 +153,27 @@ impl Pair {
         scripts: &[Script],
         is_dripped: bool,
     ) -> Result<Option<String>, AllocError> {
+        for script in scripts.iter() {
+            let found = self.script_differs(script, is_dripped)?;
+            if found.is_some() {
+                return Ok(found);
+            }
+        }
+        Ok(None)
+    }
+
+    /// The same of one script.
+    pub fn script_differs(
+        &mut self,
+        script: &[(Step<'_>, &str)],
+        is_dripped: bool,
+    ) -> Result<Option<String>, AllocError> {
         let alloc = self.alloc;
-        for (which, script) in scripts.iter().enumerate() {
-            for (index, (step, wanted)) in script.iter().enumerate() {
-                let step = if is_dripped { dripped(*step) } else { *step };
-                let lines = self.play(step)?;
-                if lines != *wanted {
-                    return Ok(Some(format!(in alloc; "{which}.{index}: {lines}")?));
-                }
+        for (index, (step, wanted)) in script.iter().enumerate() {
+            let step = if is_dripped { dripped(*step) } else { *step };
+            let lines = self.play(step)?;
+            if lines != *wanted {
+                return Ok(Some(format!(in alloc; "step {index}: {lines}")?));
             }
         }
         Ok(None)
