@@ -13,9 +13,13 @@ mod kexinits;
 #[cfg(test)]
 mod numbers;
 #[cfg(test)]
+mod offers;
+#[cfg(test)]
 mod pair;
 #[cfg(test)]
 mod party;
+#[cfg(test)]
+mod refusals;
 #[cfg(test)]
 mod sessions;
 #[cfg(test)]

@@ -2,6 +2,7 @@
 
 use crate::end::End;
 use crate::transcript::Transcript;
+use ssh_kex::OwnedChoice;
 use ssh_message::decode;
 use ssh_transport::{AskTurn, Effect, TransportAsk, TransportFault, TransportTurn};
 use ssh_types::Side;
@@ -22,6 +23,7 @@ pub struct Party {
     // How many bytes of a line or packet that is begun it took, and how many exchanges it completed.
     begun: usize,
     completed: u64,
+    chosen: Option<OwnedChoice>,
     // It is told that it died.
     is_over: bool,
 }
@@ -46,6 +48,7 @@ impl Party {
             shown,
             begun: 0,
             completed: 0,
+            chosen: None,
             is_over: false,
         }
     }
@@ -65,6 +68,14 @@ impl Party {
         match self.sent.as_slice().last() {
             Some(payload) => payload.as_slice(),
             None => &[],
+        }
+    }
+
+    /// The method and the host key algorithm of the exchange that it completed last.
+    pub fn chosen(&self) -> Option<(&[u8], &[u8])> {
+        match &self.chosen {
+            Some(choice) => Some((choice.kex.as_bytes(), choice.host.as_bytes())),
+            None => None,
         }
     }
 
@@ -134,7 +145,8 @@ impl Party {
                 lines.note_payload(self.side, "took", self.end.payload())?;
                 lines.note_number(self.side, "up", number as u64)
             }
-            TransportTurn::Completed(_) => {
+            TransportTurn::Completed(choice) => {
+                self.chosen = Some(choice);
                 self.completed = self.completed.saturating_add(1);
                 lines.note_payload(self.side, "took", self.end.payload())?;
                 self.note_sent(lines)?;
