@@ -5,8 +5,8 @@ use crate::sessions::{
     AUTHENTICATION, CHANNEL, DATA, DATA_AND_CLOSE, FEEDS, FIRST, SECOND, SERVICE,
 };
 use crate::step::{Script, Step};
-use ssh_kex::{ExchangeInputs, exchange_hash, exchange_text};
 use crate::toys::{client, settings};
+use ssh_kex::{ExchangeInputs, exchange_hash, exchange_text};
 use ssh_transport::Strictness;
 use ssh_types::Side::{Client, Server};
 use std::alloc::{AllocError, Global};
@@ -91,7 +91,6 @@ fn sessions_byte_for_byte(rt: HostRuntime) -> Result<(), Fail> {
     Ok(())
 }
 
-
 #[test]
 fn what_two_ends_show(rt: HostRuntime) -> Result<(), Fail> {
     let mut pair = Pair::strict(rt.alloc())?;
@@ -108,7 +107,10 @@ fn what_two_ends_show(rt: HostRuntime) -> Result<(), Fail> {
         assert!(rt; !end.blocked() && !end.rekey_due() && !end.is_dead());
         assert_eq!(rt; end.session_id(), Some(first));
     }
-    assert_eq!(rt; pair.differs(&[SERVICE, AUTHENTICATION, FEEDS, SECOND], false)?, None);
+    assert_eq!(rt;
+        pair.differs(&[SERVICE, AUTHENTICATION, FEEDS, SECOND], false)?,
+        None
+    );
     for side in [Client, Server] {
         let end = pair.party(side).end();
         assert_eq!(rt; (end.numbers(), end.epochs()), ((0, 0), (2, 2)));
@@ -135,8 +137,18 @@ fn exchange(
     shared: u8,
 ) -> Result<(Vec<u8>, [u8; 32]), AllocError> {
     let (client, server) = (pair.party(Client), pair.party(Server));
-    let client_point = array(client.sent_of(30, place).and_then(|p| p.get(5..)).unwrap_or(&[]));
-    let server_point = array(server.sent_of(31, place).and_then(|p| p.get(17..)).unwrap_or(&[]));
+    let client_point = array(
+        client
+            .sent_of(30, place)
+            .and_then(|p| p.get(5..))
+            .unwrap_or(&[]),
+    );
+    let server_point = array(
+        server
+            .sent_of(31, place)
+            .and_then(|p| p.get(17..))
+            .unwrap_or(&[]),
+    );
     let inputs = ExchangeInputs {
         client_version: b"SSH-2.0-c",
         server_version: b"SSH-2.0-s",

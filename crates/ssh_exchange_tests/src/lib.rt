@@ -3,6 +3,10 @@
 #![tactic(auto)]
 
 #[cfg(test)]
+mod asks;
+#[cfg(test)]
+mod attacks;
+#[cfg(test)]
 mod end;
 #[cfg(test)]
 mod exchanges;
@@ -10,6 +14,8 @@ mod exchanges;
 mod forging;
 #[cfg(test)]
 mod kexinits;
+#[cfg(test)]
+mod memory;
 #[cfg(test)]
 mod numbers;
 #[cfg(test)]
@@ -28,3 +34,5 @@ mod step;
 mod toys;
 #[cfg(test)]
 mod transcript;
+#[cfg(test)]
+mod variants;

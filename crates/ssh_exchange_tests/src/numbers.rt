@@ -5,9 +5,9 @@ use crate::pair::Pair;
 use crate::sessions::{AUTHENTICATION, FEEDS, FIRST, PLAIN_FIRST, SECOND, SERVICE};
 use crate::step::{Script, Step};
 use crate::toys::settings;
-use ssh_message::name;
 use Ends::{Extended, Offering, Plain, Strict};
 use Kind::{First, FirstNewKeys, Later, LaterNewKeys, Normal};
+use ssh_message::name;
 use ssh_transport::Strictness;
 use ssh_types::Side;
 use ssh_types::Side::{Client, Server};
@@ -40,14 +40,7 @@ enum Kind {
 
 // A place: of such ends after so many steps of these scripts, at this side, where these numbers may be taken and are no message by
 // themselves.
-type Place = (
-    Ends,
-    &'static [Script],
-    usize,
-    Side,
-    Kind,
-    &'static [u8],
-);
+type Place = (Ends, &'static [Script], usize, Side, Kind, &'static [u8]);
 
 // The lines of both ends alone, and what the client's NEWKEYS leaves out.
 const LINES: Script = &[
@@ -57,7 +50,10 @@ const LINES: Script = &[
 
 // A first exchange whose last packets come one by one.
 const SLOW: Script = &[
-    (Step::PassAll(Client), "s took line 9; s took 20 KEXINIT 165"),
+    (
+        Step::PassAll(Client),
+        "s took line 9; s took 20 KEXINIT 165",
+    ),
     (
         Step::PassAll(Server),
         "c took line 9; c took 20 KEXINIT 165; c sent 30 KEX_ECDH_INIT 37",
@@ -74,7 +70,10 @@ const SLOW: Script = &[
 
 // An exchange where each end takes extensions, with none announced; and then a packet that is no EXT_INFO.
 const EXTENDED: Script = &[
-    (Step::PassAll(Client), "s took line 9; s took 20 KEXINIT 176"),
+    (
+        Step::PassAll(Client),
+        "s took line 9; s took 20 KEXINIT 176",
+    ),
     (
         Step::PassAll(Server),
         "c took line 9; c took 20 KEXINIT 176; c sent 30 KEX_ECDH_INIT 37",
@@ -110,7 +109,14 @@ const PLACES: &[Place] = &[
     (Strict, &[SLOW], 4, Client, FirstNewKeys, &[1]),
     (Strict, &[FIRST], 5, Server, Normal, &[1, 2, 3, 4, 5]),
     (Strict, &[FIRST], 5, Client, Normal, &[1, 2, 3, 4]),
-    (Strict, &[FIRST, SERVICE], 6, Client, Normal, &[1, 2, 3, 4, 6]),
+    (
+        Strict,
+        &[FIRST, SERVICE],
+        6,
+        Client,
+        Normal,
+        &[1, 2, 3, 4, 6],
+    ),
     (Strict, &[FIRST, SERVICE], 8, Server, Normal, &[1, 2, 3, 4]),
     (Strict, &[FIRST, SERVICE], 8, Client, Normal, &[1, 2, 3, 4]),
     (Strict, REKEYED, 14, Server, Normal, &[1, 2, 3, 4, 20]),
@@ -130,9 +136,23 @@ const PLACES: &[Place] = &[
     (Plain, &[LINES], 2, Client, First, &[1, 2, 3, 4, 20]),
     (Plain, &[PLAIN_FIRST], 1, Server, First, &[1, 2, 3, 4, 30]),
     (Plain, &[PLAIN_FIRST], 2, Client, First, &[1, 2, 3, 4, 31]),
-    (Plain, &[PLAIN_FIRST], 3, Server, FirstNewKeys, &[1, 2, 3, 4]),
+    (
+        Plain,
+        &[PLAIN_FIRST],
+        3,
+        Server,
+        FirstNewKeys,
+        &[1, 2, 3, 4],
+    ),
     (Plain, &[PLAIN_FIRST], 5, Server, Normal, &[1, 2, 3, 4, 5]),
-    (Extended, &[EXTENDED], 5, Server, Normal, &[1, 2, 3, 4, 5, 7]),
+    (
+        Extended,
+        &[EXTENDED],
+        5,
+        Server,
+        Normal,
+        &[1, 2, 3, 4, 5, 7],
+    ),
     (Extended, &[EXTENDED], 5, Client, Normal, &[1, 2, 3, 4, 7]),
     (Extended, &[EXTENDED], 7, Server, Normal, &[1, 2, 3, 4, 5]),
     (Extended, &[EXTENDED], 7, Client, Normal, &[1, 2, 3, 4]),
@@ -176,7 +196,9 @@ fn wanted(alloc: Global, place: Place, byte: u8, number: u64) -> Result<String, 
         return format!(in alloc; "{side} took 21 NEWKEYS 1");
     }
     if longer.contains(&byte) {
-        return format!(in alloc; "{side} refused 6 BadMessage; {side} sent 1 DISCONNECT 23; {side} died");
+        return format!(in alloc;
+            "{side} refused 6 BadMessage; {side} sent 1 DISCONNECT 23; {side} died"
+        );
     }
     if byte < unknown_below(kind) && byte != 7 && name == "UNKNOWN" {
         return format!(in alloc; "{side} took {byte} UNKNOWN 1; {side} sent 3 UNIMPLEMENTED 5");
@@ -198,7 +220,8 @@ fn unknown_below(kind: Kind) -> u8 {
 
 // Each number that is known below 50, those beside it, and those at both sides of each bound.
 const BYTES: &[u8] = &[
-    0, 1, 2, 3, 4, 5, 6, 7, 8, 19, 20, 21, 22, 29, 30, 31, 32, 49, 50, 52, 60, 79, 80, 100, 101, 255,
+    0, 1, 2, 3, 4, 5, 6, 7, 8, 19, 20, 21, 22, 29, 30, 31, 32, 49, 50, 52, 60, 79, 80, 100, 101,
+    255,
 ];
 
 #[test]
@@ -231,7 +254,10 @@ fn the_packet_after_a_wrong_guess(rt: HostRuntime) -> Result<(), Fail> {
     for byte in 0..=255u8 {
         let mut pair = Pair::strict(rt.alloc())?;
         pair.play(Step::Pass(Client, 11))?;
-        assert_eq!(rt; pair.play(Step::Forge(Server, &wrong))?, "s took 20 KEXINIT 194");
+        assert_eq!(rt;
+            pair.play(Step::Forge(Server, &wrong))?,
+            "s took 20 KEXINIT 194"
+        );
         let lines = pair.play(Step::Forge(Server, &[byte]))?;
         let wanted = if 30 <= byte && byte < 50 {
             format!(in rt.alloc(); "s took {byte} {} 1; s told ignored", name(byte))?

@@ -31,7 +31,11 @@ const FIRST_OFFERS: &[(usize, &str, &str)] = &[
     (0, "OTHER,MARKER", "8 NoCommon"),
     (0, "ext-info-c,ext-info-s,MARKER", "8 NoCommon"),
     // An unknown name, or a second one.
-    (0, "sntrup761x25519-sha512@openssh.com,curve25519-sha256,MARKER", ""),
+    (
+        0,
+        "sntrup761x25519-sha512@openssh.com,curve25519-sha256,MARKER",
+        "",
+    ),
     (0, "curve25519-sha256@libssh.org,MARKER", "8 NoCommon"),
     (1, "ssh-ed25519", "8 NoCommon"),
     (1, "", "8 NoCommon"),
@@ -56,10 +60,18 @@ const FIRST_OFFERS: &[(usize, &str, &str)] = &[
 // The text of a list in a KEXINIT to this side.
 fn list(alloc: Global, to: Side, text: &str) -> Result<String, AllocError> {
     let (own, other) = match to {
-        Side::Client => ("kex-strict-s-v00@openssh.com", "kex-strict-c-v00@openssh.com"),
-        Side::Server => ("kex-strict-c-v00@openssh.com", "kex-strict-s-v00@openssh.com"),
+        Side::Client => (
+            "kex-strict-s-v00@openssh.com",
+            "kex-strict-c-v00@openssh.com",
+        ),
+        Side::Server => (
+            "kex-strict-c-v00@openssh.com",
+            "kex-strict-s-v00@openssh.com",
+        ),
     };
-    text.replace(alloc, "MARKER", own)?.as_str().replace(alloc, "OTHER", other)
+    text.replace(alloc, "MARKER", own)?
+        .as_str()
+        .replace(alloc, "OTHER", other)
 }
 
 // The lines of a refusal by this side, or of a KEXINIT of so many bytes that is taken.
@@ -67,7 +79,9 @@ fn wanted(alloc: Global, side: Side, why: &str, size: usize) -> Result<String, A
     let letter = if side == Client { "c" } else { "s" };
     if let Some((_, name)) = why.split_once(' ') {
         let size = 13 + name.len();
-        return format!(in alloc; "{letter} refused {why}; {letter} sent 1 DISCONNECT {size}; {letter} died");
+        return format!(in alloc;
+            "{letter} refused {why}; {letter} sent 1 DISCONNECT {size}; {letter} died"
+        );
     }
     if side == Client {
         return format!(in alloc; "c took 20 KEXINIT {size}; c sent 30 KEX_ECDH_INIT 37");
@@ -95,7 +109,11 @@ fn first_offers(rt: HostRuntime) -> Result<(), Fail> {
 const GUESSES: &[(&str, &str, bool)] = &[
     ("curve25519-sha256,MARKER", "toy@example.com", false),
     ("MARKER,curve25519-sha256", "toy@example.com", false),
-    ("OTHER,ext-info-c,curve25519-sha256,MARKER", "toy@example.com", false),
+    (
+        "OTHER,ext-info-c,curve25519-sha256,MARKER",
+        "toy@example.com",
+        false,
+    ),
     ("curve25519-sha256,x,MARKER", "toy@example.com,x", false),
     ("x,curve25519-sha256,MARKER", "toy@example.com", true),
     ("curve25519-sha256,MARKER", "x,toy@example.com", true),
@@ -108,7 +126,8 @@ const OTHER_POINT: &[u8] = b"\x1e\0\0\0\x01\x04";
 
 #[test]
 fn guesses(rt: HostRuntime) -> Result<(), Fail> {
-    let answer = "s took 30 KEX_ECDH_INIT 37; s sent 31 KEX_ECDH_REPLY 85; s sent 21 NEWKEYS 1; s told completed 1";
+    let answer =
+        "s took 30 KEX_ECDH_INIT 37; s sent 31 KEX_ECDH_REPLY 85; s sent 21 NEWKEYS 1; s told completed 1";
     for (index, (kex, host, is_wrong)) in GUESSES.iter().enumerate() {
         let kex = list(rt.alloc(), Server, kex)?;
         let lists = with(&with(&OF_CLIENT, 0, kex.as_str()), 1, host);
@@ -116,13 +135,25 @@ fn guesses(rt: HostRuntime) -> Result<(), Fail> {
         pair.play(Step::Forge(Server, &kexinit(rt.alloc(), 0xc1, &lists, true)?))?;
         if *is_wrong {
             let lines = pair.play(Step::Forge(Server, OTHER_POINT))?;
-            assert_eq!(rt; lines, "s took 30 KEX_ECDH_INIT 6; s told ignored", "row {index}");
+            assert_eq!(rt;
+                lines,
+                "s took 30 KEX_ECDH_INIT 6; s told ignored",
+                "row {index}"
+            );
         }
-        assert_eq!(rt; pair.play(Step::Forge(Server, POINT))?, answer, "row {index}");
+        assert_eq!(rt;
+            pair.play(Step::Forge(Server, POINT))?,
+            answer,
+            "row {index}"
+        );
         // The same lists with no guess: nothing is skipped.
         let mut pair = lines(rt.alloc())?;
         pair.play(Step::Forge(Server, &kexinit(rt.alloc(), 0xc1, &lists, false)?))?;
-        assert_eq!(rt; pair.play(Step::Forge(Server, POINT))?, answer, "row {index}");
+        assert_eq!(rt;
+            pair.play(Step::Forge(Server, POINT))?,
+            answer,
+            "row {index}"
+        );
     }
     Ok(())
 }
@@ -135,9 +166,15 @@ fn a_wrong_guess_of_a_server(rt: HostRuntime) -> Result<(), Fail> {
     let mut pair = lines(rt.alloc())?;
     let lines = pair.play(Step::Forge(Client, &wrong))?;
     assert_eq!(rt; lines, "c took 20 KEXINIT 167; c sent 30 KEX_ECDH_INIT 37");
-    assert_eq!(rt; pair.play(Step::Forge(Client, b"\x1f"))?, "c took 31 KEX_ECDH_REPLY 1; c told ignored");
+    assert_eq!(rt;
+        pair.play(Step::Forge(Client, b"\x1f"))?,
+        "c took 31 KEX_ECDH_REPLY 1; c told ignored"
+    );
     let lines = pair.play(Step::Forge(Client, b"\x1f"))?;
-    assert_eq!(rt; lines, "c refused 6 BadMessage; c sent 1 DISCONNECT 23; c died");
+    assert_eq!(rt;
+        lines,
+        "c refused 6 BadMessage; c sent 1 DISCONNECT 23; c died"
+    );
     Ok(())
 }
 
@@ -160,7 +197,10 @@ fn later_offers(rt: HostRuntime) -> Result<(), Fail> {
             let payload = kexinit(rt.alloc(), 0xa2, &lists, false)?;
             for (is_fed, why) in [(false, without), (true, fed)] {
                 let mut pair = Pair::strict(rt.alloc())?;
-                assert_eq!(rt; pair.differs(&[FIRST, SERVICE, AUTHENTICATION], false)?, None);
+                assert_eq!(rt;
+                    pair.differs(&[FIRST, SERVICE, AUTHENTICATION], false)?,
+                    None
+                );
                 if is_fed {
                     pair.differs(&[FEEDS], false)?;
                 }
@@ -179,7 +219,9 @@ fn later_wanted(alloc: Global, side: Side, why: &str, size: usize) -> Result<Str
         return wanted(alloc, side, why, size);
     }
     if side == Client {
-        return format!(in alloc; "c took 20 KEXINIT {size}; c sent 20 KEXINIT 136; c sent 30 KEX_ECDH_INIT 37");
+        return format!(in alloc;
+            "c took 20 KEXINIT {size}; c sent 20 KEXINIT 136; c sent 30 KEX_ECDH_INIT 37"
+        );
     }
     format!(in alloc; "s took 20 KEXINIT {size}; s sent 20 KEXINIT 136")
 }
@@ -200,7 +242,13 @@ fn the_clients_first_name_is_chosen(rt: HostRuntime) -> Result<(), Fail> {
     for side in [Client, Server] {
         assert!(rt; pair.party(side).end().epochs() == (1, 1));
         let names = pair.party(side).chosen();
-        assert_eq!(rt; names, Some((b"curve25519-sha256@libssh.org".as_slice(), b"toy@example.com".as_slice())));
+        assert_eq!(rt;
+            names,
+            Some((
+                b"curve25519-sha256@libssh.org".as_slice(),
+                b"toy@example.com".as_slice()
+            ))
+        );
     }
     Ok(())
 }

@@ -30,13 +30,7 @@ pub struct Party {
 
 impl Party {
     /// An end that put out these bytes and sent these payloads.
-    pub fn new(
-        alloc: Global,
-        side: Side,
-        end: End,
-        out: Vec<u8>,
-        sent: Vec<Vec<u8>>,
-    ) -> Party {
+    pub fn new(alloc: Global, side: Side, end: End, out: Vec<u8>, sent: Vec<Vec<u8>>) -> Party {
         let shown = sent.as_slice().len();
         Party {
             alloc,

@@ -1,6 +1,5 @@
 //! Each refusal of the peer at its places: what is told, the DISCONNECT that goes out, and that nothing happens behind it.
 
-
 use crate::pair::Pair;
 use crate::party::Party;
 use crate::sessions::{AUTHENTICATION, FEEDS, FIRST, IGNORE, NEWKEYS, SECOND, SERVICE};
@@ -13,13 +12,7 @@ use std::test::*;
 
 // What two ends do before a refusal, the step that is refused, who refuses it, by what and by which reason code (RFC 4253 section
 // 11.1), or 0 where nothing is said.
-type Refused = (
-    &'static [Script],
-    Step<'static>,
-    Side,
-    &'static str,
-    u32,
-);
+type Refused = (&'static [Script], Step<'static>, Side, &'static str, u32);
 
 // Lines that the ends take before.
 const LINES: Script = &[
@@ -56,10 +49,7 @@ const BEHIND_REPLY: Script = &[(
 
 // The second exchange up to where the server has taken a KEXINIT, and the client.
 const REKEY: Script = &[
-    (
-        Step::Rekey(Client),
-        "c asked rekey; c sent 20 KEXINIT 136",
-    ),
+    (Step::Rekey(Client), "c asked rekey; c sent 20 KEXINIT 136"),
     (
         Step::PassAll(Client),
         "s took 20 KEXINIT 136; s sent 20 KEXINIT 136",
@@ -100,13 +90,15 @@ const SHORT_POINT: &[u8] = b"\x1e\0\0\0\x1f1111111111111111111111111111111";
 
 const LONG_POINT: &[u8] = b"\x1e\0\0\0\x21111111111111111111111111111111111";
 
-const OWN_POINT: &[u8] = b"\x1e\0\0\0\x20\x02\x02\x02\x02\x02\x02\x02\x02\x02\x02\x02\x02\x02\x02\x02\x02\x02\x02\x02\x02\x02\x02\x02\x02\x02\x02\x02\x02\x02\x02\x02\x02";
+const OWN_POINT: &[u8] =
+    b"\x1e\0\0\0\x20\x02\x02\x02\x02\x02\x02\x02\x02\x02\x02\x02\x02\x02\x02\x02\x02\x02\x02\x02\x02\x02\x02\x02\x02\x02\x02\x02\x02\x02\x02\x02\x02";
 
 // Replies by the right host key and another, whose points are wrong, or whose signature is.
 const SHORT_REPLY: &[u8] =
     b"\x1f\0\0\0\x08toy-host\0\0\0\x1f2222222222222222222222222222222\0\0\0\x01s";
 
-const OWN_REPLY: &[u8] = b"\x1f\0\0\0\x07no-host\0\0\0\x20\x01\x01\x01\x01\x01\x01\x01\x01\x01\x01\x01\x01\x01\x01\x01\x01\x01\x01\x01\x01\x01\x01\x01\x01\x01\x01\x01\x01\x01\x01\x01\x01\0\0\0\x01s";
+const OWN_REPLY: &[u8] =
+    b"\x1f\0\0\0\x07no-host\0\0\0\x20\x01\x01\x01\x01\x01\x01\x01\x01\x01\x01\x01\x01\x01\x01\x01\x01\x01\x01\x01\x01\x01\x01\x01\x01\x01\x01\x01\x01\x01\x01\x01\x01\0\0\0\x01s";
 
 const UNSIGNED_REPLY: &[u8] =
     b"\x1f\0\0\0\x08toy-host\0\0\0\x2022222222222222222222222222222222\0\0\0\x01s";
@@ -120,25 +112,82 @@ const CUT_REPLY: &[u8] = b"\x1f\0\0\0\x08toy-host\0\0\0\x20222222222222222222222
 const SEALED_BY_NOBODY: &[u8] = b"\0\0\0\x0c\x06\x02\0\0\0\0\0\0\0\0\0\0\
     \0\0\0\0\0\0\0\0\0\0\0\0\0\0\0\0\0\0\0\0\0\0\0\0\0\0\0\0\0\0\0\0";
 
-const REKEY_WITHOUT: Script = &[(
-    Step::Rekey(Client),
-    "c asked rekey; c sent 20 KEXINIT 136",
-)];
+const REKEY_WITHOUT: Script = &[(Step::Rekey(Client), "c asked rekey; c sent 20 KEXINIT 136")];
 
 const TABLE: &[Refused] = &[
     // Lines (RFC 4253 section 4.2).
-    (&[], Step::Give(Server, b"hello\r\n"), Server, "1 BadLine", 0),
-    (&[], Step::Give(Server, b"SSH-2.0-x\n"), Server, "1 BadLine", 0),
-    (&[], Step::Give(Client, b"SSH-2.0-x\n"), Client, "1 BadLine", 0),
+    (
+        &[],
+        Step::Give(Server, b"hello\r\n"),
+        Server,
+        "1 BadLine",
+        0,
+    ),
+    (
+        &[],
+        Step::Give(Server, b"SSH-2.0-x\n"),
+        Server,
+        "1 BadLine",
+        0,
+    ),
+    (
+        &[],
+        Step::Give(Client, b"SSH-2.0-x\n"),
+        Client,
+        "1 BadLine",
+        0,
+    ),
     (&[], Step::Give(Client, b"hello\0"), Client, "1 BadLine", 0),
-    (&[], Step::Give(Client, b"SSH-2.0-\r\n"), Client, "1 BadLine", 0),
-    (&[], Step::Give(Server, b"SSH-1.99-x\r\n"), Server, "2 BadVersion", 0),
-    (&[], Step::Give(Client, b"SSH-1.5-x\r\n"), Client, "2 BadVersion", 0),
+    (
+        &[],
+        Step::Give(Client, b"SSH-2.0-\r\n"),
+        Client,
+        "1 BadLine",
+        0,
+    ),
+    (
+        &[],
+        Step::Give(Server, b"SSH-1.99-x\r\n"),
+        Server,
+        "2 BadVersion",
+        0,
+    ),
+    (
+        &[],
+        Step::Give(Client, b"SSH-1.5-x\r\n"),
+        Client,
+        "2 BadVersion",
+        0,
+    ),
     // Packets in clear and under a key (section 6).
-    (&[LINES], Step::Give(Server, b"\0\0\0\x0b"), Server, "3 BadLength", 2),
-    (&[LINES], Step::Give(Client, b"\0\0\0\x0d"), Client, "3 BadLength", 2),
-    (&[LINES], Step::Give(Client, b"\0\0\x88\xbc"), Client, "3 BadLength", 2),
-    (&[FIRST], Step::Give(Server, b"\0\0\x88\x9c"), Server, "3 BadLength", 2),
+    (
+        &[LINES],
+        Step::Give(Server, b"\0\0\0\x0b"),
+        Server,
+        "3 BadLength",
+        2,
+    ),
+    (
+        &[LINES],
+        Step::Give(Client, b"\0\0\0\x0d"),
+        Client,
+        "3 BadLength",
+        2,
+    ),
+    (
+        &[LINES],
+        Step::Give(Client, b"\0\0\x88\xbc"),
+        Client,
+        "3 BadLength",
+        2,
+    ),
+    (
+        &[FIRST],
+        Step::Give(Server, b"\0\0\x88\x9c"),
+        Server,
+        "3 BadLength",
+        2,
+    ),
     (
         &[LINES],
         Step::Give(Server, b"\0\0\0\x0c\x03\x15\0\0\0\0\0\0\0\0\0\0"),
@@ -153,11 +202,35 @@ const TABLE: &[Refused] = &[
         "4 BadPadding",
         2,
     ),
-    (&[FIRST], Step::Give(Client, SEALED_BY_NOBODY), Client, "5 BadTag", 5),
-    (&[FIRST], Step::Give(Server, SEALED_BY_NOBODY), Server, "5 BadTag", 5),
+    (
+        &[FIRST],
+        Step::Give(Client, SEALED_BY_NOBODY),
+        Client,
+        "5 BadTag",
+        5,
+    ),
+    (
+        &[FIRST],
+        Step::Give(Server, SEALED_BY_NOBODY),
+        Server,
+        "5 BadTag",
+        5,
+    ),
     // A packet comes once more, or comes under the keys before.
-    (&[FIRST, SERVICE], Step::Again(Client, 251, 64), Server, "5 BadTag", 5),
-    (&[FIRST, SERVICE], Step::Again(Server, 299, 64), Client, "5 BadTag", 5),
+    (
+        &[FIRST, SERVICE],
+        Step::Again(Client, 251, 64),
+        Server,
+        "5 BadTag",
+        5,
+    ),
+    (
+        &[FIRST, SERVICE],
+        Step::Again(Server, 299, 64),
+        Client,
+        "5 BadTag",
+        5,
+    ),
     (
         &[FIRST, SERVICE, AUTHENTICATION, FEEDS, SECOND],
         Step::Again(Client, 251, 64),
@@ -166,36 +239,198 @@ const TABLE: &[Refused] = &[
         5,
     ),
     // Payloads that are no messages.
-    (&[LINES], Step::Forge(Server, b"\x14"), Server, "6 BadMessage", 2),
-    (&[AT_CLIENT], Step::Forge(Client, CUT_REPLY), Client, "6 BadMessage", 2),
-    (&[AT_CLIENT, BEHIND_POINT], Step::Forge(Server, LONG_NEWKEYS), Server, "6 BadMessage", 2),
-    (&[LINES], Step::Forge(Client, SHORT_DISCONNECT), Client, "6 BadMessage", 2),
-    (&[FIRST], Step::Forge(Client, b"\x03\0\0\0"), Client, "6 BadMessage", 2),
+    (
+        &[LINES],
+        Step::Forge(Server, b"\x14"),
+        Server,
+        "6 BadMessage",
+        2,
+    ),
+    (
+        &[AT_CLIENT],
+        Step::Forge(Client, CUT_REPLY),
+        Client,
+        "6 BadMessage",
+        2,
+    ),
+    (
+        &[AT_CLIENT, BEHIND_POINT],
+        Step::Forge(Server, LONG_NEWKEYS),
+        Server,
+        "6 BadMessage",
+        2,
+    ),
+    (
+        &[LINES],
+        Step::Forge(Client, SHORT_DISCONNECT),
+        Client,
+        "6 BadMessage",
+        2,
+    ),
+    (
+        &[FIRST],
+        Step::Forge(Client, b"\x03\0\0\0"),
+        Client,
+        "6 BadMessage",
+        2,
+    ),
     // Messages before and within the first exchange: what Terrapin (CVE-2023-48795) puts there.
-    (&[LINES], Step::Give(Client, IGNORE), Client, "7 Unexpected", 2),
-    (&[LINES], Step::Give(Server, IGNORE), Server, "7 Unexpected", 2),
-    (&[LINES], Step::Forge(Client, DEBUG), Client, "7 Unexpected", 2),
-    (&[AT_CLIENT], Step::Give(Client, IGNORE), Client, "7 Unexpected", 2),
-    (&[AT_SERVER], Step::Give(Server, IGNORE), Server, "7 Unexpected", 2),
-    (&[AT_SERVER], Step::Forge(Server, b"\xc0"), Server, "7 Unexpected", 2),
-    (&[AT_CLIENT, BEHIND_POINT], Step::Give(Server, IGNORE), Server, "7 Unexpected", 2),
-    (&[AT_CLIENT, BEHIND_POINT, BEHIND_REPLY], Step::Give(Client, IGNORE), Client, "7 Unexpected", 2),
+    (
+        &[LINES],
+        Step::Give(Client, IGNORE),
+        Client,
+        "7 Unexpected",
+        2,
+    ),
+    (
+        &[LINES],
+        Step::Give(Server, IGNORE),
+        Server,
+        "7 Unexpected",
+        2,
+    ),
+    (
+        &[LINES],
+        Step::Forge(Client, DEBUG),
+        Client,
+        "7 Unexpected",
+        2,
+    ),
+    (
+        &[AT_CLIENT],
+        Step::Give(Client, IGNORE),
+        Client,
+        "7 Unexpected",
+        2,
+    ),
+    (
+        &[AT_SERVER],
+        Step::Give(Server, IGNORE),
+        Server,
+        "7 Unexpected",
+        2,
+    ),
+    (
+        &[AT_SERVER],
+        Step::Forge(Server, b"\xc0"),
+        Server,
+        "7 Unexpected",
+        2,
+    ),
+    (
+        &[AT_CLIENT, BEHIND_POINT],
+        Step::Give(Server, IGNORE),
+        Server,
+        "7 Unexpected",
+        2,
+    ),
+    (
+        &[AT_CLIENT, BEHIND_POINT, BEHIND_REPLY],
+        Step::Give(Client, IGNORE),
+        Client,
+        "7 Unexpected",
+        2,
+    ),
     // NEWKEYS too early, and messages of the layers above before it.
-    (&[AT_SERVER], Step::Give(Server, NEWKEYS), Server, "7 Unexpected", 2),
-    (&[AT_CLIENT], Step::Give(Client, NEWKEYS), Client, "7 Unexpected", 2),
-    (&[AT_CLIENT, BEHIND_POINT], Step::Forge(Server, REQUEST), Server, "7 Unexpected", 2),
-    (&[AT_CLIENT, BEHIND_POINT], Step::Forge(Server, b"2"), Server, "7 Unexpected", 2),
-    (&[AT_CLIENT, BEHIND_POINT, BEHIND_REPLY], Step::Forge(Client, b"4"), Client, "7 Unexpected", 2),
+    (
+        &[AT_SERVER],
+        Step::Give(Server, NEWKEYS),
+        Server,
+        "7 Unexpected",
+        2,
+    ),
+    (
+        &[AT_CLIENT],
+        Step::Give(Client, NEWKEYS),
+        Client,
+        "7 Unexpected",
+        2,
+    ),
+    (
+        &[AT_CLIENT, BEHIND_POINT],
+        Step::Forge(Server, REQUEST),
+        Server,
+        "7 Unexpected",
+        2,
+    ),
+    (
+        &[AT_CLIENT, BEHIND_POINT],
+        Step::Forge(Server, b"2"),
+        Server,
+        "7 Unexpected",
+        2,
+    ),
+    (
+        &[AT_CLIENT, BEHIND_POINT, BEHIND_REPLY],
+        Step::Forge(Client, b"4"),
+        Client,
+        "7 Unexpected",
+        2,
+    ),
     // Messages of the other side, and messages behind the exchange.
-    (&[AT_CLIENT], Step::Forge(Client, OWN_POINT), Client, "7 Unexpected", 2),
-    (&[AT_SERVER], Step::Forge(Server, SHORT_REPLY), Server, "7 Unexpected", 2),
-    (&[FIRST], Step::Forge(Server, b"\x15"), Server, "7 Unexpected", 2),
-    (&[FIRST], Step::Forge(Client, EXTENSIONS), Client, "7 Unexpected", 2),
-    (&[FIRST], Step::Forge(Client, ACCEPT), Client, "7 Unexpected", 2),
-    (&[FIRST], Step::Forge(Client, REQUEST), Client, "7 Unexpected", 2),
-    (&[FIRST, SERVICE], Step::Forge(Server, REQUEST), Server, "7 Unexpected", 2),
-    (&[FIRST, SERVICE], Step::Forge(Client, ACCEPT), Client, "7 Unexpected", 2),
-    (&[FIRST, ASKED], Step::Forge(Client, OTHER_ACCEPT), Client, "7 Unexpected", 2),
+    (
+        &[AT_CLIENT],
+        Step::Forge(Client, OWN_POINT),
+        Client,
+        "7 Unexpected",
+        2,
+    ),
+    (
+        &[AT_SERVER],
+        Step::Forge(Server, SHORT_REPLY),
+        Server,
+        "7 Unexpected",
+        2,
+    ),
+    (
+        &[FIRST],
+        Step::Forge(Server, b"\x15"),
+        Server,
+        "7 Unexpected",
+        2,
+    ),
+    (
+        &[FIRST],
+        Step::Forge(Client, EXTENSIONS),
+        Client,
+        "7 Unexpected",
+        2,
+    ),
+    (
+        &[FIRST],
+        Step::Forge(Client, ACCEPT),
+        Client,
+        "7 Unexpected",
+        2,
+    ),
+    (
+        &[FIRST],
+        Step::Forge(Client, REQUEST),
+        Client,
+        "7 Unexpected",
+        2,
+    ),
+    (
+        &[FIRST, SERVICE],
+        Step::Forge(Server, REQUEST),
+        Server,
+        "7 Unexpected",
+        2,
+    ),
+    (
+        &[FIRST, SERVICE],
+        Step::Forge(Client, ACCEPT),
+        Client,
+        "7 Unexpected",
+        2,
+    ),
+    (
+        &[FIRST, ASKED],
+        Step::Forge(Client, OTHER_ACCEPT),
+        Client,
+        "7 Unexpected",
+        2,
+    ),
     // Messages of the layers above within a later exchange.
     (
         &[FIRST, SERVICE, AUTHENTICATION, FEEDS, REKEY],
@@ -205,20 +440,69 @@ const TABLE: &[Refused] = &[
         2,
     ),
     (
-        &[FIRST, SERVICE, AUTHENTICATION, FEEDS, REKEY, REKEY_AT_CLIENT],
+        &[
+            FIRST,
+            SERVICE,
+            AUTHENTICATION,
+            FEEDS,
+            REKEY,
+            REKEY_AT_CLIENT,
+        ],
         Step::Forge(Client, b"^\0\0\0\0\0\0\0\x02hi"),
         Client,
         "7 Unexpected",
         2,
     ),
     // Points (RFC 8731 section 3) and hosts (RFC 4253 section 8).
-    (&[AT_SERVER], Step::Forge(Server, SHORT_POINT), Server, "10 BadPoint", 3),
-    (&[AT_SERVER], Step::Forge(Server, LONG_POINT), Server, "10 BadPoint", 3),
-    (&[AT_SERVER], Step::Forge(Server, OWN_POINT), Server, "10 BadPoint", 3),
-    (&[AT_CLIENT], Step::Forge(Client, SHORT_REPLY), Client, "10 BadPoint", 3),
-    (&[AT_CLIENT], Step::Forge(Client, OWN_REPLY), Client, "10 BadPoint", 3),
-    (&[AT_CLIENT], Step::Forge(Client, UNSIGNED_REPLY), Client, "11 BadHost", 9),
-    (&[AT_CLIENT], Step::Forge(Client, OTHER_HOST), Client, "11 BadHost", 9),
+    (
+        &[AT_SERVER],
+        Step::Forge(Server, SHORT_POINT),
+        Server,
+        "10 BadPoint",
+        3,
+    ),
+    (
+        &[AT_SERVER],
+        Step::Forge(Server, LONG_POINT),
+        Server,
+        "10 BadPoint",
+        3,
+    ),
+    (
+        &[AT_SERVER],
+        Step::Forge(Server, OWN_POINT),
+        Server,
+        "10 BadPoint",
+        3,
+    ),
+    (
+        &[AT_CLIENT],
+        Step::Forge(Client, SHORT_REPLY),
+        Client,
+        "10 BadPoint",
+        3,
+    ),
+    (
+        &[AT_CLIENT],
+        Step::Forge(Client, OWN_REPLY),
+        Client,
+        "10 BadPoint",
+        3,
+    ),
+    (
+        &[AT_CLIENT],
+        Step::Forge(Client, UNSIGNED_REPLY),
+        Client,
+        "11 BadHost",
+        9,
+    ),
+    (
+        &[AT_CLIENT],
+        Step::Forge(Client, OTHER_HOST),
+        Client,
+        "11 BadHost",
+        9,
+    ),
     // An exchange that one end has no cookie and secret for.
     (
         &[FIRST, SERVICE, AUTHENTICATION, FED, REKEY_WITHOUT],
@@ -228,16 +512,17 @@ const TABLE: &[Refused] = &[
         3,
     ),
     // Services (section 10).
-    (&[FIRST], Step::Forge(Server, OTHER_REQUEST), Server, "13 NoService", 7),
+    (
+        &[FIRST],
+        Step::Forge(Server, OTHER_REQUEST),
+        Server,
+        "13 NoService",
+        7,
+    ),
 ];
 
 // The lines of a refusal.
-fn lines_of(
-    alloc: Global,
-    side: Side,
-    refusal: &str,
-    code: u32,
-) -> Result<String, AllocError> {
+fn lines_of(alloc: Global, side: Side, refusal: &str, code: u32) -> Result<String, AllocError> {
     let side = if side == Client { "c" } else { "s" };
     if code == 0 {
         return format!(in alloc; "{side} refused {refusal}; {side} died");
@@ -257,13 +542,13 @@ fn has_said(party: &Party, refusal: &str, code: u32) -> bool {
         return party.last_sent().first() == Some(&20);
     }
     match decode(false, party.last_sent()) {
-        Ok(Message::Disconnect {
-            reason,
-            description,
-            language,
-        }) => {
-            reason == code && description == name_of(refusal).as_bytes() && language.is_empty()
-        }
+        Ok(
+            Message::Disconnect {
+                reason,
+                description,
+                language,
+            },
+        ) => { reason == code && description == name_of(refusal).as_bytes() && language.is_empty() }
         _ => false,
     }
 }

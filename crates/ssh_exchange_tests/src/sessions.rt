@@ -10,8 +10,7 @@ pub const IGNORE: &[u8] = b"\0\0\0\x0c\x06\x02\0\0\0\0\0\0\0\0\0\0";
 pub const NEWKEYS: &[u8] = b"\0\0\0\x0c\x0a\x15\0\0\0\0\0\0\0\0\0\0";
 
 /// USERAUTH_REQUEST by the password `p` of the user `u`.
-pub const REQUEST: &[u8] =
-    b"2\0\0\0\x01u\0\0\0\x0essh-connection\0\0\0\x08password\0\0\0\0\x01p";
+pub const REQUEST: &[u8] = b"2\0\0\0\x01u\0\0\0\x0essh-connection\0\0\0\x08password\0\0\0\0\x01p";
 
 /// USERAUTH_SUCCESS.
 pub const SUCCESS: &[u8] = b"4";
@@ -28,7 +27,10 @@ pub const CLOSE: &[u8] = b"a\0\0\0\0";
 
 /// The first exchange of two ends of which each offers strict key exchange.
 pub const FIRST: Script = &[
-    (Step::PassAll(Client), "s took line 9; s took 20 KEXINIT 165"),
+    (
+        Step::PassAll(Client),
+        "s took line 9; s took 20 KEXINIT 165",
+    ),
     (
         Step::PassAll(Server),
         "c took line 9; c took 20 KEXINIT 165; c sent 30 KEX_ECDH_INIT 37",
@@ -46,7 +48,10 @@ pub const FIRST: Script = &[
 
 /// The first exchange of two ends that don't.
 pub const PLAIN_FIRST: Script = &[
-    (Step::PassAll(Client), "s took line 9; s took 20 KEXINIT 136"),
+    (
+        Step::PassAll(Client),
+        "s took line 9; s took 20 KEXINIT 136",
+    ),
     (
         Step::PassAll(Server),
         "c took line 9; c took 20 KEXINIT 136; c sent 30 KEX_ECDH_INIT 37",
@@ -144,10 +149,7 @@ pub const FEEDS: Script = &[
 
 /// The second exchange, which the client begins.
 pub const SECOND: Script = &[
-    (
-        Step::Rekey(Client),
-        "c asked rekey; c sent 20 KEXINIT 136",
-    ),
+    (Step::Rekey(Client), "c asked rekey; c sent 20 KEXINIT 136"),
     (
         Step::PassAll(Client),
         "s took 20 KEXINIT 136; s sent 20 KEXINIT 136",

@@ -73,7 +73,12 @@ impl Transcript {
     ) -> Result<(), AllocError> {
         self.begin(side)?;
         let number = payload.first().copied().unwrap_or(0);
-        write!(self.text, "{what} {number} {} {}", name(number), payload.len())
+        write!(
+            self.text,
+            "{what} {number} {} {}",
+            name(number),
+            payload.len()
+        )
     }
 
     /// What it is told of a payload that had this effect. Where the effect is none that the payload can have, that is the line.
