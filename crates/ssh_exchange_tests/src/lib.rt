@@ -25,6 +25,10 @@ mod pair;
 #[cfg(test)]
 mod party;
 #[cfg(test)]
+mod peers;
+#[cfg(test)]
+mod recorded;
+#[cfg(test)]
 mod refusals;
 #[cfg(test)]
 mod sessions;

@@ -1,13 +1,12 @@
-//! How an end is where memory is refused. With each allocation of a run refused in turn, until a run meets no refusal, the test here has
-//! to pass: it says at which call memory was refused, and that nothing was put out and the end was over. A refusal that a test meets
-//! itself is none of a transport's, so it is passed over.
+//! How an end is where memory is refused: nothing is put out, and the end is over. With each allocation of a run refused in turn, until
+//! a run meets no refusal, the test has to pass, and says where memory was refused. It asks for none itself.
 
 use crate::end::End;
 use crate::toys::{client, server, settings};
 use ssh_transport::{Strictness, TransportAsk, TransportFault};
 use ssh_types::Side;
 use ssh_types::Side::{Client, Server};
-use std::alloc::Global;
+use std::alloc::{AllocError, Global};
 use std::test::*;
 
 // An end, what it put out and sent, and how much of it was passed.
@@ -135,60 +134,65 @@ fn carry_out(act: Act, client: &mut Line, server: &mut Line) -> Came {
     }
 }
 
-// Room for all that an end puts out, so that only memory for a payload can be refused, or none.
-fn opened(alloc: Global, side: Side, has_room: bool) -> Option<Line> {
+// An end and what it put out. Where memory is refused for it, it has put out nothing.
+fn opened(alloc: Global, side: Side) -> Result<Line, Came> {
     let mut out = Vec::new(alloc);
     let mut sent = Vec::new(alloc);
-    if has_room {
-        out.reserve(1024).ok()?;
-        sent.reserve(16).ok()?;
+    match end_of(alloc, side, &mut out, &mut sent) {
+        Ok(end) => Ok(Line {
+            end,
+            out,
+            sent,
+            passed: 0,
+        }),
+        Err(_) if out.is_empty() && sent.is_empty() => Err(Came::Refused),
+        Err(_) => Err(Came::Wrong),
     }
-    let end = match side {
+}
+
+fn end_of(
+    alloc: Global,
+    side: Side,
+    out: &mut Vec<u8>,
+    sent: &mut Vec<Vec<u8>>,
+) -> Result<End, AllocError> {
+    match side {
         Side::Client => {
             let settings = settings(b"c", Strictness::Require);
-            End::Client(client(alloc, &settings, &mut out, &mut sent).ok()?)
+            Ok(End::Client(client(alloc, &settings, out, sent)?))
         }
         Side::Server => {
             let settings = settings(b"s", Strictness::Require);
-            End::Server(server(alloc, &settings, &mut out, &mut sent).ok()?)
+            Ok(End::Server(server(alloc, &settings, out, sent)?))
         }
-    };
-    Some(Line {
-        end,
-        out,
-        sent,
-        passed: 0,
-    })
+    }
 }
 
-// Plays the acts, and answers at which memory was refused, and how that was.
-fn play(alloc: Global, has_room: bool) -> Option<(usize, Came)> {
-    let mut client = opened(alloc, Client, has_room)?;
-    let mut server = opened(alloc, Server, has_room)?;
+// Plays the acts, and answers what came of them, and before which.
+fn play(alloc: Global) -> Result<(usize, Came), Came> {
+    let mut client = opened(alloc, Client)?;
+    let mut server = opened(alloc, Server)?;
     for (index, step) in ACTS.iter().enumerate() {
         let came = carry_out(*step, &mut client, &mut server);
         if came != Came::Done {
-            return Some((index, came));
+            return Ok((index, came));
         }
     }
     let is_whole = client.end.epochs() == (2, 2) && server.end.epochs() == (2, 2);
     if is_whole && client.end.is_dead() && server.end.is_dead() {
-        return Some((ACTS.len(), Came::Done));
+        return Ok((ACTS.len(), Came::Done));
     }
-    Some((ACTS.len(), Came::Wrong))
+    Ok((ACTS.len(), Came::Wrong))
 }
 
 #[test]
 fn an_end_without_memory_is_over(rt: HostRuntime) -> Result<(), Fail> {
-    for has_room in [false, true] {
-        let Some((index, came)) = play(rt.alloc(), has_room) else {
-            println!(rt; "memory was refused before there were two ends")?;
-            continue;
-        };
-        assert!(rt; came != Came::Wrong, "act {index}");
-        if came == Came::Refused {
-            println!(rt; "memory was refused at act {index}")?;
-        }
+    match play(rt.alloc()) {
+        Ok((_, Came::Done)) => {}
+        Ok((index, Came::Refused)) => println!(rt; "memory was refused at act {index}")?,
+        Err(Came::Refused) => println!(rt; "memory was refused for an end")?,
+        Ok((index, Came::Wrong)) => panic!(rt; "act {index}"),
+        Err(_) => panic!(rt; "an end that is none put something out"),
     }
     Ok(())
 }

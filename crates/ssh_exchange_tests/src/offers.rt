@@ -178,6 +178,26 @@ fn a_wrong_guess_of_a_server(rt: HostRuntime) -> Result<(), Fail> {
     Ok(())
 }
 
+// A KEXINIT of 2,102 bytes, with names of up to 44 letters that nobody knows, and a wrong guess: no recorded one is longer.
+#[test]
+fn a_long_offer(rt: HostRuntime) -> Result<(), Fail> {
+    let mut host = String::new(rt.alloc());
+    for _ in 0..43 {
+        write!(host, "sk-ecdsa-sha2-nistp256-cert-v01@openssh.com4,")?;
+    }
+    write!(host, "x,toy@example.com")?;
+    let lists = with(&OF_CLIENT, 1, host.as_str());
+    let payload = kexinit(rt.alloc(), 0xc1, &lists, true)?;
+    let mut pair = lines(rt.alloc())?;
+    let taken = pair.play(Step::Forge(Server, &payload))?;
+    assert_eq!(rt; taken, "s took 20 KEXINIT 2102");
+    let skipped = pair.play(Step::Forge(Server, OTHER_POINT))?;
+    assert_eq!(rt; skipped, "s took 30 KEX_ECDH_INIT 6; s told ignored");
+    pair.play(Step::Forge(Server, POINT))?;
+    assert_eq!(rt; pair.party(Server).end().epochs(), (1, 0));
+    Ok(())
+}
+
 // The place and the text of a list in a KEXINIT to an authenticated end that has no pair of cookie and secret, and to one that has.
 const LATER_OFFERS: &[(usize, &str, &str, &str)] = &[
     (0, "curve25519-sha256", "12 NoMaterial", ""),

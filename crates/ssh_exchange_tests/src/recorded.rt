@@ -1,0 +1,343 @@
+//! Recorded sessions of OpenSSH: a client and a server with the recorded cookies, points, results and signatures send and take the
+//! recorded bytes, through two exchanges of keys.
+
+mod openssh_client;
+mod openssh_server;
+mod parts;
+
+use crate::toys::settings;
+use parts::{RecordedAgreement, RecordedClient, RecordedHost, RecordedServer};
+use ssh_message::decode;
+use ssh_packet::{HmacKey, MacOnly, write_packet};
+use ssh_toys::ToyFiller;
+use ssh_transport::{
+    ClientPartValues, ClientTransport, Config, ServerPartValues, ServerTransport, Settings,
+    Strictness, TransportAsk, TransportTurn,
+};
+use ssh_types::Side;
+use std::alloc::{AllocError, Global};
+use std::test::*;
+
+// The settings of the independent end, which takes extensions and announces none.
+fn recorded_settings() -> Settings<'static> {
+    Settings {
+        kex: &[b"curve25519-sha256", b"curve25519-sha256@libssh.org"],
+        host: &[b"ssh-ed25519"],
+        takes_extensions: true,
+        ..settings(b"oracle_1", Strictness::Require)
+    }
+}
+
+// So many bytes of hexadecimal digits, with zeros where there are fewer.
+fn array<const N: usize>(alloc: Global, digits: &str) -> Result<[u8; N], AllocError> {
+    let mut array = [0; N];
+    let bytes = bytes(alloc, digits)?;
+    for (place, byte) in array.iter_mut().zip(bytes.iter()) {
+        *place = *byte;
+    }
+    Ok(array)
+}
+
+// The bytes of hexadecimal digits, or none where they are not.
+fn bytes(alloc: Global, digits: &str) -> Result<Vec<u8>, AllocError> {
+    match hex::decode(alloc, digits) {
+        Ok(bytes) => Ok(bytes),
+        Err(_) => Ok(Vec::new(alloc)),
+    }
+}
+
+// The points, and what was shared.
+fn agreement(
+    alloc: Global,
+    points: &[&str; 2],
+    shared: &[&str; 2],
+) -> Result<RecordedAgreement, AllocError> {
+    Ok(RecordedAgreement {
+        first_shared: array(alloc, shared[0])?,
+        first_point: array(alloc, points[0])?,
+        second_point: array(alloc, points[1])?,
+    })
+}
+
+// The host key, and what it signed.
+fn host(
+    alloc: Global,
+    key: &str,
+    hashes: &[&str; 2],
+    signatures: &[&str; 2],
+) -> Result<RecordedHost, AllocError> {
+    Ok(RecordedHost {
+        key: array(alloc, key)?,
+        first_hash: array(alloc, hashes[0])?,
+        first_signature: array(alloc, signatures[0])?,
+        second_hash: array(alloc, hashes[1])?,
+        second_signature: array(alloc, signatures[1])?,
+    })
+}
+
+// The payload in the bytes of a packet.
+fn payload_of(wire: &[u8]) -> Option<&[u8]> {
+    let length = u32::from_be_bytes([*wire.first()?, *wire.get(1)?, *wire.get(2)?, *wire.get(3)?]);
+    let padding = *wire.get(4)? as usize;
+    let end = (length as usize).checked_add(4)?.checked_sub(padding)?;
+    wire.get(5..end)
+}
+
+// A client, what it put out, and how much of that was compared.
+struct Recording {
+    client: ClientTransport<RecordedClient>,
+    out: Vec<u8>,
+    sent: Vec<Vec<u8>>,
+    compared: usize,
+}
+
+impl Drop for Recording {
+    fn drop(self) {
+        let Recording {
+            client: _,
+            out: _,
+            sent: _,
+            compared: _,
+        } = self;
+    }
+}
+
+impl Recording {
+    // A client with the parts of the recorded one.
+    fn new(alloc: Global) -> Result<Recording, Fail> {
+        let config = Config::<MacOnly>::new(alloc, &recorded_settings())?;
+        let parts: ClientPartValues<RecordedClient> = ClientPartValues {
+            filler: ToyFiller { byte: 0 },
+            agreement: agreement(alloc, &openssh_server::POINTS, &openssh_server::SHARED)?,
+            host_trust: host(
+                alloc,
+                openssh_server::HOST_KEY,
+                &openssh_server::HASHES,
+                &openssh_server::SIGNATURES,
+            )?,
+        };
+        let cookie = array(alloc, openssh_server::COOKIES[0])?;
+        let secret = array(alloc, openssh_server::SHARED[0])?;
+        let mut out = Vec::new(alloc);
+        let mut sent = Vec::new(alloc);
+        let client = ClientTransport::new(
+            alloc, config, parts, cookie, secret, &mut out, &mut sent,
+        )?;
+        Ok(Recording {
+            client,
+            out,
+            sent,
+            compared: 18,
+        })
+    }
+
+    // The client takes a packet of the server. It answers whether that is one of this payload.
+    fn takes(&mut self, wire: &[u8]) -> bool {
+        let number = self.client.numbers().1;
+        let (used, turn) = self.client.take(wire, &mut self.out, &mut self.sent);
+        let is_taken = match turn {
+            Ok(TransportTurn::Up(shown)) => shown as u64 == number,
+            Ok(TransportTurn::Done(_)) | Ok(TransportTurn::Completed(_)) => true,
+            _ => false,
+        };
+        if self.client.payload() == b"4".as_slice() {
+            self.client.authenticated();
+        }
+        is_taken && used == wire.len() && Some(self.client.payload()) == payload_of(wire)
+    }
+
+    // The client puts out a packet. It is asked where it does not send that by itself. It answers whether the bytes are the same; of
+    // an unknown message it sends the number alone.
+    fn sends(&mut self, wire: &[u8]) -> bool {
+        let Some(payload) = payload_of(wire) else {
+            return false;
+        };
+        if self.out.len() == self.compared && !self.is_asked(payload) {
+            return false;
+        }
+        let waiting = self.out.as_slice().get(self.compared..).unwrap_or(&[]);
+        if payload.first() == Some(&110) {
+            self.compared = self.out.len();
+            return waiting.len() == 48;
+        }
+        self.compared = self.compared.saturating_add(wire.len());
+        waiting.starts_with(wire)
+    }
+
+    // The client is asked to send a payload.
+    fn is_asked(&mut self, payload: &[u8]) -> bool {
+        let Ok(message) = decode(true, payload) else {
+            return false;
+        };
+        let ask = match payload.first() {
+            Some(&5) => TransportAsk::Service,
+            Some(&20) => TransportAsk::Rekey,
+            _ => TransportAsk::Send(&message),
+        };
+        self.client.ask(ask, &mut self.out, &mut self.sent).is_ok()
+    }
+}
+
+#[test]
+fn a_session_with_an_openssh_server(rt: HostRuntime) -> Result<(), Fail> {
+    let mut recording = Recording::new(rt.alloc())?;
+    let (used, _) = recording.client.take(
+        openssh_server::LINE,
+        &mut recording.out,
+        &mut recording.sent,
+    );
+    assert_eq!(rt; used, 23);
+    assert!(rt; recording.out.starts_with(b"SSH-2.0-oracle_1\r\n"));
+    let cookie = array(rt.alloc(), openssh_server::COOKIES[1])?;
+    let secret = array(rt.alloc(), openssh_server::SHARED[1])?;
+    assert!(rt; recording.client.feed_material(cookie, secret));
+    for (index, (from, digits)) in openssh_server::PACKETS.iter().enumerate() {
+        let wire = bytes(rt.alloc(), digits)?;
+        let is_as_recorded = match *from {
+            Side::Client => recording.sends(&wire),
+            Side::Server => recording.takes(&wire),
+        };
+        assert!(rt; is_as_recorded, "packet {index}");
+    }
+    let session = array(rt.alloc(), openssh_server::HASHES[0])?;
+    assert_eq!(rt; recording.client.session_id(), Some(&session));
+    assert_eq!(rt; recording.client.epochs(), (2, 2));
+    assert_eq!(rt; recording.compared, recording.out.len());
+    Ok(())
+}
+
+// A server with the parts of the recorded one.
+fn recorded_server(
+    alloc: Global,
+    out: &mut Vec<u8>,
+    sent: &mut Vec<Vec<u8>>,
+) -> Result<ServerTransport<RecordedServer>, Fail> {
+    let config = Config::<MacOnly>::new(alloc, &recorded_settings())?;
+    let parts: ServerPartValues<RecordedServer> = ServerPartValues {
+        filler: ToyFiller { byte: 0 },
+        agreement: agreement(
+            alloc,
+            &openssh_client::SERVER_POINTS,
+            &openssh_client::SHARED,
+        )?,
+        host_signer: host(
+            alloc,
+            openssh_client::HOST_KEY,
+            &openssh_client::HASHES,
+            &openssh_client::SIGNATURES,
+        )?,
+    };
+    let cookie = cookie_of(&bytes(alloc, openssh_client::SERVER_KEXINITS[0])?);
+    let secret = array(alloc, openssh_client::SHARED[0])?;
+    let server = ServerTransport::new(alloc, config, parts, cookie, secret, out, sent)?;
+    Ok(server)
+}
+
+// The cookie in the payload of a KEXINIT.
+fn cookie_of(payload: &[u8]) -> [u8; 16] {
+    let mut cookie = [0; 16];
+    for (place, byte) in cookie.iter_mut().zip(payload.iter().skip(1)) {
+        *place = *byte;
+    }
+    cookie
+}
+
+// The packet of a payload, as the one of this number, padded with zeros.
+fn sealed(
+    alloc: Global,
+    payload: &[u8],
+    key: Option<&HmacKey>,
+    number: u32,
+) -> Result<Vec<u8>, AllocError> {
+    let mut wire = Vec::new(alloc);
+    if !payload.is_empty() && payload.len() <= 34_000 {
+        let mut filler = ToyFiller { byte: 0 };
+        write_packet::<MacOnly, ToyFiller>(payload, key, number, &mut filler, &mut wire)?;
+    }
+    Ok(wire)
+}
+
+// The payload of a KEX_ECDH_INIT with this point.
+fn init(alloc: Global, point: &str) -> Result<Vec<u8>, AllocError> {
+    let mut payload = b"\x1e\0\0\0 ".to_vec(alloc)?;
+    payload.extend_from_slice(&bytes(alloc, point)?)?;
+    Ok(payload)
+}
+
+// That of a KEX_ECDH_REPLY.
+fn reply(alloc: Global, point: &str, signature: &str) -> Result<Vec<u8>, AllocError> {
+    let mut payload = b"\x1f\0\0\0\x33".to_vec(alloc)?;
+    payload.extend_from_slice(&bytes(alloc, openssh_client::HOST_KEY)?)?;
+    payload.extend_from_slice(b"\0\0\0 ")?;
+    payload.extend_from_slice(&bytes(alloc, point)?)?;
+    payload.extend_from_slice(b"\0\0\0\x53")?;
+    payload.extend_from_slice(&bytes(alloc, signature)?)?;
+    Ok(payload)
+}
+
+// The key of the recorded one, or none in the first epoch.
+fn key(alloc: Global, keys: &[&str; 2], epoch: usize) -> Result<Option<HmacKey>, AllocError> {
+    let Some(digits) = epoch.checked_sub(1).and_then(|place| keys.get(place)) else {
+        return Ok(None);
+    };
+    Ok(Some(HmacKey::new(&array::<32>(alloc, digits)?)))
+}
+
+#[test]
+fn exchanges_with_an_openssh_client(rt: HostRuntime) -> Result<(), Fail> {
+    let alloc = rt.alloc();
+    let mut out = Vec::new(alloc);
+    let mut sent = Vec::new(alloc);
+    let mut server = recorded_server(alloc, &mut out, &mut sent)?;
+    let (used, _) = server.take(openssh_client::LINE, &mut out, &mut sent);
+    assert_eq!(rt; used, 23);
+    let cookie = cookie_of(&bytes(alloc, openssh_client::SERVER_KEXINITS[1])?);
+    let secret = array(alloc, openssh_client::SHARED[1])?;
+    assert!(rt; server.feed_material(cookie, secret));
+    server.authenticated();
+    let session = array(alloc, openssh_client::HASHES[0])?;
+    for place in 0..2 {
+        let key = key(alloc, &openssh_client::KEYS, place)?;
+        let payloads = [
+            bytes(alloc, openssh_client::KEXINITS[place])?,
+            init(alloc, openssh_client::POINTS[place])?,
+            b"\x15".to_vec(alloc)?,
+        ];
+        for (number, payload) in payloads.iter().enumerate() {
+            let wire = sealed(alloc, payload, key.as_ref(), number as u32)?;
+            let (used, turn) = server.take(&wire, &mut out, &mut sent);
+            assert_eq!(rt; used, wire.len(), "exchange {place}");
+            assert!(rt; turn.is_ok() && !server.is_dead(), "exchange {place}");
+        }
+        assert_eq!(rt; server.session_id(), Some(&session));
+    }
+    let wanted = [
+        bytes(alloc, openssh_client::SERVER_KEXINITS[0])?,
+        reply(
+            alloc,
+            openssh_client::SERVER_POINTS[0],
+            openssh_client::SIGNATURES[0],
+        )?,
+        b"\x15".to_vec(alloc)?,
+        bytes(alloc, openssh_client::SERVER_KEXINITS[1])?,
+        reply(
+            alloc,
+            openssh_client::SERVER_POINTS[1],
+            openssh_client::SIGNATURES[1],
+        )?,
+        b"\x15".to_vec(alloc)?,
+    ];
+    assert_eq!(rt; sent.as_slice(), wanted.as_slice());
+    assert_eq!(rt; server.epochs(), (2, 2));
+    // What the server put out is sealed under the recorded keys, and so is a message under the second.
+    server.ask(TransportAsk::Disconnect(b"x"), &mut out, &mut sent)?;
+    let mut rest = out.as_slice().get(18..).unwrap_or(&[]);
+    for (index, payload) in sent.as_slice().iter().enumerate() {
+        let key = key(alloc, &openssh_client::SERVER_KEYS, index / 3)?;
+        let wire = sealed(alloc, payload, key.as_ref(), (index % 3) as u32)?;
+        assert!(rt; rest.starts_with(&wire), "packet {index}");
+        rest = rest.get(wire.len()..).unwrap_or(&[]);
+    }
+    assert!(rt; rest.is_empty());
+    Ok(())
+}
