@@ -223,11 +223,12 @@ module _ {K : Type 0} (p : Parties K) (history : List Item) (s : Transport K) (s
     spent_so law owed replies spelled x =
         let y : NewkeysSpent p.crypto (agreement_of p Client) p.trusts (record old { kept = after_taken s }) new o =
         subst (λ (w : State K). NewkeysSpent p.crypto (agreement_of p Client) p.trusts w new o) (λ i. record old { kept = is_taken i }) x in
-        let z = y.shows in
-        let completed = after_completion p.crypto (inputs_of (agreement_of p Client) s z.host_key z.point) y.chosen (after_taken s) in
-        let few : 2 ^ 32 < s.sending.count + 1 = omega (arith, y.few) in
-        law y.chosen (KexEcdhReply z.host_key z.point z.signature) old.receiver.payload (SpelledBy NewKeys newkeys ∷ []) (announced_by s.settings.extensions y.announcement) completed
-        (after_announced y.announcement completed) new.kept owed (reads z.host_key z.point z.signature z.read) (waited y.chosen z.host_key z.point z.signature z.is.chosen_is z.read)
-        (not_refused (agreement_of p Client) p.trusts y.chosen s z.host_key z.point z.signature z.is.good z.is.trusted)
-        (completes p.crypto (parts_of p Client) p.trusts s z.host_key z.point z.signature y.chosen y.own y.theirs y.session y.announcement newkeys side_is (phase_is z.host_key z.point z.signature z.read) z.is)
-        (all_spelled (after_taken s) y.announcement z.is.announcement_is) replies spelled few (ap (λ (w : State K). w.kept.dead) y.after)
+        let z = y.late.shows in
+        let d = z.due in
+        let completed = after_completion p.crypto (inputs_of (agreement_of p Client) s z.host_key z.point) d.chosen (after_taken s) in
+        let few : 2 ^ 32 < s.sending.count + 1 = omega (arith, y.late.none_left) in
+        law d.chosen (KexEcdhReply z.host_key z.point z.signature) old.receiver.payload (SpelledBy NewKeys newkeys ∷ []) (announced_by s.settings.extensions d.announcement) completed
+        (after_announced d.announcement completed) new.kept owed (reads z.host_key z.point z.signature z.read) (waited d.chosen z.host_key z.point z.signature d.is.chosen_is z.read)
+        (not_refused (agreement_of p Client) p.trusts d.chosen s z.host_key z.point z.signature d.is.good d.is.trusted)
+        (completes p.crypto (parts_of p Client) p.trusts s z.host_key z.point z.signature d.chosen d.own d.theirs d.session d.announcement newkeys side_is (phase_is z.host_key z.point z.signature z.read) d.is)
+        (all_spelled (after_taken s) d.announcement d.is.announcement_is) replies spelled few (ap (λ (w : State K). w.kept.dead) y.after)

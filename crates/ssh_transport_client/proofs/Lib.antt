@@ -4,3 +4,4 @@ pub mod Answering
 pub mod Shown
 pub mod Packets
 pub mod Living
+pub mod Clients

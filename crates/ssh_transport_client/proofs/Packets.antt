@@ -48,11 +48,11 @@ no_pair blocked material e f n = cc (subst (λ (b : Bool). (not b && not (is_som
 
 -- ---- what was left
 
-record LeftSo {K : Type 0} (old mid : State K) (what : Judged) (o : Outs) : Type 0 where
-  is_judged : PayloadJudged (before_taken mid.kept) mid.receiver.payload what
-  side_is : mid.kept.side ≡ old.kept.side
-  alive_is : mid.kept.dead ≡ old.kept.dead
-  quiet : IsQuiet o
+pub record LeftSo {K : Type 0} (old mid : State K) (what : Judged) (o : Outs) : Type 0 where
+  pub is_judged : PayloadJudged (before_taken mid.kept) mid.receiver.payload what
+  pub side_is : mid.kept.side ≡ old.kept.side
+  pub alive_is : mid.kept.dead ≡ old.kept.dead
+  pub quiet : IsQuiet o
 
 module _ {K : Type 0} (c : Crypto K) where
   stays : (between mid : State K) (what : Judged) → PayloadJudged (before_taken between.kept) between.receiver.payload what → mid ≡ between → PayloadJudged (before_taken mid.kept) mid.receiver.payload what
@@ -88,10 +88,10 @@ module _ {K : Type 0} (c : Crypto K) where
       record { is_judged = z.0; side_is = ap (λ (w : State K). w.kept.side) z.1 ∙ side; alive_is = ap (λ (w : State K). w.kept.dead) z.1 ∙ alive; quiet = z.2 }
   kexinit_found facts old between mid o side alive _ y = absurd y
 
-  reply_left : (old mid : State K) (bytes : List ℕ) (o : Outs) → PacketTaken c old bytes (packet_turn.Payload (turn.Left judged.Reply)) mid o → LeftSo old mid judged.Reply o
+  pub reply_left : (old mid : State K) (bytes : List ℕ) (o : Outs) → PacketTaken c old bytes (packet_turn.Payload (turn.Left judged.Reply)) mid o → LeftSo old mid judged.Reply o
   reply_left old mid bytes o x = reply_found old x.between mid o (ap (λ (w : State K). w.kept.side) x.rest) (ap (λ (w : State K). w.kept.dead) x.rest) x.found x.does
 
-  kexinit_left : (facts : KexinitFacts) (old mid : State K) (bytes : List ℕ) (o : Outs) → PacketTaken c old bytes (packet_turn.Payload (turn.Left (judged.Kexinit facts))) mid o → LeftSo old mid (judged.Kexinit facts) o
+  pub kexinit_left : (facts : KexinitFacts) (old mid : State K) (bytes : List ℕ) (o : Outs) → PacketTaken c old bytes (packet_turn.Payload (turn.Left (judged.Kexinit facts))) mid o → LeftSo old mid (judged.Kexinit facts) o
   kexinit_left facts old mid bytes o x = kexinit_found facts old x.between mid o (ap (λ (w : State K). w.kept.side) x.rest) (ap (λ (w : State K). w.kept.dead) x.rest) x.found x.does
 
   pair_of : (s : Transport K) (payload : List ℕ) (facts : KexinitFacts) → PayloadJudged s payload (judged.Kexinit facts) → s.blocked ≡ false → s.material ≡ None → ⊥

@@ -1,8 +1,8 @@
 -- What a client makes of the texts of a reply.
 use Rattle.std.proofs.Common.{◌≡◌, ℕ, ◌≤◌, Bool, true, false, ◌&&◌, ◌==◌, if◌then◌else◌, List, [], length, take, Option, Some, None, is_some, eqb-true, unwrap_or, refl, ap, sym, ◌∙◌, subst, arith}
-use Rattle.std.specs.Prelude.{Result, Ok, Err, IfOk}
+use Rattle.std.specs.Prelude.{Result, Ok, Err, IfOk, OnErr}
 use Rattle.std.proofs.lemmas.List.{take_all}
-use Rattle.ssh_model.specs.Side.{Side, Side.Client}
+use Rattle.ssh_model.specs.Side.{Side, Side.Client, peer}
 use Rattle.ssh_model.specs.Wire.DataTypes.{number}
 use Rattle.ssh_model.specs.Wire.Message.{Msg, Msg.KexEcdhReply, IsPayload, IsWrittenPayload}
 use Rattle.ssh_model.specs.Wire.Sealing.{Crypto}
@@ -11,10 +11,11 @@ use Rattle.ssh_model.specs.KeyExchange.Choice.{Chosen}
 use Rattle.ssh_model.specs.KeyExchange.Exchange.{exchange_hash}
 use Rattle.ssh_model.specs.Sessions.Parties.{Agreement}
 use Rattle.ssh_model.specs.TransportLayer.Kept.{IsChosen, Transport, inputs_with, is_good_point, own_point, shared_value, shared_with}
-use Rattle.ssh_transport_machine.specs.Finishing.{AreKeys, HasChoice, IsAnnouncement}
+use Rattle.ssh_transport_machine.specs.Finishing.{AreKeys, HasAnnouncement, HasChoice, IsAnnouncement, key_by, session_by}
 use Rattle.ssh_transport_machine.specs.Hashing.{inputs_in}
-use Rattle.ssh_transport_client.specs.Replies.{HostIsBad, HostIsTrusted, IsHostJudged, IsReplyJudged, PointIsBad, Trusts}
+use Rattle.ssh_transport_client.specs.Replies.{HostDue, HostIsBad, HostIsTrusted, IsHostJudged, IsReplyJudged, PointIsBad, ShowsDue, ShowsTrusted, Trusts}
 use Rattle.ssh_transport_client.specs.declared.host.HostJudged.{HostJudged}
+use Rattle.ssh_transport_client.specs.declared.host.TrustedHost.{TrustedHost}
 use Rattle.ssh_transport_client.specs.declared.host.HostJudged.TheVariants as judged
 
 -- ---- the point
@@ -81,6 +82,16 @@ module _ {K : Type 0} (agreement : Agreement) (trusts : Trusts) (s : Transport K
         announcement_is = due;
       })
 
+  pub host_due : (c : Crypto K) → trusts algorithm host_key hash signature ≡ true → given ≡ chosen → HasAnnouncement s → HostDue c agreement trusts s host_key point signature
+  host_due c e same a = record {
+    chosen = given;
+    own = key_by c s.side chosen (number shared) hash (session_by s hash);
+    theirs = key_by c (peer s.side) chosen (number shared) hash (session_by s hash);
+    session = session_by s hash;
+    announcement = a.announcement;
+    is = host_trusted c _ _ _ a.announcement e same (record { own_is = refl; theirs_is = refl; session_is = refl }) a.announcement_is;
+  }
+
 -- ---- the texts
 
 pub key_fits : (host_key point signature payload : List ℕ) (message : Msg) → ((m : Msg) (bytes : List ℕ) → IsWrittenPayload m bytes → HasPayloadSize m bytes) → KexEcdhReply host_key point signature ≡ message →
@@ -96,10 +107,41 @@ shown c agreement trusts s payload host_key point signature message judged.BadPo
     record { host_key = host_key; point = point; signature = signature; read = subst (λ (m : Msg). IsPayload false m payload) (sym is) read; is = x }
 shown c agreement trusts s payload host_key point signature message judged.BadHost read is x =
     record { host_key = host_key; point = point; signature = signature; read = subst (λ (m : Msg). IsPayload false m payload) (sym is) read; is = x }
+shown c agreement trusts s payload host_key point signature message judged.NumberSpent read is x =
+    record { shows = record { host_key = host_key; point = point; signature = signature; read = subst (λ (m : Msg). IsPayload false m payload) (sym is) read; due = x.due }; none_left = x.none_left }
 shown c agreement trusts s payload host_key point signature message (judged.Trusted host) read is x =
-    record { host_key = host_key; point = point; signature = signature; read = subst (λ (m : Msg). IsPayload false m payload) (sym is) read; is = x }
+    (record { host_key = host_key; point = point; signature = signature; read = subst (λ (m : Msg). IsPayload false m payload) (sym is) read; is = x.0 }, x.1)
 
 pub shown_if : {K A : Type 0} (c : Crypto K) (agreement : Agreement) (trusts : Trusts) (s : Transport K) (payload host_key point signature : List ℕ) (message : Msg) (r : Result (HostJudged K) A) → IsPayload false message payload →
     KexEcdhReply host_key point signature ≡ message → IfOk r (λ verdict. IsHostJudged c agreement trusts s host_key point signature verdict) → IfOk r (λ verdict. IsReplyJudged c agreement trusts s payload verdict)
 shown_if c agreement trusts s payload host_key point signature message (Ok verdict) read is x = shown c agreement trusts s payload host_key point signature message verdict read is x
 shown_if c agreement trusts s payload host_key point signature message (Err e) read is x = tt
+
+pub due_if : {K A E : Type 0} (c : Crypto K) (agreement : Agreement) (trusts : Trusts) (s : Transport K) (payload host_key point signature : List ℕ) (message : Msg) (r : Result A E) → IsPayload false message payload →
+    KexEcdhReply host_key point signature ≡ message → OnErr r (HostDue c agreement trusts s host_key point signature) → OnErr r (ShowsDue c agreement trusts s payload)
+due_if c agreement trusts s payload host_key point signature message (Ok verdict) read is x = tt
+due_if c agreement trusts s payload host_key point signature message (Err e) read is x =
+    record { host_key = host_key; point = point; signature = signature; read = subst (λ (m : Msg). IsPayload false m payload) (sym is) read; due = x }
+
+pub on_err : {A E : Type 0} {P : Type 0} (r : Result A E) → P → OnErr r P
+on_err (Ok a) x = tt
+on_err (Err e) x = x
+
+pub err_on : {A E : Type 0} {P Q : Type 0} (r : Result A E) → (P → Q) → OnErr r P → OnErr r Q
+err_on (Ok a) f x = tt
+err_on (Err e) f x = f x
+
+-- a reply that is trusted is due
+pub due_of : {K : Type 0} (c : Crypto K) (agreement : Agreement) (trusts : Trusts) (s : Transport K) (payload : List ℕ) (chosen : Chosen) (own theirs : K) (session : List ℕ) (announcement : Option (List ℕ)) →
+    ShowsTrusted c agreement trusts s payload chosen own theirs session announcement → ShowsDue c agreement trusts s payload
+due_of c agreement trusts s payload chosen own theirs session announcement x = record {
+  host_key = x.host_key;
+  point = x.point;
+  signature = x.signature;
+  read = x.read;
+  due = record { chosen = chosen; own = own; theirs = theirs; session = session; announcement = announcement; is = x.is };
+}
+
+pub judged_in : {K : Type 0} (c : Crypto K) (agreement : Agreement) (trusts : Trusts) (s : Transport K) (payload : List ℕ) (x : HostJudged K) (host : TrustedHost K) → x ≡ judged.Trusted host → IsReplyJudged c agreement trusts s payload x →
+    IsReplyJudged c agreement trusts s payload (judged.Trusted host)
+judged_in {K = K} c agreement trusts s payload x host e y = subst (λ (w : HostJudged K). IsReplyJudged c agreement trusts s payload w) e y

@@ -6,16 +6,16 @@ use Rattle.ssh_model.specs.Sessions.Parties.{Agreement}
 use Rattle.ssh_transport_machine.specs.Finishing.{HasChoice}
 use Rattle.ssh_transport_machine.specs.Puts.{Outs}
 use Rattle.ssh_transport_machine.specs.State.{State}
-use Rattle.ssh_transport_machine.specs.Turning.{IsQuiet, PacketTaken}
+use Rattle.ssh_transport_machine.specs.Turning.{IsQuiet, PacketLacks, PacketTaken}
 use Rattle.ssh_transport_machine.specs.declared.machine.judging.Judged.TheVariants as judged
 use Rattle.ssh_transport_machine.specs.declared.machine.kexinit.KexinitFacts.{KexinitFacts}
 use Rattle.ssh_transport_machine.specs.declared.machine.turn.Answer.{Answer}
 use Rattle.ssh_transport_machine.specs.declared.machine.turn.PacketTurn.{PacketTurn}
 use Rattle.ssh_transport_machine.specs.declared.machine.turn.PacketTurn.TheVariants as packet_turn
 use Rattle.ssh_transport_machine.specs.declared.machine.turn.PayloadTurn.TheVariants as turn
-use Rattle.ssh_transport_client.specs.Kexinits.{KexinitDone}
+use Rattle.ssh_transport_client.specs.Kexinits.{KexinitDone, KexinitLacks}
 use Rattle.ssh_transport_client.specs.Replies.{ShowsReply, Trusts}
-use Rattle.ssh_transport_client.specs.Turns.{ReplyTaken}
+use Rattle.ssh_transport_client.specs.Turns.{ReplyLacks, ReplyTaken}
 use Rattle.ssh_transport_client.specs.declared.packet.ClientLeft.{ClientLeft}
 use Rattle.ssh_transport_client.specs.declared.packet.ClientLeft.TheVariants as left
 use Rattle.ssh_transport_client.specs.declared.packet.ClientTurn.{ClientTurn}
@@ -102,3 +102,26 @@ abbrev pub ClientTaken : {K : Type 0} → Crypto K → Agreement → Trusts → 
 ClientTaken c agreement trusts old bytes (client.Shared done) new o = SharedTaken c old bytes done new o
 ClientTaken c agreement trusts old bytes (client.Kexinit answer) new o = KexinitTaken c agreement old bytes answer new o
 ClientTaken c agreement trusts old bytes (client.Reply done) new o = ReplyDone c agreement trusts old bytes done new o
+
+-- ---- where memory is refused
+
+-- Something would be sent for what was left.
+abbrev pub LeftLacks : {K : Type 0} → Crypto K → Agreement → Trusts → State K → ClientLeft → Type 0
+LeftLacks c agreement trusts s (left.Kexinit facts) = KexinitLacks agreement s
+LeftLacks c agreement trusts s left.Reply = ReplyLacks c agreement trusts s
+LeftLacks c agreement trusts s left.Other = ⊥
+
+-- A packet was left to the client, and something would be sent for it.
+pub record OwnLacks {K : Type 0} (c : Crypto K) (agreement : Agreement) (trusts : Trusts) (old : State K)
+    (bytes : List ℕ) : Type 0 where
+  pub between : State K
+  pub done : PacketTurn
+  pub o : Outs
+  pub taken : PacketTaken c old bytes done between o
+  pub lacks : LeftLacks c agreement trusts between (left_of done)
+
+-- Something would be sent of the bytes of a packet begun with those that a call used.
+pub data ClientLacks {K : Type 0} (c : Crypto K) (agreement : Agreement) (trusts : Trusts) (old : State K)
+    (bytes : List ℕ) : Type 0 where
+  shared : PacketLacks c old bytes → ClientLacks c agreement trusts old bytes
+  own : OwnLacks c agreement trusts old bytes → ClientLacks c agreement trusts old bytes

@@ -1,5 +1,5 @@
 -- What the reply of a server is to a client.
-use Rattle.std.specs.Prelude.{◌≡◌, ℕ, Bool, true, false, Option, List}
+use Rattle.std.specs.Prelude.{◌≡◌, ℕ, ◌<◌, ◌^◌, Bool, true, false, Option, List}
 use Rattle.std.specs.Option.{option_map}
 use Rattle.ssh_model.specs.Side.{Side.Client}
 use Rattle.ssh_model.specs.Wire.Message.{Msg, Msg.KexEcdhReply, IsPayload}
@@ -67,15 +67,33 @@ pub record HostIsTrusted {K : Type 0} (c : Crypto K) (agreement : Agreement) (tr
       (exchange_hash (inputs_with Client agreement s host_key point)) own theirs session
   pub announcement_is : IsAnnouncement s announcement
 
+-- The point is one and the host is trusted, and what is announced behind NEWKEYS has a spelling.
+pub record HostDue {K : Type 0} (c : Crypto K) (agreement : Agreement) (trusts : Trusts) (s : Transport K)
+    (host_key point signature : List ℕ) : Type 0 where
+  pub chosen : Chosen
+  pub own : K
+  pub theirs : K
+  pub session : List ℕ
+  pub announcement : Option (List ℕ)
+  pub is : HostIsTrusted c agreement trusts s host_key point signature chosen own theirs session announcement
+
+-- No number is left for NEWKEYS.
+pub record HostIsLate {K : Type 0} (c : Crypto K) (agreement : Agreement) (trusts : Trusts) (s : Transport K)
+    (host_key point signature : List ℕ) : Type 0 where
+  pub due : HostDue c agreement trusts s host_key point signature
+  pub none_left : s.sending.count ≡ 2 ^ 32
+
 -- what the texts of a reply are
 abbrev pub IsHostJudged : {K : Type 0} → Crypto K → Agreement → Trusts → Transport K →
     (host_key point signature : List ℕ) → HostJudged K → Type 0
 IsHostJudged c agreement trusts s host_key point signature judged.BadPoint = PointIsBad agreement s point
 IsHostJudged c agreement trusts s host_key point signature judged.BadHost =
     HostIsBad agreement trusts s host_key point signature
+IsHostJudged c agreement trusts s host_key point signature judged.NumberSpent =
+    HostIsLate c agreement trusts s host_key point signature
 IsHostJudged c agreement trusts s host_key point signature (judged.Trusted host) =
     HostIsTrusted c agreement trusts s host_key point signature (owned_chosen host.choice) host.keys.own
-    host.keys.theirs host.keys.session (option_map (λ v. v.items) host.announcement)
+    host.keys.theirs host.keys.session (option_map (λ v. v.items) host.announcement) × (s.sending.count < 2 ^ 32)
 
 -- The payload is a reply of a bad point.
 pub record ShowsBadPoint {K : Type 0} (agreement : Agreement) (s : Transport K) (payload : List ℕ) : Type 0 where
@@ -104,11 +122,27 @@ pub record ShowsTrusted {K : Type 0} (c : Crypto K) (agreement : Agreement) (tru
   pub read : IsPayload false (KexEcdhReply host_key point signature) payload
   pub is : HostIsTrusted c agreement trusts s host_key point signature chosen own theirs session announcement
 
+-- It is one of a host that is trusted, and what is announced has a spelling.
+pub record ShowsDue {K : Type 0} (c : Crypto K) (agreement : Agreement) (trusts : Trusts) (s : Transport K)
+    (payload : List ℕ) : Type 0 where
+  pub host_key : List ℕ
+  pub point : List ℕ
+  pub signature : List ℕ
+  pub read : IsPayload false (KexEcdhReply host_key point signature) payload
+  pub due : HostDue c agreement trusts s host_key point signature
+
+-- The same, and no number is left for NEWKEYS.
+pub record ShowsLate {K : Type 0} (c : Crypto K) (agreement : Agreement) (trusts : Trusts) (s : Transport K)
+    (payload : List ℕ) : Type 0 where
+  pub shows : ShowsDue c agreement trusts s payload
+  pub none_left : s.sending.count ≡ 2 ^ 32
+
 -- what a reply is
 abbrev pub IsReplyJudged : {K : Type 0} → Crypto K → Agreement → Trusts → Transport K → (payload : List ℕ) → HostJudged
     K → Type 0
 IsReplyJudged c agreement trusts s payload judged.BadPoint = ShowsBadPoint agreement s payload
 IsReplyJudged c agreement trusts s payload judged.BadHost = ShowsBadHost agreement trusts s payload
+IsReplyJudged c agreement trusts s payload judged.NumberSpent = ShowsLate c agreement trusts s payload
 IsReplyJudged c agreement trusts s payload (judged.Trusted host) =
     ShowsTrusted c agreement trusts s payload (owned_chosen host.choice) host.keys.own host.keys.theirs
-    host.keys.session (option_map (λ v. v.items) host.announcement)
+    host.keys.session (option_map (λ v. v.items) host.announcement) × (s.sending.count < 2 ^ 32)

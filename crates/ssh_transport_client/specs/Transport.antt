@@ -5,11 +5,11 @@ use Rattle.ssh_model.specs.Wire.Sealing.{Crypto}
 use Rattle.ssh_model.specs.Sessions.Parties.{Agreement}
 use Rattle.ssh_types.specs.declared.refusal.Refusal.TheVariants as refusal
 use Rattle.ssh_transport_machine.specs.Asks.{WasDead}
-use Rattle.ssh_transport_machine.specs.Choices.{IsChoosing}
 use Rattle.ssh_transport_machine.specs.LineTurns.{LineTaken}
 use Rattle.ssh_transport_machine.specs.Outcomes.{LineOutcome, answer_outcome, packet_outcome}
 use Rattle.ssh_transport_machine.specs.Puts.{Outs}
-use Rattle.ssh_transport_machine.specs.State.{IsLive, State, last_number}
+use Rattle.ssh_transport_machine.specs.Standing.{IsStanding}
+use Rattle.ssh_transport_machine.specs.State.{State, last_number}
 use Rattle.ssh_transport_machine.specs.Turning.{IsQuiet}
 use Rattle.ssh_transport_machine.specs.declared.machine.line_turn.LineTurn.{LineTurn}
 use Rattle.ssh_transport_machine.specs.declared.outcome.Effect.TheVariants as effect
@@ -17,24 +17,23 @@ use Rattle.ssh_transport_machine.specs.declared.outcome.TransportFault.{Transpor
 use Rattle.ssh_transport_machine.specs.declared.outcome.TransportFault.TheVariants as fault
 use Rattle.ssh_transport_machine.specs.declared.outcome.TransportTurn.{TransportTurn}
 use Rattle.ssh_transport_machine.specs.declared.outcome.TransportTurn.TheVariants as outcome
-use Rattle.ssh_transport_client.specs.Packets.{ClientTaken}
 use Rattle.ssh_transport_client.specs.Replies.{Trusts}
+use Rattle.ssh_transport_client.specs.Packets.{ClientLacks, ClientTaken}
 use Rattle.ssh_transport_client.specs.declared.packet.ClientTurn.{ClientTurn}
 use Rattle.ssh_transport_client.specs.declared.packet.ClientTurn.TheVariants as client
 use Rattle.ssh_transport_client.specs.declared.reply.ReplyTurn.{ReplyTurn}
 use Rattle.ssh_transport_client.specs.declared.reply.ReplyTurn.TheVariants as reply
 
--- Its machine, and what its parts compute.
-pub record ClientState (K : Type 0) : Type 0 where
+-- Its machine, and its parts.
+pub record ClientState (K A T : Type 0) : Type 0 where
   pub machine : State K
-  pub agreement : Agreement
-  pub trusts : Trusts
+  pub agreement : A
+  pub host_trust : T
 
--- What holds of the machine.
-pub record IsClient {K : Type 0} (s : State K) : Type 0 where
-  pub side_is : s.kept.side ≡ Client
-  pub live : s.kept.dead ≡ false → IsLive s
-  pub choosing : s.kept.dead ≡ false → IsChoosing s.kept
+-- The parts are as before.
+pub record SameParts {K A T : Type 0} (old new : ClientState K A T) : Type 0 where
+  pub agreement : new.agreement ≡ old.agreement
+  pub host_trust : new.host_trust ≡ old.host_trust
 
 -- the bytes of the line or the packet that is begun
 abbrev pub begun_of : {K : Type 0} → State K → List ℕ
@@ -75,25 +74,25 @@ pub data UnitTakes {K : Type 0} (c : Crypto K) (agreement : Agreement) (trusts :
   packet : (done : ClientTurn) → PacketTakes c agreement trusts old bytes done given new o →
       UnitTakes c agreement trusts old bytes given new o
 
--- What a call made of the bytes begun with those that it used: the transport was not over, and keeps its parts.
-pub record ClientTook {K : Type 0} (c : Crypto K) (old : ClientState K) (bytes : List ℕ) (given : TransportTurn)
-    (new : ClientState K) (o : Outs) : Type 0 where
-  pub alive : old.machine.kept.dead ≡ false
-  pub live : IsLive old.machine
-  pub takes : UnitTakes c old.agreement old.trusts old.machine bytes given new.machine o
-  pub agreement : new.agreement ≡ old.agreement
-  pub trusts : new.trusts ≡ old.trusts
+-- What a call made of the bytes begun with those that it used: the end was not over.
+pub record ClientTook {K : Type 0} (c : Crypto K) (agreement : Agreement) (trusts : Trusts) (old : State K) (bytes : List ℕ)
+    (given : TransportTurn) (new : State K) (o : Outs) : Type 0 where
+  pub alive : old.kept.dead ≡ false
+  pub stands : IsStanding Client old
+  pub takes : UnitTakes c agreement trusts old bytes given new o
 
 -- ---- where nothing is done
 
--- Memory was refused, and the end is over.
-pub record ClientDied {K : Type 0} (old : ClientState K) (new : ClientState K) : Type 0 where
-  pub alive : old.machine.kept.dead ≡ false
-  pub dead : new.machine.kept.dead ≡ true
-  pub agreement : new.agreement ≡ old.agreement
-  pub trusts : new.trusts ≡ old.trusts
+-- Memory was refused for what would be sent, and the end is over.
+pub record ClientDied {K : Type 0} (c : Crypto K) (agreement : Agreement) (trusts : Trusts) (old : State K) (bytes : List ℕ)
+    (new : State K) : Type 0 where
+  pub alive : old.kept.dead ≡ false
+  pub stands : IsStanding Client old
+  pub reading : old.kept.lines.found ≡ true
+  pub lacks : ClientLacks c agreement trusts old bytes
+  pub dead : new.kept.dead ≡ true
 
 -- why nothing was done
-abbrev pub ClientFailed : {K : Type 0} → ClientState K → TransportFault → ClientState K → Type 0
-ClientFailed old fault.Memory new = ClientDied old new
-ClientFailed old fault.Dead new = WasDead old.machine new.machine × ((new.agreement ≡ old.agreement) × (new.trusts ≡ old.trusts))
+abbrev pub ClientFailed : {K : Type 0} → Crypto K → Agreement → Trusts → State K → List ℕ → TransportFault → State K → Type 0
+ClientFailed c agreement trusts old bytes fault.Memory new = ClientDied c agreement trusts old bytes new
+ClientFailed c agreement trusts old bytes fault.Dead new = WasDead old new

@@ -1,16 +1,18 @@
 //! What the reply of a server is to a client.
 
-ghost use Rattle.std.specs.Prelude.{◌≡◌, ◌≤◌, IfOk, Some, false, length, true};
+ghost use Rattle.std.specs.Prelude.{◌≡◌, ◌≤◌, IfOk, OnErr, Some, false, length, true};
 ghost use Rattle.std.specs.Option.{option_map};
 ghost use Rattle.ssh_model.specs.Side as model;
 ghost use Rattle.ssh_model.specs.Wire.Message.{IsPayload, KexEcdhReply};
 ghost use Rattle.ssh_model.specs.TransportLayer.Kept.{shared_with};
 ghost use Rattle.ssh_message.specs.Meaning.{meaning};
-ghost use Rattle.ssh_kex.specs.Values.{owned_chosen};
-ghost use Rattle.ssh_transport_machine.specs.Finishing.{HasChoice};
-ghost use Rattle.ssh_transport_client.specs.Replies.{IsHostJudged, IsReply, IsReplyJudged, ShowsReply, reply_of};
+ghost use Rattle.ssh_model.specs.Wire.DataTypes.{number};
+ghost use Rattle.ssh_kex.specs.Values.{chosen_of, owned_chosen};
+ghost use Rattle.ssh_transport_machine.specs.Finishing.{AreKeys, AreKnown, HasChoice, IsAnnouncement};
+ghost use Rattle.ssh_transport_machine.specs.Turning.{HasRoom};
+ghost use Rattle.ssh_transport_client.specs.Replies.{HostDue, IsHostJudged, IsReply, IsReplyJudged, ShowsDue, ShowsReply, reply_of};
 
-use ssh_kex::{Agreement, HostTrust, OwnedChoice};
+use ssh_kex::{Agreement, Choice, HostTrust, OwnedChoice};
 use ssh_message::{Message, decode};
 use ssh_packet::{Filler, Sealing};
 use ssh_transport_machine::{ExchangeKeys, Machine, Points};
@@ -23,6 +25,8 @@ pub enum HostJudged<K: Drop> {
     BadPoint,
     /// Its host key or its signature is not trusted.
     BadHost,
+    /// It is trusted, and no number is left in the epoch for NEWKEYS.
+    NumberSpent,
     /// It is trusted.
     Trusted(TrustedHost<K>),
 }
@@ -52,7 +56,9 @@ pub fn judge_reply<S: Sealing, F: Filler + Drop, A: Agreement, T: HostTrust>(
     requires shown { ShowsReply machine.now.receiver.payload }
     requires side { machine.now.kept.side ≡ model.Client }
     requires choice { HasChoice machine.now.kept }
-    ensures { IfOk result (λ judged. IsReplyJudged S.crypto (record { point = A.public_of agreement.now; shared = A.shared_of agreement.now }) (T.judged trust.now) machine.now.kept machine.now.receiver.payload judged) }
+    ensures judged { IfOk result (λ judged. IsReplyJudged S.crypto (record { point = A.public_of agreement.now; shared = A.shared_of agreement.now }) (T.judged trust.now) machine.now.kept machine.now.receiver.payload judged) }
+    ensures due { OnErr result (ShowsDue S.crypto (record { point = A.public_of agreement.now; shared = A.shared_of agreement.now }) (T.judged trust.now) machine.now.kept machine.now.receiver.payload) }
+    ensures room { OnErr result (HasRoom machine.now) }
 {
     let payload = machine.payload();
     match decode(false, payload) {
@@ -74,7 +80,9 @@ fn judge_message<S: Sealing, F: Filler + Drop, A: Agreement, T: HostTrust>(
     requires most { length payload.now ≤ 35000 }
     requires side { machine.now.kept.side ≡ model.Client }
     requires choice { HasChoice machine.now.kept }
-    ensures { IfOk result (λ judged. IsReplyJudged S.crypto (record { point = A.public_of agreement.now; shared = A.shared_of agreement.now }) (T.judged trust.now) machine.now.kept payload.now judged) }
+    ensures judged { IfOk result (λ judged. IsReplyJudged S.crypto (record { point = A.public_of agreement.now; shared = A.shared_of agreement.now }) (T.judged trust.now) machine.now.kept payload.now judged) }
+    ensures due { OnErr result (ShowsDue S.crypto (record { point = A.public_of agreement.now; shared = A.shared_of agreement.now }) (T.judged trust.now) machine.now.kept payload.now) }
+    ensures room { OnErr result (HasRoom machine.now) }
 {
     ssh_model::payload_sizes();
     let reply = reply_in(message);
@@ -110,7 +118,9 @@ fn judge_point<S: Sealing, F: Filler + Drop, A: Agreement, T: HostTrust>(
     requires short { length reply.host_key.now ≤ 35000 }
     requires side { machine.now.kept.side ≡ model.Client }
     requires choice { HasChoice machine.now.kept }
-    ensures { IfOk result (λ judged. IsHostJudged S.crypto (record { point = A.public_of agreement.now; shared = A.shared_of agreement.now }) (T.judged trust.now) machine.now.kept reply.entry.host_key.now reply.entry.point.now reply.entry.signature.now judged) }
+    ensures judged { IfOk result (λ judged. IsHostJudged S.crypto (record { point = A.public_of agreement.now; shared = A.shared_of agreement.now }) (T.judged trust.now) machine.now.kept reply.entry.host_key.now reply.entry.point.now reply.entry.signature.now judged) }
+    ensures due { OnErr result (HostDue S.crypto (record { point = A.public_of agreement.now; shared = A.shared_of agreement.now }) (T.judged trust.now) machine.now.kept reply.entry.host_key.now reply.entry.point.now reply.entry.signature.now) }
+    ensures room { OnErr result (HasRoom machine.now) }
 {
     match machine.shared(agreement, reply.point) {
         Some(shared) => judge_host(machine, agreement, trust, reply, &shared),
@@ -131,7 +141,9 @@ fn judge_host<S: Sealing, F: Filler + Drop, A: Agreement, T: HostTrust>(
     requires shares { shared_with (record { point = A.public_of agreement.now; shared = A.shared_of agreement.now }) machine.now.kept.underway.secret reply.point.now ≡ Some shared.now }
     requires side { machine.now.kept.side ≡ model.Client }
     requires choice { HasChoice machine.now.kept }
-    ensures { IfOk result (λ judged. IsHostJudged S.crypto (record { point = A.public_of agreement.now; shared = A.shared_of agreement.now }) (T.judged trust.now) machine.now.kept reply.entry.host_key.now reply.entry.point.now reply.entry.signature.now judged) }
+    ensures judged { IfOk result (λ judged. IsHostJudged S.crypto (record { point = A.public_of agreement.now; shared = A.shared_of agreement.now }) (T.judged trust.now) machine.now.kept reply.entry.host_key.now reply.entry.point.now reply.entry.signature.now judged) }
+    ensures due { OnErr result (HostDue S.crypto (record { point = A.public_of agreement.now; shared = A.shared_of agreement.now }) (T.judged trust.now) machine.now.kept reply.entry.host_key.now reply.entry.point.now reply.entry.signature.now) }
+    ensures room { OnErr result (HasRoom machine.now) }
 {
     let choice = machine.choice();
     let algorithm = choice.host.as_bytes();
@@ -147,13 +159,33 @@ fn judge_host<S: Sealing, F: Filler + Drop, A: Agreement, T: HostTrust>(
     if !trust.judge(algorithm, reply.host_key, &hash, reply.signature) {
         return Ok(HostJudged::BadHost);
     }
-    let keys = machine.exchange_keys(&choice, shared, &hash)?;
+    machine.announcement_fits();
+    if machine.is_spent() {
+        return Ok(HostJudged::NumberSpent);
+    }
+    let host = make_keys(machine, choice, shared, &hash)?;
+    Ok(HostJudged::Trusted(host))
+}
+
+// Makes the keys of the exchange, and what is announced behind NEWKEYS.
+fn make_keys<S: Sealing, F: Filler + Drop>(
+    machine: &Machine<S, F>,
+    choice: Choice<'_>,
+    shared: &[u8; 32],
+    hash: &[u8; 32],
+) -> Result<TrustedHost<S::Key>, AllocError>
+    requires { AreKnown S.crypto (chosen_of choice) }
+    ensures keys { IfOk result (λ host. AreKeys S.crypto machine.now.kept (chosen_of choice.entry) (number shared.now) hash.now host.keys.own host.keys.theirs host.keys.session) }
+    ensures announcement { IfOk result (λ host. IsAnnouncement machine.now.kept (option_map (λ v. v.items) host.announcement)) }
+    ensures chosen { IfOk result (λ host. owned_chosen host.choice ≡ chosen_of choice.entry) }
+{
+    let keys = machine.exchange_keys(&choice, shared, hash)?;
     let announcement = machine.spell_announcement()?;
-    Ok(HostJudged::Trusted(TrustedHost {
+    Ok(TrustedHost {
         keys,
         announcement,
         choice: OwnedChoice::from(choice),
-    }))
+    })
 }
 
 // A copy of 32 bytes.

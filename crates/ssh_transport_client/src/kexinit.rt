@@ -1,7 +1,7 @@
 //! A client's answer to its server's KEXINIT.
 
 ghost use Rattle.std.specs.Prelude.{◌≡◌, ◌≤◌, IfOk, None, OnErr, false, length, map, true};
-ghost use Rattle.ssh_transport_client.specs.Kexinits.{BothDone, KexinitDone, PointDone};
+ghost use Rattle.ssh_transport_client.specs.Kexinits.{BothDone, BothLack, KexinitDone, KexinitLacks, PointDone, PointLacks};
 
 use ssh_kex::Agreement;
 use ssh_model::spellings;
@@ -25,6 +25,7 @@ pub fn answer_kexinit<S: Sealing, F: Filler + Drop, A: Agreement>(
     requires { machine.old.kept.blocked ≡ false → machine.old.kept.material ≡ None → ⊥ }
     ensures done { IfOk result (λ answer. KexinitDone S.crypto (record { point = A.public_of agreement.now; shared = A.shared_of agreement.now }) machine.old facts answer machine.new (record { before = out.old.items; after = out.new.items; listed = map (λ v. v.items) sent.old.items; relisted = map (λ v. v.items) sent.new.items })) }
     ensures dead { OnErr result (machine.new.kept.dead ≡ true) }
+    ensures lacks { OnErr result (KexinitLacks (record { point = A.public_of agreement.now; shared = A.shared_of agreement.now }) machine.old) }
     ensures out { OnErr result (out.new.items ≡ out.old.items) }
     ensures kept { OnErr result (map (λ v. v.items) sent.new.items ≡ map (λ v. v.items) sent.old.items) }
 {
@@ -47,6 +48,7 @@ fn answer_by_point<S: Sealing, F: Filler + Drop, A: Agreement>(
 ) -> Result<Answer, AllocError>
     ensures done { IfOk result (λ answer. PointDone S.crypto (record { point = A.public_of agreement.now; shared = A.shared_of agreement.now }) machine.old facts answer machine.new (record { before = out.old.items; after = out.new.items; listed = map (λ v. v.items) sent.old.items; relisted = map (λ v. v.items) sent.new.items })) }
     ensures dead { OnErr result (machine.new.kept.dead ≡ true) }
+    ensures lacks { OnErr result (PointLacks (record { point = A.public_of agreement.now; shared = A.shared_of agreement.now }) machine.old) }
     ensures out { OnErr result (out.new.items ≡ out.old.items) }
     ensures kept { OnErr result (sent.new.items ≡ sent.old.items) }
 {
@@ -72,6 +74,7 @@ fn answer_by_both<S: Sealing, F: Filler + Drop, A: Agreement>(
 ) -> Result<Answer, AllocError>
     ensures done { IfOk result (λ answer. BothDone S.crypto (record { point = A.public_of agreement.now; shared = A.shared_of agreement.now }) machine.old facts (record { cookie = material.cookie; secret = material.secret }) answer machine.new (record { before = out.old.items; after = out.new.items; listed = map (λ v. v.items) sent.old.items; relisted = map (λ v. v.items) sent.new.items })) }
     ensures dead { OnErr result (machine.new.kept.dead ≡ true) }
+    ensures lacks { OnErr result (BothLack (record { point = A.public_of agreement.now; shared = A.shared_of agreement.now }) machine.old (record { cookie = material.cookie; secret = material.secret })) }
     ensures out { OnErr result (out.new.items ≡ out.old.items) }
     ensures kept { OnErr result (map (λ v. v.items) sent.new.items ≡ map (λ v. v.items) sent.old.items) }
 {

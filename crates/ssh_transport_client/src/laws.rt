@@ -15,12 +15,15 @@ ghost use Rattle.ssh_model.specs.Wire.Sealing.{Crypto};
 ghost use Rattle.ssh_transport_machine.specs.Choices.{IsChoosing};
 ghost use Rattle.ssh_transport_machine.specs.Endings.{ExchangeEnds, IsRead, PayloadRefused};
 ghost use Rattle.ssh_transport_machine.specs.Puts.{Outs};
+ghost use Rattle.ssh_transport_machine.specs.Standing.{Stands};
 ghost use Rattle.ssh_transport_machine.specs.State.{IsLive, State, before_taken};
+ghost use Rattle.ssh_transport_client.specs.declared.packet.ClientTurn.{ClientTurn};
 ghost use Rattle.ssh_transport_machine.specs.Judging.{PayloadJudged};
 ghost use Rattle.ssh_transport_machine.specs.declared.machine.judging.Judged.TheVariants as judged;
 ghost use Rattle.ssh_transport_machine.specs.declared.machine.kexinit.KexinitFacts.{KexinitFacts};
 ghost use Rattle.ssh_transport_machine.specs.declared.machine.turn.Answer.{Answer};
 ghost use Rattle.ssh_transport_client.specs.Kexinits.{KexinitDone, KexinitTurn};
+ghost use Rattle.ssh_transport_client.specs.Packets.{ClientTaken};
 ghost use Rattle.ssh_transport_client.specs.Replies.{ReadsReply, Trusts};
 ghost use Rattle.ssh_transport_client.specs.Turns.{HostAccepted, HostRefused, NewkeysSpent, PointRefused};
 
@@ -28,6 +31,7 @@ use ssh_model::payload_numbers;
 use ssh_model::transport::{exchange_ends, payloads, refused_and_spent};
 use ssh_transport_machine::ending::{choices_kept, exchanges_live, secrets_forgotten};
 use ssh_transport_machine::laws::live_machines;
+use ssh_transport_machine::standing::machines_stand;
 
 /// A payload that is judged to be a reply is one that is read.
 pub fn replies_shown<K>()
@@ -76,4 +80,15 @@ pub fn replies_taken<K>()
     payloads::<K>();
     refused_and_spent::<K>();
     secrets_forgotten::<K>();
+}
+
+/// What holds of a machine that a client keeps goes on holding with each packet.
+pub fn clients_stand<K>()
+    ensures packets { (c : Crypto K) (agreement : Agreement) (trusts : Trusts) (old : State K) (bytes : List ℕ) (done : ClientTurn) (new : State K) (o : Outs) → old.kept.dead ≡ false → Stands Client old → ClientTaken c agreement trusts old bytes done new o → Stands Client new }
+    ensures over { (s : State K) → s.kept.dead ≡ true → Stands Client s }
+{
+    payload_numbers();
+    machines_stand::<K>();
+    kexinits_live::<K>();
+    replies_live::<K>();
 }

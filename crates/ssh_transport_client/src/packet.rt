@@ -4,7 +4,7 @@ ghost use Rattle.std.specs.Prelude.{◌≡◌, ◌<◌, ◌≤◌, ◌++◌, IfO
 ghost use Rattle.ssh_model.specs.Side as model;
 ghost use Rattle.ssh_transport_machine.specs.Choices.{IsChoosing};
 ghost use Rattle.ssh_transport_machine.specs.State.{IsLive};
-ghost use Rattle.ssh_transport_client.specs.Packets.{ClientTaken, IsFinished, IsReady, left_of};
+ghost use Rattle.ssh_transport_client.specs.Packets.{ClientLacks, ClientTaken, IsFinished, IsReady, LeftLacks, left_of};
 
 use crate::kexinit::answer_kexinit;
 use crate::reply::{ReplyTurn, take_reply};
@@ -57,6 +57,7 @@ pub fn take_packet<S: Sealing, F: Filler + Drop, A: Agreement, T: HostTrust>(
     ensures more { IfOk result.1 (λ turn. turn ≡ ClientTurn.Shared PacketTurn.More → result.0 ≡ length bytes.now) }
     ensures taken { IfOk result.1 (λ turn. ClientTaken S.crypto (record { point = A.public_of agreement.now; shared = A.shared_of agreement.now }) (T.judged trust.now) machine.old (machine.old.receiver.begun ++ take result.0 bytes.now) turn machine.new (record { before = out.old.items; after = out.new.items; listed = map (λ v. v.items) sent.old.items; relisted = map (λ v. v.items) sent.new.items })) }
     ensures dead { OnErr result.1 (machine.new.kept.dead ≡ true) }
+    ensures lacks { OnErr result.1 (ClientLacks S.crypto (record { point = A.public_of agreement.now; shared = A.shared_of agreement.now }) (T.judged trust.now) machine.old (machine.old.receiver.begun ++ take result.0 bytes.now)) }
     ensures out { OnErr result.1 (out.new.items ≡ out.old.items) }
     ensures kept { OnErr result.1 (map (λ v. v.items) sent.new.items ≡ map (λ v. v.items) sent.old.items) }
 {
@@ -83,6 +84,7 @@ fn finish<S: Sealing, F: Filler + Drop, A: Agreement, T: HostTrust>(
     ensures finished { IfOk result (λ turn. IsFinished S.crypto (record { point = A.public_of agreement.now; shared = A.shared_of agreement.now }) (T.judged trust.now) machine.old done turn machine.new (record { before = out.old.items; after = out.new.items; listed = map (λ v. v.items) sent.old.items; relisted = map (λ v. v.items) sent.new.items })) }
     ensures left { OnErr result (left_of done ≡ ClientLeft.Other → ⊥) }
     ensures dead { OnErr result (machine.new.kept.dead ≡ true) }
+    ensures lacks { OnErr result (LeftLacks S.crypto (record { point = A.public_of agreement.now; shared = A.shared_of agreement.now }) (T.judged trust.now) machine.old (left_of done)) }
     ensures out { OnErr result (out.new.items ≡ out.old.items) }
     ensures kept { OnErr result (map (λ v. v.items) sent.new.items ≡ map (λ v. v.items) sent.old.items) }
 {

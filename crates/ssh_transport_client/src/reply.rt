@@ -4,7 +4,7 @@ ghost use Rattle.std.specs.Prelude.{◌≡◌, ◌<◌, ◌≤◌, ◌-◌, ◌^
 ghost use Rattle.ssh_model.specs.Side as model;
 ghost use Rattle.ssh_transport_machine.specs.Finishing.{HasChoice};
 ghost use Rattle.ssh_transport_client.specs.Replies.{ShowsReply};
-ghost use Rattle.ssh_transport_client.specs.Turns.{ReplyTaken};
+ghost use Rattle.ssh_transport_client.specs.Turns.{ReplyLacks, ReplyTaken};
 
 use crate::host::{HostJudged, TrustedHost, judge_reply};
 use ssh_kex::{Agreement, HostTrust, OwnedChoice};
@@ -45,6 +45,7 @@ pub fn take_reply<S: Sealing, F: Filler + Drop, A: Agreement, T: HostTrust>(
     requires epoch { machine.old.kept.sending.epoch < 2 ^ 32 - 1 }
     ensures taken { IfOk result (λ turn. ReplyTaken S.crypto (record { point = A.public_of agreement.now; shared = A.shared_of agreement.now }) (T.judged trust.now) machine.old turn machine.new (record { before = out.old.items; after = out.new.items; listed = map (λ v. v.items) sent.old.items; relisted = map (λ v. v.items) sent.new.items })) }
     ensures dead { OnErr result (machine.new.kept.dead ≡ true) }
+    ensures lacks { OnErr result (ReplyLacks S.crypto (record { point = A.public_of agreement.now; shared = A.shared_of agreement.now }) (T.judged trust.now) machine.old) }
     ensures out { OnErr result (out.new.items ≡ out.old.items) }
     ensures kept { OnErr result (map (λ v. v.items) sent.new.items ≡ map (λ v. v.items) sent.old.items) }
 {
@@ -57,11 +58,11 @@ pub fn take_reply<S: Sealing, F: Filler + Drop, A: Agreement, T: HostTrust>(
             machine.refuse(Refusal::BadHost, out, sent)?;
             Ok(ReplyTurn::BadHost)
         }
+        Ok(HostJudged::NumberSpent) => {
+            machine.die();
+            Ok(ReplyTurn::NumberSpent)
+        }
         Ok(HostJudged::Trusted(host)) => {
-            if machine.is_spent() {
-                machine.die();
-                return Ok(ReplyTurn::NumberSpent);
-            }
             let TrustedHost {
                 keys,
                 announcement,

@@ -1,23 +1,20 @@
 //! The transport of a client.
 
-ghost use Rattle.std.specs.Prelude.{◌≡◌, ◌<◌, ◌≤◌, ◌++◌, IfErr, IfOk, OnErr, false, length, map, take, true};
+ghost use Rattle.std.specs.Prelude.{◌≡◌, ◌<◌, ◌≤◌, ◌++◌, IfErr, IfOk, OnErr, false, length, map, take};
 ghost use Rattle.ssh_model.specs.Side as model;
 ghost use Rattle.ssh_transport_base.specs.Meaning.{settings_of};
 ghost use Rattle.ssh_transport_machine.specs.Opening.{IsOpened};
-ghost use Rattle.ssh_transport_client.specs.Transport.{ClientFailed, ClientTook, begun_of, client_outcome, reply_outcome};
+ghost use Rattle.ssh_transport_client.specs.Transport.{SameParts, ClientFailed, ClientTook, begun_of};
 
+mod above;
 mod asking;
 mod queries;
 
-use crate::packet::{ClientTurn, take_packet};
-use crate::reply::ReplyTurn;
+use crate::unit::take_unit;
 use ssh_packet::{Filler, Sealing};
-use ssh_transport_base::{Config, ClientPartValues, ClientParts};
-use ssh_transport_machine::ending::choices_kept;
-use ssh_transport_machine::laws::live_machines;
-use ssh_transport_machine::{
-    Effect, Machine, TransportFault, TransportTurn, answer_outcome, line_outcome, packet_outcome,
-};
+use ssh_transport_base::{ClientPartValues, ClientParts, Config};
+use ssh_transport_machine::standing::machines_stand;
+use ssh_transport_machine::{Machine, TransportFault, TransportTurn, line_outcome, packet_outcome};
 use ssh_types::{Refusal, Side};
 use std::alloc::{AllocError, Global};
 use std::marker::Model;
@@ -34,13 +31,15 @@ pub struct ClientTransport<P: ClientParts> {
 }
 
 impl<P: ClientParts> Model for ClientTransport<P> {
-    ghost use Rattle.ssh_transport_client.specs.Transport.{IsClient, ClientState};
+    ghost use Rattle.ssh_model.specs.Side as model;
+    ghost use Rattle.ssh_transport_machine.specs.Standing.{Stands};
+    ghost use Rattle.ssh_transport_client.specs.Transport.{ClientState};
 
-    ghost Value = { ClientState P.Sealing.Key };
+    ghost Value = { ClientState P.Sealing.Key P.Agreement P.HostTrust };
 
-    ghost view = { λ t. record { machine = t.machine; agreement = record { point = P.Agreement.public_of t.agreement; shared = P.Agreement.shared_of t.agreement }; trusts = P.HostTrust.judged t.host_trust } };
+    ghost view = { λ t. record { machine = t.machine; agreement = t.agreement; host_trust = t.host_trust } };
 
-    ghost invariant = { λ t. IsClient t.machine };
+    ghost invariant = { λ t. Stands model.Client t.machine };
 }
 
 // Written out, since a derive would ask it of the parts' name too.
@@ -71,13 +70,12 @@ impl<P: ClientParts> ClientTransport<P> {
         sent: &mut Vec<Vec<u8>>,
     ) -> Result<ClientTransport<P>, AllocError>
         ensures opened { IfOk result (λ transport. IsOpened P.Sealing.crypto (settings_of config) model.Client cookie secret transport.machine (record { before = out.old.items; after = out.new.items; listed = map (λ v. v.items) sent.old.items; relisted = map (λ v. v.items) sent.new.items })) }
-        ensures agreement { IfOk result (λ transport. transport.agreement ≡ record { point = P.Agreement.public_of parts.agreement; shared = P.Agreement.shared_of parts.agreement }) }
-        ensures trusts { IfOk result (λ transport. transport.trusts ≡ P.HostTrust.judged parts.host_trust) }
+        ensures agreement { IfOk result (λ transport. transport.agreement ≡ parts.agreement) }
+        ensures trust { IfOk result (λ transport. transport.host_trust ≡ parts.host_trust) }
         ensures out { OnErr result (out.new.items ≡ out.old.items) }
         ensures kept { OnErr result (sent.new.items ≡ sent.old.items) }
     {
-        live_machines::<<P::Sealing as Sealing>::Key>();
-        choices_kept::<<P::Sealing as Sealing>::Key>();
+        machines_stand::<<P::Sealing as Sealing>::Key>();
         let (filler, agreement, host_trust) = parts.into_parts();
         let machine = Machine::new(
             alloc,
@@ -114,63 +112,19 @@ impl<P: ClientParts> ClientTransport<P> {
         ensures used { result.0 ≤ length bytes.now }
         ensures progress { self.old.machine.kept.dead ≡ false → 0 < length bytes.now → 0 < result.0 }
         ensures more { IfOk result.1 (λ turn. turn ≡ TransportTurn.More → result.0 ≡ length bytes.now) }
-        ensures took { IfOk result.1 (λ turn. ClientTook P.Sealing.crypto self.old (begun_of self.old.machine ++ take result.0 bytes.now) turn self.new (record { before = out.old.items; after = out.new.items; listed = map (λ v. v.items) sent.old.items; relisted = map (λ v. v.items) sent.new.items })) }
-        ensures failed { IfErr result.1 (λ fault. ClientFailed self.old fault self.new) }
+        ensures took { IfOk result.1 (λ turn. ClientTook P.Sealing.crypto (record { point = P.Agreement.public_of self.old.agreement; shared = P.Agreement.shared_of self.old.agreement }) (P.HostTrust.judged self.old.host_trust) self.old.machine (begun_of self.old.machine ++ take result.0 bytes.now) turn self.new.machine (record { before = out.old.items; after = out.new.items; listed = map (λ v. v.items) sent.old.items; relisted = map (λ v. v.items) sent.new.items })) }
+        ensures parts { SameParts self.old self.new }
+        ensures failed { IfErr result.1 (λ fault. ClientFailed P.Sealing.crypto (record { point = P.Agreement.public_of self.old.agreement; shared = P.Agreement.shared_of self.old.agreement }) (P.HostTrust.judged self.old.host_trust) self.old.machine (begun_of self.old.machine ++ take result.0 bytes.now) fault self.new.machine) }
         ensures out { OnErr result.1 (out.new.items ≡ out.old.items) }
         ensures kept { OnErr result.1 (map (λ v. v.items) sent.new.items ≡ map (λ v. v.items) sent.old.items) }
     {
-        if self.machine.is_dead() {
-            return (0, Err(TransportFault::Dead));
-        }
-        if self.machine.has_line() {
-            return self.take_packet(bytes, out, sent);
-        }
-        let (used, done) = self.machine.take_line(bytes);
-        (used, Ok(line_outcome(done)))
-    }
-
-    // The bytes of a packet.
-    fn take_packet(
-        &mut self,
-        bytes: &[u8],
-        out: &mut Vec<u8>,
-        sent: &mut Vec<Vec<u8>>,
-    ) -> (usize, Result<TransportTurn, TransportFault>)
-    {
-        let (used, done) = take_packet(
+        take_unit(
             &mut self.machine,
             &self.agreement,
             &self.host_trust,
             bytes,
             out,
             sent,
-        );
-        match done {
-            Ok(done) => (used, Ok(outcome(done, self.machine.last_number()))),
-            Err(_) => (used, Err(TransportFault::Memory)),
-        }
-    }
-}
-
-// What a packet with this number comes to.
-fn outcome(done: ClientTurn, number: u32) -> TransportTurn
-    ensures { result ≡ client_outcome done number }
-{
-    match done {
-        ClientTurn::Shared(done) => packet_outcome(done, number),
-        ClientTurn::Kexinit(answer) => answer_outcome(answer, Effect::Kexinit),
-        ClientTurn::Reply(done) => reply_outcome_of(done),
-    }
-}
-
-// What a reply comes to.
-fn reply_outcome_of(done: ReplyTurn) -> TransportTurn
-    ensures { result ≡ reply_outcome done }
-{
-    match done {
-        ReplyTurn::BadPoint => TransportTurn::Refused(Refusal::BadPoint),
-        ReplyTurn::BadHost => TransportTurn::Refused(Refusal::BadHost),
-        ReplyTurn::NumberSpent => TransportTurn::Refused(Refusal::NumberSpent),
-        ReplyTurn::Completed(choice) => TransportTurn::Completed(choice),
+        )
     }
 }

@@ -1,11 +1,16 @@
 -- The extensions of a config fit a payload.
-use Rattle.std.proofs.Common.{◌≡◌, ◌≤◌, ◌+◌, ◌*◌, ◌==◌, ℕ, Bool, true, false, ◌&&◌, List, [], ◌∷◌, length, arith, refl, leb-true}
+use Rattle.std.proofs.Common.{◌≡◌, ◌≤◌, ◌<◌, ◌+◌, ◌*◌, ◌^◌, ◌==◌, ℕ, Bool, true, false, ◌&&◌, List, [], ◌∷◌, length, arith, refl, subst, leb-true, Some, None}
 use Rattle.std.specs.Prelude.{nat_le}
 use Rattle.std.specs.List.{count_by, list_all}
 use Rattle.ssh_model.specs.Wire.DataTypes.{is_name, is_name_byte}
-use Rattle.ssh_model.specs.Wire.Message.{Msg.ExtInfo, Extension}
-use Rattle.ssh_model.specs.Wire.Sizes.{extensions_size, payload_size}
+use Rattle.ssh_model.specs.Wire.Message.{Msg, Msg.ExtInfo, Extension, IsExtensions, IsWrittenPayload}
+use Rattle.ssh_model.specs.Wire.Sizes.{HasPayloadSize, extensions_size, payload_size}
+use Rattle.ssh_model.specs.Sessions.TurnClaims.{HasSpelling}
+use Rattle.ssh_model.specs.TransportLayer.Kept.{Transport, is_announcing}
+use Rattle.ssh_model.proofs.Wire.Written.{Made, byte, ended, spelled, string, uint32}
 use Rattle.ssh_transport_base.specs.Config.{AreExtensions, Given, extension_names, is_short_value}
+use Rattle.ssh_transport_machine.specs.Finishing.{HasAnnouncement, IsDue}
+use Rattle.ssh_transport_machine.specs.State.{State}
 
 left : (a b : Bool) → (a && b) ≡ true → a ≡ true
 left true b e = refl
@@ -32,3 +37,29 @@ sized (x ∷ l) n v =
 
 pub fits : (g : Given) → AreExtensions g → payload_size (ExtInfo g.extensions) ≤ 34000
 fits g x = let s = sized g.extensions x.names x.values in omega (arith, s, x.most)
+
+-- ---- it has a spelling
+
+made : (l : List Extension) → extensions_size l ≤ 34000 → Made (IsExtensions l) (extensions_size l)
+made [] n = ended
+made (x ∷ l) n = string x.name (omega (arith, n)) (string x.value (omega (arith, n)) (made l (omega (arith, n))))
+
+row : (g : Given) → AreExtensions g → Made (IsWrittenPayload (ExtInfo g.extensions)) (1 + (4 + extensions_size g.extensions))
+row g x = byte 7 (uint32 (length g.extensions) (omega (arith, x.most)) (made g.extensions (omega (arith, fits g x))))
+
+abbrev Sized : Type 0
+Sized = (message : Msg) (payload : List ℕ) → IsWrittenPayload message payload → HasPayloadSize message payload
+
+module _ (sized_by : Sized) {K : Type 0} (s : Transport K) (g : Given) (same : g.extensions ≡ s.settings.extensions) (x : AreExtensions g) where
+  spelling : HasSpelling (ExtInfo s.settings.extensions)
+  spelling = subst (λ (l : List Extension). HasSpelling (ExtInfo l)) same (spelled (ExtInfo g.extensions) _ (row g x) tt (fits g x))
+
+  size : length spelling.payload ≡ payload_size (ExtInfo s.settings.extensions)
+  size = sized_by (ExtInfo s.settings.extensions) spelling.payload spelling.spells.row
+
+  announced : (b : Bool) → is_announcing s ≡ b → HasAnnouncement s
+  announced true e = record { announcement = Some spelling.payload; announcement_is = record { due = e; spelled = spelling.spells; some = omega (arith, size); most = spelling.spells.size } }
+  announced false e = record { announcement = None; announcement_is = e }
+
+pub has_announcement : {K : Type 0} → Sized → (s : State K) (now : State K) (g : Given) → s ≡ now → g.extensions ≡ s.kept.settings.extensions → AreExtensions g → HasAnnouncement now.kept
+has_announcement {K = K} sized_by s now g is same x = subst (λ (w : State K). HasAnnouncement w.kept) is (announced sized_by s.kept g same x (is_announcing s.kept) refl)

@@ -18,3 +18,4 @@ pub mod Spellings
 pub mod Deaths
 pub mod Choices
 pub mod Keyed
+pub mod Roles

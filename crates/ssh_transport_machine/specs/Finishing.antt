@@ -76,6 +76,11 @@ abbrev pub IsAnnouncement : {K : Type 0} → Transport K → Option (List ℕ) �
 IsAnnouncement s (Some payload) = IsDue s payload
 IsAnnouncement s None = is_announcing s ≡ false
 
+-- There is such a payload where one is due.
+pub record HasAnnouncement {K : Type 0} (s : Transport K) : Type 0 where
+  pub announcement : Option (List ℕ)
+  pub announcement_is : IsAnnouncement s announcement
+
 -- that message
 abbrev pub announced_by : List Extension → Option (List ℕ) → List Spelled
 announced_by extensions (Some payload) = SpelledBy (ExtInfo extensions) payload ∷ []

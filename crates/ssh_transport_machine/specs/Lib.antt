@@ -14,3 +14,5 @@ pub mod Opening
 pub mod Choices
 pub mod Outcomes
 pub mod Asks
+pub mod Standing
+pub mod Above

@@ -9,11 +9,13 @@ mod key_making;
 pub mod laws;
 mod machine;
 mod outcome;
+pub mod standing;
 
 pub use machine::{
     Answer, AskTurn, ExchangeKeys, Judged, KexinitFacts, LineTurn, Machine, Material, PacketTurn,
     PayloadTurn, Phase, Points,
 };
 pub use outcome::{
-    Effect, TransportAsk, TransportFault, TransportTurn, answer_outcome, line_outcome, packet_outcome,
+    Effect, TransportAsk, TransportFault, TransportTurn, answer_outcome, line_outcome,
+    packet_outcome,
 };

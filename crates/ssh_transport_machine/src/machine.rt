@@ -6,6 +6,7 @@ ghost use Rattle.ssh_model.specs.Sessions.Turns.{number_of};
 ghost use Rattle.ssh_transport_machine.specs.LineTurns.{LineTaken};
 ghost use Rattle.ssh_transport_machine.specs.State.{dead_state};
 
+mod above;
 mod announcing;
 mod answering;
 mod asking;

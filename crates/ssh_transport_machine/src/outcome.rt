@@ -1,5 +1,6 @@
 //! What a transport answers to its caller.
 
+ghost use Rattle.ssh_transport_machine.specs.declared.outcome.TransportFault.TheVariants.{Memory};
 ghost use Rattle.std.specs.Prelude.{◌≡◌};
 ghost use Rattle.ssh_transport_machine.specs.Outcomes.{LineOutcome, answer_outcome as of_answer, packet_outcome as of_packet, payload_outcome as of_payload};
 
@@ -77,7 +78,7 @@ pub enum TransportFault {
 impl From<AllocError> for TransportFault {
     ghost use Rattle.std.specs.Prelude.{◌≡◌};
 
-    ghost from_gives = { λ _ fault. fault ≡ TransportFault.Memory };
+    ghost from_gives = { λ _ fault. fault ≡ Memory };
 
     fn from(_error: AllocError) -> TransportFault {
         TransportFault::Memory

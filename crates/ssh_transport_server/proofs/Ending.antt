@@ -192,9 +192,10 @@ module _ {K : Type 0} (p : Parties K) (history : List Item) (s : Transport K) (s
     spent_so law owed replies spelled x =
         let y : AnswerSpent p.crypto (parts_of p Server) (record old { kept = after_taken s }) new o =
         subst (λ (w : State K). AnswerSpent p.crypto (parts_of p Server) w new o) (λ i. record old { kept = is_taken i }) x in
-        let said = server_reply (parts_of p Server) y.chosen s y.point in
-        let completed = after_completion p.crypto (server_inputs (parts_of p Server) y.chosen s y.point) y.chosen (after_sent (after_taken s)) in
-        law y.chosen (KexEcdhInit y.point) old.receiver.payload (SpelledBy NewKeys newkeys ∷ SpelledBy said y.reply ∷ []) (announced_by s.settings.extensions y.announcement) completed (after_announced y.announcement completed) new.kept owed
-        (reads y.point y.shows.read) (waited y.point y.shows.read) (not_refused (agreement_of p Server) p.trusts y.chosen s y.point y.shared y.shows.size y.shows.shares)
-        (completes p.crypto (parts_of p Server) s y.point y.chosen y.reply y.own y.theirs y.session y.announcement newkeys side_is (phase_is y.point y.shows.read) y.answer)
-        (all_spelled (after_taken s) said y.reply y.announcement y.answer.reply_is y.answer.announcement_is) replies spelled y.few (ap (λ (w : State K). w.kept.dead) y.after)
+        let d = y.spent.due in
+        let said = server_reply (parts_of p Server) d.chosen s y.point in
+        let completed = after_completion p.crypto (server_inputs (parts_of p Server) d.chosen s y.point) d.chosen (after_sent (after_taken s)) in
+        law d.chosen (KexEcdhInit y.point) old.receiver.payload (SpelledBy NewKeys newkeys ∷ SpelledBy said d.reply ∷ []) (announced_by s.settings.extensions d.announcement) completed (after_announced d.announcement completed) new.kept owed
+        (reads y.point y.shows.read) (waited y.point y.shows.read) (not_refused (agreement_of p Server) p.trusts d.chosen s y.point y.shared y.shows.size y.shows.shares)
+        (completes p.crypto (parts_of p Server) s y.point d.chosen d.reply d.own d.theirs d.session d.announcement newkeys side_is (phase_is y.point y.shows.read) d.answer)
+        (all_spelled (after_taken s) said d.reply d.announcement d.answer.reply_is d.answer.announcement_is) replies spelled y.spent.few (ap (λ (w : State K). w.kept.dead) y.after)

@@ -3,3 +3,4 @@ pub mod Replies
 pub mod Ending
 pub mod Packets
 pub mod Living
+pub mod Servers

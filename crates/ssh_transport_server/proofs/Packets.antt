@@ -41,11 +41,11 @@ is_left (packet_turn.Payload (turn.Left judged.Init)) e = refl
 is_left _ e = absurd (cc e)
 
 -- What was left was judged to be a point, and nothing was done.
-record LeftInit {K : Type 0} (old : State K) (mid : State K) (o : Outs) : Type 0 where
-  is_judged : PayloadJudged (before_taken mid.kept) mid.receiver.payload judged.Init
-  side_is : mid.kept.side ≡ old.kept.side
-  alive_is : mid.kept.dead ≡ old.kept.dead
-  quiet : IsQuiet o
+pub record LeftInit {K : Type 0} (old : State K) (mid : State K) (o : Outs) : Type 0 where
+  pub is_judged : PayloadJudged (before_taken mid.kept) mid.receiver.payload judged.Init
+  pub side_is : mid.kept.side ≡ old.kept.side
+  pub alive_is : mid.kept.dead ≡ old.kept.dead
+  pub quiet : IsQuiet o
 
 module _ {K : Type 0} (c : Crypto K) where
   left_does : (between mid : State K) (o : Outs) (what : Judged) → PayloadJudged (before_taken between.kept) between.receiver.payload what → Does c between what (turn.Left judged.Init) mid o →
@@ -67,7 +67,7 @@ module _ {K : Type 0} (c : Crypto K) where
       }
   left_found old between mid o side alive _ y = absurd y
 
-  left : (old mid : State K) (bytes : List ℕ) (o : Outs) → PacketTaken c old bytes (packet_turn.Payload (turn.Left judged.Init)) mid o → LeftInit old mid o
+  pub left : (old mid : State K) (bytes : List ℕ) (o : Outs) → PacketTaken c old bytes (packet_turn.Payload (turn.Left judged.Init)) mid o → LeftInit old mid o
   left old mid bytes o x = left_found old x.between mid o (ap (λ (w : State K). w.kept.side) x.rest) (ap (λ (w : State K). w.kept.dead) x.rest) x.found x.does
 
   few : (n b m fed : ℕ) → b ≡ 1 → n + (b + m) ≤ fed → fed ≤ 2 ^ 32 - 1 → n < 2 ^ 32 - 1

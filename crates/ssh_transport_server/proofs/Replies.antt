@@ -1,17 +1,19 @@
 -- What a server answers, of the values that it computes.
 use Rattle.std.proofs.Common.{◌≡◌, ℕ, ◌≤◌, List, [], length, take, refl, ap, sym, ◌∙◌, subst, arith, Option, Some, unwrap_or}
 use Rattle.std.proofs.lemmas.List.{take_all}
-use Rattle.ssh_model.specs.Side.{Side, Side.Server}
+use Rattle.ssh_model.specs.Side.{Side, Side.Server, peer}
 use Rattle.ssh_model.specs.Wire.DataTypes.{number}
-use Rattle.ssh_model.specs.Wire.Message.{Msg, Msg.KexEcdhReply}
+use Rattle.ssh_model.specs.Wire.Message.{Msg, Msg.KexEcdhReply, IsWrittenPayload}
+use Rattle.ssh_model.specs.Wire.Sizes.{HasPayloadSize, payload_size}
 use Rattle.ssh_model.specs.Wire.Sealing.{Crypto}
 use Rattle.ssh_model.specs.KeyExchange.Choice.{Chosen}
 use Rattle.ssh_model.specs.KeyExchange.Exchange.{exchange_hash}
+use Rattle.ssh_model.specs.Sessions.TurnClaims.{HasSpelling}
 use Rattle.ssh_model.specs.Sessions.Turns.{IsSpelled}
 use Rattle.ssh_model.specs.TransportLayer.Kept.{ExchangeParts, IsChosen, Transport, own_point, server_inputs, server_reply, shared_value, shared_with}
-use Rattle.ssh_transport_machine.specs.Finishing.{AreKeys, IsAnnouncement}
+use Rattle.ssh_transport_machine.specs.Finishing.{AreKeys, HasAnnouncement, IsAnnouncement, key_by, session_by}
 use Rattle.ssh_transport_machine.specs.Hashing.{inputs_in}
-use Rattle.ssh_transport_server.specs.Answers.{IsAnswer}
+use Rattle.ssh_transport_server.specs.Answers.{AnswerDue, IsAnswer, IsSigned}
 
 module _ {K : Type 0} (parts : ExchangeParts) (s : Transport K) (chosen : Chosen) (point shared own : List ℕ) (shares : shared_with parts.agreement s.underway.secret point ≡ Some shared)
     (own_is : own ≡ parts.agreement.point s.underway.secret) (own_size : length own ≤ 32) (short : length (parts.host_key chosen.host) ≤ 4096) where
@@ -45,16 +47,47 @@ module _ {K : Type 0} (parts : ExchangeParts) (s : Transport K) (chosen : Chosen
         announcement_is = due;
       }
 
-pub spelled_answer : {K : Type 0} (c : Crypto K) (parts : ExchangeParts) (s : Transport K) (chosen given : Chosen) (algorithm point shared own key hash reply : List ℕ) (first second : K) (session : List ℕ) (announcement : Option (List ℕ)) →
-    s.side ≡ Server → shared_with parts.agreement s.underway.secret point ≡ Some shared → own ≡ parts.agreement.point s.underway.secret → length own ≡ 32 → given ≡ chosen → algorithm ≡ chosen.host → key ≡ parts.host_key algorithm →
-    length (parts.host_key algorithm) ≤ 4096 → length (parts.host_signature algorithm hash) ≤ 4096 → hash ≡ exchange_hash (inputs_in s.side s key point own (number shared)) → IsChosen s chosen →
-    IsSpelled (KexEcdhReply (parts.host_key algorithm) own (parts.host_signature algorithm hash)) reply → 1 ≤ length reply → AreKeys c s chosen (number shared) hash first second session → IsAnnouncement s announcement →
-    IsAnswer c parts s point given reply first second session announcement
-spelled_answer c parts s chosen given algorithm point shared own key hash reply first second session announcement side shares own_is own_size same named key_is short signed hash_is is spelled some keys due =
-    let short_here = subst (λ (t : List ℕ). length (parts.host_key t) ≤ 4096) named short in
-    let signed_here = subst (λ (t : List ℕ). length (parts.host_signature t hash) ≤ 4096) named signed in
-    let spelled_here = subst (λ (t : List ℕ). IsSpelled (KexEcdhReply (parts.host_key t) own (parts.host_signature t hash)) reply) named spelled in
-    let hash_here = hash_is ∙ ap (λ (t : List ℕ). exchange_hash (inputs_in s.side s t point own (number shared))) (key_is ∙ ap parts.host_key named) in
-    let size : length own ≤ 32 = omega (arith, own_size) in
-    subst (λ (x : Chosen). IsAnswer c parts s point x reply first second session announcement) (sym same)
-    (answered parts s chosen point shared own shares own_is size short_here c side hash (parts.host_signature chosen.host hash) reply hash_here refl signed_here first second session announcement is spelled_here some keys due)
+at_least : (n m : ℕ) → n ≡ m → 1 ≤ m → 1 ≤ n
+at_least n m e l = omega (arith, e, l)
+
+module _ {K : Type 0} (c : Crypto K) (parts : ExchangeParts) (s : Transport K) (chosen : Chosen) (point shared own hash signature : List ℕ) (side : s.side ≡ Server) (shares : shared_with parts.agreement s.underway.secret point ≡ Some shared)
+    (is : IsChosen s chosen) (x : IsSigned parts s chosen point shared own hash signature) where
+  short_point : length own ≤ 32
+  short_point = omega (arith, x.own_size)
+
+  -- what is spelled by what is signed is the answer
+  pub signed_answer : (reply : List ℕ) (first second : K) (session : List ℕ) (announcement : Option (List ℕ)) → IsSpelled (KexEcdhReply (parts.host_key chosen.host) own signature) reply → 1 ≤ length reply →
+      AreKeys c s chosen (number shared) hash first second session → IsAnnouncement s announcement → IsAnswer c parts s point chosen reply first second session announcement
+  signed_answer reply first second session announcement spelled some keys due =
+      answered parts s chosen point shared own shares x.own_is short_point x.key_short c side hash signature reply x.hash_is x.signature_is x.signature_short first second session announcement is spelled some keys due
+
+  -- and it has a spelling
+  pub signed_due : HasSpelling (KexEcdhReply (parts.host_key chosen.host) own signature) → ((payload : List ℕ) → IsSpelled (KexEcdhReply (parts.host_key chosen.host) own signature) payload → 1 ≤ length payload) → HasAnnouncement s →
+      AnswerDue c parts s point
+  signed_due spelling some a = record {
+    chosen = chosen;
+    reply = spelling.payload;
+    own = key_by c s.side chosen (number shared) hash (session_by s hash);
+    theirs = key_by c (peer s.side) chosen (number shared) hash (session_by s hash);
+    session = session_by s hash;
+    announcement = a.announcement;
+    answer = signed_answer spelling.payload _ _ _ a.announcement spelling.spells (some spelling.payload spelling.spells) (record { own_is = refl; theirs_is = refl; session_is = refl }) a.announcement_is;
+  }
+
+  -- the same by the texts of the code
+  pub spelled_answer : (given : Chosen) (algorithm : List ℕ) → given ≡ chosen → algorithm ≡ chosen.host → (reply : List ℕ) (first second : K) (session : List ℕ) (announcement : Option (List ℕ)) →
+      IsSpelled (KexEcdhReply (parts.host_key algorithm) own signature) reply → 1 ≤ length reply → AreKeys c s chosen (number shared) hash first second session → IsAnnouncement s announcement →
+      IsAnswer c parts s point given reply first second session announcement
+  spelled_answer given algorithm same named reply first second session announcement spelled some keys due =
+      subst (λ (w : Chosen). IsAnswer c parts s point w reply first second session announcement) (sym same)
+      (signed_answer reply first second session announcement (subst (λ (t : List ℕ). IsSpelled (KexEcdhReply (parts.host_key t) own signature) reply) named spelled) some keys due)
+
+  abbrev Sized : Type 0
+  Sized = (message : Msg) (payload : List ℕ) → IsWrittenPayload message payload → HasPayloadSize message payload
+
+  -- the same of what has a spelling
+  pub due_answer : Sized → ((k_s q_s text : List ℕ) → length k_s ≤ 4096 → length q_s ≤ 32 → length text ≤ 4096 → HasSpelling (KexEcdhReply k_s q_s text)) → HasAnnouncement s → AnswerDue c parts s point
+  due_answer sized spells a =
+      let message = KexEcdhReply (parts.host_key chosen.host) own signature in
+      signed_due (spells (parts.host_key chosen.host) own signature x.key_short short_point x.signature_short)
+      (λ payload spelled. at_least (length payload) (payload_size message) (sized message payload spelled.row) (omega arith)) a

@@ -7,12 +7,12 @@ use Rattle.ssh_transport_machine.specs.Endings.{IsRead}
 use Rattle.ssh_transport_machine.specs.Finishing.{HasChoice}
 use Rattle.ssh_transport_machine.specs.Puts.{Outs}
 use Rattle.ssh_transport_machine.specs.State.{State}
-use Rattle.ssh_transport_machine.specs.Turning.{IsQuiet, PacketTaken}
+use Rattle.ssh_transport_machine.specs.Turning.{IsQuiet, PacketLacks, PacketTaken}
 use Rattle.ssh_transport_machine.specs.declared.machine.judging.Judged.TheVariants as judged
 use Rattle.ssh_transport_machine.specs.declared.machine.turn.PacketTurn.{PacketTurn}
 use Rattle.ssh_transport_machine.specs.declared.machine.turn.PacketTurn.TheVariants as packet_turn
 use Rattle.ssh_transport_machine.specs.declared.machine.turn.PayloadTurn.TheVariants as turn
-use Rattle.ssh_transport_server.specs.Answers.{InitTaken}
+use Rattle.ssh_transport_server.specs.Answers.{InitLacks, InitTaken}
 use Rattle.ssh_transport_server.specs.Points.{ShowsInit}
 use Rattle.ssh_transport_server.specs.declared.init.InitTurn.{InitTurn}
 use Rattle.ssh_transport_server.specs.declared.packet.ServerTurn.{ServerTurn}
@@ -67,3 +67,19 @@ abbrev pub ServerTaken : {K : Type 0} → Crypto K → ExchangeParts → State K
     0
 ServerTaken c parts old bytes (server.Shared done) new o = SharedTaken c old bytes done new o
 ServerTaken c parts old bytes (server.Point done) new o = PointTaken c parts old bytes done new o
+
+-- ---- where memory is refused
+
+-- A point was left, and something would be sent on it.
+pub record PointLacks {K : Type 0} (c : Crypto K) (parts : ExchangeParts) (old : State K) (bytes : List ℕ) : Type 0
+  where
+    pub between : State K
+    pub o : Outs
+    pub taken : PacketTaken c old bytes (packet_turn.Payload (turn.Left judged.Init)) between o
+    pub lacks : InitLacks c parts between
+
+-- Something would be sent of the bytes of a packet begun with those that a call used.
+pub data ServerLacks {K : Type 0} (c : Crypto K) (parts : ExchangeParts) (old : State K) (bytes : List ℕ) : Type 0
+  where
+    shared : PacketLacks c old bytes → ServerLacks c parts old bytes
+    point : PointLacks c parts old bytes → ServerLacks c parts old bytes

@@ -5,33 +5,33 @@ use Rattle.ssh_model.specs.Wire.Sealing.{Crypto}
 use Rattle.ssh_model.specs.TransportLayer.Kept.{ExchangeParts}
 use Rattle.ssh_types.specs.declared.refusal.Refusal.TheVariants as refusal
 use Rattle.ssh_transport_machine.specs.Asks.{WasDead}
-use Rattle.ssh_transport_machine.specs.Choices.{IsChoosing}
 use Rattle.ssh_transport_machine.specs.LineTurns.{LineTaken}
 use Rattle.ssh_transport_machine.specs.Outcomes.{LineOutcome, packet_outcome}
 use Rattle.ssh_transport_machine.specs.Puts.{Outs}
-use Rattle.ssh_transport_machine.specs.State.{IsLive, State, last_number}
+use Rattle.ssh_transport_machine.specs.Standing.{IsStanding}
+use Rattle.ssh_transport_machine.specs.State.{State, last_number}
 use Rattle.ssh_transport_machine.specs.Turning.{IsQuiet}
 use Rattle.ssh_transport_machine.specs.declared.machine.line_turn.LineTurn.{LineTurn}
 use Rattle.ssh_transport_machine.specs.declared.outcome.TransportFault.{TransportFault}
 use Rattle.ssh_transport_machine.specs.declared.outcome.TransportFault.TheVariants as fault
 use Rattle.ssh_transport_machine.specs.declared.outcome.TransportTurn.{TransportTurn}
 use Rattle.ssh_transport_machine.specs.declared.outcome.TransportTurn.TheVariants as outcome
-use Rattle.ssh_transport_server.specs.Packets.{ServerTaken}
+use Rattle.ssh_transport_server.specs.Packets.{ServerLacks, ServerTaken}
 use Rattle.ssh_transport_server.specs.declared.init.InitTurn.{InitTurn}
 use Rattle.ssh_transport_server.specs.declared.init.InitTurn.TheVariants as init
 use Rattle.ssh_transport_server.specs.declared.packet.ServerTurn.{ServerTurn}
 use Rattle.ssh_transport_server.specs.declared.packet.ServerTurn.TheVariants as server
 
--- Its machine, and what its parts compute.
-pub record ServerState (K : Type 0) : Type 0 where
+-- Its machine, and its parts.
+pub record ServerState (K A H : Type 0) : Type 0 where
   pub machine : State K
-  pub parts : ExchangeParts
+  pub agreement : A
+  pub host_signer : H
 
--- What holds of the machine.
-pub record IsServing {K : Type 0} (s : State K) : Type 0 where
-  pub side_is : s.kept.side ≡ Server
-  pub live : s.kept.dead ≡ false → IsLive s
-  pub choosing : s.kept.dead ≡ false → IsChoosing s.kept
+-- The parts are as before.
+pub record SameParts {K A H : Type 0} (old new : ServerState K A H) : Type 0 where
+  pub agreement : new.agreement ≡ old.agreement
+  pub host_signer : new.host_signer ≡ old.host_signer
 
 -- the bytes of the line or the packet that is begun
 abbrev pub begun_of : {K : Type 0} → State K → List ℕ
@@ -70,23 +70,25 @@ pub data UnitTakes {K : Type 0} (c : Crypto K) (parts : ExchangeParts) (old : St
   packet : (done : ServerTurn) → PacketTakes c parts old bytes done given new o →
       UnitTakes c parts old bytes given new o
 
--- What a call made of the bytes begun with those that it used: the transport was not over, and keeps its parts.
-pub record ServerTook {K : Type 0} (c : Crypto K) (old : ServerState K) (bytes : List ℕ) (given : TransportTurn)
-    (new : ServerState K) (o : Outs) : Type 0 where
-  pub alive : old.machine.kept.dead ≡ false
-  pub live : IsLive old.machine
-  pub takes : UnitTakes c old.parts old.machine bytes given new.machine o
-  pub parts : new.parts ≡ old.parts
+-- What a call made of the bytes begun with those that it used: the end was not over.
+pub record ServerTook {K : Type 0} (c : Crypto K) (parts : ExchangeParts) (old : State K) (bytes : List ℕ)
+    (given : TransportTurn) (new : State K) (o : Outs) : Type 0 where
+  pub alive : old.kept.dead ≡ false
+  pub stands : IsStanding Server old
+  pub takes : UnitTakes c parts old bytes given new o
 
 -- ---- where nothing is done
 
--- Memory was refused, and the end is over.
-pub record ServerDied {K : Type 0} (old : ServerState K) (new : ServerState K) : Type 0 where
-  pub alive : old.machine.kept.dead ≡ false
-  pub dead : new.machine.kept.dead ≡ true
-  pub parts : new.parts ≡ old.parts
+-- Memory was refused for what would be sent, and the end is over.
+pub record ServerDied {K : Type 0} (c : Crypto K) (parts : ExchangeParts) (old : State K) (bytes : List ℕ)
+    (new : State K) : Type 0 where
+  pub alive : old.kept.dead ≡ false
+  pub stands : IsStanding Server old
+  pub reading : old.kept.lines.found ≡ true
+  pub lacks : ServerLacks c parts old bytes
+  pub dead : new.kept.dead ≡ true
 
 -- why nothing was done
-abbrev pub ServerFailed : {K : Type 0} → ServerState K → TransportFault → ServerState K → Type 0
-ServerFailed old fault.Memory new = ServerDied old new
-ServerFailed old fault.Dead new = WasDead old.machine new.machine × (new.parts ≡ old.parts)
+abbrev pub ServerFailed : {K : Type 0} → Crypto K → ExchangeParts → State K → List ℕ → TransportFault → State K → Type 0
+ServerFailed c parts old bytes fault.Memory new = ServerDied c parts old bytes new
+ServerFailed c parts old bytes fault.Dead new = WasDead old new

@@ -4,10 +4,10 @@ ghost use Rattle.std.specs.Prelude.{◌≡◌, ◌<◌, ◌≤◌, ◌-◌, ◌^
 ghost use Rattle.ssh_model.specs.Side as model;
 ghost use Rattle.ssh_model.specs.TransportLayer.Kept.{shared_with};
 ghost use Rattle.ssh_transport_machine.specs.Finishing.{HasChoice};
-ghost use Rattle.ssh_transport_server.specs.Answers.{InitTaken};
+ghost use Rattle.ssh_transport_server.specs.Answers.{InitLacks, InitTaken};
 ghost use Rattle.ssh_transport_server.specs.Points.{ShowsGood, ShowsInit};
 
-use crate::answer::{Answer, spell_answer};
+use crate::answer::{Answer, Spelling, spell_answer};
 use crate::point::{InitJudged, judge_init};
 use ssh_kex::{Agreement, HostSigner, OwnedChoice};
 use ssh_packet::{Filler, Sealing};
@@ -45,6 +45,7 @@ pub fn take_init<S: Sealing, F: Filler + Drop, A: Agreement, H: HostSigner>(
     requires epoch { machine.old.kept.sending.epoch < 2 ^ 32 - 1 }
     ensures taken { IfOk result (λ turn. InitTaken S.crypto (record { agreement = record { point = A.public_of agreement.now; shared = A.shared_of agreement.now }; host_key = H.key_of signer.now; host_signature = H.signature_of signer.now }) machine.old turn machine.new (record { before = out.old.items; after = out.new.items; listed = map (λ v. v.items) sent.old.items; relisted = map (λ v. v.items) sent.new.items })) }
     ensures dead { OnErr result (machine.new.kept.dead ≡ true) }
+    ensures lacks { OnErr result (InitLacks S.crypto (record { agreement = record { point = A.public_of agreement.now; shared = A.shared_of agreement.now }; host_key = H.key_of signer.now; host_signature = H.signature_of signer.now }) machine.old) }
     ensures out { OnErr result (out.new.items ≡ out.old.items) }
     ensures kept { OnErr result (map (λ v. v.items) sent.new.items ≡ map (λ v. v.items) sent.old.items) }
 {
@@ -75,15 +76,12 @@ fn answer_init<S: Sealing, F: Filler + Drop, A: Agreement, H: HostSigner>(
     requires epoch { machine.old.kept.sending.epoch < 2 ^ 32 - 1 }
     ensures taken { IfOk result (λ turn. InitTaken S.crypto (record { agreement = record { point = A.public_of agreement.now; shared = A.shared_of agreement.now }; host_key = H.key_of signer.now; host_signature = H.signature_of signer.now }) machine.old turn machine.new (record { before = out.old.items; after = out.new.items; listed = map (λ v. v.items) sent.old.items; relisted = map (λ v. v.items) sent.new.items })) }
     ensures dead { OnErr result (machine.new.kept.dead ≡ true) }
+    ensures lacks { OnErr result (InitLacks S.crypto (record { agreement = record { point = A.public_of agreement.now; shared = A.shared_of agreement.now }; host_key = H.key_of signer.now; host_signature = H.signature_of signer.now }) machine.old) }
     ensures out { OnErr result (out.new.items ≡ out.old.items) }
     ensures kept { OnErr result (map (λ v. v.items) sent.new.items ≡ map (λ v. v.items) sent.old.items) }
 {
     match spell_answer(machine, agreement, signer, &point, &shared) {
-        Ok(answer) => {
-            if !machine.has_numbers(2) {
-                machine.die();
-                return Ok(InitTurn::NumberSpent);
-            }
+        Ok(Spelling::Answer(answer)) => {
             let Answer {
                 reply,
                 keys,
@@ -92,6 +90,10 @@ fn answer_init<S: Sealing, F: Filler + Drop, A: Agreement, H: HostSigner>(
             } = answer;
             machine.finish_behind(reply, keys, announcement, out, sent)?;
             Ok(InitTurn::Completed(choice))
+        }
+        Ok(Spelling::NumberSpent) => {
+            machine.die();
+            Ok(InitTurn::NumberSpent)
         }
         Err(error) => {
             machine.die();

@@ -15,16 +15,19 @@ ghost use Rattle.ssh_model.specs.Wire.Sealing.{Crypto};
 ghost use Rattle.ssh_transport_machine.specs.Choices.{IsChoosing};
 ghost use Rattle.ssh_transport_machine.specs.Judging.{PayloadJudged};
 ghost use Rattle.ssh_transport_machine.specs.declared.machine.judging.Judged.TheVariants as judged;
-ghost use Rattle.ssh_transport_server.specs.Packets.{ReadsInit};
+ghost use Rattle.ssh_transport_server.specs.Packets.{ReadsInit, ServerTaken};
 ghost use Rattle.ssh_transport_machine.specs.Endings.{ExchangeEnds, IsRead, PayloadRefused};
 ghost use Rattle.ssh_transport_machine.specs.Puts.{Outs};
+ghost use Rattle.ssh_transport_machine.specs.Standing.{Stands};
 ghost use Rattle.ssh_transport_machine.specs.State.{IsLive, State};
+ghost use Rattle.ssh_transport_server.specs.declared.packet.ServerTurn.{ServerTurn};
 ghost use Rattle.ssh_transport_server.specs.Answers.{AnswerSpent, PointAnswered, PointRefused};
 
 use ssh_model::payload_numbers;
 use ssh_model::transport::{exchange_ends, payloads, refused_and_spent};
 use ssh_transport_machine::ending::{exchanges_live, secrets_forgotten};
 use ssh_transport_machine::laws::live_machines;
+use ssh_transport_machine::standing::machines_stand;
 
 /// A payload that is judged to be a point is one that is read.
 pub fn points_shown<K>()
@@ -53,4 +56,14 @@ pub fn points_taken<K>()
     payloads::<K>();
     refused_and_spent::<K>();
     secrets_forgotten::<K>();
+}
+
+/// What holds of a machine that a server keeps goes on holding with each packet.
+pub fn servers_stand<K>()
+    ensures packets { (c : Crypto K) (parts : ExchangeParts) (old : State K) (bytes : List ℕ) (done : ServerTurn) (new : State K) (o : Outs) → old.kept.dead ≡ false → Stands Server old → ServerTaken c parts old bytes done new o → Stands Server new }
+    ensures over { (s : State K) → s.kept.dead ≡ true → Stands Server s }
+{
+    payload_numbers();
+    machines_stand::<K>();
+    points_live::<K>();
 }

@@ -10,6 +10,7 @@ pub mod laws;
 mod packet;
 mod point;
 mod transport;
+mod unit;
 
 pub use init::{InitTurn, take_init};
 pub use packet::{ServerTurn, take_packet};

@@ -4,7 +4,8 @@ ghost use Rattle.std.specs.Prelude.{◌≡◌, ◌<◌, ◌≤◌, ◌++◌, IfO
 ghost use Rattle.ssh_model.specs.Side as model;
 ghost use Rattle.ssh_transport_machine.specs.Choices.{IsChoosing};
 ghost use Rattle.ssh_transport_machine.specs.State.{IsLive};
-ghost use Rattle.ssh_transport_server.specs.Packets.{IsFinished, IsPointReady, ServerTaken, is_init};
+ghost use Rattle.ssh_transport_server.specs.Answers.{InitLacks};
+ghost use Rattle.ssh_transport_server.specs.Packets.{IsFinished, IsPointReady, ServerLacks, ServerTaken, is_init};
 
 use crate::init::{InitTurn, take_init};
 use ssh_kex::{Agreement, HostSigner};
@@ -46,6 +47,7 @@ pub fn take_packet<S: Sealing, F: Filler + Drop, A: Agreement, H: HostSigner>(
     ensures more { IfOk result.1 (λ turn. turn ≡ ServerTurn.Shared PacketTurn.More → result.0 ≡ length bytes.now) }
     ensures taken { IfOk result.1 (λ turn. ServerTaken S.crypto (record { agreement = record { point = A.public_of agreement.now; shared = A.shared_of agreement.now }; host_key = H.key_of signer.now; host_signature = H.signature_of signer.now }) machine.old (machine.old.receiver.begun ++ take result.0 bytes.now) turn machine.new (record { before = out.old.items; after = out.new.items; listed = map (λ v. v.items) sent.old.items; relisted = map (λ v. v.items) sent.new.items })) }
     ensures dead { OnErr result.1 (machine.new.kept.dead ≡ true) }
+    ensures lacks { OnErr result.1 (ServerLacks S.crypto (record { agreement = record { point = A.public_of agreement.now; shared = A.shared_of agreement.now }; host_key = H.key_of signer.now; host_signature = H.signature_of signer.now }) machine.old (machine.old.receiver.begun ++ take result.0 bytes.now)) }
     ensures out { OnErr result.1 (out.new.items ≡ out.old.items) }
     ensures kept { OnErr result.1 (map (λ v. v.items) sent.new.items ≡ map (λ v. v.items) sent.old.items) }
 {
@@ -72,6 +74,7 @@ fn finish<S: Sealing, F: Filler + Drop, A: Agreement, H: HostSigner>(
     ensures finished { IfOk result (λ turn. IsFinished S.crypto (record { agreement = record { point = A.public_of agreement.now; shared = A.shared_of agreement.now }; host_key = H.key_of signer.now; host_signature = H.signature_of signer.now }) machine.old done turn machine.new (record { before = out.old.items; after = out.new.items; listed = map (λ v. v.items) sent.old.items; relisted = map (λ v. v.items) sent.new.items })) }
     ensures point { OnErr result (is_init done ≡ true) }
     ensures dead { OnErr result (machine.new.kept.dead ≡ true) }
+    ensures lacks { OnErr result (InitLacks S.crypto (record { agreement = record { point = A.public_of agreement.now; shared = A.shared_of agreement.now }; host_key = H.key_of signer.now; host_signature = H.signature_of signer.now }) machine.old) }
     ensures out { OnErr result (out.new.items ≡ out.old.items) }
     ensures kept { OnErr result (map (λ v. v.items) sent.new.items ≡ map (λ v. v.items) sent.old.items) }
 {

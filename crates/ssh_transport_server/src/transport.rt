@@ -1,23 +1,20 @@
 //! The transport of a server.
 
-ghost use Rattle.std.specs.Prelude.{◌≡◌, ◌<◌, ◌≤◌, ◌++◌, IfErr, IfOk, OnErr, false, length, map, take, true};
+ghost use Rattle.std.specs.Prelude.{◌≡◌, ◌<◌, ◌≤◌, ◌++◌, IfErr, IfOk, OnErr, false, length, map, take};
 ghost use Rattle.ssh_model.specs.Side as model;
 ghost use Rattle.ssh_transport_base.specs.Meaning.{settings_of};
 ghost use Rattle.ssh_transport_machine.specs.Opening.{IsOpened};
-ghost use Rattle.ssh_transport_server.specs.Transport.{PacketTakes, ServerFailed, ServerTook, begun_of, init_outcome, server_outcome};
+ghost use Rattle.ssh_transport_server.specs.Transport.{SameParts, ServerFailed, ServerTook, begun_of};
 
+mod above;
 mod asking;
 mod queries;
 
-use crate::init::InitTurn;
-use crate::packet::{ServerTurn, take_packet};
+use crate::unit::take_unit;
 use ssh_packet::{Filler, Sealing};
 use ssh_transport_base::{Config, ServerPartValues, ServerParts};
-use ssh_transport_machine::ending::choices_kept;
-use ssh_transport_machine::laws::live_machines;
-use ssh_transport_machine::{
-    Machine, TransportFault, TransportTurn, line_outcome, packet_outcome,
-};
+use ssh_transport_machine::standing::machines_stand;
+use ssh_transport_machine::{Machine, TransportFault, TransportTurn, line_outcome, packet_outcome};
 use ssh_types::{Refusal, Side};
 use std::alloc::{AllocError, Global};
 use std::marker::Model;
@@ -34,13 +31,15 @@ pub struct ServerTransport<P: ServerParts> {
 }
 
 impl<P: ServerParts> Model for ServerTransport<P> {
-    ghost use Rattle.ssh_transport_server.specs.Transport.{IsServing, ServerState};
+    ghost use Rattle.ssh_model.specs.Side as model;
+    ghost use Rattle.ssh_transport_machine.specs.Standing.{Stands};
+    ghost use Rattle.ssh_transport_server.specs.Transport.{ServerState};
 
-    ghost Value = { ServerState P.Sealing.Key };
+    ghost Value = { ServerState P.Sealing.Key P.Agreement P.HostSigner };
 
-    ghost view = { λ t. record { machine = t.machine; parts = record { agreement = record { point = P.Agreement.public_of t.agreement; shared = P.Agreement.shared_of t.agreement }; host_key = P.HostSigner.key_of t.host_signer; host_signature = P.HostSigner.signature_of t.host_signer } } };
+    ghost view = { λ t. record { machine = t.machine; agreement = t.agreement; host_signer = t.host_signer } };
 
-    ghost invariant = { λ t. IsServing t.machine };
+    ghost invariant = { λ t. Stands model.Server t.machine };
 }
 
 // Written out, since a derive would ask it of the parts' name too.
@@ -71,12 +70,12 @@ impl<P: ServerParts> ServerTransport<P> {
         sent: &mut Vec<Vec<u8>>,
     ) -> Result<ServerTransport<P>, AllocError>
         ensures opened { IfOk result (λ transport. IsOpened P.Sealing.crypto (settings_of config) model.Server cookie secret transport.machine (record { before = out.old.items; after = out.new.items; listed = map (λ v. v.items) sent.old.items; relisted = map (λ v. v.items) sent.new.items })) }
-        ensures parts { IfOk result (λ transport. transport.parts ≡ record { agreement = record { point = P.Agreement.public_of parts.agreement; shared = P.Agreement.shared_of parts.agreement }; host_key = P.HostSigner.key_of parts.host_signer; host_signature = P.HostSigner.signature_of parts.host_signer }) }
+        ensures agreement { IfOk result (λ transport. transport.agreement ≡ parts.agreement) }
+        ensures signer { IfOk result (λ transport. transport.host_signer ≡ parts.host_signer) }
         ensures out { OnErr result (out.new.items ≡ out.old.items) }
         ensures kept { OnErr result (sent.new.items ≡ sent.old.items) }
     {
-        live_machines::<<P::Sealing as Sealing>::Key>();
-        choices_kept::<<P::Sealing as Sealing>::Key>();
+        machines_stand::<<P::Sealing as Sealing>::Key>();
         let (filler, agreement, host_signer) = parts.into_parts();
         let machine = Machine::new(
             alloc,
@@ -113,61 +112,19 @@ impl<P: ServerParts> ServerTransport<P> {
         ensures used { result.0 ≤ length bytes.now }
         ensures progress { self.old.machine.kept.dead ≡ false → 0 < length bytes.now → 0 < result.0 }
         ensures more { IfOk result.1 (λ turn. turn ≡ TransportTurn.More → result.0 ≡ length bytes.now) }
-        ensures took { IfOk result.1 (λ turn. ServerTook P.Sealing.crypto self.old (begun_of self.old.machine ++ take result.0 bytes.now) turn self.new (record { before = out.old.items; after = out.new.items; listed = map (λ v. v.items) sent.old.items; relisted = map (λ v. v.items) sent.new.items })) }
-        ensures failed { IfErr result.1 (λ fault. ServerFailed self.old fault self.new) }
+        ensures took { IfOk result.1 (λ turn. ServerTook P.Sealing.crypto (record { agreement = record { point = P.Agreement.public_of self.old.agreement; shared = P.Agreement.shared_of self.old.agreement }; host_key = P.HostSigner.key_of self.old.host_signer; host_signature = P.HostSigner.signature_of self.old.host_signer }) self.old.machine (begun_of self.old.machine ++ take result.0 bytes.now) turn self.new.machine (record { before = out.old.items; after = out.new.items; listed = map (λ v. v.items) sent.old.items; relisted = map (λ v. v.items) sent.new.items })) }
+        ensures parts { SameParts self.old self.new }
+        ensures failed { IfErr result.1 (λ fault. ServerFailed P.Sealing.crypto (record { agreement = record { point = P.Agreement.public_of self.old.agreement; shared = P.Agreement.shared_of self.old.agreement }; host_key = P.HostSigner.key_of self.old.host_signer; host_signature = P.HostSigner.signature_of self.old.host_signer }) self.old.machine (begun_of self.old.machine ++ take result.0 bytes.now) fault self.new.machine) }
         ensures out { OnErr result.1 (out.new.items ≡ out.old.items) }
         ensures kept { OnErr result.1 (map (λ v. v.items) sent.new.items ≡ map (λ v. v.items) sent.old.items) }
     {
-        if self.machine.is_dead() {
-            return (0, Err(TransportFault::Dead));
-        }
-        if self.machine.has_line() {
-            return self.take_packet(bytes, out, sent);
-        }
-        let (used, done) = self.machine.take_line(bytes);
-        (used, Ok(line_outcome(done)))
-    }
-
-    // The bytes of a packet.
-    fn take_packet(
-        &mut self,
-        bytes: &[u8],
-        out: &mut Vec<u8>,
-        sent: &mut Vec<Vec<u8>>,
-    ) -> (usize, Result<TransportTurn, TransportFault>)
-    {
-        let (used, done) = take_packet(
+        take_unit(
             &mut self.machine,
             &self.agreement,
             &self.host_signer,
             bytes,
             out,
             sent,
-        );
-        match done {
-            Ok(done) => (used, Ok(outcome(done, self.machine.last_number()))),
-            Err(_) => (used, Err(TransportFault::Memory)),
-        }
-    }
-}
-
-// What a packet with this number comes to.
-fn outcome(done: ServerTurn, number: u32) -> TransportTurn
-    ensures { result ≡ server_outcome done number }
-{
-    match done {
-        ServerTurn::Shared(done) => packet_outcome(done, number),
-        ServerTurn::Point(done) => init_outcome_of(done),
-    }
-}
-
-// What a point comes to.
-fn init_outcome_of(done: InitTurn) -> TransportTurn
-    ensures { result ≡ init_outcome done }
-{
-    match done {
-        InitTurn::BadPoint => TransportTurn::Refused(Refusal::BadPoint),
-        InitTurn::NumberSpent => TransportTurn::Refused(Refusal::NumberSpent),
-        InitTurn::Completed(choice) => TransportTurn::Completed(choice),
+        )
     }
 }

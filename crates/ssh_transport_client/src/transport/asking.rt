@@ -3,12 +3,12 @@
 ghost use Rattle.std.specs.Prelude.{◌≡◌, IfErr, IfOk, OnErr, false, map, true};
 ghost use Rattle.ssh_model.specs.TransportLayer.Kept.{after_fed, can_be_fed};
 ghost use Rattle.ssh_transport_machine.specs.Asks.{AskFailed, AskTaken, IsSendable};
+ghost use Rattle.ssh_transport_client.specs.Transport.{SameParts};
 
 use crate::transport::ClientTransport;
 use ssh_packet::Sealing;
 use ssh_transport_base::ClientParts;
-use ssh_transport_machine::ending::choices_kept;
-use ssh_transport_machine::laws::live_machines;
+use ssh_transport_machine::standing::machines_stand;
 use ssh_transport_machine::{AskTurn, TransportAsk, TransportFault};
 
 impl<P: ClientParts> ClientTransport<P> {
@@ -27,16 +27,14 @@ impl<P: ClientParts> ClientTransport<P> {
         out: &mut Vec<u8>,
         sent: &mut Vec<Vec<u8>>,
     ) -> Result<AskTurn, TransportFault>
-        requires { IsSendable ask.entry }
+        requires { IsSendable ask }
         ensures asked { IfOk result (λ turn. AskTaken P.Sealing.crypto self.old.machine ask.entry turn self.new.machine (record { before = out.old.items; after = out.new.items; listed = map (λ v. v.items) sent.old.items; relisted = map (λ v. v.items) sent.new.items })) }
         ensures failed { IfErr result (λ fault. AskFailed self.old.machine ask.entry fault self.new.machine) }
-        ensures agreement { self.new.agreement ≡ self.old.agreement }
-        ensures trusts { self.new.trusts ≡ self.old.trusts }
+        ensures parts { SameParts self.old self.new }
         ensures out { OnErr result (out.new.items ≡ out.old.items) }
         ensures kept { OnErr result (sent.new.items ≡ sent.old.items) }
     {
-        live_machines::<<P::Sealing as Sealing>::Key>();
-        choices_kept::<<P::Sealing as Sealing>::Key>();
+        machines_stand::<<P::Sealing as Sealing>::Key>();
         self.machine.ask(ask, out, sent)
     }
 
@@ -46,11 +44,9 @@ impl<P: ClientParts> ClientTransport<P> {
         ensures fed { result ≡ can_be_fed self.old.machine.kept }
         ensures kept { result ≡ true → self.new.machine ≡ record self.old.machine { kept = after_fed cookie secret self.old.machine.kept } }
         ensures same { result ≡ false → self.new.machine ≡ self.old.machine }
-        ensures agreement { self.new.agreement ≡ self.old.agreement }
-        ensures trusts { self.new.trusts ≡ self.old.trusts }
+        ensures parts { SameParts self.old self.new }
     {
-        live_machines::<<P::Sealing as Sealing>::Key>();
-        choices_kept::<<P::Sealing as Sealing>::Key>();
+        machines_stand::<<P::Sealing as Sealing>::Key>();
         self.machine.feed(cookie, secret)
     }
 
@@ -58,9 +54,9 @@ impl<P: ClientParts> ClientTransport<P> {
     /// by either side.
     pub fn authenticated(&mut self)
         ensures kept { self.new.machine ≡ record self.old.machine { kept = record self.old.machine.kept { authenticated = true } } }
-        ensures agreement { self.new.agreement ≡ self.old.agreement }
-        ensures trusts { self.new.trusts ≡ self.old.trusts }
+        ensures parts { SameParts self.old self.new }
     {
+        machines_stand::<<P::Sealing as Sealing>::Key>();
         self.machine.note_success();
     }
 }

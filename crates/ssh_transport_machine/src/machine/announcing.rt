@@ -8,10 +8,11 @@ ghost use Rattle.ssh_model.specs.Sessions.Turns.{IsSpelled};
 ghost use Rattle.ssh_model.specs.TransportLayer.Kept.{is_announcing};
 ghost use Rattle.ssh_message.specs.Announced.{extensions_of};
 ghost use Rattle.ssh_transport_base.specs.Meaning.{settings_of};
-ghost use Rattle.ssh_transport_machine.specs.Finishing.{IsAnnouncement};
+ghost use Rattle.ssh_transport_machine.specs.Finishing.{HasAnnouncement, IsAnnouncement};
 
 use crate::machine::Machine;
 use ssh_message::{Extensions, Message};
+use ssh_model::payload_sizes;
 use ssh_packet::{Filler, Sealing};
 use ssh_transport_base::{Config, every_config_is_good};
 use std::alloc::AllocError;
@@ -26,6 +27,14 @@ impl<S: Sealing, F: Filler + Drop> Machine<S, F> {
         }
         let payload = self.spell_extensions()?;
         Ok(Some(payload))
+    }
+
+    // What is announced has a spelling: a fact for proofs.
+    pub fn announcement_fits(&self)
+        ensures { HasAnnouncement self.now.kept }
+    {
+        payload_sizes();
+        every_config_is_good(&self.config);
     }
 
     // EXT_INFO follows the NEWKEYS sent next.

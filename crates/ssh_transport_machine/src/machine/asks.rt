@@ -1,12 +1,8 @@
 //! What a user asks of an end, or a layer above.
 
-ghost use Rattle.std.specs.Prelude.{◌≡◌, IfErr, IfOk, OnErr, false, map, true};
+ghost use Rattle.std.specs.Prelude.{◌≡◌, IfErr, IfOk, OnErr, map, true};
 ghost use Rattle.ssh_transport_machine.specs.Asks.{AskFailed, AskLacked, AskTaken, AskTurned, IsSendable};
-ghost use Rattle.ssh_transport_machine.specs.Choices.{IsChoosing};
-ghost use Rattle.ssh_transport_machine.specs.State.{IsLive};
 
-use crate::ending::choices_kept;
-use crate::laws::live_machines;
 use crate::machine::Machine;
 use crate::machine::turn::AskTurn;
 use crate::outcome::{TransportAsk, TransportFault};
@@ -22,7 +18,7 @@ impl<S: Sealing, F: Filler + Drop> Machine<S, F> {
         out: &mut Vec<u8>,
         sent: &mut Vec<Vec<u8>>,
     ) -> Result<AskTurn, TransportFault>
-        requires { IsSendable ask.entry }
+        requires { IsSendable ask }
         ensures asked { IfOk result (λ turn. AskTaken S.crypto self.old ask.entry turn self.new (record { before = out.old.items; after = out.new.items; listed = map (λ v. v.items) sent.old.items; relisted = map (λ v. v.items) sent.new.items })) }
         ensures failed { IfErr result (λ fault. AskFailed self.old ask.entry fault self.new) }
         ensures out { OnErr result (out.new.items ≡ out.old.items) }
@@ -42,7 +38,7 @@ impl<S: Sealing, F: Filler + Drop> Machine<S, F> {
         out: &mut Vec<u8>,
         sent: &mut Vec<Vec<u8>>,
     ) -> Result<AskTurn, AllocError>
-        requires { IsSendable ask.entry }
+        requires { IsSendable ask }
         ensures turned { IfOk result (λ turn. AskTurned S.crypto self.old ask.entry turn self.new (record { before = out.old.items; after = out.new.items; listed = map (λ v. v.items) sent.old.items; relisted = map (λ v. v.items) sent.new.items })) }
         ensures dead { OnErr result (self.new.kept.dead ≡ true) }
         ensures lacks { OnErr result (AskLacked self.old ask.entry) }

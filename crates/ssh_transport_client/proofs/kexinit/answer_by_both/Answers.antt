@@ -1,5 +1,6 @@
 use Rattle.std.proofs.Common.{refl, ap, arith}
 use Rattle.ssh_transport_client.proofs.Answering.{both_point, point_by, spells_point}
+use Rattle.ssh_transport_client.proofs.Replies.{on_err}
 use Rattle.ssh_transport_client.proofs.kexinit.answer_by_both.Goals as goal
 
 pub returns-then-not-has_numbers-clause-done : goal.returns-then-not-has_numbers-clause-done
@@ -17,3 +18,11 @@ returns-clause-done g c =
     both_point _ _ _ _ _ _ _ _
     (point_by (record { point = g.A.Agreement.public_of c.args.agreement.now; shared = g.A.Agreement.shared_of c.args.agreement.now }) c.args.material.secret c.public-point.result c.public-point.ensures c.has_32_bytes.ensures)
     c.in_ok-answer_by_both.ensures.sends
+
+pub returns-in_err-answer_by_both-clause-lacks : goal.returns-in_err-answer_by_both-clause-lacks
+returns-in_err-answer_by_both-clause-lacks g c = on_err c.from_residual.result (record {
+  own = c.offer_fits.ensures;
+  init = spells_point _ _ (point_by (record { point = g.A.Agreement.public_of c.args.agreement.now; shared = g.A.Agreement.shared_of c.args.agreement.now }) c.args.material.secret c.public-point.result c.public-point.ensures c.has_32_bytes.ensures)
+      (c.spellings.ensures.init c.public-point.result (omega (arith, c.has_32_bytes.ensures)));
+  room = c.has_numbers.ensures.has c.if-not-has_numbers.false;
+})

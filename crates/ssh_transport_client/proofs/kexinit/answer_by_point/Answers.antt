@@ -1,5 +1,6 @@
 use Rattle.std.proofs.Common.{refl, ap, arith}
 use Rattle.ssh_transport_client.proofs.Answering.{point_of, sends_point, spells_point}
+use Rattle.ssh_transport_client.proofs.Replies.{on_err}
 use Rattle.ssh_transport_client.proofs.kexinit.answer_by_point.Goals as goal
 
 pub returns-then-is_spent-clause-done : goal.returns-then-is_spent-clause-done
@@ -15,3 +16,9 @@ returns-clause-done g c = record {
   sends = sends_point _ _ _ _ _ (point_of (record { point = g.A.Agreement.public_of c.args.agreement.now; shared = g.A.Agreement.shared_of c.args.agreement.now }) c.args.machine.now.kept c.own_point-point.result c.own_point-point.ensures c.has_32_bytes.ensures) c.in_ok-answer_by_point.ensures.sends;
   after = c.in_ok-answer_by_point.ensures.after;
 }
+
+pub returns-in_err-answer_by_point-clause-lacks : goal.returns-in_err-answer_by_point-clause-lacks
+returns-in_err-answer_by_point-clause-lacks g c = on_err c.from_residual.result (record {
+  spelling = spells_point _ _ (point_of (record { point = g.A.Agreement.public_of c.args.agreement.now; shared = g.A.Agreement.shared_of c.args.agreement.now }) c.args.machine.now.kept c.own_point-point.result c.own_point-point.ensures c.has_32_bytes.ensures) (c.spellings.ensures.init c.own_point-point.result (omega (arith, c.has_32_bytes.ensures)));
+  room = c.is_spent.ensures.left c.if-is_spent.false;
+})

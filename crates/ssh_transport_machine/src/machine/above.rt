@@ -1,0 +1,58 @@
+//! What a layer above has an end do.
+
+ghost use Rattle.std.specs.Prelude.{◌≡◌, ◌≤◌, IfErr, IfOk, OnErr, OnOk, length, map, true};
+ghost use Rattle.ssh_transport_machine.specs.Above.{PayloadSent, PeerRefused, RefuseFailed, SendFailed};
+ghost use Rattle.ssh_transport_machine.specs.Turning.{HasRoom};
+
+use crate::machine::Machine;
+use crate::machine::turn::Answer;
+use crate::outcome::TransportFault;
+use ssh_packet::{Filler, Sealing};
+use ssh_types::Refusal;
+use std::alloc::AllocError;
+
+impl<S: Sealing, F: Filler + Drop> Machine<S, F> {
+    // Refuses the peer for what a layer above took of it. A dead end does nothing.
+    pub fn refuse_above(
+        &mut self,
+        refusal: Refusal,
+        out: &mut Vec<u8>,
+        sent: &mut Vec<Vec<u8>>,
+    ) -> Result<(), TransportFault>
+        ensures refused { OnOk result (PeerRefused S.crypto self.old refusal self.new (record { before = out.old.items; after = out.new.items; listed = map (λ v. v.items) sent.old.items; relisted = map (λ v. v.items) sent.new.items })) }
+        ensures failed { IfErr result (λ fault. RefuseFailed self.old refusal fault self.new) }
+        ensures out { OnErr result (out.new.items ≡ out.old.items) }
+        ensures kept { OnErr result (sent.new.items ≡ sent.old.items) }
+    {
+        if self.dead {
+            return Err(TransportFault::Dead);
+        }
+        self.refuse(refusal, out, sent)?;
+        Ok(())
+    }
+
+    // Sends the payload of a message of a layer above, where a number is left for it. A dead end does nothing.
+    pub fn send_above(
+        &mut self,
+        payload: Vec<u8>,
+        out: &mut Vec<u8>,
+        sent: &mut Vec<Vec<u8>>,
+    ) -> Result<Answer, TransportFault>
+        requires some { 1 ≤ length payload.items }
+        requires most { length payload.items ≤ 34000 }
+        ensures answered { IfOk result (λ answer. PayloadSent S.crypto self.old payload.items answer self.new (record { before = out.old.items; after = out.new.items; listed = map (λ v. v.items) sent.old.items; relisted = map (λ v. v.items) sent.new.items })) }
+        ensures failed { IfErr result (λ fault. SendFailed self.old fault self.new) }
+        ensures out { OnErr result (out.new.items ≡ out.old.items) }
+        ensures kept { OnErr result (sent.new.items ≡ sent.old.items) }
+    {
+        if self.dead {
+            return Err(TransportFault::Dead);
+        }
+        if self.is_spent() {
+            self.dead = true;
+            return Ok(Answer::Spent);
+        }
+        self.put(payload, out, sent)?;
+        Ok(Answer::Done)
+    }
+}
