@@ -1,8 +1,11 @@
 //! An end of either role, over toy parts.
 
+ghost use Rattle.std.specs.Prelude.{◌≤◌, length};
+ghost use Rattle.ssh_transport_machine.specs.Asks.{IsSendable};
+
 use crate::toys::{ToyClient, ToyServer};
 use ssh_transport::{
-    AskTurn, ClientTransport, ServerTransport, TransportAsk, TransportFault, TransportTurn,
+    Answer, AskTurn, ClientTransport, ServerTransport, TransportAsk, TransportFault, TransportTurn,
 };
 
 /// The transport of one end.
@@ -40,10 +43,28 @@ impl End {
         ask: TransportAsk<'_>,
         out: &mut Vec<u8>,
         sent: &mut Vec<Vec<u8>>,
-    ) -> Result<AskTurn, TransportFault> {
+    ) -> Result<AskTurn, TransportFault>
+        requires { IsSendable ask.entry }
+    {
         match self {
             End::Client(end) => end.ask(ask, out, sent),
             End::Server(end) => end.ask(ask, out, sent),
+        }
+    }
+
+    /// Sends a payload of a layer above.
+    pub fn send(
+        &mut self,
+        payload: Vec<u8>,
+        out: &mut Vec<u8>,
+        sent: &mut Vec<Vec<u8>>,
+    ) -> Result<Answer, TransportFault>
+        requires some { 1 ≤ length payload.items }
+        requires most { length payload.items ≤ 34000 }
+    {
+        match self {
+            End::Client(end) => end.send(payload, out, sent),
+            End::Server(end) => end.send(payload, out, sent),
         }
     }
 

@@ -1,6 +1,8 @@
 //! How an end is where memory is refused: nothing is put out, and the end is over. With each allocation of a run refused in turn, until
 //! a run meets no refusal, the test has to pass, and says where memory was refused. It asks for none itself.
 
+ghost use Rattle.ssh_transport_machine.specs.Asks.{IsSendable};
+
 use crate::end::End;
 use crate::toys::{client, server, settings};
 use ssh_transport::{Strictness, TransportAsk, TransportFault};
@@ -108,7 +110,9 @@ fn pass(from: &mut Line, to: &mut Line) -> Came {
 }
 
 // An end is asked.
-fn ask(line: &mut Line, ask: TransportAsk<'_>) -> Came {
+fn ask(line: &mut Line, ask: TransportAsk<'_>) -> Came
+    requires { IsSendable ask.entry }
+{
     let (bytes, payloads) = (line.out.len(), line.sent.as_slice().len());
     let turn = line.end.ask(ask, &mut line.out, &mut line.sent);
     outcome_of(line, turn.err(), bytes, payloads)

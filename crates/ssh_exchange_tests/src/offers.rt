@@ -78,7 +78,7 @@ fn list(alloc: Global, to: Side, text: &str) -> Result<String, AllocError> {
 fn wanted(alloc: Global, side: Side, why: &str, size: usize) -> Result<String, AllocError> {
     let letter = if side == Client { "c" } else { "s" };
     if let Some((_, name)) = why.split_once(' ') {
-        let size = 13 + name.len();
+        let size = name.len().saturating_add(13);
         return format!(in alloc;
             "{letter} refused {why}; {letter} sent 1 DISCONNECT {size}; {letter} died"
         );

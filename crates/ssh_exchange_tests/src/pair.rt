@@ -1,5 +1,7 @@
 //! Two ends over toy parts, and the bytes on the way between them.
 
+ghost use Rattle.ssh_transport_machine.specs.Asks.{IsSendable};
+
 use crate::end::End;
 use crate::forging::forged;
 use crate::party::Party;
@@ -126,7 +128,9 @@ impl Pair {
         }
     }
 
-    fn ask(&mut self, side: Side, ask: TransportAsk<'_>, what: &str) -> Result<(), AllocError> {
+    fn ask(&mut self, side: Side, ask: TransportAsk<'_>, what: &str) -> Result<(), AllocError>
+        requires { IsSendable ask.entry }
+    {
         match side {
             Side::Client => self.client.ask(ask, what, &mut self.lines),
             Side::Server => self.server.ask(ask, what, &mut self.lines),

@@ -1,9 +1,10 @@
 //! One end with all that it put out, and the lines of what it did.
 
+ghost use Rattle.ssh_transport_machine.specs.Asks.{IsSendable};
+
 use crate::end::End;
 use crate::transcript::Transcript;
 use ssh_kex::OwnedChoice;
-use ssh_message::decode;
 use ssh_transport::{AskTurn, Effect, TransportAsk, TransportFault, TransportTurn};
 use ssh_types::Side;
 use std::alloc::{AllocError, Global};
@@ -81,7 +82,7 @@ impl Party {
                 if before == place {
                     return Some(payload.as_slice());
                 }
-                before += 1;
+                before = usize::saturating_add(before, 1);
             }
         }
         None
@@ -190,7 +191,9 @@ impl Party {
         ask: TransportAsk<'_>,
         what: &str,
         lines: &mut Transcript,
-    ) -> Result<(), AllocError> {
+    ) -> Result<(), AllocError>
+        requires { IsSendable ask.entry }
+    {
         match self.end.ask(ask, &mut self.out, &mut self.sent) {
             Ok(turn) => {
                 lines.note(self.side, what)?;
@@ -213,11 +216,18 @@ impl Party {
         }
     }
 
-    /// It is asked to send this payload for a layer above. One that is no message is not sent.
+    /// It is asked to send this payload for a layer above.
     pub fn send(&mut self, payload: &[u8], lines: &mut Transcript) -> Result<(), AllocError> {
-        match decode(true, payload) {
-            Ok(message) => self.ask(TransportAsk::Send(&message), "asked send", lines),
-            Err(_) => lines.note(self.side, "asked to send what is no message"),
+        if payload.is_empty() || payload.len() > 34_000 {
+            return lines.note(self.side, "asked to send what no packet holds");
+        }
+        let payload = payload.to_vec(self.alloc)?;
+        match self.end.send(payload, &mut self.out, &mut self.sent) {
+            Ok(answer) => {
+                lines.note(self.side, "asked send")?;
+                self.note_ask(AskTurn::Answered(answer), lines)
+            }
+            Err(fault) => self.note_fault(fault, lines),
         }
     }
 

@@ -7,7 +7,6 @@ mod parts;
 
 use crate::toys::settings;
 use parts::{RecordedAgreement, RecordedClient, RecordedHost, RecordedServer};
-use ssh_message::decode;
 use ssh_packet::{HmacKey, MacOnly, write_packet};
 use ssh_toys::ToyFiller;
 use ssh_transport::{
@@ -85,6 +84,7 @@ fn payload_of(wire: &[u8]) -> Option<&[u8]> {
 
 // A client, what it put out, and how much of that was compared.
 struct Recording {
+    alloc: Global,
     client: ClientTransport<RecordedClient>,
     out: Vec<u8>,
     sent: Vec<Vec<u8>>,
@@ -94,6 +94,7 @@ struct Recording {
 impl Drop for Recording {
     fn drop(self) {
         let Recording {
+            alloc: _,
             client: _,
             out: _,
             sent: _,
@@ -124,6 +125,7 @@ impl Recording {
             alloc, config, parts, cookie, secret, &mut out, &mut sent,
         )?;
         Ok(Recording {
+            alloc,
             client,
             out,
             sent,
@@ -146,35 +148,34 @@ impl Recording {
         is_taken && used == wire.len() && Some(self.client.payload()) == payload_of(wire)
     }
 
-    // The client puts out a packet. It is asked where it does not send that by itself. It answers whether the bytes are the same; of
-    // an unknown message it sends the number alone.
-    fn sends(&mut self, wire: &[u8]) -> bool {
+    // The client puts out a packet. It is asked where it does not send that by itself. It answers whether the bytes are the same.
+    fn sends(&mut self, wire: &[u8]) -> Result<bool, AllocError> {
         let Some(payload) = payload_of(wire) else {
-            return false;
+            return Ok(false);
         };
-        if self.out.len() == self.compared && !self.is_asked(payload) {
-            return false;
+        if self.out.len() == self.compared && !self.is_asked(payload)? {
+            return Ok(false);
         }
         let waiting = self.out.as_slice().get(self.compared..).unwrap_or(&[]);
-        if payload.first() == Some(&110) {
-            self.compared = self.out.len();
-            return waiting.len() == 48;
-        }
+        let is_same = waiting.starts_with(wire);
         self.compared = self.compared.saturating_add(wire.len());
-        waiting.starts_with(wire)
+        Ok(is_same)
     }
 
     // The client is asked to send a payload.
-    fn is_asked(&mut self, payload: &[u8]) -> bool {
-        let Ok(message) = decode(true, payload) else {
-            return false;
-        };
-        let ask = match payload.first() {
-            Some(&5) => TransportAsk::Service,
-            Some(&20) => TransportAsk::Rekey,
-            _ => TransportAsk::Send(&message),
-        };
-        self.client.ask(ask, &mut self.out, &mut self.sent).is_ok()
+    fn is_asked(&mut self, payload: &[u8]) -> Result<bool, AllocError> {
+        if payload.is_empty() || payload.len() > 34_000 {
+            return Ok(false);
+        }
+        let (out, sent) = (&mut self.out, &mut self.sent);
+        Ok(match payload.first() {
+            Some(&5) => self.client.ask(TransportAsk::Service, out, sent).is_ok(),
+            Some(&20) => self.client.ask(TransportAsk::Rekey, out, sent).is_ok(),
+            _ => {
+                let payload = payload.to_vec(self.alloc)?;
+                self.client.send(payload, out, sent).is_ok()
+            }
+        })
     }
 }
 
@@ -194,7 +195,7 @@ fn a_session_with_an_openssh_server(rt: HostRuntime) -> Result<(), Fail> {
     for (index, (from, digits)) in openssh_server::PACKETS.iter().enumerate() {
         let wire = bytes(rt.alloc(), digits)?;
         let is_as_recorded = match *from {
-            Side::Client => recording.sends(&wire),
+            Side::Client => recording.sends(&wire)?,
             Side::Server => recording.takes(&wire),
         };
         assert!(rt; is_as_recorded, "packet {index}");

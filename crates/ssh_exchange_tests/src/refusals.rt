@@ -527,7 +527,7 @@ fn lines_of(alloc: Global, side: Side, refusal: &str, code: u32) -> Result<Strin
     if code == 0 {
         return format!(in alloc; "{side} refused {refusal}; {side} died");
     }
-    let size = 13 + name_of(refusal).len();
+    let size = name_of(refusal).len().saturating_add(13);
     format!(in alloc; "{side} refused {refusal}; {side} sent 1 DISCONNECT {size}; {side} died")
 }
 

@@ -93,7 +93,7 @@ fn strictness_of_both_ends(rt: HostRuntime) -> Result<(), Fail> {
             None,
             "row {index}"
         );
-        let wanted = if *number == 1 { 0 } else { *number + 3 };
+        let wanted = if *number == 1 { 0 } else { 7 };
         for side in [Client, Server] {
             assert_eq!(rt;
                 pair.party(side).end().numbers(),
