@@ -4,7 +4,7 @@ use crate::pair::Pair;
 use crate::sessions::{AUTHENTICATION, CHANNEL, FEEDS, FIRST, SECOND, SERVICE};
 use crate::step::{Script, Step};
 use crate::toys::settings;
-use ssh_transport::Strictness;
+use ssh_transport::{Settings, Strictness};
 use ssh_types::Side;
 use ssh_types::Side::{Client, Server};
 use std::test::*;
@@ -159,8 +159,10 @@ fn the_longest_description(rt: HostRuntime) -> Result<(), Fail> {
 // An exchange is due once 64 packets were sent in the epoch, and no longer behind it.
 #[test]
 fn when_an_exchange_is_due(rt: HostRuntime) -> Result<(), Fail> {
-    let mut of_client = settings(b"c", Strictness::Require);
-    of_client.epoch_limit = 64;
+    let of_client = Settings {
+        epoch_limit: 64,
+        ..settings(b"c", Strictness::Require)
+    };
     let of_server = settings(b"s", Strictness::Require);
     let mut pair = Pair::new(rt.alloc(), &of_client, &of_server)?;
     assert_eq!(rt;

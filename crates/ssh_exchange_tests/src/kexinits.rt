@@ -29,30 +29,37 @@ pub const OF_SERVER: [&str; 10] = [
     "",
 ];
 
-/// A KEXINIT of these lists, whose cookie has this byte alone.
+/// A KEXINIT of these lists, of which those at these places are others, and whose cookie has this byte alone.
 pub fn kexinit(
     alloc: Global,
     cookie: u8,
     lists: &[&str; 10],
+    others: &[(usize, &str)],
     follows: bool,
 ) -> Result<Vec<u8>, AllocError> {
     let mut payload = Vec::new(alloc);
     payload.push(20)?;
     payload.extend_from_slice(&[cookie; 16])?;
-    for list in lists.iter() {
-        payload.extend_from_slice(&(list.len() as u32).to_be_bytes())?;
-        payload.extend_from_slice(list.as_bytes())?;
+    for (place, list) in lists.iter().enumerate() {
+        put_list(list_at(place, list, others), &mut payload)?;
     }
     payload.push(follows as u8)?;
     payload.extend_from_slice(&[0; 4])?;
     Ok(payload)
 }
 
-/// The lists with this one at this place.
-pub fn with<'a>(lists: &[&'a str; 10], place: usize, list: &'a str) -> [&'a str; 10] {
-    let mut lists = *lists;
-    if let Some(entry) = lists.get_mut(place) {
-        *entry = list;
+// The list at this place.
+fn list_at<'a>(place: usize, list: &'a str, others: &[(usize, &'a str)]) -> &'a str {
+    for (other_place, other) in others.iter() {
+        if *other_place == place {
+            return other;
+        }
     }
-    lists
+    list
+}
+
+// A name-list (RFC 4251 section 5).
+fn put_list(list: &str, payload: &mut Vec<u8>) -> Result<(), AllocError> {
+    payload.extend_from_slice(&(list.len() as u32).to_be_bytes())?;
+    payload.extend_from_slice(list.as_bytes())
 }

@@ -1,6 +1,6 @@
 //! Which numbers may come at each place of a session: payloads of one byte.
 
-use crate::kexinits::{OF_CLIENT, kexinit, with};
+use crate::kexinits::{OF_CLIENT, kexinit};
 use crate::pair::Pair;
 use crate::sessions::{AUTHENTICATION, FEEDS, FIRST, PLAIN_FIRST, SECOND, SERVICE};
 use crate::step::{Script, Step};
@@ -8,7 +8,7 @@ use crate::toys::settings;
 use Ends::{Extended, Offering, Plain, Strict};
 use Kind::{First, FirstNewKeys, Later, LaterNewKeys, Normal};
 use ssh_message::name;
-use ssh_transport::Strictness;
+use ssh_transport::{Settings, Strictness};
 use ssh_types::Side;
 use ssh_types::Side::{Client, Server};
 use std::alloc::{AllocError, Global};
@@ -170,10 +170,15 @@ fn at(
         Offering => Strictness::Offer,
         Plain => Strictness::Off,
     };
-    let mut client = settings(b"c", strictness);
-    let mut server = settings(b"s", strictness);
-    client.takes_extensions = ends == Extended;
-    server.takes_extensions = ends == Extended;
+    let takes_extensions = ends == Extended;
+    let client = Settings {
+        takes_extensions,
+        ..settings(b"c", strictness)
+    };
+    let server = Settings {
+        takes_extensions,
+        ..settings(b"s", strictness)
+    };
     let mut pair = Pair::new(alloc, &client, &server)?;
     let mut left = steps;
     for script in scripts.iter() {
@@ -245,12 +250,8 @@ fn each_number_at_each_place(rt: HostRuntime) -> Result<(), Fail> {
 // Behind a KEXINIT whose guess is wrong the next packet is numbered 30 to 49, and not read.
 #[test]
 fn the_packet_after_a_wrong_guess(rt: HostRuntime) -> Result<(), Fail> {
-    let lists = with(
-        &OF_CLIENT,
-        0,
-        "curve25519-sha256@libssh.org,curve25519-sha256,kex-strict-c-v00@openssh.com",
-    );
-    let wrong = kexinit(rt.alloc(), 0xc1, &lists, true)?;
+    let kex = "curve25519-sha256@libssh.org,curve25519-sha256,kex-strict-c-v00@openssh.com";
+    let wrong = kexinit(rt.alloc(), 0xc1, &OF_CLIENT, &[(0, kex)], true)?;
     for byte in 0..=255u8 {
         let mut pair = Pair::strict(rt.alloc())?;
         pair.play(Step::Pass(Client, 11))?;

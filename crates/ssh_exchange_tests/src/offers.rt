@@ -1,11 +1,11 @@
 //! What KEXINITs are refused for, what is chosen of them, and guesses (RFC 4253 section 7).
 
-use crate::kexinits::{OF_CLIENT, OF_SERVER, kexinit, with};
+use crate::kexinits::{OF_CLIENT, OF_SERVER, kexinit};
 use crate::pair::Pair;
 use crate::sessions::{AUTHENTICATION, FEEDS, FIRST, SERVICE};
 use crate::step::Step;
 use crate::toys::settings;
-use ssh_transport::Strictness;
+use ssh_transport::{Settings, Strictness};
 use ssh_types::Side;
 use ssh_types::Side::{Client, Server};
 use std::alloc::{AllocError, Global};
@@ -94,8 +94,8 @@ fn first_offers(rt: HostRuntime) -> Result<(), Fail> {
     for (side, lists) in [(Server, &OF_CLIENT), (Client, &OF_SERVER)] {
         for (index, (place, text, why)) in FIRST_OFFERS.iter().enumerate() {
             let text = list(rt.alloc(), side, text)?;
-            let lists = with(lists, *place, text.as_str());
-            let payload = kexinit(rt.alloc(), 0xc1, &lists, false)?;
+            let others = [(*place, text.as_str())];
+            let payload = kexinit(rt.alloc(), 0xc1, lists, &others, false)?;
             let mut pair = lines(rt.alloc())?;
             let lines = pair.play(Step::Forge(side, &payload))?;
             let wanted = wanted(rt.alloc(), side, why, payload.len())?;
@@ -130,9 +130,12 @@ fn guesses(rt: HostRuntime) -> Result<(), Fail> {
         "s took 30 KEX_ECDH_INIT 37; s sent 31 KEX_ECDH_REPLY 85; s sent 21 NEWKEYS 1; s told completed 1";
     for (index, (kex, host, is_wrong)) in GUESSES.iter().enumerate() {
         let kex = list(rt.alloc(), Server, kex)?;
-        let lists = with(&with(&OF_CLIENT, 0, kex.as_str()), 1, host);
+        let others = [(0, kex.as_str()), (1, *host)];
         let mut pair = lines(rt.alloc())?;
-        pair.play(Step::Forge(Server, &kexinit(rt.alloc(), 0xc1, &lists, true)?))?;
+        pair.play(Step::Forge(
+            Server,
+            &kexinit(rt.alloc(), 0xc1, &OF_CLIENT, &others, true)?,
+        ))?;
         if *is_wrong {
             let lines = pair.play(Step::Forge(Server, OTHER_POINT))?;
             assert_eq!(rt;
@@ -148,7 +151,10 @@ fn guesses(rt: HostRuntime) -> Result<(), Fail> {
         );
         // The same lists with no guess: nothing is skipped.
         let mut pair = lines(rt.alloc())?;
-        pair.play(Step::Forge(Server, &kexinit(rt.alloc(), 0xc1, &lists, false)?))?;
+        pair.play(Step::Forge(
+            Server,
+            &kexinit(rt.alloc(), 0xc1, &OF_CLIENT, &others, false)?,
+        ))?;
         assert_eq!(rt;
             pair.play(Step::Forge(Server, POINT))?,
             answer,
@@ -161,8 +167,8 @@ fn guesses(rt: HostRuntime) -> Result<(), Fail> {
 #[test]
 fn a_wrong_guess_of_a_server(rt: HostRuntime) -> Result<(), Fail> {
     let kex = list(rt.alloc(), Client, "x,curve25519-sha256,MARKER")?;
-    let lists = with(&OF_SERVER, 0, kex.as_str());
-    let wrong = kexinit(rt.alloc(), 0xd1, &lists, true)?;
+    let others = [(0, kex.as_str())];
+    let wrong = kexinit(rt.alloc(), 0xd1, &OF_SERVER, &others, true)?;
     let mut pair = lines(rt.alloc())?;
     let lines = pair.play(Step::Forge(Client, &wrong))?;
     assert_eq!(rt; lines, "c took 20 KEXINIT 167; c sent 30 KEX_ECDH_INIT 37");
@@ -186,8 +192,8 @@ fn a_long_offer(rt: HostRuntime) -> Result<(), Fail> {
         write!(host, "sk-ecdsa-sha2-nistp256-cert-v01@openssh.com4,")?;
     }
     write!(host, "x,toy@example.com")?;
-    let lists = with(&OF_CLIENT, 1, host.as_str());
-    let payload = kexinit(rt.alloc(), 0xc1, &lists, true)?;
+    let others = [(1, host.as_str())];
+    let payload = kexinit(rt.alloc(), 0xc1, &OF_CLIENT, &others, true)?;
     let mut pair = lines(rt.alloc())?;
     let taken = pair.play(Step::Forge(Server, &payload))?;
     assert_eq!(rt; taken, "s took 20 KEXINIT 2102");
@@ -213,8 +219,8 @@ fn later_offers(rt: HostRuntime) -> Result<(), Fail> {
     for (side, lists) in [(Server, &OF_CLIENT), (Client, &OF_SERVER)] {
         for (index, (place, text, without, fed)) in LATER_OFFERS.iter().enumerate() {
             let text = list(rt.alloc(), side, text)?;
-            let lists = with(lists, *place, text.as_str());
-            let payload = kexinit(rt.alloc(), 0xa2, &lists, false)?;
+            let others = [(*place, text.as_str())];
+            let payload = kexinit(rt.alloc(), 0xa2, lists, &others, false)?;
             for (is_fed, why) in [(false, without), (true, fed)] {
                 let mut pair = Pair::strict(rt.alloc())?;
                 assert_eq!(rt;
@@ -249,12 +255,16 @@ fn later_wanted(alloc: Global, side: Side, why: &str, size: usize) -> Result<Str
 // Where both ends know two names of the method, the first of the client's is chosen; each name is the same method.
 #[test]
 fn the_clients_first_name_is_chosen(rt: HostRuntime) -> Result<(), Fail> {
-    let mut of_client = settings(b"c", Strictness::Require);
-    of_client.kex = &[b"curve25519-sha256@libssh.org", b"curve25519-sha256"];
-    of_client.host = &[b"x", b"toy@example.com", b"y"];
-    let mut of_server = settings(b"s", Strictness::Require);
-    of_server.kex = &[b"curve25519-sha256", b"curve25519-sha256@libssh.org"];
-    of_server.host = &[b"y", b"toy@example.com"];
+    let of_client = Settings {
+        kex: &[b"curve25519-sha256@libssh.org", b"curve25519-sha256"],
+        host: &[b"x", b"toy@example.com", b"y"],
+        ..settings(b"c", Strictness::Require)
+    };
+    let of_server = Settings {
+        kex: &[b"curve25519-sha256", b"curve25519-sha256@libssh.org"],
+        host: &[b"y", b"toy@example.com"],
+        ..settings(b"s", Strictness::Require)
+    };
     let mut pair = Pair::new(rt.alloc(), &of_client, &of_server)?;
     for side in [Client, Server, Client, Server, Client] {
         pair.play(Step::PassAll(side))?;

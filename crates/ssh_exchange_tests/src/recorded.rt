@@ -1,6 +1,8 @@
 //! Recorded sessions of OpenSSH: a client and a server with the recorded cookies, points, results and signatures send and take the
 //! recorded bytes, through two exchanges of keys.
 
+ghost use Rattle.ssh_transport_machine.specs.Asks.{IsSendable};
+
 mod openssh_client;
 mod openssh_server;
 mod parts;
@@ -167,15 +169,23 @@ impl Recording {
         if payload.is_empty() || payload.len() > 34_000 {
             return Ok(false);
         }
-        let (out, sent) = (&mut self.out, &mut self.sent);
-        Ok(match payload.first() {
-            Some(&5) => self.client.ask(TransportAsk::Service, out, sent).is_ok(),
-            Some(&20) => self.client.ask(TransportAsk::Rekey, out, sent).is_ok(),
+        match payload.first() {
+            Some(&5) => Ok(self.is_done(TransportAsk::Service)),
+            Some(&20) => Ok(self.is_done(TransportAsk::Rekey)),
             _ => {
                 let payload = payload.to_vec(self.alloc)?;
-                self.client.send(payload, out, sent).is_ok()
+                let answer = self.client.send(payload, &mut self.out, &mut self.sent);
+                Ok(answer.is_ok())
             }
-        })
+        }
+    }
+
+    // It is asked for this.
+    fn is_done(&mut self, ask: TransportAsk<'_>) -> bool
+        requires { IsSendable ask.entry }
+    {
+        let turn = self.client.ask(ask, &mut self.out, &mut self.sent);
+        turn.is_ok()
     }
 }
 

@@ -1,6 +1,6 @@
 //! Ends that require strict key exchange, offer it or don't, and ends that take and announce extensions (RFC 8308).
 
-use crate::kexinits::kexinit;
+use crate::kexinits::{OF_SERVER, kexinit};
 use crate::pair::Pair;
 use crate::sessions::{
     AUTHENTICATION, CHANNEL, DATA_AND_CLOSE, FEEDS, FIRST, IGNORE, PLAIN_FIRST, SECOND, SERVICE,
@@ -8,8 +8,8 @@ use crate::sessions::{
 use crate::step::{Script, Step};
 use crate::toys::settings;
 use ssh_message::Extension;
-use ssh_transport::Strictness;
 use ssh_transport::Strictness::{Off, Offer, Require};
+use ssh_transport::{Settings, Strictness};
 use ssh_types::Side::{Client, Server};
 use std::alloc::{AllocError, Global};
 use std::test::*;
@@ -180,19 +180,13 @@ fn a_packet_put_in_front_of_kexinit(rt: HostRuntime) -> Result<(), Fail> {
 // hash is not what the server signed.
 #[test]
 fn a_marker_struck_out(rt: HostRuntime) -> Result<(), Fail> {
-    let lists = [
-        "curve25519-sha256",
-        "toy@example.com",
-        "none",
-        "none",
-        "hmac-sha2-256",
-        "hmac-sha2-256",
-        "none",
-        "none",
-        "",
-        "",
-    ];
-    let struck = kexinit(rt.alloc(), 0xd1, &lists, false)?;
+    let struck = kexinit(
+        rt.alloc(),
+        0xd1,
+        &OF_SERVER,
+        &[(0, "curve25519-sha256")],
+        false,
+    )?;
     assert_eq!(rt; struck.len(), 136);
     for (strictness, lines) in [
         (
@@ -296,14 +290,18 @@ const EXTENSION_TABLE: &[(bool, &[Script])] = &[
 #[test]
 fn extensions_are_announced_once(rt: HostRuntime) -> Result<(), Fail> {
     for (index, (is_taken, scripts)) in EXTENSION_TABLE.iter().enumerate() {
-        let mut of_client = settings(b"c", Require);
-        of_client.takes_extensions = *is_taken;
-        let mut of_server = settings(b"s", Require);
-        of_server.takes_extensions = true;
-        of_server.extensions = &[Extension {
-            name: b"server-sig-algs",
-            value: b"toy@example.com",
-        }];
+        let of_client = Settings {
+            takes_extensions: *is_taken,
+            ..settings(b"c", Require)
+        };
+        let of_server = Settings {
+            takes_extensions: true,
+            extensions: &[Extension {
+                name: b"server-sig-algs",
+                value: b"toy@example.com",
+            }],
+            ..settings(b"s", Require)
+        };
         let mut pair = Pair::new(rt.alloc(), &of_client, &of_server)?;
         assert_eq!(rt; pair.differs(scripts, false)?, None, "row {index}");
     }
