@@ -44,7 +44,7 @@ impl End {
         out: &mut Vec<u8>,
         sent: &mut Vec<Vec<u8>>,
     ) -> Result<AskTurn, TransportFault>
-        requires { IsSendable ask.entry }
+        requires { IsSendable ask }
     {
         match self {
             End::Client(end) => end.ask(ask, out, sent),

@@ -41,21 +41,26 @@ pub fn kexinit(
     payload.push(20)?;
     payload.extend_from_slice(&[cookie; 16])?;
     for (place, list) in lists.iter().enumerate() {
-        put_list(list_at(place, list, others), &mut payload)?;
+        put_list_at(place, list, others, &mut payload)?;
     }
     payload.push(follows as u8)?;
     payload.extend_from_slice(&[0; 4])?;
     Ok(payload)
 }
 
-// The list at this place.
-fn list_at<'a>(place: usize, list: &'a str, others: &[(usize, &'a str)]) -> &'a str {
+// This list, or the other one for this place.
+fn put_list_at(
+    place: usize,
+    list: &str,
+    others: &[(usize, &str)],
+    payload: &mut Vec<u8>,
+) -> Result<(), AllocError> {
     for (other_place, other) in others.iter() {
         if *other_place == place {
-            return other;
+            return put_list(other, payload);
         }
     }
-    list
+    put_list(list, payload)
 }
 
 // A name-list (RFC 4251 section 5).

@@ -111,7 +111,7 @@ fn pass(from: &mut Line, to: &mut Line) -> Came {
 
 // An end is asked.
 fn ask(line: &mut Line, ask: TransportAsk<'_>) -> Came
-    requires { IsSendable ask.entry }
+    requires { IsSendable ask }
 {
     let (bytes, payloads) = (line.out.len(), line.sent.as_slice().len());
     let turn = line.end.ask(ask, &mut line.out, &mut line.sent);

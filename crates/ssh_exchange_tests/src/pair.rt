@@ -129,7 +129,7 @@ impl Pair {
     }
 
     fn ask(&mut self, side: Side, ask: TransportAsk<'_>, what: &str) -> Result<(), AllocError>
-        requires { IsSendable ask.entry }
+        requires { IsSendable ask }
     {
         match side {
             Side::Client => self.client.ask(ask, what, &mut self.lines),

@@ -192,7 +192,7 @@ impl Party {
         what: &str,
         lines: &mut Transcript,
     ) -> Result<(), AllocError>
-        requires { IsSendable ask.entry }
+        requires { IsSendable ask }
     {
         match self.end.ask(ask, &mut self.out, &mut self.sent) {
             Ok(turn) => {

@@ -182,7 +182,7 @@ impl Recording {
 
     // It is asked for this.
     fn is_done(&mut self, ask: TransportAsk<'_>) -> bool
-        requires { IsSendable ask.entry }
+        requires { IsSendable ask }
     {
         let turn = self.client.ask(ask, &mut self.out, &mut self.sent);
         turn.is_ok()
