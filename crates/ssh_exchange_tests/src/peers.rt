@@ -6,8 +6,8 @@ use crate::toys::settings;
 use ssh_parts::{Aes128Gcm, Curve25519};
 use ssh_toys::{ToyAgreement, ToyFiller, ToySigner, ToyTrust};
 use ssh_transport::{
-    ClientPartValues, ClientParts, ClientTransport, Config, ServerPartValues, ServerParts,
-    ServerTransport, Settings, Strictness, TransportTurn,
+    ClientPartValues, ClientParts, ClientTransport, Config, Effect, ServerPartValues, ServerParts,
+    ServerTransport, Settings, Strictness, TransportAsk, TransportTurn,
 };
 use ssh_types::Refusal;
 use std::alloc::Global;
@@ -144,5 +144,71 @@ fn clients_of_others(rt: HostRuntime) -> Result<(), Fail> {
             "row {index}"
         );
     }
+    Ok(())
+}
+
+// Bytes of one end reach the other, which answers the last thing that it did.
+fn client_takes(
+    client: &mut ClientTransport<GcmClient>,
+    bytes: &[u8],
+    puts: &mut Puts,
+) -> Option<TransportTurn> {
+    let mut rest = bytes;
+    let mut last = None;
+    for _ in 0..4 {
+        if rest.is_empty() {
+            break;
+        }
+        let (used, turn) = client.take(rest, &mut puts.out, &mut puts.sent);
+        rest = rest.get(used..).unwrap_or(&[]);
+        last = turn.ok();
+    }
+    last
+}
+
+fn server_takes(
+    server: &mut ServerTransport<GcmServer>,
+    bytes: &[u8],
+    puts: &mut Puts,
+) -> Option<TransportTurn> {
+    let mut rest = bytes;
+    let mut last = None;
+    for _ in 0..4 {
+        if rest.is_empty() {
+            break;
+        }
+        let (used, turn) = server.take(rest, &mut puts.out, &mut puts.sent);
+        rest = rest.get(used..).unwrap_or(&[]);
+        last = turn.ok();
+    }
+    last
+}
+
+// A client and a server over X25519 and AES-128-GCM complete an exchange, and take each other's messages under its keys.
+#[test]
+fn two_ends_over_real_parts(rt: HostRuntime) -> Result<(), Fail> {
+    let mut of_client = nothing(rt.alloc());
+    let mut of_server = nothing(rt.alloc());
+    let mut client = client(rt.alloc(), &mut of_client)?;
+    let mut server = server(rt.alloc(), &mut of_server)?;
+    for _ in 0..3 {
+        server_takes(&mut server, &of_client.out, &mut of_server);
+        of_client.out.clear();
+        client_takes(&mut client, &of_server.out, &mut of_client);
+        of_server.out.clear();
+    }
+    assert_eq!(rt; (client.epochs(), server.epochs()), ((1, 1), (1, 1)));
+    assert_eq!(rt; client.session_id(), server.session_id());
+    client.ask(
+        TransportAsk::Service,
+        &mut of_client.out,
+        &mut of_client.sent,
+    )?;
+    // A payload of 17 bytes fills two blocks of 16 with its padding, behind packet_length and before a tag of 16 bytes.
+    assert_eq!(rt; of_client.out.len(), 4 + 32 + 16);
+    let turn = server_takes(&mut server, &of_client.out, &mut of_server);
+    assert!(rt; matches!(turn, Some(TransportTurn::Done(Effect::ServiceRequested))));
+    let turn = client_takes(&mut client, &of_server.out, &mut of_client);
+    assert!(rt; matches!(turn, Some(TransportTurn::Done(Effect::ServiceAccepted))));
     Ok(())
 }

@@ -589,3 +589,27 @@ fn nothing_changes(pair: &mut Pair, side: Side) -> Result<bool, AllocError> {
     let is_same = party.end().numbers() == numbers && party.end().epochs() == epochs;
     Ok(is_same && !is_fed && party.out().len() == size && party.end().is_dead())
 }
+
+// A server may send 64 lines before its version line, and each has at most 255 bytes (RFC 4253 section 4.2).
+#[test]
+fn the_most_lines_of_a_server(rt: HostRuntime) -> Result<(), Fail> {
+    let mut pair = Pair::strict(rt.alloc())?;
+    for _ in 0..64 {
+        assert_eq!(rt; pair.play(Step::Give(Client, b"hi\r\n"))?, "c took line 2");
+    }
+    let mut longest = [b'x'; 255];
+    longest[..10].copy_from_slice(b"SSH-2.0-x ");
+    longest[253..].copy_from_slice(b"\r\n");
+    assert_eq!(rt; pair.play(Step::Give(Client, &longest))?, "c took line 253");
+    let mut pair = Pair::strict(rt.alloc())?;
+    for _ in 0..64 {
+        pair.play(Step::Give(Client, b"hi\r\n"))?;
+    }
+    let lines = pair.play(Step::Give(Client, b"hi\r\n"))?;
+    assert_eq!(rt; lines, "c refused 1 BadLine; c died");
+    let mut pair = Pair::strict(rt.alloc())?;
+    longest[253] = b'x';
+    let lines = pair.play(Step::Give(Client, &longest))?;
+    assert_eq!(rt; lines, "c refused 1 BadLine; c died");
+    Ok(())
+}
