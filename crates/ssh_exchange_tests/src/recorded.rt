@@ -294,6 +294,63 @@ fn key(alloc: Global, keys: &[&str; 2], epoch: usize) -> Result<Option<HmacKey>,
     Ok(Some(HmacKey::new(&array::<32>(alloc, digits)?)))
 }
 
+// The payloads that the client sent in an exchange.
+fn of_client(alloc: Global, place: usize) -> Result<[Vec<u8>; 3], AllocError> {
+    Ok([
+        bytes(alloc, text_at(&openssh_client::KEXINITS, place))?,
+        init(alloc, text_at(&openssh_client::POINTS, place))?,
+        b"\x15".to_vec(alloc)?,
+    ])
+}
+
+// Those that the server sent.
+fn of_server(alloc: Global, place: usize) -> Result<[Vec<u8>; 3], AllocError> {
+    let point = text_at(&openssh_client::SERVER_POINTS, place);
+    let signature = text_at(&openssh_client::SIGNATURES, place);
+    Ok([
+        bytes(alloc, text_at(&openssh_client::SERVER_KEXINITS, place))?,
+        reply(alloc, point, signature)?,
+        b"\x15".to_vec(alloc)?,
+    ])
+}
+
+// The text of an exchange.
+fn text_at(texts: &[&'static str; 2], place: usize) -> &'static str {
+    match texts.get(place) {
+        Some(text) => text,
+        None => "",
+    }
+}
+
+// All that the server puts out, with a DISCONNECT under the second keys.
+fn server_stream(alloc: Global) -> Result<Vec<u8>, AllocError> {
+    let mut stream = b"SSH-2.0-oracle_1\r\n".to_vec(alloc)?;
+    for place in 0..2 {
+        let key = key(alloc, &openssh_client::SERVER_KEYS, place)?;
+        for (number, payload) in of_server(alloc, place)?.iter().enumerate() {
+            stream.extend_from_slice(&sealed(alloc, payload, key.as_ref(), number as u32)?)?;
+        }
+    }
+    let key = key(alloc, &openssh_client::SERVER_KEYS, 2)?;
+    let farewell = b"\x01\0\0\0\x0b\0\0\0\x01x\0\0\0\0";
+    stream.extend_from_slice(&sealed(alloc, farewell, key.as_ref(), 0)?)?;
+    Ok(stream)
+}
+
+// All that the client does, packet by packet, with an IGNORE under the second keys.
+fn client_packets(alloc: Global) -> Result<Vec<Vec<u8>>, AllocError> {
+    let mut packets = Vec::new(alloc);
+    for place in 0..2 {
+        let key = key(alloc, &openssh_client::KEYS, place)?;
+        for (number, payload) in of_client(alloc, place)?.iter().enumerate() {
+            packets.push(sealed(alloc, payload, key.as_ref(), number as u32)?)?;
+        }
+    }
+    let key = key(alloc, &openssh_client::KEYS, 2)?;
+    packets.push(sealed(alloc, b"\x02\0\0\0\0", key.as_ref(), 0)?)?;
+    Ok(packets)
+}
+
 #[test]
 fn exchanges_with_an_openssh_client(rt: HostRuntime) -> Result<(), Fail> {
     let alloc = rt.alloc();
@@ -303,52 +360,17 @@ fn exchanges_with_an_openssh_client(rt: HostRuntime) -> Result<(), Fail> {
     let (used, _) = server.take(openssh_client::LINE, &mut out, &mut sent);
     assert_eq!(rt; used, 23);
     let cookie = cookie_of(&bytes(alloc, openssh_client::SERVER_KEXINITS[1])?);
-    let secret = array(alloc, openssh_client::SHARED[1])?;
-    assert!(rt; server.feed_material(cookie, secret));
+    assert!(rt; server.feed_material(cookie, array(alloc, openssh_client::SHARED[1])?));
     server.authenticated();
+    for (index, packet) in client_packets(alloc)?.iter().enumerate() {
+        let (used, turn) = server.take(packet, &mut out, &mut sent);
+        assert_eq!(rt; used, packet.len(), "packet {index}");
+        assert!(rt; turn.is_ok() && !server.is_dead(), "packet {index}");
+    }
+    assert_eq!(rt; (server.epochs(), server.numbers()), ((2, 2), (0, 1)));
     let session = array(alloc, openssh_client::HASHES[0])?;
-    for place in 0..2 {
-        let key = key(alloc, &openssh_client::KEYS, place)?;
-        let payloads = [
-            bytes(alloc, openssh_client::KEXINITS[place])?,
-            init(alloc, openssh_client::POINTS[place])?,
-            b"\x15".to_vec(alloc)?,
-        ];
-        for (number, payload) in payloads.iter().enumerate() {
-            let wire = sealed(alloc, payload, key.as_ref(), number as u32)?;
-            let (used, turn) = server.take(&wire, &mut out, &mut sent);
-            assert_eq!(rt; used, wire.len(), "exchange {place}");
-            assert!(rt; turn.is_ok() && !server.is_dead(), "exchange {place}");
-        }
-        assert_eq!(rt; server.session_id(), Some(&session));
-    }
-    let wanted = [
-        bytes(alloc, openssh_client::SERVER_KEXINITS[0])?,
-        reply(
-            alloc,
-            openssh_client::SERVER_POINTS[0],
-            openssh_client::SIGNATURES[0],
-        )?,
-        b"\x15".to_vec(alloc)?,
-        bytes(alloc, openssh_client::SERVER_KEXINITS[1])?,
-        reply(
-            alloc,
-            openssh_client::SERVER_POINTS[1],
-            openssh_client::SIGNATURES[1],
-        )?,
-        b"\x15".to_vec(alloc)?,
-    ];
-    assert_eq!(rt; sent.as_slice(), wanted.as_slice());
-    assert_eq!(rt; server.epochs(), (2, 2));
-    // What the server put out is sealed under the recorded keys, and so is a message under the second.
+    assert_eq!(rt; server.session_id(), Some(&session));
     server.ask(TransportAsk::Disconnect(b"x"), &mut out, &mut sent)?;
-    let mut rest = out.as_slice().get(18..).unwrap_or(&[]);
-    for (index, payload) in sent.as_slice().iter().enumerate() {
-        let key = key(alloc, &openssh_client::SERVER_KEYS, index / 3)?;
-        let wire = sealed(alloc, payload, key.as_ref(), (index % 3) as u32)?;
-        assert!(rt; rest.starts_with(&wire), "packet {index}");
-        rest = rest.get(wire.len()..).unwrap_or(&[]);
-    }
-    assert!(rt; rest.is_empty());
+    assert_eq!(rt; out, server_stream(alloc)?);
     Ok(())
 }
