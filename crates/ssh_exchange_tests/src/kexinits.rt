@@ -65,6 +65,7 @@ fn put_list_at(
 
 // A name-list (RFC 4251 section 5).
 fn put_list(list: &str, payload: &mut Vec<u8>) -> Result<(), AllocError> {
-    payload.extend_from_slice(&(list.len() as u32).to_be_bytes())?;
+    let size = u32::try_from(list.len()).unwrap_or(u32::MAX);
+    payload.extend_from_slice(&size.to_be_bytes())?;
     payload.extend_from_slice(list.as_bytes())
 }

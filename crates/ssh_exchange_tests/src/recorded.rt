@@ -328,7 +328,8 @@ fn server_stream(alloc: Global) -> Result<Vec<u8>, AllocError> {
     for place in 0..2 {
         let key = key(alloc, &openssh_client::SERVER_KEYS, place)?;
         for (number, payload) in of_server(alloc, place)?.iter().enumerate() {
-            stream.extend_from_slice(&sealed(alloc, payload, key.as_ref(), number as u32)?)?;
+            let number = u32::try_from(number).unwrap_or(0);
+            stream.extend_from_slice(&sealed(alloc, payload, key.as_ref(), number)?)?;
         }
     }
     let key = key(alloc, &openssh_client::SERVER_KEYS, 2)?;
@@ -343,7 +344,8 @@ fn client_packets(alloc: Global) -> Result<Vec<Vec<u8>>, AllocError> {
     for place in 0..2 {
         let key = key(alloc, &openssh_client::KEYS, place)?;
         for (number, payload) in of_client(alloc, place)?.iter().enumerate() {
-            packets.push(sealed(alloc, payload, key.as_ref(), number as u32)?)?;
+            let number = u32::try_from(number).unwrap_or(0);
+            packets.push(sealed(alloc, payload, key.as_ref(), number)?)?;
         }
     }
     let key = key(alloc, &openssh_client::KEYS, 2)?;
