@@ -20,7 +20,7 @@ pub fn forged(
     if payload.is_empty() || payload.len() > 34_000 {
         return Ok(wire);
     }
-    let number = to.end().numbers().1 as u32;
+    let number = u32::try_from(to.end().numbers().1).unwrap_or(0);
     let mut filler = ToyFiller { byte: 0 };
     let key = taking_key(to, side, client, server);
     write_packet::<MacOnly, ToyFiller>(payload, key.as_ref(), number, &mut filler, &mut wire)?;
