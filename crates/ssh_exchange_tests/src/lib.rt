@@ -1,8 +1,42 @@
-//! Tests of the transports of both roles: whole exchanges of keys, played against each other and against recorded bytes of other
-//! implementations.
+//! Tests of the transports of both roles: two ends played against each other, what is refused and how, and the recorded bytes of
+//! other implementations.
 #![tactic(auto)]
 
 #[cfg(test)]
-mod handshake;
+mod asks;
+#[cfg(test)]
+mod attacks;
+#[cfg(test)]
+mod end;
+#[cfg(test)]
+mod exchanges;
+#[cfg(test)]
+mod forging;
+#[cfg(test)]
+mod kexinits;
+#[cfg(test)]
+mod memory;
+#[cfg(test)]
+mod numbers;
+#[cfg(test)]
+mod offers;
 #[cfg(test)]
 mod pair;
+#[cfg(test)]
+mod party;
+#[cfg(test)]
+mod peers;
+#[cfg(test)]
+mod recorded;
+#[cfg(test)]
+mod refusals;
+#[cfg(test)]
+mod sessions;
+#[cfg(test)]
+mod step;
+#[cfg(test)]
+mod toys;
+#[cfg(test)]
+mod transcript;
+#[cfg(test)]
+mod variants;

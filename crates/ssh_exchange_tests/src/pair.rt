@@ -1,83 +1,193 @@
-//! Two transports over toy parts, and the bytes on their way between them.
+//! Two ends over toy parts, and the bytes on the way between them.
 
-use ssh_packet::MacOnly;
-use ssh_toys::{ToyAgreement, ToyFiller, ToySigner, ToyTrust};
-use ssh_transport::{
-    ClientPartValues, ClientParts, ClientTransport, Config, ServerPartValues, ServerParts,
-    ServerTransport, Settings, Strictness, TransportFault, TransportTurn,
-};
-use std::alloc::Global;
+ghost use Rattle.ssh_transport_machine.specs.Asks.{IsSendable};
 
-pub struct ToyClient;
+use crate::end::End;
+use crate::forging::forged;
+use crate::party::Party;
+use crate::step::{Script, Step};
+use crate::toys::{client, server, settings};
+use crate::transcript::Transcript;
+use ssh_transport::{Settings, Strictness, TransportAsk};
+use ssh_types::Side;
+use std::alloc::{AllocError, Global};
 
-impl ClientParts for ToyClient {
-    type Sealing = MacOnly;
-
-    type Filler = ToyFiller;
-
-    type Agreement = ToyAgreement;
-
-    type HostTrust = ToyTrust;
+/// A client and a server that have put out their lines and their first KEXINITs.
+#[derive(Drop)]
+pub struct Pair {
+    alloc: Global,
+    client: Party,
+    server: Party,
+    lines: Transcript,
 }
 
-pub struct ToyServer;
+impl Pair {
+    /// Two ends of these settings.
+    pub fn new(
+        alloc: Global,
+        of_client: &Settings<'_>,
+        of_server: &Settings<'_>,
+    ) -> Result<Pair, AllocError> {
+        let mut out = Vec::new(alloc);
+        let mut sent = Vec::new(alloc);
+        let end = client(alloc, of_client, &mut out, &mut sent)?;
+        let client = Party::new(alloc, Side::Client, End::Client(end), out, sent);
+        let mut out = Vec::new(alloc);
+        let mut sent = Vec::new(alloc);
+        let end = server(alloc, of_server, &mut out, &mut sent)?;
+        let server = Party::new(alloc, Side::Server, End::Server(end), out, sent);
+        Ok(Pair {
+            alloc,
+            client,
+            server,
+            lines: Transcript::new(alloc),
+        })
+    }
 
-impl ServerParts for ToyServer {
-    type Sealing = MacOnly;
+    /// Two ends that require strict key exchange.
+    pub fn strict(alloc: Global) -> Result<Pair, AllocError> {
+        let client = settings(b"c", Strictness::Require);
+        let server = settings(b"s", Strictness::Require);
+        Pair::new(alloc, &client, &server)
+    }
 
-    type Filler = ToyFiller;
+    /// The end of a side.
+    pub fn party(&self, side: Side) -> &Party {
+        match side {
+            Side::Client => &self.client,
+            Side::Server => &self.server,
+        }
+    }
 
-    type Agreement = ToyAgreement;
+    fn party_mut(&mut self, side: Side) -> &mut Party {
+        match side {
+            Side::Client => &mut self.client,
+            Side::Server => &mut self.server,
+        }
+    }
 
-    type HostSigner = ToySigner;
-}
+    /// Does this, and answers the lines of what the ends do on it.
+    pub fn play(&mut self, step: Step<'_>) -> Result<&str, AllocError> {
+        self.lines.clear();
+        match step {
+            Step::Pass(from, count) => self.pass(from, count)?,
+            Step::PassAll(from) => self.pass(from, usize::MAX)?,
+            Step::DripAll(from) => self.drip(from)?,
+            Step::Lose(from, count) => {
+                self.party_mut(from).next(count)?;
+            }
+            Step::Again(from, start, count) => {
+                let bytes = self.party(from).again(start, count)?;
+                self.deliver(from.peer(), &bytes)?;
+            }
+            Step::Give(to, bytes) => self.deliver(to, bytes)?,
+            Step::Forge(to, payload) => self.forge(to, payload)?,
+            Step::Service(side) => self.ask(side, TransportAsk::Service, "asked service")?,
+            Step::Rekey(side) => self.ask(side, TransportAsk::Rekey, "asked rekey")?,
+            Step::Disconnect(side, why) => {
+                self.ask(side, TransportAsk::Disconnect(why), "asked disconnect")?
+            }
+            Step::Send(side, payload) => self.send(side, payload)?,
+            Step::Feed(side, byte) => self.feed(side, byte)?,
+            Step::Authenticated(side) => self.party_mut(side).authenticated(),
+        }
+        Ok(self.lines.text())
+    }
 
-/// The settings of an end whose version line has this software.
-pub fn settings(software: &'static [u8]) -> Settings<'static> {
-    Settings {
-        software,
-        comments: None,
-        kex: &[b"curve25519-sha256"],
-        host: &[b"toy@example.com"],
-        encryption: &[b"none"],
-        mac: &[b"hmac-sha2-256"],
-        epoch_limit: 1 << 31,
-        tries: 20,
-        methods: &[b"publickey", b"password"],
-        strictness: Strictness::Require,
-        takes_extensions: false,
-        extensions: &[],
+    // The next waiting bytes of an end reach the other, as one piece.
+    fn pass(&mut self, from: Side, count: usize) -> Result<(), AllocError> {
+        let bytes = self.party_mut(from).next(count)?;
+        self.deliver(from.peer(), &bytes)
+    }
+
+    // All of them do, each as a piece.
+    fn drip(&mut self, from: Side) -> Result<(), AllocError> {
+        let bytes = self.party_mut(from).next(usize::MAX)?;
+        for byte in bytes.iter() {
+            self.deliver(from.peer(), &[*byte])?;
+        }
+        Ok(())
+    }
+
+    fn forge(&mut self, to: Side, payload: &[u8]) -> Result<(), AllocError> {
+        let bytes = forged(
+            self.alloc,
+            self.party(to),
+            to,
+            &self.client,
+            &self.server,
+            payload,
+        )?;
+        self.deliver(to, &bytes)
+    }
+
+    fn deliver(&mut self, to: Side, bytes: &[u8]) -> Result<(), AllocError> {
+        match to {
+            Side::Client => self.client.deliver(bytes, &mut self.lines),
+            Side::Server => self.server.deliver(bytes, &mut self.lines),
+        }
+    }
+
+    fn ask(&mut self, side: Side, ask: TransportAsk<'_>, what: &str) -> Result<(), AllocError>
+        requires { IsSendable ask }
+    {
+        match side {
+            Side::Client => self.client.ask(ask, what, &mut self.lines),
+            Side::Server => self.server.ask(ask, what, &mut self.lines),
+        }
+    }
+
+    fn send(&mut self, side: Side, payload: &[u8]) -> Result<(), AllocError> {
+        match side {
+            Side::Client => self.client.send(payload, &mut self.lines),
+            Side::Server => self.server.send(payload, &mut self.lines),
+        }
+    }
+
+    fn feed(&mut self, side: Side, byte: u8) -> Result<(), AllocError> {
+        match side {
+            Side::Client => self.client.feed(byte, &mut self.lines),
+            Side::Server => self.server.feed(byte, &mut self.lines),
+        }
+    }
+
+    /// Plays scripts, dripped or not, and answers the first step whose lines are others, with its places.
+    pub fn differs(
+        &mut self,
+        scripts: &[Script],
+        is_dripped: bool,
+    ) -> Result<Option<String>, AllocError> {
+        for script in scripts.iter() {
+            let found = self.script_differs(script, is_dripped)?;
+            if found.is_some() {
+                return Ok(found);
+            }
+        }
+        Ok(None)
+    }
+
+    /// The same of one script.
+    pub fn script_differs(
+        &mut self,
+        script: &[(Step<'_>, &str)],
+        is_dripped: bool,
+    ) -> Result<Option<String>, AllocError> {
+        let alloc = self.alloc;
+        for (index, (step, wanted)) in script.iter().enumerate() {
+            let step = if is_dripped { dripped(*step) } else { *step };
+            let lines = self.play(step)?;
+            if lines != *wanted {
+                return Ok(Some(format!(in alloc; "step {index}: {lines}")?));
+            }
+        }
+        Ok(None)
     }
 }
 
-/// A client with the cookie c1 and the secret 01, behind what it put out.
-pub fn client(
-    alloc: Global,
-    settings: &Settings<'_>,
-    out: &mut Vec<u8>,
-    sent: &mut Vec<Vec<u8>>,
-) -> Option<ClientTransport<ToyClient>> {
-    let config = Config::<MacOnly>::new(alloc, settings).ok()?;
-    let parts = ClientPartValues {
-        filler: ToyFiller { byte: 0 },
-        agreement: ToyAgreement,
-        host_trust: ToyTrust,
-    };
-    ClientTransport::new(alloc, config, parts, [0xc1; 16], [1; 32], out, sent).ok()
-}
-
-/// A server with the cookie d1 and the secret 02, behind what it put out.
-pub fn server(
-    alloc: Global,
-    settings: &Settings<'_>,
-    out: &mut Vec<u8>,
-    sent: &mut Vec<Vec<u8>>,
-) -> Option<ServerTransport<ToyServer>> {
-    let config = Config::<MacOnly>::new(alloc, settings).ok()?;
-    let parts = ServerPartValues {
-        filler: ToyFiller { byte: 0 },
-        agreement: ToyAgreement,
-        host_signer: ToySigner,
-    };
-    ServerTransport::new(alloc, config, parts, [0xd1; 16], [2; 32], out, sent).ok()
+// The same byte by byte.
+fn dripped(step: Step<'_>) -> Step<'_> {
+    match step {
+        Step::PassAll(from) => Step::DripAll(from),
+        _ => step,
+    }
 }

@@ -1,0 +1,155 @@
+ghost use Rattle.std.specs.Prelude.{◌≤◌, length};
+
+use crate::parts::{ToyClient, ToyServer, settings};
+use ssh_message::Message;
+use ssh_packet::MacOnly;
+use ssh_toys::{ToyAgreement, ToyFiller, ToySigner, ToyTrust};
+use ssh_transport::{
+    ClientPartValues, ClientTransport, Config, ServerPartValues, ServerTransport, TransportAsk,
+    TransportFault,
+};
+use std::alloc::Global;
+
+// The padding is zeros.
+const ZEROS: ToyFiller = ToyFiller { byte: 0 };
+
+// How many lines and packets a turn has at most.
+const MOST_UNITS: usize = 4;
+
+/// A client and a server, and the bytes on the way between them.
+pub struct Session {
+    client: ClientTransport<ToyClient>,
+    server: ServerTransport<ToyServer>,
+    from_client: Vec<u8>,
+    from_server: Vec<u8>,
+    sent: Vec<Vec<u8>>,
+}
+
+impl Drop for Session {
+    fn drop(self) {
+        let Session {
+            client: _,
+            server: _,
+            from_client: _,
+            from_server: _,
+            sent: _,
+        } = self;
+    }
+}
+
+impl Session {
+    /// Both ends, which have put out their lines and KEXINITs.
+    pub fn new(alloc: Global) -> anyhow::Result<Session> {
+        let mut from_client = Vec::new(alloc);
+        let mut from_server = Vec::new(alloc);
+        let mut sent = Vec::new(alloc);
+        let client = ClientTransport::new(
+            alloc,
+            Config::<MacOnly>::new(alloc, &settings(b"c"))?,
+            ClientPartValues {
+                filler: ZEROS,
+                agreement: ToyAgreement,
+                host_trust: ToyTrust,
+            },
+            [0xc1; 16],
+            [1; 32],
+            &mut from_client,
+            &mut sent,
+        )?;
+        let server = ServerTransport::new(
+            alloc,
+            Config::<MacOnly>::new(alloc, &settings(b"s"))?,
+            ServerPartValues {
+                filler: ZEROS,
+                agreement: ToyAgreement,
+                host_signer: ToySigner,
+            },
+            [0xd1; 16],
+            [2; 32],
+            &mut from_server,
+            &mut sent,
+        )?;
+        Ok(Session {
+            client,
+            server,
+            from_client,
+            from_server,
+            sent,
+        })
+    }
+
+    /// The exchange that both have begun, to its end.
+    pub fn exchange(&mut self) -> Result<(), TransportFault> {
+        self.server_takes()?;
+        self.client_takes()?;
+        self.server_takes()?;
+        self.client_takes()?;
+        self.server_takes()
+    }
+
+    /// The user is authenticated.
+    pub fn authenticate(&mut self) {
+        self.client.authenticated();
+        self.server.authenticated();
+    }
+
+    /// One more exchange, begun by the client.
+    pub fn rekey(&mut self) -> Result<(), TransportFault> {
+        self.client.feed_material([0xa2; 16], [0xa2; 32]);
+        self.server.feed_material([0xb2; 16], [0xb2; 32]);
+        self.client
+            .ask(TransportAsk::Rekey, &mut self.from_client, &mut self.sent)?;
+        self.exchange()?;
+        self.sent.clear();
+        Ok(())
+    }
+
+    /// The client sends data, and the server takes it.
+    pub fn data(&mut self, body: &[u8]) -> Result<(), TransportFault>
+        requires { length body.now ≤ 32768 }
+    {
+        let message = Message::ChannelData { recipient: 0, body };
+        self.client.ask(
+            TransportAsk::Send(&message),
+            &mut self.from_client,
+            &mut self.sent,
+        )?;
+        self.server_takes()?;
+        self.sent.clear();
+        Ok(())
+    }
+
+    // The server takes all that the client put out.
+    fn server_takes(&mut self) -> Result<(), TransportFault> {
+        let mut rest = self.from_client.as_slice();
+        for _ in 0..MOST_UNITS {
+            if rest.is_empty() {
+                break;
+            }
+            let (used, turn) = self
+                .server
+                .take(rest, &mut self.from_server, &mut self.sent);
+            turn?;
+            rest = rest.get(used..).unwrap_or(&[]);
+        }
+        self.from_client.clear();
+        Ok(())
+    }
+
+    // The client takes all that the server put out.
+    fn client_takes(&mut self) -> Result<(), TransportFault> {
+        let mut rest = self.from_server.as_slice();
+        for _ in 0..MOST_UNITS {
+            if rest.is_empty() {
+                break;
+            }
+            let (used, turn) = self
+                .client
+                .take(rest, &mut self.from_client, &mut self.sent);
+            turn?;
+            rest = rest.get(used..).unwrap_or(&[]);
+        }
+        self.from_server.clear();
+        Ok(())
+    }
+}

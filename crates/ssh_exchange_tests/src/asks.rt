@@ -1,0 +1,184 @@
+//! What an end is asked: what is refused, which changes nothing, and when an exchange of keys is due.
+
+use crate::pair::Pair;
+use crate::sessions::{AUTHENTICATION, CHANNEL, FEEDS, FIRST, SECOND, SERVICE};
+use crate::step::{Script, Step};
+use crate::toys::settings;
+use ssh_transport::{Settings, Strictness};
+use ssh_types::Side;
+use ssh_types::Side::{Client, Server};
+use std::test::*;
+
+// A client that has begun an exchange, and one that is in it and not blocked.
+const BEGUN: Script = &[(Step::Rekey(Client), "c asked rekey; c sent 20 KEXINIT 136")];
+
+const AT_SERVER: Script = &[
+    (
+        Step::PassAll(Client),
+        "s took 20 KEXINIT 136; s sent 20 KEXINIT 136",
+    ),
+    (
+        Step::PassAll(Server),
+        "c took 20 KEXINIT 136; c sent 30 KEX_ECDH_INIT 37",
+    ),
+    (
+        Step::PassAll(Client),
+        "s took 30 KEX_ECDH_INIT 37; s sent 31 KEX_ECDH_REPLY 85; s sent 21 NEWKEYS 1; s told completed 2",
+    ),
+    (Step::Feed(Server, 0xb3), ""),
+];
+
+const ASKED: Script = &[(
+    Step::Service(Client),
+    "c asked service; c sent 5 SERVICE_REQUEST 17",
+)];
+
+const LONG: &[u8] = &[0x78; 1025];
+
+const OPENED: &[Script] = &[FIRST, SERVICE, AUTHENTICATION];
+
+// What two ends did before, who is asked for what, and the lines.
+const TABLE: &[(&[Script], Step<'static>, Side, &str)] = &[
+    (
+        &[],
+        Step::Service(Server),
+        Server,
+        "s asked service; s ask refused 11 WrongSide",
+    ),
+    (
+        OPENED,
+        Step::Service(Server),
+        Server,
+        "s asked service; s ask refused 11 WrongSide",
+    ),
+    (
+        &[],
+        Step::Service(Client),
+        Client,
+        "c asked service; c ask refused 1 NotYet",
+    ),
+    (
+        &[FIRST, ASKED],
+        Step::Service(Client),
+        Client,
+        "c asked service; c ask refused 2 Busy",
+    ),
+    (
+        OPENED,
+        Step::Service(Client),
+        Client,
+        "c asked service; c ask refused 2 Busy",
+    ),
+    (
+        &[],
+        Step::Rekey(Client),
+        Client,
+        "c asked rekey; c ask refused 1 NotYet",
+    ),
+    (
+        &[FIRST, SERVICE],
+        Step::Rekey(Server),
+        Server,
+        "s asked rekey; s ask refused 1 NotYet",
+    ),
+    (
+        OPENED,
+        Step::Rekey(Client),
+        Client,
+        "c asked rekey; c ask refused 12 NoMaterial",
+    ),
+    (
+        OPENED,
+        Step::Rekey(Server),
+        Server,
+        "s asked rekey; s ask refused 12 NoMaterial",
+    ),
+    (
+        &[FIRST, SERVICE, AUTHENTICATION, FEEDS, BEGUN],
+        Step::Rekey(Client),
+        Client,
+        "c asked rekey; c ask refused 2 Busy",
+    ),
+    (
+        &[FIRST, SERVICE, AUTHENTICATION, FEEDS, BEGUN, AT_SERVER],
+        Step::Rekey(Server),
+        Server,
+        "s asked rekey; s ask refused 2 Busy",
+    ),
+    (
+        &[],
+        Step::Disconnect(Client, LONG),
+        Client,
+        "c asked disconnect; c ask refused 5 TooLong",
+    ),
+    (
+        OPENED,
+        Step::Disconnect(Server, LONG),
+        Server,
+        "s asked disconnect; s ask refused 5 TooLong",
+    ),
+];
+
+#[test]
+fn refused_asks_change_nothing(rt: HostRuntime) -> Result<(), Fail> {
+    for (index, (scripts, step, side, lines)) in TABLE.iter().enumerate() {
+        let mut pair = Pair::strict(rt.alloc())?;
+        assert_eq!(rt; pair.differs(scripts, false)?, None, "before row {index}");
+        let end = pair.party(*side).end();
+        let before = (end.numbers(), end.epochs(), end.blocked());
+        let size = pair.party(*side).out().len();
+        assert_eq!(rt; pair.play(*step)?, *lines, "row {index}");
+        let end = pair.party(*side).end();
+        assert_eq!(rt;
+            (end.numbers(), end.epochs(), end.blocked()),
+            before,
+            "row {index}"
+        );
+        assert_eq!(rt; pair.party(*side).out().len(), size, "row {index}");
+    }
+    Ok(())
+}
+
+#[test]
+fn the_longest_description(rt: HostRuntime) -> Result<(), Fail> {
+    let mut pair = Pair::strict(rt.alloc())?;
+    let longest = LONG.get(1..).unwrap_or(LONG);
+    let lines = pair.play(Step::Disconnect(Client, longest))?;
+    assert_eq!(rt;
+        lines,
+        "c asked disconnect; c sent 1 DISCONNECT 1037; c died"
+    );
+    let lines = pair.play(Step::PassAll(Client))?;
+    assert_eq!(rt;
+        lines,
+        "s took line 9; s took 20 KEXINIT 165; s took 1 DISCONNECT 1037; s told disconnected 11; s died"
+    );
+    Ok(())
+}
+
+// An exchange is due once 64 packets were sent in the epoch, and no longer behind it.
+#[test]
+fn when_an_exchange_is_due(rt: HostRuntime) -> Result<(), Fail> {
+    let of_client = Settings {
+        epoch_limit: 64,
+        ..settings(b"c", Strictness::Require)
+    };
+    let of_server = settings(b"s", Strictness::Require);
+    let mut pair = Pair::new(rt.alloc(), &of_client, &of_server)?;
+    assert_eq!(rt;
+        pair.differs(&[FIRST, SERVICE, AUTHENTICATION, CHANNEL], false)?,
+        None
+    );
+    assert_eq!(rt; pair.party(Client).end().numbers().0, 3);
+    for _ in 0..61 {
+        assert!(rt; !pair.party(Client).end().rekey_due());
+        let lines = pair.play(Step::Send(Client, b"^\0\0\0\0\0\0\0\0"))?;
+        assert_eq!(rt; lines, "c asked send; c sent 94 CHANNEL_DATA 9");
+    }
+    assert!(rt; pair.party(Client).end().rekey_due());
+    assert!(rt; !pair.party(Server).end().rekey_due());
+    pair.play(Step::PassAll(Client))?;
+    assert_eq!(rt; pair.differs(&[FEEDS, SECOND], false)?, None);
+    assert!(rt; !pair.party(Client).end().rekey_due());
+    Ok(())
+}

@@ -1,0 +1,274 @@
+//! Which numbers may come at each place of a session: payloads of one byte.
+
+use crate::kexinits::{OF_CLIENT, kexinit};
+use crate::pair::Pair;
+use crate::sessions::{AUTHENTICATION, FEEDS, FIRST, PLAIN_FIRST, SECOND, SERVICE};
+use crate::step::{Script, Step};
+use crate::toys::settings;
+use Ends::{Extended, Offering, Plain, Strict};
+use Kind::{First, FirstNewKeys, Later, LaterNewKeys, Normal};
+use ssh_message::name;
+use ssh_transport::{Settings, Strictness};
+use ssh_types::Side;
+use ssh_types::Side::{Client, Server};
+use std::alloc::{AllocError, Global};
+use std::test::*;
+
+// What two ends are.
+#[derive(Clone, Copy, PartialEq, Eq)]
+enum Ends {
+    // They require strict key exchange, as they do where they take extensions.
+    Strict,
+    Offering,
+    Plain,
+    Extended,
+}
+
+// What may come at a place beside the numbers that it names.
+#[derive(Clone, Copy, PartialEq, Eq)]
+enum Kind {
+    // Nothing.
+    First,
+    // NEWKEYS.
+    FirstNewKeys,
+    // Unknown numbers below 30, and NEWKEYS in the second.
+    Later,
+    LaterNewKeys,
+    // Unknown numbers below 50, and those from 50 on, which are left to the layers above.
+    Normal,
+}
+
+// A place: of such ends after so many steps of these scripts, at this side, where these numbers may be taken and are no message by
+// themselves.
+type Place = (Ends, &'static [Script], usize, Side, Kind, &'static [u8]);
+
+// The lines of both ends alone, and what the client's NEWKEYS leaves out.
+const LINES: Script = &[
+    (Step::Pass(Client, 11), "s took line 9"),
+    (Step::Pass(Server, 11), "c took line 9"),
+];
+
+// A first exchange whose last packets come one by one.
+const SLOW: Script = &[
+    (
+        Step::PassAll(Client),
+        "s took line 9; s took 20 KEXINIT 165",
+    ),
+    (
+        Step::PassAll(Server),
+        "c took line 9; c took 20 KEXINIT 165; c sent 30 KEX_ECDH_INIT 37",
+    ),
+    (
+        Step::PassAll(Client),
+        "s took 30 KEX_ECDH_INIT 37; s sent 31 KEX_ECDH_REPLY 85; s sent 21 NEWKEYS 1; s told completed 1",
+    ),
+    (
+        Step::Pass(Server, 96),
+        "c took 31 KEX_ECDH_REPLY 85; c sent 21 NEWKEYS 1; c told completed 1",
+    ),
+];
+
+// An exchange where each end takes extensions, with none announced; and then a packet that is no EXT_INFO.
+const EXTENDED: Script = &[
+    (
+        Step::PassAll(Client),
+        "s took line 9; s took 20 KEXINIT 176",
+    ),
+    (
+        Step::PassAll(Server),
+        "c took line 9; c took 20 KEXINIT 176; c sent 30 KEX_ECDH_INIT 37",
+    ),
+    (
+        Step::PassAll(Client),
+        "s took 30 KEX_ECDH_INIT 37; s sent 31 KEX_ECDH_REPLY 85; s sent 21 NEWKEYS 1; s told completed 1",
+    ),
+    (
+        Step::PassAll(Server),
+        "c took 31 KEX_ECDH_REPLY 85; c sent 21 NEWKEYS 1; c told completed 1; c took 21 NEWKEYS 1",
+    ),
+    (Step::PassAll(Client), "s took 21 NEWKEYS 1"),
+    (
+        Step::Forge(Client, b"\x02\0\0\0\0"),
+        "c took 2 IGNORE 5; c told ignored",
+    ),
+    (
+        Step::Forge(Server, b"\x02\0\0\0\0"),
+        "s took 2 IGNORE 5; s told ignored",
+    ),
+];
+
+// A session up to the second exchange, which has 6 steps.
+const REKEYED: &[Script] = &[FIRST, SERVICE, AUTHENTICATION, FEEDS, SECOND];
+
+const PLACES: &[Place] = &[
+    (Strict, &[LINES], 2, Server, First, &[1, 20]),
+    (Strict, &[LINES], 2, Client, First, &[1, 20]),
+    (Strict, &[SLOW], 1, Server, First, &[1, 30]),
+    (Strict, &[SLOW], 2, Client, First, &[1, 31]),
+    (Strict, &[SLOW], 3, Server, FirstNewKeys, &[1]),
+    (Strict, &[SLOW], 4, Client, FirstNewKeys, &[1]),
+    (Strict, &[FIRST], 5, Server, Normal, &[1, 2, 3, 4, 5]),
+    (Strict, &[FIRST], 5, Client, Normal, &[1, 2, 3, 4]),
+    (
+        Strict,
+        &[FIRST, SERVICE],
+        6,
+        Client,
+        Normal,
+        &[1, 2, 3, 4, 6],
+    ),
+    (Strict, &[FIRST, SERVICE], 8, Server, Normal, &[1, 2, 3, 4]),
+    (Strict, &[FIRST, SERVICE], 8, Client, Normal, &[1, 2, 3, 4]),
+    (Strict, REKEYED, 14, Server, Normal, &[1, 2, 3, 4, 20]),
+    (Strict, REKEYED, 14, Client, Normal, &[1, 2, 3, 4, 20]),
+    // A client that sent its second KEXINIT and took none.
+    (Strict, REKEYED, 17, Client, Normal, &[1, 2, 3, 4, 20]),
+    (Strict, REKEYED, 18, Server, Later, &[1, 2, 3, 4, 30]),
+    (Strict, REKEYED, 19, Client, Later, &[1, 2, 3, 4, 31]),
+    (Strict, REKEYED, 20, Server, LaterNewKeys, &[1, 2, 3, 4]),
+    (Strict, REKEYED, 22, Server, Normal, &[1, 2, 3, 4, 20]),
+    (Strict, REKEYED, 22, Client, Normal, &[1, 2, 3, 4, 20]),
+    (Offering, &[LINES], 2, Server, First, &[1, 2, 3, 4, 20]),
+    (Offering, &[LINES], 2, Client, First, &[1, 2, 3, 4, 20]),
+    (Offering, &[SLOW], 1, Server, First, &[1, 30]),
+    (Offering, &[SLOW], 4, Client, FirstNewKeys, &[1]),
+    (Plain, &[LINES], 2, Server, First, &[1, 2, 3, 4, 20]),
+    (Plain, &[LINES], 2, Client, First, &[1, 2, 3, 4, 20]),
+    (Plain, &[PLAIN_FIRST], 1, Server, First, &[1, 2, 3, 4, 30]),
+    (Plain, &[PLAIN_FIRST], 2, Client, First, &[1, 2, 3, 4, 31]),
+    (
+        Plain,
+        &[PLAIN_FIRST],
+        3,
+        Server,
+        FirstNewKeys,
+        &[1, 2, 3, 4],
+    ),
+    (Plain, &[PLAIN_FIRST], 5, Server, Normal, &[1, 2, 3, 4, 5]),
+    (
+        Extended,
+        &[EXTENDED],
+        5,
+        Server,
+        Normal,
+        &[1, 2, 3, 4, 5, 7],
+    ),
+    (Extended, &[EXTENDED], 5, Client, Normal, &[1, 2, 3, 4, 7]),
+    (Extended, &[EXTENDED], 7, Server, Normal, &[1, 2, 3, 4, 5]),
+    (Extended, &[EXTENDED], 7, Client, Normal, &[1, 2, 3, 4]),
+];
+
+// Two ends at a place, or `None` where the way to it has other lines.
+fn at(
+    alloc: Global,
+    ends: Ends,
+    scripts: &[Script],
+    steps: usize,
+) -> Result<Option<Pair>, AllocError> {
+    let strictness = match ends {
+        Strict | Extended => Strictness::Require,
+        Offering => Strictness::Offer,
+        Plain => Strictness::Off,
+    };
+    let takes_extensions = ends == Extended;
+    let client = Settings {
+        takes_extensions,
+        ..settings(b"c", strictness)
+    };
+    let server = Settings {
+        takes_extensions,
+        ..settings(b"s", strictness)
+    };
+    let mut pair = Pair::new(alloc, &client, &server)?;
+    let mut left = steps;
+    for script in scripts.iter() {
+        let part = script.get(..left).unwrap_or(script);
+        left = left.saturating_sub(part.len());
+        if pair.script_differs(part, false)?.is_some() {
+            return Ok(None);
+        }
+    }
+    Ok(Some(pair))
+}
+
+// The lines on a payload of this byte at a place. Its packet has this number.
+fn wanted(alloc: Global, place: Place, byte: u8, number: u64) -> Result<String, AllocError> {
+    let (_, _, _, side, kind, longer) = place;
+    let side = if side == Client { "c" } else { "s" };
+    let name = name(byte);
+    let is_newkeys = kind == FirstNewKeys || kind == LaterNewKeys;
+    if byte == 21 && is_newkeys {
+        return format!(in alloc; "{side} took 21 NEWKEYS 1");
+    }
+    if longer.contains(&byte) {
+        return format!(in alloc;
+            "{side} refused 6 BadMessage; {side} sent 1 DISCONNECT 23; {side} died"
+        );
+    }
+    if byte < unknown_below(kind) && byte != 7 && name == "UNKNOWN" {
+        return format!(in alloc; "{side} took {byte} UNKNOWN 1; {side} sent 3 UNIMPLEMENTED 5");
+    }
+    if byte >= 50 && kind == Normal {
+        return format!(in alloc; "{side} took {byte} {name} 1; {side} up {number}");
+    }
+    format!(in alloc; "{side} refused 7 Unexpected; {side} sent 1 DISCONNECT 23; {side} died")
+}
+
+// Unknown numbers below this one are answered.
+fn unknown_below(kind: Kind) -> u8 {
+    match kind {
+        First | FirstNewKeys => 0,
+        Later | LaterNewKeys => 30,
+        Normal => 50,
+    }
+}
+
+// Each number that is known below 50, those beside it, and those at both sides of each bound.
+const BYTES: &[u8] = &[
+    0, 1, 2, 3, 4, 5, 6, 7, 8, 19, 20, 21, 22, 29, 30, 31, 32, 49, 50, 52, 60, 79, 80, 100, 101,
+    255,
+];
+
+#[test]
+fn each_number_at_each_place(rt: HostRuntime) -> Result<(), Fail> {
+    for (index, place) in PLACES.iter().enumerate() {
+        let (ends, scripts, steps, side, _, _) = *place;
+        for byte in BYTES {
+            let byte = *byte;
+            let Some(mut pair) = at(rt.alloc(), ends, scripts, steps)? else {
+                panic!(rt; "the way to place {index} has other lines");
+            };
+            let number = pair.party(side).end().numbers().1;
+            let lines = pair.play(Step::Forge(side, &[byte]))?;
+            let wanted = wanted(rt.alloc(), *place, byte, number)?;
+            assert_eq!(rt; lines, wanted.as_str(), "{byte} at place {index}");
+        }
+    }
+    Ok(())
+}
+
+// Behind a KEXINIT whose guess is wrong the next packet is numbered 30 to 49, and not read.
+#[test]
+fn the_packet_after_a_wrong_guess(rt: HostRuntime) -> Result<(), Fail> {
+    let kex = "curve25519-sha256@libssh.org,curve25519-sha256,kex-strict-c-v00@openssh.com";
+    let wrong = kexinit(rt.alloc(), 0xc1, &OF_CLIENT, &[(0, kex)], true)?;
+    for byte in 0..=255u8 {
+        let mut pair = Pair::strict(rt.alloc())?;
+        pair.play(Step::Pass(Client, 11))?;
+        assert_eq!(rt;
+            pair.play(Step::Forge(Server, &wrong))?,
+            "s took 20 KEXINIT 194"
+        );
+        let lines = pair.play(Step::Forge(Server, &[byte]))?;
+        let wanted = if 30 <= byte && byte < 50 {
+            format!(in rt.alloc(); "s took {byte} {} 1; s told ignored", name(byte))?
+        } else {
+            String::from_str(
+                rt.alloc(),
+                "s refused 7 Unexpected; s sent 1 DISCONNECT 23; s died",
+            )?
+        };
+        assert_eq!(rt; lines, wanted.as_str(), "{byte}");
+    }
+    Ok(())
+}

@@ -1,0 +1,284 @@
+//! What KEXINITs are refused for, what is chosen of them, and guesses (RFC 4253 section 7).
+
+use crate::kexinits::{OF_CLIENT, OF_SERVER, kexinit};
+use crate::pair::Pair;
+use crate::sessions::{AUTHENTICATION, FEEDS, FIRST, SERVICE};
+use crate::step::Step;
+use crate::toys::settings;
+use ssh_transport::{Settings, Strictness};
+use ssh_types::Side;
+use ssh_types::Side::{Client, Server};
+use std::alloc::{AllocError, Global};
+use std::test::*;
+
+// The lines of a client and of a server, before anything else.
+fn lines(alloc: Global) -> Result<Pair, AllocError> {
+    let mut pair = Pair::strict(alloc)?;
+    pair.play(Step::Pass(Client, 11))?;
+    pair.play(Step::Pass(Server, 11))?;
+    Ok(pair)
+}
+
+// The place and the text of a list in a first KEXINIT, and why it is refused, if it is, at a server and at a client.
+const FIRST_OFFERS: &[(usize, &str, &str)] = &[
+    // The peer's marker, which stands anywhere, beside the other side's. Both are taken out before the choice.
+    (0, "curve25519-sha256", "9 NotStrict"),
+    (0, "", "9 NotStrict"),
+    (0, "MARKER", "8 NoCommon"),
+    (0, "MARKER,curve25519-sha256", ""),
+    (0, "OTHER,curve25519-sha256", "9 NotStrict"),
+    (0, "curve25519-sha256,OTHER,MARKER", ""),
+    (0, "OTHER,MARKER", "8 NoCommon"),
+    (0, "ext-info-c,ext-info-s,MARKER", "8 NoCommon"),
+    // An unknown name, or a second one.
+    (
+        0,
+        "sntrup761x25519-sha512@openssh.com,curve25519-sha256,MARKER",
+        "",
+    ),
+    (0, "curve25519-sha256@libssh.org,MARKER", "8 NoCommon"),
+    (1, "ssh-ed25519", "8 NoCommon"),
+    (1, "", "8 NoCommon"),
+    (1, "ssh-ed25519,toy@example.com", ""),
+    (2, "aes128-ctr", "8 NoCommon"),
+    (2, "aes128-ctr,none", ""),
+    (3, "aes128-ctr", "8 NoCommon"),
+    (4, "hmac-sha1", "8 NoCommon"),
+    (4, "hmac-sha1,hmac-sha2-256", ""),
+    (5, "hmac-sha1", "8 NoCommon"),
+    (6, "zlib", "8 NoCommon"),
+    (6, "zlib@openssh.com,zlib,none", ""),
+    (7, "", "8 NoCommon"),
+    // Languages are nobody's choice.
+    (8, "en,de", ""),
+    (9, "x", ""),
+    // No list of names.
+    (0, "curve25519-sha256,,MARKER", "6 BadMessage"),
+    (9, ",", "6 BadMessage"),
+];
+
+// The text of a list in a KEXINIT to this side.
+fn list(alloc: Global, to: Side, text: &str) -> Result<String, AllocError> {
+    let (own, other) = match to {
+        Side::Client => (
+            "kex-strict-s-v00@openssh.com",
+            "kex-strict-c-v00@openssh.com",
+        ),
+        Side::Server => (
+            "kex-strict-c-v00@openssh.com",
+            "kex-strict-s-v00@openssh.com",
+        ),
+    };
+    text.replace(alloc, "MARKER", own)?
+        .as_str()
+        .replace(alloc, "OTHER", other)
+}
+
+// The lines of a refusal by this side, or of a KEXINIT of so many bytes that is taken.
+fn wanted(alloc: Global, side: Side, why: &str, size: usize) -> Result<String, AllocError> {
+    let letter = if side == Client { "c" } else { "s" };
+    if let Some((_, name)) = why.split_once(' ') {
+        let size = name.len().saturating_add(13);
+        return format!(in alloc;
+            "{letter} refused {why}; {letter} sent 1 DISCONNECT {size}; {letter} died"
+        );
+    }
+    if side == Client {
+        return format!(in alloc; "c took 20 KEXINIT {size}; c sent 30 KEX_ECDH_INIT 37");
+    }
+    format!(in alloc; "s took 20 KEXINIT {size}")
+}
+
+#[test]
+fn first_offers(rt: HostRuntime) -> Result<(), Fail> {
+    for (side, lists) in [(Server, &OF_CLIENT), (Client, &OF_SERVER)] {
+        for (index, (place, text, why)) in FIRST_OFFERS.iter().enumerate() {
+            let text = list(rt.alloc(), side, text)?;
+            let others = [(*place, text.as_str())];
+            let payload = kexinit(rt.alloc(), 0xc1, lists, &others, false)?;
+            let mut pair = lines(rt.alloc())?;
+            let lines = pair.play(Step::Forge(side, &payload))?;
+            let wanted = wanted(rt.alloc(), side, why, payload.len())?;
+            assert_eq!(rt; lines, wanted.as_str(), "row {index}");
+        }
+    }
+    Ok(())
+}
+
+// A KEXINIT with a guess by these two lists, and whether the packet after it is skipped (RFC 4253 section 7).
+const GUESSES: &[(&str, &str, bool)] = &[
+    ("curve25519-sha256,MARKER", "toy@example.com", false),
+    ("MARKER,curve25519-sha256", "toy@example.com", false),
+    (
+        "OTHER,ext-info-c,curve25519-sha256,MARKER",
+        "toy@example.com",
+        false,
+    ),
+    ("curve25519-sha256,x,MARKER", "toy@example.com,x", false),
+    ("x,curve25519-sha256,MARKER", "toy@example.com", true),
+    ("curve25519-sha256,MARKER", "x,toy@example.com", true),
+];
+
+// Packets that may follow a KEXINIT with a guess at a server: a point of the same method, and one of another, which is longer.
+const POINT: &[u8] = b"\x1e\0\0\0 11111111111111111111111111111111";
+
+const OTHER_POINT: &[u8] = b"\x1e\0\0\0\x01\x04";
+
+#[test]
+fn guesses(rt: HostRuntime) -> Result<(), Fail> {
+    let answer =
+        "s took 30 KEX_ECDH_INIT 37; s sent 31 KEX_ECDH_REPLY 85; s sent 21 NEWKEYS 1; s told completed 1";
+    for (index, (kex, host, is_wrong)) in GUESSES.iter().enumerate() {
+        let kex = list(rt.alloc(), Server, kex)?;
+        let others = [(0, kex.as_str()), (1, *host)];
+        let mut pair = lines(rt.alloc())?;
+        pair.play(Step::Forge(
+            Server,
+            &kexinit(rt.alloc(), 0xc1, &OF_CLIENT, &others, true)?,
+        ))?;
+        if *is_wrong {
+            let lines = pair.play(Step::Forge(Server, OTHER_POINT))?;
+            assert_eq!(rt;
+                lines,
+                "s took 30 KEX_ECDH_INIT 6; s told ignored",
+                "row {index}"
+            );
+        }
+        assert_eq!(rt;
+            pair.play(Step::Forge(Server, POINT))?,
+            answer,
+            "row {index}"
+        );
+        // The same lists with no guess: nothing is skipped.
+        let mut pair = lines(rt.alloc())?;
+        pair.play(Step::Forge(
+            Server,
+            &kexinit(rt.alloc(), 0xc1, &OF_CLIENT, &others, false)?,
+        ))?;
+        assert_eq!(rt;
+            pair.play(Step::Forge(Server, POINT))?,
+            answer,
+            "row {index}"
+        );
+    }
+    Ok(())
+}
+
+#[test]
+fn a_wrong_guess_of_a_server(rt: HostRuntime) -> Result<(), Fail> {
+    let kex = list(rt.alloc(), Client, "x,curve25519-sha256,MARKER")?;
+    let others = [(0, kex.as_str())];
+    let wrong = kexinit(rt.alloc(), 0xd1, &OF_SERVER, &others, true)?;
+    let mut pair = lines(rt.alloc())?;
+    let lines = pair.play(Step::Forge(Client, &wrong))?;
+    assert_eq!(rt; lines, "c took 20 KEXINIT 167; c sent 30 KEX_ECDH_INIT 37");
+    assert_eq!(rt;
+        pair.play(Step::Forge(Client, b"\x1f"))?,
+        "c took 31 KEX_ECDH_REPLY 1; c told ignored"
+    );
+    let lines = pair.play(Step::Forge(Client, b"\x1f"))?;
+    assert_eq!(rt;
+        lines,
+        "c refused 6 BadMessage; c sent 1 DISCONNECT 23; c died"
+    );
+    Ok(())
+}
+
+// A KEXINIT of 2,102 bytes, with names of up to 44 letters that nobody knows, and a wrong guess: no recorded one is longer.
+#[test]
+fn a_long_offer(rt: HostRuntime) -> Result<(), Fail> {
+    let mut host = String::new(rt.alloc());
+    for _ in 0..43 {
+        write!(host, "sk-ecdsa-sha2-nistp256-cert-v01@openssh.com4,")?;
+    }
+    write!(host, "x,toy@example.com")?;
+    let others = [(1, host.as_str())];
+    let payload = kexinit(rt.alloc(), 0xc1, &OF_CLIENT, &others, true)?;
+    let mut pair = lines(rt.alloc())?;
+    let taken = pair.play(Step::Forge(Server, &payload))?;
+    assert_eq!(rt; taken, "s took 20 KEXINIT 2102");
+    let skipped = pair.play(Step::Forge(Server, OTHER_POINT))?;
+    assert_eq!(rt; skipped, "s took 30 KEX_ECDH_INIT 6; s told ignored");
+    pair.play(Step::Forge(Server, POINT))?;
+    assert_eq!(rt; pair.party(Server).end().epochs(), (1, 0));
+    Ok(())
+}
+
+// The place and the text of a list in a KEXINIT to an authenticated end that has no pair of cookie and secret, and to one that has.
+const LATER_OFFERS: &[(usize, &str, &str, &str)] = &[
+    (0, "curve25519-sha256", "12 NoMaterial", ""),
+    (0, "curve25519-sha256,MARKER", "12 NoMaterial", ""),
+    (0, "MARKER", "8 NoCommon", "8 NoCommon"),
+    (1, "x", "8 NoCommon", "8 NoCommon"),
+    (2, "x", "8 NoCommon", "8 NoCommon"),
+    (8, ",", "6 BadMessage", "6 BadMessage"),
+];
+
+#[test]
+fn later_offers(rt: HostRuntime) -> Result<(), Fail> {
+    for (side, lists) in [(Server, &OF_CLIENT), (Client, &OF_SERVER)] {
+        for (index, (place, text, without, fed)) in LATER_OFFERS.iter().enumerate() {
+            let text = list(rt.alloc(), side, text)?;
+            let others = [(*place, text.as_str())];
+            let payload = kexinit(rt.alloc(), 0xa2, lists, &others, false)?;
+            for (is_fed, why) in [(false, without), (true, fed)] {
+                let mut pair = Pair::strict(rt.alloc())?;
+                assert_eq!(rt;
+                    pair.differs(&[FIRST, SERVICE, AUTHENTICATION], false)?,
+                    None
+                );
+                if is_fed {
+                    pair.differs(&[FEEDS], false)?;
+                }
+                let lines = pair.play(Step::Forge(side, &payload))?;
+                let wanted = later_wanted(rt.alloc(), side, why, payload.len())?;
+                assert_eq!(rt; lines, wanted.as_str(), "row {index}");
+            }
+        }
+    }
+    Ok(())
+}
+
+// The lines of a refusal, or of a KEXINIT that is answered by the end's own.
+fn later_wanted(alloc: Global, side: Side, why: &str, size: usize) -> Result<String, AllocError> {
+    if !why.is_empty() {
+        return wanted(alloc, side, why, size);
+    }
+    if side == Client {
+        return format!(in alloc;
+            "c took 20 KEXINIT {size}; c sent 20 KEXINIT 136; c sent 30 KEX_ECDH_INIT 37"
+        );
+    }
+    format!(in alloc; "s took 20 KEXINIT {size}; s sent 20 KEXINIT 136")
+}
+
+// Where both ends know two names of the method, the first of the client's is chosen; each name is the same method.
+#[test]
+fn the_clients_first_name_is_chosen(rt: HostRuntime) -> Result<(), Fail> {
+    let of_client = Settings {
+        kex: &[b"curve25519-sha256@libssh.org", b"curve25519-sha256"],
+        host: &[b"x", b"toy@example.com", b"y"],
+        ..settings(b"c", Strictness::Require)
+    };
+    let of_server = Settings {
+        kex: &[b"curve25519-sha256", b"curve25519-sha256@libssh.org"],
+        host: &[b"y", b"toy@example.com"],
+        ..settings(b"s", Strictness::Require)
+    };
+    let mut pair = Pair::new(rt.alloc(), &of_client, &of_server)?;
+    for side in [Client, Server, Client, Server, Client] {
+        pair.play(Step::PassAll(side))?;
+    }
+    for side in [Client, Server] {
+        assert!(rt; pair.party(side).end().epochs() == (1, 1));
+        let names = pair.party(side).chosen();
+        assert_eq!(rt;
+            names,
+            Some((
+                b"curve25519-sha256@libssh.org".as_slice(),
+                b"toy@example.com".as_slice()
+            ))
+        );
+    }
+    Ok(())
+}

@@ -1,0 +1,378 @@
+//! Recorded sessions of OpenSSH: a client and a server with the recorded cookies, points, results and signatures send and take the
+//! recorded bytes, through two exchanges of keys.
+
+ghost use Rattle.ssh_transport_machine.specs.Asks.{IsSendable};
+
+mod openssh_client;
+mod openssh_server;
+mod parts;
+
+use crate::toys::settings;
+use parts::{RecordedAgreement, RecordedClient, RecordedHost, RecordedServer};
+use ssh_packet::{HmacKey, MacOnly, write_packet};
+use ssh_toys::ToyFiller;
+use ssh_transport::{
+    ClientPartValues, ClientTransport, Config, ServerPartValues, ServerTransport, Settings,
+    Strictness, TransportAsk, TransportTurn,
+};
+use ssh_types::Side;
+use std::alloc::{AllocError, Global};
+use std::test::*;
+
+// The settings of the independent end, which takes extensions and announces none.
+fn recorded_settings() -> Settings<'static> {
+    Settings {
+        kex: &[b"curve25519-sha256", b"curve25519-sha256@libssh.org"],
+        host: &[b"ssh-ed25519"],
+        takes_extensions: true,
+        ..settings(b"oracle_1", Strictness::Require)
+    }
+}
+
+// So many bytes of hexadecimal digits, with zeros where there are fewer.
+fn array<const N: usize>(alloc: Global, digits: &str) -> Result<[u8; N], AllocError> {
+    let mut array = [0; N];
+    let bytes = bytes(alloc, digits)?;
+    for (place, byte) in array.iter_mut().zip(bytes.iter()) {
+        *place = *byte;
+    }
+    Ok(array)
+}
+
+// The bytes of hexadecimal digits, or none where they are not.
+fn bytes(alloc: Global, digits: &str) -> Result<Vec<u8>, AllocError> {
+    match hex::decode(alloc, digits) {
+        Ok(bytes) => Ok(bytes),
+        Err(_) => Ok(Vec::new(alloc)),
+    }
+}
+
+// The points, and what was shared.
+fn agreement(
+    alloc: Global,
+    points: &[&str; 2],
+    shared: &[&str; 2],
+) -> Result<RecordedAgreement, AllocError> {
+    Ok(RecordedAgreement {
+        first_shared: array(alloc, shared[0])?,
+        first_point: array(alloc, points[0])?,
+        second_point: array(alloc, points[1])?,
+    })
+}
+
+// The host key, and what it signed.
+fn host(
+    alloc: Global,
+    key: &str,
+    hashes: &[&str; 2],
+    signatures: &[&str; 2],
+) -> Result<RecordedHost, AllocError> {
+    Ok(RecordedHost {
+        key: array(alloc, key)?,
+        first_hash: array(alloc, hashes[0])?,
+        first_signature: array(alloc, signatures[0])?,
+        second_hash: array(alloc, hashes[1])?,
+        second_signature: array(alloc, signatures[1])?,
+    })
+}
+
+// The payload in the bytes of a packet.
+fn payload_of(wire: &[u8]) -> Option<&[u8]> {
+    let length = u32::from_be_bytes([*wire.first()?, *wire.get(1)?, *wire.get(2)?, *wire.get(3)?]);
+    let padding = *wire.get(4)? as usize;
+    let end = (length as usize).checked_add(4)?.checked_sub(padding)?;
+    wire.get(5..end)
+}
+
+// A client, what it put out, and how much of that was compared.
+struct Recording {
+    alloc: Global,
+    client: ClientTransport<RecordedClient>,
+    out: Vec<u8>,
+    sent: Vec<Vec<u8>>,
+    compared: usize,
+}
+
+impl Drop for Recording {
+    fn drop(self) {
+        let Recording {
+            alloc: _,
+            client: _,
+            out: _,
+            sent: _,
+            compared: _,
+        } = self;
+    }
+}
+
+impl Recording {
+    // A client with the parts of the recorded one.
+    fn new(alloc: Global) -> Result<Recording, Fail> {
+        let config = Config::<MacOnly>::new(alloc, &recorded_settings())?;
+        let parts: ClientPartValues<RecordedClient> = ClientPartValues {
+            filler: ToyFiller { byte: 0 },
+            agreement: agreement(alloc, &openssh_server::POINTS, &openssh_server::SHARED)?,
+            host_trust: host(
+                alloc,
+                openssh_server::HOST_KEY,
+                &openssh_server::HASHES,
+                &openssh_server::SIGNATURES,
+            )?,
+        };
+        let cookie = array(alloc, openssh_server::COOKIES[0])?;
+        let secret = array(alloc, openssh_server::SHARED[0])?;
+        let mut out = Vec::new(alloc);
+        let mut sent = Vec::new(alloc);
+        let client = ClientTransport::new(
+            alloc, config, parts, cookie, secret, &mut out, &mut sent,
+        )?;
+        Ok(Recording {
+            alloc,
+            client,
+            out,
+            sent,
+            compared: 18,
+        })
+    }
+
+    // The client takes a packet of the server. It answers whether that is one of this payload.
+    fn takes(&mut self, wire: &[u8]) -> bool {
+        let number = self.client.numbers().1;
+        let (used, turn) = self.client.take(wire, &mut self.out, &mut self.sent);
+        let is_taken = match turn {
+            Ok(TransportTurn::Up(shown)) => shown as u64 == number,
+            Ok(TransportTurn::Done(_)) | Ok(TransportTurn::Completed(_)) => true,
+            _ => false,
+        };
+        if self.client.payload() == b"4".as_slice() {
+            self.client.authenticated();
+        }
+        is_taken && used == wire.len() && Some(self.client.payload()) == payload_of(wire)
+    }
+
+    // The client puts out a packet. It is asked where it does not send that by itself. It answers whether the bytes are the same.
+    fn sends(&mut self, wire: &[u8]) -> Result<bool, AllocError> {
+        let Some(payload) = payload_of(wire) else {
+            return Ok(false);
+        };
+        if self.out.len() == self.compared && !self.is_asked(payload)? {
+            return Ok(false);
+        }
+        let waiting = self.out.as_slice().get(self.compared..).unwrap_or(&[]);
+        let is_same = waiting.starts_with(wire);
+        self.compared = self.compared.saturating_add(wire.len());
+        Ok(is_same)
+    }
+
+    // The client is asked to send a payload.
+    fn is_asked(&mut self, payload: &[u8]) -> Result<bool, AllocError> {
+        if payload.is_empty() || payload.len() > 34_000 {
+            return Ok(false);
+        }
+        match payload.first() {
+            Some(&5) => Ok(self.is_done(TransportAsk::Service)),
+            Some(&20) => Ok(self.is_done(TransportAsk::Rekey)),
+            _ => {
+                let payload = payload.to_vec(self.alloc)?;
+                let answer = self.client.send(payload, &mut self.out, &mut self.sent);
+                Ok(answer.is_ok())
+            }
+        }
+    }
+
+    // It is asked for this.
+    fn is_done(&mut self, ask: TransportAsk<'_>) -> bool
+        requires { IsSendable ask }
+    {
+        let turn = self.client.ask(ask, &mut self.out, &mut self.sent);
+        turn.is_ok()
+    }
+}
+
+#[test]
+fn a_session_with_an_openssh_server(rt: HostRuntime) -> Result<(), Fail> {
+    let mut recording = Recording::new(rt.alloc())?;
+    let (used, _) = recording.client.take(
+        openssh_server::LINE,
+        &mut recording.out,
+        &mut recording.sent,
+    );
+    assert_eq!(rt; used, 23);
+    assert!(rt; recording.out.starts_with(b"SSH-2.0-oracle_1\r\n"));
+    let cookie = array(rt.alloc(), openssh_server::COOKIES[1])?;
+    let secret = array(rt.alloc(), openssh_server::SHARED[1])?;
+    assert!(rt; recording.client.feed_material(cookie, secret));
+    for (index, (from, digits)) in openssh_server::PACKETS.iter().enumerate() {
+        let wire = bytes(rt.alloc(), digits)?;
+        let is_as_recorded = match *from {
+            Side::Client => recording.sends(&wire)?,
+            Side::Server => recording.takes(&wire),
+        };
+        assert!(rt; is_as_recorded, "packet {index}");
+    }
+    let session = array(rt.alloc(), openssh_server::HASHES[0])?;
+    assert_eq!(rt; recording.client.session_id(), Some(&session));
+    assert_eq!(rt; recording.client.epochs(), (2, 2));
+    assert_eq!(rt; recording.compared, recording.out.len());
+    Ok(())
+}
+
+// A server with the parts of the recorded one.
+fn recorded_server(
+    alloc: Global,
+    out: &mut Vec<u8>,
+    sent: &mut Vec<Vec<u8>>,
+) -> Result<ServerTransport<RecordedServer>, Fail> {
+    let config = Config::<MacOnly>::new(alloc, &recorded_settings())?;
+    let parts: ServerPartValues<RecordedServer> = ServerPartValues {
+        filler: ToyFiller { byte: 0 },
+        agreement: agreement(
+            alloc,
+            &openssh_client::SERVER_POINTS,
+            &openssh_client::SHARED,
+        )?,
+        host_signer: host(
+            alloc,
+            openssh_client::HOST_KEY,
+            &openssh_client::HASHES,
+            &openssh_client::SIGNATURES,
+        )?,
+    };
+    let cookie = cookie_of(&bytes(alloc, openssh_client::SERVER_KEXINITS[0])?);
+    let secret = array(alloc, openssh_client::SHARED[0])?;
+    let server = ServerTransport::new(alloc, config, parts, cookie, secret, out, sent)?;
+    Ok(server)
+}
+
+// The cookie in the payload of a KEXINIT.
+fn cookie_of(payload: &[u8]) -> [u8; 16] {
+    let mut cookie = [0; 16];
+    for (place, byte) in cookie.iter_mut().zip(payload.iter().skip(1)) {
+        *place = *byte;
+    }
+    cookie
+}
+
+// The packet of a payload, as the one of this number, padded with zeros.
+fn sealed(
+    alloc: Global,
+    payload: &[u8],
+    key: Option<&HmacKey>,
+    number: u32,
+) -> Result<Vec<u8>, AllocError> {
+    let mut wire = Vec::new(alloc);
+    if !payload.is_empty() && payload.len() <= 34_000 {
+        let mut filler = ToyFiller { byte: 0 };
+        write_packet::<MacOnly, ToyFiller>(payload, key, number, &mut filler, &mut wire)?;
+    }
+    Ok(wire)
+}
+
+// The payload of a KEX_ECDH_INIT with this point.
+fn init(alloc: Global, point: &str) -> Result<Vec<u8>, AllocError> {
+    let mut payload = b"\x1e\0\0\0 ".to_vec(alloc)?;
+    payload.extend_from_slice(&bytes(alloc, point)?)?;
+    Ok(payload)
+}
+
+// That of a KEX_ECDH_REPLY.
+fn reply(alloc: Global, point: &str, signature: &str) -> Result<Vec<u8>, AllocError> {
+    let mut payload = b"\x1f\0\0\0\x33".to_vec(alloc)?;
+    payload.extend_from_slice(&bytes(alloc, openssh_client::HOST_KEY)?)?;
+    payload.extend_from_slice(b"\0\0\0 ")?;
+    payload.extend_from_slice(&bytes(alloc, point)?)?;
+    payload.extend_from_slice(b"\0\0\0\x53")?;
+    payload.extend_from_slice(&bytes(alloc, signature)?)?;
+    Ok(payload)
+}
+
+// The key of the recorded one, or none in the first epoch.
+fn key(alloc: Global, keys: &[&str; 2], epoch: usize) -> Result<Option<HmacKey>, AllocError> {
+    let Some(digits) = epoch.checked_sub(1).and_then(|place| keys.get(place)) else {
+        return Ok(None);
+    };
+    Ok(Some(HmacKey::new(&array::<32>(alloc, digits)?)))
+}
+
+// The payloads that the client sent in an exchange.
+fn of_client(alloc: Global, place: usize) -> Result<[Vec<u8>; 3], AllocError> {
+    Ok([
+        bytes(alloc, text_at(&openssh_client::KEXINITS, place))?,
+        init(alloc, text_at(&openssh_client::POINTS, place))?,
+        b"\x15".to_vec(alloc)?,
+    ])
+}
+
+// Those that the server sent.
+fn of_server(alloc: Global, place: usize) -> Result<[Vec<u8>; 3], AllocError> {
+    let point = text_at(&openssh_client::SERVER_POINTS, place);
+    let signature = text_at(&openssh_client::SIGNATURES, place);
+    Ok([
+        bytes(alloc, text_at(&openssh_client::SERVER_KEXINITS, place))?,
+        reply(alloc, point, signature)?,
+        b"\x15".to_vec(alloc)?,
+    ])
+}
+
+// The text of an exchange.
+fn text_at(texts: &[&'static str; 2], place: usize) -> &'static str {
+    match texts.get(place) {
+        Some(text) => text,
+        None => "",
+    }
+}
+
+// All that the server puts out, with a DISCONNECT under the second keys.
+fn server_stream(alloc: Global) -> Result<Vec<u8>, AllocError> {
+    let mut stream = b"SSH-2.0-oracle_1\r\n".to_vec(alloc)?;
+    for place in 0..2 {
+        let key = key(alloc, &openssh_client::SERVER_KEYS, place)?;
+        for (number, payload) in of_server(alloc, place)?.iter().enumerate() {
+            let number = u32::try_from(number).unwrap_or(0);
+            stream.extend_from_slice(&sealed(alloc, payload, key.as_ref(), number)?)?;
+        }
+    }
+    let key = key(alloc, &openssh_client::SERVER_KEYS, 2)?;
+    let farewell = b"\x01\0\0\0\x0b\0\0\0\x01x\0\0\0\0";
+    stream.extend_from_slice(&sealed(alloc, farewell, key.as_ref(), 0)?)?;
+    Ok(stream)
+}
+
+// All that the client does, packet by packet, with an IGNORE under the second keys.
+fn client_packets(alloc: Global) -> Result<Vec<Vec<u8>>, AllocError> {
+    let mut packets = Vec::new(alloc);
+    for place in 0..2 {
+        let key = key(alloc, &openssh_client::KEYS, place)?;
+        for (number, payload) in of_client(alloc, place)?.iter().enumerate() {
+            let number = u32::try_from(number).unwrap_or(0);
+            packets.push(sealed(alloc, payload, key.as_ref(), number)?)?;
+        }
+    }
+    let key = key(alloc, &openssh_client::KEYS, 2)?;
+    packets.push(sealed(alloc, b"\x02\0\0\0\0", key.as_ref(), 0)?)?;
+    Ok(packets)
+}
+
+#[test]
+fn exchanges_with_an_openssh_client(rt: HostRuntime) -> Result<(), Fail> {
+    let alloc = rt.alloc();
+    let mut out = Vec::new(alloc);
+    let mut sent = Vec::new(alloc);
+    let mut server = recorded_server(alloc, &mut out, &mut sent)?;
+    let (used, _) = server.take(openssh_client::LINE, &mut out, &mut sent);
+    assert_eq!(rt; used, 23);
+    let cookie = cookie_of(&bytes(alloc, openssh_client::SERVER_KEXINITS[1])?);
+    assert!(rt; server.feed_material(cookie, array(alloc, openssh_client::SHARED[1])?));
+    server.authenticated();
+    for (index, packet) in client_packets(alloc)?.iter().enumerate() {
+        let (used, turn) = server.take(packet, &mut out, &mut sent);
+        assert_eq!(rt; used, packet.len(), "packet {index}");
+        assert!(rt; turn.is_ok() && !server.is_dead(), "packet {index}");
+    }
+    assert_eq!(rt; (server.epochs(), server.numbers()), ((2, 2), (0, 1)));
+    let session = array(alloc, openssh_client::HASHES[0])?;
+    assert_eq!(rt; server.session_id(), Some(&session));
+    server.ask(TransportAsk::Disconnect(b"x"), &mut out, &mut sent)?;
+    assert_eq!(rt; out, server_stream(alloc)?);
+    Ok(())
+}

@@ -1,0 +1,108 @@
+//! Each refusal of the peer at its places: what is told, the DISCONNECT that goes out, and that nothing happens behind it.
+
+mod table;
+mod ways;
+
+use crate::pair::Pair;
+use crate::party::Party;
+use crate::sessions::IGNORE;
+use crate::step::Step;
+use ssh_message::{Message, decode};
+use ssh_types::Side;
+use ssh_types::Side::Client;
+use std::alloc::{AllocError, Global};
+use std::test::*;
+use table::TABLE;
+
+// The lines of a refusal.
+fn lines_of(alloc: Global, side: Side, refusal: &str, code: u32) -> Result<String, AllocError> {
+    let side = if side == Client { "c" } else { "s" };
+    if code == 0 {
+        return format!(in alloc; "{side} refused {refusal}; {side} died");
+    }
+    let size = name_of(refusal).len().saturating_add(13);
+    format!(in alloc; "{side} refused {refusal}; {side} sent 1 DISCONNECT {size}; {side} died")
+}
+
+// The name behind the number of a refusal.
+fn name_of(refusal: &str) -> &str {
+    refusal.split_once(' ').map_or("", |(_, name)| name)
+}
+
+// The last payload of an end is the DISCONNECT of this code and description, where a code is given.
+fn has_said(party: &Party, refusal: &str, code: u32) -> bool {
+    if code == 0 {
+        return party.last_sent().first() == Some(&20);
+    }
+    match decode(false, party.last_sent()) {
+        Ok(
+            Message::Disconnect {
+                reason,
+                description,
+                language,
+            },
+        ) => { reason == code && description == name_of(refusal).as_bytes() && language.is_empty() }
+        _ => false,
+    }
+}
+
+#[test]
+fn each_refusal_at_its_place(rt: HostRuntime) -> Result<(), Fail> {
+    for (index, (scripts, step, side, refusal, code)) in TABLE.iter().enumerate() {
+        let mut pair = Pair::strict(rt.alloc())?;
+        assert_eq!(rt; pair.differs(scripts, false)?, None, "before row {index}");
+        let wanted = lines_of(rt.alloc(), *side, refusal, *code)?;
+        assert_eq!(rt; pair.play(*step)?, wanted.as_str(), "row {index}");
+        assert!(rt; has_said(pair.party(*side), refusal, *code), "row {index}");
+        assert!(rt; nothing_changes(&mut pair, *side)?, "row {index}");
+    }
+    Ok(())
+}
+
+// An end that is over takes nothing, does nothing and is fed nothing.
+fn nothing_changes(pair: &mut Pair, side: Side) -> Result<bool, AllocError> {
+    let end = pair.party(side).end();
+    let (numbers, epochs) = (end.numbers(), end.epochs());
+    let size = pair.party(side).out().len();
+    let steps = [
+        Step::Give(side, IGNORE),
+        Step::PassAll(side.peer()),
+        Step::Service(side),
+        Step::Rekey(side),
+        Step::Disconnect(side, b"x"),
+        Step::Send(side, b"^\0\0\0\0\0\0\0\0"),
+    ];
+    for step in steps {
+        if !pair.play(step)?.is_empty() {
+            return Ok(false);
+        }
+    }
+    let is_fed = pair.play(Step::Feed(side, 1))?.is_empty();
+    let party = pair.party(side);
+    let is_same = party.end().numbers() == numbers && party.end().epochs() == epochs;
+    Ok(is_same && !is_fed && party.out().len() == size && party.end().is_dead())
+}
+
+// A server may send 64 lines before its version line, and each has at most 255 bytes (RFC 4253 section 4.2).
+#[test]
+fn the_most_lines_of_a_server(rt: HostRuntime) -> Result<(), Fail> {
+    let mut pair = Pair::strict(rt.alloc())?;
+    for _ in 0..64 {
+        assert_eq!(rt; pair.play(Step::Give(Client, b"hi\r\n"))?, "c took line 2");
+    }
+    let mut longest = [b'x'; 255];
+    longest[..10].copy_from_slice(b"SSH-2.0-x ");
+    longest[253..].copy_from_slice(b"\r\n");
+    assert_eq!(rt; pair.play(Step::Give(Client, &longest))?, "c took line 253");
+    let mut pair = Pair::strict(rt.alloc())?;
+    for _ in 0..64 {
+        pair.play(Step::Give(Client, b"hi\r\n"))?;
+    }
+    let lines = pair.play(Step::Give(Client, b"hi\r\n"))?;
+    assert_eq!(rt; lines, "c refused 1 BadLine; c died");
+    let mut pair = Pair::strict(rt.alloc())?;
+    longest[253] = b'x';
+    let lines = pair.play(Step::Give(Client, &longest))?;
+    assert_eq!(rt; lines, "c refused 1 BadLine; c died");
+    Ok(())
+}
