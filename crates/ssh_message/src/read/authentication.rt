@@ -15,14 +15,12 @@ pub(crate) fn request<'a>(fields: &mut Reader<'a>) -> Result<Message<'a>, BadMes
     ensures fits { IfOk result (λ m. Fits m) }
     ensures refused { IfErr result (λ _. IsNone (50 ∷ fields.old)) }
 {
-    match Whole::whole(fields) {
-        Ok((user, (service, method))) => Ok(Message::UserauthRequest {
-            user,
-            service,
-            method,
-        }),
-        Err(error) => Err(error),
-    }
+    let (user, (service, method)) = Whole::whole(fields)?;
+    Ok(Message::UserauthRequest {
+        user,
+        service,
+        method,
+    })
 }
 
 #[tactic(auto, using(crate::proofs::Fields::fields, crate::proofs::Rows::no_userauth_failure))]
@@ -31,10 +29,8 @@ pub(crate) fn failure<'a>(fields: &mut Reader<'a>) -> Result<Message<'a>, BadMes
     ensures fits { IfOk result (λ m. Fits m) }
     ensures refused { IfErr result (λ _. IsNone (51 ∷ fields.old)) }
 {
-    match Whole::whole(fields) {
-        Ok((methods, (partial, End))) => Ok(Message::UserauthFailure { methods, partial }),
-        Err(error) => Err(error),
-    }
+    let (methods, (partial, End)) = Whole::whole(fields)?;
+    Ok(Message::UserauthFailure { methods, partial })
 }
 
 #[tactic(auto, using(crate::proofs::Fields::fields, crate::proofs::Rows::no_userauth_success))]
@@ -43,10 +39,8 @@ pub(crate) fn success<'a>(fields: &mut Reader<'a>) -> Result<Message<'a>, BadMes
     ensures fits { IfOk result (λ m. Fits m) }
     ensures refused { IfErr result (λ _. IsNone (52 ∷ fields.old)) }
 {
-    match Whole::whole(fields) {
-        Ok(End) => Ok(Message::UserauthSuccess),
-        Err(error) => Err(error),
-    }
+    let End = Whole::whole(fields)?;
+    Ok(Message::UserauthSuccess)
 }
 
 #[tactic(auto, using(crate::proofs::Fields::fields, crate::proofs::Rows::no_userauth_banner))]
@@ -55,10 +49,8 @@ pub(crate) fn banner<'a>(fields: &mut Reader<'a>) -> Result<Message<'a>, BadMess
     ensures fits { IfOk result (λ m. Fits m) }
     ensures refused { IfErr result (λ _. IsNone (53 ∷ fields.old)) }
 {
-    match Whole::whole(fields) {
-        Ok((message, (language, End))) => Ok(Message::UserauthBanner { message, language }),
-        Err(error) => Err(error),
-    }
+    let (message, (language, End)) = Whole::whole(fields)?;
+    Ok(Message::UserauthBanner { message, language })
 }
 
 #[tactic(auto, using(crate::proofs::Fields::fields, crate::proofs::Rows::no_userauth_pk_ok))]
@@ -67,8 +59,6 @@ pub(crate) fn pk_ok<'a>(fields: &mut Reader<'a>) -> Result<Message<'a>, BadMessa
     ensures fits { IfOk result (λ m. Fits m) }
     ensures refused { IfErr result (λ _. NoMessage true (60 ∷ fields.old)) }
 {
-    match Whole::whole(fields) {
-        Ok((algorithm, (key, End))) => Ok(Message::UserauthPkOk { algorithm, key }),
-        Err(error) => Err(error),
-    }
+    let (algorithm, (key, End)) = Whole::whole(fields)?;
+    Ok(Message::UserauthPkOk { algorithm, key })
 }

@@ -14,10 +14,8 @@ pub(crate) fn global_request<'a>(fields: &mut Reader<'a>) -> Result<Message<'a>,
     ensures fits { IfOk result (λ m. Fits m) }
     ensures refused { IfErr result (λ _. IsNone (80 ∷ fields.old)) }
 {
-    match Whole::whole(fields) {
-        Ok((name, (want, Rest(rest)))) => Ok(Message::GlobalRequest { name, want, rest }),
-        Err(error) => Err(error),
-    }
+    let (name, (want, Rest(rest))) = Whole::whole(fields)?;
+    Ok(Message::GlobalRequest { name, want, rest })
 }
 
 #[tactic(auto, using(crate::proofs::Fields::fields))]
@@ -35,10 +33,8 @@ pub(crate) fn request_failure<'a>(fields: &mut Reader<'a>) -> Result<Message<'a>
     ensures fits { IfOk result (λ m. Fits m) }
     ensures refused { IfErr result (λ _. IsNone (82 ∷ fields.old)) }
 {
-    match Whole::whole(fields) {
-        Ok(End) => Ok(Message::RequestFailure),
-        Err(error) => Err(error),
-    }
+    let End = Whole::whole(fields)?;
+    Ok(Message::RequestFailure)
 }
 
 #[tactic(auto, using(crate::proofs::Fields::fields, crate::proofs::Rows::no_channel_open))]
@@ -47,16 +43,14 @@ pub(crate) fn channel_open<'a>(fields: &mut Reader<'a>) -> Result<Message<'a>, B
     ensures fits { IfOk result (λ m. Fits m) }
     ensures refused { IfErr result (λ _. IsNone (90 ∷ fields.old)) }
 {
-    match Whole::whole(fields) {
-        Ok((kind, (sender, (window, (max, Rest(rest)))))) => Ok(Message::ChannelOpen {
-            kind,
-            sender,
-            window,
-            max,
-            rest,
-        }),
-        Err(error) => Err(error),
-    }
+    let (kind, (sender, (window, (max, Rest(rest))))) = Whole::whole(fields)?;
+    Ok(Message::ChannelOpen {
+        kind,
+        sender,
+        window,
+        max,
+        rest,
+    })
 }
 
 #[tactic(auto, using(crate::proofs::Fields::fields, crate::proofs::Rows::no_channel_open_confirmation))]
@@ -67,18 +61,14 @@ pub(crate) fn channel_open_confirmation<'a>(
     ensures fits { IfOk result (λ m. Fits m) }
     ensures refused { IfErr result (λ _. IsNone (91 ∷ fields.old)) }
 {
-    match Whole::whole(fields) {
-        Ok((recipient, (sender, (window, (max, Rest(rest)))))) => Ok(
-            Message::ChannelOpenConfirmation {
-                recipient,
-                sender,
-                window,
-                max,
-                rest,
-            },
-        ),
-        Err(error) => Err(error),
-    }
+    let (recipient, (sender, (window, (max, Rest(rest))))) = Whole::whole(fields)?;
+    Ok(Message::ChannelOpenConfirmation {
+        recipient,
+        sender,
+        window,
+        max,
+        rest,
+    })
 }
 
 #[tactic(auto, using(crate::proofs::Fields::fields, crate::proofs::Rows::no_channel_open_failure))]
@@ -87,17 +77,13 @@ pub(crate) fn channel_open_failure<'a>(fields: &mut Reader<'a>) -> Result<Messag
     ensures fits { IfOk result (λ m. Fits m) }
     ensures refused { IfErr result (λ _. IsNone (92 ∷ fields.old)) }
 {
-    match Whole::whole(fields) {
-        Ok((recipient, (reason, (description, (language, End))))) => Ok(
-            Message::ChannelOpenFailure {
-                recipient,
-                reason,
-                description,
-                language,
-            },
-        ),
-        Err(error) => Err(error),
-    }
+    let (recipient, (reason, (description, (language, End)))) = Whole::whole(fields)?;
+    Ok(Message::ChannelOpenFailure {
+        recipient,
+        reason,
+        description,
+        language,
+    })
 }
 
 #[tactic(auto, using(crate::proofs::Fields::fields, crate::proofs::Rows::no_channel_window_adjust))]
@@ -106,10 +92,8 @@ pub(crate) fn channel_window_adjust<'a>(fields: &mut Reader<'a>) -> Result<Messa
     ensures fits { IfOk result (λ m. Fits m) }
     ensures refused { IfErr result (λ _. IsNone (93 ∷ fields.old)) }
 {
-    match Whole::whole(fields) {
-        Ok((recipient, (bytes, End))) => Ok(Message::ChannelWindowAdjust { recipient, bytes }),
-        Err(error) => Err(error),
-    }
+    let (recipient, (bytes, End)) = Whole::whole(fields)?;
+    Ok(Message::ChannelWindowAdjust { recipient, bytes })
 }
 
 #[tactic(auto, using(crate::proofs::Fields::fields, crate::proofs::Rows::no_channel_data))]
@@ -118,10 +102,8 @@ pub(crate) fn channel_data<'a>(fields: &mut Reader<'a>) -> Result<Message<'a>, B
     ensures fits { IfOk result (λ m. Fits m) }
     ensures refused { IfErr result (λ _. IsNone (94 ∷ fields.old)) }
 {
-    match Whole::whole(fields) {
-        Ok((recipient, (body, End))) => Ok(Message::ChannelData { recipient, body }),
-        Err(error) => Err(error),
-    }
+    let (recipient, (body, End)) = Whole::whole(fields)?;
+    Ok(Message::ChannelData { recipient, body })
 }
 
 #[tactic(auto, using(crate::proofs::Fields::fields, crate::proofs::Rows::no_channel_extended_data))]
@@ -130,14 +112,12 @@ pub(crate) fn channel_extended_data<'a>(fields: &mut Reader<'a>) -> Result<Messa
     ensures fits { IfOk result (λ m. Fits m) }
     ensures refused { IfErr result (λ _. IsNone (95 ∷ fields.old)) }
 {
-    match Whole::whole(fields) {
-        Ok((recipient, (kind, (body, End)))) => Ok(Message::ChannelExtendedData {
-            recipient,
-            kind,
-            body,
-        }),
-        Err(error) => Err(error),
-    }
+    let (recipient, (kind, (body, End))) = Whole::whole(fields)?;
+    Ok(Message::ChannelExtendedData {
+        recipient,
+        kind,
+        body,
+    })
 }
 
 #[tactic(auto, using(crate::proofs::Fields::fields, crate::proofs::Rows::no_channel_eof))]
@@ -146,10 +126,8 @@ pub(crate) fn channel_eof<'a>(fields: &mut Reader<'a>) -> Result<Message<'a>, Ba
     ensures fits { IfOk result (λ m. Fits m) }
     ensures refused { IfErr result (λ _. IsNone (96 ∷ fields.old)) }
 {
-    match Whole::whole(fields) {
-        Ok((recipient, End)) => Ok(Message::ChannelEof { recipient }),
-        Err(error) => Err(error),
-    }
+    let (recipient, End) = Whole::whole(fields)?;
+    Ok(Message::ChannelEof { recipient })
 }
 
 #[tactic(auto, using(crate::proofs::Fields::fields, crate::proofs::Rows::no_channel_close))]
@@ -158,10 +136,8 @@ pub(crate) fn channel_close<'a>(fields: &mut Reader<'a>) -> Result<Message<'a>, 
     ensures fits { IfOk result (λ m. Fits m) }
     ensures refused { IfErr result (λ _. IsNone (97 ∷ fields.old)) }
 {
-    match Whole::whole(fields) {
-        Ok((recipient, End)) => Ok(Message::ChannelClose { recipient }),
-        Err(error) => Err(error),
-    }
+    let (recipient, End) = Whole::whole(fields)?;
+    Ok(Message::ChannelClose { recipient })
 }
 
 #[tactic(auto, using(crate::proofs::Fields::fields, crate::proofs::Rows::no_channel_request))]
@@ -170,15 +146,13 @@ pub(crate) fn channel_request<'a>(fields: &mut Reader<'a>) -> Result<Message<'a>
     ensures fits { IfOk result (λ m. Fits m) }
     ensures refused { IfErr result (λ _. IsNone (98 ∷ fields.old)) }
 {
-    match Whole::whole(fields) {
-        Ok((recipient, (name, (want, Rest(rest))))) => Ok(Message::ChannelRequest {
-            recipient,
-            name,
-            want,
-            rest,
-        }),
-        Err(error) => Err(error),
-    }
+    let (recipient, (name, (want, Rest(rest)))) = Whole::whole(fields)?;
+    Ok(Message::ChannelRequest {
+        recipient,
+        name,
+        want,
+        rest,
+    })
 }
 
 #[tactic(auto, using(crate::proofs::Fields::fields, crate::proofs::Rows::no_channel_success))]
@@ -187,10 +161,8 @@ pub(crate) fn channel_success<'a>(fields: &mut Reader<'a>) -> Result<Message<'a>
     ensures fits { IfOk result (λ m. Fits m) }
     ensures refused { IfErr result (λ _. IsNone (99 ∷ fields.old)) }
 {
-    match Whole::whole(fields) {
-        Ok((recipient, End)) => Ok(Message::ChannelSuccess { recipient }),
-        Err(error) => Err(error),
-    }
+    let (recipient, End) = Whole::whole(fields)?;
+    Ok(Message::ChannelSuccess { recipient })
 }
 
 #[tactic(auto, using(crate::proofs::Fields::fields, crate::proofs::Rows::no_channel_failure))]
@@ -199,8 +171,6 @@ pub(crate) fn channel_failure<'a>(fields: &mut Reader<'a>) -> Result<Message<'a>
     ensures fits { IfOk result (λ m. Fits m) }
     ensures refused { IfErr result (λ _. IsNone (100 ∷ fields.old)) }
 {
-    match Whole::whole(fields) {
-        Ok((recipient, End)) => Ok(Message::ChannelFailure { recipient }),
-        Err(error) => Err(error),
-    }
+    let (recipient, End) = Whole::whole(fields)?;
+    Ok(Message::ChannelFailure { recipient })
 }

@@ -14,26 +14,24 @@ pub(crate) fn kexinit<'a>(fields: &mut Reader<'a>) -> Result<Message<'a>, BadMes
     ensures fits { IfOk result (λ m. Fits m) }
     ensures refused { IfErr result (λ _. IsNone (20 ∷ fields.old)) }
 {
-    match Whole::whole(fields) {
-        Ok((cookie, (kex, (host, (enc_cs, (enc_sc, (mac_cs, (mac_sc, later)))))))) => {
-            let (comp_cs, (comp_sc, (lang_cs, (lang_sc, (follows, (Reserved, End)))))) = later;
-            Ok(Message::KexInit(Proposal {
-                cookie,
-                kex,
-                host,
-                enc_cs,
-                enc_sc,
-                mac_cs,
-                mac_sc,
-                comp_cs,
-                comp_sc,
-                lang_cs,
-                lang_sc,
-                follows,
-            }))
-        }
-        Err(error) => Err(error),
-    }
+    let (cookie, (kex, (host, (enc_cs, (enc_sc, (mac_cs, (mac_sc, later))))))) = Whole::whole(
+        fields,
+    )?;
+    let (comp_cs, (comp_sc, (lang_cs, (lang_sc, (follows, (Reserved, End)))))) = later;
+    Ok(Message::KexInit(Proposal {
+        cookie,
+        kex,
+        host,
+        enc_cs,
+        enc_sc,
+        mac_cs,
+        mac_sc,
+        comp_cs,
+        comp_sc,
+        lang_cs,
+        lang_sc,
+        follows,
+    }))
 }
 
 #[tactic(auto, using(crate::proofs::Fields::fields, crate::proofs::Rows::no_kex_ecdh_init))]
@@ -42,10 +40,8 @@ pub(crate) fn kex_ecdh_init<'a>(fields: &mut Reader<'a>) -> Result<Message<'a>, 
     ensures fits { IfOk result (λ m. Fits m) }
     ensures refused { IfErr result (λ _. IsNone (30 ∷ fields.old)) }
 {
-    match Whole::whole(fields) {
-        Ok((q_c, End)) => Ok(Message::KexEcdhInit { q_c }),
-        Err(error) => Err(error),
-    }
+    let (q_c, End) = Whole::whole(fields)?;
+    Ok(Message::KexEcdhInit { q_c })
 }
 
 #[tactic(auto, using(crate::proofs::Fields::fields, crate::proofs::Rows::no_kex_ecdh_reply))]
@@ -54,12 +50,10 @@ pub(crate) fn kex_ecdh_reply<'a>(fields: &mut Reader<'a>) -> Result<Message<'a>,
     ensures fits { IfOk result (λ m. Fits m) }
     ensures refused { IfErr result (λ _. IsNone (31 ∷ fields.old)) }
 {
-    match Whole::whole(fields) {
-        Ok((k_s, (q_s, (signature, End)))) => Ok(Message::KexEcdhReply {
-            k_s,
-            q_s,
-            signature,
-        }),
-        Err(error) => Err(error),
-    }
+    let (k_s, (q_s, (signature, End))) = Whole::whole(fields)?;
+    Ok(Message::KexEcdhReply {
+        k_s,
+        q_s,
+        signature,
+    })
 }

@@ -33,10 +33,8 @@ impl<'a> Whole<'a> for Method<'a> {
         if name == b"publickey".as_slice() {
             return publickey(fields);
         }
-        match Whole::whole(fields) {
-            Ok(Rest(rest)) => Ok(Method::Other { name, rest }),
-            Err(error) => Err(error),
-        }
+        let Rest(rest) = Whole::whole(fields)?;
+        Ok(Method::Other { name, rest })
     }
 }
 
@@ -46,10 +44,8 @@ fn none<'a>(fields: &mut Reader<'a>) -> Result<Method<'a>, BadMessage>
     ensures fits { IfOk result (λ m. MethodFits m) }
     ensures refused { IfErr result (λ _. NoArguments (codes "none") fields.old) }
 {
-    match Whole::whole(fields) {
-        Ok(End) => Ok(Method::None),
-        Err(error) => Err(error),
-    }
+    let End = Whole::whole(fields)?;
+    Ok(Method::None)
 }
 
 #[tactic(auto, using(crate::proofs::Methods::arguments))]
@@ -60,21 +56,17 @@ fn password<'a>(fields: &mut Reader<'a>) -> Result<Method<'a>, BadMessage>
 {
     let change = Part::part(fields)?;
     if change {
-        return match Whole::whole(fields) {
-            Ok((password, (new_password, End))) => Ok(Method::Password {
-                password,
-                new_password: Some(new_password),
-            }),
-            Err(error) => Err(error),
-        };
-    }
-    match Whole::whole(fields) {
-        Ok((password, End)) => Ok(Method::Password {
+        let (password, (new_password, End)) = Whole::whole(fields)?;
+        return Ok(Method::Password {
             password,
-            new_password: None,
-        }),
-        Err(error) => Err(error),
+            new_password: Some(new_password),
+        });
     }
+    let (password, End) = Whole::whole(fields)?;
+    Ok(Method::Password {
+        password,
+        new_password: None,
+    })
 }
 
 #[tactic(auto, using(crate::proofs::Methods::arguments))]
@@ -85,21 +77,17 @@ fn publickey<'a>(fields: &mut Reader<'a>) -> Result<Method<'a>, BadMessage>
 {
     let signed = Part::part(fields)?;
     if signed {
-        return match Whole::whole(fields) {
-            Ok((algorithm, (key, (signature, End)))) => Ok(Method::Publickey {
-                algorithm,
-                key,
-                signature: Some(signature),
-            }),
-            Err(error) => Err(error),
-        };
-    }
-    match Whole::whole(fields) {
-        Ok((algorithm, (key, End))) => Ok(Method::Publickey {
+        let (algorithm, (key, (signature, End))) = Whole::whole(fields)?;
+        return Ok(Method::Publickey {
             algorithm,
             key,
-            signature: None,
-        }),
-        Err(error) => Err(error),
+            signature: Some(signature),
+        });
     }
+    let (algorithm, (key, End)) = Whole::whole(fields)?;
+    Ok(Method::Publickey {
+        algorithm,
+        key,
+        signature: None,
+    })
 }

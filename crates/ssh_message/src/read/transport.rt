@@ -14,14 +14,12 @@ pub(crate) fn disconnect<'a>(fields: &mut Reader<'a>) -> Result<Message<'a>, Bad
     ensures fits { IfOk result (λ m. Fits m) }
     ensures refused { IfErr result (λ _. IsNone (1 ∷ fields.old)) }
 {
-    match Whole::whole(fields) {
-        Ok((reason, (description, (language, End)))) => Ok(Message::Disconnect {
-            reason,
-            description,
-            language,
-        }),
-        Err(error) => Err(error),
-    }
+    let (reason, (description, (language, End))) = Whole::whole(fields)?;
+    Ok(Message::Disconnect {
+        reason,
+        description,
+        language,
+    })
 }
 
 #[tactic(auto, using(crate::proofs::Fields::fields, crate::proofs::Rows::no_ignore))]
@@ -30,10 +28,8 @@ pub(crate) fn ignore<'a>(fields: &mut Reader<'a>) -> Result<Message<'a>, BadMess
     ensures fits { IfOk result (λ m. Fits m) }
     ensures refused { IfErr result (λ _. IsNone (2 ∷ fields.old)) }
 {
-    match Whole::whole(fields) {
-        Ok((body, End)) => Ok(Message::Ignore { body }),
-        Err(error) => Err(error),
-    }
+    let (body, End) = Whole::whole(fields)?;
+    Ok(Message::Ignore { body })
 }
 
 #[tactic(auto, using(crate::proofs::Fields::fields, crate::proofs::Rows::no_unimplemented))]
@@ -42,10 +38,8 @@ pub(crate) fn unimplemented<'a>(fields: &mut Reader<'a>) -> Result<Message<'a>, 
     ensures fits { IfOk result (λ m. Fits m) }
     ensures refused { IfErr result (λ _. IsNone (3 ∷ fields.old)) }
 {
-    match Whole::whole(fields) {
-        Ok((number, End)) => Ok(Message::Unimplemented { number }),
-        Err(error) => Err(error),
-    }
+    let (number, End) = Whole::whole(fields)?;
+    Ok(Message::Unimplemented { number })
 }
 
 #[tactic(auto, using(crate::proofs::Fields::fields, crate::proofs::Rows::no_debug))]
@@ -54,14 +48,12 @@ pub(crate) fn debug<'a>(fields: &mut Reader<'a>) -> Result<Message<'a>, BadMessa
     ensures fits { IfOk result (λ m. Fits m) }
     ensures refused { IfErr result (λ _. IsNone (4 ∷ fields.old)) }
 {
-    match Whole::whole(fields) {
-        Ok((display, (message, (language, End)))) => Ok(Message::Debug {
-            display,
-            message,
-            language,
-        }),
-        Err(error) => Err(error),
-    }
+    let (display, (message, (language, End))) = Whole::whole(fields)?;
+    Ok(Message::Debug {
+        display,
+        message,
+        language,
+    })
 }
 
 #[tactic(auto, using(crate::proofs::Fields::fields, crate::proofs::Rows::no_service_request))]
@@ -70,10 +62,8 @@ pub(crate) fn service_request<'a>(fields: &mut Reader<'a>) -> Result<Message<'a>
     ensures fits { IfOk result (λ m. Fits m) }
     ensures refused { IfErr result (λ _. IsNone (5 ∷ fields.old)) }
 {
-    match Whole::whole(fields) {
-        Ok((service, End)) => Ok(Message::ServiceRequest { service }),
-        Err(error) => Err(error),
-    }
+    let (service, End) = Whole::whole(fields)?;
+    Ok(Message::ServiceRequest { service })
 }
 
 #[tactic(auto, using(crate::proofs::Fields::fields, crate::proofs::Rows::no_service_accept))]
@@ -82,10 +72,8 @@ pub(crate) fn service_accept<'a>(fields: &mut Reader<'a>) -> Result<Message<'a>,
     ensures fits { IfOk result (λ m. Fits m) }
     ensures refused { IfErr result (λ _. IsNone (6 ∷ fields.old)) }
 {
-    match Whole::whole(fields) {
-        Ok((service, End)) => Ok(Message::ServiceAccept { service }),
-        Err(error) => Err(error),
-    }
+    let (service, End) = Whole::whole(fields)?;
+    Ok(Message::ServiceAccept { service })
 }
 
 #[tactic(auto, using(crate::proofs::Fields::fields, crate::proofs::Rows::no_ext_info))]
@@ -94,10 +82,8 @@ pub(crate) fn ext_info<'a>(fields: &mut Reader<'a>) -> Result<Message<'a>, BadMe
     ensures fits { IfOk result (λ m. Fits m) }
     ensures refused { IfErr result (λ _. IsNone (7 ∷ fields.old)) }
 {
-    match Whole::whole(fields) {
-        Ok(extensions) => Ok(Message::ExtInfo { extensions }),
-        Err(error) => Err(error),
-    }
+    let extensions = Whole::whole(fields)?;
+    Ok(Message::ExtInfo { extensions })
 }
 
 #[tactic(auto, using(crate::proofs::Fields::fields, crate::proofs::Rows::no_new_keys))]
@@ -106,8 +92,6 @@ pub(crate) fn newkeys<'a>(fields: &mut Reader<'a>) -> Result<Message<'a>, BadMes
     ensures fits { IfOk result (λ m. Fits m) }
     ensures refused { IfErr result (λ _. IsNone (21 ∷ fields.old)) }
 {
-    match Whole::whole(fields) {
-        Ok(End) => Ok(Message::NewKeys),
-        Err(error) => Err(error),
-    }
+    let End = Whole::whole(fields)?;
+    Ok(Message::NewKeys)
 }
