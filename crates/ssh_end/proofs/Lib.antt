@@ -1,2 +1,5 @@
+pub mod Each
 pub mod Rows
+pub mod ClientRows
 pub mod Sessions
+pub mod ClientSessions

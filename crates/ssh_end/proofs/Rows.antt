@@ -23,46 +23,15 @@ use Rattle.ssh_channels.specs.declared.fact.Taken.{Taken}
 use Rattle.ssh_types.specs.Refusals.{refusal_of}
 use Rattle.ssh_end.specs.Faults.{OfAuthentication, OfChannels}
 use Rattle.ssh_end.specs.Layers as layers
-use Rattle.ssh_end.specs.Layers.{Beneath, Layers, LayersFail, LayersTake, Reads, layer_checks, layer_of, may_take}
+use Rattle.ssh_end.specs.Layer.{Beneath, NobodyIs, layer_of}
+use Rattle.ssh_end.specs.Layers.{Layers, LayersFail, LayersTake, Reads, layer_checks, may_take}
 use Rattle.ssh_end.specs.declared.fault.LayerFault.{LayerFault}
 use Rattle.ssh_end.specs.declared.fault.LayerFault.TheVariants as fault
-use Rattle.ssh_end.specs.declared.server_layers.Layer.TheVariants as layer
+use Rattle.ssh_end.specs.declared.layer.Layer.TheVariants as layer
 use Rattle.ssh_end.specs.declared.server_layers.ServerLayerAnswer.TheVariants as answer
+use Rattle.ssh_end.proofs.Each.{below_80, known, no_channel, nobody, of_connection, passes}
 
 -- ---- one line a message
-
-no_channel : (blocked : Bool) (c : Channels) (m : Msg) → layer_of m ≡ layer.Authentication → take_checks blocked c m ≡ []
-no_channel blocked c (Disconnect reason description language) e = refl
-no_channel blocked c (Ignore body) e = refl
-no_channel blocked c (Unimplemented number) e = refl
-no_channel blocked c (Debug display text language) e = refl
-no_channel blocked c (ServiceRequest service) e = refl
-no_channel blocked c (ServiceAccept service) e = refl
-no_channel blocked c (ExtInfo extensions) e = refl
-no_channel blocked c (KexInit proposal) e = refl
-no_channel blocked c NewKeys e = refl
-no_channel blocked c (KexEcdhInit q_c) e = refl
-no_channel blocked c (KexEcdhReply k_s q_s signature) e = refl
-no_channel blocked c (UserauthRequest user service how) e = refl
-no_channel blocked c (UserauthFailure methods partial) e = refl
-no_channel blocked c UserauthSuccess e = refl
-no_channel blocked c (UserauthBanner text language) e = refl
-no_channel blocked c (UserauthPkOk algorithm key) e = refl
-no_channel blocked c (GlobalRequest name want rest) e = absurd (cc e)
-no_channel blocked c (RequestSuccess rest) e = absurd (cc e)
-no_channel blocked c RequestFailure e = absurd (cc e)
-no_channel blocked c (ChannelOpen kind sender window max rest) e = absurd (cc e)
-no_channel blocked c (ChannelOpenConfirmation recipient sender window max rest) e = absurd (cc e)
-no_channel blocked c (ChannelOpenFailure recipient reason description language) e = absurd (cc e)
-no_channel blocked c (ChannelWindowAdjust recipient bytes) e = absurd (cc e)
-no_channel blocked c (ChannelData recipient body) e = absurd (cc e)
-no_channel blocked c (ChannelExtendedData recipient kind body) e = absurd (cc e)
-no_channel blocked c (ChannelEof recipient) e = absurd (cc e)
-no_channel blocked c (ChannelClose recipient) e = absurd (cc e)
-no_channel blocked c (ChannelRequest recipient name want rest) e = absurd (cc e)
-no_channel blocked c (ChannelSuccess recipient) e = absurd (cc e)
-no_channel blocked c (ChannelFailure recipient) e = absurd (cc e)
-no_channel blocked c (Unknown number) e = absurd (cc e)
 
 no_request : (judge : Judge) (tries : ℕ) (methods : List (List ℕ)) (session : List ℕ) (server : _) (m : Msg) → layer_of m ≡ layer.Channels → server_checks judge tries methods session server m ≡ []
 no_request judge tries methods session server (Disconnect reason description language) e = absurd (cc e)
@@ -97,151 +66,10 @@ no_request judge tries methods session server (ChannelSuccess recipient) e = ref
 no_request judge tries methods session server (ChannelFailure recipient) e = refl
 no_request judge tries methods session server (Unknown number) e = absurd (cc e)
 
-of_connection : (m : Msg) → layer_of m ≡ layer.Channels → is_connection m ≡ true
-of_connection (Disconnect reason description language) e = absurd (cc e)
-of_connection (Ignore body) e = absurd (cc e)
-of_connection (Unimplemented number) e = absurd (cc e)
-of_connection (Debug display text language) e = absurd (cc e)
-of_connection (ServiceRequest service) e = absurd (cc e)
-of_connection (ServiceAccept service) e = absurd (cc e)
-of_connection (ExtInfo extensions) e = absurd (cc e)
-of_connection (KexInit proposal) e = absurd (cc e)
-of_connection NewKeys e = absurd (cc e)
-of_connection (KexEcdhInit q_c) e = absurd (cc e)
-of_connection (KexEcdhReply k_s q_s signature) e = absurd (cc e)
-of_connection (UserauthRequest user service how) e = absurd (cc e)
-of_connection (UserauthFailure methods partial) e = absurd (cc e)
-of_connection UserauthSuccess e = absurd (cc e)
-of_connection (UserauthBanner text language) e = absurd (cc e)
-of_connection (UserauthPkOk algorithm key) e = absurd (cc e)
-of_connection (GlobalRequest name want rest) e = refl
-of_connection (RequestSuccess rest) e = refl
-of_connection RequestFailure e = refl
-of_connection (ChannelOpen kind sender window max rest) e = refl
-of_connection (ChannelOpenConfirmation recipient sender window max rest) e = refl
-of_connection (ChannelOpenFailure recipient reason description language) e = refl
-of_connection (ChannelWindowAdjust recipient bytes) e = refl
-of_connection (ChannelData recipient body) e = refl
-of_connection (ChannelExtendedData recipient kind body) e = refl
-of_connection (ChannelEof recipient) e = refl
-of_connection (ChannelClose recipient) e = refl
-of_connection (ChannelRequest recipient name want rest) e = refl
-of_connection (ChannelSuccess recipient) e = refl
-of_connection (ChannelFailure recipient) e = refl
-of_connection (Unknown number) e = absurd (cc e)
-
 by_authentication : (below : Beneath) (l : Layers) (m : Msg) → layer_of m ≡ layer.Authentication → may_take below l (message_number m) ≡ server_takes l.authentication.kept (message_number m)
-by_authentication below l (Disconnect reason description language) e = refl
-by_authentication below l (Ignore body) e = refl
-by_authentication below l (Unimplemented number) e = refl
-by_authentication below l (Debug display text language) e = refl
-by_authentication below l (ServiceRequest service) e = refl
-by_authentication below l (ServiceAccept service) e = refl
-by_authentication below l (ExtInfo extensions) e = refl
-by_authentication below l (KexInit proposal) e = refl
-by_authentication below l NewKeys e = refl
-by_authentication below l (KexEcdhInit q_c) e = refl
-by_authentication below l (KexEcdhReply k_s q_s signature) e = refl
-by_authentication below l (UserauthRequest user service how) e = refl
-by_authentication below l (UserauthFailure methods partial) e = refl
-by_authentication below l UserauthSuccess e = refl
-by_authentication below l (UserauthBanner text language) e = refl
-by_authentication below l (UserauthPkOk algorithm key) e = refl
-by_authentication below l (GlobalRequest name want rest) e = absurd (cc e)
-by_authentication below l (RequestSuccess rest) e = absurd (cc e)
-by_authentication below l RequestFailure e = absurd (cc e)
-by_authentication below l (ChannelOpen kind sender window max rest) e = absurd (cc e)
-by_authentication below l (ChannelOpenConfirmation recipient sender window max rest) e = absurd (cc e)
-by_authentication below l (ChannelOpenFailure recipient reason description language) e = absurd (cc e)
-by_authentication below l (ChannelWindowAdjust recipient bytes) e = absurd (cc e)
-by_authentication below l (ChannelData recipient body) e = absurd (cc e)
-by_authentication below l (ChannelExtendedData recipient kind body) e = absurd (cc e)
-by_authentication below l (ChannelEof recipient) e = absurd (cc e)
-by_authentication below l (ChannelClose recipient) e = absurd (cc e)
-by_authentication below l (ChannelRequest recipient name want rest) e = absurd (cc e)
-by_authentication below l (ChannelSuccess recipient) e = absurd (cc e)
-by_authentication below l (ChannelFailure recipient) e = absurd (cc e)
-by_authentication below l (Unknown number) e = absurd (cc e)
-
-nobody : (m : Msg) → layer_of m ≡ layer.Nobody → layers.NobodyIs m
-nobody (Disconnect reason description language) e = absurd (cc e)
-nobody (Ignore body) e = absurd (cc e)
-nobody (Unimplemented number) e = absurd (cc e)
-nobody (Debug display text language) e = absurd (cc e)
-nobody (ServiceRequest service) e = absurd (cc e)
-nobody (ServiceAccept service) e = absurd (cc e)
-nobody (ExtInfo extensions) e = absurd (cc e)
-nobody (KexInit proposal) e = absurd (cc e)
-nobody NewKeys e = absurd (cc e)
-nobody (KexEcdhInit q_c) e = absurd (cc e)
-nobody (KexEcdhReply k_s q_s signature) e = absurd (cc e)
-nobody (UserauthRequest user service how) e = absurd (cc e)
-nobody (UserauthFailure methods partial) e = absurd (cc e)
-nobody UserauthSuccess e = absurd (cc e)
-nobody (UserauthBanner text language) e = absurd (cc e)
-nobody (UserauthPkOk algorithm key) e = absurd (cc e)
-nobody (GlobalRequest name want rest) e = absurd (cc e)
-nobody (RequestSuccess rest) e = absurd (cc e)
-nobody RequestFailure e = absurd (cc e)
-nobody (ChannelOpen kind sender window max rest) e = absurd (cc e)
-nobody (ChannelOpenConfirmation recipient sender window max rest) e = absurd (cc e)
-nobody (ChannelOpenFailure recipient reason description language) e = absurd (cc e)
-nobody (ChannelWindowAdjust recipient bytes) e = absurd (cc e)
-nobody (ChannelData recipient body) e = absurd (cc e)
-nobody (ChannelExtendedData recipient kind body) e = absurd (cc e)
-nobody (ChannelEof recipient) e = absurd (cc e)
-nobody (ChannelClose recipient) e = absurd (cc e)
-nobody (ChannelRequest recipient name want rest) e = absurd (cc e)
-nobody (ChannelSuccess recipient) e = absurd (cc e)
-nobody (ChannelFailure recipient) e = absurd (cc e)
-nobody (Unknown number) e = record { number = number; message_is = refl }
-
-known : (m : Msg) → layer_of m ≡ layer.Authentication → serving.IsUnknown m → ⊥
-known (Disconnect reason description language) e x = x
-known (Ignore body) e x = x
-known (Unimplemented number) e x = x
-known (Debug display text language) e x = x
-known (ServiceRequest service) e x = x
-known (ServiceAccept service) e x = x
-known (ExtInfo extensions) e x = x
-known (KexInit proposal) e x = x
-known NewKeys e x = x
-known (KexEcdhInit q_c) e x = x
-known (KexEcdhReply k_s q_s signature) e x = x
-known (UserauthRequest user service how) e x = x
-known (UserauthFailure methods partial) e x = x
-known UserauthSuccess e x = x
-known (UserauthBanner text language) e x = x
-known (UserauthPkOk algorithm key) e x = x
-known (GlobalRequest name want rest) e x = cc e
-known (RequestSuccess rest) e x = cc e
-known RequestFailure e x = cc e
-known (ChannelOpen kind sender window max rest) e x = cc e
-known (ChannelOpenConfirmation recipient sender window max rest) e x = cc e
-known (ChannelOpenFailure recipient reason description language) e x = cc e
-known (ChannelWindowAdjust recipient bytes) e x = cc e
-known (ChannelData recipient body) e x = cc e
-known (ChannelExtendedData recipient kind body) e x = cc e
-known (ChannelEof recipient) e x = cc e
-known (ChannelClose recipient) e x = cc e
-known (ChannelRequest recipient name want rest) e x = cc e
-known (ChannelSuccess recipient) e x = cc e
-known (ChannelFailure recipient) e x = cc e
-known (Unknown number) e x = cc e
-
--- ---- results
-
-pub no_err : {A E : Type 0} (P : E → Type 0) (r : Result A E) (a : A) → r ≡ Ok a → IfErr r P
-no_err P r a e = subst (λ (x : Result _ _). IfErr x P) (sym e) tt
-
-pub an_err : {A E : Type 0} (P : E → Type 0) (r : Result A E) (x : E) → r ≡ Err x → P x → IfErr r P
-an_err P r x e y = subst (λ (z : Result _ _). IfErr z P) (sym e) y
+by_authentication below l m e = ap (λ (b : Bool). cond b (server_takes l.authentication.kept (message_number m)) below.is_authenticated) (below_80 m e)
 
 -- ---- checks
-
-passes : (b : Bool) (why : Refusal) (l : List (Check Refusal)) → b ≡ true → first_refusal (RefusedWhere (not b) why ∷ l) ≡ first_refusal l
-passes true why l e = refl
-passes false why l e = absurd (false≢true e)
 
 module _ (judge : Judge) (below : Beneath) (old : Layers) (m : Msg) (payload : List ℕ) (same : message_number m ≡ number_of payload) (may : may_take below old (number_of payload) ≡ true) (read : IsPayload false m payload) where
   reads : Reads below old m payload

@@ -1,10 +1,6 @@
 -- The layers above a server's transport: what they keep, and what they make of a payload.
 use Rattle.std.specs.Prelude.{◌≡◌, ℕ, Bool, true, false, cond, nat_lt, None, Some, List, ◌++◌}
-use Rattle.ssh_model.specs.Wire.Message.{Msg, Msg.GlobalRequest, Msg.RequestSuccess, Msg.RequestFailure, Msg.Unknown, IsPayload}
-use Rattle.ssh_model.specs.Wire.Message.{Msg.ChannelOpen, Msg.ChannelOpenConfirmation, Msg.ChannelOpenFailure}
-use Rattle.ssh_model.specs.Wire.Message.{Msg.ChannelWindowAdjust, Msg.ChannelData, Msg.ChannelExtendedData}
-use Rattle.ssh_model.specs.Wire.Message.{Msg.ChannelEof, Msg.ChannelClose, Msg.ChannelRequest, Msg.ChannelSuccess}
-use Rattle.ssh_model.specs.Wire.Message.{Msg.ChannelFailure}
+use Rattle.ssh_model.specs.Wire.Message.{Msg, Msg.Unknown, IsPayload}
 use Rattle.ssh_model.specs.Authentication.Kept.{ServerTakes, server_checks, server_takes}
 use Rattle.ssh_model.specs.Authentication.Requests.{Judge}
 use Rattle.ssh_model.specs.Channels.Kept.{Channels, Takes, take_checks}
@@ -15,10 +11,9 @@ use Rattle.ssh_auth.specs.Serving.{NeedsText, answered}
 use Rattle.ssh_channels.specs.Rows.{OpensChannel}
 use Rattle.ssh_channels.specs.Values.{taken_of}
 use Rattle.ssh_types.specs.Refusals.{refusal_of}
+use Rattle.ssh_end.specs.Layer.{Beneath}
 use Rattle.ssh_end.specs.declared.fault.LayerFault.{LayerFault}
 use Rattle.ssh_end.specs.declared.fault.LayerFault.TheVariants as fault
-use Rattle.ssh_end.specs.declared.server_layers.Layer.{Layer}
-use Rattle.ssh_end.specs.declared.server_layers.Layer.TheVariants as layer
 use Rattle.ssh_end.specs.declared.server_layers.ServerLayerAnswer.{ServerLayerAnswer}
 use Rattle.ssh_end.specs.declared.server_layers.ServerLayerAnswer.TheVariants as answer
 
@@ -27,36 +22,10 @@ pub record Layers : Type 0 where
   pub authentication : serving.Server
   pub channels : Channels
 
--- What a transport says to them: the session id, and whether the end is within an exchange of its own, and the user
--- authenticated.
-pub record Beneath : Type 0 where
-  pub session : List ℕ
-  pub is_blocked : Bool
-  pub is_authenticated : Bool
-
 -- which numbers from 50 on are taken outside an exchange
 abbrev pub may_take : Beneath → Layers → ℕ → Bool
 may_take below layers number =
     cond (nat_lt number 80) (server_takes layers.authentication.kept number) below.is_authenticated
-
--- which layer a message is for
-abbrev pub layer_of : Msg → Layer
-layer_of (GlobalRequest name want rest) = layer.Channels
-layer_of (RequestSuccess rest) = layer.Channels
-layer_of RequestFailure = layer.Channels
-layer_of (ChannelOpen kind sender window max rest) = layer.Channels
-layer_of (ChannelOpenConfirmation recipient sender window max rest) = layer.Channels
-layer_of (ChannelOpenFailure recipient reason description language) = layer.Channels
-layer_of (ChannelWindowAdjust recipient bytes) = layer.Channels
-layer_of (ChannelData recipient body) = layer.Channels
-layer_of (ChannelExtendedData recipient kind body) = layer.Channels
-layer_of (ChannelEof recipient) = layer.Channels
-layer_of (ChannelClose recipient) = layer.Channels
-layer_of (ChannelRequest recipient name want rest) = layer.Channels
-layer_of (ChannelSuccess recipient) = layer.Channels
-layer_of (ChannelFailure recipient) = layer.Channels
-layer_of (Unknown number) = layer.Nobody
-layer_of message = layer.Authentication
 
 -- what a message is refused for that may be taken
 abbrev pub layer_checks : Judge → Beneath → Layers → Msg → List (Check Refusal)
@@ -83,11 +52,6 @@ pub record AuthenticationTakes (judge : Judge) (below : Beneath) (old : Layers) 
 pub record ChannelsTake (below : Beneath) (old : Layers) (message : Msg) (taken : _) (new : Layers) : Type 0 where
   pub row : Takes below.is_blocked old.channels message taken new.channels
   pub authentication : new.authentication ≡ old.authentication
-
--- The message has a number that no message has.
-pub record NobodyIs (message : Msg) : Type 0 where
-  pub number : ℕ
-  pub message_is : message ≡ Unknown number
 
 -- Nothing was done with a message of such a number.
 pub record NobodyTakes (old : Layers) (message : Msg) (new : Layers) : Type 0 where

@@ -1,3 +1,6 @@
 pub mod Faults
+pub mod Layer
 pub mod Layers
+pub mod ClientLayers
 pub mod Sessions
+pub mod ClientSessions

@@ -11,7 +11,8 @@ use Rattle.ssh_model.specs.End.Payloads.{AnswersAbove, ReadsAbove, reply_items}
 use Rattle.ssh_model.specs.End.State.{Authentication.OfServer, EndState, above_checks}
 use Rattle.ssh_auth.specs.Serving.{answered}
 use Rattle.ssh_channels.specs.Values.{taken_of}
-use Rattle.ssh_end.specs.Layers.{Beneath, Layers}
+use Rattle.ssh_end.specs.Layer.{Beneath}
+use Rattle.ssh_end.specs.Layers.{Layers}
 use Rattle.ssh_end.specs.declared.server_layers.ServerLayerAnswer.{ServerLayerAnswer}
 use Rattle.ssh_end.specs.declared.server_layers.ServerLayerAnswer.TheVariants as answer
 

@@ -2,7 +2,7 @@
 
 ghost use Rattle.ssh_end.specs.declared.fault.LayerFault.TheVariants.{Memory, Refused};
 
-use ssh_auth::TakeError as AuthError;
+use ssh_auth::{AuthRefusal, TakeError as AuthError};
 use ssh_channels::TakeError as ChannelError;
 use ssh_types::Refusal;
 use thiserror::Error;
@@ -51,5 +51,15 @@ impl From<AuthError> for LayerFault {
             AuthError::Refused(refusal) => LayerFault::Refused(Refusal::from(refusal)),
             AuthError::Memory => LayerFault::Memory,
         }
+    }
+}
+
+impl From<AuthRefusal> for LayerFault {
+    ghost use Rattle.ssh_end.specs.Faults.{OfClient};
+
+    ghost from_gives = { λ refusal fault. OfClient refusal fault };
+
+    fn from(refusal: AuthRefusal) -> LayerFault {
+        LayerFault::Refused(Refusal::from(refusal))
     }
 }

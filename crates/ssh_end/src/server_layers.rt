@@ -8,11 +8,13 @@ ghost use Rattle.ssh_model.specs.Wire.Message.{IsPayload, message_number};
 ghost use Rattle.ssh_message.specs.Meaning.{meaning};
 ghost use Rattle.ssh_message.specs.Written.{Fits};
 ghost use Rattle.ssh_types.specs.Values.{names, names_text};
-ghost use Rattle.ssh_end.specs.declared.server_layers.Layer.TheVariants as Layer;
-ghost use Rattle.ssh_end.specs.Layers.{LayersFail, LayersTake, layer_of as layer_for, may_take as takes};
+ghost use Rattle.ssh_end.specs.declared.layer.Layer.TheVariants as Layer;
+ghost use Rattle.ssh_end.specs.Layer.{layer_of as layer_for};
+ghost use Rattle.ssh_end.specs.Layers.{LayersFail, LayersTake, may_take as takes};
 
 use crate::below::Below;
 use crate::fault::LayerFault;
+use crate::layer::{Layer, layer_of, number_in};
 use ssh_auth::{AuthServer, ServerAnswer, UserJudge};
 use ssh_channels::{Channels, Taken};
 use ssh_message::{Message, decode};
@@ -38,14 +40,6 @@ pub struct ServerTaken<'a> {
     pub message: Message<'a>,
     /// What is answered.
     pub answer: ServerLayerAnswer<'a>,
-}
-
-// Who takes a message.
-#[derive(Clone, Copy)]
-pub enum Layer {
-    Authentication,
-    Channels,
-    Nobody,
 }
 
 /// The layers above a server's transport: authentication (RFC 4252) and channels (RFC 4254).
@@ -218,36 +212,4 @@ impl ServerLayers {
             Err(error) => Err(LayerFault::from(error)),
         }
     }
-}
-
-// Who takes a message.
-fn layer_of(message: &Message<'_>) -> Layer
-    ensures { result ≡ layer_for (meaning message.now) }
-{
-    match *message {
-        Message::GlobalRequest { .. }
-        | Message::RequestSuccess { .. }
-        | Message::RequestFailure
-        | Message::ChannelOpen { .. }
-        | Message::ChannelOpenConfirmation { .. }
-        | Message::ChannelOpenFailure { .. }
-        | Message::ChannelWindowAdjust { .. }
-        | Message::ChannelData { .. }
-        | Message::ChannelExtendedData { .. }
-        | Message::ChannelEof { .. }
-        | Message::ChannelClose { .. }
-        | Message::ChannelRequest { .. }
-        | Message::ChannelSuccess { .. }
-        | Message::ChannelFailure { .. } => Layer::Channels,
-        Message::Unknown(_) => Layer::Nobody,
-        _ => Layer::Authentication,
-    }
-}
-
-// The number of the message that a payload begins with.
-fn number_in(payload: &[u8]) -> u8
-    requires { 50 ≤ number_of payload.now }
-    ensures { result ≡ number_of payload.now }
-{
-    payload[0]
 }

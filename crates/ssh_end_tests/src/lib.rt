@@ -2,4 +2,6 @@
 #![tactic(auto)]
 
 #[cfg(test)]
+mod client_layers;
+#[cfg(test)]
 mod server_layers;

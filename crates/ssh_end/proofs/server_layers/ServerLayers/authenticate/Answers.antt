@@ -1,5 +1,6 @@
 use Rattle.ssh_message.specs.Meaning.{meaning}
-use Rattle.ssh_end.proofs.Rows.{an_err, authentication_fails_at, no_err}
+use Rattle.ssh_end.proofs.Each.{an_err, no_err}
+use Rattle.ssh_end.proofs.Rows.{authentication_fails_at}
 use Rattle.ssh_end.proofs.server_layers.ServerLayers.authenticate.Goals as goal
 use Rattle.ssh_end.proofs.server_layers.ServerLayers.authenticate.Goals.{in-Ok, in-Err}
 

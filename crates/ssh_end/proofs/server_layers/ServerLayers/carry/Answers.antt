@@ -1,5 +1,6 @@
 use Rattle.ssh_message.specs.Meaning.{meaning}
-use Rattle.ssh_end.proofs.Rows.{an_err, channels_fail_at, no_err}
+use Rattle.ssh_end.proofs.Each.{an_err, no_err}
+use Rattle.ssh_end.proofs.Rows.{channels_fail_at}
 use Rattle.ssh_end.proofs.server_layers.ServerLayers.carry.Goals as goal
 use Rattle.ssh_end.proofs.server_layers.ServerLayers.carry.Goals.{in-Ok, in-Err}
 
