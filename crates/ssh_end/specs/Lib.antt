@@ -4,3 +4,4 @@ pub mod Layers
 pub mod ClientLayers
 pub mod Sessions
 pub mod ClientSessions
+pub mod Connection

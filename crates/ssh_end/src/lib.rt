@@ -16,6 +16,7 @@
 
 mod below;
 mod client_layers;
+mod connection;
 mod fault;
 pub mod laws;
 mod layer;

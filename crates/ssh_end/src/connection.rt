@@ -1,0 +1,35 @@
+//! Asks for messages of the connection, at an end that may not be authenticated.
+
+ghost use Rattle.std.specs.Prelude.{◌≡◌, ◌≤◌, None, IfErr, IfOk, OnErr, OnOk};
+ghost use Rattle.ssh_model.specs.Channels.Connection.{after_authentication};
+ghost use Rattle.ssh_model.specs.Channels.Kept.{Sends, send_checks};
+ghost use Rattle.ssh_model.specs.Sessions.Refusals.{first_refusal};
+ghost use Rattle.ssh_model.specs.Wire.Sizes.{payload_size};
+ghost use Rattle.ssh_message.specs.Meaning.{meaning};
+ghost use Rattle.ssh_message.specs.Written.{Fits};
+ghost use Rattle.ssh_channels.specs.Values.{ask_of, sent_of};
+ghost use Rattle.ssh_end.specs.Connection.{AskFails};
+
+use crate::below::Below;
+use ssh_channels::{Ask, AskError, Channels, Sent};
+use ssh_types::AskRefusal;
+
+// Asks for a message of the connection, before authentication in vain.
+pub fn ask_channels<'a>(
+    channels: &mut Channels,
+    below: &Below<'_>,
+    ask: &Ask<'a>,
+    due: bool,
+) -> Result<Sent<'a>, AskError>
+    ensures refused { IfErr result (λ error. AskFails below.now.authenticated below.now.blocked due channels.old (ask_of ask.now) error) }
+    ensures kept { OnErr result (channels.new ≡ channels.old) }
+    ensures passed { OnOk result (first_refusal (after_authentication below.now.authenticated (send_checks below.now.blocked due channels.old (ask_of ask.now))) ≡ None) }
+    ensures sent { IfOk result (λ sent. Sends channels.old (ask_of ask.now) (sent_of sent) channels.new) }
+    ensures fits { IfOk result (λ sent. Fits sent.message) }
+    ensures short { IfOk result (λ sent. payload_size (meaning sent.message) ≤ 34000) }
+{
+    if !below.authenticated {
+        return Err(AskError::Refused(AskRefusal::NotYet));
+    }
+    channels.ask(ask, below.blocked, due)
+}
