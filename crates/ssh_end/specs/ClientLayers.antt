@@ -1,6 +1,8 @@
 -- The layers above a client's transport: what they keep, and what they make of a payload.
-use Rattle.std.specs.Prelude.{◌≡◌, ℕ, Bool, true, false, cond, nat_lt, None, Some, List}
-use Rattle.ssh_model.specs.Wire.Message.{Msg, Msg.Unknown, IsPayload}
+use Rattle.std.specs.Prelude.{◌≡◌, ℕ, Bool, true, false, cond, nat_lt, Option, None, Some, List}
+use Rattle.ssh_model.specs.Wire.Message.{Msg, Msg.Unimplemented, Msg.Unknown, IsPayload}
+use Rattle.std.specs.Option.{option_map}
+use Rattle.ssh_model.specs.Channels.Summary.{reply_sent}
 use Rattle.ssh_model.specs.Authentication.Kept as kept
 use Rattle.ssh_model.specs.Authentication.Kept.{Answered, ClientTakes, client_takes, is_key_probe}
 use Rattle.ssh_model.specs.Channels.Kept.{Channels, Taken, Takes, take_checks}
@@ -83,3 +85,11 @@ pub record LayersLack (below : Beneath) (old : Layers) (payload : List ℕ) : Ty
 abbrev pub LayersFail : Beneath → Layers → List ℕ → LayerFault → Type 0
 LayersFail below old payload (fault.Refused why) = LayersRefuse below old payload (refusal_of why)
 LayersFail below old payload fault.Memory = LayersLack below old payload
+
+-- ---- what is sent
+
+-- the message that is sent at once for an answer, where its packet had this number
+abbrev pub message_of : ClientLayerAnswer → (number : ℕ) → Option Msg
+message_of (answer.Authentication given) number = None
+message_of (answer.Channels given) number = option_map reply_sent (taken_of given).reply
+message_of answer.Unknown number = Some (Unimplemented number)

@@ -1,13 +1,15 @@
 -- The layers above a server's transport: what they keep, and what they make of a payload.
-use Rattle.std.specs.Prelude.{◌≡◌, ℕ, Bool, true, false, cond, nat_lt, None, Some, List, ◌++◌}
-use Rattle.ssh_model.specs.Wire.Message.{Msg, Msg.Unknown, IsPayload}
+use Rattle.std.specs.Prelude.{◌≡◌, ℕ, Bool, true, false, cond, nat_lt, Option, None, Some, List, ◌++◌}
+use Rattle.ssh_model.specs.Wire.Message.{Msg, Msg.Unimplemented, Msg.Unknown, IsPayload}
+use Rattle.std.specs.Option.{option_map}
+use Rattle.ssh_model.specs.Channels.Summary.{reply_sent}
 use Rattle.ssh_model.specs.Authentication.Kept.{ServerTakes, server_checks, server_takes}
 use Rattle.ssh_model.specs.Authentication.Requests.{Judge}
 use Rattle.ssh_model.specs.Channels.Kept.{Channels, Takes, take_checks}
 use Rattle.ssh_model.specs.Sessions.Refusals.{Check, Refusal, Refusal.BadMessage, Refusal.Unexpected, first_refusal}
 use Rattle.ssh_model.specs.Sessions.Turns.{number_of}
 use Rattle.ssh_auth.specs.Serving as serving
-use Rattle.ssh_auth.specs.Serving.{NeedsText, answered}
+use Rattle.ssh_auth.specs.Serving.{IsShortAnswer, NeedsText, answered}
 use Rattle.ssh_channels.specs.Rows.{OpensChannel}
 use Rattle.ssh_channels.specs.Values.{taken_of}
 use Rattle.ssh_types.specs.Refusals.{refusal_of}
@@ -92,3 +94,16 @@ pub data LayersLack (judge : Judge) (below : Beneath) (old : Layers) (payload : 
 abbrev pub LayersFail : Judge → Beneath → Layers → List ℕ → LayerFault → Type 0
 LayersFail judge below old payload (fault.Refused why) = LayersRefuse judge below old payload (refusal_of why)
 LayersFail judge below old payload fault.Memory = LayersLack judge below old payload
+
+-- ---- what is sent
+
+-- What is sent for an answer is short enough.
+abbrev pub IsShort : ServerLayerAnswer → Type 0
+IsShort (answer.Authentication given) = IsShortAnswer given
+IsShort given = Unit {0}
+
+-- the message that is sent at once for an answer, where its packet had this number
+abbrev pub message_of : Layers → ServerLayerAnswer → (number : ℕ) → Option Msg
+message_of layers (answer.Authentication given) number = (answered layers.authentication.methods given).message
+message_of layers (answer.Channels given) number = option_map reply_sent (taken_of given).reply
+message_of layers answer.Unknown number = Some (Unimplemented number)

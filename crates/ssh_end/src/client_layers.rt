@@ -1,6 +1,6 @@
 //! Authentication and channels on a client's transport.
 
-ghost use Rattle.std.specs.Prelude.{◌≡◌, ◌≤◌, IfErr, IfOk, None, OnErr, OnOk, option_map, true};
+ghost use Rattle.std.specs.Prelude.{◌≡◌, ◌≤◌, IfErr, IfOk, IfSome, None, OnErr, OnOk, option_map, true};
 ghost use Rattle.ssh_model.specs.Authentication.Kept.{new_client, opened_client};
 ghost use Rattle.ssh_model.specs.Channels.Connection.{after_authentication};
 ghost use Rattle.ssh_model.specs.Channels.Kept.{Sends, Unblocks, no_channels, send_checks};
@@ -15,10 +15,10 @@ ghost use Rattle.ssh_message.specs.Written.{Fits};
 ghost use Rattle.ssh_end.specs.declared.layer.Layer.TheVariants as Layer;
 ghost use Rattle.ssh_end.specs.Layer.{layer_of as layer_for};
 ghost use Rattle.ssh_auth.specs.Asking.{ClientAsks, ClientRefuses, ask_of as user_ask_of};
-ghost use Rattle.ssh_end.specs.ClientLayers.{LayersFail, LayersTake, may_take as takes, probes};
+ghost use Rattle.ssh_end.specs.ClientLayers.{LayersFail, LayersTake, may_take as takes, message_of, probes};
 
 use crate::below::Below;
-use crate::connection::ask_channels;
+use crate::connection::{ask_channels, reply_message};
 use crate::fault::LayerFault;
 use crate::layer::{Layer, layer_of, number_in};
 use ssh_auth::{
@@ -136,6 +136,20 @@ impl ClientLayers {
         ensures short { IfOk result (λ sent. payload_size (meaning sent.message) ≤ 34000) }
     {
         ask_channels(&mut self.channels, below, ask, due)
+    }
+
+    /// The message that is sent at once for an answer of `take`, where its packet had this sequence number; `None` where nothing is. It fits, and its
+    /// payload has at most 34,000 bytes. It needs no memory.
+    pub fn message<'a>(&self, answer: &ClientLayerAnswer<'a>, number: u32) -> Option<Message<'a>>
+        ensures message { option_map meaning result ≡ message_of answer.now number }
+        ensures fits { IfSome result (λ message. Fits message) }
+        ensures short { IfSome result (λ message. payload_size (meaning message) ≤ 34000) }
+    {
+        match *answer {
+            ClientLayerAnswer::Authentication(_) => None,
+            ClientLayerAnswer::Channels(taken) => reply_message(taken.reply),
+            ClientLayerAnswer::Unknown => Some(Message::Unimplemented { number }),
+        }
     }
 
     /// The oldest reply that is owed, once the end sent its NEWKEYS; `None` where none is owed. A CLOSE that is given frees its number.

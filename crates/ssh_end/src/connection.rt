@@ -1,17 +1,19 @@
 //! Asks for messages of the connection, at an end that may not be authenticated.
 
-ghost use Rattle.std.specs.Prelude.{◌≡◌, ◌≤◌, None, IfErr, IfOk, OnErr, OnOk};
+ghost use Rattle.std.specs.Prelude.{◌≡◌, ◌≤◌, None, IfErr, IfOk, IfSome, OnErr, OnOk, option_map};
 ghost use Rattle.ssh_model.specs.Channels.Connection.{after_authentication};
 ghost use Rattle.ssh_model.specs.Channels.Kept.{Sends, send_checks};
+ghost use Rattle.ssh_model.specs.Channels.Summary.{reply_sent};
 ghost use Rattle.ssh_model.specs.Sessions.Refusals.{first_refusal};
 ghost use Rattle.ssh_model.specs.Wire.Sizes.{payload_size};
 ghost use Rattle.ssh_message.specs.Meaning.{meaning};
 ghost use Rattle.ssh_message.specs.Written.{Fits};
-ghost use Rattle.ssh_channels.specs.Values.{ask_of, sent_of};
+ghost use Rattle.ssh_channels.specs.Values.{ask_of, reply_of, sent_of};
 ghost use Rattle.ssh_end.specs.Connection.{AskFails};
 
 use crate::below::Below;
-use ssh_channels::{Ask, AskError, Channels, Sent};
+use ssh_channels::{Ask, AskError, Channels, Reply, Sent};
+use ssh_message::Message;
 use ssh_types::AskRefusal;
 
 // Asks for a message of the connection, before authentication in vain.
@@ -32,4 +34,16 @@ pub fn ask_channels<'a>(
         return Err(AskError::Refused(AskRefusal::NotYet));
     }
     channels.ask(ask, below.blocked, due)
+}
+
+// The message of a reply that is sent at once.
+pub fn reply_message(reply: Option<Reply>) -> Option<Message<'static>>
+    ensures message { option_map meaning result ≡ option_map (λ r. reply_sent (reply_of r)) reply }
+    ensures fits { IfSome result (λ message. Fits message) }
+    ensures short { IfSome result (λ message. payload_size (meaning message) ≤ 34000) }
+{
+    match reply {
+        Some(reply) => Some(reply.message()),
+        None => None,
+    }
 }

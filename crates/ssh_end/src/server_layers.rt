@@ -1,6 +1,6 @@
 //! Authentication and channels on a server's transport.
 
-ghost use Rattle.std.specs.Prelude.{◌≡◌, ◌≤◌, IfErr, IfOk, None, OnErr, OnOk, option_map, false, length, true};
+ghost use Rattle.std.specs.Prelude.{◌≡◌, ◌≤◌, IfErr, IfOk, IfSome, None, OnErr, OnOk, option_map, false, length, true};
 ghost use Rattle.ssh_model.specs.Authentication.Kept.{new_server, opened_server};
 ghost use Rattle.ssh_model.specs.Channels.Connection.{after_authentication};
 ghost use Rattle.ssh_model.specs.Channels.Kept.{Sends, Unblocks, no_channels, send_checks};
@@ -15,10 +15,10 @@ ghost use Rattle.ssh_message.specs.Written.{Fits};
 ghost use Rattle.ssh_types.specs.Values.{names, names_text};
 ghost use Rattle.ssh_end.specs.declared.layer.Layer.TheVariants as Layer;
 ghost use Rattle.ssh_end.specs.Layer.{layer_of as layer_for};
-ghost use Rattle.ssh_end.specs.Layers.{LayersFail, LayersTake, may_take as takes};
+ghost use Rattle.ssh_end.specs.Layers.{IsShort, LayersFail, LayersTake, may_take as takes, message_of};
 
 use crate::below::Below;
-use crate::connection::ask_channels;
+use crate::connection::{ask_channels, reply_message};
 use crate::fault::LayerFault;
 use crate::layer::{Layer, layer_of, number_in};
 use ssh_auth::{AuthServer, ServerAnswer, UserJudge};
@@ -120,6 +120,21 @@ impl ServerLayers {
         ask_channels(&mut self.channels, below, ask, due)
     }
 
+    /// The message that is sent at once for an answer of `take`, where its packet had this sequence number; `None` where nothing is. It fits, and its
+    /// payload has at most 34,000 bytes. It needs no memory.
+    pub fn message<'a>(&'a self, answer: &ServerLayerAnswer<'a>, number: u32) -> Option<Message<'a>>
+        requires { IsShort answer.now }
+        ensures message { option_map meaning result ≡ message_of self.now answer.now number }
+        ensures fits { IfSome result (λ message. Fits message) }
+        ensures short { IfSome result (λ message. payload_size (meaning message) ≤ 34000) }
+    {
+        match *answer {
+            ServerLayerAnswer::Authentication(answer) => self.authentication.message(&answer),
+            ServerLayerAnswer::Channels(taken) => reply_message(taken.reply),
+            ServerLayerAnswer::Unknown => Some(Message::Unimplemented { number }),
+        }
+    }
+
     /// The oldest reply that is owed, once the end sent its NEWKEYS; `None` where none is owed. A CLOSE that is given frees its number.
     pub fn unblock(&mut self) -> Option<Reply>
         ensures given { Unblocks self.old.channels (option_map reply_of result) self.new.channels }
@@ -166,6 +181,7 @@ impl ServerLayers {
         requires { 50 ≤ number_of payload.now }
         ensures taken { IfOk result (λ taken. LayersTake (J.verdicts judge.now) (record { session = below.now.session.now; is_blocked = below.now.blocked; is_authenticated = below.now.authenticated }) self.old (meaning taken.message) payload.now taken.answer self.new) }
         ensures fits { IfOk result (λ taken. Fits taken.message) }
+        ensures short { IfOk result (λ taken. IsShort taken.answer) }
         ensures failed { IfErr result (λ fault. LayersFail (J.verdicts judge.now) (record { session = below.now.session.now; is_blocked = below.now.blocked; is_authenticated = below.now.authenticated }) self.old payload.now fault) }
         ensures kept { OnErr result (self.new ≡ self.old) }
     {
@@ -193,6 +209,7 @@ impl ServerLayers {
         requires fits { Fits message }
         ensures taken { IfOk result (λ taken. LayersTake (J.verdicts judge.now) (record { session = below.now.session.now; is_blocked = below.now.blocked; is_authenticated = below.now.authenticated }) self.old (meaning taken.message) payload.now taken.answer self.new) }
         ensures fits { IfOk result (λ taken. Fits taken.message) }
+        ensures short { IfOk result (λ taken. IsShort taken.answer) }
         ensures failed { IfErr result (λ fault. LayersFail (J.verdicts judge.now) (record { session = below.now.session.now; is_blocked = below.now.blocked; is_authenticated = below.now.authenticated }) self.old payload.now fault) }
         ensures kept { OnErr result (self.new ≡ self.old) }
     {
@@ -221,6 +238,7 @@ impl ServerLayers {
         requires here { layer_for (meaning message) ≡ Layer.Authentication }
         ensures taken { IfOk result (λ taken. LayersTake (J.verdicts judge.now) (record { session = below.now.session.now; is_blocked = below.now.blocked; is_authenticated = below.now.authenticated }) self.old (meaning taken.message) payload.now taken.answer self.new) }
         ensures fits { IfOk result (λ taken. Fits taken.message) }
+        ensures short { IfOk result (λ taken. IsShort taken.answer) }
         ensures failed { IfErr result (λ fault. LayersFail (J.verdicts judge.now) (record { session = below.now.session.now; is_blocked = below.now.blocked; is_authenticated = below.now.authenticated }) self.old payload.now fault) }
         ensures kept { OnErr result (self.new ≡ self.old) }
     {
@@ -248,6 +266,7 @@ impl ServerLayers {
         requires here { layer_for (meaning message) ≡ Layer.Channels }
         ensures taken { IfOk result (λ taken. LayersTake (J.verdicts judge.now) (record { session = below.now.session.now; is_blocked = below.now.blocked; is_authenticated = below.now.authenticated }) self.old (meaning taken.message) payload.now taken.answer self.new) }
         ensures fits { IfOk result (λ taken. Fits taken.message) }
+        ensures short { IfOk result (λ taken. IsShort taken.answer) }
         ensures failed { IfErr result (λ fault. LayersFail (J.verdicts judge.now) (record { session = below.now.session.now; is_blocked = below.now.blocked; is_authenticated = below.now.authenticated }) self.old payload.now fault) }
         ensures kept { OnErr result (self.new ≡ self.old) }
     {
