@@ -1,7 +1,7 @@
 //! What the layers above a server's transport make of the payloads of a session, one after the other.
 
 use ssh_auth::ServerAnswer;
-use ssh_channels::{Fact, Taken};
+use ssh_channels::{Ask, Fact, Taken};
 use ssh_end::{Below, LayerFault, ServerLayerAnswer, ServerLayers};
 use ssh_message::{Message, Method, encode};
 use ssh_toys::{ToyCredential, ToyJudge};
@@ -183,5 +183,59 @@ fn bytes_that_are_no_message(rt: HostRuntime) -> Result<(), Fail> {
         let fault = layers.take(&judge, &below, payload).err();
         assert_eq!(rt; fault, Some(LayerFault::Refused(Refusal::BadMessage)));
     }
+    Ok(())
+}
+
+// What is sent at once for each message of a session, by the number of its message.
+#[test]
+fn messages_that_are_sent(rt: HostRuntime) -> Result<(), Fail> {
+    let credentials = [ToyCredential::Password {
+        user: b"u",
+        word: b"p",
+    }];
+    let judge = ToyJudge {
+        credentials: &credentials,
+    };
+    let mut layers = layers(rt.alloc())?;
+    layers.open();
+    let mut payload = Vec::new(rt.alloc());
+    let close = Message::ChannelClose { recipient: 0 };
+    let confirm = Ask::Confirm {
+        channel: 0,
+        window: 10,
+        max_packet: 32_768,
+        rest: b"",
+    };
+    let table = [
+        (request(b"q"), false, Some(51)),
+        (Message::Unknown(60), false, None),
+        (request(b"p"), false, Some(52)),
+        (request(b"p"), true, None),
+        (Message::Unknown(79), true, Some(3)),
+        (open(), true, None),
+        (close, true, Some(97)),
+    ];
+    for (message, authenticated, wanted) in table {
+        let below = Below {
+            session: &SESSION,
+            blocked: false,
+            authenticated,
+        };
+        payload.clear();
+        encode(&message, &mut payload)?;
+        let sent = match layers.take(&judge, &below, &payload) {
+            Ok(taken) => layers
+                .message(&taken.answer, 9)
+                .map(|message| message.number()),
+            Err(_) => None,
+        };
+        assert_eq!(rt; sent, wanted);
+        if message == open() {
+            let confirmed = layers.ask(&below, &confirm, false)?;
+            assert_eq!(rt; confirmed.message.number(), 91);
+        }
+    }
+    assert_eq!(rt; layers.channels().count(), 0);
+    assert_eq!(rt; layers.unblock(), None);
     Ok(())
 }
