@@ -1,9 +1,9 @@
 //! What the layers above a client's transport make of the payloads of a session, one after the other.
 
+use crate::payloads::{BANNER, FAILURE, KEY_OK, OPEN, SUCCESS, UNKNOWN_79, is_above};
 use ssh_auth::{ClientAnswer, UserAsk};
 use ssh_channels::{Fact, Taken};
 use ssh_end::{Below, ClientLayerAnswer, ClientLayers, LayerFault};
-use ssh_message::{Message, encode};
 use ssh_toys::ToyUserSigner;
 use ssh_types::{NameList, Refusal};
 use std::test::*;
@@ -32,27 +32,7 @@ fn told(answer: ClientAnswer<'static>) -> Result<ClientLayerAnswer<'static>, Lay
 #[test]
 fn payloads_of_a_session(rt: HostRuntime) -> Result<(), Fail> {
     let mut layers = ClientLayers::new(rt.alloc())?;
-    let mut payload = Vec::new(rt.alloc());
     let methods = NameList::new(b"password").ok_or("no methods")?;
-    let failure = Message::UserauthFailure {
-        methods,
-        partial: false,
-    };
-    let banner = Message::UserauthBanner {
-        message: b"hello",
-        language: b"",
-    };
-    let key = Message::UserauthPkOk {
-        algorithm: b"a",
-        key: b"k",
-    };
-    let open = Message::ChannelOpen {
-        kind: b"session",
-        sender: 5,
-        window: 100,
-        max: 32_768,
-        rest: b"",
-    };
     let opened = Taken {
         channel: Some(0),
         reply: None,
@@ -72,55 +52,50 @@ fn payloads_of_a_session(rt: HostRuntime) -> Result<(), Fail> {
         algorithm: b"a",
         key: b"k",
     };
-    // what is asked before, the message, whether the user is authenticated, and what comes of it
+    let greeting = ClientAnswer::Banner { message: b"hello" };
+    // what is asked before, the payload, whether the user is authenticated, and what comes of it
     let table = [
-        (Before::Nothing, banner, false, refused(Refusal::Unexpected)),
-        (
-            Before::Opened,
-            banner,
-            false,
-            told(ClientAnswer::Banner { message: b"hello" }),
-        ),
+        (Before::Nothing, BANNER, false, refused(Refusal::Unexpected)),
+        (Before::Opened, BANNER, false, told(greeting)),
         (
             Before::Nothing,
-            Message::UserauthSuccess,
+            SUCCESS,
             false,
             refused(Refusal::Unexpected),
         ),
-        (Before::Probe, key, false, told(fine)),
-        (Before::Nothing, key, false, refused(Refusal::Unexpected)),
-        (Before::Request, failure, false, told(failed)),
-        (Before::Nothing, open, false, refused(Refusal::Unexpected)),
+        (Before::Probe, KEY_OK, false, told(fine)),
+        (Before::Nothing, KEY_OK, false, refused(Refusal::Unexpected)),
+        (Before::Request, FAILURE, false, told(failed)),
+        (Before::Nothing, OPEN, false, refused(Refusal::Unexpected)),
         (
             Before::Request,
-            Message::UserauthSuccess,
+            SUCCESS,
             false,
             told(ClientAnswer::Authenticated),
         ),
-        (Before::Nothing, banner, true, refused(Refusal::Unexpected)),
+        (Before::Nothing, BANNER, true, refused(Refusal::Unexpected)),
         (
             Before::Nothing,
-            Message::Unknown(79),
+            UNKNOWN_79,
             true,
             Ok(ClientLayerAnswer::Unknown),
         ),
         (
             Before::Nothing,
-            open,
+            OPEN,
             true,
             Ok(ClientLayerAnswer::Channels(opened)),
         ),
     ];
-    for (before, message, authenticated, wanted) in table {
+    for (before, payload, authenticated, wanted) in table {
         let below = Below {
             session: &SESSION,
             blocked: false,
             authenticated,
         };
         ask(&mut layers, &below, before)?;
-        payload.clear();
-        encode(&message, &mut payload)?;
-        let given = layers.take(&below, &payload).map(|taken| taken.answer);
+        assert!(rt; is_above(payload));
+        let given = layers.take(&below, payload).map(|taken| taken.answer);
         assert_eq!(rt; given, wanted);
     }
     Ok(())

@@ -4,4 +4,6 @@
 #[cfg(test)]
 mod client_layers;
 #[cfg(test)]
+mod payloads;
+#[cfg(test)]
 mod server_layers;

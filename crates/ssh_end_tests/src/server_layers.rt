@@ -1,9 +1,9 @@
 //! What the layers above a server's transport make of the payloads of a session, one after the other.
 
+use crate::payloads::{CLOSE, OPEN, RIGHT, SUCCESS, UNKNOWN_79, UNKNOWN_200, WRONG, is_above};
 use ssh_auth::ServerAnswer;
-use ssh_channels::{Fact, Taken};
+use ssh_channels::{Ask, Fact, Taken};
 use ssh_end::{Below, LayerFault, ServerLayerAnswer, ServerLayers};
-use ssh_message::{Message, Method, encode};
 use ssh_toys::{ToyCredential, ToyJudge};
 use ssh_types::{NameList, Refusal};
 use std::alloc::Global;
@@ -15,29 +15,6 @@ const SESSION: [u8; 32] = [7; 32];
 fn layers(alloc: Global) -> Result<ServerLayers, Fail> {
     let methods = NameList::new(b"publickey,password").ok_or("no methods")?;
     Ok(ServerLayers::new(alloc, 1, &methods)?)
-}
-
-// A request of the user u by this password.
-fn request(password: &'static [u8]) -> Message<'static> {
-    Message::UserauthRequest {
-        user: b"u",
-        service: b"ssh-connection",
-        method: Method::Password {
-            password,
-            new_password: None,
-        },
-    }
-}
-
-// An OPEN of a session.
-fn open() -> Message<'static> {
-    Message::ChannelOpen {
-        kind: b"session",
-        sender: 5,
-        window: 100,
-        max: 32_768,
-        rest: b"",
-    }
 }
 
 // The peer is refused for this.
@@ -60,7 +37,6 @@ fn payloads_of_a_session(rt: HostRuntime) -> Result<(), Fail> {
         credentials: &credentials,
     };
     let mut layers = layers(rt.alloc())?;
-    let mut payload = Vec::new(rt.alloc());
     let opened = Taken {
         channel: Some(0),
         reply: None,
@@ -72,84 +48,68 @@ fn payloads_of_a_session(rt: HostRuntime) -> Result<(), Fail> {
             rest: b"",
         }),
     };
-    let close = Message::ChannelClose { recipient: 0 };
-    // the message, whether SERVICE_ACCEPT was sent before, the end blocked, the user authenticated, and what comes of it
+    // the payload, whether SERVICE_ACCEPT was sent before, the end blocked, the user authenticated, and what comes of it
     let table = [
+        (RIGHT, false, false, false, refused(Refusal::Unexpected)),
+        (OPEN, false, false, false, refused(Refusal::Unexpected)),
+        (SUCCESS, true, false, false, refused(Refusal::Unexpected)),
+        (WRONG, true, false, false, answered(ServerAnswer::Failed)),
+        (WRONG, true, false, false, refused(Refusal::TooManyTries)),
+        (OPEN, true, false, false, refused(Refusal::Unexpected)),
         (
-            request(b"p"),
-            false,
-            false,
-            false,
-            refused(Refusal::Unexpected),
-        ),
-        (open(), false, false, false, refused(Refusal::Unexpected)),
-        (
-            Message::UserauthSuccess,
-            true,
-            false,
-            false,
-            refused(Refusal::Unexpected),
-        ),
-        (
-            request(b"q"),
-            true,
-            false,
-            false,
-            answered(ServerAnswer::Failed),
-        ),
-        (
-            request(b"q"),
-            true,
-            false,
-            false,
-            refused(Refusal::TooManyTries),
-        ),
-        (open(), true, false, false, refused(Refusal::Unexpected)),
-        (
-            request(b"p"),
+            RIGHT,
             true,
             false,
             false,
             answered(ServerAnswer::Accepted { user: b"u" }),
         ),
+        (RIGHT, true, false, true, answered(ServerAnswer::Ignored)),
         (
-            request(b"p"),
-            true,
-            false,
-            true,
-            answered(ServerAnswer::Ignored),
-        ),
-        (
-            Message::Unknown(79),
+            UNKNOWN_79,
             true,
             false,
             true,
             Ok(ServerLayerAnswer::Unknown),
         ),
         (
-            Message::Unknown(200),
+            UNKNOWN_200,
             true,
             false,
             false,
             refused(Refusal::Unexpected),
         ),
         (
-            Message::Unknown(200),
+            UNKNOWN_200,
             true,
             false,
             true,
             Ok(ServerLayerAnswer::Unknown),
         ),
-        (close, true, false, true, refused(Refusal::UnknownChannel)),
+        (CLOSE, true, false, true, refused(Refusal::UnknownChannel)),
         (
-            open(),
+            OPEN,
             true,
             true,
             true,
             Ok(ServerLayerAnswer::Channels(opened)),
         ),
+        (&[50, 0], true, false, true, refused(Refusal::BadMessage)),
+        (
+            &[97, 0, 0, 0],
+            true,
+            false,
+            true,
+            refused(Refusal::BadMessage),
+        ),
+        (
+            &[97, 0, 0, 0, 0, 0],
+            true,
+            false,
+            true,
+            refused(Refusal::BadMessage),
+        ),
     ];
-    for (message, is_open, blocked, authenticated, wanted) in table {
+    for (payload, is_open, blocked, authenticated, wanted) in table {
         if is_open {
             layers.open();
         }
@@ -158,30 +118,74 @@ fn payloads_of_a_session(rt: HostRuntime) -> Result<(), Fail> {
             blocked,
             authenticated,
         };
-        payload.clear();
-        encode(&message, &mut payload)?;
+        assert!(rt; is_above(payload));
         let given = layers
-            .take(&judge, &below, &payload)
+            .take(&judge, &below, payload)
             .map(|taken| taken.answer);
         assert_eq!(rt; given, wanted);
     }
     Ok(())
 }
 
-// A message of fewer bytes than its fields have, at a number that may come.
+// What is sent at once for each message of a session, by the number of its message.
 #[test]
-fn bytes_that_are_no_message(rt: HostRuntime) -> Result<(), Fail> {
-    let judge = ToyJudge { credentials: &[] };
+fn messages_that_are_sent(rt: HostRuntime) -> Result<(), Fail> {
+    let credentials = [ToyCredential::Password {
+        user: b"u",
+        word: b"p",
+    }];
+    let judge = ToyJudge {
+        credentials: &credentials,
+    };
     let mut layers = layers(rt.alloc())?;
     layers.open();
+    let confirm = Ask::Confirm {
+        channel: 0,
+        window: 10,
+        max_packet: 32_768,
+        rest: b"",
+    };
+    let table = [
+        (WRONG, false, Some(51)),
+        (SUCCESS, false, None),
+        (RIGHT, false, Some(52)),
+        (RIGHT, true, None),
+        (UNKNOWN_79, true, Some(3)),
+        (OPEN, true, None),
+    ];
+    for (payload, authenticated, wanted) in table {
+        let sent = sent_for(&mut layers, &judge, payload, authenticated);
+        assert_eq!(rt; sent, wanted);
+    }
     let below = Below {
         session: &SESSION,
         blocked: false,
         authenticated: true,
     };
-    for payload in [&[50, 0][..], &[97, 0, 0, 0], &[97, 0, 0, 0, 0, 0]] {
-        let fault = layers.take(&judge, &below, payload).err();
-        assert_eq!(rt; fault, Some(LayerFault::Refused(Refusal::BadMessage)));
-    }
+    let confirmed = layers.ask(&below, &confirm, false)?;
+    assert_eq!(rt; confirmed.message.number(), 91);
+    assert_eq!(rt; sent_for(&mut layers, &judge, CLOSE, true), Some(97));
+    assert_eq!(rt; layers.channels().count(), 0);
+    assert_eq!(rt; layers.unblock(), None);
     Ok(())
+}
+
+// The number of the message that is sent for a payload, the ninth packet, if one is.
+fn sent_for(
+    layers: &mut ServerLayers,
+    judge: &ToyJudge<'_>,
+    payload: &[u8],
+    authenticated: bool,
+) -> Option<u8> {
+    let below = Below {
+        session: &SESSION,
+        blocked: false,
+        authenticated,
+    };
+    if !is_above(payload) {
+        return None;
+    }
+    let taken = layers.take(judge, &below, payload).ok()?;
+    let message = layers.message(&taken.answer, 9)?;
+    Some(message.number())
 }
