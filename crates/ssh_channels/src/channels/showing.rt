@@ -1,6 +1,6 @@
 //! What is shown of the channels.
 
-ghost use Rattle.std.specs.Prelude.{◌≡◌, option_map};
+ghost use Rattle.std.specs.Prelude.{length, ◌≡◌, option_map};
 ghost use Rattle.ssh_model.specs.Channels.Places.{at, shown_room, shown_state};
 ghost use Rattle.ssh_model.specs.Channels.Kept.{used};
 ghost use Rattle.ssh_channels.specs.Sessions.{IsCountInSession, IsRoomInSession, IsStateInSession};
@@ -36,6 +36,13 @@ impl Channels {
     {
         shown();
         self.table.count()
+    }
+
+    /// How many replies are owed, which `unblock` gives once the end sent its NEWKEYS.
+    pub fn owed(&self) -> usize
+        ensures { result ≡ length self.now.owed }
+    {
+        self.owed.len()
     }
 
     fn kept_state(&self, channel: u32) -> Option<ChannelState>
