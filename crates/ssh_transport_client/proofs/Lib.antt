@@ -6,3 +6,4 @@ pub mod Packets
 pub mod Living
 pub mod Clients
 pub mod Units
+pub mod Leaving

@@ -1,13 +1,13 @@
 //! Laws of what a client makes of a server's KEXINIT and of its reply: turns of a session. Facts for proofs, at no cost.
 
-ghost use Rattle.std.specs.Prelude.{◌≡◌, ◌+◌, List, [], ◌∷◌, ℕ, Some, false, true};
+ghost use Rattle.std.specs.Prelude.{◌≡◌, ◌+◌, ◌++◌, ◌≤◌, List, [], ◌∷◌, ℕ, Some, false, true};
 ghost use Rattle.ssh_model.specs.Side.{Side.Client};
 ghost use Rattle.ssh_model.specs.KeyExchange.Choice.{Chosen};
 ghost use Rattle.ssh_model.specs.Channels.Connection.{AreReplies, owed_replies};
 ghost use Rattle.ssh_model.specs.Sessions.Items.{Item, Item.Died, Item.Refused};
 ghost use Rattle.ssh_model.specs.Sessions.Parties.{Agreement, Parties, agreement_of};
 ghost use Rattle.ssh_model.specs.Sessions.Refusals.{Refusal.BadHost, Refusal.BadPoint, Refusal.NumberSpent};
-ghost use Rattle.ssh_model.specs.Sessions.Turns.{AreSpelled};
+ghost use Rattle.ssh_model.specs.Sessions.Turns.{AreSpelled, number_of};
 ghost use Rattle.ssh_model.specs.TransportLayer.Kept.{Transport, after_taken};
 ghost use Rattle.ssh_model.specs.TransportLayer.Summary.{SumsUp};
 ghost use Rattle.ssh_model.specs.TransportLayer.Turns.{Turned};
@@ -17,7 +17,10 @@ ghost use Rattle.ssh_transport_machine.specs.Endings.{ExchangeEnds, IsRead, Payl
 ghost use Rattle.ssh_transport_machine.specs.Puts.{Outs};
 ghost use Rattle.ssh_transport_machine.specs.Sessions.{WouldDie};
 ghost use Rattle.ssh_transport_machine.specs.Standing.{Stands};
+ghost use Rattle.ssh_transport_machine.specs.Turning.{IsQuiet};
 ghost use Rattle.ssh_transport_machine.specs.declared.outcome.TransportTurn.{TransportTurn};
+ghost use Rattle.ssh_transport_machine.specs.declared.outcome.TransportTurn.TheVariants as outcome;
+ghost use Rattle.ssh_kex.specs.declared.owned_choice.OwnedChoice.{OwnedChoice};
 ghost use Rattle.ssh_transport_client.specs.Sessions.{ClientTurnOf};
 ghost use Rattle.ssh_transport_client.specs.Transport.{ClientDied, ClientTook};
 ghost use Rattle.ssh_transport_machine.specs.State.{IsLive, State, before_taken};
@@ -109,4 +112,19 @@ pub fn units_taken<K>()
     memory_deaths::<K>();
     kexinits_taken::<K>();
     replies_taken::<K>();
+}
+
+/// What a client's transport leaves to the layers above is a payload from 50 on, and when an exchange is completed at most one packet was
+/// sent under the new key. The end is not over then.
+pub fn turns_left<K>()
+    ensures up { (c : Crypto K) (agreement : Agreement) (trusts : Trusts) (old : State K) (bytes : List ℕ) (number : ℕ) (new : State K) (o : Outs) → ClientTook c agreement trusts old bytes (outcome.Up number) new o → 50 ≤ number_of new.receiver.payload }
+    ensures up_alive { (c : Crypto K) (agreement : Agreement) (trusts : Trusts) (old : State K) (bytes : List ℕ) (number : ℕ) (new : State K) (o : Outs) → ClientTook c agreement trusts old bytes (outcome.Up number) new o → new.kept.dead ≡ false }
+    ensures up_quiet { (c : Crypto K) (agreement : Agreement) (trusts : Trusts) (old : State K) (bytes : List ℕ) (number : ℕ) (new : State K) (o : Outs) → ClientTook c agreement trusts old bytes (outcome.Up number) new o → IsQuiet o }
+    ensures completed_alive { (c : Crypto K) (agreement : Agreement) (trusts : Trusts) (old : State K) (bytes : List ℕ) (choice : OwnedChoice) (new : State K) (o : Outs) → ClientTook c agreement trusts old bytes (outcome.Completed choice) new o → new.kept.dead ≡ false }
+    ensures completed_few { (c : Crypto K) (agreement : Agreement) (trusts : Trusts) (old : State K) (bytes : List ℕ) (choice : OwnedChoice) (new : State K) (o : Outs) → ClientTook c agreement trusts old bytes (outcome.Completed choice) new o → new.kept.sending.count ≤ 1 }
+    ensures completed_epoch { (c : Crypto K) (agreement : Agreement) (trusts : Trusts) (old : State K) (bytes : List ℕ) (choice : OwnedChoice) (new : State K) (o : Outs) → ClientTook c agreement trusts old bytes (outcome.Completed choice) new o → new.kept.sending.epoch ≡ old.kept.sending.epoch + 1 }
+    ensures completed_out { (c : Crypto K) (agreement : Agreement) (trusts : Trusts) (old : State K) (bytes : List ℕ) (choice : OwnedChoice) (new : State K) (o : Outs) → ClientTook c agreement trusts old bytes (outcome.Completed choice) new o → (more : List ℕ) × (o.after ≡ o.before ++ more) }
+    ensures completed_lists { (c : Crypto K) (agreement : Agreement) (trusts : Trusts) (old : State K) (bytes : List ℕ) (choice : OwnedChoice) (new : State K) (o : Outs) → ClientTook c agreement trusts old bytes (outcome.Completed choice) new o → (more : List (List ℕ)) × (o.relisted ≡ o.listed ++ more) }
+{
+    payload_numbers();
 }

@@ -18,3 +18,4 @@ pub use kexinit::answer_kexinit;
 pub use packet::{ClientTurn, take_packet};
 pub use reply::{ReplyTurn, take_reply};
 pub use transport::ClientTransport;
+pub use unit::take_unit;

@@ -5,3 +5,4 @@ pub mod Packets
 pub mod Living
 pub mod Servers
 pub mod Units
+pub mod Leaving

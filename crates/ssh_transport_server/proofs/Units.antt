@@ -86,7 +86,7 @@ module _ {K : Type 0} (s : Transport K) (side_is : s.side ≡ Server) where
   no_reply_in Phase.Keying none t = keying s.strict s.taking.epoch t
   no_reply_in Phase.Normal none t = normal t
 
-  no_reply : Numbered → (payload : List ℕ) → PayloadJudged s payload judged.Reply → ⊥
+  pub no_reply : Numbered → (payload : List ℕ) → PayloadJudged s payload judged.Reply → ⊥
   no_reply numbers payload (judging.PayloadJudged.read message below taken no_guess is so) = go message is so
     where
       go : (message : Msg) → IsPayload false message payload → MessageJudged s message judged.Reply → ⊥
@@ -112,7 +112,7 @@ found_kind : {K : Type 0} (c : Crypto K) (between mid : State K) (o : Outs) (fou
 found_kind c between mid o step.Payload what side y = left_kind c between mid o y.what what side y.does
 found_kind c between mid o _ what side y = absurd y
 
-above_is : {K : Type 0} (s : Transport K) (payload : List ℕ) → PayloadJudged s payload judged.Above → (50 ≤ number_of payload) × (s.phase ≡ Phase.Normal)
+pub above_is : {K : Type 0} (s : Transport K) (payload : List ℕ) → PayloadJudged s payload judged.Above → (50 ≤ number_of payload) × (s.phase ≡ Phase.Normal)
 above_is {K} s payload (judging.PayloadJudged.above number here) = (number, at s.phase here)
   where
     at : (phase : Phase) → is_normal phase ≡ true → phase ≡ Phase.Normal

@@ -1,13 +1,13 @@
 //! Laws of what a server makes of a client's point: turns of a session. Facts for proofs, at no cost.
 
-ghost use Rattle.std.specs.Prelude.{◌≡◌, ◌+◌, ℕ, List, [], ◌∷◌, Some, false, true};
+ghost use Rattle.std.specs.Prelude.{◌≡◌, ◌+◌, ◌++◌, ◌≤◌, ℕ, List, [], ◌∷◌, Some, false, true};
 ghost use Rattle.ssh_model.specs.Side.{Side.Server};
 ghost use Rattle.ssh_model.specs.KeyExchange.Choice.{Chosen};
 ghost use Rattle.ssh_model.specs.Channels.Connection.{AreReplies, owed_replies};
 ghost use Rattle.ssh_model.specs.Sessions.Items.{Item, Item.Died, Item.Refused};
 ghost use Rattle.ssh_model.specs.Sessions.Parties.{Parties};
 ghost use Rattle.ssh_model.specs.Sessions.Refusals.{Refusal.BadPoint, Refusal.NumberSpent};
-ghost use Rattle.ssh_model.specs.Sessions.Turns.{AreSpelled};
+ghost use Rattle.ssh_model.specs.Sessions.Turns.{AreSpelled, number_of};
 ghost use Rattle.ssh_model.specs.TransportLayer.Kept.{ExchangeParts, Transport, after_taken};
 ghost use Rattle.ssh_model.specs.TransportLayer.Summary.{SumsUp, parts_of};
 ghost use Rattle.ssh_model.specs.TransportLayer.Turns.{Turned};
@@ -20,7 +20,10 @@ ghost use Rattle.ssh_transport_machine.specs.Endings.{ExchangeEnds, IsRead, Payl
 ghost use Rattle.ssh_transport_machine.specs.Puts.{Outs};
 ghost use Rattle.ssh_transport_machine.specs.Sessions.{WouldDie};
 ghost use Rattle.ssh_transport_machine.specs.Standing.{Stands};
+ghost use Rattle.ssh_transport_machine.specs.Turning.{IsQuiet};
 ghost use Rattle.ssh_transport_machine.specs.declared.outcome.TransportTurn.{TransportTurn};
+ghost use Rattle.ssh_transport_machine.specs.declared.outcome.TransportTurn.TheVariants as outcome;
+ghost use Rattle.ssh_kex.specs.declared.owned_choice.OwnedChoice.{OwnedChoice};
 ghost use Rattle.ssh_transport_server.specs.Sessions.{ServerTurnOf};
 ghost use Rattle.ssh_transport_server.specs.Transport.{ServerDied, ServerTook};
 ghost use Rattle.ssh_transport_machine.specs.State.{IsLive, State};
@@ -83,4 +86,19 @@ pub fn units_taken<K>()
     unit_turns::<K>();
     memory_deaths::<K>();
     points_taken::<K>();
+}
+
+/// What a server's transport leaves to the layers above is a payload from 50 on, and when an exchange is completed at most one packet was
+/// sent under the new key. The end is not over then.
+pub fn turns_left<K>()
+    ensures up { (c : Crypto K) (parts : ExchangeParts) (old : State K) (bytes : List ℕ) (number : ℕ) (new : State K) (o : Outs) → ServerTook c parts old bytes (outcome.Up number) new o → 50 ≤ number_of new.receiver.payload }
+    ensures up_alive { (c : Crypto K) (parts : ExchangeParts) (old : State K) (bytes : List ℕ) (number : ℕ) (new : State K) (o : Outs) → ServerTook c parts old bytes (outcome.Up number) new o → new.kept.dead ≡ false }
+    ensures up_quiet { (c : Crypto K) (parts : ExchangeParts) (old : State K) (bytes : List ℕ) (number : ℕ) (new : State K) (o : Outs) → ServerTook c parts old bytes (outcome.Up number) new o → IsQuiet o }
+    ensures completed_alive { (c : Crypto K) (parts : ExchangeParts) (old : State K) (bytes : List ℕ) (choice : OwnedChoice) (new : State K) (o : Outs) → ServerTook c parts old bytes (outcome.Completed choice) new o → new.kept.dead ≡ false }
+    ensures completed_few { (c : Crypto K) (parts : ExchangeParts) (old : State K) (bytes : List ℕ) (choice : OwnedChoice) (new : State K) (o : Outs) → ServerTook c parts old bytes (outcome.Completed choice) new o → new.kept.sending.count ≤ 1 }
+    ensures completed_epoch { (c : Crypto K) (parts : ExchangeParts) (old : State K) (bytes : List ℕ) (choice : OwnedChoice) (new : State K) (o : Outs) → ServerTook c parts old bytes (outcome.Completed choice) new o → new.kept.sending.epoch ≡ old.kept.sending.epoch + 1 }
+    ensures completed_out { (c : Crypto K) (parts : ExchangeParts) (old : State K) (bytes : List ℕ) (choice : OwnedChoice) (new : State K) (o : Outs) → ServerTook c parts old bytes (outcome.Completed choice) new o → (more : List ℕ) × (o.after ≡ o.before ++ more) }
+    ensures completed_lists { (c : Crypto K) (parts : ExchangeParts) (old : State K) (bytes : List ℕ) (choice : OwnedChoice) (new : State K) (o : Outs) → ServerTook c parts old bytes (outcome.Completed choice) new o → (more : List (List ℕ)) × (o.relisted ≡ o.listed ++ more) }
+{
+    payload_numbers();
 }

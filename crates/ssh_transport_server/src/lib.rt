@@ -16,3 +16,4 @@ pub use init::{InitTurn, take_init};
 pub use packet::{ServerTurn, take_packet};
 pub use point::{InitJudged, judge_init};
 pub use transport::ServerTransport;
+pub use unit::take_unit;
