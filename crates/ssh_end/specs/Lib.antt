@@ -5,3 +5,16 @@ pub mod ClientLayers
 pub mod Sessions
 pub mod ClientSessions
 pub mod Connection
+pub mod Steps
+pub mod Above
+pub mod ServerAbove
+pub mod ClientAbove
+pub mod Owed
+pub mod Completing
+pub mod Effects
+pub mod ServerUnits
+pub mod Told
+pub mod Turn
+pub mod Asking
+pub mod ClientUnits
+pub mod Ends

@@ -53,8 +53,8 @@ pub struct ClientTaken<'a> {
 /// The layers above a client's transport: authentication (RFC 4252) and channels (RFC 4254).
 #[derive(Drop)]
 pub struct ClientLayers {
-    authentication: AuthClient,
-    channels: Channels,
+    pub(crate) authentication: AuthClient,
+    pub(crate) channels: Channels,
 }
 
 impl Model for ClientLayers {

@@ -1,28 +1,52 @@
-//! The ends of SSH-2, each its transport with authentication and channels on it. What is here so far are the layers above the
-//! transport of each: which payload from 50 on they take, what they answer to it, and why they refuse the peer.
+//! The ends of SSH-2, each its transport (RFC 4253) with authentication (RFC 4252) and channels (RFC 4254) on it: `ServerEnd` and
+//! `ClientEnd`. Below them the layers above the transport of each, which payload from 50 on they take, what they answer to it, and why
+//! they refuse the peer.
 //!
 //! ```rust
-//! let mut layers = ServerLayers::new(alloc, config.tries(), &config.methods())?;
-//! // SERVICE_ACCEPT was sent
-//! layers.open();
-//! // a payload from 50 on came
-//! match layers.take(&judge, &below, server.payload()) {
-//!     Ok(taken) => told(taken.message, taken.answer),
-//!     Err(LayerFault::Refused(refusal)) => server.refuse(refusal, &mut out, &mut sent)?,
-//!     Err(LayerFault::Memory) => server.die(),
+//! let mut server = ServerEnd::<Parts, Judge>::new(alloc, config, parts, judge, cookie, secret, &mut out)?;
+//! // bytes came
+//! let used = server.take(&bytes, &mut out)?;
+//! if let Some(told) = server.turn().told {
+//!     tell(told);
 //! }
+//! // the user wants something
+//! server.ask(&Ask::Rekey, &mut out)?;
+//! // what stands in `out` goes to the client
 //! ```
 #![tactic(auto)]
 
+mod above;
+mod ask;
+mod asking;
 mod below;
+mod client_above;
+mod client_end;
 mod client_layers;
+mod client_unit;
+mod completing;
 mod connection;
+mod cutting;
+mod effect;
+mod fact_laws;
 mod fault;
 pub mod laws;
 mod layer;
+mod owed;
+mod server_above;
+mod server_end;
 mod server_layers;
+mod server_unit;
+mod step;
+mod told;
+mod turn;
 
+pub use ask::Ask;
+pub use asking::{AskStep, Fault};
 pub use below::Below;
+pub use client_end::ClientEnd;
 pub use client_layers::{ClientLayerAnswer, ClientLayers, ClientTaken};
 pub use fault::LayerFault;
+pub use server_end::ServerEnd;
 pub use server_layers::{ServerLayerAnswer, ServerLayers, ServerTaken};
+pub use told::Told;
+pub use turn::{SentPayloads, Took, Turn};

@@ -51,8 +51,8 @@ pub struct ServerTaken<'a> {
 /// The layers above a server's transport: authentication (RFC 4252) and channels (RFC 4254).
 #[derive(Drop)]
 pub struct ServerLayers {
-    authentication: AuthServer,
-    channels: Channels,
+    pub(crate) authentication: AuthServer,
+    pub(crate) channels: Channels,
 }
 
 impl Model for ServerLayers {

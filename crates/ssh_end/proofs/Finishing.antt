@@ -1,0 +1,157 @@
+-- What an end does with a payload from 50 on is what an end of a session does with it.
+use Rattle.std.proofs.Common.{◌≡◌, ℕ, ◌≤◌, ◌<◌, ◌^◌, ◌+◌, Bool, true, false, List, [], ◌∷◌, ◌++◌, append-nil, refl, ap, sym, ◌∙◌, subst, Option, Some, None}
+use Rattle.std.specs.Option.{option_map}
+use Rattle.ssh_model.specs.Side.{Side}
+use Rattle.ssh_model.specs.Wire.Message.{Msg, IsPayload}
+use Rattle.ssh_model.specs.Wire.Outcome.{Outcome.Opens}
+use Rattle.ssh_model.specs.Wire.Sealing.{Crypto}
+use Rattle.ssh_model.specs.Wire.Unit.{IsUnit}
+use Rattle.ssh_model.specs.Channels.Kept.{Channels}
+use Rattle.ssh_model.specs.Channels.Summary.{told}
+use Rattle.ssh_model.specs.End.Payloads as payloads
+use Rattle.ssh_model.specs.End.Payloads.{AnswersAbove, RefusesAbove, TakesPayload}
+use Rattle.ssh_model.specs.End.State.{Authentication, EndState, after_above, after_items, probes}
+use Rattle.ssh_model.specs.End.Summary.{EndSumsUp, EndTurned}
+use Rattle.ssh_model.specs.Sessions.Items.{Fact, Item, Item.Sent, Item.Took, Item.Refused, Spelled, Spelled.SpelledBy, messages_sent}
+use Rattle.ssh_model.specs.Sessions.Parties.{Parties}
+use Rattle.ssh_model.specs.Sessions.Refusals.{Refusal, Refusal.NumberSpent}
+use Rattle.ssh_model.specs.Sessions.Turns.{OnPayload, OnUnit, stage}
+use Rattle.ssh_model.specs.TransportLayer.Directions.{Direction}
+use Rattle.ssh_model.specs.TransportLayer.Kept.{Transport, after_sent, after_taken}
+use Rattle.ssh_model.specs.TransportLayer.Summary.{items_sent}
+use Rattle.ssh_model.specs.TransportLayer.Turns as turns
+use Rattle.ssh_model.specs.TransportLayer.Turns.{PutsPackets, SaysWhy, refusal_items}
+use Rattle.ssh_transport_machine.specs.Puts.{Outs, payloads_of}
+use Rattle.ssh_transport_machine.specs.State.{State}
+use Rattle.ssh_types.specs.Refusals.{refusal_of}
+use Rattle.ssh_types.specs.declared.refusal.Refusal as code
+use Rattle.ssh_types.specs.declared.refusal.Refusal.TheVariants as refusal
+use Rattle.ssh_end.specs.Above.{AnsweredAbove, Awaits, Finished, FinishedAnswer, FinishedRefusal, FinishedSpent, IsReplied, Judged, PutsReply, SpentAbove, after_reply, after_success_where}
+use Rattle.ssh_end.specs.Steps as steps
+use Rattle.ssh_end.specs.Steps.{AreSent, UnitTurned, fact_told}
+use Rattle.ssh_end.specs.declared.above.Judgement.{Judgement}
+use Rattle.ssh_end.specs.declared.above.Judgement.TheVariants as judged
+use Rattle.ssh_end.specs.declared.step.Step.{Step}
+use Rattle.ssh_end.specs.declared.step.Step.TheVariants as step
+use Rattle.ssh_end.specs.declared.step.TookStep.{TookStep}
+
+-- ---- items
+
+pub told_sends : (fact : Option Fact) (items : List Item) → messages_sent (told fact items) ≡ messages_sent items
+told_sends None items = refl
+told_sends (Some fact) items = refl
+
+pub sent_then_took : (sent : List Item) → AreSent sent → (channel : Option ℕ) (message : Msg) (payload : List ℕ) → messages_sent (sent ++ Took channel message payload ∷ []) ≡ messages_sent sent
+sent_then_took [] x channel message payload = refl
+sent_then_took (Sent c m l ∷ sent) x channel message payload = ap (λ (w : List Spelled). SpelledBy m l ∷ w) (sent_then_took sent x channel message payload)
+sent_then_took (_ ∷ sent) x channel message payload = absurd x
+
+pub turn_sends : (fact : Option Fact) (sent : List Item) → AreSent sent → (channel : Option ℕ) (message : Msg) (payload : List ℕ) → messages_sent (told fact sent ++ Took channel message payload ∷ []) ≡ messages_sent sent
+turn_sends None sent x channel message payload = sent_then_took sent x channel message payload
+turn_sends (Some fact) sent x channel message payload = sent_then_took sent x channel message payload
+
+pub refusal_sends : (l : List Spelled) (why : Refusal) (payload : Option (List ℕ)) → messages_sent (items_sent l ++ Refused why payload ∷ []) ≡ l
+refusal_sends [] why payload = refl
+refusal_sends (SpelledBy m x ∷ l) why payload = ap (λ (w : List Spelled). SpelledBy m x ∷ w) (refusal_sends l why payload)
+
+-- ---- why a peer is refused, whatever was taken
+
+pub says_before : {K : Type 0} (c : Crypto K) (s : Transport K) (why : Refusal) (l : List Spelled) (more : List ℕ) → SaysWhy c (after_taken s) why l more → SaysWhy c s why l more
+says_before c s why l more (turns.SaysWhy.silently e) = turns.SaysWhy.silently e
+says_before c s why l more (turns.SaysWhy.spent e) = turns.SaysWhy.spent e
+says_before c s why l more (turns.SaysWhy.said reason payload e puts) = turns.SaysWhy.said reason payload e puts
+
+-- ---- what is put out
+
+-- the bytes of what is sent at once
+pub record PutsSent {K : Type 0} (c : Crypto K) (s : Transport K) (sent : List Item) (reply : Option (List ℕ)) (m between : State K) (o : Outs) : Type 0 where
+  pub more : List ℕ
+  pub puts : PutsPackets c s.sending (messages_sent sent) more
+  pub kept : between.kept ≡ after_reply reply m.kept
+  pub parts : o.after ≡ o.before ++ more
+  pub lists : o.relisted ≡ o.listed ++ payloads_of (messages_sent sent)
+
+pub puts_sent : {K : Type 0} (c : Crypto K) (s : Transport K) (m between : State K) (o : Outs) → m.kept ≡ after_taken s → (sent : List Item) (reply : Option (List ℕ)) → IsReplied reply sent → PutsReply c m reply between o → PutsSent c s sent reply m between o
+puts_sent c s m between o kept sent None none x = record {
+  more = [];
+  puts = subst (λ (l : List Spelled). PutsPackets c s.sending l []) (sym none) turns.PutsPackets.nothing;
+  kept = ap (λ (w : State _). w.kept) x.0;
+  parts = x.1.out ∙ sym (append-nil o.before);
+  lists = x.1.sent ∙ (sym (append-nil o.listed) ∙ ap (λ (l : List Spelled). o.listed ++ payloads_of l) (sym none));
+}
+puts_sent {K} c s m between o kept sent (Some payload) by x =
+    let sending : m.kept.sending ≡ s.sending = ap (λ (t : Transport K). t.sending) kept in
+    record {
+      more = [] ++ x.puts.wire;
+      puts = subst (λ (l : List Spelled). PutsPackets c s.sending l ([] ++ x.puts.wire)) (sym by.messages)
+          (subst (λ (d : Direction K). PutsPackets c d (SpelledBy by.message payload ∷ []) ([] ++ x.puts.wire)) sending
+          (turns.PutsPackets.packet by.message payload x.puts.wire turns.PutsPackets.nothing by.spelled x.puts.left x.puts.sealed));
+      kept = ap (λ (w : State K). w.kept) x.after;
+      parts = x.puts.parts;
+      lists = x.puts.lists ∙ ap (λ (l : List Spelled). o.listed ++ payloads_of l) (sym by.messages);
+    }
+
+-- ---- the turn
+
+module _ {K : Type 0} (p : Parties K) (side : Side) (history : List Item) (e : EndState K) (sums : EndSumsUp p side history e) (alive : e.transport.dead ≡ false) (m : State K) (awaits : Awaits e.transport m)
+    (unit : List ℕ) (is_unit : IsUnit p.crypto (stage p side history) unit (Opens m.receiver.payload))
+    (taken : (items : List Item) (more : List ℕ) (new : EndState K) → TakesPayload p side e m.receiver.payload items more new → EndTurned p side history (OnPayload p side history m.receiver.payload) items more new)
+    (opened : (items : List Item) (more : List ℕ) (new : EndState K) → EndTurned p side history (OnPayload p side history m.receiver.payload) items more new → EndTurned p side history (OnUnit p side history unit) items more new) where
+  abbrev payload : List ℕ
+  payload = m.receiver.payload
+
+  answer : (given : TookStep) (reply : Option (List ℕ)) (success : Bool) (authentication : Authentication) (channels : Channels) → AnsweredAbove p side e payload given reply success authentication channels →
+      (new : State K) (o : Outs) → FinishedAnswer p.crypto m given reply success (step.Took given) new o → UnitTurned p side history unit payload (step.Took given) (record { transport = new.kept; authentication = authentication; channels = channels }) o
+  answer given reply success authentication channels x new o y =
+      let fact : Option Fact = fact_told given.telling x.message given.channel in
+      let z : PutsSent p.crypto e.transport x.sent reply m y.between o = puts_sent p.crypto e.transport m y.between o awaits.kept x.sent reply x.replied y.puts in
+      let kept : after_items side (told fact x.sent) (after_above side x.message e.transport) ≡ new.kept =
+      x.kept ∙ sym (ap (λ (w : State K). w.kept) y.after ∙ ap (after_success_where success) (z.kept ∙ ap (after_reply reply) awaits.kept)) in
+      record {
+        items = told fact x.sent ++ Took given.channel x.message payload ∷ [];
+        more = z.more;
+        shows = steps.Shows.took given.channel given.probing given.telling x.message x.sent (subst (λ (b : Bool). IsPayload b x.message payload) (sym x.probing) x.reads.message_is) x.are_sent;
+        turned = subst (λ (t : Transport K). EndTurned p side history (OnUnit p side history unit) (told fact x.sent ++ Took given.channel x.message payload ∷ []) z.more (record { transport = t; authentication = authentication; channels = channels })) kept
+            (opened _ _ _ (taken _ _ _ (payloads.TakesPayload.above x.message given.channel x.reads x.unrefused x.answers
+            (subst (λ (l : List Spelled). PutsPackets p.crypto e.transport.sending l z.more) (sym (told_sends fact x.sent)) z.puts))));
+        parts = z.parts;
+        lists = z.lists ∙ ap (λ (l : List Spelled). o.listed ++ payloads_of l) (sym (turn_sends fact x.sent x.are_sent given.channel x.message payload));
+      }
+
+  refuse : (why : code.Refusal) (authentication : Authentication) (channels : Channels) → RefusesAbove p e payload (refusal_of why) → (new : State K) (o : Outs) → FinishedRefusal p.crypto m why (step.Refused why) new o →
+      UnitTurned p side history unit payload (step.Refused why) (record { transport = new.kept; authentication = authentication; channels = channels }) o
+  refuse why authentication channels x new o y =
+      let r = y.refused.refuses in
+      record {
+        items = refusal_items (refusal_of why) (Some payload) r.said;
+        more = r.more;
+        shows = steps.Shows.refused why (Some payload) r.said;
+        turned = opened _ _ _ (taken _ _ _ (payloads.TakesPayload.refused_above (refusal_of why) (record { transport = new.kept; authentication = authentication; channels = channels }) x
+            (says_before p.crypto e.transport (refusal_of why) r.said r.more (subst (λ (t : Transport K). SaysWhy p.crypto t (refusal_of why) r.said r.more) awaits.kept r.says)) r.dead));
+        parts = r.parts;
+        lists = r.lists ∙ ap (λ (l : List Spelled). o.listed ++ payloads_of l) (sym (refusal_sends r.said (refusal_of why) (Some payload)));
+      }
+
+  spend : (authentication : Authentication) (channels : Channels) → SpentAbove p e payload → (new : State K) (o : Outs) → FinishedSpent (step.Refused refusal.NumberSpent) new o →
+      UnitTurned p side history unit payload (step.Refused refusal.NumberSpent) (record { transport = new.kept; authentication = authentication; channels = channels }) o
+  spend authentication channels x new o y = record {
+    items = refusal_items NumberSpent (Some payload) [];
+    more = [];
+    shows = steps.Shows.refused refusal.NumberSpent (Some payload) [];
+    turned = opened _ _ _ (taken _ _ _ (payloads.TakesPayload.above_spent x.message x.channel (record { transport = new.kept; authentication = authentication; channels = channels }) x.reads x.unrefused x.answers x.spelled x.some x.none_left y.dead));
+    parts = y.quiet.out ∙ sym (append-nil o.before);
+    lists = y.quiet.sent ∙ sym (append-nil o.listed);
+  }
+
+  -- the done step is that of what was done
+  pub finished : (judgement : Judgement) (authentication : Authentication) (channels : Channels) → Judged p side e payload judgement authentication channels → (done : Step) (new : State K) (o : Outs) → Finished p.crypto m judgement done new o →
+      UnitTurned p side history unit payload done (record { transport = new.kept; authentication = authentication; channels = channels }) o
+  finished (judged.Answered above) authentication channels x done new o y =
+      subst (λ (d : Step). UnitTurned p side history unit payload d (record { transport = new.kept; authentication = authentication; channels = channels }) o) (sym y.shown)
+      (answer above.step (option_map (λ v. v.items) above.reply) above.success authentication channels x new o (record { between = y.between; shown = refl; puts = y.puts; after = y.after }))
+  finished (judged.Refused why) authentication channels x done new o y =
+      subst (λ (d : Step). UnitTurned p side history unit payload d (record { transport = new.kept; authentication = authentication; channels = channels }) o) (sym y.shown)
+      (refuse why authentication channels x new o (record { shown = refl; refused = y.refused }))
+  finished judged.Spent authentication channels x done new o y =
+      subst (λ (d : Step). UnitTurned p side history unit payload d (record { transport = new.kept; authentication = authentication; channels = channels }) o) (sym y.shown)
+      (spend authentication channels x new o (record { shown = refl; dead = y.dead; quiet = y.quiet }))

@@ -1,0 +1,80 @@
+-- What the layers above a transport make of a payload, by what the transport says to them.
+use Rattle.std.proofs.Common.{◌≡◌, ℕ, Bool, List, [], ◌∷◌, refl, ap, ◌∙◌, Option, Some, None}
+use Rattle.std.specs.Option.{option_map}
+use Rattle.std.specs.Prelude.{Result, Ok, Err, OnErr, unwrap_or}
+use Rattle.ssh_model.specs.Wire.Message.{Msg}
+use Rattle.ssh_model.specs.Authentication.Kept as kept
+use Rattle.ssh_model.specs.Authentication.Kept.{ServerTakes}
+use Rattle.ssh_model.specs.Authentication.Requests.{Judge}
+use Rattle.ssh_model.specs.Authentication.Summary.{sent_with, told_over}
+use Rattle.ssh_model.specs.Channels.Kept as channels
+use Rattle.ssh_model.specs.Channels.Kept.{Channels, DueReply}
+use Rattle.ssh_model.specs.Channels.Summary.{reply_sent, told}
+use Rattle.ssh_model.specs.End.Payloads.{reply_items}
+use Rattle.ssh_model.specs.Sessions.Items.{Fact, Item, messages_sent}
+use Rattle.ssh_model.specs.TransportLayer.Kept.{Transport}
+use Rattle.ssh_auth.specs.Serving.{answered}
+use Rattle.ssh_auth.specs.declared.answer.ServerAnswer.{ServerAnswer}
+use Rattle.ssh_transport_machine.specs.State.{State}
+use Rattle.ssh_end.specs.Above.{Awaits, IsBeneath, IsReplied, SpellsReply}
+use Rattle.ssh_end.specs.Layer.{Beneath}
+use Rattle.ssh_end.specs.ServerAbove.{telling_by}
+use Rattle.ssh_end.specs.Sessions.{beneath}
+use Rattle.ssh_end.specs.Steps.{AreSent, fact_by, fact_told}
+
+pub both_on_err : {A E : Type 0} {P Q R : Type 0} (r : Result A E) → (P → Q → R) → OnErr r P → OnErr r Q → OnErr r R
+both_on_err (Ok a) f x y = tt
+both_on_err (Err e) f x y = f x y
+
+-- ---- what the transport says
+
+pub beneath_is : {K : Type 0} (s : Transport K) (m : State K) → Awaits s m → (below : Beneath) → IsBeneath m below → below ≡ beneath s
+beneath_is {K} s m awaits below x =
+    let session : below.session ≡ unwrap_or s.session [] = go s.session refl in
+    let blocked : below.is_blocked ≡ s.blocked = x.blocked ∙ ap (λ (t : Transport K). t.blocked) awaits.kept in
+    let user : below.is_authenticated ≡ s.authenticated = x.authenticated ∙ ap (λ (t : Transport K). t.authenticated) awaits.kept in
+    λ i. record { session = session i; is_blocked = blocked i; is_authenticated = user i }
+  where
+    go : (o : Option (List ℕ)) → s.session ≡ o → below.session ≡ unwrap_or o []
+    go None e = absurd (awaits.identified e)
+    go (Some id) e = x.session id (ap (λ (t : Transport K). t.session) awaits.kept ∙ e)
+
+-- ---- what is told
+
+abbrev pub ServerFacts : Type 0
+ServerFacts = (judge : Judge) (methods : List (List ℕ)) (session : List ℕ) (server : kept.Server) (message : Msg) (given : ServerAnswer) (new : kept.Server) →
+    ServerTakes judge methods session server message (answered methods given) new → (answered methods given).fact ≡ fact_told (telling_by given) message None
+
+abbrev pub ChannelFacts : Type 0
+ChannelFacts = (is_blocked : Bool) (c : Channels) (message : Msg) (taken : channels.Taken) (new : Channels) → channels.Takes is_blocked c message taken new → taken.fact ≡ fact_by message taken.channel
+
+-- ---- what is sent at once
+
+-- the payload of it
+abbrev pub payload_in : Option (List ℕ) → List ℕ
+payload_in None = []
+payload_in (Some l) = l
+
+pub is_told : (fact : Option Fact) (items : List Item) → told_over fact items ≡ told fact items
+is_told None items = refl
+is_told (Some fact) items = refl
+
+pub are_sent : (payload : List ℕ) (message : Option Msg) → AreSent (sent_with payload message)
+are_sent payload None = tt
+are_sent payload (Some message) = tt
+
+pub reply_is_sent : (payload : List ℕ) (reply : Option DueReply) → AreSent (reply_items reply payload)
+reply_is_sent payload None = tt
+reply_is_sent payload (Some reply) = tt
+
+pub are_replied : {K : Type 0} (m : State K) (message : Option Msg) (reply : Option (List ℕ)) → SpellsReply m message reply → IsReplied reply (sent_with (payload_in reply) message)
+are_replied m None None x = refl
+are_replied m (Some message) (Some l) x = record { message = message; messages = refl; spelled = x.0 }
+are_replied m None (Some l) x = absurd x
+are_replied m (Some message) None x = absurd x
+
+pub reply_replied : {K : Type 0} (m : State K) (due : Option DueReply) (reply : Option (List ℕ)) → SpellsReply m (option_map reply_sent due) reply → IsReplied reply (reply_items due (payload_in reply))
+reply_replied m None None x = refl
+reply_replied m (Some due) (Some l) x = record { message = reply_sent due; messages = refl; spelled = x.0 }
+reply_replied m None (Some l) x = absurd x
+reply_replied m (Some due) None x = absurd x

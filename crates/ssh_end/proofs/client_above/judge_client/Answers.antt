@@ -1,0 +1,32 @@
+use Rattle.std.proofs.Common.{◌≡◌, ℕ, List, ap, sym, ◌∙◌, subst, Option, IsSome}
+use Rattle.ssh_model.specs.Wire.Message.{Msg}
+use Rattle.ssh_message.specs.Meaning.{meaning}
+use Rattle.ssh_end.proofs.Judging.{both_on_err}
+use Rattle.ssh_end.specs.Layer.{Beneath}
+use Rattle.ssh_end.specs.ClientLayers.{LayersFail, LayersTake, message_of}
+use Rattle.ssh_end.specs.ClientAbove as above
+use Rattle.ssh_end.specs.declared.fault.LayerFault.{LayerFault}
+use Rattle.ssh_end.specs.declared.fault.LayerFault.TheVariants as fault
+use Rattle.ssh_end.proofs.client_above.judge_client.Goals as goal
+
+pub returns-in-Ok-clause-lacks : goal.returns-in-Ok-clause-lacks
+returns-in-Ok-clause-lacks g c =
+    let below : Beneath = record { session = c.session_of.result.now; is_blocked = c.is_blocked.result; is_authenticated = c.is_authenticated.result } in
+    both_on_err c.spell_answer.result
+    (λ some room. above.JudgeLacks.unspelled c.in-Ok.taken.answer c.take.new.self
+    (record {
+      below = below;
+      is_beneath = record { session = c.session_of.ensures; blocked = c.is_blocked.ensures; authenticated = c.is_authenticated.ensures };
+      message = meaning c.in-Ok.taken.message;
+      takes = subst (λ (l : List ℕ). LayersTake below c.args.layers.now (meaning c.in-Ok.taken.message) l c.in-Ok.taken.answer c.take.new.self) c.payload.ensures.payload c.in-Ok.ensures.taken;
+    })
+    (subst (λ (o : Option Msg). IsSome o) (c.message.ensures.message ∙ ap (message_of c.in-Ok.taken.answer) c.last_number.ensures) some) room)
+    c.spell_answer.ensures.some c.spell_answer.ensures.room
+
+pub returns-in-Err-Memory-clause-lacks : goal.returns-in-Err-Memory-clause-lacks
+returns-in-Err-Memory-clause-lacks g c =
+    let below : Beneath = record { session = c.session_of.result.now; is_blocked = c.is_blocked.result; is_authenticated = c.is_authenticated.result } in
+    above.JudgeLacks.in_layer below
+    (record { session = c.session_of.ensures; blocked = c.is_blocked.ensures; authenticated = c.is_authenticated.ensures })
+    (subst (λ (l : List ℕ). LayersFail below c.args.layers.now l fault.Memory) c.payload.ensures.payload
+    (subst (λ (f : LayerFault). LayersFail below c.args.layers.now c.payload.result.now f) c.in-Err-Memory.field-0-is c.in-Err-Memory.ensures.failed))

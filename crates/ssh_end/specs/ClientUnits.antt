@@ -1,0 +1,68 @@
+-- What a client makes of the bytes of one line or one packet.
+use Rattle.std.specs.Prelude.{◌≡◌, ℕ, Bool, true, false, List}
+use Rattle.ssh_model.specs.Authentication.Kept.{opened_client}
+use Rattle.ssh_model.specs.Sessions.Parties.{Agreement}
+use Rattle.ssh_model.specs.Wire.Sealing.{Crypto}
+use Rattle.ssh_kex.specs.declared.owned_choice.OwnedChoice.{OwnedChoice}
+use Rattle.ssh_transport_machine.specs.Puts.{Outs}
+use Rattle.ssh_transport_machine.specs.State.{State}
+use Rattle.ssh_transport_machine.specs.declared.outcome.TransportTurn.{TransportTurn}
+use Rattle.ssh_transport_machine.specs.declared.outcome.TransportTurn.TheVariants as outcome
+use Rattle.ssh_transport_client.specs.Replies.{Trusts}
+use Rattle.ssh_transport_client.specs.Transport.{ClientTook}
+use Rattle.ssh_end.specs.Above.{Finished}
+use Rattle.ssh_end.specs.Completing.{Completing}
+use Rattle.ssh_end.specs.Effects.{is_accepted, is_whole, step_given}
+use Rattle.ssh_end.specs.ClientLayers.{Layers}
+use Rattle.ssh_end.specs.ClientAbove.{JudgesPayload}
+use Rattle.ssh_end.specs.declared.above.Judgement.{Judgement}
+use Rattle.ssh_end.specs.declared.step.Step.{Step}
+
+-- SERVICE_ACCEPT opens authentication where it was taken.
+abbrev pub opened_layers : Bool → Layers → Layers
+opened_layers true layers = record layers { authentication = opened_client layers.authentication }
+opened_layers false layers = layers
+
+-- Its transport did all that is to be done.
+pub record GoesWhole {K : Type 0} (given : TransportTurn) (between : State K) (old : Layers) (done : Step)
+    (new : State K) (later : Layers) (middle after : List ℕ) (listed relisted : List (List ℕ)) : Type 0 where
+  pub whole : is_whole given ≡ true
+  pub shown : done ≡ step_given given
+  pub same : new ≡ between
+  pub layers_are : later ≡ opened_layers (is_accepted given) old
+  pub out : after ≡ middle
+  pub lists : relisted ≡ listed
+
+-- A payload was left to the layers above, which judged it.
+pub record GoesUp {K : Type 0} (c : Crypto K) (between : State K) (old : Layers) (done : Step)
+    (new : State K) (later : Layers) (o : Outs) : Type 0 where
+  pub judgement : Judgement
+  pub judged : JudgesPayload between old judgement later
+  pub finished : Finished c between judgement done new o
+
+-- An exchange was ended, and what was owed is given behind it.
+pub record GoesOn {K : Type 0} (c : Crypto K) (between : State K) (old : Layers) (done : Step) (new : State K)
+    (later : Layers) (o : Outs) : Type 0 where
+  pub completing : Completing c between old.channels done new later.channels o
+  pub authentication : later.authentication ≡ old.authentication
+
+-- what is done with an answer of the transport
+abbrev pub Goes : {K : Type 0} → Crypto K → TransportTurn → State K → Layers → Step → State K → Layers → Outs →
+    Type 0
+Goes c (outcome.Up number) between old done new later o = GoesUp c between old done new later o
+Goes c (outcome.Completed choice) between old done new later o = GoesOn c between old done new later o
+Goes c given between old done new later o =
+    GoesWhole given between old done new later o.before o.after o.listed o.relisted
+
+-- What was made of the bytes begun with those that were used: what the transport made of them, and what was done with
+-- that.
+pub record ClientGoes {K : Type 0} (c : Crypto K) (agreement : Agreement) (trusts : Trusts) (old : State K)
+    (layers : Layers) (bytes : List ℕ) (done : Step) (new : State K) (later : Layers) (o : Outs) : Type 0 where
+  pub given : TransportTurn
+  pub between : State K
+  pub middle : List ℕ
+  pub listed : List (List ℕ)
+  pub took : ClientTook c agreement trusts old bytes given between
+      (record { before = o.before; after = middle; listed = o.listed; relisted = listed })
+  pub goes : Goes c given between layers done new later
+      (record { before = middle; after = o.after; listed = listed; relisted = o.relisted })

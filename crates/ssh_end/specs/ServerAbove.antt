@@ -1,0 +1,75 @@
+-- What a server makes of a payload from 50 on.
+use Rattle.std.specs.Prelude.{◌≡◌, Bool, true, false, Option, Some, None, IsSome, List}
+use Rattle.ssh_model.specs.Wire.Message.{Msg}
+use Rattle.ssh_model.specs.Sessions.Refusals.{Refusal}
+use Rattle.ssh_model.specs.Authentication.Requests.{Judge}
+use Rattle.ssh_auth.specs.declared.answer.ServerAnswer.{ServerAnswer}
+use Rattle.ssh_auth.specs.declared.answer.ServerAnswer.TheVariants as request
+use Rattle.ssh_transport_machine.specs.State.{State, last_number}
+use Rattle.ssh_transport_machine.specs.Turning.{HasRoom}
+use Rattle.ssh_types.specs.Refusals.{refusal_of}
+use Rattle.ssh_end.specs.Above.{IsAnswer, IsBeneath}
+use Rattle.ssh_end.specs.Layer.{Beneath}
+use Rattle.ssh_end.specs.Layers.{IsShort, Layers, LayersLack, LayersRefuse, LayersTake, message_of}
+use Rattle.ssh_end.specs.declared.above.Judgement.{Judgement}
+use Rattle.ssh_end.specs.declared.above.Judgement.TheVariants as judged
+use Rattle.ssh_end.specs.declared.server_layers.ServerLayerAnswer.{ServerLayerAnswer}
+use Rattle.ssh_end.specs.declared.server_layers.ServerLayerAnswer.TheVariants as answer
+use Rattle.ssh_end.specs.declared.step.Telling.{Telling}
+use Rattle.ssh_end.specs.declared.step.Telling.TheVariants as telling
+use Rattle.ssh_end.specs.declared.step.TookStep.{TookStep}
+
+-- what is told of a request that was answered so
+abbrev pub telling_by : ServerAnswer → Telling
+telling_by (request.Accepted user) = telling.Accepted
+telling_by request.Ignored = telling.Ignored
+telling_by given = telling.Message
+
+-- how a message was taken that was answered so
+abbrev pub took_by : ServerLayerAnswer → TookStep
+took_by (answer.Authentication given) = record { channel = None; probing = false; telling = telling_by given }
+took_by (answer.Channels given) = record { channel = given.channel; probing = false; telling = telling.Message }
+took_by answer.Unknown = record { channel = None; probing = false; telling = telling.Message }
+
+-- The user was let in.
+abbrev pub accepts_user : ServerLayerAnswer → Bool
+accepts_user (answer.Authentication (request.Accepted user)) = true
+accepts_user given = false
+
+-- ---- what is made of a payload
+
+-- The layers took the message of the payload.
+pub record IsTaken {K : Type 0} (judge : Judge) (m : State K) (old : Layers) (given : ServerLayerAnswer)
+    (new : Layers) : Type 0 where
+  pub below : Beneath
+  pub is_beneath : IsBeneath m below
+  pub message : Msg
+  pub takes : LayersTake judge below old message m.receiver.payload given new
+  pub short : IsShort given
+
+-- They took it, and this is made of it.
+pub record TakesPayload {K : Type 0} (judge : Judge) (m : State K) (old : Layers) (judgement : Judgement)
+    (new : Layers) : Type 0 where
+  pub given : ServerLayerAnswer
+  pub taken : IsTaken judge m old given new
+  pub made : IsAnswer m (took_by given) (message_of new given (last_number m.kept.taking)) (accepts_user given) judgement
+
+-- They refuse the peer.
+pub record RefusesPayload {K : Type 0} (judge : Judge) (m : State K) (old : Layers) (why : Refusal)
+    (new : Layers) : Type 0 where
+  pub below : Beneath
+  pub is_beneath : IsBeneath m below
+  pub refuses : LayersRefuse judge below old m.receiver.payload why
+  pub same : new ≡ old
+
+-- what was made of the payload that is shown
+abbrev pub JudgesPayload : {K : Type 0} → Judge → State K → Layers → Judgement → Layers → Type 0
+JudgesPayload judge m old (judged.Refused why) new = RefusesPayload judge m old (refusal_of why) new
+JudgesPayload judge m old judgement new = TakesPayload judge m old judgement new
+
+-- Memory was refused in a layer, or for what would be sent, for which a number is left.
+pub data JudgeLacks {K : Type 0} (judge : Judge) (m : State K) (old : Layers) : Type 0 where
+  in_layer : (below : Beneath) → IsBeneath m below → LayersLack judge below old m.receiver.payload →
+      JudgeLacks judge m old
+  unspelled : (given : ServerLayerAnswer) (new : Layers) → IsTaken judge m old given new →
+      IsSome (message_of new given (last_number m.kept.taking)) → HasRoom m → JudgeLacks judge m old

@@ -1,0 +1,70 @@
+-- What a server makes of the bytes of one line or one packet.
+use Rattle.std.specs.Prelude.{◌≡◌, ℕ, Bool, true, false, List}
+use Rattle.ssh_model.specs.Authentication.Kept.{opened_server}
+use Rattle.ssh_model.specs.Authentication.Requests.{Judge}
+use Rattle.ssh_model.specs.TransportLayer.Kept.{ExchangeParts}
+use Rattle.ssh_model.specs.Wire.Sealing.{Crypto}
+use Rattle.ssh_kex.specs.declared.owned_choice.OwnedChoice.{OwnedChoice}
+use Rattle.ssh_transport_machine.specs.Puts.{Outs}
+use Rattle.ssh_transport_machine.specs.State.{State}
+use Rattle.ssh_transport_machine.specs.declared.outcome.TransportTurn.{TransportTurn}
+use Rattle.ssh_transport_machine.specs.declared.outcome.TransportTurn.TheVariants as outcome
+use Rattle.ssh_transport_server.specs.Transport.{ServerTook}
+use Rattle.ssh_end.specs.Above.{Finished}
+use Rattle.ssh_end.specs.Completing.{Completing}
+use Rattle.ssh_end.specs.Effects.{is_requested, is_whole, step_given}
+use Rattle.ssh_end.specs.Layers.{Layers}
+use Rattle.ssh_end.specs.ServerAbove.{JudgesPayload}
+use Rattle.ssh_end.specs.declared.above.Judgement.{Judgement}
+use Rattle.ssh_end.specs.declared.step.Step.{Step}
+
+-- SERVICE_ACCEPT opens authentication where it was sent.
+abbrev pub opened_layers : Bool → Layers → Layers
+opened_layers true layers = record layers {
+  authentication = record layers.authentication { kept = opened_server layers.authentication.kept };
+}
+opened_layers false layers = layers
+
+-- Its transport did all that is to be done.
+pub record GoesWhole {K : Type 0} (given : TransportTurn) (between : State K) (old : Layers) (done : Step)
+    (new : State K) (later : Layers) (middle after : List ℕ) (listed relisted : List (List ℕ)) : Type 0 where
+  pub whole : is_whole given ≡ true
+  pub shown : done ≡ step_given given
+  pub same : new ≡ between
+  pub layers_are : later ≡ opened_layers (is_requested given) old
+  pub out : after ≡ middle
+  pub lists : relisted ≡ listed
+
+-- A payload was left to the layers above, which judged it.
+pub record GoesUp {K : Type 0} (c : Crypto K) (judge : Judge) (between : State K) (old : Layers) (done : Step)
+    (new : State K) (later : Layers) (o : Outs) : Type 0 where
+  pub judgement : Judgement
+  pub judged : JudgesPayload judge between old judgement later
+  pub finished : Finished c between judgement done new o
+
+-- An exchange was ended, and what was owed is given behind it.
+pub record GoesOn {K : Type 0} (c : Crypto K) (between : State K) (old : Layers) (done : Step) (new : State K)
+    (later : Layers) (o : Outs) : Type 0 where
+  pub completing : Completing c between old.channels done new later.channels o
+  pub authentication : later.authentication ≡ old.authentication
+
+-- what is done with an answer of the transport
+abbrev pub Goes : {K : Type 0} → Crypto K → Judge → TransportTurn → State K → Layers → Step → State K → Layers → Outs →
+    Type 0
+Goes c judge (outcome.Up number) between old done new later o = GoesUp c judge between old done new later o
+Goes c judge (outcome.Completed choice) between old done new later o = GoesOn c between old done new later o
+Goes c judge given between old done new later o =
+    GoesWhole given between old done new later o.before o.after o.listed o.relisted
+
+-- What was made of the bytes begun with those that were used: what the transport made of them, and what was done with
+-- that.
+pub record ServerGoes {K : Type 0} (c : Crypto K) (parts : ExchangeParts) (judge : Judge) (old : State K)
+    (layers : Layers) (bytes : List ℕ) (done : Step) (new : State K) (later : Layers) (o : Outs) : Type 0 where
+  pub given : TransportTurn
+  pub between : State K
+  pub middle : List ℕ
+  pub listed : List (List ℕ)
+  pub took : ServerTook c parts old bytes given between
+      (record { before = o.before; after = middle; listed = o.listed; relisted = listed })
+  pub goes : Goes c judge given between layers done new later
+      (record { before = middle; after = o.after; listed = listed; relisted = o.relisted })

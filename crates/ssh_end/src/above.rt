@@ -1,0 +1,210 @@
+//! What an end does with a payload from 50 on, once the layers above its transport have judged it.
+
+ghost use Rattle.std.specs.Prelude.{◌≡◌, ◌≤◌, IfOk, IfSome, IsSome, List, OnErr, OnOk, Some, false, map, true, ℕ};
+ghost use Rattle.ssh_message.specs.Meaning.{meaning};
+ghost use Rattle.ssh_message.specs.Written.{Fits};
+ghost use Rattle.ssh_model.specs.Wire.Message.{FitsContext};
+ghost use Rattle.ssh_model.specs.Wire.Sizes.{payload_size};
+ghost use Rattle.ssh_end.specs.Above.{CanFinish, CanReply, CanReplyWith, FinishLacks, Finished, IsAnswer, IsReply, PutsReply};
+ghost use Rattle.ssh_end.specs.declared.above.Judgement.TheVariants as Judgement;
+ghost use Rattle.ssh_end.specs.declared.step.Step.TheVariants as Step;
+ghost use Rattle.ssh_transport_machine.specs.Above.{IsPut};
+ghost use Rattle.ssh_model.specs.Side.{Side};
+ghost use Rattle.ssh_transport_machine.specs.Standing.{Stands};
+ghost use Rattle.ssh_transport_machine.specs.Turning.{HasRoom};
+ghost use Rattle.std.specs.Option.{option_map};
+
+use crate::step::{Step, TookStep};
+use ssh_message::Message;
+use ssh_packet::{Filler, Sealing};
+use ssh_transport_machine::standing::machines_stand;
+use ssh_transport_machine::{Answer, Machine};
+use ssh_types::Refusal;
+use std::alloc::AllocError;
+
+// What the layers above made of a payload, before anything is sent.
+#[derive(Drop)]
+pub enum Judgement {
+    // They took its message.
+    Answered(Above),
+    // The peer is refused.
+    Refused(Refusal),
+    // Something would be sent, and no number is left for it.
+    Spent,
+}
+
+// What they answer to a message.
+#[derive(Drop)]
+pub struct Above {
+    pub step: TookStep,
+    // The payload of what is sent at once.
+    pub reply: Option<Vec<u8>>,
+    // The user is authenticated with this.
+    pub success: bool,
+}
+
+// Sends what they answer, or refuses the peer.
+pub fn finish_above<S: Sealing, F: Filler + Drop>(
+    machine: &mut Machine<S, F>,
+    judgement: Judgement,
+    out: &mut Vec<u8>,
+    sent: &mut Vec<Vec<u8>>,
+) -> Result<Step, AllocError>
+    requires can { CanFinish machine.old judgement }
+    ensures finished { IfOk result (λ step. Finished S.crypto machine.old judgement step machine.new (record { before = out.old.items; after = out.new.items; listed = map (λ v. v.items) sent.old.items; relisted = map (λ v. v.items) sent.new.items })) }
+    ensures whole { IfOk result (λ step. step ≡ Step.More → ⊥) }
+    ensures lacks { OnErr result (FinishLacks machine.old judgement) }
+    ensures dead { OnErr result (machine.new.kept.dead ≡ true) }
+    ensures out { OnErr result (out.new.items ≡ out.old.items) }
+    ensures kept { OnErr result (sent.new.items ≡ sent.old.items) }
+    ensures stands { (side : Side) → Stands side machine.old → Stands side machine.new }
+{
+    match judgement {
+        Judgement::Answered(above) => answer_above(machine, above, out, sent),
+        Judgement::Refused(why) => refuse(machine, why, out, sent),
+        Judgement::Spent => {
+            machines_stand::<S::Key>();
+            machine.die();
+            Ok(Step::Refused(Refusal::NumberSpent))
+        }
+    }
+}
+
+// Refuses the peer for this.
+fn refuse<S: Sealing, F: Filler + Drop>(
+    machine: &mut Machine<S, F>,
+    why: Refusal,
+    out: &mut Vec<u8>,
+    sent: &mut Vec<Vec<u8>>,
+) -> Result<Step, AllocError>
+    requires can { CanFinish machine.old (Judgement.Refused why) }
+    ensures finished { IfOk result (λ step. Finished S.crypto machine.old (Judgement.Refused why) step machine.new (record { before = out.old.items; after = out.new.items; listed = map (λ v. v.items) sent.old.items; relisted = map (λ v. v.items) sent.new.items })) }
+    ensures whole { IfOk result (λ step. step ≡ Step.More → ⊥) }
+    ensures lacks { OnErr result (FinishLacks machine.old (Judgement.Refused why)) }
+    ensures dead { OnErr result (machine.new.kept.dead ≡ true) }
+    ensures out { OnErr result (out.new.items ≡ out.old.items) }
+    ensures kept { OnErr result (sent.new.items ≡ sent.old.items) }
+    ensures stands { (side : Side) → Stands side machine.old → Stands side machine.new }
+{
+    machines_stand::<S::Key>();
+    match machine.refuse_above(why, out, sent) {
+        Ok(()) => Ok(Step::Refused(why)),
+        Err(_) => Err(AllocError),
+    }
+}
+
+// Sends what is sent at once, if anything.
+fn answer_above<S: Sealing, F: Filler + Drop>(
+    machine: &mut Machine<S, F>,
+    above: Above,
+    out: &mut Vec<u8>,
+    sent: &mut Vec<Vec<u8>>,
+) -> Result<Step, AllocError>
+    requires can { CanFinish machine.old (Judgement.Answered above) }
+    ensures finished { IfOk result (λ step. Finished S.crypto machine.old (Judgement.Answered above) step machine.new (record { before = out.old.items; after = out.new.items; listed = map (λ v. v.items) sent.old.items; relisted = map (λ v. v.items) sent.new.items })) }
+    ensures whole { IfOk result (λ step. step ≡ Step.More → ⊥) }
+    ensures lacks { OnErr result (FinishLacks machine.old (Judgement.Answered above)) }
+    ensures dead { OnErr result (machine.new.kept.dead ≡ true) }
+    ensures out { OnErr result (out.new.items ≡ out.old.items) }
+    ensures kept { OnErr result (sent.new.items ≡ sent.old.items) }
+    ensures stands { (side : Side) → Stands side machine.old → Stands side machine.new }
+{
+    machines_stand::<S::Key>();
+    let Above {
+        step,
+        reply,
+        success,
+    } = above;
+    put_reply(machine, reply, out, sent)?;
+    if success {
+        machine.note_success();
+    }
+    Ok(Step::Took(step))
+}
+
+// Sends this payload, if there is one.
+fn put_reply<S: Sealing, F: Filler + Drop>(
+    machine: &mut Machine<S, F>,
+    reply: Option<Vec<u8>>,
+    out: &mut Vec<u8>,
+    sent: &mut Vec<Vec<u8>>,
+) -> Result<(), AllocError>
+    requires can { CanReplyWith machine.old (option_map (λ v. v.items) reply) }
+    ensures put { OnOk result (PutsReply S.crypto machine.old (option_map (λ v. v.items) reply) machine.new (record { before = out.old.items; after = out.new.items; listed = map (λ v. v.items) sent.old.items; relisted = map (λ v. v.items) sent.new.items })) }
+    ensures lacks { OnErr result (IsReply (option_map (λ v. v.items) reply)) }
+    ensures room { OnErr result (HasRoom machine.old) }
+    ensures dead { OnErr result (machine.new.kept.dead ≡ true) }
+    ensures out { OnErr result (out.new.items ≡ out.old.items) }
+    ensures kept { OnErr result (sent.new.items ≡ sent.old.items) }
+    ensures stands { (side : Side) → Stands side machine.old → Stands side machine.new }
+{
+    match reply {
+        Some(payload) => put(machine, payload, out, sent),
+        None => Ok(()),
+    }
+}
+
+// Sends this payload, for which a number is left.
+fn put<S: Sealing, F: Filler + Drop>(
+    machine: &mut Machine<S, F>,
+    payload: Vec<u8>,
+    out: &mut Vec<u8>,
+    sent: &mut Vec<Vec<u8>>,
+) -> Result<(), AllocError>
+    requires can { CanReply machine.old payload.items }
+    ensures put { OnOk result (IsPut S.crypto machine.old payload.items machine.new (record { before = out.old.items; after = out.new.items; listed = map (λ v. v.items) sent.old.items; relisted = map (λ v. v.items) sent.new.items })) }
+    ensures dead { OnErr result (machine.new.kept.dead ≡ true) }
+    ensures out { OnErr result (out.new.items ≡ out.old.items) }
+    ensures kept { OnErr result (sent.new.items ≡ sent.old.items) }
+    ensures stands { (side : Side) → Stands side machine.old → Stands side machine.new }
+{
+    machines_stand::<S::Key>();
+    match machine.send_above(payload, out, sent) {
+        Ok(Answer::Done) => Ok(()),
+        _ => Err(AllocError),
+    }
+}
+
+// Spells what is sent at once for a message that was taken so, if anything. The numbers are tested before any memory is asked for.
+pub fn spell_answer<S: Sealing, F: Filler + Drop>(
+    machine: &Machine<S, F>,
+    step: TookStep,
+    message: Option<Message<'_>>,
+    success: bool,
+) -> Result<Judgement, AllocError>
+    requires fits { IfSome message (λ m. Fits m) }
+    requires context { IfSome message (λ m. FitsContext true (meaning m)) }
+    requires short { IfSome message (λ m. payload_size (meaning m) ≤ 34000) }
+    requires alive { machine.now.kept.dead ≡ false }
+    ensures made { IfOk result (λ judgement. IsAnswer machine.now step (option_map meaning message.entry) success judgement) }
+    ensures some { OnErr result (IsSome (option_map meaning message.entry)) }
+    ensures room { OnErr result (HasRoom machine.now) }
+    ensures can { IfOk result (λ judgement. CanFinish machine.now judgement) }
+{
+    let Some(message) = message else {
+        return Ok(Judgement::Answered(Above {
+            step,
+            reply: None,
+            success,
+        }));
+    };
+    if machine.is_spent() {
+        return Ok(Judgement::Spent);
+    }
+    let payload = machine.spell(&message)?;
+    Ok(Judgement::Answered(Above {
+        step,
+        reply: Some(payload),
+        success,
+    }))
+}
+
+// The session id, or these bytes before the first exchange, when no payload from 50 on comes.
+pub fn session_of<'a, S: Sealing, F: Filler + Drop>(
+    machine: &'a Machine<S, F>,
+    none: &'a [u8; 32],
+) -> &'a [u8; 32]
+    ensures { (id : List ℕ) → machine.now.kept.session ≡ Some id → result.now ≡ id }
+{
+    machine.session_id().unwrap_or(none)
+}

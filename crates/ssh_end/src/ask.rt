@@ -1,0 +1,16 @@
+use ssh_auth::UserAsk;
+
+/// What a user asks of an end.
+#[derive(Clone, Copy, PartialEq, Eq)]
+pub enum Ask<'a> {
+    /// Asks for the service of authentication, at a client (RFC 4253 section 10).
+    Service,
+    /// Makes a request for the connection, at a client (RFC 4252 section 5).
+    User(UserAsk<'a>),
+    /// Begins an exchange of keys (RFC 4253 section 9).
+    Rekey,
+    /// Asks channels for a message of the connection (RFC 4254).
+    Connection(ssh_channels::Ask<'a>),
+    /// Ends the connection with this description, at most 1,024 bytes (RFC 4253 section 11.1).
+    Disconnect(&'a [u8]),
+}

@@ -1,0 +1,65 @@
+//! What a client does on an ask of its user.
+
+ghost use Rattle.std.specs.Prelude.{◌≡◌, IfErr, OnErr, map};
+ghost use Rattle.ssh_model.specs.Side.{Side};
+ghost use Rattle.ssh_transport_machine.specs.Standing.{Stands};
+ghost use Rattle.ssh_end.specs.Asking.{ClientInSession, ClientRow, Fails, KeepsLayers, ask_of};
+ghost use Rattle.ssh_end.specs.ClientSessions.{end_of};
+
+use crate::ask::Ask;
+use crate::asking::connection::ask_connection;
+use crate::asking::outcome::{AskStep, Fault};
+use crate::asking::transport::ask_transport;
+use crate::asking::user::ask_user;
+use crate::client_layers::ClientLayers;
+use ssh_auth::UserSigner;
+use ssh_model::end::asks;
+use ssh_packet::{Filler, Sealing};
+use ssh_transport_machine::{Machine, TransportAsk};
+
+// Does what a client is asked for, as an end of a session does.
+pub fn ask_client<S: Sealing, F: Filler + Drop, U: UserSigner>(
+    machine: &mut Machine<S, F>,
+    layers: &mut ClientLayers,
+    signer: &U,
+    ask: &Ask<'_>,
+    out: &mut Vec<u8>,
+    sent: &mut Vec<Vec<u8>>,
+) -> Result<AskStep, Fault>
+    ensures in_session { ClientInSession S.crypto (U.signature_of signer.now) layers.old.authentication (end_of machine.old.kept layers.old) (ask_of ask.now) result (end_of machine.new.kept layers.new) (record { before = out.old.items; after = out.new.items; listed = map (λ v. v.items) sent.old.items; relisted = map (λ v. v.items) sent.new.items }) }
+    ensures fails { IfErr result (λ fault. Fails machine.old fault machine.new) }
+    ensures layers { IfErr result (λ fault. KeepsLayers layers.old fault layers.new) }
+    ensures out { OnErr result (out.new.items ≡ out.old.items) }
+    ensures kept { OnErr result (map (λ v. v.items) sent.new.items ≡ map (λ v. v.items) sent.old.items) }
+    ensures stands { (side : Side) → Stands side machine.old → Stands side machine.new }
+{
+    asks::<S::Key>();
+    take_ask(machine, layers, signer, ask, out, sent)
+}
+
+// Does what is asked for, by the layer that it is for.
+fn take_ask<S: Sealing, F: Filler + Drop, U: UserSigner>(
+    machine: &mut Machine<S, F>,
+    layers: &mut ClientLayers,
+    signer: &U,
+    ask: &Ask<'_>,
+    out: &mut Vec<u8>,
+    sent: &mut Vec<Vec<u8>>,
+) -> Result<AskStep, Fault>
+    ensures row { ClientRow S.crypto (U.signature_of signer.now) layers.old.authentication (end_of machine.old.kept layers.old) (ask_of ask.now) result (end_of machine.new.kept layers.new) (record { before = out.old.items; after = out.new.items; listed = map (λ v. v.items) sent.old.items; relisted = map (λ v. v.items) sent.new.items }) }
+    ensures fails { IfErr result (λ fault. Fails machine.old fault machine.new) }
+    ensures layers { IfErr result (λ fault. KeepsLayers layers.old fault layers.new) }
+    ensures out { OnErr result (out.new.items ≡ out.old.items) }
+    ensures kept { OnErr result (map (λ v. v.items) sent.new.items ≡ map (λ v. v.items) sent.old.items) }
+    ensures stands { (side : Side) → Stands side machine.old → Stands side machine.new }
+{
+    match *ask {
+        Ask::Service => ask_transport(machine, TransportAsk::Service, out, sent),
+        Ask::User(ask) => { ask_user(machine, &mut layers.authentication, signer, &ask, out, sent) }
+        Ask::Rekey => ask_transport(machine, TransportAsk::Rekey, out, sent),
+        Ask::Connection(ask) => ask_connection(machine, &mut layers.channels, &ask, out, sent),
+        Ask::Disconnect(description) => {
+            ask_transport(machine, TransportAsk::Disconnect(description), out, sent)
+        }
+    }
+}

@@ -1,0 +1,102 @@
+//! Asks for a message of the connection.
+
+ghost use Rattle.std.specs.Prelude.{◌≡◌, ◌≤◌, IfErr, IfOk, OnErr, map, true};
+ghost use Rattle.ssh_model.specs.Side.{Side};
+ghost use Rattle.ssh_model.specs.Wire.Message.{FitsContext};
+ghost use Rattle.ssh_model.specs.Wire.Sizes.{payload_size};
+ghost use Rattle.ssh_message.specs.Meaning.{meaning};
+ghost use Rattle.ssh_message.specs.Written.{Fits};
+ghost use Rattle.ssh_channels.specs.Values.{ask_of, sent_of};
+ghost use Rattle.ssh_transport_machine.specs.Standing.{Stands};
+ghost use Rattle.ssh_end.specs.Asking.{ConnectionRow, Fails, GivenFails, GivenSent, KeepsLayers, opening_by, step_on};
+
+use crate::asking::memory::lack_memory;
+use crate::asking::numbers::{ask_numbers, message_numbers, recipient_number};
+use crate::asking::outcome::{AskStep, Fault, step_of};
+use crate::asking::transport::ask_machine;
+use crate::below::Below;
+use crate::connection::ask_channels;
+use ssh_channels::{Ask, AskError, Channels, Sent};
+use ssh_packet::{Filler, Sealing};
+use ssh_transport_machine::{Answer, Machine, TransportAsk};
+
+// Asks channels for a message, and sends it. Where memory is refused nothing is put out, and the end is over.
+pub fn ask_connection<S: Sealing, F: Filler + Drop>(
+    machine: &mut Machine<S, F>,
+    channels: &mut Channels,
+    ask: &Ask<'_>,
+    out: &mut Vec<u8>,
+    sent: &mut Vec<Vec<u8>>,
+) -> Result<AskStep, Fault>
+    ensures row { ConnectionRow S.crypto machine.old channels.old (ask_of ask.now) result machine.new channels.new (record { before = out.old.items; after = out.new.items; listed = map (λ v. v.items) sent.old.items; relisted = map (λ v. v.items) sent.new.items }) }
+    ensures fails { IfErr result (λ fault. Fails machine.old fault machine.new) }
+    ensures channels { IfErr result (λ fault. KeepsLayers channels.old fault channels.new) }
+    ensures out { OnErr result (out.new.items ≡ out.old.items) }
+    ensures kept { OnErr result (map (λ v. v.items) sent.new.items ≡ map (λ v. v.items) sent.old.items) }
+    ensures stands { (side : Side) → Stands side machine.old → Stands side machine.new }
+{
+    if machine.is_dead() {
+        return Err(Fault::Dead);
+    }
+    ask_numbers(ask);
+    // Channels use no session id.
+    let below = Below {
+        session: &[0; 32],
+        blocked: machine.is_blocked(),
+        authenticated: machine.is_authenticated(),
+    };
+    match ask_channels(channels, &below, ask, machine.is_rekey_due()) {
+        Ok(given) => {
+            message_numbers(&given.message);
+            recipient_number(&given.message);
+            send_given(machine, ask, &given, out, sent)
+        }
+        Err(AskError::Refused(why)) => Err(Fault::Ask(why)),
+        Err(AskError::Memory) => lack_memory(machine),
+    }
+}
+
+// Sends what channels gave.
+fn send_given<S: Sealing, F: Filler + Drop>(
+    machine: &mut Machine<S, F>,
+    ask: &Ask<'_>,
+    given: &Sent<'_>,
+    out: &mut Vec<u8>,
+    sent: &mut Vec<Vec<u8>>,
+) -> Result<AskStep, Fault>
+    requires fits { Fits given.now.message }
+    requires context { FitsContext true (meaning given.now.message) }
+    requires most { payload_size (meaning given.now.message) ≤ 34000 }
+    ensures sent { IfOk result (λ step. GivenSent S.crypto machine.old (ask_of ask.now) (sent_of given.now) machine.new (record { before = out.old.items; after = out.new.items; listed = map (λ v. v.items) sent.old.items; relisted = map (λ v. v.items) sent.new.items }) step) }
+    ensures failed { IfErr result (λ fault. GivenFails machine.old fault machine.new) }
+    ensures out { OnErr result (out.new.items ≡ out.old.items) }
+    ensures kept { OnErr result (map (λ v. v.items) sent.new.items ≡ map (λ v. v.items) sent.old.items) }
+    ensures stands { (side : Side) → Stands side machine.old → Stands side machine.new }
+{
+    let answer = ask_machine(machine, TransportAsk::Send(&given.message), out, sent)?;
+    Ok(given_step(ask, given.channel, answer))
+}
+
+// The step of what was sent on this channel.
+fn given_step(ask: &Ask<'_>, channel: Option<u32>, answer: Answer) -> AskStep
+    ensures { result ≡ step_on (ask_of ask.now) channel answer }
+{
+    match answer {
+        Answer::Done => AskStep {
+            channel,
+            opening: opening_of(ask, channel),
+            refused: None,
+        },
+        Answer::Spent => step_of(Answer::Spent),
+    }
+}
+
+// The number of the channel that opens with what is sent.
+fn opening_of(ask: &Ask<'_>, channel: Option<u32>) -> Option<u32>
+    ensures { result ≡ opening_by (ask_of ask.now) channel }
+{
+    match *ask {
+        Ask::Open { .. } => channel,
+        _ => None,
+    }
+}

@@ -1,0 +1,30 @@
+//! Memory that is refused above the transport.
+
+ghost use Rattle.std.specs.Prelude.{◌≡◌, ◌^◌, IfErr, IfOk, OnErr, OnOk};
+ghost use Rattle.ssh_transport_machine.specs.State.{dead_state};
+ghost use Rattle.ssh_transport_machine.specs.Turning.{HasRoom};
+ghost use Rattle.ssh_transport_machine.specs.declared.machine.turn.Answer.TheVariants.{Spent};
+ghost use Rattle.ssh_end.specs.Asking.{step_by};
+ghost use Rattle.ssh_end.specs.declared.asking.outcome.Fault.TheVariants.{Memory};
+
+use crate::asking::outcome::{AskStep, Fault, step_of};
+use ssh_packet::{Filler, Sealing};
+use ssh_transport_machine::{Answer, Machine};
+
+// A layer above got no memory for what it would send. The end is over, and where no number is left for that, for want of one.
+pub fn lack_memory<S: Sealing, F: Filler + Drop>(
+    machine: &mut Machine<S, F>,
+) -> Result<AskStep, Fault>
+    ensures spent { IfOk result (λ step. step ≡ step_by Spent) }
+    ensures none_left { OnOk result (machine.old.kept.sending.count ≡ 2 ^ 32) }
+    ensures memory { IfErr result (λ fault. fault ≡ Memory) }
+    ensures room { OnErr result (HasRoom machine.old) }
+    ensures over { machine.new ≡ dead_state machine.old }
+{
+    if machine.is_spent() {
+        machine.die();
+        return Ok(step_of(Answer::Spent));
+    }
+    machine.die();
+    Err(Fault::Memory)
+}

@@ -1,0 +1,77 @@
+//! What a server does on an ask of its user.
+
+ghost use Rattle.std.specs.Prelude.{◌≡◌, IfErr, OnErr, cond, map};
+ghost use Rattle.ssh_model.specs.Side.{Side, Side.Server};
+ghost use Rattle.ssh_transport_machine.specs.Standing.{Stands};
+ghost use Rattle.ssh_types.specs.declared.ask_refusal.AskRefusal.TheVariants.{WrongSide};
+ghost use Rattle.ssh_end.specs.Asking.{EndRow, Fails, InSession, KeepsLayers, ask_of};
+ghost use Rattle.ssh_end.specs.Sessions.{end_of};
+ghost use Rattle.ssh_end.specs.declared.asking.outcome.Fault.TheVariants as fault;
+
+use crate::ask::Ask;
+use crate::asking::connection::ask_connection;
+use crate::asking::outcome::{AskStep, Fault};
+use crate::asking::transport::ask_transport;
+use crate::server_layers::ServerLayers;
+use ssh_model::end::asks;
+use ssh_packet::{Filler, Sealing};
+use ssh_transport_machine::{Machine, TransportAsk};
+use ssh_types::AskRefusal;
+
+// Does what a server is asked for, as an end of a session does.
+pub fn ask_server<S: Sealing, F: Filler + Drop>(
+    machine: &mut Machine<S, F>,
+    layers: &mut ServerLayers,
+    ask: &Ask<'_>,
+    out: &mut Vec<u8>,
+    sent: &mut Vec<Vec<u8>>,
+) -> Result<AskStep, Fault>
+    ensures in_session { InSession S.crypto Server (end_of machine.old.kept layers.old) (ask_of ask.now) result (end_of machine.new.kept layers.new) (record { before = out.old.items; after = out.new.items; listed = map (λ v. v.items) sent.old.items; relisted = map (λ v. v.items) sent.new.items }) }
+    ensures fails { IfErr result (λ fault. Fails machine.old fault machine.new) }
+    ensures layers { IfErr result (λ fault. KeepsLayers layers.old fault layers.new) }
+    ensures authentication { layers.new.authentication ≡ layers.old.authentication }
+    ensures out { OnErr result (out.new.items ≡ out.old.items) }
+    ensures kept { OnErr result (map (λ v. v.items) sent.new.items ≡ map (λ v. v.items) sent.old.items) }
+    ensures stands { (side : Side) → Stands side machine.old → Stands side machine.new }
+{
+    asks::<S::Key>();
+    take_ask(machine, layers, ask, out, sent)
+}
+
+// Does what is asked for, by the layer that it is for.
+fn take_ask<S: Sealing, F: Filler + Drop>(
+    machine: &mut Machine<S, F>,
+    layers: &mut ServerLayers,
+    ask: &Ask<'_>,
+    out: &mut Vec<u8>,
+    sent: &mut Vec<Vec<u8>>,
+) -> Result<AskStep, Fault>
+    ensures row { EndRow S.crypto Server (end_of machine.old.kept layers.old) (ask_of ask.now) result (end_of machine.new.kept layers.new) (record { before = out.old.items; after = out.new.items; listed = map (λ v. v.items) sent.old.items; relisted = map (λ v. v.items) sent.new.items }) }
+    ensures fails { IfErr result (λ fault. Fails machine.old fault machine.new) }
+    ensures layers { IfErr result (λ fault. KeepsLayers layers.old fault layers.new) }
+    ensures authentication { layers.new.authentication ≡ layers.old.authentication }
+    ensures out { OnErr result (out.new.items ≡ out.old.items) }
+    ensures kept { OnErr result (map (λ v. v.items) sent.new.items ≡ map (λ v. v.items) sent.old.items) }
+    ensures stands { (side : Side) → Stands side machine.old → Stands side machine.new }
+{
+    match *ask {
+        Ask::Service => ask_transport(machine, TransportAsk::Service, out, sent),
+        Ask::User(_) => Err(user_fault(machine)),
+        Ask::Rekey => ask_transport(machine, TransportAsk::Rekey, out, sent),
+        Ask::Connection(ask) => ask_connection(machine, &mut layers.channels, &ask, out, sent),
+        Ask::Disconnect(description) => {
+            ask_transport(machine, TransportAsk::Disconnect(description), out, sent)
+        }
+    }
+}
+
+// Why a server makes no request of a user.
+fn user_fault<S: Sealing, F: Filler + Drop>(machine: &Machine<S, F>) -> Fault
+    ensures { result ≡ cond machine.now.kept.dead fault.Dead (fault.Ask WrongSide) }
+{
+    if machine.is_dead() {
+        Fault::Dead
+    } else {
+        Fault::Ask(AskRefusal::WrongSide)
+    }
+}

@@ -1,0 +1,56 @@
+//! Asks for a message of the transport, and messages of a layer above that it sends.
+
+ghost use Rattle.std.specs.Prelude.{◌≡◌, IfErr, IfOk, OnErr, map};
+ghost use Rattle.ssh_model.specs.Side.{Side};
+ghost use Rattle.ssh_transport_machine.specs.Asks.{AskTaken, IsSendable};
+ghost use Rattle.ssh_transport_machine.specs.Standing.{Stands};
+ghost use Rattle.ssh_transport_machine.specs.declared.machine.turn.AskTurn.TheVariants as ask_turn;
+ghost use Rattle.ssh_end.specs.Asking.{Fails, MachineFails, TransportRow};
+
+use crate::asking::outcome::{AskStep, Fault, step_of};
+use ssh_packet::{Filler, Sealing};
+use ssh_transport_machine::standing::machines_stand;
+use ssh_transport_machine::{Answer, AskTurn, Machine, TransportAsk};
+
+// Does what is asked for a message of the transport. Where memory is refused nothing is put out, and the end is over.
+pub fn ask_transport<S: Sealing, F: Filler + Drop>(
+    machine: &mut Machine<S, F>,
+    ask: TransportAsk<'_>,
+    out: &mut Vec<u8>,
+    sent: &mut Vec<Vec<u8>>,
+) -> Result<AskStep, Fault>
+    requires { IsSendable ask }
+    ensures row { TransportRow S.crypto machine.old ask.entry result machine.new (record { before = out.old.items; after = out.new.items; listed = map (λ v. v.items) sent.old.items; relisted = map (λ v. v.items) sent.new.items }) }
+    ensures fails { IfErr result (λ fault. Fails machine.old fault machine.new) }
+    ensures out { OnErr result (out.new.items ≡ out.old.items) }
+    ensures kept { OnErr result (map (λ v. v.items) sent.new.items ≡ map (λ v. v.items) sent.old.items) }
+    ensures stands { (side : Side) → Stands side machine.old → Stands side machine.new }
+{
+    match ask_machine(machine, ask, out, sent) {
+        Ok(answer) => Ok(step_of(answer)),
+        Err(fault) => Err(fault),
+    }
+}
+
+// Has the machine do what is asked for.
+pub fn ask_machine<S: Sealing, F: Filler + Drop>(
+    machine: &mut Machine<S, F>,
+    ask: TransportAsk<'_>,
+    out: &mut Vec<u8>,
+    sent: &mut Vec<Vec<u8>>,
+) -> Result<Answer, Fault>
+    requires { IsSendable ask }
+    ensures asked { IfOk result (λ answer. AskTaken S.crypto machine.old ask.entry (ask_turn.Answered answer) machine.new (record { before = out.old.items; after = out.new.items; listed = map (λ v. v.items) sent.old.items; relisted = map (λ v. v.items) sent.new.items })) }
+    ensures refused { IfErr result (λ fault. MachineFails S.crypto machine.old ask.entry fault machine.new) }
+    ensures fails { IfErr result (λ fault. Fails machine.old fault machine.new) }
+    ensures out { OnErr result (out.new.items ≡ out.old.items) }
+    ensures kept { OnErr result (map (λ v. v.items) sent.new.items ≡ map (λ v. v.items) sent.old.items) }
+    ensures stands { (side : Side) → Stands side machine.old → Stands side machine.new }
+{
+    machines_stand::<S::Key>();
+    match machine.ask(ask, out, sent) {
+        Ok(AskTurn::Answered(answer)) => Ok(answer),
+        Ok(AskTurn::Refused(why)) => Err(Fault::Ask(why)),
+        Err(fault) => Err(Fault::from(fault)),
+    }
+}

@@ -1,0 +1,72 @@
+//! Asks for a request of a user, at a client.
+
+ghost use Rattle.std.specs.Prelude.{◌≡◌, IfErr, IfOk, OnErr, List, Some, map, true, ℕ};
+ghost use Rattle.ssh_model.specs.Side.{Side};
+ghost use Rattle.ssh_model.specs.Wire.Message.{FitsContext};
+ghost use Rattle.ssh_auth.specs.Asking.{ask_of};
+ghost use Rattle.ssh_transport_machine.specs.Standing.{Stands};
+ghost use Rattle.ssh_end.specs.Asking.{Fails, GivenFails, KeepsLayers, RequestSent, UserRow};
+
+use crate::asking::memory::lack_memory;
+use crate::asking::outcome::{AskStep, Fault, step_of};
+use crate::asking::transport::ask_machine;
+use ssh_auth::{AskError, AuthClient, UserAsk, UserRequest, UserSigner};
+use ssh_packet::{Filler, Sealing};
+use ssh_transport_machine::{Machine, TransportAsk};
+use ssh_types::AskRefusal;
+
+// Asks authentication for a request, and sends it. Where memory is refused nothing is put out, and the end is over.
+pub fn ask_user<S: Sealing, F: Filler + Drop, U: UserSigner>(
+    machine: &mut Machine<S, F>,
+    client: &mut AuthClient,
+    signer: &U,
+    ask: &UserAsk<'_>,
+    out: &mut Vec<u8>,
+    sent: &mut Vec<Vec<u8>>,
+) -> Result<AskStep, Fault>
+    ensures row { UserRow S.crypto (U.signature_of signer.now) machine.old client.old (ask_of ask.now) result machine.new client.new (record { before = out.old.items; after = out.new.items; listed = map (λ v. v.items) sent.old.items; relisted = map (λ v. v.items) sent.new.items }) }
+    ensures fails { IfErr result (λ fault. Fails machine.old fault machine.new) }
+    ensures layers { IfErr result (λ fault. KeepsLayers client.old fault client.new) }
+    ensures out { OnErr result (out.new.items ≡ out.old.items) }
+    ensures kept { OnErr result (map (λ v. v.items) sent.new.items ≡ map (λ v. v.items) sent.old.items) }
+    ensures stands { (side : Side) → Stands side machine.old → Stands side machine.new }
+{
+    if machine.is_dead() {
+        return Err(Fault::Dead);
+    }
+    let session = session_of(machine);
+    match client.ask(&session, signer, ask) {
+        Ok(request) => send_request(machine, &request, out, sent),
+        Err(AskError::Refused(why)) => Err(Fault::Ask(AskRefusal::from(why))),
+        Err(AskError::Memory) => lack_memory(machine),
+    }
+}
+
+// The session id. Before there is one authentication refuses each ask, and no text with it is signed.
+fn session_of<S: Sealing, F: Filler + Drop>(machine: &Machine<S, F>) -> [u8; 32]
+    ensures { (session : List ℕ) → machine.now.kept.session ≡ Some session → result ≡ session }
+{
+    match machine.session_id() {
+        Some(session) => *session,
+        None => [0; 32],
+    }
+}
+
+// Sends a request.
+fn send_request<S: Sealing, F: Filler + Drop>(
+    machine: &mut Machine<S, F>,
+    request: &UserRequest<'_>,
+    out: &mut Vec<u8>,
+    sent: &mut Vec<Vec<u8>>,
+) -> Result<AskStep, Fault>
+    requires { FitsContext true request.now }
+    ensures sent { IfOk result (λ step. RequestSent S.crypto machine.old request.now machine.new (record { before = out.old.items; after = out.new.items; listed = map (λ v. v.items) sent.old.items; relisted = map (λ v. v.items) sent.new.items }) step) }
+    ensures failed { IfErr result (λ fault. GivenFails machine.old fault machine.new) }
+    ensures fails { IfErr result (λ fault. Fails machine.old fault machine.new) }
+    ensures out { OnErr result (out.new.items ≡ out.old.items) }
+    ensures kept { OnErr result (map (λ v. v.items) sent.new.items ≡ map (λ v. v.items) sent.old.items) }
+    ensures stands { (side : Side) → Stands side machine.old → Stands side machine.new }
+{
+    let answer = ask_machine(machine, TransportAsk::Send(&request.message()), out, sent)?;
+    Ok(step_of(answer))
+}

@@ -1,0 +1,75 @@
+//! What a client makes of a payload from 50 on.
+
+ghost use Rattle.std.specs.Prelude.{◌≡◌, ◌≤◌, IfOk, OnErr, false};
+ghost use Rattle.ssh_model.specs.Sessions.Turns.{number_of};
+ghost use Rattle.ssh_end.specs.Above.{CanFinish};
+ghost use Rattle.ssh_end.specs.ClientAbove.{JudgeLacks, JudgesPayload, succeeds, took_by};
+ghost use Rattle.ssh_end.specs.ClientLayers.{probes};
+
+use crate::above::{Judgement, session_of, spell_answer};
+use crate::below::Below;
+use crate::client_layers::{ClientLayerAnswer, ClientLayers};
+use crate::fault::LayerFault;
+use crate::step::{Telling, TookStep};
+use ssh_auth::ClientAnswer;
+use ssh_packet::{Filler, Sealing};
+use ssh_transport_machine::Machine;
+use std::alloc::AllocError;
+
+// What the layers of a client make of the payload that is shown, from 50 on.
+pub fn judge_client<S: Sealing, F: Filler + Drop>(
+    machine: &Machine<S, F>,
+    layers: &mut ClientLayers,
+) -> Result<Judgement, AllocError>
+    requires above { 50 ≤ number_of machine.now.receiver.payload }
+    requires alive { machine.now.kept.dead ≡ false }
+    ensures judged { IfOk result (λ judgement. JudgesPayload machine.now layers.old judgement layers.new) }
+    ensures lacks { OnErr result (JudgeLacks machine.now layers.old) }
+    ensures can { IfOk result (λ judgement. CanFinish machine.now judgement) }
+{
+    let none = [0; 32];
+    let below = Below {
+        session: session_of(machine, &none),
+        blocked: machine.is_blocked(),
+        authenticated: machine.is_authenticated(),
+    };
+    let probing = layers.authentication.probing();
+    match layers.take(&below, machine.payload()) {
+        Ok(taken) => spell_answer(
+            machine,
+            step_of(&taken.answer, probing),
+            layers.message(&taken.answer, machine.last_number()),
+            is_success(&taken.answer),
+        ),
+        Err(LayerFault::Refused(why)) => Ok(Judgement::Refused(why)),
+        Err(LayerFault::Memory) => Err(AllocError),
+    }
+}
+
+// How a message was taken that was answered so, where a key probe was outstanding or not.
+fn step_of(answer: &ClientLayerAnswer<'_>, probing: bool) -> TookStep
+    ensures { result ≡ took_by answer.now probing }
+{
+    match *answer {
+        ClientLayerAnswer::Channels(taken) => TookStep {
+            channel: taken.channel,
+            probing,
+            telling: Telling::Message,
+        },
+        _ => TookStep {
+            channel: None,
+            probing,
+            telling: Telling::Message,
+        },
+    }
+}
+
+// Tests whether the user is authenticated by this.
+fn is_success(answer: &ClientLayerAnswer<'_>) -> bool
+    ensures { result ≡ succeeds answer.now }
+{
+    match *answer {
+        ClientLayerAnswer::Authentication(ClientAnswer::Authenticated) => true,
+        _ => false,
+    }
+}

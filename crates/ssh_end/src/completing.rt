@@ -1,0 +1,48 @@
+//! What an end does once its transport ended an exchange of keys.
+
+ghost use Rattle.std.specs.Prelude.{◌≡◌, IfOk, OnErr, OnOk, false, map, true};
+ghost use Rattle.ssh_model.specs.Side.{Side};
+ghost use Rattle.ssh_transport_machine.specs.Standing.{Stands};
+ghost use Rattle.ssh_end.specs.Completing.{Completing};
+ghost use Rattle.ssh_end.specs.Owed.{Extends, ListsChannels};
+
+use crate::owed::give_owed;
+use crate::step::{Step, Telling, TookStep};
+use ssh_channels::Channels;
+use ssh_packet::{Filler, Sealing};
+use ssh_transport_machine::Machine;
+use ssh_transport_machine::standing::machines_stand;
+use ssh_types::Refusal;
+use std::alloc::AllocError;
+
+// Gives what is owed behind NEWKEYS, and says at which position the exchange was completed.
+pub fn complete<S: Sealing, F: Filler + Drop>(
+    machine: &mut Machine<S, F>,
+    channels: &mut Channels,
+    out: &mut Vec<u8>,
+    sent: &mut Vec<Vec<u8>>,
+    numbers: &mut Vec<Option<u32>>,
+) -> Result<Step, AllocError>
+    requires alive { machine.old.kept.dead ≡ false }
+    ensures completing { IfOk result (λ step. Completing S.crypto machine.old channels.old step machine.new channels.new (record { before = out.old.items; after = out.new.items; listed = map (λ v. v.items) sent.old.items; relisted = map (λ v. v.items) sent.new.items })) }
+    ensures whole { IfOk result (λ step. step ≡ Step.More → ⊥) }
+    ensures dead { OnErr result (machine.new.kept.dead ≡ true) }
+    ensures rest { machine.new ≡ record machine.old { kept = machine.new.kept } }
+    ensures out { Extends out.old.items out.new.items }
+    ensures sent { Extends (map (λ v. v.items) sent.old.items) (map (λ v. v.items) sent.new.items) }
+    ensures numbers { Extends numbers.old.items numbers.new.items }
+    ensures stands { (side : Side) → Stands side machine.old → Stands side machine.new }
+{
+    if !machine.has_numbers(channels.owed() as u64) {
+        machines_stand::<S::Key>();
+        machine.die();
+        return Ok(Step::Refused(Refusal::NumberSpent));
+    }
+    let (position, _) = machine.epochs();
+    give_owed(machine, channels, out, sent, numbers)?;
+    Ok(Step::Took(TookStep {
+        channel: None,
+        probing: false,
+        telling: Telling::Completed(position),
+    }))
+}

@@ -1,0 +1,70 @@
+//! The replies that channels owe once an exchange of keys is over.
+
+ghost use Rattle.std.specs.Prelude.{◌≡◌, ◌+◌, ◌<◌, ◌≤◌, ◌^◌, ◌++◌, ◌∷◌, [], OnErr, OnOk, false, length, map, true};
+ghost use Rattle.ssh_model.specs.Channels.Summary.{reply_channel, reply_sent};
+ghost use Rattle.ssh_model.specs.Side.{Side};
+ghost use Rattle.ssh_model.specs.TransportLayer.Kept.{after_sent};
+ghost use Rattle.ssh_channels.specs.Values.{reply_of};
+ghost use Rattle.ssh_transport_machine.specs.Puts.{Sends};
+ghost use Rattle.ssh_transport_machine.specs.Standing.{Stands};
+ghost use Rattle.ssh_transport_machine.specs.State.{dead_state};
+ghost use Rattle.ssh_end.specs.Owed.{Extends, ListsChannels, OwedGiven};
+
+use ssh_channels::{Channels, Reply};
+use ssh_packet::{Filler, Sealing};
+use ssh_transport_machine::Machine;
+use std::alloc::AllocError;
+
+// Gives the replies that are owed, once NEWKEYS was sent: the oldest first, each in a packet of its own. The local number of the channel
+// of each is put behind `numbers`. Where memory is refused the end is over, and what was put out so far stands.
+pub fn give_owed<S: Sealing, F: Filler + Drop>(
+    machine: &mut Machine<S, F>,
+    channels: &mut Channels,
+    out: &mut Vec<u8>,
+    sent: &mut Vec<Vec<u8>>,
+    numbers: &mut Vec<Option<u32>>,
+) -> Result<(), AllocError>
+    requires alive { machine.old.kept.dead ≡ false }
+    requires room { machine.old.kept.sending.count + length channels.old.owed ≤ 2 ^ 32 }
+    ensures given { OnOk result (OwedGiven S.crypto machine.old.kept channels.old machine.new.kept channels.new (record { before = out.old.items; after = out.new.items; listed = map (λ v. v.items) sent.old.items; relisted = map (λ v. v.items) sent.new.items })) }
+    ensures numbered { OnOk result (ListsChannels channels.old channels.new numbers.old.items numbers.new.items) }
+    ensures rest { machine.new ≡ record machine.old { kept = machine.new.kept } }
+    ensures dead { OnErr result (machine.new.kept.dead ≡ true) }
+    ensures out { Extends out.old.items out.new.items }
+    ensures sent { Extends (map (λ v. v.items) sent.old.items) (map (λ v. v.items) sent.new.items) }
+    ensures numbers { Extends numbers.old.items numbers.new.items }
+    ensures stands { (side : Side) → Stands side machine.old → Stands side machine.new }
+{
+    while let Some(reply) = channels.unblock() {
+        give_reply(machine, reply, out, sent, numbers)?;
+    }
+    Ok(())
+}
+
+// Gives a reply, and puts the local number of its channel behind `numbers`. Where memory is refused nothing is put out, and the end is
+// over.
+fn give_reply<S: Sealing, F: Filler + Drop>(
+    machine: &mut Machine<S, F>,
+    reply: Reply,
+    out: &mut Vec<u8>,
+    sent: &mut Vec<Vec<u8>>,
+    numbers: &mut Vec<Option<u32>>,
+) -> Result<(), AllocError>
+    requires left { machine.old.kept.sending.count < 2 ^ 32 }
+    ensures sends { OnOk result (Sends S.crypto machine.old.kept.sending (reply_sent (reply_of reply)) (record { before = out.old.items; after = out.new.items; listed = map (λ v. v.items) sent.old.items; relisted = map (λ v. v.items) sent.new.items })) }
+    ensures after { OnOk result (machine.new ≡ record machine.old { kept = after_sent machine.old.kept }) }
+    ensures numbered { OnOk result (numbers.new.items ≡ numbers.old.items ++ reply_channel (reply_of reply) ∷ []) }
+    ensures dead { OnErr result (machine.new ≡ dead_state machine.old) }
+    ensures out { OnErr result (out.new.items ≡ out.old.items) }
+    ensures kept { OnErr result (sent.new.items ≡ sent.old.items) }
+    ensures numbers { OnErr result (numbers.new.items ≡ numbers.old.items) }
+    ensures stands { (side : Side) → Stands side machine.old → Stands side machine.new }
+{
+    if let Err(error) = numbers.reserve(1) {
+        machine.die();
+        return Err(error);
+    }
+    machine.send(&reply.message(), out, sent)?;
+    numbers.push_reserved(reply.channel());
+    Ok(())
+}

@@ -1,0 +1,90 @@
+//! What a server makes of a payload from 50 on.
+
+ghost use Rattle.std.specs.Prelude.{◌≡◌, ◌≤◌, IfOk, OnErr, false};
+ghost use Rattle.ssh_model.specs.Sessions.Turns.{number_of};
+ghost use Rattle.ssh_end.specs.Above.{CanFinish};
+ghost use Rattle.ssh_end.specs.ServerAbove.{JudgeLacks, JudgesPayload, accepts_user, telling_by, took_by};
+
+use crate::above::{Judgement, session_of, spell_answer};
+use crate::below::Below;
+use crate::fault::LayerFault;
+use crate::server_layers::{ServerLayerAnswer, ServerLayers};
+use crate::step::{Telling, TookStep};
+use ssh_auth::{ServerAnswer, UserJudge};
+use ssh_packet::{Filler, Sealing};
+use ssh_transport_machine::Machine;
+use std::alloc::AllocError;
+
+// What the layers of a server make of the payload that is shown, from 50 on.
+pub fn judge_server<S: Sealing, F: Filler + Drop, J: UserJudge>(
+    machine: &Machine<S, F>,
+    layers: &mut ServerLayers,
+    judge: &J,
+) -> Result<Judgement, AllocError>
+    requires above { 50 ≤ number_of machine.now.receiver.payload }
+    requires alive { machine.now.kept.dead ≡ false }
+    ensures judged { IfOk result (λ judgement. JudgesPayload (J.verdicts judge.now) machine.now layers.old judgement layers.new) }
+    ensures lacks { OnErr result (JudgeLacks (J.verdicts judge.now) machine.now layers.old) }
+    ensures can { IfOk result (λ judgement. CanFinish machine.now judgement) }
+{
+    let none = [0; 32];
+    let below = Below {
+        session: session_of(machine, &none),
+        blocked: machine.is_blocked(),
+        authenticated: machine.is_authenticated(),
+    };
+    match layers.take(judge, &below, machine.payload()) {
+        Ok(taken) => spell_answer(
+            machine,
+            step_of(&taken.answer),
+            layers.message(&taken.answer, machine.last_number()),
+            is_accepted(&taken.answer),
+        ),
+        Err(LayerFault::Refused(why)) => Ok(Judgement::Refused(why)),
+        Err(LayerFault::Memory) => Err(AllocError),
+    }
+}
+
+// How a message was taken that was answered so.
+fn step_of(answer: &ServerLayerAnswer<'_>) -> TookStep
+    ensures { result ≡ took_by answer.now }
+{
+    match *answer {
+        ServerLayerAnswer::Authentication(given) => TookStep {
+            channel: None,
+            probing: false,
+            telling: telling_of(&given),
+        },
+        ServerLayerAnswer::Channels(taken) => TookStep {
+            channel: taken.channel,
+            probing: false,
+            telling: Telling::Message,
+        },
+        ServerLayerAnswer::Unknown => TookStep {
+            channel: None,
+            probing: false,
+            telling: Telling::Message,
+        },
+    }
+}
+
+// What is told of a request that was answered so.
+fn telling_of(answer: &ServerAnswer<'_>) -> Telling
+    ensures { result ≡ telling_by answer.now }
+{
+    match *answer {
+        ServerAnswer::Accepted { .. } => Telling::Accepted,
+        ServerAnswer::Ignored => Telling::Ignored,
+        _ => Telling::Message,
+    }
+}
+
+// Tests whether the user was let in by this.
+fn is_accepted(answer: &ServerLayerAnswer<'_>) -> bool
+    ensures { result ≡ accepts_user answer.now }
+{
+    match *answer {
+        ServerLayerAnswer::Authentication(ServerAnswer::Accepted { .. }) => true,
+        _ => false,
+    }
+}
