@@ -18,3 +18,12 @@ pub mod AsksSpelling
 pub mod AsksConnection
 pub mod AsksSessions
 pub mod AsksUser
+pub mod TurningWhole
+pub mod TurningLaws
+pub mod TurningReplies
+pub mod TurningEnds
+pub mod ServerTurnsWhole
+pub mod ServerTurnsUnits
+pub mod ServerTurnsAbove
+pub mod ServerTurnsPoint
+pub mod ServerTurns

@@ -13,6 +13,7 @@ pub mod Owed
 pub mod Completing
 pub mod Effects
 pub mod ServerUnits
+pub mod ServerTurns
 pub mod Told
 pub mod Turn
 pub mod Asking

@@ -39,6 +39,7 @@ mod server_unit;
 mod step;
 mod told;
 mod turn;
+pub mod turn_laws;
 
 pub use ask::Ask;
 pub use asking::{AskStep, Fault};

@@ -1,0 +1,44 @@
+//! Laws of an end's turns: what it does with the bytes of one line or one packet is what an end of a session does with them. Facts for
+//! proofs, at no cost.
+
+ghost use Rattle.std.specs.Prelude.{List, ℕ};
+ghost use Rattle.ssh_model.specs.Authentication.Requests.{judge_of};
+ghost use Rattle.ssh_model.specs.Sessions.Items.{Item};
+ghost use Rattle.ssh_model.specs.Sessions.Parties.{Parties};
+ghost use Rattle.ssh_model.specs.Side.{Side.Server};
+ghost use Rattle.ssh_model.specs.TransportLayer.Summary.{parts_of};
+ghost use Rattle.ssh_transport_machine.specs.Puts.{Outs};
+ghost use Rattle.ssh_transport_machine.specs.State.{State};
+ghost use Rattle.ssh_end.specs.Layers.{Layers};
+ghost use Rattle.ssh_end.specs.ServerTurns.{IsServing, ServerTurned};
+ghost use Rattle.ssh_end.specs.ServerUnits.{ServerGoes};
+ghost use Rattle.ssh_end.specs.declared.step.Step.{Step};
+
+use crate::fact_laws::facts_told;
+use ssh_model::end::{exchange_ends, owed_replies, payloads, transport_turns, unit_turns, waiting};
+use ssh_transport_machine::laws::unit_turns as machine_turns;
+use ssh_transport_server::laws::{turns_left, units_taken};
+
+/// What a server's end does with the bytes of one line or one packet is what the server of a session does with them. Where what it keeps
+/// sums up a history, and it is the server of lawful parties:
+///
+/// - bytes that are no whole line or packet yet are those for which the server of a session waits; nothing is put out, and what is kept
+///   sums up the same history;
+/// - else the bytes are one line or one packet, and what is shown, put out and listed is a turn of a session by them. What is kept then
+///   sums up the history with the items of that turn.
+///
+/// It goes on being the server of these parties.
+pub fn servers_turns<K>()
+    ensures turned { (p : Parties K) (history : List Item) (old : State K) (layers : Layers) → IsServing p history old layers → (bytes : List ℕ) (done : Step) (new : State K) (later : Layers) (o : Outs) → ServerGoes p.crypto (parts_of p Server) (judge_of p) old layers bytes done new later o → ServerTurned p history bytes done new later o }
+{
+    facts_told();
+    transport_turns::<K>();
+    unit_turns::<K>();
+    payloads::<K>();
+    exchange_ends::<K>();
+    owed_replies::<K>();
+    waiting::<K>();
+    machine_turns::<K>();
+    units_taken::<K>();
+    turns_left::<K>();
+}
