@@ -18,7 +18,7 @@ use Rattle.ssh_auth.specs.declared.answer.ServerAnswer.{ServerAnswer}
 use Rattle.ssh_transport_machine.specs.State.{State}
 use Rattle.ssh_end.specs.Above.{Awaits, IsBeneath, IsReplied, SpellsReply}
 use Rattle.ssh_end.specs.Layer.{Beneath}
-use Rattle.ssh_end.specs.ServerAbove.{telling_by}
+use Rattle.ssh_end.specs.Told.{telling_of}
 use Rattle.ssh_end.specs.Sessions.{beneath}
 use Rattle.ssh_end.specs.Steps.{AreSent, fact_by, fact_told}
 
@@ -43,7 +43,7 @@ beneath_is {K} s m awaits below x =
 
 abbrev pub ServerFacts : Type 0
 ServerFacts = (judge : Judge) (methods : List (List ℕ)) (session : List ℕ) (server : kept.Server) (message : Msg) (given : ServerAnswer) (new : kept.Server) →
-    ServerTakes judge methods session server message (answered methods given) new → (answered methods given).fact ≡ fact_told (telling_by given) message None
+    ServerTakes judge methods session server message (answered methods given) new → (answered methods given).fact ≡ fact_told (telling_of given) message None
 
 abbrev pub ChannelFacts : Type 0
 ChannelFacts = (is_blocked : Bool) (c : Channels) (message : Msg) (taken : channels.Taken) (new : Channels) → channels.Takes is_blocked c message taken new → taken.fact ≡ fact_by message taken.channel

@@ -27,3 +27,8 @@ pub mod ServerTurnsUnits
 pub mod ServerTurnsAbove
 pub mod ServerTurnsPoint
 pub mod ServerTurns
+pub mod ClientTurnsWhole
+pub mod ClientTurnsUnits
+pub mod ClientTurnsAbove
+pub mod ClientTurnsReply
+pub mod ClientTurns

@@ -25,7 +25,8 @@ use Rattle.ssh_types.specs.Refusals.{refusal_of}
 use Rattle.ssh_end.specs.Above.{AnsweredAbove, Awaits, IsAnswer, IsBeneath, IsMade, IsReplied, Judged, SpellsReply, after_reply, after_success_where}
 use Rattle.ssh_end.specs.Layer.{Beneath}
 use Rattle.ssh_end.specs.Layers.{AuthenticationTakes, ChannelsTake, LayerRow, Layers, LayersRefuse, LayersTake, message_of}
-use Rattle.ssh_end.specs.ServerAbove.{IsTaken, JudgesPayload, RefusesPayload, TakesPayload, accepts_user, telling_by, took_by}
+use Rattle.ssh_end.specs.ServerAbove.{IsTaken, JudgesPayload, RefusesPayload, TakesPayload, accepts_user, took_by}
+use Rattle.ssh_end.specs.Told.{telling_of}
 use Rattle.ssh_end.specs.Sessions.{Accepts, AreOf, beneath, end_of}
 use Rattle.ssh_end.specs.Steps.{AreSent, fact_by, fact_told}
 use Rattle.ssh_end.specs.declared.above.Judgement.{Judgement}
@@ -79,7 +80,7 @@ module _ {K : Type 0} (p : Parties K) (s : Transport K) (m : State K) (old : Lay
         let y : Accepts p s old message payload (answer.Authentication g) new = subst (λ (w : ServerLayerAnswer). Accepts p s old message payload w new) (sym e) accepted in
         let z : LayerRow (judge_of p) (beneath s) old message (answer.Authentication g) new = subst (λ (w : ServerLayerAnswer). LayerRow (judge_of p) (beneath s) old message w new) (sym e) takes.row in
         let spelled : SpellsReply m (answered p.server.methods g).message reply = subst (λ (l : List (List ℕ)). SpellsReply m (answered l g).message reply) (z.methods ∙ are.methods) x in
-        let fact : (answered p.server.methods g).fact ≡ fact_told (telling_by g) message None =
+        let fact : (answered p.server.methods g).fact ≡ fact_told (telling_of g) message None =
         server_facts (judge_of p) p.server.methods (beneath s).session old.authentication.kept message g new.authentication.kept (subst (λ (l : List (List ℕ)). ServerTakes (judge_of p) l (beneath s).session old.authentication.kept message (answered l g) new.authentication.kept) are.methods z.row) in
         record {
           message = message;

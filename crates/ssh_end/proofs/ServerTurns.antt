@@ -1,5 +1,5 @@
 -- What a server's end does with the bytes of one line or one packet is what the server of a session does with them.
-use Rattle.std.proofs.Common.{◌≡◌, ℕ, ◌+◌, ◌≤◌, ◌++◌, Bool, true, false, List, [], refl, ap, sym, ◌∙◌, subst}
+use Rattle.std.proofs.Common.{◌≡◌, ℕ, ◌+◌, ◌≤◌, ◌++◌, true, false, List, [], refl, ap, sym, ◌∙◌, subst}
 use Rattle.ssh_model.specs.Side.{Side, Side.Server}
 use Rattle.ssh_model.specs.Authentication.Requests.{judge_of}
 use Rattle.ssh_model.specs.End.Reading.{end_reading}
@@ -21,7 +21,7 @@ use Rattle.ssh_transport_machine.specs.Outcomes.{IsRefusal, LineOutcome, packet_
 use Rattle.ssh_transport_machine.specs.Puts.{Outs, payloads_of}
 use Rattle.ssh_transport_machine.specs.Sessions.{IsAbove, is_left}
 use Rattle.ssh_transport_machine.specs.Shown.{IsLineRefusal, LineTurnOf, PacketTurnOf}
-use Rattle.ssh_transport_machine.specs.State.{IsLive, State, last_number}
+use Rattle.ssh_transport_machine.specs.State.{IsLive, State}
 use Rattle.ssh_transport_machine.specs.Turning.{IsQuiet, PacketTaken}
 use Rattle.ssh_transport_machine.specs.declared.machine.line_turn.LineTurn.{LineTurn}
 use Rattle.ssh_transport_machine.specs.declared.machine.line_turn.LineTurn.TheVariants as line_turn
@@ -44,7 +44,7 @@ use Rattle.ssh_end.specs.Layers.{Layers}
 use Rattle.ssh_end.specs.ServerTurns.{IsServing, IsUnitTurned, ServerTurned}
 use Rattle.ssh_end.specs.ServerUnits.{Goes, GoesOn, GoesUp, GoesWhole, ServerGoes}
 use Rattle.ssh_end.specs.Sessions.{AreOf, end_of}
-use Rattle.ssh_end.specs.Steps.{Shows, UnitTurned}
+use Rattle.ssh_end.specs.Steps.{UnitTurned}
 use Rattle.ssh_end.specs.declared.step.Step.{Step}
 use Rattle.ssh_end.specs.declared.step.Step.TheVariants as step
 use Rattle.ssh_end.proofs.Judging.{ChannelFacts, ServerFacts}

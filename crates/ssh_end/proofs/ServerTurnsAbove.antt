@@ -1,25 +1,23 @@
 -- What a server's end does with a payload from 50 on is what the server of a session does with it.
-use Rattle.std.proofs.Common.{◌≡◌, ℕ, ◌+◌, ◌-◌, ◌%◌, ◌≤◌, ◌<◌, ◌^◌, ◌++◌, false, List, [], ◌∷◌, length, arith, refl, ap, sym, ◌∙◌, subst, Option, Some, None}
+use Rattle.std.proofs.Common.{◌≡◌, ℕ, ◌+◌, ◌-◌, ◌%◌, ◌≤◌, ◌<◌, ◌^◌, false, List, length, arith, refl, ap, sym, ◌∙◌, subst, Option, Some, None}
 use Rattle.std.specs.Option.{option_map}
 use Rattle.std.specs.Prelude.{IsSome}
 use Rattle.ssh_model.specs.Side.{Side.Server}
-use Rattle.ssh_model.specs.Wire.Message.{Msg, Msg.Unimplemented}
+use Rattle.ssh_model.specs.Wire.Message.{Msg}
 use Rattle.ssh_model.specs.Wire.Outcome.{Outcome.Opens}
 use Rattle.ssh_model.specs.Wire.Sealing.{Crypto}
 use Rattle.ssh_model.specs.Wire.Unit.{HasNumber, PacketUnit}
 use Rattle.ssh_model.specs.Authentication.Requests.{judge_of}
 use Rattle.ssh_model.specs.Channels.Kept.{Channels, DueReply}
-use Rattle.ssh_model.specs.Channels.Summary.{reply_channel, reply_sent, told}
+use Rattle.ssh_model.specs.Channels.Summary.{reply_sent, told}
 use Rattle.ssh_model.specs.End.Payloads.{AnswersAbove, ReadsAbove, reply_items}
 use Rattle.ssh_model.specs.End.State.{Authentication, Authentication.OfServer, EndState, above_checks}
-use Rattle.ssh_model.specs.Sessions.Items.{Fact, Item, Item.Sent, messages_sent}
+use Rattle.ssh_model.specs.Sessions.Items.{Fact, Item, messages_sent}
 use Rattle.ssh_model.specs.Sessions.Parties.{Parties}
 use Rattle.ssh_model.specs.Sessions.Refusals.{first_refusal}
 use Rattle.ssh_model.specs.Sessions.Turns.{AreSpelled}
-use Rattle.ssh_model.specs.TransportLayer.Kept.{Transport, after_taken}
+use Rattle.ssh_model.specs.TransportLayer.Kept.{Transport}
 use Rattle.ssh_model.proofs.Wire.Written.{pk_ok_spelled, success_spelled, unimplemented_spelled}
-use Rattle.ssh_auth.specs.Serving.{answered}
-use Rattle.ssh_auth.specs.declared.answer.ServerAnswer.{ServerAnswer}
 use Rattle.ssh_auth.specs.declared.answer.ServerAnswer.TheVariants as request
 use Rattle.ssh_channels.specs.Values.{taken_of}
 use Rattle.ssh_transport_machine.specs.Puts.{Outs}
@@ -28,7 +26,7 @@ use Rattle.ssh_transport_machine.specs.State.{State, last_number}
 use Rattle.ssh_end.specs.Above.{Awaits, Finished, IsUnsent, Judged, SpentAbove}
 use Rattle.ssh_end.specs.Layer.{Beneath}
 use Rattle.ssh_end.specs.Layers.{LayerRow, Layers, LayersTake, IsShort, message_of}
-use Rattle.ssh_end.specs.ServerAbove.{IsTaken, JudgesPayload, TakesPayload}
+use Rattle.ssh_end.specs.ServerAbove.{IsTaken, JudgesPayload}
 use Rattle.ssh_end.specs.ServerTurns.{IsServing}
 use Rattle.ssh_end.specs.Sessions.{Accepts, AreOf, beneath, end_of}
 use Rattle.ssh_end.specs.Steps.{UnitTurned}
@@ -54,36 +52,28 @@ last_of n small = omega (arith, small)
 
 -- ---- no number is left
 
--- what would be sent has a spelling
-unsent : {K : Type 0} (p : Parties K) (e : EndState K) (payload : List ℕ) (message : Msg) (channel : Option ℕ) (due : Option DueReply) (fact : Option Fact) (authentication : Authentication) (channels : Channels) → ReadsAbove e message payload → first_refusal (above_checks p e message) ≡ None →
-    ((reply : List ℕ) → AnswersAbove p e message channel (told fact (reply_items due reply)) authentication channels) → e.transport.sending.count ≡ 2 ^ 32 → SpellsDue due → IsSome (option_map reply_sent due) → SpentAbove p e payload
-unsent p e payload message channel None fact authentication channels reads fine answers none_left spelled some = absurd (cc some)
-unsent p e payload message channel (Some due) None authentication channels reads fine answers none_left spelled some = record {
+-- these items would be made of it
+unsent : {K : Type 0} (p : Parties K) (e : EndState K) (payload : List ℕ) (message : Msg) (channel : Option ℕ) (authentication : Authentication) (channels : Channels) → ReadsAbove e message payload → first_refusal (above_checks p e message) ≡ None → e.transport.sending.count ≡ 2 ^ 32 → (items : List Item) → AnswersAbove p e message channel items authentication channels → AreSpelled items →
+    1 ≤ length (messages_sent items) → SpentAbove p e payload
+unsent p e payload message channel authentication channels reads fine none_left items answers spelled some = record {
   message = message;
   channel = channel;
-  items = _;
+  items = items;
   authentication = authentication;
   channels = channels;
   reads = reads;
   unrefused = fine;
-  answers = answers spelled.payload;
-  spelled = (spelled.spells, tt);
-  some = omega arith;
+  answers = answers;
+  spelled = spelled;
+  some = some;
   none_left = none_left;
 }
-unsent p e payload message channel (Some due) (Some fact) authentication channels reads fine answers none_left spelled some = record {
-  message = message;
-  channel = channel;
-  items = _;
-  authentication = authentication;
-  channels = channels;
-  reads = reads;
-  unrefused = fine;
-  answers = answers spelled.payload;
-  spelled = (spelled.spells, tt);
-  some = omega arith;
-  none_left = none_left;
-}
+
+-- a reply that is due has a spelling
+due_items : (due : Option DueReply) (fact : Option Fact) → IsSome (option_map reply_sent due) → SpellsDue due → (reply : List ℕ) × (AreSpelled (told fact (reply_items due reply)) × (1 ≤ length (messages_sent (told fact (reply_items due reply)))))
+due_items None fact some x = absurd (cc some)
+due_items (Some due) None some x = (x.payload, ((x.spells, tt), omega arith))
+due_items (Some due) (Some fact) some x = (x.payload, ((x.spells, tt), omega arith))
 
 module _ {K : Type 0} (laws : TurningLaws K) (server_facts : ServerFacts) (channel_facts : ChannelFacts) (p : Parties K) (history : List Item) (old : State K) (layers : Layers) (serving : IsServing p history old layers) (alive : old.kept.dead ≡ false) (bytes : List ℕ) (m : State K) (o : Outs) (above : IsAbove p Server history old.kept bytes m o) where
   abbrev s : Transport K
@@ -112,20 +102,8 @@ module _ {K : Type 0} (laws : TurningLaws K) (server_facts : ServerFacts) (chann
     accepted : Accepts p s layers message payload given later
     accepted = accepts p s layers payload above.normal above.above serving.layers_are message given later takes
 
-    spent_with : (channel : Option ℕ) (items : List Item) → AnswersAbove p e message channel items (OfServer later.authentication.kept) later.channels → AreSpelled items → 1 ≤ length (messages_sent items) → s.sending.count ≡ 2 ^ 32 → SpentAbove p e payload
-    spent_with channel items answers spelled some none_left = record {
-      message = message;
-      channel = channel;
-      items = items;
-      authentication = OfServer later.authentication.kept;
-      channels = later.channels;
-      reads = accepted.reads;
-      unrefused = accepted.unrefused;
-      answers = answers;
-      spelled = spelled;
-      some = some;
-      none_left = none_left;
-    }
+    spent_with : s.sending.count ≡ 2 ^ 32 → (channel : Option ℕ) (items : List Item) → AnswersAbove p e message channel items (OfServer later.authentication.kept) later.channels → AreSpelled items → 1 ≤ length (messages_sent items) → SpentAbove p e payload
+    spent_with none_left channel items = unsent p e payload message channel (OfServer later.authentication.kept) later.channels accepted.reads accepted.unrefused none_left items
 
     none_spelled : (g : ServerLayerAnswer) → g ≡ given → IsShort g → IsSome (message_of later g (last_number m.kept.taking)) → s.sending.count ≡ 2 ^ 32 → SpentAbove p e payload
     none_spelled g same short some none_left = go g short some row y
@@ -137,19 +115,20 @@ module _ {K : Type 0} (laws : TurningLaws K) (server_facts : ServerFacts) (chann
         row = subst (λ (w : ServerLayerAnswer). LayerRow (judge_of p) (beneath s) layers message w later) (sym same) takes.row
 
         go : (g : ServerLayerAnswer) → IsShort g → IsSome (message_of later g (last_number m.kept.taking)) → LayerRow (judge_of p) (beneath s) layers message g later → Accepts p s layers message payload g later → SpentAbove p e payload
-        go (answer.Authentication (request.Accepted user)) short some row y = spent_with None _ (y.answers success_spelled.payload) (success_spelled.spells, tt) (omega arith) none_left
+        go (answer.Authentication (request.Accepted user)) short some row y = spent_with none_left None _ (y.answers success_spelled.payload) (success_spelled.spells, tt) (omega arith)
         go (answer.Authentication (request.KeyOk algorithm key)) short some row y =
             let said = pk_ok_spelled algorithm.now key.now short.0 short.1 in
-            spent_with None _ (y.answers said.payload) (said.spells, tt) (omega arith) none_left
-        go (answer.Authentication request.Failed) short some row y = spent_with None _ (y.answers serving.failure.payload) (serving.failure.spells, tt) (omega arith) none_left
+            spent_with none_left None _ (y.answers said.payload) (said.spells, tt) (omega arith)
+        go (answer.Authentication request.Failed) short some row y = spent_with none_left None _ (y.answers serving.failure.payload) (serving.failure.spells, tt) (omega arith)
         go (answer.Authentication request.Ignored) short some row y = absurd (cc some)
         go (answer.Authentication request.Unimplemented) short some row y = absurd (cc some)
         go (answer.Channels g) short some row y =
-            unsent p e payload message (taken_of g).channel (taken_of g).reply (taken_of g).fact (OfServer later.authentication.kept) later.channels y.reads y.unrefused y.answers none_left
-            (due_spelled p serving.lawful Server history serving.run layers.channels (serving.sums.above alive).channels_sum s.blocked false message payload (taken_of g) later.channels row.row y.reads.message_is) some
+            let said = due_items (taken_of g).reply (taken_of g).fact some
+            (due_spelled p serving.lawful Server history serving.run layers.channels (serving.sums.above alive).channels_sum s.blocked false message payload (taken_of g) later.channels row.row y.reads.message_is) in
+            spent_with none_left (taken_of g).channel _ (y.answers said.0) said.1.0 said.1.1
         go answer.Unknown short some row y =
             let said = unimplemented_spelled s.taking.number small.1 in
-            spent_with None _ (y.answers said.payload small.0) (said.spells, tt) (omega arith) none_left
+            spent_with none_left None _ (y.answers said.payload small.0) (said.spells, tt) (omega arith)
 
   -- ---- what was made of it
 

@@ -1,11 +1,11 @@
 -- What a server's end does with a client's point, and with what is owed behind it, is what the server of a session does.
-use Rattle.std.proofs.Common.{◌≡◌, ℕ, ◌+◌, ◌≤◌, ◌<◌, ◌^◌, ◌++◌, false, true, List, [], ◌∷◌, length, append-nil, append_assoc, arith, refl, ap, sym, ◌∙◌, subst, Option, Some, None}
+use Rattle.std.proofs.Common.{◌≡◌, ℕ, ◌+◌, ◌≤◌, ◌++◌, false, List, [], ◌∷◌, length, append-nil, append_assoc, arith, ap, sym, ◌∙◌, subst, None}
 use Rattle.ssh_model.specs.Side.{Side.Server}
 use Rattle.ssh_model.specs.Wire.Outcome.{Outcome.Opens}
 use Rattle.ssh_model.specs.Wire.Unit.{IsUnit}
 use Rattle.ssh_model.specs.Channels.Kept.{Channels}
 use Rattle.ssh_model.specs.End.Deaths.{CanSettle}
-use Rattle.ssh_model.specs.End.State.{Authentication, Authentication.OfServer, EndState}
+use Rattle.ssh_model.specs.End.State.{Authentication.OfServer, EndState}
 use Rattle.ssh_model.specs.End.Summary.{EndTurned}
 use Rattle.ssh_model.specs.Sessions.Items.{Fact.Completed, Item, Item.Told, Item.Took, messages_sent}
 use Rattle.ssh_model.specs.Sessions.Parties.{Parties}
@@ -21,7 +21,6 @@ use Rattle.ssh_transport_machine.specs.State.{State}
 use Rattle.ssh_transport_machine.specs.declared.outcome.TransportTurn.TheVariants as outcome
 use Rattle.ssh_types.specs.declared.refusal.Refusal.TheVariants as code
 use Rattle.ssh_end.specs.Completing.{Completing}
-use Rattle.ssh_end.specs.Effects.{step_given}
 use Rattle.ssh_end.specs.Layers.{Layers}
 use Rattle.ssh_end.specs.Owed.{OwedGiven}
 use Rattle.ssh_end.specs.ServerTurns.{IsServing}
@@ -30,7 +29,6 @@ use Rattle.ssh_end.specs.Steps as steps
 use Rattle.ssh_end.specs.Steps.{UnitTurned}
 use Rattle.ssh_end.specs.declared.step.Step.{Step}
 use Rattle.ssh_end.specs.declared.step.Step.TheVariants as step
-use Rattle.ssh_end.specs.declared.step.Telling.{Telling}
 use Rattle.ssh_end.specs.declared.step.Telling.TheVariants as telling
 use Rattle.ssh_end.proofs.Finishing.{sent_then_took}
 use Rattle.ssh_end.proofs.ServerTurnsWhole.{kept_after}

@@ -1,7 +1,6 @@
 -- What a server's end does with a line, and with a packet that both roles take alike, is what the server of a session does.
-use Rattle.std.proofs.Common.{◌≡◌, ◌++◌, ℕ, Bool, true, false, List, [], ◌∷◌, Some, None, append-nil, refl, ap, sym, ◌∙◌, subst}
+use Rattle.std.proofs.Common.{◌≡◌, ◌++◌, ℕ, false, List, [], ◌∷◌, None, append-nil, ap, sym, ◌∙◌, subst}
 use Rattle.ssh_model.specs.Side.{Side.Server}
-use Rattle.ssh_model.specs.Authentication.Requests.{judge_of}
 use Rattle.ssh_model.specs.End.State.{EndState}
 use Rattle.ssh_model.specs.End.Summary.{EndSumsUp, EndTurned}
 use Rattle.ssh_model.specs.Sessions.Items.{Item}
@@ -9,19 +8,14 @@ use Rattle.ssh_model.specs.Sessions.Parties.{Parties}
 use Rattle.ssh_model.specs.Sessions.Refusals.{Refusal}
 use Rattle.ssh_model.specs.Sessions.Turns.{OnUnit}
 use Rattle.ssh_model.specs.TransportLayer.Kept.{Transport}
-use Rattle.ssh_model.specs.TransportLayer.Summary.{SumsUp}
 use Rattle.ssh_model.specs.TransportLayer.Turns.{refusal_items}
-use Rattle.ssh_packet.specs.Refusals.{line_refusal}
-use Rattle.ssh_packet.specs.declared.refusal.LineRefusal.{LineRefusal}
-use Rattle.ssh_transport_machine.specs.Outcomes.{IsRefusal, LineOutcome, packet_outcome, payload_outcome}
+use Rattle.ssh_transport_machine.specs.Outcomes.{payload_outcome}
 use Rattle.ssh_transport_machine.specs.Puts.{Outs, payloads_of}
 use Rattle.ssh_transport_machine.specs.Sessions.{is_left}
-use Rattle.ssh_transport_machine.specs.Shown.{IsLineRefusal, IsPacketRefusal, IsPayloadTurn, IsTurn, LineTurnOf, PacketTurnOf}
+use Rattle.ssh_transport_machine.specs.Shown.{IsLineRefusal, IsPacketRefusal, IsPayloadTurn, IsTurn, LineTurnOf}
 use Rattle.ssh_transport_machine.specs.State.{State}
 use Rattle.ssh_transport_machine.specs.Turning.{IsQuiet}
-use Rattle.ssh_transport_machine.specs.declared.machine.line_turn.LineTurn.{LineTurn}
 use Rattle.ssh_transport_machine.specs.declared.machine.line_turn.LineTurn.TheVariants as line_turn
-use Rattle.ssh_transport_machine.specs.declared.machine.turn.PacketTurn.{PacketTurn}
 use Rattle.ssh_transport_machine.specs.declared.machine.turn.PacketTurn.TheVariants as packet_turn
 use Rattle.ssh_transport_machine.specs.declared.machine.turn.PayloadTurn.{PayloadTurn}
 use Rattle.ssh_transport_machine.specs.declared.outcome.Effect.TheVariants as effect
@@ -34,7 +28,6 @@ use Rattle.ssh_end.specs.Layers.{Layers}
 use Rattle.ssh_end.specs.Sessions.{end_of}
 use Rattle.ssh_end.specs.Steps as steps
 use Rattle.ssh_end.specs.Steps.{UnitTurned}
-use Rattle.ssh_end.specs.declared.step.Step.TheVariants as step
 use Rattle.ssh_end.proofs.Finishing.{refusal_sends}
 use Rattle.ssh_end.proofs.ServerTurnsWhole.{kept_after}
 use Rattle.ssh_end.proofs.Transporting.{shared}

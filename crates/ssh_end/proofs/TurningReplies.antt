@@ -1,7 +1,12 @@
 -- The reply that a message makes due on channels has a spelling: the number of the peer in it is a uint32.
-use Rattle.std.proofs.Common.{◌≡◌, ℕ, ◌<◌, ◌^◌, Bool, true, false, cond, List, arith, sym, subst, Option, Some, None}
+use Rattle.std.proofs.Common.{◌≡◌, ℕ, ◌+◌, ◌-◌, ◌%◌, ◌<◌, ◌^◌, Bool, true, false, cond, List, arith, sym, subst, Option, Some, None}
+use Rattle.std.specs.Option.{option_map}
+use Rattle.std.specs.Prelude.{IsSome}
 use Rattle.ssh_model.specs.Side.{Side}
 use Rattle.ssh_model.specs.Wire.Message.{Msg, IsPayload}
+use Rattle.ssh_model.specs.Wire.Outcome.{Outcome.Opens}
+use Rattle.ssh_model.specs.Wire.Sealing.{Crypto}
+use Rattle.ssh_model.specs.Wire.Unit.{HasNumber, PacketUnit}
 use Rattle.ssh_model.specs.Channels.Connection.{notes, owed_replies}
 use Rattle.ssh_model.specs.Channels.History as channel
 use Rattle.ssh_model.specs.Channels.History.{is_owed}
@@ -9,14 +14,18 @@ use Rattle.ssh_model.specs.Channels.Kept.{Channels, DueReply, DueReply.AnswersCl
 use Rattle.ssh_model.specs.Channels.Notes.{Note}
 use Rattle.ssh_model.specs.Channels.Numbers.{is_held, peer_number}
 use Rattle.ssh_model.specs.Channels.Places.{Place, at, place, place_at, place_of}
-use Rattle.ssh_model.specs.Channels.Summary.{SumsUp, reply_sent}
-use Rattle.ssh_model.specs.Sessions.Items.{Item}
+use Rattle.ssh_model.specs.Channels.Summary.{SumsUp, reply_sent, told}
+use Rattle.ssh_model.specs.End.Payloads.{AnswersAbove, ReadsAbove, reply_items}
+use Rattle.ssh_model.specs.End.State.{Authentication, EndState, above_checks}
+use Rattle.ssh_model.specs.Sessions.Items.{Fact, Item}
 use Rattle.ssh_model.specs.Sessions.Parties.{AreLawful, Parties}
+use Rattle.ssh_model.specs.Sessions.Refusals.{first_refusal}
 use Rattle.ssh_model.specs.Sessions.TurnClaims.{HasSpelling}
 use Rattle.ssh_model.specs.Sessions.Turns.{EndRun}
 use Rattle.ssh_model.proofs.Sessions.PeerNumbers.{open_name, peer_number_below}
 use Rattle.ssh_model.proofs.Sessions.SoundTurns.{end_sound}
 use Rattle.ssh_model.proofs.Wire.Written.{close_spelled, open_failure_spelled}
+use Rattle.ssh_end.specs.Above.{SpentAbove}
 
 -- ---- the number that the peer gave a channel
 
@@ -68,3 +77,44 @@ module _ {K : Type 0} (p : Parties K) (lawful : AreLawful p) (side : Side) (hist
   due_spelled b probing message payload taken new (Takes.request recipient name want rest) is = tt
   due_spelled b probing message payload taken new (Takes.success recipient) is = tt
   due_spelled b probing message payload taken new (Takes.no_success recipient) is = tt
+
+-- ---- the number of a packet
+
+pub has_number : {K : Type 0} (c : Crypto K) (key : Option K) (number count : ℕ) (unit payload : List ℕ) → PacketUnit c key number count unit (Opens payload) → HasNumber number count
+has_number c key number count unit payload (PacketUnit.opens _ has bytes wire) = has
+
+pub last_of : (n : ℕ) → n < 2 ^ 32 → ((n + 1) % 2 ^ 32 + (2 ^ 32 - 1)) % 2 ^ 32 ≡ n
+last_of n small = omega (arith, small)
+
+-- ---- no number is left
+
+-- what would be sent has a spelling
+pub unsent : {K : Type 0} (p : Parties K) (e : EndState K) (payload : List ℕ) (message : Msg) (channel : Option ℕ) (due : Option DueReply) (fact : Option Fact) (authentication : Authentication) (channels : Channels) → ReadsAbove e message payload → first_refusal (above_checks p e message) ≡ None →
+    ((reply : List ℕ) → AnswersAbove p e message channel (told fact (reply_items due reply)) authentication channels) → e.transport.sending.count ≡ 2 ^ 32 → SpellsDue due → IsSome (option_map reply_sent due) → SpentAbove p e payload
+unsent p e payload message channel None fact authentication channels reads fine answers none_left spelled some = absurd (cc some)
+unsent p e payload message channel (Some due) None authentication channels reads fine answers none_left spelled some = record {
+  message = message;
+  channel = channel;
+  items = _;
+  authentication = authentication;
+  channels = channels;
+  reads = reads;
+  unrefused = fine;
+  answers = answers spelled.payload;
+  spelled = (spelled.spells, tt);
+  some = omega arith;
+  none_left = none_left;
+}
+unsent p e payload message channel (Some due) (Some fact) authentication channels reads fine answers none_left spelled some = record {
+  message = message;
+  channel = channel;
+  items = _;
+  authentication = authentication;
+  channels = channels;
+  reads = reads;
+  unrefused = fine;
+  answers = answers spelled.payload;
+  spelled = (spelled.spells, tt);
+  some = omega arith;
+  none_left = none_left;
+}

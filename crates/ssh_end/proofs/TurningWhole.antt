@@ -1,11 +1,11 @@
 -- What a transport did alone, with nothing left to be done.
-use Rattle.std.proofs.Common.{◌≡◌, Bool, true, false}
+use Rattle.std.proofs.Common.{◌≡◌, true, false}
 use Rattle.std.proofs.lemmas.Bool.{false≢true}
 use Rattle.ssh_model.specs.Side.{Side}
 use Rattle.ssh_model.specs.Sessions.Items.{Item}
 use Rattle.ssh_model.specs.Sessions.Parties.{Parties}
 use Rattle.ssh_model.specs.TransportLayer.Kept.{Transport}
-use Rattle.ssh_transport_machine.specs.Outcomes.{packet_outcome}
+use Rattle.ssh_transport_machine.specs.Outcomes.{packet_outcome, payload_outcome}
 use Rattle.ssh_transport_machine.specs.Puts.{Outs}
 use Rattle.ssh_transport_machine.specs.Sessions.{is_left}
 use Rattle.ssh_transport_machine.specs.Shown.{IsTurn, TurnOf}
@@ -15,6 +15,7 @@ use Rattle.ssh_transport_machine.specs.declared.machine.turn.PacketTurn.{PacketT
 use Rattle.ssh_transport_machine.specs.declared.machine.turn.PacketTurn.TheVariants as packet_turn
 use Rattle.ssh_transport_machine.specs.declared.machine.turn.PayloadTurn.{PayloadTurn}
 use Rattle.ssh_transport_machine.specs.declared.machine.turn.PayloadTurn.TheVariants as turn
+use Rattle.ssh_transport_machine.specs.declared.outcome.TransportTurn.TheVariants as outcome
 use Rattle.std.proofs.Common.{List, ℕ, refl, sym}
 use Rattle.ssh_end.specs.Effects.{is_whole}
 use Rattle.ssh_end.specs.Steps.{Shows}
@@ -54,3 +55,19 @@ is_turn p side history s old turn.NewKeys new o e x = x
 -- No items are shown where nothing whole came.
 pub no_more : (payload : List ℕ) (items : List Item) → Shows payload step.More items → ⊥
 no_more payload items x = elim x [ ]
+
+-- No payload is answered by waiting for more.
+pub payload_waits : (done : PayloadTurn) (number : ℕ) → outcome.More ≡ payload_outcome done number → ⊥
+payload_waits (turn.Refused why) number e = cc e
+payload_waits turn.Skipped number e = cc e
+payload_waits turn.Disconnected number e = cc e
+payload_waits turn.Told number e = cc e
+payload_waits (turn.Unknown answer.Done) number e = cc e
+payload_waits (turn.Unknown answer.Spent) number e = cc e
+payload_waits (turn.ServiceRequested answer.Done) number e = cc e
+payload_waits (turn.ServiceRequested answer.Spent) number e = cc e
+payload_waits turn.ServiceAccepted number e = cc e
+payload_waits (turn.Kexinit answer.Done) number e = cc e
+payload_waits (turn.Kexinit answer.Spent) number e = cc e
+payload_waits turn.NewKeys number e = cc e
+payload_waits (turn.Left what) number e = cc e

@@ -60,7 +60,12 @@ IsReady m (outcome.Up number) = IsUp m
 IsReady m (outcome.Completed choice) = m.kept.dead ≡ false
 IsReady m _ = Unit {0}
 
+-- The end was not over, and is.
+pub record DiesOf {K : Type 0} (old new : State K) : Type 0 where
+  pub alive : old.kept.dead ≡ false
+  pub dead : new.kept.dead ≡ true
+
 -- Memory was refused, and the end is over, or it was over before and is as it was.
 abbrev pub IsOver : {K : Type 0} → State K → TransportFault → State K → Type 0
-IsOver old fault.Memory new = new.kept.dead ≡ true
+IsOver old fault.Memory new = DiesOf old new
 IsOver old fault.Dead new = WasDead old new

@@ -1,5 +1,5 @@
 -- The ends: what they keep, and how they begin.
-use Rattle.std.specs.Prelude.{◌≡◌, ℕ, true, List, []}
+use Rattle.std.specs.Prelude.{◌≡◌, ℕ, List, []}
 use Rattle.ssh_model.specs.Side.{Side, Side.Client, Side.Server}
 use Rattle.ssh_model.specs.Authentication.Kept.{new_client, new_server}
 use Rattle.ssh_model.specs.Channels.Kept.{no_channels}
@@ -8,6 +8,7 @@ use Rattle.ssh_model.specs.Wire.Sealing.{Crypto}
 use Rattle.ssh_transport_machine.specs.Asks.{WasDead}
 use Rattle.ssh_transport_machine.specs.Opening.{IsOpened}
 use Rattle.ssh_transport_machine.specs.State.{State}
+use Rattle.ssh_end.specs.Effects.{DiesOf}
 use Rattle.ssh_end.specs.ClientLayers as client
 use Rattle.ssh_end.specs.Layers as server
 use Rattle.ssh_end.specs.declared.asking.outcome.Fault.{Fault}
@@ -22,6 +23,7 @@ pub record ServerState (K A H U : Type 0) : Type 0 where
   pub user : U
   pub layers : server.Layers
   pub step : Step
+  pub used : ℕ
   pub sent : List (List ℕ)
 
 -- the same of a client
@@ -32,6 +34,7 @@ pub record ClientState (K A H U : Type 0) : Type 0 where
   pub user : U
   pub layers : client.Layers
   pub step : Step
+  pub used : ℕ
   pub sent : List (List ℕ)
 
 -- The parts are as before.
@@ -62,6 +65,6 @@ pub record IsNewClient {K : Type 0} (c : Crypto K) (settings : Settings) (cookie
 
 -- Memory was refused, and the end is over, or it was over before and is as it was.
 abbrev pub IsFault : {K : Type 0} → State K → Fault → State K → Type 0
-IsFault old fault.Memory new = new.kept.dead ≡ true
+IsFault old fault.Memory new = DiesOf old new
 IsFault old fault.Dead new = WasDead old new
 IsFault old (fault.Ask why) new = ⊥

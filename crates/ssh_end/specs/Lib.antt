@@ -18,4 +18,5 @@ pub mod Told
 pub mod Turn
 pub mod Asking
 pub mod ClientUnits
+pub mod ClientTurns
 pub mod Ends

@@ -3,7 +3,6 @@ use Rattle.std.specs.Prelude.{◌≡◌, Bool, true, false, Option, Some, None, 
 use Rattle.ssh_model.specs.Wire.Message.{Msg}
 use Rattle.ssh_model.specs.Sessions.Refusals.{Refusal}
 use Rattle.ssh_model.specs.Authentication.Requests.{Judge}
-use Rattle.ssh_auth.specs.declared.answer.ServerAnswer.{ServerAnswer}
 use Rattle.ssh_auth.specs.declared.answer.ServerAnswer.TheVariants as request
 use Rattle.ssh_transport_machine.specs.State.{State, last_number}
 use Rattle.ssh_transport_machine.specs.Turning.{HasRoom}
@@ -11,23 +10,17 @@ use Rattle.ssh_types.specs.Refusals.{refusal_of}
 use Rattle.ssh_end.specs.Above.{IsAnswer, IsBeneath}
 use Rattle.ssh_end.specs.Layer.{Beneath}
 use Rattle.ssh_end.specs.Layers.{IsShort, Layers, LayersLack, LayersRefuse, LayersTake, message_of}
+use Rattle.ssh_end.specs.Told.{telling_of}
 use Rattle.ssh_end.specs.declared.above.Judgement.{Judgement}
 use Rattle.ssh_end.specs.declared.above.Judgement.TheVariants as judged
 use Rattle.ssh_end.specs.declared.server_layers.ServerLayerAnswer.{ServerLayerAnswer}
 use Rattle.ssh_end.specs.declared.server_layers.ServerLayerAnswer.TheVariants as answer
-use Rattle.ssh_end.specs.declared.step.Telling.{Telling}
 use Rattle.ssh_end.specs.declared.step.Telling.TheVariants as telling
 use Rattle.ssh_end.specs.declared.step.TookStep.{TookStep}
 
--- what is told of a request that was answered so
-abbrev pub telling_by : ServerAnswer → Telling
-telling_by (request.Accepted user) = telling.Accepted
-telling_by request.Ignored = telling.Ignored
-telling_by given = telling.Message
-
 -- how a message was taken that was answered so
 abbrev pub took_by : ServerLayerAnswer → TookStep
-took_by (answer.Authentication given) = record { channel = None; probing = false; telling = telling_by given }
+took_by (answer.Authentication given) = record { channel = None; probing = false; telling = telling_of given }
 took_by (answer.Channels given) = record { channel = given.channel; probing = false; telling = telling.Message }
 took_by answer.Unknown = record { channel = None; probing = false; telling = telling.Message }
 

@@ -13,7 +13,7 @@ ghost use Rattle.ssh_end.specs.Ends.{IsFault, IsNewClient, SameClient};
 ghost use Rattle.ssh_end.specs.ClientSessions.{end_of};
 ghost use Rattle.ssh_end.specs.ClientUnits.{ClientGoes};
 ghost use Rattle.ssh_end.specs.Steps.{Shows};
-ghost use Rattle.ssh_end.specs.Turn.{TurnShows};
+ghost use Rattle.ssh_end.specs.Turn.{TurnShows, payloads_in};
 
 use crate::ask::Ask;
 use crate::asking::{AskStep, Fault, ask_client};
@@ -58,7 +58,7 @@ impl<P: ClientParts, U: UserSigner + Drop> Model for ClientEnd<P, U> {
 
     ghost Value = { ClientState P.Sealing.Key P.Agreement P.HostTrust U };
 
-    ghost view = { λ e. record { machine = e.machine; agreement = e.agreement; host_trust = e.host_trust; user = e.user; layers = e.layers; step = e.step; sent = map (λ v. v.items) e.sent.items } };
+    ghost view = { λ e. record { machine = e.machine; agreement = e.agreement; host_trust = e.host_trust; user = e.user; layers = e.layers; step = e.step; used = e.used; sent = map (λ v. v.items) e.sent.items } };
 
     ghost invariant = { λ e. Stands model.Client e.machine };
 }
@@ -145,6 +145,8 @@ impl<P: ClientParts, U: UserSigner + Drop> ClientEnd<P, U> {
         ensures progress { IfOk result (λ used. self.old.machine.kept.dead ≡ false → 0 < length bytes.now → 0 < used) }
         ensures more { IfOk result (λ used. self.new.step ≡ Step.More → used ≡ length bytes.now) }
         ensures goes { IfOk result (λ used. ClientGoes P.Sealing.crypto (record { point = P.Agreement.public_of self.old.agreement; shared = P.Agreement.shared_of self.old.agreement }) (P.HostTrust.judged self.old.host_trust) self.old.machine self.old.layers (begun_of self.old.machine ++ take used bytes.now) self.new.step self.new.machine self.new.layers (record { before = out.old.items; after = out.new.items; listed = []; relisted = self.new.sent })) }
+        ensures shown { IfOk result (λ used. self.new.used ≡ used) }
+        ensures none { OnErr result (self.new.step ≡ Step.More) }
         ensures failed { IfErr result (λ fault. IsFault self.old.machine fault self.new.machine) }
         ensures out { OnErr result (out.new.items ≡ out.old.items) }
         ensures parts { SameClient self.old self.new }
@@ -174,6 +176,8 @@ impl<P: ClientParts, U: UserSigner + Drop> ClientEnd<P, U> {
     pub fn turn(&self) -> Turn<'_>
         ensures shows { (items : List Item) → Shows self.now.machine.receiver.payload self.now.step items → TurnShows result items }
         ensures more { self.now.step ≡ Step.More → TurnShows result [] }
+        ensures used { result.used ≡ self.now.used }
+        ensures sent { payloads_in result.sent ≡ self.now.sent }
     {
         turn_of(
             self.step,
@@ -202,6 +206,7 @@ impl<P: ClientParts, U: UserSigner + Drop> ClientEnd<P, U> {
     /// - `Dead`: the end was over before. Nothing is put out.
     pub fn ask(&mut self, ask: &Ask<'_>, out: &mut Vec<u8>) -> Result<AskStep, Fault>
         ensures in_session { ClientInSession P.Sealing.crypto (U.signature_of self.old.user) self.old.layers.authentication (end_of self.old.machine.kept self.old.layers) (ask_of ask.now) result (end_of self.new.machine.kept self.new.layers) (record { before = out.old.items; after = out.new.items; listed = []; relisted = self.new.sent }) }
+        ensures step { self.new.step ≡ Step.More }
         ensures fails { IfErr result (λ fault. Fails self.old.machine fault self.new.machine) }
         ensures out { OnErr result (out.new.items ≡ out.old.items) }
         ensures parts { SameClient self.old self.new }

@@ -3,7 +3,8 @@
 ghost use Rattle.std.specs.Prelude.{◌≡◌, ◌≤◌, IfOk, OnErr, false};
 ghost use Rattle.ssh_model.specs.Sessions.Turns.{number_of};
 ghost use Rattle.ssh_end.specs.Above.{CanFinish};
-ghost use Rattle.ssh_end.specs.ServerAbove.{JudgeLacks, JudgesPayload, accepts_user, telling_by, took_by};
+ghost use Rattle.ssh_end.specs.ServerAbove.{JudgeLacks, JudgesPayload, accepts_user, took_by};
+ghost use Rattle.ssh_end.specs.Told.{telling_of as telling_by};
 
 use crate::above::{Judgement, session_of, spell_answer};
 use crate::below::Below;

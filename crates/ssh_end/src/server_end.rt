@@ -13,7 +13,7 @@ ghost use Rattle.ssh_end.specs.Ends.{IsFault, IsNewServer, SameServer};
 ghost use Rattle.ssh_end.specs.Sessions.{end_of};
 ghost use Rattle.ssh_end.specs.ServerUnits.{ServerGoes};
 ghost use Rattle.ssh_end.specs.Steps.{Shows};
-ghost use Rattle.ssh_end.specs.Turn.{TurnShows};
+ghost use Rattle.ssh_end.specs.Turn.{TurnShows, payloads_in};
 
 use crate::ask::Ask;
 use crate::asking::{AskStep, Fault, ask_server};
@@ -58,7 +58,7 @@ impl<P: ServerParts, U: UserJudge + Drop> Model for ServerEnd<P, U> {
 
     ghost Value = { ServerState P.Sealing.Key P.Agreement P.HostSigner U };
 
-    ghost view = { λ e. record { machine = e.machine; agreement = e.agreement; host_signer = e.host_signer; user = e.user; layers = e.layers; step = e.step; sent = map (λ v. v.items) e.sent.items } };
+    ghost view = { λ e. record { machine = e.machine; agreement = e.agreement; host_signer = e.host_signer; user = e.user; layers = e.layers; step = e.step; used = e.used; sent = map (λ v. v.items) e.sent.items } };
 
     ghost invariant = { λ e. Stands model.Server e.machine };
 }
@@ -145,6 +145,8 @@ impl<P: ServerParts, U: UserJudge + Drop> ServerEnd<P, U> {
         ensures progress { IfOk result (λ used. self.old.machine.kept.dead ≡ false → 0 < length bytes.now → 0 < used) }
         ensures more { IfOk result (λ used. self.new.step ≡ Step.More → used ≡ length bytes.now) }
         ensures goes { IfOk result (λ used. ServerGoes P.Sealing.crypto (record { agreement = record { point = P.Agreement.public_of self.old.agreement; shared = P.Agreement.shared_of self.old.agreement }; host_key = P.HostSigner.key_of self.old.host_signer; host_signature = P.HostSigner.signature_of self.old.host_signer }) (U.verdicts self.old.user) self.old.machine self.old.layers (begun_of self.old.machine ++ take used bytes.now) self.new.step self.new.machine self.new.layers (record { before = out.old.items; after = out.new.items; listed = []; relisted = self.new.sent })) }
+        ensures shown { IfOk result (λ used. self.new.used ≡ used) }
+        ensures none { OnErr result (self.new.step ≡ Step.More) }
         ensures failed { IfErr result (λ fault. IsFault self.old.machine fault self.new.machine) }
         ensures out { OnErr result (out.new.items ≡ out.old.items) }
         ensures parts { SameServer self.old self.new }
@@ -175,6 +177,8 @@ impl<P: ServerParts, U: UserJudge + Drop> ServerEnd<P, U> {
     pub fn turn(&self) -> Turn<'_>
         ensures shows { (items : List Item) → Shows self.now.machine.receiver.payload self.now.step items → TurnShows result items }
         ensures more { self.now.step ≡ Step.More → TurnShows result [] }
+        ensures used { result.used ≡ self.now.used }
+        ensures sent { payloads_in result.sent ≡ self.now.sent }
     {
         turn_of(
             self.step,
@@ -203,6 +207,7 @@ impl<P: ServerParts, U: UserJudge + Drop> ServerEnd<P, U> {
     /// - `Dead`: the end was over before. Nothing is put out.
     pub fn ask(&mut self, ask: &Ask<'_>, out: &mut Vec<u8>) -> Result<AskStep, Fault>
         ensures in_session { InSession P.Sealing.crypto model.Server (end_of self.old.machine.kept self.old.layers) (ask_of ask.now) result (end_of self.new.machine.kept self.new.layers) (record { before = out.old.items; after = out.new.items; listed = []; relisted = self.new.sent }) }
+        ensures step { self.new.step ≡ Step.More }
         ensures fails { IfErr result (λ fault. Fails self.old.machine fault self.new.machine) }
         ensures out { OnErr result (out.new.items ≡ out.old.items) }
         ensures parts { SameServer self.old self.new }

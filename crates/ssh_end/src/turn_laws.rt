@@ -4,11 +4,14 @@
 ghost use Rattle.std.specs.Prelude.{List, ℕ};
 ghost use Rattle.ssh_model.specs.Authentication.Requests.{judge_of};
 ghost use Rattle.ssh_model.specs.Sessions.Items.{Item};
-ghost use Rattle.ssh_model.specs.Sessions.Parties.{Parties};
-ghost use Rattle.ssh_model.specs.Side.{Side.Server};
+ghost use Rattle.ssh_model.specs.Sessions.Parties.{Parties, agreement_of};
+ghost use Rattle.ssh_model.specs.Side.{Side.Client, Side.Server};
 ghost use Rattle.ssh_model.specs.TransportLayer.Summary.{parts_of};
 ghost use Rattle.ssh_transport_machine.specs.Puts.{Outs};
 ghost use Rattle.ssh_transport_machine.specs.State.{State};
+ghost use Rattle.ssh_end.specs.ClientLayers as client;
+ghost use Rattle.ssh_end.specs.ClientTurns.{ClientTurned, IsAsking};
+ghost use Rattle.ssh_end.specs.ClientUnits.{ClientGoes};
 ghost use Rattle.ssh_end.specs.Layers.{Layers};
 ghost use Rattle.ssh_end.specs.ServerTurns.{IsServing, ServerTurned};
 ghost use Rattle.ssh_end.specs.ServerUnits.{ServerGoes};
@@ -16,6 +19,7 @@ ghost use Rattle.ssh_end.specs.declared.step.Step.{Step};
 
 use crate::fact_laws::facts_told;
 use ssh_model::end::{exchange_ends, owed_replies, payloads, transport_turns, unit_turns, waiting};
+use ssh_transport_client::laws::{turns_left as client_left, units_taken as client_units};
 use ssh_transport_machine::laws::unit_turns as machine_turns;
 use ssh_transport_server::laws::{turns_left, units_taken};
 
@@ -41,4 +45,26 @@ pub fn servers_turns<K>()
     machine_turns::<K>();
     units_taken::<K>();
     turns_left::<K>();
+}
+
+/// What a client's end does with the bytes of one line or one packet is what the client of a session does with them. Where what it keeps
+/// sums up a history, and it is the client of lawful parties:
+///
+/// - bytes that are no whole line or packet yet are those for which the client of a session waits; nothing is put out, and what is kept
+///   sums up the same history;
+/// - else the bytes are one line or one packet, and what is shown, put out and listed is a turn of a session by them. What is kept then
+///   sums up the history with the items of that turn.
+pub fn clients_turns<K>()
+    ensures turned { (p : Parties K) (history : List Item) (old : State K) (layers : client.Layers) → IsAsking p history old layers → (bytes : List ℕ) (done : Step) (new : State K) (later : client.Layers) (o : Outs) → ClientGoes p.crypto (agreement_of p Client) p.trusts old layers bytes done new later o → ClientTurned p history bytes done new later o }
+{
+    facts_told();
+    transport_turns::<K>();
+    unit_turns::<K>();
+    payloads::<K>();
+    exchange_ends::<K>();
+    owed_replies::<K>();
+    waiting::<K>();
+    machine_turns::<K>();
+    client_units::<K>();
+    client_left::<K>();
 }

@@ -1,0 +1,196 @@
+-- What a client's end does with the bytes of one line or one packet is what the client of a session does with them.
+use Rattle.std.proofs.Common.{◌≡◌, ℕ, ◌+◌, ◌≤◌, ◌++◌, true, false, List, [], refl, ap, sym, ◌∙◌, subst}
+use Rattle.ssh_model.specs.Side.{Side, Side.Client}
+use Rattle.ssh_model.specs.End.Reading.{end_reading}
+use Rattle.ssh_model.specs.End.Summary.{EndSumsUp}
+use Rattle.ssh_model.specs.Sessions.Items.{Item, messages_sent}
+use Rattle.ssh_model.specs.Sessions.Parties.{Agreement, Parties, agreement_of}
+use Rattle.ssh_model.specs.Sessions.Refusals.{Refusal}
+use Rattle.ssh_model.specs.Sessions.Turns.{stage}
+use Rattle.ssh_model.specs.TransportLayer.Kept.{Transport}
+use Rattle.ssh_model.specs.TransportLayer.Summary.{SumsUp}
+use Rattle.ssh_model.specs.Wire.Delivery.{Waits}
+use Rattle.ssh_model.specs.Wire.Outcome.{Outcome.Opens}
+use Rattle.ssh_model.specs.Wire.Sealing.{Crypto}
+use Rattle.ssh_model.specs.Wire.Unit.{IsUnit}
+use Rattle.ssh_kex.specs.declared.owned_choice.OwnedChoice.{OwnedChoice}
+use Rattle.ssh_packet.specs.Refusals.{line_refusal}
+use Rattle.ssh_transport_machine.specs.Outcomes.{IsRefusal, LineOutcome, answer_outcome, packet_outcome, payload_outcome}
+use Rattle.ssh_transport_machine.specs.Puts.{Outs, payloads_of}
+use Rattle.ssh_transport_machine.specs.Sessions.{IsAbove, is_left}
+use Rattle.ssh_transport_machine.specs.Shown.{IsLineRefusal, LineTurnOf, PacketTurnOf}
+use Rattle.ssh_transport_machine.specs.State.{IsLive, State}
+use Rattle.ssh_transport_machine.specs.Turning.{IsQuiet, PacketTaken}
+use Rattle.ssh_transport_machine.specs.declared.machine.line_turn.LineTurn.{LineTurn}
+use Rattle.ssh_transport_machine.specs.declared.machine.line_turn.LineTurn.TheVariants as line_turn
+use Rattle.ssh_transport_machine.specs.declared.machine.turn.Answer.{Answer}
+use Rattle.ssh_transport_machine.specs.declared.machine.turn.Answer.TheVariants as answered
+use Rattle.ssh_transport_machine.specs.declared.machine.turn.PacketTurn.{PacketTurn}
+use Rattle.ssh_transport_machine.specs.declared.machine.turn.PacketTurn.TheVariants as packet_turn
+use Rattle.ssh_transport_machine.specs.declared.outcome.Effect.TheVariants as effect
+use Rattle.ssh_transport_machine.specs.declared.outcome.TransportTurn.{TransportTurn}
+use Rattle.ssh_transport_machine.specs.declared.outcome.TransportTurn.TheVariants as outcome
+use Rattle.ssh_transport_client.specs.Kexinits.{KexinitTurn}
+use Rattle.ssh_transport_client.specs.Replies.{Trusts}
+use Rattle.ssh_transport_client.specs.Sessions.{ReplyTurnOf, ClientTurnOf}
+use Rattle.ssh_transport_client.specs.Transport.{ClientTook, UnitTakes, reply_outcome}
+use Rattle.ssh_transport_client.specs.declared.reply.ReplyTurn.{ReplyTurn}
+use Rattle.ssh_transport_client.specs.declared.reply.ReplyTurn.TheVariants as replied
+use Rattle.ssh_transport_client.specs.declared.packet.ClientTurn.TheVariants as client
+use Rattle.ssh_types.specs.declared.refusal.Refusal.TheVariants as code
+use Rattle.ssh_end.specs.Effects.{is_whole, step_given}
+use Rattle.ssh_end.specs.ClientLayers.{Layers}
+use Rattle.ssh_end.specs.ClientTurns.{IsAsking, IsUnitTurned, ClientTurned}
+use Rattle.ssh_end.specs.ClientUnits.{Goes, GoesOn, GoesUp, GoesWhole, ClientGoes}
+use Rattle.ssh_end.specs.ClientSessions.{end_of}
+use Rattle.ssh_end.specs.Steps.{UnitTurned}
+use Rattle.ssh_end.specs.declared.step.Step.{Step}
+use Rattle.ssh_end.specs.declared.step.Step.TheVariants as step
+use Rattle.ssh_end.proofs.Judging.{ChannelFacts}
+use Rattle.ssh_end.proofs.ClientTurnsAbove.{finished_so}
+use Rattle.ssh_end.proofs.ClientTurnsReply.{bad_host, bad_point, completed_turn, kexinit_turn, number_spent}
+use Rattle.ssh_end.proofs.ClientTurnsUnits.{other_line, payload_turn, refused_line, refused_packet, version_line}
+use Rattle.ssh_end.proofs.ClientTurnsWhole.{goes_whole, kept_after, whole_turn}
+use Rattle.ssh_end.proofs.TurningLaws.{TurningLaws}
+use Rattle.ssh_end.proofs.TurningWhole.{is_whole_packet, no_more, payload_waits}
+
+-- the laws of a client's transport
+pub record TransportLaws (K : Type 0) : Type 0 where
+  pub packets : (p : Parties K) (side : Side) (history : List Item) (old : State K) → SumsUp p side history old.kept → old.kept.dead ≡ false → IsLive old → old.kept.lines.found ≡ true → (bytes : List ℕ) (done : PacketTurn) (new : State K) (o : Outs) → PacketTaken p.crypto old bytes done new o → PacketTurnOf p side history old.kept bytes done new o
+  pub taken : (p : Parties K) (history : List Item) (old : State K) → SumsUp p Client history old.kept → (bytes : List ℕ) (given : TransportTurn) (new : State K) (o : Outs) → ClientTook p.crypto (agreement_of p Client) p.trusts old bytes given new o → ClientTurnOf p history old.kept bytes given new o
+  pub alive : (c : Crypto K) (agreement : Agreement) (trusts : Trusts) (old : State K) (bytes : List ℕ) (choice : OwnedChoice) (new : State K) (o : Outs) → ClientTook c agreement trusts old bytes (outcome.Completed choice) new o → new.kept.dead ≡ false
+  pub few : (c : Crypto K) (agreement : Agreement) (trusts : Trusts) (old : State K) (bytes : List ℕ) (choice : OwnedChoice) (new : State K) (o : Outs) → ClientTook c agreement trusts old bytes (outcome.Completed choice) new o → new.kept.sending.count ≤ 1
+  pub epoch : (c : Crypto K) (agreement : Agreement) (trusts : Trusts) (old : State K) (bytes : List ℕ) (choice : OwnedChoice) (new : State K) (o : Outs) → ClientTook c agreement trusts old bytes (outcome.Completed choice) new o → new.kept.sending.epoch ≡ old.kept.sending.epoch + 1
+
+-- What is no whole line or packet is a step of its own.
+turned_step : {K : Type 0} (p : Parties K) (history : List Item) (bytes : List ℕ) (done : Step) (new : State K) (later : Layers) (o : Outs) → IsUnitTurned p history bytes done new later o → ClientTurned p history bytes done new later o
+turned_step p history bytes step.More new later o x = absurd (no_more x.payload x.turned.items x.turned.shows)
+turned_step p history bytes step.OtherLine new later o x = x
+turned_step p history bytes step.VersionLine new later o x = x
+turned_step p history bytes step.Skipped new later o x = x
+turned_step p history bytes (step.Took took) new later o x = x
+turned_step p history bytes (step.Refused why) new later o x = x
+
+module _ {K : Type 0} (laws : TurningLaws K) (below : TransportLaws K) (channel_facts : ChannelFacts) (p : Parties K) (history : List Item) (old : State K) (layers : Layers) (asking : IsAsking p history old layers) (bytes : List ℕ) where
+  -- ---- bytes that are no whole unit
+
+  packet_waits : old.kept.dead ≡ false → old.kept.lines.found ≡ true → (done : PacketTurn) (number : ℕ) → outcome.More ≡ packet_outcome done number → (new : State K) (o : Outs) → PacketTurnOf p Client history old.kept bytes done new o → Waits (end_reading p Client) history bytes
+  packet_waits alive found packet_turn.More number e new o x = laws.packets_begun p Client history old.kept asking.sums.transport alive asking.lawful.sealing found bytes x.begun
+  packet_waits alive found (packet_turn.Refused why) number e new o x = absurd (cc e)
+  packet_waits alive found (packet_turn.Payload done) number e new o x = absurd (payload_waits done number e)
+
+  unit_waits : (new : State K) (o : Outs) → old.kept.dead ≡ false → IsLive old → UnitTakes p.crypto (agreement_of p Client) p.trusts old bytes outcome.More new o → Waits (end_reading p Client) history bytes
+  unit_waits new o alive live (UnitTakes.line line_turn.More x) = laws.lines_begun p Client history old.kept asking.sums.transport alive asking.lawful.sealing x.reading bytes x.taken.begun
+  unit_waits new o alive live (UnitTakes.line line_turn.Other x) = absurd (cc x.shown)
+  unit_waits new o alive live (UnitTakes.line line_turn.Version x) = absurd (cc x.shown)
+  unit_waits new o alive live (UnitTakes.line (line_turn.Refused why) x) = absurd x.shown
+  unit_waits new o alive live (UnitTakes.packet (client.Shared done) x) = packet_waits alive x.reading done _ x.shown new o (below.packets p Client history old asking.sums.transport alive live x.reading bytes done new o x.taken.taken)
+  unit_waits new o alive live (UnitTakes.packet (client.Kexinit answered.Done) x) = absurd (cc x.shown)
+  unit_waits new o alive live (UnitTakes.packet (client.Kexinit answered.Spent) x) = absurd (cc x.shown)
+  unit_waits new o alive live (UnitTakes.packet (client.Reply replied.BadPoint) x) = absurd (cc x.shown)
+  unit_waits new o alive live (UnitTakes.packet (client.Reply replied.BadHost) x) = absurd (cc x.shown)
+  unit_waits new o alive live (UnitTakes.packet (client.Reply replied.NumberSpent) x) = absurd (cc x.shown)
+  unit_waits new o alive live (UnitTakes.packet (client.Reply (replied.Completed choice)) x) = absurd (cc x.shown)
+
+  -- ---- a unit
+
+  module _ (done : Step) (new : State K) (later : Layers) (o : Outs) (given : TransportTurn) (between : State K) (middle : List ℕ) (listed : List (List ℕ))
+      (took : ClientTook p.crypto (agreement_of p Client) p.trusts old bytes given between (record { before = o.before; after = middle; listed = o.listed; relisted = listed }))
+      (goes : Goes p.crypto given between layers done new later (record { before = middle; after = o.after; listed = listed; relisted = o.relisted })) where
+    abbrev front : Outs
+    front = record { before = o.before; after = middle; listed = o.listed; relisted = listed }
+
+    abbrev back : Outs
+    back = record { before = middle; after = o.after; listed = listed; relisted = o.relisted }
+
+    abbrev Turned : Type 0
+    Turned = ClientTurned p history bytes done new later o
+
+    goes_so : (so : TransportTurn) → given ≡ so → Goes p.crypto so between layers done new later back
+    goes_so so same = subst (λ (t : TransportTurn). Goes p.crypto t between layers done new later back) same goes
+
+    took_so : (so : TransportTurn) → given ≡ so → ClientTook p.crypto (agreement_of p Client) p.trusts old bytes so between front
+    took_so so same = subst (λ (t : TransportTurn). ClientTook p.crypto (agreement_of p Client) p.trusts old bytes t between front) same took
+
+    waiting : SumsUp p Client history between.kept → IsQuiet front → given ≡ outcome.More → Turned
+    waiting sums quiet same =
+        let g : GoesWhole outcome.More between layers done new later middle o.after listed o.relisted = goes_so outcome.More same in
+        let taken = took_so outcome.More same in
+        subst (λ (d : Step). ClientTurned p history bytes d new later o) (sym g.shown) (record {
+          sums = subst (λ (l : Layers). EndSumsUp p Client history (end_of new.kept l)) (sym g.layers_are)
+              (subst (λ (m : State K). EndSumsUp p Client history (end_of m.kept layers)) (sym g.same) (record { transport = sums; above = λ live. asking.sums.above took.alive }));
+          waits = unit_waits between front taken.alive taken.stands.live taken.takes;
+          quiet = record { out = g.out ∙ quiet.out; sent = g.lists ∙ quiet.sent };
+        })
+
+    -- the transport did all
+    whole : (so : TransportTurn) → given ≡ so → is_whole so ≡ true → (payload : List ℕ) → UnitTurned p Client history bytes payload (step_given so) (kept_after layers so between.kept) front → Turned
+    whole so same is payload x =
+        turned_step p history bytes done new later o
+        (whole_turn p history bytes payload so between layers done new later o middle listed (goes_whole p.crypto so between layers done new later back is (goes_so so same)) x)
+
+    refused : (why : Refusal) (so : TransportTurn) → given ≡ so → IsRefusal why so → IsQuiet front → IsLineRefusal p Client history old.kept bytes why between.kept → Turned
+    refused why (outcome.Refused so) same is quiet x = whole (outcome.Refused so) same refl [] (refused_line laws p history old.kept layers asking.sums took.alive bytes why so is between.kept front quiet x)
+    refused why outcome.More same is quiet x = absurd is
+    refused why (outcome.Done so) same is quiet x = absurd is
+    refused why (outcome.Up number) same is quiet x = absurd is
+    refused why (outcome.Completed choice) same is quiet x = absurd is
+
+    line : (so : LineTurn) → LineOutcome so given → IsQuiet front → LineTurnOf p Client history old.kept bytes so between.kept → Turned
+    line line_turn.More same quiet x = waiting x quiet same
+    line line_turn.Other same quiet x = whole (outcome.Done effect.OtherLine) same refl [] (other_line laws p history old.kept layers asking.sums took.alive bytes between.kept front quiet x)
+    line line_turn.Version same quiet x = whole (outcome.Done effect.VersionLine) same refl [] (version_line laws p history old.kept layers asking.sums took.alive bytes between.kept front quiet x)
+    line (line_turn.Refused why) same quiet x = refused (line_refusal why) given refl same quiet x
+
+    packet : (so : PacketTurn) (number : ℕ) → is_left so ≡ false → given ≡ packet_outcome so number → PacketTurnOf p Client history old.kept bytes so between front → Turned
+    packet packet_turn.More number left same x = waiting (subst (λ (t : Transport K). SumsUp p Client history t) (sym x.after) asking.sums.transport) x.quiet same
+    packet (packet_turn.Refused why) number left same x = whole (outcome.Refused why) same refl [] (refused_packet laws p history old.kept layers asking.sums took.alive bytes why between.kept front x)
+    packet (packet_turn.Payload so) number left same x =
+        whole (payload_outcome so number) same (is_whole_packet (packet_turn.Payload so) number left) x.between.receiver.payload
+        (payload_turn laws p history old.kept layers asking.sums took.alive bytes so number between front left x)
+
+    above : (number : ℕ) → given ≡ outcome.Up number → IsAbove p Client history old.kept bytes between front → Turned
+    above number same x =
+        let g : GoesUp p.crypto between layers done new later back = goes_so (outcome.Up number) same in
+        let y = finished_so laws channel_facts p history old layers asking took.alive bytes between front x g.judgement later g.judged done new back g.finished in
+        turned_step p history bytes done new later o (record {
+          payload = between.receiver.payload;
+          turned = record {
+            items = y.items;
+            more = y.more;
+            shows = y.shows;
+            turned = y.turned;
+            parts = y.parts ∙ ap (λ (l : List ℕ). l ++ y.more) x.quiet.out;
+            lists = y.lists ∙ ap (λ (l : List (List ℕ)). l ++ payloads_of (messages_sent y.items)) x.quiet.sent;
+          };
+        })
+
+    kexinit : (so : Answer) (payload : List ℕ) → given ≡ answer_outcome so effect.Kexinit → IsUnit p.crypto (stage p Client history) bytes (Opens payload) → KexinitTurn p history payload so between.kept front → Turned
+    kexinit answered.Done payload same unit x = whole (outcome.Done effect.Kexinit) same refl payload (kexinit_turn laws p history old layers asking took.alive bytes payload unit answered.Done between.kept front x)
+    kexinit answered.Spent payload same unit x = whole (outcome.Refused code.NumberSpent) same refl payload (kexinit_turn laws p history old layers asking took.alive bytes payload unit answered.Spent between.kept front x)
+
+    reply : (so : ReplyTurn) (payload : List ℕ) → given ≡ reply_outcome so → IsUnit p.crypto (stage p Client history) bytes (Opens payload) → ReplyTurnOf p history old.kept payload so between.kept front → Turned
+    reply replied.BadPoint payload same unit x = whole (outcome.Refused code.BadPoint) same refl payload (bad_point laws p history old layers asking took.alive bytes payload unit between.kept front x)
+    reply replied.BadHost payload same unit x = whole (outcome.Refused code.BadHost) same refl payload (bad_host laws p history old layers asking took.alive bytes payload unit between.kept front x)
+    reply replied.NumberSpent payload same unit x = whole (outcome.Refused code.NumberSpent) same refl payload (number_spent laws p history old layers asking took.alive bytes payload unit between.kept front x)
+    reply (replied.Completed choice) payload same unit x =
+        let g : GoesOn p.crypto between layers done new later back = goes_so (outcome.Completed choice) same in
+        let taken = took_so (outcome.Completed choice) same in
+        turned_step p history bytes done new later o (record {
+          payload = payload;
+          turned = completed_turn laws p history old layers asking took.alive bytes payload unit between.kept
+              (below.alive p.crypto (agreement_of p Client) p.trusts old bytes choice between front taken) (below.few p.crypto (agreement_of p Client) p.trusts old bytes choice between front taken) (below.epoch p.crypto (agreement_of p Client) p.trusts old bytes choice between front taken)
+              o.before middle o.listed listed x done new later between refl o.after o.relisted g.authentication g.completing;
+        })
+
+    turned_by : ClientTurnOf p history old.kept bytes given between front → Turned
+    turned_by (ClientTurnOf.line so same quiet x) = line so same quiet x
+    turned_by (ClientTurnOf.shared so left same x) = packet so _ left same x
+    turned_by (ClientTurnOf.above same x) = above _ same x
+    turned_by (ClientTurnOf.kexinit so payload same unit x) = kexinit so payload same unit x
+    turned_by (ClientTurnOf.reply so payload same unit x) = reply so payload same unit x
+
+  pub turned : (done : Step) (new : State K) (later : Layers) (o : Outs) → ClientGoes p.crypto (agreement_of p Client) p.trusts old layers bytes done new later o → ClientTurned p history bytes done new later o
+  turned done new later o x =
+      turned_by done new later o x.given x.between x.middle x.listed x.took x.goes
+      (below.taken p history old asking.sums.transport bytes x.given x.between (record { before = o.before; after = x.middle; listed = o.listed; relisted = x.listed }) x.took)

@@ -1,0 +1,145 @@
+-- What a client's end does with its server's KEXINIT and reply, and with what is owed behind it, is what the client of a session does.
+use Rattle.std.proofs.Common.{◌≡◌, ℕ, ◌+◌, ◌≤◌, ◌++◌, false, List, [], ◌∷◌, length, append-nil, append_assoc, arith, refl, ap, sym, ◌∙◌, subst, Option, Some, None}
+use Rattle.ssh_model.specs.Side.{Side.Client}
+use Rattle.ssh_model.specs.Wire.Message.{Msg, Msg.KexEcdhInit, Msg.KexInit, IsPayload}
+use Rattle.ssh_model.specs.Wire.Outcome.{Outcome.Opens}
+use Rattle.ssh_model.specs.Wire.Unit.{IsUnit}
+use Rattle.ssh_model.specs.Authentication.Kept as kept
+use Rattle.ssh_model.specs.Channels.Kept.{Channels}
+use Rattle.ssh_model.specs.Channels.Summary.{told}
+use Rattle.ssh_model.specs.End.Below.{AreBelow, opened_by_all}
+use Rattle.ssh_model.specs.End.Deaths.{CanSettle}
+use Rattle.ssh_model.specs.End.State.{Authentication, Authentication.OfClient, EndState}
+use Rattle.ssh_model.specs.End.Summary.{EndTurned}
+use Rattle.ssh_model.specs.Sessions.Items.{Fact, Fact.Completed, Item, Item.Told, Item.Took, Spelled, Spelled.SpelledBy, messages_sent}
+use Rattle.ssh_model.specs.Sessions.Parties.{Parties}
+use Rattle.ssh_model.specs.Sessions.Refusals as refusal
+use Rattle.ssh_model.specs.Sessions.Turns.{OnUnit, stage}
+use Rattle.ssh_model.specs.TransportLayer.Kept.{Transport}
+use Rattle.ssh_model.specs.TransportLayer.Summary.{items_sent}
+use Rattle.ssh_model.specs.TransportLayer.Turns.{Turned, refusal_items}
+use Rattle.ssh_transport_machine.specs.Endings.{ExchangeEnds, PayloadRefused}
+use Rattle.ssh_transport_machine.specs.Outcomes.{answer_outcome}
+use Rattle.ssh_transport_machine.specs.Puts.{Outs, payloads_of}
+use Rattle.ssh_transport_machine.specs.Sessions.{IsSpentEnd}
+use Rattle.ssh_transport_machine.specs.State.{State}
+use Rattle.ssh_transport_machine.specs.declared.machine.turn.Answer.{Answer}
+use Rattle.ssh_transport_machine.specs.declared.outcome.Effect.TheVariants as effect
+use Rattle.ssh_transport_machine.specs.declared.outcome.TransportTurn.TheVariants as outcome
+use Rattle.ssh_transport_client.specs.Kexinits.{KexinitShows, KexinitTurn}
+use Rattle.ssh_types.specs.Refusals.{refusal_of}
+use Rattle.ssh_types.specs.declared.refusal.Refusal.{Refusal}
+use Rattle.ssh_types.specs.declared.refusal.Refusal.TheVariants as code
+use Rattle.ssh_end.specs.Completing.{Completing}
+use Rattle.ssh_end.specs.Effects.{step_given}
+use Rattle.ssh_end.specs.ClientLayers.{Layers}
+use Rattle.ssh_end.specs.Owed.{OwedGiven}
+use Rattle.ssh_end.specs.ClientTurns.{IsAsking}
+use Rattle.ssh_end.specs.ClientSessions.{end_of}
+use Rattle.ssh_end.specs.Steps as steps
+use Rattle.ssh_end.specs.Steps.{AreSent, UnitTurned, fact_by}
+use Rattle.ssh_end.specs.declared.step.Step.{Step}
+use Rattle.ssh_end.specs.declared.step.Step.TheVariants as step
+use Rattle.ssh_end.specs.declared.step.Telling.TheVariants as telling
+use Rattle.ssh_end.proofs.Finishing.{sent_then_took}
+use Rattle.ssh_end.proofs.ClientTurnsWhole.{kept_after}
+use Rattle.ssh_end.proofs.Transporting.{refused}
+use Rattle.ssh_end.proofs.TurningEnds.{ending_read, lists_owed, owed_are_sent}
+use Rattle.ssh_end.proofs.TurningLaws.{TurningLaws}
+
+module _ {K : Type 0} (laws : TurningLaws K) (p : Parties K) (history : List Item) (old : State K) (layers : Layers) (asking : IsAsking p history old layers) (alive : old.kept.dead ≡ false) (bytes payload : List ℕ) (unit : IsUnit p.crypto (stage p Client history) bytes (Opens payload)) where
+  abbrev e : EndState K
+  e = end_of old.kept layers
+
+  -- ---- what is refused
+
+  refuses : (why : Refusal) (said : List Spelled) (more : List ℕ) (new : Transport K) (o : Outs) → Turned p Client history payload (refusal_items (refusal_of why) (Some payload) said) more new → o.after ≡ o.before ++ more → o.relisted ≡ o.listed ++ payloads_of said →
+      UnitTurned p Client history bytes payload (step.Refused why) (kept_after layers (outcome.Refused why) new) o
+  refuses =
+      refused p Client history e bytes payload
+      (λ items more next below turned. laws.opened p Client history e asking.sums alive bytes payload items more _ unit (laws.layered p Client history e asking.sums alive payload items more next below turned))
+      (λ items more next turned dead. laws.opened p Client history e asking.sums alive bytes payload items more next unit (laws.over p Client history e asking.sums alive payload items more next turned dead))
+
+  pub bad_point : (new : Transport K) (o : Outs) → PayloadRefused p Client history payload refusal.Refusal.BadPoint new o → UnitTurned p Client history bytes payload (step.Refused code.BadPoint) (kept_after layers (outcome.Refused code.BadPoint) new) o
+  bad_point new o x = refuses code.BadPoint x.said x.more new o x.turned x.parts x.lists
+
+  pub bad_host : (new : Transport K) (o : Outs) → PayloadRefused p Client history payload refusal.Refusal.BadHost new o → UnitTurned p Client history bytes payload (step.Refused code.BadHost) (kept_after layers (outcome.Refused code.BadHost) new) o
+  bad_host new o x = refuses code.BadHost x.said x.more new o x.turned x.parts x.lists
+
+  -- what is owed can be given, so that there are too few numbers for it all
+  pub number_spent : (new : Transport K) (o : Outs) → IsSpentEnd p Client history payload new o → UnitTurned p Client history bytes payload (step.Refused code.NumberSpent) (kept_after layers (outcome.Refused code.NumberSpent) new) o
+  number_spent new o x =
+      let can : CanSettle layers.channels = laws.settled p asking.lawful Client history e asking.sums alive asking.run in
+      refuses code.NumberSpent [] [] new o (x.turned can.items (laws.given p Client history e asking.sums alive can.items can.settled can.gives can.none_left) can.spelled)
+      (x.quiet.out ∙ sym (append-nil o.before)) (x.quiet.sent ∙ sym (append-nil o.listed))
+
+  -- ---- a KEXINIT
+
+  -- it was answered by these messages
+  answered_kexinit : (message : Msg) (said : List Spelled) (more : List ℕ) (new : Transport K) (o : Outs) → fact_by message None ≡ None → AreSent (items_sent said) → AreBelow (items_sent said ++ Took None message payload ∷ []) →
+      messages_sent (items_sent said ++ Took None message payload ∷ []) ≡ said → opened_by_all (items_sent said ++ Took None message payload ∷ []) e.authentication ≡ e.authentication → IsPayload false message payload → Turned p Client history payload (items_sent said ++ Took None message payload ∷ []) more new →
+      o.after ≡ o.before ++ more → o.relisted ≡ o.listed ++ payloads_of said → UnitTurned p Client history bytes payload (step_given (outcome.Done effect.Kexinit)) (kept_after layers (outcome.Done effect.Kexinit) new) o
+  answered_kexinit message said more new o silent sent below says same is turned parts lists =
+      let items : List Item = items_sent said ++ Took None message payload ∷ [] in
+      record {
+        items = items;
+        more = more;
+        shows = subst (λ (f : Option Fact). steps.Shows payload (step_given (outcome.Done effect.Kexinit)) (told f (items_sent said) ++ Took None message payload ∷ [])) silent (steps.Shows.took None false telling.Message message (items_sent said) is sent);
+        turned = subst (λ (a : Authentication). EndTurned p Client history (OnUnit p Client history bytes) items more (record { transport = new; authentication = a; channels = layers.channels })) same
+            (laws.opened p Client history e asking.sums alive bytes payload items more _ unit (laws.layered p Client history e asking.sums alive payload items more new below turned));
+        parts = parts;
+        lists = lists ∙ ap (λ (l : List Spelled). o.listed ++ payloads_of l) (sym says);
+      }
+
+  kexinit_shown : (answer : Answer) (said : List Spelled) (items : List Item) (more : List ℕ) (new : Transport K) (o : Outs) → KexinitShows payload answer said items → Turned p Client history payload items more new → o.after ≡ o.before ++ more → o.relisted ≡ o.listed ++ payloads_of said →
+      UnitTurned p Client history bytes payload (step_given (answer_outcome answer effect.Kexinit)) (kept_after layers (answer_outcome answer effect.Kexinit) new) o
+  kexinit_shown answer said items more new o (KexinitShows.by_point theirs point init is) turned parts lists =
+      answered_kexinit (KexInit theirs) (SpelledBy (KexEcdhInit point) init ∷ []) more new o refl tt (tt, (tt, tt)) refl refl is turned parts lists
+  kexinit_shown answer said items more new o (KexinitShows.by_both theirs ours point own init is) turned parts lists =
+      answered_kexinit (KexInit theirs) (SpelledBy (KexEcdhInit point) init ∷ SpelledBy (KexInit ours) own ∷ []) more new o refl tt (tt, (tt, (tt, tt))) refl refl is turned parts lists
+  kexinit_shown answer said items more new o KexinitShows.spent turned parts lists = refuses code.NumberSpent [] more new o turned parts lists
+
+  pub kexinit_turn : (answer : Answer) (new : Transport K) (o : Outs) → KexinitTurn p history payload answer new o → UnitTurned p Client history bytes payload (step_given (answer_outcome answer effect.Kexinit)) (kept_after layers (answer_outcome answer effect.Kexinit) new) o
+  kexinit_turn answer new o x = kexinit_shown answer x.said x.items x.more new o x.shows x.turned x.parts x.lists
+
+  -- ---- an exchange that is ended
+
+  module _ (between : Transport K) (live : between.dead ≡ false) (few : between.sending.count ≤ 1) (epoch : between.sending.epoch ≡ old.kept.sending.epoch + 1) (front middle : List ℕ) (listed amid : List (List ℕ))
+      (ends : ExchangeEnds p Client history payload (old.kept.sending.epoch + 1) between (record { before = front; after = middle; listed = listed; relisted = amid })) where
+    abbrev told_step : ℕ → Step
+    told_step position = step.Took (record { channel = None; probing = false; telling = telling.Completed position })
+
+    given_turn : (new : Transport K) (channels : Channels) (back : List ℕ) (relisted : List (List ℕ)) → OwedGiven p.crypto between layers.channels new channels (record { before = middle; after = back; listed = amid; relisted = relisted }) →
+        UnitTurned p Client history bytes payload (told_step (old.kept.sending.epoch + 1)) (record { transport = new; authentication = OfClient layers.authentication; channels = channels }) (record { before = front; after = back; listed = listed; relisted = relisted })
+    given_turn new channels back relisted x =
+        let position = old.kept.sending.epoch + 1 in
+        let items : List Item = (Told (Completed position) ∷ (x.items ++ items_sent ends.sent)) ++ Took None ends.message payload ∷ [] in
+        record {
+          items = items;
+          more = ends.more ++ x.puts.more;
+          shows = steps.Shows.took None false (telling.Completed position) ends.message (x.items ++ items_sent ends.sent)
+              (ending_read p x.items _ Client history ends.message payload _ (ends.ended.answer x.items) ends.ended.welcomes.message_is) (owed_are_sent layers.channels channels x.items x.gives ends.sent);
+          turned = subst (λ (t : Transport K). EndTurned p Client history (OnUnit p Client history bytes) items (ends.more ++ x.puts.more) (record { transport = t; authentication = OfClient layers.authentication; channels = channels })) (sym (x.kept Client))
+              (laws.opened p Client history e asking.sums alive bytes payload _ _ _ unit
+              (laws.ended p Client history e asking.sums alive ends.message payload position (items_sent ends.sent) ends.more x.puts.more between x.items channels ends.ended live x.gives x.none_left x.puts.packets));
+          parts = x.puts.parts ∙ (ap (λ (l : List ℕ). l ++ x.puts.more) ends.parts ∙ append_assoc front ends.more x.puts.more);
+          lists = x.puts.lists ∙ (ap (λ (l : List (List ℕ)). l ++ payloads_of (messages_sent x.items)) ends.lists ∙ (append_assoc listed (payloads_of ends.sent) (payloads_of (messages_sent x.items))
+              ∙ ap (λ (l : List (List ℕ)). listed ++ l) (sym (ap payloads_of (sent_then_took (x.items ++ items_sent ends.sent) (owed_are_sent layers.channels channels x.items x.gives ends.sent) None ends.message payload)
+              ∙ lists_owed layers.channels channels x.items x.gives ends.sent))));
+        }
+
+    few_owed : length layers.channels.owed ≤ 256
+    few_owed = (asking.sums.above alive).few_owed
+
+    pub completed_turn : (done : Step) (new : State K) (later : Layers) (between_state : State K) → between_state.kept ≡ between → (back : List ℕ) (relisted : List (List ℕ)) → later.authentication ≡ layers.authentication →
+        Completing p.crypto between_state layers.channels done new later.channels (record { before = middle; after = back; listed = amid; relisted = relisted }) →
+        UnitTurned p Client history bytes payload done (end_of new.kept later) (record { before = front; after = back; listed = listed; relisted = relisted })
+    completed_turn done new later m same back relisted still (Completing.given x shown) =
+        let o : Outs = record { before = front; after = back; listed = listed; relisted = relisted } in
+        subst (λ (d : Step). UnitTurned p Client history bytes payload d (end_of new.kept later) o) (sym (shown ∙ ap told_step (ap (λ (t : Transport K). t.sending.epoch) same ∙ epoch)))
+        (subst (λ (a : kept.Client). UnitTurned p Client history bytes payload (told_step (old.kept.sending.epoch + 1)) (record { transport = new.kept; authentication = OfClient a; channels = later.channels }) o) (sym still)
+        (given_turn new.kept later.channels back relisted
+        (subst (λ (t : Transport K). OwedGiven p.crypto t layers.channels new.kept later.channels (record { before = middle; after = back; listed = amid; relisted = relisted })) same x)))
+    completed_turn done new later m same back relisted still (Completing.spent many dead shown) =
+        let count : m.kept.sending.count ≡ between.sending.count = ap (λ (t : Transport K). t.sending.count) same in
+        absurd (omega (arith, count, many, few, few_owed))

@@ -1,0 +1,73 @@
+-- What a client's transport did alone is what its end did.
+use Rattle.std.proofs.Common.{◌≡◌, ℕ, true, List, refl, ap, sym, ◌∙◌, subst}
+use Rattle.std.proofs.lemmas.Bool.{false≢true}
+use Rattle.ssh_model.specs.Side.{Side.Client}
+use Rattle.ssh_model.specs.End.State.{Authentication.OfClient, EndState}
+use Rattle.ssh_model.specs.End.Summary.{EndTurned}
+use Rattle.ssh_model.specs.Sessions.Items.{Item}
+use Rattle.ssh_model.specs.Sessions.Parties.{Parties}
+use Rattle.ssh_model.specs.Sessions.Turns.{OnUnit}
+use Rattle.ssh_model.specs.TransportLayer.Kept.{Transport}
+use Rattle.ssh_model.specs.Wire.Sealing.{Crypto}
+use Rattle.ssh_transport_machine.specs.Puts.{Outs}
+use Rattle.ssh_transport_machine.specs.State.{State}
+use Rattle.ssh_transport_machine.specs.declared.outcome.Effect.TheVariants as effect
+use Rattle.ssh_transport_machine.specs.declared.outcome.TransportTurn.{TransportTurn}
+use Rattle.ssh_transport_machine.specs.declared.outcome.TransportTurn.TheVariants as outcome
+use Rattle.ssh_end.specs.Effects.{is_accepted, is_whole, opened_where, step_given}
+use Rattle.ssh_end.specs.ClientLayers.{Layers}
+use Rattle.ssh_end.specs.ClientTurns.{IsUnitTurned}
+use Rattle.ssh_end.specs.ClientUnits.{Goes, GoesWhole, opened_layers}
+use Rattle.ssh_end.specs.ClientSessions.{end_of}
+use Rattle.ssh_end.specs.Steps.{Shows, UnitTurned}
+use Rattle.ssh_end.specs.declared.step.Step.{Step}
+
+-- ---- the layers
+
+-- what an end keeps after an answer of its transport
+abbrev pub kept_after : {K : Type 0} → Layers → TransportTurn → Transport K → EndState K
+kept_after layers given new = record { transport = new; authentication = opened_where given (OfClient layers.authentication); channels = layers.channels }
+
+same_end : {K : Type 0} (s : Transport K) (layers : Layers) (given : TransportTurn) → end_of s (opened_layers (is_accepted given) layers) ≡ kept_after layers given s
+same_end s layers (outcome.Up number) = refl
+same_end s layers (outcome.Completed choice) = refl
+same_end s layers outcome.More = refl
+same_end s layers (outcome.Refused why) = refl
+same_end s layers (outcome.Done effect.ServiceRequested) = refl
+same_end s layers (outcome.Done effect.ServiceAccepted) = refl
+same_end s layers (outcome.Done effect.OtherLine) = refl
+same_end s layers (outcome.Done effect.VersionLine) = refl
+same_end s layers (outcome.Done effect.Skipped) = refl
+same_end s layers (outcome.Done effect.Disconnected) = refl
+same_end s layers (outcome.Done effect.Told) = refl
+same_end s layers (outcome.Done effect.Unknown) = refl
+same_end s layers (outcome.Done effect.Kexinit) = refl
+same_end s layers (outcome.Done effect.NewKeys) = refl
+
+-- ---- the answer
+
+pub goes_whole : {K : Type 0} (c : Crypto K) (given : TransportTurn) (between : State K) (old : Layers) (done : Step) (new : State K) (later : Layers) (o : Outs) → is_whole given ≡ true → Goes c given between old done new later o → GoesWhole given between old done new later o.before o.after o.listed o.relisted
+goes_whole c (outcome.Up number) between old done new later o e x = absurd (false≢true e)
+goes_whole c (outcome.Completed choice) between old done new later o e x = absurd (false≢true e)
+goes_whole c outcome.More between old done new later o e x = x
+goes_whole c (outcome.Refused why) between old done new later o e x = x
+goes_whole c (outcome.Done done_so) between old done new later o e x = x
+
+-- a turn of the transport is that of the end
+pub whole_turn : {K : Type 0} (p : Parties K) (history : List Item) (bytes payload : List ℕ) (given : TransportTurn) (between : State K) (layers : Layers) (done : Step) (new : State K) (later : Layers) (o : Outs) (middle : List ℕ) (listed : List (List ℕ)) →
+    GoesWhole given between layers done new later middle o.after listed o.relisted →
+    UnitTurned p Client history bytes payload (step_given given) (kept_after layers given between.kept) (record { before = o.before; after = middle; listed = o.listed; relisted = listed }) → IsUnitTurned p history bytes done new later o
+whole_turn {K} p history bytes payload given between layers done new later o middle listed x y =
+    let ends : kept_after layers given between.kept ≡ end_of new.kept later =
+    sym (ap (λ (w : State K). end_of w.kept later) x.same ∙ (ap (λ (l : Layers). end_of between.kept l) x.layers_are ∙ same_end between.kept layers given)) in
+    record {
+      payload = payload;
+      turned = record {
+        items = y.items;
+        more = y.more;
+        shows = subst (λ (d : Step). Shows payload d y.items) (sym x.shown) y.shows;
+        turned = subst (λ (e : EndState K). EndTurned p Client history (OnUnit p Client history bytes) y.items y.more e) ends y.turned;
+        parts = x.out ∙ y.parts;
+        lists = x.lists ∙ y.lists;
+      };
+    }

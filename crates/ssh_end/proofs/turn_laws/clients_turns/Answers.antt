@@ -1,0 +1,27 @@
+use Rattle.ssh_end.proofs.ClientTurns.{turned}
+use Rattle.ssh_end.proofs.turn_laws.clients_turns.Goals as goal
+
+pub returns : goal.returns
+returns g c = record {
+  turned = λ p history old layers asking bytes. turned (record {
+    layered = c.transport_turns.ensures.payload;
+    over = c.transport_turns.ensures.payload_over;
+    version = c.unit_turns.ensures.version;
+    other = c.unit_turns.ensures.other;
+    refused_line = c.unit_turns.ensures.refused_line;
+    refused_packet = c.unit_turns.ensures.refused_packet;
+    opened = c.unit_turns.ensures.opened;
+    taken = c.payloads.ensures;
+    ended = c.exchange_ends.ensures.ended;
+    given = c.exchange_ends.ensures.given;
+    settled = c.owed_replies.ensures;
+    packets_begun = c.waiting.ensures.packets;
+    lines_begun = c.waiting.ensures.lines;
+  }) (record {
+    packets = c.unit_turns-2.ensures.packets;
+    taken = c.units_taken.ensures.taken;
+    alive = c.turns_left.ensures.completed_alive;
+    few = c.turns_left.ensures.completed_few;
+    epoch = c.turns_left.ensures.completed_epoch;
+  }) c.facts_told.ensures.channels p history old layers asking bytes;
+}

@@ -1,0 +1,44 @@
+-- What a client's end makes of the bytes of one line or one packet, as a turn of a session.
+use Rattle.std.specs.Prelude.{◌≡◌, ℕ, None, List}
+use Rattle.ssh_model.specs.Side.{Side.Client}
+use Rattle.ssh_model.specs.End.Reading.{end_reading}
+use Rattle.ssh_model.specs.End.Summary.{EndSumsUp}
+use Rattle.ssh_model.specs.Sessions.Items.{Item}
+use Rattle.ssh_model.specs.Sessions.Parties.{AreLawful, Parties}
+use Rattle.ssh_model.specs.Sessions.Phases.{Phase.Normal}
+use Rattle.ssh_model.specs.Sessions.Turns.{EndRun}
+use Rattle.ssh_model.specs.Wire.Delivery.{Waits}
+use Rattle.ssh_transport_machine.specs.Puts.{Outs}
+use Rattle.ssh_transport_machine.specs.State.{State}
+use Rattle.ssh_transport_machine.specs.Turning.{IsQuiet}
+use Rattle.ssh_end.specs.ClientLayers.{Layers}
+use Rattle.ssh_end.specs.ClientSessions.{end_of}
+use Rattle.ssh_end.specs.Steps.{UnitTurned}
+use Rattle.ssh_end.specs.declared.step.Step.{Step}
+use Rattle.ssh_end.specs.declared.step.Step.TheVariants as step
+
+-- What a client keeps sums up the history of a run of an end of lawful parties. Outside an exchange there is a session id.
+pub record IsAsking {K : Type 0} (p : Parties K) (history : List Item) (old : State K) (layers : Layers) : Type 0 where
+  pub lawful : AreLawful p
+  pub sums : EndSumsUp p Client history (end_of old.kept layers)
+  pub run : EndRun p Client history
+  pub identified : old.kept.phase ≡ Normal → old.kept.session ≡ None → ⊥
+
+-- The bytes are no whole line or packet yet: nothing is put out, and the history is as it was.
+pub record IsWaiting {K : Type 0} (p : Parties K) (history : List Item) (bytes : List ℕ) (new : State K)
+    (later : Layers) (o : Outs) : Type 0 where
+  pub sums : EndSumsUp p Client history (end_of new.kept later)
+  pub waits : Waits (end_reading p Client) history bytes
+  pub quiet : IsQuiet o
+
+-- The bytes are one line or one packet, and what was done with it is a turn of a session.
+pub record IsUnitTurned {K : Type 0} (p : Parties K) (history : List Item) (bytes : List ℕ) (done : Step) (new : State K)
+    (later : Layers) (o : Outs) : Type 0 where
+  pub payload : List ℕ
+  pub turned : UnitTurned p Client history bytes payload done (end_of new.kept later) o
+
+-- the one or the other, by what was done
+abbrev pub ClientTurned : {K : Type 0} → Parties K → (history : List Item) → (bytes : List ℕ) → Step → State K →
+    Layers → Outs → Type 0
+ClientTurned p history bytes step.More new later o = IsWaiting p history bytes new later o
+ClientTurned p history bytes done new later o = IsUnitTurned p history bytes done new later o
