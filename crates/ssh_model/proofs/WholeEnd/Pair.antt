@@ -1,10 +1,11 @@
 -- What one end of two makes of an event, and the run of both.
 use Rattle.std.proofs.Common.{◌≡◌, ℕ, List, [], ◌∷◌, ◌++◌, refl, sym, subst}
 use Rattle.ssh_model.specs.Side.{Side, Side.Client, Side.Server, peer, done_by, part}
+use Rattle.ssh_model.specs.Wire.Delivery.{Delivered}
 use Rattle.ssh_model.specs.Sessions.Parties.{Parties}
 use Rattle.ssh_model.specs.Sessions.Items.{Ask, Item, Done}
 use Rattle.ssh_model.specs.Sessions.Turns.{AsksTurn, FeedsTurn, Run.start}
-use Rattle.ssh_model.specs.Sessions.Events.{Event, Event.Asks, Event.Feeds, Event.Delivers, OnEvent, OnEvent.asks, OnEvent.feeds, OnEvent.delivers, Plays, Plays.ends as no_more, Plays.goes, World, kept_rest, next_world, rest_of}
+use Rattle.ssh_model.specs.Sessions.Events.{Event, Event.Asks, Event.Feeds, Event.Delivers, OnEvent, OnEvent.asks, OnEvent.feeds, OnEvent.delivers, Plays, Plays.ends as no_more, Plays.goes, World, kept_rest, next_world, reading_of, rest_of}
 use Rattle.ssh_model.specs.End.State.{EndState}
 use Rattle.ssh_model.specs.End.Summary.{EndSumsUp, EndTurned, HasOpened}
 use Rattle.ssh_model.specs.End.Reading.{DeliversTo}
@@ -49,6 +50,11 @@ module _ {K : Type 0} (p : Parties K) where
         PairTurned p w (Delivers side bytes) (next_world w side d.next rest) (with_state side new pair)
     delivered bytes last rest new d s =
         turned w (Delivers side bytes) side d.next rest pair new has (delivers side bytes d.delivered) (subst (λ (h : List Item). EndSumsUp p side h new) (sym d.here) s) d.there
+
+    pub delivered_items : (bytes : List ℕ) (items : List Item) (rest : List ℕ) (new : EndState K) → Delivered (reading_of p side) w.run (rest_of w side ++ bytes) (done_by side items ++ w.run) rest → EndSumsUp p side (items ++ part side w.run) new →
+        PairTurned p w (Delivers side bytes) (next_world w side (done_by side items ++ w.run) rest) (with_state side new pair)
+    delivered_items bytes items rest new d s =
+        turned w (Delivers side bytes) side (done_by side items ++ w.run) rest pair new has (delivers side bytes d) (added items new s) (part_other side items w.run)
 
   -- ---- the opening
 

@@ -10,6 +10,7 @@ use Rattle.ssh_model.specs.Sessions.Parties.{Parties}
 use Rattle.ssh_model.specs.Sessions.Items.{Item, Done, has_died, took}
 use Rattle.ssh_model.specs.Sessions.Epochs.{count, epoch}
 use Rattle.ssh_model.specs.Sessions.Turns.{EndRun, EndRun.then_turn, OnUnit, Turn.reads, stage, stage_after}
+use Rattle.ssh_model.specs.Sessions.Events.{reading_of}
 use Rattle.ssh_model.specs.TransportLayer.Kept.{Transport}
 use Rattle.ssh_model.specs.TransportLayer.Summary.{SumsUp}
 use Rattle.ssh_model.specs.End.Reading.{EndUses, DeliversTo, end_reading}
@@ -71,6 +72,19 @@ module _ {K : Type 0} (p : Parties K) (side : Side) where
         here = r.here;
         there = r.there ∙ part_other side a.items run;
       }
+
+  module _ (run : List Done) (e : EndState K) (sums : EndSumsUp p side (part side run) e) where
+    pub run_unit : e.transport.dead ≡ false → (unit : List ℕ) (items : List Item) (more : List ℕ) (new : EndState K) → EndTurned p side (part side run) (OnUnit p side (part side run) unit) items more new →
+        (behind : List ℕ) (last : List Done) (rest : List ℕ) → Delivered (reading_of p side) (done_by side items ++ run) behind last rest → Delivered (reading_of p side) run (unit ++ behind) last rest
+    run_unit alive unit items more new t behind last rest d =
+        let u = has_unit (part side run) unit items t.turn in
+        takes unit behind refl (sym sums.transport.dead_is ∙ alive, u.0, u.1) (record { items = items; on_unit = t.turn; next_is = refl }) d
+
+    pub run_waits : e.transport.dead ≡ false → (bytes : List ℕ) → Waits (end_reading p side) (part side run) bytes → Delivered (reading_of p side) run bytes run bytes
+    run_waits alive bytes w = waits (λ z. cc (z, sums.transport.dead_is, alive)) w
+
+    pub run_dead : e.transport.dead ≡ true → (bytes : List ℕ) → Delivered (reading_of p side) run bytes run []
+    run_dead d bytes = dead bytes (sym sums.transport.dead_is ∙ d)
 
   -- ---- what waits
 
