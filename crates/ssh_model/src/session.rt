@@ -7,7 +7,7 @@ ghost use Rattle.ssh_model.specs.Wire.Delivery.{Delivered, InPieces};
 ghost use Rattle.ssh_model.specs.Sessions.Events.{Event, Plays, World, reading_of};
 ghost use Rattle.ssh_model.specs.Sessions.Honest.{IsHonest};
 ghost use Rattle.ssh_model.specs.Wire.Sealing.{IsSealing};
-ghost use Rattle.ssh_model.specs.Sessions.Claims.{Agreement, Authorized, Beginning, Undisturbed, Windows, WindowsAt};
+ghost use Rattle.ssh_model.specs.Sessions.Claims.{Agreement, Authorized, Beginning, IsSafe, Undisturbed, Windows, WindowsAt};
 
 /// In an honest run of two ends that offer strict key exchange they agree on the eight inputs of each exchange that the
 /// client completed, or under whose keys the server took a message.
@@ -44,6 +44,13 @@ pub fn windows_at_each_end<K>()
 /// a partner: both ends have its whole OPEN, at the same place of what went after the first NEWKEYS.
 pub fn undisturbed<K>()
     ensures { (p : Parties K) → AreLawful p → BothOffer p → (run : List Done) → Run p run → IsHonest p run → Undisturbed run }
+{}
+
+/// In an honest run of two ends that offer strict key exchange all of this holds: they agree, take a prefix of what the
+/// other sent, hold no channel before an accepted request, overrun no window, and don't refuse each other for channels
+/// or windows.
+pub fn safety<K>()
+    ensures { (p : Parties K) → AreLawful p → BothOffer p → (run : List Done) → Run p run → IsHonest p run → IsSafe p run }
 {}
 
 /// Whatever is asked, fed and delivered gives a run, so each law of runs holds of it at every moment.

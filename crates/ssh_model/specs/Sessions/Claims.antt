@@ -174,3 +174,11 @@ pub record Undisturbed (run : List Done) : Type 0 where
       ≡ reverse (data_sent (peer side) i (channel_items (part (peer side) run))))
   pub partners : (side : Side) (i : Channel) → (data_received side i (channel_items (part side run)) ≡ [] → ⊥) →
       HasPartner side i run
+
+-- What is claimed of an honest run of two ends that offer strict key exchange, all of it.
+pub record IsSafe {K : Type 0} (p : Parties K) (run : List Done) : Type 0 where
+  pub agreement : Agreement p run
+  pub beginning : Beginning run
+  pub authorized : Authorized p run
+  pub windows : Windows run
+  pub undisturbed : Undisturbed run
