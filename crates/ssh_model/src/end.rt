@@ -2,7 +2,7 @@
 //! session. An end is proved against what it keeps alone, and these laws make of it what is said of histories.
 
 ghost use Rattle.std.specs.Prelude.{◌≡◌, ◌≤◌, ◌++◌, ◌↔◌, ℕ, List, [], ◌∷◌, None, true, false};
-ghost use Rattle.ssh_model.specs.Side.{Side, part};
+ghost use Rattle.ssh_model.specs.Side.{Side, Side.Client, part};
 ghost use Rattle.ssh_model.specs.Wire.Message.{Msg, Msg.KexInit};
 ghost use Rattle.ssh_model.specs.Wire.Line.{IsLineBegun, line_end};
 ghost use Rattle.ssh_model.specs.Wire.Sealing.{IsSealing};
@@ -19,11 +19,12 @@ ghost use Rattle.ssh_model.specs.TransportLayer.Directions.{new_direction};
 ghost use Rattle.ssh_model.specs.TransportLayer.Kept.{Transport, after_wiping};
 ghost use Rattle.ssh_model.specs.TransportLayer.Summary.{SumsUp};
 ghost use Rattle.ssh_model.specs.TransportLayer.Turns.{AskTurned, EndedBy, PutsPackets, Turned, UnitRefused};
-ghost use Rattle.ssh_model.specs.End.State.{EndState, above_checks, after_items, new_end, probes, session_of, takes_above};
+ghost use Rattle.ssh_model.specs.End.State.{Authentication.OfClient, EndState, above_checks, after_items, new_end, probes, session_of, takes_above};
 ghost use Rattle.ssh_model.specs.End.Summary.{EndSumsUp, EndTurned, HasOpened};
 ghost use Rattle.ssh_model.specs.End.Payloads.{GivesOwed, ReadsAbove, TakesPayload};
 ghost use Rattle.ssh_model.specs.End.Below.{AreBelow, opened_by_all};
 ghost use Rattle.ssh_model.specs.Channels.Connection.{AreReplies, owed_replies};
+ghost use Rattle.ssh_model.specs.Authentication.Kept as kept;
 ghost use Rattle.ssh_model.specs.Channels.Kept.{Channels};
 ghost use Rattle.ssh_model.specs.End.Deaths.{CanSettle};
 ghost use Rattle.ssh_model.specs.End.Units.{TakesPair, TakesUnit};
@@ -45,6 +46,12 @@ pub fn layers_above<K>()
     ensures refused { (p : Parties K) (side : Side) (history : List Item) (e : EndState K) → EndSumsUp p side history e → e.transport.dead ≡ false → (message : Msg) (payload : List ℕ) → ReadsAbove e message payload → first_refusal (answer_checks p side history message) ≡ first_refusal (above_checks p e message) }
     ensures session { (p : Parties K) (side : Side) (history : List Item) (e : EndState K) → EndSumsUp p side history e → e.transport.dead ≡ false → e.transport.phase ≡ Normal → session_of e ≡ session_id (exchanges p side history) }
     ensures probes { (p : Parties K) (side : Side) (history : List Item) (e : EndState K) → EndSumsUp p side history e → e.transport.dead ≡ false → probing history ≡ probes e.authentication }
+{}
+
+/// Outside an exchange an end that goes on has a session id, and so has a client whose authentication was opened.
+pub fn identified<K>()
+    ensures normal { (p : Parties K) (side : Side) (history : List Item) (e : EndState K) → EndSumsUp p side history e → EndRun p side history → e.transport.dead ≡ false → e.transport.phase ≡ Normal → e.transport.session ≡ None → ⊥ }
+    ensures opened { (p : Parties K) → AreLawful p → (history : List Item) (transport : Transport K) (client : kept.Client) (channels : Channels) → EndSumsUp p Client history (record { transport = transport; authentication = OfClient client; channels = channels }) → EndRun p Client history → transport.dead ≡ false → client.opened ≡ true → transport.session ≡ None → ⊥ }
 {}
 
 /// What an end makes of a payload, of whichever layer, is what a session makes of it; what it keeps goes on summing up its

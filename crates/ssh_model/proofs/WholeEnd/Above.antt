@@ -5,17 +5,18 @@ use Rattle.ssh_model.specs.Side.{Side, Side.Client, Side.Server}
 use Rattle.ssh_model.specs.Wire.Message.{Msg, Msg.ServiceRequest, Msg.ServiceAccept, Msg.KexInit, Msg.KexEcdhInit, Msg.KexEcdhReply, Msg.UserauthRequest, IsPayload, message_number}
 use Rattle.ssh_model.specs.KeyExchange.Exchanges.{exchanges, session_id}
 use Rattle.ssh_model.specs.Sessions.Refusals.{Check, Check.RefusedWhere, Refusal, first_refusal}
-use Rattle.ssh_model.specs.Sessions.Parties.{Parties, is_required, settings_of}
-use Rattle.ssh_model.specs.Sessions.Items.{Item, sent}
+use Rattle.ssh_model.specs.Sessions.Parties.{AreLawful, Parties, is_required, settings_of}
+use Rattle.ssh_model.specs.Sessions.Items.{Item, sent, took}
 use Rattle.ssh_model.specs.Sessions.Epochs.{epoch}
 use Rattle.ssh_model.specs.Sessions.Phases.{Phase, Phase.Guessed, Phase.Normal, phase, may_take, may_take_in, may_take_normally, may_take_service, authenticated, probing, is_probe, outstanding, sent_service_request, took_service_accept, took_success, is_connection, is_spare, is_general, may_take_extensions}
 use Rattle.ssh_model.specs.Sessions.Transport.{transport_checks}
-use Rattle.ssh_model.specs.Sessions.Turns.{Welcomes, answer_checks, number_of}
+use Rattle.ssh_model.specs.Sessions.Turns.{EndRun, Welcomes, answer_checks, number_of}
 use Rattle.ssh_model.specs.Authentication.Rows.{authentication_checks}
 use Rattle.ssh_model.specs.Authentication.Kept.{client_takes}
 use Rattle.ssh_model.specs.Authentication.Kept as kept
 use Rattle.ssh_model.specs.Channels.Connection.{connection_checks}
-use Rattle.ssh_model.specs.Channels.Kept.{take_checks}
+use Rattle.ssh_model.specs.Channels.Kept.{Channels, take_checks}
+use Rattle.ssh_model.specs.TransportLayer.Kept.{Transport}
 use Rattle.ssh_model.specs.TransportLayer.Summary.{Live, session_after}
 use Rattle.ssh_model.specs.TransportLayer.View.{view}
 use Rattle.ssh_model.specs.End.State.{Authentication, Authentication.OfServer, Authentication.OfClient, EndState, above_checks, authentication_refuses, probes, session_of, takes_above, takes_authentication}
@@ -24,6 +25,7 @@ use Rattle.ssh_model.specs.End.Payloads.{ReadsAbove}
 use Rattle.ssh_model.proofs.Authentication.Numbers.{server_number, client_number}
 use Rattle.ssh_model.proofs.Authentication.Rows.{server_refused, probing_is}
 use Rattle.ssh_model.proofs.Channels.Checking.{checked}
+use Rattle.ssh_model.proofs.Sessions.Blocked.{serves}
 use Rattle.ssh_model.proofs.Sessions.SoundTurns.{normal_keyed}
 use Rattle.ssh_model.proofs.Wire.Payloads.{payload_number}
 
@@ -119,6 +121,17 @@ module _ {K : Type 0} (p : Parties K) (side : Side) (h : List Item) (e : EndStat
       go zero z = absurd (omega (arith, z))
       go (suc k) z = refl
 
+  -- there is one once a NEWKEYS was taken
+  pub keyed_session : 0 < epoch (took h) → e.transport.session ≡ None → ⊥
+  keyed_session k none = go (epoch (sent h)) (omega (arith, live.counts.epochs, k)) (sym live.session_is ∙ none)
+    where
+      go : (n : ℕ) → 0 < n → session_after n (exchanges p side h) ≡ None → ⊥
+      go zero z x = omega (arith, z)
+      go (suc n) z x = cc x
+
+  pub normal_identified : e.transport.phase ≡ Normal → e.transport.session ≡ None → ⊥
+  normal_identified n none = keyed_session (normal_keyed p side h (phase_now n)) none
+
   -- ---- which numbers are taken
 
   low_number : (n : ℕ) → 50 ≤ n → n < 80 → e.transport.phase ≡ Normal → (t : Side) (a : Authentication) → t ≡ side → a ≡ e.authentication → AuthenticationSumsUp t h a → may_take p t h n ≡ takes_authentication a n
@@ -188,3 +201,11 @@ module _ {K : Type 0} (p : Parties K) (side : Side) (h : List Item) (e : EndStat
     message_is = read_now m payload r;
     not_refused = checks_above m payload r ∙ fine;
   }
+
+-- ---- a client whose authentication was opened
+
+module _ {K : Type 0} (p : Parties K) (laws : AreLawful p) (h : List Item) (transport : Transport K) (client : kept.Client) (channels : Channels) where
+  pub opened_identified : EndSumsUp p Client h (record { transport = transport; authentication = OfClient client; channels = channels }) → EndRun p Client h → transport.dead ≡ false → client.opened ≡ true → transport.session ≡ None → ⊥
+  opened_identified sums run alive opened none =
+      let s = (sums.above alive).authentication_sums in
+      keyed_session p Client h _ sums alive ((serves p laws Client h run).accepted (sym s.opened ∙ opened)) none
