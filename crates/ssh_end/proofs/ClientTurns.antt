@@ -1,5 +1,6 @@
 -- What a client's end does with the bytes of one line or one packet is what the client of a session does with them.
-use Rattle.std.proofs.Common.{◌≡◌, ℕ, ◌+◌, ◌≤◌, ◌++◌, true, false, List, [], refl, ap, sym, ◌∙◌, subst}
+use Rattle.std.proofs.Common.{◌≡◌, ℕ, ◌+◌, ◌≤◌, ◌++◌, true, false, List, refl, ap, sym, ◌∙◌, subst, Option, None, Some}
+use Rattle.std.proofs.lemmas.Bool.{false≢true}
 use Rattle.ssh_model.specs.Side.{Side, Side.Client}
 use Rattle.ssh_model.specs.End.Reading.{end_reading}
 use Rattle.ssh_model.specs.End.Summary.{EndSumsUp}
@@ -16,11 +17,14 @@ use Rattle.ssh_model.specs.Wire.Unit.{IsUnit}
 use Rattle.ssh_kex.specs.declared.owned_choice.OwnedChoice.{OwnedChoice}
 use Rattle.ssh_packet.specs.Refusals.{line_refusal}
 use Rattle.ssh_transport_machine.specs.Outcomes.{IsRefusal, LineOutcome, answer_outcome, packet_outcome, payload_outcome}
+use Rattle.ssh_transport_machine.specs.Finishing.{after_announced}
 use Rattle.ssh_transport_machine.specs.Puts.{Outs, payloads_of}
 use Rattle.ssh_transport_machine.specs.Sessions.{IsAbove, is_left}
 use Rattle.ssh_transport_machine.specs.Shown.{IsLineRefusal, LineTurnOf, PacketTurnOf}
 use Rattle.ssh_transport_machine.specs.State.{IsLive, State}
 use Rattle.ssh_transport_machine.specs.Turning.{IsQuiet, PacketTaken}
+use Rattle.ssh_transport_machine.specs.declared.machine.judging.Judged.TheVariants as judged
+use Rattle.ssh_transport_machine.specs.declared.machine.kexinit.KexinitFacts.{KexinitFacts}
 use Rattle.ssh_transport_machine.specs.declared.machine.line_turn.LineTurn.{LineTurn}
 use Rattle.ssh_transport_machine.specs.declared.machine.line_turn.LineTurn.TheVariants as line_turn
 use Rattle.ssh_transport_machine.specs.declared.machine.turn.Answer.{Answer}
@@ -30,10 +34,10 @@ use Rattle.ssh_transport_machine.specs.declared.machine.turn.PacketTurn.TheVaria
 use Rattle.ssh_transport_machine.specs.declared.outcome.Effect.TheVariants as effect
 use Rattle.ssh_transport_machine.specs.declared.outcome.TransportTurn.{TransportTurn}
 use Rattle.ssh_transport_machine.specs.declared.outcome.TransportTurn.TheVariants as outcome
-use Rattle.ssh_transport_client.specs.Kexinits.{KexinitTurn}
+use Rattle.ssh_transport_client.specs.Kexinits.{KexinitDone, KexinitTurn}
 use Rattle.ssh_transport_client.specs.Replies.{Trusts}
 use Rattle.ssh_transport_client.specs.Sessions.{ReplyTurnOf, ClientTurnOf}
-use Rattle.ssh_transport_client.specs.Transport.{ClientTook, UnitTakes, reply_outcome}
+use Rattle.ssh_transport_client.specs.Transport.{ClientTook, UnitTakes, begun_of, reply_outcome}
 use Rattle.ssh_transport_client.specs.declared.reply.ReplyTurn.{ReplyTurn}
 use Rattle.ssh_transport_client.specs.declared.reply.ReplyTurn.TheVariants as replied
 use Rattle.ssh_transport_client.specs.declared.packet.ClientTurn.TheVariants as client
@@ -43,10 +47,13 @@ use Rattle.ssh_end.specs.ClientLayers.{Layers}
 use Rattle.ssh_end.specs.ClientTurns.{IsAsking, IsUnitTurned, ClientTurned}
 use Rattle.ssh_end.specs.ClientUnits.{Goes, GoesOn, GoesUp, GoesWhole, ClientGoes}
 use Rattle.ssh_end.specs.ClientSessions.{end_of}
-use Rattle.ssh_end.specs.Steps.{UnitTurned}
+use Rattle.ssh_end.specs.Reading.{IsReading}
+use Rattle.ssh_end.specs.Steps.{Shows, UnitTurned}
 use Rattle.ssh_end.specs.declared.step.Step.{Step}
 use Rattle.ssh_end.specs.declared.step.Step.TheVariants as step
+use Rattle.ssh_end.proofs.TurningBegun.{Begun, Still, still_by}
 use Rattle.ssh_end.proofs.Judging.{ChannelFacts}
+use Rattle.ssh_end.proofs.TurningReads.{Left, OpensShown, ReadingLaws, Reads, above_reads, ended_reads, line_left, packet_left, refused_with, role_left, same_with, whole_reads}
 use Rattle.ssh_end.proofs.ClientTurnsAbove.{finished_so}
 use Rattle.ssh_end.proofs.ClientTurnsReply.{bad_host, bad_point, completed_turn, kexinit_turn, number_spent}
 use Rattle.ssh_end.proofs.ClientTurnsUnits.{other_line, payload_turn, refused_line, refused_packet, version_line}
@@ -64,14 +71,28 @@ pub record TransportLaws (K : Type 0) : Type 0 where
 
 -- What is no whole line or packet is a step of its own.
 turned_step : {K : Type 0} (p : Parties K) (history : List Item) (bytes : List ℕ) (done : Step) (new : State K) (later : Layers) (o : Outs) → IsUnitTurned p history bytes done new later o → ClientTurned p history bytes done new later o
-turned_step p history bytes step.More new later o x = absurd (no_more x.payload x.turned.items x.turned.shows)
+turned_step p history bytes step.More new later o x = absurd (no_more new.receiver.payload x.turned.items x.turned.shows)
 turned_step p history bytes step.OtherLine new later o x = x
 turned_step p history bytes step.VersionLine new later o x = x
 turned_step p history bytes step.Skipped new later o x = x
 turned_step p history bytes (step.Took took) new later o x = x
 turned_step p history bytes (step.Refused why) new later o x = x
 
-module _ {K : Type 0} (laws : TurningLaws K) (below : TransportLaws K) (channel_facts : ChannelFacts) (p : Parties K) (history : List Item) (old : State K) (layers : Layers) (asking : IsAsking p history old layers) (bytes : List ℕ) where
+-- what is announced behind an exchange is no line
+announced_lines : {K : Type 0} (announcement : Option (List ℕ)) (s : Transport K) → (after_announced announcement s).lines ≡ s.lines
+announced_lines None s = refl
+announced_lines (Some payload) s = refl
+
+-- what a client's KEXINIT leaves
+kexinit_still : {K : Type 0} (c : Crypto K) (agreement : Agreement) (old : State K) (facts : KexinitFacts) (new : State K) (o : Outs) → KexinitDone c agreement old facts answered.Done new o → Still old new
+kexinit_still c agreement old facts new o (KexinitDone.by_point shut x) = still_by old new _ x.after refl
+kexinit_still c agreement old facts new o (KexinitDone.by_both material free has x) = still_by old new _ x.after refl
+
+kexinit_dead : {K : Type 0} (c : Crypto K) (agreement : Agreement) (old : State K) (facts : KexinitFacts) (new : State K) (o : Outs) → KexinitDone c agreement old facts answered.Spent new o → new.kept.dead ≡ true
+kexinit_dead c agreement old facts new o (KexinitDone.by_point shut x) = x.dead
+kexinit_dead c agreement old facts new o (KexinitDone.by_both material free has x) = x.dead
+
+module _ {K : Type 0} (laws : TurningLaws K) (reads : ReadingLaws K) (below : TransportLaws K) (channel_facts : ChannelFacts) (p : Parties K) (history : List Item) (old : State K) (layers : Layers) (asking : IsAsking p history old layers) (bytes : List ℕ) where
   -- ---- bytes that are no whole unit
 
   packet_waits : old.kept.dead ≡ false → old.kept.lines.found ≡ true → (done : PacketTurn) (number : ℕ) → outcome.More ≡ packet_outcome done number → (new : State K) (o : Outs) → PacketTurnOf p Client history old.kept bytes done new o → Waits (end_reading p Client) history bytes
@@ -91,6 +112,25 @@ module _ {K : Type 0} (laws : TurningLaws K) (below : TransportLaws K) (channel_
   unit_waits new o alive live (UnitTakes.packet (client.Reply replied.BadHost) x) = absurd (cc x.shown)
   unit_waits new o alive live (UnitTakes.packet (client.Reply replied.NumberSpent) x) = absurd (cc x.shown)
   unit_waits new o alive live (UnitTakes.packet (client.Reply (replied.Completed choice)) x) = absurd (cc x.shown)
+
+  -- ---- what is left of it
+
+  unit_left : (given : TransportTurn) (new : State K) (o : Outs) → ClientTook p.crypto (agreement_of p Client) p.trusts old bytes given new o → Left p Client history bytes given new
+  unit_left given new o x = go x.takes
+    where
+      go : UnitTakes p.crypto (agreement_of p Client) p.trusts old bytes given new o → Left p Client history bytes given new
+      go (UnitTakes.line done y) = line_left reads p asking.lawful.sealing Client history old asking.sums.transport x.alive x.stands.live (asking.reading x.alive) bytes y.reading done given new y.taken y.shown
+      go (UnitTakes.packet (client.Shared done) y) = packet_left reads p asking.lawful.sealing Client history old asking.sums.transport x.alive x.stands.live (asking.reading x.alive) bytes y.reading _ done given new o y.shown y.taken.taken
+      go (UnitTakes.packet (client.Kexinit answered.Done) y) =
+          role_left reads p asking.lawful.sealing Client history old asking.sums.transport x.alive x.stands.live (asking.reading x.alive) bytes y.reading (judged.Kexinit y.taken.facts) y.taken.between given new _ (λ e. cc (sym e ∙ y.shown)) y.taken.taken
+          (kexinit_still p.crypto (agreement_of p Client) y.taken.between y.taken.facts new o y.taken.does)
+      go (UnitTakes.packet (client.Kexinit answered.Spent) y) = Left.over code.NumberSpent y.shown (kexinit_dead p.crypto (agreement_of p Client) y.taken.between y.taken.facts new o y.taken.does)
+      go (UnitTakes.packet (client.Reply replied.BadPoint) y) = Left.over code.BadPoint y.shown y.taken.does.refuses.dead
+      go (UnitTakes.packet (client.Reply replied.BadHost) y) = Left.over code.BadHost y.shown y.taken.does.refuses.dead
+      go (UnitTakes.packet (client.Reply replied.NumberSpent) y) = Left.over code.NumberSpent y.shown (ap (λ (s : State K). s.kept.dead) y.taken.does.after)
+      go (UnitTakes.packet (client.Reply (replied.Completed choice)) y) =
+          role_left reads p asking.lawful.sealing Client history old asking.sums.transport x.alive x.stands.live (asking.reading x.alive) bytes y.reading judged.Reply y.taken.between given new _ (λ e. cc (sym e ∙ y.shown)) y.taken.taken
+          (still_by y.taken.between new _ y.taken.does.after (announced_lines y.taken.does.announcement _))
 
   -- ---- a unit
 
@@ -112,6 +152,32 @@ module _ {K : Type 0} (laws : TurningLaws K) (below : TransportLaws K) (channel_
     took_so : (so : TransportTurn) → given ≡ so → ClientTook p.crypto (agreement_of p Client) p.trusts old bytes so between front
     took_so so same = subst (λ (t : TransportTurn). ClientTook p.crypto (agreement_of p Client) p.trusts old bytes t between front) same took
 
+    left : Left p Client history bytes given between
+    left = unit_left given between front took
+
+    begun_now : given ≡ outcome.More → Begun p.crypto bytes between
+    begun_now same = go left
+      where
+        go : Left p Client history bytes given between → Begun p.crypto bytes between
+        go (Left.waits e x) = x
+        go (Left.over why e dead) = absurd (cc (sym same ∙ e))
+        go (Left.line is more fresh opens) = absurd (more same)
+        go (Left.packet more found none opens) = absurd (more same)
+
+    -- with the payload that is shown
+    settle : Reads p Client history bytes done new → (payload : List ℕ) → UnitTurned p Client history bytes payload done (end_of new.kept later) o → (OpensShown p Client history bytes new → payload ≡ new.receiver.payload) → Turned
+    settle (Reads.waits e) payload x agrees = absurd (no_more payload x.items (subst (λ (d : Step). Shows payload d x.items) e x.shows))
+    settle (Reads.over why e dead) payload x agrees = turned_step p history bytes done new later o (record {
+      turned = refused_with p Client history bytes done (end_of new.kept later) o payload new.receiver.payload why e x;
+      begun = λ alive. absurd (false≢true (sym alive ∙ dead));
+      reading = λ alive. absurd (false≢true (sym alive ∙ dead));
+    })
+    settle (Reads.whole fresh opens) payload x agrees = turned_step p history bytes done new later o (record {
+      turned = same_with p Client history bytes done (end_of new.kept later) o payload new.receiver.payload (agrees opens) x;
+      begun = λ alive. fresh.begun;
+      reading = λ alive. fresh.reading;
+    })
+
     waiting : SumsUp p Client history between.kept → IsQuiet front → given ≡ outcome.More → Turned
     waiting sums quiet same =
         let g : GoesWhole outcome.More between layers done new later middle o.after listed o.relisted = goes_so outcome.More same in
@@ -121,16 +187,20 @@ module _ {K : Type 0} (laws : TurningLaws K) (below : TransportLaws K) (channel_
               (subst (λ (m : State K). EndSumsUp p Client history (end_of m.kept layers)) (sym g.same) (record { transport = sums; above = λ live. asking.sums.above took.alive }));
           waits = unit_waits between front taken.alive taken.stands.live taken.takes;
           quiet = record { out = g.out ∙ quiet.out; sent = g.lists ∙ quiet.sent };
+          alive = ap (λ (m : State K). m.kept.dead) g.same ∙ (begun_now same).alive;
+          begun = ap (λ (m : State K). begun_of m) g.same ∙ (begun_now same).begun;
+          reading = subst (λ (m : State K). IsReading p.crypto m) (sym g.same) (begun_now same).reading;
         })
 
     -- the transport did all
-    whole : (so : TransportTurn) → given ≡ so → is_whole so ≡ true → (payload : List ℕ) → UnitTurned p Client history bytes payload (step_given so) (kept_after layers so between.kept) front → Turned
-    whole so same is payload x =
-        turned_step p history bytes done new later o
-        (whole_turn p history bytes payload so between layers done new later o middle listed (goes_whole p.crypto so between layers done new later back is (goes_so so same)) x)
+    whole : (so : TransportTurn) → given ≡ so → is_whole so ≡ true → (payload : List ℕ) → (OpensShown p Client history bytes new → payload ≡ new.receiver.payload) → UnitTurned p Client history bytes payload (step_given so) (kept_after layers so between.kept) front → Turned
+    whole so same is payload agrees x =
+        let g : GoesWhole so between layers done new later middle o.after listed o.relisted = goes_whole p.crypto so between layers done new later back is (goes_so so same) in
+        settle (whole_reads p Client history bytes between new done so g.shown g.same (subst (λ (t : TransportTurn). Left p Client history bytes t between) same left)) payload
+        (whole_turn p history bytes payload so between layers done new later o middle listed g x) agrees
 
     refused : (why : Refusal) (so : TransportTurn) → given ≡ so → IsRefusal why so → IsQuiet front → IsLineRefusal p Client history old.kept bytes why between.kept → Turned
-    refused why (outcome.Refused so) same is quiet x = whole (outcome.Refused so) same refl [] (refused_line laws p history old.kept layers asking.sums took.alive bytes why so is between.kept front quiet x)
+    refused why (outcome.Refused so) same is quiet x = whole (outcome.Refused so) same refl new.receiver.payload (λ opens. refl) (refused_line laws p history old.kept layers asking.sums took.alive bytes why so is between.kept front quiet x)
     refused why outcome.More same is quiet x = absurd is
     refused why (outcome.Done so) same is quiet x = absurd is
     refused why (outcome.Up number) same is quiet x = absurd is
@@ -138,54 +208,51 @@ module _ {K : Type 0} (laws : TurningLaws K) (below : TransportLaws K) (channel_
 
     line : (so : LineTurn) → LineOutcome so given → IsQuiet front → LineTurnOf p Client history old.kept bytes so between.kept → Turned
     line line_turn.More same quiet x = waiting x quiet same
-    line line_turn.Other same quiet x = whole (outcome.Done effect.OtherLine) same refl [] (other_line laws p history old.kept layers asking.sums took.alive bytes between.kept front quiet x)
-    line line_turn.Version same quiet x = whole (outcome.Done effect.VersionLine) same refl [] (version_line laws p history old.kept layers asking.sums took.alive bytes between.kept front quiet x)
+    line line_turn.Other same quiet x = whole (outcome.Done effect.OtherLine) same refl new.receiver.payload (λ opens. refl) (other_line laws p history old.kept layers asking.sums took.alive bytes between.kept front quiet x)
+    line line_turn.Version same quiet x = whole (outcome.Done effect.VersionLine) same refl new.receiver.payload (λ opens. refl) (version_line laws p history old.kept layers asking.sums took.alive bytes between.kept front quiet x)
     line (line_turn.Refused why) same quiet x = refused (line_refusal why) given refl same quiet x
 
     packet : (so : PacketTurn) (number : ℕ) → is_left so ≡ false → given ≡ packet_outcome so number → PacketTurnOf p Client history old.kept bytes so between front → Turned
-    packet packet_turn.More number left same x = waiting (subst (λ (t : Transport K). SumsUp p Client history t) (sym x.after) asking.sums.transport) x.quiet same
-    packet (packet_turn.Refused why) number left same x = whole (outcome.Refused why) same refl [] (refused_packet laws p history old.kept layers asking.sums took.alive bytes why between.kept front x)
-    packet (packet_turn.Payload so) number left same x =
-        whole (payload_outcome so number) same (is_whole_packet (packet_turn.Payload so) number left) x.between.receiver.payload
-        (payload_turn laws p history old.kept layers asking.sums took.alive bytes so number between front left x)
+    packet packet_turn.More number left_not same x = waiting (subst (λ (t : Transport K). SumsUp p Client history t) (sym x.after) asking.sums.transport) x.quiet same
+    packet (packet_turn.Refused why) number left_not same x = whole (outcome.Refused why) same refl new.receiver.payload (λ opens. refl) (refused_packet laws p history old.kept layers asking.sums took.alive bytes why between.kept front x)
+    packet (packet_turn.Payload so) number left_not same x =
+        whole (payload_outcome so number) same (is_whole_packet (packet_turn.Payload so) number left_not) x.between.receiver.payload (λ opens. opens x.between.receiver.payload x.unit)
+        (payload_turn laws p history old.kept layers asking.sums took.alive bytes so number between front left_not x)
 
     above : (number : ℕ) → given ≡ outcome.Up number → IsAbove p Client history old.kept bytes between front → Turned
     above number same x =
         let g : GoesUp p.crypto between layers done new later back = goes_so (outcome.Up number) same in
         let y = finished_so laws channel_facts p history old layers asking took.alive bytes between front x g.judgement later g.judged done new back g.finished in
-        turned_step p history bytes done new later o (record {
-          payload = between.receiver.payload;
-          turned = record {
-            items = y.items;
-            more = y.more;
-            shows = y.shows;
-            turned = y.turned;
-            parts = y.parts ∙ ap (λ (l : List ℕ). l ++ y.more) x.quiet.out;
-            lists = y.lists ∙ ap (λ (l : List (List ℕ)). l ++ payloads_of (messages_sent y.items)) x.quiet.sent;
-          };
+        settle (above_reads p Client history bytes between new done number g.judgement back g.finished (subst (λ (t : TransportTurn). Left p Client history bytes t between) same left)) between.receiver.payload (record {
+          items = y.items;
+          more = y.more;
+          shows = y.shows;
+          turned = y.turned;
+          parts = y.parts ∙ ap (λ (l : List ℕ). l ++ y.more) x.quiet.out;
+          lists = y.lists ∙ ap (λ (l : List (List ℕ)). l ++ payloads_of (messages_sent y.items)) x.quiet.sent;
         })
+        (λ opens. opens between.receiver.payload x.unit)
 
     kexinit : (so : Answer) (payload : List ℕ) → given ≡ answer_outcome so effect.Kexinit → IsUnit p.crypto (stage p Client history) bytes (Opens payload) → KexinitTurn p history payload so between.kept front → Turned
-    kexinit answered.Done payload same unit x = whole (outcome.Done effect.Kexinit) same refl payload (kexinit_turn laws p history old layers asking took.alive bytes payload unit answered.Done between.kept front x)
-    kexinit answered.Spent payload same unit x = whole (outcome.Refused code.NumberSpent) same refl payload (kexinit_turn laws p history old layers asking took.alive bytes payload unit answered.Spent between.kept front x)
+    kexinit answered.Done payload same unit x = whole (outcome.Done effect.Kexinit) same refl payload (λ opens. opens payload unit) (kexinit_turn laws p history old layers asking took.alive bytes payload unit answered.Done between.kept front x)
+    kexinit answered.Spent payload same unit x = whole (outcome.Refused code.NumberSpent) same refl payload (λ opens. opens payload unit) (kexinit_turn laws p history old layers asking took.alive bytes payload unit answered.Spent between.kept front x)
 
     reply : (so : ReplyTurn) (payload : List ℕ) → given ≡ reply_outcome so → IsUnit p.crypto (stage p Client history) bytes (Opens payload) → ReplyTurnOf p history old.kept payload so between.kept front → Turned
-    reply replied.BadPoint payload same unit x = whole (outcome.Refused code.BadPoint) same refl payload (bad_point laws p history old layers asking took.alive bytes payload unit between.kept front x)
-    reply replied.BadHost payload same unit x = whole (outcome.Refused code.BadHost) same refl payload (bad_host laws p history old layers asking took.alive bytes payload unit between.kept front x)
-    reply replied.NumberSpent payload same unit x = whole (outcome.Refused code.NumberSpent) same refl payload (number_spent laws p history old layers asking took.alive bytes payload unit between.kept front x)
+    reply replied.BadPoint payload same unit x = whole (outcome.Refused code.BadPoint) same refl payload (λ opens. opens payload unit) (bad_point laws p history old layers asking took.alive bytes payload unit between.kept front x)
+    reply replied.BadHost payload same unit x = whole (outcome.Refused code.BadHost) same refl payload (λ opens. opens payload unit) (bad_host laws p history old layers asking took.alive bytes payload unit between.kept front x)
+    reply replied.NumberSpent payload same unit x = whole (outcome.Refused code.NumberSpent) same refl payload (λ opens. opens payload unit) (number_spent laws p history old layers asking took.alive bytes payload unit between.kept front x)
     reply (replied.Completed choice) payload same unit x =
         let g : GoesOn p.crypto between layers done new later back = goes_so (outcome.Completed choice) same in
         let taken = took_so (outcome.Completed choice) same in
-        turned_step p history bytes done new later o (record {
-          payload = payload;
-          turned = completed_turn laws p history old layers asking took.alive bytes payload unit between.kept
-              (below.alive p.crypto (agreement_of p Client) p.trusts old bytes choice between front taken) (below.few p.crypto (agreement_of p Client) p.trusts old bytes choice between front taken) (below.epoch p.crypto (agreement_of p Client) p.trusts old bytes choice between front taken)
-              o.before middle o.listed listed x done new later between refl o.after o.relisted g.authentication g.completing;
-        })
+        settle (ended_reads p Client history bytes between new done choice layers.channels later.channels back g.rest g.completing (subst (λ (t : TransportTurn). Left p Client history bytes t between) same left)) payload
+        (completed_turn laws p history old layers asking took.alive bytes payload unit between.kept
+        (below.alive p.crypto (agreement_of p Client) p.trusts old bytes choice between front taken) (below.few p.crypto (agreement_of p Client) p.trusts old bytes choice between front taken) (below.epoch p.crypto (agreement_of p Client) p.trusts old bytes choice between front taken)
+        o.before middle o.listed listed x done new later between refl o.after o.relisted g.authentication g.completing)
+        (λ opens. opens payload unit)
 
     turned_by : ClientTurnOf p history old.kept bytes given between front → Turned
     turned_by (ClientTurnOf.line so same quiet x) = line so same quiet x
-    turned_by (ClientTurnOf.shared so left same x) = packet so _ left same x
+    turned_by (ClientTurnOf.shared so left_not same x) = packet so _ left_not same x
     turned_by (ClientTurnOf.above same x) = above _ same x
     turned_by (ClientTurnOf.kexinit so payload same unit x) = kexinit so payload same unit x
     turned_by (ClientTurnOf.reply so payload same unit x) = reply so payload same unit x

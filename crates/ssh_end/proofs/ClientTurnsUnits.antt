@@ -42,10 +42,10 @@ module _ {K : Type 0} (laws : TurningLaws K) (p : Parties K) (history : List Ite
   abbrev Turns : TransportTurn → List ℕ → Transport K → Outs → Type 0
   Turns given payload new o = UnitTurned p Client history bytes payload (step_given given) (kept_after layers given new) o
 
-  -- ---- lines
+  -- ---- lines, with whatever payload is shown
 
-  pub other_line : (new : Transport K) (o : Outs) → IsQuiet o → LineTurnOf p Client history s bytes line_turn.Other new → Turns (outcome.Done effect.OtherLine) [] new o
-  other_line new o quiet x = record {
+  pub other_line : (new : Transport K) (o : Outs) → IsQuiet o → LineTurnOf p Client history s bytes line_turn.Other new → {payload : List ℕ} → Turns (outcome.Done effect.OtherLine) payload new o
+  other_line new o quiet x {payload} = record {
     items = Item.TookOtherLine x.text ∷ [];
     more = [];
     shows = steps.Shows.other_line x.text;
@@ -54,8 +54,8 @@ module _ {K : Type 0} (laws : TurningLaws K) (p : Parties K) (history : List Ite
     lists = quiet.sent ∙ sym (append-nil o.listed);
   }
 
-  pub version_line : (new : Transport K) (o : Outs) → IsQuiet o → LineTurnOf p Client history s bytes line_turn.Version new → Turns (outcome.Done effect.VersionLine) [] new o
-  version_line new o quiet x = record {
+  pub version_line : (new : Transport K) (o : Outs) → IsQuiet o → LineTurnOf p Client history s bytes line_turn.Version new → {payload : List ℕ} → Turns (outcome.Done effect.VersionLine) payload new o
+  version_line new o quiet x {payload} = record {
     items = Item.TookLine x.text ∷ [];
     more = [];
     shows = steps.Shows.version_line x.text;
@@ -64,8 +64,8 @@ module _ {K : Type 0} (laws : TurningLaws K) (p : Parties K) (history : List Ite
     lists = quiet.sent ∙ sym (append-nil o.listed);
   }
 
-  pub refused_line : (why : Refusal) (given : code.Refusal) → refusal_of given ≡ why → (new : Transport K) (o : Outs) → IsQuiet o → IsLineRefusal p Client history s bytes why new → Turns (outcome.Refused given) [] new o
-  refused_line why given same new o quiet x =
+  pub refused_line : (why : Refusal) (given : code.Refusal) → refusal_of given ≡ why → (new : Transport K) (o : Outs) → IsQuiet o → IsLineRefusal p Client history s bytes why new → {payload : List ℕ} → Turns (outcome.Refused given) payload new o
+  refused_line why given same new o quiet x {payload} =
       let turned : EndTurned p Client history (OnUnit p Client history bytes) (refusal_items why None []) [] (kept_after layers (outcome.Refused given) new) =
       laws.refused_line p Client history e sums alive bytes why _ [] (kept_after layers (outcome.Refused given) new) x.unit x.turned x.turned.sums.dead_is in
       record {
@@ -79,8 +79,8 @@ module _ {K : Type 0} (laws : TurningLaws K) (p : Parties K) (history : List Ite
 
   -- ---- packets
 
-  pub refused_packet : (why : code.Refusal) (new : Transport K) (o : Outs) → IsPacketRefusal p Client history s bytes (refusal_of why) new o → Turns (outcome.Refused why) [] new o
-  refused_packet why new o x = record {
+  pub refused_packet : (why : code.Refusal) (new : Transport K) (o : Outs) → IsPacketRefusal p Client history s bytes (refusal_of why) new o → {payload : List ℕ} → Turns (outcome.Refused why) payload new o
+  refused_packet why new o x {payload} = record {
     items = refusal_items (refusal_of why) None x.said;
     more = x.more;
     shows = steps.Shows.refused why None x.said;

@@ -16,7 +16,6 @@ use Rattle.ssh_transport_machine.specs.declared.outcome.TransportTurn.{Transport
 use Rattle.ssh_transport_machine.specs.declared.outcome.TransportTurn.TheVariants as outcome
 use Rattle.ssh_end.specs.Effects.{is_accepted, is_whole, opened_where, step_given}
 use Rattle.ssh_end.specs.ClientLayers.{Layers}
-use Rattle.ssh_end.specs.ClientTurns.{IsUnitTurned}
 use Rattle.ssh_end.specs.ClientUnits.{Goes, GoesWhole, opened_layers}
 use Rattle.ssh_end.specs.ClientSessions.{end_of}
 use Rattle.ssh_end.specs.Steps.{Shows, UnitTurned}
@@ -56,18 +55,15 @@ goes_whole c (outcome.Done done_so) between old done new later o e x = x
 -- a turn of the transport is that of the end
 pub whole_turn : {K : Type 0} (p : Parties K) (history : List Item) (bytes payload : List ℕ) (given : TransportTurn) (between : State K) (layers : Layers) (done : Step) (new : State K) (later : Layers) (o : Outs) (middle : List ℕ) (listed : List (List ℕ)) →
     GoesWhole given between layers done new later middle o.after listed o.relisted →
-    UnitTurned p Client history bytes payload (step_given given) (kept_after layers given between.kept) (record { before = o.before; after = middle; listed = o.listed; relisted = listed }) → IsUnitTurned p history bytes done new later o
+    UnitTurned p Client history bytes payload (step_given given) (kept_after layers given between.kept) (record { before = o.before; after = middle; listed = o.listed; relisted = listed }) → UnitTurned p Client history bytes payload done (end_of new.kept later) o
 whole_turn {K} p history bytes payload given between layers done new later o middle listed x y =
     let ends : kept_after layers given between.kept ≡ end_of new.kept later =
     sym (ap (λ (w : State K). end_of w.kept later) x.same ∙ (ap (λ (l : Layers). end_of between.kept l) x.layers_are ∙ same_end between.kept layers given)) in
     record {
-      payload = payload;
-      turned = record {
-        items = y.items;
-        more = y.more;
-        shows = subst (λ (d : Step). Shows payload d y.items) (sym x.shown) y.shows;
-        turned = subst (λ (e : EndState K). EndTurned p Client history (OnUnit p Client history bytes) y.items y.more e) ends y.turned;
-        parts = x.out ∙ y.parts;
-        lists = x.lists ∙ y.lists;
-      };
+      items = y.items;
+      more = y.more;
+      shows = subst (λ (d : Step). Shows payload d y.items) (sym x.shown) y.shows;
+      turned = subst (λ (e : EndState K). EndTurned p Client history (OnUnit p Client history bytes) y.items y.more e) ends y.turned;
+      parts = x.out ∙ y.parts;
+      lists = x.lists ∙ y.lists;
     }

@@ -19,6 +19,8 @@ pub mod AsksConnection
 pub mod AsksSessions
 pub mod AsksUser
 pub mod TurningWhole
+pub mod TurningBegun
+pub mod TurningReads
 pub mod TurningLaws
 pub mod TurningReplies
 pub mod TurningEnds

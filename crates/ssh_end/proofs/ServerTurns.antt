@@ -1,5 +1,6 @@
 -- What a server's end does with the bytes of one line or one packet is what the server of a session does with them.
-use Rattle.std.proofs.Common.{◌≡◌, ℕ, ◌+◌, ◌≤◌, ◌++◌, true, false, List, [], refl, ap, sym, ◌∙◌, subst}
+use Rattle.std.proofs.Common.{◌≡◌, ℕ, ◌+◌, ◌≤◌, ◌++◌, true, false, List, refl, ap, sym, ◌∙◌, subst, Option, None, Some}
+use Rattle.std.proofs.lemmas.Bool.{false≢true}
 use Rattle.ssh_model.specs.Side.{Side, Side.Server}
 use Rattle.ssh_model.specs.Authentication.Requests.{judge_of}
 use Rattle.ssh_model.specs.End.Reading.{end_reading}
@@ -18,11 +19,13 @@ use Rattle.ssh_kex.specs.declared.owned_choice.OwnedChoice.{OwnedChoice}
 use Rattle.ssh_packet.specs.Refusals.{line_refusal}
 use Rattle.ssh_auth.specs.Serving as serving_layer
 use Rattle.ssh_transport_machine.specs.Outcomes.{IsRefusal, LineOutcome, packet_outcome, payload_outcome}
+use Rattle.ssh_transport_machine.specs.Finishing.{after_announced}
 use Rattle.ssh_transport_machine.specs.Puts.{Outs, payloads_of}
 use Rattle.ssh_transport_machine.specs.Sessions.{IsAbove, is_left}
 use Rattle.ssh_transport_machine.specs.Shown.{IsLineRefusal, LineTurnOf, PacketTurnOf}
 use Rattle.ssh_transport_machine.specs.State.{IsLive, State}
 use Rattle.ssh_transport_machine.specs.Turning.{IsQuiet, PacketTaken}
+use Rattle.ssh_transport_machine.specs.declared.machine.judging.Judged.TheVariants as judged
 use Rattle.ssh_transport_machine.specs.declared.machine.line_turn.LineTurn.{LineTurn}
 use Rattle.ssh_transport_machine.specs.declared.machine.line_turn.LineTurn.TheVariants as line_turn
 use Rattle.ssh_transport_machine.specs.declared.machine.turn.Answer.TheVariants as answered
@@ -34,24 +37,27 @@ use Rattle.ssh_transport_machine.specs.declared.outcome.Effect.TheVariants as ef
 use Rattle.ssh_transport_machine.specs.declared.outcome.TransportTurn.{TransportTurn}
 use Rattle.ssh_transport_machine.specs.declared.outcome.TransportTurn.TheVariants as outcome
 use Rattle.ssh_transport_server.specs.Sessions.{PointTurnOf, ServerTurnOf}
-use Rattle.ssh_transport_server.specs.Transport.{ServerTook, UnitTakes, init_outcome}
+use Rattle.ssh_transport_server.specs.Transport.{ServerTook, UnitTakes, begun_of, init_outcome}
 use Rattle.ssh_transport_server.specs.declared.init.InitTurn.{InitTurn}
 use Rattle.ssh_transport_server.specs.declared.init.InitTurn.TheVariants as init
 use Rattle.ssh_transport_server.specs.declared.packet.ServerTurn.TheVariants as server
 use Rattle.ssh_types.specs.declared.refusal.Refusal.TheVariants as code
-use Rattle.ssh_end.specs.Effects.{is_whole, step_given}
+use Rattle.ssh_end.specs.Effects.{is_requested, is_whole, step_given}
 use Rattle.ssh_end.specs.Layers.{Layers}
+use Rattle.ssh_end.specs.Reading.{IsReading}
 use Rattle.ssh_end.specs.ServerTurns.{IsServing, IsUnitTurned, ServerTurned}
 use Rattle.ssh_end.specs.ServerUnits.{Goes, GoesOn, GoesUp, GoesWhole, ServerGoes}
 use Rattle.ssh_end.specs.Sessions.{AreOf, end_of}
-use Rattle.ssh_end.specs.Steps.{UnitTurned}
+use Rattle.ssh_end.specs.Steps.{Shows, UnitTurned}
 use Rattle.ssh_end.specs.declared.step.Step.{Step}
 use Rattle.ssh_end.specs.declared.step.Step.TheVariants as step
+use Rattle.ssh_end.proofs.TurningBegun.{Begun, still_by}
 use Rattle.ssh_end.proofs.Judging.{ChannelFacts, ServerFacts}
+use Rattle.ssh_end.proofs.TurningReads.{Left, OpensShown, ReadingLaws, Reads, above_reads, ended_reads, line_left, packet_left, refused_with, role_left, same_with, whole_reads}
 use Rattle.ssh_end.proofs.ServerTurnsAbove.{finished_so, still_judged}
 use Rattle.ssh_end.proofs.ServerTurnsPoint.{bad_point, completed_turn, number_spent}
 use Rattle.ssh_end.proofs.ServerTurnsUnits.{other_line, payload_turn, refused_line, refused_packet, version_line}
-use Rattle.ssh_end.proofs.ServerTurnsWhole.{goes_whole, kept_after, whole_turn}
+use Rattle.ssh_end.proofs.ServerTurnsWhole.{goes_whole, kept_after, still_of, whole_turn}
 use Rattle.ssh_end.proofs.TurningLaws.{TurningLaws}
 use Rattle.ssh_end.proofs.TurningWhole.{is_whole_packet, no_more}
 
@@ -65,14 +71,19 @@ pub record TransportLaws (K : Type 0) : Type 0 where
 
 -- What is no whole line or packet is a step of its own.
 turned_step : {K : Type 0} (p : Parties K) (history : List Item) (bytes : List ℕ) (done : Step) (new : State K) (later : Layers) (o : Outs) → IsUnitTurned p history bytes done new later o → ServerTurned p history bytes done new later o
-turned_step p history bytes step.More new later o x = absurd (no_more x.payload x.turned.items x.turned.shows)
+turned_step p history bytes step.More new later o x = absurd (no_more new.receiver.payload x.turned.items x.turned.shows)
 turned_step p history bytes step.OtherLine new later o x = x
 turned_step p history bytes step.VersionLine new later o x = x
 turned_step p history bytes step.Skipped new later o x = x
 turned_step p history bytes (step.Took took) new later o x = x
 turned_step p history bytes (step.Refused why) new later o x = x
 
-module _ {K : Type 0} (laws : TurningLaws K) (below : TransportLaws K) (server_facts : ServerFacts) (channel_facts : ChannelFacts) (p : Parties K) (history : List Item) (old : State K) (layers : Layers) (serving : IsServing p history old layers) (bytes : List ℕ) where
+-- what is announced behind an exchange is no line
+announced_lines : {K : Type 0} (announcement : Option (List ℕ)) (s : Transport K) → (after_announced announcement s).lines ≡ s.lines
+announced_lines None s = refl
+announced_lines (Some payload) s = refl
+
+module _ {K : Type 0} (laws : TurningLaws K) (reads : ReadingLaws K) (below : TransportLaws K) (server_facts : ServerFacts) (channel_facts : ChannelFacts) (p : Parties K) (history : List Item) (old : State K) (layers : Layers) (serving : IsServing p history old layers) (bytes : List ℕ) where
   -- ---- bytes that are no whole unit
 
   payload_waits : (done : PayloadTurn) (number : ℕ) → outcome.More ≡ payload_outcome done number → ⊥
@@ -105,6 +116,20 @@ module _ {K : Type 0} (laws : TurningLaws K) (below : TransportLaws K) (server_f
   unit_waits new o alive live (UnitTakes.packet (server.Point init.NumberSpent) x) = absurd (cc x.shown)
   unit_waits new o alive live (UnitTakes.packet (server.Point (init.Completed choice)) x) = absurd (cc x.shown)
 
+  -- ---- what is left of it
+
+  unit_left : (given : TransportTurn) (new : State K) (o : Outs) → ServerTook p.crypto (parts_of p Server) old bytes given new o → Left p Server history bytes given new
+  unit_left given new o x = go x.takes
+    where
+      go : UnitTakes p.crypto (parts_of p Server) old bytes given new o → Left p Server history bytes given new
+      go (UnitTakes.line done y) = line_left reads p serving.lawful.sealing Server history old serving.sums.transport x.alive x.stands.live (serving.reading x.alive) bytes y.reading done given new y.taken y.shown
+      go (UnitTakes.packet (server.Shared done) y) = packet_left reads p serving.lawful.sealing Server history old serving.sums.transport x.alive x.stands.live (serving.reading x.alive) bytes y.reading _ done given new o y.shown y.taken.taken
+      go (UnitTakes.packet (server.Point init.BadPoint) y) = Left.over code.BadPoint y.shown y.taken.does.refuses.dead
+      go (UnitTakes.packet (server.Point init.NumberSpent) y) = Left.over code.NumberSpent y.shown (ap (λ (s : State K). s.kept.dead) y.taken.does.after)
+      go (UnitTakes.packet (server.Point (init.Completed choice)) y) =
+          role_left reads p serving.lawful.sealing Server history old serving.sums.transport x.alive x.stands.live (serving.reading x.alive) bytes y.reading judged.Init y.taken.between given new _ (λ e. cc (sym e ∙ y.shown)) y.taken.taken
+          (still_by y.taken.between new _ y.taken.does.after (announced_lines y.taken.does.announcement _))
+
   -- ---- a unit
 
   module _ (done : Step) (new : State K) (later : Layers) (o : Outs) (given : TransportTurn) (between : State K) (middle : List ℕ) (listed : List (List ℕ))
@@ -125,6 +150,34 @@ module _ {K : Type 0} (laws : TurningLaws K) (below : TransportLaws K) (server_f
     took_so : (so : TransportTurn) → given ≡ so → ServerTook p.crypto (parts_of p Server) old bytes so between front
     took_so so same = subst (λ (t : TransportTurn). ServerTook p.crypto (parts_of p Server) old bytes t between front) same took
 
+    left : Left p Server history bytes given between
+    left = unit_left given between front took
+
+    begun_now : given ≡ outcome.More → Begun p.crypto bytes between
+    begun_now same = go left
+      where
+        go : Left p Server history bytes given between → Begun p.crypto bytes between
+        go (Left.waits e x) = x
+        go (Left.over why e dead) = absurd (cc (sym same ∙ e))
+        go (Left.line is more fresh opens) = absurd (more same)
+        go (Left.packet more found none opens) = absurd (more same)
+
+    -- with the payload that is shown
+    settle : Reads p Server history bytes done new → (payload : List ℕ) → UnitTurned p Server history bytes payload done (end_of new.kept later) o → AreOf p later → (OpensShown p Server history bytes new → payload ≡ new.receiver.payload) → Turned
+    settle (Reads.waits e) payload x are agrees = absurd (no_more payload x.items (subst (λ (d : Step). Shows payload d x.items) e x.shows))
+    settle (Reads.over why e dead) payload x are agrees = turned_step p history bytes done new later o (record {
+      turned = refused_with p Server history bytes done (end_of new.kept later) o payload new.receiver.payload why e x;
+      begun = λ alive. absurd (false≢true (sym alive ∙ dead));
+      reading = λ alive. absurd (false≢true (sym alive ∙ dead));
+      layers_are = are;
+    })
+    settle (Reads.whole fresh opens) payload x are agrees = turned_step p history bytes done new later o (record {
+      turned = same_with p Server history bytes done (end_of new.kept later) o payload new.receiver.payload (agrees opens) x;
+      begun = λ alive. fresh.begun;
+      reading = λ alive. fresh.reading;
+      layers_are = are;
+    })
+
     waiting : SumsUp p Server history between.kept → IsQuiet front → given ≡ outcome.More → Turned
     waiting sums quiet same =
         let g : GoesWhole outcome.More between layers done new later middle o.after listed o.relisted = goes_so outcome.More same in
@@ -134,17 +187,22 @@ module _ {K : Type 0} (laws : TurningLaws K) (below : TransportLaws K) (server_f
               (subst (λ (m : State K). EndSumsUp p Server history (end_of m.kept layers)) (sym g.same) (record { transport = sums; above = λ live. serving.sums.above took.alive }));
           waits = unit_waits between front taken.alive taken.stands.live taken.takes;
           quiet = record { out = g.out ∙ quiet.out; sent = g.lists ∙ quiet.sent };
+          alive = ap (λ (m : State K). m.kept.dead) g.same ∙ (begun_now same).alive;
+          begun = ap (λ (m : State K). begun_of m) g.same ∙ (begun_now same).begun;
+          reading = subst (λ (m : State K). IsReading p.crypto m) (sym g.same) (begun_now same).reading;
           layers_are = subst (λ (l : Layers). AreOf p l) (sym g.layers_are) serving.layers_are;
         })
 
     -- the transport did all
-    whole : (so : TransportTurn) → given ≡ so → is_whole so ≡ true → (payload : List ℕ) → UnitTurned p Server history bytes payload (step_given so) (kept_after layers so between.kept) front → Turned
-    whole so same is payload x =
-        turned_step p history bytes done new later o
-        (whole_turn p history bytes payload so between layers done new later o middle listed serving.layers_are (goes_whole p.crypto (judge_of p) so between layers done new later back is (goes_so so same)) x)
+    whole : (so : TransportTurn) → given ≡ so → is_whole so ≡ true → (payload : List ℕ) → (OpensShown p Server history bytes new → payload ≡ new.receiver.payload) → UnitTurned p Server history bytes payload (step_given so) (kept_after layers so between.kept) front → Turned
+    whole so same is payload agrees x =
+        let g : GoesWhole so between layers done new later middle o.after listed o.relisted = goes_whole p.crypto (judge_of p) so between layers done new later back is (goes_so so same) in
+        settle (whole_reads p Server history bytes between new done so g.shown g.same (subst (λ (t : TransportTurn). Left p Server history bytes t between) same left)) payload
+        (whole_turn p history bytes payload so between layers done new later o middle listed g x)
+        (subst (λ (l : Layers). AreOf p l) (sym g.layers_are) (still_of p (is_requested so) layers serving.layers_are)) agrees
 
     refused : (why : Refusal) (so : TransportTurn) → given ≡ so → IsRefusal why so → IsQuiet front → IsLineRefusal p Server history old.kept bytes why between.kept → Turned
-    refused why (outcome.Refused so) same is quiet x = whole (outcome.Refused so) same refl [] (refused_line laws p history old.kept layers serving.sums took.alive bytes why so is between.kept front quiet x)
+    refused why (outcome.Refused so) same is quiet x = whole (outcome.Refused so) same refl new.receiver.payload (λ opens. refl) (refused_line laws p history old.kept layers serving.sums took.alive bytes why so is between.kept front quiet x)
     refused why outcome.More same is quiet x = absurd is
     refused why (outcome.Done so) same is quiet x = absurd is
     refused why (outcome.Up number) same is quiet x = absurd is
@@ -152,54 +210,51 @@ module _ {K : Type 0} (laws : TurningLaws K) (below : TransportLaws K) (server_f
 
     line : (so : LineTurn) → LineOutcome so given → IsQuiet front → LineTurnOf p Server history old.kept bytes so between.kept → Turned
     line line_turn.More same quiet x = waiting x quiet same
-    line line_turn.Other same quiet x = whole (outcome.Done effect.OtherLine) same refl [] (other_line laws p history old.kept layers serving.sums took.alive bytes between.kept front quiet x)
-    line line_turn.Version same quiet x = whole (outcome.Done effect.VersionLine) same refl [] (version_line laws p history old.kept layers serving.sums took.alive bytes between.kept front quiet x)
+    line line_turn.Other same quiet x = whole (outcome.Done effect.OtherLine) same refl new.receiver.payload (λ opens. refl) (other_line laws p history old.kept layers serving.sums took.alive bytes between.kept front quiet x)
+    line line_turn.Version same quiet x = whole (outcome.Done effect.VersionLine) same refl new.receiver.payload (λ opens. refl) (version_line laws p history old.kept layers serving.sums took.alive bytes between.kept front quiet x)
     line (line_turn.Refused why) same quiet x = refused (line_refusal why) given refl same quiet x
 
     packet : (so : PacketTurn) (number : ℕ) → is_left so ≡ false → given ≡ packet_outcome so number → PacketTurnOf p Server history old.kept bytes so between front → Turned
-    packet packet_turn.More number left same x = waiting (subst (λ (t : Transport K). SumsUp p Server history t) (sym x.after) serving.sums.transport) x.quiet same
-    packet (packet_turn.Refused why) number left same x = whole (outcome.Refused why) same refl [] (refused_packet laws p history old.kept layers serving.sums took.alive bytes why between.kept front x)
-    packet (packet_turn.Payload so) number left same x =
-        whole (payload_outcome so number) same (is_whole_packet (packet_turn.Payload so) number left) x.between.receiver.payload
-        (payload_turn laws p history old.kept layers serving.sums took.alive bytes so number between front left x)
+    packet packet_turn.More number left_not same x = waiting (subst (λ (t : Transport K). SumsUp p Server history t) (sym x.after) serving.sums.transport) x.quiet same
+    packet (packet_turn.Refused why) number left_not same x = whole (outcome.Refused why) same refl new.receiver.payload (λ opens. refl) (refused_packet laws p history old.kept layers serving.sums took.alive bytes why between.kept front x)
+    packet (packet_turn.Payload so) number left_not same x =
+        whole (payload_outcome so number) same (is_whole_packet (packet_turn.Payload so) number left_not) x.between.receiver.payload (λ opens. opens x.between.receiver.payload x.unit)
+        (payload_turn laws p history old.kept layers serving.sums took.alive bytes so number between front left_not x)
 
     above : (number : ℕ) → given ≡ outcome.Up number → IsAbove p Server history old.kept bytes between front → Turned
     above number same x =
         let g : GoesUp p.crypto (judge_of p) between layers done new later back = goes_so (outcome.Up number) same in
         let y = finished_so laws server_facts channel_facts p history old layers serving took.alive bytes between front x g.judgement later g.judged done new back g.finished in
-        turned_step p history bytes done new later o (record {
-          payload = between.receiver.payload;
-          turned = record {
-            items = y.items;
-            more = y.more;
-            shows = y.shows;
-            turned = y.turned;
-            parts = y.parts ∙ ap (λ (l : List ℕ). l ++ y.more) x.quiet.out;
-            lists = y.lists ∙ ap (λ (l : List (List ℕ)). l ++ payloads_of (messages_sent y.items)) x.quiet.sent;
-          };
-          layers_are = still_judged laws server_facts channel_facts p history old layers serving took.alive bytes between front x g.judgement later g.judged;
+        settle (above_reads p Server history bytes between new done number g.judgement back g.finished (subst (λ (t : TransportTurn). Left p Server history bytes t between) same left)) between.receiver.payload (record {
+          items = y.items;
+          more = y.more;
+          shows = y.shows;
+          turned = y.turned;
+          parts = y.parts ∙ ap (λ (l : List ℕ). l ++ y.more) x.quiet.out;
+          lists = y.lists ∙ ap (λ (l : List (List ℕ)). l ++ payloads_of (messages_sent y.items)) x.quiet.sent;
         })
+        (still_judged laws server_facts channel_facts p history old layers serving took.alive bytes between front x g.judgement later g.judged)
+        (λ opens. opens between.receiver.payload x.unit)
 
     point : (so : InitTurn) (payload : List ℕ) → given ≡ init_outcome so → IsUnit p.crypto (stage p Server history) bytes (Opens payload) → PointTurnOf p history old.kept payload so between.kept front → Turned
-    point init.BadPoint payload same unit x = whole (outcome.Refused code.BadPoint) same refl payload (bad_point laws p history old layers serving took.alive bytes payload unit between.kept front x)
-    point init.NumberSpent payload same unit x = whole (outcome.Refused code.NumberSpent) same refl payload (number_spent laws p history old layers serving took.alive bytes payload unit between.kept front x)
+    point init.BadPoint payload same unit x = whole (outcome.Refused code.BadPoint) same refl payload (λ opens. opens payload unit) (bad_point laws p history old layers serving took.alive bytes payload unit between.kept front x)
+    point init.NumberSpent payload same unit x = whole (outcome.Refused code.NumberSpent) same refl payload (λ opens. opens payload unit) (number_spent laws p history old layers serving took.alive bytes payload unit between.kept front x)
     point (init.Completed choice) payload same unit x =
         let g : GoesOn p.crypto between layers done new later back = goes_so (outcome.Completed choice) same in
         let taken = took_so (outcome.Completed choice) same in
-        turned_step p history bytes done new later o (record {
-          payload = payload;
-          turned = completed_turn laws p history old layers serving took.alive bytes payload unit between.kept
-              (below.alive p.crypto (parts_of p Server) old bytes choice between front taken) (below.few p.crypto (parts_of p Server) old bytes choice between front taken) (below.epoch p.crypto (parts_of p Server) old bytes choice between front taken)
-              o.before middle o.listed listed x done new later between refl o.after o.relisted g.authentication g.completing;
-          layers_are = record {
-            tries = ap (λ (a : serving_layer.Server). a.tries) g.authentication ∙ serving.layers_are.tries;
-            methods = ap (λ (a : serving_layer.Server). a.methods) g.authentication ∙ serving.layers_are.methods;
-          };
+        settle (ended_reads p Server history bytes between new done choice layers.channels later.channels back g.rest g.completing (subst (λ (t : TransportTurn). Left p Server history bytes t between) same left)) payload
+        (completed_turn laws p history old layers serving took.alive bytes payload unit between.kept
+        (below.alive p.crypto (parts_of p Server) old bytes choice between front taken) (below.few p.crypto (parts_of p Server) old bytes choice between front taken) (below.epoch p.crypto (parts_of p Server) old bytes choice between front taken)
+        o.before middle o.listed listed x done new later between refl o.after o.relisted g.authentication g.completing)
+        (record {
+          tries = ap (λ (a : serving_layer.Server). a.tries) g.authentication ∙ serving.layers_are.tries;
+          methods = ap (λ (a : serving_layer.Server). a.methods) g.authentication ∙ serving.layers_are.methods;
         })
+        (λ opens. opens payload unit)
 
     turned_by : ServerTurnOf p history old.kept bytes given between front → Turned
     turned_by (ServerTurnOf.line so same quiet x) = line so same quiet x
-    turned_by (ServerTurnOf.shared so left same x) = packet so _ left same x
+    turned_by (ServerTurnOf.shared so left_not same x) = packet so _ left_not same x
     turned_by (ServerTurnOf.above same x) = above _ same x
     turned_by (ServerTurnOf.point so payload same unit x) = point so payload same unit x
 

@@ -17,7 +17,6 @@ use Rattle.ssh_transport_machine.specs.declared.outcome.TransportTurn.{Transport
 use Rattle.ssh_transport_machine.specs.declared.outcome.TransportTurn.TheVariants as outcome
 use Rattle.ssh_end.specs.Effects.{is_requested, is_whole, opened_where, step_given}
 use Rattle.ssh_end.specs.Layers.{Layers}
-use Rattle.ssh_end.specs.ServerTurns.{IsUnitTurned}
 use Rattle.ssh_end.specs.ServerUnits.{Goes, GoesWhole, opened_layers}
 use Rattle.ssh_end.specs.Sessions.{AreOf, end_of}
 use Rattle.ssh_end.specs.Steps.{Shows, UnitTurned}
@@ -60,20 +59,16 @@ goes_whole c judge (outcome.Done done_so) between old done new later o e x = x
 
 -- a turn of the transport is that of the end
 pub whole_turn : {K : Type 0} (p : Parties K) (history : List Item) (bytes payload : List ℕ) (given : TransportTurn) (between : State K) (layers : Layers) (done : Step) (new : State K) (later : Layers) (o : Outs) (middle : List ℕ) (listed : List (List ℕ)) →
-    AreOf p layers → GoesWhole given between layers done new later middle o.after listed o.relisted →
-    UnitTurned p Server history bytes payload (step_given given) (kept_after layers given between.kept) (record { before = o.before; after = middle; listed = o.listed; relisted = listed }) → IsUnitTurned p history bytes done new later o
-whole_turn {K} p history bytes payload given between layers done new later o middle listed are x y =
+    GoesWhole given between layers done new later middle o.after listed o.relisted →
+    UnitTurned p Server history bytes payload (step_given given) (kept_after layers given between.kept) (record { before = o.before; after = middle; listed = o.listed; relisted = listed }) → UnitTurned p Server history bytes payload done (end_of new.kept later) o
+whole_turn {K} p history bytes payload given between layers done new later o middle listed x y =
     let ends : kept_after layers given between.kept ≡ end_of new.kept later =
     sym (ap (λ (w : State K). end_of w.kept later) x.same ∙ (ap (λ (l : Layers). end_of between.kept l) x.layers_are ∙ same_end between.kept layers given)) in
     record {
-      payload = payload;
-      turned = record {
-        items = y.items;
-        more = y.more;
-        shows = subst (λ (d : Step). Shows payload d y.items) (sym x.shown) y.shows;
-        turned = subst (λ (e : EndState K). EndTurned p Server history (OnUnit p Server history bytes) y.items y.more e) ends y.turned;
-        parts = x.out ∙ y.parts;
-        lists = x.lists ∙ y.lists;
-      };
-      layers_are = subst (λ (l : Layers). AreOf p l) (sym x.layers_are) (still_of p (is_requested given) layers are);
+      items = y.items;
+      more = y.more;
+      shows = subst (λ (d : Step). Shows payload d y.items) (sym x.shown) y.shows;
+      turned = subst (λ (e : EndState K). EndTurned p Server history (OnUnit p Server history bytes) y.items y.more e) ends y.turned;
+      parts = x.out ∙ y.parts;
+      lists = x.lists ∙ y.lists;
     }

@@ -1,5 +1,5 @@
 -- What a client's end makes of the bytes of one line or one packet, as a turn of a session.
-use Rattle.std.specs.Prelude.{◌≡◌, ℕ, None, List}
+use Rattle.std.specs.Prelude.{◌≡◌, ℕ, false, None, List, []}
 use Rattle.ssh_model.specs.Side.{Side.Client}
 use Rattle.ssh_model.specs.End.Reading.{end_reading}
 use Rattle.ssh_model.specs.End.Summary.{EndSumsUp}
@@ -11,31 +11,40 @@ use Rattle.ssh_model.specs.Wire.Delivery.{Waits}
 use Rattle.ssh_transport_machine.specs.Puts.{Outs}
 use Rattle.ssh_transport_machine.specs.State.{State}
 use Rattle.ssh_transport_machine.specs.Turning.{IsQuiet}
+use Rattle.ssh_transport_client.specs.Transport.{begun_of}
 use Rattle.ssh_end.specs.ClientLayers.{Layers}
 use Rattle.ssh_end.specs.ClientSessions.{end_of}
+use Rattle.ssh_end.specs.Reading.{IsReading}
 use Rattle.ssh_end.specs.Steps.{UnitTurned}
 use Rattle.ssh_end.specs.declared.step.Step.{Step}
 use Rattle.ssh_end.specs.declared.step.Step.TheVariants as step
 
--- What a client keeps sums up the history of a run of an end of lawful parties. Outside an exchange there is a session id.
+-- What a client keeps sums up the history of a run of an end of lawful parties. Outside an exchange there is a session id, and
+-- what is begun is a prefix of a line or of a packet.
 pub record IsAsking {K : Type 0} (p : Parties K) (history : List Item) (old : State K) (layers : Layers) : Type 0 where
   pub lawful : AreLawful p
   pub sums : EndSumsUp p Client history (end_of old.kept layers)
   pub run : EndRun p Client history
   pub identified : old.kept.phase ≡ Normal → old.kept.session ≡ None → ⊥
+  pub reading : old.kept.dead ≡ false → IsReading p.crypto old
 
--- The bytes are no whole line or packet yet: nothing is put out, and the history is as it was.
+-- The bytes are no whole line or packet yet: they are begun, nothing is put out, and the history is as it was.
 pub record IsWaiting {K : Type 0} (p : Parties K) (history : List Item) (bytes : List ℕ) (new : State K)
     (later : Layers) (o : Outs) : Type 0 where
   pub sums : EndSumsUp p Client history (end_of new.kept later)
   pub waits : Waits (end_reading p Client) history bytes
   pub quiet : IsQuiet o
+  pub alive : new.kept.dead ≡ false
+  pub begun : begun_of new ≡ bytes
+  pub reading : IsReading p.crypto new
 
--- The bytes are one line or one packet, and what was done with it is a turn of a session.
+-- The bytes are one line or one packet, and what was done with it, with the payload that is shown, is a turn of a session.
+-- Nothing more is begun.
 pub record IsUnitTurned {K : Type 0} (p : Parties K) (history : List Item) (bytes : List ℕ) (done : Step) (new : State K)
     (later : Layers) (o : Outs) : Type 0 where
-  pub payload : List ℕ
-  pub turned : UnitTurned p Client history bytes payload done (end_of new.kept later) o
+  pub turned : UnitTurned p Client history bytes new.receiver.payload done (end_of new.kept later) o
+  pub begun : new.kept.dead ≡ false → begun_of new ≡ []
+  pub reading : new.kept.dead ≡ false → IsReading p.crypto new
 
 -- the one or the other, by what was done
 abbrev pub ClientTurned : {K : Type 0} → Parties K → (history : List Item) → (bytes : List ℕ) → Step → State K →

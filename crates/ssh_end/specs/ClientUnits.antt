@@ -3,7 +3,6 @@ use Rattle.std.specs.Prelude.{◌≡◌, ℕ, Bool, true, false, List}
 use Rattle.ssh_model.specs.Authentication.Kept.{opened_client}
 use Rattle.ssh_model.specs.Sessions.Parties.{Agreement}
 use Rattle.ssh_model.specs.Wire.Sealing.{Crypto}
-use Rattle.ssh_kex.specs.declared.owned_choice.OwnedChoice.{OwnedChoice}
 use Rattle.ssh_transport_machine.specs.Puts.{Outs}
 use Rattle.ssh_transport_machine.specs.State.{State}
 use Rattle.ssh_transport_machine.specs.declared.outcome.TransportTurn.{TransportTurn}
@@ -40,11 +39,12 @@ pub record GoesUp {K : Type 0} (c : Crypto K) (between : State K) (old : Layers)
   pub judged : JudgesPayload between old judgement later
   pub finished : Finished c between judgement done new o
 
--- An exchange was ended, and what was owed is given behind it.
+-- An exchange was ended, and what was owed is given behind it; what is read is as before.
 pub record GoesOn {K : Type 0} (c : Crypto K) (between : State K) (old : Layers) (done : Step) (new : State K)
     (later : Layers) (o : Outs) : Type 0 where
   pub completing : Completing c between old.channels done new later.channels o
   pub authentication : later.authentication ≡ old.authentication
+  pub rest : new ≡ record between { kept = new.kept }
 
 -- what is done with an answer of the transport
 abbrev pub Goes : {K : Type 0} → Crypto K → TransportTurn → State K → Layers → Step → State K → Layers → Outs →

@@ -20,3 +20,4 @@ pub mod Asking
 pub mod ClientUnits
 pub mod ClientTurns
 pub mod Ends
+pub mod Reading

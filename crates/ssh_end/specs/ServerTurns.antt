@@ -1,5 +1,5 @@
 -- What a server's end makes of the bytes of one line or one packet, as a turn of a session.
-use Rattle.std.specs.Prelude.{◌≡◌, ℕ, false, None, List}
+use Rattle.std.specs.Prelude.{◌≡◌, ℕ, false, None, List, []}
 use Rattle.ssh_model.specs.Side.{Side.Server}
 use Rattle.ssh_model.specs.End.Reading.{end_reading}
 use Rattle.ssh_model.specs.End.Summary.{EndSumsUp}
@@ -13,35 +13,44 @@ use Rattle.ssh_model.specs.Wire.Message.{Msg.UserauthFailure}
 use Rattle.ssh_transport_machine.specs.Puts.{Outs}
 use Rattle.ssh_transport_machine.specs.State.{State}
 use Rattle.ssh_transport_machine.specs.Turning.{IsQuiet}
+use Rattle.ssh_transport_server.specs.Transport.{begun_of}
 use Rattle.ssh_end.specs.Layers.{Layers}
+use Rattle.ssh_end.specs.Reading.{IsReading}
 use Rattle.ssh_end.specs.Sessions.{AreOf, end_of}
 use Rattle.ssh_end.specs.Steps.{UnitTurned}
 use Rattle.ssh_end.specs.declared.step.Step.{Step}
 use Rattle.ssh_end.specs.declared.step.Step.TheVariants as step
 
 -- What a server keeps sums up the history of a run of an end of lawful parties, whose server has these layers. Outside
--- an exchange there is a session id, and the methods that the server names fit into a packet.
+-- an exchange there is a session id, the methods that the server names fit into a packet, and what is begun is a prefix of
+-- a line or of a packet.
 pub record IsServing {K : Type 0} (p : Parties K) (history : List Item) (old : State K) (layers : Layers) : Type 0 where
   pub lawful : AreLawful p
   pub layers_are : AreOf p layers
   pub sums : EndSumsUp p Server history (end_of old.kept layers)
   pub run : EndRun p Server history
   pub identified : old.kept.phase ≡ Normal → old.kept.session ≡ None → ⊥
+  pub reading : old.kept.dead ≡ false → IsReading p.crypto old
   pub failure : HasSpelling (UserauthFailure p.server.methods false)
 
--- The bytes are no whole line or packet yet: nothing is put out, and the history is as it was.
+-- The bytes are no whole line or packet yet: they are begun, nothing is put out, and the history is as it was.
 pub record IsWaiting {K : Type 0} (p : Parties K) (history : List Item) (bytes : List ℕ) (new : State K)
     (later : Layers) (o : Outs) : Type 0 where
   pub sums : EndSumsUp p Server history (end_of new.kept later)
   pub waits : Waits (end_reading p Server) history bytes
   pub quiet : IsQuiet o
+  pub alive : new.kept.dead ≡ false
+  pub begun : begun_of new ≡ bytes
+  pub reading : IsReading p.crypto new
   pub layers_are : AreOf p later
 
--- The bytes are one line or one packet, and what was done with it is a turn of a session.
+-- The bytes are one line or one packet, and what was done with it, with the payload that is shown, is a turn of a session.
+-- Nothing more is begun.
 pub record IsUnitTurned {K : Type 0} (p : Parties K) (history : List Item) (bytes : List ℕ) (done : Step) (new : State K)
     (later : Layers) (o : Outs) : Type 0 where
-  pub payload : List ℕ
-  pub turned : UnitTurned p Server history bytes payload done (end_of new.kept later) o
+  pub turned : UnitTurned p Server history bytes new.receiver.payload done (end_of new.kept later) o
+  pub begun : new.kept.dead ≡ false → begun_of new ≡ []
+  pub reading : new.kept.dead ≡ false → IsReading p.crypto new
   pub layers_are : AreOf p later
 
 -- the one or the other, by what was done

@@ -4,7 +4,6 @@ use Rattle.ssh_model.specs.Authentication.Kept.{opened_server}
 use Rattle.ssh_model.specs.Authentication.Requests.{Judge}
 use Rattle.ssh_model.specs.TransportLayer.Kept.{ExchangeParts}
 use Rattle.ssh_model.specs.Wire.Sealing.{Crypto}
-use Rattle.ssh_kex.specs.declared.owned_choice.OwnedChoice.{OwnedChoice}
 use Rattle.ssh_transport_machine.specs.Puts.{Outs}
 use Rattle.ssh_transport_machine.specs.State.{State}
 use Rattle.ssh_transport_machine.specs.declared.outcome.TransportTurn.{TransportTurn}
@@ -42,11 +41,12 @@ pub record GoesUp {K : Type 0} (c : Crypto K) (judge : Judge) (between : State K
   pub judged : JudgesPayload judge between old judgement later
   pub finished : Finished c between judgement done new o
 
--- An exchange was ended, and what was owed is given behind it.
+-- An exchange was ended, and what was owed is given behind it; what is read is as before.
 pub record GoesOn {K : Type 0} (c : Crypto K) (between : State K) (old : Layers) (done : Step) (new : State K)
     (later : Layers) (o : Outs) : Type 0 where
   pub completing : Completing c between old.channels done new later.channels o
   pub authentication : later.authentication ≡ old.authentication
+  pub rest : new ≡ record between { kept = new.kept }
 
 -- what is done with an answer of the transport
 abbrev pub Goes : {K : Type 0} → Crypto K → Judge → TransportTurn → State K → Layers → Step → State K → Layers → Outs →

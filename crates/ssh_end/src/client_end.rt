@@ -10,6 +10,7 @@ ghost use Rattle.ssh_transport_machine.specs.Opening.{IsOpened};
 ghost use Rattle.ssh_transport_client.specs.Transport.{begun_of};
 ghost use Rattle.ssh_end.specs.Asking.{ClientInSession, Fails, ask_of};
 ghost use Rattle.ssh_end.specs.Ends.{IsFault, IsNewClient, SameClient};
+ghost use Rattle.ssh_end.specs.Reading.{SameReading};
 ghost use Rattle.ssh_end.specs.ClientSessions.{end_of};
 ghost use Rattle.ssh_end.specs.ClientUnits.{ClientGoes};
 ghost use Rattle.ssh_end.specs.Steps.{Shows};
@@ -206,6 +207,7 @@ impl<P: ClientParts, U: UserSigner + Drop> ClientEnd<P, U> {
     /// - `Dead`: the end was over before. Nothing is put out.
     pub fn ask(&mut self, ask: &Ask<'_>, out: &mut Vec<u8>) -> Result<AskStep, Fault>
         ensures in_session { ClientInSession P.Sealing.crypto (U.signature_of self.old.user) self.old.layers.authentication (end_of self.old.machine.kept self.old.layers) (ask_of ask.now) result (end_of self.new.machine.kept self.new.layers) (record { before = out.old.items; after = out.new.items; listed = []; relisted = self.new.sent }) }
+        ensures reading { self.new.machine.kept.dead ≡ false → SameReading self.old.machine self.new.machine }
         ensures step { self.new.step ≡ Step.More }
         ensures fails { IfErr result (λ fault. Fails self.old.machine fault self.new.machine) }
         ensures out { OnErr result (out.new.items ≡ out.old.items) }

@@ -10,6 +10,7 @@ ghost use Rattle.ssh_transport_machine.specs.Opening.{IsOpened};
 ghost use Rattle.ssh_transport_server.specs.Transport.{begun_of};
 ghost use Rattle.ssh_end.specs.Asking.{InSession, Fails, ask_of};
 ghost use Rattle.ssh_end.specs.Ends.{IsFault, IsNewServer, SameServer};
+ghost use Rattle.ssh_end.specs.Reading.{SameReading};
 ghost use Rattle.ssh_end.specs.Sessions.{end_of};
 ghost use Rattle.ssh_end.specs.ServerUnits.{ServerGoes};
 ghost use Rattle.ssh_end.specs.Steps.{Shows};
@@ -207,6 +208,8 @@ impl<P: ServerParts, U: UserJudge + Drop> ServerEnd<P, U> {
     /// - `Dead`: the end was over before. Nothing is put out.
     pub fn ask(&mut self, ask: &Ask<'_>, out: &mut Vec<u8>) -> Result<AskStep, Fault>
         ensures in_session { InSession P.Sealing.crypto model.Server (end_of self.old.machine.kept self.old.layers) (ask_of ask.now) result (end_of self.new.machine.kept self.new.layers) (record { before = out.old.items; after = out.new.items; listed = []; relisted = self.new.sent }) }
+        ensures reading { self.new.machine.kept.dead ≡ false → SameReading self.old.machine self.new.machine }
+        ensures authentication { self.new.layers.authentication ≡ self.old.layers.authentication }
         ensures step { self.new.step ≡ Step.More }
         ensures fails { IfErr result (λ fault. Fails self.old.machine fault self.new.machine) }
         ensures out { OnErr result (out.new.items ≡ out.old.items) }

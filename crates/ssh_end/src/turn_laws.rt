@@ -1,24 +1,30 @@
 //! Laws of an end's turns: what it does with the bytes of one line or one packet is what an end of a session does with them. Facts for
 //! proofs, at no cost.
 
-ghost use Rattle.std.specs.Prelude.{List, ℕ};
+ghost use Rattle.std.specs.Prelude.{◌≡◌, List, [], ℕ};
 ghost use Rattle.ssh_model.specs.Authentication.Requests.{judge_of};
 ghost use Rattle.ssh_model.specs.Sessions.Items.{Item};
-ghost use Rattle.ssh_model.specs.Sessions.Parties.{Parties, agreement_of};
-ghost use Rattle.ssh_model.specs.Side.{Side.Client, Side.Server};
+ghost use Rattle.ssh_model.specs.Sessions.Parties.{Parties, Settings, agreement_of};
+ghost use Rattle.ssh_model.specs.Side.{Side, Side.Client, Side.Server};
 ghost use Rattle.ssh_model.specs.TransportLayer.Summary.{parts_of};
+ghost use Rattle.ssh_model.specs.Wire.Sealing.{Crypto};
+ghost use Rattle.ssh_transport_client.specs.Transport as of_client;
+ghost use Rattle.ssh_transport_machine.specs.Opening.{IsOpened};
 ghost use Rattle.ssh_transport_machine.specs.Puts.{Outs};
 ghost use Rattle.ssh_transport_machine.specs.State.{State};
+ghost use Rattle.ssh_transport_server.specs.Transport as of_server;
 ghost use Rattle.ssh_end.specs.ClientLayers as client;
 ghost use Rattle.ssh_end.specs.ClientTurns.{ClientTurned, IsAsking};
 ghost use Rattle.ssh_end.specs.ClientUnits.{ClientGoes};
 ghost use Rattle.ssh_end.specs.Layers.{Layers};
+ghost use Rattle.ssh_end.specs.Reading.{IsReading};
 ghost use Rattle.ssh_end.specs.ServerTurns.{IsServing, ServerTurned};
 ghost use Rattle.ssh_end.specs.ServerUnits.{ServerGoes};
 ghost use Rattle.ssh_end.specs.declared.step.Step.{Step};
 
 use crate::fact_laws::facts_told;
 use ssh_model::end::{exchange_ends, owed_replies, payloads, transport_turns, unit_turns, waiting};
+use ssh_model::stream_units;
 use ssh_transport_client::laws::{turns_left as client_left, units_taken as client_units};
 use ssh_transport_machine::laws::unit_turns as machine_turns;
 use ssh_transport_server::laws::{turns_left, units_taken};
@@ -26,12 +32,12 @@ use ssh_transport_server::laws::{turns_left, units_taken};
 /// What a server's end does with the bytes of one line or one packet is what the server of a session does with them. Where what it keeps
 /// sums up a history, and it is the server of lawful parties:
 ///
-/// - bytes that are no whole line or packet yet are those for which the server of a session waits; nothing is put out, and what is kept
-///   sums up the same history;
+/// - bytes that are no whole line or packet yet are those for which the server of a session waits; they are begun, nothing is put out,
+///   and what is kept sums up the same history;
 /// - else the bytes are one line or one packet, and what is shown, put out and listed is a turn of a session by them. What is kept then
-///   sums up the history with the items of that turn.
+///   sums up the history with the items of that turn, and nothing more is begun.
 ///
-/// It goes on being the server of these parties.
+/// It goes on being the server of these parties, and what is begun goes on being a prefix of a line or of a packet.
 pub fn servers_turns<K>()
     ensures turned { (p : Parties K) (history : List Item) (old : State K) (layers : Layers) → IsServing p history old layers → (bytes : List ℕ) (done : Step) (new : State K) (later : Layers) (o : Outs) → ServerGoes p.crypto (parts_of p Server) (judge_of p) old layers bytes done new later o → ServerTurned p history bytes done new later o }
 {
@@ -42,6 +48,7 @@ pub fn servers_turns<K>()
     exchange_ends::<K>();
     owed_replies::<K>();
     waiting::<K>();
+    stream_units::<K>();
     machine_turns::<K>();
     units_taken::<K>();
     turns_left::<K>();
@@ -50,10 +57,12 @@ pub fn servers_turns<K>()
 /// What a client's end does with the bytes of one line or one packet is what the client of a session does with them. Where what it keeps
 /// sums up a history, and it is the client of lawful parties:
 ///
-/// - bytes that are no whole line or packet yet are those for which the client of a session waits; nothing is put out, and what is kept
-///   sums up the same history;
+/// - bytes that are no whole line or packet yet are those for which the client of a session waits; they are begun, nothing is put out,
+///   and what is kept sums up the same history;
 /// - else the bytes are one line or one packet, and what is shown, put out and listed is a turn of a session by them. What is kept then
-///   sums up the history with the items of that turn.
+///   sums up the history with the items of that turn, and nothing more is begun.
+///
+/// What is begun goes on being a prefix of a line or of a packet.
 pub fn clients_turns<K>()
     ensures turned { (p : Parties K) (history : List Item) (old : State K) (layers : client.Layers) → IsAsking p history old layers → (bytes : List ℕ) (done : Step) (new : State K) (later : client.Layers) (o : Outs) → ClientGoes p.crypto (agreement_of p Client) p.trusts old layers bytes done new later o → ClientTurned p history bytes done new later o }
 {
@@ -64,7 +73,15 @@ pub fn clients_turns<K>()
     exchange_ends::<K>();
     owed_replies::<K>();
     waiting::<K>();
+    stream_units::<K>();
     machine_turns::<K>();
     client_units::<K>();
     client_left::<K>();
 }
+
+/// An end that was just made has begun no line and no packet.
+pub fn new_ends_read<K>()
+    ensures reading { (c : Crypto K) (settings : Settings) (side : Side) (cookie secret : List ℕ) (new : State K) (o : Outs) → IsOpened c settings side cookie secret new o → IsReading c new }
+    ensures server_begun { (c : Crypto K) (settings : Settings) (side : Side) (cookie secret : List ℕ) (new : State K) (o : Outs) → IsOpened c settings side cookie secret new o → of_server.begun_of new ≡ [] }
+    ensures client_begun { (c : Crypto K) (settings : Settings) (side : Side) (cookie secret : List ℕ) (new : State K) (o : Outs) → IsOpened c settings side cookie secret new o → of_client.begun_of new ≡ [] }
+{}

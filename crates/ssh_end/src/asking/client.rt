@@ -1,9 +1,10 @@
 //! What a client does on an ask of its user.
 
-ghost use Rattle.std.specs.Prelude.{◌≡◌, IfErr, OnErr, map};
+ghost use Rattle.std.specs.Prelude.{◌≡◌, IfErr, OnErr, map, false};
 ghost use Rattle.ssh_model.specs.Side.{Side};
 ghost use Rattle.ssh_transport_machine.specs.Standing.{Stands};
 ghost use Rattle.ssh_end.specs.Asking.{ClientInSession, ClientRow, Fails, KeepsLayers, ask_of};
+ghost use Rattle.ssh_end.specs.Reading.{SameReading};
 ghost use Rattle.ssh_end.specs.ClientSessions.{end_of};
 
 use crate::ask::Ask;
@@ -29,6 +30,7 @@ pub fn ask_client<S: Sealing, F: Filler + Drop, U: UserSigner>(
     ensures in_session { ClientInSession S.crypto (U.signature_of signer.now) layers.old.authentication (end_of machine.old.kept layers.old) (ask_of ask.now) result (end_of machine.new.kept layers.new) (record { before = out.old.items; after = out.new.items; listed = map (λ v. v.items) sent.old.items; relisted = map (λ v. v.items) sent.new.items }) }
     ensures fails { IfErr result (λ fault. Fails machine.old fault machine.new) }
     ensures layers { IfErr result (λ fault. KeepsLayers layers.old fault layers.new) }
+    ensures reading { machine.new.kept.dead ≡ false → SameReading machine.old machine.new }
     ensures out { OnErr result (out.new.items ≡ out.old.items) }
     ensures kept { OnErr result (map (λ v. v.items) sent.new.items ≡ map (λ v. v.items) sent.old.items) }
     ensures stands { (side : Side) → Stands side machine.old → Stands side machine.new }
@@ -49,6 +51,7 @@ fn take_ask<S: Sealing, F: Filler + Drop, U: UserSigner>(
     ensures row { ClientRow S.crypto (U.signature_of signer.now) layers.old.authentication (end_of machine.old.kept layers.old) (ask_of ask.now) result (end_of machine.new.kept layers.new) (record { before = out.old.items; after = out.new.items; listed = map (λ v. v.items) sent.old.items; relisted = map (λ v. v.items) sent.new.items }) }
     ensures fails { IfErr result (λ fault. Fails machine.old fault machine.new) }
     ensures layers { IfErr result (λ fault. KeepsLayers layers.old fault layers.new) }
+    ensures reading { machine.new.kept.dead ≡ false → SameReading machine.old machine.new }
     ensures out { OnErr result (out.new.items ≡ out.old.items) }
     ensures kept { OnErr result (map (λ v. v.items) sent.new.items ≡ map (λ v. v.items) sent.old.items) }
     ensures stands { (side : Side) → Stands side machine.old → Stands side machine.new }

@@ -1,6 +1,6 @@
 //! Asks for a message of the connection.
 
-ghost use Rattle.std.specs.Prelude.{◌≡◌, ◌≤◌, IfErr, IfOk, OnErr, map, true};
+ghost use Rattle.std.specs.Prelude.{◌≡◌, ◌≤◌, IfErr, IfOk, OnErr, map, true, false};
 ghost use Rattle.ssh_model.specs.Side.{Side};
 ghost use Rattle.ssh_model.specs.Wire.Message.{FitsContext};
 ghost use Rattle.ssh_model.specs.Wire.Sizes.{payload_size};
@@ -9,6 +9,7 @@ ghost use Rattle.ssh_message.specs.Written.{Fits};
 ghost use Rattle.ssh_channels.specs.Values.{ask_of, sent_of};
 ghost use Rattle.ssh_transport_machine.specs.Standing.{Stands};
 ghost use Rattle.ssh_end.specs.Asking.{ConnectionRow, Fails, GivenFails, GivenSent, KeepsLayers, opening_by, step_on};
+ghost use Rattle.ssh_end.specs.Reading.{SameReading};
 
 use crate::asking::memory::lack_memory;
 use crate::asking::numbers::{ask_numbers, message_numbers, recipient_number};
@@ -31,6 +32,7 @@ pub fn ask_connection<S: Sealing, F: Filler + Drop>(
     ensures row { ConnectionRow S.crypto machine.old channels.old (ask_of ask.now) result machine.new channels.new (record { before = out.old.items; after = out.new.items; listed = map (λ v. v.items) sent.old.items; relisted = map (λ v. v.items) sent.new.items }) }
     ensures fails { IfErr result (λ fault. Fails machine.old fault machine.new) }
     ensures channels { IfErr result (λ fault. KeepsLayers channels.old fault channels.new) }
+    ensures reading { machine.new.kept.dead ≡ false → SameReading machine.old machine.new }
     ensures out { OnErr result (out.new.items ≡ out.old.items) }
     ensures kept { OnErr result (map (λ v. v.items) sent.new.items ≡ map (λ v. v.items) sent.old.items) }
     ensures stands { (side : Side) → Stands side machine.old → Stands side machine.new }
@@ -69,6 +71,7 @@ fn send_given<S: Sealing, F: Filler + Drop>(
     requires most { payload_size (meaning given.now.message) ≤ 34000 }
     ensures sent { IfOk result (λ step. GivenSent S.crypto machine.old (ask_of ask.now) (sent_of given.now) machine.new (record { before = out.old.items; after = out.new.items; listed = map (λ v. v.items) sent.old.items; relisted = map (λ v. v.items) sent.new.items }) step) }
     ensures failed { IfErr result (λ fault. GivenFails machine.old fault machine.new) }
+    ensures reading { machine.new.kept.dead ≡ false → SameReading machine.old machine.new }
     ensures out { OnErr result (out.new.items ≡ out.old.items) }
     ensures kept { OnErr result (map (λ v. v.items) sent.new.items ≡ map (λ v. v.items) sent.old.items) }
     ensures stands { (side : Side) → Stands side machine.old → Stands side machine.new }

@@ -1,10 +1,11 @@
 //! What a server does on an ask of its user.
 
-ghost use Rattle.std.specs.Prelude.{◌≡◌, IfErr, OnErr, cond, map};
+ghost use Rattle.std.specs.Prelude.{◌≡◌, IfErr, OnErr, cond, map, false};
 ghost use Rattle.ssh_model.specs.Side.{Side, Side.Server};
 ghost use Rattle.ssh_transport_machine.specs.Standing.{Stands};
 ghost use Rattle.ssh_types.specs.declared.ask_refusal.AskRefusal.TheVariants.{WrongSide};
 ghost use Rattle.ssh_end.specs.Asking.{EndRow, Fails, InSession, KeepsLayers, ask_of};
+ghost use Rattle.ssh_end.specs.Reading.{SameReading};
 ghost use Rattle.ssh_end.specs.Sessions.{end_of};
 ghost use Rattle.ssh_end.specs.declared.asking.outcome.Fault.TheVariants as fault;
 
@@ -30,6 +31,7 @@ pub fn ask_server<S: Sealing, F: Filler + Drop>(
     ensures fails { IfErr result (λ fault. Fails machine.old fault machine.new) }
     ensures layers { IfErr result (λ fault. KeepsLayers layers.old fault layers.new) }
     ensures authentication { layers.new.authentication ≡ layers.old.authentication }
+    ensures reading { machine.new.kept.dead ≡ false → SameReading machine.old machine.new }
     ensures out { OnErr result (out.new.items ≡ out.old.items) }
     ensures kept { OnErr result (map (λ v. v.items) sent.new.items ≡ map (λ v. v.items) sent.old.items) }
     ensures stands { (side : Side) → Stands side machine.old → Stands side machine.new }
@@ -50,6 +52,7 @@ fn take_ask<S: Sealing, F: Filler + Drop>(
     ensures fails { IfErr result (λ fault. Fails machine.old fault machine.new) }
     ensures layers { IfErr result (λ fault. KeepsLayers layers.old fault layers.new) }
     ensures authentication { layers.new.authentication ≡ layers.old.authentication }
+    ensures reading { machine.new.kept.dead ≡ false → SameReading machine.old machine.new }
     ensures out { OnErr result (out.new.items ≡ out.old.items) }
     ensures kept { OnErr result (map (λ v. v.items) sent.new.items ≡ map (λ v. v.items) sent.old.items) }
     ensures stands { (side : Side) → Stands side machine.old → Stands side machine.new }

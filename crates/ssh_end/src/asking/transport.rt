@@ -1,11 +1,12 @@
 //! Asks for a message of the transport, and messages of a layer above that it sends.
 
-ghost use Rattle.std.specs.Prelude.{◌≡◌, IfErr, IfOk, OnErr, map};
+ghost use Rattle.std.specs.Prelude.{◌≡◌, IfErr, IfOk, OnErr, map, false};
 ghost use Rattle.ssh_model.specs.Side.{Side};
 ghost use Rattle.ssh_transport_machine.specs.Asks.{AskTaken, IsSendable};
 ghost use Rattle.ssh_transport_machine.specs.Standing.{Stands};
 ghost use Rattle.ssh_transport_machine.specs.declared.machine.turn.AskTurn.TheVariants as ask_turn;
 ghost use Rattle.ssh_end.specs.Asking.{Fails, MachineFails, TransportRow};
+ghost use Rattle.ssh_end.specs.Reading.{SameReading};
 
 use crate::asking::outcome::{AskStep, Fault, step_of};
 use ssh_packet::{Filler, Sealing};
@@ -22,6 +23,7 @@ pub fn ask_transport<S: Sealing, F: Filler + Drop>(
     requires { IsSendable ask }
     ensures row { TransportRow S.crypto machine.old ask.entry result machine.new (record { before = out.old.items; after = out.new.items; listed = map (λ v. v.items) sent.old.items; relisted = map (λ v. v.items) sent.new.items }) }
     ensures fails { IfErr result (λ fault. Fails machine.old fault machine.new) }
+    ensures reading { machine.new.kept.dead ≡ false → SameReading machine.old machine.new }
     ensures out { OnErr result (out.new.items ≡ out.old.items) }
     ensures kept { OnErr result (map (λ v. v.items) sent.new.items ≡ map (λ v. v.items) sent.old.items) }
     ensures stands { (side : Side) → Stands side machine.old → Stands side machine.new }
@@ -43,6 +45,7 @@ pub fn ask_machine<S: Sealing, F: Filler + Drop>(
     ensures asked { IfOk result (λ answer. AskTaken S.crypto machine.old ask.entry (ask_turn.Answered answer) machine.new (record { before = out.old.items; after = out.new.items; listed = map (λ v. v.items) sent.old.items; relisted = map (λ v. v.items) sent.new.items })) }
     ensures refused { IfErr result (λ fault. MachineFails S.crypto machine.old ask.entry fault machine.new) }
     ensures fails { IfErr result (λ fault. Fails machine.old fault machine.new) }
+    ensures reading { machine.new.kept.dead ≡ false → SameReading machine.old machine.new }
     ensures out { OnErr result (out.new.items ≡ out.old.items) }
     ensures kept { OnErr result (map (λ v. v.items) sent.new.items ≡ map (λ v. v.items) sent.old.items) }
     ensures stands { (side : Side) → Stands side machine.old → Stands side machine.new }

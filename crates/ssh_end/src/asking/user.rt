@@ -1,11 +1,12 @@
 //! Asks for a request of a user, at a client.
 
-ghost use Rattle.std.specs.Prelude.{◌≡◌, IfErr, IfOk, OnErr, List, Some, map, true, ℕ};
+ghost use Rattle.std.specs.Prelude.{◌≡◌, IfErr, IfOk, OnErr, List, Some, map, true, ℕ, false};
 ghost use Rattle.ssh_model.specs.Side.{Side};
 ghost use Rattle.ssh_model.specs.Wire.Message.{FitsContext};
 ghost use Rattle.ssh_auth.specs.Asking.{ask_of};
 ghost use Rattle.ssh_transport_machine.specs.Standing.{Stands};
 ghost use Rattle.ssh_end.specs.Asking.{Fails, GivenFails, KeepsLayers, RequestSent, UserRow};
+ghost use Rattle.ssh_end.specs.Reading.{SameReading};
 
 use crate::asking::memory::lack_memory;
 use crate::asking::outcome::{AskStep, Fault, step_of};
@@ -27,6 +28,7 @@ pub fn ask_user<S: Sealing, F: Filler + Drop, U: UserSigner>(
     ensures row { UserRow S.crypto (U.signature_of signer.now) machine.old client.old (ask_of ask.now) result machine.new client.new (record { before = out.old.items; after = out.new.items; listed = map (λ v. v.items) sent.old.items; relisted = map (λ v. v.items) sent.new.items }) }
     ensures fails { IfErr result (λ fault. Fails machine.old fault machine.new) }
     ensures layers { IfErr result (λ fault. KeepsLayers client.old fault client.new) }
+    ensures reading { machine.new.kept.dead ≡ false → SameReading machine.old machine.new }
     ensures out { OnErr result (out.new.items ≡ out.old.items) }
     ensures kept { OnErr result (map (λ v. v.items) sent.new.items ≡ map (λ v. v.items) sent.old.items) }
     ensures stands { (side : Side) → Stands side machine.old → Stands side machine.new }
@@ -63,6 +65,7 @@ fn send_request<S: Sealing, F: Filler + Drop>(
     ensures sent { IfOk result (λ step. RequestSent S.crypto machine.old request.now machine.new (record { before = out.old.items; after = out.new.items; listed = map (λ v. v.items) sent.old.items; relisted = map (λ v. v.items) sent.new.items }) step) }
     ensures failed { IfErr result (λ fault. GivenFails machine.old fault machine.new) }
     ensures fails { IfErr result (λ fault. Fails machine.old fault machine.new) }
+    ensures reading { machine.new.kept.dead ≡ false → SameReading machine.old machine.new }
     ensures out { OnErr result (out.new.items ≡ out.old.items) }
     ensures kept { OnErr result (map (λ v. v.items) sent.new.items ≡ map (λ v. v.items) sent.old.items) }
     ensures stands { (side : Side) → Stands side machine.old → Stands side machine.new }

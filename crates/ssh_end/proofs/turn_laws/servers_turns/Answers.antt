@@ -18,6 +18,10 @@ returns g c = record {
     packets_begun = c.waiting.ensures.packets;
     lines_begun = c.waiting.ensures.lines;
   }) (record {
+    one = c.stream_units.ensures.have_one_outcome;
+    lines = c.unit_turns-2.ensures.lines;
+    packets = c.unit_turns-2.ensures.packets;
+  }) (record {
     packets = c.unit_turns-2.ensures.packets;
     taken = c.units_taken.ensures.taken;
     alive = c.turns_left.ensures.completed_alive;
