@@ -26,6 +26,10 @@ pub both_on_err : {A E : Type 0} {P Q R : Type 0} (r : Result A E) → (P → Q 
 both_on_err (Ok a) f x y = tt
 both_on_err (Err e) f x y = f x y
 
+pub on_err : {A E : Type 0} {P Q : Type 0} (r : Result A E) → (P → Q) → OnErr r P → OnErr r Q
+on_err (Ok a) f x = tt
+on_err (Err e) f x = f x
+
 -- ---- what the transport says
 
 pub beneath_is : {K : Type 0} (s : Transport K) (m : State K) → Awaits s m → (below : Beneath) → IsBeneath m below → below ≡ beneath s

@@ -12,6 +12,7 @@ pub mod Facts
 pub mod Turns
 pub mod Fronts
 pub mod Leftover
+pub mod Lacking
 pub mod Transporting
 pub mod AsksTransport
 pub mod AsksSpelling

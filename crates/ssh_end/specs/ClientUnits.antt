@@ -1,5 +1,5 @@
 -- What a client makes of the bytes of one line or one packet.
-use Rattle.std.specs.Prelude.{◌≡◌, ℕ, Bool, true, false, List}
+use Rattle.std.specs.Prelude.{◌≡◌, ◌≤◌, ◌++◌, ℕ, Bool, true, false, List, length, take}
 use Rattle.ssh_model.specs.Authentication.Kept.{opened_client}
 use Rattle.ssh_model.specs.Sessions.Parties.{Agreement}
 use Rattle.ssh_model.specs.Wire.Sealing.{Crypto}
@@ -8,12 +8,12 @@ use Rattle.ssh_transport_machine.specs.State.{State}
 use Rattle.ssh_transport_machine.specs.declared.outcome.TransportTurn.{TransportTurn}
 use Rattle.ssh_transport_machine.specs.declared.outcome.TransportTurn.TheVariants as outcome
 use Rattle.ssh_transport_client.specs.Replies.{Trusts}
-use Rattle.ssh_transport_client.specs.Transport.{ClientTook}
-use Rattle.ssh_end.specs.Above.{Finished}
+use Rattle.ssh_transport_client.specs.Transport.{ClientDied, ClientTook}
+use Rattle.ssh_end.specs.Above.{FinishLacks, Finished}
 use Rattle.ssh_end.specs.Completing.{Completing}
 use Rattle.ssh_end.specs.Effects.{is_accepted, is_whole, step_given}
 use Rattle.ssh_end.specs.ClientLayers.{Layers}
-use Rattle.ssh_end.specs.ClientAbove.{JudgesPayload}
+use Rattle.ssh_end.specs.ClientAbove.{JudgeLacks, JudgesPayload}
 use Rattle.ssh_end.specs.declared.above.Judgement.{Judgement}
 use Rattle.ssh_end.specs.declared.step.Step.{Step}
 
@@ -66,3 +66,32 @@ pub record ClientGoes {K : Type 0} (c : Crypto K) (agreement : Agreement) (trust
       (record { before = o.before; after = middle; listed = o.listed; relisted = listed })
   pub goes : Goes c given between layers done new later
       (record { before = middle; after = o.after; listed = listed; relisted = o.relisted })
+
+-- ---- where memory is refused
+
+-- A payload was left to the layers above: judging it took memory, or something would be sent for what they made of it.
+pub data UpLacks {K : Type 0} (between : State K) (layers : Layers) : Type 0 where
+  judging : JudgeLacks between layers → UpLacks between layers
+  sending : (judgement : Judgement) (later : Layers) → JudgesPayload between layers judgement later →
+      FinishLacks between judgement → UpLacks between layers
+
+-- what took memory behind an answer of the transport
+abbrev pub GoLacks : {K : Type 0} → TransportTurn → State K → Layers → Type 0
+GoLacks (outcome.Up number) between layers = UpLacks between layers
+GoLacks (outcome.Completed choice) between layers = 1 ≤ length layers.channels.owed
+GoLacks given between layers = ⊥
+
+-- What took memory of the bytes of one line or one packet: what its transport would send, or what is done with what the
+-- transport made of them.
+pub data TurnLacks {K : Type 0} (c : Crypto K) (agreement : Agreement) (trusts : Trusts) (old : State K) (layers : Layers)
+    (bytes : List ℕ) : Type 0 where
+  by_transport : (new : State K) → ClientDied c agreement trusts old bytes new → TurnLacks c agreement trusts old layers bytes
+  by_end : (given : TransportTurn) (between : State K) (o : Outs) → ClientTook c agreement trusts old bytes given between o →
+      GoLacks given between layers → TurnLacks c agreement trusts old layers bytes
+
+-- It is of the bytes begun with some of those that came.
+pub record FrontLacks {K : Type 0} (c : Crypto K) (agreement : Agreement) (trusts : Trusts) (old : State K) (layers : Layers)
+    (begun bytes : List ℕ) : Type 0 where
+  pub used : ℕ
+  pub most : used ≤ length bytes
+  pub lacks : TurnLacks c agreement trusts old layers (begun ++ take used bytes)

@@ -1,5 +1,5 @@
 -- What an end does once its transport ended an exchange of keys.
-use Rattle.std.specs.Prelude.{◌≡◌, ◌<◌, ◌+◌, ◌^◌, true, false, None, length}
+use Rattle.std.specs.Prelude.{◌≡◌, ℕ, ◌<◌, ◌+◌, ◌^◌, true, false, None, length}
 use Rattle.ssh_model.specs.Wire.Sealing.{Crypto}
 use Rattle.ssh_model.specs.Channels.Kept.{Channels}
 use Rattle.ssh_transport_machine.specs.Puts.{Outs}
@@ -10,11 +10,15 @@ use Rattle.ssh_end.specs.declared.step.Step.{Step}
 use Rattle.ssh_end.specs.declared.step.Step.TheVariants as step
 use Rattle.ssh_end.specs.declared.step.Telling.TheVariants as telling
 
+-- what is told of an exchange that is completed at this position
+abbrev pub completed_at : ℕ → Step
+completed_at position = step.Took (record { channel = None; probing = false; telling = telling.Completed position })
+
 -- What was owed is given behind NEWKEYS, or too few numbers are left for it.
 pub data Completing {K : Type 0} (c : Crypto K) (old : State K) (channels : Channels) (done : Step) (new : State K)
     (later : Channels) (o : Outs) : Type 0 where
   given : OwedGiven c old.kept channels new.kept later o →
-      done ≡ step.Took (record { channel = None; probing = false; telling = telling.Completed old.kept.sending.epoch }) →
+      done ≡ completed_at old.kept.sending.epoch →
       Completing c old channels done new later o
   spent : 2 ^ 32 < old.kept.sending.count + length channels.owed → new.kept.dead ≡ true →
       done ≡ step.Refused refusal.NumberSpent → Completing c old channels done new later o

@@ -1,5 +1,5 @@
 -- What a server makes of the bytes of one line or one packet.
-use Rattle.std.specs.Prelude.{◌≡◌, ℕ, Bool, true, false, List}
+use Rattle.std.specs.Prelude.{◌≡◌, ◌≤◌, ◌++◌, ℕ, Bool, true, false, List, length, take}
 use Rattle.ssh_model.specs.Authentication.Kept.{opened_server}
 use Rattle.ssh_model.specs.Authentication.Requests.{Judge}
 use Rattle.ssh_model.specs.TransportLayer.Kept.{ExchangeParts}
@@ -8,12 +8,12 @@ use Rattle.ssh_transport_machine.specs.Puts.{Outs}
 use Rattle.ssh_transport_machine.specs.State.{State}
 use Rattle.ssh_transport_machine.specs.declared.outcome.TransportTurn.{TransportTurn}
 use Rattle.ssh_transport_machine.specs.declared.outcome.TransportTurn.TheVariants as outcome
-use Rattle.ssh_transport_server.specs.Transport.{ServerTook}
-use Rattle.ssh_end.specs.Above.{Finished}
+use Rattle.ssh_transport_server.specs.Transport.{ServerDied, ServerTook}
+use Rattle.ssh_end.specs.Above.{FinishLacks, Finished}
 use Rattle.ssh_end.specs.Completing.{Completing}
 use Rattle.ssh_end.specs.Effects.{is_requested, is_whole, step_given}
 use Rattle.ssh_end.specs.Layers.{Layers}
-use Rattle.ssh_end.specs.ServerAbove.{JudgesPayload}
+use Rattle.ssh_end.specs.ServerAbove.{JudgeLacks, JudgesPayload}
 use Rattle.ssh_end.specs.declared.above.Judgement.{Judgement}
 use Rattle.ssh_end.specs.declared.step.Step.{Step}
 
@@ -68,3 +68,32 @@ pub record ServerGoes {K : Type 0} (c : Crypto K) (parts : ExchangeParts) (judge
       (record { before = o.before; after = middle; listed = o.listed; relisted = listed })
   pub goes : Goes c judge given between layers done new later
       (record { before = middle; after = o.after; listed = listed; relisted = o.relisted })
+
+-- ---- where memory is refused
+
+-- A payload was left to the layers above: judging it took memory, or something would be sent for what they made of it.
+pub data UpLacks {K : Type 0} (judge : Judge) (between : State K) (layers : Layers) : Type 0 where
+  judging : JudgeLacks judge between layers → UpLacks judge between layers
+  sending : (judgement : Judgement) (later : Layers) → JudgesPayload judge between layers judgement later →
+      FinishLacks between judgement → UpLacks judge between layers
+
+-- what took memory behind an answer of the transport
+abbrev pub GoLacks : {K : Type 0} → Judge → TransportTurn → State K → Layers → Type 0
+GoLacks judge (outcome.Up number) between layers = UpLacks judge between layers
+GoLacks judge (outcome.Completed choice) between layers = 1 ≤ length layers.channels.owed
+GoLacks judge given between layers = ⊥
+
+-- What took memory of the bytes of one line or one packet: what its transport would send, or what is done with what the
+-- transport made of them.
+pub data TurnLacks {K : Type 0} (c : Crypto K) (parts : ExchangeParts) (judge : Judge) (old : State K) (layers : Layers)
+    (bytes : List ℕ) : Type 0 where
+  by_transport : (new : State K) → ServerDied c parts old bytes new → TurnLacks c parts judge old layers bytes
+  by_end : (given : TransportTurn) (between : State K) (o : Outs) → ServerTook c parts old bytes given between o →
+      GoLacks judge given between layers → TurnLacks c parts judge old layers bytes
+
+-- It is of the bytes begun with some of those that came.
+pub record FrontLacks {K : Type 0} (c : Crypto K) (parts : ExchangeParts) (judge : Judge) (old : State K) (layers : Layers)
+    (begun bytes : List ℕ) : Type 0 where
+  pub used : ℕ
+  pub most : used ≤ length bytes
+  pub lacks : TurnLacks c parts judge old layers (begun ++ take used bytes)

@@ -12,7 +12,7 @@ ghost use Rattle.ssh_end.specs.Asking.{ClientInSession, Fails, ask_of};
 ghost use Rattle.ssh_end.specs.Ends.{IsFault, IsNewClient, SameClient};
 ghost use Rattle.ssh_end.specs.Reading.{SameReading};
 ghost use Rattle.ssh_end.specs.ClientSessions.{end_of};
-ghost use Rattle.ssh_end.specs.ClientUnits.{ClientGoes};
+ghost use Rattle.ssh_end.specs.ClientUnits.{FrontLacks, ClientGoes};
 ghost use Rattle.ssh_end.specs.Steps.{Shows};
 ghost use Rattle.ssh_end.specs.Turn.{TurnShows, payloads_in};
 
@@ -149,6 +149,7 @@ impl<P: ClientParts, U: UserSigner + Drop> ClientEnd<P, U> {
         ensures shown { IfOk result (λ used. self.new.used ≡ used) }
         ensures none { OnErr result (self.new.step ≡ Step.More) }
         ensures failed { IfErr result (λ fault. IsFault self.old.machine fault self.new.machine) }
+        ensures lacks { IfErr result (λ fault. fault ≡ Fault.Memory → FrontLacks P.Sealing.crypto (record { point = P.Agreement.public_of self.old.agreement; shared = P.Agreement.shared_of self.old.agreement }) (P.HostTrust.judged self.old.host_trust) self.old.machine self.old.layers (begun_of self.old.machine) bytes.now) }
         ensures out { OnErr result (out.new.items ≡ out.old.items) }
         ensures parts { SameClient self.old self.new }
     {

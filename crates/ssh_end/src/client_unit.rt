@@ -7,7 +7,7 @@ ghost use Rattle.ssh_transport_machine.specs.Standing.{Stands};
 ghost use Rattle.ssh_transport_client.specs.Transport.{begun_of};
 ghost use Rattle.ssh_end.specs.Effects.{IsOver, IsReady, is_whole};
 ghost use Rattle.ssh_end.specs.Owed.{Extends};
-ghost use Rattle.ssh_end.specs.ClientUnits.{ClientGoes, Goes, GoesUp};
+ghost use Rattle.ssh_end.specs.ClientUnits.{ClientGoes, GoLacks, Goes, GoesUp, TurnLacks, UpLacks};
 
 use crate::above::finish_above;
 use crate::client_above::judge_client;
@@ -36,6 +36,7 @@ fn go_on<S: Sealing, F: Filler + Drop>(
     requires ready { IsReady machine.old turn }
     ensures goes { IfOk result (λ step. Goes S.crypto turn machine.old layers.old step machine.new layers.new (record { before = out.old.items; after = out.new.items; listed = map (λ v. v.items) sent.old.items; relisted = map (λ v. v.items) sent.new.items })) }
     ensures more { IfOk result (λ step. step ≡ Step.More → turn ≡ TransportTurn.More) }
+    ensures lacks { OnErr result (GoLacks turn machine.old layers.old) }
     ensures dead { OnErr result (machine.new.kept.dead ≡ true) }
     ensures left { OnErr result (is_whole turn ≡ false) }
     ensures out { OnErr result (Extends out.old.items out.new.items) }
@@ -69,6 +70,7 @@ fn go_up<S: Sealing, F: Filler + Drop>(
     requires alive { machine.old.kept.dead ≡ false }
     ensures goes { IfOk result (λ step. GoesUp S.crypto machine.old layers.old step machine.new layers.new (record { before = out.old.items; after = out.new.items; listed = map (λ v. v.items) sent.old.items; relisted = map (λ v. v.items) sent.new.items })) }
     ensures whole { IfOk result (λ step. step ≡ Step.More → ⊥) }
+    ensures lacks { OnErr result (UpLacks machine.old layers.old) }
     ensures dead { OnErr result (machine.new.kept.dead ≡ true) }
     ensures out { OnErr result (out.new.items ≡ out.old.items) }
     ensures kept { OnErr result (sent.new.items ≡ sent.old.items) }
@@ -102,6 +104,7 @@ pub fn advance_client<S: Sealing, F: Filler + Drop, A: Agreement, T: HostTrust>(
     ensures more { IfOk result.1 (λ step. step ≡ Step.More → result.0 ≡ length bytes.now) }
     ensures goes { IfOk result.1 (λ step. ClientGoes S.crypto (record { point = A.public_of agreement.now; shared = A.shared_of agreement.now }) (T.judged trust.now) machine.old layers.old (begun_of machine.old ++ take result.0 bytes.now) step machine.new layers.new (record { before = out.old.items; after = out.new.items; listed = map (λ v. v.items) sent.old.items; relisted = map (λ v. v.items) sent.new.items })) }
     ensures failed { IfErr result.1 (λ fault. IsOver machine.old fault machine.new) }
+    ensures lacks { IfErr result.1 (λ fault. fault ≡ TransportFault.Memory → TurnLacks S.crypto (record { point = A.public_of agreement.now; shared = A.shared_of agreement.now }) (T.judged trust.now) machine.old layers.old (begun_of machine.old ++ take result.0 bytes.now)) }
     ensures out { OnErr result.1 (out.new.items ≡ out.old.items) }
     ensures kept { OnErr result.1 (map (λ v. v.items) sent.new.items ≡ map (λ v. v.items) sent.old.items) }
     ensures stands { Stands model.Client machine.new }

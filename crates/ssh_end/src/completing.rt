@@ -1,9 +1,9 @@
 //! What an end does once its transport ended an exchange of keys.
 
-ghost use Rattle.std.specs.Prelude.{◌≡◌, IfOk, OnErr, OnOk, false, map, true};
+ghost use Rattle.std.specs.Prelude.{◌≡◌, ◌≤◌, IfOk, OnErr, OnOk, false, length, map, true};
 ghost use Rattle.ssh_model.specs.Side.{Side};
 ghost use Rattle.ssh_transport_machine.specs.Standing.{Stands};
-ghost use Rattle.ssh_end.specs.Completing.{Completing};
+ghost use Rattle.ssh_end.specs.Completing.{Completing, completed_at};
 ghost use Rattle.ssh_end.specs.Owed.{Extends, ListsChannels};
 
 use crate::owed::give_owed;
@@ -15,7 +15,7 @@ use ssh_transport_machine::standing::machines_stand;
 use ssh_types::Refusal;
 use std::alloc::AllocError;
 
-// Gives what is owed behind NEWKEYS, and says at which position the exchange was completed.
+// Gives what is owed behind NEWKEYS, and says at which position the exchange was completed. Where nothing is owed it asks for no memory.
 pub fn complete<S: Sealing, F: Filler + Drop>(
     machine: &mut Machine<S, F>,
     channels: &mut Channels,
@@ -26,6 +26,7 @@ pub fn complete<S: Sealing, F: Filler + Drop>(
     requires alive { machine.old.kept.dead ≡ false }
     ensures completing { IfOk result (λ step. Completing S.crypto machine.old channels.old step machine.new channels.new (record { before = out.old.items; after = out.new.items; listed = map (λ v. v.items) sent.old.items; relisted = map (λ v. v.items) sent.new.items })) }
     ensures whole { IfOk result (λ step. step ≡ Step.More → ⊥) }
+    ensures lacks { OnErr result (1 ≤ length channels.old.owed) }
     ensures dead { OnErr result (machine.new.kept.dead ≡ true) }
     ensures rest { machine.new ≡ record machine.old { kept = machine.new.kept } }
     ensures out { Extends out.old.items out.new.items }
@@ -33,16 +34,28 @@ pub fn complete<S: Sealing, F: Filler + Drop>(
     ensures numbers { Extends numbers.old.items numbers.new.items }
     ensures stands { (side : Side) → Stands side machine.old → Stands side machine.new }
 {
-    if !machine.has_numbers(channels.owed() as u64) {
+    let owed = channels.owed();
+    if owed == 0 {
+        return Ok(completed(machine));
+    }
+    if !machine.has_numbers(owed as u64) {
         machines_stand::<S::Key>();
         machine.die();
         return Ok(Step::Refused(Refusal::NumberSpent));
     }
-    let (position, _) = machine.epochs();
+    let done = completed(machine);
     give_owed(machine, channels, out, sent, numbers)?;
-    Ok(Step::Took(TookStep {
+    Ok(done)
+}
+
+// What is told of the exchange that is completed now.
+fn completed<S: Sealing, F: Filler + Drop>(machine: &Machine<S, F>) -> Step
+    ensures { result ≡ completed_at machine.now.kept.sending.epoch }
+{
+    let (position, _) = machine.epochs();
+    Step::Took(TookStep {
         channel: None,
         probing: false,
         telling: Telling::Completed(position),
-    }))
+    })
 }

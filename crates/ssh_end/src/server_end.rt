@@ -12,7 +12,7 @@ ghost use Rattle.ssh_end.specs.Asking.{InSession, Fails, ask_of};
 ghost use Rattle.ssh_end.specs.Ends.{IsFault, IsNewServer, SameServer};
 ghost use Rattle.ssh_end.specs.Reading.{SameReading};
 ghost use Rattle.ssh_end.specs.Sessions.{end_of};
-ghost use Rattle.ssh_end.specs.ServerUnits.{ServerGoes};
+ghost use Rattle.ssh_end.specs.ServerUnits.{FrontLacks, ServerGoes};
 ghost use Rattle.ssh_end.specs.Steps.{Shows};
 ghost use Rattle.ssh_end.specs.Turn.{TurnShows, payloads_in};
 
@@ -149,6 +149,7 @@ impl<P: ServerParts, U: UserJudge + Drop> ServerEnd<P, U> {
         ensures shown { IfOk result (λ used. self.new.used ≡ used) }
         ensures none { OnErr result (self.new.step ≡ Step.More) }
         ensures failed { IfErr result (λ fault. IsFault self.old.machine fault self.new.machine) }
+        ensures lacks { IfErr result (λ fault. fault ≡ Fault.Memory → FrontLacks P.Sealing.crypto (record { agreement = record { point = P.Agreement.public_of self.old.agreement; shared = P.Agreement.shared_of self.old.agreement }; host_key = P.HostSigner.key_of self.old.host_signer; host_signature = P.HostSigner.signature_of self.old.host_signer }) (U.verdicts self.old.user) self.old.machine self.old.layers (begun_of self.old.machine) bytes.now) }
         ensures out { OnErr result (out.new.items ≡ out.old.items) }
         ensures parts { SameServer self.old self.new }
     {

@@ -7,7 +7,7 @@ ghost use Rattle.ssh_transport_machine.specs.Standing.{Stands};
 ghost use Rattle.ssh_transport_server.specs.Transport.{begun_of};
 ghost use Rattle.ssh_end.specs.Effects.{IsOver, IsReady, is_whole};
 ghost use Rattle.ssh_end.specs.Owed.{Extends};
-ghost use Rattle.ssh_end.specs.ServerUnits.{Goes, GoesUp, ServerGoes};
+ghost use Rattle.ssh_end.specs.ServerUnits.{GoLacks, Goes, GoesUp, ServerGoes, TurnLacks, UpLacks};
 
 use crate::above::finish_above;
 use crate::completing::complete;
@@ -38,6 +38,7 @@ fn go_on<S: Sealing, F: Filler + Drop, J: UserJudge>(
     requires ready { IsReady machine.old turn }
     ensures goes { IfOk result (λ step. Goes S.crypto (J.verdicts judge.now) turn machine.old layers.old step machine.new layers.new (record { before = out.old.items; after = out.new.items; listed = map (λ v. v.items) sent.old.items; relisted = map (λ v. v.items) sent.new.items })) }
     ensures more { IfOk result (λ step. step ≡ Step.More → turn ≡ TransportTurn.More) }
+    ensures lacks { OnErr result (GoLacks (J.verdicts judge.now) turn machine.old layers.old) }
     ensures dead { OnErr result (machine.new.kept.dead ≡ true) }
     ensures left { OnErr result (is_whole turn ≡ false) }
     ensures out { OnErr result (Extends out.old.items out.new.items) }
@@ -72,6 +73,7 @@ fn go_up<S: Sealing, F: Filler + Drop, J: UserJudge>(
     requires alive { machine.old.kept.dead ≡ false }
     ensures goes { IfOk result (λ step. GoesUp S.crypto (J.verdicts judge.now) machine.old layers.old step machine.new layers.new (record { before = out.old.items; after = out.new.items; listed = map (λ v. v.items) sent.old.items; relisted = map (λ v. v.items) sent.new.items })) }
     ensures whole { IfOk result (λ step. step ≡ Step.More → ⊥) }
+    ensures lacks { OnErr result (UpLacks (J.verdicts judge.now) machine.old layers.old) }
     ensures dead { OnErr result (machine.new.kept.dead ≡ true) }
     ensures out { OnErr result (out.new.items ≡ out.old.items) }
     ensures kept { OnErr result (sent.new.items ≡ sent.old.items) }
@@ -106,6 +108,7 @@ pub fn advance_server<S: Sealing, F: Filler + Drop, A: Agreement, H: HostSigner,
     ensures more { IfOk result.1 (λ step. step ≡ Step.More → result.0 ≡ length bytes.now) }
     ensures goes { IfOk result.1 (λ step. ServerGoes S.crypto (record { agreement = record { point = A.public_of agreement.now; shared = A.shared_of agreement.now }; host_key = H.key_of signer.now; host_signature = H.signature_of signer.now }) (J.verdicts judge.now) machine.old layers.old (begun_of machine.old ++ take result.0 bytes.now) step machine.new layers.new (record { before = out.old.items; after = out.new.items; listed = map (λ v. v.items) sent.old.items; relisted = map (λ v. v.items) sent.new.items })) }
     ensures failed { IfErr result.1 (λ fault. IsOver machine.old fault machine.new) }
+    ensures lacks { IfErr result.1 (λ fault. fault ≡ TransportFault.Memory → TurnLacks S.crypto (record { agreement = record { point = A.public_of agreement.now; shared = A.shared_of agreement.now }; host_key = H.key_of signer.now; host_signature = H.signature_of signer.now }) (J.verdicts judge.now) machine.old layers.old (begun_of machine.old ++ take result.0 bytes.now)) }
     ensures out { OnErr result.1 (out.new.items ≡ out.old.items) }
     ensures kept { OnErr result.1 (map (λ v. v.items) sent.new.items ≡ map (λ v. v.items) sent.old.items) }
     ensures stands { Stands model.Server machine.new }
