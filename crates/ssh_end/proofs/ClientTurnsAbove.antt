@@ -1,5 +1,5 @@
 -- What a client's end does with a payload from 50 on is what the client of a session does with it.
-use Rattle.std.proofs.Common.{◌≡◌, ℕ, ◌≤◌, ◌^◌, false, List, length, arith, refl, ap, sym, ◌∙◌, subst, Option, None}
+use Rattle.std.proofs.Common.{◌≡◌, ℕ, false, List, length, refl, ap, sym, ◌∙◌, subst, Option, None}
 use Rattle.std.specs.Prelude.{IsSome}
 use Rattle.ssh_model.specs.Side.{Side.Client}
 use Rattle.ssh_model.specs.Wire.Message.{Msg}
@@ -33,7 +33,7 @@ use Rattle.ssh_end.proofs.Judging.{ChannelFacts, beneath_is}
 use Rattle.ssh_end.proofs.ClientJudged.{answered_so, refused_so}
 use Rattle.ssh_end.proofs.ClientSessions.{accepts}
 use Rattle.ssh_end.proofs.TurningLaws.{TurningLaws}
-use Rattle.ssh_end.proofs.TurningReplies.{due_spelled, has_number, last_of, unsent}
+use Rattle.ssh_end.proofs.TurningReplies.{SpelledAbove, due_above, due_spelled, has_number, last_of, spent_above}
 
 module _ {K : Type 0} (laws : TurningLaws K) (channel_facts : ChannelFacts) (p : Parties K) (history : List Item) (old : State K) (layers : Layers) (asking : IsAsking p history old layers) (alive : old.kept.dead ≡ false) (bytes : List ℕ) (m : State K) (o : Outs) (above : IsAbove p Client history old.kept bytes m o) where
   abbrev s : Transport K
@@ -48,7 +48,7 @@ module _ {K : Type 0} (laws : TurningLaws K) (channel_facts : ChannelFacts) (p :
   small : HasNumber s.taking.number s.taking.count
   small = has_number p.crypto s.taking.key s.taking.number s.taking.count bytes payload above.packet
 
-  awaits : Awaits s m
+  pub awaits : Awaits s m
   awaits = record {
     kept = above.kept;
     above = above.above;
@@ -62,8 +62,8 @@ module _ {K : Type 0} (laws : TurningLaws K) (channel_facts : ChannelFacts) (p :
     accepted : Accepts p s layers message payload given later
     accepted = accepts p s layers payload above.normal above.above message given later takes
 
-    spent_with : (channel : Option ℕ) (items : List Item) → AnswersAbove p e message channel items (OfClient later.authentication) later.channels → AreSpelled items → 1 ≤ length (messages_sent items) → s.sending.count ≡ 2 ^ 32 → SpentAbove p e payload
-    spent_with channel items answers spelled some none_left = record {
+    spelled_with : (channel : Option ℕ) (items : List Item) → AnswersAbove p e message channel items (OfClient later.authentication) later.channels → AreSpelled items → length (messages_sent items) ≡ 1 → SpelledAbove p e payload
+    spelled_with channel items answers spelled one = record {
       message = message;
       channel = channel;
       items = items;
@@ -73,12 +73,11 @@ module _ {K : Type 0} (laws : TurningLaws K) (channel_facts : ChannelFacts) (p :
       unrefused = accepted.unrefused;
       answers = answers;
       spelled = spelled;
-      some = some;
-      none_left = none_left;
+      one = one;
     }
 
-    none_spelled : (g : ClientLayerAnswer) → g ≡ given → IsSome (message_of g (last_number m.kept.taking)) → s.sending.count ≡ 2 ^ 32 → SpentAbove p e payload
-    none_spelled g same some none_left = go g some row y
+    is_spelled : (g : ClientLayerAnswer) → g ≡ given → IsSome (message_of g (last_number m.kept.taking)) → SpelledAbove p e payload
+    is_spelled g same some = go g some row y
       where
         y : Accepts p s layers message payload g later
         y = subst (λ (w : ClientLayerAnswer). Accepts p s layers message payload w later) (sym same) accepted
@@ -86,24 +85,28 @@ module _ {K : Type 0} (laws : TurningLaws K) (channel_facts : ChannelFacts) (p :
         row : LayerRow (beneath s) layers message g later
         row = subst (λ (w : ClientLayerAnswer). LayerRow (beneath s) layers message w later) (sym same) takes.row
 
-        go : (g : ClientLayerAnswer) → IsSome (message_of g (last_number m.kept.taking)) → LayerRow (beneath s) layers message g later → Accepts p s layers message payload g later → SpentAbove p e payload
+        go : (g : ClientLayerAnswer) → IsSome (message_of g (last_number m.kept.taking)) → LayerRow (beneath s) layers message g later → Accepts p s layers message payload g later → SpelledAbove p e payload
         go (answer.Authentication g) some row y = absurd (cc some)
         go (answer.Channels g) some row y =
-            unsent p e payload message (taken_of g).channel (taken_of g).reply (taken_of g).fact (OfClient later.authentication) later.channels y.reads y.unrefused y.answers none_left
+            due_above p e payload message (taken_of g).channel (taken_of g).reply (taken_of g).fact (OfClient later.authentication) later.channels y.reads y.unrefused y.answers
             (due_spelled p asking.lawful Client history asking.run layers.channels (asking.sums.above alive).channels_sum s.blocked (probes layers) message payload (taken_of g) later.channels row.row y.reads.message_is) some
         go answer.Unknown some row y =
             let said = unimplemented_spelled s.taking.number small.1 in
-            spent_with None _ (y.answers said.payload small.0) (said.spells, tt) (omega arith) none_left
+            spelled_with None _ (y.answers said.payload small.0) (said.spells, tt) refl
 
   -- ---- what was made of it
 
   takes_so : (given : ClientLayerAnswer) (later : Layers) (x : IsTaken m layers given later) → LayersTake (beneath s) layers x.message payload given later
   takes_so given later x = subst (λ (b : Beneath). LayersTake b layers x.message payload given later) (beneath_is s m awaits x.below x.is_beneath) x.takes
 
-  spent_so : (given : ClientLayerAnswer) (later : Layers) → IsTaken m layers given later → IsUnsent m (message_of given (last_number m.kept.taking)) → SpentAbove p e payload
-  spent_so given later x y = none_spelled x.message later given (takes_so given later x) given refl y.some (sym (ap (λ (t : Transport K). t.sending.count) above.kept) ∙ y.none_left)
+  -- what would be sent has a spelling
+  pub spelled_so : (given : ClientLayerAnswer) (later : Layers) → IsTaken m layers given later → IsSome (message_of given (last_number m.kept.taking)) → SpelledAbove p e payload
+  spelled_so given later x some = is_spelled x.message later given (takes_so given later x) given refl some
 
-  judged_so : (judgement : Judgement) (later : Layers) → JudgesPayload m layers judgement later → Judged p Client e payload judgement (OfClient later.authentication) later.channels
+  spent_so : (given : ClientLayerAnswer) (later : Layers) → IsTaken m layers given later → IsUnsent m (message_of given (last_number m.kept.taking)) → SpentAbove p e payload
+  spent_so given later x y = spent_above p e payload (spelled_so given later x y.some) (sym (ap (λ (t : Transport K). t.sending.count) above.kept) ∙ y.none_left)
+
+  pub judged_so : (judgement : Judgement) (later : Layers) → JudgesPayload m layers judgement later → Judged p Client e payload judgement (OfClient later.authentication) later.channels
   judged_so (judged.Answered given) later x = answered_so p s m layers awaits channel_facts x.given later x.taken given.step _ given.success x.made
   judged_so (judged.Refused why) later x = refused_so p s m layers awaits channel_facts _ later x
   judged_so judged.Spent later x = spent_so x.given later x.taken x.made

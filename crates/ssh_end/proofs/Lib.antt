@@ -35,3 +35,7 @@ pub mod ClientTurnsUnits
 pub mod ClientTurnsAbove
 pub mod ClientTurnsReply
 pub mod ClientTurns
+pub mod TurningDeaths
+pub mod AboveDeaths
+pub mod ServerDeaths
+pub mod ClientDeaths

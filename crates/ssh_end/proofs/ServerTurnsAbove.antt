@@ -1,20 +1,14 @@
 -- What a server's end does with a payload from 50 on is what the server of a session does with it.
-use Rattle.std.proofs.Common.{◌≡◌, ℕ, ◌+◌, ◌-◌, ◌%◌, ◌≤◌, ◌<◌, ◌^◌, false, List, length, arith, refl, ap, sym, ◌∙◌, subst, Option, Some, None}
-use Rattle.std.specs.Option.{option_map}
+use Rattle.std.proofs.Common.{◌≡◌, ℕ, false, List, length, refl, ap, sym, ◌∙◌, subst, Option, None}
 use Rattle.std.specs.Prelude.{IsSome}
 use Rattle.ssh_model.specs.Side.{Side.Server}
 use Rattle.ssh_model.specs.Wire.Message.{Msg}
-use Rattle.ssh_model.specs.Wire.Outcome.{Outcome.Opens}
-use Rattle.ssh_model.specs.Wire.Sealing.{Crypto}
-use Rattle.ssh_model.specs.Wire.Unit.{HasNumber, PacketUnit}
+use Rattle.ssh_model.specs.Wire.Unit.{HasNumber}
 use Rattle.ssh_model.specs.Authentication.Requests.{judge_of}
-use Rattle.ssh_model.specs.Channels.Kept.{Channels, DueReply}
-use Rattle.ssh_model.specs.Channels.Summary.{reply_sent, told}
-use Rattle.ssh_model.specs.End.Payloads.{AnswersAbove, ReadsAbove, reply_items}
-use Rattle.ssh_model.specs.End.State.{Authentication, Authentication.OfServer, EndState, above_checks}
-use Rattle.ssh_model.specs.Sessions.Items.{Fact, Item, messages_sent}
+use Rattle.ssh_model.specs.End.Payloads.{AnswersAbove}
+use Rattle.ssh_model.specs.End.State.{Authentication.OfServer, EndState}
+use Rattle.ssh_model.specs.Sessions.Items.{Item, messages_sent}
 use Rattle.ssh_model.specs.Sessions.Parties.{Parties}
-use Rattle.ssh_model.specs.Sessions.Refusals.{first_refusal}
 use Rattle.ssh_model.specs.Sessions.Turns.{AreSpelled}
 use Rattle.ssh_model.specs.TransportLayer.Kept.{Transport}
 use Rattle.ssh_model.proofs.Wire.Written.{pk_ok_spelled, success_spelled, unimplemented_spelled}
@@ -40,40 +34,7 @@ use Rattle.ssh_end.proofs.Judging.{ChannelFacts, ServerFacts, beneath_is}
 use Rattle.ssh_end.proofs.ServerJudged.{answered_so, refused_so}
 use Rattle.ssh_end.proofs.Sessions.{accepts}
 use Rattle.ssh_end.proofs.TurningLaws.{TurningLaws}
-use Rattle.ssh_end.proofs.TurningReplies.{SpellsDue, due_spelled}
-
--- ---- the number of its packet
-
-has_number : {K : Type 0} (c : Crypto K) (key : Option K) (number count : ℕ) (unit payload : List ℕ) → PacketUnit c key number count unit (Opens payload) → HasNumber number count
-has_number c key number count unit payload (PacketUnit.opens _ has bytes wire) = has
-
-last_of : (n : ℕ) → n < 2 ^ 32 → ((n + 1) % 2 ^ 32 + (2 ^ 32 - 1)) % 2 ^ 32 ≡ n
-last_of n small = omega (arith, small)
-
--- ---- no number is left
-
--- these items would be made of it
-unsent : {K : Type 0} (p : Parties K) (e : EndState K) (payload : List ℕ) (message : Msg) (channel : Option ℕ) (authentication : Authentication) (channels : Channels) → ReadsAbove e message payload → first_refusal (above_checks p e message) ≡ None → e.transport.sending.count ≡ 2 ^ 32 → (items : List Item) → AnswersAbove p e message channel items authentication channels → AreSpelled items →
-    1 ≤ length (messages_sent items) → SpentAbove p e payload
-unsent p e payload message channel authentication channels reads fine none_left items answers spelled some = record {
-  message = message;
-  channel = channel;
-  items = items;
-  authentication = authentication;
-  channels = channels;
-  reads = reads;
-  unrefused = fine;
-  answers = answers;
-  spelled = spelled;
-  some = some;
-  none_left = none_left;
-}
-
--- a reply that is due has a spelling
-due_items : (due : Option DueReply) (fact : Option Fact) → IsSome (option_map reply_sent due) → SpellsDue due → (reply : List ℕ) × (AreSpelled (told fact (reply_items due reply)) × (1 ≤ length (messages_sent (told fact (reply_items due reply)))))
-due_items None fact some x = absurd (cc some)
-due_items (Some due) None some x = (x.payload, ((x.spells, tt), omega arith))
-due_items (Some due) (Some fact) some x = (x.payload, ((x.spells, tt), omega arith))
+use Rattle.ssh_end.proofs.TurningReplies.{SpelledAbove, due_above, due_spelled, has_number, last_of, spent_above}
 
 module _ {K : Type 0} (laws : TurningLaws K) (server_facts : ServerFacts) (channel_facts : ChannelFacts) (p : Parties K) (history : List Item) (old : State K) (layers : Layers) (serving : IsServing p history old layers) (alive : old.kept.dead ≡ false) (bytes : List ℕ) (m : State K) (o : Outs) (above : IsAbove p Server history old.kept bytes m o) where
   abbrev s : Transport K
@@ -88,7 +49,7 @@ module _ {K : Type 0} (laws : TurningLaws K) (server_facts : ServerFacts) (chann
   small : HasNumber s.taking.number s.taking.count
   small = has_number p.crypto s.taking.key s.taking.number s.taking.count bytes payload above.packet
 
-  awaits : Awaits s m
+  pub awaits : Awaits s m
   awaits = record {
     kept = above.kept;
     above = above.above;
@@ -102,11 +63,22 @@ module _ {K : Type 0} (laws : TurningLaws K) (server_facts : ServerFacts) (chann
     accepted : Accepts p s layers message payload given later
     accepted = accepts p s layers payload above.normal above.above serving.layers_are message given later takes
 
-    spent_with : s.sending.count ≡ 2 ^ 32 → (channel : Option ℕ) (items : List Item) → AnswersAbove p e message channel items (OfServer later.authentication.kept) later.channels → AreSpelled items → 1 ≤ length (messages_sent items) → SpentAbove p e payload
-    spent_with none_left channel items = unsent p e payload message channel (OfServer later.authentication.kept) later.channels accepted.reads accepted.unrefused none_left items
+    spelled_with : (channel : Option ℕ) (items : List Item) → AnswersAbove p e message channel items (OfServer later.authentication.kept) later.channels → AreSpelled items → length (messages_sent items) ≡ 1 → SpelledAbove p e payload
+    spelled_with channel items answers spelled one = record {
+      message = message;
+      channel = channel;
+      items = items;
+      authentication = OfServer later.authentication.kept;
+      channels = later.channels;
+      reads = accepted.reads;
+      unrefused = accepted.unrefused;
+      answers = answers;
+      spelled = spelled;
+      one = one;
+    }
 
-    none_spelled : (g : ServerLayerAnswer) → g ≡ given → IsShort g → IsSome (message_of later g (last_number m.kept.taking)) → s.sending.count ≡ 2 ^ 32 → SpentAbove p e payload
-    none_spelled g same short some none_left = go g short some row y
+    is_spelled : (g : ServerLayerAnswer) → g ≡ given → IsShort g → IsSome (message_of later g (last_number m.kept.taking)) → SpelledAbove p e payload
+    is_spelled g same short some = go g short some row y
       where
         y : Accepts p s layers message payload g later
         y = subst (λ (w : ServerLayerAnswer). Accepts p s layers message payload w later) (sym same) accepted
@@ -114,21 +86,20 @@ module _ {K : Type 0} (laws : TurningLaws K) (server_facts : ServerFacts) (chann
         row : LayerRow (judge_of p) (beneath s) layers message g later
         row = subst (λ (w : ServerLayerAnswer). LayerRow (judge_of p) (beneath s) layers message w later) (sym same) takes.row
 
-        go : (g : ServerLayerAnswer) → IsShort g → IsSome (message_of later g (last_number m.kept.taking)) → LayerRow (judge_of p) (beneath s) layers message g later → Accepts p s layers message payload g later → SpentAbove p e payload
-        go (answer.Authentication (request.Accepted user)) short some row y = spent_with none_left None _ (y.answers success_spelled.payload) (success_spelled.spells, tt) (omega arith)
+        go : (g : ServerLayerAnswer) → IsShort g → IsSome (message_of later g (last_number m.kept.taking)) → LayerRow (judge_of p) (beneath s) layers message g later → Accepts p s layers message payload g later → SpelledAbove p e payload
+        go (answer.Authentication (request.Accepted user)) short some row y = spelled_with None _ (y.answers success_spelled.payload) (success_spelled.spells, tt) refl
         go (answer.Authentication (request.KeyOk algorithm key)) short some row y =
             let said = pk_ok_spelled algorithm.now key.now short.0 short.1 in
-            spent_with none_left None _ (y.answers said.payload) (said.spells, tt) (omega arith)
-        go (answer.Authentication request.Failed) short some row y = spent_with none_left None _ (y.answers serving.failure.payload) (serving.failure.spells, tt) (omega arith)
+            spelled_with None _ (y.answers said.payload) (said.spells, tt) refl
+        go (answer.Authentication request.Failed) short some row y = spelled_with None _ (y.answers serving.failure.payload) (serving.failure.spells, tt) refl
         go (answer.Authentication request.Ignored) short some row y = absurd (cc some)
         go (answer.Authentication request.Unimplemented) short some row y = absurd (cc some)
         go (answer.Channels g) short some row y =
-            let said = due_items (taken_of g).reply (taken_of g).fact some
-            (due_spelled p serving.lawful Server history serving.run layers.channels (serving.sums.above alive).channels_sum s.blocked false message payload (taken_of g) later.channels row.row y.reads.message_is) in
-            spent_with none_left (taken_of g).channel _ (y.answers said.0) said.1.0 said.1.1
+            due_above p e payload message (taken_of g).channel (taken_of g).reply (taken_of g).fact (OfServer later.authentication.kept) later.channels y.reads y.unrefused y.answers
+            (due_spelled p serving.lawful Server history serving.run layers.channels (serving.sums.above alive).channels_sum s.blocked false message payload (taken_of g) later.channels row.row y.reads.message_is) some
         go answer.Unknown short some row y =
             let said = unimplemented_spelled s.taking.number small.1 in
-            spent_with none_left None _ (y.answers said.payload small.0) (said.spells, tt) (omega arith)
+            spelled_with None _ (y.answers said.payload small.0) (said.spells, tt) refl
 
   -- ---- what was made of it
 
@@ -143,10 +114,14 @@ module _ {K : Type 0} (laws : TurningLaws K) (server_facts : ServerFacts) (chann
   still_judged (judged.Refused why) later x = subst (λ (l : Layers). AreOf p l) (sym x.same) serving.layers_are
   still_judged judged.Spent later x = still_taken x.given later x.taken
 
-  spent_so : (given : ServerLayerAnswer) (later : Layers) → IsTaken (judge_of p) m layers given later → IsUnsent m (message_of later given (last_number m.kept.taking)) → SpentAbove p e payload
-  spent_so given later x y = none_spelled x.message later given (takes_so given later x) given refl x.short y.some (sym (ap (λ (t : Transport K). t.sending.count) above.kept) ∙ y.none_left)
+  -- what would be sent has a spelling
+  pub spelled_so : (given : ServerLayerAnswer) (later : Layers) → IsTaken (judge_of p) m layers given later → IsSome (message_of later given (last_number m.kept.taking)) → SpelledAbove p e payload
+  spelled_so given later x some = is_spelled x.message later given (takes_so given later x) given refl x.short some
 
-  judged_so : (judgement : Judgement) (later : Layers) → JudgesPayload (judge_of p) m layers judgement later → Judged p Server e payload judgement (OfServer later.authentication.kept) later.channels
+  spent_so : (given : ServerLayerAnswer) (later : Layers) → IsTaken (judge_of p) m layers given later → IsUnsent m (message_of later given (last_number m.kept.taking)) → SpentAbove p e payload
+  spent_so given later x y = spent_above p e payload (spelled_so given later x y.some) (sym (ap (λ (t : Transport K). t.sending.count) above.kept) ∙ y.none_left)
+
+  pub judged_so : (judgement : Judgement) (later : Layers) → JudgesPayload (judge_of p) m layers judgement later → Judged p Server e payload judgement (OfServer later.authentication.kept) later.channels
   judged_so (judged.Answered given) later x = answered_so p s m layers awaits serving.layers_are server_facts channel_facts x.given later x.taken given.step _ given.success x.made
   judged_so (judged.Refused why) later x = refused_so p s m layers awaits serving.layers_are server_facts channel_facts _ later x
   judged_so judged.Spent later x = spent_so x.given later x.taken x.made

@@ -1,5 +1,5 @@
 -- The reply that a message makes due on channels has a spelling: the number of the peer in it is a uint32.
-use Rattle.std.proofs.Common.{◌≡◌, ℕ, ◌+◌, ◌-◌, ◌%◌, ◌<◌, ◌^◌, Bool, true, false, cond, List, arith, sym, subst, Option, Some, None}
+use Rattle.std.proofs.Common.{◌≡◌, ℕ, ◌+◌, ◌-◌, ◌%◌, ◌<◌, ◌^◌, Bool, true, false, cond, List, length, arith, refl, sym, subst, Option, Some, None}
 use Rattle.std.specs.Option.{option_map}
 use Rattle.std.specs.Prelude.{IsSome}
 use Rattle.ssh_model.specs.Side.{Side}
@@ -17,11 +17,11 @@ use Rattle.ssh_model.specs.Channels.Places.{Place, at, place, place_at, place_of
 use Rattle.ssh_model.specs.Channels.Summary.{SumsUp, reply_sent, told}
 use Rattle.ssh_model.specs.End.Payloads.{AnswersAbove, ReadsAbove, reply_items}
 use Rattle.ssh_model.specs.End.State.{Authentication, EndState, above_checks}
-use Rattle.ssh_model.specs.Sessions.Items.{Fact, Item}
+use Rattle.ssh_model.specs.Sessions.Items.{Fact, Item, messages_sent}
 use Rattle.ssh_model.specs.Sessions.Parties.{AreLawful, Parties}
 use Rattle.ssh_model.specs.Sessions.Refusals.{first_refusal}
 use Rattle.ssh_model.specs.Sessions.TurnClaims.{HasSpelling}
-use Rattle.ssh_model.specs.Sessions.Turns.{EndRun}
+use Rattle.ssh_model.specs.Sessions.Turns.{AreSpelled, EndRun}
 use Rattle.ssh_model.proofs.Sessions.PeerNumbers.{open_name, peer_number_below}
 use Rattle.ssh_model.proofs.Sessions.SoundTurns.{end_sound}
 use Rattle.ssh_model.proofs.Wire.Written.{close_spelled, open_failure_spelled}
@@ -86,26 +86,42 @@ has_number c key number count unit payload (PacketUnit.opens _ has bytes wire) =
 pub last_of : (n : ℕ) → n < 2 ^ 32 → ((n + 1) % 2 ^ 32 + (2 ^ 32 - 1)) % 2 ^ 32 ≡ n
 last_of n small = omega (arith, small)
 
--- ---- no number is left
+-- ---- what would be sent
 
--- what would be sent has a spelling
-pub unsent : {K : Type 0} (p : Parties K) (e : EndState K) (payload : List ℕ) (message : Msg) (channel : Option ℕ) (due : Option DueReply) (fact : Option Fact) (authentication : Authentication) (channels : Channels) → ReadsAbove e message payload → first_refusal (above_checks p e message) ≡ None →
-    ((reply : List ℕ) → AnswersAbove p e message channel (told fact (reply_items due reply)) authentication channels) → e.transport.sending.count ≡ 2 ^ 32 → SpellsDue due → IsSome (option_map reply_sent due) → SpentAbove p e payload
-unsent p e payload message channel None fact authentication channels reads fine answers none_left spelled some = absurd (cc some)
-unsent p e payload message channel (Some due) None authentication channels reads fine answers none_left spelled some = record {
-  message = message;
-  channel = channel;
-  items = _;
-  authentication = authentication;
-  channels = channels;
-  reads = reads;
-  unrefused = fine;
-  answers = answers spelled.payload;
-  spelled = (spelled.spells, tt);
-  some = omega arith;
+-- A message would be sent, which has a spelling.
+pub record SpelledAbove {K : Type 0} (p : Parties K) (e : EndState K) (payload : List ℕ) : Type 0 where
+  pub message : Msg
+  pub channel : Option ℕ
+  pub items : List Item
+  pub authentication : Authentication
+  pub channels : Channels
+  pub reads : ReadsAbove e message payload
+  pub unrefused : first_refusal (above_checks p e message) ≡ None
+  pub answers : AnswersAbove p e message channel items authentication channels
+  pub spelled : AreSpelled items
+  pub one : length (messages_sent items) ≡ 1
+
+-- No number is left for it.
+pub spent_above : {K : Type 0} (p : Parties K) (e : EndState K) (payload : List ℕ) → SpelledAbove p e payload → e.transport.sending.count ≡ 2 ^ 32 → SpentAbove p e payload
+spent_above p e payload x none_left = record {
+  message = x.message;
+  channel = x.channel;
+  items = x.items;
+  authentication = x.authentication;
+  channels = x.channels;
+  reads = x.reads;
+  unrefused = x.unrefused;
+  answers = x.answers;
+  spelled = x.spelled;
+  some = omega (arith, x.one);
   none_left = none_left;
 }
-unsent p e payload message channel (Some due) (Some fact) authentication channels reads fine answers none_left spelled some = record {
+
+-- a reply that is due has a spelling
+pub due_above : {K : Type 0} (p : Parties K) (e : EndState K) (payload : List ℕ) (message : Msg) (channel : Option ℕ) (due : Option DueReply) (fact : Option Fact) (authentication : Authentication) (channels : Channels) → ReadsAbove e message payload → first_refusal (above_checks p e message) ≡ None →
+    ((reply : List ℕ) → AnswersAbove p e message channel (told fact (reply_items due reply)) authentication channels) → SpellsDue due → IsSome (option_map reply_sent due) → SpelledAbove p e payload
+due_above p e payload message channel None fact authentication channels reads fine answers spelled some = absurd (cc some)
+due_above p e payload message channel (Some due) None authentication channels reads fine answers spelled some = record {
   message = message;
   channel = channel;
   items = _;
@@ -115,6 +131,17 @@ unsent p e payload message channel (Some due) (Some fact) authentication channel
   unrefused = fine;
   answers = answers spelled.payload;
   spelled = (spelled.spells, tt);
-  some = omega arith;
-  none_left = none_left;
+  one = refl;
+}
+due_above p e payload message channel (Some due) (Some fact) authentication channels reads fine answers spelled some = record {
+  message = message;
+  channel = channel;
+  items = _;
+  authentication = authentication;
+  channels = channels;
+  reads = reads;
+  unrefused = fine;
+  answers = answers spelled.payload;
+  spelled = (spelled.spells, tt);
+  one = refl;
 }

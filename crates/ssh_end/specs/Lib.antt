@@ -21,3 +21,4 @@ pub mod ClientUnits
 pub mod ClientTurns
 pub mod Ends
 pub mod Reading
+pub mod Deaths

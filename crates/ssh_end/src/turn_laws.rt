@@ -1,10 +1,11 @@
 //! Laws of an end's turns: what it does with the bytes of one line or one packet is what an end of a session does with them. Facts for
 //! proofs, at no cost.
 
-ghost use Rattle.std.specs.Prelude.{◌≡◌, List, [], ℕ};
+ghost use Rattle.std.specs.Prelude.{◌≡◌, ◌∷◌, List, [], ℕ};
 ghost use Rattle.ssh_model.specs.Authentication.Requests.{judge_of};
-ghost use Rattle.ssh_model.specs.Sessions.Items.{Item};
+ghost use Rattle.ssh_model.specs.Sessions.Items.{Item, Item.Died};
 ghost use Rattle.ssh_model.specs.Sessions.Parties.{Parties, Settings, agreement_of};
+ghost use Rattle.ssh_model.specs.Sessions.Turns.{OnUnit};
 ghost use Rattle.ssh_model.specs.Side.{Side, Side.Client, Side.Server};
 ghost use Rattle.ssh_model.specs.TransportLayer.Summary.{parts_of};
 ghost use Rattle.ssh_model.specs.Wire.Sealing.{Crypto};
@@ -15,15 +16,20 @@ ghost use Rattle.ssh_transport_machine.specs.State.{State};
 ghost use Rattle.ssh_transport_server.specs.Transport as of_server;
 ghost use Rattle.ssh_end.specs.ClientLayers as client;
 ghost use Rattle.ssh_end.specs.ClientTurns.{ClientTurned, IsAsking};
+ghost use Rattle.ssh_end.specs.ClientUnits as of_a_client;
 ghost use Rattle.ssh_end.specs.ClientUnits.{ClientGoes};
+ghost use Rattle.ssh_end.specs.Deaths.{ServerDies};
 ghost use Rattle.ssh_end.specs.Layers.{Layers};
 ghost use Rattle.ssh_end.specs.Reading.{IsReading};
 ghost use Rattle.ssh_end.specs.ServerTurns.{IsServing, ServerTurned};
-ghost use Rattle.ssh_end.specs.ServerUnits.{ServerGoes};
+ghost use Rattle.ssh_end.specs.ServerUnits.{ServerGoes, TurnLacks};
 ghost use Rattle.ssh_end.specs.declared.step.Step.{Step};
 
 use crate::fact_laws::facts_told;
-use ssh_model::end::{exchange_ends, owed_replies, payloads, transport_turns, unit_turns, waiting};
+use ssh_model::end::{
+    exchange_ends, owed_replies, payloads, transport_turns, unit_turns, units, waiting,
+};
+use ssh_model::one_end::kept_by_one_end;
 use ssh_model::stream_units;
 use ssh_transport_client::laws::{turns_left as client_left, units_taken as client_units};
 use ssh_transport_machine::laws::unit_turns as machine_turns;
@@ -85,3 +91,38 @@ pub fn new_ends_read<K>()
     ensures server_begun { (c : Crypto K) (settings : Settings) (side : Side) (cookie secret : List ℕ) (new : State K) (o : Outs) → IsOpened c settings side cookie secret new o → of_server.begun_of new ≡ [] }
     ensures client_begun { (c : Crypto K) (settings : Settings) (side : Side) (cookie secret : List ℕ) (new : State K) (o : Outs) → IsOpened c settings side cookie secret new o → of_client.begun_of new ≡ [] }
 {}
+
+/// Where a server's end answers that memory was refused, the server of a session dies. Where what it keeps sums up a history, and it is the
+/// server of lawful parties, what took memory of the bytes of one line or one packet is a turn of a session that dies; but not where the
+/// signature of a request was due to be looked at and all numbers are used, of which a session says that no number is left.
+pub fn servers_deaths<K>()
+    ensures dies { (p : Parties K) (history : List Item) (old : State K) (layers : Layers) → IsServing p history old layers → (bytes : List ℕ) → TurnLacks p.crypto (parts_of p Server) (judge_of p) old layers bytes → ServerDies p history old layers bytes }
+{
+    facts_told();
+    transport_turns::<K>();
+    unit_turns::<K>();
+    payloads::<K>();
+    exchange_ends::<K>();
+    owed_replies::<K>();
+    waiting::<K>();
+    units::<K>();
+    kept_by_one_end::<K>();
+    units_taken::<K>();
+}
+
+/// Where a client's end answers that memory was refused, the client of a session dies: where what it keeps sums up a history, and it is the
+/// client of lawful parties, what took memory of the bytes of one line or one packet is a turn of a session that dies.
+pub fn clients_deaths<K>()
+    ensures dies { (p : Parties K) (history : List Item) (old : State K) (layers : client.Layers) → IsAsking p history old layers → (bytes : List ℕ) → of_a_client.TurnLacks p.crypto (agreement_of p Client) p.trusts old layers bytes → OnUnit p Client history bytes (Died ∷ []) }
+{
+    facts_told();
+    transport_turns::<K>();
+    unit_turns::<K>();
+    payloads::<K>();
+    exchange_ends::<K>();
+    owed_replies::<K>();
+    waiting::<K>();
+    units::<K>();
+    kept_by_one_end::<K>();
+    client_units::<K>();
+}
