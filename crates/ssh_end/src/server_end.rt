@@ -7,6 +7,7 @@ ghost use Rattle.ssh_model.specs.Sessions.Items.{Item};
 ghost use Rattle.ssh_model.specs.TransportLayer.Kept.{after_fed, can_be_fed};
 ghost use Rattle.ssh_transport_base.specs.Meaning.{settings_of};
 ghost use Rattle.ssh_transport_machine.specs.Opening.{IsOpened};
+ghost use Rattle.ssh_transport_machine.specs.Standing.{Stands};
 ghost use Rattle.ssh_transport_server.specs.Transport.{begun_of};
 ghost use Rattle.ssh_end.specs.Asking.{InSession, Fails, ask_of};
 ghost use Rattle.ssh_end.specs.Ends.{IsFault, IsNewServer, SameServer};
@@ -265,6 +266,13 @@ impl<P: ServerParts, U: UserJudge + Drop> ServerEnd<P, U> {
         ensures { option_copied result ≡ self.now.machine.kept.session }
     {
         self.machine.session_id()
+    }
+
+    /// What holds of its transport until it is over. A fact for proofs, at no cost.
+    pub fn stands(&self)
+        ensures { Stands model.Server self.now.machine }
+    {
+        let _ = &self.machine;
     }
 
     /// Tests whether the end is over: it then takes nothing, and sends nothing.
