@@ -1,0 +1,68 @@
+-- What an end did on an ask.
+use Rattle.std.proofs.Common.{◌≡◌, ℕ, Bool, true, false, cond, List, [], ◌∷◌, ◌++◌, append-nil, refl, ap, sym, ◌∙◌, subst, Option, Some, None, Ok, Err}
+use Rattle.std.specs.Prelude.{Result}
+use Rattle.std.proofs.lemmas.Bool.{false≢true}
+use Rattle.ssh_model.specs.Side.{Side, done_by, part}
+use Rattle.ssh_model.specs.End.State.{EndState}
+use Rattle.ssh_model.specs.End.Summary.{EndSumsUp, EndTurned}
+use Rattle.ssh_model.specs.Sessions.Items.{Ask, Done, Item, Item.Asked, Item.AskRefused, Item.Died, has_died, messages_sent}
+use Rattle.ssh_model.specs.Sessions.Parties.{Parties}
+use Rattle.ssh_model.specs.Sessions.Turns.{AsksTurn, EndRun}
+use Rattle.ssh_types.specs.AskRefusals.{ask_refusal_of}
+use Rattle.ssh_transport_machine.specs.Puts.{payloads_of}
+use Rattle.ssh_end.specs.Asking.{DoneInSession}
+use Rattle.ssh_end.specs.declared.asking.outcome.AskStep.{AskStep}
+use Rattle.ssh_end.specs.declared.asking.outcome.Fault.{Fault}
+use Rattle.ssh_end.specs.declared.asking.outcome.Fault.TheVariants as fault
+use Rattle.ssh_pair.specs.Noting.{Adds, AddsAsk}
+use Rattle.ssh_pair.specs.Playing.{Answered, SaysOf}
+use Rattle.ssh_pair.specs.declared.item.Done as declared
+use Rattle.ssh_pair.proofs.Advancing.{died_of, says_nothing}
+
+-- a turn on an ask, with what was noted of it
+record Turn {K : Type 0} (p : Parties K) (side : Side) (run : List Done) (asked : Ask) (items : List Item) (new : EndState K) (log_old log_new : List declared.Done) (out_old out_new : List ℕ) : Type 0 where
+  pub more : List ℕ
+  pub turned : EndTurned p side (part side run) (AsksTurn p side (part side run) asked) items more new
+  pub notes : Adds side items log_old log_new
+  pub out : out_new ≡ out_old ++ more
+
+module _ {K : Type 0} (p : Parties K) (side : Side) (run : List Done) (asked : Ask) (old new : EndState K) (kept_old kept_new : List ℕ) (S : List Done → Type 0)
+    (log_old log_new : List declared.Done) (out_old out_new : List ℕ) (alive : has_died (part side run) ≡ false)
+    (goes_on : (items : List Item) (more : List ℕ) → EndTurned p side (part side run) (AsksTurn p side (part side run) asked) items more new → EndRun p side (items ++ part side run))
+    (stand : (items : List Item) → EndSumsUp p side (items ++ part side run) new → EndRun p side (items ++ part side run) → S (done_by side items ++ run))
+    (keeps : new.transport.dead ≡ false → kept_new ≡ kept_old) (drops : new.transport.dead ≡ true → kept_new ≡ []) where
+  kept_is : (dead : Bool) → new.transport.dead ≡ dead → kept_new ≡ cond dead [] kept_old
+  kept_is true e = drops e
+  kept_is false e = keeps e
+
+  by_turn : (items : List Item) → Turn p side run asked items new log_old log_new out_old out_new → Answered p side run asked kept_old kept_new S log_old log_new out_old out_new
+  by_turn items t = record {
+    items = items;
+    turn = t.turned.turn;
+    kept = kept_is (has_died (items ++ part side run)) t.turned.sums.transport.dead_is;
+    stands = stand items t.turned.sums (goes_on items t.more t.turned);
+    says = record { more = t.more; notes = t.notes; puts = t.turned.puts; out = t.out };
+  }
+
+  pub answered : (result : Result AskStep Fault) (is_over : Bool) (payloads : List (List ℕ)) → is_over ≡ new.transport.dead → (out_new_is : (fault : Fault) → result ≡ Err fault → out_new ≡ out_old) →
+      DoneInSession p side (part side run) old asked result new (record { before = out_old; after = out_new; listed = []; relisted = payloads }) → AddsAsk side asked result payloads is_over log_old log_new →
+      (old.transport.dead ≡ has_died (part side run)) → Answered p side run asked kept_old kept_new S log_old log_new out_old out_new
+  answered (Ok step) is_over payloads over same d n was = by_turn d.items (record {
+    more = d.more;
+    turned = d.turned;
+    notes = n d.items d.shows d.lists (over ∙ (d.turned.sums.transport.dead_is ∙ died_of d.items (part side run) alive));
+    out = d.parts;
+  })
+  answered (Err (fault.Ask why)) is_over payloads over same d n was = by_turn (AskRefused (ask_refusal_of why) ∷ Asked asked ∷ []) (record { more = []; turned = d.turned; notes = n; out = same _ refl ∙ sym (append-nil out_old) })
+  answered (Err fault.Memory) is_over payloads over same d n was = by_turn (Died ∷ []) (record { more = []; turned = d.turned; notes = n; out = same _ refl ∙ sym (append-nil out_old) })
+  answered (Err fault.Dead) is_over payloads over same d n was = absurd (false≢true (sym alive ∙ (sym was ∙ d.dead)))
+
+-- a dead end does nothing
+pub answered_dead : {K : Type 0} (p : Parties K) (side : Side) (run : List Done) (asked : Ask) (kept : List ℕ) (S : List Done → Type 0) (log : List declared.Done) (out : List ℕ) → has_died (part side run) ≡ true → kept ≡ [] → S run → Answered p side run asked kept kept S log log out out
+answered_dead p side run asked kept S log out dead none s = record {
+  items = [];
+  turn = AsksTurn.is_dead dead;
+  kept = none ∙ sym (ap (λ (b : Bool). cond b [] kept) dead);
+  stands = s;
+  says = says_nothing p side run log out;
+}

@@ -1,0 +1,13 @@
+pub mod Noting
+pub mod Advancing
+pub mod Answering
+pub mod Stepping
+pub mod ClientGoes
+pub mod ServerGoes
+pub mod Summing
+pub mod PlayingClient
+pub mod PlayingServer
+pub mod Events
+pub mod Ending
+pub mod Beginning
+pub mod Meeting

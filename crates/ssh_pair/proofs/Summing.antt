@@ -1,0 +1,39 @@
+-- What two ends of a pair keep, in the words of a session.
+use Rattle.std.proofs.Common.{◌≡◌, ℕ, Bool, List, Option, ap, ◌∙◌}
+use Rattle.ssh_model.specs.Side.{Side, Side.Client, Side.Server, part}
+use Rattle.ssh_model.specs.End.Pair.{PairState, PairSumsUp, state_of}
+use Rattle.ssh_model.specs.End.Summary.{EndSumsUp}
+use Rattle.ssh_model.specs.Sessions.Events.{World}
+use Rattle.ssh_model.specs.Sessions.Parties.{Parties}
+use Rattle.ssh_end.specs.ClientSessions as client_sessions
+use Rattle.ssh_end.specs.Sessions as server_sessions
+use Rattle.ssh_model.specs.Authentication.Requests.{Judge}
+use Rattle.ssh_model.specs.Wire.Sealing.{Crypto}
+use Rattle.ssh_end.specs.Ends.{ClientState, SameClient, SameServer, ServerState}
+use Rattle.ssh_pair.specs.Standing.{PairStands, PairValue, client_value, server_value}
+
+abbrev pub pair_of : {K : Type 0} → PairValue K → PairState K
+pair_of pair = record { client = client_sessions.end_of pair.client.machine.kept pair.client.layers; server = server_sessions.end_of pair.server.machine.kept pair.server.layers }
+
+ends_sum : {K : Type 0} (p : Parties K) (w : World) (pair : PairValue K) → PairStands p w pair → (side : Side) → EndSumsUp p side (part side w.run) (state_of side (pair_of pair))
+ends_sum p w pair s Client = s.client.sums
+ends_sum p w pair s Server = s.server.sums
+
+pub pair_sums : {K : Type 0} (p : Parties K) (w : World) (pair : PairValue K) → PairStands p w pair → PairSumsUp p w (pair_of pair)
+pair_sums p w pair s = record { run = s.run; ends = ends_sum p w pair s }
+
+-- ---- the supplied parts stay
+
+pub client_same : {K A H U : Type 0} (c : Crypto K) (point : A → List ℕ → List ℕ) (shared : A → List ℕ → List ℕ → Option (List ℕ)) (trusts : H → List ℕ → List ℕ → List ℕ → List ℕ → Bool) (signature : U → List ℕ → List ℕ → List ℕ → List ℕ → List ℕ)
+    (old new : ClientState K A H U) → SameClient old new → (client_value c point shared trusts signature new).functions ≡ (client_value c point shared trusts signature old).functions
+client_same c point shared trusts signature old new x =
+    ap (λ a. record { crypto = c; agreement = record { point = point a; shared = shared a }; trusts = trusts new.host_trust; signature = signature new.user }) x.agreement
+    ∙ (ap (λ h. record { crypto = c; agreement = record { point = point old.agreement; shared = shared old.agreement }; trusts = trusts h; signature = signature new.user }) x.host_trust
+    ∙ ap (λ u. record { crypto = c; agreement = record { point = point old.agreement; shared = shared old.agreement }; trusts = trusts old.host_trust; signature = signature u }) x.user)
+
+pub server_same : {K A H U : Type 0} (c : Crypto K) (point : A → List ℕ → List ℕ) (shared : A → List ℕ → List ℕ → Option (List ℕ)) (key : H → List ℕ → List ℕ) (signature : H → List ℕ → List ℕ → List ℕ) (verdicts : U → Judge)
+    (old new : ServerState K A H U) → SameServer old new → (server_value c point shared key signature verdicts new).functions ≡ (server_value c point shared key signature verdicts old).functions
+server_same {K} c point shared key signature verdicts old new x =
+    ap (λ a. record { crypto = c; exchange = record { agreement = record { point = point a; shared = shared a }; host_key = key new.host_signer; host_signature = signature new.host_signer }; judge = verdicts new.user }) x.agreement
+    ∙ (ap (λ h. record { crypto = c; exchange = record { agreement = record { point = point old.agreement; shared = shared old.agreement }; host_key = key h; host_signature = signature h }; judge = verdicts new.user }) x.host_signer
+    ∙ ap (λ u. record { crypto = c; exchange = record { agreement = record { point = point old.agreement; shared = shared old.agreement }; host_key = key old.host_signer; host_signature = signature old.host_signer }; judge = verdicts u }) x.user)

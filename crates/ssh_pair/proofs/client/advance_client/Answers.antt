@@ -1,0 +1,25 @@
+use Rattle.std.proofs.Common.{◌≡◌, List, [], ◌++◌, take}
+use Rattle.ssh_model.specs.Side.{Side.Client, part}
+use Rattle.ssh_transport_machine.specs.Puts.{Outs}
+use Rattle.ssh_transport_server.specs.Transport.{begun_of}
+use Rattle.ssh_end.specs.ClientSessions.{end_of}
+use Rattle.ssh_pair.specs.Standing.{client_value}
+use Rattle.ssh_pair.proofs.ClientGoes.{is_asking, client_goes_at, client_unit}
+use Rattle.ssh_pair.proofs.Summing.{client_same}
+use Rattle.ssh_pair.proofs.client.advance_client.Goals as goal
+
+pub returns-clause-advanced : goal.returns-clause-advanced
+returns-clause-advanced g c = λ p run s.
+    let was = client_value g.P.Sealing.Sealing.crypto g.P.Agreement.Agreement.public_of g.P.Agreement.Agreement.shared_of g.P.HostTrust.HostTrust.judged g.U.UserSigner.signature_of c.args.end.now in
+    let end = client_value g.P.Sealing.Sealing.crypto g.P.Agreement.Agreement.public_of g.P.Agreement.Agreement.shared_of g.P.HostTrust.HostTrust.judged g.U.UserSigner.signature_of c.take.new.self in
+    let old = end_of c.args.end.now.machine.kept c.args.end.now.layers in
+    let bytes = take c.in-Ok.used c.args.bytes.now in
+    let o : Outs = record { before = c.args.out.now.items; after = c.take.new.out.items; listed = []; relisted = c.take.new.self.sent } in
+    let goes = client_goes_at p was.functions s.fits c.args.end.now.machine c.args.end.now.layers (begun_of c.args.end.now.machine ++ bytes) c.take.new.self.step c.take.new.self.machine c.take.new.self.layers o (rw c.in-Ok.is at c.take.ensures.goes) in
+    let serves = is_asking p was run s (c.identified.ensures.normal p Client (part Client run) old s.sums s.end_run c.requires.alive) in
+    client_unit p run was s c.requires.alive c.parts.ensures.here end (client_same g.P.Sealing.Sealing.crypto g.P.Agreement.Agreement.public_of g.P.Agreement.Agreement.shared_of g.P.HostTrust.HostTrust.judged g.U.UserSigner.signature_of c.args.end.now c.take.new.self c.take.ensures.parts) bytes c.turn.result c.args.log.now.items c.note_turn.new.log.items c.args.out.now.items c.take.new.out.items c.take.new.self.sent
+    (rw c.is_dead-is_over.ensures at c.in_ok-note_turn.ensures) c.turn.ensures.sent
+    (λ unit items more e turned behind last rest d. c.deliveries.ensures.unit p Client run old s.sums c.requires.alive unit items more e turned behind last rest d)
+    (λ unit items more e turned. c.units.ensures.run p Client (part Client run) old s.sums s.end_run c.requires.alive unit items more e turned)
+    c.take.new.self.step (c.clients_turns.ensures.turned p (part Client run) c.args.end.now.machine c.args.end.now.layers serves (begun_of c.args.end.now.machine ++ bytes) c.take.new.self.step c.take.new.self.machine c.take.new.self.layers o goes)
+    c.turn.ensures.shows c.turn.ensures.more

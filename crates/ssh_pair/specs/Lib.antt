@@ -1,0 +1,4 @@
+pub mod Items
+pub mod Noting
+pub mod Standing
+pub mod Playing

@@ -1,0 +1,149 @@
+-- The two ends of a pair: what they keep, and where they stand in a run.
+use Rattle.std.specs.Prelude.{◌≡◌, ℕ, Bool, false, cond, Option, List, []}
+use Rattle.ssh_model.specs.Side.{Side.Client, Side.Server, part}
+use Rattle.ssh_model.specs.Wire.Message.{Msg.UserauthFailure}
+use Rattle.ssh_model.specs.Wire.Sealing.{Crypto}
+use Rattle.ssh_model.specs.Authentication.Requests.{Judge, judge_of}
+use Rattle.ssh_model.specs.Sessions.Events.{World}
+use Rattle.ssh_model.specs.Sessions.Items.{Done}
+use Rattle.ssh_model.specs.Sessions.Parties.{Agreement, AreLawful, Parties, agreement_of}
+use Rattle.ssh_model.specs.Sessions.TurnClaims.{HasSpelling}
+use Rattle.ssh_model.specs.Sessions.Turns.{EndRun, Run}
+use Rattle.ssh_model.specs.TransportLayer.Kept.{ExchangeParts}
+use Rattle.ssh_model.specs.TransportLayer.Summary.{parts_of}
+use Rattle.ssh_model.specs.End.Summary.{EndSumsUp}
+use Rattle.ssh_transport_machine.specs.State.{State}
+use Rattle.ssh_transport_server.specs.Transport.{begun_of}
+use Rattle.ssh_end.specs.ClientLayers as client
+use Rattle.ssh_end.specs.ClientSessions as client_sessions
+use Rattle.ssh_end.specs.Ends.{ClientState, SameClient, SameServer, ServerState}
+use Rattle.ssh_end.specs.Layers as server
+use Rattle.ssh_end.specs.Reading.{IsReading}
+use Rattle.ssh_end.specs.Sessions as server_sessions
+use Rattle.ssh_end.specs.Sessions.{AreOf}
+
+-- ---- the supplied parts, as functions
+
+-- what a client is made with: sealing, agreement, whom it trusts, and the signatures of its user
+pub record ClientFunctions (K : Type 0) : Type 0 where
+  pub crypto : Crypto K
+  pub agreement : Agreement
+  pub trusts : (algorithm key hash signature : List ℕ) → Bool
+  pub signature : (user algorithm key text : List ℕ) → List ℕ
+
+-- what a server is made with: sealing, agreement and host keys, and its verdicts on users
+pub record ServerFunctions (K : Type 0) : Type 0 where
+  pub crypto : Crypto K
+  pub exchange : ExchangeParts
+  pub judge : Judge
+
+-- They are those of the client of these parties.
+pub record AreOfClient {K : Type 0} (p : Parties K) (f : ClientFunctions K) : Type 0 where
+  pub crypto : p.crypto ≡ f.crypto
+  pub agreement : agreement_of p Client ≡ f.agreement
+  pub trusts : p.trusts ≡ f.trusts
+  pub signature : p.user_signature ≡ f.signature
+
+-- They are those of the server of these parties.
+pub record AreOfServer {K : Type 0} (p : Parties K) (f : ServerFunctions K) : Type 0 where
+  pub crypto : p.crypto ≡ f.crypto
+  pub exchange : parts_of p Server ≡ f.exchange
+  pub judge : judge_of p ≡ f.judge
+
+-- ---- where an end stands
+
+-- The bytes that it was given and has not used: a dead one keeps none.
+abbrev pub kept_bytes : {K : Type 0} → State K → List ℕ
+kept_bytes s = cond s.kept.dead [] (begun_of s)
+
+-- ---- ends with their parts
+
+-- a client: what its parts do, its transport, and the layers above
+pub record ClientValue (K : Type 0) : Type 0 where
+  pub functions : ClientFunctions K
+  pub machine : State K
+  pub layers : client.Layers
+
+-- a server: the same
+pub record ServerValue (K : Type 0) : Type 0 where
+  pub functions : ServerFunctions K
+  pub machine : State K
+  pub layers : server.Layers
+
+-- a client with what its supplied parts do
+abbrev pub client_value : {K A H U : Type 0} → Crypto K → (point : A → List ℕ → List ℕ) →
+    (shared : A → List ℕ → List ℕ → Option (List ℕ)) → (trusts : H → List ℕ → List ℕ → List ℕ → List ℕ → Bool) →
+    (signature : U → List ℕ → List ℕ → List ℕ → List ℕ → List ℕ) → ClientState K A H U → ClientValue K
+client_value c point shared trusts signature end = record {
+  functions = record {
+    crypto = c;
+    agreement = record { point = point end.agreement; shared = shared end.agreement };
+    trusts = trusts end.host_trust;
+    signature = signature end.user;
+  };
+  machine = end.machine;
+  layers = end.layers;
+}
+
+-- a server with what its supplied parts do
+abbrev pub server_value : {K A H U : Type 0} → Crypto K → (point : A → List ℕ → List ℕ) →
+    (shared : A → List ℕ → List ℕ → Option (List ℕ)) → (key : H → List ℕ → List ℕ) →
+    (signature : H → List ℕ → List ℕ → List ℕ) → (verdicts : U → Judge) → ServerState K A H U → ServerValue K
+server_value c point shared key signature verdicts end = record {
+  functions = record {
+    crypto = c;
+    exchange = record {
+      agreement = record { point = point end.agreement; shared = shared end.agreement };
+      host_key = key end.host_signer;
+      host_signature = signature end.host_signer;
+    };
+    judge = verdicts end.user;
+  };
+  machine = end.machine;
+  layers = end.layers;
+}
+
+-- A client of lawful parties, which has these parts, sums up its part of a run.
+pub record ClientStands {K : Type 0} (p : Parties K) (v : ClientValue K) (run : List Done) : Type 0 where
+  pub lawful : AreLawful p
+  pub fits : AreOfClient p v.functions
+  pub sums : EndSumsUp p Client (part Client run) (client_sessions.end_of v.machine.kept v.layers)
+  pub end_run : EndRun p Client (part Client run)
+  pub reading : v.machine.kept.dead ≡ false → IsReading p.crypto v.machine
+
+-- So does a server. The methods that it names fit into a packet.
+pub record ServerStands {K : Type 0} (p : Parties K) (v : ServerValue K) (run : List Done) : Type 0 where
+  pub lawful : AreLawful p
+  pub fits : AreOfServer p v.functions
+  pub layers_are : v.machine.kept.dead ≡ false → AreOf p v.layers
+  pub sums : EndSumsUp p Server (part Server run) (server_sessions.end_of v.machine.kept v.layers)
+  pub end_run : EndRun p Server (part Server run)
+  pub reading : v.machine.kept.dead ≡ false → IsReading p.crypto v.machine
+  pub failure : HasSpelling (UserauthFailure p.server.methods false)
+
+-- ---- a pair
+
+-- both ends, and whether a call found no memory
+pub record PairState (C S : Type 0) : Type 0 where
+  pub client : C
+  pub server : S
+  pub failed : Bool
+
+-- both ends, with what their supplied parts do
+pub record PairValue (K : Type 0) : Type 0 where
+  pub client : ClientValue K
+  pub server : ServerValue K
+
+-- Both ends sum up where they stand, which a run led to.
+pub record PairStands {K : Type 0} (p : Parties K) (w : World) (pair : PairValue K) : Type 0 where
+  pub run : Run p w.run
+  pub client : ClientStands p pair.client w.run
+  pub server : ServerStands p pair.server w.run
+  pub client_rest : w.client_rest ≡ kept_bytes pair.client.machine
+  pub server_rest : w.server_rest ≡ kept_bytes pair.server.machine
+
+-- The supplied parts are as before.
+pub record SameParts {K A H U B I J : Type 0} (old new : PairState (ClientState K A H U) (ServerState K B I J)) :
+    Type 0 where
+  pub client : SameClient old.client new.client
+  pub server : SameServer old.server new.server

@@ -1,0 +1,183 @@
+//! The client of a pair.
+
+ghost use Rattle.std.specs.Prelude.{◌≡◌, ◌<◌, ◌≤◌, IfOk, List, OnOk, [], false, length, take};
+ghost use Rattle.ssh_model.specs.Side as model;
+ghost use Rattle.ssh_model.specs.Sessions.Items as session;
+ghost use Rattle.ssh_model.specs.Sessions.Parties.{Parties};
+ghost use Rattle.ssh_transport_machine.specs.Standing.{Stands};
+ghost use Rattle.ssh_transport_base.specs.Meaning.{settings_of};
+ghost use Rattle.ssh_end.specs.Asking.{ask_of};
+ghost use Rattle.ssh_end.specs.Ends.{SameClient};
+ghost use Rattle.ssh_end.specs.ClientSessions.{end_of};
+ghost use Rattle.ssh_end.specs.Reading.{IsReading};
+ghost use Rattle.ssh_pair.specs.Playing.{Advanced, Answered, Opens};
+ghost use Rattle.ssh_pair.specs.Standing.{ClientStands, client_value, kept_bytes};
+
+use crate::item::Done;
+use crate::lines::Lines;
+use crate::material::is_material;
+use crate::notes::{note_ask, note_line, note_sent, note_turn};
+use ssh_auth::UserSigner;
+use ssh_end::turn_laws::clients_turns;
+use ssh_end::{Ask, ClientEnd};
+use ssh_model::end::{asks, identified, openings, units};
+use ssh_model::pair::{deliveries, parts};
+use ssh_packet::Sealing;
+use ssh_transport_base::{ClientPartValues, ClientParts, Config};
+use ssh_types::Side;
+use std::alloc::{AllocError, Global};
+
+/// What a client is made with: its settings, its parts, who signs for its user, and its first pair of cookie and secret.
+pub struct ClientValues<P: ClientParts, U: UserSigner + Drop> {
+    pub config: Config<P::Sealing>,
+    pub parts: ClientPartValues<P>,
+    pub user: U,
+    pub cookie: [u8; 16],
+    pub secret: [u8; 32],
+}
+
+// Written out, since a derive would ask it of the parts' name too.
+impl<P: ClientParts, U: UserSigner + Drop> Drop for ClientValues<P, U> {
+    fn drop(self) {
+        let ClientValues {
+            config: _,
+            parts: _,
+            user: _,
+            cookie: _,
+            secret: _,
+        } = self;
+    }
+}
+
+impl<P: ClientParts, U: UserSigner + Drop> ClientValues<P, U> {
+    // The values one by one.
+    fn into_parts(
+        self,
+    ) -> (
+        Config<P::Sealing>,
+        ClientPartValues<P>,
+        U,
+        [u8; 16],
+        [u8; 32],
+    )
+        ensures { result ≡ (self.config, self.parts, self.user, self.cookie, self.secret) }
+    {
+        let ClientValues {
+            config,
+            parts,
+            user,
+            cookie,
+            secret,
+        } = self;
+        (config, parts, user, cookie, secret)
+    }
+}
+
+// A client that put out its version line and its first KEXINIT.
+pub(crate) fn open_client<P: ClientParts, U: UserSigner + Drop>(
+    alloc: Global,
+    values: ClientValues<P, U>,
+    log: &mut Vec<Done>,
+    out: &mut Vec<u8>,
+) -> Result<ClientEnd<P, U>, AllocError>
+    ensures opens { IfOk result (λ end. (p : Parties P.Sealing.Key) → p.crypto ≡ P.Sealing.crypto → p.client ≡ settings_of values.config → Opens p model.Client (end_of end.machine.kept end.layers) log.old.items log.new.items out.old.items out.new.items) }
+    ensures reading { IfOk result (λ end. IsReading P.Sealing.crypto end.machine) }
+    ensures begun { IfOk result (λ end. kept_bytes end.machine ≡ []) }
+    ensures alive { IfOk result (λ end. end.machine.kept.dead ≡ false) }
+    ensures agreement { IfOk result (λ end. end.agreement ≡ values.parts.agreement) }
+    ensures part { IfOk result (λ end. end.host_trust ≡ values.parts.host_trust) }
+    ensures user { IfOk result (λ end. end.user ≡ values.user) }
+{
+    openings::<<P::Sealing as Sealing>::Key>();
+    let (config, parts, user, cookie, secret) = values.into_parts();
+    is_material(&cookie, &secret);
+    note_line(alloc, log, Side::Client, config.line())?;
+    let end = ClientEnd::new(alloc, config, parts, user, cookie, secret, out)?;
+    note_sent(alloc, log, Side::Client, &end.turn().sent)?;
+    Ok(end)
+}
+
+// Asks the client for something. Where it is over it does nothing.
+pub(crate) fn ask_client<P: ClientParts, U: UserSigner + Drop>(
+    end: &mut ClientEnd<P, U>,
+    alloc: Global,
+    ask: &Ask<'_>,
+    log: &mut Vec<Done>,
+    out: &mut Vec<u8>,
+) -> Result<(), AllocError>
+    ensures answers { OnOk result ((p : Parties P.Sealing.Key) (run : List session.Done) → ClientStands p (client_value P.Sealing.crypto P.Agreement.public_of P.Agreement.shared_of P.HostTrust.judged U.signature_of end.old) run → Answered p model.Client run (ask_of ask.now) (kept_bytes end.old.machine) (kept_bytes end.new.machine) (ClientStands p (client_value P.Sealing.crypto P.Agreement.public_of P.Agreement.shared_of P.HostTrust.judged U.signature_of end.new)) log.old.items log.new.items out.old.items out.new.items) }
+    ensures parts { SameClient end.old end.new }
+{
+    parts();
+    asks::<<P::Sealing as Sealing>::Key>();
+    identified::<<P::Sealing as Sealing>::Key>();
+    if end.is_dead() {
+        return Ok(());
+    }
+    let done = end.ask(ask, out);
+    let is_over = end.is_dead();
+    note_ask(
+        alloc,
+        log,
+        Side::Client,
+        ask,
+        done,
+        &end.turn().sent,
+        is_over,
+    )
+}
+
+// Delivers a piece of the server's stream to the client. Where it is over it does nothing.
+pub(crate) fn deliver_to_client<P: ClientParts, U: UserSigner + Drop>(
+    end: &mut ClientEnd<P, U>,
+    alloc: Global,
+    lines: &mut Lines,
+    piece: &[u8],
+    log: &mut Vec<Done>,
+    out: &mut Vec<u8>,
+) -> Result<(), AllocError>
+    ensures advanced { OnOk result ((p : Parties P.Sealing.Key) (run : List session.Done) → ClientStands p (client_value P.Sealing.crypto P.Agreement.public_of P.Agreement.shared_of P.HostTrust.judged U.signature_of end.old) run → Advanced p model.Client run piece.now (kept_bytes end.old.machine) (kept_bytes end.new.machine) (ClientStands p (client_value P.Sealing.crypto P.Agreement.public_of P.Agreement.shared_of P.HostTrust.judged U.signature_of end.new)) log.old.items log.new.items out.old.items out.new.items) }
+    ensures parts { SameClient end.old end.new }
+    ensures live { OnOk result (Stands model.Client end.new.machine) }
+{
+    parts();
+    let mut at = 0;
+    while at < piece.len() {
+        if end.is_dead() {
+            return Ok(());
+        }
+        let rest = piece.split_at(at).1;
+        at += advance_client(end, alloc, lines, rest, log, out)?;
+    }
+    end.stands();
+    Ok(())
+}
+
+// Delivers bytes to the end of one line or packet, and answers how many.
+fn advance_client<P: ClientParts, U: UserSigner + Drop>(
+    end: &mut ClientEnd<P, U>,
+    alloc: Global,
+    lines: &mut Lines,
+    bytes: &[u8],
+    log: &mut Vec<Done>,
+    out: &mut Vec<u8>,
+) -> Result<usize, AllocError>
+    requires alive { end.old.machine.kept.dead ≡ false }
+    ensures used { IfOk result (λ used. used ≤ length bytes.now) }
+    ensures progress { IfOk result (λ used. 0 < length bytes.now → 0 < used) }
+    ensures advanced { IfOk result (λ used. (p : Parties P.Sealing.Key) (run : List session.Done) → ClientStands p (client_value P.Sealing.crypto P.Agreement.public_of P.Agreement.shared_of P.HostTrust.judged U.signature_of end.old) run → Advanced p model.Client run (take used bytes.now) (kept_bytes end.old.machine) (kept_bytes end.new.machine) (ClientStands p (client_value P.Sealing.crypto P.Agreement.public_of P.Agreement.shared_of P.HostTrust.judged U.signature_of end.new)) log.old.items log.new.items out.old.items out.new.items) }
+    ensures parts { SameClient end.old end.new }
+{
+    parts();
+    deliveries::<<P::Sealing as Sealing>::Key>();
+    identified::<<P::Sealing as Sealing>::Key>();
+    units::<<P::Sealing as Sealing>::Key>();
+    clients_turns::<<P::Sealing as Sealing>::Key>();
+    let Ok(used) = end.take(bytes, out) else {
+        return Err(AllocError);
+    };
+    lines.take(bytes.split_at(used).0)?;
+    let is_over = end.is_dead();
+    note_turn(alloc, log, Side::Client, &end.turn(), lines, is_over)?;
+    Ok(used)
+}

@@ -1,0 +1,70 @@
+//! What two ends did.
+
+ghost use Rattle.std.specs.Prelude.{◌≡◌, []};
+
+use crate::ask_kind::AskKind;
+use crate::fact::Fact;
+use ssh_types::{AskRefusal, Refusal, Side};
+use std::alloc::Global;
+
+/// What an end did. A payload is a whole message (RFC 4253 section 6); a channel goes by the end's own number, where the message belongs
+/// to one.
+#[derive(Debug, Drop)]
+pub enum Item {
+    /// It was asked for this.
+    Asked(AskKind),
+    /// It refused the ask, and nothing changed.
+    AskRefused(AskRefusal),
+    /// It sent its version line (RFC 4253 section 4.2), here without CR LF.
+    SentLine(Vec<u8>),
+    /// It took a line: the version line, or one before it (RFC 4253 section 4.2). Here without its line end.
+    TookLine(Vec<u8>),
+    /// It sent a message.
+    Sent {
+        channel: Option<u32>,
+        payload: Vec<u8>,
+    },
+    /// It took a message.
+    Took {
+        channel: Option<u32>,
+        payload: Vec<u8>,
+    },
+    /// It took the packet after a wrong guess, and did not read it (RFC 4253 section 7).
+    Skipped(Vec<u8>),
+    /// It told its user this.
+    Told(Fact),
+    /// It refused its peer, or found its own numbers spent.
+    Refused(Refusal),
+    /// It is over.
+    Died,
+}
+
+/// What an end did, and which end it was.
+#[derive(Debug, Drop)]
+pub struct Done {
+    pub side: Side,
+    pub item: Item,
+}
+
+/// What events added: what was done, the oldest first, and the bytes that each end put out.
+#[derive(Drop)]
+pub struct Transcript {
+    pub items: Vec<Done>,
+    pub client_bytes: Vec<u8>,
+    pub server_bytes: Vec<u8>,
+}
+
+impl Transcript {
+    // Nothing was done.
+    pub(crate) fn new(alloc: Global) -> Transcript
+        ensures items { result.items.items ≡ [] }
+        ensures client { result.client_bytes.items ≡ [] }
+        ensures server { result.server_bytes.items ≡ [] }
+    {
+        Transcript {
+            items: Vec::new(alloc),
+            client_bytes: Vec::new(alloc),
+            server_bytes: Vec::new(alloc),
+        }
+    }
+}

@@ -1,0 +1,263 @@
+//! Two ends of SSH-2.
+
+ghost use Rattle.std.specs.Prelude.{◌≡◌, IfOk, IsErr, List, OnErr, OnOk, [], false, true};
+ghost use Rattle.ssh_model.specs.Wire.Message.{Msg.UserauthFailure};
+ghost use Rattle.ssh_model.specs.Sessions.Events as session;
+ghost use Rattle.ssh_model.specs.Sessions.Events.{World};
+ghost use Rattle.ssh_model.specs.Sessions.Parties.{AreLawful, Parties};
+ghost use Rattle.ssh_model.specs.Sessions.TurnClaims.{HasSpelling};
+ghost use Rattle.ssh_types.specs.Sides.{side_of};
+ghost use Rattle.ssh_transport_base.specs.Meaning.{settings_of};
+ghost use Rattle.ssh_end.specs.Asking.{ask_of};
+ghost use Rattle.ssh_pair.specs.Playing.{PairFed, PairOpens, Played, PlaysOne, event_of, events_of};
+ghost use Rattle.ssh_pair.specs.Standing.{AreOfClient, AreOfServer, PairStands, SameParts, client_value, server_value};
+
+use crate::client::{ClientValues, ask_client, deliver_to_client, open_client};
+use crate::event::Event;
+use crate::item::Transcript;
+use crate::lines::Lines;
+use crate::material::is_material;
+use crate::server::{ServerValues, ask_server, deliver_to_server, open_server};
+use ssh_auth::{UserJudge, UserSigner};
+use ssh_end::{Ask, ClientEnd, ServerEnd};
+use ssh_model::end::{feeds, waiting};
+use ssh_model::one_end::runs_of_each_end;
+use ssh_model::pair::{deliveries, events, openings, parts, plays};
+use ssh_model::session::safety;
+use ssh_packet::Sealing;
+use ssh_transport_base::{ClientParts, ServerParts};
+use ssh_types::Side;
+use std::alloc::{AllocError, Global};
+use std::marker::Model;
+
+/// A client and a server of one sealing. The network between them is whatever the events deliver.
+pub struct Pair<
+    S: Sealing,
+    C: ClientParts<Sealing = S>,
+    U: UserSigner + Drop,
+    V: ServerParts<Sealing = S>,
+    J: UserJudge + Drop,
+> {
+    alloc: Global,
+    client: ClientEnd<C, U>,
+    server: ServerEnd<V, J>,
+    client_lines: Lines,
+    server_lines: Lines,
+    failed: bool,
+}
+
+impl<
+    S: Sealing,
+    C: ClientParts<Sealing = S>,
+    U: UserSigner + Drop,
+    V: ServerParts<Sealing = S>,
+    J: UserJudge + Drop,
+> Model for Pair<S, C, U, V, J> {
+    ghost use Rattle.ssh_end.specs.Ends.{ClientState, ServerState};
+    ghost use Rattle.ssh_pair.specs.Standing.{PairState};
+
+    ghost Value = { PairState (ClientState S.Key C.Agreement C.HostTrust U) (ServerState S.Key V.Agreement V.HostSigner J) };
+
+    ghost view = { λ pair. record { client = pair.client; server = pair.server; failed = pair.failed } };
+}
+
+impl<
+    S: Sealing,
+    C: ClientParts<Sealing = S>,
+    U: UserSigner + Drop,
+    V: ServerParts<Sealing = S>,
+    J: UserJudge + Drop,
+> Drop for Pair<S, C, U, V, J> {
+    fn drop(self) {
+        let Pair {
+            alloc: _,
+            client: _,
+            server: _,
+            client_lines: _,
+            server_lines: _,
+            failed: _,
+        } = self;
+    }
+}
+
+impl<
+    S: Sealing,
+    C: ClientParts<Sealing = S>,
+    U: UserSigner + Drop,
+    V: ServerParts<Sealing = S>,
+    J: UserJudge + Drop,
+> Pair<S, C, U, V, J> {
+    /// Two ends that put out their version lines and first KEXINITs (RFC 4253 sections 4.2 and 7.1), and what they did.
+    ///
+    /// # Errors
+    ///
+    /// Only where memory is refused: what was handed in is dropped.
+    pub fn new(
+        alloc: Global,
+        client: ClientValues<C, U>,
+        server: ServerValues<V, J>,
+    ) -> Result<(Pair<S, C, U, V, J>, Transcript), AllocError>
+        ensures opens { IfOk result (λ r. (p : Parties S.Key) → AreLawful p → AreOfClient p (client_value S.crypto C.Agreement.public_of C.Agreement.shared_of C.HostTrust.judged U.signature_of r.0.client).functions → AreOfServer p (server_value S.crypto V.Agreement.public_of V.Agreement.shared_of V.HostSigner.key_of V.HostSigner.signature_of J.verdicts r.0.server).functions → p.client ≡ settings_of client.config → p.server ≡ settings_of server.config → HasSpelling (UserauthFailure p.server.methods false) →
+            PairOpens p (record { client = client_value S.crypto C.Agreement.public_of C.Agreement.shared_of C.HostTrust.judged U.signature_of r.0.client; server = server_value S.crypto V.Agreement.public_of V.Agreement.shared_of V.HostSigner.key_of V.HostSigner.signature_of J.verdicts r.0.server }) r.1.items.items r.1.client_bytes.items r.1.server_bytes.items) }
+        ensures fine { IfOk result (λ r. r.0.failed ≡ false) }
+    {
+        parts();
+        openings::<S::Key>();
+        runs_of_each_end::<S::Key>();
+        let mut transcript = Transcript::new(alloc);
+        let client = open_client(
+            alloc,
+            client,
+            &mut transcript.items,
+            &mut transcript.client_bytes,
+        )?;
+        let server = open_server(
+            alloc,
+            server,
+            &mut transcript.items,
+            &mut transcript.server_bytes,
+        )?;
+        let pair = Pair {
+            alloc,
+            client,
+            server,
+            client_lines: Lines::new(alloc),
+            server_lines: Lines::new(alloc),
+            failed: false,
+        };
+        Ok((pair, transcript))
+    }
+
+    /// Plays events, and answers what they added. An event for an end that is over adds nothing.
+    ///
+    /// # Errors
+    ///
+    /// Where memory is refused, the pair has failed: each later call answers that too.
+    pub fn play(&mut self, events: &[Event<'_>]) -> Result<Transcript, AllocError>
+        ensures failed { self.old.failed ≡ true → IsErr result }
+        ensures fails { OnErr result (self.new.failed ≡ true) }
+        ensures fine { OnOk result (self.new.failed ≡ false) }
+        ensures parts { SameParts self.old self.new }
+        ensures plays { IfOk result (λ t. (p : Parties S.Key) (w : World) → PairStands p w (record { client = client_value S.crypto C.Agreement.public_of C.Agreement.shared_of C.HostTrust.judged U.signature_of self.old.client; server = server_value S.crypto V.Agreement.public_of V.Agreement.shared_of V.HostSigner.key_of V.HostSigner.signature_of J.verdicts self.old.server }) → Played p w (events_of events.now) (record { client = client_value S.crypto C.Agreement.public_of C.Agreement.shared_of C.HostTrust.judged U.signature_of self.new.client; server = server_value S.crypto V.Agreement.public_of V.Agreement.shared_of V.HostSigner.key_of V.HostSigner.signature_of J.verdicts self.new.server }) t.items.items t.client_bytes.items t.server_bytes.items) }
+    {
+        plays::<S::Key>();
+        safety::<S::Key>();
+        if self.failed {
+            return Err(AllocError);
+        }
+        let mut transcript = Transcript::new(self.alloc);
+        for event in events {
+            match self.play_one(*event, &mut transcript) {
+                Ok(()) => {}
+                Err(_) => {
+                    self.failed = true;
+                    return Err(AllocError);
+                }
+            }
+        }
+        Ok(transcript)
+    }
+
+    /// Hands an end a fresh pair of cookie and secret for its next exchange of keys. It answers `false` and changes nothing where the end
+    /// keeps a pair, was fed 2^32 - 1 of them, or is over, and where this pair of ends has failed. It needs no memory.
+    pub fn feed(&mut self, side: Side, cookie: [u8; 16], secret: [u8; 32]) -> bool
+        ensures failed { self.old.failed ≡ true → result ≡ false }
+        ensures still { self.new.failed ≡ self.old.failed }
+        ensures parts { SameParts self.old self.new }
+        ensures fed { self.old.failed ≡ false → (p : Parties S.Key) (w : World) → PairStands p w (record { client = client_value S.crypto C.Agreement.public_of C.Agreement.shared_of C.HostTrust.judged U.signature_of self.old.client; server = server_value S.crypto V.Agreement.public_of V.Agreement.shared_of V.HostSigner.key_of V.HostSigner.signature_of J.verdicts self.old.server }) → PairFed p w (session.Feeds (side_of side) cookie secret) (record { client = client_value S.crypto C.Agreement.public_of C.Agreement.shared_of C.HostTrust.judged U.signature_of self.new.client; server = server_value S.crypto V.Agreement.public_of V.Agreement.shared_of V.HostSigner.key_of V.HostSigner.signature_of J.verdicts self.new.server }) }
+    {
+        parts();
+        feeds::<S::Key>();
+        events::<S::Key>();
+        safety::<S::Key>();
+        is_material(&cookie, &secret);
+        if self.failed {
+            return false;
+        }
+        match side {
+            Side::Client => self.client.feed_material(cookie, secret),
+            Side::Server => self.server.feed_material(cookie, secret),
+        }
+    }
+
+    // Plays one event.
+    fn play_one(&mut self, event: Event<'_>, transcript: &mut Transcript) -> Result<(), AllocError>
+        ensures failed { self.new.failed ≡ self.old.failed }
+        ensures parts { SameParts self.old self.new }
+        ensures plays { OnOk result ((p : Parties S.Key) (w : World) → PairStands p w (record { client = client_value S.crypto C.Agreement.public_of C.Agreement.shared_of C.HostTrust.judged U.signature_of self.old.client; server = server_value S.crypto V.Agreement.public_of V.Agreement.shared_of V.HostSigner.key_of V.HostSigner.signature_of J.verdicts self.old.server }) → PlaysOne p w (event_of event.entry) (record { client = client_value S.crypto C.Agreement.public_of C.Agreement.shared_of C.HostTrust.judged U.signature_of self.new.client; server = server_value S.crypto V.Agreement.public_of V.Agreement.shared_of V.HostSigner.key_of V.HostSigner.signature_of J.verdicts self.new.server })
+            transcript.old.items.items transcript.new.items.items transcript.old.client_bytes.items transcript.new.client_bytes.items transcript.old.server_bytes.items transcript.new.server_bytes.items) }
+    {
+        match event {
+            Event::Ask(side, ask) => self.ask(side, &ask, transcript),
+            Event::Deliver(side, bytes) => self.deliver(side, bytes, transcript),
+        }
+    }
+
+    // Asks an end for something.
+    fn ask(
+        &mut self,
+        side: Side,
+        ask: &Ask<'_>,
+        transcript: &mut Transcript,
+    ) -> Result<(), AllocError>
+        ensures failed { self.new.failed ≡ self.old.failed }
+        ensures parts { SameParts self.old self.new }
+        ensures plays { OnOk result ((p : Parties S.Key) (w : World) → PairStands p w (record { client = client_value S.crypto C.Agreement.public_of C.Agreement.shared_of C.HostTrust.judged U.signature_of self.old.client; server = server_value S.crypto V.Agreement.public_of V.Agreement.shared_of V.HostSigner.key_of V.HostSigner.signature_of J.verdicts self.old.server }) → PlaysOne p w (session.Asks (side_of side) (ask_of ask.now)) (record { client = client_value S.crypto C.Agreement.public_of C.Agreement.shared_of C.HostTrust.judged U.signature_of self.new.client; server = server_value S.crypto V.Agreement.public_of V.Agreement.shared_of V.HostSigner.key_of V.HostSigner.signature_of J.verdicts self.new.server })
+            transcript.old.items.items transcript.new.items.items transcript.old.client_bytes.items transcript.new.client_bytes.items transcript.old.server_bytes.items transcript.new.server_bytes.items) }
+    {
+        parts();
+        events::<S::Key>();
+        match side {
+            Side::Client => ask_client(
+                &mut self.client,
+                self.alloc,
+                ask,
+                &mut transcript.items,
+                &mut transcript.client_bytes,
+            ),
+            Side::Server => ask_server(
+                &mut self.server,
+                self.alloc,
+                ask,
+                &mut transcript.items,
+                &mut transcript.server_bytes,
+            ),
+        }
+    }
+
+    // Delivers bytes to an end.
+    fn deliver(
+        &mut self,
+        side: Side,
+        bytes: &[u8],
+        transcript: &mut Transcript,
+    ) -> Result<(), AllocError>
+        ensures failed { self.new.failed ≡ self.old.failed }
+        ensures parts { SameParts self.old self.new }
+        ensures plays { OnOk result ((p : Parties S.Key) (w : World) → PairStands p w (record { client = client_value S.crypto C.Agreement.public_of C.Agreement.shared_of C.HostTrust.judged U.signature_of self.old.client; server = server_value S.crypto V.Agreement.public_of V.Agreement.shared_of V.HostSigner.key_of V.HostSigner.signature_of J.verdicts self.old.server }) → PlaysOne p w (session.Delivers (side_of side) bytes.now) (record { client = client_value S.crypto C.Agreement.public_of C.Agreement.shared_of C.HostTrust.judged U.signature_of self.new.client; server = server_value S.crypto V.Agreement.public_of V.Agreement.shared_of V.HostSigner.key_of V.HostSigner.signature_of J.verdicts self.new.server })
+            transcript.old.items.items transcript.new.items.items transcript.old.client_bytes.items transcript.new.client_bytes.items transcript.old.server_bytes.items transcript.new.server_bytes.items) }
+    {
+        parts();
+        events::<S::Key>();
+        deliveries::<S::Key>();
+        waiting::<S::Key>();
+        match side {
+            Side::Client => deliver_to_client(
+                &mut self.client,
+                self.alloc,
+                &mut self.client_lines,
+                bytes,
+                &mut transcript.items,
+                &mut transcript.client_bytes,
+            ),
+            Side::Server => deliver_to_server(
+                &mut self.server,
+                self.alloc,
+                &mut self.server_lines,
+                bytes,
+                &mut transcript.items,
+                &mut transcript.server_bytes,
+            ),
+        }
+    }
+}
