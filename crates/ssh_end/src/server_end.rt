@@ -5,6 +5,7 @@ ghost use Rattle.std.specs.Option.{option_copied};
 ghost use Rattle.ssh_model.specs.Side as model;
 ghost use Rattle.ssh_model.specs.Sessions.Items.{Item};
 ghost use Rattle.ssh_model.specs.TransportLayer.Kept.{after_fed, can_be_fed};
+ghost use Rattle.ssh_transport_base.specs.Directions.{next_number};
 ghost use Rattle.ssh_transport_base.specs.Meaning.{settings_of};
 ghost use Rattle.ssh_transport_machine.specs.Opening.{IsOpened};
 ghost use Rattle.ssh_transport_machine.specs.Standing.{Stands};
@@ -259,6 +260,15 @@ impl<P: ServerParts, U: UserJudge + Drop> ServerEnd<P, U> {
         ensures { result ≡ nat_le self.now.machine.kept.settings.epoch_limit self.now.machine.kept.sending.count }
     {
         self.machine.is_rekey_due()
+    }
+
+    /// The sequence numbers of the next packets (RFC 4253 section 6.4): of the one to be sent, and of the one to be taken. 2^32 stands
+    /// where the epoch has had all of them.
+    pub fn numbers(&self) -> (u64, u64)
+        ensures sending { result.0 ≡ next_number self.now.machine.kept.sending }
+        ensures taking { result.1 ≡ next_number self.now.machine.kept.taking }
+    {
+        self.machine.numbers()
     }
 
     /// The session id (RFC 4253 section 7.2), once an exchange of keys was completed.

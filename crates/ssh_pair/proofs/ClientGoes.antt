@@ -1,5 +1,5 @@
 -- What a client did with the bytes of one line or one packet.
-use Rattle.std.proofs.Common.{◌≡◌, ℕ, Bool, true, false, cond, List, [], ◌∷◌, ◌++◌, append-nil, append_assoc, refl, ap, sym, ◌∙◌, subst, None, Ok, Err}
+use Rattle.std.proofs.Common.{◌≡◌, ℕ, Bool, true, false, cond, List, [], ◌∷◌, ◌++◌, append-nil, append_assoc, take, refl, ap, sym, ◌∙◌, subst, None, Ok, Err}
 use Rattle.std.specs.Prelude.{Result}
 use Rattle.std.proofs.lemmas.Bool.{false≢true}
 use Rattle.ssh_model.specs.Side.{Side, Side.Client, done_by, part}
@@ -10,7 +10,7 @@ use Rattle.ssh_model.specs.Wire.Unit.{IsPacketBegun}
 use Rattle.ssh_model.specs.End.State.{EndState}
 use Rattle.ssh_model.specs.End.Summary.{EndSumsUp, EndTurned}
 use Rattle.ssh_model.specs.Sessions.Events.{reading_of}
-use Rattle.ssh_model.specs.Sessions.Items.{Ask, Done, Item, has_died, messages_sent}
+use Rattle.ssh_model.specs.Sessions.Items.{Ask, Done, Item, Item.Died, has_died, messages_sent}
 use Rattle.ssh_model.specs.Sessions.Parties.{Agreement, Parties, agreement_of}
 use Rattle.ssh_model.specs.Sessions.Phases.{Phase.Normal}
 use Rattle.ssh_model.specs.Sessions.Turns.{AsksTurn, EndRun, OnUnit}
@@ -19,7 +19,7 @@ use Rattle.ssh_transport_machine.specs.State.{State}
 use Rattle.ssh_transport_server.specs.Transport.{begun_of}
 use Rattle.ssh_end.specs.ClientSessions.{end_of}
 use Rattle.ssh_end.specs.ClientLayers.{Layers}
-use Rattle.ssh_end.specs.ClientUnits.{ClientGoes}
+use Rattle.ssh_end.specs.ClientUnits.{ClientGoes, FrontLacks}
 use Rattle.ssh_end.specs.ClientTurns.{ClientTurned, IsAsking, IsUnitTurned, IsWaiting}
 use Rattle.ssh_end.specs.Asking.{DoneInSession}
 use Rattle.ssh_end.specs.Reading.{IsReading, SameReading}
@@ -36,6 +36,7 @@ use Rattle.ssh_pair.specs.Standing.{AreOfClient, ClientFunctions, ClientStands, 
 use Rattle.ssh_pair.specs.declared.item.Done as declared
 use Rattle.ssh_pair.proofs.Advancing.{died_of}
 use Rattle.ssh_pair.proofs.Answering.{answered, answered_dead}
+use Rattle.ssh_pair.proofs.Losing.{lost}
 use Rattle.ssh_pair.proofs.Stepping.{used, waited}
 
 -- where it stands, a session's client asks
@@ -95,6 +96,27 @@ module _ {K : Type 0} (p : Parties K) (run : List Done) (was : ClientValue K) (s
   client_unit (step.Took took) x shows quiet = uses (step.Took took) x shows
   client_unit (step.Refused why) x shows quiet = uses (step.Refused why) x shows
 
+-- ---- memory that is refused
+
+pub client_lost : {K : Type 0} (p : Parties K) (run : List Done) (was : ClientValue K) → ClientStands p was run → was.machine.kept.dead ≡ false →
+    ((side : Side) (items : List Item) (run : List Done) → part side (done_by side items ++ run) ≡ items ++ part side run) →
+    (end : ClientValue K) → end.functions ≡ was.functions → end.machine.kept.dead ≡ true → (bytes : List ℕ) (log_old log_new : List declared.Done) (out_old out_new : List ℕ) (count : ℕ) →
+    EndTurned p Client (part Client run) (OnUnit p Client (part Client run) (begun_of was.machine ++ take count bytes)) (Died ∷ []) [] (end_of end.machine.kept end.layers) →
+    ((behind : List ℕ) (last : List Done) (rest : List ℕ) → Delivered (reading_of p Client) (done_by Client (Died ∷ []) ++ run) behind last rest → Delivered (reading_of p Client) run ((begun_of was.machine ++ take count bytes) ++ behind) last rest) →
+    EndRun p Client (Died ∷ part Client run) → Adds Client (Died ∷ []) log_old log_new → out_new ≡ out_old →
+    Advanced p Client run bytes (kept_bytes was.machine) (kept_bytes end.machine) (ClientStands p end) log_old log_new out_old out_new
+client_lost p run was stands alive here end same dead bytes log_old log_new out_old out_new count turned unit goes notes out =
+    lost p Client here run (begun_of was.machine) bytes (kept_bytes was.machine) (kept_bytes end.machine) (ClientStands p end) log_old log_new out_old out_new (kept_alive was.machine alive) count
+    (ap (λ (b : Bool). cond b [] (begun_of end.machine)) dead) unit
+    (record {
+      lawful = stands.lawful;
+      fits = subst (λ (f : ClientFunctions _). AreOfClient p f) (sym same) stands.fits;
+      sums = subst (λ (h : List Item). EndSumsUp p Client h (end_of end.machine.kept end.layers)) (sym (here Client (Died ∷ []) run)) turned.sums;
+      end_run = subst (λ (h : List Item). EndRun p Client h) (sym (here Client (Died ∷ []) run)) goes;
+      reading = λ e. absurd (false≢true (sym e ∙ dead));
+    })
+    notes turned.puts out
+
 -- ---- asks
 
 begun_same : {K : Type 0} (old new : State K) → SameReading old new → begun_of new ≡ begun_of old
@@ -147,3 +169,10 @@ client_goes_at {K} p f x old layers bytes done new later o goes =
     subst (λ (c : Crypto K). ClientGoes c (agreement_of p Client) p.trusts old layers bytes done new later o) (sym x.crypto)
     (subst (λ (a : Agreement). ClientGoes f.crypto a p.trusts old layers bytes done new later o) (sym x.agreement)
     (subst (λ t. ClientGoes f.crypto f.agreement t old layers bytes done new later o) (sym x.trusts) goes))
+
+pub client_lacks_at : {K : Type 0} (p : Parties K) (f : ClientFunctions K) → AreOfClient p f → (old : State K) (layers : Layers) (begun bytes : List ℕ) →
+    FrontLacks f.crypto f.agreement f.trusts old layers begun bytes → FrontLacks p.crypto (agreement_of p Client) p.trusts old layers begun bytes
+client_lacks_at {K} p f x old layers begun bytes lacks =
+    subst (λ (c : Crypto K). FrontLacks c (agreement_of p Client) p.trusts old layers begun bytes) (sym x.crypto)
+    (subst (λ (a : Agreement). FrontLacks f.crypto a p.trusts old layers begun bytes) (sym x.agreement)
+    (subst (λ t. FrontLacks f.crypto f.agreement t old layers begun bytes) (sym x.trusts) lacks))

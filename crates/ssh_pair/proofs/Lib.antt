@@ -2,6 +2,8 @@ pub mod Noting
 pub mod Advancing
 pub mod Answering
 pub mod Stepping
+pub mod Losing
+pub mod Fitting
 pub mod ClientGoes
 pub mod ServerGoes
 pub mod Summing

@@ -1,5 +1,5 @@
 -- What a server did with the bytes of one line or one packet.
-use Rattle.std.proofs.Common.{◌≡◌, ℕ, Bool, true, false, cond, List, [], ◌∷◌, ◌++◌, append-nil, append_assoc, refl, ap, sym, ◌∙◌, subst, None, Ok, Err}
+use Rattle.std.proofs.Common.{◌≡◌, ◌^◌, ℕ, Bool, true, false, cond, List, [], ◌∷◌, ◌++◌, append-nil, append_assoc, take, refl, ap, sym, ◌∙◌, subst, None, Ok, Err}
 use Rattle.std.specs.Prelude.{Result}
 use Rattle.std.proofs.lemmas.Bool.{false≢true}
 use Rattle.ssh_model.specs.Side.{Side, Side.Server, done_by, part}
@@ -13,7 +13,7 @@ use Rattle.ssh_model.specs.Wire.Unit.{IsPacketBegun}
 use Rattle.ssh_model.specs.End.State.{EndState}
 use Rattle.ssh_model.specs.End.Summary.{EndSumsUp, EndTurned}
 use Rattle.ssh_model.specs.Sessions.Events.{reading_of}
-use Rattle.ssh_model.specs.Sessions.Items.{Ask, Done, Item, has_died, messages_sent}
+use Rattle.ssh_model.specs.Sessions.Items.{Ask, Done, Item, Item.Died, has_died, messages_sent}
 use Rattle.ssh_model.specs.Sessions.Parties.{Parties}
 use Rattle.ssh_model.specs.Sessions.Phases.{Phase.Normal}
 use Rattle.ssh_model.specs.Sessions.Turns.{AsksTurn, EndRun, OnUnit}
@@ -22,7 +22,8 @@ use Rattle.ssh_transport_machine.specs.State.{State}
 use Rattle.ssh_transport_server.specs.Transport.{begun_of}
 use Rattle.ssh_end.specs.Sessions.{AreOf, end_of}
 use Rattle.ssh_end.specs.Layers.{Layers}
-use Rattle.ssh_end.specs.ServerUnits.{ServerGoes}
+use Rattle.ssh_end.specs.Deaths.{ServerDies, ServerDies.dies, ServerDies.text_unmade}
+use Rattle.ssh_end.specs.ServerUnits.{FrontLacks, ServerGoes}
 use Rattle.ssh_end.specs.ServerTurns.{ServerTurned, IsServing, IsUnitTurned, IsWaiting}
 use Rattle.ssh_end.specs.Asking.{DoneInSession}
 use Rattle.ssh_end.specs.Reading.{IsReading, SameReading}
@@ -39,6 +40,7 @@ use Rattle.ssh_pair.specs.Standing.{AreOfServer, ServerFunctions, ServerStands, 
 use Rattle.ssh_pair.specs.declared.item.Done as declared
 use Rattle.ssh_pair.proofs.Advancing.{died_of}
 use Rattle.ssh_pair.proofs.Answering.{answered, answered_dead}
+use Rattle.ssh_pair.proofs.Losing.{lost}
 use Rattle.ssh_pair.proofs.Stepping.{used, waited}
 
 -- where it stands, a session's server serves
@@ -98,6 +100,29 @@ module _ {K : Type 0} (p : Parties K) (run : List Done) (was : ServerValue K) (s
   server_unit (step.Took took) x shows quiet = uses (step.Took took) x shows
   server_unit (step.Refused why) x shows quiet = uses (step.Refused why) x shows
 
+-- ---- memory that is refused
+
+pub server_lost : {K : Type 0} (p : Parties K) (run : List Done) (was : ServerValue K) → ServerStands p was run → was.machine.kept.dead ≡ false →
+    ((side : Side) (items : List Item) (run : List Done) → part side (done_by side items ++ run) ≡ items ++ part side run) →
+    (end : ServerValue K) → end.functions ≡ was.functions → end.machine.kept.dead ≡ true → (bytes : List ℕ) (log_old log_new : List declared.Done) (out_old out_new : List ℕ) (count : ℕ) →
+    EndTurned p Server (part Server run) (OnUnit p Server (part Server run) (begun_of was.machine ++ take count bytes)) (Died ∷ []) [] (end_of end.machine.kept end.layers) →
+    ((behind : List ℕ) (last : List Done) (rest : List ℕ) → Delivered (reading_of p Server) (done_by Server (Died ∷ []) ++ run) behind last rest → Delivered (reading_of p Server) run ((begun_of was.machine ++ take count bytes) ++ behind) last rest) →
+    EndRun p Server (Died ∷ part Server run) → Adds Server (Died ∷ []) log_old log_new → out_new ≡ out_old →
+    Advanced p Server run bytes (kept_bytes was.machine) (kept_bytes end.machine) (ServerStands p end) log_old log_new out_old out_new
+server_lost p run was stands alive here end same dead bytes log_old log_new out_old out_new count turned unit goes notes out =
+    lost p Server here run (begun_of was.machine) bytes (kept_bytes was.machine) (kept_bytes end.machine) (ServerStands p end) log_old log_new out_old out_new (kept_alive was.machine alive) count
+    (ap (λ (b : Bool). cond b [] (begun_of end.machine)) dead) unit
+    (record {
+      lawful = stands.lawful;
+      fits = subst (λ (f : ServerFunctions _). AreOfServer p f) (sym same) stands.fits;
+      sums = subst (λ (h : List Item). EndSumsUp p Server h (end_of end.machine.kept end.layers)) (sym (here Server (Died ∷ []) run)) turned.sums;
+      end_run = subst (λ (h : List Item). EndRun p Server h) (sym (here Server (Died ∷ []) run)) goes;
+      reading = λ e. absurd (false≢true (sym e ∙ dead));
+      layers_are = λ e. absurd (false≢true (sym e ∙ dead));
+      failure = stands.failure;
+    })
+    notes turned.puts out
+
 -- ---- asks
 
 begun_same : {K : Type 0} (old new : State K) → SameReading old new → begun_of new ≡ begun_of old
@@ -152,3 +177,15 @@ server_goes_at {K} p f x old layers bytes done new later o goes =
     subst (λ (c : Crypto K). ServerGoes c (parts_of p Server) (judge_of p) old layers bytes done new later o) (sym x.crypto)
     (subst (λ (e : ExchangeParts). ServerGoes f.crypto e (judge_of p) old layers bytes done new later o) (sym x.exchange)
     (subst (λ (j : Judge). ServerGoes f.crypto f.exchange j old layers bytes done new later o) (sym x.judge) goes))
+
+pub server_lacks_at : {K : Type 0} (p : Parties K) (f : ServerFunctions K) → AreOfServer p f → (old : State K) (layers : Layers) (begun bytes : List ℕ) →
+    FrontLacks f.crypto f.exchange f.judge old layers begun bytes → FrontLacks p.crypto (parts_of p Server) (judge_of p) old layers begun bytes
+server_lacks_at {K} p f x old layers begun bytes lacks =
+    subst (λ (c : Crypto K). FrontLacks c (parts_of p Server) (judge_of p) old layers begun bytes) (sym x.crypto)
+    (subst (λ (e : ExchangeParts). FrontLacks f.crypto e (judge_of p) old layers begun bytes) (sym x.exchange)
+    (subst (λ (j : Judge). FrontLacks f.crypto f.exchange j old layers begun bytes) (sym x.judge) lacks))
+
+-- a server dies for want of memory, where it has numbers left
+pub server_died : {K : Type 0} (p : Parties K) (history : List Item) (old : State K) (layers : Layers) (bytes : List ℕ) → (old.kept.sending.count ≡ 2 ^ 32 → ⊥) → ServerDies p history old layers bytes → OnUnit p Server history bytes (Died ∷ [])
+server_died p history old layers bytes left (ServerDies.dies turn) = turn
+server_died p history old layers bytes left (ServerDies.text_unmade x) = absurd (left x.none_left)

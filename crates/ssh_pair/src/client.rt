@@ -16,11 +16,11 @@ ghost use Rattle.ssh_pair.specs.Standing.{ClientStands, client_value, kept_bytes
 use crate::item::Done;
 use crate::lines::Lines;
 use crate::material::is_material;
-use crate::notes::{note_ask, note_line, note_sent, note_turn};
+use crate::notes::{note_ask, note_death, note_line, note_sent, note_turn};
 use ssh_auth::UserSigner;
-use ssh_end::turn_laws::clients_turns;
+use ssh_end::turn_laws::{clients_deaths, clients_turns};
 use ssh_end::{Ask, ClientEnd};
-use ssh_model::end::{asks, identified, openings, units};
+use ssh_model::end::{asks, deaths, identified, openings, units};
 use ssh_model::pair::{deliveries, parts};
 use ssh_packet::Sealing;
 use ssh_transport_base::{ClientPartValues, ClientParts, Config};
@@ -173,8 +173,11 @@ fn advance_client<P: ClientParts, U: UserSigner + Drop>(
     identified::<<P::Sealing as Sealing>::Key>();
     units::<<P::Sealing as Sealing>::Key>();
     clients_turns::<<P::Sealing as Sealing>::Key>();
+    clients_deaths::<<P::Sealing as Sealing>::Key>();
+    deaths::<<P::Sealing as Sealing>::Key>();
     let Ok(used) = end.take(bytes, out) else {
-        return Err(AllocError);
+        note_death(log, Side::Client, true)?;
+        return Ok(bytes.len());
     };
     lines.take(bytes.split_at(used).0)?;
     let is_over = end.is_dead();

@@ -21,6 +21,7 @@ mod material;
 mod notes;
 mod pair;
 mod server;
+mod settings;
 
 pub use ask_kind::AskKind;
 pub use client::ClientValues;

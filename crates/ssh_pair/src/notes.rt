@@ -123,7 +123,7 @@ fn note_told(log: &mut Vec<Done>, side: Side, told: Option<Told<'_>>) -> Result<
 }
 
 // Notes that an end is over, where it is.
-fn note_death(log: &mut Vec<Done>, side: Side, is_over: bool) -> Result<(), AllocError>
+pub(crate) fn note_death(log: &mut Vec<Done>, side: Side, is_over: bool) -> Result<(), AllocError>
     ensures { OnOk result (AddsDeath (side_of side) is_over log.old.items log.new.items) }
 {
     if is_over {

@@ -1,11 +1,9 @@
 //! Two ends of SSH-2.
 
 ghost use Rattle.std.specs.Prelude.{◌≡◌, IfOk, IsErr, List, OnErr, OnOk, [], false, true};
-ghost use Rattle.ssh_model.specs.Wire.Message.{Msg.UserauthFailure};
 ghost use Rattle.ssh_model.specs.Sessions.Events as session;
 ghost use Rattle.ssh_model.specs.Sessions.Events.{World};
-ghost use Rattle.ssh_model.specs.Sessions.Parties.{AreLawful, Parties};
-ghost use Rattle.ssh_model.specs.Sessions.TurnClaims.{HasSpelling};
+ghost use Rattle.ssh_model.specs.Sessions.Parties.{Parties};
 ghost use Rattle.ssh_types.specs.Sides.{side_of};
 ghost use Rattle.ssh_transport_base.specs.Meaning.{settings_of};
 ghost use Rattle.ssh_end.specs.Asking.{ask_of};
@@ -18,6 +16,7 @@ use crate::item::Transcript;
 use crate::lines::Lines;
 use crate::material::is_material;
 use crate::server::{ServerValues, ask_server, deliver_to_server, open_server};
+use crate::settings::settings_fit;
 use ssh_auth::{UserJudge, UserSigner};
 use ssh_end::{Ask, ClientEnd, ServerEnd};
 use ssh_model::end::{feeds, waiting};
@@ -97,13 +96,15 @@ impl<
         client: ClientValues<C, U>,
         server: ServerValues<V, J>,
     ) -> Result<(Pair<S, C, U, V, J>, Transcript), AllocError>
-        ensures opens { IfOk result (λ r. (p : Parties S.Key) → AreLawful p → AreOfClient p (client_value S.crypto C.Agreement.public_of C.Agreement.shared_of C.HostTrust.judged U.signature_of r.0.client).functions → AreOfServer p (server_value S.crypto V.Agreement.public_of V.Agreement.shared_of V.HostSigner.key_of V.HostSigner.signature_of J.verdicts r.0.server).functions → p.client ≡ settings_of client.config → p.server ≡ settings_of server.config → HasSpelling (UserauthFailure p.server.methods false) →
+        ensures opens { IfOk result (λ r. (p : Parties S.Key) → AreOfClient p (client_value S.crypto C.Agreement.public_of C.Agreement.shared_of C.HostTrust.judged U.signature_of r.0.client).functions → AreOfServer p (server_value S.crypto V.Agreement.public_of V.Agreement.shared_of V.HostSigner.key_of V.HostSigner.signature_of J.verdicts r.0.server).functions → p.client ≡ settings_of client.config → p.server ≡ settings_of server.config →
             PairOpens p (record { client = client_value S.crypto C.Agreement.public_of C.Agreement.shared_of C.HostTrust.judged U.signature_of r.0.client; server = server_value S.crypto V.Agreement.public_of V.Agreement.shared_of V.HostSigner.key_of V.HostSigner.signature_of J.verdicts r.0.server }) r.1.items.items r.1.client_bytes.items r.1.server_bytes.items) }
         ensures fine { IfOk result (λ r. r.0.failed ≡ false) }
     {
         parts();
         openings::<S::Key>();
         runs_of_each_end::<S::Key>();
+        settings_fit(&client.config);
+        settings_fit(&server.config);
         let mut transcript = Transcript::new(alloc);
         let client = open_client(
             alloc,
@@ -128,11 +129,12 @@ impl<
         Ok((pair, transcript))
     }
 
-    /// Plays events, and answers what they added. An event for an end that is over adds nothing.
+    /// Plays events, and answers what they added. An event for an end that is over adds nothing, and an end that memory is refused is over.
     ///
     /// # Errors
     ///
-    /// Where memory is refused, the pair has failed: each later call answers that too.
+    /// Where memory for the transcript is refused, the pair has failed: each later call answers that too. So it is where a server is refused
+    /// memory that has no sequence number left.
     pub fn play(&mut self, events: &[Event<'_>]) -> Result<Transcript, AllocError>
         ensures failed { self.old.failed ≡ true → IsErr result }
         ensures fails { OnErr result (self.new.failed ≡ true) }

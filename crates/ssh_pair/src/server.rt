@@ -16,11 +16,11 @@ ghost use Rattle.ssh_pair.specs.Standing.{ServerStands, server_value, kept_bytes
 use crate::item::Done;
 use crate::lines::Lines;
 use crate::material::is_material;
-use crate::notes::{note_ask, note_line, note_sent, note_turn};
+use crate::notes::{note_ask, note_death, note_line, note_sent, note_turn};
 use ssh_auth::UserJudge;
-use ssh_end::turn_laws::servers_turns;
+use ssh_end::turn_laws::{servers_deaths, servers_turns};
 use ssh_end::{Ask, ServerEnd};
-use ssh_model::end::{asks, identified, openings, units};
+use ssh_model::end::{asks, deaths, identified, openings, units};
 use ssh_model::pair::{deliveries, parts};
 use ssh_packet::Sealing;
 use ssh_transport_base::{Config, ServerPartValues, ServerParts};
@@ -174,8 +174,16 @@ fn advance_server<P: ServerParts, U: UserJudge + Drop>(
     identified::<<P::Sealing as Sealing>::Key>();
     units::<<P::Sealing as Sealing>::Key>();
     servers_turns::<<P::Sealing as Sealing>::Key>();
+    servers_deaths::<<P::Sealing as Sealing>::Key>();
+    deaths::<<P::Sealing as Sealing>::Key>();
+    let (next, _) = end.numbers();
     let Ok(used) = end.take(bytes, out) else {
-        return Err(AllocError);
+        // A server that has no number left is not known to die of this.
+        if next > u32::MAX as u64 {
+            return Err(AllocError);
+        }
+        note_death(log, Side::Server, true)?;
+        return Ok(bytes.len());
     };
     lines.take(bytes.split_at(used).0)?;
     let is_over = end.is_dead();
