@@ -1,0 +1,109 @@
+//! What a line asks of an end.
+
+ghost use Rattle.std.specs.Prelude.{◌≡◌};
+ghost use Rattle.ssh_end.specs.Asking.{ask_of as asked};
+ghost use Rattle.ssh_script.specs.Asks.{ask_of_line};
+
+use crate::data_line::{DataLine, adjust, close, data, eof, extended};
+use crate::form::{AskForm, Form};
+use crate::opening_line::{OpeningLine, confirm, open, refuse};
+use crate::request_line::{RequestLine, global, global_reply, reply, request};
+use crate::user_line::{UserLine, none, password, probe, sign};
+use crate::word_fault::WordFault;
+use crate::words;
+use ssh_end::Ask;
+use ssh_types::Side;
+use std::alloc::Global;
+
+/// What a line asks of an end, with texts of its own.
+#[derive(Drop)]
+pub enum AskLine {
+    /// Asks for the service of authentication (RFC 4253 section 10).
+    Service,
+    /// Makes a request for the connection (RFC 4252 section 5).
+    User(UserLine),
+    /// Begins an exchange of keys (RFC 4253 section 9).
+    Rekey,
+    /// Opens a channel, or answers to one that is opened (RFC 4254 section 5.1).
+    Opening(OpeningLine),
+    /// Sends data on a channel, or ends it (RFC 4254 sections 5.2 and 5.3).
+    Data(DataLine),
+    /// Makes or answers a request of the connection or of a channel (RFC 4254 sections 4 and 5.4).
+    Request(RequestLine),
+    /// Ends the connection with this description (RFC 4253 section 11.1).
+    Disconnect(Vec<u8>),
+}
+
+impl AskLine {
+    /// The ask, as an end takes it.
+    pub fn to_ask(&self) -> Ask<'_>
+        ensures { asked result ≡ ask_of_line self.now }
+    {
+        match self {
+            AskLine::Service => Ask::Service,
+            AskLine::User(line) => Ask::User(line.to_ask()),
+            AskLine::Rekey => Ask::Rekey,
+            AskLine::Opening(line) => Ask::Connection(line.to_ask()),
+            AskLine::Data(line) => Ask::Connection(line.to_ask()),
+            AskLine::Request(line) => Ask::Connection(line.to_ask()),
+            AskLine::Disconnect(description) => Ask::Disconnect(description.as_slice()),
+        }
+    }
+}
+
+/// The side and the ask of a line, by the words behind its first.
+pub(crate) fn side_and_ask<'a>(
+    alloc: Global,
+    words: &[&'a str],
+) -> Result<(Side, AskLine), WordFault<'a>> {
+    let [side, kind, ..] = words else {
+        return Form::AnyAsk.other_words(words);
+    };
+    Ok((words::side(side)?, ask_line(alloc, kind, words)?))
+}
+
+fn ask_line<'a>(alloc: Global, kind: &'a str, words: &[&'a str]) -> Result<AskLine, WordFault<'a>> {
+    Ok(match kind {
+        "service" => service(words)?,
+        "none" => AskLine::User(none(alloc, words)?),
+        "password" => AskLine::User(password(alloc, words)?),
+        "probe" => AskLine::User(probe(alloc, words)?),
+        "sign" => AskLine::User(sign(alloc, words)?),
+        "rekey" => rekey(words)?,
+        "open" => AskLine::Opening(open(alloc, words)?),
+        "confirm" => AskLine::Opening(confirm(alloc, words)?),
+        "refuse" => AskLine::Opening(refuse(words)?),
+        "data" => AskLine::Data(data(alloc, words)?),
+        "extended" => AskLine::Data(extended(alloc, words)?),
+        "adjust" => AskLine::Data(adjust(words)?),
+        "eof" => AskLine::Data(eof(words)?),
+        "close" => AskLine::Data(close(words)?),
+        "request" => AskLine::Request(request(alloc, words)?),
+        "reply" => AskLine::Request(reply(words)?),
+        "global" => AskLine::Request(global(alloc, words)?),
+        "globalreply" => AskLine::Request(global_reply(alloc, words)?),
+        "disconnect" => disconnect(alloc, words)?,
+        kind => return Err(WordFault::UnknownAsk(kind)),
+    })
+}
+
+fn service<'a>(words: &[&'a str]) -> Result<AskLine, WordFault<'a>> {
+    let [_, _] = words else {
+        return AskForm::Service.other_words(words);
+    };
+    Ok(AskLine::Service)
+}
+
+fn rekey<'a>(words: &[&'a str]) -> Result<AskLine, WordFault<'a>> {
+    let [_, _] = words else {
+        return AskForm::Rekey.other_words(words);
+    };
+    Ok(AskLine::Rekey)
+}
+
+fn disconnect<'a>(alloc: Global, words: &[&'a str]) -> Result<AskLine, WordFault<'a>> {
+    let [_, _, description] = words else {
+        return AskForm::Disconnect.other_words(words);
+    };
+    Ok(AskLine::Disconnect(words::text(alloc, description)?))
+}
