@@ -1,0 +1,4 @@
+pub mod Comparing
+pub mod Prefixes
+pub mod Runs
+pub mod Altering

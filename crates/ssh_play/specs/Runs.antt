@@ -1,0 +1,49 @@
+-- What went between two ends in a run, by the items of their transcript.
+use Rattle.std.specs.Prelude.{ℕ, Bool, true, false, cond, List, [], ◌∷◌, ◌++◌}
+use Rattle.ssh_model.specs.Lists.{Begins}
+use Rattle.ssh_types.specs.declared.side.Side.{Side}
+use Rattle.ssh_types.specs.declared.side.Side.TheVariants.{Client, Server}
+use Rattle.ssh_pair.specs.declared.item.Done.{Done}
+use Rattle.ssh_pair.specs.declared.item.Item.{Item}
+use Rattle.ssh_pair.specs.declared.item.Item.TheVariants as item
+use Rattle.ssh_play.specs.declared.safety.Way.{Way}
+use Rattle.ssh_play.specs.declared.safety.Way.TheVariants as way
+use Rattle.ssh_play.specs.Prefixes.{behind_first}
+
+-- the payload that was taken, that of a packet behind a wrong guess too
+abbrev pub taken_in : Item → List (List ℕ)
+taken_in (item.Took channel payload) = payload.items ∷ []
+taken_in (item.Skipped payload) = payload.items ∷ []
+taken_in _ = []
+
+-- the payload that was sent
+abbrev pub sent_in : Item → List (List ℕ)
+sent_in (item.Sent channel payload) = payload.items ∷ []
+sent_in _ = []
+
+abbrev pub payload_in : Way → Item → List (List ℕ)
+payload_in way.Taken item = taken_in item
+payload_in way.Sent item = sent_in item
+
+abbrev pub is_side : Side → Side → Bool
+is_side Client Client = true
+is_side Server Server = true
+is_side _ _ = false
+
+abbrev pub peer_of : Side → Side
+peer_of Client = Server
+peer_of Server = Client
+
+-- the payloads that an end took, or sent, in their order
+abbrev pub went : Side → Way → List Done → List (List ℕ)
+went side way [] = []
+went side way (done ∷ run) = cond (is_side done.side side) (payload_in way done.item) [] ++ went side way run
+
+-- What an end took after its first NEWKEYS is a prefix of what the other sent after its own.
+abbrev pub TakesWhatIsSent : Side → List Done → Type 0
+TakesWhatIsSent side run =
+    Begins (behind_first (went side way.Taken run)) (behind_first (went (peer_of side) way.Sent run))
+
+-- So it is at both ends.
+abbrev pub IsSafe : List Done → Type 0
+IsSafe run = TakesWhatIsSent Client run × TakesWhatIsSent Server run

@@ -1,0 +1,84 @@
+//! One byte that is changed on its way.
+
+ghost use Rattle.std.specs.Prelude.{◌≡◌, ◌++◌, ◌<◌, IfOk, IfSome, OnOk, drop, length, slice_index, suc, take};
+ghost use Rattle.ssh_play.specs.Altering.{changes};
+
+use ssh_script::{Origin, Parcel};
+use ssh_types::Side;
+use std::alloc::{AllocError, Global};
+
+/// What becomes of a byte.
+#[derive(Clone, Copy, Debug, PartialEq, Eq)]
+pub(crate) enum Change {
+    /// Its lowest bit is changed.
+    Flipped,
+    LeftOut,
+    /// It comes twice.
+    Doubled,
+}
+
+/// A byte, and what becomes of it each time that it is delivered.
+#[derive(Clone, Copy, Debug, PartialEq, Eq)]
+pub(crate) struct Alteration {
+    /// The side that puts it out.
+    pub side: Side,
+    /// How many bytes the side puts out before it.
+    pub place: usize,
+    pub change: Change,
+}
+
+impl Alteration {
+    /// The bytes of a parcel with the change. None where the byte is not among them.
+    pub fn altered(
+        &self,
+        alloc: Global,
+        parcel: &Parcel<'_>,
+    ) -> Result<Option<Vec<u8>>, AllocError> {
+        let Some(index) = self.index_in(parcel) else {
+            return Ok(None);
+        };
+        let bytes = changed(alloc, parcel.bytes, index, self.change)?;
+        Ok(Some(bytes))
+    }
+
+    // Where the byte stands in a parcel.
+    fn index_in(&self, parcel: &Parcel<'_>) -> Option<usize>
+        ensures { IfSome result (λ index. index < length parcel.now.bytes.now) }
+    {
+        let Origin::PutOut { start } = parcel.origin else {
+            return None;
+        };
+        if parcel.to == self.side {
+            return None;
+        }
+        let index = self.place.checked_sub(start)?;
+        if index < parcel.bytes.len() {
+            Some(index)
+        } else {
+            None
+        }
+    }
+}
+
+// These bytes, the one at this index changed.
+fn changed(alloc: Global, bytes: &[u8], index: usize, change: Change) -> Result<Vec<u8>, AllocError>
+    requires { index < length bytes.now }
+    ensures { IfOk result (λ whole. whole.items ≡ take index bytes.now ++ changes change (slice_index bytes.now index) ++ drop (suc index) bytes.now) }
+{
+    let mut whole = bytes[..index].to_vec(alloc)?;
+    push_changed(&mut whole, bytes[index], change)?;
+    whole.extend_from_slice(&bytes[index + 1..])?;
+    Ok(whole)
+}
+
+// What comes for a byte.
+fn push_changed(whole: &mut Vec<u8>, byte: u8, change: Change) -> Result<(), AllocError>
+    ensures { OnOk result (whole.new.items ≡ whole.old.items ++ changes change byte) }
+{
+    match change {
+        Change::Flipped => whole.push(byte ^ 1)?,
+        Change::LeftOut => {}
+        Change::Doubled => whole.extend_from_slice(&[byte, byte])?,
+    }
+    Ok(())
+}

@@ -1,0 +1,33 @@
+//! Plays the scripts of whole sessions: two ends over the toy parts, which protect nothing, and between them the network that the
+//! script's lines are.
+//!
+//! Both ends begin with one setup, of which a script changes a little: `curve25519-sha256`, a toy host key, no encryption, and
+//! `hmac-sha2-256`. `play` gives what they did, a line for each thing; `compare` tells whether these are the lines that the script
+//! expects; `sweep` plays it again and again, each time with one byte changed on its way.
+//!
+//! ```rust
+//! let Script::Session(script) = Script::read(alloc, b"pass c s 11\n> c sent line 9\n")? else { return Ok(()) };
+//! let played = play(alloc, &script)?;
+//! // c sent line 9
+//! // c sent 20 KEXINIT 165
+//! // s sent line 9
+//! // s sent 20 KEXINIT 165
+//! // s took line 9
+//! show(played.lines.as_str());
+//! // differs at 2: the script expects one line, and there are five
+//! show(compare(played.lines.as_str(), script.expected.as_slice()));
+//! ```
+#![tactic(auto)]
+
+mod alteration;
+mod comparison;
+mod lines;
+mod player;
+mod playing;
+mod safety;
+mod standard;
+mod sweeping;
+
+pub use comparison::{Comparison, compare};
+pub use playing::{Played, play};
+pub use sweeping::{Tally, sweep};

@@ -1,0 +1,114 @@
+//! Runs the lines of a script against its two ends.
+
+use crate::alteration::Alteration;
+use crate::standard::{Standard, ToyPair};
+use ssh_pair::{Done, Event, Transcript};
+use ssh_script::{Cut, Delivery, Network, Parcel, RunFault, ScriptFault, Shortage, Step};
+use ssh_types::Side;
+use std::alloc::{AllocError, Global};
+
+/// The two ends, and what lies between them.
+#[derive(Drop)]
+pub(crate) struct Player<'a> {
+    alloc: Global,
+    pair: ToyPair<'a>,
+    network: Network,
+    alteration: Option<Alteration>,
+}
+
+impl<'a> Player<'a> {
+    /// Two ends that opened, and what they did for it.
+    pub fn open(
+        alloc: Global,
+        standard: &'a Standard<'_>,
+        shortage: Shortage,
+        alteration: Option<Alteration>,
+    ) -> Result<(Player<'a>, Vec<Done>), ScriptFault> {
+        let (pair, opening) = standard.open(alloc)?;
+        let mut player = Player {
+            alloc,
+            pair,
+            network: Network::new(alloc, shortage),
+            alteration,
+        };
+        let items = player.put_out(opening)?;
+        Ok((player, items))
+    }
+
+    /// How many bytes a side put out.
+    pub fn whole(&self, side: Side) -> usize {
+        self.network.whole(side)
+    }
+
+    /// Runs one line, and answers what the ends did.
+    ///
+    /// # Errors
+    ///
+    /// `NotFed` where an end answered false to a pair of cookie and secret. `FewWaiting` and `NotPutOut` only where a shortage is
+    /// refused.
+    pub fn run(&mut self, step: &Step) -> Result<Vec<Done>, RunFault> {
+        match step {
+            Step::Feed { side, byte } => self.feed(*side, *byte),
+            Step::Ask { side, ask } => self.play(&[Event::Ask(*side, ask.to_ask())]),
+            Step::Network(delivery) => self.deliver(delivery),
+        }
+    }
+
+    fn feed(&mut self, side: Side, byte: u8) -> Result<Vec<Done>, RunFault> {
+        if !self.pair.feed(side, [byte; 16], [byte; 32]) {
+            return Err(RunFault::NotFed);
+        }
+        Ok(Vec::new(self.alloc))
+    }
+
+    fn deliver(&mut self, delivery: &Delivery) -> Result<Vec<Done>, RunFault> {
+        let Some(parcel) = self.network.deliver(delivery)? else {
+            return Ok(Vec::new(self.alloc));
+        };
+        let altered = match &self.alteration {
+            Some(alteration) => alteration.altered(self.alloc, &parcel)?,
+            None => None,
+        };
+        let parcel = match &altered {
+            Some(bytes) => Parcel {
+                bytes: bytes.as_slice(),
+                ..parcel
+            },
+            None => parcel,
+        };
+        let transcript = deliver_pieces(self.alloc, &mut self.pair, &parcel)?;
+        let items = self.put_out(transcript)?;
+        Ok(items)
+    }
+
+    fn play(&mut self, events: &[Event<'_>]) -> Result<Vec<Done>, RunFault> {
+        let transcript = self.pair.play(events)?;
+        let items = self.put_out(transcript)?;
+        Ok(items)
+    }
+
+    // What the ends put out waits from now on.
+    fn put_out(&mut self, transcript: Transcript) -> Result<Vec<Done>, AllocError> {
+        self.network
+            .put_out(Side::Client, transcript.client_bytes.as_slice())?;
+        self.network
+            .put_out(Side::Server, transcript.server_bytes.as_slice())?;
+        Ok(transcript.items)
+    }
+}
+
+fn deliver_pieces(
+    alloc: Global,
+    pair: &mut ToyPair<'_>,
+    parcel: &Parcel<'_>,
+) -> Result<Transcript, AllocError> {
+    let size = match parcel.cut {
+        Cut::Whole => parcel.bytes.len().max(1),
+        Cut::Bytes => 1,
+    };
+    let mut events = Vec::new(alloc);
+    for piece in parcel.bytes.chunks(size) {
+        events.push(Event::Deliver(parcel.to, piece))?;
+    }
+    pair.play(events.as_slice())
+}

@@ -1,0 +1,59 @@
+//! A script as it is played.
+
+use crate::lines::write_items;
+use crate::player::Player;
+use crate::standard::Standard;
+use ssh_pair::{Done, Item};
+use ssh_script::{ScriptFault, SessionScript, Shortage};
+use std::alloc::{AllocError, Global};
+
+/// What the two ends of a script did.
+#[derive(Debug, Drop)]
+pub struct Played {
+    /// A line for each thing that an end did, in their order, each with LF behind it.
+    pub lines: String,
+    /// Whether an end refused its peer, or found its own numbers spent.
+    pub refused: bool,
+}
+
+/// Plays a script from the openings of its two ends on.
+///
+/// An end that finds no memory is over, as its line `died` alone shows, and the script goes on.
+///
+/// # Errors
+///
+/// Settings that are refused. The first line that can't be run: more bytes than there are, or a `feed` that the end doesn't take.
+/// `Memory` where there is none for what the ends are made of, or for the transcript.
+pub fn play(alloc: Global, script: &SessionScript) -> Result<Played, ScriptFault> {
+    let standard = Standard::new(alloc, &script.setup)?;
+    let (mut player, opening) = Player::open(alloc, &standard, Shortage::Refused, None)?;
+    let mut played = Played {
+        lines: String::new(alloc),
+        refused: false,
+    };
+    played.note(opening.as_slice())?;
+    for line in script.steps.iter() {
+        match player.run(&line.content) {
+            Ok(items) => played.note(items.as_slice())?,
+            Err(fault) => return Err(ScriptFault::at_run(alloc, line.number, fault)),
+        }
+    }
+    Ok(played)
+}
+
+impl Played {
+    // The ends did this.
+    fn note(&mut self, items: &[Done]) -> Result<(), AllocError> {
+        if has_refusal(items) {
+            self.refused = true;
+        }
+        write_items(items, &mut self.lines)
+    }
+}
+
+// Whether an end refused its peer.
+fn has_refusal(items: &[Done]) -> bool {
+    items
+        .iter()
+        .any(|done| matches!(done.item, Item::Refused(_)))
+}

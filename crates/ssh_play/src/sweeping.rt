@@ -1,0 +1,110 @@
+//! A script that is played with each byte changed in turn.
+
+use crate::alteration::{Alteration, Change};
+use crate::player::Player;
+use crate::safety::is_safe;
+use crate::standard::Standard;
+use ssh_pair::Done;
+use ssh_script::{Line, RunFault, ScriptFault, SessionScript, Shortage, Step};
+use ssh_types::Side;
+use std::alloc::Global;
+use std::fmt;
+
+/// How many runs there were with a byte changed, and how many of them are unsafe: an end took after its first NEWKEYS what is no
+/// prefix of what the other sent after its own.
+#[derive(Clone, Copy, Debug, PartialEq, Eq)]
+pub struct Tally {
+    pub runs: u64,
+    pub unsafe_runs: u64,
+}
+
+/// Plays a script once as it is, and then for each byte that an end put out three times more: with the byte's lowest bit changed on
+/// each delivery of it, with the byte left out, and with the byte delivered twice.
+///
+/// A byte goes by its side and its place among all that the side puts out in the run at hand. A line that wants more bytes than there
+/// are means those that there are, and a `feed` that the end doesn't take is left out.
+///
+/// # Errors
+///
+/// Settings that are refused, and want of memory.
+pub fn sweep(alloc: Global, script: &SessionScript) -> Result<Tally, ScriptFault> {
+    let standard = Standard::new(alloc, &script.setup)?;
+    let steps = script.steps.as_slice();
+    let unchanged = Run::of(alloc, &standard, steps, None)?;
+    let mut tally = Tally {
+        runs: 0,
+        unsafe_runs: 0,
+    };
+    for side in [Side::Client, Side::Server] {
+        for place in 0..unchanged.whole(side) {
+            for change in [Change::Flipped, Change::LeftOut, Change::Doubled] {
+                let alteration = Alteration {
+                    side,
+                    place,
+                    change,
+                };
+                let run = Run::of(alloc, &standard, steps, Some(alteration))?;
+                tally.count(is_safe(alloc, run.items.as_slice())?);
+            }
+        }
+    }
+    Ok(tally)
+}
+
+impl fmt::Display for Tally {
+    fn fmt<W: fmt::Write>(&self, f: &mut fmt::Formatter<W>) -> fmt::Result {
+        write!(f, "{} runs, {} unsafe", self.runs, self.unsafe_runs)
+    }
+}
+
+impl Tally {
+    fn count(&mut self, is_safe: bool) {
+        self.runs = self.runs.saturating_add(1);
+        if !is_safe {
+            self.unsafe_runs = self.unsafe_runs.saturating_add(1);
+        }
+    }
+}
+
+// What the ends did in one run, and how many bytes each put out.
+#[derive(Drop)]
+struct Run {
+    items: Vec<Done>,
+    client_bytes: usize,
+    server_bytes: usize,
+}
+
+impl Run {
+    fn of(
+        alloc: Global,
+        standard: &Standard<'_>,
+        steps: &[Line<Step>],
+        alteration: Option<Alteration>,
+    ) -> Result<Run, ScriptFault> {
+        let (mut player, mut items) = Player::open(
+            alloc,
+            standard,
+            Shortage::Shortened,
+            alteration,
+        )?;
+        for line in steps {
+            match player.run(&line.content) {
+                Ok(mut more) => items.append(&mut more)?,
+                Err(RunFault::NotFed) => {}
+                Err(fault) => return Err(ScriptFault::at_run(alloc, line.number, fault)),
+            }
+        }
+        Ok(Run {
+            items,
+            client_bytes: player.whole(Side::Client),
+            server_bytes: player.whole(Side::Server),
+        })
+    }
+
+    fn whole(&self, side: Side) -> usize {
+        match side {
+            Side::Client => self.client_bytes,
+            Side::Server => self.server_bytes,
+        }
+    }
+}
