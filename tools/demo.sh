@@ -23,6 +23,9 @@ add_case() {
 for script in packets_in_order lost_packet repeated_packet recorded_openssh; do
     add_case "$examples/$script.txt" play '{}' "examples/$script.txt"
 done
+for command in play check; do
+    add_case "$examples/whole_session.txt" "$command" '{}' examples/whole_session.txt
+done
 grep -v '^#' "$examples/clear_packets.txt" >"$work/packets"
 while read -r packet; do
     add_case /dev/null decode "$packet" "$packet"

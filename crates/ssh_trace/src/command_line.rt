@@ -18,6 +18,10 @@ pub enum Call<'a> {
     Decode(&'a str),
     /// Play the script in the file of this name.
     Play(&'a str),
+    /// Compare the transcript of the script in the file of this name with the lines that it expects.
+    Check(&'a str),
+    /// Play the script in the file of this name with each byte changed in turn.
+    Sweep(&'a str),
 }
 
 /// Why the words are no call.
@@ -27,7 +31,7 @@ pub enum UsageFault {
     #[error("{0}")]
     Words(clap::Error),
     /// A word is missing.
-    #[error("no call: the words are decode HEX or play FILE")]
+    #[error("no call: the words are decode HEX, play FILE, check FILE or sweep FILE")]
     NoCall,
     #[error("out of memory")]
     Memory(#[from(alloc)] AllocError),
@@ -45,6 +49,8 @@ pub fn call_of<'a, S: AsStr>(alloc: Global, words: &'a [S]) -> Result<Call<'a>, 
     let call = match name {
         "decode" => rest.get_str("HEX").map(Call::Decode),
         "play" => rest.get_str("FILE").map(Call::Play),
+        "check" => rest.get_str("FILE").map(Call::Check),
+        "sweep" => rest.get_str("FILE").map(Call::Sweep),
         _ => None,
     };
     call.ok_or(UsageFault::NoCall)
@@ -66,7 +72,7 @@ const PROGRAM: &str = "ssh_trace";
 const STATUS: &str = "\
 Exit status:
   0  done
-  1  the packet is refused, incomplete or followed by bytes, or an end refused its peer
+  1  the packet is refused, incomplete or followed by bytes, an end refused its peer, a transcript differs, or a run is unsafe
   2  a fault of usage, file, digits, script, memory or output, told on standard error";
 
 const PACKETS: &str = "\
@@ -79,19 +85,43 @@ digits. The line is its message's number, name and fields, or the first of these
   refused 6 BadMessage   the payload isn't what its message number says";
 
 const SCRIPTS: &str = "\
-A script plays one epoch between a client, c, and a server, s. Its first line gives the keys of hmac-sha2-256, client
-to server and server to client:
-  epoch K1 K2         each of 32 bytes, in 64 hexadecimal digits
-Each further line is one of these. F and T are the two sides, and the bytes go from F to T:
-  ask SIDE raw HEX    asks the side to send a payload, of at least one byte
+A script is lines of words, parted by one space. It plays a session between a client, c, and a server, s, from their version lines on.
+Lines before the first event set the session up:
+  user NAME WORD      the server lets this user in by this password
+  key NAME HEX        the server knows this key of the user
+  limit SIDE N        keys are due again after N packets: 64 to 2147483648
+  strict SIDE require, strict SIDE offer, strict SIDE off
+                      how the side takes strict key exchange
+  ext SIDE, ext SIDE NAME HEX
+                      the side takes extensions, and announces this one
+Each further line is an event. F and T are the two sides, and the bytes go from F to T:
+  feed SIDE BB        gives a cookie and a secret of this byte for the next exchange of keys
+  ask SIDE ..         asks the side for something, by one of
+      service, none USER, password USER WORD, probe USER ALG HEX, sign USER ALG HEX, rekey,
+      open TYPE WINDOW MAX [HEX], confirm CH WINDOW MAX [HEX], refuse CH REASON,
+      data CH HEX, extended CH TYPE HEX, adjust CH N, eof CH, close CH,
+      request CH NAME yes or no [HEX], reply CH yes or no,
+      global NAME yes or no [HEX], globalreply yes [HEX], globalreply no, disconnect WORD
   pass F T N          delivers the next N bytes that wait, as one piece
   pass F T all        delivers all bytes that wait, as one piece
   drip F T all        delivers all bytes that wait, each as a piece
   lose F T N          drops the next N bytes that wait
   give SIDE HEX       delivers these bytes to the side
   again F T A N       delivers N bytes that F put out before, waiting or not, from its byte A on, counted from 0
-HEX is pairs of hexadecimal digits, or - for no bytes. A number is decimal digits, and at most 4294967295. Words are
-parted by one space, and lines end with LF. Empty lines do nothing, nor do those that begin with # or with > and a space.";
+Where the first line gives the keys of hmac-sha2-256, client to server and server to client, the script plays one epoch without an exchange. Its one ask is to
+send a payload, of at least one byte:
+  epoch K1 K2         each of 32 bytes, in 64 hexadecimal digits
+  ask SIDE raw HEX    asks the side to send a payload
+HEX is pairs of hexadecimal digits, or - for no bytes. A number is decimal digits, and at most 4294967295. Lines end with LF. Empty lines and those that begin with
+# do nothing. A line that begins with > and a space is expected of the transcript; check compares them.";
+
+const PLAY: &str = "Plays a script between two ends and prints what they did";
+
+const CHECK: &str =
+    "Plays a script and says whether its transcript is the expected one: ok N, or differs at K";
+
+const SWEEP: &str =
+    "Plays a session with each byte changed, left out and doubled in turn: N runs, M unsafe";
 
 fn command<'a>(alloc: Global) -> Result<Command<'a>, AllocError> {
     Command::new(alloc, PROGRAM)
@@ -101,7 +131,9 @@ fn command<'a>(alloc: Global) -> Result<Command<'a>, AllocError> {
         .subcommand_required(true)
         .arg_required_else_help(true)
         .subcommand(decode_command(alloc)?)?
-        .subcommand(play_command(alloc)?)
+        .subcommand(script_command(alloc, "play", PLAY)?)?
+        .subcommand(script_command(alloc, "check", CHECK)?)?
+        .subcommand(script_command(alloc, "sweep", SWEEP)?)
 }
 
 fn decode_command<'a>(alloc: Global) -> Result<Command<'a>, AllocError> {
@@ -114,12 +146,16 @@ fn decode_command<'a>(alloc: Global) -> Result<Command<'a>, AllocError> {
         .arg(packet)
 }
 
-fn play_command<'a>(alloc: Global) -> Result<Command<'a>, AllocError> {
+fn script_command<'a>(
+    alloc: Global,
+    name: &'static str,
+    about: &'static str,
+) -> Result<Command<'a>, AllocError> {
     let file = Arg::new(alloc, "FILE")
         .help("The script's file")
         .required(true);
-    Command::new(alloc, "play")
-        .about("Plays a script between two ends and prints what they did")
+    Command::new(alloc, name)
+        .about(about)
         .after_help(SCRIPTS)
         .arg(file)
 }

@@ -1,16 +1,12 @@
 use crate::answer::{Answer, finish};
-use crate::player::{Player, has_refusal};
-use crate::script::{command_of, is_skipped, keys_of};
-use crate::script_fault::{LineFault, ScriptFault};
+use crate::epoch_player::play_epoch;
 use crate::status::Status;
-use crate::transcript::write_items;
-use crate::word_fault::WordFault;
+use ssh_play::{Comparison, Played, Tally, compare, play, sweep};
+use ssh_script::{Script, ScriptFault};
 use std::alloc::Global;
 use std::io::{Read, Write};
-use std::str;
 
-/// Plays a script of one epoch, read to its end, and prints its transcript on `out`: a line for each thing that an end
-/// did, in their order.
+/// Plays a script, read to its end, and prints its transcript on `out`: a line for each thing that an end did, in their order.
 ///
 /// `Status::Done` where no end refused its peer, `Status::Refused` where one did. `Status::Fault`, with a message on
 /// `err` and nothing on `out`, where the script can't be read, a line of it is wrong (the message gives its number,
@@ -21,100 +17,94 @@ pub fn play_to<R: Read, W: Write, E: Write>(
     out: &mut W,
     err: &mut E,
 ) -> Status {
-    finish(played(alloc, script), out, err)
+    finish(transcript(alloc, script), out, err)
 }
 
-fn played<R: Read>(alloc: Global, script: &mut R) -> Result<Answer, ScriptFault> {
+/// Plays a script, and compares its transcript with the lines that the script expects: prints `ok N` for N lines, or `differs at K` for the first
+/// line, from 1, that differs or that one of the two lacks.
+///
+/// `Status::Done` where all are the same, whoever refused whom, and `Status::Refused` where they differ. `Status::Fault` as for `play_to`.
+pub fn check_to<R: Read, W: Write, E: Write>(
+    alloc: Global,
+    script: &mut R,
+    out: &mut W,
+    err: &mut E,
+) -> Status {
+    finish(checked(alloc, script), out, err)
+}
+
+/// Plays the script of a session once, and then three times for each byte that an end put out, with that byte changed, left out and delivered
+/// twice: prints `N runs, M unsafe`. A run is unsafe where an end took behind its first NEWKEYS what is no prefix of what the other
+/// sent behind its own.
+///
+/// `Status::Done` where no run is unsafe, else `Status::Refused`. `Status::Fault` as for `play_to`, and for the script of an epoch.
+pub fn sweep_to<R: Read, W: Write, E: Write>(
+    alloc: Global,
+    script: &mut R,
+    out: &mut W,
+    err: &mut E,
+) -> Status {
+    finish(swept(alloc, script), out, err)
+}
+
+fn transcript<R: Read>(alloc: Global, script: &mut R) -> Result<Answer, ScriptFault> {
+    let script = script_of(alloc, script)?;
+    let Played { lines, refused } = played(alloc, &script)?;
+    Ok(Answer {
+        text: lines,
+        status: if refused {
+            Status::Refused
+        } else {
+            Status::Done
+        },
+    })
+}
+
+fn checked<R: Read>(alloc: Global, script: &mut R) -> Result<Answer, ScriptFault> {
+    let script = script_of(alloc, script)?;
+    let played = played(alloc, &script)?;
+    let expected = match &script {
+        Script::Epoch(script) => script.expected.as_slice(),
+        Script::Session(script) => script.expected.as_slice(),
+    };
+    let comparison = compare(played.lines.as_str(), expected);
+    Ok(Answer {
+        text: format!(in alloc; "{comparison}\n")?,
+        status: match comparison {
+            Comparison::Same(_) => Status::Done,
+            Comparison::DiffersAt(_) => Status::Refused,
+        },
+    })
+}
+
+fn swept<R: Read>(alloc: Global, script: &mut R) -> Result<Answer, ScriptFault> {
+    let tally = match script_of(alloc, script)? {
+        Script::Epoch(_) => return Err(ScriptFault::Epoch),
+        Script::Session(script) => sweep(alloc, &script)?,
+    };
+    let Tally { unsafe_runs, .. } = tally;
+    Ok(Answer {
+        text: format!(in alloc; "{tally}\n")?,
+        status: if unsafe_runs == 0 {
+            Status::Done
+        } else {
+            Status::Refused
+        },
+    })
+}
+
+// The script that a reader gives.
+fn script_of<R: Read>(alloc: Global, script: &mut R) -> Result<Script, ScriptFault> {
     let mut text = Vec::new(alloc);
     if let Err(error) = script.read_to_end(&mut text) {
         return Err(ScriptFault::Unreadable(error));
     }
-    played_text(alloc, text.as_slice())
+    Script::read(alloc, text.as_slice())
 }
 
-fn played_text(alloc: Global, text: &[u8]) -> Result<Answer, ScriptFault> {
-    let mut session = Session::new(alloc);
-    let mut line = 0usize;
-    for bytes in text.split(|byte| *byte == b'\n') {
-        line = line.saturating_add(1);
-        if let Err(fault) = session.take(bytes) {
-            return Err(fault_at(alloc, line, fault));
-        }
-    }
-    match session.end() {
-        Ok(answer) => Ok(answer),
-        Err(fault) => Err(fault_at(alloc, line, fault)),
-    }
-}
-
-// The fault of the line with this number, as it is told.
-fn fault_at(alloc: Global, line: usize, fault: LineFault<'_>) -> ScriptFault {
-    match format!(in alloc; "{fault}") {
-        Ok(message) => ScriptFault::Line { line, message },
-        Err(error) => ScriptFault::from(error),
-    }
-}
-
-/// A script as far as it was played, and the lines that it printed.
-#[derive(Drop)]
-struct Session {
-    alloc: Global,
-    // None until the keys are given.
-    player: Option<Player>,
-    text: String,
-    status: Status,
-}
-
-impl Session {
-    fn new(alloc: Global) -> Session {
-        Session {
-            alloc,
-            player: None,
-            text: String::new(alloc),
-            status: Status::Done,
-        }
-    }
-
-    // Plays one line, without its line break.
-    fn take<'a>(&mut self, bytes: &'a [u8]) -> Result<(), LineFault<'a>> {
-        let line = match str::from_utf8(bytes) {
-            Ok(line) => line,
-            Err(error) => return Err(LineFault::NotUtf8(error.valid_up_to().saturating_add(1))),
-        };
-        if is_skipped(line) {
-            return Ok(());
-        }
-        if line.ends_with('\r') {
-            return Err(LineFault::CarriageReturn);
-        }
-        let words: Vec<&str> = line.split(' ').collect(self.alloc)?;
-        if words.iter().any(|word| word.is_empty()) {
-            return Err(LineFault::Words(WordFault::EmptyWord));
-        }
-        self.run(words.as_slice())
-    }
-
-    fn run<'a>(&mut self, words: &[&'a str]) -> Result<(), LineFault<'a>> {
-        let Some(player) = &mut self.player else {
-            let keys = keys_of(words)?;
-            self.player = Some(Player::new(self.alloc, &keys)?);
-            return Ok(());
-        };
-        let items = player.run(&command_of(self.alloc, words)?)?;
-        if has_refusal(items.as_slice()) {
-            self.status = Status::Refused;
-        }
-        write_items(items.as_slice(), &mut self.text)?;
-        Ok(())
-    }
-
-    fn end(self) -> Result<Answer, LineFault<'static>> {
-        if self.player.is_none() {
-            return Err(LineFault::NoEpoch);
-        }
-        Ok(Answer {
-            text: self.text,
-            status: self.status,
-        })
+fn played(alloc: Global, script: &Script) -> Result<Played, ScriptFault> {
+    match script {
+        Script::Epoch(script) => play_epoch(alloc, script),
+        Script::Session(script) => play(alloc, script),
     }
 }

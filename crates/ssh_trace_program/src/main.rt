@@ -1,8 +1,9 @@
-//! The program `ssh_trace`: `decode HEX` shows one clear packet, `play FILE` plays a script.
+//! The program `ssh_trace`: `decode HEX` shows one clear packet, `play FILE` plays a script, `check FILE` compares what it prints with what it
+//! expects, and `sweep FILE` plays it with each byte changed in turn.
 #![tactic(auto)]
 
 use ssh_trace::command_line::{Call, call_of, refuse};
-use ssh_trace::{Status, decode_to, play_to, report};
+use ssh_trace::{Status, check_to, decode_to, play_to, report, sweep_to};
 use std::io::Write;
 use std::process::ExitCode;
 use std::rt::{Env, Files};
@@ -24,7 +25,18 @@ fn run<R: Env + Files + AllocGlobal, W: Write, E: Write>(
     };
     match call_of(rt.alloc(), words.as_slice()) {
         Ok(Call::Decode(text)) => decode_to(rt.alloc(), text, out, err),
-        Ok(Call::Play(file)) => play_file(rt, file, out, err),
+        Ok(Call::Play(file)) => match open(rt, file, err) {
+            Ok(mut script) => play_to(rt.alloc(), &mut script, out, err),
+            Err(status) => status,
+        },
+        Ok(Call::Check(file)) => match open(rt, file, err) {
+            Ok(mut script) => check_to(rt.alloc(), &mut script, out, err),
+            Err(status) => status,
+        },
+        Ok(Call::Sweep(file)) => match open(rt, file, err) {
+            Ok(mut script) => sweep_to(rt.alloc(), &mut script, out, err),
+            Err(status) => status,
+        },
         Err(fault) => refuse(fault, err),
     }
 }
@@ -34,14 +46,10 @@ fn words_of<R: Env + AllocGlobal>(rt: &R) -> io::Result<Vec<String>> {
     Ok(words)
 }
 
-fn play_file<R: Files + AllocGlobal, W: Write, E: Write>(
-    rt: &R,
-    file: &str,
-    out: &mut W,
-    err: &mut E,
-) -> Status {
+// The script's file, or the status where it can't be opened, which is told on `err`.
+fn open<R: Files, E: Write>(rt: &R, file: &str, err: &mut E) -> Result<R::File, Status> {
     match fs::open(rt, file) {
-        Ok(mut script) => play_to(rt.alloc(), &mut script, out, err),
-        Err(error) => report(format_args!("can't open {file}: {error}"), err),
+        Ok(script) => Ok(script),
+        Err(error) => Err(report(format_args!("can't open {file}: {error}"), err)),
     }
 }

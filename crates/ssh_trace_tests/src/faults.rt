@@ -1,191 +1,26 @@
-use crate::checking::{same, same_at};
+//! Scripts that can't be read, or not played to their end: nothing is printed but the fault.
+
+use crate::checking::same_at;
 use crate::outcome::Outcome;
 use ssh_trace::Status;
 use std::test::Fail;
 
-// A first line, and what is wrong with the script.
-const FIRST_LINES: &[(&str, &str)] = &[
-    ("", "line 1: the script ends without its line epoch K1 K2"),
-    (
-        "# nothing\n> c died\n\n",
-        "line 4: the script ends without its line epoch K1 K2",
-    ),
-    (
-        "pass c s all",
-        "line 1: \"pass\" is met: the first line of a script is epoch K1 K2",
-    ),
-    (
-        "#\n\nepoc 11 22",
-        "line 3: \"epoc\" is met: the first line of a script is epoch K1 K2",
-    ),
-    (
-        " epoch 11 22",
-        "line 1: a space stands at an end of the line or behind another: words are parted by one space",
-    ),
-    (
-        "epoch",
-        "line 1: 0 words follow the first: the line is written epoch K1 K2",
-    ),
-    (
-        "epoch 11",
-        "line 1: 1 words follow the first: the line is written epoch K1 K2",
-    ),
-    (
-        "epoch 11 22 33",
-        "line 1: 3 words follow the first: the line is written epoch K1 K2",
-    ),
-    (
-        "epoch 11 22",
-        "line 1: 2 digits are met: a key is 32 bytes, in 64 hexadecimal digits",
-    ),
-    (
-        "epoch 111111111111111111111111111111111111111111111111111111111111111x -",
-        "line 1: byte 64, 'x', is no hexadecimal digit: a key is 32 bytes, in 64 hexadecimal digits",
-    ),
-    (
-        "epoch 11 22\r\n",
-        "line 1: a CR stands at the line's end: lines end with LF alone",
-    ),
-    (
-        "# a comment\r\n\r\n",
-        "line 2: a CR stands at the line's end: lines end with LF alone",
-    ),
-    (
-        "> c died\r",
-        "line 1: the script ends without its line epoch K1 K2",
-    ),
-];
+const EPOCH: &str = "# keys
+epoch 00112233445566778899aabbccddeeff00112233445566778899AABBCCDDEEFF 00112233445566778899aabbccddeeff00112233445566778899AABBCCDDEEFF
+";
 
-// A line after the keys, and what is wrong with it.
-const LINES: &[(&str, &str)] = &[
-    (
-        "epoch 11 22",
-        "\"epoch\" is met again: the keys are given once, in the first line",
-    ),
-    (
-        "sent c 15",
-        "no line begins with \"sent\": ask, pass, drip, lose, give and again do",
-    ),
-    (
-        "user u p",
-        "no line begins with \"user\": ask, pass, drip, lose, give and again do",
-    ),
-    (
-        ">",
-        "no line begins with \">\": ask, pass, drip, lose, give and again do",
-    ),
-    (
-        ">c died",
-        "no line begins with \">c\": ask, pass, drip, lose, give and again do",
-    ),
-    (
-        "\tpass c s all",
-        "no line begins with \"\\tpass\": ask, pass, drip, lose, give and again do",
-    ),
-    ("pass  c s all", SPACES),
-    ("pass c s all ", SPACES),
-    (" ", SPACES),
-    (" # a comment", SPACES),
-    (
-        "ask c",
-        "1 words follow the first: the line is written ask SIDE raw HEX",
-    ),
-    (
-        "ask c raw",
-        "2 words follow the first: the line is written ask SIDE raw HEX",
-    ),
+// What stands behind the keys, one packet of 48 bytes of which 15 are passed, and the fault of its last line, which is the fifth.
+const EPOCH_LINES: &[(&str, &str)] = &[
+    ("ask c raw -", "a payload has at least one byte"),
     (
         "ask c service",
         "2 words follow the first: the line is written ask SIDE raw HEX",
     ),
-    (
-        "ask c rave 15",
-        "\"rave\" is met: the line is written ask SIDE raw HEX",
-    ),
-    (
-        "ask c raw 15 15",
-        "4 words follow the first: the line is written ask SIDE raw HEX",
-    ),
-    ("ask x raw 15", "\"x\" is no side: a side is c or s"),
-    ("ask c raw -", "a payload has at least one byte"),
-    (
-        "ask c raw 1",
-        "1 digits are no pairs: HEX is pairs of hexadecimal digits, or - for no bytes",
-    ),
-    (
-        "ask c raw 0x15",
-        "byte 2, 'x', is no hexadecimal digit: HEX is pairs of hexadecimal digits, or - for no bytes",
-    ),
-    (
-        "pass c s",
-        "2 words follow the first: the line is written pass F T N, pass F T all",
-    ),
-    (
-        "pass c s all all",
-        "4 words follow the first: the line is written pass F T N, pass F T all",
-    ),
-    (
-        "pass c c all",
-        "F and T are both \"c\": they are the two different sides, c and s",
-    ),
-    ("pass s S all", "\"S\" is no side: a side is c or s"),
-    (
-        "pass c s al",
-        "byte 1, 'a', is no decimal digit: a number is decimal digits",
-    ),
-    (
-        "pass c s +1",
-        "byte 1, '+', is no decimal digit: a number is decimal digits",
-    ),
-    (
-        "pass c s -",
-        "byte 1, '-', is no decimal digit: a number is decimal digits",
-    ),
-    (
-        "pass c s 3e",
-        "byte 2, 'e', is no decimal digit: a number is decimal digits",
-    ),
-    (
-        "pass c s all\r",
-        "a CR stands at the line's end: lines end with LF alone",
-    ),
-    (
-        "pass c s 4294967296",
-        "4294967296 is too large: a number is at most 4294967295",
-    ),
     ("pass c s 34", "34 bytes are wanted, and 33 wait"),
     ("pass s c 1", "1 bytes are wanted, and 0 wait"),
     (
-        "drip c s",
-        "2 words follow the first: the line is written drip F T all",
-    ),
-    (
-        "drip c s 1",
-        "\"1\" is met: the line is written drip F T all",
-    ),
-    (
-        "lose c s all",
-        "byte 1, 'a', is no decimal digit: a number is decimal digits",
-    ),
-    (
         "lose c s 4294967295",
         "4294967295 bytes are wanted, and 33 wait",
-    ),
-    (
-        "give s",
-        "1 words follow the first: the line is written give SIDE HEX",
-    ),
-    (
-        "give s 0g",
-        "byte 2, 'g', is no hexadecimal digit: HEX is pairs of hexadecimal digits, or - for no bytes",
-    ),
-    (
-        "again c s 0",
-        "3 words follow the first: the line is written again F T A N",
-    ),
-    (
-        "again c s 0 all",
-        "byte 1, 'a', is no decimal digit: a number is decimal digits",
     ),
     (
         "again c s 16 33",
@@ -201,33 +36,32 @@ const LINES: &[(&str, &str)] = &[
     ),
 ];
 
-const SPACES: &str =
-    "a space stands at an end of the line or behind another: words are parted by one space";
+// The script of a session, and its fault.
+const SESSIONS: &[(&[u8], &str)] = &[
+    (
+        b"pass c s 10000",
+        "line 1: 10000 bytes are wanted, and 187 wait",
+    ),
+    (
+        b"feed c a1\n\nfeed c a2\n",
+        "line 3: the end doesn't take the pair: it still keeps one, is dead, or had all its pairs",
+    ),
+    (
+        b"limit s 63\n",
+        "line 1: the settings of s are refused: the limit epoch_limit is outside 64 to 2^31",
+    ),
+    (b"# \xc3\xa9\n# \xff\n", "line 2: byte 3 isn't UTF-8"),
+    // All lines are read before one is played.
+    (
+        b"pass c s 10000\npass c c all",
+        "line 2: F and T are both \"c\": they are the two different sides, c and s",
+    ),
+];
 
 #[test]
-fn first_lines(rt: HostRuntime) -> Result<(), Fail> {
-    for &(script, fault) in FIRST_LINES {
-        let outcome = Outcome::playing(rt.alloc(), script.as_bytes());
-        let message = format!(in rt.alloc(); "error: {fault}\n")?;
-        same_at(&rt, script, outcome.status, Status::Fault);
-        same_at(&rt, script, outcome.out.is_empty(), true);
-        same_at(&rt, script, outcome.err.as_slice(), message.as_bytes());
-    }
-    Ok(())
-}
-
-// Each line stands after one packet of 48 bytes, of which 15 are passed, and before a line that is wrong too.
-#[test]
-fn further_lines(rt: HostRuntime) -> Result<(), Fail> {
-    for &(line, fault) in LINES {
-        let mut script = String::from_str(rt.alloc(), "# keys\nepoch")?;
-        for _ in 0..2 {
-            write!(
-                script,
-                " 00112233445566778899aabbccddeeff00112233445566778899AABBCCDDEEFF"
-            )?;
-        }
-        write!(script, "\nask c raw 15\npass c s 15\n{line}\nnothing\n")?;
+fn epochs(rt: HostRuntime) -> Result<(), Fail> {
+    for &(line, fault) in EPOCH_LINES {
+        let script = format!(in rt.alloc(); "{EPOCH}ask c raw 15\npass c s 15\n{line}\n")?;
         let outcome = Outcome::playing(rt.alloc(), script.as_bytes());
         let message = format!(in rt.alloc(); "error: line 5: {fault}\n")?;
         same_at(&rt, line, outcome.status, Status::Fault);
@@ -238,10 +72,23 @@ fn further_lines(rt: HostRuntime) -> Result<(), Fail> {
 }
 
 #[test]
-fn comments_are_text(rt: HostRuntime) {
-    let outcome = Outcome::playing(rt.alloc(), b"# \xc3\xa9\n# \xff\n");
-    same!(rt, outcome.status, Status::Fault);
-    assert!(rt; outcome.out.is_empty());
-    let message = b"error: line 2: byte 3 isn't UTF-8\n";
-    same!(rt, outcome.err.as_slice(), message.as_slice());
+fn sessions(rt: HostRuntime) -> Result<(), Fail> {
+    for &(script, fault) in SESSIONS {
+        let outcome = Outcome::playing(rt.alloc(), script);
+        let message = format!(in rt.alloc(); "error: {fault}\n")?;
+        same_at(&rt, script, outcome.status, Status::Fault);
+        same_at(&rt, script, outcome.out.is_empty(), true);
+        same_at(&rt, script, outcome.err.as_slice(), message.as_bytes());
+    }
+    Ok(())
+}
+
+// The script of an epoch can't be swept.
+#[test]
+fn epochs_are_not_swept(rt: HostRuntime) -> Result<(), Fail> {
+    let outcome = Outcome::sweeping(rt.alloc(), EPOCH.as_bytes());
+    same_at(&rt, EPOCH, outcome.status, Status::Fault);
+    same_at(&rt, EPOCH, outcome.out.is_empty(), true);
+    same_at(&rt, EPOCH, outcome.err.is_empty(), false);
+    Ok(())
 }

@@ -5,6 +5,8 @@
 #[cfg(test)]
 mod checking;
 #[cfg(test)]
+mod comparing;
+#[cfg(test)]
 mod decoding;
 #[cfg(test)]
 mod faults;

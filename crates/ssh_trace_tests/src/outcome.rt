@@ -1,6 +1,6 @@
 //! A call of the program's text, with what it wrote.
 
-use ssh_trace::{Status, decode_to, play_to};
+use ssh_trace::{Status, check_to, decode_to, play_to, sweep_to};
 use std::alloc::Global;
 use std::io;
 use std::io::{Read, Write};
@@ -26,6 +26,22 @@ impl Outcome {
         let mut err = Vec::new(alloc);
         let mut rest = script;
         let status = play_to(alloc, &mut rest, &mut out, &mut err);
+        Outcome { status, out, err }
+    }
+
+    pub fn checking(alloc: Global, script: &[u8]) -> Outcome {
+        let mut out = Vec::new(alloc);
+        let mut err = Vec::new(alloc);
+        let mut rest = script;
+        let status = check_to(alloc, &mut rest, &mut out, &mut err);
+        Outcome { status, out, err }
+    }
+
+    pub fn sweeping(alloc: Global, script: &[u8]) -> Outcome {
+        let mut out = Vec::new(alloc);
+        let mut err = Vec::new(alloc);
+        let mut rest = script;
+        let status = sweep_to(alloc, &mut rest, &mut out, &mut err);
         Outcome { status, out, err }
     }
 }

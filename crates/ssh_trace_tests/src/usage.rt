@@ -18,12 +18,16 @@ fn calls(rt: HostRuntime) -> Result<(), Fail> {
         call_of(alloc, words.as_slice())?,
         Call::Play("a script.txt")
     );
+    let words = ["ssh_trace", "check", "x"];
+    same!(rt, call_of(alloc, words.as_slice())?, Call::Check("x"));
+    let words = ["ssh_trace", "sweep", "x"];
+    same!(rt, call_of(alloc, words.as_slice())?, Call::Sweep("x"));
     Ok(())
 }
 
 #[test]
 fn other_words(rt: HostRuntime) {
-    let lists: [&[&str]; 11] = [
+    let lists: [&[&str]; 13] = [
         &[],
         &["ssh_trace"],
         &["ssh_trace", "--help"],
@@ -34,6 +38,8 @@ fn other_words(rt: HostRuntime) {
         &["ssh_trace", "decode", "15", "15"],
         &["ssh_trace", "play"],
         &["ssh_trace", "plays", "x"],
+        &["ssh_trace", "check"],
+        &["ssh_trace", "sweep", "x", "y"],
         &["ssh_trace", "decode", "--all", "15"],
     ];
     for words in lists {
