@@ -1,0 +1,216 @@
+//! The loop of a client that sends a text and reads what comes back.
+
+use crate::end::asked;
+use crate::flow::{Flow, MAX_PACKET, WINDOW};
+use crate::material::Material;
+use crate::parts::{ToyClient, client_parts, config};
+use crate::tasks::Tasks;
+use ssh_auth::UserAsk;
+use ssh_channels::{Ask as ChannelAsk, Fact};
+use ssh_end::{Ask, ClientEnd, Fault, Told};
+use ssh_toys::ToyUserSigner;
+use std::alloc::{AllocError, Global};
+
+/// A client with one channel.
+#[derive(Drop)]
+pub struct Client {
+    alloc: Global,
+    end: ClientEnd<ToyClient, ToyUserSigner>,
+    material: Material,
+    flow: Option<Flow>,
+    // What waits for the end of an exchange of keys, the oldest first.
+    tasks: Tasks<Task>,
+    text: Vec<u8>,
+    read: Vec<u8>,
+    exchanges: u32,
+}
+
+// What is to be done on what the end told.
+#[derive(Clone, Copy, Drop)]
+enum Task {
+    // The service of authentication is asked for.
+    AskService,
+    // The user asks to be let in.
+    Authenticate,
+    // A channel is opened.
+    Open,
+    // On the confirmed channel the server is asked for its echo.
+    Request { channel: u32 },
+    // The connection is ended.
+    Disconnect,
+}
+
+impl Client {
+    /// A client that put its version line and its first KEXINIT into `out`.
+    pub fn new(alloc: Global, text: Vec<u8>, out: &mut Vec<u8>) -> anyhow::Result<Client> {
+        let mut material = Material::new(1);
+        let (cookie, secret) = material.draw();
+        let config = config(alloc, b"sender")?;
+        let end = ClientEnd::new(
+            alloc,
+            config,
+            client_parts(),
+            ToyUserSigner,
+            cookie,
+            secret,
+            out,
+        )?;
+        Ok(Client {
+            alloc,
+            end,
+            material,
+            flow: None,
+            tasks: Tasks::new(alloc),
+            text,
+            read: Vec::new(alloc),
+            exchanges: 0,
+        })
+    }
+
+    /// What came back.
+    pub fn read(&self) -> &[u8] {
+        self.read.as_slice()
+    }
+
+    /// How many exchanges of keys were completed.
+    pub fn exchanges(&self) -> u32 {
+        self.exchanges
+    }
+
+    /// Tests whether the end is over.
+    pub fn is_over(&self) -> bool {
+        self.end.is_dead()
+    }
+
+    /// Takes a piece of the server's stream, and puts what is sent for it into `out`.
+    pub fn take(&mut self, piece: &[u8], out: &mut Vec<u8>) -> anyhow::Result<()> {
+        let mut rest = piece;
+        // Each call uses a byte at least.
+        for _ in 0..piece.len() {
+            if rest.is_empty() || self.end.is_dead() {
+                break;
+            }
+            let used = self.end.take(rest, out)?;
+            rest = rest.split_at(used).1;
+            self.hear()?;
+            self.go_on(out)?;
+        }
+        Ok(())
+    }
+
+    // Listens to what the end told, and keeps what of it is needed: its texts last until the end is asked for something.
+    fn hear(&mut self) -> Result<(), AllocError> {
+        match self.end.turn().told {
+            Some(Told::Completed { position }) => {
+                self.exchanges = position;
+                if position == 1 {
+                    self.tasks.add(Task::AskService)?;
+                }
+                Ok(())
+            }
+            Some(Told::Service) => self.tasks.add(Task::Authenticate),
+            Some(Told::Authenticated) => self.tasks.add(Task::Open),
+            Some(Told::Failed { .. }) => self.tasks.add(Task::Disconnect),
+            Some(Told::Channel(Fact::GotData { body, .. })) => read(
+                &mut self.flow,
+                &mut self.read,
+                body,
+            ),
+            Some(Told::Channel(Fact::RequestDone { success: true, .. })) => send(
+                &mut self.flow,
+                &self.text,
+            ),
+            Some(Told::Channel(fact)) => heard(self.alloc, &mut self.flow, &mut self.tasks, &fact),
+            _ => Ok(()),
+        }
+    }
+
+    // Exchanges keys where that is due, sends what can be sent, and does what is to be done.
+    fn go_on(&mut self, out: &mut Vec<u8>) -> Result<(), Fault> {
+        if self.end.is_dead() {
+            return Ok(());
+        }
+        if let Some(flow) = &mut self.flow {
+            self.material.keep_fresh(&mut self.end, out)?;
+            flow.push(&mut self.end, out)?;
+        }
+        for _ in 0..self.tasks.len() {
+            let Some(task) = self.tasks.first() else {
+                break;
+            };
+            if !asked(&mut self.end, &ask_of(task), out)? {
+                break;
+            }
+            self.tasks.finish_first();
+        }
+        Ok(())
+    }
+}
+
+// What the end is asked for.
+fn ask_of(task: Task) -> Ask<'static> {
+    match task {
+        Task::AskService => Ask::Service,
+        Task::Authenticate => Ask::User(UserAsk::Password {
+            user: b"reader",
+            password: b"secret",
+        }),
+        Task::Open => Ask::Connection(ChannelAsk::Open {
+            kind: b"session",
+            window: WINDOW,
+            max_packet: MAX_PACKET,
+            rest: b"",
+        }),
+        Task::Request { channel } => Ask::Connection(ChannelAsk::Request {
+            channel,
+            name: b"subsystem",
+            want: true,
+            rest: b"\0\0\0\x04echo",
+        }),
+        Task::Disconnect => Ask::Disconnect(b"done"),
+    }
+}
+
+// Keeps data, which are read at once.
+fn read(flow: &mut Option<Flow>, read: &mut Vec<u8>, body: &[u8]) -> Result<(), AllocError> {
+    if let Some(flow) = flow {
+        flow.consume(body.len());
+    }
+    read.extend_from_slice(body)
+}
+
+// The whole text has to be sent, and nothing behind it.
+fn send(flow: &mut Option<Flow>, text: &[u8]) -> Result<(), AllocError> {
+    match flow {
+        Some(flow) => {
+            flow.finish();
+            flow.add(text)
+        }
+        None => Ok(()),
+    }
+}
+
+// What is done on what else was told of the channel.
+fn heard(
+    alloc: Global,
+    flow: &mut Option<Flow>,
+    tasks: &mut Tasks<Task>,
+    fact: &Fact<'_>,
+) -> Result<(), AllocError> {
+    match *fact {
+        Fact::Confirmed {
+            channel,
+            max_packet,
+            ..
+        } => {
+            *flow = Some(Flow::new(alloc, channel, max_packet));
+            tasks.add(Task::Request { channel })
+        }
+        Fact::RequestDone { success: false, .. } | Fact::OpenFailed { .. } | Fact::Closed { .. } =>
+            {
+                *flow = None;
+                tasks.add(Task::Disconnect)
+            }
+        _ => Ok(()),
+    }
+}

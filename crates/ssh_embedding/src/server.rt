@@ -1,0 +1,196 @@
+//! The loop of a server that sends back what comes to it.
+
+use crate::end::asked;
+use crate::flow::{Flow, MAX_PACKET, WINDOW};
+use crate::material::Material;
+use crate::parts::{ToyServer, config, server_parts};
+use crate::tasks::Tasks;
+use ssh_channels::{Ask as ChannelAsk, Fact};
+use ssh_end::{Ask, Fault, ServerEnd, Told};
+use ssh_toys::{ToyCredential, ToyJudge};
+use std::alloc::{AllocError, Global};
+
+const CREDENTIALS: &[ToyCredential<'static>] = &[ToyCredential::Password {
+    user: b"reader",
+    word: b"secret",
+}];
+
+/// A server with one channel.
+#[derive(Drop)]
+pub struct Server {
+    alloc: Global,
+    end: ServerEnd<ToyServer, ToyJudge<'static>>,
+    material: Material,
+    flow: Option<Flow>,
+    // What waits for the end of an exchange of keys, the oldest first.
+    tasks: Tasks<Task>,
+    user: String,
+}
+
+// What is to be done on what the end told.
+#[derive(Clone, Copy, Drop)]
+enum Task {
+    // The channel that the client opens is confirmed.
+    Confirm { channel: u32, max_packet: u32 },
+    // The request of the client is granted.
+    Grant { channel: u32 },
+    // The channel is closed.
+    Close { channel: u32 },
+}
+
+impl Server {
+    /// A server that put its version line and its first KEXINIT into `out`.
+    pub fn new(alloc: Global, out: &mut Vec<u8>) -> anyhow::Result<Server> {
+        let mut material = Material::new(2);
+        let (cookie, secret) = material.draw();
+        let judge = ToyJudge {
+            credentials: CREDENTIALS,
+        };
+        let config = config(alloc, b"echo")?;
+        let end = ServerEnd::new(alloc, config, server_parts(), judge, cookie, secret, out)?;
+        Ok(Server {
+            alloc,
+            end,
+            material,
+            flow: None,
+            tasks: Tasks::new(alloc),
+            user: String::new(alloc),
+        })
+    }
+
+    /// Who was let in.
+    pub fn user(&self) -> &str {
+        self.user.as_str()
+    }
+
+    /// Tests whether the end is over.
+    pub fn is_over(&self) -> bool {
+        self.end.is_dead()
+    }
+
+    /// Takes a piece of the client's stream, and puts what is sent for it into `out`.
+    pub fn take(&mut self, piece: &[u8], out: &mut Vec<u8>) -> anyhow::Result<()> {
+        let mut rest = piece;
+        // Each call uses a byte at least.
+        for _ in 0..piece.len() {
+            if rest.is_empty() || self.end.is_dead() {
+                break;
+            }
+            let used = self.end.take(rest, out)?;
+            rest = rest.split_at(used).1;
+            self.hear()?;
+            self.go_on(out)?;
+        }
+        Ok(())
+    }
+
+    // Listens to what the end told, and keeps what of it is needed: its texts last until the end is asked for something.
+    fn hear(&mut self) -> Result<(), AllocError> {
+        match self.end.turn().told {
+            Some(Told::Accepted { user }) => {
+                for byte in user.iter() {
+                    self.user.push(char::from(*byte))?;
+                }
+                Ok(())
+            }
+            Some(Told::Channel(fact)) => heard(&mut self.flow, &mut self.tasks, &fact),
+            _ => Ok(()),
+        }
+    }
+
+    // Exchanges keys where that is due, sends what can be sent, and does what is to be done.
+    fn go_on(&mut self, out: &mut Vec<u8>) -> Result<(), Fault> {
+        if self.end.is_dead() {
+            return Ok(());
+        }
+        self.material.keep_fresh(&mut self.end, out)?;
+        self.flow_on(out)?;
+        for _ in 0..self.tasks.len() {
+            let Some(task) = self.tasks.first() else {
+                break;
+            };
+            if !self.done(task, out)? {
+                break;
+            }
+            self.tasks.finish_first();
+        }
+        Ok(())
+    }
+
+    // Sends what can be sent, and closes the channel behind the last of it.
+    fn flow_on(&mut self, out: &mut Vec<u8>) -> Result<(), Fault> {
+        let Some(flow) = &mut self.flow else {
+            return Ok(());
+        };
+        flow.push(&mut self.end, out)?;
+        if flow.is_ended() {
+            let channel = flow.channel();
+            self.tasks
+                .add(Task::Close { channel })
+                .map_err(|_| Fault::Memory)?;
+            self.flow = None;
+        }
+        Ok(())
+    }
+
+    // Does this, or answers `false` where it has to wait.
+    fn done(&mut self, task: Task, out: &mut Vec<u8>) -> Result<bool, Fault> {
+        let ask = match task {
+            Task::Confirm {
+                channel,
+                max_packet,
+            } => {
+                self.flow = Some(Flow::new(self.alloc, channel, max_packet));
+                ChannelAsk::Confirm {
+                    channel,
+                    window: WINDOW,
+                    max_packet: MAX_PACKET,
+                    rest: b"",
+                }
+            }
+            Task::Grant { channel } => ChannelAsk::Reply {
+                channel,
+                success: true,
+            },
+            Task::Close { channel } => ChannelAsk::Close { channel },
+        };
+        asked(&mut self.end, &Ask::Connection(ask), out)
+    }
+}
+
+// Keeps what was told of a channel. Data are sent back.
+fn heard(
+    flow: &mut Option<Flow>,
+    tasks: &mut Tasks<Task>,
+    fact: &Fact<'_>,
+) -> Result<(), AllocError> {
+    match *fact {
+        Fact::Opened {
+            channel,
+            max_packet,
+            ..
+        } => tasks.add(Task::Confirm {
+            channel,
+            max_packet,
+        }),
+        Fact::Requested {
+            channel,
+            want: true,
+            ..
+        } => tasks.add(Task::Grant { channel }),
+        Fact::GotData { body, .. } => match flow {
+            Some(flow) => {
+                flow.consume(body.len());
+                flow.add(body)
+            }
+            None => Ok(()),
+        },
+        Fact::Ended { .. } => {
+            if let Some(flow) = flow {
+                flow.finish();
+            }
+            Ok(())
+        }
+        _ => Ok(()),
+    }
+}
