@@ -13,6 +13,10 @@ const KEY_TEXT: usize = 36 + 32 + 1 + 32;
 // KEX_ECDH_REPLY, and NEWKEYS twice.
 const PACKETS: [usize; 6] = [156, 156, 52, 100, 20, 20];
 
+// The packets of a session behind its first exchange, in the same way: SERVICE_REQUEST and SERVICE_ACCEPT, USERAUTH_REQUEST with a signature and
+// USERAUTH_SUCCESS, CHANNEL_OPEN and its confirmation, CHANNEL_DATA of two bytes, and CHANNEL_CLOSE twice.
+const SESSION: [usize; 9] = [36, 36, 116, 20, 44, 36, 28, 20, 20];
+
 /// The hashes alone.
 #[derive(Drop)]
 pub struct Hashes {
@@ -46,7 +50,16 @@ impl Hashes {
 
     /// The tags of a later exchange, each made by one end and tested by the other.
     pub fn of_tags(&mut self) {
-        for size in PACKETS {
+        self.of_packets(&PACKETS);
+    }
+
+    /// The tags of a session behind its first exchange, in the same way.
+    pub fn of_session(&mut self) {
+        self.of_packets(&SESSION);
+    }
+
+    fn of_packets(&mut self, sizes: &[usize]) {
+        for size in sizes.iter().copied() {
             for _ in 0..2 {
                 let text = self.text.get(..size).unwrap_or(&[]);
                 self.sum ^= self.key.mac(text)[0];

@@ -1,9 +1,10 @@
 //! Times exchanges of keys between a client and a server over toy parts against the hashes that both have to compute, and data that
-//! one sends and the other takes against two HMACs of the same bytes.
+//! one sends and the other takes against two HMACs of the same bytes: between two transports, and between two whole ends.
 //!
 //! `run ROUNDS` times each in so many rounds and takes the fastest. Called otherwise, it says so and times nothing.
 #![tactic(auto)]
 
+use ends::Ends;
 use hashes::Hashes;
 use ratio::Ratio;
 use session::Session;
@@ -11,6 +12,7 @@ use std::env;
 use std::rt::{Clock, Env};
 use std::time::{Duration, Instant};
 
+mod ends;
 mod hashes;
 mod parts;
 mod ratio;
@@ -21,6 +23,13 @@ const EXCHANGES: usize = 64;
 
 const MESSAGES: usize = 32;
 
+const SMALL_MESSAGES: usize = 1_024;
+
+// So many messages are compared with so many times as many.
+const FEW: usize = 100;
+
+const TIMES: usize = 100;
+
 fn main(rt: HostRuntime) -> anyhow::Result<()> {
     let Some(rounds) = rounds_of(&rt)? else {
         println!(rt; "usage: ssh_exchange_bench run ROUNDS")?;
@@ -30,7 +39,11 @@ fn main(rt: HostRuntime) -> anyhow::Result<()> {
         "Times of a client and a server as ratios to the hashes that they have to compute, the fastest of {rounds} rounds"
     )?;
     measure_exchanges(&rt, rounds)?;
-    measure_data(&rt, rounds)
+    measure_data(&rt, rounds)?;
+    measure_sessions(&rt, rounds)?;
+    measure_ends(&rt, rounds, 32_768, MESSAGES)?;
+    measure_ends(&rt, rounds, 64, SMALL_MESSAGES)?;
+    measure_many(&rt)
 }
 
 // The number behind the word `run`.
@@ -121,6 +134,107 @@ fn measure_data<R: Clock + Print + AllocGlobal>(rt: &R, rounds: u32) -> anyhow::
     println!(rt;
         "32 KiB of data sent and taken, to two HMACs of the packet: {}",
         Ratio(data, hmacs)
+    )?;
+    Ok(())
+}
+
+// Prints the ratio of a whole session of two ends, with the making of both, to its hashes.
+fn measure_sessions<R: Clock + Print + AllocGlobal>(rt: &R, rounds: u32) -> anyhow::Result<()> {
+    let mut hashes = Hashes::new();
+    let mut sessions = Duration::MAX;
+    let mut of_sessions = Duration::MAX;
+    for _ in 0..rounds {
+        let start = Instant::now(rt)?;
+        for _ in 0..EXCHANGES {
+            let mut ends = Ends::new(rt.alloc())?;
+            ends.begin()?;
+            ends.data(b"hi")?;
+            ends.close()?;
+        }
+        sessions = sessions.min(start.elapsed(rt)?);
+        let start = Instant::now(rt)?;
+        for _ in 0..EXCHANGES {
+            hashes.of_exchange(false);
+            hashes.of_session();
+        }
+        of_sessions = of_sessions.min(start.elapsed(rt)?);
+    }
+    println!(rt;
+        "a whole session of two ends, and the making of both: {}",
+        Ratio(sessions, of_sessions)
+    )?;
+    Ok(())
+}
+
+// Prints the ratio of data, asked for at one end, taken by the other and told, to two HMACs of their packet.
+fn measure_ends<R: Clock + Print + AllocGlobal>(
+    rt: &R,
+    rounds: u32,
+    size: usize,
+    messages: usize,
+) -> anyhow::Result<()> {
+    let bytes = [0x61; 32_800];
+    let body = bytes.get(..size).unwrap_or(&[]);
+    let packet = bytes.get(..text_of_data(size)).unwrap_or(&[]);
+    let mut ends = Ends::new(rt.alloc())?;
+    ends.begin()?;
+    let mut hashes = Hashes::new();
+    let mut data = Duration::MAX;
+    let mut hmacs = Duration::MAX;
+    for _ in 0..rounds {
+        data = data.min(time_data(rt, &mut ends, body, messages)?);
+        let start = Instant::now(rt)?;
+        for _ in 0..messages {
+            hashes.mac(packet);
+            hashes.mac(packet);
+        }
+        hmacs = hmacs.min(start.elapsed(rt)?);
+    }
+    println!(rt;
+        "{} bytes of data through both ends, to two HMACs of the packet: {}",
+        ends.told(),
+        Ratio(data, hmacs)
+    )?;
+    Ok(())
+}
+
+// How many bytes the tag of a CHANNEL_DATA with so many bytes of data covers: its number, and the packet in blocks of 8 with at least 4 bytes
+// of padding (RFC 4253 section 6).
+fn text_of_data(size: usize) -> usize {
+    let least = size.saturating_add(5 + 9 + 4);
+    least.saturating_add(7) / 8 * 8 + 4
+}
+
+// The time of so many messages.
+fn time_data<R: Clock>(
+    rt: &R,
+    ends: &mut Ends,
+    body: &[u8],
+    messages: usize,
+) -> anyhow::Result<Duration> {
+    let start = Instant::now(rt)?;
+    for _ in 0..messages {
+        ends.data(body)?;
+    }
+    Ok(start.elapsed(rt)?)
+}
+
+// Prints what a message costs among many, as a ratio to one among few.
+fn measure_many<R: Clock + Print + AllocGlobal>(rt: &R) -> anyhow::Result<()> {
+    let mut few = Duration::ZERO;
+    for _ in 0..TIMES {
+        let mut ends = Ends::new(rt.alloc())?;
+        ends.begin()?;
+        few = few.saturating_add(time_data(rt, &mut ends, &[0x61; 64], FEW)?);
+    }
+    let mut ends = Ends::new(rt.alloc())?;
+    ends.begin()?;
+    let many = time_data(rt, &mut ends, &[0x61; 64], FEW * TIMES)?;
+    println!(rt;
+        "a message among {} to one among {}: {}",
+        FEW * TIMES,
+        FEW,
+        Ratio(many, few)
     )?;
     Ok(())
 }
