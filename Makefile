@@ -1,5 +1,5 @@
 .DEFAULT_GOAL := help
-.PHONY: help demo quick build test falsify bench
+.PHONY: help demo quick build test falsify sweep memory bench
 
 RT ?= rt
 export RT
@@ -21,6 +21,13 @@ test: ## The whole gate, everything from nothing: docs/TIMES.md has how long it 
 
 falsify: ## Tries the wrong bodies of crates/*/falsify that the gate leaves out; CRATE=name for those of one crate.
 	@sh tools/falsify.sh
+
+sweep: ## Plays a whole session with each byte changed, left out and doubled in turn, by the proved program.
+	@sh tools/build.sh
+	build/ssh_trace sweep examples/whole_session.txt
+
+memory: ## Plays sessions with each allocation refused in turn, until a run meets no refusal.
+	@sh tools/memory.sh
 
 bench: ## Ratios of this core's work: to the hashes that it has to compute, and of many channels to one.
 	@sh tools/bench.sh

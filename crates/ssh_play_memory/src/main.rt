@@ -1,0 +1,134 @@
+//! Plays two sessions twice, one of them with a second exchange of keys, and compares. Run by `make memory` with each allocation refused in turn: one of
+//! the two plays then meets that, and it has to end in one of two ways. Either it says that memory was refused, and nothing else. Or one end has died,
+//! the lines before that are those of the other play, and what each end took is still a prefix of what the other sent.
+//!
+//! Without a refused allocation it prints `the same` and ends with status 0, as it does where a smaller allocation made up for the refused one. Else the status is 3
+//! or 4 where all is right. All else is wrong: it says so, and ends with status 1.
+#![tactic(auto)]
+
+mod prefix;
+
+use prefix::is_prefix_of_sent;
+use ssh_play::{Played, play};
+use ssh_script::{Script, ScriptFault};
+use std::alloc::Global;
+use std::process::ExitCode;
+
+const SESSION: &str = "\
+user u p
+pass c s all
+pass s c all
+pass c s all
+pass s c all
+pass c s all
+ask c service
+pass c s all
+pass s c all
+ask c password u p
+pass c s all
+pass s c all
+ask c open session 10 32768
+pass c s all
+ask s confirm 0 10 32768
+pass s c all
+ask c data 0 6869
+pass c s all
+ask c close 0
+pass c s all
+pass s c all
+";
+
+const REKEY: &str = "\
+user u p
+feed c a2
+feed s b2
+pass c s all
+pass s c all
+pass c s all
+pass s c all
+pass c s all
+ask c service
+pass c s all
+pass s c all
+ask c password u p
+pass c s all
+pass s c all
+ask c rekey
+pass c s all
+pass s c all
+pass c s all
+pass s c all
+pass c s all
+";
+
+// What became of two plays of one script.
+enum Verdict {
+    // Both are the same.
+    Same,
+    // One says that memory was refused.
+    Refused,
+    // In one an end died of it.
+    Died,
+    Wrong,
+}
+
+fn main(rt: HostRuntime) -> ExitCode {
+    let mut status = 0;
+    for script in [SESSION, REKEY] {
+        let one = played(rt.alloc(), script);
+        let other = played(rt.alloc(), script);
+        match judged(&one, &other) {
+            Verdict::Same => {}
+            Verdict::Refused => status = 3,
+            Verdict::Died => status = 4,
+            Verdict::Wrong => {
+                let _ = println!(rt; "wrong");
+                return ExitCode::from(1);
+            }
+        }
+    }
+    if status == 0 {
+        let _ = println!(rt; "the same");
+    }
+    ExitCode::from(status)
+}
+
+// The lines of a script's transcript.
+fn played(alloc: Global, script: &str) -> Result<Played, ScriptFault> {
+    match Script::read(alloc, script.as_bytes())? {
+        Script::Session(script) => play(alloc, &script),
+        Script::Epoch(_) => Err(ScriptFault::Epoch),
+    }
+}
+
+// One allocation is refused at most, so one of the two plays is whole.
+fn judged(one: &Result<Played, ScriptFault>, other: &Result<Played, ScriptFault>) -> Verdict {
+    match (one, other) {
+        (Ok(one), Ok(other)) => of_lines(one.lines.as_str(), other.lines.as_str()),
+        (Ok(_), Err(ScriptFault::Memory)) | (Err(ScriptFault::Memory), Ok(_)) => Verdict::Refused,
+        _ => Verdict::Wrong,
+    }
+}
+
+fn of_lines(one: &str, other: &str) -> Verdict {
+    if one == other {
+        return Verdict::Same;
+    }
+    for (mine, yours) in one.lines().zip(other.lines()) {
+        if mine != yours {
+            let short = if mine.ends_with(" died") { one } else { other };
+            return of_death(mine, yours, short);
+        }
+    }
+    Verdict::Wrong
+}
+
+// The first lines that differ, of which one says that an end died, and that play's transcript.
+fn of_death(mine: &str, yours: &str, transcript: &str) -> Verdict {
+    let has_died = mine.ends_with(" died") != yours.ends_with(" died");
+    if has_died && is_prefix_of_sent(transcript) {
+        Verdict::Died
+    } else {
+        Verdict::Wrong
+    }
+}
