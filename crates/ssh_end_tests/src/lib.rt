@@ -20,6 +20,4 @@ mod server_layers;
 #[cfg(test)]
 mod sessions;
 #[cfg(test)]
-mod toys;
-#[cfg(test)]
 mod tries;

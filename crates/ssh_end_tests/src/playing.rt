@@ -1,15 +1,13 @@
 //! Two ends over toy parts that play scripts, and the bytes on the way between them.
 
-mod end;
 mod forging;
 mod party;
 mod step;
 mod transcript;
 
-use crate::toys::{client, server};
-use end::End;
 use forging::forged;
 pub use party::Party;
+use ssh_toy_ends::ToyEnd;
 use ssh_types::Side;
 use std::alloc::{AllocError, Global};
 use step::dripped;
@@ -29,11 +27,11 @@ impl Playing {
     /// Two ends that require strict key exchange.
     pub fn new(alloc: Global) -> Result<Playing, AllocError> {
         let mut out = Vec::new(alloc);
-        let end = client(alloc, &mut out)?;
-        let client = Party::new(alloc, Side::Client, End::Client(end), out);
+        let end = ToyEnd::new(alloc, Side::Client, &mut out)?;
+        let client = Party::new(alloc, Side::Client, end, out);
         let mut out = Vec::new(alloc);
-        let end = server(alloc, &mut out)?;
-        let server = Party::new(alloc, Side::Server, End::Server(end), out);
+        let end = ToyEnd::new(alloc, Side::Server, &mut out)?;
+        let server = Party::new(alloc, Side::Server, end, out);
         Ok(Playing {
             alloc,
             client,

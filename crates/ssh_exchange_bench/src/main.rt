@@ -4,17 +4,18 @@
 //! `run ROUNDS` times each in so many rounds and takes the fastest. Called otherwise, it says so and times nothing.
 #![tactic(auto)]
 
-use ends::Ends;
 use hashes::Hashes;
 use ratio::Ratio;
 use session::Session;
+use ssh_channels::{Ask as ChannelAsk, Fact};
+use ssh_end::{Ask, Fault, Told};
+use ssh_toy_ends::ToyEnds;
+use ssh_types::Side;
 use std::env;
 use std::rt::{Clock, Env};
 use std::time::{Duration, Instant};
 
-mod ends;
 mod hashes;
-mod parts;
 mod ratio;
 mod session;
 
@@ -146,10 +147,10 @@ fn measure_sessions<R: Clock + Print + AllocGlobal>(rt: &R, rounds: u32) -> anyh
     for _ in 0..rounds {
         let start = Instant::now(rt)?;
         for _ in 0..EXCHANGES {
-            let mut ends = Ends::new(rt.alloc())?;
+            let mut ends = ToyEnds::new(rt.alloc())?;
             ends.begin()?;
-            ends.data(b"hi")?;
-            ends.close()?;
+            pass_data(&mut ends, b"hi")?;
+            close(&mut ends)?;
         }
         sessions = sessions.min(start.elapsed(rt)?);
         let start = Instant::now(rt)?;
@@ -176,7 +177,7 @@ fn measure_ends<R: Clock + Print + AllocGlobal>(
     let bytes = [0x61; 32_800];
     let body = bytes.get(..size).unwrap_or(&[]);
     let packet = bytes.get(..text_of_data(size)).unwrap_or(&[]);
-    let mut ends = Ends::new(rt.alloc())?;
+    let mut ends = ToyEnds::new(rt.alloc())?;
     ends.begin()?;
     let mut hashes = Hashes::new();
     let mut data = Duration::MAX;
@@ -192,10 +193,32 @@ fn measure_ends<R: Clock + Print + AllocGlobal>(
     }
     println!(rt;
         "{} bytes of data through both ends, to two HMACs of the packet: {}",
-        ends.told(),
+        told(&ends),
         Ratio(data, hmacs)
     )?;
     Ok(())
+}
+
+// The client sends data, the server takes them, and its user is told.
+fn pass_data(ends: &mut ToyEnds, body: &[u8]) -> Result<(), Fault> {
+    ends.send(Side::Client, body)?;
+    ends.take(Side::Server)?;
+    Ok(())
+}
+
+// The client closes the channel, and the server does.
+fn close(ends: &mut ToyEnds) -> Result<(), Fault> {
+    let close = ChannelAsk::Close { channel: 0 };
+    ends.ask(Side::Client, &Ask::Connection(close))?;
+    ends.pass()
+}
+
+// How many bytes of data the server's user was told last.
+fn told(ends: &ToyEnds) -> usize {
+    match ends.turn(Side::Server).told {
+        Some(Told::Channel(Fact::GotData { body, .. })) => body.len(),
+        _ => 0,
+    }
 }
 
 // How many bytes the tag of a CHANNEL_DATA with so many bytes of data covers: its number, and the packet in blocks of 8 with at least 4 bytes
@@ -208,13 +231,13 @@ fn text_of_data(size: usize) -> usize {
 // The time of so many messages.
 fn time_data<R: Clock>(
     rt: &R,
-    ends: &mut Ends,
+    ends: &mut ToyEnds,
     body: &[u8],
     messages: usize,
 ) -> anyhow::Result<Duration> {
     let start = Instant::now(rt)?;
     for _ in 0..messages {
-        ends.data(body)?;
+        pass_data(ends, body)?;
     }
     Ok(start.elapsed(rt)?)
 }
@@ -223,11 +246,11 @@ fn time_data<R: Clock>(
 fn measure_many<R: Clock + Print + AllocGlobal>(rt: &R) -> anyhow::Result<()> {
     let mut few = Duration::ZERO;
     for _ in 0..TIMES {
-        let mut ends = Ends::new(rt.alloc())?;
+        let mut ends = ToyEnds::new(rt.alloc())?;
         ends.begin()?;
         few = few.saturating_add(time_data(rt, &mut ends, &[0x61; 64], FEW)?);
     }
-    let mut ends = Ends::new(rt.alloc())?;
+    let mut ends = ToyEnds::new(rt.alloc())?;
     ends.begin()?;
     let many = time_data(rt, &mut ends, &[0x61; 64], FEW * TIMES)?;
     println!(rt;

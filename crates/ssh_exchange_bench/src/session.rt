@@ -1,17 +1,12 @@
 ghost use Rattle.std.specs.Prelude.{◌≤◌, length};
 
-use crate::parts::{ToyClient, ToyServer, settings};
 use ssh_message::Message;
-use ssh_packet::MacOnly;
-use ssh_toys::{ToyAgreement, ToyFiller, ToySigner, ToyTrust};
-use ssh_transport::{
-    ClientPartValues, ClientTransport, Config, ServerPartValues, ServerTransport, TransportAsk,
-    TransportFault,
+use ssh_toy_setup::{
+    CLIENT_COOKIE, CLIENT_SECRET, SERVER_COOKIE, SERVER_SECRET, ToyClient, ToyServer, client_parts,
+    config, server_parts, settings,
 };
-use std::alloc::Global;
-
-// The padding is zeros.
-const ZEROS: ToyFiller = ToyFiller { byte: 0 };
+use ssh_transport::{ClientTransport, ServerTransport, TransportAsk, TransportFault};
+use std::alloc::{AllocError, Global};
 
 // How many lines and packets a turn has at most.
 const MOST_UNITS: usize = 4;
@@ -39,33 +34,25 @@ impl Drop for Session {
 
 impl Session {
     /// Both ends, which have put out their lines and KEXINITs.
-    pub fn new(alloc: Global) -> anyhow::Result<Session> {
+    pub fn new(alloc: Global) -> Result<Session, AllocError> {
         let mut from_client = Vec::new(alloc);
         let mut from_server = Vec::new(alloc);
         let mut sent = Vec::new(alloc);
         let client = ClientTransport::new(
             alloc,
-            Config::<MacOnly>::new(alloc, &settings(b"c"))?,
-            ClientPartValues {
-                filler: ZEROS,
-                agreement: ToyAgreement,
-                host_trust: ToyTrust,
-            },
-            [0xc1; 16],
-            [1; 32],
+            config(alloc, &settings(b"c"))?,
+            client_parts(),
+            CLIENT_COOKIE,
+            CLIENT_SECRET,
             &mut from_client,
             &mut sent,
         )?;
         let server = ServerTransport::new(
             alloc,
-            Config::<MacOnly>::new(alloc, &settings(b"s"))?,
-            ServerPartValues {
-                filler: ZEROS,
-                agreement: ToyAgreement,
-                host_signer: ToySigner,
-            },
-            [0xd1; 16],
-            [2; 32],
+            config(alloc, &settings(b"s"))?,
+            server_parts(),
+            SERVER_COOKIE,
+            SERVER_SECRET,
             &mut from_server,
             &mut sent,
         )?;

@@ -3,7 +3,7 @@
 ghost use Rattle.std.specs.Prelude.{◌≤◌, length};
 ghost use Rattle.ssh_transport_machine.specs.Asks.{IsSendable};
 
-use crate::toys::{ToyClient, ToyServer};
+use ssh_toy_setup::{ToyClient, ToyServer};
 use ssh_transport::{
     Answer, AskTurn, ClientTransport, ServerTransport, TransportAsk, TransportFault, TransportTurn,
 };

@@ -1,53 +1,17 @@
-//! Both ends over toy parts, in the setup of the scripts: cookies of the bytes c1 and d1, secrets of the bytes 01 and 02, and padding of
-//! zeros.
+//! The transport of each end over the toys.
 
-use ssh_packet::MacOnly;
-use ssh_toys::{ToyAgreement, ToyFiller, ToySigner, ToyTrust};
-use ssh_transport::{
-    ClientPartValues, ClientParts, ClientTransport, Config, ConfigError, ServerPartValues,
-    ServerParts, ServerTransport, Settings, Strictness,
+use ssh_toy_setup::{
+    CLIENT_COOKIE, CLIENT_SECRET, SERVER_COOKIE, SERVER_SECRET, ToyClient, ToyServer, client_parts,
+    config, server_parts,
 };
+use ssh_transport::{ClientTransport, ServerTransport, Settings, Strictness};
 use std::alloc::{AllocError, Global};
-
-pub struct ToyClient;
-
-impl ClientParts for ToyClient {
-    type Sealing = MacOnly;
-
-    type Filler = ToyFiller;
-
-    type Agreement = ToyAgreement;
-
-    type HostTrust = ToyTrust;
-}
-
-pub struct ToyServer;
-
-impl ServerParts for ToyServer {
-    type Sealing = MacOnly;
-
-    type Filler = ToyFiller;
-
-    type Agreement = ToyAgreement;
-
-    type HostSigner = ToySigner;
-}
 
 /// The settings of an end whose version line has this software.
 pub const fn settings(software: &'static [u8], strictness: Strictness) -> Settings<'static> {
     Settings {
-        software,
-        comments: None,
-        kex: &[b"curve25519-sha256"],
-        host: &[b"toy@example.com"],
-        encryption: &[b"none"],
-        mac: &[b"hmac-sha2-256"],
-        epoch_limit: 1 << 31,
-        tries: 20,
-        methods: &[b"publickey", b"password"],
         strictness,
-        takes_extensions: false,
-        extensions: &[],
+        ..ssh_toy_setup::settings(software)
     }
 }
 
@@ -59,12 +23,15 @@ pub fn client(
     sent: &mut Vec<Vec<u8>>,
 ) -> Result<ClientTransport<ToyClient>, AllocError> {
     let config = config(alloc, settings)?;
-    let parts = ClientPartValues {
-        filler: ToyFiller { byte: 0 },
-        agreement: ToyAgreement,
-        host_trust: ToyTrust,
-    };
-    ClientTransport::new(alloc, config, parts, [0xc1; 16], [1; 32], out, sent)
+    ClientTransport::new(
+        alloc,
+        config,
+        client_parts(),
+        CLIENT_COOKIE,
+        CLIENT_SECRET,
+        out,
+        sent,
+    )
 }
 
 /// A server behind what it put out, in the same way.
@@ -75,18 +42,13 @@ pub fn server(
     sent: &mut Vec<Vec<u8>>,
 ) -> Result<ServerTransport<ToyServer>, AllocError> {
     let config = config(alloc, settings)?;
-    let parts = ServerPartValues {
-        filler: ToyFiller { byte: 0 },
-        agreement: ToyAgreement,
-        host_signer: ToySigner,
-    };
-    ServerTransport::new(alloc, config, parts, [0xd1; 16], [2; 32], out, sent)
-}
-
-fn config(alloc: Global, settings: &Settings<'_>) -> Result<Config<MacOnly>, AllocError> {
-    match Config::<MacOnly>::new(alloc, settings) {
-        Ok(config) => Ok(config),
-        Err(ConfigError::Memory) => Err(AllocError),
-        Err(ConfigError::Refused(_)) => Err(AllocError),
-    }
+    ServerTransport::new(
+        alloc,
+        config,
+        server_parts(),
+        SERVER_COOKIE,
+        SERVER_SECRET,
+        out,
+        sent,
+    )
 }

@@ -1,100 +1,33 @@
-//! A pair over toy parts: cookies of the bytes c1 and d1, secrets of the bytes 01 and 02, and padding of zeros. The user u has the
-//! password p.
+//! A pair over the toys.
 
 use ssh_packet::MacOnly;
 use ssh_pair::{ClientValues, Pair, ServerValues, Transcript};
-use ssh_toys::{
-    ToyAgreement, ToyCredential, ToyFiller, ToyJudge, ToySigner, ToyTrust, ToyUserSigner,
+use ssh_toy_setup::{
+    CLIENT_COOKIE, CLIENT_SECRET, CREDENTIALS, SERVER_COOKIE, SERVER_SECRET, ToyClient, ToyServer,
+    client_parts, config, server_parts, settings,
 };
-use ssh_transport_base::{
-    ClientPartValues, ClientParts, Config, ConfigError, ServerPartValues, ServerParts, Settings,
-    Strictness,
-};
+use ssh_toys::{ToyJudge, ToyUserSigner};
 use std::alloc::{AllocError, Global};
 
-pub struct ToyClient;
-
-impl ClientParts for ToyClient {
-    type Sealing = MacOnly;
-
-    type Filler = ToyFiller;
-
-    type Agreement = ToyAgreement;
-
-    type HostTrust = ToyTrust;
-}
-
-pub struct ToyServer;
-
-impl ServerParts for ToyServer {
-    type Sealing = MacOnly;
-
-    type Filler = ToyFiller;
-
-    type Agreement = ToyAgreement;
-
-    type HostSigner = ToySigner;
-}
-
 pub type ToyPair = Pair<MacOnly, ToyClient, ToyUserSigner, ToyServer, ToyJudge<'static>>;
-
-const CREDENTIALS: &[ToyCredential<'static>] = &[ToyCredential::Password {
-    user: b"u",
-    word: b"p",
-}];
-
-// The settings of an end whose version line has this software.
-const fn settings(software: &'static [u8]) -> Settings<'static> {
-    Settings {
-        software,
-        comments: None,
-        kex: &[b"curve25519-sha256"],
-        host: &[b"toy@example.com"],
-        encryption: &[b"none"],
-        mac: &[b"hmac-sha2-256"],
-        epoch_limit: 1 << 31,
-        tries: 20,
-        methods: &[b"publickey", b"password"],
-        strictness: Strictness::Require,
-        takes_extensions: false,
-        extensions: &[],
-    }
-}
 
 /// A pair behind its openings, and what it did to open.
 pub fn pair(alloc: Global) -> Result<(ToyPair, Transcript), AllocError> {
     let client = ClientValues {
-        config: config(alloc, b"c")?,
-        parts: ClientPartValues {
-            filler: ToyFiller { byte: 0 },
-            agreement: ToyAgreement,
-            host_trust: ToyTrust,
-        },
+        config: config(alloc, &settings(b"c"))?,
+        parts: client_parts(),
         user: ToyUserSigner,
-        cookie: [0xc1; 16],
-        secret: [1; 32],
+        cookie: CLIENT_COOKIE,
+        secret: CLIENT_SECRET,
     };
     let server = ServerValues {
-        config: config(alloc, b"s")?,
-        parts: ServerPartValues {
-            filler: ToyFiller { byte: 0 },
-            agreement: ToyAgreement,
-            host_signer: ToySigner,
-        },
+        config: config(alloc, &settings(b"s"))?,
+        parts: server_parts(),
         user: ToyJudge {
             credentials: CREDENTIALS,
         },
-        cookie: [0xd1; 16],
-        secret: [2; 32],
+        cookie: SERVER_COOKIE,
+        secret: SERVER_SECRET,
     };
     Pair::new(alloc, client, server)
-}
-
-// What an end is configured by. Settings that are refused count as want of memory.
-fn config(alloc: Global, software: &'static [u8]) -> Result<Config<MacOnly>, AllocError> {
-    match Config::<MacOnly>::new(alloc, &settings(software)) {
-        Ok(config) => Ok(config),
-        Err(ConfigError::Memory) => Err(AllocError),
-        Err(ConfigError::Refused(_)) => Err(AllocError),
-    }
 }

@@ -4,44 +4,17 @@ use ssh_message::Extension;
 use ssh_packet::MacOnly;
 use ssh_pair::{ClientValues, Pair, ServerValues, Transcript};
 use ssh_script::{Credential, EndSetup, ScriptFault, Setup};
-use ssh_toys::{
-    ToyAgreement, ToyCredential, ToyFiller, ToyJudge, ToySigner, ToyTrust, ToyUserSigner,
+use ssh_toy_setup::{
+    CLIENT_COOKIE, CLIENT_SECRET, SERVER_COOKIE, SERVER_SECRET, ToyClient, ToyServer, client_parts,
+    server_parts,
 };
-use ssh_transport_base::{
-    ClientPartValues, ClientParts, Config, ServerPartValues, ServerParts, Settings,
-};
+use ssh_toys::{ToyCredential, ToyJudge, ToyUserSigner};
+use ssh_transport_base::{Config, Settings};
 use ssh_types::Side;
 use std::alloc::{AllocError, Global};
 
-pub(crate) struct ToyClient;
-
-impl ClientParts for ToyClient {
-    type Sealing = MacOnly;
-
-    type Filler = ToyFiller;
-
-    type Agreement = ToyAgreement;
-
-    type HostTrust = ToyTrust;
-}
-
-pub(crate) struct ToyServer;
-
-impl ServerParts for ToyServer {
-    type Sealing = MacOnly;
-
-    type Filler = ToyFiller;
-
-    type Agreement = ToyAgreement;
-
-    type HostSigner = ToySigner;
-}
-
 /// The two ends of a script.
 pub(crate) type ToyPair<'a> = Pair<MacOnly, ToyClient, ToyUserSigner, ToyServer, ToyJudge<'a>>;
-
-// After so many packets the next exchange is due, where a script doesn't say it.
-const EPOCH_LIMIT: u32 = 1 << 31;
 
 /// What both ends of a script are made with.
 #[derive(Drop)]
@@ -71,27 +44,19 @@ impl<'a> Standard<'a> {
     pub fn open(&self, alloc: Global) -> Result<(ToyPair<'_>, Transcript), ScriptFault> {
         let client = ClientValues {
             config: self.config(alloc, Side::Client)?,
-            parts: ClientPartValues {
-                filler: ToyFiller { byte: 0 },
-                agreement: ToyAgreement,
-                host_trust: ToyTrust,
-            },
+            parts: client_parts(),
             user: ToyUserSigner,
-            cookie: [0xc1; 16],
-            secret: [1; 32],
+            cookie: CLIENT_COOKIE,
+            secret: CLIENT_SECRET,
         };
         let server = ServerValues {
             config: self.config(alloc, Side::Server)?,
-            parts: ServerPartValues {
-                filler: ToyFiller { byte: 0 },
-                agreement: ToyAgreement,
-                host_signer: ToySigner,
-            },
+            parts: server_parts(),
             user: ToyJudge {
                 credentials: self.credentials.as_slice(),
             },
-            cookie: [0xd1; 16],
-            secret: [2; 32],
+            cookie: SERVER_COOKIE,
+            secret: SERVER_SECRET,
         };
         Ok(Pair::new(alloc, client, server)?)
     }
@@ -135,21 +100,15 @@ fn settings<'a>(
     setup: &EndSetup,
     extensions: &'a [Extension<'a>],
 ) -> Settings<'a> {
+    let standard = ssh_toy_setup::settings(software);
     Settings {
-        software,
-        comments: None,
-        kex: &[b"curve25519-sha256"],
-        host: &[b"toy@example.com"],
-        encryption: &[b"none"],
-        mac: &[b"hmac-sha2-256"],
         epoch_limit: setup
             .epoch_limit
             .as_ref()
-            .map_or(EPOCH_LIMIT, |limit| limit.content),
-        tries: 20,
-        methods: &[b"publickey", b"password"],
+            .map_or(standard.epoch_limit, |limit| limit.content),
         strictness: setup.strictness,
         takes_extensions: setup.takes_extensions,
         extensions,
+        ..standard
     }
 }

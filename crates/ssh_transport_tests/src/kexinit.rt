@@ -3,6 +3,7 @@
 use crate::checking::same;
 use ssh_message::{Message, Proposal, decode};
 use ssh_packet::MacOnly;
+use ssh_toy_setup::settings;
 use ssh_transport::{Config, Settings, Strictness, put_kexinit};
 use ssh_types::Side;
 use std::alloc::Global;
@@ -16,26 +17,9 @@ const SERVER_KEX: &[u8] = b"curve25519-sha256,kex-strict-s-v00@openssh.com";
 
 const LATER_KEX: &[u8] = b"curve25519-sha256";
 
-fn settings() -> Settings<'static> {
-    Settings {
-        software: b"c",
-        comments: None,
-        kex: &[b"curve25519-sha256"],
-        host: &[b"toy@example.com"],
-        encryption: &[b"none"],
-        mac: &[b"hmac-sha2-256"],
-        epoch_limit: 1 << 20,
-        tries: 6,
-        methods: &[b"publickey", b"password"],
-        strictness: Strictness::Require,
-        takes_extensions: false,
-        extensions: &[],
-    }
-}
-
 // The payload that is put into an empty `Vec`.
 fn payload(alloc: Global, side: Side, first: bool) -> Result<Vec<u8>, Fail> {
-    let config = Config::<MacOnly>::new(alloc, &settings())?;
+    let config = Config::<MacOnly>::new(alloc, &settings(b"c"))?;
     let mut out = Vec::new(alloc);
     put_kexinit(alloc, &config, side, first, COOKIE, &mut out)?;
     Ok(out)
@@ -160,7 +144,7 @@ fn the_markers_are_those_that_the_settings_offer(rt: HostRuntime) -> Result<(), 
         let settings = Settings {
             strictness,
             takes_extensions,
-            ..settings()
+            ..settings(b"c")
         };
         let config = Config::<MacOnly>::new(rt.alloc(), &settings)?;
         let mut first = Vec::new(rt.alloc());
@@ -176,7 +160,7 @@ fn the_markers_are_those_that_the_settings_offer(rt: HostRuntime) -> Result<(), 
 
 #[test]
 fn it_is_put_behind_what_is_there(rt: HostRuntime) -> Result<(), Fail> {
-    let config = Config::<MacOnly>::new(rt.alloc(), &settings())?;
+    let config = Config::<MacOnly>::new(rt.alloc(), &settings(b"c"))?;
     let mut out = Vec::new(rt.alloc());
     out.extend_from_slice(b"old")?;
     put_kexinit(rt.alloc(), &config, Side::Server, false, COOKIE, &mut out)?;

@@ -2,34 +2,11 @@
 
 use crate::checking::same;
 use ssh_kex::{Agreement, HostSigner, HostTrust};
-use ssh_packet::{Filler, MacOnly, Sealing};
+use ssh_packet::{Filler, Sealing};
+use ssh_toy_setup::{ToyClient, ToyServer};
 use ssh_toys::{HOST_KEY, ToyAgreement, ToyFiller, ToySigner, ToyTrust};
 use ssh_transport::{ClientPartValues, ClientParts, ServerPartValues, ServerParts};
 use std::test::*;
-
-struct ToyClient;
-
-impl ClientParts for ToyClient {
-    type Sealing = MacOnly;
-
-    type Filler = ToyFiller;
-
-    type Agreement = ToyAgreement;
-
-    type HostTrust = ToyTrust;
-}
-
-struct ToyServer;
-
-impl ServerParts for ToyServer {
-    type Sealing = MacOnly;
-
-    type Filler = ToyFiller;
-
-    type Agreement = ToyAgreement;
-
-    type HostSigner = ToySigner;
-}
 
 // The sealing of these parts knows the pair.
 fn client_seals<P: ClientParts>(enc: &[u8], mac: &[u8]) -> bool {

@@ -1,9 +1,9 @@
 //! One end with all that it put out, and the lines of what it did.
 
-use crate::playing::end::End;
 use crate::playing::step::asked;
 use crate::playing::transcript::Transcript;
 use ssh_end::{Ask, AskStep, Fault};
+use ssh_toy_ends::ToyEnd;
 use ssh_types::{Refusal, Side};
 use std::alloc::{AllocError, Global};
 
@@ -12,7 +12,7 @@ use std::alloc::{AllocError, Global};
 pub struct Party {
     alloc: Global,
     side: Side,
-    end: End,
+    end: ToyEnd,
     // All bytes that it put out, of which the first so many were passed or dropped.
     out: Vec<u8>,
     passed: usize,
@@ -24,7 +24,7 @@ pub struct Party {
 
 impl Party {
     /// An end that put out these bytes.
-    pub fn new(alloc: Global, side: Side, end: End, out: Vec<u8>) -> Party {
+    pub fn new(alloc: Global, side: Side, end: ToyEnd, out: Vec<u8>) -> Party {
         Party {
             alloc,
             side,
@@ -37,7 +37,7 @@ impl Party {
     }
 
     /// The end.
-    pub fn end(&self) -> &End {
+    pub fn end(&self) -> &ToyEnd {
         &self.end
     }
 

@@ -1,0 +1,127 @@
+//! An end of either role.
+
+use ssh_end::{Ask, AskStep, ClientEnd, Fault, ServerEnd, Turn};
+use ssh_toy_setup::{
+    CLIENT_COOKIE, CLIENT_SECRET, CREDENTIALS, SERVER_COOKIE, SERVER_SECRET, ToyClient, ToyServer,
+    client_parts, config, server_parts, settings,
+};
+use ssh_toys::{ToyJudge, ToyUserSigner};
+use ssh_types::Side;
+use std::alloc::{AllocError, Global};
+
+/// One end.
+pub enum ToyEnd {
+    Client(ClientEnd<ToyClient, ToyUserSigner>),
+    Server(ServerEnd<ToyServer, ToyJudge<'static>>),
+}
+
+// Written out, since a derive would ask it of the parts' name too.
+impl Drop for ToyEnd {
+    fn drop(self) {
+        match self {
+            ToyEnd::Client(_) => {}
+            ToyEnd::Server(_) => {}
+        }
+    }
+}
+
+impl ToyEnd {
+    /// The end of a side, behind what it put out.
+    pub fn new(alloc: Global, side: Side, out: &mut Vec<u8>) -> Result<ToyEnd, AllocError> {
+        match side {
+            Side::Client => Ok(ToyEnd::Client(client(alloc, out)?)),
+            Side::Server => Ok(ToyEnd::Server(server(alloc, out)?)),
+        }
+    }
+
+    /// Takes bytes to the end of one line or packet, and answers how many.
+    pub fn take(&mut self, bytes: &[u8], out: &mut Vec<u8>) -> Result<usize, Fault> {
+        match self {
+            ToyEnd::Client(end) => end.take(bytes, out),
+            ToyEnd::Server(end) => end.take(bytes, out),
+        }
+    }
+
+    /// What was done in the last call.
+    pub fn turn(&self) -> Turn<'_> {
+        match self {
+            ToyEnd::Client(end) => end.turn(),
+            ToyEnd::Server(end) => end.turn(),
+        }
+    }
+
+    /// Does what is asked for.
+    pub fn ask(&mut self, ask: &Ask<'_>, out: &mut Vec<u8>) -> Result<AskStep, Fault> {
+        match self {
+            ToyEnd::Client(end) => end.ask(ask, out),
+            ToyEnd::Server(end) => end.ask(ask, out),
+        }
+    }
+
+    /// Keeps a pair of cookie and secret, or answers `false`.
+    pub fn feed_material(&mut self, cookie: [u8; 16], secret: [u8; 32]) -> bool {
+        match self {
+            ToyEnd::Client(end) => end.feed_material(cookie, secret),
+            ToyEnd::Server(end) => end.feed_material(cookie, secret),
+        }
+    }
+
+    /// How many channels there are.
+    pub fn channel_count(&self) -> usize {
+        match self {
+            ToyEnd::Client(end) => end.channels().count(),
+            ToyEnd::Server(end) => end.channels().count(),
+        }
+    }
+
+    /// The session id.
+    pub fn session_id(&self) -> Option<[u8; 32]> {
+        match self {
+            ToyEnd::Client(end) => end.session_id().copied(),
+            ToyEnd::Server(end) => end.session_id().copied(),
+        }
+    }
+
+    /// Whether the end is over.
+    pub fn is_dead(&self) -> bool {
+        match self {
+            ToyEnd::Client(end) => end.is_dead(),
+            ToyEnd::Server(end) => end.is_dead(),
+        }
+    }
+}
+
+fn client(
+    alloc: Global,
+    out: &mut Vec<u8>,
+) -> Result<ClientEnd<ToyClient, ToyUserSigner>, AllocError> {
+    let config = config(alloc, &settings(b"c"))?;
+    ClientEnd::new(
+        alloc,
+        config,
+        client_parts(),
+        ToyUserSigner,
+        CLIENT_COOKIE,
+        CLIENT_SECRET,
+        out,
+    )
+}
+
+fn server(
+    alloc: Global,
+    out: &mut Vec<u8>,
+) -> Result<ServerEnd<ToyServer, ToyJudge<'static>>, AllocError> {
+    let config = config(alloc, &settings(b"s"))?;
+    let judge = ToyJudge {
+        credentials: CREDENTIALS,
+    };
+    ServerEnd::new(
+        alloc,
+        config,
+        server_parts(),
+        judge,
+        SERVER_COOKIE,
+        SERVER_SECRET,
+        out,
+    )
+}

@@ -1,0 +1,136 @@
+//! Both ends, and what is on its way between them.
+
+use crate::end::ToyEnd;
+use ssh_auth::UserAsk;
+use ssh_channels::Ask as ChannelAsk;
+use ssh_end::{Ask, Fault, Turn};
+use ssh_types::Side;
+use std::alloc::{AllocError, Global};
+
+// How the user u is let in.
+const USER: UserAsk<'static> = UserAsk::Sign {
+    user: b"u",
+    algorithm: b"toy@example.com",
+    key: b"k",
+};
+
+/// A client and a server, and the bytes that each put out and the other hasn't taken.
+#[derive(Drop)]
+pub struct ToyEnds {
+    client: ToyEnd,
+    server: ToyEnd,
+    from_client: Vec<u8>,
+    from_server: Vec<u8>,
+}
+
+impl ToyEnds {
+    /// Both ends, which have put out their lines and KEXINITs.
+    pub fn new(alloc: Global) -> Result<ToyEnds, AllocError> {
+        let mut from_client = Vec::new(alloc);
+        let mut from_server = Vec::new(alloc);
+        let client = ToyEnd::new(alloc, Side::Client, &mut from_client)?;
+        let server = ToyEnd::new(alloc, Side::Server, &mut from_server)?;
+        Ok(ToyEnds {
+            client,
+            server,
+            from_client,
+            from_server,
+        })
+    }
+
+    /// The first exchange of keys, the user let in, and the channel 0 with windows of 2^32 - 1 bytes.
+    pub fn begin(&mut self) -> Result<(), Fault> {
+        self.pass()?;
+        self.pass()?;
+        self.ask(Side::Client, &Ask::Service)?;
+        self.pass()?;
+        self.ask(Side::Client, &Ask::User(USER))?;
+        self.pass()?;
+        self.ask(
+            Side::Client,
+            &Ask::Connection(ChannelAsk::Open {
+                kind: b"session",
+                window: u32::MAX,
+                max_packet: 32_768,
+                rest: b"",
+            }),
+        )?;
+        self.pass()?;
+        self.ask(
+            Side::Server,
+            &Ask::Connection(ChannelAsk::Confirm {
+                channel: 0,
+                window: u32::MAX,
+                max_packet: 32_768,
+                rest: b"",
+            }),
+        )?;
+        self.pass()
+    }
+
+    /// An end is asked for something.
+    pub fn ask(&mut self, side: Side, ask: &Ask<'_>) -> Result<(), Fault> {
+        match side {
+            Side::Client => self.client.ask(ask, &mut self.from_client)?,
+            Side::Server => self.server.ask(ask, &mut self.from_server)?,
+        };
+        Ok(())
+    }
+
+    /// An end sends data on the channel 0.
+    pub fn send(&mut self, from: Side, body: &[u8]) -> Result<(), Fault> {
+        let data = ChannelAsk::Data {
+            channel: 0,
+            kind: None,
+            body,
+        };
+        self.ask(from, &Ask::Connection(data))
+    }
+
+    /// What each put out reaches the other, the server first.
+    pub fn pass(&mut self) -> Result<(), Fault> {
+        self.take(Side::Server)?;
+        self.take(Side::Client)?;
+        Ok(())
+    }
+
+    /// An end takes all that the other put out, and answers how many lines and packets it was.
+    pub fn take(&mut self, side: Side) -> Result<usize, Fault> {
+        match side {
+            Side::Client => take_all(
+                &mut self.client,
+                &mut self.from_server,
+                &mut self.from_client,
+            ),
+            Side::Server => take_all(
+                &mut self.server,
+                &mut self.from_client,
+                &mut self.from_server,
+            ),
+        }
+    }
+
+    /// What an end did in its last call.
+    pub fn turn(&self, side: Side) -> Turn<'_> {
+        match side {
+            Side::Client => self.client.turn(),
+            Side::Server => self.server.turn(),
+        }
+    }
+}
+
+// An end takes these bytes, line by line and packet by packet, and puts what it sends for them behind `out`.
+fn take_all(end: &mut ToyEnd, bytes: &mut Vec<u8>, out: &mut Vec<u8>) -> Result<usize, Fault> {
+    let mut rest = bytes.as_slice();
+    let mut count = 0;
+    for _ in 0..bytes.len() {
+        if rest.is_empty() {
+            break;
+        }
+        let used = end.take(rest, out)?;
+        rest = rest.get(used..).unwrap_or(&[]);
+        count = usize::saturating_add(count, 1);
+    }
+    bytes.clear();
+    Ok(count)
+}

@@ -1,0 +1,64 @@
+//! The toys that go together.
+
+use ssh_packet::MacOnly;
+use ssh_toys::{ToyAgreement, ToyCredential, ToyFiller, ToySigner, ToyTrust};
+use ssh_transport_base::{ClientPartValues, ClientParts, ServerPartValues, ServerParts};
+
+/// The parts of a client.
+pub struct ToyClient;
+
+impl ClientParts for ToyClient {
+    type Sealing = MacOnly;
+
+    type Filler = ToyFiller;
+
+    type Agreement = ToyAgreement;
+
+    type HostTrust = ToyTrust;
+}
+
+/// The parts of a server.
+pub struct ToyServer;
+
+impl ServerParts for ToyServer {
+    type Sealing = MacOnly;
+
+    type Filler = ToyFiller;
+
+    type Agreement = ToyAgreement;
+
+    type HostSigner = ToySigner;
+}
+
+// The padding is zeros.
+const ZEROS: ToyFiller = ToyFiller { byte: 0 };
+
+/// What a client is supplied with.
+pub fn client_parts() -> ClientPartValues<ToyClient> {
+    ClientPartValues {
+        filler: ZEROS,
+        agreement: ToyAgreement,
+        host_trust: ToyTrust,
+    }
+}
+
+/// What a server is supplied with.
+pub fn server_parts() -> ServerPartValues<ToyServer> {
+    ServerPartValues {
+        filler: ZEROS,
+        agreement: ToyAgreement,
+        host_signer: ToySigner,
+    }
+}
+
+/// What lets the user u in.
+pub const CREDENTIALS: &[ToyCredential<'static>] = &[
+    ToyCredential::Password {
+        user: b"u",
+        word: b"p",
+    },
+    ToyCredential::Key {
+        user: b"u",
+        key: b"k",
+    },
+];
