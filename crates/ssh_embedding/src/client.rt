@@ -1,13 +1,15 @@
 //! The loop of a client that sends a text and reads what comes back.
 
+use crate::driving::Driver;
 use crate::end::asked;
 use crate::flow::{Flow, MAX_PACKET, WINDOW};
 use crate::material::Material;
-use crate::parts::{ToyClient, client_parts, config};
+use crate::settings::config;
 use crate::tasks::Tasks;
 use ssh_auth::UserAsk;
 use ssh_channels::{Ask as ChannelAsk, Fact};
 use ssh_end::{Ask, ClientEnd, Fault, Told};
+use ssh_toy_setup::{ToyClient, client_parts};
 use ssh_toys::ToyUserSigner;
 use std::alloc::{AllocError, Global};
 
@@ -76,29 +78,19 @@ impl Client {
     pub fn exchanges(&self) -> u32 {
         self.exchanges
     }
+}
 
-    /// Tests whether the end is over.
-    pub fn is_over(&self) -> bool {
-        self.end.is_dead()
+impl Driver for Client {
+    type End = ClientEnd<ToyClient, ToyUserSigner>;
+
+    fn end(&self) -> &ClientEnd<ToyClient, ToyUserSigner> {
+        &self.end
     }
 
-    /// Takes a piece of the server's stream, and puts what is sent for it into `out`.
-    pub fn take(&mut self, piece: &[u8], out: &mut Vec<u8>) -> anyhow::Result<()> {
-        let mut rest = piece;
-        // Each call uses a byte at least.
-        for _ in 0..piece.len() {
-            if rest.is_empty() || self.end.is_dead() {
-                break;
-            }
-            let used = self.end.take(rest, out)?;
-            rest = rest.split_at(used).1;
-            self.hear()?;
-            self.go_on(out)?;
-        }
-        Ok(())
+    fn end_mut(&mut self) -> &mut ClientEnd<ToyClient, ToyUserSigner> {
+        &mut self.end
     }
 
-    // Listens to what the end told, and keeps what of it is needed: its texts last until the end is asked for something.
     fn hear(&mut self) -> Result<(), AllocError> {
         match self.end.turn().told {
             Some(Told::Completed { position }) => {
@@ -125,7 +117,6 @@ impl Client {
         }
     }
 
-    // Exchanges keys where that is due, sends what can be sent, and does what is to be done.
     fn go_on(&mut self, out: &mut Vec<u8>) -> Result<(), Fault> {
         if self.end.is_dead() {
             return Ok(());

@@ -1,4 +1,6 @@
-//! What a server's and a client's end have in common for who sends on a channel.
+//! What a server's and a client's end have in common.
+
+ghost use Rattle.std.specs.Prelude.{◌≤◌, IfOk, length};
 
 use ssh_auth::{UserJudge, UserSigner};
 use ssh_channels::Channels;
@@ -6,8 +8,13 @@ use ssh_end::{Ask, AskStep, ClientEnd, Fault, ServerEnd};
 use ssh_transport_base::{ClientParts, ServerParts};
 use ssh_types::AskRefusal;
 
-/// An end that is asked, and whose channels are looked at.
+/// An end that takes bytes and is asked, and whose channels are looked at.
 pub trait End {
+    fn take(&mut self, bytes: &[u8], out: &mut Vec<u8>) -> Result<usize, Fault>
+        ensures { IfOk result (λ used. used ≤ length bytes.now) };
+
+    fn is_dead(&self) -> bool;
+
     fn ask(&mut self, ask: &Ask<'_>, out: &mut Vec<u8>) -> Result<AskStep, Fault>;
 
     fn channels(&self) -> &Channels;
@@ -18,6 +25,14 @@ pub trait End {
 }
 
 impl<P: ClientParts, U: UserSigner + Drop> End for ClientEnd<P, U> {
+    fn take(&mut self, bytes: &[u8], out: &mut Vec<u8>) -> Result<usize, Fault> {
+        ClientEnd::take(self, bytes, out)
+    }
+
+    fn is_dead(&self) -> bool {
+        ClientEnd::is_dead(self)
+    }
+
     fn ask(&mut self, ask: &Ask<'_>, out: &mut Vec<u8>) -> Result<AskStep, Fault> {
         ClientEnd::ask(self, ask, out)
     }
@@ -36,6 +51,14 @@ impl<P: ClientParts, U: UserSigner + Drop> End for ClientEnd<P, U> {
 }
 
 impl<P: ServerParts, U: UserJudge + Drop> End for ServerEnd<P, U> {
+    fn take(&mut self, bytes: &[u8], out: &mut Vec<u8>) -> Result<usize, Fault> {
+        ServerEnd::take(self, bytes, out)
+    }
+
+    fn is_dead(&self) -> bool {
+        ServerEnd::is_dead(self)
+    }
+
     fn ask(&mut self, ask: &Ask<'_>, out: &mut Vec<u8>) -> Result<AskStep, Fault> {
         ServerEnd::ask(self, ask, out)
     }

@@ -3,14 +3,16 @@
 #![tactic(auto)]
 
 mod client;
+mod driving;
 mod end;
 mod flow;
 mod material;
-mod parts;
 mod server;
+mod settings;
 mod tasks;
 
 use client::Client;
+use driving::Driver;
 use server::Server;
 use std::alloc::{AllocError, Global};
 

@@ -1,12 +1,14 @@
 //! The loop of a server that sends back what comes to it.
 
+use crate::driving::Driver;
 use crate::end::asked;
 use crate::flow::{Flow, MAX_PACKET, WINDOW};
 use crate::material::Material;
-use crate::parts::{ToyServer, config, server_parts};
+use crate::settings::config;
 use crate::tasks::Tasks;
 use ssh_channels::{Ask as ChannelAsk, Fact};
 use ssh_end::{Ask, Fault, ServerEnd, Told};
+use ssh_toy_setup::{ToyServer, server_parts};
 use ssh_toys::{ToyCredential, ToyJudge};
 use std::alloc::{AllocError, Global};
 
@@ -63,60 +65,6 @@ impl Server {
         self.user.as_str()
     }
 
-    /// Tests whether the end is over.
-    pub fn is_over(&self) -> bool {
-        self.end.is_dead()
-    }
-
-    /// Takes a piece of the client's stream, and puts what is sent for it into `out`.
-    pub fn take(&mut self, piece: &[u8], out: &mut Vec<u8>) -> anyhow::Result<()> {
-        let mut rest = piece;
-        // Each call uses a byte at least.
-        for _ in 0..piece.len() {
-            if rest.is_empty() || self.end.is_dead() {
-                break;
-            }
-            let used = self.end.take(rest, out)?;
-            rest = rest.split_at(used).1;
-            self.hear()?;
-            self.go_on(out)?;
-        }
-        Ok(())
-    }
-
-    // Listens to what the end told, and keeps what of it is needed: its texts last until the end is asked for something.
-    fn hear(&mut self) -> Result<(), AllocError> {
-        match self.end.turn().told {
-            Some(Told::Accepted { user }) => {
-                for byte in user.iter() {
-                    self.user.push(char::from(*byte))?;
-                }
-                Ok(())
-            }
-            Some(Told::Channel(fact)) => heard(&mut self.flow, &mut self.tasks, &fact),
-            _ => Ok(()),
-        }
-    }
-
-    // Exchanges keys where that is due, sends what can be sent, and does what is to be done.
-    fn go_on(&mut self, out: &mut Vec<u8>) -> Result<(), Fault> {
-        if self.end.is_dead() {
-            return Ok(());
-        }
-        self.material.keep_fresh(&mut self.end, out)?;
-        self.flow_on(out)?;
-        for _ in 0..self.tasks.len() {
-            let Some(task) = self.tasks.first() else {
-                break;
-            };
-            if !self.done(task, out)? {
-                break;
-            }
-            self.tasks.finish_first();
-        }
-        Ok(())
-    }
-
     // Sends what can be sent, and closes the channel behind the last of it.
     fn flow_on(&mut self, out: &mut Vec<u8>) -> Result<(), Fault> {
         let Some(flow) = &mut self.flow else {
@@ -155,6 +103,49 @@ impl Server {
             Task::Close { channel } => ChannelAsk::Close { channel },
         };
         asked(&mut self.end, &Ask::Connection(ask), out)
+    }
+}
+
+impl Driver for Server {
+    type End = ServerEnd<ToyServer, ToyJudge<'static>>;
+
+    fn end(&self) -> &ServerEnd<ToyServer, ToyJudge<'static>> {
+        &self.end
+    }
+
+    fn end_mut(&mut self) -> &mut ServerEnd<ToyServer, ToyJudge<'static>> {
+        &mut self.end
+    }
+
+    fn hear(&mut self) -> Result<(), AllocError> {
+        match self.end.turn().told {
+            Some(Told::Accepted { user }) => {
+                for byte in user.iter() {
+                    self.user.push(char::from(*byte))?;
+                }
+                Ok(())
+            }
+            Some(Told::Channel(fact)) => heard(&mut self.flow, &mut self.tasks, &fact),
+            _ => Ok(()),
+        }
+    }
+
+    fn go_on(&mut self, out: &mut Vec<u8>) -> Result<(), Fault> {
+        if self.end.is_dead() {
+            return Ok(());
+        }
+        self.material.keep_fresh(&mut self.end, out)?;
+        self.flow_on(out)?;
+        for _ in 0..self.tasks.len() {
+            let Some(task) = self.tasks.first() else {
+                break;
+            };
+            if !self.done(task, out)? {
+                break;
+            }
+            self.tasks.finish_first();
+        }
+        Ok(())
     }
 }
 
