@@ -1,14 +1,12 @@
 //! What the layers above a client's transport make of the payloads of a session, one after the other.
 
+use crate::layers::{OPENED, below};
 use crate::payloads::{BANNER, FAILURE, KEY_OK, OPEN, SUCCESS, UNKNOWN_79, is_above};
 use ssh_auth::{ClientAnswer, UserAsk};
-use ssh_channels::{Fact, Taken};
 use ssh_end::{Below, ClientLayerAnswer, ClientLayers, LayerFault};
 use ssh_toys::ToyUserSigner;
 use ssh_types::{NameList, Refusal};
 use std::test::*;
-
-const SESSION: [u8; 32] = [7; 32];
 
 // What a client asks before a message comes.
 #[derive(Clone, Copy)]
@@ -33,17 +31,6 @@ fn told(answer: ClientAnswer<'static>) -> Result<ClientLayerAnswer<'static>, Lay
 fn payloads_of_a_session(rt: HostRuntime) -> Result<(), Fail> {
     let mut layers = ClientLayers::new(rt.alloc())?;
     let methods = NameList::new(b"password").ok_or("no methods")?;
-    let opened = Taken {
-        channel: Some(0),
-        reply: None,
-        fact: Some(Fact::Opened {
-            channel: 0,
-            kind: b"session",
-            window: 100,
-            max_packet: 32_768,
-            rest: b"",
-        }),
-    };
     let failed = ClientAnswer::Failed {
         methods,
         partial: false,
@@ -84,15 +71,11 @@ fn payloads_of_a_session(rt: HostRuntime) -> Result<(), Fail> {
             Before::Nothing,
             OPEN,
             true,
-            Ok(ClientLayerAnswer::Channels(opened)),
+            Ok(ClientLayerAnswer::Channels(OPENED)),
         ),
     ];
     for (before, payload, authenticated, wanted) in table {
-        let below = Below {
-            session: &SESSION,
-            blocked: false,
-            authenticated,
-        };
+        let below = below(false, authenticated);
         ask(&mut layers, &below, before)?;
         assert!(rt; is_above(payload));
         let given = layers.take(&below, payload).map(|taken| taken.answer);

@@ -8,6 +8,8 @@ mod attacks;
 #[cfg(test)]
 mod client_layers;
 #[cfg(test)]
+mod layers;
+#[cfg(test)]
 mod payloads;
 #[cfg(test)]
 mod playing;

@@ -1,15 +1,19 @@
 //! What the layers above a server's transport make of the payloads of a session, one after the other.
 
+use crate::layers::{OPENED, below};
 use crate::payloads::{CLOSE, OPEN, RIGHT, SUCCESS, UNKNOWN_79, UNKNOWN_200, WRONG, is_above};
 use ssh_auth::ServerAnswer;
-use ssh_channels::{Ask, Fact, Taken};
-use ssh_end::{Below, LayerFault, ServerLayerAnswer, ServerLayers};
-use ssh_toys::{ToyCredential, ToyJudge};
+use ssh_channels::Ask;
+use ssh_end::{LayerFault, ServerLayerAnswer, ServerLayers};
+use ssh_toy_setup::CREDENTIALS;
+use ssh_toys::ToyJudge;
 use ssh_types::{NameList, Refusal};
 use std::alloc::Global;
 use std::test::*;
 
-const SESSION: [u8; 32] = [7; 32];
+const JUDGE: ToyJudge<'static> = ToyJudge {
+    credentials: CREDENTIALS,
+};
 
 // A server whose user u has the password p, and who may fail once.
 fn layers(alloc: Global) -> Result<ServerLayers, Fail> {
@@ -29,25 +33,7 @@ fn answered(answer: ServerAnswer<'static>) -> Result<ServerLayerAnswer<'static>,
 
 #[test]
 fn payloads_of_a_session(rt: HostRuntime) -> Result<(), Fail> {
-    let credentials = [ToyCredential::Password {
-        user: b"u",
-        word: b"p",
-    }];
-    let judge = ToyJudge {
-        credentials: &credentials,
-    };
     let mut layers = layers(rt.alloc())?;
-    let opened = Taken {
-        channel: Some(0),
-        reply: None,
-        fact: Some(Fact::Opened {
-            channel: 0,
-            kind: b"session",
-            window: 100,
-            max_packet: 32_768,
-            rest: b"",
-        }),
-    };
     // the payload, whether SERVICE_ACCEPT was sent before, the end blocked, the user authenticated, and what comes of it
     let table = [
         (RIGHT, false, false, false, refused(Refusal::Unexpected)),
@@ -91,7 +77,7 @@ fn payloads_of_a_session(rt: HostRuntime) -> Result<(), Fail> {
             true,
             true,
             true,
-            Ok(ServerLayerAnswer::Channels(opened)),
+            Ok(ServerLayerAnswer::Channels(OPENED)),
         ),
         (&[50, 0], true, false, true, refused(Refusal::BadMessage)),
         (
@@ -113,14 +99,10 @@ fn payloads_of_a_session(rt: HostRuntime) -> Result<(), Fail> {
         if is_open {
             layers.open();
         }
-        let below = Below {
-            session: &SESSION,
-            blocked,
-            authenticated,
-        };
+        let below = below(blocked, authenticated);
         assert!(rt; is_above(payload));
         let given = layers
-            .take(&judge, &below, payload)
+            .take(&JUDGE, &below, payload)
             .map(|taken| taken.answer);
         assert_eq!(rt; given, wanted);
     }
@@ -130,13 +112,6 @@ fn payloads_of_a_session(rt: HostRuntime) -> Result<(), Fail> {
 // What is sent at once for each message of a session, by the number of its message.
 #[test]
 fn messages_that_are_sent(rt: HostRuntime) -> Result<(), Fail> {
-    let credentials = [ToyCredential::Password {
-        user: b"u",
-        word: b"p",
-    }];
-    let judge = ToyJudge {
-        credentials: &credentials,
-    };
     let mut layers = layers(rt.alloc())?;
     layers.open();
     let confirm = Ask::Confirm {
@@ -154,38 +129,25 @@ fn messages_that_are_sent(rt: HostRuntime) -> Result<(), Fail> {
         (OPEN, true, None),
     ];
     for (payload, authenticated, wanted) in table {
-        let sent = sent_for(&mut layers, &judge, payload, authenticated);
+        let sent = sent_for(&mut layers, payload, authenticated);
         assert_eq!(rt; sent, wanted);
     }
-    let below = Below {
-        session: &SESSION,
-        blocked: false,
-        authenticated: true,
-    };
+    let below = below(false, true);
     let confirmed = layers.ask(&below, &confirm, false)?;
     assert_eq!(rt; confirmed.message.number(), 91);
-    assert_eq!(rt; sent_for(&mut layers, &judge, CLOSE, true), Some(97));
+    assert_eq!(rt; sent_for(&mut layers, CLOSE, true), Some(97));
     assert_eq!(rt; layers.channels().count(), 0);
     assert_eq!(rt; layers.unblock(), None);
     Ok(())
 }
 
 // The number of the message that is sent for a payload, the ninth packet, if one is.
-fn sent_for(
-    layers: &mut ServerLayers,
-    judge: &ToyJudge<'_>,
-    payload: &[u8],
-    authenticated: bool,
-) -> Option<u8> {
-    let below = Below {
-        session: &SESSION,
-        blocked: false,
-        authenticated,
-    };
+fn sent_for(layers: &mut ServerLayers, payload: &[u8], authenticated: bool) -> Option<u8> {
+    let below = below(false, authenticated);
     if !is_above(payload) {
         return None;
     }
-    let taken = layers.take(judge, &below, payload).ok()?;
+    let taken = layers.take(&JUDGE, &below, payload).ok()?;
     let message = layers.message(&taken.answer, 9)?;
     Some(message.number())
 }
