@@ -4,13 +4,11 @@
 #![tactic(auto)]
 
 use case::Case;
-use ratio::Ratio;
-use std::env;
-use std::rt::{Clock, Env};
+use ssh_bench::{Ratio, rounds_of};
+use std::rt::Clock;
 use std::time::Duration;
 
 mod case;
-mod ratio;
 
 fn main(rt: HostRuntime) -> anyhow::Result<()> {
     let Some(rounds) = rounds_of(&rt)? else {
@@ -24,15 +22,6 @@ fn main(rt: HostRuntime) -> anyhow::Result<()> {
         Ratio(many, few)
     )?;
     Ok(())
-}
-
-// The number behind the word `run`.
-fn rounds_of<R: Env + AllocGlobal>(rt: &R) -> anyhow::Result<Option<u32>> {
-    let words: Vec<String> = env::args(rt)?.collect(rt.alloc())?;
-    match words.as_slice() {
-        [_, command, rounds] if command.as_str() == "run" => Ok(rounds.as_str().parse().ok()),
-        _ => Ok(None),
-    }
 }
 
 // The shortest time of a round.

@@ -5,18 +5,16 @@
 #![tactic(auto)]
 
 use hashes::Hashes;
-use ratio::Ratio;
 use session::Session;
+use ssh_bench::{Ratio, rounds_of};
 use ssh_channels::{Ask as ChannelAsk, Fact};
 use ssh_end::{Ask, Fault, Told};
 use ssh_toy_ends::ToyEnds;
 use ssh_types::Side;
-use std::env;
-use std::rt::{Clock, Env};
+use std::rt::Clock;
 use std::time::{Duration, Instant};
 
 mod hashes;
-mod ratio;
 mod session;
 
 // How many exchanges, and how many messages of data, are timed at once.
@@ -45,15 +43,6 @@ fn main(rt: HostRuntime) -> anyhow::Result<()> {
     measure_ends(&rt, rounds, 32_768, MESSAGES)?;
     measure_ends(&rt, rounds, 64, SMALL_MESSAGES)?;
     measure_many(&rt)
-}
-
-// The number behind the word `run`.
-fn rounds_of<R: Env + AllocGlobal>(rt: &R) -> anyhow::Result<Option<u32>> {
-    let words: Vec<String> = env::args(rt)?.collect(rt.alloc())?;
-    match words.as_slice() {
-        [_, command, rounds] if command.as_str() == "run" => Ok(rounds.as_str().parse().ok()),
-        _ => Ok(None),
-    }
 }
 
 // Prints the ratios of a first exchange, with the making of both ends, and of a later one.

@@ -6,9 +6,10 @@
 ghost use Rattle.std.specs.Prelude.{◌≤◌};
 
 use case::Case;
-use std::rt::{Clock, Env};
-use std::{env, io};
-use times::{Ratio, Times};
+use ssh_bench::{Ratio, rounds_of};
+use std::io;
+use std::rt::Clock;
+use times::Times;
 
 mod case;
 mod times;
@@ -26,15 +27,6 @@ fn main(rt: HostRuntime) -> io::Result<()> {
     measure(&rt, 64, rounds)?;
     measure(&rt, 1024, rounds)?;
     measure(&rt, 32_768, rounds)
-}
-
-// The number behind the word `run`.
-fn rounds_of<R: Env + AllocGlobal>(rt: &R) -> io::Result<Option<u32>> {
-    let words: Vec<String> = env::args(rt)?.collect(rt.alloc())?;
-    match words.as_slice() {
-        [_, command, rounds] if command.as_str() == "run" => Ok(rounds.as_str().parse().ok()),
-        _ => Ok(None),
-    }
 }
 
 // Prints the ratios at payloads of this size.

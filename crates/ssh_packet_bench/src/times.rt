@@ -1,4 +1,3 @@
-use std::fmt;
 use std::time::Duration;
 
 /// How long so many packets took.
@@ -33,16 +32,5 @@ impl Times {
             kept: self.kept.min(other.kept),
             anew: self.anew.min(other.anew),
         }
-    }
-}
-
-/// One time over another, shown with two decimals.
-#[derive(Clone, Copy)]
-pub struct Ratio(pub Duration, pub Duration);
-
-impl fmt::Display for Ratio {
-    fn fmt<W: fmt::Write>(&self, f: &mut fmt::Formatter<W>) -> fmt::Result {
-        let hundredths = self.0.as_nanos().saturating_mul(100) / self.1.as_nanos().max(1);
-        write!(f, "{}.{:02}", hundredths / 100, hundredths % 100)
     }
 }

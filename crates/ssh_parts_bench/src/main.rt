@@ -7,13 +7,12 @@
 ghost use Rattle.std.specs.Prelude.{◌≤◌};
 
 use case::Case;
-use ratio::Ratio;
-use std::rt::{Clock, Env};
+use ssh_bench::{Ratio, rounds_of};
+use std::io;
+use std::rt::Clock;
 use std::time::Duration;
-use std::{env, io};
 
 mod case;
-mod ratio;
 
 // How many bytes of payloads are timed at once.
 const BYTES: usize = 262_144;
@@ -33,15 +32,6 @@ fn main(rt: HostRuntime) -> io::Result<()> {
     measure(&rt, 32_768, rounds)?;
     measure_agreement(&rt, rounds)?;
     measure_signatures(&rt, rounds)
-}
-
-// The number behind the word `run`.
-fn rounds_of<R: Env + AllocGlobal>(rt: &R) -> io::Result<Option<u32>> {
-    let words: Vec<String> = env::args(rt)?.collect(rt.alloc())?;
-    match words.as_slice() {
-        [_, command, rounds] if command.as_str() == "run" => Ok(rounds.as_str().parse().ok()),
-        _ => Ok(None),
-    }
 }
 
 // Prints the ratios at payloads of this size.
