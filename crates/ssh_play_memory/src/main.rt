@@ -14,7 +14,8 @@ use ssh_script::{Script, ScriptFault};
 use std::alloc::Global;
 use std::process::ExitCode;
 
-const SESSION: &str = "\
+// The user u is let in.
+const LOGIN: &str = "\
 user u p
 pass c s all
 pass s c all
@@ -27,6 +28,10 @@ pass s c all
 ask c password u p
 pass c s all
 pass s c all
+";
+
+// Data on a channel.
+const CHANNEL: &str = "\
 ask c open session 10 32768
 pass c s all
 ask s confirm 0 10 32768
@@ -38,21 +43,10 @@ pass c s all
 pass s c all
 ";
 
+// A second exchange of keys.
 const REKEY: &str = "\
-user u p
 feed c a2
 feed s b2
-pass c s all
-pass s c all
-pass c s all
-pass s c all
-pass c s all
-ask c service
-pass c s all
-pass s c all
-ask c password u p
-pass c s all
-pass s c all
 ask c rekey
 pass c s all
 pass s c all
@@ -74,9 +68,9 @@ enum Verdict {
 
 fn main(rt: HostRuntime) -> ExitCode {
     let mut status = 0;
-    for script in [SESSION, REKEY] {
-        let one = played(rt.alloc(), script);
-        let other = played(rt.alloc(), script);
+    for rest in [CHANNEL, REKEY] {
+        let one = played(rt.alloc(), rest);
+        let other = played(rt.alloc(), rest);
         match judged(&one, &other) {
             Verdict::Same => {}
             Verdict::Refused => status = 3,
@@ -93,8 +87,9 @@ fn main(rt: HostRuntime) -> ExitCode {
     ExitCode::from(status)
 }
 
-// The lines of a script's transcript.
-fn played(alloc: Global, script: &str) -> Result<Played, ScriptFault> {
+// The lines of the transcript of a script that goes on so behind the user is let in.
+fn played(alloc: Global, rest: &str) -> Result<Played, ScriptFault> {
+    let script = format!(in alloc; "{LOGIN}{rest}")?;
     match Script::read(alloc, script.as_bytes())? {
         Script::Session(script) => play(alloc, &script),
         Script::Epoch(_) => Err(ScriptFault::Epoch),
