@@ -26,7 +26,7 @@ sweep: ## Plays a whole session with each byte changed, left out and doubled in 
 	@sh tools/build.sh
 	build/ssh_trace sweep examples/whole_session.txt
 
-memory: ## Plays sessions with each allocation refused in turn, until a run meets no refusal.
+memory: ## Plays sessions, and takes messages of data, with each allocation refused in turn, until a run meets no refusal.
 	@sh tools/memory.sh
 
 bench: ## Ratios of this core's work: to the hashes that it has to compute, and of many channels to one.
