@@ -1,14 +1,13 @@
-//! Plays the stored scripts of whole sessions, and says of each whether the ends do what it expects of them.
+//! Plays the stored scripts, of whole sessions and of one epoch, and says of each whether the ends do what it expects of them.
 #![tactic(auto)]
 
-use ssh_play::{Comparison, compare, play};
-use ssh_script::{Script, ScriptFault};
-use std::io::Read;
+use ssh_trace::check_to;
+use std::io::Write;
 use std::rt::Files;
 use std::{fs, io};
 
-// The names of the scripts' files, without their ending.
-const SCRIPTS: &[&str] = &[
+// The names of the files of whole sessions, without their ending.
+const SESSIONS: &[&str] = &[
     "whole_session",
     "whole_session_dripped",
     "key_probe_and_signature",
@@ -45,29 +44,39 @@ const SCRIPTS: &[&str] = &[
     "peer_without_material",
 ];
 
+// Those of one epoch.
+const EPOCHS: &[&str] = &[
+    "epoch_packets_in_order",
+    "epoch_lost_packet",
+    "epoch_repeated_packet",
+    "epoch_dripped",
+    "epoch_cut",
+    "epoch_nothing_waits",
+    "epoch_delivered_before",
+    "epoch_dead_end",
+    "epoch_longest_length",
+    "epoch_bad_length",
+    "epoch_names_by_number",
+    "epoch_recorded_openssh",
+];
+
 fn main(rt: HostRuntime) -> io::Result<()> {
-    for name in SCRIPTS.iter().copied() {
-        match compared(&rt, name) {
-            Ok(comparison) => println!(rt; "{name}: {comparison}")?,
-            Err(fault) => println!(rt; "{name}: {fault}")?,
-        }
+    for name in SESSIONS.iter().chain(EPOCHS.iter()) {
+        check(&rt, name, &mut rt.stdout(), &mut rt.stderr())?;
     }
     Ok(())
 }
 
-// What a script's transcript is beside the lines that it expects.
-fn compared<R: Files + AllocGlobal>(rt: &R, name: &str) -> Result<Comparison, ScriptFault> {
-    let text = text_of(rt, name).map_err(ScriptFault::Unreadable)?;
-    let Script::Session(script) = Script::read(rt.alloc(), text.as_slice())? else {
-        return Err(ScriptFault::Epoch);
-    };
-    let played = play(rt.alloc(), &script)?;
-    Ok(compare(played.lines.as_str(), script.expected.as_slice()))
-}
-
-fn text_of<R: Files + AllocGlobal>(rt: &R, name: &str) -> io::Result<Vec<u8>> {
+// Says of a script what its transcript is beside the lines that it expects.
+fn check<R: Files + AllocGlobal, W: Write, E: Write>(
+    rt: &R,
+    name: &str,
+    out: &mut W,
+    err: &mut E,
+) -> io::Result<()> {
     let file = format!(in rt.alloc(); "{name}.txt")?;
-    let mut text = Vec::new(rt.alloc());
-    fs::open(rt, file.as_str())?.read_to_end(&mut text)?;
-    Ok(text)
+    let mut script = fs::open(rt, file.as_str())?;
+    write!(out, "{name}: ")?;
+    check_to(rt.alloc(), &mut script, out, err);
+    Ok(())
 }

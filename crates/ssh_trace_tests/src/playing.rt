@@ -38,62 +38,6 @@ give s 00
         1,
     ),
     (
-        "pass c s 48
-> s took 2 IGNORE 5
-again c s 0 48
-> s refused 5 BadTag
-> s died
-",
-        1,
-    ),
-    (
-        "drip c s all
-> s took 2 IGNORE 5
-> s took 2 IGNORE 6
-",
-        0,
-    ),
-    (
-        "# the first packet in two pieces, and a piece of the second
-
-pass c s 0047
-lose c s 0
-pass c s 2
-> s took 2 IGNORE 5
-give s -
-pass c s all
-> s took 2 IGNORE 6
-",
-        0,
-    ),
-    (
-        "again c s 0 96
-> s took 2 IGNORE 5
-> s took 2 IGNORE 6
-pass c s 48
-> s refused 5 BadTag
-> s died
-",
-        1,
-    ),
-    (
-        "again c s 96 0
-give s 00008894
-give c 0000889c
-> c refused 3 BadLength
-> c died
-",
-        1,
-    ),
-    (
-        "give c 0000000B
-> c refused 3 BadLength
-> c died
-lose c s 96
-",
-        1,
-    ),
-    (
         "ask s raw 3c
 > s asked raw
 > s sent 60 USERAUTH_PK_OK 1
