@@ -7,8 +7,8 @@
 
 mod material;
 mod parts;
-mod settings;
+mod standard;
 
 pub use material::{CLIENT_COOKIE, CLIENT_SECRET, SERVER_COOKIE, SERVER_SECRET};
 pub use parts::{CREDENTIALS, ToyClient, ToyServer, client_parts, server_parts};
-pub use settings::{config, settings};
+pub use standard::{config, settings};
