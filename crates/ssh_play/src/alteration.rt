@@ -1,7 +1,8 @@
 //! One byte that is changed on its way.
 
-ghost use Rattle.std.specs.Prelude.{◌≡◌, ◌++◌, ◌<◌, IfOk, IfSome, OnOk, drop, length, slice_index, suc, take};
-ghost use Rattle.ssh_play.specs.Altering.{changes};
+ghost use Rattle.std.specs.Prelude.{◌≡◌, ◌++◌, ◌<◌, IfOk, IfSome, OnOk, length};
+ghost use Rattle.std.specs.Option.{option_map};
+ghost use Rattle.ssh_play.specs.Altering.{changed_at, changes, index_of};
 
 use ssh_script::{Origin, Parcel};
 use ssh_types::Side;
@@ -33,7 +34,9 @@ impl Alteration {
         &self,
         alloc: Global,
         parcel: &Parcel<'_>,
-    ) -> Result<Option<Vec<u8>>, AllocError> {
+    ) -> Result<Option<Vec<u8>>, AllocError>
+        ensures { IfOk result (λ bytes. option_map (λ v. v.items) bytes ≡ option_map (changed_at self.now.change parcel.now.bytes.now) (index_of self.now parcel.now)) }
+    {
         let Some(index) = self.index_in(parcel) else {
             return Ok(None);
         };
@@ -43,7 +46,8 @@ impl Alteration {
 
     // Where the byte stands in a parcel.
     fn index_in(&self, parcel: &Parcel<'_>) -> Option<usize>
-        ensures { IfSome result (λ index. index < length parcel.now.bytes.now) }
+        ensures index { result ≡ index_of self.now parcel.now }
+        ensures inside { IfSome result (λ index. index < length parcel.now.bytes.now) }
     {
         let Origin::PutOut { start } = parcel.origin else {
             return None;
@@ -63,7 +67,7 @@ impl Alteration {
 // These bytes, the one at this index changed.
 fn changed(alloc: Global, bytes: &[u8], index: usize, change: Change) -> Result<Vec<u8>, AllocError>
     requires { index < length bytes.now }
-    ensures { IfOk result (λ whole. whole.items ≡ take index bytes.now ++ changes change (slice_index bytes.now index) ++ drop (suc index) bytes.now) }
+    ensures { IfOk result (λ whole. whole.items ≡ changed_at change bytes.now index) }
 {
     let mut whole = bytes[..index].to_vec(alloc)?;
     push_changed(&mut whole, bytes[index], change)?;
