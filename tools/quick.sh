@@ -1,53 +1,75 @@
 #!/bin/sh
 # What can be seen in a few minutes: the layout of the files, that each definition of the model has its line in
-# docs/definitions.md, the tests, and the programs. Nothing is proved here.
+# docs/definitions.md, the tests, and the programs. Nothing is proved here. As many crates are looked at at once as there
+# are cores, each in a copy of the tree, since the toolchain locks the crates that it reads.
 set -eu
 top=$(cd "$(dirname "$0")/.." && pwd)
 . "$top/tools/common.sh"
-failed=0
+work=$(mktemp -d)
+trap 'rm -rf "$work"' EXIT
+jobs=$(nproc 2>/dev/null || echo 2)
+: >"$work/failed"
+
+# Says that a crate failed, and by what, with what was printed of it.
 fail() {
-    echo "failed: $*"
-    failed=1
+    echo "failed: $1" | tee -a "$work/failed"
+    shift
+    [ $# -eq 0 ] || cat "$1"
 }
+
+# Runs the program of the crate in this folder as the gate does, and compares what it prints.
+run_program() {
+    set -- "$1" --
+    said=$1
+    [ ! -f args ] || while IFS= read -r word; do set -- "$@" "$word"; done <args
+    shift
+    [ ! -d data ] || for file in data/*; do set -- --data "$(basename "$file")=$file" "$@"; done
+    wanted=0
+    [ ! -f status ] || wanted=$(cat status)
+    given=/dev/null
+    [ ! -f stdin ] || given=stdin
+    status=0
+    "$rt" try "$@" <"$given" >"$said.printed" 2>"$said" || status=$?
+    [ "$status" = "$wanted" ] || fail "$crate: exit status $status" "$said"
+    diff "$said.printed" stdout >"$said" || fail "$crate: its output" "$said"
+}
+
+# Looks at the crates of one copy of the tree.
+look_at() (
+    copy=$1
+    shift
+    cd "$copy"
+    git init -q .
+    for crate; do
+        cd "$copy/crates/$crate"
+        printed=$("$rt" fmt 2>&1) || fail "$crate: rt fmt"
+        [ -z "$printed" ] || fail "$crate: $printed"
+        if grep -rq '#\[test\]' src; then
+            "$rt" try --test >"$copy.said" 2>&1 || fail "$crate: tests" "$copy.said"
+        fi
+        if [ -f src/main.rt ] && [ -f stdout ]; then
+            run_program "$copy.said"
+        fi
+        echo "$crate"
+    done
+)
 
 echo "definitions"
 sh "$top/tools/definitions.sh" || fail "a definition has no line in docs/definitions.md"
-
-copy=$(mktemp -d)
-trap 'rm -rf "$copy"' EXIT
-copy_tree "$copy"
-cd "$copy"
-git init -q .
-for crate in $(sed 's/#.*//; s/:.*//; s/ .*//' crates.txt); do
-    cd "$copy/crates/$crate"
-    echo "$crate"
-    said=$("$rt" fmt 2>&1) || fail "$crate: rt fmt"
-    [ -z "$said" ] || fail "$crate: $said"
-    if grep -rq '#\[test\]' src; then
-        "$rt" try --test >"$copy/said" 2>&1 || {
-            cat "$copy/said"
-            fail "$crate: tests"
-        }
-    fi
-    if [ -f src/main.rt ] && [ -f stdout ]; then
-        set -- --
-        [ ! -f args ] || while IFS= read -r word; do set -- "$@" "$word"; done <args
-        [ ! -d data ] || for file in data/*; do set -- --data "$(basename "$file")=$file" "$@"; done
-        wanted=0
-        [ ! -f status ] || wanted=$(cat status)
-        given=/dev/null
-        [ ! -f stdin ] || given=stdin
-        status=0
-        "$rt" try "$@" <"$given" >"$copy/printed" 2>"$copy/said" || status=$?
-        [ "$status" = "$wanted" ] || {
-            cat "$copy/said"
-            fail "$crate: exit status $status"
-        }
-        diff "$copy/printed" stdout >"$copy/said" || {
-            cat "$copy/said"
-            fail "$crate: its output"
-        }
-    fi
+number=0
+while [ "$number" -lt "$jobs" ]; do
+    copy="$work/$number"
+    mkdir "$copy"
+    copy_tree "$copy"
+    # The crates at the top take the longest, so each copy has some of them.
+    crates=$(sed 's/#.*//; s/:.*//; s/ .*//' "$top/crates.txt" | grep . | awk -v n="$number" -v jobs="$jobs" 'NR % jobs == n')
+    # shellcheck disable=SC2086
+    look_at "$copy" $crates &
+    number=$((number + 1))
 done
-[ "$failed" = 0 ] && echo "all passed"
-exit "$failed"
+wait
+if [ -s "$work/failed" ]; then
+    cat "$work/failed"
+    exit 1
+fi
+echo "all passed"
