@@ -1,6 +1,6 @@
-//! The loop of a client that sends a text and reads what comes back.
+//! A client that sends a text and reads what comes back.
 
-use crate::driving::Driver;
+use crate::driving::{Driver, Work};
 use crate::end::asked;
 use crate::flow::{Flow, MAX_PACKET, WINDOW};
 use crate::material::Material;
@@ -13,11 +13,12 @@ use ssh_toy_setup::{ToyClient, client_parts};
 use ssh_toys::ToyUserSigner;
 use std::alloc::{AllocError, Global};
 
-/// A client with one channel.
+type ToyEnd = ClientEnd<ToyClient, ToyUserSigner>;
+
+/// What a client with one channel keeps.
 #[derive(Drop)]
 pub struct Client {
     alloc: Global,
-    end: ClientEnd<ToyClient, ToyUserSigner>,
     material: Material,
     flow: Option<Flow>,
     // What waits for the end of an exchange of keys, the oldest first.
@@ -44,7 +45,7 @@ enum Task {
 
 impl Client {
     /// A client that put its version line and its first KEXINIT into `out`.
-    pub fn new(alloc: Global, text: Vec<u8>, out: &mut Vec<u8>) -> anyhow::Result<Client> {
+    pub fn open(alloc: Global, text: Vec<u8>, out: &mut Vec<u8>) -> anyhow::Result<Driver<Client>> {
         let mut material = Material::new(1);
         let (cookie, secret) = material.draw();
         let config = config(alloc, b"sender")?;
@@ -57,16 +58,16 @@ impl Client {
             secret,
             out,
         )?;
-        Ok(Client {
+        let client = Client {
             alloc,
-            end,
             material,
             flow: None,
             tasks: Tasks::new(alloc),
             text,
             read: Vec::new(alloc),
             exchanges: 0,
-        })
+        };
+        Ok(Driver::new(end, client))
     }
 
     /// What came back.
@@ -80,56 +81,41 @@ impl Client {
     }
 }
 
-impl Driver for Client {
-    type End = ClientEnd<ToyClient, ToyUserSigner>;
+impl Work for Client {
+    type End = ToyEnd;
 
-    fn end(&self) -> &ClientEnd<ToyClient, ToyUserSigner> {
-        &self.end
-    }
-
-    fn end_mut(&mut self) -> &mut ClientEnd<ToyClient, ToyUserSigner> {
-        &mut self.end
-    }
-
-    fn hear(&mut self) -> Result<(), AllocError> {
-        match self.end.turn().told {
-            Some(Told::Completed { position }) => {
+    fn hear(&mut self, told: &Told<'_>) -> Result<(), AllocError> {
+        match *told {
+            Told::Completed { position } => {
                 self.exchanges = position;
                 if position == 1 {
                     self.tasks.add(Task::AskService)?;
                 }
                 Ok(())
             }
-            Some(Told::Service) => self.tasks.add(Task::Authenticate),
-            Some(Told::Authenticated) => self.tasks.add(Task::Open),
-            Some(Told::Failed { .. }) => self.tasks.add(Task::Disconnect),
-            Some(Told::Channel(Fact::GotData { body, .. })) => read(
-                &mut self.flow,
-                &mut self.read,
-                body,
-            ),
-            Some(Told::Channel(Fact::RequestDone { success: true, .. })) => send(
+            Told::Service => self.tasks.add(Task::Authenticate),
+            Told::Authenticated => self.tasks.add(Task::Open),
+            Told::Failed { .. } => self.tasks.add(Task::Disconnect),
+            Told::Channel(Fact::GotData { body, .. }) => read(&mut self.flow, &mut self.read, body),
+            Told::Channel(Fact::RequestDone { success: true, .. }) => send(
                 &mut self.flow,
                 &self.text,
             ),
-            Some(Told::Channel(fact)) => heard(self.alloc, &mut self.flow, &mut self.tasks, &fact),
+            Told::Channel(fact) => heard(self.alloc, &mut self.flow, &mut self.tasks, &fact),
             _ => Ok(()),
         }
     }
 
-    fn go_on(&mut self, out: &mut Vec<u8>) -> Result<(), Fault> {
-        if self.end.is_dead() {
-            return Ok(());
-        }
+    fn go_on(&mut self, end: &mut ToyEnd, out: &mut Vec<u8>) -> Result<(), Fault> {
         if let Some(flow) = &mut self.flow {
-            self.material.keep_fresh(&mut self.end, out)?;
-            flow.push(&mut self.end, out)?;
+            self.material.keep_fresh(end, out)?;
+            flow.push(end, out)?;
         }
         for _ in 0..self.tasks.len() {
             let Some(task) = self.tasks.first() else {
                 break;
             };
-            if !asked(&mut self.end, &ask_of(task), out)? {
+            if !asked(end, &ask_of(task), out)? {
                 break;
             }
             self.tasks.finish_first();

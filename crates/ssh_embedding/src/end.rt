@@ -4,18 +4,18 @@ ghost use Rattle.std.specs.Prelude.{◌≤◌, IfOk, length};
 
 use ssh_auth::{UserJudge, UserSigner};
 use ssh_channels::Channels;
-use ssh_end::{Ask, AskStep, ClientEnd, Fault, ServerEnd};
+use ssh_end::{Ask, ClientEnd, Fault, ServerEnd, Turn};
 use ssh_transport_base::{ClientParts, ServerParts};
 use ssh_types::AskRefusal;
 
 /// An end that takes bytes and is asked, and whose channels are looked at.
 pub trait End {
-    fn take(&mut self, bytes: &[u8], out: &mut Vec<u8>) -> Result<usize, Fault>
-        ensures { IfOk result (λ used. used ≤ length bytes.now) };
+    fn take<'a>(&'a mut self, bytes: &[u8], out: &mut Vec<u8>) -> Result<Turn<'a>, Fault>
+        ensures { IfOk result (λ turn. turn.used ≤ length bytes.now) };
 
     fn is_dead(&self) -> bool;
 
-    fn ask(&mut self, ask: &Ask<'_>, out: &mut Vec<u8>) -> Result<AskStep, Fault>;
+    fn ask<'a>(&'a mut self, ask: &Ask<'_>, out: &mut Vec<u8>) -> Result<Turn<'a>, Fault>;
 
     fn channels(&self) -> &Channels;
 
@@ -25,7 +25,7 @@ pub trait End {
 }
 
 impl<P: ClientParts, U: UserSigner + Drop> End for ClientEnd<P, U> {
-    fn take(&mut self, bytes: &[u8], out: &mut Vec<u8>) -> Result<usize, Fault> {
+    fn take<'a>(&'a mut self, bytes: &[u8], out: &mut Vec<u8>) -> Result<Turn<'a>, Fault> {
         ClientEnd::take(self, bytes, out)
     }
 
@@ -33,7 +33,7 @@ impl<P: ClientParts, U: UserSigner + Drop> End for ClientEnd<P, U> {
         ClientEnd::is_dead(self)
     }
 
-    fn ask(&mut self, ask: &Ask<'_>, out: &mut Vec<u8>) -> Result<AskStep, Fault> {
+    fn ask<'a>(&'a mut self, ask: &Ask<'_>, out: &mut Vec<u8>) -> Result<Turn<'a>, Fault> {
         ClientEnd::ask(self, ask, out)
     }
 
@@ -51,7 +51,7 @@ impl<P: ClientParts, U: UserSigner + Drop> End for ClientEnd<P, U> {
 }
 
 impl<P: ServerParts, U: UserJudge + Drop> End for ServerEnd<P, U> {
-    fn take(&mut self, bytes: &[u8], out: &mut Vec<u8>) -> Result<usize, Fault> {
+    fn take<'a>(&'a mut self, bytes: &[u8], out: &mut Vec<u8>) -> Result<Turn<'a>, Fault> {
         ServerEnd::take(self, bytes, out)
     }
 
@@ -59,7 +59,7 @@ impl<P: ServerParts, U: UserJudge + Drop> End for ServerEnd<P, U> {
         ServerEnd::is_dead(self)
     }
 
-    fn ask(&mut self, ask: &Ask<'_>, out: &mut Vec<u8>) -> Result<AskStep, Fault> {
+    fn ask<'a>(&'a mut self, ask: &Ask<'_>, out: &mut Vec<u8>) -> Result<Turn<'a>, Fault> {
         ServerEnd::ask(self, ask, out)
     }
 

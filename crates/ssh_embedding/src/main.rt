@@ -12,7 +12,6 @@ mod settings;
 mod tasks;
 
 use client::Client;
-use driving::Driver;
 use server::Server;
 use std::alloc::{AllocError, Global};
 
@@ -29,8 +28,8 @@ fn main(rt: HostRuntime) -> anyhow::Result<()> {
     let alloc = rt.alloc();
     let mut to_server = Vec::new(alloc);
     let mut to_client = Vec::new(alloc);
-    let mut client = Client::new(alloc, text(alloc)?, &mut to_server)?;
-    let mut server = Server::new(alloc, &mut to_client)?;
+    let mut client = Client::open(alloc, text(alloc)?, &mut to_server)?;
+    let mut server = Server::open(alloc, &mut to_client)?;
     for _ in 0..ROUNDS {
         if to_server.is_empty() && to_client.is_empty() {
             break;
@@ -44,19 +43,19 @@ fn main(rt: HostRuntime) -> anyhow::Result<()> {
             client.take(piece, &mut to_server)?;
         }
     }
-    println!(rt; "the server let in {}", server.user())?;
+    println!(rt; "the server let in {}", server.work().user())?;
     println!(rt;
         "the client sent {} bytes and read {}",
         SIZE,
-        client.read().len()
+        client.work().read().len()
     )?;
     println!(rt;
         "they are the same: {}",
-        client.read() == text(alloc)?.as_slice()
+        client.work().read() == text(alloc)?.as_slice()
     )?;
     println!(rt;
         "keys were exchanged again on the way: {}",
-        client.exchanges() > 1
+        client.work().exchanges() > 1
     )?;
     println!(rt;
         "both ends are over: {}",

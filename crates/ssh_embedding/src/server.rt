@@ -1,6 +1,6 @@
-//! The loop of a server that sends back what comes to it.
+//! A server that sends back what comes to it.
 
-use crate::driving::Driver;
+use crate::driving::{Driver, Work};
 use crate::end::asked;
 use crate::flow::{Flow, MAX_PACKET, WINDOW};
 use crate::material::Material;
@@ -17,11 +17,12 @@ const CREDENTIALS: &[ToyCredential<'static>] = &[ToyCredential::Password {
     word: b"secret",
 }];
 
-/// A server with one channel.
+type ToyEnd = ServerEnd<ToyServer, ToyJudge<'static>>;
+
+/// What a server with one channel keeps.
 #[derive(Drop)]
 pub struct Server {
     alloc: Global,
-    end: ServerEnd<ToyServer, ToyJudge<'static>>,
     material: Material,
     flow: Option<Flow>,
     // What waits for the end of an exchange of keys, the oldest first.
@@ -42,7 +43,7 @@ enum Task {
 
 impl Server {
     /// A server that put its version line and its first KEXINIT into `out`.
-    pub fn new(alloc: Global, out: &mut Vec<u8>) -> anyhow::Result<Server> {
+    pub fn open(alloc: Global, out: &mut Vec<u8>) -> anyhow::Result<Driver<Server>> {
         let mut material = Material::new(2);
         let (cookie, secret) = material.draw();
         let judge = ToyJudge {
@@ -50,14 +51,14 @@ impl Server {
         };
         let config = config(alloc, b"echo")?;
         let end = ServerEnd::new(alloc, config, server_parts(), judge, cookie, secret, out)?;
-        Ok(Server {
+        let server = Server {
             alloc,
-            end,
             material,
             flow: None,
             tasks: Tasks::new(alloc),
             user: String::new(alloc),
-        })
+        };
+        Ok(Driver::new(end, server))
     }
 
     /// Who was let in.
@@ -66,11 +67,11 @@ impl Server {
     }
 
     // Sends what can be sent, and closes the channel behind the last of it.
-    fn flow_on(&mut self, out: &mut Vec<u8>) -> Result<(), Fault> {
+    fn flow_on(&mut self, end: &mut ToyEnd, out: &mut Vec<u8>) -> Result<(), Fault> {
         let Some(flow) = &mut self.flow else {
             return Ok(());
         };
-        flow.push(&mut self.end, out)?;
+        flow.push(end, out)?;
         if flow.is_ended() {
             let channel = flow.channel();
             self.tasks
@@ -82,7 +83,7 @@ impl Server {
     }
 
     // Does this, or answers `false` where it has to wait.
-    fn done(&mut self, task: Task, out: &mut Vec<u8>) -> Result<bool, Fault> {
+    fn done(&mut self, task: Task, end: &mut ToyEnd, out: &mut Vec<u8>) -> Result<bool, Fault> {
         let ask = match task {
             Task::Confirm {
                 channel,
@@ -102,45 +103,34 @@ impl Server {
             },
             Task::Close { channel } => ChannelAsk::Close { channel },
         };
-        asked(&mut self.end, &Ask::Connection(ask), out)
+        asked(end, &Ask::Connection(ask), out)
     }
 }
 
-impl Driver for Server {
-    type End = ServerEnd<ToyServer, ToyJudge<'static>>;
+impl Work for Server {
+    type End = ToyEnd;
 
-    fn end(&self) -> &ServerEnd<ToyServer, ToyJudge<'static>> {
-        &self.end
-    }
-
-    fn end_mut(&mut self) -> &mut ServerEnd<ToyServer, ToyJudge<'static>> {
-        &mut self.end
-    }
-
-    fn hear(&mut self) -> Result<(), AllocError> {
-        match self.end.turn().told {
-            Some(Told::Accepted { user }) => {
+    fn hear(&mut self, told: &Told<'_>) -> Result<(), AllocError> {
+        match *told {
+            Told::Accepted { user } => {
                 for byte in user.iter() {
                     self.user.push(char::from(*byte))?;
                 }
                 Ok(())
             }
-            Some(Told::Channel(fact)) => heard(&mut self.flow, &mut self.tasks, &fact),
+            Told::Channel(fact) => heard(&mut self.flow, &mut self.tasks, &fact),
             _ => Ok(()),
         }
     }
 
-    fn go_on(&mut self, out: &mut Vec<u8>) -> Result<(), Fault> {
-        if self.end.is_dead() {
-            return Ok(());
-        }
-        self.material.keep_fresh(&mut self.end, out)?;
-        self.flow_on(out)?;
+    fn go_on(&mut self, end: &mut ToyEnd, out: &mut Vec<u8>) -> Result<(), Fault> {
+        self.material.keep_fresh(end, out)?;
+        self.flow_on(end, out)?;
         for _ in 0..self.tasks.len() {
             let Some(task) = self.tasks.first() else {
                 break;
             };
-            if !self.done(task, out)? {
+            if !self.done(task, end, out)? {
                 break;
             }
             self.tasks.finish_first();

@@ -22,3 +22,4 @@ pub mod ClientTurns
 pub mod Ends
 pub mod Reading
 pub mod Deaths
+pub mod Calls

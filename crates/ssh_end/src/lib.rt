@@ -5,10 +5,11 @@
 //! ```rust
 //! let mut server = ServerEnd::<Parts, Judge>::new(alloc, config, parts, judge, cookie, secret, &mut out)?;
 //! // bytes came
-//! let used = server.take(&bytes, &mut out)?;
-//! if let Some(told) = server.turn().told {
+//! let turn = server.take(&bytes, &mut out)?;
+//! if let Some(told) = turn.told {
 //!     tell(told);
 //! }
+//! // the bytes behind the first `turn.used` are given again
 //! // the user wants something
 //! server.ask(&Ask::Rekey, &mut out)?;
 //! // what stands in `out` goes to the client

@@ -1,5 +1,7 @@
 //! The end of a Server.
 
+ghost use Rattle.std.specs.Borrow.{sem};
+ghost use Rattle.std.specs.Io.BufRead.{Rests};
 ghost use Rattle.std.specs.Prelude.{◌≡◌, ◌<◌, ◌≤◌, ◌++◌, IfErr, IfOk, List, OnErr, [], false, length, map, nat_le, take, true};
 ghost use Rattle.std.specs.Option.{option_copied};
 ghost use Rattle.ssh_model.specs.Side as model;
@@ -11,6 +13,7 @@ ghost use Rattle.ssh_transport_machine.specs.Opening.{IsOpened};
 ghost use Rattle.ssh_transport_machine.specs.Standing.{Stands};
 ghost use Rattle.ssh_transport_server.specs.Transport.{begun_of};
 ghost use Rattle.ssh_end.specs.Asking.{InSession, Fails, ask_of};
+ghost use Rattle.ssh_end.specs.Calls.{ServerAsked, ServerTakes};
 ghost use Rattle.ssh_end.specs.Ends.{IsFault, IsNewServer, SameServer};
 ghost use Rattle.ssh_end.specs.Reading.{SameReading};
 ghost use Rattle.ssh_end.specs.Sessions.{end_of};
@@ -23,7 +26,7 @@ use crate::asking::{AskStep, Fault, ask_server};
 use crate::server_layers::ServerLayers;
 use crate::server_unit::advance_server;
 use crate::step::Step;
-use crate::turn::{Turn, turn_of};
+use crate::turn::{Turn, asked_turn, turn_of};
 use ssh_auth::UserJudge;
 use ssh_channels::Channels;
 use ssh_packet::{Filler, Sealing};
@@ -85,6 +88,8 @@ impl<P: ServerParts, U: UserJudge + Drop> Drop for ServerEnd<P, U> {
 }
 
 impl<P: ServerParts, U: UserJudge + Drop> ServerEnd<P, U> {
+    ghost use Rattle.ssh_end.specs.contracts.server_end.ServerEnd.{the_row};
+
     /// A server that put out its version line and its first KEXINIT (RFC 4253 sections 4.2 and 7.1), with this cookie and the secret of its
     /// point: a fresh pair from a good source of random bytes.
     ///
@@ -134,8 +139,9 @@ impl<P: ServerParts, U: UserJudge + Drop> ServerEnd<P, U> {
         })
     }
 
-    /// Takes bytes of the client to the end of one line or one packet and no further, does all that it asks for, and answers how many bytes
-    /// were used. What was done is shown by `turn` until the next call of `take` or `ask`.
+    /// Takes bytes of the client to the end of one line or one packet and no further, does all that it asks for, and shows what was done:
+    /// `used` of the bytes are used, the others are given again. Its texts are slices of the end's buffer, so nothing else can be done with
+    /// the end while they are looked at.
     ///
     /// A call that sends nothing and makes no channel and no key asks for no memory.
     ///
@@ -143,7 +149,24 @@ impl<P: ServerParts, U: UserJudge + Drop> ServerEnd<P, U> {
     ///
     /// - `Memory`: memory was refused. Nothing is put out, and the end is over.
     /// - `Dead`: the end was over before. Nothing is put out.
-    pub fn take(&mut self, bytes: &[u8], out: &mut Vec<u8>) -> Result<usize, Fault>
+    pub fn take<'a>(&'a mut self, bytes: &[u8], out: &mut Vec<u8>) -> Result<Turn<'a>, Fault>
+        ensures used { IfOk result (λ turn. turn.used ≤ length bytes.now) }
+        ensures progress { IfOk result (λ turn. self.old.machine.kept.dead ≡ false → 0 < length bytes.now → 0 < turn.used) }
+        ensures lacks { IfErr result (λ fault. fault ≡ Fault.Memory → FrontLacks P.Sealing.crypto (record { agreement = record { point = P.Agreement.public_of self.old.agreement; shared = P.Agreement.shared_of self.old.agreement }; host_key = P.HostSigner.key_of self.old.host_signer; host_signature = P.HostSigner.signature_of self.old.host_signer }) (U.verdicts self.old.user) self.old.machine self.old.layers (begun_of self.old.machine) bytes.now) }
+        ensures out { OnErr result (out.new.items ≡ out.old.items) }
+        ensures* done { sem 𝓛 (Rests (the_row P.row U.row P.Sealing.row P.Filler.row P.Agreement.row P.HostSigner.row P.Sealing.Key.row P.Sealing.Sealing P.Filler.Filler P.Agreement.Agreement P.HostSigner.HostSigner U.UserJudge) self.entry (λ new. ServerTakes P.Sealing.crypto (record { agreement = record { point = P.Agreement.public_of self.old.agreement; shared = P.Agreement.shared_of self.old.agreement }; host_key = P.HostSigner.key_of self.old.host_signer; host_signature = P.HostSigner.signature_of self.old.host_signer }) (U.verdicts self.old.user) self.old bytes.now out.old.items out.new.items result new)) }
+    {
+        self.advance(bytes, out)?;
+        Ok(self.turn())
+    }
+
+    /// What `take` does, for a program that needs the end before it looks at what was done: it answers how many bytes were used, and `turn`
+    /// shows the rest until the next call.
+    ///
+    /// # Errors
+    ///
+    /// Those of `take`.
+    pub fn advance(&mut self, bytes: &[u8], out: &mut Vec<u8>) -> Result<usize, Fault>
         ensures used { IfOk result (λ used. used ≤ length bytes.now) }
         ensures progress { IfOk result (λ used. self.old.machine.kept.dead ≡ false → 0 < length bytes.now → 0 < used) }
         ensures more { IfOk result (λ used. self.new.step ≡ Step.More → used ≡ length bytes.now) }
@@ -177,7 +200,8 @@ impl<P: ServerParts, U: UserJudge + Drop> ServerEnd<P, U> {
         Ok(used)
     }
 
-    /// What was done in the last call of `take`. Its texts are slices of the end's buffer. After an `ask` it shows what was sent.
+    /// What was done in the last call of `advance` or `take`. Its texts are slices of the end's buffer. After `perform` or `ask` it shows the
+    /// payload that was sent.
     pub fn turn(&self) -> Turn<'_>
         ensures shows { (items : List Item) → Shows self.now.machine.receiver.payload self.now.step items → TurnShows result items }
         ensures more { self.now.step ≡ Step.More → TurnShows result [] }
@@ -202,14 +226,29 @@ impl<P: ServerParts, U: UserJudge + Drop> ServerEnd<P, U> {
         }
     }
 
-    /// Does what a user asks for, or refuses that, which changes nothing. `turn` shows the payload that was sent.
+    /// Does what a user asks for, or refuses that, which changes nothing. It shows the payload that was sent, and what is told: that a
+    /// channel is opening. Where no sequence number was left, the refusal of this end's own numbers is shown (`NumberSpent`), nothing was
+    /// sent, and the end is over.
     ///
     /// # Errors
     ///
     /// - `Ask`: the ask is refused, by the first refusal that holds.
     /// - `Memory`: memory was refused. Nothing is put out, and the end is over.
     /// - `Dead`: the end was over before. Nothing is put out.
-    pub fn ask(&mut self, ask: &Ask<'_>, out: &mut Vec<u8>) -> Result<AskStep, Fault>
+    pub fn ask<'a>(&'a mut self, ask: &Ask<'_>, out: &mut Vec<u8>) -> Result<Turn<'a>, Fault>
+        ensures out { OnErr result (out.new.items ≡ out.old.items) }
+        ensures* done { sem 𝓛 (Rests (the_row P.row U.row P.Sealing.row P.Filler.row P.Agreement.row P.HostSigner.row P.Sealing.Key.row P.Sealing.Sealing P.Filler.Filler P.Agreement.Agreement P.HostSigner.HostSigner U.UserJudge) self.entry (λ new. ServerAsked P.Sealing.crypto self.old (ask_of ask.now) out.old.items out.new.items result new)) }
+    {
+        let step = self.perform(ask, out)?;
+        Ok(asked_turn(step, self.turn().sent))
+    }
+
+    /// What `ask` does, for a program that needs the end before it looks at what was done: `turn` shows the payload that was sent.
+    ///
+    /// # Errors
+    ///
+    /// Those of `ask`.
+    pub fn perform(&mut self, ask: &Ask<'_>, out: &mut Vec<u8>) -> Result<AskStep, Fault>
         ensures in_session { InSession P.Sealing.crypto model.Server (end_of self.old.machine.kept self.old.layers) (ask_of ask.now) result (end_of self.new.machine.kept self.new.layers) (record { before = out.old.items; after = out.new.items; listed = []; relisted = self.new.sent }) }
         ensures reading { self.new.machine.kept.dead ≡ false → SameReading self.old.machine self.new.machine }
         ensures authentication { self.new.layers.authentication ≡ self.old.layers.authentication }

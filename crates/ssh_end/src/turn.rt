@@ -3,12 +3,15 @@
 ghost use Rattle.std.specs.Prelude.{◌≡◌, List, [], None, map, slice_index_or};
 ghost use Rattle.ssh_model.specs.Sessions.Items.{Item};
 ghost use Rattle.ssh_model.specs.Wire.Message.{Msg, IsPayload};
+ghost use Rattle.ssh_end.specs.Calls.{ShowsStep};
 ghost use Rattle.ssh_end.specs.Steps.{Shows};
 ghost use Rattle.ssh_end.specs.Turn.{IsMessageTurn, TurnShows, channels_in, payloads_in};
 ghost use Rattle.ssh_end.specs.declared.step.Step.TheVariants as Step;
 
+use crate::asking::AskStep;
 use crate::step::{Step, TookStep};
 use crate::told::{Told, told_in};
+use ssh_channels::Fact;
 use ssh_message::{Message, decode};
 use ssh_types::Refusal;
 
@@ -110,6 +113,21 @@ pub fn turn_of<'a>(
             refused: Some(why),
             ..quiet
         },
+    }
+}
+
+// What was done on an ask, with these payloads.
+pub fn asked_turn<'a>(step: AskStep, sent: SentPayloads<'a>) -> Turn<'a>
+    ensures { ShowsStep step (payloads_in sent.entry) result }
+{
+    let told = match step.opening {
+        None => None,
+        Some(channel) => Some(Told::Channel(Fact::Opening { channel })),
+    };
+    Turn {
+        told,
+        refused: step.refused,
+        ..quiet_turn(0, sent)
     }
 }
 

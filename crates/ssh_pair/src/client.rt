@@ -114,7 +114,7 @@ pub(crate) fn ask_client<P: ClientParts, U: UserSigner + Drop>(
     if end.is_dead() {
         return Ok(());
     }
-    let done = end.ask(ask, out);
+    let done = end.perform(ask, out);
     let is_over = end.is_dead();
     note_ask(
         alloc,
@@ -175,7 +175,7 @@ fn advance_client<P: ClientParts, U: UserSigner + Drop>(
     clients_turns::<<P::Sealing as Sealing>::Key>();
     clients_deaths::<<P::Sealing as Sealing>::Key>();
     deaths::<<P::Sealing as Sealing>::Key>();
-    let Ok(used) = end.take(bytes, out) else {
+    let Ok(used) = end.advance(bytes, out) else {
         note_death(log, Side::Client, true)?;
         return Ok(bytes.len());
     };

@@ -115,7 +115,7 @@ pub(crate) fn ask_server<P: ServerParts, U: UserJudge + Drop>(
     if end.is_dead() {
         return Ok(());
     }
-    let done = end.ask(ask, out);
+    let done = end.perform(ask, out);
     let is_over = end.is_dead();
     note_ask(
         alloc,
@@ -177,7 +177,7 @@ fn advance_server<P: ServerParts, U: UserJudge + Drop>(
     servers_deaths::<<P::Sealing as Sealing>::Key>();
     deaths::<<P::Sealing as Sealing>::Key>();
     let (next, _) = end.numbers();
-    let Ok(used) = end.take(bytes, out) else {
+    let Ok(used) = end.advance(bytes, out) else {
         // A server that has no number left is not known to die of this.
         if next > u32::MAX as u64 {
             return Err(AllocError);

@@ -1,6 +1,6 @@
 //! An end of either role.
 
-use ssh_end::{Ask, AskStep, ClientEnd, Fault, ServerEnd, Turn};
+use ssh_end::{Ask, ClientEnd, Fault, ServerEnd, Turn};
 use ssh_toy_setup::{
     CLIENT_COOKIE, CLIENT_SECRET, CREDENTIALS, SERVER_COOKIE, SERVER_SECRET, ToyClient, ToyServer,
     client_parts, config, server_parts, settings,
@@ -34,15 +34,15 @@ impl ToyEnd {
         }
     }
 
-    /// Takes bytes to the end of one line or packet, and answers how many.
-    pub fn take(&mut self, bytes: &[u8], out: &mut Vec<u8>) -> Result<usize, Fault> {
+    /// Takes bytes to the end of one line or packet, and shows what was done.
+    pub fn take<'a>(&'a mut self, bytes: &[u8], out: &mut Vec<u8>) -> Result<Turn<'a>, Fault> {
         match self {
             ToyEnd::Client(end) => end.take(bytes, out),
             ToyEnd::Server(end) => end.take(bytes, out),
         }
     }
 
-    /// What was done in the last call.
+    /// What was done in the last call of `take`, and sent in that of `ask`.
     pub fn turn(&self) -> Turn<'_> {
         match self {
             ToyEnd::Client(end) => end.turn(),
@@ -51,7 +51,7 @@ impl ToyEnd {
     }
 
     /// Does what is asked for.
-    pub fn ask(&mut self, ask: &Ask<'_>, out: &mut Vec<u8>) -> Result<AskStep, Fault> {
+    pub fn ask<'a>(&'a mut self, ask: &Ask<'_>, out: &mut Vec<u8>) -> Result<Turn<'a>, Fault> {
         match self {
             ToyEnd::Client(end) => end.ask(ask, out),
             ToyEnd::Server(end) => end.ask(ask, out),

@@ -70,10 +70,11 @@ impl ToyEnds {
 
     /// An end is asked for something.
     pub fn ask(&mut self, side: Side, ask: &Ask<'_>) -> Result<(), Fault> {
-        match side {
-            Side::Client => self.client.ask(ask, &mut self.from_client)?,
-            Side::Server => self.server.ask(ask, &mut self.from_server)?,
+        let (end, out) = match side {
+            Side::Client => (&mut self.client, &mut self.from_client),
+            Side::Server => (&mut self.server, &mut self.from_server),
         };
+        end.ask(ask, out)?;
         Ok(())
     }
 
@@ -127,8 +128,8 @@ fn take_all(end: &mut ToyEnd, bytes: &mut Vec<u8>, out: &mut Vec<u8>) -> Result<
         if rest.is_empty() {
             break;
         }
-        let used = end.take(rest, out)?;
-        rest = rest.get(used..).unwrap_or(&[]);
+        let turn = end.take(rest, out)?;
+        rest = rest.get(turn.used..).unwrap_or(&[]);
         count = usize::saturating_add(count, 1);
     }
     bytes.clear();

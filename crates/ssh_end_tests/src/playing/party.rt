@@ -2,9 +2,9 @@
 
 use crate::playing::step::asked;
 use crate::playing::transcript::Transcript;
-use ssh_end::{Ask, AskStep, Fault};
+use ssh_end::{Ask, Fault};
 use ssh_toy_ends::ToyEnd;
-use ssh_types::{Refusal, Side};
+use ssh_types::Side;
 use std::alloc::{AllocError, Global};
 
 /// An end, and what it put out.
@@ -67,50 +67,16 @@ impl Party {
             if rest.is_empty() || self.is_over {
                 break;
             }
-            let Ok(used) = self.end.take(rest, &mut self.out) else {
+            let Ok(turn) = self.end.take(rest, &mut self.out) else {
                 return self.note_death(lines);
             };
-            self.begun = self.begun.saturating_add(used);
-            rest = rest.get(used..).unwrap_or(&[]);
-            self.note_turn(lines)?;
-            if self.end.turn().took.is_some() {
+            rest = rest.get(turn.used..).unwrap_or(&[]);
+            self.begun = self.begun.saturating_add(turn.used);
+            lines.note_turn(self.side, &turn, self.begun)?;
+            if turn.took.is_some() {
                 self.begun = 0;
             }
             self.note_death(lines)?;
-        }
-        Ok(())
-    }
-
-    // The lines of what it did with a line or a packet.
-    fn note_turn(&self, lines: &mut Transcript) -> Result<(), AllocError> {
-        let turn = self.end.turn();
-        if let Some(took) = turn.took {
-            lines.note_took(self.side, &took, self.begun)?;
-        }
-        self.note_refused(turn.refused, lines)?;
-        self.note_sent(lines)?;
-        match turn.told {
-            Some(told) => lines.note_told(self.side, &told),
-            None => Ok(()),
-        }
-    }
-
-    // Why it refused its peer, where it did.
-    fn note_refused(
-        &self,
-        refused: Option<Refusal>,
-        lines: &mut Transcript,
-    ) -> Result<(), AllocError> {
-        match refused {
-            Some(why) => lines.note_refusal(self.side, "refused", why.number(), why.name()),
-            None => Ok(()),
-        }
-    }
-
-    // What it sent.
-    fn note_sent(&self, lines: &mut Transcript) -> Result<(), AllocError> {
-        for payload in self.end.turn().sent.payloads() {
-            lines.note_payload(self.side, "sent", payload.as_slice())?;
         }
         Ok(())
     }
@@ -127,9 +93,10 @@ impl Party {
     /// It is asked for something.
     pub fn ask(&mut self, ask: &Ask<'_>, lines: &mut Transcript) -> Result<(), AllocError> {
         match self.end.ask(ask, &mut self.out) {
-            Ok(step) => {
+            Ok(turn) => {
                 lines.note(self.side, asked(ask))?;
-                self.note_ask(step, lines)
+                lines.note_turn(self.side, &turn, 0)?;
+                self.note_death(lines)
             }
             Err(Fault::Ask(why)) => {
                 lines.note(self.side, asked(ask))?;
@@ -138,16 +105,6 @@ impl Party {
             Err(Fault::Memory) => self.note_death(lines),
             Err(Fault::Dead) => lines.note(self.side, "is over"),
         }
-    }
-
-    // The lines of what it did on an ask.
-    fn note_ask(&mut self, step: AskStep, lines: &mut Transcript) -> Result<(), AllocError> {
-        self.note_refused(step.refused, lines)?;
-        self.note_sent(lines)?;
-        if let Some(channel) = step.opening {
-            lines.note_channel(self.side, "told opening", channel)?;
-        }
-        self.note_death(lines)
     }
 
     /// It is fed a cookie and a secret of this byte alone.
@@ -160,6 +117,7 @@ impl Party {
 
     /// What it answers to one byte more.
     pub fn take_more(&mut self) -> Result<usize, Fault> {
-        self.end.take(&[0], &mut self.out)
+        let turn = self.end.take(&[0], &mut self.out)?;
+        Ok(turn.used)
     }
 }

@@ -1,7 +1,7 @@
 //! The lines of what an end does, parted by semicolons.
 
 use ssh_channels::Fact;
-use ssh_end::{Told, Took};
+use ssh_end::{Told, Took, Turn};
 use ssh_message::name;
 use ssh_types::Side;
 use std::alloc::{AllocError, Global};
@@ -41,8 +41,8 @@ impl Transcript {
         }
     }
 
-    /// It did this of these numbers.
-    pub fn note_numbers(
+    // It did this of these numbers.
+    fn note_numbers(
         &mut self,
         side: Side,
         what: &str,
@@ -67,8 +67,8 @@ impl Transcript {
         write!(self.text, " {number} {name}")
     }
 
-    /// It took or sent this payload.
-    pub fn note_payload(
+    // It took or sent this payload.
+    fn note_payload(
         &mut self,
         side: Side,
         what: &str,
@@ -79,8 +79,30 @@ impl Transcript {
         write!(self.text, " {}", payload.len())
     }
 
-    /// It took this, after so many bytes.
-    pub fn note_took(
+    /// It did what a turn shows. Where that is a line, it had so many bytes.
+    pub fn note_turn(
+        &mut self,
+        side: Side,
+        turn: &Turn<'_>,
+        begun: usize,
+    ) -> Result<(), AllocError> {
+        if let Some(took) = turn.took {
+            self.note_took(side, &took, begun)?;
+        }
+        if let Some(why) = turn.refused {
+            self.note_refusal(side, "refused", why.number(), why.name())?;
+        }
+        for payload in turn.sent.payloads() {
+            self.note_payload(side, "sent", payload.as_slice())?;
+        }
+        match turn.told {
+            Some(told) => self.note_told(side, &told),
+            None => Ok(()),
+        }
+    }
+
+    // It took this, after so many bytes.
+    fn note_took(
         &mut self,
         side: Side,
         took: &Took<'_>,
@@ -95,8 +117,8 @@ impl Transcript {
         }
     }
 
-    /// It is told this.
-    pub fn note_told(&mut self, side: Side, told: &Told<'_>) -> Result<(), AllocError> {
+    // It is told this.
+    fn note_told(&mut self, side: Side, told: &Told<'_>) -> Result<(), AllocError> {
         match *told {
             Told::Completed { position } => {
                 self.note_numbers(side, "told completed", &[position as u64])
@@ -148,8 +170,8 @@ impl Transcript {
         }
     }
 
-    /// It did this of this channel, or is told it.
-    pub fn note_channel(&mut self, side: Side, what: &str, channel: u32) -> Result<(), AllocError> {
+    // It did this of this channel, or is told it.
+    fn note_channel(&mut self, side: Side, what: &str, channel: u32) -> Result<(), AllocError> {
         self.note_numbers(side, what, &[channel as u64])
     }
 }

@@ -1,5 +1,5 @@
 use Rattle.ssh_end.proofs.Lacking.{as_fault, client_front}
-use Rattle.ssh_end.proofs.client_end.ClientEnd.take.Goals as goal
+use Rattle.ssh_end.proofs.client_end.ClientEnd.advance.Goals as goal
 
 pub returns-in_err-step-clause-lacks : goal.returns-in_err-step-clause-lacks
 returns-in_err-step-clause-lacks g c =

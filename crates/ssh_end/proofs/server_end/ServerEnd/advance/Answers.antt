@@ -1,5 +1,5 @@
 use Rattle.ssh_end.proofs.Lacking.{as_fault, server_front}
-use Rattle.ssh_end.proofs.server_end.ServerEnd.take.Goals as goal
+use Rattle.ssh_end.proofs.server_end.ServerEnd.advance.Goals as goal
 
 pub returns-in_err-step-clause-lacks : goal.returns-in_err-step-clause-lacks
 returns-in_err-step-clause-lacks g c =
