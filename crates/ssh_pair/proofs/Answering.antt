@@ -1,21 +1,20 @@
 -- What an end did on an ask.
-use Rattle.std.proofs.Common.{◌≡◌, ℕ, Bool, true, false, cond, List, [], ◌∷◌, ◌++◌, append-nil, refl, ap, sym, ◌∙◌, subst, Option, Some, None, Ok, Err}
+use Rattle.std.proofs.Common.{◌≡◌, ℕ, Bool, true, false, cond, List, [], ◌∷◌, ◌++◌, append-nil, refl, ap, sym, ◌∙◌, Ok, Err}
 use Rattle.std.specs.Prelude.{Result}
 use Rattle.std.proofs.lemmas.Bool.{false≢true}
 use Rattle.ssh_model.specs.Side.{Side, done_by, part}
 use Rattle.ssh_model.specs.End.State.{EndState}
 use Rattle.ssh_model.specs.End.Summary.{EndSumsUp, EndTurned}
-use Rattle.ssh_model.specs.Sessions.Items.{Ask, Done, Item, Item.Asked, Item.AskRefused, Item.Died, has_died, messages_sent}
+use Rattle.ssh_model.specs.Sessions.Items.{Ask, Done, Item, Item.Asked, Item.AskRefused, Item.Died, has_died}
 use Rattle.ssh_model.specs.Sessions.Parties.{Parties}
 use Rattle.ssh_model.specs.Sessions.Turns.{AsksTurn, EndRun}
 use Rattle.ssh_types.specs.AskRefusals.{ask_refusal_of}
-use Rattle.ssh_transport_machine.specs.Puts.{payloads_of}
 use Rattle.ssh_end.specs.Asking.{DoneInSession}
 use Rattle.ssh_end.specs.declared.asking.outcome.AskStep.{AskStep}
 use Rattle.ssh_end.specs.declared.asking.outcome.Fault.{Fault}
 use Rattle.ssh_end.specs.declared.asking.outcome.Fault.TheVariants as fault
 use Rattle.ssh_pair.specs.Noting.{Adds, AddsAsk}
-use Rattle.ssh_pair.specs.Playing.{Answered, SaysOf}
+use Rattle.ssh_pair.specs.Playing.{Answered}
 use Rattle.ssh_pair.specs.declared.item.Done as declared
 use Rattle.ssh_pair.proofs.Advancing.{died_of, says_nothing}
 

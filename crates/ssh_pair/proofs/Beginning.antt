@@ -1,12 +1,12 @@
 -- What an end did when it was made.
-use Rattle.std.proofs.Common.{◌≡◌, ℕ, true, None, arith, List, [], ◌∷◌, ◌++◌, refl, ap, sym, ◌∙◌, subst}
-use Rattle.ssh_model.specs.Side.{Side, done_by}
+use Rattle.std.proofs.Common.{◌≡◌, ℕ, true, None, arith, List, [], ◌∷◌, ◌++◌, ap, sym, ◌∙◌, subst}
+use Rattle.ssh_model.specs.Side.{Side}
 use Rattle.ssh_model.specs.Wire.Line.{line_end}
 use Rattle.ssh_model.specs.Wire.Message.{Msg.KexInit}
 use Rattle.ssh_model.specs.Wire.Sealing.{Crypto}
 use Rattle.ssh_model.specs.End.State.{EndState, new_end}
 use Rattle.ssh_model.specs.End.Summary.{HasOpened}
-use Rattle.ssh_model.specs.Sessions.Items.{Done, Item, Item.Fed, Item.Sent, Item.SentLine, Spelled.SpelledBy}
+use Rattle.ssh_model.specs.Sessions.Items.{Item, Item.Fed, Item.Sent, Item.SentLine, Spelled.SpelledBy}
 use Rattle.ssh_model.specs.Sessions.Parties.{Parties, Settings, offer, settings_of}
 use Rattle.ssh_model.specs.Sessions.Turns.{IsMaterial}
 use Rattle.ssh_model.specs.TransportLayer.Directions.{new_direction}

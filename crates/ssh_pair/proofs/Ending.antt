@@ -1,7 +1,6 @@
 -- An end of a pair that used what came waits, or is over.
-use Rattle.std.proofs.Common.{◌≡◌, ◌≤◌, ℕ, Bool, true, false, cond, List, [], refl, ap, sym, ◌∙◌, subst, inl, inr}
-use Rattle.std.proofs.lemmas.Bool.{cases_Bool}
-use Rattle.ssh_model.specs.Side.{Side, Side.Client, Side.Server, part}
+use Rattle.std.proofs.Common.{◌≡◌, ℕ, Bool, true, false, cond, List, [], refl, ap, sym, ◌∙◌, subst}
+use Rattle.ssh_model.specs.Side.{Side, part}
 use Rattle.ssh_model.specs.Wire.Delivery.{Delivered, Waits}
 use Rattle.ssh_model.specs.Wire.Line.{IsLineBegun}
 use Rattle.ssh_model.specs.Wire.Sealing.{IsSealing}
@@ -10,7 +9,7 @@ use Rattle.ssh_model.specs.End.Reading.{end_reading}
 use Rattle.ssh_model.specs.End.State.{EndState}
 use Rattle.ssh_model.specs.End.Summary.{EndSumsUp}
 use Rattle.ssh_model.specs.Sessions.Events.{reading_of}
-use Rattle.ssh_model.specs.Sessions.Items.{Done, Item}
+use Rattle.ssh_model.specs.Sessions.Items.{Done}
 use Rattle.ssh_model.specs.Sessions.Parties.{Parties}
 use Rattle.ssh_model.specs.TransportLayer.Kept.{Transport}
 use Rattle.ssh_model.specs.TransportLayer.Summary.{SumsUp}

@@ -2,7 +2,7 @@
 use Rattle.std.proofs.Common.{◌≡◌, ℕ, List, [], ◌∷◌, ◌++◌, append-nil, append_assoc, refl, ap, sym, ◌∙◌, subst}
 use Rattle.ssh_model.specs.Side.{Side.Client, Side.Server, part}
 use Rattle.ssh_model.specs.Sessions.Claims.{IsSafe}
-use Rattle.ssh_model.specs.Sessions.Events.{Event, OnEvent, Plays, Plays.ends, PutsOut, World}
+use Rattle.ssh_model.specs.Sessions.Events.{Event, OnEvent, Plays, PutsOut, World}
 use Rattle.ssh_model.specs.Sessions.Honest.{IsHonest}
 use Rattle.ssh_model.specs.Sessions.Items.{Done}
 use Rattle.ssh_model.specs.Sessions.Parties.{AreLawful, BothOffer, Parties}

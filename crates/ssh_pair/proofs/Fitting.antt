@@ -1,5 +1,5 @@
 -- What a server says of settings that are good fits into a packet.
-use Rattle.std.proofs.Common.{◌≡◌, ℕ, ◌<◌, ◌≤◌, ◌^◌, List, [], ◌∷◌, ◌++◌, length, length-append, arith, refl, false}
+use Rattle.std.proofs.Common.{ℕ, ◌<◌, ◌≤◌, ◌^◌, List, [], ◌∷◌, ◌++◌, length, length-append, arith, refl, false}
 use Rattle.std.specs.List.{join_with_byte}
 use Rattle.std.specs.Int.{w32, to_be_bytes}
 use Rattle.ssh_model.specs.Laws.Names.{joined_length}

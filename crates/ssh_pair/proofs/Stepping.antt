@@ -1,5 +1,5 @@
 -- What an end did with the bytes of one line or one packet, in a run of two.
-use Rattle.std.proofs.Common.{◌≡◌, ℕ, Bool, true, false, cond, List, [], ◌∷◌, ◌++◌, append-nil, append_assoc, refl, ap, sym, ◌∙◌, subst}
+use Rattle.std.proofs.Common.{◌≡◌, ℕ, List, [], ◌++◌, append-nil, append_assoc, ap, sym, ◌∙◌, subst}
 use Rattle.ssh_model.specs.Side.{Side, done_by, part}
 use Rattle.ssh_model.specs.Wire.Delivery.{Delivered}
 use Rattle.ssh_model.specs.Sessions.Events.{PutsOut, reading_of}

@@ -1,9 +1,8 @@
-use Rattle.std.proofs.Common.{◌≡◌, List, [], ◌∷◌, sym, ap, ◌∙◌, subst}
+use Rattle.std.proofs.Common.{[], ◌∷◌, sym, ap, ◌∙◌, subst}
 use Rattle.ssh_model.specs.Side.{Side.Client}
 use Rattle.ssh_model.specs.Authentication.Kept.{new_client}
 use Rattle.ssh_model.specs.End.State.{Authentication.OfClient, new_end}
 use Rattle.ssh_model.specs.Sessions.Items.{Item.SentLine}
-use Rattle.ssh_model.specs.Sessions.Parties as parties
 use Rattle.ssh_model.specs.Sessions.Parties.{settings_of}
 use Rattle.ssh_transport_base.specs.Meaning as config
 use Rattle.ssh_end.specs.ClientSessions.{end_of}

@@ -1,4 +1,3 @@
-use Rattle.std.proofs.Common.{◌≡◌}
 use Rattle.ssh_transport_base.specs.Meaning.{settings_of}
 use Rattle.ssh_pair.proofs.Fitting.{failure_spelled}
 use Rattle.ssh_pair.proofs.settings.settings_fit.Goals as goal
