@@ -1,5 +1,5 @@
 -- What a client did with the bytes of one line or one packet.
-use Rattle.std.proofs.Common.{◌≡◌, ℕ, Bool, true, false, cond, List, [], ◌∷◌, ◌++◌, append-nil, append_assoc, take, refl, ap, sym, ◌∙◌, subst, None, Ok, Err}
+use Rattle.std.proofs.Common.{◌≡◌, ℕ, Bool, true, false, cond, List, [], ◌∷◌, ◌++◌, take, refl, ap, sym, ◌∙◌, subst, Option, None, option_map, Err}
 use Rattle.std.specs.Prelude.{Result}
 use Rattle.std.proofs.lemmas.Bool.{false≢true}
 use Rattle.ssh_model.specs.Side.{Side, Side.Client, done_by, part}
@@ -10,11 +10,11 @@ use Rattle.ssh_model.specs.Wire.Unit.{IsPacketBegun}
 use Rattle.ssh_model.specs.End.State.{EndState}
 use Rattle.ssh_model.specs.End.Summary.{EndSumsUp, EndTurned}
 use Rattle.ssh_model.specs.Sessions.Events.{reading_of}
-use Rattle.ssh_model.specs.Sessions.Items.{Ask, Done, Item, Item.Died, has_died, messages_sent}
+use Rattle.ssh_model.specs.Sessions.Items.{Ask, Done, Item, Item.Died, has_died}
 use Rattle.ssh_model.specs.Sessions.Parties.{Agreement, Parties, agreement_of}
 use Rattle.ssh_model.specs.Sessions.Phases.{Phase.Normal}
 use Rattle.ssh_model.specs.Sessions.Turns.{AsksTurn, EndRun, OnUnit}
-use Rattle.ssh_transport_machine.specs.Puts.{Outs, payloads_of}
+use Rattle.ssh_transport_machine.specs.Puts.{Outs}
 use Rattle.ssh_transport_machine.specs.State.{State}
 use Rattle.ssh_transport_server.specs.Transport.{begun_of}
 use Rattle.ssh_end.specs.ClientSessions.{end_of}
@@ -30,12 +30,14 @@ use Rattle.ssh_end.specs.Turn.{TurnShows, payloads_in}
 use Rattle.ssh_end.specs.declared.step.Step.{Step}
 use Rattle.ssh_end.specs.declared.step.Step.TheVariants as step
 use Rattle.ssh_end.specs.declared.turn.Turn.{Turn}
+use Rattle.ssh_pair.specs.Gathering.{Gathers, gathered_after}
 use Rattle.ssh_pair.specs.Noting.{Adds, AddsAsk, AddsTurn}
-use Rattle.ssh_pair.specs.Playing.{Advanced, Answered, SaysOf}
+use Rattle.ssh_pair.specs.Playing.{Advanced, Answered}
 use Rattle.ssh_pair.specs.Standing.{AreOfClient, ClientFunctions, ClientStands, ClientValue, kept_bytes}
 use Rattle.ssh_pair.specs.declared.item.Done as declared
 use Rattle.ssh_pair.proofs.Advancing.{died_of}
 use Rattle.ssh_pair.proofs.Answering.{answered, answered_dead}
+use Rattle.ssh_pair.proofs.Gathering.{line_gathered, same_gathers, turned_gathers, waiting_gathers}
 use Rattle.ssh_pair.proofs.Losing.{lost}
 use Rattle.ssh_pair.proofs.Stepping.{used, waited}
 
@@ -55,7 +57,8 @@ kept_none s false e x = kept_alive s e ∙ x e
 module _ {K : Type 0} (p : Parties K) (run : List Done) (was : ClientValue K) (stands : ClientStands p was run) (alive : was.machine.kept.dead ≡ false)
     (here : (side : Side) (items : List Item) (run : List Done) → part side (done_by side items ++ run) ≡ items ++ part side run)
     (end : ClientValue K) (same : end.functions ≡ was.functions) (bytes : List ℕ) (turn : Turn) (log_old log_new : List declared.Done) (out_old out_new : List ℕ) (sent : List (List ℕ))
-    (noted : AddsTurn Client turn end.machine.kept.dead log_old log_new) (says : payloads_in turn.sent ≡ sent)
+    (gathered : Option (List ℕ)) (more : gathered ≡ option_map (λ line. line ++ bytes) was.lines) (left : end.lines ≡ gathered_after turn.took gathered)
+    (noted : AddsTurn Client turn gathered end.machine.kept.dead log_old log_new) (says : payloads_in turn.sent ≡ sent)
     (unit : (unit : List ℕ) (items : List Item) (more : List ℕ) (e : EndState K) → EndTurned p Client (part Client run) (OnUnit p Client (part Client run) unit) items more e → (behind : List ℕ) (last : List Done) (rest : List ℕ) →
     Delivered (reading_of p Client) (done_by Client items ++ run) behind last rest → Delivered (reading_of p Client) run (unit ++ behind) last rest)
     (goes_on : (unit : List ℕ) (items : List Item) (more : List ℕ) (e : EndState K) → EndTurned p Client (part Client run) (OnUnit p Client (part Client run) unit) items more e → EndRun p Client (items ++ part Client run)) where
@@ -68,7 +71,7 @@ module _ {K : Type 0} (p : Parties K) (run : List Done) (was : ClientValue K) (s
   waits : IsWaiting p (part Client run) (begun_of was.machine ++ bytes) end.machine end.layers outs → TurnShows turn [] → Advanced p Client run bytes (kept_bytes was.machine) (kept_bytes end.machine) (ClientStands p end) log_old log_new out_old out_new
   waits w shows = waited p Client run (begun_of was.machine) bytes (kept_bytes was.machine) (kept_bytes end.machine) (ClientStands p end) log_old log_new out_old out_new (kept_alive was.machine alive)
       (kept_alive end.machine w.alive ∙ w.begun)
-      (record { lawful = stands.lawful; fits = fits; sums = w.sums; end_run = stands.end_run; reading = λ e. w.reading })
+      (record { lawful = stands.lawful; fits = fits; sums = w.sums; end_run = stands.end_run; reading = λ e. w.reading; lines = subst (λ (l : Option (List ℕ)). Gathers end.machine l) (sym left) (waiting_gathers p Client (part Client run) was.machine end.machine was.lines gathered bytes turn.took stands.lines alive stands.sums.transport more w.sums.transport w.begun shows.took) })
       (noted.quiet shows (says ∙ w.quiet.sent) w.alive) w.quiet.out
 
   uses : (done : Step) → IsUnitTurned p (part Client run) (begun_of was.machine ++ bytes) done end.machine end.layers outs → ((items : List Item) → Shows end.machine.receiver.payload done items → TurnShows turn items) → Advanced p Client run bytes (kept_bytes was.machine) (kept_bytes end.machine) (ClientStands p end) log_old log_new out_old out_new
@@ -79,10 +82,11 @@ module _ {K : Type 0} (p : Parties K) (run : List Done) (was : ClientValue K) (s
       used p Client run (begun_of was.machine) bytes (kept_bytes was.machine) (kept_bytes end.machine) (ClientStands p end) log_old log_new out_old out_new (kept_alive was.machine alive) t.items
       (kept_none end.machine end.machine.kept.dead refl w.begun)
       (unit (begun_of was.machine ++ bytes) t.items t.more (end_of end.machine.kept end.layers) t.turned)
-      (record { lawful = stands.lawful; fits = fits; sums = sums; end_run = subst (λ (h : List Item). EndRun p Client h) (sym (here Client t.items run)) (goes_on (begun_of was.machine ++ bytes) t.items t.more (end_of end.machine.kept end.layers) t.turned); reading = w.reading })
+      (record { lawful = stands.lawful; fits = fits; sums = sums; end_run = subst (λ (h : List Item). EndRun p Client h) (sym (here Client t.items run)) (goes_on (begun_of was.machine ++ bytes) t.items t.more (end_of end.machine.kept end.layers) t.turned); reading = w.reading; lines = subst (λ (l : Option (List ℕ)). Gathers end.machine l) (sym left) (turned_gathers p Client (part Client run) was.machine end.machine was.lines gathered bytes turn.took stands.lines alive stands.sums.transport more t.items t.turned.turn t.turned.sums.transport w.begun (shows t.items t.shows).took) })
       (record {
         more = t.more;
-        notes = noted.shown end.machine.receiver.payload done t.items t.shows (shows t.items t.shows) (says ∙ t.lists) (t.turned.sums.transport.dead_is ∙ died_of t.items (part Client run) was_alive);
+        notes = noted.shown end.machine.receiver.payload done t.items t.shows (shows t.items t.shows)
+            (line_gathered p Client (part Client run) was.machine end.machine was.lines gathered bytes turn.took stands.lines alive stands.sums.transport more t.items t.turned.turn) (says ∙ t.lists) (t.turned.sums.transport.dead_is ∙ died_of t.items (part Client run) was_alive);
         puts = t.turned.puts;
         out = t.parts;
       })
@@ -114,6 +118,7 @@ client_lost p run was stands alive here end same dead bytes log_old log_new out_
       sums = subst (λ (h : List Item). EndSumsUp p Client h (end_of end.machine.kept end.layers)) (sym (here Client (Died ∷ []) run)) turned.sums;
       end_run = subst (λ (h : List Item). EndRun p Client h) (sym (here Client (Died ∷ []) run)) goes;
       reading = λ e. absurd (false≢true (sym e ∙ dead));
+      lines = λ e found. absurd (false≢true (sym e ∙ dead));
     })
     notes turned.puts out
 
@@ -133,7 +138,7 @@ reads_on c old new x r = record {
 
 module _ {K : Type 0} (p : Parties K) (run : List Done) (was : ClientValue K) (stands : ClientStands p was run) (alive : was.machine.kept.dead ≡ false)
     (here : (side : Side) (items : List Item) (run : List Done) → part side (done_by side items ++ run) ≡ items ++ part side run)
-    (end : ClientValue K) (same : end.functions ≡ was.functions) (reads : end.machine.kept.dead ≡ false → SameReading was.machine end.machine)
+    (end : ClientValue K) (same : end.functions ≡ was.functions) (reads : end.machine.kept.dead ≡ false → SameReading was.machine end.machine) (kept_lines : end.lines ≡ was.lines)
     (asked : Ask) (log_old log_new : List declared.Done) (out_old out_new : List ℕ) (sent payloads : List (List ℕ)) (says : payloads ≡ sent)
     (goes_on : (items : List Item) (more : List ℕ) → EndTurned p Client (part Client run) (AsksTurn p Client (part Client run) asked) items more (end_of end.machine.kept end.layers) → EndRun p Client (items ++ part Client run)) where
   keeps : end.machine.kept.dead ≡ false → kept_bytes end.machine ≡ kept_bytes was.machine
@@ -149,6 +154,7 @@ module _ {K : Type 0} (p : Parties K) (run : List Done) (was : ClientValue K) (s
     sums = subst (λ (h : List Item). EndSumsUp p Client h (end_of end.machine.kept end.layers)) (sym (here Client items run)) sums;
     end_run = subst (λ (h : List Item). EndRun p Client h) (sym (here Client items run)) goes;
     reading = λ e. reads_on p.crypto was.machine end.machine (reads e) (stands.reading alive);
+    lines = subst (λ (l : Option (List ℕ)). Gathers end.machine l) (sym kept_lines) (same_gathers was.machine end.machine was.lines alive reads stands.lines);
   }
 
   pub client_answer : (result : Result AskStep Fault) (is_over : Bool) → is_over ≡ end.machine.kept.dead → ((fault : Fault) → result ≡ Err fault → out_new ≡ out_old) →

@@ -1,4 +1,5 @@
 pub mod Noting
+pub mod Gathering
 pub mod Advancing
 pub mod Answering
 pub mod Stepping

@@ -1,9 +1,9 @@
 -- Two ends that were made, as a pair.
-use Rattle.std.proofs.Common.{◌≡◌, ℕ, false, List, [], ◌++◌, append-nil, refl, ap, sym, ◌∙◌, subst}
+use Rattle.std.proofs.Common.{◌≡◌, ℕ, false, List, [], ◌++◌, append-nil, ap, sym, ◌∙◌, subst, Option, Some}
 use Rattle.ssh_model.specs.Side.{Side, Side.Client, Side.Server, done_by, part, peer}
 use Rattle.ssh_model.specs.Wire.Message.{Msg.UserauthFailure}
 use Rattle.ssh_model.specs.End.Pair.{PairOpened}
-use Rattle.ssh_model.specs.Sessions.Events.{PutsOut, World}
+use Rattle.ssh_model.specs.Sessions.Events.{PutsOut}
 use Rattle.ssh_model.specs.Sessions.Items.{Done, Item}
 use Rattle.ssh_model.specs.Sessions.Parties.{AreLawful, Parties}
 use Rattle.ssh_model.specs.Sessions.TurnClaims.{HasSpelling}
@@ -12,10 +12,12 @@ use Rattle.ssh_end.specs.ClientSessions as client_sessions
 use Rattle.ssh_end.specs.Reading.{IsReading}
 use Rattle.ssh_end.specs.Sessions as server_sessions
 use Rattle.ssh_end.specs.Sessions.{AreOf}
+use Rattle.ssh_pair.specs.Gathering.{Gathers}
 use Rattle.ssh_pair.specs.Items.{Notes}
 use Rattle.ssh_pair.specs.Playing.{Opens, PairOpens}
 use Rattle.ssh_pair.specs.Standing.{AreOfClient, AreOfServer, PairValue, kept_bytes}
 use Rattle.ssh_pair.specs.declared.item.Done as declared
+use Rattle.ssh_pair.proofs.Gathering.{nothing_gathers}
 use Rattle.ssh_pair.proofs.Summing.{pair_of}
 
 module _ {K : Type 0} (p : Parties K) (pair : PairValue K) (lawful : AreLawful p) (client_fits : AreOfClient p pair.client.functions) (server_fits : AreOfServer p pair.server.functions) (failure : HasSpelling (UserauthFailure p.server.methods false))
@@ -33,14 +35,14 @@ module _ {K : Type 0} (p : Parties K) (pair : PairValue K) (lawful : AreLawful p
   server_part = here Server server.items (done_by Client client.items) ∙ (ap (λ (h : List Item). server.items ++ h) (ap (λ (r : List Done). part Server r) (sym client_run) ∙ there Client client.items []) ∙ append-nil server.items)
 
   pub met : PairOpened p (record { run = done_by Server server.items ++ done_by Client client.items; client_rest = []; server_rest = [] }) (pair_of pair) → ((run : List Done) → Run p run → (side : Side) → EndRun p side (part side run)) →
-      IsReading p.crypto pair.client.machine → IsReading p.crypto pair.server.machine → AreOf p pair.server.layers → kept_bytes pair.client.machine ≡ [] → kept_bytes pair.server.machine ≡ [] → PairOpens p pair log client_bytes server_bytes
-  met opened runs client_reads server_reads layers client_kept server_kept = record {
+      IsReading p.crypto pair.client.machine → IsReading p.crypto pair.server.machine → AreOf p pair.server.layers → kept_bytes pair.client.machine ≡ [] → kept_bytes pair.server.machine ≡ [] → pair.client.lines ≡ Some [] → pair.server.lines ≡ Some [] → PairOpens p pair log client_bytes server_bytes
+  met opened runs client_reads server_reads layers client_kept server_kept client_lines server_lines = record {
     world = record { run = done_by Server server.items ++ done_by Client client.items; client_rest = []; server_rest = [] };
     first = opened.first;
     stands = record {
       run = opened.sums.run;
-      client = record { lawful = lawful; fits = client_fits; sums = opened.sums.ends Client; end_run = runs _ opened.sums.run Client; reading = λ e. client_reads };
-      server = record { lawful = lawful; fits = server_fits; layers_are = λ e. layers; sums = opened.sums.ends Server; end_run = runs _ opened.sums.run Server; reading = λ e. server_reads; failure = failure };
+      client = record { lawful = lawful; fits = client_fits; sums = opened.sums.ends Client; end_run = runs _ opened.sums.run Client; reading = λ e. client_reads; lines = subst (λ (l : Option (List ℕ)). Gathers pair.client.machine l) (sym client_lines) (nothing_gathers pair.client.machine client_kept) };
+      server = record { lawful = lawful; fits = server_fits; layers_are = λ e. layers; sums = opened.sums.ends Server; end_run = runs _ opened.sums.run Server; reading = λ e. server_reads; lines = subst (λ (l : Option (List ℕ)). Gathers pair.server.machine l) (sym server_lines) (nothing_gathers pair.server.machine server_kept); failure = failure };
       client_rest = sym client_kept;
       server_rest = sym server_kept;
     };

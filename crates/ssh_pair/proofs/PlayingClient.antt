@@ -37,6 +37,7 @@ module _ {K : Type 0} (p : Parties K) (w : World) (pair : PairValue K) (stands :
         sums = subst (λ (h : List Item). EndSumsUp p Server h (other.end_of pair.server.machine.kept pair.server.layers)) (sym (there Client items w.run)) s.sums;
         end_run = subst (λ (h : List Item). EndRun p Server h) (sym (there Client items w.run)) s.end_run;
         reading = s.reading;
+        lines = s.lines;
         failure = s.failure;
       }
 
@@ -129,6 +130,7 @@ module _ {K : Type 0} (p : Parties K) (w : World) (pair : PairValue K) (stands :
             sums = subst (λ (h : List Item). EndSumsUp p Client h new) (sym (here Client items w.run)) t.sums;
             end_run = subst (λ (h : List Item). EndRun p Client h) (sym (here Client items w.run)) (goes items new t);
             reading = λ e. let r = s.reading e in record { lines = r.lines; unread = r.unread; packets = r.packets };
+            lines = s.lines;
           };
           server = server_stays items;
           client_rest = stands.client_rest;

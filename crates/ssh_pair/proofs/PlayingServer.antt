@@ -36,6 +36,7 @@ module _ {K : Type 0} (p : Parties K) (w : World) (pair : PairValue K) (stands :
         sums = subst (λ (h : List Item). EndSumsUp p Client h (other.end_of pair.client.machine.kept pair.client.layers)) (sym (there Server items w.run)) s.sums;
         end_run = subst (λ (h : List Item). EndRun p Client h) (sym (there Server items w.run)) s.end_run;
         reading = s.reading;
+        lines = s.lines;
       }
 
   says_all : (items : List Item) (rest : List ℕ) (log_old log_new : List declared.Done) (out_old out_new same : List ℕ) → SaysOf p Server w.run items log_old log_new out_old out_new →
@@ -127,6 +128,7 @@ module _ {K : Type 0} (p : Parties K) (w : World) (pair : PairValue K) (stands :
             sums = subst (λ (h : List Item). EndSumsUp p Server h new) (sym (here Server items w.run)) t.sums;
             end_run = subst (λ (h : List Item). EndRun p Server h) (sym (here Server items w.run)) (goes items new t);
             reading = λ e. let r = s.reading e in record { lines = r.lines; unread = r.unread; packets = r.packets };
+            lines = s.lines;
             layers_are = s.layers_are;
             failure = s.failure;
           };

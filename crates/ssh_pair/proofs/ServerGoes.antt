@@ -1,5 +1,5 @@
 -- What a server did with the bytes of one line or one packet.
-use Rattle.std.proofs.Common.{◌≡◌, ◌^◌, ℕ, Bool, true, false, cond, List, [], ◌∷◌, ◌++◌, append-nil, append_assoc, take, refl, ap, sym, ◌∙◌, subst, None, Ok, Err}
+use Rattle.std.proofs.Common.{◌≡◌, ◌^◌, ℕ, Bool, true, false, cond, List, [], ◌∷◌, ◌++◌, take, refl, ap, sym, ◌∙◌, subst, Option, None, option_map, Err}
 use Rattle.std.specs.Prelude.{Result}
 use Rattle.std.proofs.lemmas.Bool.{false≢true}
 use Rattle.ssh_model.specs.Side.{Side, Side.Server, done_by, part}
@@ -13,16 +13,16 @@ use Rattle.ssh_model.specs.Wire.Unit.{IsPacketBegun}
 use Rattle.ssh_model.specs.End.State.{EndState}
 use Rattle.ssh_model.specs.End.Summary.{EndSumsUp, EndTurned}
 use Rattle.ssh_model.specs.Sessions.Events.{reading_of}
-use Rattle.ssh_model.specs.Sessions.Items.{Ask, Done, Item, Item.Died, has_died, messages_sent}
+use Rattle.ssh_model.specs.Sessions.Items.{Ask, Done, Item, Item.Died, has_died}
 use Rattle.ssh_model.specs.Sessions.Parties.{Parties}
 use Rattle.ssh_model.specs.Sessions.Phases.{Phase.Normal}
 use Rattle.ssh_model.specs.Sessions.Turns.{AsksTurn, EndRun, OnUnit}
-use Rattle.ssh_transport_machine.specs.Puts.{Outs, payloads_of}
+use Rattle.ssh_transport_machine.specs.Puts.{Outs}
 use Rattle.ssh_transport_machine.specs.State.{State}
 use Rattle.ssh_transport_server.specs.Transport.{begun_of}
-use Rattle.ssh_end.specs.Sessions.{AreOf, end_of}
+use Rattle.ssh_end.specs.Sessions.{end_of}
 use Rattle.ssh_end.specs.Layers.{Layers}
-use Rattle.ssh_end.specs.Deaths.{ServerDies, ServerDies.dies, ServerDies.text_unmade}
+use Rattle.ssh_end.specs.Deaths.{ServerDies}
 use Rattle.ssh_end.specs.ServerUnits.{FrontLacks, ServerGoes}
 use Rattle.ssh_end.specs.ServerTurns.{ServerTurned, IsServing, IsUnitTurned, IsWaiting}
 use Rattle.ssh_end.specs.Asking.{DoneInSession}
@@ -34,12 +34,14 @@ use Rattle.ssh_end.specs.Turn.{TurnShows, payloads_in}
 use Rattle.ssh_end.specs.declared.step.Step.{Step}
 use Rattle.ssh_end.specs.declared.step.Step.TheVariants as step
 use Rattle.ssh_end.specs.declared.turn.Turn.{Turn}
+use Rattle.ssh_pair.specs.Gathering.{Gathers, gathered_after}
 use Rattle.ssh_pair.specs.Noting.{Adds, AddsAsk, AddsTurn}
-use Rattle.ssh_pair.specs.Playing.{Advanced, Answered, SaysOf}
+use Rattle.ssh_pair.specs.Playing.{Advanced, Answered}
 use Rattle.ssh_pair.specs.Standing.{AreOfServer, ServerFunctions, ServerStands, ServerValue, kept_bytes}
 use Rattle.ssh_pair.specs.declared.item.Done as declared
 use Rattle.ssh_pair.proofs.Advancing.{died_of}
 use Rattle.ssh_pair.proofs.Answering.{answered, answered_dead}
+use Rattle.ssh_pair.proofs.Gathering.{line_gathered, same_gathers, turned_gathers, waiting_gathers}
 use Rattle.ssh_pair.proofs.Losing.{lost}
 use Rattle.ssh_pair.proofs.Stepping.{used, waited}
 
@@ -59,7 +61,8 @@ kept_none s false e x = kept_alive s e ∙ x e
 module _ {K : Type 0} (p : Parties K) (run : List Done) (was : ServerValue K) (stands : ServerStands p was run) (alive : was.machine.kept.dead ≡ false)
     (here : (side : Side) (items : List Item) (run : List Done) → part side (done_by side items ++ run) ≡ items ++ part side run)
     (end : ServerValue K) (same : end.functions ≡ was.functions) (bytes : List ℕ) (turn : Turn) (log_old log_new : List declared.Done) (out_old out_new : List ℕ) (sent : List (List ℕ))
-    (noted : AddsTurn Server turn end.machine.kept.dead log_old log_new) (says : payloads_in turn.sent ≡ sent)
+    (gathered : Option (List ℕ)) (more : gathered ≡ option_map (λ line. line ++ bytes) was.lines) (left : end.lines ≡ gathered_after turn.took gathered)
+    (noted : AddsTurn Server turn gathered end.machine.kept.dead log_old log_new) (says : payloads_in turn.sent ≡ sent)
     (unit : (unit : List ℕ) (items : List Item) (more : List ℕ) (e : EndState K) → EndTurned p Server (part Server run) (OnUnit p Server (part Server run) unit) items more e → (behind : List ℕ) (last : List Done) (rest : List ℕ) →
     Delivered (reading_of p Server) (done_by Server items ++ run) behind last rest → Delivered (reading_of p Server) run (unit ++ behind) last rest)
     (goes_on : (unit : List ℕ) (items : List Item) (more : List ℕ) (e : EndState K) → EndTurned p Server (part Server run) (OnUnit p Server (part Server run) unit) items more e → EndRun p Server (items ++ part Server run)) where
@@ -72,7 +75,7 @@ module _ {K : Type 0} (p : Parties K) (run : List Done) (was : ServerValue K) (s
   waits : IsWaiting p (part Server run) (begun_of was.machine ++ bytes) end.machine end.layers outs → TurnShows turn [] → Advanced p Server run bytes (kept_bytes was.machine) (kept_bytes end.machine) (ServerStands p end) log_old log_new out_old out_new
   waits w shows = waited p Server run (begun_of was.machine) bytes (kept_bytes was.machine) (kept_bytes end.machine) (ServerStands p end) log_old log_new out_old out_new (kept_alive was.machine alive)
       (kept_alive end.machine w.alive ∙ w.begun)
-      (record { lawful = stands.lawful; fits = fits; layers_are = λ e. w.layers_are; sums = w.sums; end_run = stands.end_run; reading = λ e. w.reading; failure = stands.failure })
+      (record { lawful = stands.lawful; fits = fits; layers_are = λ e. w.layers_are; sums = w.sums; end_run = stands.end_run; reading = λ e. w.reading; failure = stands.failure; lines = subst (λ (l : Option (List ℕ)). Gathers end.machine l) (sym left) (waiting_gathers p Server (part Server run) was.machine end.machine was.lines gathered bytes turn.took stands.lines alive stands.sums.transport more w.sums.transport w.begun shows.took) })
       (noted.quiet shows (says ∙ w.quiet.sent) w.alive) w.quiet.out
 
   uses : (done : Step) → IsUnitTurned p (part Server run) (begun_of was.machine ++ bytes) done end.machine end.layers outs → ((items : List Item) → Shows end.machine.receiver.payload done items → TurnShows turn items) → Advanced p Server run bytes (kept_bytes was.machine) (kept_bytes end.machine) (ServerStands p end) log_old log_new out_old out_new
@@ -83,10 +86,11 @@ module _ {K : Type 0} (p : Parties K) (run : List Done) (was : ServerValue K) (s
       used p Server run (begun_of was.machine) bytes (kept_bytes was.machine) (kept_bytes end.machine) (ServerStands p end) log_old log_new out_old out_new (kept_alive was.machine alive) t.items
       (kept_none end.machine end.machine.kept.dead refl w.begun)
       (unit (begun_of was.machine ++ bytes) t.items t.more (end_of end.machine.kept end.layers) t.turned)
-      (record { lawful = stands.lawful; fits = fits; layers_are = λ e. w.layers_are; sums = sums; end_run = subst (λ (h : List Item). EndRun p Server h) (sym (here Server t.items run)) (goes_on (begun_of was.machine ++ bytes) t.items t.more (end_of end.machine.kept end.layers) t.turned); reading = w.reading; failure = stands.failure })
+      (record { lawful = stands.lawful; fits = fits; layers_are = λ e. w.layers_are; sums = sums; end_run = subst (λ (h : List Item). EndRun p Server h) (sym (here Server t.items run)) (goes_on (begun_of was.machine ++ bytes) t.items t.more (end_of end.machine.kept end.layers) t.turned); reading = w.reading; failure = stands.failure; lines = subst (λ (l : Option (List ℕ)). Gathers end.machine l) (sym left) (turned_gathers p Server (part Server run) was.machine end.machine was.lines gathered bytes turn.took stands.lines alive stands.sums.transport more t.items t.turned.turn t.turned.sums.transport w.begun (shows t.items t.shows).took) })
       (record {
         more = t.more;
-        notes = noted.shown end.machine.receiver.payload done t.items t.shows (shows t.items t.shows) (says ∙ t.lists) (t.turned.sums.transport.dead_is ∙ died_of t.items (part Server run) was_alive);
+        notes = noted.shown end.machine.receiver.payload done t.items t.shows (shows t.items t.shows)
+            (line_gathered p Server (part Server run) was.machine end.machine was.lines gathered bytes turn.took stands.lines alive stands.sums.transport more t.items t.turned.turn) (says ∙ t.lists) (t.turned.sums.transport.dead_is ∙ died_of t.items (part Server run) was_alive);
         puts = t.turned.puts;
         out = t.parts;
       })
@@ -118,6 +122,7 @@ server_lost p run was stands alive here end same dead bytes log_old log_new out_
       sums = subst (λ (h : List Item). EndSumsUp p Server h (end_of end.machine.kept end.layers)) (sym (here Server (Died ∷ []) run)) turned.sums;
       end_run = subst (λ (h : List Item). EndRun p Server h) (sym (here Server (Died ∷ []) run)) goes;
       reading = λ e. absurd (false≢true (sym e ∙ dead));
+      lines = λ e found. absurd (false≢true (sym e ∙ dead));
       layers_are = λ e. absurd (false≢true (sym e ∙ dead));
       failure = stands.failure;
     })
@@ -139,7 +144,7 @@ reads_on c old new x r = record {
 
 module _ {K : Type 0} (p : Parties K) (run : List Done) (was : ServerValue K) (stands : ServerStands p was run) (alive : was.machine.kept.dead ≡ false)
     (here : (side : Side) (items : List Item) (run : List Done) → part side (done_by side items ++ run) ≡ items ++ part side run)
-    (end : ServerValue K) (same : end.functions ≡ was.functions) (kept : end.layers.authentication ≡ was.layers.authentication) (reads : end.machine.kept.dead ≡ false → SameReading was.machine end.machine)
+    (end : ServerValue K) (same : end.functions ≡ was.functions) (kept : end.layers.authentication ≡ was.layers.authentication) (reads : end.machine.kept.dead ≡ false → SameReading was.machine end.machine) (kept_lines : end.lines ≡ was.lines)
     (asked : Ask) (log_old log_new : List declared.Done) (out_old out_new : List ℕ) (sent payloads : List (List ℕ)) (says : payloads ≡ sent)
     (goes_on : (items : List Item) (more : List ℕ) → EndTurned p Server (part Server run) (AsksTurn p Server (part Server run) asked) items more (end_of end.machine.kept end.layers) → EndRun p Server (items ++ part Server run)) where
   keeps : end.machine.kept.dead ≡ false → kept_bytes end.machine ≡ kept_bytes was.machine
@@ -156,6 +161,7 @@ module _ {K : Type 0} (p : Parties K) (run : List Done) (was : ServerValue K) (s
     end_run = subst (λ (h : List Item). EndRun p Server h) (sym (here Server items run)) goes;
     layers_are = λ e. record { tries = ap (λ a. a.tries) kept ∙ (stands.layers_are alive).tries; methods = ap (λ a. a.methods) kept ∙ (stands.layers_are alive).methods };
     reading = λ e. reads_on p.crypto was.machine end.machine (reads e) (stands.reading alive);
+    lines = subst (λ (l : Option (List ℕ)). Gathers end.machine l) (sym kept_lines) (same_gathers was.machine end.machine was.lines alive reads stands.lines);
     failure = stands.failure;
   }
 

@@ -25,15 +25,15 @@ pair_sums p w pair s = record { run = s.run; ends = ends_sum p w pair s }
 -- ---- the supplied parts stay
 
 pub client_same : {K A H U : Type 0} (c : Crypto K) (point : A → List ℕ → List ℕ) (shared : A → List ℕ → List ℕ → Option (List ℕ)) (trusts : H → List ℕ → List ℕ → List ℕ → List ℕ → Bool) (signature : U → List ℕ → List ℕ → List ℕ → List ℕ → List ℕ)
-    (old new : ClientState K A H U) → SameClient old new → (client_value c point shared trusts signature new).functions ≡ (client_value c point shared trusts signature old).functions
-client_same c point shared trusts signature old new x =
+    (old new : ClientState K A H U) (old_lines new_lines : Option (List ℕ)) → SameClient old new → (client_value c point shared trusts signature new new_lines).functions ≡ (client_value c point shared trusts signature old old_lines).functions
+client_same c point shared trusts signature old new old_lines new_lines x =
     ap (λ a. record { crypto = c; agreement = record { point = point a; shared = shared a }; trusts = trusts new.host_trust; signature = signature new.user }) x.agreement
     ∙ (ap (λ h. record { crypto = c; agreement = record { point = point old.agreement; shared = shared old.agreement }; trusts = trusts h; signature = signature new.user }) x.host_trust
     ∙ ap (λ u. record { crypto = c; agreement = record { point = point old.agreement; shared = shared old.agreement }; trusts = trusts old.host_trust; signature = signature u }) x.user)
 
 pub server_same : {K A H U : Type 0} (c : Crypto K) (point : A → List ℕ → List ℕ) (shared : A → List ℕ → List ℕ → Option (List ℕ)) (key : H → List ℕ → List ℕ) (signature : H → List ℕ → List ℕ → List ℕ) (verdicts : U → Judge)
-    (old new : ServerState K A H U) → SameServer old new → (server_value c point shared key signature verdicts new).functions ≡ (server_value c point shared key signature verdicts old).functions
-server_same {K} c point shared key signature verdicts old new x =
+    (old new : ServerState K A H U) (old_lines new_lines : Option (List ℕ)) → SameServer old new → (server_value c point shared key signature verdicts new new_lines).functions ≡ (server_value c point shared key signature verdicts old old_lines).functions
+server_same {K} c point shared key signature verdicts old new old_lines new_lines x =
     ap (λ a. record { crypto = c; exchange = record { agreement = record { point = point a; shared = shared a }; host_key = key new.host_signer; host_signature = signature new.host_signer }; judge = verdicts new.user }) x.agreement
     ∙ (ap (λ h. record { crypto = c; exchange = record { agreement = record { point = point old.agreement; shared = shared old.agreement }; host_key = key h; host_signature = signature h }; judge = verdicts new.user }) x.host_signer
     ∙ ap (λ u. record { crypto = c; exchange = record { agreement = record { point = point old.agreement; shared = shared old.agreement }; host_key = key old.host_signer; host_signature = signature old.host_signer }; judge = verdicts u }) x.user)

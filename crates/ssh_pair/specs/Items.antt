@@ -1,5 +1,5 @@
 -- What a transcript shows of the items of a session.
-use Rattle.std.specs.Prelude.{◌≡◌, ℕ, Bool, true, false, Option, Some, None, List, [], ◌∷◌, ◌++◌, length}
+use Rattle.std.specs.Prelude.{◌≡◌, ℕ, Some, None, List, [], ◌∷◌, ◌++◌, length}
 use Rattle.ssh_types.specs.AskRefusals.{ask_refusal_of}
 use Rattle.ssh_types.specs.Refusals.{refusal_of}
 use Rattle.ssh_types.specs.Sides.{side_of}
@@ -63,13 +63,13 @@ shown_fact (session.Fact.Closed channel) = fact.Closed channel
 shown_fact (session.Fact.Requested channel name want rest) = fact.Requested channel
 shown_fact (session.Fact.RequestDone channel answer) = fact.RequestDone channel answer
 
--- The item of a session is shown as this one. Of the lines that are taken, and of the channel of what is sent, nothing is said.
+-- The item of a session is shown as this one. Of the channel of what is sent nothing is said.
 abbrev pub IsItem : Item → session.Item → Type 0
 IsItem (item.Asked asked) (session.Item.Asked ask) = asked ≡ kind_of ask
 IsItem (item.AskRefused why) (session.Item.AskRefused refusal) = ask_refusal_of why ≡ refusal
 IsItem (item.SentLine text) (session.Item.SentLine line) = text.items ≡ line
-IsItem (item.TookLine text) (session.Item.TookLine line) = Unit {0}
-IsItem (item.TookLine text) (session.Item.TookOtherLine line) = Unit {0}
+IsItem (item.TookLine text) (session.Item.TookLine line) = text.items ≡ line
+IsItem (item.TookLine text) (session.Item.TookOtherLine line) = text.items ≡ line
 IsItem (item.Sent number text) (session.Item.Sent channel message payload) = text.items ≡ payload
 IsItem (item.Took number text) (session.Item.Took channel message payload) =
     (number ≡ channel) × (text.items ≡ payload)

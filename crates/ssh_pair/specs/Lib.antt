@@ -1,4 +1,5 @@
 pub mod Items
+pub mod Gathering
 pub mod Noting
 pub mod Standing
 pub mod Playing

@@ -21,6 +21,7 @@ use Rattle.ssh_end.specs.Layers as server
 use Rattle.ssh_end.specs.Reading.{IsReading}
 use Rattle.ssh_end.specs.Sessions as server_sessions
 use Rattle.ssh_end.specs.Sessions.{AreOf}
+use Rattle.ssh_pair.specs.Gathering.{Gathers}
 
 -- ---- the supplied parts, as functions
 
@@ -58,23 +59,26 @@ kept_bytes s = cond s.kept.dead [] (begun_of s)
 
 -- ---- ends with their parts
 
--- a client: what its parts do, its transport, and the layers above
+-- a client: what its parts do, its transport, the layers above, and what is gathered of the lines that come to it
 pub record ClientValue (K : Type 0) : Type 0 where
   pub functions : ClientFunctions K
   pub machine : State K
   pub layers : client.Layers
+  pub lines : Option (List ℕ)
 
 -- a server: the same
 pub record ServerValue (K : Type 0) : Type 0 where
   pub functions : ServerFunctions K
   pub machine : State K
   pub layers : server.Layers
+  pub lines : Option (List ℕ)
 
--- a client with what its supplied parts do
+-- a client with what its supplied parts do, and with what is gathered of lines
 abbrev pub client_value : {K A H U : Type 0} → Crypto K → (point : A → List ℕ → List ℕ) →
     (shared : A → List ℕ → List ℕ → Option (List ℕ)) → (trusts : H → List ℕ → List ℕ → List ℕ → List ℕ → Bool) →
-    (signature : U → List ℕ → List ℕ → List ℕ → List ℕ → List ℕ) → ClientState K A H U → ClientValue K
-client_value c point shared trusts signature end = record {
+    (signature : U → List ℕ → List ℕ → List ℕ → List ℕ → List ℕ) → ClientState K A H U → Option (List ℕ) →
+    ClientValue K
+client_value c point shared trusts signature end lines = record {
   functions = record {
     crypto = c;
     agreement = record { point = point end.agreement; shared = shared end.agreement };
@@ -83,13 +87,15 @@ client_value c point shared trusts signature end = record {
   };
   machine = end.machine;
   layers = end.layers;
+  lines = lines;
 }
 
--- a server with what its supplied parts do
+-- a server with what its supplied parts do, and with what is gathered of lines
 abbrev pub server_value : {K A H U : Type 0} → Crypto K → (point : A → List ℕ → List ℕ) →
     (shared : A → List ℕ → List ℕ → Option (List ℕ)) → (key : H → List ℕ → List ℕ) →
-    (signature : H → List ℕ → List ℕ → List ℕ) → (verdicts : U → Judge) → ServerState K A H U → ServerValue K
-server_value c point shared key signature verdicts end = record {
+    (signature : H → List ℕ → List ℕ → List ℕ) → (verdicts : U → Judge) → ServerState K A H U → Option (List ℕ) →
+    ServerValue K
+server_value c point shared key signature verdicts end lines = record {
   functions = record {
     crypto = c;
     exchange = record {
@@ -101,6 +107,7 @@ server_value c point shared key signature verdicts end = record {
   };
   machine = end.machine;
   layers = end.layers;
+  lines = lines;
 }
 
 -- A client of lawful parties, which has these parts, sums up its part of a run.
@@ -110,6 +117,7 @@ pub record ClientStands {K : Type 0} (p : Parties K) (v : ClientValue K) (run : 
   pub sums : EndSumsUp p Client (part Client run) (client_sessions.end_of v.machine.kept v.layers)
   pub end_run : EndRun p Client (part Client run)
   pub reading : v.machine.kept.dead ≡ false → IsReading p.crypto v.machine
+  pub lines : Gathers v.machine v.lines
 
 -- So does a server. The methods that it names fit into a packet.
 pub record ServerStands {K : Type 0} (p : Parties K) (v : ServerValue K) (run : List Done) : Type 0 where
@@ -119,14 +127,17 @@ pub record ServerStands {K : Type 0} (p : Parties K) (v : ServerValue K) (run : 
   pub sums : EndSumsUp p Server (part Server run) (server_sessions.end_of v.machine.kept v.layers)
   pub end_run : EndRun p Server (part Server run)
   pub reading : v.machine.kept.dead ≡ false → IsReading p.crypto v.machine
+  pub lines : Gathers v.machine v.lines
   pub failure : HasSpelling (UserauthFailure p.server.methods false)
 
 -- ---- a pair
 
--- both ends, and whether a call found no memory
+-- both ends, what is gathered of the lines that come to each, and whether a call found no memory
 pub record PairState (C S : Type 0) : Type 0 where
   pub client : C
   pub server : S
+  pub client_lines : Option (List ℕ)
+  pub server_lines : Option (List ℕ)
   pub failed : Bool
 
 -- both ends, with what their supplied parts do

@@ -1,6 +1,6 @@
 //! The client of a pair.
 
-ghost use Rattle.std.specs.Prelude.{◌≡◌, ◌<◌, ◌≤◌, IfOk, List, OnOk, [], false, length, take};
+ghost use Rattle.std.specs.Prelude.{◌≡◌, ◌<◌, ◌≤◌, ℕ, IfOk, List, OnOk, Option, [], false, length, take};
 ghost use Rattle.ssh_model.specs.Side as model;
 ghost use Rattle.ssh_model.specs.Sessions.Items as session;
 ghost use Rattle.ssh_model.specs.Sessions.Parties.{Parties};
@@ -105,7 +105,7 @@ pub(crate) fn ask_client<P: ClientParts, U: UserSigner + Drop>(
     log: &mut Vec<Done>,
     out: &mut Vec<u8>,
 ) -> Result<(), AllocError>
-    ensures answers { OnOk result ((p : Parties P.Sealing.Key) (run : List session.Done) → ClientStands p (client_value P.Sealing.crypto P.Agreement.public_of P.Agreement.shared_of P.HostTrust.judged U.signature_of end.old) run → Answered p model.Client run (ask_of ask.now) (kept_bytes end.old.machine) (kept_bytes end.new.machine) (ClientStands p (client_value P.Sealing.crypto P.Agreement.public_of P.Agreement.shared_of P.HostTrust.judged U.signature_of end.new)) log.old.items log.new.items out.old.items out.new.items) }
+    ensures answers { OnOk result ((p : Parties P.Sealing.Key) (lines : Option (List ℕ)) (run : List session.Done) → ClientStands p (client_value P.Sealing.crypto P.Agreement.public_of P.Agreement.shared_of P.HostTrust.judged U.signature_of end.old lines) run → Answered p model.Client run (ask_of ask.now) (kept_bytes end.old.machine) (kept_bytes end.new.machine) (ClientStands p (client_value P.Sealing.crypto P.Agreement.public_of P.Agreement.shared_of P.HostTrust.judged U.signature_of end.new lines)) log.old.items log.new.items out.old.items out.new.items) }
     ensures parts { SameClient end.old end.new }
 {
     parts();
@@ -136,7 +136,7 @@ pub(crate) fn deliver_to_client<P: ClientParts, U: UserSigner + Drop>(
     log: &mut Vec<Done>,
     out: &mut Vec<u8>,
 ) -> Result<(), AllocError>
-    ensures advanced { OnOk result ((p : Parties P.Sealing.Key) (run : List session.Done) → ClientStands p (client_value P.Sealing.crypto P.Agreement.public_of P.Agreement.shared_of P.HostTrust.judged U.signature_of end.old) run → Advanced p model.Client run piece.now (kept_bytes end.old.machine) (kept_bytes end.new.machine) (ClientStands p (client_value P.Sealing.crypto P.Agreement.public_of P.Agreement.shared_of P.HostTrust.judged U.signature_of end.new)) log.old.items log.new.items out.old.items out.new.items) }
+    ensures advanced { OnOk result ((p : Parties P.Sealing.Key) (run : List session.Done) → ClientStands p (client_value P.Sealing.crypto P.Agreement.public_of P.Agreement.shared_of P.HostTrust.judged U.signature_of end.old lines.old) run → Advanced p model.Client run piece.now (kept_bytes end.old.machine) (kept_bytes end.new.machine) (ClientStands p (client_value P.Sealing.crypto P.Agreement.public_of P.Agreement.shared_of P.HostTrust.judged U.signature_of end.new lines.new)) log.old.items log.new.items out.old.items out.new.items) }
     ensures parts { SameClient end.old end.new }
     ensures live { OnOk result (Stands model.Client end.new.machine) }
 {
@@ -165,7 +165,7 @@ fn advance_client<P: ClientParts, U: UserSigner + Drop>(
     requires alive { end.old.machine.kept.dead ≡ false }
     ensures used { IfOk result (λ used. used ≤ length bytes.now) }
     ensures progress { IfOk result (λ used. 0 < length bytes.now → 0 < used) }
-    ensures advanced { IfOk result (λ used. (p : Parties P.Sealing.Key) (run : List session.Done) → ClientStands p (client_value P.Sealing.crypto P.Agreement.public_of P.Agreement.shared_of P.HostTrust.judged U.signature_of end.old) run → Advanced p model.Client run (take used bytes.now) (kept_bytes end.old.machine) (kept_bytes end.new.machine) (ClientStands p (client_value P.Sealing.crypto P.Agreement.public_of P.Agreement.shared_of P.HostTrust.judged U.signature_of end.new)) log.old.items log.new.items out.old.items out.new.items) }
+    ensures advanced { IfOk result (λ used. (p : Parties P.Sealing.Key) (run : List session.Done) → ClientStands p (client_value P.Sealing.crypto P.Agreement.public_of P.Agreement.shared_of P.HostTrust.judged U.signature_of end.old lines.old) run → Advanced p model.Client run (take used bytes.now) (kept_bytes end.old.machine) (kept_bytes end.new.machine) (ClientStands p (client_value P.Sealing.crypto P.Agreement.public_of P.Agreement.shared_of P.HostTrust.judged U.signature_of end.new lines.new)) log.old.items log.new.items out.old.items out.new.items) }
     ensures parts { SameClient end.old end.new }
 {
     parts();
@@ -179,7 +179,7 @@ fn advance_client<P: ClientParts, U: UserSigner + Drop>(
         note_death(log, Side::Client, true)?;
         return Ok(bytes.len());
     };
-    lines.take(bytes.split_at(used).0)?;
+    lines.gather(bytes.split_at(used).0)?;
     let is_over = end.is_dead();
     note_turn(alloc, log, Side::Client, &end.turn(), lines, is_over)?;
     Ok(used)

@@ -1,6 +1,6 @@
 //! What an end did, noted for a transcript.
 
-ghost use Rattle.std.specs.Prelude.{◌∷◌, ℕ, List, OnOk, Option, [], option_map};
+ghost use Rattle.std.specs.Prelude.{◌∷◌, ◌≡◌, ℕ, List, OnOk, Option, [], option_map};
 ghost use Rattle.ssh_model.specs.Wire.Message.{Msg};
 ghost use Rattle.ssh_model.specs.Side.{DoneBy.By};
 ghost use Rattle.ssh_model.specs.Sessions.Items as session;
@@ -8,6 +8,7 @@ ghost use Rattle.ssh_types.specs.Sides.{side_of};
 ghost use Rattle.ssh_end.specs.Asking.{ask_of};
 ghost use Rattle.ssh_end.specs.Told.{told_of};
 ghost use Rattle.ssh_end.specs.Turn.{payloads_in};
+ghost use Rattle.ssh_pair.specs.Gathering.{gathered_after};
 ghost use Rattle.ssh_pair.specs.Items.{IsItem, Notes};
 ghost use Rattle.ssh_pair.specs.Noting.{Adds, AddsAsk, AddsDeath, AddsRefused, AddsSent, AddsStep, AddsTold, AddsTook, AddsTurn};
 
@@ -36,7 +37,8 @@ pub(crate) fn note_turn(
     lines: &mut Lines,
     is_over: bool,
 ) -> Result<(), AllocError>
-    ensures { OnOk result (AddsTurn (side_of side) turn.now is_over log.old.items log.new.items) }
+    ensures noted { OnOk result (AddsTurn (side_of side) turn.now lines.old is_over log.old.items log.new.items) }
+    ensures gathered { OnOk result (lines.new ≡ gathered_after turn.now.took lines.old) }
 {
     note_took(alloc, log, side, turn.took, lines)?;
     note_refused(log, side, turn.refused)?;
@@ -53,7 +55,8 @@ fn note_took(
     took: Option<Took<'_>>,
     lines: &mut Lines,
 ) -> Result<(), AllocError>
-    ensures { OnOk result (AddsTook (side_of side) took.entry log.old.items log.new.items) }
+    ensures noted { OnOk result (AddsTook (side_of side) took.entry lines.old log.old.items log.new.items) }
+    ensures gathered { OnOk result (lines.new ≡ gathered_after took.entry lines.old) }
 {
     match took {
         None => Ok(()),

@@ -57,7 +57,7 @@ impl<
 
     ghost Value = { PairState (ClientState S.Key C.Agreement C.HostTrust U) (ServerState S.Key V.Agreement V.HostSigner J) };
 
-    ghost view = { λ pair. record { client = pair.client; server = pair.server; failed = pair.failed } };
+    ghost view = { λ pair. record { client = pair.client; server = pair.server; client_lines = pair.client_lines; server_lines = pair.server_lines; failed = pair.failed } };
 }
 
 impl<
@@ -96,8 +96,8 @@ impl<
         client: ClientValues<C, U>,
         server: ServerValues<V, J>,
     ) -> Result<(Pair<S, C, U, V, J>, Transcript), AllocError>
-        ensures opens { IfOk result (λ r. (p : Parties S.Key) → AreOfClient p (client_value S.crypto C.Agreement.public_of C.Agreement.shared_of C.HostTrust.judged U.signature_of r.0.client).functions → AreOfServer p (server_value S.crypto V.Agreement.public_of V.Agreement.shared_of V.HostSigner.key_of V.HostSigner.signature_of J.verdicts r.0.server).functions → p.client ≡ settings_of client.config → p.server ≡ settings_of server.config →
-            PairOpens p (record { client = client_value S.crypto C.Agreement.public_of C.Agreement.shared_of C.HostTrust.judged U.signature_of r.0.client; server = server_value S.crypto V.Agreement.public_of V.Agreement.shared_of V.HostSigner.key_of V.HostSigner.signature_of J.verdicts r.0.server }) r.1.items.items r.1.client_bytes.items r.1.server_bytes.items) }
+        ensures opens { IfOk result (λ r. (p : Parties S.Key) → AreOfClient p (client_value S.crypto C.Agreement.public_of C.Agreement.shared_of C.HostTrust.judged U.signature_of r.0.client r.0.client_lines).functions → AreOfServer p (server_value S.crypto V.Agreement.public_of V.Agreement.shared_of V.HostSigner.key_of V.HostSigner.signature_of J.verdicts r.0.server r.0.server_lines).functions → p.client ≡ settings_of client.config → p.server ≡ settings_of server.config →
+            PairOpens p (record { client = client_value S.crypto C.Agreement.public_of C.Agreement.shared_of C.HostTrust.judged U.signature_of r.0.client r.0.client_lines; server = server_value S.crypto V.Agreement.public_of V.Agreement.shared_of V.HostSigner.key_of V.HostSigner.signature_of J.verdicts r.0.server r.0.server_lines }) r.1.items.items r.1.client_bytes.items r.1.server_bytes.items) }
         ensures fine { IfOk result (λ r. r.0.failed ≡ false) }
     {
         parts();
@@ -118,12 +118,14 @@ impl<
             &mut transcript.items,
             &mut transcript.server_bytes,
         )?;
+        let client_lines = Lines::new(alloc);
+        let server_lines = Lines::new(alloc);
         let pair = Pair {
             alloc,
             client,
             server,
-            client_lines: Lines::new(alloc),
-            server_lines: Lines::new(alloc),
+            client_lines,
+            server_lines,
             failed: false,
         };
         Ok((pair, transcript))
@@ -140,7 +142,7 @@ impl<
         ensures fails { OnErr result (self.new.failed ≡ true) }
         ensures fine { OnOk result (self.new.failed ≡ false) }
         ensures parts { SameParts self.old self.new }
-        ensures plays { IfOk result (λ t. (p : Parties S.Key) (w : World) → PairStands p w (record { client = client_value S.crypto C.Agreement.public_of C.Agreement.shared_of C.HostTrust.judged U.signature_of self.old.client; server = server_value S.crypto V.Agreement.public_of V.Agreement.shared_of V.HostSigner.key_of V.HostSigner.signature_of J.verdicts self.old.server }) → Played p w (events_of events.now) (record { client = client_value S.crypto C.Agreement.public_of C.Agreement.shared_of C.HostTrust.judged U.signature_of self.new.client; server = server_value S.crypto V.Agreement.public_of V.Agreement.shared_of V.HostSigner.key_of V.HostSigner.signature_of J.verdicts self.new.server }) t.items.items t.client_bytes.items t.server_bytes.items) }
+        ensures plays { IfOk result (λ t. (p : Parties S.Key) (w : World) → PairStands p w (record { client = client_value S.crypto C.Agreement.public_of C.Agreement.shared_of C.HostTrust.judged U.signature_of self.old.client self.old.client_lines; server = server_value S.crypto V.Agreement.public_of V.Agreement.shared_of V.HostSigner.key_of V.HostSigner.signature_of J.verdicts self.old.server self.old.server_lines }) → Played p w (events_of events.now) (record { client = client_value S.crypto C.Agreement.public_of C.Agreement.shared_of C.HostTrust.judged U.signature_of self.new.client self.new.client_lines; server = server_value S.crypto V.Agreement.public_of V.Agreement.shared_of V.HostSigner.key_of V.HostSigner.signature_of J.verdicts self.new.server self.new.server_lines }) t.items.items t.client_bytes.items t.server_bytes.items) }
     {
         plays::<S::Key>();
         safety::<S::Key>();
@@ -166,7 +168,7 @@ impl<
         ensures failed { self.old.failed ≡ true → result ≡ false }
         ensures still { self.new.failed ≡ self.old.failed }
         ensures parts { SameParts self.old self.new }
-        ensures fed { self.old.failed ≡ false → (p : Parties S.Key) (w : World) → PairStands p w (record { client = client_value S.crypto C.Agreement.public_of C.Agreement.shared_of C.HostTrust.judged U.signature_of self.old.client; server = server_value S.crypto V.Agreement.public_of V.Agreement.shared_of V.HostSigner.key_of V.HostSigner.signature_of J.verdicts self.old.server }) → PairFed p w (session.Feeds (side_of side) cookie secret) (record { client = client_value S.crypto C.Agreement.public_of C.Agreement.shared_of C.HostTrust.judged U.signature_of self.new.client; server = server_value S.crypto V.Agreement.public_of V.Agreement.shared_of V.HostSigner.key_of V.HostSigner.signature_of J.verdicts self.new.server }) }
+        ensures fed { self.old.failed ≡ false → (p : Parties S.Key) (w : World) → PairStands p w (record { client = client_value S.crypto C.Agreement.public_of C.Agreement.shared_of C.HostTrust.judged U.signature_of self.old.client self.old.client_lines; server = server_value S.crypto V.Agreement.public_of V.Agreement.shared_of V.HostSigner.key_of V.HostSigner.signature_of J.verdicts self.old.server self.old.server_lines }) → PairFed p w (session.Feeds (side_of side) cookie secret) (record { client = client_value S.crypto C.Agreement.public_of C.Agreement.shared_of C.HostTrust.judged U.signature_of self.new.client self.new.client_lines; server = server_value S.crypto V.Agreement.public_of V.Agreement.shared_of V.HostSigner.key_of V.HostSigner.signature_of J.verdicts self.new.server self.new.server_lines }) }
     {
         parts();
         feeds::<S::Key>();
@@ -186,7 +188,7 @@ impl<
     fn play_one(&mut self, event: Event<'_>, transcript: &mut Transcript) -> Result<(), AllocError>
         ensures failed { self.new.failed ≡ self.old.failed }
         ensures parts { SameParts self.old self.new }
-        ensures plays { OnOk result ((p : Parties S.Key) (w : World) → PairStands p w (record { client = client_value S.crypto C.Agreement.public_of C.Agreement.shared_of C.HostTrust.judged U.signature_of self.old.client; server = server_value S.crypto V.Agreement.public_of V.Agreement.shared_of V.HostSigner.key_of V.HostSigner.signature_of J.verdicts self.old.server }) → PlaysOne p w (event_of event.entry) (record { client = client_value S.crypto C.Agreement.public_of C.Agreement.shared_of C.HostTrust.judged U.signature_of self.new.client; server = server_value S.crypto V.Agreement.public_of V.Agreement.shared_of V.HostSigner.key_of V.HostSigner.signature_of J.verdicts self.new.server })
+        ensures plays { OnOk result ((p : Parties S.Key) (w : World) → PairStands p w (record { client = client_value S.crypto C.Agreement.public_of C.Agreement.shared_of C.HostTrust.judged U.signature_of self.old.client self.old.client_lines; server = server_value S.crypto V.Agreement.public_of V.Agreement.shared_of V.HostSigner.key_of V.HostSigner.signature_of J.verdicts self.old.server self.old.server_lines }) → PlaysOne p w (event_of event.entry) (record { client = client_value S.crypto C.Agreement.public_of C.Agreement.shared_of C.HostTrust.judged U.signature_of self.new.client self.new.client_lines; server = server_value S.crypto V.Agreement.public_of V.Agreement.shared_of V.HostSigner.key_of V.HostSigner.signature_of J.verdicts self.new.server self.new.server_lines })
             transcript.old.items.items transcript.new.items.items transcript.old.client_bytes.items transcript.new.client_bytes.items transcript.old.server_bytes.items transcript.new.server_bytes.items) }
     {
         match event {
@@ -204,7 +206,7 @@ impl<
     ) -> Result<(), AllocError>
         ensures failed { self.new.failed ≡ self.old.failed }
         ensures parts { SameParts self.old self.new }
-        ensures plays { OnOk result ((p : Parties S.Key) (w : World) → PairStands p w (record { client = client_value S.crypto C.Agreement.public_of C.Agreement.shared_of C.HostTrust.judged U.signature_of self.old.client; server = server_value S.crypto V.Agreement.public_of V.Agreement.shared_of V.HostSigner.key_of V.HostSigner.signature_of J.verdicts self.old.server }) → PlaysOne p w (session.Asks (side_of side) (ask_of ask.now)) (record { client = client_value S.crypto C.Agreement.public_of C.Agreement.shared_of C.HostTrust.judged U.signature_of self.new.client; server = server_value S.crypto V.Agreement.public_of V.Agreement.shared_of V.HostSigner.key_of V.HostSigner.signature_of J.verdicts self.new.server })
+        ensures plays { OnOk result ((p : Parties S.Key) (w : World) → PairStands p w (record { client = client_value S.crypto C.Agreement.public_of C.Agreement.shared_of C.HostTrust.judged U.signature_of self.old.client self.old.client_lines; server = server_value S.crypto V.Agreement.public_of V.Agreement.shared_of V.HostSigner.key_of V.HostSigner.signature_of J.verdicts self.old.server self.old.server_lines }) → PlaysOne p w (session.Asks (side_of side) (ask_of ask.now)) (record { client = client_value S.crypto C.Agreement.public_of C.Agreement.shared_of C.HostTrust.judged U.signature_of self.new.client self.new.client_lines; server = server_value S.crypto V.Agreement.public_of V.Agreement.shared_of V.HostSigner.key_of V.HostSigner.signature_of J.verdicts self.new.server self.new.server_lines })
             transcript.old.items.items transcript.new.items.items transcript.old.client_bytes.items transcript.new.client_bytes.items transcript.old.server_bytes.items transcript.new.server_bytes.items) }
     {
         parts();
@@ -236,7 +238,7 @@ impl<
     ) -> Result<(), AllocError>
         ensures failed { self.new.failed ≡ self.old.failed }
         ensures parts { SameParts self.old self.new }
-        ensures plays { OnOk result ((p : Parties S.Key) (w : World) → PairStands p w (record { client = client_value S.crypto C.Agreement.public_of C.Agreement.shared_of C.HostTrust.judged U.signature_of self.old.client; server = server_value S.crypto V.Agreement.public_of V.Agreement.shared_of V.HostSigner.key_of V.HostSigner.signature_of J.verdicts self.old.server }) → PlaysOne p w (session.Delivers (side_of side) bytes.now) (record { client = client_value S.crypto C.Agreement.public_of C.Agreement.shared_of C.HostTrust.judged U.signature_of self.new.client; server = server_value S.crypto V.Agreement.public_of V.Agreement.shared_of V.HostSigner.key_of V.HostSigner.signature_of J.verdicts self.new.server })
+        ensures plays { OnOk result ((p : Parties S.Key) (w : World) → PairStands p w (record { client = client_value S.crypto C.Agreement.public_of C.Agreement.shared_of C.HostTrust.judged U.signature_of self.old.client self.old.client_lines; server = server_value S.crypto V.Agreement.public_of V.Agreement.shared_of V.HostSigner.key_of V.HostSigner.signature_of J.verdicts self.old.server self.old.server_lines }) → PlaysOne p w (session.Delivers (side_of side) bytes.now) (record { client = client_value S.crypto C.Agreement.public_of C.Agreement.shared_of C.HostTrust.judged U.signature_of self.new.client self.new.client_lines; server = server_value S.crypto V.Agreement.public_of V.Agreement.shared_of V.HostSigner.key_of V.HostSigner.signature_of J.verdicts self.new.server self.new.server_lines })
             transcript.old.items.items transcript.new.items.items transcript.old.client_bytes.items transcript.new.client_bytes.items transcript.old.server_bytes.items transcript.new.server_bytes.items) }
     {
         parts();

@@ -1,6 +1,6 @@
 //! The server of a pair.
 
-ghost use Rattle.std.specs.Prelude.{◌≡◌, ◌<◌, ◌≤◌, IfOk, List, OnOk, [], false, length, take};
+ghost use Rattle.std.specs.Prelude.{◌≡◌, ◌<◌, ◌≤◌, ℕ, IfOk, List, OnOk, Option, [], false, length, take};
 ghost use Rattle.ssh_model.specs.Side as model;
 ghost use Rattle.ssh_model.specs.Sessions.Items as session;
 ghost use Rattle.ssh_model.specs.Sessions.Parties.{Parties};
@@ -106,7 +106,7 @@ pub(crate) fn ask_server<P: ServerParts, U: UserJudge + Drop>(
     log: &mut Vec<Done>,
     out: &mut Vec<u8>,
 ) -> Result<(), AllocError>
-    ensures answers { OnOk result ((p : Parties P.Sealing.Key) (run : List session.Done) → ServerStands p (server_value P.Sealing.crypto P.Agreement.public_of P.Agreement.shared_of P.HostSigner.key_of P.HostSigner.signature_of U.verdicts end.old) run → Answered p model.Server run (ask_of ask.now) (kept_bytes end.old.machine) (kept_bytes end.new.machine) (ServerStands p (server_value P.Sealing.crypto P.Agreement.public_of P.Agreement.shared_of P.HostSigner.key_of P.HostSigner.signature_of U.verdicts end.new)) log.old.items log.new.items out.old.items out.new.items) }
+    ensures answers { OnOk result ((p : Parties P.Sealing.Key) (lines : Option (List ℕ)) (run : List session.Done) → ServerStands p (server_value P.Sealing.crypto P.Agreement.public_of P.Agreement.shared_of P.HostSigner.key_of P.HostSigner.signature_of U.verdicts end.old lines) run → Answered p model.Server run (ask_of ask.now) (kept_bytes end.old.machine) (kept_bytes end.new.machine) (ServerStands p (server_value P.Sealing.crypto P.Agreement.public_of P.Agreement.shared_of P.HostSigner.key_of P.HostSigner.signature_of U.verdicts end.new lines)) log.old.items log.new.items out.old.items out.new.items) }
     ensures parts { SameServer end.old end.new }
 {
     parts();
@@ -137,7 +137,7 @@ pub(crate) fn deliver_to_server<P: ServerParts, U: UserJudge + Drop>(
     log: &mut Vec<Done>,
     out: &mut Vec<u8>,
 ) -> Result<(), AllocError>
-    ensures advanced { OnOk result ((p : Parties P.Sealing.Key) (run : List session.Done) → ServerStands p (server_value P.Sealing.crypto P.Agreement.public_of P.Agreement.shared_of P.HostSigner.key_of P.HostSigner.signature_of U.verdicts end.old) run → Advanced p model.Server run piece.now (kept_bytes end.old.machine) (kept_bytes end.new.machine) (ServerStands p (server_value P.Sealing.crypto P.Agreement.public_of P.Agreement.shared_of P.HostSigner.key_of P.HostSigner.signature_of U.verdicts end.new)) log.old.items log.new.items out.old.items out.new.items) }
+    ensures advanced { OnOk result ((p : Parties P.Sealing.Key) (run : List session.Done) → ServerStands p (server_value P.Sealing.crypto P.Agreement.public_of P.Agreement.shared_of P.HostSigner.key_of P.HostSigner.signature_of U.verdicts end.old lines.old) run → Advanced p model.Server run piece.now (kept_bytes end.old.machine) (kept_bytes end.new.machine) (ServerStands p (server_value P.Sealing.crypto P.Agreement.public_of P.Agreement.shared_of P.HostSigner.key_of P.HostSigner.signature_of U.verdicts end.new lines.new)) log.old.items log.new.items out.old.items out.new.items) }
     ensures parts { SameServer end.old end.new }
     ensures live { OnOk result (Stands model.Server end.new.machine) }
 {
@@ -166,7 +166,7 @@ fn advance_server<P: ServerParts, U: UserJudge + Drop>(
     requires alive { end.old.machine.kept.dead ≡ false }
     ensures used { IfOk result (λ used. used ≤ length bytes.now) }
     ensures progress { IfOk result (λ used. 0 < length bytes.now → 0 < used) }
-    ensures advanced { IfOk result (λ used. (p : Parties P.Sealing.Key) (run : List session.Done) → ServerStands p (server_value P.Sealing.crypto P.Agreement.public_of P.Agreement.shared_of P.HostSigner.key_of P.HostSigner.signature_of U.verdicts end.old) run → Advanced p model.Server run (take used bytes.now) (kept_bytes end.old.machine) (kept_bytes end.new.machine) (ServerStands p (server_value P.Sealing.crypto P.Agreement.public_of P.Agreement.shared_of P.HostSigner.key_of P.HostSigner.signature_of U.verdicts end.new)) log.old.items log.new.items out.old.items out.new.items) }
+    ensures advanced { IfOk result (λ used. (p : Parties P.Sealing.Key) (run : List session.Done) → ServerStands p (server_value P.Sealing.crypto P.Agreement.public_of P.Agreement.shared_of P.HostSigner.key_of P.HostSigner.signature_of U.verdicts end.old lines.old) run → Advanced p model.Server run (take used bytes.now) (kept_bytes end.old.machine) (kept_bytes end.new.machine) (ServerStands p (server_value P.Sealing.crypto P.Agreement.public_of P.Agreement.shared_of P.HostSigner.key_of P.HostSigner.signature_of U.verdicts end.new lines.new)) log.old.items log.new.items out.old.items out.new.items) }
     ensures parts { SameServer end.old end.new }
 {
     parts();
@@ -185,7 +185,7 @@ fn advance_server<P: ServerParts, U: UserJudge + Drop>(
         note_death(log, Side::Server, true)?;
         return Ok(bytes.len());
     };
-    lines.take(bytes.split_at(used).0)?;
+    lines.gather(bytes.split_at(used).0)?;
     let is_over = end.is_dead();
     note_turn(alloc, log, Side::Server, &end.turn(), lines, is_over)?;
     Ok(used)

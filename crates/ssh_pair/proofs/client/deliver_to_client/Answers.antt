@@ -1,6 +1,6 @@
-use Rattle.std.proofs.Common.{◌≡◌, ◌+◌, true, List, ℕ, drop, take, ◌++◌, arith, refl, sym, ap, ◌∙◌, subst}
+use Rattle.std.proofs.Common.{◌≡◌, ◌+◌, List, ℕ, drop, take, ◌++◌, arith, refl, sym, ap, ◌∙◌, subst}
 use Rattle.std.proofs.Common.{take-add, take-append-drop}
-use Rattle.ssh_model.specs.Side.{Side.Client, done_by, part}
+use Rattle.ssh_model.specs.Side.{Side.Client, done_by}
 use Rattle.ssh_pair.specs.Playing.{Advanced}
 use Rattle.ssh_pair.specs.Standing.{ClientStands, client_value, kept_bytes}
 use Rattle.ssh_pair.proofs.Advancing.{advanced_dead, advanced_more, advanced_none}
@@ -10,13 +10,13 @@ pub loop-at-init : goal.loop-at-init
 loop-at-init g c = record {
   within = omega arith;
   parts = record { agreement = refl; host_trust = refl; user = refl };
-  going = λ p run s. advanced_none p Client c.parts.ensures.here run (kept_bytes c.args.end.now.machine) (ClientStands p (client_value g.P.Sealing.Sealing.crypto g.P.Agreement.Agreement.public_of g.P.Agreement.Agreement.shared_of g.P.HostTrust.HostTrust.judged g.U.UserSigner.signature_of c.args.end.now)) c.args.log.now.items c.args.out.now.items s;
+  going = λ p run s. advanced_none p Client c.parts.ensures.here run (kept_bytes c.args.end.now.machine) (ClientStands p (client_value g.P.Sealing.Sealing.crypto g.P.Agreement.Agreement.public_of g.P.Agreement.Agreement.shared_of g.P.HostTrust.HostTrust.judged g.U.UserSigner.signature_of c.args.end.now c.args.lines.now)) c.args.log.now.items c.args.out.now.items s;
 }
 
 pub returns-then-is_dead-clause-advanced : goal.returns-then-is_dead-clause-advanced
 returns-then-is_dead-clause-advanced g c = λ p run s.
     let x = c.loop-at.invariant.going p run s in
-    let stands = ClientStands p (client_value g.P.Sealing.Sealing.crypto g.P.Agreement.Agreement.public_of g.P.Agreement.Agreement.shared_of g.P.HostTrust.HostTrust.judged g.U.UserSigner.signature_of c.loop-at.end) in
+    let stands = ClientStands p (client_value g.P.Sealing.Sealing.crypto g.P.Agreement.Agreement.public_of g.P.Agreement.Agreement.shared_of g.P.HostTrust.HostTrust.judged g.U.UserSigner.signature_of c.loop-at.end c.loop-at.lines) in
     let dead = sym x.stands.sums.transport.dead_is ∙ (sym c.is_dead.ensures ∙ c.if-is_dead.true) in
     subst (λ (bytes : List ℕ). Advanced p Client run bytes (kept_bytes c.args.end.now.machine) (kept_bytes c.loop-at.end.machine) stands c.args.log.now.items c.loop-at.log.items c.args.out.now.items c.loop-at.out.items) (take-append-drop c.loop-at.at c.args.piece.now)
     (advanced_dead p Client c.parts.ensures.here run (take c.loop-at.at c.args.piece.now) (drop c.loop-at.at c.args.piece.now) (kept_bytes c.args.end.now.machine) (kept_bytes c.loop-at.end.machine) stands c.args.log.now.items c.loop-at.log.items c.args.out.now.items c.loop-at.out.items x dead)
@@ -33,8 +33,8 @@ loop-at-preserved g c =
       going = λ p run s.
           let x = c.loop-at.invariant.going p run s in
           let y = c.in_ok-at.ensures.advanced p (done_by Client x.items ++ run) x.stands in
-          let first = ClientStands p (client_value g.P.Sealing.Sealing.crypto g.P.Agreement.Agreement.public_of g.P.Agreement.Agreement.shared_of g.P.HostTrust.HostTrust.judged g.U.UserSigner.signature_of c.loop-at.end) in
-          let second = ClientStands p (client_value g.P.Sealing.Sealing.crypto g.P.Agreement.Agreement.public_of g.P.Agreement.Agreement.shared_of g.P.HostTrust.HostTrust.judged g.U.UserSigner.signature_of new) in
+          let first = ClientStands p (client_value g.P.Sealing.Sealing.crypto g.P.Agreement.Agreement.public_of g.P.Agreement.Agreement.shared_of g.P.HostTrust.HostTrust.judged g.U.UserSigner.signature_of c.loop-at.end c.loop-at.lines) in
+          let second = ClientStands p (client_value g.P.Sealing.Sealing.crypto g.P.Agreement.Agreement.public_of g.P.Agreement.Agreement.shared_of g.P.HostTrust.HostTrust.judged g.U.UserSigner.signature_of new c.advance_client.new.lines) in
           let bytes : take (c.loop-at.at + used) c.args.piece.now ≡ take c.loop-at.at c.args.piece.now ++ take used c.split_at.result.1.now =
           take-add c.loop-at.at used c.args.piece.now ∙ ap (λ (l : List ℕ). take c.loop-at.at c.args.piece.now ++ take used l) (sym c.split_at.ensures.back) in
           subst (λ (l : List ℕ). Advanced p Client run l (kept_bytes c.args.end.now.machine) (kept_bytes new.machine) second c.args.log.now.items c.advance_client.new.log.items c.args.out.now.items c.advance_client.new.out.items) (sym bytes)

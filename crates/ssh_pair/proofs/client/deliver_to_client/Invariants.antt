@@ -11,8 +11,8 @@ abbrev pub invariant-loop-at : goal.invariant-loop-at
 invariant-loop-at g l = record {
   within : l.at ≤ length l.piece;
   parts : SameClient l.fn.end l.end;
-  going : (p : Parties g.row.P-Sealing-Key.Denot) (run : List session.Done) → ClientStands p (client_value g.P.Sealing.Sealing.crypto g.P.Agreement.Agreement.public_of g.P.Agreement.Agreement.shared_of g.P.HostTrust.HostTrust.judged g.U.UserSigner.signature_of l.fn.end) run →
-      Advanced p model.Client run (take l.at l.piece) (kept_bytes l.fn.end.machine) (kept_bytes l.end.machine) (ClientStands p (client_value g.P.Sealing.Sealing.crypto g.P.Agreement.Agreement.public_of g.P.Agreement.Agreement.shared_of g.P.HostTrust.HostTrust.judged g.U.UserSigner.signature_of l.end)) l.fn.log.items l.log.items l.fn.out.items l.out.items;
+  going : (p : Parties g.row.P-Sealing-Key.Denot) (run : List session.Done) → ClientStands p (client_value g.P.Sealing.Sealing.crypto g.P.Agreement.Agreement.public_of g.P.Agreement.Agreement.shared_of g.P.HostTrust.HostTrust.judged g.U.UserSigner.signature_of l.fn.end l.fn.lines) run →
+      Advanced p model.Client run (take l.at l.piece) (kept_bytes l.fn.end.machine) (kept_bytes l.end.machine) (ClientStands p (client_value g.P.Sealing.Sealing.crypto g.P.Agreement.Agreement.public_of g.P.Agreement.Agreement.shared_of g.P.HostTrust.HostTrust.judged g.U.UserSigner.signature_of l.end l.lines)) l.fn.log.items l.log.items l.fn.out.items l.out.items;
 }
 
 abbrev pub decreases-loop-at : goal.decreases-loop-at

@@ -1,4 +1,4 @@
-use Rattle.std.proofs.Common.{◌≡◌, false, sym, ◌∙◌, subst}
+use Rattle.std.proofs.Common.{◌≡◌, false, refl, sym, ◌∙◌, subst}
 use Rattle.std.specs.Prelude.{OnErr}
 use Rattle.ssh_model.specs.Side.{Side.Server, part}
 use Rattle.ssh_end.specs.Asking.{ask_of}
@@ -10,14 +10,14 @@ use Rattle.ssh_pair.proofs.Summing.{server_same}
 use Rattle.ssh_pair.proofs.server.ask_server.Goals as goal
 
 pub returns-then-is_dead-clause-answers : goal.returns-then-is_dead-clause-answers
-returns-then-is_dead-clause-answers g c = λ p run s. server_over p run (server_value g.P.Sealing.Sealing.crypto g.P.Agreement.Agreement.public_of g.P.Agreement.Agreement.shared_of g.P.HostSigner.HostSigner.key_of g.P.HostSigner.HostSigner.signature_of g.U.UserJudge.verdicts c.args.end.now) (ask_of c.args.ask.now) c.args.log.now.items c.args.out.now.items s (sym c.is_dead.ensures ∙ c.if-is_dead.true)
+returns-then-is_dead-clause-answers g c = λ p lines run s. server_over p run (server_value g.P.Sealing.Sealing.crypto g.P.Agreement.Agreement.public_of g.P.Agreement.Agreement.shared_of g.P.HostSigner.HostSigner.key_of g.P.HostSigner.HostSigner.signature_of g.U.UserJudge.verdicts c.args.end.now lines) (ask_of c.args.ask.now) c.args.log.now.items c.args.out.now.items s (sym c.is_dead.ensures ∙ c.if-is_dead.true)
 
 pub returns-clause-answers : goal.returns-clause-answers
 returns-clause-answers g c =
     let alive : c.args.end.now.machine.kept.dead ≡ false = sym c.is_dead.ensures ∙ c.if-is_dead.false in
-    on_ok c.note_ask.result (λ noted p run s.
-    server_answer p run (server_value g.P.Sealing.Sealing.crypto g.P.Agreement.Agreement.public_of g.P.Agreement.Agreement.shared_of g.P.HostSigner.HostSigner.key_of g.P.HostSigner.HostSigner.signature_of g.U.UserJudge.verdicts c.args.end.now) s alive c.parts.ensures.here (server_value g.P.Sealing.Sealing.crypto g.P.Agreement.Agreement.public_of g.P.Agreement.Agreement.shared_of g.P.HostSigner.HostSigner.key_of g.P.HostSigner.HostSigner.signature_of g.U.UserJudge.verdicts c.perform-done.new.self)
-    (server_same g.P.Sealing.Sealing.crypto g.P.Agreement.Agreement.public_of g.P.Agreement.Agreement.shared_of g.P.HostSigner.HostSigner.key_of g.P.HostSigner.HostSigner.signature_of g.U.UserJudge.verdicts c.args.end.now c.perform-done.new.self c.perform-done.ensures.parts) c.perform-done.ensures.authentication c.perform-done.ensures.reading (ask_of c.args.ask.now) c.args.log.now.items c.note_ask.new.log.items c.args.out.now.items c.perform-done.new.out.items
+    on_ok c.note_ask.result (λ noted p lines run s.
+    server_answer p run (server_value g.P.Sealing.Sealing.crypto g.P.Agreement.Agreement.public_of g.P.Agreement.Agreement.shared_of g.P.HostSigner.HostSigner.key_of g.P.HostSigner.HostSigner.signature_of g.U.UserJudge.verdicts c.args.end.now lines) s alive c.parts.ensures.here (server_value g.P.Sealing.Sealing.crypto g.P.Agreement.Agreement.public_of g.P.Agreement.Agreement.shared_of g.P.HostSigner.HostSigner.key_of g.P.HostSigner.HostSigner.signature_of g.U.UserJudge.verdicts c.perform-done.new.self lines)
+    (server_same g.P.Sealing.Sealing.crypto g.P.Agreement.Agreement.public_of g.P.Agreement.Agreement.shared_of g.P.HostSigner.HostSigner.key_of g.P.HostSigner.HostSigner.signature_of g.U.UserJudge.verdicts c.args.end.now c.perform-done.new.self lines lines c.perform-done.ensures.parts) c.perform-done.ensures.authentication c.perform-done.ensures.reading refl (ask_of c.args.ask.now) c.args.log.now.items c.note_ask.new.log.items c.args.out.now.items c.perform-done.new.out.items
     c.perform-done.new.self.sent _ c.turn.ensures.sent
     (λ items more turned. c.asks.ensures.run p Server (part Server run) (end_of c.args.end.now.machine.kept c.args.end.now.layers) s.sums s.end_run (ask_of c.args.ask.now) items more (end_of c.perform-done.new.self.machine.kept c.perform-done.new.self.layers) turned)
     c.perform-done.result c.is_dead-is_over.result c.is_dead-is_over.ensures

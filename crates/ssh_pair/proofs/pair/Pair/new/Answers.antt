@@ -1,4 +1,4 @@
-use Rattle.std.proofs.Common.{◌≡◌, ◌≤◌, ℕ, List, [], length, false, sym, subst}
+use Rattle.std.proofs.Common.{◌≤◌, ℕ, List, [], length, false, sym, subst}
 use Rattle.ssh_model.specs.Side.{Side.Client, Side.Server}
 use Rattle.ssh_model.specs.Wire.Message.{Msg.UserauthFailure}
 use Rattle.ssh_model.specs.Wire.Sealing.{IsSealing}
@@ -15,7 +15,7 @@ use Rattle.ssh_pair.proofs.pair.Pair.new.Goals as goal
 
 pub returns-clause-opens : goal.returns-clause-opens
 returns-clause-opens g c = λ p client_fits server_fits client_is server_is.
-    let pair : PairValue g.row.S-Key.Denot = (record { client = client_value g.S.Sealing.crypto g.C.Agreement.Agreement.public_of g.C.Agreement.Agreement.shared_of g.C.HostTrust.HostTrust.judged g.U.UserSigner.signature_of c.in_ok-client.client; server = server_value g.S.Sealing.crypto g.V.Agreement.Agreement.public_of g.V.Agreement.Agreement.shared_of g.V.HostSigner.HostSigner.key_of g.V.HostSigner.HostSigner.signature_of g.J.UserJudge.verdicts c.in_ok-server.server }) in
+    let pair : PairValue g.row.S-Key.Denot = (record { client = client_value g.S.Sealing.crypto g.C.Agreement.Agreement.public_of g.C.Agreement.Agreement.shared_of g.C.HostTrust.HostTrust.judged g.U.UserSigner.signature_of c.in_ok-client.client c.new-client_lines.result; server = server_value g.S.Sealing.crypto g.V.Agreement.Agreement.public_of g.V.Agreement.Agreement.shared_of g.V.HostSigner.HostSigner.key_of g.V.HostSigner.HostSigner.signature_of g.J.UserJudge.verdicts c.in_ok-server.server c.new-server_lines.result }) in
     let client_end = client_sessions.end_of c.in_ok-client.client.machine.kept c.in_ok-client.client.layers in
     let server_end = server_sessions.end_of c.in_ok-server.server.machine.kept c.in_ok-server.server.layers in
     let client = subst (λ (l : List Done). Opens p Client client_end l c.open_client.new.log.items [] c.open_client.new.out.items) c.new-transcript.ensures.items
@@ -31,4 +31,4 @@ returns-clause-opens g c = λ p client_fits server_fits client_is server_is.
     (c.openings.ensures p client.items server.items client.bytes server.bytes client_end server_end client.opened server.opened)
     (λ run r side. c.runs_of_each_end.ensures p run r side)
     (subst (λ k. IsReading k c.in_ok-client.client.machine) (sym client_fits.crypto) c.in_ok-client.ensures.reading) (subst (λ k. IsReading k c.in_ok-server.server.machine) (sym server_fits.crypto) c.in_ok-server.ensures.reading)
-    (c.in_ok-server.ensures.layers p server_is) c.in_ok-client.ensures.begun c.in_ok-server.ensures.begun
+    (c.in_ok-server.ensures.layers p server_is) c.in_ok-client.ensures.begun c.in_ok-server.ensures.begun c.new-client_lines.ensures c.new-server_lines.ensures
