@@ -70,11 +70,14 @@ impl ToyEnds {
 
     /// An end is asked for something.
     pub fn ask(&mut self, side: Side, ask: &Ask<'_>) -> Result<(), Fault> {
-        let (end, out) = match side {
-            Side::Client => (&mut self.client, &mut self.from_client),
-            Side::Server => (&mut self.server, &mut self.from_server),
-        };
-        end.ask(ask, out)?;
+        match side {
+            Side::Client => {
+                self.client.ask(ask, &mut self.from_client)?;
+            }
+            Side::Server => {
+                self.server.ask(ask, &mut self.from_server)?;
+            }
+        }
         Ok(())
     }
 
