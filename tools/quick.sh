@@ -56,6 +56,7 @@ look_at() (
 
 echo "definitions"
 sh "$top/tools/definitions.sh" || fail "a definition has no line in docs/definitions.md"
+(sh "$top/tools/misuse.sh" || fail "a call that has to be refused is not") &
 number=0
 while [ "$number" -lt "$jobs" ]; do
     copy="$work/$number"
