@@ -1,0 +1,24 @@
+//! Key files of OpenSSH, for keys of ssh-ed25519: private keys, public keys, known_hosts and authorized_keys, and files with a password. Each function
+//! goes from the bytes of a file to what stands in it. A file that is not what it has to be is told by its line and by what was expected there.
+//!
+//! ```rust
+//! let host = private_key(alloc, &host_key_file)?;
+//! let users = authorized_keys(alloc, &authorized_keys_file)?;
+//! let trusted = trusted_key(&known_hosts_file, Some(b"example.org"))?;
+//! ```
+#![tactic(auto)]
+
+mod armor;
+mod authorized_keys;
+mod fault;
+mod known_hosts;
+mod password;
+mod private_key;
+mod public_key;
+mod words;
+
+pub use authorized_keys::authorized_keys;
+pub use fault::{Expected, FileFault};
+pub use known_hosts::trusted_key;
+pub use password::{MOST_PASSWORD_BYTES, password};
+pub use private_key::{PrivateKey, private_key};
