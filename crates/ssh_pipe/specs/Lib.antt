@@ -1,0 +1,3 @@
+pub mod Status
+pub mod UserKey
+pub mod Users

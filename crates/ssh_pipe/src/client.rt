@@ -1,0 +1,124 @@
+//! The loop of a client that runs one command.
+
+mod desk;
+mod request;
+mod task;
+
+use crate::ending::Ending;
+use crate::error::PipeError;
+use crate::login::Login;
+use crate::machine::Machine;
+use crate::parts::{METHODS, PipeClient, config};
+use crate::policy::{KeySupply, Policy};
+use crate::user_key::UserKey;
+use desk::Desk;
+pub use request::{Request, RequestKind};
+use ssh_end::ClientEnd;
+use ssh_parts::{Curve25519, Ed25519Trust};
+use ssh_transport_base::ClientPartValues;
+use std::alloc::{AllocError, Global};
+use std::random::RandomSource;
+
+/// A client of SSH-2 that runs one command. Bytes of the server go in, and bytes for it come out; beside them the command's input and its output.
+#[derive(Drop)]
+pub struct Client<'a, R: RandomSource + Drop> {
+    end: ClientEnd<PipeClient, UserKey>,
+    supply: KeySupply<R>,
+    desk: Desk<'a>,
+}
+
+impl<'a, R: RandomSource + Drop> Client<'a, R> {
+    /// A client that trusts this host, and that put its version line and its first KEXINIT into `out`.
+    pub fn new(
+        alloc: Global,
+        policy: &Policy,
+        source: R,
+        host: Ed25519Trust,
+        key: UserKey,
+        login: Login<'a>,
+        request: Request<'a>,
+        out: &mut Vec<u8>,
+    ) -> Result<Client<'a, R>, PipeError> {
+        let supply = KeySupply::new(source);
+        let first = supply.draw()?;
+        let parts = ClientPartValues {
+            filler: supply.padding()?,
+            agreement: Curve25519,
+            host_trust: host,
+        };
+        let config = config(alloc, policy, METHODS)?;
+        let end = ClientEnd::new(alloc, config, parts, key, first.cookie, first.secret, out)?;
+        Ok(Client {
+            end,
+            supply,
+            desk: Desk::new(alloc, policy.window, login, request),
+        })
+    }
+
+    /// How the session ended, once that is known.
+    pub fn take_ending(&mut self) -> Option<Ending> {
+        self.desk.ending.take()
+    }
+
+    /// What the command wrote to its output since the last `clear_output`.
+    pub fn output(&self) -> &[u8] {
+        self.desk.output.as_slice()
+    }
+
+    /// What the command wrote to its error output since then.
+    pub fn error_output(&self) -> &[u8] {
+        self.desk.error_output.as_slice()
+    }
+
+    /// What the server says to the user since then (RFC 4252 section 5.4): printable US-ASCII characters and ends of lines, with `?` for all else.
+    pub fn notes(&self) -> &[u8] {
+        self.desk.notes.as_slice()
+    }
+
+    /// All output is written to where it goes: the server may send as many bytes again.
+    pub fn clear_output(&mut self) {
+        self.desk.clear_output();
+    }
+
+    /// Tests whether more of the command's input can be given now.
+    pub fn wants_input(&self) -> bool {
+        self.desk.wants_input()
+    }
+
+    /// Gives bytes of the command's input; none where it has ended.
+    pub fn give_input(&mut self, bytes: &[u8]) -> Result<(), AllocError> {
+        self.desk.give_input(bytes)
+    }
+}
+
+impl<R: RandomSource + Drop> Machine for Client<'_, R> {
+    fn take(&mut self, piece: &[u8], out: &mut Vec<u8>) -> Result<(), PipeError> {
+        let mut rest = piece;
+        // Each call uses a byte at least.
+        for _ in 0..piece.len() {
+            if rest.is_empty() || self.end.is_dead() {
+                break;
+            }
+            let used = self.end.take(rest, out)?;
+            rest = rest.split_at(used).1;
+            self.desk.hear(&self.end.turn())?;
+            self.go_on(out)?;
+        }
+        Ok(())
+    }
+
+    fn go_on(&mut self, out: &mut Vec<u8>) -> Result<(), PipeError> {
+        if self.end.is_dead() {
+            return Ok(());
+        }
+        self.supply.keep_fresh(&mut self.end, out)?;
+        if self.desk.work(&mut self.end, out)? {
+            self.desk.flow_on(&mut self.end, out)?;
+        }
+        Ok(())
+    }
+
+    fn is_over(&self) -> bool {
+        self.end.is_dead()
+    }
+}

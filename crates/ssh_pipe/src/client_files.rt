@@ -1,0 +1,108 @@
+//! A client whose command has files for its input and output.
+
+use crate::client::Client;
+use crate::ending::Ending;
+use crate::error::PipeError;
+use crate::machine::Machine;
+use std::alloc::{AllocError, Global};
+use std::io::{ErrorKind, Read, Write};
+use std::random::RandomSource;
+
+/// A client with what its command reads, and where its output goes.
+#[derive(Drop)]
+pub struct ClientFiles<
+    'a,
+    R: RandomSource + Drop,
+    I: Read + Drop,
+    O: Write + Drop,
+    E: Write + Drop,
+> {
+    client: Client<'a, R>,
+    input: Option<I>,
+    output: O,
+    error_output: E,
+    piece: Vec<u8>,
+}
+
+// So many bytes of the input are read at once.
+const PIECE: usize = 32_768;
+
+impl<'a, R: RandomSource + Drop, I: Read + Drop, O: Write + Drop, E: Write + Drop> ClientFiles<
+    'a,
+    R,
+    I,
+    O,
+    E,
+> {
+    /// This client, whose command reads nothing where there is no `input`.
+    pub fn new(
+        alloc: Global,
+        client: Client<'a, R>,
+        input: Option<I>,
+        output: O,
+        error_output: E,
+    ) -> Result<ClientFiles<'a, R, I, O, E>, AllocError> {
+        Ok(ClientFiles {
+            client,
+            input,
+            output,
+            error_output,
+            piece: vec![in alloc; 0u8; PIECE]?,
+        })
+    }
+
+    /// How the session ended, once that is known.
+    pub fn take_ending(&mut self) -> Option<Ending> {
+        self.client.take_ending()
+    }
+
+    // Writes what the command wrote, and what the server says to the user.
+    fn write_output(&mut self) -> Result<(), PipeError> {
+        self.error_output
+            .write_all(self.client.notes())
+            .map_err(PipeError::Output)?;
+        self.output
+            .write_all(self.client.output())
+            .map_err(PipeError::Output)?;
+        self.error_output
+            .write_all(self.client.error_output())
+            .map_err(PipeError::Output)?;
+        self.client.clear_output();
+        Ok(())
+    }
+
+    // Reads a piece of the input, where the client wants more.
+    fn read_input(&mut self) -> Result<(), PipeError> {
+        if !self.client.wants_input() {
+            return Ok(());
+        }
+        let count = match &mut self.input {
+            None => 0,
+            Some(input) => match input.read(&mut self.piece) {
+                Ok(count) => count,
+                Err(error) if error.kind() == ErrorKind::Interrupted => return Ok(()),
+                Err(error) => return Err(PipeError::Input(error)),
+            },
+        };
+        let piece = self.piece.as_slice().get(..count).unwrap_or(&[]);
+        self.client.give_input(piece)?;
+        Ok(())
+    }
+}
+
+impl<R: RandomSource + Drop, I: Read + Drop, O: Write + Drop, E: Write + Drop> Machine
+    for ClientFiles<'_, R, I, O, E> {
+    fn take(&mut self, piece: &[u8], out: &mut Vec<u8>) -> Result<(), PipeError> {
+        self.client.take(piece, out)
+    }
+
+    fn go_on(&mut self, out: &mut Vec<u8>) -> Result<(), PipeError> {
+        self.write_output()?;
+        self.read_input()?;
+        self.client.go_on(out)
+    }
+
+    fn is_over(&self) -> bool {
+        self.client.is_over()
+    }
+}

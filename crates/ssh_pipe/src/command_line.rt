@@ -1,0 +1,172 @@
+//! The words after the program's name.
+
+mod words;
+
+use crate::client::RequestKind;
+use crate::policy::{EPOCH_LIMIT, LEAST_WINDOW, MOST_WINDOW, Policy};
+use clap::ArgMatches;
+use std::alloc::{AllocError, Global};
+use std::convert::AsStr;
+use thiserror::Error;
+use words::command;
+
+/// What the program is called to do.
+#[derive(Clone, Copy, Debug, PartialEq, Eq)]
+pub enum Call<'a> {
+    /// Be a client.
+    Client(ClientOptions<'a>),
+    /// Be a server.
+    Server(ServerOptions<'a>),
+}
+
+/// What a client is told.
+#[derive(Clone, Copy, Debug, PartialEq, Eq)]
+pub struct ClientOptions<'a> {
+    /// The user's name at the server.
+    pub user: &'a str,
+    /// The file with the key of the server.
+    pub host_key: &'a str,
+    /// The name under which the file has it.
+    pub host: Option<&'a str>,
+    /// The file of the user's private key.
+    pub identity: Option<&'a str>,
+    /// The file with the user's password.
+    pub password_file: Option<&'a str>,
+    /// The file that is the command's input.
+    pub input: Option<&'a str>,
+    /// The file for the command's output.
+    pub output: Option<&'a str>,
+    /// The file for its error output.
+    pub error_output: Option<&'a str>,
+    /// Whether the command is one or the name of a subsystem.
+    pub kind: RequestKind,
+    /// The command.
+    pub command: &'a str,
+    pub policy: Policy,
+}
+
+/// What a server is told.
+#[derive(Clone, Copy, Debug, PartialEq, Eq)]
+pub struct ServerOptions<'a> {
+    /// The file of the server's private key.
+    pub host_key: &'a str,
+    /// The name of the one user.
+    pub user: &'a str,
+    /// The file of the user's public keys.
+    pub authorized_keys: Option<&'a str>,
+    /// The file with the user's password.
+    pub password_file: Option<&'a str>,
+    pub policy: Policy,
+}
+
+/// Why the words are no call.
+#[derive(Debug, Drop, Error)]
+pub enum UsageFault {
+    /// The words are other ones than the program takes, or ask for help; the text says which it takes.
+    #[error("{0}")]
+    Words(clap::Error),
+    /// A word is missing.
+    #[error("no call: the words are client .. or server ..")]
+    NoCall,
+    /// A number is not one that the option takes.
+    #[error("{option} takes a number of {least} to {most}")]
+    Number {
+        option: &'static str,
+        least: u32,
+        most: u32,
+    },
+    #[error("memory was refused")]
+    Memory(#[from(alloc)] AllocError),
+}
+
+/// Reads the words of a command line, the program's name the first.
+pub fn call_of<'a, S: AsStr>(alloc: Global, words: &'a [S]) -> Result<Call<'a>, UsageFault> {
+    let matches = match command(alloc)?.try_get_matches_from(words) {
+        Ok(matches) => matches,
+        Err(error) => return Err(UsageFault::Words(error)),
+    };
+    match matches.subcommand() {
+        Some(("client", rest)) => Ok(Call::Client(client_options(rest)?)),
+        Some(("server", rest)) => Ok(Call::Server(server_options(rest)?)),
+        _ => Err(UsageFault::NoCall),
+    }
+}
+
+fn client_options<'a>(words: &ArgMatches<'a>) -> Result<ClientOptions<'a>, UsageFault> {
+    let kind = if words.get_flag("subsystem") {
+        RequestKind::Subsystem
+    } else {
+        RequestKind::Exec
+    };
+    Ok(ClientOptions {
+        user: needed(words, "user")?,
+        host_key: needed(words, "host-key")?,
+        host: words.get_str("host"),
+        identity: words.get_str("identity"),
+        password_file: words.get_str("password-file"),
+        input: words.get_str("input"),
+        output: words.get_str("output"),
+        error_output: words.get_str("error-output"),
+        kind,
+        command: needed(words, "COMMAND")?,
+        policy: policy(words)?,
+    })
+}
+
+fn server_options<'a>(words: &ArgMatches<'a>) -> Result<ServerOptions<'a>, UsageFault> {
+    Ok(ServerOptions {
+        host_key: needed(words, "host-key")?,
+        user: needed(words, "user")?,
+        authorized_keys: words.get_str("authorized-keys"),
+        password_file: words.get_str("password-file"),
+        policy: policy(words)?,
+    })
+}
+
+// The value of an option that is required.
+fn needed<'a>(words: &ArgMatches<'a>, option: &str) -> Result<&'a str, UsageFault> {
+    words.get_str(option).ok_or(UsageFault::NoCall)
+}
+
+// The smallest number of packets after which keys can be exchanged again.
+const LEAST_EPOCH_LIMIT: u32 = 64;
+
+fn policy(words: &ArgMatches<'_>) -> Result<Policy, UsageFault> {
+    Ok(Policy {
+        window: number(
+            words.get_str("window"),
+            "--window",
+            LEAST_WINDOW,
+            MOST_WINDOW,
+        )?
+        .unwrap_or(Policy::DEFAULT.window),
+        epoch_limit: number(
+            words.get_str("rekey-after"),
+            "--rekey-after",
+            LEAST_EPOCH_LIMIT,
+            EPOCH_LIMIT,
+        )?
+        .unwrap_or(Policy::DEFAULT.epoch_limit),
+        offers_none: words.get_flag("offer-none"),
+    })
+}
+
+// The number that a word is, within these bounds.
+fn number(
+    word: Option<&str>,
+    option: &'static str,
+    least: u32,
+    most: u32,
+) -> Result<Option<u32>, UsageFault> {
+    let Some(word) = word else {
+        return Ok(None);
+    };
+    match word.parse::<u32>() {
+        Ok(number) if least <= number && number <= most => Ok(Some(number)),
+        _ => Err(UsageFault::Number {
+            option,
+            least,
+            most,
+        }),
+    }
+}

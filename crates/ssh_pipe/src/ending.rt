@@ -1,0 +1,80 @@
+//! How a session ended.
+
+use ssh_types::Refusal;
+use std::alloc::{AllocError, Global};
+use std::fmt;
+
+/// How a session ended, as one of its ends saw it.
+#[derive(Debug, Drop, PartialEq, Eq)]
+pub enum Ending {
+    /// This end refused its peer.
+    Refused(Refusal),
+    /// The peer said that it ends the connection (RFC 4253 section 11.1).
+    Disconnected { reason: u32, description: Vec<u8> },
+    /// The command ended with this status (RFC 4254 section 6.10).
+    Status(u32),
+    /// A signal of this name ended the command (RFC 4254 section 6.10).
+    Signal(Vec<u8>),
+    /// The channel was closed, and how the command ended was not said.
+    NoStatus,
+    /// The user is not let in; these methods could go on (RFC 4252 section 5.1).
+    NotLetIn { methods: Vec<u8> },
+    /// The server opens no channel (RFC 4254 section 5.1).
+    NoChannel { reason: u32, description: Vec<u8> },
+    /// The server doesn't run the command.
+    NoCommand,
+}
+
+impl Ending {
+    /// That the peer ends the connection.
+    pub(crate) fn disconnected(
+        alloc: Global,
+        reason: u32,
+        description: &[u8],
+    ) -> Result<Ending, AllocError> {
+        Ok(Ending::Disconnected {
+            reason,
+            description: Vec::from_slice(alloc, description)?,
+        })
+    }
+}
+
+// Texts of the peer are shown with all but printable US-ASCII characters as escapes, so that they do nothing to a terminal.
+impl fmt::Display for Ending {
+    fn fmt<W: fmt::Write>(&self, f: &mut fmt::Formatter<W>) -> fmt::Result {
+        match self {
+            Ending::Refused(refusal) => {
+                let (number, name) = (refusal.number(), refusal.name());
+                write!(
+                    f,
+                    "the peer is refused: {refusal} (refusal {number} {name})"
+                )
+            }
+            Ending::Disconnected {
+                reason,
+                description,
+            } => {
+                let text = description.as_slice().escape_ascii();
+                write!(f, "the peer ended the connection: {text} (reason {reason})")
+            }
+            Ending::Status(status) => write!(f, "the command ended with status {status}"),
+            Ending::Signal(name) => {
+                let name = name.as_slice().escape_ascii();
+                write!(f, "the command was ended by the signal {name}")
+            }
+            Ending::NoStatus => write!(f, "the server did not say how the command ended"),
+            Ending::NotLetIn { methods } => {
+                let methods = methods.as_slice().escape_ascii();
+                write!(f, "the server lets the user not in (methods: {methods})")
+            }
+            Ending::NoChannel {
+                reason,
+                description,
+            } => {
+                let text = description.as_slice().escape_ascii();
+                write!(f, "the server opens no channel: {text} (reason {reason})")
+            }
+            Ending::NoCommand => write!(f, "the server does not run this command"),
+        }
+    }
+}

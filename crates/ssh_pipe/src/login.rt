@@ -1,0 +1,48 @@
+//! How a client's user asks to be let in.
+
+use crate::user_key::UserKey;
+use ssh_auth::UserAsk;
+use ssh_types::NameList;
+
+/// The user of a client with what lets the user in: a key, a password or both.
+#[derive(Clone, Copy)]
+pub struct Login<'a> {
+    user: &'a [u8],
+    key: Option<[u8; 51]>,
+    password: Option<&'a [u8]>,
+}
+
+impl<'a> Login<'a> {
+    /// This user, with this key and this password.
+    pub fn new(user: &'a [u8], key: &UserKey, password: Option<&'a [u8]>) -> Login<'a> {
+        Login {
+            user,
+            key: key.signer.map(|signer| *signer.public_key()),
+            password,
+        }
+    }
+
+    /// What is asked for next: the key comes before the password, and `none` asks which methods there are.
+    pub fn ask(&self) -> UserAsk<'_> {
+        match (&self.key, self.password) {
+            (Some(key), _) => UserAsk::Sign {
+                user: self.user,
+                algorithm: b"ssh-ed25519",
+                key,
+            },
+            (None, Some(password)) => UserAsk::Password {
+                user: self.user,
+                password,
+            },
+            (None, None) => UserAsk::None { user: self.user },
+        }
+    }
+
+    /// What was asked for failed, and these methods can go on. Answers whether there is another thing to ask for. A password is sent only where the server
+    /// names the method.
+    pub fn fail(&mut self, methods: &NameList<'_>) -> bool {
+        let was_key = self.key.is_some();
+        self.key = None;
+        was_key && self.password.is_some() && methods.contains(b"password")
+    }
+}

@@ -1,0 +1,74 @@
+//! Settings and supplied parts of both ends.
+
+use crate::policy::{PaddingSource, Policy, TRIES};
+use ssh_packet::MacOnly;
+use ssh_parts::{Aes128Gcm, Curve25519, Ed25519Signer, Ed25519Trust, Either};
+use ssh_transport_base::{ClientParts, Config, ConfigError, ServerParts, Settings, Strictness};
+use std::alloc::Global;
+
+/// The sealing of both ends: AES-128-GCM, and `none` with hmac-sha2-256 where a policy offers it.
+pub type PipeSealing = Either<Aes128Gcm, MacOnly>;
+
+/// The parts of a client.
+pub struct PipeClient;
+
+impl ClientParts for PipeClient {
+    type Sealing = PipeSealing;
+
+    type Filler = PaddingSource;
+
+    type Agreement = Curve25519;
+
+    type HostTrust = Ed25519Trust;
+}
+
+/// The parts of a server.
+pub struct PipeServer;
+
+impl ServerParts for PipeServer {
+    type Sealing = PipeSealing;
+
+    type Filler = PaddingSource;
+
+    type Agreement = Curve25519;
+
+    type HostSigner = Ed25519Signer;
+}
+
+const GCM: &[u8] = b"aes128-gcm@openssh.com";
+
+const NONE: &[u8] = b"none";
+
+/// The methods of authentication that there are (RFC 4252 sections 7 and 8).
+pub const METHODS: &[&[u8]] = &[b"publickey", b"password"];
+
+/// The settings of an end, which requires strict key exchange, under this policy. `methods` are those of authentication that a server names; at a client
+/// they mean nothing.
+pub fn config(
+    alloc: Global,
+    policy: &Policy,
+    methods: &[&[u8]],
+) -> Result<Config<PipeSealing>, ConfigError> {
+    let encryption: &[&[u8]] = if policy.offers_none {
+        &[GCM, NONE]
+    } else {
+        &[GCM]
+    };
+    Config::new(
+        alloc,
+        &Settings {
+            software: b"Divrelca",
+            comments: None,
+            kex: &[b"curve25519-sha256"],
+            host: &[b"ssh-ed25519"],
+            encryption,
+            mac: &[b"hmac-sha2-256"],
+            epoch_limit: policy.epoch_limit,
+            tries: TRIES,
+            methods,
+            strictness: Strictness::Require,
+            takes_extensions: false,
+            extensions: &[],
+        },
+    )
+}

@@ -1,0 +1,79 @@
+//! What a program decides by itself that embeds an end: how large windows and packets are, when a window is given back, how much is sent at once,
+//! and when keys are fed and exchanged. Everything else is the protocol's, and the end does it.
+//!
+//! - **Windows.** A channel's `Window` counts what the peer may send, what came and is not done with, and what is done with and not given back. The
+//!   three are the window's size at all times, so never more than that is held. It is given back once half of it is done with.
+//! - **Sending.** A packet has as many bytes of data as wait and as both the peer's window and its largest packet allow (`data_len`).
+//! - **Keys.** A `KeySupply` keeps the end fed with one cookie and one secret, and begins an exchange where it is due: after `EPOCH_LIMIT` packets.
+
+ghost use Rattle.std.specs.Prelude.{◌≡◌, ◌<◌, ◌≤◌};
+
+mod keys;
+mod window;
+
+pub use keys::{KeySupply, Material, PaddingSource};
+pub use window::Window;
+
+/// The largest data of one packet, sent and offered to be taken, in bytes (RFC 4254 section 5.2). An ask for more is refused.
+pub const MOST_DATA: u32 = 32_768;
+
+/// The window of a channel, in bytes, where its user names no other: 64 of the largest packets, as OpenSSH has it.
+pub const WINDOW: u32 = 2_097_152;
+
+/// The smallest window that a user may name, in bytes.
+pub const LEAST_WINDOW: u32 = 1_024;
+
+/// The largest window that a user may name, in bytes.
+pub const MOST_WINDOW: u32 = 1_073_741_824;
+
+/// After so many packets sent under the keys of one exchange the next one is due.
+pub const EPOCH_LIMIT: u32 = 1_048_576;
+
+// The blocks of 16 bytes in the longest packet, of 35,000 bytes.
+const MOST_BLOCKS: u64 = 2_188;
+
+// Fewer than 2^32 blocks go under one key, as RFC 4344 section 3.2 asks for blocks of 16 bytes.
+const _: () = prove!((EPOCH_LIMIT as u64) * MOST_BLOCKS < 4_294_967_296);
+
+/// Once so many bytes wait to be written, they are written before more is put behind them.
+pub const MOST_WAITING: usize = 1_048_576;
+
+/// How many channels a client may have at a server at a time.
+pub const MOST_SESSIONS: usize = 10;
+
+/// How many requests for authentication a server lets fail (RFC 4252 section 4).
+pub const TRIES: u32 = 6;
+
+/// What a user can set.
+#[derive(Clone, Copy, Debug, PartialEq, Eq)]
+pub struct Policy {
+    /// The window of a channel, in bytes: `LEAST_WINDOW` to `MOST_WINDOW`.
+    pub window: u32,
+    /// After so many packets sent under the keys of one exchange the next one is due: 64 to `EPOCH_LIMIT`.
+    pub epoch_limit: u32,
+    /// Whether `none` with hmac-sha2-256 is offered behind aes128-gcm@openssh.com. **It hides nothing**: whoever sees the bytes reads them, passwords
+    /// too.
+    pub offers_none: bool,
+}
+
+impl Policy {
+    /// What holds where the user sets nothing.
+    pub const DEFAULT: Policy = Policy {
+        window: WINDOW,
+        epoch_limit: EPOCH_LIMIT,
+        offers_none: false,
+    };
+}
+
+/// How many bytes of those that wait go into the next packet of data, for a channel into whose window `room` bytes fit and whose peer takes at most
+/// `max_packet` at once (RFC 4254 section 5.2). None only where nothing may be sent or nothing waits.
+pub fn data_len(room: u32, max_packet: u32, waiting: usize) -> usize
+    ensures room { result ≤ room }
+    ensures packet { result ≤ max_packet }
+    ensures most { result ≤ MOST_DATA }
+    ensures waiting { result ≤ waiting }
+    ensures some { 0 < room → 0 < max_packet → 0 < waiting → 0 < result }
+{
+    let most = room.min(max_packet).min(MOST_DATA) as usize;
+    most.min(waiting)
+}

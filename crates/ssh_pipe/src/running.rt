@@ -1,0 +1,148 @@
+//! From options to a session and its exit status.
+
+mod error;
+mod inputs;
+
+use crate::client::{Client, Request};
+use crate::client_files::ClientFiles;
+use crate::command_line::{ClientOptions, ServerOptions, UsageFault};
+use crate::ending::Ending;
+use crate::login::Login;
+use crate::machine::pump;
+use crate::server::Server;
+use crate::status::Status;
+use crate::texts::string_of;
+use crate::user_key::UserKey;
+use crate::users::{OneUser, PasswordHash};
+pub use error::RunError;
+use inputs::{accepted_keys, opened, password_in, private_key_in, sink, trusted_key_in};
+use ssh_parts::Ed25519Signer;
+use std::fmt::Display;
+use std::io::{Read, Write};
+use std::random::RandomSource;
+use std::rt::Files;
+
+/// Serves one connection as the options say. Why it can't, or whom it refused, is told on `err`.
+pub fn serve<R: Files + AllocGlobal + RandomSource, I: Read, O: Write, E: Write>(
+    rt: &R,
+    options: &ServerOptions<'_>,
+    input: &mut I,
+    output: &mut O,
+    err: &mut E,
+) -> Status {
+    match served(rt, options, input, output) {
+        Ok(Some(ending @ Ending::Refused(_))) => report(ending, err, Status::Refused),
+        Ok(_) => Status::Done,
+        Err(error) => report(error, err, Status::Fault),
+    }
+}
+
+/// Runs one command at the server as the options say. Why it can't is told on `err`; there the command's output goes too, where the options name no file.
+pub fn call<R: Files + AllocGlobal + RandomSource, I: Read, O: Write, E: Write + Copy>(
+    rt: &R,
+    options: &ClientOptions<'_>,
+    input: &mut I,
+    output: &mut O,
+    mut err: E,
+) -> Status {
+    match called(rt, options, input, output, err) {
+        Ok(Some(Ending::Status(status))) => Status::Command((status % 256) as u8),
+        Ok(Some(ending)) => report(ending, &mut err, Status::Failed),
+        Ok(None) => report("the server closed the connection", &mut err, Status::Failed),
+        Err(error) => report(error, &mut err, Status::Failed),
+    }
+}
+
+// A session of the server, and how it ended.
+fn served<'a, R: Files + AllocGlobal + RandomSource, I: Read, O: Write>(
+    rt: &R,
+    options: &ServerOptions<'a>,
+    input: &mut I,
+    output: &mut O,
+) -> Result<Option<Ending>, RunError<'a>> {
+    let alloc = rt.alloc();
+    let host_key = private_key_in(rt, options.host_key)?;
+    let keys = accepted_keys(rt, options.authorized_keys, options.user)?;
+    let password = password_in(rt, options.password_file)?;
+    if keys.is_empty() && password.is_none() {
+        return Err(RunError::NoWayIn);
+    }
+    let user = OneUser {
+        name: options.user.as_bytes(),
+        keys: keys.as_slice(),
+        password: password.map(|word| PasswordHash::new(word.as_slice())),
+    };
+    let mut out = Vec::new(alloc);
+    let signer = Ed25519Signer::new(&host_key.seed);
+    let mut server = Server::new(alloc, &options.policy, rt, signer, user, &mut out)?;
+    pump(alloc, &mut server, input, output, out)?;
+    Ok(server.take_ending())
+}
+
+// A session of the client, and how it ended.
+fn called<'a, R: Files + AllocGlobal + RandomSource, I: Read, O: Write, E: Write + Copy>(
+    rt: &R,
+    options: &ClientOptions<'a>,
+    input: &mut I,
+    output: &mut O,
+    err: E,
+) -> Result<Option<Ending>, RunError<'a>> {
+    let alloc = rt.alloc();
+    let host = trusted_key_in(rt, options.host_key, options.host)?;
+    let key = user_key(rt, options.identity)?;
+    let password = password_in(rt, options.password_file)?;
+    let word = password.as_ref().map(|word| word.as_slice());
+    let login = Login::new(options.user.as_bytes(), &key, word);
+    let text = string_of(alloc, options.command.as_bytes())?.ok_or(RunError::LongCommand)?;
+    let request = Request {
+        kind: options.kind,
+        text: text.as_slice(),
+    };
+    let read_from = opened(rt, options.input)?;
+    let written_to = sink(rt, options.output, err)?;
+    let errors_to = sink(rt, options.error_output, err)?;
+    let mut out = Vec::new(alloc);
+    let client = Client::new(
+        alloc,
+        &options.policy,
+        rt,
+        host,
+        key,
+        login,
+        request,
+        &mut out,
+    )?;
+    let mut files = ClientFiles::new(alloc, client, read_from, written_to, errors_to)?;
+    pump(alloc, &mut files, input, output, out)?;
+    Ok(files.take_ending())
+}
+
+// The user's key, where there is one.
+fn user_key<'a, R: Files + AllocGlobal>(
+    rt: &R,
+    file: Option<&'a str>,
+) -> Result<UserKey, RunError<'a>> {
+    let signer = match file {
+        Some(file) => Some(Ed25519Signer::new(&private_key_in(rt, file)?.seed)),
+        None => None,
+    };
+    Ok(UserKey { signer })
+}
+
+/// Tells of a fault of usage on `err`.
+pub fn refuse<E: Write>(fault: UsageFault, err: &mut E) -> Status {
+    match fault {
+        UsageFault::Words(text) => {
+            let _ = writeln!(err, "{text}");
+            Status::Fault
+        }
+        fault => report(fault, err, Status::Fault),
+    }
+}
+
+/// Says on `err` what went wrong, and answers the status.
+pub fn report<F: Display + Drop, E: Write>(fault: F, err: &mut E, status: Status) -> Status {
+    // Where even this can't be written, the status alone tells of the fault.
+    let _ = writeln!(err, "error: {fault}");
+    status
+}

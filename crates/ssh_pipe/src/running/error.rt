@@ -1,0 +1,46 @@
+//! Why a session doesn't begin, or can't go on.
+
+use crate::error::PipeError;
+use crate::texts::MOST_COMMAND_BYTES;
+use ssh_key_files::FileFault;
+use std::alloc::{AllocError, AllocFailed};
+use std::io;
+use thiserror::Error;
+
+/// Why a session doesn't begin, or can't go on.
+#[derive(Debug, Drop, Error)]
+pub enum RunError<'a> {
+    /// A file can't be read or made.
+    #[error("{file}: {error}")]
+    File { file: &'a str, error: io::Error },
+    /// A file is not what it has to be.
+    #[error("{file}: {fault}")]
+    Content { file: &'a str, fault: FileFault },
+    /// There is nothing by which the user could be let in.
+    #[error("nobody can be let in: name --authorized-keys or --password-file")]
+    NoWayIn,
+    /// The command is too long.
+    #[error("the command has more than {MOST_COMMAND_BYTES} bytes")]
+    LongCommand,
+    /// The session can't go on.
+    #[error("{0}")]
+    Session(PipeError),
+}
+
+impl From<AllocError> for RunError<'_> {
+    fn from(_error: AllocError) -> Self {
+        RunError::Session(PipeError::Memory)
+    }
+}
+
+impl<T: Drop> From<AllocFailed<T>> for RunError<'_> {
+    fn from(_error: AllocFailed<T>) -> Self {
+        RunError::Session(PipeError::Memory)
+    }
+}
+
+impl From<PipeError> for RunError<'_> {
+    fn from(error: PipeError) -> Self {
+        RunError::Session(error)
+    }
+}

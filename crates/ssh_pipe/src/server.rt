@@ -1,0 +1,97 @@
+//! The loop of a server whose channels run its own commands.
+
+mod desk;
+
+use crate::ending::Ending;
+use crate::error::PipeError;
+use crate::machine::Machine;
+use crate::parts::{METHODS, PipeServer, config};
+use crate::policy::{KeySupply, Policy};
+use crate::users::OneUser;
+use desk::Desk;
+use ssh_end::ServerEnd;
+use ssh_parts::{Curve25519, Ed25519Signer};
+use ssh_transport_base::ServerPartValues;
+use std::alloc::Global;
+use std::random::RandomSource;
+
+/// A server of SSH-2 for one connection. Bytes of the client go in, and bytes for it come out.
+#[derive(Drop)]
+pub struct Server<'a, R: RandomSource + Drop> {
+    end: ServerEnd<PipeServer, OneUser<'a>>,
+    supply: KeySupply<R>,
+    desk: Desk,
+}
+
+impl<'a, R: RandomSource + Drop> Server<'a, R> {
+    /// A server with this host key, that lets this user in, and that put its version line and its first KEXINIT into `out`.
+    pub fn new(
+        alloc: Global,
+        policy: &Policy,
+        source: R,
+        host_key: Ed25519Signer,
+        user: OneUser<'a>,
+        out: &mut Vec<u8>,
+    ) -> Result<Server<'a, R>, PipeError> {
+        let supply = KeySupply::new(source);
+        let first = supply.draw()?;
+        let parts = ServerPartValues {
+            filler: supply.padding()?,
+            agreement: Curve25519,
+            host_signer: host_key,
+        };
+        let config = config(alloc, policy, methods_of(&user))?;
+        let end = ServerEnd::new(alloc, config, parts, user, first.cookie, first.secret, out)?;
+        Ok(Server {
+            end,
+            supply,
+            desk: Desk::new(alloc, policy.window),
+        })
+    }
+
+    /// How the session ended, once that is known.
+    pub fn take_ending(&mut self) -> Option<Ending> {
+        self.desk.ending.take()
+    }
+}
+
+// The methods of authentication by which the user may come in (RFC 4252 sections 7 and 8).
+fn methods_of(user: &OneUser<'_>) -> &'static [&'static [u8]] {
+    match (user.keys.is_empty(), user.password) {
+        (true, _) => &[b"password"],
+        (false, None) => &[b"publickey"],
+        (false, Some(_)) => METHODS,
+    }
+}
+
+impl<R: RandomSource + Drop> Machine for Server<'_, R> {
+    fn take(&mut self, piece: &[u8], out: &mut Vec<u8>) -> Result<(), PipeError> {
+        let mut rest = piece;
+        // Each call uses a byte at least.
+        for _ in 0..piece.len() {
+            if rest.is_empty() || self.end.is_dead() {
+                break;
+            }
+            let used = self.end.take(rest, out)?;
+            rest = rest.split_at(used).1;
+            self.desk.hear(&self.end.turn())?;
+            self.go_on(out)?;
+        }
+        Ok(())
+    }
+
+    fn go_on(&mut self, out: &mut Vec<u8>) -> Result<(), PipeError> {
+        if self.end.is_dead() {
+            return Ok(());
+        }
+        self.supply.keep_fresh(&mut self.end, out)?;
+        if self.desk.work(&mut self.end, out)? {
+            self.desk.flow_on(&mut self.end, out)?;
+        }
+        Ok(())
+    }
+
+    fn is_over(&self) -> bool {
+        self.end.is_dead()
+    }
+}

@@ -1,0 +1,199 @@
+//! What a server keeps beside its end, and what it does on what the end tells.
+
+use crate::end::{AskOutcome, End, asked};
+use crate::ending::Ending;
+use crate::policy::{MOST_DATA, MOST_SESSIONS};
+use crate::session::Session;
+use crate::tasks::Tasks;
+use ssh_channels::{Ask as ChannelAsk, Fact};
+use ssh_end::{Ask, Fault, Told, Turn};
+use std::alloc::{AllocError, Global};
+
+/// What a server keeps beside its end.
+#[derive(Drop)]
+pub(super) struct Desk {
+    alloc: Global,
+    // The window of each channel, in bytes.
+    window: u32,
+    // What waits for the end of an exchange of keys, the oldest first.
+    tasks: Tasks<Task>,
+    sessions: Vec<Session>,
+    /// How the session ended, once that is known.
+    pub ending: Option<Ending>,
+}
+
+// What is to be done on what the end told.
+#[derive(Clone, Copy)]
+enum Task {
+    // The channel that the client opens is confirmed.
+    Confirm { channel: u32 },
+    // It is refused, for this reason (RFC 4254 section 5.1).
+    Refuse { channel: u32, reason: u32 },
+    // A request on a channel is granted or refused.
+    Reply { channel: u32, success: bool },
+    // A global request is refused.
+    RefuseGlobal,
+}
+
+// The reasons for which a channel is refused (RFC 4254 section 5.1).
+const UNKNOWN_TYPE: u32 = 3;
+
+const RESOURCE_SHORTAGE: u32 = 4;
+
+impl Desk {
+    /// Nothing to do.
+    pub fn new(alloc: Global, window: u32) -> Desk {
+        Desk {
+            alloc,
+            window,
+            tasks: Tasks::new(alloc),
+            sessions: Vec::new(alloc),
+            ending: None,
+        }
+    }
+
+    /// Listens to what was told in a turn, and keeps what of it is needed.
+    pub fn hear(&mut self, turn: &Turn<'_>) -> Result<(), AllocError> {
+        if let Some(refusal) = turn.refused {
+            self.ending = Some(Ending::Refused(refusal));
+        }
+        match turn.told {
+            Some(
+                Told::Disconnected {
+                    reason,
+                    description,
+                },
+            ) => {
+                self.ending = Some(Ending::disconnected(self.alloc, reason, description)?);
+                Ok(())
+            }
+            Some(Told::Channel(fact)) => self.hear_of_channels(&fact),
+            _ => Ok(()),
+        }
+    }
+
+    // What is told of channels and global requests.
+    fn hear_of_channels(&mut self, fact: &Fact<'_>) -> Result<(), AllocError> {
+        match *fact {
+            Fact::Opened {
+                channel,
+                kind,
+                max_packet,
+                ..
+            } => self.open(channel, kind, max_packet),
+            Fact::Requested {
+                channel,
+                name,
+                want,
+                rest,
+            } => self.request(channel, name, want, rest),
+            Fact::GotData {
+                channel,
+                kind,
+                body,
+            } => {
+                for session in self.sessions.iter_mut() {
+                    if session.channel() == channel {
+                        session.take(kind, body)?;
+                    }
+                }
+                Ok(())
+            }
+            Fact::Ended { channel } => {
+                for session in self.sessions.iter_mut() {
+                    if session.channel() == channel {
+                        session.end();
+                    }
+                }
+                Ok(())
+            }
+            Fact::Closed { channel } => {
+                self.sessions.retain(|session| session.channel() != channel);
+                Ok(())
+            }
+            Fact::Global { want: true, .. } => self.tasks.add(Task::RefuseGlobal),
+            _ => Ok(()),
+        }
+    }
+
+    // The client opens a channel: a session is taken, as long as there are not too many.
+    fn open(&mut self, channel: u32, kind: &[u8], max_packet: u32) -> Result<(), AllocError> {
+        let task = if kind != b"session".as_slice() {
+            Task::Refuse {
+                channel,
+                reason: UNKNOWN_TYPE,
+            }
+        } else if self.sessions.len() >= MOST_SESSIONS {
+            Task::Refuse {
+                channel,
+                reason: RESOURCE_SHORTAGE,
+            }
+        } else {
+            let session = Session::new(self.alloc, channel, max_packet, self.window);
+            self.sessions.push(session)?;
+            Task::Confirm { channel }
+        };
+        self.tasks.add(task)
+    }
+
+    // The client makes a request on a channel.
+    fn request(
+        &mut self,
+        channel: u32,
+        name: &[u8],
+        want: bool,
+        rest: &[u8],
+    ) -> Result<(), AllocError> {
+        let mut success = false;
+        for session in self.sessions.iter_mut() {
+            if session.channel() == channel {
+                success = session.request(name, rest)?;
+            }
+        }
+        if want {
+            self.tasks.add(Task::Reply { channel, success })?;
+        }
+        Ok(())
+    }
+
+    /// Does what is to be done, the oldest first, and answers whether all of it is done.
+    pub fn work<E: End>(&mut self, end: &mut E, out: &mut Vec<u8>) -> Result<bool, Fault> {
+        for _ in 0..self.tasks.len() {
+            let Some(task) = self.tasks.first() else {
+                break;
+            };
+            let ask = ask_of(task, self.window);
+            if asked(end, &Ask::Connection(ask), out)? == AskOutcome::Later {
+                return Ok(false);
+            }
+            self.tasks.finish_first();
+        }
+        Ok(true)
+    }
+
+    /// Lets each session send what it can.
+    pub fn flow_on<E: End>(&mut self, end: &mut E, out: &mut Vec<u8>) -> Result<(), Fault> {
+        for session in self.sessions.iter_mut() {
+            session.go_on(end, out)?;
+        }
+        Ok(())
+    }
+}
+
+// What the end is asked for.
+fn ask_of(task: Task, window: u32) -> ChannelAsk<'static> {
+    match task {
+        Task::Confirm { channel } => ChannelAsk::Confirm {
+            channel,
+            window,
+            max_packet: MOST_DATA,
+            rest: b"",
+        },
+        Task::Refuse { channel, reason } => ChannelAsk::Refuse { channel, reason },
+        Task::Reply { channel, success } => ChannelAsk::Reply { channel, success },
+        Task::RefuseGlobal => ChannelAsk::GlobalReply {
+            success: false,
+            rest: b"",
+        },
+    }
+}

@@ -1,0 +1,34 @@
+//! Exit statuses.
+
+ghost use Rattle.std.specs.Prelude.{◌≡◌};
+ghost use Rattle.ssh_pipe.specs.Status.{code_of};
+
+/// What a run of the program came to.
+#[derive(Clone, Copy, Debug, PartialEq, Eq)]
+pub enum Status {
+    /// A server's session is over, and nothing was refused.
+    Done,
+    /// A server refused its peer.
+    Refused,
+    /// A fault of usage, file, memory or input and output.
+    Fault,
+    /// A client's command ended with this status.
+    Command(u8),
+    /// A client has no status of a command.
+    Failed,
+}
+
+impl Status {
+    /// The exit status: 0 for `Done`, 1 for `Refused`, 2 for `Fault`, the command's own, and 255 for `Failed`, as `ssh` has it.
+    pub fn code(self) -> u8
+        ensures { result ≡ code_of self }
+    {
+        match self {
+            Status::Done => 0,
+            Status::Refused => 1,
+            Status::Fault => 2,
+            Status::Command(status) => status,
+            Status::Failed => 255,
+        }
+    }
+}

@@ -1,0 +1,31 @@
+//! The program `ssh_pipe`: `client` runs one command at a server, `server` serves one connection. Standard input is what the peer sends, and standard
+//! output what goes to it.
+#![tactic(auto)]
+
+use ssh_pipe::command_line::{Call, call_of};
+use ssh_pipe::{Status, call, refuse, report, serve};
+use std::process::ExitCode;
+use std::rt::Env;
+use std::{env, io};
+
+fn main(rt: HostRuntime) -> ExitCode {
+    let mut err = rt.stderr();
+    let status = match words_of(&rt) {
+        Ok(words) => match call_of(rt.alloc(), words.as_slice()) {
+            Ok(Call::Client(options)) => {
+                call(&rt, &options, &mut rt.stdin(), &mut rt.stdout(), err)
+            }
+            Ok(Call::Server(options)) => {
+                serve(&rt, &options, &mut rt.stdin(), &mut rt.stdout(), &mut err)
+            }
+            Err(fault) => refuse(fault, &mut err),
+        },
+        Err(error) => report(error, &mut err, Status::Fault),
+    };
+    ExitCode::from(status.code())
+}
+
+fn words_of<R: Env + AllocGlobal>(rt: &R) -> io::Result<Vec<String>> {
+    let words: Vec<String> = env::args(rt)?.collect(rt.alloc())?;
+    Ok(words)
+}
