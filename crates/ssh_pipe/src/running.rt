@@ -46,7 +46,7 @@ pub fn call<R: Files + AllocGlobal + RandomSource, I: Read, O: Write, E: Write +
     mut err: E,
 ) -> Status {
     match called(rt, options, input, output, err) {
-        Ok(Some(Ending::Status(status))) => Status::Command((status % 256) as u8),
+        Ok(Some(Ending::Status(status))) => Status::Command(u8::try_from(status).unwrap_or(255)),
         Ok(Some(ending)) => report(ending, &mut err, Status::Failed),
         Ok(None) => report("the server closed the connection", &mut err, Status::Failed),
         Err(error) => report(error, &mut err, Status::Failed),

@@ -12,7 +12,7 @@ pub enum Status {
     Refused,
     /// A fault of usage, file, memory or input and output.
     Fault,
-    /// A client's command ended with this status.
+    /// A client's command ended with this status, or with one above 255, which stands as 255.
     Command(u8),
     /// A client has no status of a command.
     Failed,

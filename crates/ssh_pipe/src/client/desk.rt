@@ -32,6 +32,8 @@ pub(super) struct Desk<'a> {
     pub error_output: Vec<u8>,
     /// What the server says to the user.
     pub notes: Vec<u8>,
+    // How the command ended, once that was said. It counts once the channel is closed, since output may follow.
+    status: Option<Ending>,
     /// How the session ended, once that is known.
     pub ending: Option<Ending>,
 }
@@ -69,6 +71,7 @@ impl<'a> Desk<'a> {
             output: Vec::new(alloc),
             error_output: Vec::new(alloc),
             notes: Vec::new(alloc),
+            status: None,
             ending: None,
         }
     }
@@ -181,7 +184,10 @@ impl<'a> Desk<'a> {
                 Ok(())
             }
             Fact::RequestDone { success: false, .. } => self.end_by(Ending::NoCommand),
-            Fact::Closed { .. } => self.end_by(Ending::NoStatus),
+            Fact::Closed { .. } => {
+                let ending = self.status.take().unwrap_or(Ending::NoStatus);
+                self.end_by(ending)
+            }
             Fact::GotData { kind, body, .. } => self.got(kind, body),
             ref other => self.hear_of_requests(other),
         }
@@ -224,7 +230,7 @@ impl<'a> Desk<'a> {
         }
     }
 
-    // How the command ended.
+    // What is said of how the command ended.
     fn learn(&mut self, name: &[u8], rest: &[u8]) -> Result<(), AllocError> {
         let ending = match name {
             b"exit-status" => number_in(rest).map(Ending::Status),
@@ -234,8 +240,8 @@ impl<'a> Desk<'a> {
             },
             _ => None,
         };
-        if ending.is_some() && self.ending.is_none() {
-            self.ending = ending;
+        if ending.is_some() {
+            self.status = ending;
         }
         Ok(())
     }

@@ -8,38 +8,38 @@ pub struct Window {
     /// What was offered when the channel was opened.
     pub size: u32,
     /// What the peer may still send.
-    pub open: u32,
+    pub granted: u32,
     /// What came and is not done with.
     pub held: u32,
     /// What is done with and not given back.
     pub done: u32,
-    ghost adds_up: { open + held + done ≡ size },
+    ghost adds_up: { granted + held + done ≡ size },
 }
 
 impl Window {
     /// A window of this size, of which nothing is used.
     pub fn new(size: u32) -> Window
         ensures size { result.size ≡ size }
-        ensures open { result.open ≡ size }
+        ensures granted { result.granted ≡ size }
     {
         Window {
             size,
-            open: size,
+            granted: size,
             held: 0,
             done: 0,
         }
     }
 
-    /// So many bytes came. An end refuses a peer that sends more than is open, and no more than that is counted.
+    /// So many bytes came. An end refuses a peer that sends more than that, and no more than that is counted.
     pub fn take(&mut self, bytes: usize)
         ensures size { self.new.size ≡ self.old.size }
-        ensures held { bytes ≤ self.old.open → self.new.held ≡ self.old.held + bytes }
-        ensures open { bytes ≤ self.old.open → self.new.open + bytes ≡ self.old.open }
+        ensures held { bytes ≤ self.old.granted → self.new.held ≡ self.old.held + bytes }
+        ensures granted { bytes ≤ self.old.granted → self.new.granted + bytes ≡ self.old.granted }
     {
-        let bytes = bytes.min(self.open as usize) as u32;
+        let bytes = bytes.min(self.granted as usize) as u32;
         *self = Window {
             size: self.size,
-            open: self.open - bytes,
+            granted: self.granted - bytes,
             held: self.held + bytes,
             done: self.done,
         };
@@ -48,13 +48,13 @@ impl Window {
     /// So many of the bytes that came are done with.
     pub fn finish(&mut self, bytes: usize)
         ensures size { self.new.size ≡ self.old.size }
-        ensures open { self.new.open ≡ self.old.open }
+        ensures granted { self.new.granted ≡ self.old.granted }
         ensures done { bytes ≤ self.old.held → self.new.done ≡ self.old.done + bytes }
     {
         let bytes = bytes.min(self.held as usize) as u32;
         *self = Window {
             size: self.size,
-            open: self.open,
+            granted: self.granted,
             held: self.held - bytes,
             done: self.done + bytes,
         };
@@ -65,7 +65,7 @@ impl Window {
     pub fn due(&self) -> Option<u32>
         ensures all { IfSome result (λ bytes. bytes ≡ self.now.done) }
         ensures some { IfSome result (λ bytes. 0 < bytes) }
-        ensures never_waits { self.now.open ≡ 0 → self.now.held ≡ 0 → 0 < self.now.size → IsSome result }
+        ensures never_waits { self.now.granted ≡ 0 → self.now.held ≡ 0 → 0 < self.now.size → IsSome result }
     {
         if self.done > 0 && self.done >= self.size / 2 {
             Some(self.done)
@@ -77,13 +77,13 @@ impl Window {
     /// What is done with was given back.
     pub fn give_back(&mut self)
         ensures size { self.new.size ≡ self.old.size }
-        ensures open { self.new.open ≡ self.old.open + self.old.done }
+        ensures granted { self.new.granted ≡ self.old.granted + self.old.done }
         ensures held { self.new.held ≡ self.old.held }
         ensures done { self.new.done ≡ 0 }
     {
         *self = Window {
             size: self.size,
-            open: self.open + self.done,
+            granted: self.granted + self.done,
             held: self.held,
             done: 0,
         };

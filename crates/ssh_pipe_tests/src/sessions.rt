@@ -1,0 +1,290 @@
+//! Sessions of a client and a server with nothing between them but bytes, over random bytes that are counted, so that each run is the same.
+
+use crate::samples::{PUBLIC_BYTES, SEED};
+use ssh_parts::{AcceptedKey, Ed25519Signer, Ed25519Trust};
+use ssh_pipe::policy::Policy;
+use ssh_pipe::{
+    Client, Ending, Login, Machine, OneUser, PasswordHash, PipeError, Request, RequestKind, Server,
+    UserKey,
+};
+use ssh_types::Refusal;
+use std::alloc::{AllocError, Global};
+use std::cell::Cell;
+use std::io;
+use std::random::RandomSource;
+use std::test::*;
+
+// Random bytes that are none: they count.
+#[derive(Drop)]
+struct Counted {
+    next: Cell<u8>,
+}
+
+impl RandomSource for Counted {
+    fn fill_bytes(&self, bytes: &mut [u8]) -> io::Result<()> {
+        self.next.set(self.next.get().wrapping_add(1));
+        bytes.fill(self.next.get());
+        Ok(())
+    }
+}
+
+// What a session is about.
+#[derive(Clone, Copy)]
+struct Case<'a> {
+    policy: Policy,
+    // Whether the client trusts the key that the server has.
+    is_trusted: bool,
+    key: Option<Ed25519Signer>,
+    password: Option<&'a [u8]>,
+    command: &'a [u8],
+    input: &'a [u8],
+}
+
+// What became of it.
+#[derive(Drop)]
+struct Outcome {
+    client: Option<Ending>,
+    server: Option<Ending>,
+    output: Vec<u8>,
+    error_output: Vec<u8>,
+}
+
+const HOST_SEED: [u8; 32] = [7; 32];
+
+const PIECE: usize = 1_000;
+
+// A client is let go on so often before its server has its turn.
+const ROUNDS: usize = 4;
+
+const SMALL: Policy = Policy {
+    window: 4_096,
+    epoch_limit: 64,
+    offers_none: false,
+};
+
+const CASE: Case<'static> = Case {
+    policy: Policy::DEFAULT,
+    is_trusted: true,
+    key: None,
+    password: Some(b"secret word"),
+    command: b"\0\0\0\x03cat",
+    input: b"",
+};
+
+// Plays a session to its end.
+fn played(alloc: Global, case: Case<'_>) -> Result<Outcome, PipeError> {
+    let keys = [AcceptedKey {
+        user: b"reader",
+        public: PUBLIC_BYTES,
+    }];
+    let user = OneUser {
+        name: b"reader",
+        keys: &keys,
+        password: Some(PasswordHash::new(b"secret word")),
+    };
+    let host = Ed25519Signer::new(&HOST_SEED);
+    let mut to_client = Vec::new(alloc);
+    let mut to_server = Vec::new(alloc);
+    let source = Counted { next: Cell::new(0) };
+    let mut server = Server::new(alloc, &case.policy, source, host, user, &mut to_client)?;
+    let mut client = client(alloc, case, &host, &mut to_server)?;
+    let mut outcome = Outcome {
+        client: None,
+        server: None,
+        output: Vec::new(alloc),
+        error_output: Vec::new(alloc),
+    };
+    let mut input = case.input;
+    for _ in 0..100_000 {
+        if to_client.is_empty() && to_server.is_empty() {
+            break;
+        }
+        feed(alloc, &mut client, &mut to_client, &mut to_server)?;
+        outcome.output.extend_from_slice(client.output())?;
+        outcome
+            .error_output
+            .extend_from_slice(client.error_output())?;
+        client.clear_output();
+        for _ in 0..ROUNDS {
+            if client.wants_input() {
+                let piece = input.get(..PIECE).unwrap_or(input);
+                input = input.get(PIECE..).unwrap_or(b"");
+                client.give_input(piece)?;
+            }
+            client.go_on(&mut to_server)?;
+        }
+        feed(alloc, &mut server, &mut to_server, &mut to_client)?;
+        server.go_on(&mut to_client)?;
+    }
+    outcome.client = client.take_ending();
+    outcome.server = server.take_ending();
+    Ok(outcome)
+}
+
+fn client<'a>(
+    alloc: Global,
+    case: Case<'a>,
+    host: &Ed25519Signer,
+    out: &mut Vec<u8>,
+) -> Result<Client<'a, Counted>, PipeError> {
+    let trusted = if case.is_trusted {
+        Ed25519Trust::from_key(host.public_key()).map_or(PUBLIC_BYTES, |trust| trust.public)
+    } else {
+        PUBLIC_BYTES
+    };
+    let key = UserKey { signer: case.key };
+    let source = Counted {
+        next: Cell::new(100),
+    };
+    Client::new(
+        alloc,
+        &case.policy,
+        source,
+        Ed25519Trust { public: trusted },
+        key,
+        Login::new(b"reader", &key, case.password),
+        Request {
+            kind: RequestKind::Exec,
+            text: case.command,
+        },
+        out,
+    )
+}
+
+// Gives an end what was written to it, in pieces that know nothing of lines and packets.
+fn feed<M: Machine>(
+    alloc: Global,
+    machine: &mut M,
+    bytes: &mut Vec<u8>,
+    out: &mut Vec<u8>,
+) -> Result<(), PipeError> {
+    let moved = bytes.as_slice().to_vec(alloc)?;
+    bytes.clear();
+    for piece in moved.as_slice().chunks(PIECE) {
+        machine.take(piece, out)?;
+    }
+    Ok(())
+}
+
+// No byte like the next.
+fn text(alloc: Global, size: usize) -> Result<Vec<u8>, AllocError> {
+    let mut text = Vec::new(alloc);
+    for place in 0..size {
+        text.push((place % 251) as u8)?;
+    }
+    Ok(text)
+}
+
+#[test]
+fn commands(rt: HostRuntime) -> Result<(), Fail> {
+    let table: [(&[u8], &[u8], &[u8], u32); 5] = [
+        (b"\0\0\0\x0eecho two words", b"", b"two words\n", 0),
+        (b"\0\0\0\x09sha256sum", b"abc", ABC, 0),
+        (b"\0\0\0\x04sink", b"abc", b"", 0),
+        (b"\0\0\0\x08source 5", b"", b"\0\x01\x02\x03\x04", 0),
+        (b"\0\0\0\x06exit 7", b"", b"", 7),
+    ];
+    for (command, input, output, status) in table {
+        let outcome = played(
+            rt.alloc(),
+            Case {
+                command,
+                input,
+                ..CASE
+            },
+        )?;
+        assert_eq!(rt;
+            outcome.client,
+            Some(Ending::Status(status)),
+            "at {command:?}"
+        );
+        assert_eq!(rt; outcome.output.as_slice(), output, "at {command:?}");
+        assert_eq!(rt; outcome.error_output.len(), 0, "at {command:?}");
+    }
+    Ok(())
+}
+
+// FIPS 180-4's example, as `sha256sum` prints it.
+const ABC: &[u8] = b"ba7816bf8f01cfea414140de5dae2223b00361a396177a9cb410ff61f20015ad  -\n";
+
+#[test]
+fn a_command_that_is_not_there(rt: HostRuntime) -> Result<(), Fail> {
+    let outcome = played(
+        rt.alloc(),
+        Case {
+            command: b"\0\0\0\x02ls",
+            ..CASE
+        },
+    )?;
+    assert_eq!(rt; outcome.client, Some(Ending::Status(127)));
+    assert!(rt;
+        outcome
+            .error_output
+            .as_slice()
+            .starts_with(b"ssh_pipe: the commands are: ")
+    );
+    Ok(())
+}
+
+// Through windows of 4,096 bytes, and several exchanges of keys.
+#[test]
+fn there_and_back(rt: HostRuntime) -> Result<(), Fail> {
+    let input = text(rt.alloc(), 300_000)?;
+    let outcome = played(
+        rt.alloc(),
+        Case {
+            policy: SMALL,
+            key: Some(Ed25519Signer::new(&SEED)),
+            password: None,
+            input: input.as_slice(),
+            ..CASE
+        },
+    )?;
+    assert_eq!(rt; outcome.client, Some(Ending::Status(0)));
+    assert_eq!(rt; outcome.output.as_slice() == input.as_slice(), true);
+    Ok(())
+}
+
+#[test]
+fn who_is_not_let_in(rt: HostRuntime) -> Result<(), Fail> {
+    let alloc = rt.alloc();
+    let case = Case {
+        password: Some(b"secret"),
+        ..CASE
+    };
+    let methods = Vec::from_slice(alloc, b"publickey,password")?;
+    let refused = Some(Ending::NotLetIn { methods });
+    assert_eq!(rt; played(alloc, case)?.client, refused);
+    let case = Case {
+        key: Some(Ed25519Signer::new(&HOST_SEED)),
+        password: None,
+        ..CASE
+    };
+    assert_eq!(rt; played(alloc, case)?.client, refused);
+    // The key is not known, and the password is right.
+    let case = Case {
+        key: Some(Ed25519Signer::new(&HOST_SEED)),
+        ..CASE
+    };
+    assert_eq!(rt; played(alloc, case)?.client, Some(Ending::Status(0)));
+    Ok(())
+}
+
+#[test]
+fn a_host_that_is_not_trusted(rt: HostRuntime) -> Result<(), Fail> {
+    let case = Case {
+        is_trusted: false,
+        ..CASE
+    };
+    let outcome = played(rt.alloc(), case)?;
+    assert_eq!(rt; outcome.client, Some(Ending::Refused(Refusal::BadHost)));
+    let description = Vec::from_slice(rt.alloc(), b"BadHost")?;
+    assert_eq!(rt;
+        outcome.server,
+        Some(Ending::Disconnected {
+            reason: 9,
+            description
+        })
+    );
+    Ok(())
+}
