@@ -20,7 +20,7 @@ pub trait Machine {
 const PIECE: usize = 65_536;
 
 /// Lets an end go on until it is over or its peer's stream ends: reads what the peer sends from `input`, and writes what goes to the peer to `output`, what
-/// stands in `out` first.
+/// stands in `out` first. A peer that takes nothing any more is still heard, since it may have said why.
 pub fn pump<M: Machine, I: Read, O: Write>(
     alloc: Global,
     machine: &mut M,
@@ -29,16 +29,13 @@ pub fn pump<M: Machine, I: Read, O: Write>(
     mut out: Vec<u8>,
 ) -> Result<(), PipeError> {
     let mut buffer = vec![in alloc; 0u8; PIECE]?;
+    let mut is_heard = true;
     for _ in 0..u64::MAX {
-        write_out(machine, &mut out, output)?;
+        write_out(machine, &mut out, output, &mut is_heard)?;
         if machine.is_over() {
             break;
         }
-        let count = match input.read(&mut buffer) {
-            Ok(count) => count,
-            Err(error) if error.kind() == ErrorKind::Interrupted => continue,
-            Err(error) => return Err(PipeError::Read(error)),
-        };
+        let count = read(input, &mut buffer)?;
         let piece = buffer.as_slice().get(..count).unwrap_or(&[]);
         if piece.is_empty() {
             break;
@@ -48,19 +45,43 @@ pub fn pump<M: Machine, I: Read, O: Write>(
     Ok(())
 }
 
-// Writes what waits, and lets the end put out more, until it has nothing more.
+// Reads what there is; no bytes at the end of the stream.
+fn read<I: Read>(input: &mut I, buffer: &mut [u8]) -> Result<usize, PipeError> {
+    for _ in 0..u64::MAX {
+        match input.read(buffer) {
+            Ok(count) => return Ok(count),
+            Err(error) if error.kind() == ErrorKind::Interrupted => {}
+            Err(error) => return Err(PipeError::Read(error)),
+        }
+    }
+    Ok(0)
+}
+
+// Writes what waits, and lets the end put out more, until it has nothing more. What goes to a peer that takes nothing any more is dropped.
 fn write_out<M: Machine, O: Write>(
     machine: &mut M,
     out: &mut Vec<u8>,
     output: &mut O,
+    is_heard: &mut bool,
 ) -> Result<(), PipeError> {
     for _ in 0..u64::MAX {
         machine.go_on(out)?;
         if out.is_empty() {
             break;
         }
-        output.write_all(out.as_slice()).map_err(PipeError::Write)?;
+        if *is_heard {
+            *is_heard = is_written(out.as_slice(), output)?;
+        }
         out.clear();
     }
-    output.flush().map_err(PipeError::Write)
+    Ok(())
+}
+
+// Writes these bytes. `false` where the peer takes nothing any more.
+fn is_written<O: Write>(bytes: &[u8], output: &mut O) -> Result<bool, PipeError> {
+    match output.write_all(bytes).and_then(|_| output.flush()) {
+        Ok(()) => Ok(true),
+        Err(error) if error.kind() == ErrorKind::BrokenPipe => Ok(false),
+        Err(error) => Err(PipeError::Write(error)),
+    }
 }
