@@ -101,7 +101,7 @@ server_said() {
 
 # The client of OpenSSH through that server.
 stock() {
-    timeout "$limit" ssh -F /dev/null -o BatchMode="${BATCH:-yes}" -o UserKnownHostsFile="$work/${KNOWN:-known}" -o GlobalKnownHostsFile=/dev/null \
+    timeout -k 5 "$limit" ssh -F /dev/null -o BatchMode="${BATCH:-yes}" -o UserKnownHostsFile="$work/${KNOWN:-known}" -o GlobalKnownHostsFile=/dev/null \
         -o StrictHostKeyChecking=yes -o IdentitiesOnly=yes -i "$work/${IDENTITY:-user}" -o ProxyCommand="$work/server" "$@"
 }
 
@@ -158,7 +158,7 @@ several() {
     stock -M -S "$work/socket" -N -f reader@example.org 2>log || true
     part=$((size / 8))
     for each in 1 2 3; do
-        head -c "$part" data | timeout "$limit" ssh -F /dev/null -S "$work/socket" reader@example.org sha256sum 2>>log | cut -d' ' -f1 >"several.$each" &
+        head -c "$part" data | timeout -k 5 "$limit" ssh -F /dev/null -S "$work/socket" reader@example.org sha256sum 2>>log | cut -d' ' -f1 >"several.$each" &
         several_pids[each]=$!
     done
     wait "${several_pids[@]}"
@@ -208,11 +208,11 @@ between() {
     rm -f up down
     mkfifo up down
     if [ -n "${UP:-}${DOWN:-}" ]; then
-        (changed "${UP:-}" <up | timeout "$limit" $SERVE 2>serve.err | changed "${DOWN:-}" >down) &
+        (changed "${UP:-}" <up | timeout -k 5 "$limit" $SERVE 2>serve.err | changed "${DOWN:-}" >down) &
     else
-        timeout "$limit" $SERVE <up >down 2>serve.err &
+        timeout -k 5 "$limit" $SERVE <up >down 2>serve.err &
     fi
-    timeout "$limit" ./pipe client "$@" >up <down
+    timeout -k 5 "$limit" ./pipe client "$@" >up <down
     ended=$?
     wait
     return "$ended"
@@ -274,7 +274,7 @@ with_asyncssh() {
     pid=$!
     for _ in $(seq 100); do [ -s port ] && break; sleep 0.1; done
     port=$(cat port)
-    over_socket() { timeout "$limit" ./pipe client --user reader --host-key host.pub "$@" <>"/dev/tcp/127.0.0.1/$port" >&0; }
+    over_socket() { timeout -k 5 "$limit" ./pipe client --user reader --host-key host.pub "$@" <>"/dev/tcp/127.0.0.1/$port" >&0; }
     over_socket --identity user --output answer 'echo hello' 2>log
     status=$?
     row "server of $peer" "key, \`exec\`, exit status" "echo hello, status 5" "$(words answer), status $status"
@@ -300,7 +300,7 @@ with_putty() {
     peer=$(plink -V | sed -n 's/^plink: Release /plink of PuTTY /p')
     print=$(ssh-keygen -l -f host.pub | cut -d' ' -f2)
     puttygen user -O private -o user.ppk
-    by_plink() { timeout "$limit" plink -batch -ssh -proxycmd "$work/server" -hostkey "$print" -l reader "$@"; }
+    by_plink() { timeout -k 5 "$limit" plink -batch -ssh -proxycmd "$work/server" -hostkey "$print" -l reader "$@"; }
     seen=$(by_plink -i user.ppk example.org echo hello </dev/null 2>log)
     row "$peer" "key, \`exec\`" "hello, status 0" "$seen, status $?"
     seen=$(by_plink -pwfile password example.org exit 7 </dev/null 2>log)
@@ -362,7 +362,7 @@ exec "$sshd" -i -f "$work/sshd_config"
 END
 chmod +x sshd_proxy
 plain() {
-    timeout "$limit" ssh -F /dev/null -o BatchMode=yes -o UserKnownHostsFile="$work/known" -o GlobalKnownHostsFile=/dev/null -o StrictHostKeyChecking=yes \
+    timeout -k 5 "$limit" ssh -F /dev/null -o BatchMode=yes -o UserKnownHostsFile="$work/known" -o GlobalKnownHostsFile=/dev/null -o StrictHostKeyChecking=yes \
         -o IdentitiesOnly=yes -i "$work/user" -c aes128-gcm@openssh.com -o ProxyCommand="$work/sshd_proxy" "$user@example.org" "$@"
 }
 up_to_server() { stock reader@example.org sink <data; }

@@ -9,16 +9,16 @@
 #![tactic(auto)]
 
 mod armor;
-mod authorized_keys;
 mod fault;
 mod known_hosts;
-mod password;
-mod private_key;
+mod openssh_key;
+mod password_line;
 mod public_key;
+mod user_keys;
 mod words;
 
-pub use authorized_keys::authorized_keys;
 pub use fault::{Expected, FileFault};
 pub use known_hosts::trusted_key;
-pub use password::{MOST_PASSWORD_BYTES, password};
-pub use private_key::{PrivateKey, private_key};
+pub use openssh_key::{PrivateKey, private_key};
+pub use password_line::{MOST_PASSWORD_BYTES, password};
+pub use user_keys::authorized_keys;
