@@ -1,5 +1,5 @@
 .DEFAULT_GOAL := help
-.PHONY: help demo quick build test falsify sweep memory bench
+.PHONY: help demo quick build test falsify sweep memory bench interop
 
 RT ?= rt
 export RT
@@ -31,3 +31,6 @@ memory: ## Plays sessions, and takes messages of data, with each allocation refu
 
 bench: ## Ratios of this core's work: to the hashes that it has to compute, and of many channels to one.
 	@sh tools/bench.sh
+
+interop: ## Runs ssh_pipe against the implementations that are installed, and writes docs/INTEROP.md.
+	@PAGE="$(CURDIR)/docs/INTEROP.md" bash tools/interop.sh
