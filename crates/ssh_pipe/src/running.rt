@@ -91,7 +91,10 @@ fn called<'a, R: Files + AllocGlobal + RandomSource, I: Read, O: Write, E: Write
     let host = trusted_key_in(rt, options.host_key, options.host)?;
     let key = user_key(rt, options.identity)?;
     let password = password_in(rt, options.password_file)?;
-    let word = password.as_ref().map(|word| word.as_slice());
+    let word = match &password {
+        Some(word) => Some(word.as_slice()),
+        None => None,
+    };
     let login = Login::new(options.user.as_bytes(), &key, word);
     let text = string_of(alloc, options.command.as_bytes())?.ok_or(RunError::LongCommand)?;
     let request = Request {
