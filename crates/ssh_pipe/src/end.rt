@@ -2,14 +2,14 @@
 
 use ssh_auth::{UserJudge, UserSigner};
 use ssh_channels::Channels;
-use ssh_end::{Ask, AskStep, ClientEnd, Fault, ServerEnd};
+use ssh_end::{Ask, ClientEnd, Fault, ServerEnd, Turn};
 use ssh_transport_base::{ClientParts, ServerParts};
 use ssh_types::AskRefusal;
 
 /// An end that is asked, and whose channels are looked at.
 pub trait End {
     /// Does what it is asked for.
-    fn ask(&mut self, ask: &Ask<'_>, out: &mut Vec<u8>) -> Result<AskStep, Fault>;
+    fn ask<'a>(&'a mut self, ask: &Ask<'_>, out: &mut Vec<u8>) -> Result<Turn<'a>, Fault>;
 
     /// Its channels.
     fn channels(&self) -> &Channels;
@@ -22,7 +22,7 @@ pub trait End {
 }
 
 impl<P: ClientParts, U: UserSigner + Drop> End for ClientEnd<P, U> {
-    fn ask(&mut self, ask: &Ask<'_>, out: &mut Vec<u8>) -> Result<AskStep, Fault> {
+    fn ask<'a>(&'a mut self, ask: &Ask<'_>, out: &mut Vec<u8>) -> Result<Turn<'a>, Fault> {
         ClientEnd::ask(self, ask, out)
     }
 
@@ -40,7 +40,7 @@ impl<P: ClientParts, U: UserSigner + Drop> End for ClientEnd<P, U> {
 }
 
 impl<P: ServerParts, U: UserJudge + Drop> End for ServerEnd<P, U> {
-    fn ask(&mut self, ask: &Ask<'_>, out: &mut Vec<u8>) -> Result<AskStep, Fault> {
+    fn ask<'a>(&'a mut self, ask: &Ask<'_>, out: &mut Vec<u8>) -> Result<Turn<'a>, Fault> {
         ServerEnd::ask(self, ask, out)
     }
 

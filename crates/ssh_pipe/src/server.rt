@@ -72,9 +72,9 @@ impl<R: RandomSource + Drop> Machine for Server<'_, R> {
             if rest.is_empty() || self.end.is_dead() {
                 break;
             }
-            let used = self.end.take(rest, out)?;
-            rest = rest.split_at(used).1;
-            self.desk.hear(&self.end.turn())?;
+            let turn = self.end.take(rest, out)?;
+            rest = rest.split_at(turn.used).1;
+            self.desk.hear(&turn)?;
             self.go_on(out)?;
         }
         Ok(())
