@@ -85,7 +85,10 @@ run() {
     mv status.new server.status
 }
 if [ -n "${UP:-}${DOWN:-}" ]; then
-    changed "${UP:-}" | run | changed "${DOWN:-}"
+    # (the shell itself keeps neither stream open, so that either end sees the other go)
+    { changed "${UP:-}" | run | changed "${DOWN:-}"; } <&0 &
+    exec <&- >&-
+    wait
 else
     run
 fi
@@ -96,7 +99,7 @@ chmod +x server
 server_said() {
     local _
     for _ in $(seq 100); do [ -e server.status ] && break; sleep 0.1; done
-    echo "$(server_said)"
+    echo "$(cat server.err), status $(cat server.status)"
 }
 
 # The client of OpenSSH through that server.
@@ -265,6 +268,8 @@ server_refusals() {
 
 # ---- other implementations
 
+unexpected='error: the peer is refused: a message came that may not come here (refusal 7 Unexpected)'
+
 # A server on the loopback, which prints its port and is ended by its number.
 with_asyncssh() {
     local peer version pid port
@@ -285,12 +290,16 @@ with_asyncssh() {
     row "server of $peer" "a wrong password" "status 255" "status $?"
     over_socket --identity user --input data --output answer cat 2>log
     row "server of $peer" "\`cat\`: $size bytes there and back" "same" "$(same "$(hash_of <answer)" "$want")"
-    over_socket --identity user --input data --output answer --rekey-after $packets cat 2>log
-    row "server of $peer" "keys exchanged again by the client, every $packets packets" "same" "$(same "$(hash_of <answer)" "$want")"
+    # (it goes on with data behind its KEXINIT, which RFC 4253 section 7.1 forbids)
+    over_socket --identity user --input data --output answer --rekey-after "$packets" cat 2>log
+    status=$?
+    row "server of $peer" "keys exchanged again while it sends: CHANNEL_DATA comes behind its KEXINIT" "$unexpected, status 255" "$(words log), status $status"
     kill "$pid"
     wait "$pid" 2>/dev/null
     "$python" -W ignore "$tools/interop/asyncssh_client.py" "$work" "$size" >answer 2>log
-    row "client of $peer" "key, password, \`exec\`, exit status, $size bytes there and back, keys exchanged again" "hello hello 7 same denied" "$(words answer)"
+    row "client of $peer" "key, password, \`exec\`, exit status, $size bytes there and back, a wrong password" "hello hello 7 same denied" "$(words answer)"
+    "$python" -W ignore "$tools/interop/asyncssh_client.py" "$work" "$size" $((size / 16)) >answer 2>log
+    row "client of $peer" "keys exchanged again while it sends: CHANNEL_DATA comes behind its KEXINIT" "$unexpected, status 1" "$(server_said)"
 }
 
 # The client of PuTTY, which takes a fingerprint for the host key and has a format of its own for the user's.
@@ -329,7 +338,7 @@ without_common() {
         dropbearkey -t ed25519 -f dropbear_key >/dev/null 2>&1
         SERVE="/usr/sbin/dropbear -i -E -r $work/dropbear_key" between --user "$user" --host-key host.pub --identity user true 2>log
         status=$?
-        row "$version" "no cipher in common" "$no_common, status 255" "$(words log), status $status"
+        row "$version" "no cipher in common: it closes the connection" "error: the server closed the connection, status 255" "$(words log), status $status"
     fi
     version=$("$python" -W ignore -c 'import paramiko; print(paramiko.__version__)' 2>/dev/null) || return
     "$python" -W ignore "$tools/interop/paramiko_client.py" "$work" >seen 2>log

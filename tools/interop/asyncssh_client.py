@@ -1,4 +1,5 @@
-"""A client of asyncssh at the server whose command stands in the directory that is named: says what it sees, in words."""
+"""A client of asyncssh at the server whose command stands in the directory that is named: says what it sees, in words. Where a third number is given, it
+only sends data to `cat`, and exchanges keys again after so many bytes."""
 
 import asyncio
 import hashlib
@@ -36,13 +37,7 @@ async def main():
     async with connected(**by_password(word)) as connection:
         print((await connection.run("echo hello")).stdout, end="")
         print((await connection.run("exit 7")).exit_status)
-    # The keys are exchanged again each 4 MiB.
-    async with connected(**with_key(), rekey_bytes=4 << 20) as connection:
-        with open(os.path.join(where, "data"), "rb") as file:
-            data = file.read(size)
-        ran = await connection.run("cat", input=data, encoding=None)
-        are_same = hashlib.sha256(ran.stdout).digest() == hashlib.sha256(data).digest()
-        print("same" if are_same else "another hash")
+    await there_and_back()
     try:
         async with connected(**by_password("another word")):
             print("let in")
@@ -50,4 +45,16 @@ async def main():
         print("denied")
 
 
-asyncio.run(main())
+async def there_and_back(**options):
+    async with connected(**with_key(), **options) as connection:
+        with open(os.path.join(where, "data"), "rb") as file:
+            data = file.read(size)
+        ran = await connection.run("cat", input=data, encoding=None)
+        are_same = hashlib.sha256(ran.stdout).digest() == hashlib.sha256(data).digest()
+        print("same" if are_same else "another hash")
+
+
+if len(sys.argv) > 3:
+    asyncio.run(there_and_back(rekey_bytes=int(sys.argv[3])))
+else:
+    asyncio.run(main())
