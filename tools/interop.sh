@@ -221,6 +221,8 @@ between() {
     return "$ended"
 }
 via_sshd() { SERVE="$sshd -i -e -f $work/sshd_config ${SSHD:-}" between --user "$user" --host-key "${HOST:-host.pub}" "$@"; }
+not_let_in='error: the server does not let the user in'
+reason() { sed 's/ (methods: .*//' "$1"; }
 words() { tr '\n' ' ' <"$1" | sed 's/ $//'; }
 
 stock_server() {
@@ -236,9 +238,9 @@ stock_server() {
     HOST=known via_sshd --host example.org --identity user --output answer 'echo hello' 2>log
     row "$peer" "the host key from known_hosts" "hello" "$(words answer)"
     via_sshd --password-file wrong true 2>log
-    row "$peer" "a wrong password" "status 255" "status $?"
+    row "$peer" "a wrong password" "status 255, $not_let_in" "status $?, $(reason log)"
     via_sshd --identity other true 2>log
-    row "$peer" "an unknown key" "status 255" "status $?"
+    row "$peer" "an unknown key" "status 255, $not_let_in" "status $?, $(reason log)"
     # (it answers only while its input is open)
     mkfifo init
     (printf '\0\0\0\5\1\0\0\0\3'; sleep 1) >init &
@@ -287,7 +289,7 @@ with_asyncssh() {
     status=$?
     row "server of $peer" "password" "echo hello, status 5" "$(words answer), status $status"
     over_socket --password-file wrong --output answer 'echo hello' 2>log
-    row "server of $peer" "a wrong password" "status 255" "status $?"
+    row "server of $peer" "a wrong password" "status 255, $not_let_in" "status $?, $(reason log)"
     over_socket --identity user --input data --output answer cat 2>log
     row "server of $peer" "\`cat\`: $size bytes there and back" "same" "$(same "$(hash_of <answer)" "$want")"
     # (it goes on with data behind its KEXINIT, which RFC 4253 section 7.1 forbids)

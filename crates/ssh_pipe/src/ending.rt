@@ -65,7 +65,10 @@ impl fmt::Display for Ending {
             Ending::NoStatus => write!(f, "the server did not say how the command ended"),
             Ending::NotLetIn { methods } => {
                 let methods = methods.as_slice().escape_ascii();
-                write!(f, "the server lets the user not in (methods: {methods})")
+                write!(
+                    f,
+                    "the server does not let the user in (methods: {methods})"
+                )
             }
             Ending::NoChannel {
                 reason,

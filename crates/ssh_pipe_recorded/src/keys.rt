@@ -1,0 +1,52 @@
+//! The keys of the recorded sessions.
+
+use ssh_key_files::{PrivateKey, private_key};
+use ssh_parts::{AcceptedKey, Ed25519Signer, Ed25519Trust};
+use std::fs;
+use std::rt::Files;
+
+/// The keys of a server and of its user.
+#[derive(Clone, Copy)]
+pub struct Keys {
+    host: PrivateKey,
+    user: PrivateKey,
+    accepted: [AcceptedKey<'static>; 1],
+}
+
+impl Keys {
+    /// The keys in the files `host` and `user`.
+    pub fn read<R: Files + AllocGlobal>(rt: &R) -> anyhow::Result<Keys> {
+        let host = private_key(rt.alloc(), fs::read(rt, "host")?.as_slice())?;
+        let user = private_key(rt.alloc(), fs::read(rt, "user")?.as_slice())?;
+        Ok(Keys {
+            host,
+            user,
+            accepted: [AcceptedKey {
+                user: b"reader",
+                public: user.public,
+            }],
+        })
+    }
+
+    /// The host key.
+    pub fn host(&self) -> Ed25519Signer {
+        Ed25519Signer::new(&self.host.seed)
+    }
+
+    /// The trust in it.
+    pub fn trust(&self) -> Ed25519Trust {
+        Ed25519Trust {
+            public: self.host.public,
+        }
+    }
+
+    /// The user's key.
+    pub fn user(&self) -> Ed25519Signer {
+        Ed25519Signer::new(&self.user.seed)
+    }
+
+    /// The keys that let the user in.
+    pub fn accepted(&self) -> &[AcceptedKey<'static>] {
+        &self.accepted
+    }
+}

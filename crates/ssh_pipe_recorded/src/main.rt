@@ -1,0 +1,106 @@
+//! Sessions that OpenSSH 9.2p1 had with the two ends of `ssh_pipe`, recorded and played again: as they were, in pieces of one byte, and with a byte changed in turn.
+//!
+//! They were recorded by this program, whose random bytes only count: so it puts out the same bytes again, and those that were recorded fit to them. **Never
+//! use it for anything else.** With the keys of data/, and P for its built file, from a directory with those keys:
+//!
+//! ```text
+//! ssh -i user -o UserKnownHostsFile=known -o ProxyCommand='P server client_of_openssh' reader@example.org echo hello
+//! sshd -i -f config <up >down & P client server_of_openssh >up <down
+//! ```
+//!
+//! `ssh` ended the program before it had read its DISCONNECT, so the first recording has no end. What is as before where a byte is changed is padding of a
+//! packet in clear, which no hash and no tag covers (RFC 4253 section 6).
+#![tactic(auto)]
+
+mod counted;
+mod keys;
+mod playing;
+mod recording;
+
+use keys::Keys;
+use playing::{Outcome, Role, played};
+use recording::record;
+use ssh_pipe::Ending;
+use std::{env, fs};
+
+/// Each byte of so many is changed in turn.
+const STRIDE: usize = 32;
+
+fn main(rt: HostRuntime) -> anyhow::Result<()> {
+    let words: Vec<String> = env::args(&rt)?.collect(rt.alloc())?;
+    let keys = Keys::read(&rt)?;
+    if let [_, role, file] = words.as_slice() {
+        let role = match role.as_str() {
+            "server" => Role::Server,
+            _ => Role::Client,
+        };
+        return record(&rt, &keys, role, file.as_str());
+    }
+    for (role, file) in [
+        (Role::Server, "client_of_openssh"),
+        (Role::Client, "server_of_openssh"),
+    ] {
+        let bytes = fs::read(&rt, file)?;
+        println!(rt; "{file}, {} bytes", bytes.len())?;
+        play(&rt, &keys, role, bytes.as_slice())?;
+    }
+    Ok(())
+}
+
+// Plays a recording, and says what became of the sessions.
+fn play<R: Print + AllocGlobal>(
+    rt: &R,
+    keys: &Keys,
+    role: Role,
+    bytes: &[u8],
+) -> anyhow::Result<()> {
+    let alloc = rt.alloc();
+    let whole = played(alloc, keys, role, bytes, bytes.len())?;
+    let size = whole.out.len();
+    match &whole.ending {
+        Some(ending) => println!(rt; "as it was: {size} bytes are put out, and {ending}")?,
+        None => println!(rt; "as it was: {size} bytes are put out")?,
+    }
+    let is_same = played(alloc, keys, role, bytes, 1)? == whole;
+    println!(rt; "in pieces of one byte the same: {is_same}")?;
+    let mut counts = Counts::default();
+    for at in (0..bytes.len()).step_by(STRIDE) {
+        let mut changed = bytes.to_vec(alloc)?;
+        if let Some(byte) = changed.get_mut(at) {
+            *byte ^= 1;
+        }
+        counts.add(
+            &played(alloc, keys, role, changed.as_slice(), changed.len())?,
+            &whole,
+        );
+    }
+    let Counts {
+        refused,
+        same,
+        other,
+    } = counts;
+    println!(rt; "with a byte changed: {refused} refused, {same} as before, {other} otherwise")?;
+    Ok(())
+}
+
+// What became of sessions in which a byte was changed.
+#[derive(Clone, Copy, Default)]
+struct Counts {
+    refused: u32,
+    // As if it had not been changed.
+    same: u32,
+    other: u32,
+}
+
+impl Counts {
+    fn add(&mut self, outcome: &Outcome, whole: &Outcome) {
+        let count = if outcome == whole {
+            &mut self.same
+        } else if matches!(outcome.ending, Some(Ending::Refused(_))) {
+            &mut self.refused
+        } else {
+            &mut self.other
+        };
+        *count = count.saturating_add(1);
+    }
+}

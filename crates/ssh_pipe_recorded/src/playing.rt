@@ -1,0 +1,109 @@
+//! Sessions over recorded bytes.
+
+use crate::counted::Counted;
+use crate::keys::Keys;
+use ssh_pipe::policy::Policy;
+use ssh_pipe::{
+    Client, Ending, Login, Machine, OneUser, PipeError, Request, RequestKind, Server, UserKey,
+};
+use std::alloc::Global;
+
+/// The end that took the bytes.
+#[derive(Clone, Copy, Debug, PartialEq, Eq)]
+pub enum Role {
+    /// They are of a client.
+    Server,
+    /// They are of a server.
+    Client,
+}
+
+/// The server of the recordings, that put its first bytes into `out`.
+pub fn server<'a>(
+    alloc: Global,
+    keys: &'a Keys,
+    out: &mut Vec<u8>,
+) -> Result<Server<'a, Counted>, PipeError> {
+    let user = OneUser {
+        name: b"reader",
+        keys: keys.accepted(),
+        password: None,
+    };
+    Server::new(
+        alloc,
+        &Policy::DEFAULT,
+        Counted::new(0),
+        keys.host(),
+        user,
+        out,
+    )
+}
+
+/// The client of the recordings, which runs a command that says `hello` and ends with status 3.
+pub fn client(
+    alloc: Global,
+    keys: &Keys,
+    out: &mut Vec<u8>,
+) -> Result<Client<'static, Counted>, PipeError> {
+    let key = UserKey {
+        signer: Some(keys.user()),
+    };
+    Client::new(
+        alloc,
+        &Policy::DEFAULT,
+        Counted::new(100),
+        keys.trust(),
+        key,
+        Login::new(b"root", &key, None),
+        Request {
+            kind: RequestKind::Exec,
+            text: b"\0\0\0\x12echo hello; exit 3",
+        },
+        out,
+    )
+}
+
+/// What became of a session.
+#[derive(Drop, PartialEq, Eq)]
+pub struct Outcome {
+    /// How it ended.
+    pub ending: Option<Ending>,
+    /// What the end put out.
+    pub out: Vec<u8>,
+}
+
+/// What becomes of the session in which the end of this role takes these bytes in pieces of this size.
+pub fn played(
+    alloc: Global,
+    keys: &Keys,
+    role: Role,
+    bytes: &[u8],
+    size: usize,
+) -> Result<Outcome, PipeError> {
+    let mut out = Vec::new(alloc);
+    let ending = match role {
+        Role::Server => {
+            let mut server = server(alloc, keys, &mut out)?;
+            feed(&mut server, bytes, size, &mut out)?;
+            server.take_ending()
+        }
+        Role::Client => {
+            let mut client = client(alloc, keys, &mut out)?;
+            feed(&mut client, bytes, size, &mut out)?;
+            client.take_ending()
+        }
+    };
+    Ok(Outcome { ending, out })
+}
+
+// Gives an end bytes in pieces.
+fn feed<M: Machine>(
+    machine: &mut M,
+    bytes: &[u8],
+    size: usize,
+    out: &mut Vec<u8>,
+) -> Result<(), PipeError> {
+    for piece in bytes.chunks(size.max(1)) {
+        machine.take(piece, out)?;
+    }
+    Ok(())
+}

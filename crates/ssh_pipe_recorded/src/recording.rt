@@ -1,0 +1,50 @@
+//! How the sessions were recorded.
+
+use crate::keys::Keys;
+use crate::playing::{Role, client, server};
+use ssh_pipe::{ClientFiles, pump};
+use std::fs::{self, File};
+use std::io::{self, Read, Stdin, Write};
+
+// Reads, and writes a copy of what was read.
+#[derive(Drop)]
+struct Copied<W: Write + Drop> {
+    from: Stdin,
+    copy: W,
+}
+
+impl<W: Write + Drop> Read for Copied<W> {
+    fn read(&mut self, bytes: &mut [u8]) -> io::Result<usize> {
+        let count = self.from.read(bytes)?;
+        self.copy.write_all(bytes.get(..count).unwrap_or(&[]))?;
+        Ok(count)
+    }
+}
+
+/// Lets an end go on over standard input and output, and keeps what comes in a file.
+pub fn record(rt: &HostRuntime, keys: &Keys, role: Role, file: &str) -> anyhow::Result<()> {
+    let alloc = rt.alloc();
+    let mut input = Copied {
+        from: rt.stdin(),
+        copy: fs::create(rt, file)?,
+    };
+    let mut out = Vec::new(alloc);
+    match role {
+        Role::Server => {
+            let mut server = server(alloc, keys, &mut out)?;
+            pump(alloc, &mut server, &mut input, &mut rt.stdout(), out)?;
+        }
+        Role::Client => {
+            let client = client(alloc, keys, &mut out)?;
+            let mut files = ClientFiles::new(
+                alloc,
+                client,
+                None::<File>,
+                rt.stderr(),
+                rt.stderr(),
+            )?;
+            pump(alloc, &mut files, &mut input, &mut rt.stdout(), out)?;
+        }
+    }
+    Ok(())
+}
