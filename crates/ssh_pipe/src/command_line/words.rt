@@ -141,15 +141,13 @@ fn with_policy<'a>(alloc: Global, command: Command<'a>) -> Result<Command<'a>, A
         .action(ArgAction::SetTrue)
         .help("Offer no encryption too, with hmac-sha2-256: whoever sees the bytes reads them");
     command
-        .arg(option(
-            alloc,
-            "window",
-            "BYTES",
-            "The window of a channel [default: 2097152]",
-        ))?
+        .arg(option(alloc, "window", "BYTES", WINDOW))?
         .arg(option(alloc, "rekey-after", "PACKETS", REKEY))?
         .arg(offer_none)
 }
+
+const WINDOW: &str =
+    "The window of a channel; 32768 where the peer is another ssh_pipe [default: 2097152]";
 
 const REKEY: &str = "Exchange keys again after so many packets [default: 1048576]";
 

@@ -91,20 +91,9 @@ impl Desk {
                 channel,
                 kind,
                 body,
-            } => {
-                for session in self.sessions.iter_mut() {
-                    if session.channel() == channel {
-                        session.take(kind, body)?;
-                    }
-                }
-                Ok(())
-            }
+            } => self.take(channel, kind, body),
             Fact::Ended { channel } => {
-                for session in self.sessions.iter_mut() {
-                    if session.channel() == channel {
-                        session.end();
-                    }
-                }
+                self.end(channel);
                 Ok(())
             }
             Fact::Closed { channel } => {
@@ -113,6 +102,25 @@ impl Desk {
             }
             Fact::Global { want: true, .. } => self.tasks.add(Task::RefuseGlobal),
             _ => Ok(()),
+        }
+    }
+
+    // Data of the client.
+    fn take(&mut self, channel: u32, kind: Option<u32>, body: &[u8]) -> Result<(), AllocError> {
+        for session in self.sessions.iter_mut() {
+            if session.channel() == channel {
+                session.take(kind, body)?;
+            }
+        }
+        Ok(())
+    }
+
+    // The client sends no more on a channel.
+    fn end(&mut self, channel: u32) {
+        for session in self.sessions.iter_mut() {
+            if session.channel() == channel {
+                session.end();
+            }
         }
     }
 
