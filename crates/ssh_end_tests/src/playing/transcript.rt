@@ -42,12 +42,7 @@ impl Transcript {
     }
 
     // It did this of these numbers.
-    fn note_numbers(
-        &mut self,
-        side: Side,
-        what: &str,
-        numbers: &[u64],
-    ) -> Result<(), AllocError> {
+    fn note_numbers(&mut self, side: Side, what: &str, numbers: &[u64]) -> Result<(), AllocError> {
         self.note(side, what)?;
         for number in numbers.iter() {
             write!(self.text, " {number}")?;
@@ -68,12 +63,7 @@ impl Transcript {
     }
 
     // It took or sent this payload.
-    fn note_payload(
-        &mut self,
-        side: Side,
-        what: &str,
-        payload: &[u8],
-    ) -> Result<(), AllocError> {
+    fn note_payload(&mut self, side: Side, what: &str, payload: &[u8]) -> Result<(), AllocError> {
         let number = payload.first().copied().unwrap_or(0);
         self.note_refusal(side, what, number, name(number))?;
         write!(self.text, " {}", payload.len())
@@ -102,12 +92,7 @@ impl Transcript {
     }
 
     // It took this, after so many bytes.
-    fn note_took(
-        &mut self,
-        side: Side,
-        took: &Took<'_>,
-        begun: usize,
-    ) -> Result<(), AllocError> {
+    fn note_took(&mut self, side: Side, took: &Took<'_>, begun: usize) -> Result<(), AllocError> {
         match *took {
             Took::OtherLine | Took::VersionLine => {
                 self.note_numbers(side, "took line", &[begun.saturating_sub(2) as u64])
