@@ -10,7 +10,7 @@ help: ## Lists these targets.
 demo: ## Runs the program on the examples, within two minutes. This run is not proved, and says so.
 	@sh tools/demo.sh
 
-quick: ## The layout, the tests and the programs, not proved, in under five minutes.
+quick: ## The layout, the tests and the programs, not proved, on all cores: docs/TIMES.md has how long it takes.
 	@sh tools/quick.sh
 
 build: ## Proves the program from its crates up and leaves it as build/ssh_trace.

@@ -29,7 +29,7 @@ run_program() {
     given=/dev/null
     [ ! -f stdin ] || given=stdin
     status=0
-    "$rt" try "$@" <"$given" >"$said.printed" 2>"$said" || status=$?
+    "$rt" try --seconds 300 "$@" <"$given" >"$said.printed" 2>"$said" || status=$?
     [ "$status" = "$wanted" ] || fail "$crate: exit status $status" "$said"
     diff "$said.printed" stdout >"$said" || fail "$crate: its output" "$said"
 }
@@ -45,7 +45,7 @@ look_at() (
         printed=$("$rt" fmt 2>&1) || fail "$crate: rt fmt"
         [ -z "$printed" ] || fail "$crate: $printed"
         if grep -rq '#\[test\]' src; then
-            "$rt" try --test >"$copy.said" 2>&1 || fail "$crate: tests" "$copy.said"
+            "$rt" try --test --seconds 300 >"$copy.said" 2>&1 || fail "$crate: tests" "$copy.said"
         fi
         if [ -f src/main.rt ] && [ -f stdout ]; then
             run_program "$copy.said"
