@@ -14,9 +14,14 @@ use ssh_script::{Script, ScriptFault};
 use std::alloc::Global;
 use std::process::ExitCode;
 
+// Each end has a cookie and a secret for a second exchange of keys. They are fed before anything can be refused, since an end that died is fed no more.
+const FEEDS: &str = "\
+feed c a2
+feed s b2
+";
+
 // The user u is let in.
 const LOGIN: &str = "\
-user u p
 pass c s all
 pass s c all
 pass c s all
@@ -45,8 +50,6 @@ pass s c all
 
 // A second exchange of keys.
 const REKEY: &str = "\
-feed c a2
-feed s b2
 ask c rekey
 pass c s all
 pass s c all
@@ -68,9 +71,9 @@ enum Verdict {
 
 fn main(rt: HostRuntime) -> ExitCode {
     let mut status = 0;
-    for rest in [CHANNEL, REKEY] {
-        let one = played(rt.alloc(), rest);
-        let other = played(rt.alloc(), rest);
+    for (feeds, rest) in [("", CHANNEL), (FEEDS, REKEY)] {
+        let one = played(rt.alloc(), feeds, rest);
+        let other = played(rt.alloc(), feeds, rest);
         match judged(&one, &other) {
             Verdict::Same => {}
             Verdict::Refused => status = 3,
@@ -87,9 +90,9 @@ fn main(rt: HostRuntime) -> ExitCode {
     ExitCode::from(status)
 }
 
-// The lines of the transcript of a script that goes on so behind the user is let in.
-fn played(alloc: Global, rest: &str) -> Result<Played, ScriptFault> {
-    let script = format!(in alloc; "{LOGIN}{rest}")?;
+// The lines of the transcript of a script with these feeds, which goes on so behind the user is let in.
+fn played(alloc: Global, feeds: &str, rest: &str) -> Result<Played, ScriptFault> {
+    let script = format!(in alloc; "user u p\n{feeds}{LOGIN}{rest}")?;
     match Script::read(alloc, script.as_bytes())? {
         Script::Session(script) => play(alloc, &script),
         Script::Epoch(_) => Err(ScriptFault::Epoch),
