@@ -58,7 +58,7 @@ ClientTakes c agreement trusts old bytes before after (Ok turn) new =
 ClientTakes c agreement trusts old bytes before after (Err fault) new =
     IsFault old.machine fault new.machine × SameClient old new
 
--- A server did.
+-- A server made of these bytes what the turn shows.
 pub record ServerTook {K A H U : Type 0} (c : Crypto K) (exchange : ExchangeParts) (judge : Judge) (old : ServerState K A H U)
     (bytes before after : List ℕ) (turn : Turn) (new : ServerState K A H U) : Type 0 where
   pub goes : ServerGoes c exchange judge old.machine old.layers (begun_of old.machine ++ take turn.used bytes) new.step
@@ -66,6 +66,7 @@ pub record ServerTook {K A H U : Type 0} (c : Crypto K) (exchange : ExchangePart
   pub shows : ShowsTurn new.machine.receiver.payload new.step new.sent bytes turn
   pub parts : SameServer old new
 
+-- what the server answers for these bytes, and what is then left
 abbrev pub ServerTakes : {K A H U : Type 0} → Crypto K → ExchangeParts → Judge → ServerState K A H U →
     (bytes before after : List ℕ) → Result Turn Fault → ServerState K A H U → Type 0
 ServerTakes c exchange judge old bytes before after (Ok turn) new =
@@ -101,7 +102,7 @@ pub record ClientAsked {K A H U : Type 0} (c : Crypto K) (signature : (user algo
   pub reading : new.machine.kept.dead ≡ false → SameReading old.machine new.machine
   pub parts : SameClient old new
 
--- A server did.
+-- A server did on an ask what is a turn of a session, and answered so.
 pub record ServerAsked {K A H U : Type 0} (c : Crypto K) (old : ServerState K A H U) (asked : session.Ask)
     (before after : List ℕ) (result : Result Turn Fault) (new : ServerState K A H U) : Type 0 where
   pub given : Result AskStep Fault
