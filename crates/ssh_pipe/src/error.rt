@@ -1,6 +1,7 @@
 //! Why a program can't go on.
 
 use ssh_end::Fault;
+use ssh_pipe_policy::SupplyError;
 use ssh_transport_base::ConfigError;
 use std::alloc::{AllocError, AllocFailed};
 use std::io;
@@ -59,5 +60,14 @@ impl From<Fault> for PipeError {
 impl From<ConfigError> for PipeError {
     fn from(error: ConfigError) -> PipeError {
         PipeError::Settings(error)
+    }
+}
+
+impl From<SupplyError> for PipeError {
+    fn from(error: SupplyError) -> PipeError {
+        match error {
+            SupplyError::Random(error) => PipeError::Random(error),
+            SupplyError::End(fault) => PipeError::from(fault),
+        }
     }
 }

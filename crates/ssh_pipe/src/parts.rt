@@ -1,8 +1,8 @@
 //! Settings and supplied parts of both ends.
 
-use crate::policy::{PaddingSource, Policy, TRIES};
 use ssh_packet::MacOnly;
 use ssh_parts::{Aes128Gcm, Curve25519, Ed25519Signer, Ed25519Trust, Either};
+use ssh_pipe_policy::{PaddingSource, Policy, TRIES};
 use ssh_transport_base::{ClientParts, Config, ConfigError, ServerParts, Settings, Strictness};
 use std::alloc::Global;
 

@@ -1,12 +1,11 @@
 //! A channel of a server, on which a command runs (RFC 4254 section 6).
 
 use crate::builtin::Builtin;
-use crate::end::{AskOutcome, End, asked};
 use crate::flow::Flow;
-use crate::policy::MOST_WAITING;
 use crate::texts::string_in;
 use ssh_channels::Ask as ChannelAsk;
 use ssh_end::{Ask, Fault};
+use ssh_pipe_policy::{AskOutcome, End, MOST_WAITING, asked};
 use std::alloc::{AllocError, Global};
 
 /// A channel that a client opened.

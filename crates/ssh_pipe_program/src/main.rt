@@ -2,8 +2,7 @@
 //! output what goes to it.
 #![tactic(auto)]
 
-use ssh_pipe::command_line::{Call, call_of};
-use ssh_pipe::{Status, call, refuse, report, serve};
+use ssh_pipe_commands::{Call, Status, call, call_of, refuse, report, serve};
 use std::process::ExitCode;
 use std::rt::Env;
 use std::{env, io};

@@ -2,10 +2,8 @@
 
 use crate::counted::Counted;
 use crate::keys::Keys;
-use ssh_pipe::policy::Policy;
-use ssh_pipe::{
-    Client, Ending, Login, Machine, OneUser, PipeError, Request, RequestKind, Server, UserKey,
-};
+use ssh_pipe::{Client, Ending, Login, Machine, PipeError, Request, RequestKind, Server};
+use ssh_pipe_policy::{OneUser, Policy, UserKey};
 use std::alloc::Global;
 
 /// The end that took the bytes.

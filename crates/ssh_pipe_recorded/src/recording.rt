@@ -2,7 +2,8 @@
 
 use crate::keys::Keys;
 use crate::playing::{Role, client, server};
-use ssh_pipe::{ClientFiles, pump};
+use ssh_pipe::pump;
+use ssh_pipe_commands::ClientFiles;
 use std::fs::{self, File};
 use std::io::{self, Read, Stdin, Write};
 

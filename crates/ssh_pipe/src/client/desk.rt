@@ -2,15 +2,14 @@
 
 use super::request::Request;
 use super::task::{Task, ask_of};
-use crate::end::{AskOutcome, End, asked};
 use crate::ending::Ending;
 use crate::flow::Flow;
 use crate::login::Login;
-use crate::policy::MOST_WAITING;
 use crate::tasks::Tasks;
 use crate::texts::{first_string_in, number_in};
 use ssh_channels::{Ask as ChannelAsk, Fact};
 use ssh_end::{Ask, Fault, Told, Turn};
+use ssh_pipe_policy::{AskOutcome, End, MOST_WAITING, asked};
 use ssh_types::NameList;
 use std::alloc::{AllocError, Global};
 

@@ -1,12 +1,11 @@
 //! What a server keeps beside its end, and what it does on what the end tells.
 
-use crate::end::{AskOutcome, End, asked};
 use crate::ending::Ending;
-use crate::policy::{MOST_DATA, MOST_SESSIONS};
 use crate::session::Session;
 use crate::tasks::Tasks;
 use ssh_channels::{Ask as ChannelAsk, Fact};
 use ssh_end::{Ask, Fault, Told, Turn};
+use ssh_pipe_policy::{AskOutcome, End, MOST_DATA, MOST_SESSIONS, asked};
 use std::alloc::{AllocError, Global};
 
 /// What a server keeps beside its end.

@@ -1,18 +1,6 @@
-//! What a program decides by itself that embeds an end: how large windows and packets are, when a window is given back, how much is sent at once,
-//! and when keys are fed and exchanged. Everything else is the protocol's, and the end does it.
-//!
-//! - **Windows.** A channel's `Window` counts what the peer may send, what came and is not done with, and what is done with and not given back. The
-//!   three are the window's size at all times, so never more than that is held. It is given back once half of it is done with.
-//! - **Sending.** A packet has as many bytes of data as wait and as both the peer's window and its largest packet allow (`data_len`).
-//! - **Keys.** A `KeySupply` keeps the end fed with one cookie and one secret, and begins an exchange where it is due: after `EPOCH_LIMIT` packets.
+//! How large windows and packets are, how much is sent at once, and when keys are exchanged.
 
 ghost use Rattle.std.specs.Prelude.{◌≡◌, ◌<◌, ◌≤◌};
-
-mod keys;
-mod window;
-
-pub use keys::{KeySupply, Material, PaddingSource};
-pub use window::Window;
 
 /// The largest data of one packet, sent and offered to be taken, in bytes (RFC 4254 section 5.2). An ask for more is refused.
 pub const MOST_DATA: u32 = 32_768;

@@ -1,7 +1,7 @@
 //! Cookies, secrets and padding.
 
 use crate::end::{End, asked};
-use crate::error::PipeError;
+use crate::error::SupplyError;
 use rand_chacha::ChaCha20Rng;
 use rand_core::{Rng, SeedableRng};
 use ssh_end::Ask;
@@ -31,24 +31,24 @@ impl<R: RandomSource + Drop> KeySupply<R> {
     }
 
     /// A fresh cookie and a fresh secret.
-    pub fn draw(&self) -> Result<Material, PipeError> {
+    pub fn draw(&self) -> Result<Material, SupplyError> {
         let mut cookie = [0; 16];
         let mut secret = [0; 32];
         self.source
             .fill_bytes(&mut cookie)
-            .map_err(PipeError::Random)?;
+            .map_err(SupplyError::Random)?;
         self.source
             .fill_bytes(&mut secret)
-            .map_err(PipeError::Random)?;
+            .map_err(SupplyError::Random)?;
         Ok(Material { cookie, secret })
     }
 
     /// What is used for padding.
-    pub fn padding(&self) -> Result<PaddingSource, PipeError> {
+    pub fn padding(&self) -> Result<PaddingSource, SupplyError> {
         let mut seed = [0; 32];
         self.source
             .fill_bytes(&mut seed)
-            .map_err(PipeError::Random)?;
+            .map_err(SupplyError::Random)?;
         Ok(PaddingSource {
             stream: ChaCha20Rng::from_seed(seed),
         })
@@ -56,7 +56,11 @@ impl<R: RandomSource + Drop> KeySupply<R> {
 
     /// Called behind every turn of the end. It keeps one cookie and one secret with the end, since the peer may begin an exchange at any time, and begins
     /// the exchange where it is due. Random bytes are drawn only once the ones before were handed in.
-    pub fn keep_fresh<E: End>(&mut self, end: &mut E, out: &mut Vec<u8>) -> Result<(), PipeError> {
+    pub fn keep_fresh<E: End>(
+        &mut self,
+        end: &mut E,
+        out: &mut Vec<u8>,
+    ) -> Result<(), SupplyError> {
         let material = match self.next {
             Some(material) => material,
             None => self.draw()?,

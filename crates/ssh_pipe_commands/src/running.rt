@@ -3,20 +3,14 @@
 mod error;
 mod inputs;
 
-use crate::client::{Client, Request};
 use crate::client_files::ClientFiles;
 use crate::command_line::{ClientOptions, ServerOptions, UsageFault};
-use crate::ending::Ending;
-use crate::login::Login;
-use crate::machine::pump;
-use crate::server::Server;
 use crate::status::Status;
-use crate::texts::string_of;
-use crate::user_key::UserKey;
-use crate::users::{OneUser, PasswordHash};
 pub use error::RunError;
 use inputs::{accepted_keys, opened, password_in, private_key_in, sink, trusted_key_in};
 use ssh_parts::Ed25519Signer;
+use ssh_pipe::{Client, Ending, Login, Request, Server, pump, string_of};
+use ssh_pipe_policy::{OneUser, PasswordHash, UserKey};
 use std::fmt::Display;
 use std::io::{Read, Write};
 use std::random::RandomSource;

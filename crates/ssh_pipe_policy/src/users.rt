@@ -3,7 +3,7 @@
 ghost use Rattle.std.specs.Prelude.{◌≡◌, Some};
 ghost use Rattle.std.specs.Option.{option_copied};
 ghost use Rattle.sha2.specs.Sha256.{sha256};
-ghost use Rattle.ssh_pipe.specs.Users.{is_password, verdicts_of};
+ghost use Rattle.ssh_pipe_policy.specs.Users.{is_password, verdicts_of};
 
 use sha2::{Digest, Sha256};
 use ssh_auth::UserJudge;

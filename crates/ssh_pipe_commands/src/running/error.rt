@@ -1,8 +1,7 @@
 //! Why a session doesn't begin, or can't go on.
 
-use crate::error::PipeError;
-use crate::texts::MOST_COMMAND_BYTES;
 use ssh_key_files::FileFault;
+use ssh_pipe::{MOST_COMMAND_BYTES, PipeError};
 use std::alloc::{AllocError, AllocFailed};
 use std::io;
 use thiserror::Error;

@@ -5,7 +5,7 @@ use Rattle.ssh_model.specs.Authentication.Requests.{Judge}
 use Rattle.ssh_model.specs.Wire.MacOnly.{is_text}
 use Rattle.ssh_parts.specs.Ed25519.{judge_of}
 use Rattle.ssh_parts.specs.declared.ed25519_judge.AcceptedKey.{AcceptedKey}
-use Rattle.ssh_pipe.specs.declared.users.PasswordHash.{PasswordHash}
+use Rattle.ssh_pipe_policy.specs.declared.users.PasswordHash.{PasswordHash}
 
 -- The user is the one who has the password, and the word is it.
 abbrev pub is_password : (name : List ℕ) → Option PasswordHash → (user word : List ℕ) → Bool

@@ -2,9 +2,9 @@
 
 mod words;
 
-use crate::client::RequestKind;
-use crate::policy::{EPOCH_LIMIT, LEAST_WINDOW, MOST_WINDOW, Policy};
 use clap::ArgMatches;
+use ssh_pipe::RequestKind;
+use ssh_pipe_policy::{EPOCH_LIMIT, LEAST_WINDOW, MOST_WINDOW, Policy};
 use std::alloc::{AllocError, Global};
 use std::convert::AsStr;
 use thiserror::Error;

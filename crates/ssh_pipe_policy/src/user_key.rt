@@ -1,6 +1,6 @@
 //! The key of a client's user.
 
-ghost use Rattle.ssh_pipe.specs.UserKey.{signature_by};
+ghost use Rattle.ssh_pipe_policy.specs.UserKey.{signature_by};
 
 use ssh_auth::UserSigner;
 use ssh_parts::Ed25519Signer;
