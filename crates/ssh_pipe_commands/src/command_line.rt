@@ -42,6 +42,7 @@ pub struct ClientOptions<'a> {
     pub kind: RequestKind,
     /// The command.
     pub command: &'a str,
+    /// Windows, exchanges of keys, and whether `none` is offered.
     pub policy: Policy,
 }
 
@@ -56,6 +57,7 @@ pub struct ServerOptions<'a> {
     pub authorized_keys: Option<&'a str>,
     /// The file with the user's password.
     pub password_file: Option<&'a str>,
+    /// Windows, exchanges of keys, and whether `none` is offered.
     pub policy: Policy,
 }
 
@@ -75,6 +77,7 @@ pub enum UsageFault {
         least: u32,
         most: u32,
     },
+    /// Memory was refused.
     #[error("memory was refused")]
     Memory(#[from(alloc)] AllocError),
 }
