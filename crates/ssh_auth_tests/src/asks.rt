@@ -1,5 +1,6 @@
 //! What a client may be asked, and which messages it takes.
 
+use crate::checking::same;
 use crate::ends::{SESSION, bytes, client};
 use ssh_auth::{AskError, AuthAskRefusal, AuthClient, AuthRefusal, ClientAnswer, UserAsk};
 use ssh_message::{Message, Method, decode, encode};
@@ -21,23 +22,27 @@ fn asks_that_are_refused(rt: HostRuntime) -> Result<(), Fail> {
     ];
     for (ask, refusal) in table {
         let refused = client.ask(&SESSION, &ToyUserSigner, &ask).err();
-        assert_eq!(rt; refused, Some(AskError::Refused(refusal)));
+        same!(rt, refused, Some(AskError::Refused(refusal)));
     }
     client.open();
     let refused = client.ask(&SESSION, &ToyUserSigner, &too_long).err();
-    assert_eq!(rt; refused, Some(AskError::Refused(AuthAskRefusal::TooLong)));
+    same!(
+        rt,
+        refused,
+        Some(AskError::Refused(AuthAskRefusal::TooLong))
+    );
     client.ask(&SESSION, &ToyUserSigner, &fine)?;
     for ask in [too_long, fine] {
         let refused = client.ask(&SESSION, &ToyUserSigner, &ask).err();
-        assert_eq!(rt; refused, Some(AskError::Refused(AuthAskRefusal::Busy)));
+        same!(rt, refused, Some(AskError::Refused(AuthAskRefusal::Busy)));
     }
     client.take(&Message::UserauthSuccess)?;
     for ask in [too_long, fine] {
         let refused = client.ask(&SESSION, &ToyUserSigner, &ask).err();
-        assert_eq!(rt; refused, Some(AskError::Refused(AuthAskRefusal::Ended)));
+        same!(rt, refused, Some(AskError::Refused(AuthAskRefusal::Ended)));
     }
-    assert_eq!(rt; AskRefusal::from(AuthAskRefusal::Busy).number(), 2);
-    assert_eq!(rt; AskRefusal::from(AuthAskRefusal::Ended).name(), "Ended");
+    same!(rt, AskRefusal::from(AuthAskRefusal::Busy).number(), 2);
+    same!(rt, AskRefusal::from(AuthAskRefusal::Ended).name(), "Ended");
     Ok(())
 }
 
@@ -60,11 +65,12 @@ fn asks_that_are_too_long(rt: HostRuntime) -> Result<(), Fail> {
     let bytes = bytes(rt.alloc(), 34_000)?;
     for (length, size) in [(33_969, Some(34_000)), (33_970, None)] {
         let user = bytes.get(..length).ok_or("too few bytes")?;
-        assert_eq!(rt; sent(rt.alloc(), &UserAsk::None { user })?, size);
+        same!(rt, sent(rt.alloc(), &UserAsk::None { user })?, size);
     }
     for (length, size) in [(33_959, Some(34_000)), (33_960, None)] {
         let password = bytes.get(..length).ok_or("too few bytes")?;
-        assert_eq!(rt;
+        same!(
+            rt,
             sent(
                 rt.alloc(),
                 &UserAsk::Password {
@@ -78,7 +84,8 @@ fn asks_that_are_too_long(rt: HostRuntime) -> Result<(), Fail> {
     let (user, algorithm) = (b"u", b"a");
     for (length, size) in [(33_953, Some(34_000)), (33_954, None)] {
         let key = bytes.get(..length).ok_or("too few bytes")?;
-        assert_eq!(rt;
+        same!(
+            rt,
             sent(
                 rt.alloc(),
                 &UserAsk::Probe {
@@ -92,7 +99,8 @@ fn asks_that_are_too_long(rt: HostRuntime) -> Result<(), Fail> {
     }
     for (length, size) in [(29_853, Some(29_936)), (29_854, None)] {
         let key = bytes.get(..length).ok_or("too few bytes")?;
-        assert_eq!(rt;
+        same!(
+            rt,
             sent(
                 rt.alloc(),
                 &UserAsk::Sign {
@@ -130,38 +138,42 @@ fn messages_that_a_client_takes(rt: HostRuntime) -> Result<(), Fail> {
         method: Method::None,
     };
     let mut client = AuthClient::new(rt.alloc());
-    assert_eq!(rt; client.take(&banner), Err(AuthRefusal::Unexpected));
+    same!(rt, client.take(&banner), Err(AuthRefusal::Unexpected));
     client.open();
-    assert_eq!(rt;
+    same!(
+        rt,
         client.take(&banner),
         Ok(ClientAnswer::Banner { message: b"hi" })
     );
     for answer in [failure, Message::UserauthSuccess, key_ok, request] {
         assert!(rt; !client.may_take(answer.number()));
-        assert_eq!(rt; client.take(&answer), Err(AuthRefusal::Unexpected));
+        same!(rt, client.take(&answer), Err(AuthRefusal::Unexpected));
     }
     client.ask(&SESSION, &ToyUserSigner, &UserAsk::None { user: b"u" })?;
-    assert_eq!(rt; client.take(&key_ok), Err(AuthRefusal::Unexpected));
+    same!(rt, client.take(&key_ok), Err(AuthRefusal::Unexpected));
     let unread = decode(client.probing(), b"\x3c\0\0\0\0\0\0\0\0")?;
-    assert_eq!(rt; unread, Message::Unknown(60));
-    assert_eq!(rt; client.take(&unread), Err(AuthRefusal::Unexpected));
+    same!(rt, unread, Message::Unknown(60));
+    same!(rt, client.take(&unread), Err(AuthRefusal::Unexpected));
     let told = ClientAnswer::Failed {
         methods,
         partial: true,
     };
-    assert_eq!(rt; client.take(&failure), Ok(told));
-    assert_eq!(rt; client.take(&failure), Err(AuthRefusal::Unexpected));
+    same!(rt, client.take(&failure), Ok(told));
+    same!(rt, client.take(&failure), Err(AuthRefusal::Unexpected));
     client.ask(&SESSION, &ToyUserSigner, &UserAsk::None { user: b"u" })?;
-    assert_eq!(rt;
+    same!(
+        rt,
         client.take(&Message::Unknown(79)),
         Ok(ClientAnswer::Unimplemented)
     );
-    assert_eq!(rt;
+    same!(
+        rt,
         client.take(&Message::UserauthSuccess),
         Ok(ClientAnswer::Authenticated)
     );
-    assert_eq!(rt; client.take(&banner), Err(AuthRefusal::Unexpected));
-    assert_eq!(rt;
+    same!(rt, client.take(&banner), Err(AuthRefusal::Unexpected));
+    same!(
+        rt,
         client.take(&Message::UserauthSuccess),
         Err(AuthRefusal::Unexpected)
     );

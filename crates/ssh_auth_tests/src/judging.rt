@@ -1,5 +1,6 @@
 //! Which requests a server accepts, and which messages it takes at all.
 
+use crate::checking::{same, same_at};
 use crate::ends::{CREDENTIALS, Lenient, answer, bytes, methods, refused, server};
 use crate::payloads::{
     NEW_PASSWORD, NONE, OTHER_METHOD, OTHER_SERVICE, PROBE, PROBE_OF_AN_UNKNOWN_KEY,
@@ -35,7 +36,7 @@ fn requests_that_fail(rt: HostRuntime) -> Result<(), Fail> {
     let mut server = server(rt.alloc(), 20)?;
     for (at, payload) in table.iter().enumerate() {
         let answer = answer(&mut server, &JUDGE, payload)?;
-        assert_eq!(rt; answer, ServerAnswer::Failed, "at {at}");
+        same_at(&rt, at, answer, ServerAnswer::Failed);
     }
     Ok(())
 }
@@ -62,7 +63,7 @@ fn methods_that_are_named(rt: HostRuntime) -> Result<(), Fail> {
         let mut server = AuthServer::new(rt.alloc(), 1, &methods(names)?)?;
         server.open();
         let answer = answer(&mut server, &Lenient, payload)?;
-        assert_eq!(rt; answer, *expected, "at {at}");
+        same_at(&rt, at, answer, *expected);
     }
     Ok(())
 }
@@ -74,21 +75,22 @@ fn tries(rt: HostRuntime) -> Result<(), Fail> {
         let mut server = server(rt.alloc(), allowed)?;
         for _ in 0..allowed {
             let answer = answer(&mut server, &JUDGE, WRONG)?;
-            assert_eq!(rt; answer, ServerAnswer::Failed, "of {allowed}");
+            same_at(&rt, ("of", allowed), answer, ServerAnswer::Failed);
         }
         let refusal = refused(&mut server, &JUDGE, WRONG)?;
-        assert_eq!(rt; refusal, Some(TOO_MANY_TRIES), "of {allowed}");
+        same_at(&rt, ("of", allowed), refusal, Some(TOO_MANY_TRIES));
         let answer = answer(&mut server, &JUDGE, RIGHT)?;
-        assert_eq!(rt;
+        same_at(
+            &rt,
+            ("of", allowed),
             answer,
             ServerAnswer::Accepted { user: b"u" },
-            "of {allowed}"
         );
     }
     let refusal = Refusal::from(AuthRefusal::TooManyTries);
-    assert_eq!(rt; refusal.number(), 15);
-    assert_eq!(rt; refusal.name(), "TooManyTries");
-    assert_eq!(rt; refusal.code(), Some(14));
+    same!(rt, refusal.number(), 15);
+    same!(rt, refusal.name(), "TooManyTries");
+    same!(rt, refusal.code(), Some(14));
     Ok(())
 }
 
@@ -122,7 +124,7 @@ fn long_keys(rt: HostRuntime) -> Result<(), Fail> {
 #[test]
 fn messages_that_a_server_takes(rt: HostRuntime) -> Result<(), Fail> {
     let mut server = AuthServer::new(rt.alloc(), 20, &methods(b"password")?)?;
-    assert_eq!(rt; refused(&mut server, &JUDGE, RIGHT)?, Some(UNEXPECTED));
+    same!(rt, refused(&mut server, &JUDGE, RIGHT)?, Some(UNEXPECTED));
     assert!(rt; !server.may_take(50));
     server.open();
     let table = [
@@ -133,7 +135,7 @@ fn messages_that_a_server_takes(rt: HostRuntime) -> Result<(), Fail> {
     ];
     for (at, payload) in table.iter().enumerate() {
         let refusal = refused(&mut server, &JUDGE, payload)?;
-        assert_eq!(rt; refusal, Some(UNEXPECTED), "at {at}");
+        same_at(&rt, at, refusal, Some(UNEXPECTED));
     }
     for (number, may) in [
         (50, true),
@@ -142,15 +144,15 @@ fn messages_that_a_server_takes(rt: HostRuntime) -> Result<(), Fail> {
         (53, false),
         (60, false),
     ] {
-        assert_eq!(rt; server.may_take(number), may, "{number}");
+        same_at(&rt, number, server.may_take(number), may);
     }
     for number in [54, 59, 61, 79] {
-        assert!(rt; server.may_take(number), "{number}");
+        same_at(&rt, number, server.may_take(number), true);
     }
     let unknown = answer(&mut server, &JUDGE, b"\x3d")?;
-    assert_eq!(rt; unknown, ServerAnswer::Unimplemented);
+    assert!(rt; unknown == ServerAnswer::Unimplemented);
     assert!(rt; server.message(&unknown).is_none());
     let right = answer(&mut server, &JUDGE, RIGHT)?;
-    assert_eq!(rt; right, ServerAnswer::Accepted { user: b"u" });
+    same!(rt, right, ServerAnswer::Accepted { user: b"u" });
     Ok(())
 }

@@ -5,6 +5,8 @@
 #[cfg(test)]
 mod asks;
 #[cfg(test)]
+mod checking;
+#[cfg(test)]
 mod ends;
 #[cfg(test)]
 mod judging;

@@ -1,5 +1,6 @@
 //! Which calls take memory, and how both ends are where it is refused.
 
+use crate::checking::same;
 use crate::ends::{CREDENTIALS, SESSION, methods, server};
 use crate::payloads::{NONE, PROBE, RIGHT, SIGNED, SIGNED_BY_AN_UNKNOWN_KEY};
 use ssh_auth::{AskError, AuthClient, AuthServer, ServerAnswer, TakeError, UserAsk};
@@ -69,7 +70,7 @@ fn a_client_without_memory_is_as_before(rt: HostRuntime) -> Result<(), Fail> {
     client.open();
     let first = client.ask(&SESSION, &ToyUserSigner, &SIGN);
     if let Err(error) = first {
-        assert_eq!(rt; error, AskError::Memory);
+        same!(rt, error, AskError::Memory);
         println!(rt; "memory was refused for the text to be signed")?;
         client.ask(&SESSION, &ToyUserSigner, &SIGN)?;
     }
@@ -88,6 +89,6 @@ fn a_server_without_memory_is_as_before(rt: HostRuntime) -> Result<(), Fail> {
         println!(rt; "memory was refused for the text that a signature covers")?;
         answer = server.take(&SESSION, &JUDGE, &message);
     }
-    assert_eq!(rt; answer, Ok(ServerAnswer::Failed));
+    same!(rt, answer, Ok(ServerAnswer::Failed));
     Ok(())
 }

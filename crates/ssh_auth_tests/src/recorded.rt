@@ -5,6 +5,7 @@
 ghost use Rattle.std.specs.Prelude.{◌≡◌, ◌&&◌, false, take};
 ghost use Rattle.ssh_model.specs.Wire.MacOnly.{is_text};
 
+use crate::checking::{same, same_at};
 use crate::ends::{client, methods, request, serve};
 use ssh_auth::{
     AuthServer, ClientAnswer, ServerAnswer, SignedText, UserAsk, UserJudge, UserSigner,
@@ -150,7 +151,7 @@ fn the_signed_text(rt: HostRuntime) -> Result<(), Fail> {
         key: KEY,
     };
     put_signed_text(&mut text, &signed)?;
-    assert_eq!(rt; text.as_slice(), TEXT);
+    same!(rt, text.as_slice(), TEXT);
     Ok(())
 }
 
@@ -176,8 +177,8 @@ fn requests_are_answered_as_openssh_answers(rt: HostRuntime) -> Result<(), Fail>
     for (at, (payload, told, sent)) in table.iter().enumerate() {
         let mut out = Vec::new(rt.alloc());
         let answer = serve(&mut server, &SESSION, &JUDGE, payload, &mut out)?;
-        assert_eq!(rt; answer, *told, "at {at}");
-        assert_eq!(rt; out.as_slice(), *sent, "at {at}");
+        same_at(&rt, at, answer, *told);
+        same_at(&rt, at, out.as_slice(), *sent);
     }
     Ok(())
 }
@@ -187,7 +188,7 @@ fn another_session_makes_the_signature_wrong(rt: HostRuntime) -> Result<(), Fail
     let mut server = recorded_server(rt.alloc())?;
     let mut out = Vec::new(rt.alloc());
     let answer = serve(&mut server, &[7; 32], &JUDGE, SIGNED, &mut out)?;
-    assert_eq!(rt; answer, ServerAnswer::Failed);
+    same!(rt, answer, ServerAnswer::Failed);
     Ok(())
 }
 
@@ -197,7 +198,11 @@ fn asks_send_what_openssh_took(rt: HostRuntime) -> Result<(), Fail> {
     let banner = ClientAnswer::Banner {
         message: b"a banner line\r\n",
     };
-    assert_eq!(rt; client.take(&decode(client.probing(), BANNER)?), Ok(banner));
+    same!(
+        rt,
+        client.take(&decode(client.probing(), BANNER)?),
+        Ok(banner)
+    );
     let failed = ClientAnswer::Failed {
         methods: methods(METHODS)?,
         partial: false,
@@ -223,9 +228,9 @@ fn asks_send_what_openssh_took(rt: HostRuntime) -> Result<(), Fail> {
     for (at, (ask, sent, answer, told)) in table.iter().enumerate() {
         let mut out = Vec::new(rt.alloc());
         request(&mut client, &SESSION, &SIGNER, ask, &mut out)?;
-        assert_eq!(rt; out.as_slice(), *sent, "at {at}");
+        same_at(&rt, at, out.as_slice(), *sent);
         let message = decode(client.probing(), answer)?;
-        assert_eq!(rt; client.take(&message), Ok(*told), "at {at}");
+        same_at(&rt, at, client.take(&message), Ok(*told));
     }
     Ok(())
 }

@@ -1,5 +1,6 @@
 //! Whole exchanges of a client and a server.
 
+use crate::checking::same;
 use crate::ends::{CREDENTIALS, SESSION, client, request, serve, server};
 use crate::payloads::{PROBE, RIGHT, WRONG};
 use ssh_auth::{AuthClient, AuthServer, ClientAnswer, ServerAnswer, UserAsk};
@@ -45,13 +46,13 @@ fn check(
     let mut sent = Vec::new(alloc);
     request(client, &SESSION, &ToyUserSigner, &exchange.ask, &mut sent)?;
     let asked = exchange.request;
-    assert_eq!(rt; sent.as_slice(), asked);
+    same!(rt, sent.as_slice(), asked);
     let mut answer = Vec::new(alloc);
     let told = serve(server, &SESSION, &JUDGE, &sent, &mut answer)?;
-    assert_eq!(rt; told, exchange.told);
-    assert_eq!(rt; answer.as_slice(), exchange.answer);
+    same!(rt, told, exchange.told);
+    same!(rt, answer.as_slice(), exchange.answer);
     let heard = client.take(&decode(client.probing(), &answer)?)?;
-    assert_eq!(rt; heard, exchange.heard);
+    same!(rt, heard, exchange.heard);
     Ok(())
 }
 
@@ -94,11 +95,11 @@ fn a_request_after_success(rt: HostRuntime) -> Result<(), Fail> {
     let mut server = server(rt.alloc(), 20)?;
     let mut out = Vec::new(rt.alloc());
     serve(&mut server, &SESSION, &JUDGE, RIGHT, &mut out)?;
-    assert_eq!(rt; out.as_slice(), SUCCESS);
+    same!(rt, out.as_slice(), SUCCESS);
     for payload in [RIGHT, WRONG] {
         let told = serve(&mut server, &SESSION, &JUDGE, payload, &mut out)?;
-        assert_eq!(rt; told, ServerAnswer::Ignored);
-        assert_eq!(rt; out.as_slice(), SUCCESS);
+        same!(rt, told, ServerAnswer::Ignored);
+        same!(rt, out.as_slice(), SUCCESS);
     }
     Ok(())
 }
@@ -129,11 +130,11 @@ fn keys(rt: HostRuntime) -> Result<(), Fail> {
         key,
     };
     request(&mut client, &SESSION, &ToyUserSigner, &ask, &mut sent)?;
-    assert_eq!(rt; sent.len(), 98);
+    same!(rt, sent.len(), 98);
     let mut answer = Vec::new(rt.alloc());
     let told = serve(&mut server, &SESSION, &JUDGE, &sent, &mut answer)?;
-    assert_eq!(rt; told, ServerAnswer::Accepted { user: b"u" });
-    assert_eq!(rt; answer.as_slice(), SUCCESS);
+    same!(rt, told, ServerAnswer::Accepted { user: b"u" });
+    same!(rt, answer.as_slice(), SUCCESS);
     Ok(())
 }
 
@@ -152,6 +153,6 @@ fn a_probe_may_be_answered_by_success(rt: HostRuntime) -> Result<(), Fail> {
     assert!(rt; client.probing());
     assert!(rt; client.may_take(52));
     let told = client.take(&decode(client.probing(), SUCCESS)?)?;
-    assert_eq!(rt; told, ClientAnswer::Authenticated);
+    same!(rt, told, ClientAnswer::Authenticated);
     Ok(())
 }

@@ -1,3 +1,4 @@
+use crate::checking::{same, same_at};
 use ssh_kex::*;
 use ssh_message::{BadMessage, Message, decode};
 use ssh_types::NameList;
@@ -36,7 +37,7 @@ fn check_keys(rt: &impl Abort, at: usize, exchange: &Recorded) {
         let out = &mut room[..length];
         let shared = exchange.inputs.shared;
         derive(shared, &exchange.hash, letter, &exchange.session_id, out);
-        assert_eq!(rt; *out, *key, "at {at} {letter:?}");
+        same_at(rt, (at, letter), &*out, key);
     }
 }
 
@@ -44,30 +45,19 @@ fn check_choice(rt: &impl Abort, at: usize, exchange: &Recorded) -> Result<(), F
     let client = lists_of(exchange.inputs.client_init)?;
     let server = lists_of(exchange.inputs.server_init)?;
     let choice = choose(&client, &server)?;
-    assert_eq!(rt;
-        choice.kex.as_bytes(),
-        b"curve25519-sha256".as_slice(),
-        "at {at}"
-    );
-    assert_eq!(rt;
-        choice.host.as_bytes(),
-        b"ssh-ed25519".as_slice(),
-        "at {at}"
-    );
-    assert_eq!(rt; choice.enc_cs.as_bytes(), exchange.encryption, "at {at}");
-    assert_eq!(rt; choice.enc_sc.as_bytes(), exchange.encryption, "at {at}");
-    assert_eq!(rt;
-        choice.mac_cs.as_bytes(),
-        b"hmac-sha2-256".as_slice(),
-        "at {at}"
-    );
-    assert_eq!(rt;
-        choice.mac_sc.as_bytes(),
-        b"hmac-sha2-256".as_slice(),
-        "at {at}"
-    );
-    assert_eq!(rt; choice.comp_cs.as_bytes(), b"none".as_slice(), "at {at}");
-    assert_eq!(rt; choice.comp_sc.as_bytes(), b"none".as_slice(), "at {at}");
+    let table: [(&str, &[u8], &[u8]); 8] = [
+        ("kex", choice.kex.as_bytes(), b"curve25519-sha256"),
+        ("host", choice.host.as_bytes(), b"ssh-ed25519"),
+        ("enc_cs", choice.enc_cs.as_bytes(), exchange.encryption),
+        ("enc_sc", choice.enc_sc.as_bytes(), exchange.encryption),
+        ("mac_cs", choice.mac_cs.as_bytes(), b"hmac-sha2-256"),
+        ("mac_sc", choice.mac_sc.as_bytes(), b"hmac-sha2-256"),
+        ("comp_cs", choice.comp_cs.as_bytes(), b"none"),
+        ("comp_sc", choice.comp_sc.as_bytes(), b"none"),
+    ];
+    for (list, found, wanted) in table {
+        same_at(rt, (at, list), found, wanted);
+    }
     Ok(())
 }
 
@@ -76,8 +66,8 @@ fn recorded_exchanges(rt: HostRuntime) -> Result<(), Fail> {
     for (at, exchange) in exchanges().iter().enumerate() {
         assert!(rt; exchange.inputs.fits());
         let text = exchange_text(rt.alloc(), &exchange.inputs)?;
-        assert_eq!(rt; text.as_slice(), exchange.text, "at {at}");
-        assert_eq!(rt; exchange_hash(&exchange.inputs), exchange.hash, "at {at}");
+        same_at(&rt, at, text.as_slice(), exchange.text);
+        same_at(&rt, at, exchange_hash(&exchange.inputs), exchange.hash);
         check_keys(&rt, at, exchange);
         check_choice(&rt, at, exchange)?;
     }
@@ -106,7 +96,7 @@ fn a_text_of_484_bytes(rt: HostRuntime) -> Result<(), Fail> {
     };
     assert!(rt; inputs.fits());
     let text = exchange_text(rt.alloc(), &inputs)?;
-    assert_eq!(rt; text.len(), 484);
+    same!(rt, text.len(), 484);
     assert!(rt; text.starts_with(b"\x00\x00\x00\x09SSH-2.0-c"));
     let end = b"\x00\x00\x00\x20\x03\x03\x03\x03\x03\x03\x03\x03\x03\x03\x03\x03\x03\x03\x03\x03\
         \x03\x03\x03\x03\x03\x03\x03\x03\x03\x03\x03\x03\x03\x03\x03\x03";
@@ -114,7 +104,7 @@ fn a_text_of_484_bytes(rt: HostRuntime) -> Result<(), Fail> {
     let hash = b"\
         \xb1R\xb8\xca\x09\xde\xe86\xdd\xc0\xa3\x09^\x11\x5c\x0f\xc6\x20\xfa\xef\x9e\xe4\xecE\x05\
         \x09\xd2\xfa\xf6:N\xe6";
-    assert_eq!(rt; exchange_hash(&inputs), *hash);
+    same!(rt, exchange_hash(&inputs), *hash);
     Ok(())
 }
 
@@ -141,11 +131,11 @@ fn the_first_name_of_the_client_is_chosen(rt: HostRuntime) -> Result<(), Fail> {
     let client = lists(b"k", b"h", b"a,b,c").ok_or("no names")?;
     let server = lists(b"k", b"h", b"c,b").ok_or("no names")?;
     let choice = choose(&client, &server)?;
-    assert_eq!(rt; choice.enc_cs.as_bytes(), b"b".as_slice());
-    assert_eq!(rt; choice.enc_sc.as_bytes(), b"b".as_slice());
+    same!(rt, choice.enc_cs.as_bytes(), b"b".as_slice());
+    same!(rt, choice.enc_sc.as_bytes(), b"b".as_slice());
     let owned = OwnedChoice::from(choice);
-    assert_eq!(rt; owned.enc_sc.as_bytes(), b"b".as_slice());
-    assert_eq!(rt; owned.kex.as_name().as_bytes(), b"k".as_slice());
+    same!(rt, owned.enc_sc.as_bytes(), b"b".as_slice());
+    same!(rt, owned.kex.as_name().as_bytes(), b"k".as_slice());
     Ok(())
 }
 
@@ -161,7 +151,7 @@ fn the_first_kind_without_a_common_name_is_refused(rt: HostRuntime) -> Result<()
     for (kex, host, enc, kind) in table {
         let server = lists(kex, host, enc).ok_or("no names")?;
         let refusal = choose(&client, &server).err();
-        assert_eq!(rt; refusal, Some(NoCommon { kind }));
+        same!(rt, refusal, Some(NoCommon { kind }));
     }
     Ok(())
 }
@@ -182,14 +172,14 @@ fn guesses_are_judged_without_the_markers(rt: HostRuntime) -> Result<(), Fail> {
     ];
     for (kex, host, wrong) in table {
         let server = lists(kex, host, b"a").ok_or("no names")?;
-        assert_eq!(rt; guess_wrong(&client, &server), wrong);
+        same!(rt, guess_wrong(&client, &server), wrong);
     }
-    assert_eq!(rt; markers(&client), (true, false));
+    same!(rt, markers(&client), (true, false));
     let server = lists(b"ext-info-s,k,kex-strict-s-v00@openssh.com", b"h", b"a");
     let server = server.ok_or("no names")?;
-    assert_eq!(rt; markers(&server), (false, true));
-    assert_eq!(rt; extension_markers(&server), (false, true));
-    assert_eq!(rt; extension_markers(&client), (false, false));
+    same!(rt, markers(&server), (false, true));
+    same!(rt, extension_markers(&server), (false, true));
+    same!(rt, extension_markers(&client), (false, false));
     Ok(())
 }
 
@@ -213,7 +203,7 @@ fn a_text_is_made_where_there_is_memory(rt: HostRuntime) -> Result<(), Fail> {
         };
         assert!(rt; inputs.fits());
         let text = exchange_text(rt.alloc(), &inputs)?;
-        assert_eq!(rt; text.len(), 3 * size + 3 * 32 + 8 * 4);
+        same!(rt, text.len(), 3 * size + 3 * 32 + 8 * 4);
     }
     Ok(())
 }

@@ -1,3 +1,4 @@
+use crate::checking::{same, same_at};
 use ssh_types::*;
 use std::alloc::AllocError;
 use std::test::*;
@@ -17,15 +18,15 @@ fn scalars_and_strings(rt: HostRuntime) -> Result<(), Fail> {
         b"\x07\x01\x00\x29\xb7\xf4\xaa\x01\x02\x03\x04\x05\x06\x07\x08\x00\x00\x00\x07testing";
     let mut out = Vec::new(rt.alloc());
     put_scalars(&mut out)?;
-    assert_eq!(rt; out.as_slice(), wanted.as_slice());
+    same!(rt, out.as_slice(), wanted.as_slice());
     let mut reader = Reader::new(wanted);
-    assert_eq!(rt; reader.u8(), Ok(7));
-    assert_eq!(rt; reader.boolean(), Ok(true));
-    assert_eq!(rt; reader.boolean(), Ok(false));
-    assert_eq!(rt; reader.u32(), Ok(699_921_578));
-    assert_eq!(rt; reader.u64(), Ok(0x0102_0304_0506_0708));
-    assert_eq!(rt; reader.string(), Ok(b"testing".as_slice()));
-    assert_eq!(rt; reader.end(), Ok(()));
+    same!(rt, reader.u8(), Ok(7));
+    same!(rt, reader.boolean(), Ok(true));
+    same!(rt, reader.boolean(), Ok(false));
+    same!(rt, reader.u32(), Ok(699_921_578));
+    same!(rt, reader.u64(), Ok(0x0102_0304_0506_0708));
+    same!(rt, reader.string(), Ok(b"testing".as_slice()));
+    same!(rt, reader.end(), Ok(()));
     Ok(())
 }
 
@@ -33,16 +34,16 @@ fn scalars_and_strings(rt: HostRuntime) -> Result<(), Fail> {
 fn a_refused_reader_is_unchanged(rt: HostRuntime) {
     let bytes = b"\x00\x00\x00";
     let mut reader = Reader::new(bytes);
-    assert_eq!(rt; reader.u32(), Err(ReadRefusal::Short));
-    assert_eq!(rt; reader.u64(), Err(ReadRefusal::Short));
-    assert_eq!(rt; reader.string(), Err(ReadRefusal::Short));
-    assert_eq!(rt; reader.mpint(), Err(ReadRefusal::Short));
-    assert_eq!(rt; reader.names(), Err(ReadRefusal::Short));
-    assert_eq!(rt; reader.end(), Err(ReadRefusal::LeftOver));
-    assert_eq!(rt; reader.rest(), bytes.as_slice());
-    assert_eq!(rt; reader.u8(), Err(ReadRefusal::Short));
-    assert_eq!(rt; reader.boolean(), Err(ReadRefusal::Short));
-    assert_eq!(rt; Reader::new(b"\x02").boolean(), Ok(true));
+    same!(rt, reader.u32(), Err(ReadRefusal::Short));
+    same!(rt, reader.u64(), Err(ReadRefusal::Short));
+    same!(rt, reader.string(), Err(ReadRefusal::Short));
+    same!(rt, reader.mpint(), Err(ReadRefusal::Short));
+    same!(rt, reader.names(), Err(ReadRefusal::Short));
+    same!(rt, reader.end(), Err(ReadRefusal::LeftOver));
+    same!(rt, reader.rest(), bytes.as_slice());
+    same!(rt, reader.u8(), Err(ReadRefusal::Short));
+    same!(rt, reader.boolean(), Err(ReadRefusal::Short));
+    same!(rt, Reader::new(b"\x02").boolean(), Ok(true));
 }
 
 // The numbers of RFC 4251 section 5, and two more.
@@ -68,11 +69,11 @@ fn whole_numbers_are_read(rt: HostRuntime) -> Result<(), Fail> {
     for (bytes, marked, digits) in table {
         let mut reader = Reader::new(bytes);
         let number = reader.mpint()?;
-        assert_eq!(rt; number.parts(), (marked, digits), "at {bytes:?}");
-        assert_eq!(rt; reader.end(), Ok(()));
+        same_at(&rt, bytes, number.parts(), (marked, digits));
+        same!(rt, reader.end(), Ok(()));
         let mut out = Vec::new(rt.alloc());
         out.put_mpint(&number)?;
-        assert_eq!(rt; out.as_slice(), bytes);
+        same!(rt, out.as_slice(), bytes);
     }
     Ok(())
 }
@@ -90,8 +91,8 @@ fn whole_numbers_are_refused(rt: HostRuntime) {
     ];
     for (bytes, refusal) in table {
         let mut reader = Reader::new(bytes);
-        assert_eq!(rt; reader.mpint(), Err(refusal), "at {bytes:?}");
-        assert_eq!(rt; reader.rest(), bytes);
+        same_at(&rt, bytes, reader.mpint(), Err(refusal));
+        same!(rt, reader.rest(), bytes);
     }
 }
 
@@ -110,13 +111,14 @@ fn unsigned_bytes_are_written_in_the_shortest_way(rt: HostRuntime) -> Result<(),
         let number = MpInt::from_unsigned(&secret);
         let mut out = Vec::new(rt.alloc());
         out.put_mpint(&number)?;
-        assert_eq!(rt; out.as_slice(), wanted);
+        same!(rt, out.as_slice(), wanted);
         let again = Reader::new(wanted).mpint()?;
         assert!(rt; again.is_same(&number));
         assert!(rt; !again.is_same(&MpInt::from_unsigned(&[5])));
     }
-    assert_eq!(rt; MpInt::from_shortest(&[0, 0x7f]), None);
-    assert_eq!(rt;
+    same!(rt, MpInt::from_shortest(&[0, 0x7f]), None);
+    same!(
+        rt,
         MpInt::from_shortest(&[0, 0x80]),
         Some(MpInt::from_unsigned(&[0x80]))
     );
@@ -138,12 +140,12 @@ fn names_are_read(rt: HostRuntime) -> Result<(), Fail> {
     for (bytes, count) in table {
         let mut reader = Reader::new(bytes);
         let list = reader.names()?;
-        assert_eq!(rt; reader.end(), Ok(()));
-        assert_eq!(rt; list.is_empty(), count == 0);
-        assert_eq!(rt; list.iter().count(), count);
+        same!(rt, reader.end(), Ok(()));
+        same!(rt, list.is_empty(), count == 0);
+        same!(rt, list.iter().count(), count);
         let mut out = Vec::new(rt.alloc());
         out.put_names(&list)?;
-        assert_eq!(rt; out.as_slice(), bytes);
+        same!(rt, out.as_slice(), bytes);
     }
     Ok(())
 }
@@ -165,8 +167,8 @@ fn names_are_refused(rt: HostRuntime) {
     ];
     for (bytes, refusal) in table {
         let mut reader = Reader::new(bytes);
-        assert_eq!(rt; reader.names(), Err(refusal), "at {bytes:?}");
-        assert_eq!(rt; reader.rest(), bytes);
+        same_at(&rt, bytes, reader.names(), Err(refusal));
+        same!(rt, reader.rest(), bytes);
     }
 }
 
@@ -176,11 +178,11 @@ fn names_of_a_text(rt: HostRuntime) -> Result<(), Fail> {
     let zlib = Name::new(b"zlib").ok_or("no names")?;
     let none = Name::new(b"none").ok_or("no names")?;
     let mut names = list.iter();
-    assert_eq!(rt; names.next(), Some(zlib));
-    assert_eq!(rt; names.next(), Some(none));
-    assert_eq!(rt; names.next(), None);
-    assert_eq!(rt; list.as_bytes(), b"zlib,none".as_slice());
-    assert_eq!(rt; list.first(), Some(zlib));
+    same!(rt, names.next(), Some(zlib));
+    same!(rt, names.next(), Some(none));
+    same!(rt, names.next(), None);
+    same!(rt, list.as_bytes(), b"zlib,none".as_slice());
+    same!(rt, list.first(), Some(zlib));
     assert!(rt; list.contains(b"none"));
     assert!(rt; !list.contains(b"non"));
     assert!(rt; !list.contains(b"zlib,none"));
@@ -211,9 +213,9 @@ fn refusals(rt: HostRuntime) -> Result<(), Fail> {
         (ReadRefusal::LeftOver, 4, "LeftOver", "bytes are left over"),
     ];
     for (refusal, number, name, text) in table {
-        assert_eq!(rt; refusal.number(), number);
-        assert_eq!(rt; refusal.name(), name);
-        assert_eq!(rt; format!(in rt.alloc(); "{refusal}")?.as_str(), text);
+        same!(rt, refusal.number(), number);
+        same!(rt, refusal.name(), name);
+        same!(rt, format!(in rt.alloc(); "{refusal}")?.as_str(), text);
     }
     Ok(())
 }
@@ -221,8 +223,8 @@ fn refusals(rt: HostRuntime) -> Result<(), Fail> {
 // What two ends are called, and what is said where one refuses the other.
 #[test]
 fn sides_and_refusals(rt: HostRuntime) {
-    assert_eq!(rt; Side::Client.peer(), Side::Server);
-    assert_eq!(rt; Side::Server.peer(), Side::Client);
+    same!(rt, Side::Client.peer(), Side::Server);
+    same!(rt, Side::Server.peer(), Side::Client);
     let table = [
         (Refusal::BadLine, 1, "BadLine", None),
         (Refusal::BadTag, 5, "BadTag", Some(5)),
@@ -234,11 +236,11 @@ fn sides_and_refusals(rt: HostRuntime) {
         (Refusal::OwedFull, 19, "OwedFull", Some(2)),
     ];
     for (refusal, number, name, code) in table {
-        assert_eq!(rt; refusal.number(), number);
-        assert_eq!(rt; refusal.name(), name);
-        assert_eq!(rt; refusal.code(), code);
+        same!(rt, refusal.number(), number);
+        same!(rt, refusal.name(), name);
+        same!(rt, refusal.code(), code);
     }
-    assert_eq!(rt; AskRefusal::NotYet.number(), 1);
-    assert_eq!(rt; AskRefusal::NoMaterial.number(), 12);
-    assert_eq!(rt; AskRefusal::NoMaterial.name(), "NoMaterial");
+    same!(rt, AskRefusal::NotYet.number(), 1);
+    same!(rt, AskRefusal::NoMaterial.number(), 12);
+    same!(rt, AskRefusal::NoMaterial.name(), "NoMaterial");
 }

@@ -1,5 +1,6 @@
 //! Asks that are refused, and change nothing.
 
+use crate::checking::same;
 use crate::playing::{Playing, Script, Step};
 use crate::scripts::{CHANNEL, DATA, FIRST, LET_IN, OPEN, RIGHT, SERVICE};
 use ssh_channels::Ask as ChannelAsk;
@@ -125,14 +126,14 @@ const WINDOW: Script = &[
 #[test]
 fn refused_asks(rt: HostRuntime) -> Result<(), Fail> {
     let mut playing = Playing::new(rt.alloc())?;
-    assert_eq!(rt; playing.differs(&[FIRST, SERVICE], false)?, None);
+    same!(rt, playing.differs(&[FIRST, SERVICE], false)?, None);
     let count = playing.put_out();
-    assert_eq!(rt; playing.differs(&[EARLY, OF_A_CLIENT], false)?, None);
+    same!(rt, playing.differs(&[EARLY, OF_A_CLIENT], false)?, None);
     assert!(rt; playing.put_out() == count);
-    assert_eq!(rt; playing.differs(&[LET_IN], false)?, None);
+    same!(rt, playing.differs(&[LET_IN], false)?, None);
     let count = playing.put_out();
-    assert_eq!(rt; playing.differs(&[LATE, OF_A_CLIENT], false)?, None);
+    same!(rt, playing.differs(&[LATE, OF_A_CLIENT], false)?, None);
     assert!(rt; playing.put_out() == count);
-    assert_eq!(rt; playing.differs(&[CHANNEL, WINDOW], false)?, None);
+    same!(rt, playing.differs(&[CHANNEL, WINDOW], false)?, None);
     Ok(())
 }

@@ -1,5 +1,6 @@
 //! Networks that put in, drop and repeat packets. The end that finds it is over.
 
+use crate::checking::same;
 use crate::payloads::{CLOSE, OPEN, UNKNOWN_79};
 use crate::playing::{Playing, Script, Step};
 use crate::scripts::{FEEDS, FIRST, LET_IN, SECOND, SERVICE};
@@ -129,7 +130,7 @@ const OVER: Script = &[
 fn clients_find_it(rt: HostRuntime) -> Result<(), Fail> {
     for scripts in AT_CLIENT {
         let mut playing = Playing::new(rt.alloc())?;
-        assert_eq!(rt; playing.differs(scripts, false)?, None);
+        same!(rt, playing.differs(scripts, false)?, None);
         let count = playing.put_out();
         assert!(rt; playing.party_mut(Client).take_more() == Err(Fault::Dead));
         assert!(rt; playing.put_out() == count);
@@ -141,7 +142,7 @@ fn clients_find_it(rt: HostRuntime) -> Result<(), Fail> {
 fn servers_find_it(rt: HostRuntime) -> Result<(), Fail> {
     for scripts in AT_SERVER {
         let mut playing = Playing::new(rt.alloc())?;
-        assert_eq!(rt; playing.differs(scripts, false)?, None);
+        same!(rt, playing.differs(scripts, false)?, None);
         let count = playing.put_out();
         assert!(rt; playing.party_mut(Server).take_more() == Err(Fault::Dead));
         assert!(rt; playing.put_out() == count);
@@ -153,7 +154,8 @@ fn servers_find_it(rt: HostRuntime) -> Result<(), Fail> {
 #[test]
 fn the_peer_is_told(rt: HostRuntime) -> Result<(), Fail> {
     let mut playing = Playing::new(rt.alloc())?;
-    assert_eq!(rt;
+    same!(
+        rt,
         playing.differs(&[FIRST, BEHIND_NEWKEYS, TOLD_SERVER, OVER], false)?,
         None
     );

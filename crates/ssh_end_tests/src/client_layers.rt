@@ -1,5 +1,6 @@
 //! What the layers above a client's transport make of the payloads of a session, one after the other.
 
+use crate::checking::same;
 use crate::layers::{OPENED, below};
 use crate::payloads::{BANNER, FAILURE, KEY_OK, OPEN, SUCCESS, UNKNOWN_79, is_above};
 use ssh_auth::{ClientAnswer, UserAsk};
@@ -79,7 +80,7 @@ fn payloads_of_a_session(rt: HostRuntime) -> Result<(), Fail> {
         ask(&mut layers, &below, before)?;
         assert!(rt; is_above(payload));
         let given = layers.take(&below, payload).map(|taken| taken.answer);
-        assert_eq!(rt; given, wanted);
+        same!(rt, given, wanted);
     }
     Ok(())
 }

@@ -6,6 +6,8 @@ mod asks;
 #[cfg(test)]
 mod attacks;
 #[cfg(test)]
+mod checking;
+#[cfg(test)]
 mod client_layers;
 #[cfg(test)]
 mod layers;

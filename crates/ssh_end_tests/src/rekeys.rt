@@ -1,5 +1,6 @@
 //! Later exchanges of keys.
 
+use crate::checking::same;
 use crate::playing::{Playing, Script, Step};
 use crate::scripts::{CHANNEL, CLOSE, FEEDS, FIRST, LET_IN, SERVICE};
 use ssh_end::Ask;
@@ -51,15 +52,15 @@ const REPLY: Script = &[
 fn a_reply_is_owed_until_newkeys(rt: HostRuntime) -> Result<(), Fail> {
     for is_dripped in [false, true] {
         let mut playing = Playing::new(rt.alloc())?;
-        assert_eq!(rt; playing.differs(SESSION, is_dripped)?, None);
+        same!(rt, playing.differs(SESSION, is_dripped)?, None);
         let session_id = playing.party(Client).end().session_id();
         assert!(rt; session_id.is_some());
-        assert_eq!(rt; playing.differs(&[FEEDS, CROSSING], is_dripped)?, None);
+        same!(rt, playing.differs(&[FEEDS, CROSSING], is_dripped)?, None);
         let sent = playing.party(Server).end().turn().sent;
         assert!(rt; sent.channel(1) == None && sent.channel(2) == Some(0));
         assert!(rt; playing.party(Server).end().channel_count() == 0);
         assert!(rt; playing.party(Client).end().channel_count() == 1);
-        assert_eq!(rt; playing.differs(&[REPLY], is_dripped)?, None);
+        same!(rt, playing.differs(&[REPLY], is_dripped)?, None);
         assert!(rt; playing.party(Client).end().channel_count() == 0);
         assert!(rt; playing.party(Client).end().session_id() == session_id);
         assert!(rt; playing.party(Server).end().session_id() == session_id);
@@ -93,7 +94,8 @@ const SAME_SECRET: Script = &[
 #[test]
 fn a_point_that_shares_zero_is_refused(rt: HostRuntime) -> Result<(), Fail> {
     let mut playing = Playing::new(rt.alloc())?;
-    assert_eq!(rt;
+    same!(
+        rt,
         playing.differs(&[FIRST, SERVICE, LET_IN, SAME_SECRET], false)?,
         None
     );

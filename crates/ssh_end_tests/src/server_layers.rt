@@ -1,5 +1,6 @@
 //! What the layers above a server's transport make of the payloads of a session, one after the other.
 
+use crate::checking::same;
 use crate::layers::{OPENED, below};
 use crate::payloads::{CLOSE, OPEN, RIGHT, SUCCESS, UNKNOWN_79, UNKNOWN_200, WRONG, is_above};
 use ssh_auth::ServerAnswer;
@@ -104,7 +105,7 @@ fn payloads_of_a_session(rt: HostRuntime) -> Result<(), Fail> {
         let given = layers
             .take(&JUDGE, &below, payload)
             .map(|taken| taken.answer);
-        assert_eq!(rt; given, wanted);
+        same!(rt, given, wanted);
     }
     Ok(())
 }
@@ -130,14 +131,14 @@ fn messages_that_are_sent(rt: HostRuntime) -> Result<(), Fail> {
     ];
     for (payload, authenticated, wanted) in table {
         let sent = sent_for(&mut layers, payload, authenticated);
-        assert_eq!(rt; sent, wanted);
+        same!(rt, sent, wanted);
     }
     let below = below(false, true);
     let confirmed = layers.ask(&below, &confirm, false)?;
-    assert_eq!(rt; confirmed.message.number(), 91);
-    assert_eq!(rt; sent_for(&mut layers, CLOSE, true), Some(97));
-    assert_eq!(rt; layers.channels().count(), 0);
-    assert_eq!(rt; layers.unblock(), None);
+    same!(rt, confirmed.message.number(), 91);
+    same!(rt, sent_for(&mut layers, CLOSE, true), Some(97));
+    same!(rt, layers.channels().count(), 0);
+    same!(rt, layers.unblock(), None);
     Ok(())
 }
 

@@ -1,5 +1,6 @@
 //! Whole sessions of two ends.
 
+use crate::checking::same;
 use crate::playing::{Playing, Script};
 use crate::scripts::{CHANNEL, DATA_AND_CLOSE, DISCONNECT, FIRST, LET_IN, SERVICE};
 use std::test::*;
@@ -12,9 +13,9 @@ const SESSION: &[Script] = &[FIRST, SERVICE, LET_IN, CHANNEL, DATA_AND_CLOSE];
 fn a_whole_session(rt: HostRuntime) -> Result<(), Fail> {
     for is_dripped in [false, true] {
         let mut playing = Playing::new(rt.alloc())?;
-        assert_eq!(rt; playing.differs(SESSION, is_dripped)?, None);
+        same!(rt, playing.differs(SESSION, is_dripped)?, None);
         assert!(rt; playing.put_out() == (579, 523));
-        assert_eq!(rt; playing.differs(&[DISCONNECT], is_dripped)?, None);
+        same!(rt, playing.differs(&[DISCONNECT], is_dripped)?, None);
     }
     Ok(())
 }

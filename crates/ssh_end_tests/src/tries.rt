@@ -1,5 +1,6 @@
 //! Users that try to be let in.
 
+use crate::checking::same;
 use crate::playing::{Playing, Script, Step};
 use crate::scripts::{CHANNEL, FIRST, LET_IN, RIGHT, SERVICE, WRONG};
 use ssh_types::Side::{Client, Server};
@@ -30,7 +31,7 @@ fn a_wrong_password_and_a_right_one(rt: HostRuntime) -> Result<(), Fail> {
     for is_dripped in [false, true] {
         let mut playing = Playing::new(rt.alloc())?;
         let scripts = &[FIRST, SERVICE, FAILS, FAILS, LET_IN, CHANNEL];
-        assert_eq!(rt; playing.differs(scripts, is_dripped)?, None);
+        same!(rt, playing.differs(scripts, is_dripped)?, None);
     }
     Ok(())
 }

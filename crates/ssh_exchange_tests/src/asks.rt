@@ -1,5 +1,6 @@
 //! What an end is asked: what is refused, which changes nothing, and when an exchange of keys is due.
 
+use crate::checking::{same, same_at};
 use crate::pair::Pair;
 use crate::sessions::{AUTHENTICATION, CHANNEL, FEEDS, FIRST, SECOND, SERVICE};
 use crate::step::{Script, Step};
@@ -123,18 +124,24 @@ const TABLE: &[(&[Script], Step<'static>, Side, &str)] = &[
 fn refused_asks_change_nothing(rt: HostRuntime) -> Result<(), Fail> {
     for (index, (scripts, step, side, lines)) in TABLE.iter().enumerate() {
         let mut pair = Pair::strict(rt.alloc())?;
-        assert_eq!(rt; pair.differs(scripts, false)?, None, "before row {index}");
+        same_at(
+            &rt,
+            ("before row", index),
+            pair.differs(scripts, false)?,
+            None,
+        );
         let end = pair.party(*side).end();
         let before = (end.numbers(), end.epochs(), end.blocked());
         let size = pair.party(*side).out().len();
-        assert_eq!(rt; pair.play(*step)?, *lines, "row {index}");
+        same_at(&rt, index, pair.play(*step)?, *lines);
         let end = pair.party(*side).end();
-        assert_eq!(rt;
+        same_at(
+            &rt,
+            index,
             (end.numbers(), end.epochs(), end.blocked()),
             before,
-            "row {index}"
         );
-        assert_eq!(rt; pair.party(*side).out().len(), size, "row {index}");
+        same_at(&rt, index, pair.party(*side).out().len(), size);
     }
     Ok(())
 }
@@ -144,12 +151,14 @@ fn the_longest_description(rt: HostRuntime) -> Result<(), Fail> {
     let mut pair = Pair::strict(rt.alloc())?;
     let longest = LONG.get(1..).unwrap_or(LONG);
     let lines = pair.play(Step::Disconnect(Client, longest))?;
-    assert_eq!(rt;
+    same!(
+        rt,
         lines,
         "c asked disconnect; c sent 1 DISCONNECT 1037; c died"
     );
     let lines = pair.play(Step::PassAll(Client))?;
-    assert_eq!(rt;
+    same!(
+        rt,
         lines,
         "s took line 9; s took 20 KEXINIT 165; s took 1 DISCONNECT 1037; s told disconnected 11; s died"
     );
@@ -165,20 +174,21 @@ fn when_an_exchange_is_due(rt: HostRuntime) -> Result<(), Fail> {
     };
     let of_server = settings(b"s", Strictness::Require);
     let mut pair = Pair::new(rt.alloc(), &of_client, &of_server)?;
-    assert_eq!(rt;
+    same!(
+        rt,
         pair.differs(&[FIRST, SERVICE, AUTHENTICATION, CHANNEL], false)?,
         None
     );
-    assert_eq!(rt; pair.party(Client).end().numbers().0, 3);
+    same!(rt, pair.party(Client).end().numbers().0, 3);
     for _ in 0..61 {
         assert!(rt; !pair.party(Client).end().rekey_due());
         let lines = pair.play(Step::Send(Client, b"^\0\0\0\0\0\0\0\0"))?;
-        assert_eq!(rt; lines, "c asked send; c sent 94 CHANNEL_DATA 9");
+        same!(rt, lines, "c asked send; c sent 94 CHANNEL_DATA 9");
     }
     assert!(rt; pair.party(Client).end().rekey_due());
     assert!(rt; !pair.party(Server).end().rekey_due());
     pair.play(Step::PassAll(Client))?;
-    assert_eq!(rt; pair.differs(&[FEEDS, SECOND], false)?, None);
+    same!(rt, pair.differs(&[FEEDS, SECOND], false)?, None);
     assert!(rt; !pair.party(Client).end().rekey_due());
     Ok(())
 }

@@ -1,5 +1,6 @@
 //! Networks that drop, repeat and put in packets.
 
+use crate::checking::{same, same_at};
 use crate::pair::Pair;
 use crate::sessions::{
     AUTHENTICATION, CHANNEL, CLOSE, FEEDS, FIRST, IGNORE, NEWKEYS, SECOND, SERVICE,
@@ -206,7 +207,7 @@ fn what_comes_of_them(rt: HostRuntime) -> Result<(), Fail> {
     for is_dripped in [false, true] {
         for (index, scripts) in TABLE.iter().enumerate() {
             let mut pair = Pair::strict(rt.alloc())?;
-            assert_eq!(rt; pair.differs(scripts, is_dripped)?, None, "row {index}");
+            same_at(&rt, index, pair.differs(scripts, is_dripped)?, None);
         }
     }
     Ok(())
@@ -216,15 +217,15 @@ fn what_comes_of_them(rt: HostRuntime) -> Result<(), Fail> {
 #[test]
 fn the_session_id_stays(rt: HostRuntime) -> Result<(), Fail> {
     let mut pair = Pair::strict(rt.alloc())?;
-    assert_eq!(rt; pair.differs(&[FIRST], false)?, None);
+    same!(rt, pair.differs(&[FIRST], false)?, None);
     let first = pair.party(Client).end().session_id();
     assert!(rt; first.is_some());
     let rest = &[SERVICE, AUTHENTICATION, CHANNEL, SERVERS];
-    assert_eq!(rt; pair.differs(rest, false)?, None);
+    same!(rt, pair.differs(rest, false)?, None);
     for side in [Client, Server] {
         let end = pair.party(side).end();
-        assert_eq!(rt; end.session_id(), first);
-        assert_eq!(rt; (end.epochs(), end.numbers()), ((3, 3), (0, 0)));
+        same!(rt, end.session_id(), first);
+        same!(rt, (end.epochs(), end.numbers()), ((3, 3), (0, 0)));
     }
     Ok(())
 }

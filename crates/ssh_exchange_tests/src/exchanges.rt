@@ -1,5 +1,6 @@
 //! Exchanges of keys, byte for byte and in any pieces.
 
+use crate::checking::same;
 use crate::pair::Pair;
 use crate::sessions::{
     AUTHENTICATION, CHANNEL, DATA, DATA_AND_CLOSE, FEEDS, FIRST, SECOND, SERVICE,
@@ -78,15 +79,15 @@ const LONG: &[Script] = &[FIRST, SERVICE, AUTHENTICATION, FEEDS, SECOND, BEHIND]
 fn sessions_byte_for_byte(rt: HostRuntime) -> Result<(), Fail> {
     for is_dripped in [false, true] {
         let mut pair = Pair::strict(rt.alloc())?;
-        assert_eq!(rt; pair.differs(SHORT, is_dripped)?, None);
-        assert_eq!(rt; pair.party(Client).out().len(), 579);
-        assert_eq!(rt; pair.party(Server).out().len(), 523);
+        same!(rt, pair.differs(SHORT, is_dripped)?, None);
+        same!(rt, pair.party(Client).out().len(), 579);
+        same!(rt, pair.party(Server).out().len(), 523);
         let mut pair = Pair::strict(rt.alloc())?;
-        assert_eq!(rt; pair.differs(LONG, is_dripped)?, None);
+        same!(rt, pair.differs(LONG, is_dripped)?, None);
         let wanted = hex::decode(rt.alloc(), FROM_CLIENT)?;
-        assert_eq!(rt; pair.party(Client).out(), wanted.as_slice());
+        same!(rt, pair.party(Client).out(), wanted.as_slice());
         let wanted = hex::decode(rt.alloc(), FROM_SERVER)?;
-        assert_eq!(rt; pair.party(Server).out(), wanted.as_slice());
+        same!(rt, pair.party(Server).out(), wanted.as_slice());
     }
     Ok(())
 }
@@ -96,35 +97,36 @@ fn what_two_ends_show(rt: HostRuntime) -> Result<(), Fail> {
     let mut pair = Pair::strict(rt.alloc())?;
     for side in [Client, Server] {
         let end = pair.party(side).end();
-        assert_eq!(rt; (end.numbers(), end.epochs()), ((1, 0), (0, 0)));
+        same!(rt, (end.numbers(), end.epochs()), ((1, 0), (0, 0)));
         assert!(rt; end.blocked() && end.session_id().is_none());
     }
-    assert_eq!(rt; pair.differs(&[FIRST], false)?, None);
+    same!(rt, pair.differs(&[FIRST], false)?, None);
     let first = array(&hex::decode(rt.alloc(), FIRST_HASH)?);
     for side in [Client, Server] {
         let end = pair.party(side).end();
-        assert_eq!(rt; (end.numbers(), end.epochs()), ((0, 0), (1, 1)));
+        same!(rt, (end.numbers(), end.epochs()), ((0, 0), (1, 1)));
         assert!(rt; !end.blocked() && !end.rekey_due() && !end.is_dead());
-        assert_eq!(rt; end.session_id(), Some(first));
+        same!(rt, end.session_id(), Some(first));
     }
-    assert_eq!(rt;
+    same!(
+        rt,
         pair.differs(&[SERVICE, AUTHENTICATION, FEEDS, SECOND], false)?,
         None
     );
     for side in [Client, Server] {
         let end = pair.party(side).end();
-        assert_eq!(rt; (end.numbers(), end.epochs()), ((0, 0), (2, 2)));
-        assert_eq!(rt; end.session_id(), Some(first));
+        same!(rt, (end.numbers(), end.epochs()), ((0, 0), (2, 2)));
+        same!(rt, end.session_id(), Some(first));
     }
     let second = array(&hex::decode(rt.alloc(), SECOND_HASH)?);
     for (place, size, last, hash) in [(0, 484, 0x03, first), (1, 426, 0x10, second)] {
         let (text, computed) = exchange(rt.alloc(), &pair, place, last)?;
-        assert_eq!(rt; text.len(), size);
+        same!(rt, text.len(), size);
         assert!(rt; text.starts_with(b"\0\0\0\x09SSH-2.0-c\0\0\0\x09SSH-2.0-s"));
         let mut end = [last; 36];
         end[..4].copy_from_slice(b"\0\0\0 ");
         assert!(rt; text.ends_with(&end));
-        assert_eq!(rt; computed, hash);
+        same!(rt, computed, hash);
     }
     Ok(())
 }
@@ -179,7 +181,7 @@ fn array(bytes: &[u8]) -> [u8; 32] {
 fn a_call_takes_one_line_or_packet(rt: HostRuntime) -> Result<(), Fail> {
     let mut pair = Pair::strict(rt.alloc())?;
     for (step, lines) in FIRST.get(..3).unwrap_or(&[]) {
-        assert_eq!(rt; pair.play(*step)?, *lines);
+        same!(rt, pair.play(*step)?, *lines);
     }
     let mut out = Vec::new(rt.alloc());
     let mut sent = Vec::new(rt.alloc());
@@ -188,11 +190,11 @@ fn a_call_takes_one_line_or_packet(rt: HostRuntime) -> Result<(), Fail> {
     let mut rest = pair.party(Server).out();
     for size in [11, 176, 96, 16, 0] {
         let (used, turn) = client.take(rest, &mut out, &mut sent);
-        assert_eq!(rt; used, size);
+        same!(rt, used, size);
         assert!(rt; turn.is_ok());
         rest = rest.get(used..).unwrap_or(&[]);
     }
     assert!(rt; rest.is_empty());
-    assert_eq!(rt; out.len(), 11 + 176 + 48 + 16);
+    same!(rt, out.len(), 11 + 176 + 48 + 16);
     Ok(())
 }

@@ -7,6 +7,8 @@ mod asks;
 #[cfg(test)]
 mod attacks;
 #[cfg(test)]
+mod checking;
+#[cfg(test)]
 mod end;
 #[cfg(test)]
 mod exchanges;

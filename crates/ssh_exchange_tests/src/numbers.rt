@@ -1,5 +1,6 @@
 //! Which numbers may come at each place of a session: payloads of one byte.
 
+use crate::checking::{same, same_at};
 use crate::kexinits::{OF_CLIENT, kexinit};
 use crate::pair::Pair;
 use crate::sessions::{AUTHENTICATION, FEEDS, FIRST, PLAIN_FIRST, SECOND, SERVICE};
@@ -241,7 +242,7 @@ fn each_number_at_each_place(rt: HostRuntime) -> Result<(), Fail> {
             let number = pair.party(side).end().numbers().1;
             let lines = pair.play(Step::Forge(side, &[byte]))?;
             let wanted = wanted(rt.alloc(), *place, byte, number)?;
-            assert_eq!(rt; lines, wanted.as_str(), "{byte} at place {index}");
+            same_at(&rt, (byte, index), lines, wanted.as_str());
         }
     }
     Ok(())
@@ -255,7 +256,8 @@ fn the_packet_after_a_wrong_guess(rt: HostRuntime) -> Result<(), Fail> {
     for byte in 0..=255u8 {
         let mut pair = Pair::strict(rt.alloc())?;
         pair.play(Step::Pass(Client, 11))?;
-        assert_eq!(rt;
+        same!(
+            rt,
             pair.play(Step::Forge(Server, &wrong))?,
             "s took 20 KEXINIT 194"
         );
@@ -268,7 +270,7 @@ fn the_packet_after_a_wrong_guess(rt: HostRuntime) -> Result<(), Fail> {
                 "s refused 7 Unexpected; s sent 1 DISCONNECT 23; s died",
             )?
         };
-        assert_eq!(rt; lines, wanted.as_str(), "{byte}");
+        same_at(&rt, byte, lines, wanted.as_str());
     }
     Ok(())
 }

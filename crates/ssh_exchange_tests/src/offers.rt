@@ -1,5 +1,6 @@
 //! What KEXINITs are refused for, what is chosen of them, and guesses (RFC 4253 section 7).
 
+use crate::checking::{same, same_at};
 use crate::kexinits::{OF_CLIENT, OF_SERVER, kexinit};
 use crate::pair::Pair;
 use crate::sessions::{AUTHENTICATION, FEEDS, FIRST, SERVICE};
@@ -99,7 +100,7 @@ fn first_offers(rt: HostRuntime) -> Result<(), Fail> {
             let mut pair = lines(rt.alloc())?;
             let lines = pair.play(Step::Forge(side, &payload))?;
             let wanted = wanted(rt.alloc(), side, why, payload.len())?;
-            assert_eq!(rt; lines, wanted.as_str(), "row {index}");
+            same_at(&rt, index, lines, wanted.as_str());
         }
     }
     Ok(())
@@ -138,28 +139,21 @@ fn guesses(rt: HostRuntime) -> Result<(), Fail> {
         ))?;
         if *is_wrong {
             let lines = pair.play(Step::Forge(Server, OTHER_POINT))?;
-            assert_eq!(rt;
+            same_at(
+                &rt,
+                index,
                 lines,
                 "s took 30 KEX_ECDH_INIT 6; s told ignored",
-                "row {index}"
             );
         }
-        assert_eq!(rt;
-            pair.play(Step::Forge(Server, POINT))?,
-            answer,
-            "row {index}"
-        );
+        same_at(&rt, index, pair.play(Step::Forge(Server, POINT))?, answer);
         // The same lists with no guess: nothing is skipped.
         let mut pair = lines(rt.alloc())?;
         pair.play(Step::Forge(
             Server,
             &kexinit(rt.alloc(), 0xc1, &OF_CLIENT, &others, false)?,
         ))?;
-        assert_eq!(rt;
-            pair.play(Step::Forge(Server, POINT))?,
-            answer,
-            "row {index}"
-        );
+        same_at(&rt, index, pair.play(Step::Forge(Server, POINT))?, answer);
     }
     Ok(())
 }
@@ -171,13 +165,19 @@ fn a_wrong_guess_of_a_server(rt: HostRuntime) -> Result<(), Fail> {
     let wrong = kexinit(rt.alloc(), 0xd1, &OF_SERVER, &others, true)?;
     let mut pair = lines(rt.alloc())?;
     let lines = pair.play(Step::Forge(Client, &wrong))?;
-    assert_eq!(rt; lines, "c took 20 KEXINIT 167; c sent 30 KEX_ECDH_INIT 37");
-    assert_eq!(rt;
+    same!(
+        rt,
+        lines,
+        "c took 20 KEXINIT 167; c sent 30 KEX_ECDH_INIT 37"
+    );
+    same!(
+        rt,
         pair.play(Step::Forge(Client, b"\x1f"))?,
         "c took 31 KEX_ECDH_REPLY 1; c told ignored"
     );
     let lines = pair.play(Step::Forge(Client, b"\x1f"))?;
-    assert_eq!(rt;
+    same!(
+        rt,
         lines,
         "c refused 6 BadMessage; c sent 1 DISCONNECT 23; c died"
     );
@@ -196,11 +196,11 @@ fn a_long_offer(rt: HostRuntime) -> Result<(), Fail> {
     let payload = kexinit(rt.alloc(), 0xc1, &OF_CLIENT, &others, true)?;
     let mut pair = lines(rt.alloc())?;
     let taken = pair.play(Step::Forge(Server, &payload))?;
-    assert_eq!(rt; taken, "s took 20 KEXINIT 2102");
+    same!(rt, taken, "s took 20 KEXINIT 2102");
     let skipped = pair.play(Step::Forge(Server, OTHER_POINT))?;
-    assert_eq!(rt; skipped, "s took 30 KEX_ECDH_INIT 6; s told ignored");
+    same!(rt, skipped, "s took 30 KEX_ECDH_INIT 6; s told ignored");
     pair.play(Step::Forge(Server, POINT))?;
-    assert_eq!(rt; pair.party(Server).end().epochs(), (1, 0));
+    same!(rt, pair.party(Server).end().epochs(), (1, 0));
     Ok(())
 }
 
@@ -223,7 +223,8 @@ fn later_offers(rt: HostRuntime) -> Result<(), Fail> {
             let payload = kexinit(rt.alloc(), 0xa2, lists, &others, false)?;
             for (is_fed, why) in [(false, without), (true, fed)] {
                 let mut pair = Pair::strict(rt.alloc())?;
-                assert_eq!(rt;
+                same!(
+                    rt,
                     pair.differs(&[FIRST, SERVICE, AUTHENTICATION], false)?,
                     None
                 );
@@ -232,7 +233,7 @@ fn later_offers(rt: HostRuntime) -> Result<(), Fail> {
                 }
                 let lines = pair.play(Step::Forge(side, &payload))?;
                 let wanted = later_wanted(rt.alloc(), side, why, payload.len())?;
-                assert_eq!(rt; lines, wanted.as_str(), "row {index}");
+                same_at(&rt, index, lines, wanted.as_str());
             }
         }
     }
@@ -272,7 +273,8 @@ fn the_clients_first_name_is_chosen(rt: HostRuntime) -> Result<(), Fail> {
     for side in [Client, Server] {
         assert!(rt; pair.party(side).end().epochs() == (1, 1));
         let names = pair.party(side).chosen();
-        assert_eq!(rt;
+        same!(
+            rt,
             names,
             Some((
                 b"curve25519-sha256@libssh.org".as_slice(),

@@ -2,6 +2,7 @@
 
 mod captures;
 
+use crate::checking::{same, same_at};
 use crate::toys::settings;
 use ssh_parts::{Aes128Gcm, Curve25519};
 use ssh_toys::{ToyAgreement, ToyFiller, ToySigner, ToyTrust};
@@ -118,7 +119,7 @@ fn servers_of_others(rt: HostRuntime) -> Result<(), Fail> {
                 refused = Some(why);
             }
         }
-        assert_eq!(rt; refused, Some(*refusal), "row {index}");
+        same_at(&rt, index, refused, Some(*refusal));
     }
     Ok(())
 }
@@ -135,13 +136,14 @@ fn clients_of_others(rt: HostRuntime) -> Result<(), Fail> {
         for digits in packets.iter() {
             let bytes = hex::decode(rt.alloc(), digits)?;
             let (used, turn) = server.take(&bytes, &mut puts.out, &mut puts.sent);
-            assert_eq!(rt; used, bytes.len(), "row {index}");
-            assert!(rt; turn.is_ok(), "row {index}");
+            same_at(&rt, index, used, bytes.len());
+            same_at(&rt, index, turn.is_ok(), true);
         }
-        assert_eq!(rt;
+        same_at(
+            &rt,
+            index,
             (server.epochs(), server.numbers()),
             ((1, 1), (0, 0)),
-            "row {index}"
         );
     }
     Ok(())
@@ -197,15 +199,15 @@ fn two_ends_over_real_parts(rt: HostRuntime) -> Result<(), Fail> {
         client_takes(&mut client, &of_server.out, &mut of_client);
         of_server.out.clear();
     }
-    assert_eq!(rt; (client.epochs(), server.epochs()), ((1, 1), (1, 1)));
-    assert_eq!(rt; client.session_id(), server.session_id());
+    same!(rt, (client.epochs(), server.epochs()), ((1, 1), (1, 1)));
+    same!(rt, client.session_id(), server.session_id());
     client.ask(
         TransportAsk::Service,
         &mut of_client.out,
         &mut of_client.sent,
     )?;
     // A payload of 17 bytes fills two blocks of 16 with its padding, behind packet_length and before a tag of 16 bytes.
-    assert_eq!(rt; of_client.out.len(), 4 + 32 + 16);
+    same!(rt, of_client.out.len(), 4 + 32 + 16);
     let turn = server_takes(&mut server, &of_client.out, &mut of_server);
     assert!(rt; matches!(turn, Some(TransportTurn::Done(Effect::ServiceRequested))));
     let turn = client_takes(&mut client, &of_server.out, &mut of_client);

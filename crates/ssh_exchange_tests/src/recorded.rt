@@ -7,6 +7,7 @@ mod openssh_client;
 mod openssh_server;
 mod parts;
 
+use crate::checking::{same, same_at};
 use crate::toys::settings;
 use parts::{RecordedAgreement, RecordedClient, RecordedHost, RecordedServer};
 use ssh_packet::{HmacKey, MacOnly, write_packet};
@@ -197,7 +198,7 @@ fn a_session_with_an_openssh_server(rt: HostRuntime) -> Result<(), Fail> {
         &mut recording.out,
         &mut recording.sent,
     );
-    assert_eq!(rt; used, 23);
+    same!(rt, used, 23);
     assert!(rt; recording.out.starts_with(b"SSH-2.0-oracle_1\r\n"));
     let cookie = array(rt.alloc(), openssh_server::COOKIES[1])?;
     let secret = array(rt.alloc(), openssh_server::SHARED[1])?;
@@ -208,12 +209,12 @@ fn a_session_with_an_openssh_server(rt: HostRuntime) -> Result<(), Fail> {
             Side::Client => recording.sends(&wire)?,
             Side::Server => recording.takes(&wire),
         };
-        assert!(rt; is_as_recorded, "packet {index}");
+        same_at(&rt, index, is_as_recorded, true);
     }
     let session = array(rt.alloc(), openssh_server::HASHES[0])?;
-    assert_eq!(rt; recording.client.session_id(), Some(&session));
-    assert_eq!(rt; recording.client.epochs(), (2, 2));
-    assert_eq!(rt; recording.compared, recording.out.len());
+    same!(rt, recording.client.session_id(), Some(&session));
+    same!(rt, recording.client.epochs(), (2, 2));
+    same!(rt, recording.compared, recording.out.len());
     Ok(())
 }
 
@@ -360,19 +361,19 @@ fn exchanges_with_an_openssh_client(rt: HostRuntime) -> Result<(), Fail> {
     let mut sent = Vec::new(alloc);
     let mut server = recorded_server(alloc, &mut out, &mut sent)?;
     let (used, _) = server.take(openssh_client::LINE, &mut out, &mut sent);
-    assert_eq!(rt; used, 23);
+    same!(rt, used, 23);
     let cookie = cookie_of(&bytes(alloc, openssh_client::SERVER_KEXINITS[1])?);
     assert!(rt; server.feed_material(cookie, array(alloc, openssh_client::SHARED[1])?));
     server.authenticated();
     for (index, packet) in client_packets(alloc)?.iter().enumerate() {
         let (used, turn) = server.take(packet, &mut out, &mut sent);
-        assert_eq!(rt; used, packet.len(), "packet {index}");
-        assert!(rt; turn.is_ok() && !server.is_dead(), "packet {index}");
+        same_at(&rt, index, used, packet.len());
+        same_at(&rt, index, turn.is_ok() && !server.is_dead(), true);
     }
-    assert_eq!(rt; (server.epochs(), server.numbers()), ((2, 2), (0, 1)));
+    same!(rt, (server.epochs(), server.numbers()), ((2, 2), (0, 1)));
     let session = array(alloc, openssh_client::HASHES[0])?;
-    assert_eq!(rt; server.session_id(), Some(&session));
+    same!(rt, server.session_id(), Some(&session));
     server.ask(TransportAsk::Disconnect(b"x"), &mut out, &mut sent)?;
-    assert_eq!(rt; out, server_stream(alloc)?);
+    same!(rt, out, server_stream(alloc)?);
     Ok(())
 }

@@ -3,6 +3,7 @@
 mod table;
 mod ways;
 
+use crate::checking::{same, same_at};
 use crate::pair::Pair;
 use crate::party::Party;
 use crate::sessions::IGNORE;
@@ -50,11 +51,21 @@ fn has_said(party: &Party, refusal: &str, code: u32) -> bool {
 fn each_refusal_at_its_place(rt: HostRuntime) -> Result<(), Fail> {
     for (index, (scripts, step, side, refusal, code)) in TABLE.iter().enumerate() {
         let mut pair = Pair::strict(rt.alloc())?;
-        assert_eq!(rt; pair.differs(scripts, false)?, None, "before row {index}");
+        same_at(
+            &rt,
+            ("before row", index),
+            pair.differs(scripts, false)?,
+            None,
+        );
         let wanted = lines_of(rt.alloc(), *side, refusal, *code)?;
-        assert_eq!(rt; pair.play(*step)?, wanted.as_str(), "row {index}");
-        assert!(rt; has_said(pair.party(*side), refusal, *code), "row {index}");
-        assert!(rt; nothing_changes(&mut pair, *side)?, "row {index}");
+        same_at(&rt, index, pair.play(*step)?, wanted.as_str());
+        same_at(
+            &rt,
+            index,
+            has_said(pair.party(*side), refusal, *code),
+            true,
+        );
+        same_at(&rt, index, nothing_changes(&mut pair, *side)?, true);
     }
     Ok(())
 }
@@ -88,21 +99,29 @@ fn nothing_changes(pair: &mut Pair, side: Side) -> Result<bool, AllocError> {
 fn the_most_lines_of_a_server(rt: HostRuntime) -> Result<(), Fail> {
     let mut pair = Pair::strict(rt.alloc())?;
     for _ in 0..64 {
-        assert_eq!(rt; pair.play(Step::Give(Client, b"hi\r\n"))?, "c took line 2");
+        same!(
+            rt,
+            pair.play(Step::Give(Client, b"hi\r\n"))?,
+            "c took line 2"
+        );
     }
     let mut longest = [b'x'; 255];
     longest[..10].copy_from_slice(b"SSH-2.0-x ");
     longest[253..].copy_from_slice(b"\r\n");
-    assert_eq!(rt; pair.play(Step::Give(Client, &longest))?, "c took line 253");
+    same!(
+        rt,
+        pair.play(Step::Give(Client, &longest))?,
+        "c took line 253"
+    );
     let mut pair = Pair::strict(rt.alloc())?;
     for _ in 0..64 {
         pair.play(Step::Give(Client, b"hi\r\n"))?;
     }
     let lines = pair.play(Step::Give(Client, b"hi\r\n"))?;
-    assert_eq!(rt; lines, "c refused 1 BadLine; c died");
+    same!(rt, lines, "c refused 1 BadLine; c died");
     let mut pair = Pair::strict(rt.alloc())?;
     longest[253] = b'x';
     let lines = pair.play(Step::Give(Client, &longest))?;
-    assert_eq!(rt; lines, "c refused 1 BadLine; c died");
+    same!(rt, lines, "c refused 1 BadLine; c died");
     Ok(())
 }

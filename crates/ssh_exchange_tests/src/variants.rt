@@ -1,5 +1,6 @@
 //! Ends that require strict key exchange, offer it or don't, and ends that take and announce extensions (RFC 8308).
 
+use crate::checking::{same, same_at};
 use crate::kexinits::{OF_SERVER, kexinit};
 use crate::pair::Pair;
 use crate::sessions::{
@@ -77,28 +78,31 @@ const PAIRS: &[(Strictness, Strictness, &[Script], u64)] = &[
 fn strictness_of_both_ends(rt: HostRuntime) -> Result<(), Fail> {
     for (index, (of_client, of_server, scripts, number)) in PAIRS.iter().enumerate() {
         let mut pair = of(rt.alloc(), *of_client, *of_server)?;
-        assert_eq!(rt; pair.differs(scripts, false)?, None, "row {index}");
+        same_at(&rt, index, pair.differs(scripts, false)?, None);
         if *number == 0 {
             continue;
         }
         for side in [Client, Server] {
-            assert_eq!(rt;
+            same_at(
+                &rt,
+                index,
                 pair.party(side).end().numbers(),
                 (*number, *number),
-                "row {index}"
             );
         }
-        assert_eq!(rt;
+        same_at(
+            &rt,
+            index,
             pair.differs(&[AUTHENTICATION_OF_ANY, FEEDS, SECOND], false)?,
             None,
-            "row {index}"
         );
         let wanted = if *number == 1 { 0 } else { 7 };
         for side in [Client, Server] {
-            assert_eq!(rt;
+            same_at(
+                &rt,
+                index,
                 pair.party(side).end().numbers(),
                 (wanted, wanted),
-                "row {index}"
             );
         }
     }
@@ -170,9 +174,9 @@ const UNNOTICED: Script = &[
 #[test]
 fn a_packet_put_in_front_of_kexinit(rt: HostRuntime) -> Result<(), Fail> {
     let mut pair = of(rt.alloc(), Offer, Offer)?;
-    assert_eq!(rt; pair.differs(&[IGNORED, NOT_THE_FIRST], false)?, None);
+    same!(rt, pair.differs(&[IGNORED, NOT_THE_FIRST], false)?, None);
     let mut pair = of(rt.alloc(), Off, Off)?;
-    assert_eq!(rt; pair.differs(&[IGNORED, UNNOTICED], false)?, None);
+    same!(rt, pair.differs(&[IGNORED, UNNOTICED], false)?, None);
     Ok(())
 }
 
@@ -187,7 +191,7 @@ fn a_marker_struck_out(rt: HostRuntime) -> Result<(), Fail> {
         &[(0, "curve25519-sha256")],
         false,
     )?;
-    assert_eq!(rt; struck.len(), 136);
+    same!(rt, struck.len(), 136);
     for (strictness, lines) in [
         (
             Require,
@@ -197,12 +201,13 @@ fn a_marker_struck_out(rt: HostRuntime) -> Result<(), Fail> {
     ] {
         let mut pair = of(rt.alloc(), strictness, Require)?;
         pair.play(Step::Pass(Server, 11))?;
-        assert_eq!(rt; pair.play(Step::Forge(Client, &struck))?, lines);
+        same!(rt, pair.play(Step::Forge(Client, &struck))?, lines);
         pair.play(Step::PassAll(Client))?;
         pair.play(Step::Lose(Server, 176))?;
         let lines = pair.play(Step::PassAll(Server))?;
         if strictness == Offer {
-            assert_eq!(rt;
+            same!(
+                rt,
                 lines,
                 "c refused 11 BadHost; c sent 1 DISCONNECT 20; c died"
             );
@@ -303,7 +308,7 @@ fn extensions_are_announced_once(rt: HostRuntime) -> Result<(), Fail> {
             ..settings(b"s", Require)
         };
         let mut pair = Pair::new(rt.alloc(), &of_client, &of_server)?;
-        assert_eq!(rt; pair.differs(scripts, false)?, None, "row {index}");
+        same_at(&rt, index, pair.differs(scripts, false)?, None);
     }
     Ok(())
 }
@@ -312,13 +317,13 @@ fn extensions_are_announced_once(rt: HostRuntime) -> Result<(), Fail> {
 #[test]
 fn a_plain_session(rt: HostRuntime) -> Result<(), Fail> {
     let mut pair = of(rt.alloc(), Off, Off)?;
-    assert_eq!(rt; pair.differs(&[PLAIN_FIRST, SERVICE], false)?, None);
+    same!(rt, pair.differs(&[PLAIN_FIRST, SERVICE], false)?, None);
     for script in [AUTHENTICATION, CHANNEL, DATA_AND_CLOSE] {
         for (step, _) in script {
             pair.play(*step)?;
         }
     }
-    assert_eq!(rt; pair.party(Client).out().len(), 555);
-    assert_eq!(rt; pair.party(Server).out().len(), 499);
+    same!(rt, pair.party(Client).out().len(), 555);
+    same!(rt, pair.party(Server).out().len(), 499);
     Ok(())
 }

@@ -1,5 +1,6 @@
 //! Packets whose packet_length doesn't count in the blocks. The tags were made by another implementation of HMAC.
 
+use crate::checking::{same, same_at};
 use ssh_packet::{HmacKey, PacketReader, PacketRefusal, ReadStep, write_packet};
 use ssh_toys::{LengthInClear, ToyFiller};
 use std::test::Fail;
@@ -44,13 +45,14 @@ fn packets_are_sealed_and_opened(rt: HostRuntime) -> Result<(), Fail> {
             &mut zeros,
             &mut out,
         )?;
-        assert_eq!(rt; out.as_slice(), wire);
+        same!(rt, out.as_slice(), wire);
         let mut reader = PacketReader::new(rt.alloc())?;
-        assert_eq!(rt;
+        same!(
+            rt,
             reader.take::<LengthInClear>(Some(&key), number, wire),
             (wire.len(), ReadStep::Packet)
         );
-        assert_eq!(rt; reader.payload(), payload);
+        same!(rt, reader.payload(), payload);
     }
     Ok(())
 }
@@ -69,10 +71,11 @@ fn lengths_are_judged(rt: HostRuntime) -> Result<(), Fail> {
     let key = HmacKey::new(&[1; 32]);
     for (bytes, step) in table {
         let mut reader = PacketReader::new(rt.alloc())?;
-        assert_eq!(rt;
+        same_at(
+            &rt,
+            bytes,
             reader.take::<LengthInClear>(Some(&key), 0, bytes),
             (4, step),
-            "at {bytes:?}"
         );
     }
     Ok(())

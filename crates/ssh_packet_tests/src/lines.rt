@@ -1,5 +1,6 @@
 //! Worked lines, and recorded version lines.
 
+use crate::checking::same;
 use ssh_packet::{LineReader, LineRefusal, LineStep};
 use std::test::Fail;
 
@@ -48,7 +49,7 @@ fn first_lines(rt: HostRuntime) {
     ];
     for (from_server, bytes, used, step) in table {
         let mut reader = LineReader::new(from_server);
-        assert_eq!(rt; reader.take(bytes), (used, step));
+        same!(rt, reader.take(bytes), (used, step));
     }
 }
 
@@ -75,7 +76,8 @@ fn recorded_lines(rt: HostRuntime) {
     ];
     for (from_server, bytes, software) in table {
         let mut reader = LineReader::new(from_server);
-        assert_eq!(rt;
+        same!(
+            rt,
             reader.take(bytes),
             (bytes.len(), version(b"2.0", software))
         );
@@ -91,7 +93,8 @@ fn longest_line(rt: HostRuntime) {
     longest[253] = b'\r';
     longest[254] = b'\n';
     let mut reader = LineReader::new(false);
-    assert_eq!(rt;
+    same!(
+        rt,
         reader.take(&longest),
         (255, version(b"2.0", &letters[8..253]))
     );
@@ -99,7 +102,8 @@ fn longest_line(rt: HostRuntime) {
     longer[254] = b'\r';
     longer[255] = b'\n';
     let mut reader = LineReader::new(false);
-    assert_eq!(rt;
+    same!(
+        rt,
         reader.take(&longer),
         (255, LineStep::Refused(LineRefusal::BadLine))
     );
@@ -110,16 +114,20 @@ fn longest_line(rt: HostRuntime) {
 fn other_lines(rt: HostRuntime) {
     let mut reader = LineReader::new(true);
     for _ in 0..64 {
-        assert_eq!(rt; reader.take(b"hello\r\nhello\r\n"), (7, LineStep::Other));
+        same!(rt, reader.take(b"hello\r\nhello\r\n"), (7, LineStep::Other));
     }
     let bad_line = LineStep::Refused(LineRefusal::BadLine);
-    assert_eq!(rt; reader.take(b"hello\r\n"), (7, bad_line));
-    assert_eq!(rt; reader.take(b"SSH-2.0-x\r\n"), (0, bad_line));
+    same!(rt, reader.take(b"hello\r\n"), (7, bad_line));
+    same!(rt, reader.take(b"SSH-2.0-x\r\n"), (0, bad_line));
     let mut reader = LineReader::new(true);
     for _ in 0..64 {
-        assert_eq!(rt; reader.take(b"hello\r\n"), (7, LineStep::Other));
+        same!(rt, reader.take(b"hello\r\n"), (7, LineStep::Other));
     }
-    assert_eq!(rt; reader.take(b"SSH-2.0-x\r\n"), (11, version(b"2.0", b"x")));
+    same!(
+        rt,
+        reader.take(b"SSH-2.0-x\r\n"),
+        (11, version(b"2.0", b"x"))
+    );
 }
 
 // The bytes come one by one, and the reader ends with the last of them.
@@ -137,10 +145,10 @@ fn byte_by_byte(rt: HostRuntime) {
     for (bytes, last, step) in table {
         let mut reader = LineReader::new(false);
         for byte in bytes {
-            assert_eq!(rt; reader.take(&[*byte]), (1, LineStep::More));
+            same!(rt, reader.take(&[*byte]), (1, LineStep::More));
         }
-        assert_eq!(rt; reader.take(&[last]), (1, step));
-        assert_eq!(rt; reader.take(b"SSH-2.0-x\r\n"), (0, step));
-        assert_eq!(rt; reader.take(b""), (0, step));
+        same!(rt, reader.take(&[last]), (1, step));
+        same!(rt, reader.take(b"SSH-2.0-x\r\n"), (0, step));
+        same!(rt, reader.take(b""), (0, step));
     }
 }

@@ -1,5 +1,6 @@
 //! That calls which take memory succeed where there is memory, at each size of packet, and need none where there is room.
 
+use crate::checking::same;
 use ssh_packet::{HmacKey, MacOnly, PacketReader, write_packet};
 use ssh_toys::ToyFiller;
 use std::alloc::AllocError;
@@ -16,7 +17,7 @@ fn write_twice(rt: &(impl Abort + AllocGlobal), payload: &[u8]) -> Result<(), Al
     let size = out.len();
     out.clear();
     write_packet::<MacOnly, ToyFiller>(payload, Some(&key), 0, &mut zeros, &mut out)?;
-    assert_eq!(rt; out.len(), size);
+    same!(*rt, out.len(), size);
     Ok(())
 }
 
@@ -31,6 +32,6 @@ fn packets_of_each_size_are_written(rt: HostRuntime) -> Result<(), Fail> {
 #[test]
 fn a_reader_has_room_for_the_largest_packet(rt: HostRuntime) -> Result<(), Fail> {
     let reader = PacketReader::new(rt.alloc())?;
-    assert_eq!(rt; reader.capacity(), 35_000);
+    same!(rt, reader.capacity(), 35_000);
     Ok(())
 }

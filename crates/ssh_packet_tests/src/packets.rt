@@ -2,6 +2,7 @@
 
 ghost use Rattle.std.specs.Prelude.{◌≤◌, length};
 
+use crate::checking::{same, same_at};
 use crate::stream::Stream;
 use ssh_packet::{HmacKey, MacOnly, PacketReader, PacketRefusal, ReadStep, write_packet};
 use ssh_toys::ToyFiller;
@@ -47,14 +48,15 @@ fn packets_in_clear(rt: HostRuntime) -> Result<(), Fail> {
     ];
     for (payload, padding, wire) in table {
         let out = packet_of(&rt, payload, None, 0, padding)?;
-        assert_eq!(rt; out.as_slice(), wire);
+        same!(rt, out.as_slice(), wire);
         let mut reader = PacketReader::new(rt.alloc())?;
-        assert_eq!(rt;
+        same!(
+            rt,
             reader.take::<MacOnly>(None, 0, wire),
             (wire.len(), ReadStep::Packet)
         );
-        assert_eq!(rt; reader.payload(), payload);
-        assert_eq!(rt; reader.held(), 0);
+        same!(rt, reader.payload(), payload);
+        same!(rt, reader.held(), 0);
     }
     Ok(())
 }
@@ -89,12 +91,13 @@ fn length_and_padding_are_judged(rt: HostRuntime) -> Result<(), Fail> {
     for (sealed, bytes, used, step, held) in table {
         let mut reader = PacketReader::new(rt.alloc())?;
         let under = if sealed { Some(&key) } else { None };
-        assert_eq!(rt;
+        same_at(
+            &rt,
+            bytes,
             reader.take::<MacOnly>(under, 0, bytes),
             (used, step),
-            "at {bytes:?}"
         );
-        assert_eq!(rt; reader.held(), held, "at {bytes:?}");
+        same_at(&rt, bytes, reader.held(), held);
     }
     Ok(())
 }
@@ -130,12 +133,12 @@ fn is_largest(
     payload: &[u8],
     front: &[u8],
 ) -> Result<(), AllocError> {
-    assert_eq!(rt; wire.len(), 35_000);
+    same!(rt, wire.len(), 35_000);
     assert!(rt; wire.starts_with(front));
     let mut reader = PacketReader::new(rt.alloc())?;
     let step = reader.take::<MacOnly>(key, 9, wire);
-    assert_eq!(rt; step, (35_000, ReadStep::Packet));
-    assert_eq!(rt; reader.payload(), payload);
+    same!(rt, step, (35_000, ReadStep::Packet));
+    same!(rt, reader.payload(), payload);
     Ok(())
 }
 
@@ -186,12 +189,12 @@ fn recorded_packets(rt: HostRuntime) -> Result<(), Fail> {
         let key = HmacKey::new(&recorded.key);
         let number = recorded.number;
         let mut stream = packet_of(&rt, recorded.payload, Some(&key), number, 0)?;
-        assert_eq!(rt; stream.as_slice(), recorded.wire);
+        same!(rt, stream.as_slice(), recorded.wire);
         stream.extend_from_slice(b"\0\0\0\x0b")?;
         let mut reader = PacketReader::new(rt.alloc())?;
         let step = reader.take::<MacOnly>(Some(&key), number, &stream);
-        assert_eq!(rt; step, (recorded.wire.len(), ReadStep::Packet));
-        assert_eq!(rt; reader.payload(), recorded.payload);
+        same!(rt, step, (recorded.wire.len(), ReadStep::Packet));
+        same!(rt, reader.payload(), recorded.payload);
     }
     Ok(())
 }
@@ -203,14 +206,14 @@ fn a_packet_byte_by_byte(rt: HostRuntime) -> Result<(), Fail> {
     let mut stream = Stream::new(rt.alloc())?;
     let mut last = ReadStep::More;
     for byte in recorded.wire.chunks(1) {
-        assert_eq!(rt; last, ReadStep::More);
-        assert_eq!(rt; stream.payload(), b"".as_slice());
+        same!(rt, last, ReadStep::More);
+        same!(rt, stream.payload(), b"".as_slice());
         let (used, step) = stream.take(&key, recorded.number, byte);
-        assert_eq!(rt; used, 1);
+        same!(rt, used, 1);
         last = step;
     }
-    assert_eq!(rt; last, ReadStep::Packet);
-    assert_eq!(rt; stream.payload(), recorded.payload);
+    same!(rt, last, ReadStep::Packet);
+    same!(rt, stream.payload(), recorded.payload);
     Ok(())
 }
 
@@ -222,11 +225,11 @@ fn a_refused_reader_stays_refused(rt: HostRuntime) -> Result<(), Fail> {
     let mut stream = Stream::new(rt.alloc())?;
     let refused = ReadStep::Refused(PacketRefusal::BadTag);
     let (used, step) = stream.take(&key, recorded.number + 1, recorded.wire);
-    assert_eq!(rt; (used, step), (recorded.wire.len(), refused));
+    same!(rt, (used, step), (recorded.wire.len(), refused));
     for _ in 0..2 {
         let step = stream.take(&key, recorded.number, recorded.wire);
-        assert_eq!(rt; step, (0, refused));
-        assert_eq!(rt; stream.payload(), b"".as_slice());
+        same!(rt, step, (0, refused));
+        same!(rt, stream.payload(), b"".as_slice());
     }
     Ok(())
 }

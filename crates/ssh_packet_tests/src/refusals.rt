@@ -1,5 +1,6 @@
 //! What refusals say.
 
+use crate::checking::same;
 use ssh_packet::{LineRefusal, PacketRefusal};
 use ssh_types::Refusal;
 use std::test::Fail;
@@ -24,8 +25,8 @@ fn refusals_of_packets(rt: HostRuntime) -> Result<(), Fail> {
         ),
     ];
     for (refusal, of_peer, text) in table {
-        assert_eq!(rt; Refusal::from(refusal), of_peer);
-        assert_eq!(rt; format!(in rt.alloc(); "{refusal}")?.as_str(), text);
+        same!(rt, Refusal::from(refusal), of_peer);
+        same!(rt, format!(in rt.alloc(); "{refusal}")?.as_str(), text);
     }
     Ok(())
 }
@@ -45,8 +46,8 @@ fn refusals_of_lines(rt: HostRuntime) -> Result<(), Fail> {
         ),
     ];
     for (refusal, of_peer, text) in table {
-        assert_eq!(rt; Refusal::from(refusal), of_peer);
-        assert_eq!(rt; format!(in rt.alloc(); "{refusal}")?.as_str(), text);
+        same!(rt, Refusal::from(refusal), of_peer);
+        same!(rt, format!(in rt.alloc(); "{refusal}")?.as_str(), text);
     }
     Ok(())
 }

@@ -1,5 +1,6 @@
 //! Published tags, and what `MacOnly` knows.
 
+use crate::checking::{same, same_at};
 use ssh_packet::{HmacKey, Lengths, MacOnly, Sealing};
 use std::test::Fail;
 
@@ -27,7 +28,7 @@ fn published_tags(rt: HostRuntime) {
         ),
     ];
     for (key, text, tag) in table {
-        assert_eq!(rt; HmacKey::new(key).mac(text), tag, "of {text:?}");
+        same_at(&rt, ("of", text), HmacKey::new(key).mac(text), tag);
     }
 }
 
@@ -38,12 +39,16 @@ fn names_of_the_sealing(rt: HostRuntime) -> Result<(), Fail> {
         cipher: 0,
         mac: 32,
     };
-    assert_eq!(rt; MacOnly::lengths(b"none", b"hmac-sha2-256"), Some(lengths));
-    assert_eq!(rt; MacOnly::lengths(b"none", b"hmac-sha2-512"), None);
-    assert_eq!(rt; MacOnly::lengths(b"aes128-ctr", b"hmac-sha2-256"), None);
+    same!(
+        rt,
+        MacOnly::lengths(b"none", b"hmac-sha2-256"),
+        Some(lengths)
+    );
+    same!(rt, MacOnly::lengths(b"none", b"hmac-sha2-512"), None);
+    same!(rt, MacOnly::lengths(b"aes128-ctr", b"hmac-sha2-256"), None);
     let key = MacOnly::make(rt.alloc(), b"none", b"hmac-sha2-256", b"", b"", &[1; 32])?;
-    assert_eq!(rt; MacOnly::block(&key), 8);
-    assert_eq!(rt; MacOnly::counts_length(&key), true);
-    assert_eq!(rt; MacOnly::tag_len(&key), 32);
+    same!(rt, MacOnly::block(&key), 8);
+    same!(rt, MacOnly::counts_length(&key), true);
+    same!(rt, MacOnly::tag_len(&key), 32);
     Ok(())
 }

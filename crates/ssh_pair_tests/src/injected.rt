@@ -1,5 +1,6 @@
 //! Packets in clear that a third party puts in front of those of the first exchange of keys.
 
+use crate::checking::same;
 use crate::network::Network;
 use ssh_pair::{Done, Item};
 use ssh_types::Side::{Client, Server};
@@ -76,7 +77,7 @@ fn in_front_of_the_clients_kexinit(rt: HostRuntime) -> Result<(), Fail> {
         to: Server,
         awaited: 20,
     };
-    assert_eq!(rt; first_wrong(rt.alloc(), &place)?, None);
+    same!(rt, first_wrong(rt.alloc(), &place)?, None);
     Ok(())
 }
 
@@ -87,7 +88,7 @@ fn in_front_of_the_servers_kexinit(rt: HostRuntime) -> Result<(), Fail> {
         to: Client,
         awaited: 20,
     };
-    assert_eq!(rt; first_wrong(rt.alloc(), &place)?, None);
+    same!(rt, first_wrong(rt.alloc(), &place)?, None);
     Ok(())
 }
 
@@ -98,7 +99,7 @@ fn in_front_of_the_clients_point(rt: HostRuntime) -> Result<(), Fail> {
         to: Server,
         awaited: 30,
     };
-    assert_eq!(rt; first_wrong(rt.alloc(), &place)?, None);
+    same!(rt, first_wrong(rt.alloc(), &place)?, None);
     Ok(())
 }
 
@@ -109,7 +110,7 @@ fn in_front_of_the_servers_reply(rt: HostRuntime) -> Result<(), Fail> {
         to: Client,
         awaited: 31,
     };
-    assert_eq!(rt; first_wrong(rt.alloc(), &place)?, None);
+    same!(rt, first_wrong(rt.alloc(), &place)?, None);
     Ok(())
 }
 
@@ -120,7 +121,7 @@ fn in_front_of_the_clients_newkeys(rt: HostRuntime) -> Result<(), Fail> {
         to: Server,
         awaited: 21,
     };
-    assert_eq!(rt; first_wrong(rt.alloc(), &place)?, None);
+    same!(rt, first_wrong(rt.alloc(), &place)?, None);
     Ok(())
 }
 
@@ -132,6 +133,6 @@ fn in_front_of_the_servers_newkeys(rt: HostRuntime) -> Result<(), Fail> {
         to: Client,
         awaited: 21,
     };
-    assert_eq!(rt; first_wrong(rt.alloc(), &place)?, None);
+    same!(rt, first_wrong(rt.alloc(), &place)?, None);
     Ok(())
 }

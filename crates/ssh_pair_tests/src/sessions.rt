@@ -1,5 +1,6 @@
 //! Whole sessions of a pair.
 
+use crate::checking::same;
 use crate::network::Network;
 use ssh_auth::UserAsk;
 use ssh_channels::Ask as ChannelAsk;
@@ -97,7 +98,7 @@ fn a_whole_session(rt: HostRuntime) -> Result<(), Fail> {
     for is_dripped in [false, true] {
         let mut network = Network::new(rt.alloc())?;
         play(&mut network, SESSION.len(), is_dripped)?;
-        assert_eq!(rt; network.told(), TOLD);
+        same!(rt, network.told(), TOLD);
         assert!(rt; network.put_out() == (579, 523));
     }
     Ok(())
@@ -117,7 +118,8 @@ fn a_rekey_needs_fresh_secrets(rt: HostRuntime) -> Result<(), Fail> {
     }
     let told = network.told();
     let completed = Fact::Completed { position: 2 };
-    assert_eq!(rt;
+    same!(
+        rt,
         told.split_at(told.len().saturating_sub(2)).1,
         [(Server, completed), (Client, completed)].as_slice()
     );

@@ -1,5 +1,6 @@
 //! Published vectors: FIPS 197 appendices B and C.1, and the test cases 1 to 4 of the GCM specification.
 
+use crate::checking::same;
 use aes_gcm::{GcmKey, encrypted, schedule_of};
 use std::test::*;
 
@@ -24,7 +25,7 @@ fn blocks_of_fips_197(rt: HostRuntime) {
         }
         let out = encrypted(&schedule_of(&key), &bytes);
         for place in 0..4usize {
-            assert_eq!(rt; &out[16 * place..16 * place + 16], cipher.as_slice());
+            same!(rt, &out[16 * place..16 * place + 16], cipher.as_slice());
         }
     }
 }
@@ -109,12 +110,13 @@ fn cases_of_the_specification(rt: HostRuntime) {
         let mut text = [0; 64];
         text[..whole].copy_from_slice(&vector.plain[..whole]);
         key.mask(&vector.nonce, &mut text[..whole]);
-        assert_eq!(rt; &text[..whole], &vector.cipher[..whole]);
-        assert_eq!(rt;
+        same!(rt, &text[..whole], &vector.cipher[..whole]);
+        same!(
+            rt,
             key.tag(&vector.nonce, vector.beside, &text[..whole]),
             vector.tag
         );
         key.mask(&vector.nonce, &mut text[..whole]);
-        assert_eq!(rt; &text[..whole], &vector.plain[..whole]);
+        same!(rt, &text[..whole], &vector.plain[..whole]);
     }
 }

@@ -1,5 +1,6 @@
 //! Vectors of RFC 7748 sections 5.2 and 6.1, and points of small order.
 
+use crate::checking::{same, same_at};
 use ssh_kex::Agreement;
 use ssh_parts::Curve25519;
 use std::test::*;
@@ -29,7 +30,7 @@ const OUTPUTS: [[u8; 32]; 2] = [
 #[test]
 fn points_of_section_5(rt: HostRuntime) {
     for i in 0..2usize {
-        assert_eq!(rt; x25519(&SCALARS[i], &POINTS[i]), OUTPUTS[i]);
+        same!(rt, x25519(&SCALARS[i], &POINTS[i]), OUTPUTS[i]);
     }
 }
 
@@ -44,14 +45,16 @@ fn iterations_of_section_5(rt: HostRuntime) {
         u = k;
         k = next;
         if i == 0 {
-            assert_eq!(rt;
+            same!(
+                rt,
                 k,
                 *b"\x42\x2c\x8e\x7a\x62\x27\xd7\xbc\xa1\x35\x0b\x3e\x2b\xb7\x27\x9f\
               \x78\x97\xb8\x7b\xb6\x85\x4b\x78\x3c\x60\xe8\x03\x11\xae\x30\x79"
             );
         }
     }
-    assert_eq!(rt;
+    same!(
+        rt,
         k,
         *b"\x68\x4c\xf5\x9b\xa8\x33\x09\x55\x28\x00\xef\x56\x6f\x2f\x4d\x3c\
       \x1c\x38\x87\xc4\x93\x60\xe3\x87\x5f\x2e\xb9\x4d\x99\x53\x2c\x51"
@@ -70,11 +73,11 @@ fn agreement_of_section_6(rt: HostRuntime) {
       \x3f\x83\x43\xc8\x5b\x78\x67\x4d\xad\xfc\x7e\x14\x6f\x88\x2b\x4f";
     let both = *b"\x4a\x5d\x9d\x5b\xa4\xce\x2d\xe1\x72\x8e\x3b\xf4\x80\x35\x0f\x25\
       \xe0\x7e\x21\xc9\x47\xd1\x9e\x33\x76\xf0\x9b\x3c\x1e\x16\x17\x42";
-    assert_eq!(rt; Curve25519.public(&alice), alice_public);
-    assert_eq!(rt; Curve25519.public(&bob), bob_public);
-    assert_eq!(rt; Curve25519.shared(&alice, &bob_public), Some(both));
-    assert_eq!(rt; Curve25519.shared(&bob, &alice_public), Some(both));
-    assert_eq!(rt; Curve25519.shared(&bob, &[0; 32]), None);
+    same!(rt, Curve25519.public(&alice), alice_public);
+    same!(rt, Curve25519.public(&bob), bob_public);
+    same!(rt, Curve25519.shared(&alice, &bob_public), Some(both));
+    same!(rt, Curve25519.shared(&bob, &alice_public), Some(both));
+    same!(rt, Curve25519.shared(&bob, &[0; 32]), None);
 }
 
 // The points of small order: those of u 0 and 1, two of order 8, and the prime less 1, the prime, and the prime and 1.
@@ -98,7 +101,7 @@ const SMALL: [[u8; 32]; 7] = [
 #[test]
 fn points_of_small_order(rt: HostRuntime) {
     for point in &SMALL {
-        assert_eq!(rt; Curve25519.shared(&[7; 32], point), None, "at {point:?}");
+        same_at(&rt, point, Curve25519.shared(&[7; 32], point), None);
     }
 }
 
@@ -107,5 +110,5 @@ fn points_of_small_order(rt: HostRuntime) {
 fn highest_bit_of_a_point(rt: HostRuntime) {
     let mut point = POINTS[0];
     point[31] |= 0x80;
-    assert_eq!(rt; x25519(&SCALARS[0], &point), OUTPUTS[0]);
+    same!(rt, x25519(&SCALARS[0], &point), OUTPUTS[0]);
 }

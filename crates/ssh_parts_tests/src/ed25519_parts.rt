@@ -1,5 +1,6 @@
 //! Keys and signatures of OpenSSH 9.2p1.
 
+use crate::checking::{same, same_at};
 use ssh_auth::{UserJudge, UserSigner};
 use ssh_kex::{HostSigner, HostTrust};
 use ssh_parts::{AcceptedKey, Ed25519Judge, Ed25519Signer, Ed25519Trust};
@@ -62,10 +63,11 @@ fn host_signatures_of_openssh(rt: HostRuntime) {
         (NAME, &host.key[..50], host.hash, &host.signature, false),
     ];
     for (i, (algorithm, key, hash, signature, expected)) in table.iter().enumerate() {
-        assert_eq!(rt;
+        same_at(
+            &rt,
+            i,
             trust.judge(algorithm, key, hash, signature),
             *expected,
-            "at {i}"
         );
     }
     let trust = Ed25519Trust::from_key(&other.key).expect(&rt, "a key");
@@ -100,14 +102,16 @@ const SEED: [u8; 32] = *b"\x9d\x61\xb1\x9d\xef\xfd\x5a\x60\xba\x84\x4a\xf4\x92\x
 fn signature_of_ssh_keygen(rt: HostRuntime) {
     let signer = Ed25519Signer::new(&SEED);
     let mut out = [0; 4096];
-    assert_eq!(rt; *signer.public_key(), USER_KEY);
+    same!(rt, *signer.public_key(), USER_KEY);
     let size = UserSigner::sign(&signer, b"u", NAME, &USER_KEY, SIGNED_TEXT, &mut out);
-    assert_eq!(rt; &out[..size], USER_SIGNATURE.as_slice());
-    assert_eq!(rt;
+    same!(rt, &out[..size], USER_SIGNATURE.as_slice());
+    same!(
+        rt,
         UserSigner::sign(&signer, b"u", b"ssh-rsa", &USER_KEY, SIGNED_TEXT, &mut out),
         0
     );
-    assert_eq!(rt;
+    same!(
+        rt,
         UserSigner::sign(&signer, b"u", NAME, &RECORDED[0].key, SIGNED_TEXT, &mut out),
         0
     );
@@ -147,26 +151,28 @@ fn spellings_of_keys_and_signatures(rt: HostRuntime) {
     let mut out = [0; 4096];
     let hash = [7; 32];
     let size = HostSigner::sign(&signer, NAME, &hash, &mut out);
-    assert_eq!(rt; HostSigner::key(&signer, NAME), USER_KEY.as_slice());
-    assert_eq!(rt; HostSigner::key(&signer, b"ssh-rsa"), b"".as_slice());
-    assert_eq!(rt; size, 83);
+    same!(rt, HostSigner::key(&signer, NAME), USER_KEY.as_slice());
+    same!(rt, HostSigner::key(&signer, b"ssh-rsa"), b"".as_slice());
+    assert!(rt; size == 83);
     assert!(rt; trust.judge(NAME, &USER_KEY, &hash, &out[..size]));
     assert!(rt; !trust.judge(NAME, &USER_KEY, &hash, &out[..size + 1]));
     assert!(rt; !trust.judge(NAME, &USER_KEY, &hash, &out[..size - 1]));
     for i in 0..19usize {
         let mut key = USER_KEY;
         key[i] ^= 1;
-        assert_eq!(rt; Ed25519Trust::from_key(&key), None, "at {i}");
+        same_at(&rt, i, Ed25519Trust::from_key(&key), None);
         let mut signature = out;
         signature[i] ^= 1;
-        assert!(rt;
+        same_at(
+            &rt,
+            i,
             !trust.judge(NAME, &USER_KEY, &hash, &signature[..size]),
-            "at {i}"
+            true,
         );
     }
-    assert_eq!(rt; Ed25519Trust::from_key(&USER_KEY[..50]), None);
+    same!(rt, Ed25519Trust::from_key(&USER_KEY[..50]), None);
     let mut long = [0; 52];
     long[..51].copy_from_slice(&USER_KEY);
-    assert_eq!(rt; Ed25519Trust::from_key(&long), None);
-    assert_eq!(rt; Ed25519Trust::from_key(b""), None);
+    same!(rt, Ed25519Trust::from_key(&long), None);
+    same!(rt, Ed25519Trust::from_key(b""), None);
 }

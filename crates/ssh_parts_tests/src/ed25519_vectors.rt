@@ -1,5 +1,6 @@
 //! Signatures of RFC 8032 section 7.1, and what is refused.
 
+use crate::checking::{same, same_at};
 use ed25519::{KeyPair, verify};
 use std::test::*;
 
@@ -139,8 +140,8 @@ const VECTORS: [Vector; 5] = [
 fn vectors_of_section_7(rt: HostRuntime) {
     for vector in &VECTORS {
         let pair = KeyPair::from_seed(&vector.seed);
-        assert_eq!(rt; *pair.public(), vector.public);
-        assert_eq!(rt; pair.sign(vector.message), vector.signature);
+        same!(rt, *pair.public(), vector.public);
+        same!(rt, pair.sign(vector.message), vector.signature);
         assert!(rt; verify(&vector.public, vector.message, &vector.signature));
     }
 }
@@ -369,11 +370,7 @@ const CASES: [Case; 19] = [
 #[test]
 fn keys_and_signatures_at_the_edges(rt: HostRuntime) {
     for case in &CASES {
-        assert_eq!(rt;
-            verify(&case.public, case.message, &case.signature),
-            case.accepted,
-            "at {}",
-            case.about
-        );
+        let accepted = verify(&case.public, case.message, &case.signature);
+        same_at(&rt, case.about, accepted, case.accepted);
     }
 }

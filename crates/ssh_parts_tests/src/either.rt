@@ -1,5 +1,6 @@
 //! One sealing of two: each name leads to its own.
 
+use crate::checking::{same, same_at};
 use ssh_packet::{Lengths, MacOnly, PacketReader, ReadStep, Sealing, write_packet};
 use ssh_parts::{Aes128Gcm, Either};
 use ssh_toys::ToyFiller;
@@ -23,10 +24,11 @@ fn lengths_of_each_name(rt: HostRuntime) {
             Some((iv, cipher, mac)) => Some(Lengths { iv, cipher, mac }),
             None => None,
         };
-        assert_eq!(rt;
+        same_at(
+            &rt,
+            (encryption, mac),
             Both::lengths(encryption, mac),
             expected,
-            "at {encryption:?} {mac:?}"
         );
     }
 }
@@ -36,7 +38,8 @@ fn a_key_of_each(rt: HostRuntime) -> Result<(), Fail> {
     let alloc = rt.alloc();
     let mut filler = ToyFiller { byte: 0 };
     let gcm = Both::make(alloc, GCM, b"hmac-sha2-256", &[1; 12], &[2; 16], b"")?;
-    assert_eq!(rt;
+    same!(
+        rt,
         (
             Both::block(&gcm),
             Both::counts_length(&gcm),
@@ -45,7 +48,8 @@ fn a_key_of_each(rt: HostRuntime) -> Result<(), Fail> {
         (16, false, 16)
     );
     let mac = Both::make(alloc, b"none", b"hmac-sha2-256", b"", b"", &[3; 32])?;
-    assert_eq!(rt;
+    same!(
+        rt,
         (
             Both::block(&mac),
             Both::counts_length(&mac),
@@ -58,10 +62,10 @@ fn a_key_of_each(rt: HostRuntime) -> Result<(), Fail> {
     write_packet::<Both, ToyFiller>(b"\x15", Some(&gcm), 7, &mut filler, &mut sealed)?;
     let key = Aes128Gcm::make(alloc, GCM, b"", &[1; 12], &[2; 16], b"")?;
     write_packet::<Aes128Gcm, ToyFiller>(b"\x15", Some(&key), 7, &mut filler, &mut by_gcm)?;
-    assert_eq!(rt; sealed.as_slice(), by_gcm.as_slice());
+    same!(rt, sealed.as_slice(), by_gcm.as_slice());
     let mut reader = PacketReader::new(alloc)?;
     let step = reader.take::<Both>(Some(&gcm), 7, &sealed);
-    assert_eq!(rt; step, (sealed.len(), ReadStep::Packet));
-    assert_eq!(rt; reader.payload(), b"\x15".as_slice());
+    same!(rt, step, (sealed.len(), ReadStep::Packet));
+    same!(rt, reader.payload(), b"\x15".as_slice());
     Ok(())
 }

@@ -6,6 +6,8 @@ mod aes128;
 #[cfg(test)]
 mod aes128_gcm;
 #[cfg(test)]
+mod checking;
+#[cfg(test)]
 mod curve25519;
 #[cfg(test)]
 mod ed25519_parts;

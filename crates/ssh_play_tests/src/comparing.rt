@@ -1,5 +1,6 @@
 //! Transcripts beside the lines that a script expects.
 
+use crate::checking::{same, same_at};
 use crate::reading::session;
 use ssh_play::{Comparison, compare};
 use std::test::Fail;
@@ -47,7 +48,7 @@ fn finds_the_first_line_that_differs(rt: HostRuntime) -> Result<(), Fail> {
     for (lines, expected, wanted) in ROWS.iter().copied() {
         let script = session(rt.alloc(), expected)?;
         let found = compare(lines, script.expected.as_slice());
-        assert_eq!(rt; found, wanted, "{lines:?} beside {expected:?}");
+        same_at(&rt, (lines, expected), found, wanted);
     }
     Ok(())
 }
@@ -56,6 +57,10 @@ fn finds_the_first_line_that_differs(rt: HostRuntime) -> Result<(), Fail> {
 fn is_told_as_text(rt: HostRuntime) -> Result<(), Fail> {
     let same = format!(in rt.alloc(); "{}", Comparison::Same(51))?;
     let other = format!(in rt.alloc(); "{}", Comparison::DiffersAt(4))?;
-    assert_eq!(rt; (same.as_str(), other.as_str()), ("ok 51", "differs at 4"));
+    same!(
+        rt,
+        (same.as_str(), other.as_str()),
+        ("ok 51", "differs at 4")
+    );
     Ok(())
 }

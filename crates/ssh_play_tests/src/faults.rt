@@ -1,5 +1,6 @@
 //! Lines that can't be run, and settings that are refused.
 
+use crate::checking::same_at;
 use crate::reading::played;
 use std::test::Fail;
 
@@ -40,10 +41,10 @@ const ROWS: &[(&str, &str)] = &[
 fn tells_which_line_is_wrong(rt: HostRuntime) -> Result<(), Fail> {
     for (script, wanted) in ROWS.iter().copied() {
         match played(rt.alloc(), script) {
-            Ok(played) => assert_eq!(rt; played.lines.as_str(), wanted, "of {script:?}"),
+            Ok(played) => same_at(&rt, ("of", script), played.lines.as_str(), wanted),
             Err(fault) => {
                 let told = format!(in rt.alloc(); "{fault}")?;
-                assert_eq!(rt; told.as_str(), wanted, "of {script:?}");
+                same_at(&rt, ("of", script), told.as_str(), wanted);
             }
         }
     }

@@ -1,6 +1,7 @@
 //! Scripts with the lines that RFC 4250 to 4254 give for them. A version line is `SSH-2.0-c` or `SSH-2.0-s`, and a KEXINIT that offers
 //! strict key exchange has 165 bytes: a number, 16 of a cookie, ten lists, a boolean and a uint32.
 
+use crate::checking::same_at;
 use crate::reading::played;
 use std::test::Fail;
 
@@ -49,8 +50,8 @@ fn prints_what_the_ends_do(rt: HostRuntime) -> Result<(), Fail> {
     for (script, lines, refused) in ROWS.iter().copied() {
         let played = played(rt.alloc(), script)?;
         let wanted = format!(in rt.alloc(); "{OPENINGS}{lines}")?;
-        assert_eq!(rt; played.lines.as_str(), wanted.as_str(), "of {script:?}");
-        assert_eq!(rt; played.refused, refused, "of {script:?}");
+        same_at(&rt, ("of", script), played.lines.as_str(), wanted.as_str());
+        same_at(&rt, ("of", script), played.refused, refused);
     }
     Ok(())
 }
@@ -68,7 +69,7 @@ const SETTINGS: &[(&str, &str)] = &[
 fn opens_with_the_settings_of_the_script(rt: HostRuntime) -> Result<(), Fail> {
     for (script, lines) in SETTINGS.iter().copied() {
         let played = played(rt.alloc(), script)?;
-        assert_eq!(rt; played.lines.as_str(), lines, "of {script:?}");
+        same_at(&rt, ("of", script), played.lines.as_str(), lines);
     }
     Ok(())
 }

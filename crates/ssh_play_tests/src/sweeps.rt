@@ -1,5 +1,6 @@
 //! Sweeps. An end puts out 187 bytes as it opens, and each byte of both is changed in three ways.
 
+use crate::checking::same;
 use crate::reading::swept;
 use ssh_play::Tally;
 use std::test::Fail;
@@ -11,7 +12,8 @@ fn counts_three_runs_a_byte(rt: HostRuntime) -> Result<(), Fail> {
     let script =
         "ask c disconnect x\nask s disconnect x\nfeed c 01\npass c s 9999\nagain s c 9999 1\n";
     let tally = swept(rt.alloc(), script)?;
-    assert_eq!(rt;
+    same!(
+        rt,
         tally,
         Tally {
             runs: 1266,
@@ -19,7 +21,7 @@ fn counts_three_runs_a_byte(rt: HostRuntime) -> Result<(), Fail> {
         }
     );
     let told = format!(in rt.alloc(); "{tally}")?;
-    assert_eq!(rt; told.as_str(), "1266 runs, 0 unsafe");
+    same!(rt, told.as_str(), "1266 runs, 0 unsafe");
     Ok(())
 }
 
@@ -45,7 +47,8 @@ fn counts_unsafe_runs(rt: HostRuntime) -> Result<(), Fail> {
     // The run itself is unsafe, and stays so where nothing depends on the byte: on each of the 64 that are lost, in all three ways; on padding
     // of a packet without a tag that is flipped, 11 bytes behind a KEXINIT, 6 behind a point and 10 behind NEWKEYS of each side; and on the
     // last byte of each side that comes twice. The client puts out 291 bytes, and the server 395.
-    assert_eq!(rt;
+    same!(
+        rt,
         swept(rt.alloc(), CUT)?,
         Tally {
             runs: 3 * (291 + 395),

@@ -1,5 +1,6 @@
 //! Keys of one, two and three blocks.
 
+use crate::checking::same_at;
 use ssh_kex::{Letter, derive};
 use std::test::*;
 
@@ -41,6 +42,6 @@ fn keys_of_several_blocks(rt: HostRuntime) {
         let mut room = [0; 96];
         let key = &mut room[..length];
         fill(&SHARED, &HASH, &SESSION_ID, key);
-        assert_eq!(rt; *key, KEY[..length], "of {length} bytes");
+        same_at(&rt, length, &*key, &KEY[..length]);
     }
 }

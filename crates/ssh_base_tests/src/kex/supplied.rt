@@ -1,5 +1,6 @@
 //! The supplied parts, called through their traits.
 
+use crate::checking::same;
 use ssh_kex::{Agreement, HostSigner, HostTrust};
 use ssh_toys::{HOST_KEY, ToyAgreement, ToySigner, ToyTrust};
 use std::test::*;
@@ -33,14 +34,14 @@ fn is_trusted<S: HostSigner, T: HostTrust>(
 #[test]
 fn two_ends_share_one_number(rt: HostRuntime) {
     let shared = Some([6; 32]);
-    assert_eq!(rt; shared_with(&ToyAgreement, &[3; 32], &[5; 32]), shared);
-    assert_eq!(rt; shared_with(&ToyAgreement, &[5; 32], &[3; 32]), shared);
-    assert_eq!(rt; shared_with(&ToyAgreement, &[5; 32], &[5; 32]), None);
+    same!(rt, shared_with(&ToyAgreement, &[3; 32], &[5; 32]), shared);
+    same!(rt, shared_with(&ToyAgreement, &[5; 32], &[3; 32]), shared);
+    same!(rt, shared_with(&ToyAgreement, &[5; 32], &[5; 32]), None);
 }
 
 #[test]
 fn the_signed_hash_is_trusted_and_no_other(rt: HostRuntime) {
-    assert_eq!(rt; ToySigner.key(b"toy@example.com"), HOST_KEY);
+    same!(rt, ToySigner.key(b"toy@example.com"), HOST_KEY);
     assert!(rt; is_trusted(&ToySigner, &ToyTrust, &[7; 32], &[7; 32]));
     assert!(rt; !is_trusted(&ToySigner, &ToyTrust, &[7; 32], &[8; 32]));
     assert!(rt; !ToyTrust.judge(b"toy@example.com", b"other-host", &[7; 32], &[7; 32]));
