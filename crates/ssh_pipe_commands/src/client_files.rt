@@ -19,6 +19,9 @@ pub struct ClientFiles<
     output: O,
     error_output: E,
     piece: Vec<u8>,
+    // How many bytes of the input were read, and of both outputs written.
+    read: u64,
+    written: u64,
 }
 
 // So many bytes of the input are read at once.
@@ -45,12 +48,24 @@ impl<'a, R: RandomSource + Drop, I: Read + Drop, O: Write + Drop, E: Write + Dro
             output,
             error_output,
             piece: vec![in alloc; 0u8; PIECE]?,
+            read: 0,
+            written: 0,
         })
     }
 
     /// How the session ended, once that is known.
     pub fn take_ending(&mut self) -> Option<Ending> {
         self.client.take_ending()
+    }
+
+    /// How many bytes of the input were read.
+    pub fn read(&self) -> u64 {
+        self.read
+    }
+
+    /// How many bytes of the command's outputs were written.
+    pub fn written(&self) -> u64 {
+        self.written
     }
 
     // Writes what the command wrote, and what the server says to the user.
@@ -64,6 +79,10 @@ impl<'a, R: RandomSource + Drop, I: Read + Drop, O: Write + Drop, E: Write + Dro
         self.error_output
             .write_all(self.client.error_output())
             .map_err(PipeError::Output)?;
+        let bytes = self.client.output().len() as u64;
+        self.written = self.written.saturating_add(bytes);
+        let bytes = self.client.error_output().len() as u64;
+        self.written = self.written.saturating_add(bytes);
         self.client.clear_output();
         Ok(())
     }
@@ -83,6 +102,7 @@ impl<'a, R: RandomSource + Drop, I: Read + Drop, O: Write + Drop, E: Write + Dro
         };
         let piece = self.piece.as_slice().get(..count).unwrap_or(&[]);
         self.client.give_input(piece)?;
+        self.read = self.read.saturating_add(count as u64);
         Ok(())
     }
 }

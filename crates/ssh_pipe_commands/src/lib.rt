@@ -16,11 +16,13 @@
 
 mod client_files;
 mod command_line;
+mod progress;
 mod running;
 mod sink;
 mod status;
 
 pub use client_files::ClientFiles;
 pub use command_line::{Call, ClientOptions, ServerOptions, UsageFault, call_of};
+pub use progress::ShownFiles;
 pub use running::{RunError, call, refuse, report, serve};
 pub use status::Status;

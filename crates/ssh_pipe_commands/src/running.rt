@@ -5,6 +5,8 @@ mod inputs;
 
 use crate::client_files::ClientFiles;
 use crate::command_line::{ClientOptions, ServerOptions, UsageFault};
+use crate::progress::ShownFiles;
+use crate::sink::Sink;
 use crate::status::Status;
 pub use error::RunError;
 use inputs::{accepted_keys, opened, password_in, private_key_in, sink, trusted_key_in};
@@ -12,7 +14,7 @@ use ssh_parts::Ed25519Signer;
 use ssh_pipe::{Client, Ending, Login, Request, Server, pump, string_of};
 use ssh_pipe_policy::{OneUser, PasswordHash, UserKey};
 use std::fmt::Display;
-use std::io::{Read, Write};
+use std::io::{IsTerminal, Read, Write};
 use std::random::RandomSource;
 use std::rt::Files;
 
@@ -32,7 +34,8 @@ pub fn serve<R: Files + AllocGlobal + RandomSource, I: Read, O: Write, E: Write>
 }
 
 /// Runs one command at the server as the options say. Why it can't is told on `err`; there the command's output goes too, where the options name no file.
-pub fn call<R: Files + AllocGlobal + RandomSource, I: Read, O: Write, E: Write + Copy>(
+/// Where they name one and `err` is a terminal, a line on it says how far the transfer is.
+pub fn call<R: Files + AllocGlobal + RandomSource, I: Read, O: Write, E: Write + Copy + IsTerminal>(
     rt: &R,
     options: &ClientOptions<'_>,
     input: &mut I,
@@ -74,7 +77,13 @@ fn served<'a, R: Files + AllocGlobal + RandomSource, I: Read, O: Write>(
 }
 
 // A session of the client, and how it ended.
-fn called<'a, R: Files + AllocGlobal + RandomSource, I: Read, O: Write, E: Write + Copy>(
+fn called<
+    'a,
+    R: Files + AllocGlobal + RandomSource,
+    I: Read,
+    O: Write,
+    E: Write + Copy + IsTerminal,
+>(
     rt: &R,
     options: &ClientOptions<'a>,
     input: &mut I,
@@ -95,23 +104,39 @@ fn called<'a, R: Files + AllocGlobal + RandomSource, I: Read, O: Write, E: Write
         kind: options.kind,
         text: text.as_slice(),
     };
-    let read_from = opened(rt, options.input)?;
-    let written_to = sink(rt, options.output, err)?;
-    let errors_to = sink(rt, options.error_output, err)?;
     let mut out = Vec::new(alloc);
-    let client = Client::new(
-        alloc,
-        &options.policy,
-        rt,
-        host,
-        key,
-        login,
-        request,
-        &mut out,
-    )?;
-    let mut files = ClientFiles::new(alloc, client, read_from, written_to, errors_to)?;
-    pump(alloc, &mut files, input, output, out)?;
+    let policy = &options.policy;
+    let client = Client::new(alloc, policy, rt, host, key, login, request, &mut out)?;
+    let mut files = shown_files(rt, options, client, err)?;
+    let ran = pump(alloc, &mut files, input, output, out);
+    files.end_line();
+    ran?;
     Ok(files.take_ending())
+}
+
+// A client with the files that the options name, shown where that leaves the command's output alone.
+fn shown_files<
+    'a,
+    'c,
+    R: Files + AllocGlobal,
+    S: RandomSource + Drop,
+    E: Write + Copy + IsTerminal,
+>(
+    rt: &R,
+    options: &ClientOptions<'a>,
+    client: Client<'c, S>,
+    err: E,
+) -> Result<ShownFiles<'c, S, R::File, Sink<R::File, E>, Sink<R::File, E>, E>, RunError<'a>> {
+    let input = opened(rt, options.input)?;
+    let output = sink(rt, options.output, err)?;
+    let error_output = sink(rt, options.error_output, err)?;
+    let files = ClientFiles::new(rt.alloc(), client, input, output, error_output)?;
+    let terminal = if options.output.is_some() && err.is_terminal() {
+        Some(err)
+    } else {
+        None
+    };
+    Ok(ShownFiles::new(files, terminal))
 }
 
 // The user's key, where there is one.
