@@ -10,6 +10,7 @@ pub mod Finishing
 pub mod Owing
 pub mod Facts
 pub mod Turns
+pub mod Beside
 pub mod Fronts
 pub mod Leftover
 pub mod Lacking

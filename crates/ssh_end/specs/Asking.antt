@@ -41,6 +41,7 @@ use Rattle.ssh_transport_machine.specs.declared.outcome.TransportFault.TheVarian
 use Rattle.ssh_types.specs.AskRefusals.{ask_refusal_of}
 use Rattle.ssh_types.specs.declared.ask_refusal.AskRefusal.{AskRefusal}
 use Rattle.ssh_types.specs.declared.refusal.Refusal.TheVariants as refusal
+use Rattle.ssh_end.specs.Owed.{channels_sent}
 use Rattle.ssh_end.specs.declared.ask.Ask.{Ask}
 use Rattle.ssh_end.specs.declared.ask.Ask.TheVariants as ask
 use Rattle.ssh_end.specs.declared.asking.outcome.Fault.{Fault}
@@ -118,6 +119,12 @@ pub data ShowsAsk (asked : session.Ask) : AskStep → List Item → Type 0 where
       (Died ∷ Sent None (Disconnect 11 description []) payload ∷ Asked asked ∷ [])
   spent : ShowsAsk asked (record { channel = None; opening = None; refused = Some refusal.NumberSpent })
       (Died ∷ Refused model.Refusal.NumberSpent None ∷ Asked asked ∷ [])
+
+-- For the items of the ask whose payloads were sent, these are the channels of the messages.
+abbrev pub AreAskChannels : session.Ask → AskStep → (payloads : List (List ℕ)) → (channels : List (Option ℕ)) → Type 0
+AreAskChannels asked step payloads channels =
+    (items : List Item) → ShowsAsk asked step items → payloads ≡ payloads_of (messages_sent items) →
+    channels ≡ channels_sent items
 
 -- ---- rows of an end
 

@@ -1,5 +1,5 @@
 -- What the calls of an end answer that show what was done.
-use Rattle.std.specs.Prelude.{◌≡◌, ◌++◌, ℕ, Bool, false, Option, Some, None, List, [], length, take, Result, Ok, Err, IfErr}
+use Rattle.std.specs.Prelude.{◌≡◌, ◌++◌, ℕ, Bool, false, Option, Some, None, List, [], length, take, Result, Ok, Err, IfErr, IfOk}
 use Rattle.std.specs.Option.{option_map}
 use Rattle.ssh_model.specs.Side.{Side.Server}
 use Rattle.ssh_model.specs.Authentication.Requests.{Judge}
@@ -12,7 +12,7 @@ use Rattle.ssh_transport_machine.specs.Puts.{Outs}
 use Rattle.ssh_transport_server.specs.Transport.{begun_of}
 use Rattle.ssh_transport_client.specs.Replies.{Trusts}
 use Rattle.ssh_transport_client.specs.Transport as client_transport
-use Rattle.ssh_end.specs.Asking.{ClientInSession, Fails, InSession}
+use Rattle.ssh_end.specs.Asking.{AreAskChannels, ClientInSession, Fails, InSession}
 use Rattle.ssh_end.specs.ClientSessions as client
 use Rattle.ssh_end.specs.ClientUnits.{ClientGoes}
 use Rattle.ssh_end.specs.Ends.{ClientState, IsFault, SameClient, SameServer, ServerState}
@@ -21,7 +21,7 @@ use Rattle.ssh_end.specs.ServerUnits.{ServerGoes}
 use Rattle.ssh_end.specs.Sessions as server
 use Rattle.ssh_end.specs.Steps.{Shows}
 use Rattle.ssh_end.specs.Told.{told_of}
-use Rattle.ssh_end.specs.Turn.{TurnShows, payloads_in}
+use Rattle.ssh_end.specs.Turn.{TurnShows, channels_in, payloads_in}
 use Rattle.ssh_end.specs.declared.asking.outcome.AskStep.{AskStep}
 use Rattle.ssh_end.specs.declared.asking.outcome.Fault.{Fault}
 use Rattle.ssh_end.specs.declared.step.Step.{Step}
@@ -77,25 +77,28 @@ ServerTakes c exchange judge old bytes before after (Err fault) new =
 -- ---- asks
 
 -- The turn shows what was done on an ask.
-pub record ShowsStep (given : AskStep) (payloads : List (List ℕ)) (turn : Turn) : Type 0 where
+pub record ShowsStep (given : AskStep) (payloads : List (List ℕ)) (channels : List (Option ℕ)) (turn : Turn) : Type 0 where
   pub used : turn.used ≡ 0
   pub took : turn.took ≡ None
   pub told : option_map told_of turn.told ≡ option_map Opening given.opening
   pub refused : turn.refused ≡ given.refused
   pub sent : payloads_in turn.sent ≡ payloads
+  pub sent_on : channels_in turn.sent ≡ channels
 
 -- what an ask answers, by what came of it
-abbrev pub ShowsAnswer : Result AskStep Fault → (sent : List (List ℕ)) → Result Turn Fault → Type 0
-ShowsAnswer (Ok given) sent (Ok turn) = ShowsStep given sent turn
-ShowsAnswer (Err fault) sent (Err shown) = shown ≡ fault
-ShowsAnswer _ sent _ = ⊥
+abbrev pub ShowsAnswer : Result AskStep Fault → (sent : List (List ℕ)) → (channels : List (Option ℕ)) →
+    Result Turn Fault → Type 0
+ShowsAnswer (Ok given) sent channels (Ok turn) = ShowsStep given sent channels turn
+ShowsAnswer (Err fault) sent channels (Err shown) = shown ≡ fault
+ShowsAnswer _ sent channels _ = ⊥
 
 -- A client did on an ask what is a turn of a session, and answered so.
 pub record ClientAsked {K A H U : Type 0} (c : Crypto K) (signature : (user algorithm key text : List ℕ) → List ℕ)
     (old : ClientState K A H U) (asked : session.Ask) (before after : List ℕ) (result : Result Turn Fault)
     (new : ClientState K A H U) : Type 0 where
   pub given : Result AskStep Fault
-  pub shows : ShowsAnswer given new.sent result
+  pub shows : ShowsAnswer given new.sent new.channels result
+  pub channels : IfOk given (λ step. AreAskChannels asked step new.sent new.channels)
   pub in_session : ClientInSession c signature old.layers.authentication (client.end_of old.machine.kept old.layers) asked
       given (client.end_of new.machine.kept new.layers) (outs_of before after new.sent)
   pub fails : IfErr given (λ fault. Fails old.machine fault new.machine)
@@ -106,7 +109,8 @@ pub record ClientAsked {K A H U : Type 0} (c : Crypto K) (signature : (user algo
 pub record ServerAsked {K A H U : Type 0} (c : Crypto K) (old : ServerState K A H U) (asked : session.Ask)
     (before after : List ℕ) (result : Result Turn Fault) (new : ServerState K A H U) : Type 0 where
   pub given : Result AskStep Fault
-  pub shows : ShowsAnswer given new.sent result
+  pub shows : ShowsAnswer given new.sent new.channels result
+  pub channels : IfOk given (λ step. AreAskChannels asked step new.sent new.channels)
   pub in_session : InSession c Server (server.end_of old.machine.kept old.layers) asked given
       (server.end_of new.machine.kept new.layers) (outs_of before after new.sent)
   pub fails : IfErr given (λ fault. Fails old.machine fault new.machine)

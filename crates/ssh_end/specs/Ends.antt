@@ -1,5 +1,5 @@
 -- The ends: what they keep, and how they begin.
-use Rattle.std.specs.Prelude.{◌≡◌, ℕ, List, []}
+use Rattle.std.specs.Prelude.{◌≡◌, ℕ, Option, List, []}
 use Rattle.ssh_model.specs.Side.{Side, Side.Client, Side.Server}
 use Rattle.ssh_model.specs.Authentication.Kept.{new_client, new_server}
 use Rattle.ssh_model.specs.Channels.Kept.{no_channels}
@@ -15,7 +15,7 @@ use Rattle.ssh_end.specs.declared.asking.outcome.Fault.{Fault}
 use Rattle.ssh_end.specs.declared.asking.outcome.Fault.TheVariants as fault
 use Rattle.ssh_end.specs.declared.step.Step.{Step}
 
--- A server's machine, its parts, its layers, and its last turn.
+-- A server's machine, its parts, its layers, and its last turn, with the channel of each payload that was sent in it.
 pub record ServerState (K A H U : Type 0) : Type 0 where
   pub machine : State K
   pub agreement : A
@@ -25,6 +25,7 @@ pub record ServerState (K A H U : Type 0) : Type 0 where
   pub step : Step
   pub used : ℕ
   pub sent : List (List ℕ)
+  pub channels : List (Option ℕ)
 
 -- the same of a client
 pub record ClientState (K A H U : Type 0) : Type 0 where
@@ -36,6 +37,7 @@ pub record ClientState (K A H U : Type 0) : Type 0 where
   pub step : Step
   pub used : ℕ
   pub sent : List (List ℕ)
+  pub channels : List (Option ℕ)
 
 -- The parts are as before.
 pub record SameServer {K A H U : Type 0} (old new : ServerState K A H U) : Type 0 where

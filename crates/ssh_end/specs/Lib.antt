@@ -10,6 +10,7 @@ pub mod Above
 pub mod ServerAbove
 pub mod ClientAbove
 pub mod Owed
+pub mod Beside
 pub mod Completing
 pub mod Effects
 pub mod ServerUnits

@@ -4,9 +4,8 @@ use Rattle.ssh_types.specs.Refusals.{refusal_of}
 use Rattle.ssh_message.specs.Meaning.{meaning}
 use Rattle.ssh_model.specs.Wire.Message.{Msg}
 use Rattle.ssh_model.specs.Sessions.Items.{Fact, Item, Item.Refused, Item.Told, Item.TookGuess, Item.TookLine}
-use Rattle.ssh_model.specs.Sessions.Items.{Item.TookOtherLine, messages_sent}
+use Rattle.ssh_model.specs.Sessions.Items.{Item.TookOtherLine}
 use Rattle.ssh_model.specs.Sessions.Refusals.{Refusal}
-use Rattle.ssh_transport_machine.specs.Puts.{payloads_of}
 use Rattle.ssh_end.specs.Steps.{fact_told}
 use Rattle.ssh_end.specs.Told.{told_of}
 use Rattle.ssh_end.specs.declared.step.TookStep.{TookStep}
@@ -66,14 +65,3 @@ payloads_in sent = map (λ v. v.items) sent.payloads.now
 -- the channels of the payloads, one for each
 abbrev pub channels_in : SentPayloads → List (Option ℕ)
 channels_in sent = replicate (length sent.payloads.now - length sent.channels.now) None ++ sent.channels.now
-
--- the channels of the messages that were sent, the oldest first
-abbrev pub channels_sent : List Item → List (Option ℕ)
-channels_sent [] = []
-channels_sent (Item.Sent channel message payload ∷ items) = channels_sent items ++ channel ∷ []
-channels_sent (_ ∷ items) = channels_sent items
-
--- What is shown as sent are the payloads and the channels of the messages that were sent.
-pub record SentShows (sent : SentPayloads) (items : List Item) : Type 0 where
-  pub payloads : payloads_in sent ≡ payloads_of (messages_sent items)
-  pub channels : channels_in sent ≡ channels_sent items

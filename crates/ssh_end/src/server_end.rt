@@ -12,21 +12,21 @@ ghost use Rattle.ssh_transport_base.specs.Meaning.{settings_of};
 ghost use Rattle.ssh_transport_machine.specs.Opening.{IsOpened};
 ghost use Rattle.ssh_transport_machine.specs.Standing.{Stands};
 ghost use Rattle.ssh_transport_server.specs.Transport.{begun_of};
-ghost use Rattle.ssh_end.specs.Asking.{InSession, Fails, ask_of};
+ghost use Rattle.ssh_end.specs.Asking.{AreAskChannels, InSession, Fails, ask_of};
 ghost use Rattle.ssh_end.specs.Calls.{ServerAsked, ServerTakes};
 ghost use Rattle.ssh_end.specs.Ends.{IsFault, IsNewServer, SameServer};
 ghost use Rattle.ssh_end.specs.Reading.{SameReading};
 ghost use Rattle.ssh_end.specs.Sessions.{end_of};
 ghost use Rattle.ssh_end.specs.ServerUnits.{FrontLacks, ServerGoes};
 ghost use Rattle.ssh_end.specs.Steps.{Shows};
-ghost use Rattle.ssh_end.specs.Turn.{TurnShows, payloads_in};
+ghost use Rattle.ssh_end.specs.Turn.{TurnShows, channels_in, payloads_in};
 
 use crate::ask::Ask;
 use crate::asking::{AskStep, Fault, ask_server};
 use crate::server_layers::ServerLayers;
 use crate::server_unit::advance_server;
 use crate::step::Step;
-use crate::turn::{Turn, asked_turn, turn_of};
+use crate::turn::{Turn, asked_turn, sent_payloads, turn_of};
 use ssh_auth::UserJudge;
 use ssh_channels::Channels;
 use ssh_packet::{Filler, Sealing};
@@ -61,10 +61,11 @@ impl<P: ServerParts, U: UserJudge + Drop> Model for ServerEnd<P, U> {
     ghost use Rattle.ssh_model.specs.Side as model;
     ghost use Rattle.ssh_transport_machine.specs.Standing.{Stands};
     ghost use Rattle.ssh_end.specs.Ends.{ServerState};
+    ghost use Rattle.ssh_end.specs.Beside.{channels_beside, last_channels};
 
     ghost Value = { ServerState P.Sealing.Key P.Agreement P.HostSigner U };
 
-    ghost view = { λ e. record { machine = e.machine; agreement = e.agreement; host_signer = e.host_signer; user = e.user; layers = e.layers; step = e.step; used = e.used; sent = map (λ v. v.items) e.sent.items } };
+    ghost view = { λ e. record { machine = e.machine; agreement = e.agreement; host_signer = e.host_signer; user = e.user; layers = e.layers; step = e.step; used = e.used; sent = map (λ v. v.items) e.sent.items; channels = channels_beside (map (λ v. v.items) e.sent.items) (last_channels e.channel e.numbers.items) } };
 
     ghost invariant = { λ e. Stands model.Server e.machine };
 }
@@ -207,23 +208,18 @@ impl<P: ServerParts, U: UserJudge + Drop> ServerEnd<P, U> {
         ensures more { self.now.step ≡ Step.More → TurnShows result [] }
         ensures used { result.used ≡ self.now.used }
         ensures sent { payloads_in result.sent ≡ self.now.sent }
+        ensures channels { channels_in result.sent ≡ self.now.channels }
     {
         turn_of(
             self.step,
             self.used,
             self.machine.payload(),
-            self.sent.as_slice(),
-            self.numbers_sent(),
+            sent_payloads(
+                self.sent.as_slice(),
+                self.channel.as_slice(),
+                self.numbers.as_slice(),
+            ),
         )
-    }
-
-    // The channels of the last payloads that were sent.
-    fn numbers_sent(&self) -> &[Option<u32>] {
-        if self.sent.is_empty() || !self.numbers.is_empty() {
-            self.numbers.as_slice()
-        } else {
-            self.channel.as_slice()
-        }
     }
 
     /// Does what a user asks for, or refuses that, which changes nothing. It shows the payload that was sent, and what is told: that a
@@ -253,6 +249,7 @@ impl<P: ServerParts, U: UserJudge + Drop> ServerEnd<P, U> {
         ensures reading { self.new.machine.kept.dead ≡ false → SameReading self.old.machine self.new.machine }
         ensures authentication { self.new.layers.authentication ≡ self.old.layers.authentication }
         ensures step { self.new.step ≡ Step.More }
+        ensures channels { IfOk result (λ step. AreAskChannels (ask_of ask.now) step self.new.sent self.new.channels) }
         ensures fails { IfErr result (λ fault. Fails self.old.machine fault self.new.machine) }
         ensures out { OnErr result (out.new.items ≡ out.old.items) }
         ensures parts { SameServer self.old self.new }

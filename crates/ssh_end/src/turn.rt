@@ -5,6 +5,7 @@ ghost use Rattle.ssh_model.specs.Sessions.Items.{Item};
 ghost use Rattle.ssh_model.specs.Wire.Message.{Msg, IsPayload};
 ghost use Rattle.ssh_end.specs.Calls.{ShowsStep};
 ghost use Rattle.ssh_end.specs.Steps.{Shows};
+ghost use Rattle.ssh_end.specs.Beside.{channels_beside, last_channels};
 ghost use Rattle.ssh_end.specs.Turn.{IsMessageTurn, TurnShows, channels_in, payloads_in};
 ghost use Rattle.ssh_end.specs.declared.step.Step.TheVariants as Step;
 
@@ -78,21 +79,39 @@ impl<'a> SentPayloads<'a> {
     }
 }
 
+// The payloads that were sent. The last of them have the channels of the replies that were owed, or the last one has this single channel
+// where none was owed.
+pub fn sent_payloads<'a>(
+    payloads: &'a [Vec<u8>],
+    single: &'a [Option<u32>],
+    owed: &'a [Option<u32>],
+) -> SentPayloads<'a>
+    ensures payloads { result.payloads.now ≡ payloads.now }
+    ensures channels { channels_in result ≡ channels_beside (map (λ v. v.items) payloads.now) (last_channels single.now owed.now) }
+{
+    let channels: &[Option<u32>] = if payloads.is_empty() {
+        &[]
+    } else if owed.is_empty() {
+        single
+    } else {
+        owed
+    };
+    SentPayloads { payloads, channels }
+}
+
 // What was done in a step, with the payload of the packet taken last.
 pub fn turn_of<'a>(
     step: Step,
     used: usize,
     payload: &'a [u8],
-    payloads: &'a [Vec<u8>],
-    channels: &'a [Option<u32>],
+    sent: SentPayloads<'a>,
 ) -> Turn<'a>
     ensures shows { (items : List Item) → Shows payload.now step items → TurnShows result items }
     ensures more { step ≡ Step.More → TurnShows result [] }
     ensures used { result.used ≡ used }
-    ensures payloads { result.sent.payloads.now ≡ payloads.now }
-    ensures channels { result.sent.channels.now ≡ channels.now }
+    ensures sent { result.sent ≡ sent.entry }
 {
-    let quiet = quiet_turn(used, SentPayloads { payloads, channels });
+    let quiet = quiet_turn(used, sent);
     match step {
         Step::More => quiet,
         Step::OtherLine => Turn {
@@ -118,7 +137,7 @@ pub fn turn_of<'a>(
 
 // What was done on an ask, with these payloads.
 pub fn asked_turn<'a>(step: AskStep, sent: SentPayloads<'a>) -> Turn<'a>
-    ensures { ShowsStep step (payloads_in sent.entry) result }
+    ensures { ShowsStep step (payloads_in sent.entry) (channels_in sent.entry) result }
 {
     let told = match step.opening {
         None => None,

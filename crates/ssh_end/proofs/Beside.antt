@@ -1,0 +1,21 @@
+-- The channels of payloads that were sent.
+use Rattle.std.proofs.Common.{◌≡◌, ℕ, List, [], ◌∷◌, refl, ap, ◌∙◌, Option, Some, None}
+use Rattle.ssh_model.specs.Sessions.Items as session
+use Rattle.ssh_model.specs.Sessions.Items.{Item, messages_sent}
+use Rattle.ssh_transport_machine.specs.Puts.{payloads_of}
+use Rattle.ssh_end.specs.Asking.{AreAskChannels, ShowsAsk}
+use Rattle.ssh_end.specs.Owed.{channels_sent}
+use Rattle.ssh_end.specs.Beside.{channels_beside}
+use Rattle.ssh_end.specs.declared.asking.outcome.AskStep.{AskStep}
+
+-- ---- asks
+
+asked_beside : (asked : session.Ask) (step : AskStep) (items : List Item) → ShowsAsk asked step items → channels_beside (payloads_of (messages_sent items)) (step.channel ∷ []) ≡ channels_sent items
+asked_beside asked _ _ (ShowsAsk.sent channel None message payload) = refl
+asked_beside asked _ _ (ShowsAsk.sent channel (Some opening) message payload) = refl
+asked_beside asked _ _ (ShowsAsk.disconnected description payload is) = refl
+asked_beside asked _ _ ShowsAsk.spent = refl
+
+-- the single channel that is noted is that of what was sent on an ask
+pub ask_channels : (asked : session.Ask) (step : AskStep) (payloads : List (List ℕ)) (channels : List (Option ℕ)) → channels ≡ channels_beside payloads (step.channel ∷ []) → AreAskChannels asked step payloads channels
+ask_channels asked step payloads channels e = λ items shows sent. e ∙ (ap (λ (l : List (List ℕ)). channels_beside l (step.channel ∷ [])) sent ∙ asked_beside asked step items shows)
