@@ -98,6 +98,15 @@ all_numbered before between _ old new x (nothing e) =
     λ items gives. sym (append-nil new) ∙ (ap (λ l. new ++ map reply_channel l) (sym e) ∙ (x
     ∙ ap (λ l. old ++ l) (sym (channels_left before between items gives) ∙ (ap (λ l. channels_sent items ++ map reply_channel l) e ∙ append-nil (channels_sent items)))))
 
+-- all that was owed is given
+pub all_given : (before after : Channels) (items : List Item) → GivesOwed before items after → after.owed ≡ [] → channels_sent items ≡ map reply_channel before.owed
+all_given before after items gives none =
+    sym (append-nil (channels_sent items)) ∙ (ap (λ l. channels_sent items ++ map reply_channel l) (sym none) ∙ channels_left before after items gives)
+
+-- what was owed is given, and its channels stand behind
+pub all_behind : (before after : Channels) (old new : List (Option ℕ)) (items : List Item) → GivesOwed before items after → after.owed ≡ [] → ListsChannels before after old new → new ≡ old ++ map reply_channel before.owed
+all_behind before after old new items gives none lists = lists items gives ∙ ap (λ l. old ++ l) (all_given before after items gives none)
+
 -- ---- the machine
 
 pub kept_after : {K : Type 0} (now next : State K) → next ≡ record now { kept = after_sent now.kept } → next.kept ≡ after_sent now.kept

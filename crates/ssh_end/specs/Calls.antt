@@ -13,6 +13,7 @@ use Rattle.ssh_transport_server.specs.Transport.{begun_of}
 use Rattle.ssh_transport_client.specs.Replies.{Trusts}
 use Rattle.ssh_transport_client.specs.Transport as client_transport
 use Rattle.ssh_end.specs.Asking.{AreAskChannels, ClientInSession, Fails, InSession}
+use Rattle.ssh_end.specs.Beside.{channels_by}
 use Rattle.ssh_end.specs.ClientSessions as client
 use Rattle.ssh_end.specs.ClientUnits.{ClientGoes}
 use Rattle.ssh_end.specs.Ends.{ClientState, IsFault, SameClient, SameServer, ServerState}
@@ -35,11 +36,13 @@ abbrev pub outs_of : (before after : List ℕ) → (sent : List (List ℕ)) → 
 outs_of before after sent = record { before = before; after = after; listed = []; relisted = sent }
 
 -- The turn shows what was done with a step, of whose packet this is the payload.
-pub record ShowsTurn (payload : List ℕ) (given : Step) (payloads : List (List ℕ)) (bytes : List ℕ) (turn : Turn) : Type 0 where
+pub record ShowsTurn (payload : List ℕ) (given : Step) (payloads : List (List ℕ)) (channels : List (Option ℕ)) (bytes : List ℕ)
+    (turn : Turn) : Type 0 where
   pub shows : (items : List Item) → Shows payload given items → TurnShows turn items
   pub quiet : given ≡ step.More → TurnShows turn []
   pub more : given ≡ step.More → turn.used ≡ length bytes
   pub sent : payloads_in turn.sent ≡ payloads
+  pub sent_on : channels_in turn.sent ≡ channels
 
 -- A client made of these bytes what the turn shows.
 pub record ClientTook {K A H U : Type 0} (c : Crypto K) (agreement : Agreement) (trusts : Trusts) (old : ClientState K A H U)
@@ -47,7 +50,8 @@ pub record ClientTook {K A H U : Type 0} (c : Crypto K) (agreement : Agreement) 
   pub goes : ClientGoes c agreement trusts old.machine old.layers
       (client_transport.begun_of old.machine ++ take turn.used bytes) new.step new.machine new.layers
       (outs_of before after new.sent)
-  pub shows : ShowsTurn new.machine.receiver.payload new.step new.sent bytes turn
+  pub shows : ShowsTurn new.machine.receiver.payload new.step new.sent new.channels bytes turn
+  pub channels : new.channels ≡ channels_by new.step old.layers.channels.owed new.sent
   pub parts : SameClient old new
 
 -- what the client answers for these bytes, and what is then left
@@ -63,7 +67,8 @@ pub record ServerTook {K A H U : Type 0} (c : Crypto K) (exchange : ExchangePart
     (bytes before after : List ℕ) (turn : Turn) (new : ServerState K A H U) : Type 0 where
   pub goes : ServerGoes c exchange judge old.machine old.layers (begun_of old.machine ++ take turn.used bytes) new.step
       new.machine new.layers (outs_of before after new.sent)
-  pub shows : ShowsTurn new.machine.receiver.payload new.step new.sent bytes turn
+  pub shows : ShowsTurn new.machine.receiver.payload new.step new.sent new.channels bytes turn
+  pub channels : new.channels ≡ channels_by new.step old.layers.channels.owed new.sent
   pub parts : SameServer old new
 
 -- what the server answers for these bytes, and what is then left

@@ -15,6 +15,7 @@ ghost use Rattle.ssh_transport_client.specs.Transport.{begun_of};
 ghost use Rattle.ssh_end.specs.Asking.{AreAskChannels, ClientInSession, Fails, ask_of};
 ghost use Rattle.ssh_end.specs.Calls.{ClientAsked, ClientTakes};
 ghost use Rattle.ssh_end.specs.Ends.{IsFault, IsNewClient, SameClient};
+ghost use Rattle.ssh_end.specs.Beside.{channels_by};
 ghost use Rattle.ssh_end.specs.Reading.{SameReading};
 ghost use Rattle.ssh_end.specs.ClientSessions.{end_of};
 ghost use Rattle.ssh_end.specs.ClientUnits.{FrontLacks, ClientGoes};
@@ -173,6 +174,7 @@ impl<P: ClientParts, U: UserSigner + Drop> ClientEnd<P, U> {
         ensures more { IfOk result (λ used. self.new.step ≡ Step.More → used ≡ length bytes.now) }
         ensures goes { IfOk result (λ used. ClientGoes P.Sealing.crypto (record { point = P.Agreement.public_of self.old.agreement; shared = P.Agreement.shared_of self.old.agreement }) (P.HostTrust.judged self.old.host_trust) self.old.machine self.old.layers (begun_of self.old.machine ++ take used bytes.now) self.new.step self.new.machine self.new.layers (record { before = out.old.items; after = out.new.items; listed = []; relisted = self.new.sent })) }
         ensures shown { IfOk result (λ used. self.new.used ≡ used) }
+        ensures channels { IfOk result (λ used. self.new.channels ≡ channels_by self.new.step self.old.layers.channels.owed self.new.sent) }
         ensures none { OnErr result (self.new.step ≡ Step.More) }
         ensures failed { IfErr result (λ fault. IsFault self.old.machine fault self.new.machine) }
         ensures lacks { IfErr result (λ fault. fault ≡ Fault.Memory → FrontLacks P.Sealing.crypto (record { point = P.Agreement.public_of self.old.agreement; shared = P.Agreement.shared_of self.old.agreement }) (P.HostTrust.judged self.old.host_trust) self.old.machine self.old.layers (begun_of self.old.machine) bytes.now) }

@@ -1,11 +1,13 @@
 //! Lines and packets that a client takes.
 
-ghost use Rattle.std.specs.Prelude.{◌≡◌, ◌<◌, ◌≤◌, ◌++◌, IfErr, IfOk, OnErr, false, length, map, take, true};
+ghost use Rattle.std.specs.Prelude.{◌≡◌, ◌<◌, ◌≤◌, ◌++◌, IfErr, IfOk, List, OnErr, [], false, length, map, take, true};
+ghost use Rattle.ssh_model.specs.Channels.Kept.{DueReply};
 ghost use Rattle.ssh_model.specs.Sessions.Turns.{number_of};
 ghost use Rattle.ssh_model.specs.Side as model;
 ghost use Rattle.ssh_transport_machine.specs.Standing.{Stands};
 ghost use Rattle.ssh_transport_client.specs.Transport.{begun_of};
 ghost use Rattle.ssh_end.specs.Effects.{IsOver, IsReady, is_whole};
+ghost use Rattle.ssh_end.specs.Beside.{channels_behind};
 ghost use Rattle.ssh_end.specs.Owed.{Extends};
 ghost use Rattle.ssh_end.specs.ClientUnits.{ClientGoes, GoLacks, Goes, GoesUp, TurnLacks, UpLacks};
 
@@ -35,6 +37,7 @@ fn go_on<S: Sealing, F: Filler + Drop>(
 ) -> Result<Step, AllocError>
     requires ready { IsReady machine.old turn }
     ensures goes { IfOk result (λ step. Goes S.crypto turn machine.old layers.old step machine.new layers.new (record { before = out.old.items; after = out.new.items; listed = map (λ v. v.items) sent.old.items; relisted = map (λ v. v.items) sent.new.items })) }
+    ensures numbered { IfOk result (λ step. numbers.new.items ≡ numbers.old.items ++ channels_behind step layers.old.channels.owed) }
     ensures more { IfOk result (λ step. step ≡ Step.More → turn ≡ TransportTurn.More) }
     ensures lacks { OnErr result (GoLacks turn machine.old layers.old) }
     ensures dead { OnErr result (machine.new.kept.dead ≡ true) }
@@ -69,6 +72,7 @@ fn go_up<S: Sealing, F: Filler + Drop>(
     requires above { 50 ≤ number_of machine.old.receiver.payload }
     requires alive { machine.old.kept.dead ≡ false }
     ensures goes { IfOk result (λ step. GoesUp S.crypto machine.old layers.old step machine.new layers.new (record { before = out.old.items; after = out.new.items; listed = map (λ v. v.items) sent.old.items; relisted = map (λ v. v.items) sent.new.items })) }
+    ensures behind { IfOk result (λ step. (owed : List DueReply) → channels_behind step owed ≡ []) }
     ensures whole { IfOk result (λ step. step ≡ Step.More → ⊥) }
     ensures lacks { OnErr result (UpLacks machine.old layers.old) }
     ensures dead { OnErr result (machine.new.kept.dead ≡ true) }
@@ -103,6 +107,7 @@ pub fn advance_client<S: Sealing, F: Filler + Drop, A: Agreement, T: HostTrust>(
     ensures progress { machine.old.kept.dead ≡ false → 0 < length bytes.now → 0 < result.0 }
     ensures more { IfOk result.1 (λ step. step ≡ Step.More → result.0 ≡ length bytes.now) }
     ensures goes { IfOk result.1 (λ step. ClientGoes S.crypto (record { point = A.public_of agreement.now; shared = A.shared_of agreement.now }) (T.judged trust.now) machine.old layers.old (begun_of machine.old ++ take result.0 bytes.now) step machine.new layers.new (record { before = out.old.items; after = out.new.items; listed = map (λ v. v.items) sent.old.items; relisted = map (λ v. v.items) sent.new.items })) }
+    ensures numbered { IfOk result.1 (λ step. numbers.new.items ≡ numbers.old.items ++ channels_behind step layers.old.channels.owed) }
     ensures failed { IfErr result.1 (λ fault. IsOver machine.old fault machine.new) }
     ensures lacks { IfErr result.1 (λ fault. fault ≡ TransportFault.Memory → TurnLacks S.crypto (record { point = A.public_of agreement.now; shared = A.shared_of agreement.now }) (T.judged trust.now) machine.old layers.old (begun_of machine.old ++ take result.0 bytes.now)) }
     ensures out { OnErr result.1 (out.new.items ≡ out.old.items) }

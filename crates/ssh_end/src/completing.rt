@@ -1,10 +1,11 @@
 //! What an end does once its transport ended an exchange of keys.
 
-ghost use Rattle.std.specs.Prelude.{◌≡◌, ◌≤◌, IfOk, OnErr, OnOk, false, length, map, true};
+ghost use Rattle.std.specs.Prelude.{◌≡◌, ◌≤◌, ◌++◌, IfOk, OnErr, OnOk, false, length, map, true};
 ghost use Rattle.ssh_model.specs.Side.{Side};
 ghost use Rattle.ssh_transport_machine.specs.Standing.{Stands};
 ghost use Rattle.ssh_end.specs.Completing.{Completing, completed_at};
-ghost use Rattle.ssh_end.specs.Owed.{Extends, ListsChannels};
+ghost use Rattle.ssh_end.specs.Beside.{channels_behind};
+ghost use Rattle.ssh_end.specs.Owed.{Extends};
 
 use crate::owed::give_owed;
 use crate::step::{Step, Telling, TookStep};
@@ -25,6 +26,7 @@ pub fn complete<S: Sealing, F: Filler + Drop>(
 ) -> Result<Step, AllocError>
     requires alive { machine.old.kept.dead ≡ false }
     ensures completing { IfOk result (λ step. Completing S.crypto machine.old channels.old step machine.new channels.new (record { before = out.old.items; after = out.new.items; listed = map (λ v. v.items) sent.old.items; relisted = map (λ v. v.items) sent.new.items })) }
+    ensures numbered { IfOk result (λ step. numbers.new.items ≡ numbers.old.items ++ channels_behind step channels.old.owed) }
     ensures whole { IfOk result (λ step. step ≡ Step.More → ⊥) }
     ensures lacks { OnErr result (1 ≤ length channels.old.owed) }
     ensures dead { OnErr result (machine.new.kept.dead ≡ true) }

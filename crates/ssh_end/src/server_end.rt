@@ -15,6 +15,7 @@ ghost use Rattle.ssh_transport_server.specs.Transport.{begun_of};
 ghost use Rattle.ssh_end.specs.Asking.{AreAskChannels, InSession, Fails, ask_of};
 ghost use Rattle.ssh_end.specs.Calls.{ServerAsked, ServerTakes};
 ghost use Rattle.ssh_end.specs.Ends.{IsFault, IsNewServer, SameServer};
+ghost use Rattle.ssh_end.specs.Beside.{channels_by};
 ghost use Rattle.ssh_end.specs.Reading.{SameReading};
 ghost use Rattle.ssh_end.specs.Sessions.{end_of};
 ghost use Rattle.ssh_end.specs.ServerUnits.{FrontLacks, ServerGoes};
@@ -173,6 +174,7 @@ impl<P: ServerParts, U: UserJudge + Drop> ServerEnd<P, U> {
         ensures more { IfOk result (λ used. self.new.step ≡ Step.More → used ≡ length bytes.now) }
         ensures goes { IfOk result (λ used. ServerGoes P.Sealing.crypto (record { agreement = record { point = P.Agreement.public_of self.old.agreement; shared = P.Agreement.shared_of self.old.agreement }; host_key = P.HostSigner.key_of self.old.host_signer; host_signature = P.HostSigner.signature_of self.old.host_signer }) (U.verdicts self.old.user) self.old.machine self.old.layers (begun_of self.old.machine ++ take used bytes.now) self.new.step self.new.machine self.new.layers (record { before = out.old.items; after = out.new.items; listed = []; relisted = self.new.sent })) }
         ensures shown { IfOk result (λ used. self.new.used ≡ used) }
+        ensures channels { IfOk result (λ used. self.new.channels ≡ channels_by self.new.step self.old.layers.channels.owed self.new.sent) }
         ensures none { OnErr result (self.new.step ≡ Step.More) }
         ensures failed { IfErr result (λ fault. IsFault self.old.machine fault self.new.machine) }
         ensures lacks { IfErr result (λ fault. fault ≡ Fault.Memory → FrontLacks P.Sealing.crypto (record { agreement = record { point = P.Agreement.public_of self.old.agreement; shared = P.Agreement.shared_of self.old.agreement }; host_key = P.HostSigner.key_of self.old.host_signer; host_signature = P.HostSigner.signature_of self.old.host_signer }) (U.verdicts self.old.user) self.old.machine self.old.layers (begun_of self.old.machine) bytes.now) }

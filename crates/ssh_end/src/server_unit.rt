@@ -1,11 +1,13 @@
 //! Lines and packets that a server takes.
 
-ghost use Rattle.std.specs.Prelude.{◌≡◌, ◌<◌, ◌≤◌, ◌++◌, IfErr, IfOk, OnErr, false, length, map, take, true};
+ghost use Rattle.std.specs.Prelude.{◌≡◌, ◌<◌, ◌≤◌, ◌++◌, IfErr, IfOk, List, OnErr, [], false, length, map, take, true};
+ghost use Rattle.ssh_model.specs.Channels.Kept.{DueReply};
 ghost use Rattle.ssh_model.specs.Sessions.Turns.{number_of};
 ghost use Rattle.ssh_model.specs.Side as model;
 ghost use Rattle.ssh_transport_machine.specs.Standing.{Stands};
 ghost use Rattle.ssh_transport_server.specs.Transport.{begun_of};
 ghost use Rattle.ssh_end.specs.Effects.{IsOver, IsReady, is_whole};
+ghost use Rattle.ssh_end.specs.Beside.{channels_behind};
 ghost use Rattle.ssh_end.specs.Owed.{Extends};
 ghost use Rattle.ssh_end.specs.ServerUnits.{GoLacks, Goes, GoesUp, ServerGoes, TurnLacks, UpLacks};
 
@@ -37,6 +39,7 @@ fn go_on<S: Sealing, F: Filler + Drop, J: UserJudge>(
 ) -> Result<Step, AllocError>
     requires ready { IsReady machine.old turn }
     ensures goes { IfOk result (λ step. Goes S.crypto (J.verdicts judge.now) turn machine.old layers.old step machine.new layers.new (record { before = out.old.items; after = out.new.items; listed = map (λ v. v.items) sent.old.items; relisted = map (λ v. v.items) sent.new.items })) }
+    ensures numbered { IfOk result (λ step. numbers.new.items ≡ numbers.old.items ++ channels_behind step layers.old.channels.owed) }
     ensures more { IfOk result (λ step. step ≡ Step.More → turn ≡ TransportTurn.More) }
     ensures lacks { OnErr result (GoLacks (J.verdicts judge.now) turn machine.old layers.old) }
     ensures dead { OnErr result (machine.new.kept.dead ≡ true) }
@@ -72,6 +75,7 @@ fn go_up<S: Sealing, F: Filler + Drop, J: UserJudge>(
     requires above { 50 ≤ number_of machine.old.receiver.payload }
     requires alive { machine.old.kept.dead ≡ false }
     ensures goes { IfOk result (λ step. GoesUp S.crypto (J.verdicts judge.now) machine.old layers.old step machine.new layers.new (record { before = out.old.items; after = out.new.items; listed = map (λ v. v.items) sent.old.items; relisted = map (λ v. v.items) sent.new.items })) }
+    ensures behind { IfOk result (λ step. (owed : List DueReply) → channels_behind step owed ≡ []) }
     ensures whole { IfOk result (λ step. step ≡ Step.More → ⊥) }
     ensures lacks { OnErr result (UpLacks (J.verdicts judge.now) machine.old layers.old) }
     ensures dead { OnErr result (machine.new.kept.dead ≡ true) }
@@ -107,6 +111,7 @@ pub fn advance_server<S: Sealing, F: Filler + Drop, A: Agreement, H: HostSigner,
     ensures progress { machine.old.kept.dead ≡ false → 0 < length bytes.now → 0 < result.0 }
     ensures more { IfOk result.1 (λ step. step ≡ Step.More → result.0 ≡ length bytes.now) }
     ensures goes { IfOk result.1 (λ step. ServerGoes S.crypto (record { agreement = record { point = A.public_of agreement.now; shared = A.shared_of agreement.now }; host_key = H.key_of signer.now; host_signature = H.signature_of signer.now }) (J.verdicts judge.now) machine.old layers.old (begun_of machine.old ++ take result.0 bytes.now) step machine.new layers.new (record { before = out.old.items; after = out.new.items; listed = map (λ v. v.items) sent.old.items; relisted = map (λ v. v.items) sent.new.items })) }
+    ensures numbered { IfOk result.1 (λ step. numbers.new.items ≡ numbers.old.items ++ channels_behind step layers.old.channels.owed) }
     ensures failed { IfErr result.1 (λ fault. IsOver machine.old fault machine.new) }
     ensures lacks { IfErr result.1 (λ fault. fault ≡ TransportFault.Memory → TurnLacks S.crypto (record { agreement = record { point = A.public_of agreement.now; shared = A.shared_of agreement.now }; host_key = H.key_of signer.now; host_signature = H.signature_of signer.now }) (J.verdicts judge.now) machine.old layers.old (begun_of machine.old ++ take result.0 bytes.now)) }
     ensures out { OnErr result.1 (out.new.items ≡ out.old.items) }

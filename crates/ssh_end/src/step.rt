@@ -1,5 +1,8 @@
 //! What an end did in a turn, without the texts.
 
+ghost use Rattle.std.specs.Prelude.{◌≡◌};
+ghost use Rattle.ssh_end.specs.Beside.{channel_of};
+
 use ssh_types::Refusal;
 
 // What an end did with the bytes of one line or one packet.
@@ -20,7 +23,9 @@ pub enum Step {
 
 impl Step {
     // The channel of what was taken, which is that of what was sent at once.
-    pub fn channel(self) -> Option<u32> {
+    pub fn channel(self) -> Option<u32>
+        ensures { result ≡ channel_of self }
+    {
         match self {
             Step::Took(took) => took.channel,
             _ => None,

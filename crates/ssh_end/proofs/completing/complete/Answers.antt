@@ -1,7 +1,9 @@
-use Rattle.std.proofs.Common.{◌≡◌, List, [], ◌∷◌, append-nil, length, map, refl, sym, ◌∙◌}
+use Rattle.std.proofs.Common.{◌≡◌, ◌++◌, List, [], ◌∷◌, ap, append-nil, length, map, refl, sym, ◌∙◌}
 use Rattle.ssh_model.specs.End.Payloads.{GivesOwed}
 use Rattle.ssh_model.specs.TransportLayer.Turns.{PutsPackets}
 use Rattle.ssh_end.specs.Completing.{Completing}
+use Rattle.ssh_end.specs.Beside.{channels_behind}
+use Rattle.ssh_end.proofs.Owing.{all_behind}
 use Rattle.ssh_end.proofs.completing.complete.Goals as goal
 
 none : {A : Type 0} (l : List A) → length l ≡ 0 → l ≡ []
@@ -22,3 +24,9 @@ returns-then-owed-eq0-clause-completing g c =
       };
       kept = λ side. refl;
     }) c.completed.ensures
+
+pub returns-clause-numbered : goal.returns-clause-numbered
+returns-clause-numbered g c =
+    let given = c.in_ok-give_owed.ensures.given in
+    all_behind c.args.channels.now c.give_owed.new.channels c.args.numbers.now.items c.give_owed.new.numbers.items given.items given.gives given.none_left c.in_ok-give_owed.ensures.numbered
+    ∙ ap (λ d. c.args.numbers.now.items ++ channels_behind d c.args.channels.now.owed) (sym c.completed-done.ensures)
