@@ -1,6 +1,5 @@
 -- The channels of payloads that were sent.
 use Rattle.std.proofs.Common.{◌≡◌, ℕ, List, [], ◌∷◌, refl, ap, ◌∙◌, Option, Some, None}
-use Rattle.std.specs.Prelude.{Ok}
 use Rattle.ssh_auth.specs.declared.answer.ServerAnswer.{ServerAnswer}
 use Rattle.ssh_auth.specs.declared.answer.ServerAnswer.TheVariants as request
 use Rattle.ssh_model.specs.Channels.Kept.{DueReply}
@@ -12,7 +11,6 @@ use Rattle.ssh_end.specs.Beside.{channels_beside, channels_given}
 use Rattle.ssh_end.specs.Owed.{channels_sent}
 use Rattle.ssh_end.specs.Told.{telling_of}
 use Rattle.ssh_end.specs.declared.asking.outcome.AskStep.{AskStep}
-use Rattle.ssh_end.specs.declared.step.Step.{Step}
 
 -- ---- asks
 

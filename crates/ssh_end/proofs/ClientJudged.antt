@@ -1,11 +1,11 @@
 -- What the layers of a client make of a payload is what the client of a session makes of it.
-use Rattle.std.proofs.Common.{◌≡◌, ℕ, ◌≤◌, Bool, true, false, List, [], ◌∷◌, refl, ap, sym, ◌∙◌, subst, Option, Some, None}
+use Rattle.std.proofs.Common.{◌≡◌, ℕ, Bool, true, false, List, [], ◌∷◌, refl, ap, sym, ◌∙◌, subst, Option, Some, None}
 use Rattle.std.specs.Option.{option_map}
 use Rattle.ssh_model.specs.Side.{Side.Client}
 use Rattle.ssh_model.specs.Wire.Message.{Msg, Msg.Unimplemented}
 use Rattle.ssh_model.specs.Authentication.Kept as kept
 use Rattle.ssh_model.specs.Authentication.Kept.{Answered, ClientTakes}
-use Rattle.ssh_model.specs.Authentication.Summary.{items_of, sent_with}
+use Rattle.ssh_model.specs.Authentication.Summary.{items_of}
 use Rattle.ssh_model.specs.Channels.Kept.{Channels, DueReply, DueReply.AnswersClose, DueReply.RefusesOpen, Takes}
 use Rattle.ssh_model.specs.Channels.Summary.{reply_sent, told}
 use Rattle.ssh_model.specs.End.Payloads.{AnswersAbove, RefusesAbove, reply_items}
@@ -18,9 +18,8 @@ use Rattle.ssh_auth.specs.Asking.{client_answered}
 use Rattle.ssh_auth.specs.declared.answer.ClientAnswer.{ClientAnswer}
 use Rattle.ssh_auth.specs.declared.answer.ClientAnswer.TheVariants as request
 use Rattle.ssh_channels.specs.Values.{taken_of}
-use Rattle.ssh_channels.specs.declared.fact.Taken as channel
 use Rattle.ssh_transport_machine.specs.State.{State, last_number}
-use Rattle.ssh_end.specs.Above.{AnsweredAbove, Awaits, IsBeneath, IsMade, SpellsReply, after_reply, after_success_where}
+use Rattle.ssh_end.specs.Above.{AnsweredAbove, Awaits, IsMade, SpellsReply, after_reply, after_success_where}
 use Rattle.ssh_end.specs.ClientAbove.{IsTaken, RefusesPayload, succeeds, took_by}
 use Rattle.ssh_end.specs.ClientLayers.{LayerRow, Layers, LayersRefuse, LayersTake, message_of, probes}
 use Rattle.ssh_end.specs.ClientSessions.{Accepts, end_of}
@@ -32,6 +31,7 @@ use Rattle.ssh_end.specs.declared.client_layers.ClientLayerAnswer.TheVariants as
 use Rattle.ssh_end.specs.declared.step.TookStep.{TookStep}
 use Rattle.ssh_end.proofs.ClientSessions.{accepts, refuses}
 use Rattle.ssh_end.proofs.Judging.{ChannelFacts, beneath_is, payload_in, reply_is_sent, reply_replied}
+use Rattle.ssh_end.proofs.SendingOn.{reply_on}
 
 -- ---- what each message makes of the transport
 
@@ -127,6 +127,8 @@ module _ {K : Type 0} (p : Parties K) (s : Transport K) (m : State K) (old : Lay
         record {
           message = message;
           sent = [];
+          on = refl;
+          behind = λ owed. refl;
           reads = y.reads;
           unrefused = y.unrefused;
           answers = subst (λ (l : List Item). AnswersAbove p (end_of s old) message None l (OfClient new.authentication) new.channels) (items_are g ∙ ap (λ (f : Option Fact). told f []) fact) y.answers;
@@ -146,6 +148,8 @@ module _ {K : Type 0} (p : Parties K) (s : Transport K) (m : State K) (old : Lay
           unrefused = y.unrefused;
           answers = subst (λ (f : Option Fact). AnswersAbove p (end_of s old) message (taken_of g).channel (told f (reply_items (taken_of g).reply (payload_in reply))) (OfClient new.authentication) new.channels) fact (y.answers (payload_in reply));
           are_sent = reply_is_sent (payload_in reply) (taken_of g).reply;
+          on = reply_on (beneath s).is_blocked old.channels message (taken_of g) new.channels z.row (payload_in reply);
+          behind = λ owed. refl;
           probing = refl;
           replied = reply_replied m (taken_of g).reply reply x;
           kept = kept_by_reply (after_above Client message s) (fact_by message (taken_of g).channel) (taken_of g).reply reply m x ∙ ap (after_reply reply) (after_channel s (beneath s).is_blocked old.channels message (taken_of g) new.channels z.row);
@@ -157,6 +161,8 @@ module _ {K : Type 0} (p : Parties K) (s : Transport K) (m : State K) (old : Lay
         record {
           message = message;
           sent = Sent None (Unimplemented s.taking.number) reply ∷ [];
+          on = refl;
+          behind = λ owed. refl;
           reads = y.reads;
           unrefused = y.unrefused;
           answers = subst (λ (f : Option Fact). AnswersAbove p (end_of s old) message None (told f (Sent None (Unimplemented s.taking.number) reply ∷ [])) (OfClient new.authentication) new.channels) (ap (λ (w : Msg). fact_by w None) (sym z.message_is)) (y.answers reply awaits.few);

@@ -42,6 +42,8 @@ use Rattle.ssh_end.specs.declared.step.Step.{Step}
 use Rattle.ssh_end.specs.declared.step.Step.TheVariants as step
 use Rattle.ssh_end.specs.declared.step.Telling.TheVariants as telling
 use Rattle.ssh_end.proofs.Finishing.{sent_then_took}
+use Rattle.ssh_end.proofs.SendingOn.{transport_on}
+use Rattle.ssh_end.proofs.SendingOwed.{completed_on}
 use Rattle.ssh_end.proofs.ClientTurnsWhole.{kept_after}
 use Rattle.ssh_end.proofs.Transporting.{refused}
 use Rattle.ssh_end.proofs.TurningEnds.{ending_read, lists_owed, owed_are_sent}
@@ -85,6 +87,7 @@ module _ {K : Type 0} (laws : TurningLaws K) (p : Parties K) (history : List Ite
         items = items;
         more = more;
         shows = subst (λ (f : Option Fact). steps.Shows payload (step_given (outcome.Done effect.Kexinit)) (told f (items_sent said) ++ Took None message payload ∷ [])) silent (steps.Shows.took None false telling.Message message (items_sent said) is sent);
+        sends_on = λ old older live. transport_on said (Took None message payload ∷ []) refl refl;
         turned = subst (λ (a : Authentication). EndTurned p Client history (OnUnit p Client history bytes) items more (record { transport = new; authentication = a; channels = layers.channels })) same
             (laws.opened p Client history e asking.sums alive bytes payload items more _ unit (laws.layered p Client history e asking.sums alive payload items more new below turned));
         parts = parts;
@@ -119,6 +122,7 @@ module _ {K : Type 0} (laws : TurningLaws K) (p : Parties K) (history : List Ite
           more = ends.more ++ x.puts.more;
           shows = steps.Shows.took None false (telling.Completed position) ends.message (x.items ++ items_sent ends.sent)
               (ending_read p x.items _ Client history ends.message payload _ (ends.ended.answer x.items) ends.ended.welcomes.message_is) (owed_are_sent layers.channels channels x.items x.gives ends.sent);
+          sends_on = completed_on p Client history e asking.sums alive channels x.items x.gives x.none_left ends.sent position ends.message payload;
           turned = subst (λ (t : Transport K). EndTurned p Client history (OnUnit p Client history bytes) items (ends.more ++ x.puts.more) (record { transport = t; authentication = OfClient layers.authentication; channels = channels })) (sym (x.kept Client))
               (laws.opened p Client history e asking.sums alive bytes payload _ _ _ unit
               (laws.ended p Client history e asking.sums alive ends.message payload position (items_sent ends.sent) ends.more x.puts.more between x.items channels ends.ended live x.gives x.none_left x.puts.packets));

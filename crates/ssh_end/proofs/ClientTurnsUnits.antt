@@ -1,5 +1,5 @@
 -- What a client's end does with a line, and with a packet that both roles take alike, is what the client of a session does.
-use Rattle.std.proofs.Common.{◌≡◌, ◌++◌, ℕ, false, List, [], ◌∷◌, None, append-nil, ap, sym, ◌∙◌, subst}
+use Rattle.std.proofs.Common.{◌≡◌, ◌++◌, ℕ, false, List, [], ◌∷◌, None, append-nil, refl, ap, sym, ◌∙◌, subst}
 use Rattle.ssh_model.specs.Side.{Side.Client}
 use Rattle.ssh_model.specs.End.State.{EndState}
 use Rattle.ssh_model.specs.End.Summary.{EndSumsUp, EndTurned}
@@ -33,6 +33,7 @@ use Rattle.ssh_end.proofs.ClientTurnsWhole.{kept_after}
 use Rattle.ssh_end.proofs.Transporting.{shared}
 use Rattle.ssh_end.proofs.TurningLaws.{TurningLaws}
 use Rattle.ssh_end.proofs.TurningWhole.{is_turn}
+use Rattle.ssh_end.proofs.SendingOn.{refusal_on}
 
 module _ {K : Type 0} (laws : TurningLaws K) (p : Parties K) (history : List Item) (s : Transport K) (layers : Layers) (sums : EndSumsUp p Client history (end_of s layers)) (alive : s.dead ≡ false) (bytes : List ℕ) where
   abbrev e : EndState K
@@ -49,6 +50,7 @@ module _ {K : Type 0} (laws : TurningLaws K) (p : Parties K) (history : List Ite
     items = Item.TookOtherLine x.text ∷ [];
     more = [];
     shows = steps.Shows.other_line x.text;
+    sends_on = λ old older live. refl;
     turned = laws.other p Client history e sums alive bytes x.text new x.unit x.sums;
     parts = quiet.out ∙ sym (append-nil o.before);
     lists = quiet.sent ∙ sym (append-nil o.listed);
@@ -59,6 +61,7 @@ module _ {K : Type 0} (laws : TurningLaws K) (p : Parties K) (history : List Ite
     items = Item.TookLine x.text ∷ [];
     more = [];
     shows = steps.Shows.version_line x.text;
+    sends_on = λ old older live. refl;
     turned = laws.version p Client history e sums alive bytes x.text new x.unit x.sums;
     parts = quiet.out ∙ sym (append-nil o.before);
     lists = quiet.sent ∙ sym (append-nil o.listed);
@@ -72,6 +75,7 @@ module _ {K : Type 0} (laws : TurningLaws K) (p : Parties K) (history : List Ite
         items = refusal_items (refusal_of given) None [];
         more = [];
         shows = steps.Shows.refused given None [];
+        sends_on = λ old older live. refl;
         turned = subst (λ (r : Refusal). EndTurned p Client history (OnUnit p Client history bytes) (refusal_items r None []) [] (kept_after layers (outcome.Refused given) new)) (sym same) turned;
         parts = quiet.out ∙ sym (append-nil o.before);
         lists = quiet.sent ∙ sym (append-nil o.listed);
@@ -84,6 +88,7 @@ module _ {K : Type 0} (laws : TurningLaws K) (p : Parties K) (history : List Ite
     items = refusal_items (refusal_of why) None x.said;
     more = x.more;
     shows = steps.Shows.refused why None x.said;
+    sends_on = λ old older live. refusal_on x.said (refusal_of why) None;
     turned = laws.refused_packet p Client history e sums alive bytes (refusal_of why) _ x.more (kept_after layers (outcome.Refused why) new) x.unit x.turned x.turned.sums.dead_is;
     parts = x.parts;
     lists = x.lists ∙ ap (λ l. o.listed ++ payloads_of l) (sym (refusal_sends x.said (refusal_of why) None));

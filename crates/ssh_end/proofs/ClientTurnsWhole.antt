@@ -18,7 +18,7 @@ use Rattle.ssh_end.specs.Effects.{is_accepted, is_whole, opened_where, step_give
 use Rattle.ssh_end.specs.ClientLayers.{Layers}
 use Rattle.ssh_end.specs.ClientUnits.{Goes, GoesWhole, opened_layers}
 use Rattle.ssh_end.specs.ClientSessions.{end_of}
-use Rattle.ssh_end.specs.Steps.{Shows, UnitTurned}
+use Rattle.ssh_end.specs.Steps.{SendsOn, Shows, UnitTurned}
 use Rattle.ssh_end.specs.declared.step.Step.{Step}
 
 -- ---- the layers
@@ -63,6 +63,7 @@ whole_turn {K} p history bytes payload given between layers done new later o mid
       items = y.items;
       more = y.more;
       shows = subst (λ (d : Step). Shows payload d y.items) (sym x.shown) y.shows;
+      sends_on = subst (λ (d : Step). SendsOn p Client history y.items d) (sym x.shown) y.sends_on;
       turned = subst (λ (e : EndState K). EndTurned p Client history (OnUnit p Client history bytes) y.items y.more e) ends y.turned;
       parts = x.out ∙ y.parts;
       lists = x.lists ∙ y.lists;

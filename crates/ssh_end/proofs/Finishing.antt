@@ -1,5 +1,5 @@
 -- What an end does with a payload from 50 on is what an end of a session does with it.
-use Rattle.std.proofs.Common.{◌≡◌, ℕ, ◌≤◌, ◌<◌, ◌^◌, ◌+◌, Bool, true, false, List, [], ◌∷◌, ◌++◌, append-nil, refl, ap, sym, ◌∙◌, subst, Option, Some, None}
+use Rattle.std.proofs.Common.{◌≡◌, ℕ, Bool, false, List, [], ◌∷◌, ◌++◌, append-nil, refl, ap, sym, ◌∙◌, subst, Option, Some, None}
 use Rattle.std.specs.Option.{option_map}
 use Rattle.ssh_model.specs.Side.{Side}
 use Rattle.ssh_model.specs.Wire.Message.{Msg, IsPayload}
@@ -10,14 +10,14 @@ use Rattle.ssh_model.specs.Channels.Kept.{Channels}
 use Rattle.ssh_model.specs.Channels.Summary.{told}
 use Rattle.ssh_model.specs.End.Payloads as payloads
 use Rattle.ssh_model.specs.End.Payloads.{AnswersAbove, RefusesAbove, TakesPayload}
-use Rattle.ssh_model.specs.End.State.{Authentication, EndState, after_above, after_items, probes}
+use Rattle.ssh_model.specs.End.State.{Authentication, EndState, after_above, after_items}
 use Rattle.ssh_model.specs.End.Summary.{EndSumsUp, EndTurned}
 use Rattle.ssh_model.specs.Sessions.Items.{Fact, Item, Item.Sent, Item.Took, Item.Refused, Spelled, Spelled.SpelledBy, messages_sent}
 use Rattle.ssh_model.specs.Sessions.Parties.{Parties}
 use Rattle.ssh_model.specs.Sessions.Refusals.{Refusal, Refusal.NumberSpent}
 use Rattle.ssh_model.specs.Sessions.Turns.{OnPayload, OnUnit, stage}
 use Rattle.ssh_model.specs.TransportLayer.Directions.{Direction}
-use Rattle.ssh_model.specs.TransportLayer.Kept.{Transport, after_sent, after_taken}
+use Rattle.ssh_model.specs.TransportLayer.Kept.{Transport, after_taken}
 use Rattle.ssh_model.specs.TransportLayer.Summary.{items_sent}
 use Rattle.ssh_model.specs.TransportLayer.Turns as turns
 use Rattle.ssh_model.specs.TransportLayer.Turns.{PutsPackets, SaysWhy, refusal_items}
@@ -27,6 +27,7 @@ use Rattle.ssh_types.specs.Refusals.{refusal_of}
 use Rattle.ssh_types.specs.declared.refusal.Refusal as code
 use Rattle.ssh_types.specs.declared.refusal.Refusal.TheVariants as refusal
 use Rattle.ssh_end.specs.Above.{AnsweredAbove, Awaits, Finished, FinishedAnswer, FinishedRefusal, FinishedSpent, IsReplied, Judged, PutsReply, SpentAbove, after_reply, after_success_where}
+use Rattle.ssh_end.specs.Beside.{channels_beside, last_channels}
 use Rattle.ssh_end.specs.Steps as steps
 use Rattle.ssh_end.specs.Steps.{AreSent, UnitTurned, fact_told}
 use Rattle.ssh_end.specs.declared.above.Judgement.{Judgement}
@@ -34,6 +35,7 @@ use Rattle.ssh_end.specs.declared.above.Judgement.TheVariants as judged
 use Rattle.ssh_end.specs.declared.step.Step.{Step}
 use Rattle.ssh_end.specs.declared.step.Step.TheVariants as step
 use Rattle.ssh_end.specs.declared.step.TookStep.{TookStep}
+use Rattle.ssh_end.proofs.SendingOn.{refusal_on, turn_on}
 
 -- ---- items
 
@@ -111,6 +113,10 @@ module _ {K : Type 0} (p : Parties K) (side : Side) (history : List Item) (e : E
         items = told fact x.sent ++ Took given.channel x.message payload ∷ [];
         more = z.more;
         shows = steps.Shows.took given.channel given.probing given.telling x.message x.sent (subst (λ (b : Bool). IsPayload b x.message payload) (sym x.probing) x.reads.message_is) x.are_sent;
+        sends_on = λ old older live. turn_on fact x.sent x.are_sent given.channel x.message payload
+            ∙ (x.on
+            ∙ (ap (λ (l : List Spelled). channels_beside (payloads_of l) (given.channel ∷ [])) (sym (turn_sends fact x.sent x.are_sent given.channel x.message payload))
+            ∙ ap (λ (l : List (Option ℕ)). channels_beside (payloads_of (messages_sent (told fact x.sent ++ Took given.channel x.message payload ∷ []))) (last_channels (given.channel ∷ []) l)) (sym (x.behind old.channels.owed))));
         turned = subst (λ (t : Transport K). EndTurned p side history (OnUnit p side history unit) (told fact x.sent ++ Took given.channel x.message payload ∷ []) z.more (record { transport = t; authentication = authentication; channels = channels })) kept
             (opened _ _ _ (taken _ _ _ (payloads.TakesPayload.above x.message given.channel x.reads x.unrefused x.answers
             (subst (λ (l : List Spelled). PutsPackets p.crypto e.transport.sending l z.more) (sym (told_sends fact x.sent)) z.puts))));
@@ -126,6 +132,7 @@ module _ {K : Type 0} (p : Parties K) (side : Side) (history : List Item) (e : E
         items = refusal_items (refusal_of why) (Some payload) r.said;
         more = r.more;
         shows = steps.Shows.refused why (Some payload) r.said;
+        sends_on = λ old older live. refusal_on r.said (refusal_of why) (Some payload);
         turned = opened _ _ _ (taken _ _ _ (payloads.TakesPayload.refused_above (refusal_of why) (record { transport = new.kept; authentication = authentication; channels = channels }) x
             (says_before p.crypto e.transport (refusal_of why) r.said r.more (subst (λ (t : Transport K). SaysWhy p.crypto t (refusal_of why) r.said r.more) awaits.kept r.says)) r.dead));
         parts = r.parts;
@@ -138,6 +145,7 @@ module _ {K : Type 0} (p : Parties K) (side : Side) (history : List Item) (e : E
     items = refusal_items NumberSpent (Some payload) [];
     more = [];
     shows = steps.Shows.refused refusal.NumberSpent (Some payload) [];
+    sends_on = λ old older live. refl;
     turned = opened _ _ _ (taken _ _ _ (payloads.TakesPayload.above_spent x.message x.channel (record { transport = new.kept; authentication = authentication; channels = channels }) x.reads x.unrefused x.answers x.spelled x.some x.none_left y.dead));
     parts = y.quiet.out ∙ sym (append-nil o.before);
     lists = y.quiet.sent ∙ sym (append-nil o.listed);

@@ -11,6 +11,8 @@ pub mod Owing
 pub mod Facts
 pub mod Turns
 pub mod Beside
+pub mod SendingOn
+pub mod SendingOwed
 pub mod Fronts
 pub mod Leftover
 pub mod Lacking

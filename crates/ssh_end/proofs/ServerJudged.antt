@@ -1,17 +1,16 @@
 -- What the layers of a server make of a payload is what the server of a session makes of it.
-use Rattle.std.proofs.Common.{◌≡◌, ℕ, ◌≤◌, ◌<◌, ◌^◌, Bool, true, false, List, [], ◌∷◌, ◌++◌, refl, ap, sym, ◌∙◌, subst, Option, Some, None}
+use Rattle.std.proofs.Common.{◌≡◌, ℕ, Bool, List, [], ◌∷◌, refl, ap, sym, ◌∙◌, subst, Option, Some, None}
 use Rattle.std.specs.Option.{option_map}
 use Rattle.ssh_model.specs.Side.{Side.Server}
 use Rattle.ssh_model.specs.Wire.Message.{Msg, Msg.Unimplemented}
-use Rattle.ssh_model.specs.Authentication.Kept as kept
 use Rattle.ssh_model.specs.Authentication.Kept.{ServerTakes}
-use Rattle.ssh_model.specs.Authentication.Requests.{Judge, judge_of}
-use Rattle.ssh_model.specs.Authentication.Summary.{items_of, sent_with, told_over}
-use Rattle.ssh_model.specs.Channels.Kept.{Channels, DueReply, DueReply.AnswersClose, DueReply.RefusesOpen, Takes}
+use Rattle.ssh_model.specs.Authentication.Requests.{judge_of}
+use Rattle.ssh_model.specs.Authentication.Summary.{sent_with}
+use Rattle.ssh_model.specs.Channels.Kept.{DueReply, DueReply.AnswersClose, DueReply.RefusesOpen}
 use Rattle.ssh_model.specs.Channels.Summary.{reply_sent, told}
 use Rattle.ssh_model.specs.End.Payloads.{AnswersAbove, RefusesAbove, reply_items}
-use Rattle.ssh_model.specs.End.State.{Authentication.OfServer, after_above, after_items}
-use Rattle.ssh_model.specs.Sessions.Items.{Fact, Item, Item.Sent, messages_sent}
+use Rattle.ssh_model.specs.End.State.{Authentication.OfServer, after_items}
+use Rattle.ssh_model.specs.Sessions.Items.{Fact, Item, Item.Sent}
 use Rattle.ssh_model.specs.Sessions.Parties.{Parties}
 use Rattle.ssh_model.specs.Sessions.Refusals.{Refusal}
 use Rattle.ssh_model.specs.TransportLayer.Kept.{Transport, after_taken}
@@ -19,24 +18,21 @@ use Rattle.ssh_auth.specs.Serving.{answered}
 use Rattle.ssh_auth.specs.declared.answer.ServerAnswer.{ServerAnswer}
 use Rattle.ssh_auth.specs.declared.answer.ServerAnswer.TheVariants as request
 use Rattle.ssh_channels.specs.Values.{taken_of}
-use Rattle.ssh_channels.specs.declared.fact.Taken.{Taken}
 use Rattle.ssh_transport_machine.specs.State.{State, last_number}
-use Rattle.ssh_types.specs.Refusals.{refusal_of}
-use Rattle.ssh_end.specs.Above.{AnsweredAbove, Awaits, IsAnswer, IsBeneath, IsMade, IsReplied, Judged, SpellsReply, after_reply, after_success_where}
+use Rattle.ssh_end.specs.Above.{AnsweredAbove, Awaits, IsMade, SpellsReply, after_reply, after_success_where}
 use Rattle.ssh_end.specs.Layer.{Beneath}
-use Rattle.ssh_end.specs.Layers.{AuthenticationTakes, ChannelsTake, LayerRow, Layers, LayersRefuse, LayersTake, message_of}
-use Rattle.ssh_end.specs.ServerAbove.{IsTaken, JudgesPayload, RefusesPayload, TakesPayload, accepts_user, took_by}
+use Rattle.ssh_end.specs.Layers.{LayerRow, Layers, LayersRefuse, LayersTake, message_of}
+use Rattle.ssh_end.specs.ServerAbove.{IsTaken, RefusesPayload, accepts_user, took_by}
 use Rattle.ssh_end.specs.Told.{telling_of}
 use Rattle.ssh_end.specs.Sessions.{Accepts, AreOf, beneath, end_of}
-use Rattle.ssh_end.specs.Steps.{AreSent, fact_by, fact_told}
-use Rattle.ssh_end.specs.declared.above.Judgement.{Judgement}
-use Rattle.ssh_end.specs.declared.above.Judgement.TheVariants as judged
+use Rattle.ssh_end.specs.Steps.{fact_by, fact_told}
 use Rattle.ssh_end.specs.declared.server_layers.ServerLayerAnswer.{ServerLayerAnswer}
 use Rattle.ssh_end.specs.declared.server_layers.ServerLayerAnswer.TheVariants as answer
 use Rattle.ssh_end.specs.declared.step.TookStep.{TookStep}
-use Rattle.ssh_end.specs.declared.step.Telling.TheVariants as telling
 use Rattle.ssh_end.proofs.Judging.{ServerFacts, ChannelFacts, are_replied, are_sent, beneath_is, is_told, payload_in, reply_is_sent, reply_replied}
 use Rattle.ssh_end.proofs.Sessions.{accepts, refuses}
+use Rattle.ssh_end.proofs.SendingOn.{reply_on, sent_with_on}
+use Rattle.ssh_end.proofs.Beside.{telling_behind}
 
 -- ---- what is kept
 
@@ -92,6 +88,8 @@ module _ {K : Type 0} (p : Parties K) (s : Transport K) (m : State K) (old : Lay
               ∙ ap (λ (f : Option Fact). told f (sent_with (payload_in reply) (answered p.server.methods g).message)) fact)
               (y.answers (payload_in reply));
           are_sent = are_sent (payload_in reply) (answered p.server.methods g).message;
+          on = sent_with_on (payload_in reply) (answered p.server.methods g).message;
+          behind = telling_behind g;
           probing = refl;
           replied = are_replied m (answered p.server.methods g).message reply spelled;
           kept = ap (λ (f : Option Fact). after_items Server (told f (sent_with (payload_in reply) (answered p.server.methods g).message)) (after_taken s)) (sym fact) ∙ kept_by s p.server.methods g message reply m spelled;
@@ -107,6 +105,8 @@ module _ {K : Type 0} (p : Parties K) (s : Transport K) (m : State K) (old : Lay
           unrefused = y.unrefused;
           answers = subst (λ (f : Option Fact). AnswersAbove p (end_of s old) message (taken_of g).channel (told f (reply_items (taken_of g).reply (payload_in reply))) (OfServer new.authentication.kept) new.channels) fact (y.answers (payload_in reply));
           are_sent = reply_is_sent (payload_in reply) (taken_of g).reply;
+          on = reply_on (beneath s).is_blocked old.channels message (taken_of g) new.channels z.row (payload_in reply);
+          behind = λ owed. refl;
           probing = refl;
           replied = reply_replied m (taken_of g).reply reply x;
           kept = ap (λ (f : Option Fact). after_items Server (told f (reply_items (taken_of g).reply (payload_in reply))) (after_taken s)) (sym fact) ∙ kept_by_reply s (taken_of g).fact (taken_of g).reply reply m x;
@@ -118,6 +118,8 @@ module _ {K : Type 0} (p : Parties K) (s : Transport K) (m : State K) (old : Lay
         record {
           message = message;
           sent = Sent None (Unimplemented s.taking.number) reply ∷ [];
+          on = refl;
+          behind = λ owed. refl;
           reads = y.reads;
           unrefused = y.unrefused;
           answers = subst (λ (f : Option Fact). AnswersAbove p (end_of s old) message None (told f (Sent None (Unimplemented s.taking.number) reply ∷ [])) (OfServer new.authentication.kept) new.channels) (ap (λ (w : Msg). fact_by w None) (sym z.message_is)) (y.answers reply awaits.few);

@@ -229,6 +229,7 @@ module _ {K : Type 0} (laws : TurningLaws K) (reads : ReadingLaws K) (below : Tr
           items = y.items;
           more = y.more;
           shows = y.shows;
+          sends_on = y.sends_on;
           turned = y.turned;
           parts = y.parts ∙ ap (λ (l : List ℕ). l ++ y.more) x.quiet.out;
           lists = y.lists ∙ ap (λ (l : List (List ℕ)). l ++ payloads_of (messages_sent y.items)) x.quiet.sent;

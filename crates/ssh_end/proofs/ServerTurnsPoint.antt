@@ -31,6 +31,7 @@ use Rattle.ssh_end.specs.declared.step.Step.{Step}
 use Rattle.ssh_end.specs.declared.step.Step.TheVariants as step
 use Rattle.ssh_end.specs.declared.step.Telling.TheVariants as telling
 use Rattle.ssh_end.proofs.Finishing.{sent_then_took}
+use Rattle.ssh_end.proofs.SendingOwed.{completed_on}
 use Rattle.ssh_end.proofs.ServerTurnsWhole.{kept_after}
 use Rattle.ssh_end.proofs.Transporting.{refused}
 use Rattle.ssh_end.proofs.TurningEnds.{ending_read, lists_owed, owed_are_sent}
@@ -74,6 +75,7 @@ module _ {K : Type 0} (laws : TurningLaws K) (p : Parties K) (history : List Ite
           more = ends.more ++ x.puts.more;
           shows = steps.Shows.took None false (telling.Completed position) ends.message (x.items ++ items_sent ends.sent)
               (ending_read p x.items _ Server history ends.message payload _ (ends.ended.answer x.items) ends.ended.welcomes.message_is) (owed_are_sent layers.channels channels x.items x.gives ends.sent);
+          sends_on = completed_on p Server history e serving.sums alive channels x.items x.gives x.none_left ends.sent position ends.message payload;
           turned = subst (λ (t : Transport K). EndTurned p Server history (OnUnit p Server history bytes) items (ends.more ++ x.puts.more) (record { transport = t; authentication = OfServer layers.authentication.kept; channels = channels })) (sym (x.kept Server))
               (laws.opened p Server history e serving.sums alive bytes payload _ _ _ unit
               (laws.ended p Server history e serving.sums alive ends.message payload position (items_sent ends.sent) ends.more x.puts.more between x.items channels ends.ended live x.gives x.none_left x.puts.packets));

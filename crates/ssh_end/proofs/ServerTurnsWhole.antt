@@ -19,7 +19,7 @@ use Rattle.ssh_end.specs.Effects.{is_requested, is_whole, opened_where, step_giv
 use Rattle.ssh_end.specs.Layers.{Layers}
 use Rattle.ssh_end.specs.ServerUnits.{Goes, GoesWhole, opened_layers}
 use Rattle.ssh_end.specs.Sessions.{AreOf, end_of}
-use Rattle.ssh_end.specs.Steps.{Shows, UnitTurned}
+use Rattle.ssh_end.specs.Steps.{SendsOn, Shows, UnitTurned}
 use Rattle.ssh_end.specs.declared.step.Step.{Step}
 
 -- ---- the layers
@@ -68,6 +68,7 @@ whole_turn {K} p history bytes payload given between layers done new later o mid
       items = y.items;
       more = y.more;
       shows = subst (λ (d : Step). Shows payload d y.items) (sym x.shown) y.shows;
+      sends_on = subst (λ (d : Step). SendsOn p Server history y.items d) (sym x.shown) y.sends_on;
       turned = subst (λ (e : EndState K). EndTurned p Server history (OnUnit p Server history bytes) y.items y.more e) ends y.turned;
       parts = x.out ∙ y.parts;
       lists = x.lists ∙ y.lists;

@@ -1,21 +1,15 @@
 -- What a transport makes of a unit alone is what an end of a session makes of it.
-use Rattle.std.proofs.Common.{◌≡◌, ℕ, ◌≤◌, ◌<◌, ◌^◌, ◌+◌, Bool, true, false, List, [], ◌∷◌, ◌++◌, append-nil, refl, ap, sym, ◌∙◌, subst, Option, Some, None}
+use Rattle.std.proofs.Common.{◌≡◌, ℕ, true, false, List, [], ◌∷◌, ◌++◌, refl, ap, sym, ◌∙◌, subst, Some, None}
 use Rattle.ssh_model.specs.Side.{Side, Side.Server}
 use Rattle.ssh_model.specs.Wire.Message.{Msg, Msg.KexInit, Msg.ServiceAccept, Msg.ServiceRequest, Msg.Unimplemented, Msg.Unknown, IsPayload}
-use Rattle.ssh_model.specs.Wire.Outcome.{Outcome.Opens, Outcome.OtherLine, Outcome.RefusedLine, Outcome.RefusedPacket, Outcome.VersionLine}
-use Rattle.ssh_model.specs.Wire.Unit.{IsUnit}
-use Rattle.ssh_model.specs.Authentication.Kept.{opened_client, opened_server}
 use Rattle.ssh_model.specs.End.Below.{AreBelow, opened_by_all}
 use Rattle.ssh_model.specs.End.State.{Authentication, Authentication.OfClient, Authentication.OfServer, EndState}
-use Rattle.ssh_model.specs.End.Summary.{EndSumsUp, EndTurned}
-use Rattle.ssh_model.specs.Sessions.Items.{Fact, Item, Item.Died, Item.Sent, Item.Took, Item.TookLine, Item.TookOtherLine, Spelled, Spelled.SpelledBy, messages_sent}
+use Rattle.ssh_model.specs.End.Summary.{EndTurned}
+use Rattle.ssh_model.specs.Sessions.Items.{Fact, Item, Item.Sent, Item.Took, Spelled, Spelled.SpelledBy, messages_sent}
 use Rattle.ssh_model.specs.Sessions.Parties.{Parties, offer_of}
-use Rattle.ssh_model.specs.Sessions.Phases.{has_line}
-use Rattle.ssh_model.specs.Sessions.Refusals.{Refusal}
-use Rattle.ssh_model.specs.Sessions.Turns.{OnPayload, OnUnit, stage}
+use Rattle.ssh_model.specs.Sessions.Turns.{OnUnit}
 use Rattle.ssh_model.specs.TransportLayer.Kept.{Transport}
-use Rattle.ssh_model.specs.TransportLayer.Summary.{SumsUp}
-use Rattle.ssh_model.specs.TransportLayer.Turns.{Turned, UnitRefused, refusal_items}
+use Rattle.ssh_model.specs.TransportLayer.Turns.{Turned, refusal_items}
 use Rattle.ssh_transport_machine.specs.Outcomes.{payload_outcome}
 use Rattle.ssh_transport_machine.specs.Puts.{Outs, payloads_of}
 use Rattle.ssh_transport_machine.specs.Shown as shown
@@ -30,11 +24,11 @@ use Rattle.ssh_types.specs.declared.refusal.Refusal as code
 use Rattle.ssh_types.specs.declared.refusal.Refusal.TheVariants as refusal
 use Rattle.ssh_end.specs.Effects.{opened_where, step_given}
 use Rattle.ssh_end.specs.Steps as steps
-use Rattle.ssh_end.specs.Steps.{Shows, UnitTurned}
-use Rattle.ssh_end.specs.declared.step.Step.{Step}
+use Rattle.ssh_end.specs.Steps.{SendsOn, Shows, UnitTurned}
 use Rattle.ssh_end.specs.declared.step.Step.TheVariants as step
 use Rattle.ssh_end.specs.declared.step.Telling.TheVariants as telling
 use Rattle.ssh_end.proofs.Finishing.{refusal_sends}
+use Rattle.ssh_end.proofs.SendingOn.{refusal_on}
 
 -- ---- SERVICE_ACCEPT
 
@@ -57,12 +51,13 @@ module _ {K : Type 0} (p : Parties K) (side : Side) (history : List Item) (e : E
   kept_after given new = record { transport = new; authentication = opened_where given e.authentication; channels = e.channels }
 
   module _ (items : List Item) (more : List ℕ) (new : Transport K) (turned : Turned p side history payload items more new) (o : Outs) (said : List Spelled) (parts : o.after ≡ o.before ++ more) (lists : o.relisted ≡ o.listed ++ payloads_of said) where
-    made : (given : TransportTurn) → Shows payload (step_given given) items → messages_sent items ≡ said → EndTurned p side history (OnUnit p side history unit) items more (kept_after given new) →
+    made : (given : TransportTurn) → Shows payload (step_given given) items → SendsOn p side history items (step_given given) → messages_sent items ≡ said → EndTurned p side history (OnUnit p side history unit) items more (kept_after given new) →
         UnitTurned p side history unit payload (step_given given) (kept_after given new) o
-    made given shows sent x = record {
+    made given shows on sent x = record {
       items = items;
       more = more;
       shows = shows;
+      sends_on = on;
       turned = x;
       parts = parts;
       lists = lists ∙ ap (λ (l : List Spelled). o.listed ++ payloads_of l) (sym sent);
@@ -76,45 +71,45 @@ module _ {K : Type 0} (p : Parties K) (side : Side) (history : List Item) (e : E
 
   told_of : (s : Transport K) (message : Msg) (fact : Fact) (is : IsPayload false message payload) (more : List ℕ) (new : Transport K) (o : Outs) → IsTold message fact → shown.Shows s payload turn.Told [] (Item.Told fact ∷ Took None message payload ∷ []) → Turned p side history payload (Item.Told fact ∷ Took None message payload ∷ []) more new →
       o.after ≡ o.before ++ more → o.relisted ≡ o.listed ++ [] → UnitTurned p side history unit payload (step_given (outcome.Done effect.Told)) (kept_after (outcome.Done effect.Told) new) o
-  told_of s message fact is more new o (IsTold.ignore body) x turned parts lists = made _ more new turned o [] parts lists (outcome.Done effect.Told) (steps.Shows.took None false telling.Message message [] is tt) refl (live _ more new turned o [] parts lists (outcome.Done effect.Told) (tt, (tt, tt)) refl)
-  told_of s message fact is more new o (IsTold.unimplemented number) x turned parts lists = made _ more new turned o [] parts lists (outcome.Done effect.Told) (steps.Shows.took None false telling.Message message [] is tt) refl (live _ more new turned o [] parts lists (outcome.Done effect.Told) (tt, (tt, tt)) refl)
-  told_of s message fact is more new o (IsTold.debug display text language) x turned parts lists = made _ more new turned o [] parts lists (outcome.Done effect.Told) (steps.Shows.took None false telling.Message message [] is tt) refl (live _ more new turned o [] parts lists (outcome.Done effect.Told) (tt, (tt, tt)) refl)
-  told_of s message fact is more new o (IsTold.extensions announced) x turned parts lists = made _ more new turned o [] parts lists (outcome.Done effect.Told) (steps.Shows.took None false telling.Message message [] is tt) refl (live _ more new turned o [] parts lists (outcome.Done effect.Told) (tt, (tt, tt)) refl)
+  told_of s message fact is more new o (IsTold.ignore body) x turned parts lists = made _ more new turned o [] parts lists (outcome.Done effect.Told) (steps.Shows.took None false telling.Message message [] is tt) (λ old older live. refl) refl (live _ more new turned o [] parts lists (outcome.Done effect.Told) (tt, (tt, tt)) refl)
+  told_of s message fact is more new o (IsTold.unimplemented number) x turned parts lists = made _ more new turned o [] parts lists (outcome.Done effect.Told) (steps.Shows.took None false telling.Message message [] is tt) (λ old older live. refl) refl (live _ more new turned o [] parts lists (outcome.Done effect.Told) (tt, (tt, tt)) refl)
+  told_of s message fact is more new o (IsTold.debug display text language) x turned parts lists = made _ more new turned o [] parts lists (outcome.Done effect.Told) (steps.Shows.took None false telling.Message message [] is tt) (λ old older live. refl) refl (live _ more new turned o [] parts lists (outcome.Done effect.Told) (tt, (tt, tt)) refl)
+  told_of s message fact is more new o (IsTold.extensions announced) x turned parts lists = made _ more new turned o [] parts lists (outcome.Done effect.Told) (steps.Shows.took None false telling.Message message [] is tt) (λ old older live. refl) refl (live _ more new turned o [] parts lists (outcome.Done effect.Told) (tt, (tt, tt)) refl)
 
   -- what both roles do alike with a payload
   pub shared : (s : Transport K) (done : PayloadTurn) (said : List Spelled) (items : List Item) (more : List ℕ) (new : Transport K) (o : Outs) (number : ℕ) → shown.Shows s payload done said items → Turned p side history payload items more new →
       o.after ≡ o.before ++ more → o.relisted ≡ o.listed ++ payloads_of said →
       UnitTurned p side history unit payload (step_given (payload_outcome done number)) (kept_after (payload_outcome done number) new) o
   shared s done said items more new o number (shown.Shows.refused why) turned parts lists =
-      made _ more new turned o said parts lists (outcome.Refused why) (steps.Shows.refused why (Some payload) said) (refusal_sends said (refusal_of why) (Some payload)) (over _ more new turned o said parts lists (outcome.Refused why) turned.sums.dead_is)
+      made _ more new turned o said parts lists (outcome.Refused why) (steps.Shows.refused why (Some payload) said) (λ old older live. refusal_on said (refusal_of why) (Some payload)) (refusal_sends said (refusal_of why) (Some payload)) (over _ more new turned o said parts lists (outcome.Refused why) turned.sums.dead_is)
   shared s done said items more new o number shown.Shows.skipped turned parts lists =
-      made _ more new turned o [] parts lists (outcome.Done effect.Skipped) steps.Shows.skipped refl (live _ more new turned o [] parts lists (outcome.Done effect.Skipped) (tt, (tt, tt)) refl)
+      made _ more new turned o [] parts lists (outcome.Done effect.Skipped) steps.Shows.skipped (λ old older live. refl) refl (live _ more new turned o [] parts lists (outcome.Done effect.Skipped) (tt, (tt, tt)) refl)
   shared s done said items more new o number (shown.Shows.disconnected reason description language is) turned parts lists =
-      made _ more new turned o [] parts lists (outcome.Done effect.Disconnected) (steps.Shows.disconnected reason description language is) refl (over _ more new turned o [] parts lists (outcome.Done effect.Disconnected) turned.sums.dead_is)
+      made _ more new turned o [] parts lists (outcome.Done effect.Disconnected) (steps.Shows.disconnected reason description language is) (λ old older live. refl) refl (over _ more new turned o [] parts lists (outcome.Done effect.Disconnected) turned.sums.dead_is)
   shared s done said items more new o number (shown.Shows.told message fact is x) turned parts lists = told_of s message fact is more new o x (shown.Shows.told message fact is x) turned parts lists
   shared s done said items more new o number (shown.Shows.unknown n reply is) turned parts lists =
-      made _ more new turned o (SpelledBy (Unimplemented s.taking.number) reply ∷ []) parts lists (outcome.Done effect.Unknown) (steps.Shows.took None false telling.Message (Unknown n) (Sent None (Unimplemented s.taking.number) reply ∷ []) is tt) refl (live _ more new turned o (SpelledBy (Unimplemented s.taking.number) reply ∷ []) parts lists (outcome.Done effect.Unknown) (tt, (tt, tt)) refl)
+      made _ more new turned o (SpelledBy (Unimplemented s.taking.number) reply ∷ []) parts lists (outcome.Done effect.Unknown) (steps.Shows.took None false telling.Message (Unknown n) (Sent None (Unimplemented s.taking.number) reply ∷ []) is tt) (λ old older live. refl) refl (live _ more new turned o (SpelledBy (Unimplemented s.taking.number) reply ∷ []) parts lists (outcome.Done effect.Unknown) (tt, (tt, tt)) refl)
   shared s done said items more new o number (shown.Shows.service_requested service reply is) turned parts lists =
-      made _ more new turned o (SpelledBy (ServiceAccept service) reply ∷ []) parts lists (outcome.Done effect.ServiceRequested) (steps.Shows.took None false telling.Message (ServiceRequest service) (Sent None (ServiceAccept service) reply ∷ []) is tt) refl
+      made _ more new turned o (SpelledBy (ServiceAccept service) reply ∷ []) parts lists (outcome.Done effect.ServiceRequested) (steps.Shows.took None false telling.Message (ServiceRequest service) (Sent None (ServiceAccept service) reply ∷ []) is tt) (λ old older live. refl) refl
       (live _ more new turned o (SpelledBy (ServiceAccept service) reply ∷ []) parts lists (outcome.Done effect.ServiceRequested) (tt, (tt, tt)) (requested e.authentication service reply))
   shared s done said items more new o number (shown.Shows.service_accepted service is) turned parts lists =
-      made _ more new turned o [] parts lists (outcome.Done effect.ServiceAccepted) (steps.Shows.took None false telling.Message _ [] is tt) refl
+      made _ more new turned o [] parts lists (outcome.Done effect.ServiceAccepted) (steps.Shows.took None false telling.Message _ [] is tt) (λ old older live. refl) refl
       (live _ more new turned o [] parts lists (outcome.Done effect.ServiceAccepted) (tt, (tt, tt)) (accepted e.authentication service payload))
   shared s done said items more new o number (shown.Shows.kexinit theirs is) turned parts lists =
-      made _ more new turned o [] parts lists (outcome.Done effect.Kexinit) (steps.Shows.took None false telling.Message _ [] is tt) refl (live _ more new turned o [] parts lists (outcome.Done effect.Kexinit) (tt, tt) refl)
+      made _ more new turned o [] parts lists (outcome.Done effect.Kexinit) (steps.Shows.took None false telling.Message _ [] is tt) (λ old older live. refl) refl (live _ more new turned o [] parts lists (outcome.Done effect.Kexinit) (tt, tt) refl)
   shared s done said items more new o number (shown.Shows.kexinit_answered theirs own cookie is) turned parts lists =
-      made _ more new turned o (SpelledBy (KexInit (offer_of s.settings Server false cookie)) own ∷ []) parts lists (outcome.Done effect.Kexinit) (steps.Shows.took None false telling.Message (KexInit theirs) (Sent None (KexInit (offer_of s.settings Server false cookie)) own ∷ []) is tt) refl (live _ more new turned o (SpelledBy (KexInit (offer_of s.settings Server false cookie)) own ∷ []) parts lists (outcome.Done effect.Kexinit) (tt, (tt, tt)) refl)
+      made _ more new turned o (SpelledBy (KexInit (offer_of s.settings Server false cookie)) own ∷ []) parts lists (outcome.Done effect.Kexinit) (steps.Shows.took None false telling.Message (KexInit theirs) (Sent None (KexInit (offer_of s.settings Server false cookie)) own ∷ []) is tt) (λ old older live. refl) refl (live _ more new turned o (SpelledBy (KexInit (offer_of s.settings Server false cookie)) own ∷ []) parts lists (outcome.Done effect.Kexinit) (tt, (tt, tt)) refl)
   shared s done said items more new o number (shown.Shows.newkeys is) turned parts lists =
-      made _ more new turned o [] parts lists (outcome.Done effect.NewKeys) (steps.Shows.took None false telling.Message _ [] is tt) refl (live _ more new turned o [] parts lists (outcome.Done effect.NewKeys) (tt, tt) refl)
+      made _ more new turned o [] parts lists (outcome.Done effect.NewKeys) (steps.Shows.took None false telling.Message _ [] is tt) (λ old older live. refl) refl (live _ more new turned o [] parts lists (outcome.Done effect.NewKeys) (tt, tt) refl)
   shared s done said items more new o number shown.Shows.unknown_spent turned parts lists =
-      made _ more new turned o [] parts lists (outcome.Refused refusal.NumberSpent) (steps.Shows.refused refusal.NumberSpent (Some payload) []) refl (over _ more new turned o [] parts lists (outcome.Refused refusal.NumberSpent) turned.sums.dead_is)
+      made _ more new turned o [] parts lists (outcome.Refused refusal.NumberSpent) (steps.Shows.refused refusal.NumberSpent (Some payload) []) (λ old older live. refl) refl (over _ more new turned o [] parts lists (outcome.Refused refusal.NumberSpent) turned.sums.dead_is)
   shared s done said items more new o number shown.Shows.service_spent turned parts lists =
-      made _ more new turned o [] parts lists (outcome.Refused refusal.NumberSpent) (steps.Shows.refused refusal.NumberSpent (Some payload) []) refl (over _ more new turned o [] parts lists (outcome.Refused refusal.NumberSpent) turned.sums.dead_is)
+      made _ more new turned o [] parts lists (outcome.Refused refusal.NumberSpent) (steps.Shows.refused refusal.NumberSpent (Some payload) []) (λ old older live. refl) refl (over _ more new turned o [] parts lists (outcome.Refused refusal.NumberSpent) turned.sums.dead_is)
   shared s done said items more new o number shown.Shows.kexinit_spent turned parts lists =
-      made _ more new turned o [] parts lists (outcome.Refused refusal.NumberSpent) (steps.Shows.refused refusal.NumberSpent (Some payload) []) refl (over _ more new turned o [] parts lists (outcome.Refused refusal.NumberSpent) turned.sums.dead_is)
+      made _ more new turned o [] parts lists (outcome.Refused refusal.NumberSpent) (steps.Shows.refused refusal.NumberSpent (Some payload) []) (λ old older live. refl) refl (over _ more new turned o [] parts lists (outcome.Refused refusal.NumberSpent) turned.sums.dead_is)
 
   -- a payload that is refused by a role
   pub refused : (why : code.Refusal) (said : List Spelled) (more : List ℕ) (new : Transport K) (o : Outs) → Turned p side history payload (refusal_items (refusal_of why) (Some payload) said) more new → o.after ≡ o.before ++ more → o.relisted ≡ o.listed ++ payloads_of said →
       UnitTurned p side history unit payload (step.Refused why) (kept_after (outcome.Refused why) new) o
   refused why said more new o turned parts lists =
-      made _ more new turned o said parts lists (outcome.Refused why) (steps.Shows.refused why (Some payload) said) (refusal_sends said (refusal_of why) (Some payload)) (over _ more new turned o said parts lists (outcome.Refused why) turned.sums.dead_is)
+      made _ more new turned o said parts lists (outcome.Refused why) (steps.Shows.refused why (Some payload) said) (λ old older live. refusal_on said (refusal_of why) (Some payload)) (refusal_sends said (refusal_of why) (Some payload)) (over _ more new turned o said parts lists (outcome.Refused why) turned.sums.dead_is)

@@ -196,6 +196,7 @@ module _ {K : Type 0} (p : Parties K) (side : Side) (history : List Item) (bytes
     shows = subst (λ (d : Step). Shows other d x.items) (sym refused) (refused_again payload other why x.items (subst (λ (d : Step). Shows payload d x.items) refused x.shows));
     turned = x.turned;
     parts = x.parts;
+    sends_on = x.sends_on;
     lists = x.lists;
   }
 

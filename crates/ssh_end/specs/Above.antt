@@ -1,10 +1,10 @@
 -- What an end does with a payload from 50 on: what the layers above its transport make of it, and what is then sent.
-use Rattle.std.specs.Prelude.{◌≡◌, ℕ, ◌<◌, ◌≤◌, ◌^◌, Bool, true, false, Option, Some, None, IsSome, List, [], ◌∷◌, ◌++◌, length}
+use Rattle.std.specs.Prelude.{◌≡◌, ℕ, ◌<◌, ◌≤◌, ◌^◌, Bool, true, false, Option, Some, None, IsSome, List, [], ◌∷◌, length}
 use Rattle.std.specs.Option.{option_map}
 use Rattle.ssh_model.specs.Side.{Side}
 use Rattle.ssh_model.specs.Wire.Message.{Msg}
 use Rattle.ssh_model.specs.Wire.Sealing.{Crypto}
-use Rattle.ssh_model.specs.Channels.Kept.{Channels}
+use Rattle.ssh_model.specs.Channels.Kept.{Channels, DueReply}
 use Rattle.ssh_model.specs.Channels.Summary.{told}
 use Rattle.ssh_model.specs.Sessions.Items.{Item, Spelled.SpelledBy, messages_sent}
 use Rattle.ssh_model.specs.Sessions.Parties.{Parties}
@@ -16,12 +16,14 @@ use Rattle.ssh_model.specs.End.Deaths.{WouldTake}
 use Rattle.ssh_model.specs.End.Payloads.{AnswersAbove, ReadsAbove, RefusesAbove}
 use Rattle.ssh_model.specs.End.State.{Authentication, EndState, above_checks, after_above, after_items, probes}
 use Rattle.ssh_transport_machine.specs.Above.{IsPut, PeerRefused}
-use Rattle.ssh_transport_machine.specs.Puts.{Outs}
+use Rattle.ssh_transport_machine.specs.Puts.{Outs, payloads_of}
 use Rattle.ssh_transport_machine.specs.State.{State, last_number}
 use Rattle.ssh_transport_machine.specs.Turning.{HasRoom, IsQuiet, RefusalLacks}
 use Rattle.ssh_types.specs.Refusals.{refusal_of}
 use Rattle.ssh_types.specs.declared.refusal.Refusal.TheVariants as refusal
+use Rattle.ssh_end.specs.Beside.{channels_beside, channels_given}
 use Rattle.ssh_end.specs.Layer.{Beneath}
+use Rattle.ssh_end.specs.Owed.{channels_sent}
 use Rattle.ssh_end.specs.Steps.{AreSent, fact_told}
 use Rattle.ssh_end.specs.declared.above.Judgement.{Judgement}
 use Rattle.ssh_end.specs.declared.above.Judgement.TheVariants as judged
@@ -72,6 +74,8 @@ pub record AnsweredAbove {K : Type 0} (p : Parties K) (side : Side) (e : EndStat
   pub answers : AnswersAbove p e message given.channel (told (fact_told given.telling message given.channel) sent)
       authentication channels
   pub are_sent : AreSent sent
+  pub on : channels_sent sent ≡ channels_beside (payloads_of (messages_sent sent)) (given.channel ∷ [])
+  pub behind : (owed : List DueReply) → channels_given given.telling owed ≡ []
   pub probing : given.probing ≡ probes e.authentication
   pub replied : IsReplied reply sent
   pub kept : after_items side (told (fact_told given.telling message given.channel) sent)

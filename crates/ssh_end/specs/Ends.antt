@@ -1,6 +1,6 @@
 -- The ends: what they keep, and how they begin.
 use Rattle.std.specs.Prelude.{◌≡◌, ℕ, Option, List, []}
-use Rattle.ssh_model.specs.Side.{Side, Side.Client, Side.Server}
+use Rattle.ssh_model.specs.Side.{Side.Client, Side.Server}
 use Rattle.ssh_model.specs.Authentication.Kept.{new_client, new_server}
 use Rattle.ssh_model.specs.Channels.Kept.{no_channels}
 use Rattle.ssh_model.specs.Sessions.Parties.{Settings}

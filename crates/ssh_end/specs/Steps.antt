@@ -21,9 +21,11 @@ use Rattle.ssh_model.specs.Sessions.Turns.{OnUnit}
 use Rattle.ssh_model.specs.Channels.Summary.{told}
 use Rattle.ssh_model.specs.TransportLayer.Turns.{refusal_items}
 use Rattle.ssh_model.specs.End.State.{EndState}
-use Rattle.ssh_model.specs.End.Summary.{EndTurned}
+use Rattle.ssh_model.specs.End.Summary.{EndSumsUp, EndTurned}
 use Rattle.ssh_transport_machine.specs.Puts.{Outs, payloads_of}
 use Rattle.ssh_types.specs.Refusals.{refusal_of}
+use Rattle.ssh_end.specs.Beside.{channels_by}
+use Rattle.ssh_end.specs.Owed.{channels_sent}
 use Rattle.ssh_end.specs.declared.step.Step.{Step}
 use Rattle.ssh_end.specs.declared.step.Step.TheVariants as step
 use Rattle.ssh_end.specs.declared.step.Telling.{Telling}
@@ -99,12 +101,19 @@ pub data Shows (payload : List ℕ) : Step → List Item → Type 0 where
   refused : (why : _) (opened : Option (List ℕ)) (said : List Spelled) →
       Shows payload (step.Refused why) (refusal_items (refusal_of why) opened said)
 
+-- Where an end that sums up this history does this step, these items are sent on the channels of the step: what was owed behind all else.
+abbrev pub SendsOn : {K : Type 0} → Parties K → Side → (history items : List Item) → Step → Type 0
+SendsOn {K} p side history items given =
+    (old : EndState K) → EndSumsUp p side history old → old.transport.dead ≡ false →
+    channels_sent items ≡ channels_by given old.channels.owed (payloads_of (messages_sent items))
+
 -- What was done with a unit is a turn of a session, with these items, bytes and payloads listed.
 pub record UnitTurned {K : Type 0} (p : Parties K) (side : Side) (history : List Item) (unit payload : List ℕ)
     (given : Step) (new : EndState K) (o : Outs) : Type 0 where
   pub items : List Item
   pub more : List ℕ
   pub shows : Shows payload given items
+  pub sends_on : SendsOn p side history items given
   pub turned : EndTurned p side history (OnUnit p side history unit) items more new
   pub parts : o.after ≡ o.before ++ more
   pub lists : o.relisted ≡ o.listed ++ payloads_of (messages_sent items)

@@ -100,12 +100,7 @@ pub fn sent_payloads<'a>(
 }
 
 // What was done in a step, with the payload of the packet taken last.
-pub fn turn_of<'a>(
-    step: Step,
-    used: usize,
-    payload: &'a [u8],
-    sent: SentPayloads<'a>,
-) -> Turn<'a>
+pub fn turn_of<'a>(step: Step, used: usize, payload: &'a [u8], sent: SentPayloads<'a>) -> Turn<'a>
     ensures shows { (items : List Item) → Shows payload.now step items → TurnShows result items }
     ensures more { step ≡ Step.More → TurnShows result [] }
     ensures used { result.used ≡ used }

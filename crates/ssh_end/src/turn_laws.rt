@@ -1,8 +1,10 @@
 //! Laws of an end's turns: what it does with the bytes of one line or one packet is what an end of a session does with them. Facts for
 //! proofs, at no cost.
 
-ghost use Rattle.std.specs.Prelude.{◌≡◌, ◌∷◌, List, [], ℕ};
+ghost use Rattle.std.specs.Prelude.{◌≡◌, ◌∷◌, List, [], false, ℕ};
 ghost use Rattle.ssh_model.specs.Authentication.Requests.{judge_of};
+ghost use Rattle.ssh_model.specs.End.State.{EndState};
+ghost use Rattle.ssh_model.specs.End.Summary.{EndSumsUp};
 ghost use Rattle.ssh_model.specs.Sessions.Items.{Item, Item.Died};
 ghost use Rattle.ssh_model.specs.Sessions.Parties.{Parties, Settings, agreement_of};
 ghost use Rattle.ssh_model.specs.Sessions.Turns.{OnUnit};
@@ -14,15 +16,19 @@ ghost use Rattle.ssh_transport_machine.specs.Opening.{IsOpened};
 ghost use Rattle.ssh_transport_machine.specs.Puts.{Outs};
 ghost use Rattle.ssh_transport_machine.specs.State.{State};
 ghost use Rattle.ssh_transport_server.specs.Transport as of_server;
+ghost use Rattle.ssh_end.specs.Beside.{channels_by};
+ghost use Rattle.ssh_end.specs.Calls.{outs_of};
 ghost use Rattle.ssh_end.specs.ClientLayers as client;
 ghost use Rattle.ssh_end.specs.ClientTurns.{ClientTurned, IsAsking};
 ghost use Rattle.ssh_end.specs.ClientUnits as of_a_client;
 ghost use Rattle.ssh_end.specs.ClientUnits.{ClientGoes};
 ghost use Rattle.ssh_end.specs.Deaths.{ServerDies};
 ghost use Rattle.ssh_end.specs.Layers.{Layers};
+ghost use Rattle.ssh_end.specs.Owed.{channels_sent};
 ghost use Rattle.ssh_end.specs.Reading.{IsReading};
 ghost use Rattle.ssh_end.specs.ServerTurns.{IsServing, ServerTurned};
 ghost use Rattle.ssh_end.specs.ServerUnits.{ServerGoes, TurnLacks};
+ghost use Rattle.ssh_end.specs.Steps.{UnitTurned};
 ghost use Rattle.ssh_end.specs.declared.step.Step.{Step};
 
 use crate::fact_laws::facts_told;
@@ -84,6 +90,13 @@ pub fn clients_turns<K>()
     client_units::<K>();
     client_left::<K>();
 }
+
+/// The channels that an end says of the payloads that it sent in a turn are those of the messages that were sent: what the clauses of
+/// `advance` and `take` say, by what was done and the replies that were owed before, are the channels that stand in the items of the turn,
+/// one for each message, the oldest first.
+pub fn turns_channels<K>()
+    ensures { (p : Parties K) (side : Side) (history : List Item) (old : EndState K) → EndSumsUp p side history old → old.transport.dead ≡ false → (unit payload : List ℕ) (done : Step) (new : EndState K) (before after : List ℕ) (sent : List (List ℕ)) → (x : UnitTurned p side history unit payload done new (outs_of before after sent)) → channels_by done old.channels.owed sent ≡ channels_sent x.items }
+{}
 
 /// An end that was just made has begun no line and no packet.
 pub fn new_ends_read<K>()
