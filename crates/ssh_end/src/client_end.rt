@@ -2,7 +2,7 @@
 
 ghost use Rattle.std.specs.Borrow.{sem};
 ghost use Rattle.std.specs.Io.BufRead.{Rests};
-ghost use Rattle.std.specs.Prelude.{◌≡◌, ◌<◌, ◌≤◌, ◌++◌, IfErr, IfOk, List, OnErr, [], false, length, map, nat_le, take, true};
+ghost use Rattle.std.specs.Prelude.{◌≡◌, ◌<◌, ◌≤◌, ◌++◌, ◌∷◌, IfErr, IfOk, List, None, OnErr, [], false, length, map, nat_le, take, true};
 ghost use Rattle.std.specs.Option.{option_copied};
 ghost use Rattle.ssh_model.specs.Side as model;
 ghost use Rattle.ssh_model.specs.Sessions.Items.{Item};
@@ -15,7 +15,7 @@ ghost use Rattle.ssh_transport_client.specs.Transport.{begun_of};
 ghost use Rattle.ssh_end.specs.Asking.{AreAskChannels, ClientInSession, Fails, ask_of};
 ghost use Rattle.ssh_end.specs.Calls.{ClientAsked, ClientTakes};
 ghost use Rattle.ssh_end.specs.Ends.{IsFault, IsNewClient, SameClient};
-ghost use Rattle.ssh_end.specs.Beside.{channels_by};
+ghost use Rattle.ssh_end.specs.Beside.{channels_beside, channels_by};
 ghost use Rattle.ssh_end.specs.Reading.{SameReading};
 ghost use Rattle.ssh_end.specs.ClientSessions.{end_of};
 ghost use Rattle.ssh_end.specs.ClientUnits.{FrontLacks, ClientGoes};
@@ -108,6 +108,7 @@ impl<P: ClientParts, U: UserSigner + Drop> ClientEnd<P, U> {
         out: &mut Vec<u8>,
     ) -> Result<ClientEnd<P, U>, AllocError>
         ensures opened { IfOk result (λ end. IsNewClient P.Sealing.crypto (settings_of config) cookie secret end.machine end.layers out.old.items out.new.items end.sent) }
+        ensures channels { IfOk result (λ end. end.channels ≡ channels_beside end.sent (None ∷ [])) }
         ensures agreement { IfOk result (λ end. end.agreement ≡ parts.agreement) }
         ensures part { IfOk result (λ end. end.host_trust ≡ parts.host_trust) }
         ensures user { IfOk result (λ end. end.user ≡ user) }

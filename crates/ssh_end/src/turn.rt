@@ -69,7 +69,7 @@ impl<'a> SentPayloads<'a> {
     }
 
     /// The end's own number of the channel that the payload at this index belongs to (RFC 4254 section 5). `None` where it belongs to none, or there is
-    /// no such payload.
+    /// no such payload. Which channels these are is said where the turn is answered: those of the messages that were sent.
     pub fn channel(&self, index: usize) -> Option<u32>
         ensures { result ≡ slice_index_or (channels_in self.now) index None }
     {
