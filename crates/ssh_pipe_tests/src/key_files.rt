@@ -1,5 +1,6 @@
 //! Private keys, known_hosts, authorized_keys and passwords, read from files of OpenSSH and from broken ones.
 
+use crate::checking::{same, same_at};
 use crate::samples::{HOST_BYTES, HOST_KEY, LOCKED, PRIVATE, PUBLIC, PUBLIC_BYTES, SEED};
 use ssh_key_files::{Expected, FileFault, authorized_keys, password, private_key, trusted_key};
 use std::alloc::{AllocError, Global};
@@ -12,8 +13,8 @@ fn line(line: usize, expected: Expected) -> FileFault {
 #[test]
 fn private_key_of_ssh_keygen(rt: HostRuntime) -> Result<(), Fail> {
     let key = private_key(rt.alloc(), PRIVATE.as_bytes())?;
-    assert_eq!(rt; key.seed, SEED);
-    assert_eq!(rt; key.public, PUBLIC_BYTES);
+    same!(rt, key.seed, SEED);
+    same!(rt, key.public, PUBLIC_BYTES);
     Ok(())
 }
 
@@ -64,17 +65,20 @@ fn private_keys_that_are_none(rt: HostRuntime) -> Result<(), Fail> {
     ];
     for (old, new, expected) in table {
         let text = with(alloc, PRIVATE, old, new)?;
-        assert_eq!(rt;
+        same_at(
+            &rt,
+            old,
             private_key(alloc, text.as_bytes()).err(),
             Some(expected),
-            "at {old}"
         );
     }
-    assert_eq!(rt;
+    same!(
+        rt,
         private_key(alloc, LOCKED.as_bytes()).err(),
         Some(FileFault::File(Expected::Unencrypted))
     );
-    assert_eq!(rt;
+    same!(
+        rt,
         private_key(alloc, b"").err(),
         Some(line(1, Expected::Begin))
     );
@@ -93,14 +97,16 @@ fn hosts_that_are_trusted(rt: HostRuntime) -> Result<(), Fail> {
         (b"[example.net]:2222", PUBLIC_BYTES),
     ];
     for (host, key) in table {
-        assert_eq!(rt;
+        same_at(
+            &rt,
+            host,
             trusted_key(known.as_bytes(), Some(host)),
             Ok(key),
-            "at {host:?}"
         );
     }
-    assert_eq!(rt; trusted_key(HOST_KEY.as_bytes(), None), Ok(HOST_BYTES));
-    assert_eq!(rt;
+    same!(rt, trusted_key(HOST_KEY.as_bytes(), None), Ok(HOST_BYTES));
+    same!(
+        rt,
         trusted_key(PUBLIC.as_bytes(), Some(b"any.example.org")),
         Ok(PUBLIC_BYTES)
     );
@@ -154,11 +160,7 @@ fn hosts_that_are_not_trusted(rt: HostRuntime) -> Result<(), Fail> {
     ];
     for (at, (text, host, expected)) in table.iter().enumerate() {
         let host = (*host).map(|host| host.as_bytes());
-        assert_eq!(rt;
-            trusted_key(text.as_bytes(), host),
-            Err(*expected),
-            "at {at}"
-        );
+        same_at(&rt, at, trusted_key(text.as_bytes(), host), Err(*expected));
     }
     Ok(())
 }
@@ -168,7 +170,7 @@ fn keys_of_users(rt: HostRuntime) -> Result<(), Fail> {
     let alloc = rt.alloc();
     let text = format!(in alloc; "# mine\n{PUBLIC}\nssh-rsa AAAA other\n{HOST_KEY}\n")?;
     let keys = authorized_keys(alloc, text.as_bytes())?;
-    assert_eq!(rt; keys.as_slice(), [PUBLIC_BYTES, HOST_BYTES].as_slice());
+    same!(rt, keys.as_slice(), [PUBLIC_BYTES, HOST_BYTES].as_slice());
     let table = [
         (
             format!(in alloc; "{PUBLIC}\nrestrict {PUBLIC}\n")?,
@@ -189,10 +191,11 @@ fn keys_of_users(rt: HostRuntime) -> Result<(), Fail> {
         (format!(in alloc; "")?, FileFault::File(Expected::AnyKey)),
     ];
     for (at, (text, expected)) in table.iter().enumerate() {
-        assert_eq!(rt;
+        same_at(
+            &rt,
+            at,
             authorized_keys(alloc, text.as_bytes()).err(),
             Some(*expected),
-            "at {at}"
         );
     }
     Ok(())
@@ -210,10 +213,11 @@ fn passwords(rt: HostRuntime) {
         (b"", None),
     ];
     for (text, expected) in table {
-        assert_eq!(rt; password(text).ok(), expected, "at {text:?}");
+        same_at(&rt, text, password(text).ok(), expected);
     }
-    assert_eq!(rt; password(&[b'x'; 1024]).is_ok(), true);
-    assert_eq!(rt;
+    same!(rt, password(&[b'x'; 1024]).is_ok(), true);
+    same!(
+        rt,
         password(&[b'x'; 1025]),
         Err(FileFault::File(Expected::Password))
     );
@@ -222,11 +226,13 @@ fn passwords(rt: HostRuntime) {
 #[test]
 fn faults_in_words(rt: HostRuntime) -> Result<(), Fail> {
     let alloc = rt.alloc();
-    assert_eq!(rt;
+    same!(
+        rt,
         format!(in alloc; "{}", line(3, Expected::Key))?.as_str(),
         "line 3: expected the 68 base64 digits of a key of ssh-ed25519"
     );
-    assert_eq!(rt;
+    same!(
+        rt,
         format!(in alloc; "{}", FileFault::File(Expected::AnyKey))?.as_str(),
         "expected at least one key of ssh-ed25519"
     );

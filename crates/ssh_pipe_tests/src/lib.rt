@@ -2,6 +2,8 @@
 #![tactic(auto)]
 
 #[cfg(test)]
+mod checking;
+#[cfg(test)]
 mod key_files;
 #[cfg(test)]
 mod samples;

@@ -1,5 +1,6 @@
 //! Sessions of a client and a server with nothing between them but bytes, over random bytes that are counted, so that each run is the same.
 
+use crate::checking::{same, same_at};
 use crate::samples::{PUBLIC_BYTES, SEED};
 use ssh_parts::{AcceptedKey, Ed25519Signer, Ed25519Trust};
 use ssh_pipe::{Client, Ending, Login, Machine, PipeError, Request, RequestKind, Server};
@@ -190,13 +191,9 @@ fn commands(rt: HostRuntime) -> Result<(), Fail> {
                 ..CASE
             },
         )?;
-        assert_eq!(rt;
-            outcome.client,
-            Some(Ending::Status(status)),
-            "at {command:?}"
-        );
-        assert_eq!(rt; outcome.output.as_slice(), output, "at {command:?}");
-        assert_eq!(rt; outcome.error_output.len(), 0, "at {command:?}");
+        same_at(&rt, command, outcome.client, Some(Ending::Status(status)));
+        same_at(&rt, command, outcome.output.as_slice(), output);
+        same_at(&rt, command, outcome.error_output.len(), 0);
     }
     Ok(())
 }
@@ -213,7 +210,7 @@ fn a_command_that_is_not_there(rt: HostRuntime) -> Result<(), Fail> {
             ..CASE
         },
     )?;
-    assert_eq!(rt; outcome.client, Some(Ending::Status(127)));
+    same!(rt, outcome.client, Some(Ending::Status(127)));
     assert!(rt;
         outcome
             .error_output
@@ -237,8 +234,8 @@ fn there_and_back(rt: HostRuntime) -> Result<(), Fail> {
             ..CASE
         },
     )?;
-    assert_eq!(rt; outcome.client, Some(Ending::Status(0)));
-    assert_eq!(rt; outcome.output.as_slice() == input.as_slice(), true);
+    same!(rt, outcome.client, Some(Ending::Status(0)));
+    same!(rt, outcome.output.as_slice() == input.as_slice(), true);
     Ok(())
 }
 
@@ -251,19 +248,19 @@ fn who_is_not_let_in(rt: HostRuntime) -> Result<(), Fail> {
     };
     let methods = Vec::from_slice(alloc, b"publickey,password")?;
     let refused = Some(Ending::NotLetIn { methods });
-    assert_eq!(rt; played(alloc, case)?.client, refused);
+    same!(rt, &played(alloc, case)?.client, &refused);
     let case = Case {
         key: Some(Ed25519Signer::new(&HOST_SEED)),
         password: None,
         ..CASE
     };
-    assert_eq!(rt; played(alloc, case)?.client, refused);
+    same!(rt, &played(alloc, case)?.client, &refused);
     // The key is not known, and the password is right.
     let case = Case {
         key: Some(Ed25519Signer::new(&HOST_SEED)),
         ..CASE
     };
-    assert_eq!(rt; played(alloc, case)?.client, Some(Ending::Status(0)));
+    same!(rt, played(alloc, case)?.client, Some(Ending::Status(0)));
     Ok(())
 }
 
@@ -274,9 +271,10 @@ fn a_host_that_is_not_trusted(rt: HostRuntime) -> Result<(), Fail> {
         ..CASE
     };
     let outcome = played(rt.alloc(), case)?;
-    assert_eq!(rt; outcome.client, Some(Ending::Refused(Refusal::BadHost)));
+    same!(rt, outcome.client, Some(Ending::Refused(Refusal::BadHost)));
     let description = Vec::from_slice(rt.alloc(), b"BadHost")?;
-    assert_eq!(rt;
+    same!(
+        rt,
         outcome.server,
         Some(Ending::Disconnected {
             reason: 9,
