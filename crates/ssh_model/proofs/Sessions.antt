@@ -23,6 +23,7 @@ pub mod Accepted
 pub mod Partners
 pub mod Undisturbed
 pub mod Played
+pub mod Serving
 pub mod Blocked
 pub mod BytesOut
 pub mod Deaths

@@ -14,5 +14,6 @@ pub mod OneMessage
 pub mod Payloads
 pub mod Sizes
 pub mod Sealed
+pub mod FieldsDecided
 pub mod Decided
 pub mod Written

@@ -15,7 +15,8 @@ use Rattle.ssh_model.specs.Sessions.TurnClaims.{AreGood, HasNumbers}
 use Rattle.ssh_model.proofs.KeyExchange.Firsts.{text_same}
 use Rattle.ssh_model.proofs.Wire.Decided.{payload_decided}
 use Rattle.ssh_model.proofs.Wire.Written.{disconnect_spelled, unimplemented_spelled, service_accept_spelled, new_keys_spelled, kex_init_spelled, kex_reply_spelled, success_spelled, pk_ok_spelled, open_failure_spelled, close_spelled, unknown_0_spelled}
-use Rattle.ssh_model.proofs.Sessions.Blocked.{Serves, AllMaterial, serves, in_normal, normal_at_5, normal_at_6, no_5_at_client}
+use Rattle.ssh_model.proofs.Sessions.Blocked.{serves, in_normal}
+use Rattle.ssh_model.proofs.Sessions.Serving.{Serves, AllMaterial, normal_at_5, normal_at_6, no_5_at_client}
 use Rattle.ssh_model.proofs.Sessions.EndAnswers.{has_kept, may_be}
 use Rattle.ssh_model.proofs.Sessions.EndKeeps.{End}
 use Rattle.ssh_model.proofs.Sessions.PeerNumbers.{RepliesFit, owed_replies_fit, due_replies_fit, open_name}
