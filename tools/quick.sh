@@ -1,7 +1,8 @@
 #!/bin/sh
 # What can be seen in a few minutes: the layout of the files, that each definition of the model has its line in
 # docs/definitions.md, the tests, and the programs. Nothing is proved here. As many crates are looked at at once as there
-# are cores, each in a copy of the tree, since the toolchain locks the crates that it reads.
+# are cores, each in a copy of the tree, since the toolchain locks the crates that it reads; a copy that is done with one crate takes
+# the next that no other has.
 set -eu
 top=$(cd "$(dirname "$0")/.." && pwd)
 . "$top/tools/common.sh"
@@ -41,6 +42,7 @@ look_at() (
     cd "$copy"
     git init -q .
     for crate; do
+        mkdir "$work/taken/$crate" 2>/dev/null || continue
         cd "$copy/crates/$crate"
         printed=$("$rt" fmt 2>&1) || fail "$crate: rt fmt"
         [ -z "$printed" ] || fail "$crate: $printed"
@@ -57,13 +59,14 @@ look_at() (
 echo "definitions"
 sh "$top/tools/definitions.sh" || fail "a definition has no line in docs/definitions.md"
 (sh "$top/tools/misuse.sh" || fail "a call that has to be refused is not") &
+# What takes the longest comes first: the sweep, and then the crates at the top, which are compiled with all below them.
+crates="ssh_trace_sweep $(sed 's/#.*//; s/:.*//; s/ .*//' "$top/crates.txt" | grep . | tac)"
+mkdir "$work/taken"
 number=0
 while [ "$number" -lt "$jobs" ]; do
     copy="$work/$number"
     mkdir "$copy"
     copy_tree "$copy"
-    # The crates at the top take the longest, so each copy has some of them.
-    crates=$(sed 's/#.*//; s/:.*//; s/ .*//' "$top/crates.txt" | grep . | awk -v n="$number" -v jobs="$jobs" 'NR % jobs == n')
     # shellcheck disable=SC2086
     look_at "$copy" $crates &
     number=$((number + 1))
