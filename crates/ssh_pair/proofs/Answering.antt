@@ -1,6 +1,6 @@
 -- What an end did on an ask.
 use Rattle.std.proofs.Common.{◌≡◌, ℕ, Bool, true, false, cond, List, [], ◌∷◌, ◌++◌, append-nil, refl, ap, sym, ◌∙◌, Ok, Err}
-use Rattle.std.specs.Prelude.{Result}
+use Rattle.std.specs.Prelude.{IfOk, Option, Result}
 use Rattle.std.proofs.lemmas.Bool.{false≢true}
 use Rattle.ssh_model.specs.Side.{Side, done_by, part}
 use Rattle.ssh_model.specs.End.State.{EndState}
@@ -9,7 +9,7 @@ use Rattle.ssh_model.specs.Sessions.Items.{Ask, Done, Item, Item.Asked, Item.Ask
 use Rattle.ssh_model.specs.Sessions.Parties.{Parties}
 use Rattle.ssh_model.specs.Sessions.Turns.{AsksTurn, EndRun}
 use Rattle.ssh_types.specs.AskRefusals.{ask_refusal_of}
-use Rattle.ssh_end.specs.Asking.{DoneInSession}
+use Rattle.ssh_end.specs.Asking.{AreAskChannels, DoneInSession}
 use Rattle.ssh_end.specs.declared.asking.outcome.AskStep.{AskStep}
 use Rattle.ssh_end.specs.declared.asking.outcome.Fault.{Fault}
 use Rattle.ssh_end.specs.declared.asking.outcome.Fault.TheVariants as fault
@@ -43,18 +43,19 @@ module _ {K : Type 0} (p : Parties K) (side : Side) (run : List Done) (asked : A
     says = record { more = t.more; notes = t.notes; puts = t.turned.puts; out = t.out };
   }
 
-  pub answered : (result : Result AskStep Fault) (is_over : Bool) (payloads : List (List ℕ)) → is_over ≡ new.transport.dead → (out_new_is : (fault : Fault) → result ≡ Err fault → out_new ≡ out_old) →
-      DoneInSession p side (part side run) old asked result new (record { before = out_old; after = out_new; listed = []; relisted = payloads }) → AddsAsk side asked result payloads is_over log_old log_new →
+  pub answered : (result : Result AskStep Fault) (is_over : Bool) (payloads : List (List ℕ)) (channels : List (Option ℕ)) → is_over ≡ new.transport.dead → (out_new_is : (fault : Fault) → result ≡ Err fault → out_new ≡ out_old) →
+      DoneInSession p side (part side run) old asked result new (record { before = out_old; after = out_new; listed = []; relisted = payloads }) → IfOk result (λ step. AreAskChannels asked step payloads channels) →
+      AddsAsk side asked result payloads channels is_over log_old log_new →
       (old.transport.dead ≡ has_died (part side run)) → Answered p side run asked kept_old kept_new S log_old log_new out_old out_new
-  answered (Ok step) is_over payloads over same d n was = by_turn d.items (record {
+  answered (Ok step) is_over payloads channels over same d on n was = by_turn d.items (record {
     more = d.more;
     turned = d.turned;
-    notes = n d.items d.shows d.lists (over ∙ (d.turned.sums.transport.dead_is ∙ died_of d.items (part side run) alive));
+    notes = n d.items d.shows d.lists (on d.items d.shows d.lists) (over ∙ (d.turned.sums.transport.dead_is ∙ died_of d.items (part side run) alive));
     out = d.parts;
   })
-  answered (Err (fault.Ask why)) is_over payloads over same d n was = by_turn (AskRefused (ask_refusal_of why) ∷ Asked asked ∷ []) (record { more = []; turned = d.turned; notes = n; out = same _ refl ∙ sym (append-nil out_old) })
-  answered (Err fault.Memory) is_over payloads over same d n was = by_turn (Died ∷ []) (record { more = []; turned = d.turned; notes = n; out = same _ refl ∙ sym (append-nil out_old) })
-  answered (Err fault.Dead) is_over payloads over same d n was = absurd (false≢true (sym alive ∙ (sym was ∙ d.dead)))
+  answered (Err (fault.Ask why)) is_over payloads channels over same d on n was = by_turn (AskRefused (ask_refusal_of why) ∷ Asked asked ∷ []) (record { more = []; turned = d.turned; notes = n; out = same _ refl ∙ sym (append-nil out_old) })
+  answered (Err fault.Memory) is_over payloads channels over same d on n was = by_turn (Died ∷ []) (record { more = []; turned = d.turned; notes = n; out = same _ refl ∙ sym (append-nil out_old) })
+  answered (Err fault.Dead) is_over payloads channels over same d on n was = absurd (false≢true (sym alive ∙ (sym was ∙ d.dead)))
 
 -- a dead end does nothing
 pub answered_dead : {K : Type 0} (p : Parties K) (side : Side) (run : List Done) (asked : Ask) (kept : List ℕ) (S : List Done → Type 0) (log : List declared.Done) (out : List ℕ) → has_died (part side run) ≡ true → kept ≡ [] → S run → Answered p side run asked kept kept S log log out out

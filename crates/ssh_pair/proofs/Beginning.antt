@@ -1,5 +1,5 @@
 -- What an end did when it was made.
-use Rattle.std.proofs.Common.{◌≡◌, ℕ, true, None, arith, List, [], ◌∷◌, ◌++◌, ap, sym, ◌∙◌, subst}
+use Rattle.std.proofs.Common.{◌≡◌, ℕ, true, Option, None, arith, List, [], ◌∷◌, ◌++◌, ap, sym, ◌∙◌, subst}
 use Rattle.ssh_model.specs.Side.{Side}
 use Rattle.ssh_model.specs.Wire.Line.{line_end}
 use Rattle.ssh_model.specs.Wire.Message.{Msg.KexInit}
@@ -13,16 +13,17 @@ use Rattle.ssh_model.specs.TransportLayer.Directions.{new_direction}
 use Rattle.ssh_model.specs.TransportLayer.Turns.{PutsPackets}
 use Rattle.ssh_transport_machine.specs.Opening.{IsOpened}
 use Rattle.ssh_transport_machine.specs.State.{State}
+use Rattle.ssh_end.specs.Beside.{channels_beside}
 use Rattle.ssh_pair.specs.Items.{Notes}
 use Rattle.ssh_pair.specs.Noting.{Adds, AddsSent}
 use Rattle.ssh_pair.specs.Playing.{Opens}
 use Rattle.ssh_pair.specs.declared.item.Done as declared
 use Rattle.ssh_pair.proofs.Noting.{adds_more}
 
-module _ {K : Type 0} (p : Parties K) (side : Side) (cookie secret : List ℕ) (machine : State K) (log_old log_mid log_new : List declared.Done) (out_old out_new : List ℕ) (sent payloads : List (List ℕ)) (material : IsMaterial cookie secret)
+module _ {K : Type 0} (p : Parties K) (side : Side) (cookie secret : List ℕ) (machine : State K) (log_old log_mid log_new : List declared.Done) (out_old out_new : List ℕ) (sent payloads : List (List ℕ)) (channels : List (Option ℕ)) (material : IsMaterial cookie secret)
     (law : (payload more : List ℕ) → PutsPackets p.crypto new_direction (SpelledBy (KexInit (offer p side true cookie)) payload ∷ []) more →
     HasOpened p side (Sent None (KexInit (offer p side true cookie)) payload ∷ SentLine (settings_of p side).line ∷ Fed cookie secret ∷ []) (((settings_of p side).line ++ line_end) ++ more) (new_end (settings_of p side) side secret payload))
-    (line : Adds side (SentLine (settings_of p side).line ∷ []) log_old log_mid) (says : AddsSent side payloads log_mid log_new) (lists : payloads ≡ sent) where
+    (line : Adds side (SentLine (settings_of p side).line ∷ []) log_old log_mid) (says : AddsSent side payloads channels log_mid log_new) (lists : payloads ≡ sent) (on : channels ≡ channels_beside sent (None ∷ [])) where
   opens_so : (x : IsOpened p.crypto (settings_of p side) side cookie secret machine (record { before = out_old; after = out_new; listed = []; relisted = sent })) → Opens p side (new_end (settings_of p side) side secret x.payload) log_old log_new out_old out_new
   opens_so x =
       let kexinit : Item = Sent None (KexInit (offer p side true cookie)) x.payload in
@@ -33,7 +34,7 @@ module _ {K : Type 0} (p : Parties K) (side : Side) (cookie secret : List ℕ) (
         items = kexinit ∷ before;
         bytes = ((settings_of p side).line ++ line_end) ++ x.wire;
         opened = law x.payload x.wire (PutsPackets.packet (KexInit (offer p side true cookie)) x.payload x.wire PutsPackets.nothing x.spelled (omega arith) x.sealed);
-        notes = adds_more side before (kexinit ∷ []) log_old log_mid log_new early (says (kexinit ∷ []) tt (lists ∙ x.lists));
+        notes = adds_more side before (kexinit ∷ []) log_old log_mid log_new early (says (kexinit ∷ []) tt (lists ∙ x.lists) (on ∙ ap (λ (l : List (List ℕ)). channels_beside l (None ∷ [])) x.lists));
         out = x.parts;
       }
 

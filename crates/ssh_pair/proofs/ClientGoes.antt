@@ -1,6 +1,6 @@
 -- What a client did with the bytes of one line or one packet.
 use Rattle.std.proofs.Common.{◌≡◌, ℕ, Bool, true, false, cond, List, [], ◌∷◌, ◌++◌, take, refl, ap, sym, ◌∙◌, subst, Option, None, option_map, Err}
-use Rattle.std.specs.Prelude.{Result}
+use Rattle.std.specs.Prelude.{IfOk, Result}
 use Rattle.std.proofs.lemmas.Bool.{false≢true}
 use Rattle.ssh_model.specs.Side.{Side, Side.Client, done_by, part}
 use Rattle.ssh_model.specs.Wire.Delivery.{Delivered}
@@ -21,12 +21,15 @@ use Rattle.ssh_end.specs.ClientSessions.{end_of}
 use Rattle.ssh_end.specs.ClientLayers.{Layers}
 use Rattle.ssh_end.specs.ClientUnits.{ClientGoes, FrontLacks}
 use Rattle.ssh_end.specs.ClientTurns.{ClientTurned, IsAsking, IsUnitTurned, IsWaiting}
-use Rattle.ssh_end.specs.Asking.{DoneInSession}
+use Rattle.ssh_end.specs.Asking.{AreAskChannels, DoneInSession}
+use Rattle.ssh_end.specs.Beside.{channels_by}
+use Rattle.ssh_end.specs.Calls.{outs_of}
+use Rattle.ssh_end.specs.Owed.{channels_sent}
 use Rattle.ssh_end.specs.Reading.{IsReading, SameReading}
-use Rattle.ssh_end.specs.Steps.{Shows}
+use Rattle.ssh_end.specs.Steps.{Shows, UnitTurned}
 use Rattle.ssh_end.specs.declared.asking.outcome.AskStep.{AskStep}
 use Rattle.ssh_end.specs.declared.asking.outcome.Fault.{Fault}
-use Rattle.ssh_end.specs.Turn.{TurnShows, payloads_in}
+use Rattle.ssh_end.specs.Turn.{TurnShows, channels_in, payloads_in}
 use Rattle.ssh_end.specs.declared.step.Step.{Step}
 use Rattle.ssh_end.specs.declared.step.Step.TheVariants as step
 use Rattle.ssh_end.specs.declared.turn.Turn.{Turn}
@@ -59,6 +62,7 @@ module _ {K : Type 0} (p : Parties K) (run : List Done) (was : ClientValue K) (s
     (end : ClientValue K) (same : end.functions ≡ was.functions) (bytes : List ℕ) (turn : Turn) (log_old log_new : List declared.Done) (out_old out_new : List ℕ) (sent : List (List ℕ))
     (gathered : Option (List ℕ)) (more : gathered ≡ option_map (λ line. line ++ bytes) was.lines) (left : end.lines ≡ gathered_after turn.took gathered)
     (noted : AddsTurn Client turn gathered end.machine.kept.dead log_old log_new) (says : payloads_in turn.sent ≡ sent)
+    (law : (unit payload : List ℕ) (done : Step) (new : EndState K) (x : UnitTurned p Client (part Client run) unit payload done new (outs_of out_old out_new sent)) → channels_by done was.layers.channels.owed sent ≡ channels_sent x.items)
     (unit : (unit : List ℕ) (items : List Item) (more : List ℕ) (e : EndState K) → EndTurned p Client (part Client run) (OnUnit p Client (part Client run) unit) items more e → (behind : List ℕ) (last : List Done) (rest : List ℕ) →
     Delivered (reading_of p Client) (done_by Client items ++ run) behind last rest → Delivered (reading_of p Client) run (unit ++ behind) last rest)
     (goes_on : (unit : List ℕ) (items : List Item) (more : List ℕ) (e : EndState K) → EndTurned p Client (part Client run) (OnUnit p Client (part Client run) unit) items more e → EndRun p Client (items ++ part Client run)) where
@@ -68,14 +72,14 @@ module _ {K : Type 0} (p : Parties K) (run : List Done) (was : ClientValue K) (s
   fits : AreOfClient p end.functions
   fits = subst (λ (f : ClientFunctions K). AreOfClient p f) (sym same) stands.fits
 
-  waits : IsWaiting p (part Client run) (begun_of was.machine ++ bytes) end.machine end.layers outs → TurnShows turn [] → Advanced p Client run bytes (kept_bytes was.machine) (kept_bytes end.machine) (ClientStands p end) log_old log_new out_old out_new
-  waits w shows = waited p Client run (begun_of was.machine) bytes (kept_bytes was.machine) (kept_bytes end.machine) (ClientStands p end) log_old log_new out_old out_new (kept_alive was.machine alive)
+  waits : channels_in turn.sent ≡ channels_by step.More was.layers.channels.owed sent → IsWaiting p (part Client run) (begun_of was.machine ++ bytes) end.machine end.layers outs → TurnShows turn [] → Advanced p Client run bytes (kept_bytes was.machine) (kept_bytes end.machine) (ClientStands p end) log_old log_new out_old out_new
+  waits on w shows = waited p Client run (begun_of was.machine) bytes (kept_bytes was.machine) (kept_bytes end.machine) (ClientStands p end) log_old log_new out_old out_new (kept_alive was.machine alive)
       (kept_alive end.machine w.alive ∙ w.begun)
       (record { lawful = stands.lawful; fits = fits; sums = w.sums; end_run = stands.end_run; reading = λ e. w.reading; lines = subst (λ (l : Option (List ℕ)). Gathers end.machine l) (sym left) (waiting_gathers p Client (part Client run) was.machine end.machine was.lines gathered bytes turn.took stands.lines alive stands.sums.transport more w.sums.transport w.begun shows.took) })
-      (noted.quiet shows (says ∙ w.quiet.sent) w.alive) w.quiet.out
+      (noted.quiet shows (says ∙ w.quiet.sent) (on ∙ ap (λ (l : List (List ℕ)). channels_by step.More was.layers.channels.owed l) w.quiet.sent) w.alive) w.quiet.out
 
-  uses : (done : Step) → IsUnitTurned p (part Client run) (begun_of was.machine ++ bytes) done end.machine end.layers outs → ((items : List Item) → Shows end.machine.receiver.payload done items → TurnShows turn items) → Advanced p Client run bytes (kept_bytes was.machine) (kept_bytes end.machine) (ClientStands p end) log_old log_new out_old out_new
-  uses done w shows =
+  uses : (done : Step) → channels_in turn.sent ≡ channels_by done was.layers.channels.owed sent → IsUnitTurned p (part Client run) (begun_of was.machine ++ bytes) done end.machine end.layers outs → ((items : List Item) → Shows end.machine.receiver.payload done items → TurnShows turn items) → Advanced p Client run bytes (kept_bytes was.machine) (kept_bytes end.machine) (ClientStands p end) log_old log_new out_old out_new
+  uses done on w shows =
       let t = w.turned in
       let sums : EndSumsUp p Client (part Client (done_by Client t.items ++ run)) (end_of end.machine.kept end.layers) = subst (λ (h : List Item). EndSumsUp p Client h (end_of end.machine.kept end.layers)) (sym (here Client t.items run)) t.turned.sums in
       let was_alive : has_died (part Client run) ≡ false = sym stands.sums.transport.dead_is ∙ alive in
@@ -86,19 +90,19 @@ module _ {K : Type 0} (p : Parties K) (run : List Done) (was : ClientValue K) (s
       (record {
         more = t.more;
         notes = noted.shown end.machine.receiver.payload done t.items t.shows (shows t.items t.shows)
-            (line_gathered p Client (part Client run) was.machine end.machine was.lines gathered bytes turn.took stands.lines alive stands.sums.transport more t.items t.turned.turn) (says ∙ t.lists) (t.turned.sums.transport.dead_is ∙ died_of t.items (part Client run) was_alive);
+            (line_gathered p Client (part Client run) was.machine end.machine was.lines gathered bytes turn.took stands.lines alive stands.sums.transport more t.items t.turned.turn) (says ∙ t.lists) (on ∙ law _ _ done _ t) (t.turned.sums.transport.dead_is ∙ died_of t.items (part Client run) was_alive);
         puts = t.turned.puts;
         out = t.parts;
       })
 
-  pub client_unit : (done : Step) → ClientTurned p (part Client run) (begun_of was.machine ++ bytes) done end.machine end.layers outs → ((items : List Item) → Shows end.machine.receiver.payload done items → TurnShows turn items) → (done ≡ step.More → TurnShows turn []) →
+  pub client_unit : (done : Step) → channels_in turn.sent ≡ channels_by done was.layers.channels.owed sent → ClientTurned p (part Client run) (begun_of was.machine ++ bytes) done end.machine end.layers outs → ((items : List Item) → Shows end.machine.receiver.payload done items → TurnShows turn items) → (done ≡ step.More → TurnShows turn []) →
       Advanced p Client run bytes (kept_bytes was.machine) (kept_bytes end.machine) (ClientStands p end) log_old log_new out_old out_new
-  client_unit step.More x shows quiet = waits x (quiet refl)
-  client_unit step.OtherLine x shows quiet = uses step.OtherLine x shows
-  client_unit step.VersionLine x shows quiet = uses step.VersionLine x shows
-  client_unit step.Skipped x shows quiet = uses step.Skipped x shows
-  client_unit (step.Took took) x shows quiet = uses (step.Took took) x shows
-  client_unit (step.Refused why) x shows quiet = uses (step.Refused why) x shows
+  client_unit step.More on x shows quiet = waits on x (quiet refl)
+  client_unit step.OtherLine on x shows quiet = uses step.OtherLine on x shows
+  client_unit step.VersionLine on x shows quiet = uses step.VersionLine on x shows
+  client_unit step.Skipped on x shows quiet = uses step.Skipped on x shows
+  client_unit (step.Took took) on x shows quiet = uses (step.Took took) on x shows
+  client_unit (step.Refused why) on x shows quiet = uses (step.Refused why) on x shows
 
 -- ---- memory that is refused
 
@@ -139,7 +143,7 @@ reads_on c old new x r = record {
 module _ {K : Type 0} (p : Parties K) (run : List Done) (was : ClientValue K) (stands : ClientStands p was run) (alive : was.machine.kept.dead ≡ false)
     (here : (side : Side) (items : List Item) (run : List Done) → part side (done_by side items ++ run) ≡ items ++ part side run)
     (end : ClientValue K) (same : end.functions ≡ was.functions) (reads : end.machine.kept.dead ≡ false → SameReading was.machine end.machine) (kept_lines : end.lines ≡ was.lines)
-    (asked : Ask) (log_old log_new : List declared.Done) (out_old out_new : List ℕ) (sent payloads : List (List ℕ)) (says : payloads ≡ sent)
+    (asked : Ask) (log_old log_new : List declared.Done) (out_old out_new : List ℕ) (sent payloads : List (List ℕ)) (says : payloads ≡ sent) (sent_on channels : List (Option ℕ)) (says_on : channels ≡ sent_on)
     (goes_on : (items : List Item) (more : List ℕ) → EndTurned p Client (part Client run) (AsksTurn p Client (part Client run) asked) items more (end_of end.machine.kept end.layers) → EndRun p Client (items ++ part Client run)) where
   keeps : end.machine.kept.dead ≡ false → kept_bytes end.machine ≡ kept_bytes was.machine
   keeps e = kept_alive end.machine e ∙ (begun_same was.machine end.machine (reads e) ∙ sym (kept_alive was.machine alive))
@@ -159,10 +163,11 @@ module _ {K : Type 0} (p : Parties K) (run : List Done) (was : ClientValue K) (s
 
   pub client_answer : (result : Result AskStep Fault) (is_over : Bool) → is_over ≡ end.machine.kept.dead → ((fault : Fault) → result ≡ Err fault → out_new ≡ out_old) →
       DoneInSession p Client (part Client run) (end_of was.machine.kept was.layers) asked result (end_of end.machine.kept end.layers) (record { before = out_old; after = out_new; listed = []; relisted = sent }) →
-      AddsAsk Client asked result payloads is_over log_old log_new → Answered p Client run asked (kept_bytes was.machine) (kept_bytes end.machine) (ClientStands p end) log_old log_new out_old out_new
-  client_answer result is_over over unsent d noted =
+      IfOk result (λ step. AreAskChannels asked step sent sent_on) → AddsAsk Client asked result payloads channels is_over log_old log_new → Answered p Client run asked (kept_bytes was.machine) (kept_bytes end.machine) (ClientStands p end) log_old log_new out_old out_new
+  client_answer result is_over over unsent d on noted =
       answered p Client run asked (end_of was.machine.kept was.layers) (end_of end.machine.kept end.layers) (kept_bytes was.machine) (kept_bytes end.machine) (ClientStands p end) log_old log_new out_old out_new
-      (sym stands.sums.transport.dead_is ∙ alive) goes_on stand keeps drops result is_over sent over unsent d (subst (λ (l : List (List ℕ)). AddsAsk Client asked result l is_over log_old log_new) says noted) stands.sums.transport.dead_is
+      (sym stands.sums.transport.dead_is ∙ alive) goes_on stand keeps drops result is_over sent sent_on over unsent d on
+      (subst (λ (l : List (List ℕ)). AddsAsk Client asked result l sent_on is_over log_old log_new) says (subst (λ (l : List (Option ℕ)). AddsAsk Client asked result payloads l is_over log_old log_new) says_on noted)) stands.sums.transport.dead_is
 
 pub client_over : {K : Type 0} (p : Parties K) (run : List Done) (v : ClientValue K) (asked : Ask) (log : List declared.Done) (out : List ℕ) → ClientStands p v run → v.machine.kept.dead ≡ true → Answered p Client run asked (kept_bytes v.machine) (kept_bytes v.machine) (ClientStands p v) log log out out
 client_over p run v asked log out s dead = answered_dead p Client run asked (kept_bytes v.machine) (ClientStands p v) log out (sym s.sums.transport.dead_is ∙ dead) (ap (λ (b : Bool). cond b [] (begun_of v.machine)) dead) s

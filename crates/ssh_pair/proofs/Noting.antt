@@ -1,7 +1,7 @@
 -- What is noted of a turn, item by item.
-use Rattle.std.proofs.Common.{◌≡◌, ℕ, ◌+◌, ◌<◌, Bool, true, false, List, [], ◌∷◌, ◌++◌, get_or, length, map, take, refl, ap, sym, ◌∙◌, subst, Option, Some, None, option_map, Ok, Err}
+use Rattle.std.proofs.Common.{◌≡◌, ℕ, ◌+◌, ◌<◌, ◌≤◌, Bool, true, false, List, [], ◌∷◌, ◌++◌, append-nil, append_assoc, get_or, length, map, take, refl, ap, sym, ◌∙◌, subst, arith, Option, Some, None, option_map, Ok, Err}
 use Rattle.std.specs.Prelude.{Result, OnOk}
-use Rattle.std.proofs.lemmas.List.{take_more}
+use Rattle.std.proofs.lemmas.List.{length-append, length-map, take_all, take_more}
 use Rattle.ssh_types.specs.Refusals.{refusal_of}
 use Rattle.ssh_types.specs.declared.refusal.Refusal.{Refusal}
 use Rattle.ssh_model.specs.Side.{Side, DoneBy.By, done_by}
@@ -12,9 +12,10 @@ use Rattle.ssh_model.specs.Sessions.Items.{Ask, Done, Fact, Fact.Disconnected, F
 use Rattle.ssh_model.specs.TransportLayer.Summary.{items_sent}
 use Rattle.ssh_transport_machine.specs.Puts.{payloads_of}
 use Rattle.ssh_end.specs.Asking.{ShowsAsk}
+use Rattle.ssh_end.specs.Owed.{channels_sent}
 use Rattle.ssh_end.specs.Steps.{AreSent, Shows, fact_told}
 use Rattle.ssh_end.specs.Told.{told_of}
-use Rattle.ssh_end.specs.Turn.{IsTaken, TurnShows, fact_in, oldest, payloads_in, refusal_in}
+use Rattle.ssh_end.specs.Turn.{IsTaken, TurnShows, channels_in, fact_in, oldest, payloads_in, refusal_in}
 use Rattle.ssh_end.specs.declared.step.Step.{Step}
 use Rattle.ssh_end.specs.declared.asking.outcome.AskStep.{AskStep}
 use Rattle.ssh_end.specs.declared.turn.Took.{Took as Shown}
@@ -94,12 +95,19 @@ record AreQuiet (sent rest : List Item) : Type 0 where
   pub refusal : refusal_in (sent ++ rest) ≡ refusal_in rest
   pub alive : has_died (sent ++ rest) ≡ has_died rest
   pub messages : messages_sent (sent ++ rest) ≡ messages_sent sent ++ messages_sent rest
+  pub channels : channels_sent (sent ++ rest) ≡ channels_sent rest ++ channels_sent sent
 
 are_quiet : (sent rest : List Item) → AreSent sent → AreQuiet sent rest
-are_quiet [] rest are = record { fact = refl; refusal = refl; alive = refl; messages = refl }
+are_quiet [] rest are = record { fact = refl; refusal = refl; alive = refl; messages = refl; channels = sym (append-nil (channels_sent rest)) }
 are_quiet (Item.Sent channel message payload ∷ sent) rest are =
     let x = are_quiet sent rest are in
-    record { fact = x.fact; refusal = x.refusal; alive = x.alive; messages = ap (λ (l : List Spelled). SpelledBy message payload ∷ l) x.messages }
+    record {
+      fact = x.fact;
+      refusal = x.refusal;
+      alive = x.alive;
+      messages = ap (λ (l : List Spelled). SpelledBy message payload ∷ l) x.messages;
+      channels = ap (λ (l : List (Option ℕ)). l ++ channel ∷ []) x.channels ∙ append_assoc (channels_sent rest) (channels_sent sent) (channel ∷ []);
+    }
 are_quiet (Item.Fed cookie secret ∷ sent) rest are = absurd are
 are_quiet (Item.Asked ask ∷ sent) rest are = absurd are
 are_quiet (Item.AskRefused why ∷ sent) rest are = absurd are
@@ -137,6 +145,10 @@ messages_over : (fact : Option Fact) (sent rest : List Item) → messages_sent (
 messages_over None sent rest = refl
 messages_over (Some fact) sent rest = refl
 
+channels_over : (fact : Option Fact) (sent rest : List Item) → channels_sent (told fact sent ++ rest) ≡ channels_sent (sent ++ rest)
+channels_over None sent rest = refl
+channels_over (Some fact) sent rest = refl
+
 told_over : (fact : Option Fact) (sent rest : List Item) → told fact (sent ++ rest) ≡ told fact sent ++ rest
 told_over None sent rest = refl
 told_over (Some fact) sent rest = refl
@@ -149,38 +161,39 @@ no_more (x ∷ l) = ap (λ (m : List Spelled). x ∷ m) (no_more l)
 
 module _ (side : Side) (turn : Turn) (gathered : Option (List ℕ)) (is_over : Bool) (one two three four five six : List declared.Done)
     (took : AddsTook side turn.took gathered one two) (refused : AddsRefused side turn.refused two three)
-    (sent : AddsSent side (payloads_in turn.sent) three four) (tells : AddsTold side (option_map told_of turn.told) four five)
+    (sent : AddsSent side (payloads_in turn.sent) (channels_in turn.sent) three four) (tells : AddsTold side (option_map told_of turn.told) four five)
     (dies : AddsDeath side is_over five six) where
   -- an item was taken, for which nothing was sent
-  alone : (item : Item) (fact : Option Fact) → (IsTaken None (Some item) → ⊥) → IsTaken turn.took (Some item) → IsGathered gathered (Some item) → option_map told_of turn.told ≡ fact → option_map refusal_of turn.refused ≡ None → payloads_in turn.sent ≡ [] → Adds side (told fact (item ∷ [])) one five
-  alone item fact other is line tells_is unrefused unsent =
+  alone : (item : Item) (fact : Option Fact) → (IsTaken None (Some item) → ⊥) → IsTaken turn.took (Some item) → IsGathered gathered (Some item) → option_map told_of turn.told ≡ fact → option_map refusal_of turn.refused ≡ None → payloads_in turn.sent ≡ [] → channels_in turn.sent ≡ [] → Adds side (told fact (item ∷ [])) one five
+  alone item fact other is line tells_is unrefused unsent on_none =
       let a : Adds side (item ∷ []) one three = adds_same side (item ∷ []) one two three (took_noted side turn.took gathered item one two other is line took) (none_refused side turn.refused two three unrefused refused) in
-      let b : Adds side (item ∷ []) one four = adds_more side (item ∷ []) [] one three four a (sent [] tt unsent) in
+      let b : Adds side (item ∷ []) one four = adds_more side (item ∷ []) [] one three four a (sent [] tt unsent on_none) in
       told_noted side fact (item ∷ []) one four five b (subst (λ (f : Option Fact). AddsTold side f four five) tells_is tells)
 
   -- a message was taken, for which these were sent
   message_noted : (fact : Option Fact) (channel : Option ℕ) (message : Msg) (payload : List ℕ) (items : List Item) → AreSent items → TurnShows turn (told fact items ++ Took channel message payload ∷ []) →
-      payloads_in turn.sent ≡ payloads_of (messages_sent (told fact items ++ Took channel message payload ∷ [])) → is_over ≡ has_died (told fact items ++ Took channel message payload ∷ []) →
+      payloads_in turn.sent ≡ payloads_of (messages_sent (told fact items ++ Took channel message payload ∷ [])) → channels_in turn.sent ≡ channels_sent (told fact items ++ Took channel message payload ∷ []) → is_over ≡ has_died (told fact items ++ Took channel message payload ∷ []) →
       Adds side (told fact items ++ Took channel message payload ∷ []) one six
-  message_noted fact channel message payload items are shows lists over =
+  message_noted fact channel message payload items are shows lists on over =
       let taken : Item = Took channel message payload in
       let quiet = are_quiet items (taken ∷ []) are in
       let is : IsTaken turn.took (Some taken) = subst (λ (i : Option Item). IsTaken turn.took i) (oldest_is (told fact items) taken) shows.took in
       let tells_is : option_map told_of turn.told ≡ fact = shows.told ∙ fact_over fact items (taken ∷ []) quiet.fact in
       let unrefused : option_map refusal_of turn.refused ≡ None = shows.refused ∙ (refusal_over fact items (taken ∷ []) ∙ quiet.refusal) in
       let says : payloads_in turn.sent ≡ payloads_of (messages_sent items) = lists ∙ ap payloads_of (messages_over fact items (taken ∷ []) ∙ (quiet.messages ∙ no_more (messages_sent items))) in
+      let says_on : channels_in turn.sent ≡ channels_sent items = on ∙ (channels_over fact items (taken ∷ []) ∙ quiet.channels) in
       let alive : is_over ≡ false = over ∙ (died_over fact items (taken ∷ []) ∙ quiet.alive) in
       let a : Adds side (taken ∷ []) one three = adds_same side (taken ∷ []) one two three (took_noted side turn.took gathered taken one two (λ x. x) is tt took) (none_refused side turn.refused two three unrefused refused) in
-      let b : Adds side (items ++ taken ∷ []) one four = adds_more side (taken ∷ []) items one three four a (sent items are says) in
+      let b : Adds side (items ++ taken ∷ []) one four = adds_more side (taken ∷ []) items one three four a (sent items are says says_on) in
       let c : Adds side (told fact (items ++ taken ∷ [])) one five = told_noted side fact (items ++ taken ∷ []) one four five b (subst (λ (f : Option Fact). AddsTold side f four five) tells_is tells) in
       subst (λ (l : List Item). Adds side l one six) (told_over fact items (taken ∷ []))
       (death_noted side is_over (told fact (items ++ taken ∷ [])) one five six alive c dies)
 
   -- the peer was refused
   refusal_noted : (why : Refusal) (opened : Option (List ℕ)) (said : List Spelled) → TurnShows turn (Died ∷ (items_sent said ++ (Refused (refusal_of why) opened ∷ []))) →
-      payloads_in turn.sent ≡ payloads_of (messages_sent (Died ∷ (items_sent said ++ (Refused (refusal_of why) opened ∷ [])))) → is_over ≡ true →
+      payloads_in turn.sent ≡ payloads_of (messages_sent (Died ∷ (items_sent said ++ (Refused (refusal_of why) opened ∷ [])))) → channels_in turn.sent ≡ channels_sent (Died ∷ (items_sent said ++ (Refused (refusal_of why) opened ∷ []))) → is_over ≡ true →
       Adds side (Died ∷ (items_sent said ++ (Refused (refusal_of why) opened ∷ []))) one six
-  refusal_noted why opened said shows lists over =
+  refusal_noted why opened said shows lists on over =
       let refusing : Item = Refused (refusal_of why) opened in
       let are = said_are_sent said in
       let quiet = are_quiet (items_sent said) (refusing ∷ []) are in
@@ -188,25 +201,26 @@ module _ (side : Side) (turn : Turn) (gathered : Option (List ℕ)) (is_over : B
       let untaken : two ≡ one = refusal_untaken side turn.took gathered (refusal_of why) opened one two is took in
       let refuses : option_map refusal_of turn.refused ≡ Some (refusal_of why) = shows.refused ∙ quiet.refusal in
       let says : payloads_in turn.sent ≡ payloads_of (messages_sent (items_sent said)) = lists ∙ ap payloads_of (quiet.messages ∙ no_more (messages_sent (items_sent said))) in
+      let says_on : channels_in turn.sent ≡ channels_sent (items_sent said) = on ∙ quiet.channels in
       let untold : option_map told_of turn.told ≡ None = shows.told ∙ quiet.fact in
       let a : Adds side (refusing ∷ []) one three = subst (λ (l : List declared.Done). Adds side (refusing ∷ []) l three) untaken (some_refused side turn.refused why opened two three refuses refused) in
-      let b : Adds side (items_sent said ++ refusing ∷ []) one four = adds_more side (refusing ∷ []) (items_sent said) one three four a (sent (items_sent said) are says) in
+      let b : Adds side (items_sent said ++ refusing ∷ []) one four = adds_more side (refusing ∷ []) (items_sent said) one three four a (sent (items_sent said) are says says_on) in
       let c : Adds side (items_sent said ++ refusing ∷ []) one five = told_noted side None (items_sent said ++ refusing ∷ []) one four five b (subst (λ (f : Option Fact). AddsTold side f four five) untold tells) in
       end_noted side is_over (items_sent said ++ refusing ∷ []) one five six over c dies
 
-  shown_noted : (payload : List ℕ) (given : Step) (items : List Item) → Shows payload given items → TurnShows turn items → IsGathered gathered (oldest items) → payloads_in turn.sent ≡ payloads_of (messages_sent items) → is_over ≡ has_died items → Adds side items one six
-  shown_noted payload _ _ (Shows.other_line line) shows is lists over = death_noted side is_over (Item.TookOtherLine line ∷ []) one five six over (alone (Item.TookOtherLine line) None (λ x. x) shows.took is shows.told shows.refused lists) dies
-  shown_noted payload _ _ (Shows.version_line line) shows is lists over = death_noted side is_over (Item.TookLine line ∷ []) one five six over (alone (Item.TookLine line) None (λ x. x) shows.took is shows.told shows.refused lists) dies
-  shown_noted payload _ _ Shows.skipped shows none lists over = death_noted side is_over (Told Ignored ∷ Item.TookGuess payload ∷ []) one five six over (alone (Item.TookGuess payload) (Some Ignored) (λ x. x) shows.took tt shows.told shows.refused lists) dies
-  shown_noted payload _ _ (Shows.took channel probing telling given items is are) shows none lists over = message_noted (fact_told telling given channel) channel given payload items are shows lists over
-  shown_noted payload _ _ (Shows.disconnected reason description language is) shows none lists over = end_noted side is_over (Told (Disconnected reason description) ∷ Took None (Disconnect reason description language) payload ∷ []) one five six over (alone (Took None (Disconnect reason description language) payload) (Some (Disconnected reason description)) (λ x. x) shows.took tt shows.told shows.refused lists) dies
-  shown_noted payload _ _ (Shows.refused why opened said) shows none lists over = refusal_noted why opened said shows lists over
+  shown_noted : (payload : List ℕ) (given : Step) (items : List Item) → Shows payload given items → TurnShows turn items → IsGathered gathered (oldest items) → payloads_in turn.sent ≡ payloads_of (messages_sent items) → channels_in turn.sent ≡ channels_sent items → is_over ≡ has_died items → Adds side items one six
+  shown_noted payload _ _ (Shows.other_line line) shows is lists on over = death_noted side is_over (Item.TookOtherLine line ∷ []) one five six over (alone (Item.TookOtherLine line) None (λ x. x) shows.took is shows.told shows.refused lists on) dies
+  shown_noted payload _ _ (Shows.version_line line) shows is lists on over = death_noted side is_over (Item.TookLine line ∷ []) one five six over (alone (Item.TookLine line) None (λ x. x) shows.took is shows.told shows.refused lists on) dies
+  shown_noted payload _ _ Shows.skipped shows none lists on over = death_noted side is_over (Told Ignored ∷ Item.TookGuess payload ∷ []) one five six over (alone (Item.TookGuess payload) (Some Ignored) (λ x. x) shows.took tt shows.told shows.refused lists on) dies
+  shown_noted payload _ _ (Shows.took channel probing telling given items is are) shows none lists on over = message_noted (fact_told telling given channel) channel given payload items are shows lists on over
+  shown_noted payload _ _ (Shows.disconnected reason description language is) shows none lists on over = end_noted side is_over (Told (Disconnected reason description) ∷ Took None (Disconnect reason description language) payload ∷ []) one five six over (alone (Took None (Disconnect reason description language) payload) (Some (Disconnected reason description)) (λ x. x) shows.took tt shows.told shows.refused lists on) dies
+  shown_noted payload _ _ (Shows.refused why opened said) shows none lists on over = refusal_noted why opened said shows lists on over
 
   -- nothing was done
-  quiet_noted : TurnShows turn [] → payloads_in turn.sent ≡ [] → is_over ≡ false → Adds side [] one six
-  quiet_noted shows lists over =
+  quiet_noted : TurnShows turn [] → payloads_in turn.sent ≡ [] → channels_in turn.sent ≡ [] → is_over ≡ false → Adds side [] one six
+  quiet_noted shows lists on over =
       let a : Adds side [] one three = adds_same side [] one two three (adds_same side [] one one two (adds_nothing side one) (none_taken side turn.took gathered one two shows.took took)) (none_refused side turn.refused two three shows.refused refused) in
-      let b : Adds side [] one four = adds_more side [] [] one three four a (sent [] tt lists) in
+      let b : Adds side [] one four = adds_more side [] [] one three four a (sent [] tt lists on) in
       death_noted side is_over [] one five six over (told_noted side None [] one four five b (subst (λ (f : Option Fact). AddsTold side f four five) shows.told tells)) dies
 
   pub turn_noted : AddsTurn side turn gathered is_over one six
@@ -214,26 +228,26 @@ module _ (side : Side) (turn : Turn) (gathered : Option (List ℕ)) (is_over : B
 
 -- ---- an ask
 
-module _ (side : Side) (asked : Ask) (payloads : List (List ℕ)) (is_over : Bool) (one two three four : List declared.Done)
+module _ (side : Side) (asked : Ask) (payloads : List (List ℕ)) (channels : List (Option ℕ)) (is_over : Bool) (one two three four : List declared.Done)
     (asks : Adds side (Asked asked ∷ []) one two) (dies : AddsDeath side is_over three four) where
   -- what was sent, with the number of a channel that opens with it or without one
-  sent_noted : (fact : Option Fact) (channel : Option ℕ) (message : Msg) (payload : List ℕ) (refused sent : List declared.Done) → refused ≡ two → AddsSent side payloads refused sent → AddsTold side fact sent three →
-      payloads ≡ payload ∷ [] → Adds side (told fact (Sent channel message payload ∷ Asked asked ∷ [])) one three
-  sent_noted fact channel message payload refused sent same adds tells lists =
+  sent_noted : (fact : Option Fact) (channel : Option ℕ) (message : Msg) (payload : List ℕ) (refused sent : List declared.Done) → refused ≡ two → AddsSent side payloads channels refused sent → AddsTold side fact sent three →
+      payloads ≡ payload ∷ [] → channels ≡ channel ∷ [] → Adds side (told fact (Sent channel message payload ∷ Asked asked ∷ [])) one three
+  sent_noted fact channel message payload refused sent same adds tells lists on =
       let a : Adds side (Asked asked ∷ []) one refused = adds_same side (Asked asked ∷ []) one two refused asks same in
-      let b : Adds side (Sent channel message payload ∷ Asked asked ∷ []) one sent = adds_more side (Asked asked ∷ []) (Sent channel message payload ∷ []) one refused sent a (adds (Sent channel message payload ∷ []) tt lists) in
+      let b : Adds side (Sent channel message payload ∷ Asked asked ∷ []) one sent = adds_more side (Asked asked ∷ []) (Sent channel message payload ∷ []) one refused sent a (adds (Sent channel message payload ∷ []) tt lists on) in
       told_noted side fact (Sent channel message payload ∷ Asked asked ∷ []) one sent three b tells
 
-  pub ask_noted : (step : AskStep) → AddsStep side step payloads two three → (items : List Item) → ShowsAsk asked step items → payloads ≡ payloads_of (messages_sent items) → is_over ≡ has_died items → Adds side items one four
-  ask_noted _ x _ (ShowsAsk.sent channel None message payload) lists over =
-      death_noted side is_over (Sent channel message payload ∷ Asked asked ∷ []) one three four over (sent_noted None channel message payload x.refused x.sent x.adds_refused x.adds_sent x.adds_opening lists) dies
-  ask_noted _ x _ (ShowsAsk.sent channel (Some opening) message payload) lists over =
-      death_noted side is_over (Told (Opening opening) ∷ Sent channel message payload ∷ Asked asked ∷ []) one three four over (sent_noted (Some (Opening opening)) channel message payload x.refused x.sent x.adds_refused x.adds_sent x.adds_opening lists) dies
-  ask_noted _ x _ (ShowsAsk.disconnected description payload is) lists over =
-      end_noted side is_over (Sent None (Disconnect 11 description []) payload ∷ Asked asked ∷ []) one three four over (sent_noted None None (Disconnect 11 description []) payload x.refused x.sent x.adds_refused x.adds_sent x.adds_opening lists) dies
-  ask_noted _ x _ ShowsAsk.spent lists over =
+  pub ask_noted : (step : AskStep) → AddsStep side step payloads channels two three → (items : List Item) → ShowsAsk asked step items → payloads ≡ payloads_of (messages_sent items) → channels ≡ channels_sent items → is_over ≡ has_died items → Adds side items one four
+  ask_noted _ x _ (ShowsAsk.sent channel None message payload) lists on over =
+      death_noted side is_over (Sent channel message payload ∷ Asked asked ∷ []) one three four over (sent_noted None channel message payload x.refused x.sent x.adds_refused x.adds_sent x.adds_opening lists on) dies
+  ask_noted _ x _ (ShowsAsk.sent channel (Some opening) message payload) lists on over =
+      death_noted side is_over (Told (Opening opening) ∷ Sent channel message payload ∷ Asked asked ∷ []) one three four over (sent_noted (Some (Opening opening)) channel message payload x.refused x.sent x.adds_refused x.adds_sent x.adds_opening lists on) dies
+  ask_noted _ x _ (ShowsAsk.disconnected description payload is) lists on over =
+      end_noted side is_over (Sent None (Disconnect 11 description []) payload ∷ Asked asked ∷ []) one three four over (sent_noted None None (Disconnect 11 description []) payload x.refused x.sent x.adds_refused x.adds_sent x.adds_opening lists on) dies
+  ask_noted _ x _ ShowsAsk.spent lists on over =
       let a : Adds side (Refused NumberSpent None ∷ Asked asked ∷ []) one x.refused = adds_more side (Asked asked ∷ []) (Refused NumberSpent None ∷ []) one two x.refused asks (x.adds_refused None) in
-      let b : Adds side (Refused NumberSpent None ∷ Asked asked ∷ []) one x.sent = adds_more side (Refused NumberSpent None ∷ Asked asked ∷ []) [] one x.refused x.sent a (x.adds_sent [] tt lists) in
+      let b : Adds side (Refused NumberSpent None ∷ Asked asked ∷ []) one x.sent = adds_more side (Refused NumberSpent None ∷ Asked asked ∷ []) [] one x.refused x.sent a (x.adds_sent [] tt lists on) in
       end_noted side is_over (Refused NumberSpent None ∷ Asked asked ∷ []) one three four over (adds_same side (Refused NumberSpent None ∷ Asked asked ∷ []) one x.sent three b x.adds_opening) dies
 
 -- ---- what was sent, one after the other
@@ -255,8 +269,8 @@ same_ends (a ∷ l) (b ∷ m) x y e = let r = same_ends l m x y (cc e) in record
     both : {A : Type 0} (a b : A) (l m : List A) → a ≡ b → l ≡ m → a ∷ l ≡ b ∷ m
     both a b l m e f = ap (λ (x : _). x ∷ l) e ∙ ap (λ (t : List _). b ∷ t) f
 
-pub sent_none : (side : Side) (one : List declared.Done) → AddsSent side [] one one
-sent_none side one items are e = none items are e
+pub sent_none : (side : Side) (one : List declared.Done) → AddsSent side [] [] one one
+sent_none side one items are e on = none items are e
   where
     none : (items : List Item) → AreSent items → [] ≡ payloads_of (messages_sent items) → Adds side items one one
     none [] are e = adds_nothing side one
@@ -273,36 +287,57 @@ sent_none side one items are e = none items are e
     none (Item.Refused why payload ∷ items) are e = absurd are
     none (Item.Died ∷ items) are e = absurd are
 
-pub sent_more : (side : Side) (payloads : List (List ℕ)) (payload : List ℕ) (one two three : List declared.Done) → AddsSent side payloads one two →
-    ((channel : Option ℕ) (message : Msg) → Adds side (Sent channel message payload ∷ []) two three) → AddsSent side (payloads ++ payload ∷ []) one three
-sent_more side payloads payload one two three x y items are e = goes items are e
+pub sent_more : (side : Side) (payloads : List (List ℕ)) (payload : List ℕ) (channels : List (Option ℕ)) (channel : Option ℕ) (one two three : List declared.Done) → AddsSent side payloads channels one two →
+    ((message : Msg) → Adds side (Sent channel message payload ∷ []) two three) → AddsSent side (payloads ++ payload ∷ []) (channels ++ channel ∷ []) one three
+sent_more side payloads payload channels channel one two three x y items are e on = goes items are e on
   where
-    goes : (items : List Item) → AreSent items → payloads ++ payload ∷ [] ≡ payloads_of (messages_sent items) → Adds side items one three
-    goes [] are e = absurd (no_end payloads payload (sym e))
-    goes (Item.Sent channel message other ∷ items) are e =
+    goes : (items : List Item) → AreSent items → payloads ++ payload ∷ [] ≡ payloads_of (messages_sent items) → channels ++ channel ∷ [] ≡ channels_sent items → Adds side items one three
+    goes [] are e on = absurd (no_end payloads payload (sym e))
+    goes (Item.Sent number message other ∷ items) are e on =
         let same = same_ends payloads (payloads_of (messages_sent items)) payload other e in
-        adds_more side items (Sent channel message other ∷ []) one two three (x items are same.fronts) (subst (λ (b : List ℕ). Adds side (Sent channel message b ∷ []) two three) same.lasts (y channel message))
-    goes (Item.Fed cookie secret ∷ items) are e = absurd are
-    goes (Item.Asked ask ∷ items) are e = absurd are
-    goes (Item.AskRefused why ∷ items) are e = absurd are
-    goes (Item.SentLine line ∷ items) are e = absurd are
-    goes (Item.TookLine line ∷ items) are e = absurd are
-    goes (Item.TookOtherLine line ∷ items) are e = absurd are
-    goes (Item.Took channel message payload ∷ items) are e = absurd are
-    goes (Item.TookGuess payload ∷ items) are e = absurd are
-    goes (Item.Told fact ∷ items) are e = absurd are
-    goes (Item.Refused why payload ∷ items) are e = absurd are
-    goes (Item.Died ∷ items) are e = absurd are
+        let same_on = same_ends channels (channels_sent items) channel number on in
+        let noted : Adds side (Sent channel message other ∷ []) two three = subst (λ (b : List ℕ). Adds side (Sent channel message b ∷ []) two three) same.lasts (y message) in
+        adds_more side items (Sent number message other ∷ []) one two three (x items are same.fronts same_on.fronts) (subst (λ (c : Option ℕ). Adds side (Sent c message other ∷ []) two three) same_on.lasts noted)
+    goes (Item.Fed cookie secret ∷ items) are e on = absurd are
+    goes (Item.Asked ask ∷ items) are e on = absurd are
+    goes (Item.AskRefused why ∷ items) are e on = absurd are
+    goes (Item.SentLine line ∷ items) are e on = absurd are
+    goes (Item.TookLine line ∷ items) are e on = absurd are
+    goes (Item.TookOtherLine line ∷ items) are e on = absurd are
+    goes (Item.Took channel message payload ∷ items) are e on = absurd are
+    goes (Item.TookGuess payload ∷ items) are e on = absurd are
+    goes (Item.Told fact ∷ items) are e on = absurd are
+    goes (Item.Refused why payload ∷ items) are e on = absurd are
+    goes (Item.Died ∷ items) are e on = absurd are
 
-pub sent_next : {V : Type 0} (side : Side) (f : V → List ℕ) (items : List V) (i : ℕ) (x : V) (one two three : List declared.Done) → x ≡ get_or items i x → i < length items → AddsSent side (map f (take i items)) one two →
-    ((channel : Option ℕ) (message : Msg) → Adds side (Sent channel message (f x) ∷ []) two three) → AddsSent side (map f (take (i + 1) items)) one three
-sent_next side f items i x one two three e lt before one_more =
+-- what was sent has as many channels as payloads
+as_many : (sent : List Item) → AreSent sent → length (channels_sent sent) ≡ length (payloads_of (messages_sent sent))
+as_many [] are = refl
+as_many (Item.Sent channel message payload ∷ sent) are =
+    length-append (channels_sent sent) (channel ∷ []) ∙ (ap (λ (n : ℕ). n + 1) (as_many sent are) ∙ sym (length-append (payloads_of (messages_sent sent)) (payload ∷ [])))
+as_many (_ ∷ sent) are = absurd are
+
+-- Where each payload has its channel, so many of the first of both were noted.
+abbrev pub AddsFirst : {V : Type 0} → Side → (V → List ℕ) → List V → List (Option ℕ) → ℕ → (old new : List declared.Done) → Type 0
+AddsFirst side f items channels i old new = length channels ≡ length items → AddsSent side (map f (take i items)) (take i channels) old new
+
+pub sent_next : {V : Type 0} (side : Side) (f : V → List ℕ) (items : List V) (channels : List (Option ℕ)) (i : ℕ) (x : V) (channel : Option ℕ) (one two three : List declared.Done) → x ≡ get_or items i x → channel ≡ get_or channels i None → i < length items → AddsFirst side f items channels i one two →
+    ((message : Msg) → Adds side (Sent channel message (f x) ∷ []) two three) → AddsFirst side f items channels (i + 1) one three
+sent_next side f items channels i x channel one two three e on lt before one_more same =
     let next : take (i + 1) items ≡ take i items ++ x ∷ [] = take_more items i x lt ∙ ap (λ (y : _). take i items ++ y ∷ []) (sym e) in
-    subst (λ (l : List (List ℕ)). AddsSent side l one three) (sym (ap (map f) next ∙ mapped_more f (take i items) x)) (sent_more side (map f (take i items)) (f x) one two three before one_more)
+    let next_on : take (i + 1) channels ≡ take i channels ++ channel ∷ [] = take_more channels i None (omega (arith, lt, same)) ∙ ap (λ (c : Option ℕ). take i channels ++ c ∷ []) (sym on) in
+    let noted : AddsSent side (map f (take i items) ++ f x ∷ []) (take i channels ++ channel ∷ []) one three = sent_more side (map f (take i items)) (f x) (take i channels) channel one two three (before same) one_more in
+    subst (λ (l : List (List ℕ)). AddsSent side l (take (i + 1) channels) one three) (sym (ap (map f) next ∙ mapped_more f (take i items) x))
+    (subst (λ (l : List (Option ℕ)). AddsSent side (map f (take i items) ++ f x ∷ []) l one three) (sym next_on) noted)
   where
     mapped_more : {V : Type 0} (f : V → List ℕ) (l : List V) (x : V) → map f (l ++ x ∷ []) ≡ map f l ++ f x ∷ []
     mapped_more f [] x = refl
     mapped_more f (y ∷ l) x = ap (λ (t : List (List ℕ)). f y ∷ t) (mapped_more f l x)
+
+pub sent_all : {V : Type 0} (side : Side) (f : V → List ℕ) (items : List V) (channels : List (Option ℕ)) (payloads : List (List ℕ)) (i : ℕ) (one two : List declared.Done) → map f items ≡ payloads → length items ≤ i → AddsFirst side f items channels i one two → AddsSent side payloads channels one two
+sent_all side f items channels payloads i one two all done noted sent are says on =
+    let same : length channels ≡ length items = ap length on ∙ (as_many sent are ∙ (ap length (sym says) ∙ (ap length (sym all) ∙ length-map items f))) in
+    noted same sent are (ap (map f) (take_all i items done) ∙ (all ∙ says)) (take_all i channels (omega (arith, done, same)) ∙ on)
 
 -- ---- of what may fail
 

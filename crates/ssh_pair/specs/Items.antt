@@ -63,14 +63,15 @@ shown_fact (session.Fact.Closed channel) = fact.Closed channel
 shown_fact (session.Fact.Requested channel name want rest) = fact.Requested channel
 shown_fact (session.Fact.RequestDone channel answer) = fact.RequestDone channel answer
 
--- The item of a session is shown as this one. Of the channel of what is sent nothing is said.
+-- The item of a session is shown as this one.
 abbrev pub IsItem : Item → session.Item → Type 0
 IsItem (item.Asked asked) (session.Item.Asked ask) = asked ≡ kind_of ask
 IsItem (item.AskRefused why) (session.Item.AskRefused refusal) = ask_refusal_of why ≡ refusal
 IsItem (item.SentLine text) (session.Item.SentLine line) = text.items ≡ line
 IsItem (item.TookLine text) (session.Item.TookLine line) = text.items ≡ line
 IsItem (item.TookLine text) (session.Item.TookOtherLine line) = text.items ≡ line
-IsItem (item.Sent number text) (session.Item.Sent channel message payload) = text.items ≡ payload
+IsItem (item.Sent number text) (session.Item.Sent channel message payload) =
+    (number ≡ channel) × (text.items ≡ payload)
 IsItem (item.Took number text) (session.Item.Took channel message payload) =
     (number ≡ channel) × (text.items ≡ payload)
 IsItem (item.Skipped text) (session.Item.TookGuess payload) = text.items ≡ payload

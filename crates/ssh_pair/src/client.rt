@@ -18,7 +18,7 @@ use crate::lines::Lines;
 use crate::material::is_material;
 use crate::notes::{note_ask, note_death, note_line, note_sent, note_turn};
 use ssh_auth::UserSigner;
-use ssh_end::turn_laws::{clients_deaths, clients_turns};
+use ssh_end::turn_laws::{clients_deaths, clients_turns, turns_channels};
 use ssh_end::{Ask, ClientEnd};
 use ssh_model::end::{asks, deaths, identified, openings, units};
 use ssh_model::pair::{deliveries, parts};
@@ -173,6 +173,7 @@ fn advance_client<P: ClientParts, U: UserSigner + Drop>(
     identified::<<P::Sealing as Sealing>::Key>();
     units::<<P::Sealing as Sealing>::Key>();
     clients_turns::<<P::Sealing as Sealing>::Key>();
+    turns_channels::<<P::Sealing as Sealing>::Key>();
     clients_deaths::<<P::Sealing as Sealing>::Key>();
     deaths::<<P::Sealing as Sealing>::Key>();
     let Ok(used) = end.advance(bytes, out) else {

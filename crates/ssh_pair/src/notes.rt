@@ -1,13 +1,13 @@
 //! What an end did, noted for a transcript.
 
-ghost use Rattle.std.specs.Prelude.{◌∷◌, ◌≡◌, ℕ, List, OnOk, Option, [], option_map};
+ghost use Rattle.std.specs.Prelude.{◌∷◌, ◌≡◌, List, OnOk, [], option_map};
 ghost use Rattle.ssh_model.specs.Wire.Message.{Msg};
 ghost use Rattle.ssh_model.specs.Side.{DoneBy.By};
 ghost use Rattle.ssh_model.specs.Sessions.Items as session;
 ghost use Rattle.ssh_types.specs.Sides.{side_of};
 ghost use Rattle.ssh_end.specs.Asking.{ask_of};
 ghost use Rattle.ssh_end.specs.Told.{told_of};
-ghost use Rattle.ssh_end.specs.Turn.{payloads_in};
+ghost use Rattle.ssh_end.specs.Turn.{channels_in, payloads_in};
 ghost use Rattle.ssh_pair.specs.Gathering.{gathered_after};
 ghost use Rattle.ssh_pair.specs.Items.{IsItem, Notes};
 ghost use Rattle.ssh_pair.specs.Noting.{Adds, AddsAsk, AddsDeath, AddsRefused, AddsSent, AddsStep, AddsTold, AddsTook, AddsTurn};
@@ -93,7 +93,7 @@ pub(crate) fn note_sent(
     side: Side,
     sent: &SentPayloads<'_>,
 ) -> Result<(), AllocError>
-    ensures { OnOk result (AddsSent (side_of side) (payloads_in sent.now) log.old.items log.new.items) }
+    ensures { OnOk result (AddsSent (side_of side) (payloads_in sent.now) (channels_in sent.now) log.old.items log.new.items) }
 {
     for (index, payload) in sent.payloads().iter().enumerate() {
         note_payload(alloc, log, side, sent.channel(index), payload.as_slice())?;
@@ -101,7 +101,7 @@ pub(crate) fn note_sent(
     Ok(())
 }
 
-// Notes that a payload was sent.
+// Notes that a payload was sent, on this channel or on none.
 fn note_payload(
     alloc: Global,
     log: &mut Vec<Done>,
@@ -109,7 +109,7 @@ fn note_payload(
     channel: Option<u32>,
     payload: &[u8],
 ) -> Result<(), AllocError>
-    ensures { OnOk result ((number : Option ℕ) (message : Msg) → Adds (side_of side) (session.Item.Sent number message payload.now ∷ []) log.old.items log.new.items) }
+    ensures { OnOk result ((message : Msg) → Adds (side_of side) (session.Item.Sent channel message payload.now ∷ []) log.old.items log.new.items) }
 {
     let payload = payload.to_vec(alloc)?;
     note(log, side, Item::Sent { channel, payload })
@@ -146,7 +146,7 @@ pub(crate) fn note_ask(
     sent: &SentPayloads<'_>,
     is_over: bool,
 ) -> Result<(), AllocError>
-    ensures { OnOk result (AddsAsk (side_of side) (ask_of ask.now) done (payloads_in sent.now) is_over log.old.items log.new.items) }
+    ensures { OnOk result (AddsAsk (side_of side) (ask_of ask.now) done (payloads_in sent.now) (channels_in sent.now) is_over log.old.items log.new.items) }
 {
     match done {
         Ok(step) => {
@@ -171,7 +171,7 @@ fn note_step(
     step: &AskStep,
     sent: &SentPayloads<'_>,
 ) -> Result<(), AllocError>
-    ensures { OnOk result (AddsStep (side_of side) step.now (payloads_in sent.now) log.old.items log.new.items) }
+    ensures { OnOk result (AddsStep (side_of side) step.now (payloads_in sent.now) (channels_in sent.now) log.old.items log.new.items) }
 {
     note_refused(log, side, step.refused)?;
     note_sent(alloc, log, side, sent)?;

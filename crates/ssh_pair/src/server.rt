@@ -18,7 +18,7 @@ use crate::lines::Lines;
 use crate::material::is_material;
 use crate::notes::{note_ask, note_death, note_line, note_sent, note_turn};
 use ssh_auth::UserJudge;
-use ssh_end::turn_laws::{servers_deaths, servers_turns};
+use ssh_end::turn_laws::{servers_deaths, servers_turns, turns_channels};
 use ssh_end::{Ask, ServerEnd};
 use ssh_model::end::{asks, deaths, identified, openings, units};
 use ssh_model::pair::{deliveries, parts};
@@ -174,6 +174,7 @@ fn advance_server<P: ServerParts, U: UserJudge + Drop>(
     identified::<<P::Sealing as Sealing>::Key>();
     units::<<P::Sealing as Sealing>::Key>();
     servers_turns::<<P::Sealing as Sealing>::Key>();
+    turns_channels::<<P::Sealing as Sealing>::Key>();
     servers_deaths::<<P::Sealing as Sealing>::Key>();
     deaths::<<P::Sealing as Sealing>::Key>();
     let (next, _) = end.numbers();

@@ -14,10 +14,10 @@ pub returns-clause-opens : goal.returns-clause-opens
 returns-clause-opens g c = λ p crypto given.
     let x = c.in_ok-end.ensures.opened in
     let settings = given ∙ sym (ap (λ t. config.settings_of t.0) c.into_parts-config.ensures) in
-    opens_as p Server c.into_parts-config.result.3 c.into_parts-config.result.4 c.in_ok-end.end.machine c.args.log.now.items c.note_line.new.log.items c.note_sent.new.log.items c.args.out.now.items c.new.new.out.items c.in_ok-end.end.sent _
+    opens_as p Server c.into_parts-config.result.3 c.into_parts-config.result.4 c.in_ok-end.end.machine c.args.log.now.items c.note_line.new.log.items c.note_sent.new.log.items c.args.out.now.items c.new.new.out.items c.in_ok-end.end.sent _ _
     c.is_material.ensures (λ payload more puts. c.openings.ensures.opened p Server c.into_parts-config.result.3 c.into_parts-config.result.4 payload more c.is_material.ensures puts)
     (subst (λ l. Adds Server (SentLine l ∷ []) c.args.log.now.items c.note_line.new.log.items) (c.line.ensures.line ∙ sym (ap (λ s. s.line) settings)) c.in_ok-note_line.ensures)
-    c.in_ok-note_sent.ensures c.turn.ensures.sent (end_of c.in_ok-end.end.machine.kept c.in_ok-end.end.layers)
+    c.in_ok-note_sent.ensures c.turn.ensures.sent (c.turn.ensures.channels ∙ c.in_ok-end.ensures.channels) (end_of c.in_ok-end.end.machine.kept c.in_ok-end.end.layers)
     (λ payload kept. sym (ap (λ k. record { transport = k; authentication = OfServer c.in_ok-end.end.layers.authentication.kept; channels = c.in_ok-end.end.layers.channels }) kept
     ∙ (ap (λ a. record { transport = (new_end (settings_of p Server) Server c.into_parts-config.result.4 payload).transport; authentication = OfServer a; channels = c.in_ok-end.end.layers.channels }) x.authentication
     ∙ ap (λ h. record { transport = (new_end (settings_of p Server) Server c.into_parts-config.result.4 payload).transport; authentication = OfServer new_server; channels = h }) x.channels)))
