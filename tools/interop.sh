@@ -6,7 +6,8 @@
 #
 # Wants ssh, ssh-keygen, python3, and as root sshd. What is missing is said and left out; on Debian it comes by
 #   apt-get install openssh-client openssh-server dropbear-bin putty-tools python3-asyncssh python3-paramiko
-# The program is proved and built first; SSH_PIPE=FILE takes another one. SIZE is that of the transfers in bytes, ROUNDS how often each is timed.
+# The program is proved and built first; SSH_PIPE=FILE takes another one. SIZE is that of the transfers in bytes, ROUNDS how often each is timed. With perf
+# (linux-perf on Debian) it is also sampled where the time of a transfer goes.
 set -u
 tools=$(cd "$(dirname "$0")" && pwd)
 top=$(dirname "$tools")
@@ -31,8 +32,10 @@ cp "$SSH_PIPE" pipe
 failed=0
 rows=$work/rows
 speeds=$work/speeds
+where=$work/where
 : >"$rows"
 : >"$speeds"
+: >"$where"
 
 # ---- what the cases need
 
@@ -80,7 +83,7 @@ changed() {
     exec cat
 }
 run() {
-    ./pipe server --host-key host --user reader --authorized-keys authorized --password-file password ${SERVER:-} 2>server.err
+    ${SAMPLED:-} ./pipe server --host-key host --user reader --authorized-keys authorized --password-file password ${SERVER:-} 2>server.err
     echo $? >status.new
     mv status.new server.status
 }
@@ -215,7 +218,7 @@ between() {
     else
         timeout -k 5 "$limit" $SERVE <up >down 2>serve.err &
     fi
-    timeout -k 5 "$limit" ./pipe client "$@" >up <down
+    timeout -k 5 "$limit" ${SAMPLED:-} ./pipe client "$@" >up <down
     ended=$?
     wait
     return "$ended"
@@ -392,6 +395,47 @@ timings() {
     speed "sshd to the client \`ssh_pipe\`" "$(fastest down_to_client)" "$down"
 }
 
+# ---- where the time goes
+
+# sampled NAME COMMAND..: the shares of the time that ssh_pipe took in this transfer, as the sampler saw it, in a file of that name, a line for each part.
+sampled() {
+    local name=$1
+    shift
+    rm -f server.status
+    SAMPLED="perf record -q -e cpu-clock -o $work/samples" "$@" >/dev/null 2>log || echo "FAILED  $name, sampled"
+    for _ in $(seq 100); do pgrep -f "$work/samples" >/dev/null || break; sleep 0.1; done
+    perf report -i samples --stdio --no-children -F overhead,symbol 2>/dev/null | awk '
+        !/%/ { next }
+        { part = "copies and memory" }
+        /\[k\]/ { part = "the system: reading and writing" }
+        /ssh_[a-z]*::|ssh_transport_[a-z]*::/ { part = "packets, messages, ends: all other crates of the core" }
+        /ssh_pipe(_[a-z]*)?::/ { part = "the program and its commands" }
+        /sha2::|x25519::|ed25519::/ { part = "the exchange of keys" }
+        /aes_gcm::|ssh_parts::packet_key/ { part = "AES-128-GCM" }
+        { share[part] += $1 }
+        END { for (part in share) printf "%s\t%.1f\n", part, share[part] }' >"$name"
+}
+where_the_time_goes() {
+    local part name
+    has perf && perf record -q -e cpu-clock -o samples true 2>/dev/null || { echo "not there: perf"; echo "perf was not there." >"$where"; return; }
+    sampled server_takes up_to_server
+    sampled server_sends down_from_server
+    sampled client_sends up_from_client
+    sampled client_takes down_to_client
+    {
+        echo "| Part | the server takes | the server sends | the client sends | the client takes |"
+        echo "|---|---|---|---|---|"
+        for part in "AES-128-GCM" "the program and its commands" "packets, messages, ends: all other crates of the core" "the exchange of keys" "copies and memory" \
+            "the system: reading and writing"; do
+            printf '| %s |' "$part"
+            for name in server_takes server_sends client_sends client_takes; do
+                awk -F'\t' -v part="$part" '$1 == part { share = $2 } END { printf " %.1f %% |", share }' "$name"
+            done
+            echo
+        done
+    } | tee -a "$where"
+}
+
 # ---- all of it
 
 stock_client
@@ -399,6 +443,7 @@ if [ -x "$sshd" ] && [ "$(id -u)" = 0 ]; then
     [ -d /run/sshd ] || mkdir /run/sshd
     stock_server
     timings
+    where_the_time_goes
 else
     echo "not there: sshd, or not run as root"
 fi
@@ -408,6 +453,7 @@ without_common
 if [ -n "${PAGE:-}" ]; then
     sed -e "/^@rows@$/{r $rows
 d}" -e "/^@speeds@$/{r $speeds
+d}" -e "/^@where@$/{r $where
 d}" "$tools/interop/page.md" >"$PAGE"
 fi
 echo "$failed failed"
