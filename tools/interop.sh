@@ -451,7 +451,7 @@ with_putty
 with_asyncssh
 without_common
 if [ -n "${PAGE:-}" ]; then
-    sed -e "/^@rows@$/{r $rows
+    sed -e "s/@date@/$(date '+%-d %B %Y')/; s/@cores@/$(nproc)/" -e "/^@rows@$/{r $rows
 d}" -e "/^@speeds@$/{r $speeds
 d}" -e "/^@where@$/{r $where
 d}" "$tools/interop/page.md" >"$PAGE"
