@@ -1,5 +1,6 @@
 //! Exchanges of keys, byte for byte and in any pieces.
 
+use crate::arrays::first_bytes;
 use crate::checking::same;
 use crate::pair::Pair;
 use crate::sessions::{
@@ -101,7 +102,7 @@ fn what_two_ends_show(rt: HostRuntime) -> Result<(), Fail> {
         assert!(rt; end.blocked() && end.session_id().is_none());
     }
     same!(rt, pair.differs(&[FIRST], false)?, None);
-    let first = array(&hex::decode(rt.alloc(), FIRST_HASH)?);
+    let first = first_bytes(&hex::decode(rt.alloc(), FIRST_HASH)?);
     for side in [Client, Server] {
         let end = pair.party(side).end();
         same!(rt, (end.numbers(), end.epochs()), ((0, 0), (1, 1)));
@@ -118,7 +119,7 @@ fn what_two_ends_show(rt: HostRuntime) -> Result<(), Fail> {
         same!(rt, (end.numbers(), end.epochs()), ((0, 0), (2, 2)));
         same!(rt, end.session_id(), Some(first));
     }
-    let second = array(&hex::decode(rt.alloc(), SECOND_HASH)?);
+    let second = first_bytes(&hex::decode(rt.alloc(), SECOND_HASH)?);
     for (place, size, last, hash) in [(0, 484, 0x03, first), (1, 426, 0x10, second)] {
         let (text, computed) = exchange(rt.alloc(), &pair, place, last)?;
         same!(rt, text.len(), size);
@@ -139,13 +140,13 @@ fn exchange(
     shared: u8,
 ) -> Result<(Vec<u8>, [u8; 32]), AllocError> {
     let (client, server) = (pair.party(Client), pair.party(Server));
-    let client_point = array(
+    let client_point = first_bytes(
         client
             .sent_of(30, place)
             .and_then(|p| p.get(5..))
             .unwrap_or(&[]),
     );
-    let server_point = array(
+    let server_point = first_bytes(
         server
             .sent_of(31, place)
             .and_then(|p| p.get(17..))
@@ -165,15 +166,6 @@ fn exchange(
         return Ok((Vec::new(alloc), [0; 32]));
     }
     Ok((exchange_text(alloc, &inputs)?, exchange_hash(&inputs)))
-}
-
-// The first 32 bytes, with zeros where there are fewer.
-fn array(bytes: &[u8]) -> [u8; 32] {
-    let mut array = [0; 32];
-    for (place, byte) in array.iter_mut().zip(bytes.iter()) {
-        *place = *byte;
-    }
-    array
 }
 
 // How many bytes each call uses: to the end of a line or a packet, and no further.

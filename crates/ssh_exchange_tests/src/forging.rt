@@ -32,25 +32,20 @@ fn taking_key(to: &Party, side: Side, client: &Party, server: &Party) -> Option<
     let place = (to.end().epochs().1 as usize).checked_sub(1)?;
     let init = client.sent_of(30, place)?;
     let reply = server.sent_of(31, place)?;
-    let shared = exclusive_or(&array(init, 5)?, &array(reply, 17)?);
+    let shared = exclusive_or(array(init, 5)?, array(reply, 17)?);
     let hash = array(reply, 53)?;
     let letter = match side {
         Side::Client => Letter::F,
         Side::Server => Letter::E,
     };
     let mut key = [0; 32];
-    derive(&shared, &hash, letter, &to.end().session_id()?, &mut key);
+    derive(&shared, hash, letter, &to.end().session_id()?, &mut key);
     Some(HmacKey::new(&key))
 }
 
 // 32 bytes from this one on.
-fn array(bytes: &[u8], start: usize) -> Option<[u8; 32]> {
-    let part = bytes.get(start..)?.get(..32)?;
-    let mut array = [0; 32];
-    for (place, byte) in array.iter_mut().zip(part.iter()) {
-        *place = *byte;
-    }
-    Some(array)
+fn array(bytes: &[u8], start: usize) -> Option<&[u8; 32]> {
+    bytes.get(start..)?.first_chunk()
 }
 
 // What two toy points share.

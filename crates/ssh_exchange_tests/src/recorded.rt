@@ -7,6 +7,7 @@ mod openssh_client;
 mod openssh_server;
 mod parts;
 
+use crate::arrays::first_bytes;
 use crate::checking::{same, same_at};
 use crate::toys::settings;
 use parts::{RecordedAgreement, RecordedClient, RecordedHost, RecordedServer};
@@ -30,14 +31,9 @@ fn recorded_settings() -> Settings<'static> {
     }
 }
 
-// So many bytes of hexadecimal digits, with zeros where there are fewer.
+// So many bytes of hexadecimal digits, or zeros where there are fewer.
 fn array<const N: usize>(alloc: Global, digits: &str) -> Result<[u8; N], AllocError> {
-    let mut array = [0; N];
-    let bytes = bytes(alloc, digits)?;
-    for (place, byte) in array.iter_mut().zip(bytes.iter()) {
-        *place = *byte;
-    }
-    Ok(array)
+    Ok(first_bytes(bytes(alloc, digits)?.as_slice()))
 }
 
 // The bytes of hexadecimal digits, or none where they are not.
@@ -79,7 +75,7 @@ fn host(
 
 // The payload in the bytes of a packet.
 fn payload_of(wire: &[u8]) -> Option<&[u8]> {
-    let length = u32::from_be_bytes([*wire.first()?, *wire.get(1)?, *wire.get(2)?, *wire.get(3)?]);
+    let length = u32::from_be_bytes(*wire.first_chunk()?);
     let padding = *wire.get(4)? as usize;
     let end = (length as usize).checked_add(4)?.checked_sub(padding)?;
     wire.get(5..end)
@@ -247,11 +243,7 @@ fn recorded_server(
 
 // The cookie in the payload of a KEXINIT.
 fn cookie_of(payload: &[u8]) -> [u8; 16] {
-    let mut cookie = [0; 16];
-    for (place, byte) in cookie.iter_mut().zip(payload.iter().skip(1)) {
-        *place = *byte;
-    }
-    cookie
+    first_bytes(payload.get(1..).unwrap_or(&[]))
 }
 
 // The packet of a payload, as the one of this number, padded with zeros.
