@@ -31,7 +31,7 @@ impl Drop for Line {
 }
 
 // What a call came to.
-#[derive(Clone, Copy, Debug, PartialEq, Eq)]
+#[derive(Clone, Copy, PartialEq, Eq)]
 enum Came {
     Done,
     // Memory was refused, nothing was put out, and the end is over.
@@ -41,7 +41,7 @@ enum Came {
 }
 
 // What is done, one after the other: bytes of one end reach the other, an ask, a feed, or word that the user is authenticated.
-#[derive(Clone, Copy, Debug)]
+#[derive(Clone, Copy)]
 enum Act {
     Pass(Side),
     Service,

@@ -202,9 +202,7 @@ fn wanted(alloc: Global, place: Place, byte: u8, number: u64) -> Result<String, 
         return format!(in alloc; "{side} took 21 NEWKEYS 1");
     }
     if longer.contains(&byte) {
-        return format!(in alloc;
-            "{side} refused 6 BadMessage; {side} sent 1 DISCONNECT 23; {side} died"
-        );
+        return refusal(alloc, side, "6 BadMessage");
     }
     if byte < unknown_below(kind) && byte != 7 && name == "UNKNOWN" {
         return format!(in alloc; "{side} took {byte} UNKNOWN 1; {side} sent 3 UNIMPLEMENTED 5");
@@ -212,7 +210,12 @@ fn wanted(alloc: Global, place: Place, byte: u8, number: u64) -> Result<String, 
     if byte >= 50 && kind == Normal {
         return format!(in alloc; "{side} took {byte} {name} 1; {side} up {number}");
     }
-    format!(in alloc; "{side} refused 7 Unexpected; {side} sent 1 DISCONNECT 23; {side} died")
+    refusal(alloc, side, "7 Unexpected")
+}
+
+// Those of an end that refuses it.
+fn refusal(alloc: Global, side: &str, why: &str) -> Result<String, AllocError> {
+    format!(in alloc; "{side} refused {why}; {side} sent 1 DISCONNECT 23; {side} died")
 }
 
 // Unknown numbers below this one are answered.

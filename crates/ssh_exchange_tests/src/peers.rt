@@ -8,7 +8,7 @@ use ssh_parts::{Aes128Gcm, Curve25519};
 use ssh_toys::{ToyAgreement, ToyFiller, ToySigner, ToyTrust};
 use ssh_transport::{
     ClientPartValues, ClientParts, ClientTransport, Config, Effect, ServerPartValues, ServerParts,
-    ServerTransport, Settings, Strictness, TransportAsk, TransportTurn,
+    ServerTransport, Settings, Strictness, TransportAsk, TransportFault, TransportTurn,
 };
 use ssh_types::Refusal;
 use std::alloc::Global;
@@ -98,6 +98,24 @@ fn nothing(alloc: Global) -> Puts {
     }
 }
 
+// What a client refuses a recorded server for.
+fn refusal_of(
+    alloc: Global,
+    client: &mut ClientTransport<GcmClient>,
+    packets: &[&str],
+    puts: &mut Puts,
+) -> Result<Option<Refusal>, Fail> {
+    let mut refused = None;
+    for digits in packets.iter() {
+        let bytes = hex::decode(alloc, digits)?;
+        let (_, turn) = client.take(&bytes, &mut puts.out, &mut puts.sent);
+        if let Ok(TransportTurn::Refused(why)) = turn {
+            refused = Some(why);
+        }
+    }
+    Ok(refused)
+}
+
 // A client takes the line and the KEXINIT of a server, and answers it by its point; the server's reply is of another exchange. One that
 // has no encryption in common is refused.
 #[test]
@@ -111,17 +129,27 @@ fn servers_of_others(rt: HostRuntime) -> Result<(), Fail> {
     {
         let mut puts = nothing(rt.alloc());
         let mut client = client(rt.alloc(), &mut puts)?;
-        let mut refused = None;
-        for digits in packets.iter() {
-            let bytes = hex::decode(rt.alloc(), digits)?;
-            let (_, turn) = client.take(&bytes, &mut puts.out, &mut puts.sent);
-            if let Ok(TransportTurn::Refused(why)) = turn {
-                refused = Some(why);
-            }
-        }
+        let refused = refusal_of(rt.alloc(), &mut client, *packets, &mut puts)?;
         same_at(&rt, index, refused, Some(*refusal));
     }
     Ok(())
+}
+
+// Whether a server takes each packet of a recorded client whole.
+fn takes_all(
+    alloc: Global,
+    server: &mut ServerTransport<GcmServer>,
+    packets: &[&str],
+    puts: &mut Puts,
+) -> Result<bool, Fail> {
+    for digits in packets.iter() {
+        let bytes = hex::decode(alloc, digits)?;
+        let (used, turn) = server.take(&bytes, &mut puts.out, &mut puts.sent);
+        if used != bytes.len() || turn.is_err() {
+            return Ok(false);
+        }
+    }
+    Ok(true)
 }
 
 // A server takes the line, the KEXINIT, the point and the NEWKEYS of a client.
@@ -133,12 +161,8 @@ fn clients_of_others(rt: HostRuntime) -> Result<(), Fail> {
     {
         let mut puts = nothing(rt.alloc());
         let mut server = server(rt.alloc(), &mut puts)?;
-        for digits in packets.iter() {
-            let bytes = hex::decode(rt.alloc(), digits)?;
-            let (used, turn) = server.take(&bytes, &mut puts.out, &mut puts.sent);
-            same_at(&rt, index, used, bytes.len());
-            same_at(&rt, index, turn.is_ok(), true);
-        }
+        let is_taken = takes_all(rt.alloc(), &mut server, *packets, &mut puts)?;
+        same_at(&rt, index, is_taken, true);
         same_at(
             &rt,
             index,
@@ -186,6 +210,21 @@ fn server_takes(
     last
 }
 
+// A client and a server exchange all that they put out, three times.
+fn exchange(
+    client: &mut ClientTransport<GcmClient>,
+    server: &mut ServerTransport<GcmServer>,
+    of_client: &mut Puts,
+    of_server: &mut Puts,
+) {
+    for _ in 0..3 {
+        server_takes(server, &of_client.out, of_server);
+        of_client.out.clear();
+        client_takes(client, &of_server.out, of_client);
+        of_server.out.clear();
+    }
+}
+
 // A client and a server over X25519 and AES-128-GCM complete an exchange, and take each other's messages under its keys.
 #[test]
 fn two_ends_over_real_parts(rt: HostRuntime) -> Result<(), Fail> {
@@ -193,24 +232,33 @@ fn two_ends_over_real_parts(rt: HostRuntime) -> Result<(), Fail> {
     let mut of_server = nothing(rt.alloc());
     let mut client = client(rt.alloc(), &mut of_client)?;
     let mut server = server(rt.alloc(), &mut of_server)?;
-    for _ in 0..3 {
-        server_takes(&mut server, &of_client.out, &mut of_server);
-        of_client.out.clear();
-        client_takes(&mut client, &of_server.out, &mut of_client);
-        of_server.out.clear();
-    }
+    exchange(&mut client, &mut server, &mut of_client, &mut of_server);
     same!(rt, (client.epochs(), server.epochs()), ((1, 1), (1, 1)));
     same!(rt, client.session_id(), server.session_id());
+    of_client.out.clear();
+    of_server.out.clear();
+    assert!(rt; is_served(&mut client, &mut server, &mut of_client, &mut of_server)?);
+    Ok(())
+}
+
+// The client asks the server for the service of authentication, and is told that it has it. A payload of 17 bytes fills two blocks of 16 with its
+// padding, behind packet_length and before a tag of 16 bytes.
+fn is_served(
+    client: &mut ClientTransport<GcmClient>,
+    server: &mut ServerTransport<GcmServer>,
+    of_client: &mut Puts,
+    of_server: &mut Puts,
+) -> Result<bool, TransportFault> {
     client.ask(
         TransportAsk::Service,
         &mut of_client.out,
         &mut of_client.sent,
     )?;
-    // A payload of 17 bytes fills two blocks of 16 with its padding, behind packet_length and before a tag of 16 bytes.
-    same!(rt, of_client.out.len(), 4 + 32 + 16);
-    let turn = server_takes(&mut server, &of_client.out, &mut of_server);
-    assert!(rt; matches!(turn, Some(TransportTurn::Done(Effect::ServiceRequested))));
-    let turn = client_takes(&mut client, &of_server.out, &mut of_client);
-    assert!(rt; matches!(turn, Some(TransportTurn::Done(Effect::ServiceAccepted))));
-    Ok(())
+    let asked = server_takes(server, &of_client.out, of_server);
+    let told = client_takes(client, &of_server.out, of_client);
+    Ok(
+        of_client.out.len() == 4 + 32 + 16
+            && matches!(asked, Some(TransportTurn::Done(Effect::ServiceRequested)))
+            && matches!(told, Some(TransportTurn::Done(Effect::ServiceAccepted))),
+    )
 }

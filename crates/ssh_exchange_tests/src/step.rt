@@ -3,7 +3,7 @@
 use ssh_types::Side;
 
 /// One thing that is done.
-#[derive(Clone, Copy, Debug)]
+#[derive(Clone, Copy)]
 pub enum Step<'a> {
     /// The next so many waiting bytes of an end reach the other, as one piece.
     Pass(Side, usize),
