@@ -30,7 +30,7 @@ run_program() {
     given=/dev/null
     [ ! -f stdin ] || given=stdin
     status=0
-    "$rt" try --seconds 300 "$@" <"$given" >"$said.printed" 2>"$said" || status=$?
+    "$rt" try --seconds 600 "$@" <"$given" >"$said.printed" 2>"$said" || status=$?
     [ "$status" = "$wanted" ] || fail "$crate: exit status $status" "$said"
     diff "$said.printed" stdout >"$said" || fail "$crate: its output" "$said"
 }
@@ -59,8 +59,8 @@ look_at() (
 echo "definitions"
 sh "$top/tools/definitions.sh" || fail "a definition has no line in docs/definitions.md"
 (sh "$top/tools/misuse.sh" || fail "a call that has to be refused is not") &
-# What takes the longest comes first: the sweep, and then the crates at the top, which are compiled with all below them.
-crates="ssh_trace_sweep $(sed 's/#.*//; s/:.*//; s/ .*//' "$top/crates.txt" | grep . | tac)"
+# What takes the longest comes first: the scripts with the sweep, and then the crates at the top, which are compiled with all below them.
+crates="ssh_trace_scripts $(sed 's/#.*//; s/:.*//; s/ .*//' "$top/crates.txt" | grep . | tac)"
 mkdir "$work/taken"
 number=0
 while [ "$number" -lt "$jobs" ]; do

@@ -1,7 +1,7 @@
 //! Exchanges of keys, byte for byte and in any pieces.
 
 use crate::arrays::first_bytes;
-use crate::checking::same;
+use crate::checking::{same, same_at};
 use crate::pair::Pair;
 use crate::sessions::{
     AUTHENTICATION, CHANNEL, DATA, DATA_AND_CLOSE, FEEDS, FIRST, SECOND, SERVICE,
@@ -12,6 +12,7 @@ use ssh_kex::{ExchangeInputs, exchange_hash, exchange_text};
 use ssh_transport::Strictness;
 use ssh_types::Side::{Client, Server};
 use std::alloc::{AllocError, Global};
+use std::process::Abort;
 use std::test::*;
 
 // What a client and a server put out in a session of two exchanges with a message each behind it. These and the hashes of both
@@ -96,40 +97,49 @@ fn sessions_byte_for_byte(rt: HostRuntime) -> Result<(), Fail> {
 #[test]
 fn what_two_ends_show(rt: HostRuntime) -> Result<(), Fail> {
     let mut pair = Pair::strict(rt.alloc())?;
-    for side in [Client, Server] {
-        let end = pair.party(side).end();
-        same!(rt, (end.numbers(), end.epochs()), ((1, 0), (0, 0)));
-        assert!(rt; end.blocked() && end.session_id().is_none());
-    }
+    same_ends(&rt, &pair, (1, 0), (0, 0), None);
     same!(rt, pair.differs(&[FIRST], false)?, None);
     let first = first_bytes(&hex::decode(rt.alloc(), FIRST_HASH)?);
-    for side in [Client, Server] {
-        let end = pair.party(side).end();
-        same!(rt, (end.numbers(), end.epochs()), ((0, 0), (1, 1)));
-        assert!(rt; !end.blocked() && !end.rekey_due() && !end.is_dead());
-        same!(rt, end.session_id(), Some(first));
-    }
-    same!(
-        rt,
-        pair.differs(&[SERVICE, AUTHENTICATION, FEEDS, SECOND], false)?,
-        None
-    );
-    for side in [Client, Server] {
-        let end = pair.party(side).end();
-        same!(rt, (end.numbers(), end.epochs()), ((0, 0), (2, 2)));
-        same!(rt, end.session_id(), Some(first));
-    }
+    same_ends(&rt, &pair, (0, 0), (1, 1), Some(first));
+    let rest = &[SERVICE, AUTHENTICATION, FEEDS, SECOND];
+    same!(rt, pair.differs(rest, false)?, None);
+    same_ends(&rt, &pair, (0, 0), (2, 2), Some(first));
     let second = first_bytes(&hex::decode(rt.alloc(), SECOND_HASH)?);
-    for (place, size, last, hash) in [(0, 484, 0x03, first), (1, 426, 0x10, second)] {
-        let (text, computed) = exchange(rt.alloc(), &pair, place, last)?;
-        same!(rt, text.len(), size);
-        assert!(rt; text.starts_with(b"\0\0\0\x09SSH-2.0-c\0\0\0\x09SSH-2.0-s"));
-        let mut end = [last; 36];
-        end[..4].copy_from_slice(b"\0\0\0 ");
-        assert!(rt; text.ends_with(&end));
-        same!(rt, computed, hash);
-    }
+    assert!(rt; is_exchange(rt.alloc(), &pair, 0, (484, 0x03), &first)?);
+    assert!(rt; is_exchange(rt.alloc(), &pair, 1, (426, 0x10), &second)?);
     Ok(())
+}
+
+// Both ends show these numbers, epochs and session id. They are blocked before the first exchange alone, live, and need no other one.
+fn same_ends(
+    rt: &impl Abort,
+    pair: &Pair,
+    numbers: (u64, u64),
+    epochs: (u32, u32),
+    session: Option<[u8; 32]>,
+) {
+    for side in [Client, Server] {
+        let end = pair.party(side).end();
+        same_at(rt, side, (end.numbers(), end.epochs()), (numbers, epochs));
+        same_at(rt, side, end.session_id(), session);
+        let flags = (end.blocked(), end.rekey_due(), end.is_dead());
+        same_at(rt, side, flags, (session.is_none(), false, false));
+    }
+}
+
+// Whether an exchange of a pair has a text of this size, which ends with a number whose bytes are these, and this hash.
+fn is_exchange(
+    alloc: Global,
+    pair: &Pair,
+    place: usize,
+    (size, shared): (usize, u8),
+    hash: &[u8; 32],
+) -> Result<bool, AllocError> {
+    let (text, computed) = exchange(alloc, pair, place, shared)?;
+    let mut end = [shared; 36];
+    end[..4].copy_from_slice(b"\0\0\0 ");
+    let begins = text.starts_with(b"\0\0\0\x09SSH-2.0-c\0\0\0\x09SSH-2.0-s");
+    Ok(begins && text.ends_with(&end) && text.len() == size && computed == *hash)
 }
 
 // The text of an exchange of a pair, of which each byte that is shared is this one, and the hash of it.

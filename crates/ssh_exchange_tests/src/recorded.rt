@@ -17,7 +17,6 @@ use ssh_transport::{
     ClientPartValues, ClientTransport, Config, ServerPartValues, ServerTransport, Settings,
     Strictness, TransportAsk, TransportTurn,
 };
-use ssh_types::Side;
 use std::alloc::{AllocError, Global};
 use std::test::*;
 
@@ -145,17 +144,24 @@ impl Recording {
 
     // The place of the first packet that is not as it was recorded.
     fn first_other(&mut self) -> Result<Option<usize>, AllocError> {
-        for (index, (from, digits)) in openssh_server::PACKETS.iter().enumerate() {
-            let wire = bytes(self.alloc, digits)?;
-            let is_as_recorded = match *from {
-                Side::Client => self.sends(&wire)?,
-                Side::Server => self.takes(&wire),
-            };
-            if !is_as_recorded {
+        for (index, line) in openssh_server::PACKETS.lines().enumerate() {
+            if !self.is_as_recorded(line)? {
                 return Ok(Some(index));
             }
         }
         Ok(None)
+    }
+
+    // Whether a packet is put out, or taken, as its line has it.
+    fn is_as_recorded(&mut self, line: &str) -> Result<bool, AllocError> {
+        match line.split_once(' ') {
+            Some(("c", digits)) => {
+                let wire = bytes(self.alloc, digits)?;
+                self.sends(&wire)
+            }
+            Some(("s", digits)) => Ok(self.takes(&bytes(self.alloc, digits)?)),
+            _ => Ok(false),
+        }
     }
 
     // Whether both exchanges were completed under the recorded session id, and nothing else was put out.

@@ -1,7 +1,8 @@
-//! Plays the stored scripts, of whole sessions and of one epoch, and says of each whether the ends do what it expects of them.
+//! Plays the stored scripts, of whole sessions and of one epoch, and says of each whether the ends do what it expects of them. Then sweeps a whole
+//! session: plays it with each byte that goes over the network changed, left out and doubled in turn.
 #![tactic(auto)]
 
-use ssh_trace::check_to;
+use ssh_trace::{check_to, sweep_to};
 use std::io::Write;
 use std::rt::Files;
 use std::{fs, io};
@@ -60,23 +61,24 @@ const EPOCHS: &[&str] = &[
     "epoch_recorded_openssh",
 ];
 
+// The one that is swept.
+const SWEPT: &str = "whole_session";
+
 fn main(rt: HostRuntime) -> io::Result<()> {
+    let (mut out, mut err) = (rt.stdout(), rt.stderr());
     for name in SESSIONS.iter().chain(EPOCHS.iter()) {
-        check(&rt, name, &mut rt.stdout(), &mut rt.stderr())?;
+        let mut script = opened(&rt, name)?;
+        write!(out, "{name}: ")?;
+        check_to(rt.alloc(), &mut script, &mut out, &mut err);
     }
+    let mut script = opened(&rt, SWEPT)?;
+    write!(out, "{SWEPT}: ")?;
+    sweep_to(rt.alloc(), &mut script, &mut out, &mut err);
     Ok(())
 }
 
-// Says of a script what its transcript is beside the lines that it expects.
-fn check<R: Files + AllocGlobal, W: Write, E: Write>(
-    rt: &R,
-    name: &str,
-    out: &mut W,
-    err: &mut E,
-) -> io::Result<()> {
+// The file of a script.
+fn opened<R: Files + AllocGlobal>(rt: &R, name: &str) -> io::Result<R::File> {
     let file = format!(in rt.alloc(); "{name}.txt")?;
-    let mut script = fs::open(rt, file.as_str())?;
-    write!(out, "{name}: ")?;
-    check_to(rt.alloc(), &mut script, out, err);
-    Ok(())
+    fs::open(rt, file.as_str())
 }

@@ -1,12 +1,8 @@
-//! Times exchanges of keys between a client and a server over toy parts against the hashes that both have to compute, and data that
-//! one sends and the other takes against two HMACs of the same bytes: between two transports, and between two whole ends.
-//!
-//! `run ROUNDS` times each in so many rounds and takes the fastest. Called otherwise, it says so and times nothing.
-#![tactic(auto)]
+//! Times sessions of a client's and a server's end over toy parts against the hashes that both have to compute, data that one asks for and
+//! the other tells against two HMACs of the same bytes, and a message among many against one among few.
 
-use hashes::Hashes;
-use session::Session;
-use ssh_bench::{Ratio, rounds_of};
+use crate::hashes::Hashes;
+use crate::ratio::Ratio;
 use ssh_channels::{Ask as ChannelAsk, Fact};
 use ssh_end::{Ask, Fault, Told};
 use ssh_toy_ends::ToyEnds;
@@ -14,11 +10,8 @@ use ssh_types::Side;
 use std::rt::Clock;
 use std::time::{Duration, Instant};
 
-mod hashes;
-mod session;
-
-// How many exchanges, and how many messages of data, are timed at once.
-const EXCHANGES: usize = 64;
+// How many sessions, and how many messages of data, are timed at once.
+const SESSIONS: usize = 64;
 
 const MESSAGES: usize = 32;
 
@@ -29,103 +22,13 @@ const FEW: usize = 100;
 
 const TIMES: usize = 100;
 
-fn main(rt: HostRuntime) -> anyhow::Result<()> {
-    let Some(rounds) = rounds_of(&rt)? else {
-        println!(rt; "usage: ssh_exchange_bench run ROUNDS")?;
-        return Ok(());
-    };
-    println!(rt;
-        "Times of a client and a server as ratios to the hashes that they have to compute, the fastest of {rounds} rounds"
-    )?;
-    measure_exchanges(&rt, rounds)?;
-    measure_data(&rt, rounds)?;
-    measure_sessions(&rt, rounds)?;
-    measure_ends(&rt, rounds, 32_768, MESSAGES)?;
-    measure_ends(&rt, rounds, 64, SMALL_MESSAGES)?;
-    measure_many(&rt)
-}
-
-// Prints the ratios of a first exchange, with the making of both ends, and of a later one.
-fn measure_exchanges<R: Clock + Print + AllocGlobal>(rt: &R, rounds: u32) -> anyhow::Result<()> {
-    let mut hashes = Hashes::new();
-    let mut first = Duration::MAX;
-    let mut later = Duration::MAX;
-    let mut of_first = Duration::MAX;
-    let mut of_later = Duration::MAX;
-    for _ in 0..rounds {
-        first = first.min(time_first(rt)?);
-        later = later.min(time_later(rt)?);
-        of_first = of_first.min(time_hashes(rt, &mut hashes, false)?);
-        of_later = of_later.min(time_hashes(rt, &mut hashes, true)?);
-    }
-    println!(rt;
-        "a first exchange and the making of both ends: {}; a later exchange: {}",
-        Ratio(first, of_first),
-        Ratio(later, of_later)
-    )?;
-    Ok(())
-}
-
-// The time of so many first exchanges.
-fn time_first<R: Clock + AllocGlobal>(rt: &R) -> anyhow::Result<Duration> {
-    let start = Instant::now(rt)?;
-    for _ in 0..EXCHANGES {
-        Session::new(rt.alloc())?.exchange()?;
-    }
-    Ok(start.elapsed(rt)?)
-}
-
-// That of so many later ones.
-fn time_later<R: Clock + AllocGlobal>(rt: &R) -> anyhow::Result<Duration> {
-    let mut session = Session::new(rt.alloc())?;
-    session.exchange()?;
-    session.authenticate();
-    let start = Instant::now(rt)?;
-    for _ in 0..EXCHANGES {
-        session.rekey()?;
-    }
-    Ok(start.elapsed(rt)?)
-}
-
-// That of the hashes of as many.
-fn time_hashes<R: Clock>(rt: &R, hashes: &mut Hashes, is_later: bool) -> anyhow::Result<Duration> {
-    let start = Instant::now(rt)?;
-    for _ in 0..EXCHANGES {
-        hashes.of_exchange(is_later);
-        if is_later {
-            hashes.of_tags();
-        }
-    }
-    Ok(start.elapsed(rt)?)
-}
-
-// Prints the ratio of 32 KiB of data, sent and taken, to two HMACs of its packet.
-fn measure_data<R: Clock + Print + AllocGlobal>(rt: &R, rounds: u32) -> anyhow::Result<()> {
-    let body = [0x61; 32_768];
-    let packet = [0x61; 32_796];
-    let mut session = Session::new(rt.alloc())?;
-    session.exchange()?;
-    let mut hashes = Hashes::new();
-    let mut data = Duration::MAX;
-    let mut hmacs = Duration::MAX;
-    for _ in 0..rounds {
-        let start = Instant::now(rt)?;
-        for _ in 0..MESSAGES {
-            session.data(&body)?;
-        }
-        data = data.min(start.elapsed(rt)?);
-        let start = Instant::now(rt)?;
-        for _ in 0..MESSAGES {
-            hashes.mac(&packet);
-            hashes.mac(&packet);
-        }
-        hmacs = hmacs.min(start.elapsed(rt)?);
-    }
-    println!(rt;
-        "32 KiB of data sent and taken, to two HMACs of the packet: {}",
-        Ratio(data, hmacs)
-    )?;
-    Ok(())
+/// Prints the ratios of sessions and of data.
+pub fn measure<R: Clock + Print + AllocGlobal>(rt: &R, rounds: u32) -> anyhow::Result<()> {
+    println!(rt; "Times of two ends as ratios to the hashes that they have to compute")?;
+    measure_sessions(rt, rounds)?;
+    measure_ends(rt, rounds, 32_768, MESSAGES)?;
+    measure_ends(rt, rounds, 64, SMALL_MESSAGES)?;
+    measure_many(rt)
 }
 
 // Prints the ratio of a whole session of two ends, with the making of both, to its hashes.
@@ -135,7 +38,7 @@ fn measure_sessions<R: Clock + Print + AllocGlobal>(rt: &R, rounds: u32) -> anyh
     let mut of_sessions = Duration::MAX;
     for _ in 0..rounds {
         let start = Instant::now(rt)?;
-        for _ in 0..EXCHANGES {
+        for _ in 0..SESSIONS {
             let mut ends = ToyEnds::new(rt.alloc())?;
             ends.begin()?;
             pass_data(&mut ends, b"hi")?;
@@ -143,7 +46,7 @@ fn measure_sessions<R: Clock + Print + AllocGlobal>(rt: &R, rounds: u32) -> anyh
         }
         sessions = sessions.min(start.elapsed(rt)?);
         let start = Instant::now(rt)?;
-        for _ in 0..EXCHANGES {
+        for _ in 0..SESSIONS {
             hashes.of_exchange(false);
             hashes.of_session();
         }

@@ -1,12 +1,9 @@
 //! Times sealing and opening packets under `MacOnly` against the bare HMAC-SHA-256 of the same bytes.
-//!
-//! `run ROUNDS` times each in so many rounds and takes the fastest. Called otherwise, it says so and times nothing.
-#![tactic(auto)]
 
 ghost use Rattle.std.specs.Prelude.{◌≤◌};
 
+use crate::ratio::Ratio;
 use case::Case;
-use ssh_bench::{Ratio, rounds_of};
 use std::io;
 use std::rt::Clock;
 use times::Times;
@@ -17,20 +14,16 @@ mod times;
 // How many bytes of payloads are timed at once.
 const BYTES: usize = 262_144;
 
-fn main(rt: HostRuntime) -> io::Result<()> {
-    let Some(rounds) = rounds_of(&rt)? else {
-        return println!(rt; "usage: ssh_packet_bench run ROUNDS");
-    };
-    println!(rt;
-        "Times of MacOnly as ratios to the HMAC-SHA-256 of the same bytes, the fastest of {rounds} rounds"
-    )?;
-    measure(&rt, 64, rounds)?;
-    measure(&rt, 1024, rounds)?;
-    measure(&rt, 32_768, rounds)
+/// Prints the ratios at payloads of three sizes.
+pub fn measure<R: Clock + Print + AllocGlobal>(rt: &R, rounds: u32) -> io::Result<()> {
+    println!(rt; "Times of MacOnly as ratios to the HMAC-SHA-256 of the same bytes")?;
+    measure_size(rt, 64, rounds)?;
+    measure_size(rt, 1024, rounds)?;
+    measure_size(rt, 32_768, rounds)
 }
 
 // Prints the ratios at payloads of this size.
-fn measure<R: Clock + Print + AllocGlobal>(rt: &R, size: usize, rounds: u32) -> io::Result<()>
+fn measure_size<R: Clock + Print + AllocGlobal>(rt: &R, size: usize, rounds: u32) -> io::Result<()>
     requires from { 1 ≤ size }
     requires to { size ≤ 34000 }
 {

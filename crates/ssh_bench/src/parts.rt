@@ -1,13 +1,9 @@
-//! Times sealing and opening packets under `Aes128Gcm`, an agreement by X25519, and signatures by Ed25519, against the HMAC-SHA-256 of the
-//! kit.
-//!
-//! `run ROUNDS` times each in so many rounds and takes the fastest. Called otherwise, it says so and times nothing.
-#![tactic(auto)]
+//! Times sealing and opening packets under `Aes128Gcm`, an agreement by X25519, and signatures by Ed25519, against HMAC-SHA-256.
 
 ghost use Rattle.std.specs.Prelude.{◌≤◌};
 
+use crate::ratio::Ratio;
 use case::Case;
-use ssh_bench::{Ratio, rounds_of};
 use std::io;
 use std::rt::Clock;
 use std::time::Duration;
@@ -20,22 +16,18 @@ const BYTES: usize = 262_144;
 // How many agreements, signatures and verifications are.
 const CALLS: usize = 8;
 
-fn main(rt: HostRuntime) -> io::Result<()> {
-    let Some(rounds) = rounds_of(&rt)? else {
-        return println!(rt; "usage: ssh_parts_bench run ROUNDS");
-    };
-    println!(rt;
-        "Times of AES-128-GCM, X25519 and Ed25519 as ratios to HMAC-SHA-256, the fastest of {rounds} rounds"
-    )?;
-    measure(&rt, 64, rounds)?;
-    measure(&rt, 1024, rounds)?;
-    measure(&rt, 32_768, rounds)?;
-    measure_agreement(&rt, rounds)?;
-    measure_signatures(&rt, rounds)
+/// Prints the ratios at payloads of three sizes, of an agreement, and of signatures.
+pub fn measure<R: Clock + Print + AllocGlobal>(rt: &R, rounds: u32) -> io::Result<()> {
+    println!(rt; "Times of AES-128-GCM, X25519 and Ed25519 as ratios to HMAC-SHA-256")?;
+    measure_size(rt, 64, rounds)?;
+    measure_size(rt, 1024, rounds)?;
+    measure_size(rt, 32_768, rounds)?;
+    measure_agreement(rt, rounds)?;
+    measure_signatures(rt, rounds)
 }
 
 // Prints the ratios at payloads of this size.
-fn measure<R: Clock + Print + AllocGlobal>(rt: &R, size: usize, rounds: u32) -> io::Result<()>
+fn measure_size<R: Clock + Print + AllocGlobal>(rt: &R, size: usize, rounds: u32) -> io::Result<()>
     requires from { 1 ≤ size }
     requires to { size ≤ 34000 }
 {

@@ -1,0 +1,28 @@
+//! Times taking a CHANNEL_DATA message with 1,024 channels in use against taking it with one.
+
+use crate::ratio::Ratio;
+use case::Case;
+use std::rt::Clock;
+use std::time::Duration;
+
+mod case;
+
+/// Prints the ratio.
+pub fn measure<R: Clock + Print + AllocGlobal>(rt: &R, rounds: u32) -> anyhow::Result<()> {
+    let few = fastest(rt, &mut Case::new(rt.alloc(), 1)?, rounds)?;
+    let many = fastest(rt, &mut Case::new(rt.alloc(), 1024)?, rounds)?;
+    println!(rt;
+        "Time of taking a CHANNEL_DATA with 1,024 channels in use as a ratio to one: {}",
+        Ratio(many, few)
+    )?;
+    Ok(())
+}
+
+// The shortest time of a round.
+fn fastest<R: Clock>(rt: &R, case: &mut Case, rounds: u32) -> anyhow::Result<Duration> {
+    let mut fastest = Duration::MAX;
+    for _ in 0..rounds {
+        fastest = fastest.min(case.take(rt)?);
+    }
+    Ok(fastest)
+}

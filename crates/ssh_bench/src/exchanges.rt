@@ -1,0 +1,105 @@
+//! Times exchanges of keys between a client's and a server's transport over toy parts against the hashes that both have to compute, and
+//! data that one sends and the other takes against two HMACs of the same bytes.
+
+use crate::hashes::Hashes;
+use crate::ratio::Ratio;
+use session::Session;
+use std::rt::Clock;
+use std::time::{Duration, Instant};
+
+mod session;
+
+// How many exchanges, and how many messages of data, are timed at once.
+const EXCHANGES: usize = 64;
+
+const MESSAGES: usize = 32;
+
+/// Prints the ratios of exchanges and of data.
+pub fn measure<R: Clock + Print + AllocGlobal>(rt: &R, rounds: u32) -> anyhow::Result<()> {
+    println!(rt; "Times of two transports as ratios to the hashes that they have to compute")?;
+    measure_exchanges(rt, rounds)?;
+    measure_data(rt, rounds)
+}
+
+// Prints the ratios of a first exchange, with the making of both ends, and of a later one.
+fn measure_exchanges<R: Clock + Print + AllocGlobal>(rt: &R, rounds: u32) -> anyhow::Result<()> {
+    let mut hashes = Hashes::new();
+    let mut first = Duration::MAX;
+    let mut later = Duration::MAX;
+    let mut of_first = Duration::MAX;
+    let mut of_later = Duration::MAX;
+    for _ in 0..rounds {
+        first = first.min(time_first(rt)?);
+        later = later.min(time_later(rt)?);
+        of_first = of_first.min(time_hashes(rt, &mut hashes, false)?);
+        of_later = of_later.min(time_hashes(rt, &mut hashes, true)?);
+    }
+    println!(rt;
+        "a first exchange and the making of both ends: {}; a later exchange: {}",
+        Ratio(first, of_first),
+        Ratio(later, of_later)
+    )?;
+    Ok(())
+}
+
+// The time of so many first exchanges.
+fn time_first<R: Clock + AllocGlobal>(rt: &R) -> anyhow::Result<Duration> {
+    let start = Instant::now(rt)?;
+    for _ in 0..EXCHANGES {
+        Session::new(rt.alloc())?.exchange()?;
+    }
+    Ok(start.elapsed(rt)?)
+}
+
+// That of so many later ones.
+fn time_later<R: Clock + AllocGlobal>(rt: &R) -> anyhow::Result<Duration> {
+    let mut session = Session::new(rt.alloc())?;
+    session.exchange()?;
+    session.authenticate();
+    let start = Instant::now(rt)?;
+    for _ in 0..EXCHANGES {
+        session.rekey()?;
+    }
+    Ok(start.elapsed(rt)?)
+}
+
+// That of the hashes of as many.
+fn time_hashes<R: Clock>(rt: &R, hashes: &mut Hashes, is_later: bool) -> anyhow::Result<Duration> {
+    let start = Instant::now(rt)?;
+    for _ in 0..EXCHANGES {
+        hashes.of_exchange(is_later);
+        if is_later {
+            hashes.of_tags();
+        }
+    }
+    Ok(start.elapsed(rt)?)
+}
+
+// Prints the ratio of 32 KiB of data, sent and taken, to two HMACs of its packet.
+fn measure_data<R: Clock + Print + AllocGlobal>(rt: &R, rounds: u32) -> anyhow::Result<()> {
+    let body = [0x61; 32_768];
+    let packet = [0x61; 32_796];
+    let mut session = Session::new(rt.alloc())?;
+    session.exchange()?;
+    let mut hashes = Hashes::new();
+    let mut data = Duration::MAX;
+    let mut hmacs = Duration::MAX;
+    for _ in 0..rounds {
+        let start = Instant::now(rt)?;
+        for _ in 0..MESSAGES {
+            session.data(&body)?;
+        }
+        data = data.min(start.elapsed(rt)?);
+        let start = Instant::now(rt)?;
+        for _ in 0..MESSAGES {
+            hashes.mac(&packet);
+            hashes.mac(&packet);
+        }
+        hmacs = hmacs.min(start.elapsed(rt)?);
+    }
+    println!(rt;
+        "32 KiB of data sent and taken, to two HMACs of the packet: {}",
+        Ratio(data, hmacs)
+    )?;
+    Ok(())
+}
