@@ -158,13 +158,14 @@ def try_together(crate, group, known):
 
 def try_alone(crate, edit, known):
     """Tries one edit, and returns the line of the report that refuses it, or none, and what is to be said instead."""
-    said = [it for it in check(crate, [edit]) if it not in known]
+    whole = check(crate, [edit])
+    said = [it for it in whole if it not in known]
     texts = [(it, IN_TEXT.match(it)) for it in said]
     unread = next((it for it, at in texts if at and (not at["item"] or UNREAD.search(at["why"]))), None)
     if unread:
         return None, f"the edited text can't be read: {unread}"
     if not is_refused(said):
-        return None, "NOT REFUSED: the crate is still proved" if any(it.startswith("logic=proved") for it in said) else "no verdict"
+        return None, "NOT REFUSED: the crate is still proved" if any(it.startswith("logic=proved") for it in whole) else "no verdict"
     told = [it for it in said if re.match(r"(note: )?\S+:\d+:\d+:", it)]
     return next((it for it in told if not OF_NAMES.search(it)), None), "refused only because a proof names what the edit took away"
 
