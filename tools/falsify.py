@@ -44,9 +44,11 @@ class Function:
         told = IN_PROOF.match(line)
         if not told or OF_NAMES.search(line):
             return False
-        module = [it for it in pathlib.PurePath(self.path).with_suffix("").parts[1:] if it not in ("lib", "mod")]
         *parts, name = pathlib.PurePath(told["folder"]).parts[1:]
-        return name == self.name and parts[: len(module)] == module and (not self.owner or any(it.startswith(self.owner) for it in parts))
+        if self.owner:
+            # a method's proof stands beside its type, whose module may be another than the method's
+            return name == self.name and bool(parts) and parts[-1].startswith(self.owner)
+        return name == self.name and parts == [it for it in pathlib.PurePath(self.path).with_suffix("").parts[1:] if it not in ("lib", "mod")]
 
 
 @dataclass(frozen=True)
