@@ -10,9 +10,11 @@ use crate::sink::Sink;
 use crate::status::Status;
 pub use error::RunError;
 use inputs::{accepted_keys, opened, password_in, private_key_in, sink, trusted_key_in};
-use ssh_parts::Ed25519Signer;
-use ssh_pipe::{Client, Ending, Login, Request, Server, pump, string_of};
+use ssh_key_files::PrivateKey;
+use ssh_parts::{AcceptedKey, Ed25519Signer, Ed25519Trust};
+use ssh_pipe::{Client, Ending, Login, PipeError, Request, Server, pump, string_of};
 use ssh_pipe_policy::{OneUser, PasswordHash, UserKey};
+use std::alloc::Global;
 use std::fmt::Display;
 use std::io::{IsTerminal, Read, Write};
 use std::random::RandomSource;
@@ -50,6 +52,25 @@ pub fn call<R: Files + AllocGlobal + RandomSource, I: Read, O: Write, E: Write +
     }
 }
 
+// Who is let in: by the keys and the password in the files that the options name.
+#[derive(Drop)]
+struct Accepted<'a> {
+    keys: Vec<AcceptedKey<'a>>,
+    password: Option<Vec<u8>>,
+}
+
+fn accepted_in<'a, R: Files + AllocGlobal>(
+    rt: &R,
+    options: &ServerOptions<'a>,
+) -> Result<Accepted<'a>, RunError<'a>> {
+    let keys = accepted_keys(rt, options.authorized_keys, options.user)?;
+    let password = password_in(rt, options.password_file)?;
+    if keys.is_empty() && password.is_none() {
+        return Err(RunError::NoWayIn);
+    }
+    Ok(Accepted { keys, password })
+}
+
 // A session of the server, and how it ended.
 fn served<'a, R: Files + AllocGlobal + RandomSource, I: Read, O: Write>(
     rt: &R,
@@ -57,23 +78,57 @@ fn served<'a, R: Files + AllocGlobal + RandomSource, I: Read, O: Write>(
     input: &mut I,
     output: &mut O,
 ) -> Result<Option<Ending>, RunError<'a>> {
-    let alloc = rt.alloc();
     let host_key = private_key_in(rt, options.host_key)?;
-    let keys = accepted_keys(rt, options.authorized_keys, options.user)?;
-    let password = password_in(rt, options.password_file)?;
-    if keys.is_empty() && password.is_none() {
-        return Err(RunError::NoWayIn);
-    }
+    let accepted = accepted_in(rt, options)?;
     let user = OneUser {
         name: options.user.as_bytes(),
-        keys: keys.as_slice(),
-        password: password.map(|word| PasswordHash::new(word.as_slice())),
+        keys: accepted.keys.as_slice(),
+        password: match &accepted.password {
+            Some(word) => Some(PasswordHash::new(word.as_slice())),
+            None => None,
+        },
     };
+    Ok(served_to(rt, options, &host_key, user, input, output)?)
+}
+
+// A session of the server that lets in this user.
+fn served_to<R: AllocGlobal + RandomSource, I: Read, O: Write>(
+    rt: &R,
+    options: &ServerOptions<'_>,
+    host_key: &PrivateKey,
+    user: OneUser<'_>,
+    input: &mut I,
+    output: &mut O,
+) -> Result<Option<Ending>, PipeError> {
+    let alloc = rt.alloc();
     let mut out = Vec::new(alloc);
     let signer = Ed25519Signer::new(&host_key.seed);
     let mut server = Server::new(alloc, &options.policy, rt, signer, user, &mut out)?;
     pump(alloc, &mut server, input, output, out)?;
     Ok(server.take_ending())
+}
+
+// What a client knows of the host and of its user.
+#[derive(Drop)]
+struct Credentials {
+    host: Ed25519Trust,
+    key: UserKey,
+    password: Option<Vec<u8>>,
+}
+
+// Those in the files that the options name.
+fn credentials_in<'a, R: Files + AllocGlobal>(
+    rt: &R,
+    options: &ClientOptions<'a>,
+) -> Result<Credentials, RunError<'a>> {
+    let host = trusted_key_in(rt, options.host_key, options.host)?;
+    let key = user_key(rt, options.identity)?;
+    let password = password_in(rt, options.password_file)?;
+    Ok(Credentials {
+        host,
+        key,
+        password,
+    })
 }
 
 // A session of the client, and how it ended.
@@ -90,24 +145,61 @@ fn called<
     output: &mut O,
     err: E,
 ) -> Result<Option<Ending>, RunError<'a>> {
-    let alloc = rt.alloc();
-    let host = trusted_key_in(rt, options.host_key, options.host)?;
-    let key = user_key(rt, options.identity)?;
-    let password = password_in(rt, options.password_file)?;
-    let word = match &password {
+    let credentials = credentials_in(rt, options)?;
+    let text = string_of(rt.alloc(), options.command.as_bytes())?.ok_or(RunError::LongCommand)?;
+    let mut out = Vec::new(rt.alloc());
+    let client = client_of(rt, options, &credentials, text.as_slice(), &mut out)?;
+    let files = shown_files(rt, options, client, err)?;
+    Ok(ran(rt.alloc(), files, input, output, out)?)
+}
+
+// A client with these credentials that runs the command of this text, behind what it put out.
+fn client_of<'a, 'c, R: AllocGlobal + RandomSource>(
+    rt: &'c R,
+    options: &'c ClientOptions<'a>,
+    credentials: &'c Credentials,
+    text: &'c [u8],
+    out: &mut Vec<u8>,
+) -> Result<Client<'c, &'c R>, PipeError> {
+    let word = match &credentials.password {
         Some(word) => Some(word.as_slice()),
         None => None,
     };
+    let (host, key) = (credentials.host, credentials.key);
     let login = Login::new(options.user.as_bytes(), &key, word);
-    let text = string_of(alloc, options.command.as_bytes())?.ok_or(RunError::LongCommand)?;
     let request = Request {
         kind: options.kind,
-        text: text.as_slice(),
+        text,
     };
-    let mut out = Vec::new(alloc);
-    let policy = &options.policy;
-    let client = Client::new(alloc, policy, rt, host, key, login, request, &mut out)?;
-    let mut files = shown_files(rt, options, client, err)?;
+    Client::new(
+        rt.alloc(),
+        &options.policy,
+        rt,
+        host,
+        key,
+        login,
+        request,
+        out,
+    )
+}
+
+// A session of this client, and how it ended.
+fn ran<
+    'c,
+    S: RandomSource + Drop,
+    F: Read + Drop,
+    O: Write + Drop,
+    E: Write + Drop,
+    T: Write + Drop,
+    I: Read,
+    W: Write,
+>(
+    alloc: Global,
+    mut files: ShownFiles<'c, S, F, O, E, T>,
+    input: &mut I,
+    output: &mut W,
+    out: Vec<u8>,
+) -> Result<Option<Ending>, PipeError> {
     let ran = pump(alloc, &mut files, input, output, out);
     files.end_line();
     ran?;
