@@ -1,7 +1,7 @@
 #!/bin/sh
-# Runs two programs with each allocation refused in turn, until a run meets no refusal: the proved programs of crates/ssh_play_memory and
-# crates/ssh_data_memory, which say what has to become of a run, under an allocator that refuses one. Between the lines `taking` and `taken` of a run no
-# allocation may be refused. Wants a C compiler. Ends with status 1 where a run went wrong.
+# Runs three parts of a proved program, crates/ssh_runs, with each allocation refused in turn, until a run meets no refusal. The program says what
+# has to become of a run; the allocator under it refuses one allocation. Between the lines `taking` and `taken` of a run none may be refused. Wants a C
+# compiler. Ends with status 1 where a run went wrong.
 set -eu
 tools=$(cd "$(dirname "$0")" && pwd)
 top=$tools/..
@@ -10,16 +10,17 @@ work=$(mktemp -d)
 trap 'rm -rf "$work"' EXIT
 "${CC:-cc}" -O2 -shared -fPIC -o "$work/fail_alloc.so" "$tools/fail_alloc.c" -ldl
 wrong=0
+program=$top/crates/ssh_runs/out/ssh_runs
+(cd "$top/crates/ssh_runs" && "$rt" run)
 
-# Runs the program of the crate $1 so. Leaves the runs' statuses in a file, and counts those that went wrong.
+# Runs the part $1 so. Leaves the runs' statuses in a file, and counts those that went wrong.
 refuse_in_turn() {
-    (cd "$top/crates/$1" && "$rt" run)
     : >"$work/statuses"
     number=0
     while :; do
         number=$((number + 1))
         status=0
-        FAIL_ALLOC=$number LD_PRELOAD=$work/fail_alloc.so "$top/crates/$1/out/$1" >"$work/said" 2>&1 || status=$?
+        FAIL_ALLOC=$number LD_PRELOAD=$work/fail_alloc.so "$program" "$1" >"$work/said" 2>&1 || status=$?
         grep -q '^refused$' "$work/said" || break
         if sed -n '/^taking$/,/^taken$/p' "$work/said" | grep -q '^refused$'; then
             status=between
@@ -37,13 +38,22 @@ refuse_in_turn() {
 count() { grep -c "^$1$" "$work/statuses" || true; }
 total() { wc -l <"$work/statuses"; }
 
-refuse_in_turn ssh_play_memory
+# A part of which no run ends in one of the two ways shows nothing of it.
+wants_both() {
+    if [ "$(count 3)" -eq 0 ] || [ "$(count 4)" -eq 0 ]; then
+        echo "no run ended with status 3, or none with 4"
+        wrong=$((wrong + 1))
+    fi
+}
+
+refuse_in_turn calls
+echo "$(total) allocations refused in turn: $(count 4) by a call, which left all as it was or was over, $(count 3) by what a call is given, $(count between) by calls that need none, $(count 0) did with less"
+wants_both
+refuse_in_turn plays
 echo "$(total) allocations refused in turn: $(count 3) runs answered want of memory, in $(count 4) one end died, $(count 0) did with less"
-refuse_in_turn ssh_data_memory
+wants_both
+refuse_in_turn data
 echo "$(total) allocations refused in turn: $(count 3) before the first of 200 messages was taken, $(count 4) behind the last, $(count between) between, $(count 0) did with less"
-if [ "$(count 3)" -eq 0 ] || [ "$(count 4)" -eq 0 ]; then
-    echo "no allocation was refused before or behind the messages"
-    wrong=$((wrong + 1))
-fi
+wants_both
 echo "$wrong went wrong"
 [ "$wrong" -eq 0 ]

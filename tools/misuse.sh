@@ -9,7 +9,7 @@ trap 'rm -rf "$copy"' EXIT
 copy_tree "$copy"
 cd "$copy"
 git init -q .
-file=crates/ssh_end_tests/src/playing/party.rt
+file=crates/ssh_end_tests/src/ends/playing/party.rt
 line='self.begun = self.begun.saturating_add(turn.used);'
 [ "$(grep -cF "$line" "$file")" = 1 ] || {
     echo "error: '$line' does not stand once in $file"

@@ -2,7 +2,7 @@
 # What can be seen in a few minutes: the layout of the files, that each definition of the model has its line in
 # docs/definitions.md, the tests, and the programs. Nothing is proved here. As many crates are looked at at once as there
 # are cores, each in a copy of the tree, since the toolchain locks the crates that it reads; a copy that is done with one crate takes
-# the next that no other has.
+# the next that no other has. A crate is compiled with checks and run; the interpreter, which would run it a second time, gets one step.
 set -eu
 top=$(cd "$(dirname "$0")/.." && pwd)
 . "$top/tools/common.sh"
@@ -30,7 +30,7 @@ run_program() {
     given=/dev/null
     [ ! -f stdin ] || given=stdin
     status=0
-    "$rt" try --seconds 600 "$@" <"$given" >"$said.printed" 2>"$said" || status=$?
+    "$rt" try --steps 1 --seconds 600 "$@" <"$given" >"$said.printed" 2>"$said" || status=$?
     [ "$status" = "$wanted" ] || fail "$crate: exit status $status" "$said"
     diff "$said.printed" stdout >"$said" || fail "$crate: its output" "$said"
 }
@@ -47,7 +47,7 @@ look_at() (
         printed=$("$rt" fmt 2>&1) || fail "$crate: rt fmt"
         [ -z "$printed" ] || fail "$crate: $printed"
         if grep -rq '#\[test\]' src; then
-            "$rt" try --test --seconds 300 >"$copy.said" 2>&1 || fail "$crate: tests" "$copy.said"
+            "$rt" try --test --steps 1 --seconds 300 >"$copy.said" 2>&1 || fail "$crate: tests" "$copy.said"
         fi
         if [ -f src/main.rt ] && [ -f stdout ]; then
             run_program "$copy.said"
@@ -59,8 +59,8 @@ look_at() (
 echo "definitions"
 sh "$top/tools/definitions.sh" || fail "a definition has no line in docs/definitions.md"
 (sh "$top/tools/misuse.sh" || fail "a call that has to be refused is not") &
-# What takes the longest comes first: the scripts with the sweep, and then the crates at the top, which are compiled with all below them.
-crates="ssh_trace_scripts $(sed 's/#.*//; s/:.*//; s/ .*//' "$top/crates.txt" | grep . | tac)"
+# What takes the longest comes first: the stored scripts with the sweep, and then the crates at the top, which are compiled with all below them.
+crates="ssh_runs $(sed 's/#.*//; s/:.*//; s/ .*//' "$top/crates.txt" | grep . | tac)"
 mkdir "$work/taken"
 number=0
 while [ "$number" -lt "$jobs" ]; do

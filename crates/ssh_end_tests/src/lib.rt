@@ -1,27 +1,9 @@
-//! Tests of the ends.
+//! Tests of the public calls of `ssh_end` and `ssh_pair`, a module a crate.
 #![tactic(auto)]
 
 #[cfg(test)]
-mod asks;
-#[cfg(test)]
-mod attacks;
-#[cfg(test)]
 mod checking;
 #[cfg(test)]
-mod client_layers;
+mod ends;
 #[cfg(test)]
-mod layers;
-#[cfg(test)]
-mod payloads;
-#[cfg(test)]
-mod playing;
-#[cfg(test)]
-mod rekeys;
-#[cfg(test)]
-mod scripts;
-#[cfg(test)]
-mod server_layers;
-#[cfg(test)]
-mod sessions;
-#[cfg(test)]
-mod tries;
+mod pair;

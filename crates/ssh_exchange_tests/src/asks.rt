@@ -2,44 +2,23 @@
 
 use crate::checking::{same, same_at};
 use crate::pair::Pair;
-use crate::sessions::{AUTHENTICATION, CHANNEL, FEEDS, FIRST, SECOND, SERVICE};
-use crate::step::{Script, Step};
+use crate::step::Step;
+use crate::stretch::Stretch;
+use crate::stretch::Stretch::{
+    Asked, Authentication, Begun, Channel, Feeds, First, Later, Second, Service,
+};
 use crate::toys::settings;
 use ssh_transport::{Settings, Strictness};
 use ssh_types::Side;
 use ssh_types::Side::{Client, Server};
 use std::test::*;
 
-// A client that has begun an exchange, and one that is in it and not blocked.
-const BEGUN: Script = &[(Step::Rekey(Client), "c asked rekey; c sent 20 KEXINIT 136")];
-
-const AT_SERVER: Script = &[
-    (
-        Step::PassAll(Client),
-        "s took 20 KEXINIT 136; s sent 20 KEXINIT 136",
-    ),
-    (
-        Step::PassAll(Server),
-        "c took 20 KEXINIT 136; c sent 30 KEX_ECDH_INIT 37",
-    ),
-    (
-        Step::PassAll(Client),
-        "s took 30 KEX_ECDH_INIT 37; s sent 31 KEX_ECDH_REPLY 85; s sent 21 NEWKEYS 1; s told completed 2",
-    ),
-    (Step::Feed(Server, 0xb3), ""),
-];
-
-const ASKED: Script = &[(
-    Step::Service(Client),
-    "c asked service; c sent 5 SERVICE_REQUEST 17",
-)];
-
 const LONG: &[u8] = &[0x78; 1025];
 
-const OPENED: &[Script] = &[FIRST, SERVICE, AUTHENTICATION];
+const OPENED: &[Stretch] = &[First, Service, Authentication];
 
 // What two ends did before, who is asked for what, and the lines.
-const TABLE: &[(&[Script], Step<'static>, Side, &str)] = &[
+const TABLE: &[(&[Stretch], Step<'static>, Side, &str)] = &[
     (
         &[],
         Step::Service(Server),
@@ -59,7 +38,7 @@ const TABLE: &[(&[Script], Step<'static>, Side, &str)] = &[
         "c asked service; c ask refused 1 NotYet",
     ),
     (
-        &[FIRST, ASKED],
+        &[First, Asked],
         Step::Service(Client),
         Client,
         "c asked service; c ask refused 2 Busy",
@@ -77,7 +56,7 @@ const TABLE: &[(&[Script], Step<'static>, Side, &str)] = &[
         "c asked rekey; c ask refused 1 NotYet",
     ),
     (
-        &[FIRST, SERVICE],
+        &[First, Service],
         Step::Rekey(Server),
         Server,
         "s asked rekey; s ask refused 1 NotYet",
@@ -95,13 +74,13 @@ const TABLE: &[(&[Script], Step<'static>, Side, &str)] = &[
         "s asked rekey; s ask refused 12 NoMaterial",
     ),
     (
-        &[FIRST, SERVICE, AUTHENTICATION, FEEDS, BEGUN],
+        &[First, Service, Authentication, Feeds, Begun],
         Step::Rekey(Client),
         Client,
         "c asked rekey; c ask refused 2 Busy",
     ),
     (
-        &[FIRST, SERVICE, AUTHENTICATION, FEEDS, BEGUN, AT_SERVER],
+        &[First, Service, Authentication, Feeds, Begun, Later],
         Step::Rekey(Server),
         Server,
         "s asked rekey; s ask refused 2 Busy",
@@ -176,7 +155,7 @@ fn when_an_exchange_is_due(rt: HostRuntime) -> Result<(), Fail> {
     let mut pair = Pair::new(rt.alloc(), &of_client, &of_server)?;
     same!(
         rt,
-        pair.differs(&[FIRST, SERVICE, AUTHENTICATION, CHANNEL], false)?,
+        pair.differs(&[First, Service, Authentication, Channel], false)?,
         None
     );
     same!(rt, pair.party(Client).end().numbers().0, 3);
@@ -188,7 +167,7 @@ fn when_an_exchange_is_due(rt: HostRuntime) -> Result<(), Fail> {
     assert!(rt; pair.party(Client).end().rekey_due());
     assert!(rt; !pair.party(Server).end().rekey_due());
     pair.play(Step::PassAll(Client))?;
-    same!(rt, pair.differs(&[FEEDS, SECOND], false)?, None);
+    same!(rt, pair.differs(&[Feeds, Second], false)?, None);
     assert!(rt; !pair.party(Client).end().rekey_due());
     Ok(())
 }

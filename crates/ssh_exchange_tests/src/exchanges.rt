@@ -3,12 +3,14 @@
 use crate::arrays::first_bytes;
 use crate::checking::{same, same_at};
 use crate::pair::Pair;
-use crate::sessions::{
-    AUTHENTICATION, CHANNEL, DATA, DATA_AND_CLOSE, FEEDS, FIRST, SECOND, SERVICE,
+use crate::sessions::DATA;
+use crate::stretch::Stretch;
+use crate::stretch::Stretch::{
+    Authentication, Behind, Channel, DataAndClose, Feeds, First, Second, Service,
 };
-use crate::step::{Script, Step};
-use crate::toys::{client, settings};
+use crate::toys::settings;
 use ssh_kex::{ExchangeInputs, exchange_hash, exchange_text};
+use ssh_toy_transports::ToyTransport;
 use ssh_transport::Strictness;
 use ssh_types::Side::{Client, Server};
 use std::alloc::{AllocError, Global};
@@ -58,24 +60,10 @@ const FIRST_HASH: &str = "b152b8ca09dee836ddc0a3095e115c0fc620faef9ee4ec450509d2
 
 const SECOND_HASH: &str = "f1d37bfe8645b7769e77eed34e44e40076b35295dff375b3f624c86ff0861c52";
 
-// Data of both ends under the second keys.
-const BEHIND: Script = &[
-    (
-        Step::Send(Client, DATA),
-        "c asked send; c sent 94 CHANNEL_DATA 11",
-    ),
-    (Step::PassAll(Client), "s took 94 CHANNEL_DATA 11; s up 0"),
-    (
-        Step::Send(Server, b"^\0\0\0\0\0\0\0\x02ho"),
-        "s asked send; s sent 94 CHANNEL_DATA 11",
-    ),
-    (Step::PassAll(Server), "c took 94 CHANNEL_DATA 11; c up 0"),
-];
-
 // A session of one exchange, and one of two.
-const SHORT: &[Script] = &[FIRST, SERVICE, AUTHENTICATION, CHANNEL, DATA_AND_CLOSE];
+const SHORT: &[Stretch] = &[First, Service, Authentication, Channel, DataAndClose];
 
-const LONG: &[Script] = &[FIRST, SERVICE, AUTHENTICATION, FEEDS, SECOND, BEHIND];
+const LONG: &[Stretch] = &[First, Service, Authentication, Feeds, Second, Behind];
 
 #[test]
 fn sessions_byte_for_byte(rt: HostRuntime) -> Result<(), Fail> {
@@ -98,10 +86,10 @@ fn sessions_byte_for_byte(rt: HostRuntime) -> Result<(), Fail> {
 fn what_two_ends_show(rt: HostRuntime) -> Result<(), Fail> {
     let mut pair = Pair::strict(rt.alloc())?;
     same_ends(&rt, &pair, (1, 0), (0, 0), None);
-    same!(rt, pair.differs(&[FIRST], false)?, None);
+    same!(rt, pair.differs(&[First], false)?, None);
     let first = first_bytes(&hex::decode(rt.alloc(), FIRST_HASH)?);
     same_ends(&rt, &pair, (0, 0), (1, 1), Some(first));
-    let rest = &[SERVICE, AUTHENTICATION, FEEDS, SECOND];
+    let rest = &[Service, Authentication, Feeds, Second];
     same!(rt, pair.differs(rest, false)?, None);
     same_ends(&rt, &pair, (0, 0), (2, 2), Some(first));
     let second = first_bytes(&hex::decode(rt.alloc(), SECOND_HASH)?);
@@ -182,13 +170,13 @@ fn exchange(
 #[test]
 fn a_call_takes_one_line_or_packet(rt: HostRuntime) -> Result<(), Fail> {
     let mut pair = Pair::strict(rt.alloc())?;
-    for (step, lines) in FIRST.get(..3).unwrap_or(&[]) {
+    for (step, lines) in First.script().get(..3).unwrap_or(&[]) {
         same!(rt, pair.play(*step)?, *lines);
     }
     let mut out = Vec::new(rt.alloc());
     let mut sent = Vec::new(rt.alloc());
     let settings = settings(b"c", Strictness::Require);
-    let mut client = client(rt.alloc(), &settings, &mut out, &mut sent)?;
+    let mut client = ToyTransport::new(rt.alloc(), Client, &settings, &mut out, &mut sent)?;
     let mut rest = pair.party(Server).out();
     for size in [11, 176, 96, 16, 0] {
         let (used, turn) = client.take(rest, &mut out, &mut sent);

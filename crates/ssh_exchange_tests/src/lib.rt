@@ -11,15 +11,11 @@ mod attacks;
 #[cfg(test)]
 mod checking;
 #[cfg(test)]
-mod end;
-#[cfg(test)]
 mod exchanges;
 #[cfg(test)]
 mod forging;
 #[cfg(test)]
 mod kexinits;
-#[cfg(test)]
-mod memory;
 #[cfg(test)]
 mod numbers;
 #[cfg(test)]
@@ -38,6 +34,8 @@ mod refusals;
 mod sessions;
 #[cfg(test)]
 mod step;
+#[cfg(test)]
+mod stretch;
 #[cfg(test)]
 mod toys;
 #[cfg(test)]

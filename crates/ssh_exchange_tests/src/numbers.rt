@@ -3,11 +3,14 @@
 use crate::checking::{same, same_at};
 use crate::kexinits::{OF_CLIENT, kexinit};
 use crate::pair::Pair;
-use crate::sessions::{AUTHENTICATION, FEEDS, FIRST, PLAIN_FIRST, SECOND, SERVICE};
-use crate::step::{Script, Step};
+use crate::step::Step;
+use crate::stretch::Stretch;
+use crate::stretch::Stretch::{
+    Authentication, Feeds, First, Lines, PlainFirst, Second, Service, Slow,
+};
 use crate::toys::settings;
 use Ends::{Extended, Offering, Plain, Strict};
-use Kind::{First, FirstNewKeys, Later, LaterNewKeys, Normal};
+use Kind::{Initial, InitialNewKeys, Normal, Rekeying, RekeyingNewKeys};
 use ssh_message::name;
 use ssh_transport::{Settings, Strictness};
 use ssh_types::Side;
@@ -29,141 +32,107 @@ enum Ends {
 #[derive(Clone, Copy, PartialEq, Eq)]
 enum Kind {
     // Nothing.
-    First,
+    Initial,
     // NEWKEYS.
-    FirstNewKeys,
+    InitialNewKeys,
     // Unknown numbers below 30, and NEWKEYS in the second.
-    Later,
-    LaterNewKeys,
+    Rekeying,
+    RekeyingNewKeys,
     // Unknown numbers below 50, and those from 50 on, which are left to the layers above.
     Normal,
 }
 
-// A place: of such ends after so many steps of these scripts, at this side, where these numbers may be taken and are no message by
+// A place: of such ends after so many steps of these stretches, at this side, where these numbers may be taken and are no message by
 // themselves.
-type Place = (Ends, &'static [Script], usize, Side, Kind, &'static [u8]);
-
-// The lines of both ends alone, and what the client's NEWKEYS leaves out.
-const LINES: Script = &[
-    (Step::Pass(Client, 11), "s took line 9"),
-    (Step::Pass(Server, 11), "c took line 9"),
-];
-
-// A first exchange whose last packets come one by one.
-const SLOW: Script = &[
-    (
-        Step::PassAll(Client),
-        "s took line 9; s took 20 KEXINIT 165",
-    ),
-    (
-        Step::PassAll(Server),
-        "c took line 9; c took 20 KEXINIT 165; c sent 30 KEX_ECDH_INIT 37",
-    ),
-    (
-        Step::PassAll(Client),
-        "s took 30 KEX_ECDH_INIT 37; s sent 31 KEX_ECDH_REPLY 85; s sent 21 NEWKEYS 1; s told completed 1",
-    ),
-    (
-        Step::Pass(Server, 96),
-        "c took 31 KEX_ECDH_REPLY 85; c sent 21 NEWKEYS 1; c told completed 1",
-    ),
-];
-
-// An exchange where each end takes extensions, with none announced; and then a packet that is no EXT_INFO.
-const EXTENDED: Script = &[
-    (
-        Step::PassAll(Client),
-        "s took line 9; s took 20 KEXINIT 176",
-    ),
-    (
-        Step::PassAll(Server),
-        "c took line 9; c took 20 KEXINIT 176; c sent 30 KEX_ECDH_INIT 37",
-    ),
-    (
-        Step::PassAll(Client),
-        "s took 30 KEX_ECDH_INIT 37; s sent 31 KEX_ECDH_REPLY 85; s sent 21 NEWKEYS 1; s told completed 1",
-    ),
-    (
-        Step::PassAll(Server),
-        "c took 31 KEX_ECDH_REPLY 85; c sent 21 NEWKEYS 1; c told completed 1; c took 21 NEWKEYS 1",
-    ),
-    (Step::PassAll(Client), "s took 21 NEWKEYS 1"),
-    (
-        Step::Forge(Client, b"\x02\0\0\0\0"),
-        "c took 2 IGNORE 5; c told ignored",
-    ),
-    (
-        Step::Forge(Server, b"\x02\0\0\0\0"),
-        "s took 2 IGNORE 5; s told ignored",
-    ),
-];
+type Place = (Ends, &'static [Stretch], usize, Side, Kind, &'static [u8]);
 
 // A session up to the second exchange, which has 6 steps.
-const REKEYED: &[Script] = &[FIRST, SERVICE, AUTHENTICATION, FEEDS, SECOND];
+const REKEYED: &[Stretch] = &[First, Service, Authentication, Feeds, Second];
 
 const PLACES: &[Place] = &[
-    (Strict, &[LINES], 2, Server, First, &[1, 20]),
-    (Strict, &[LINES], 2, Client, First, &[1, 20]),
-    (Strict, &[SLOW], 1, Server, First, &[1, 30]),
-    (Strict, &[SLOW], 2, Client, First, &[1, 31]),
-    (Strict, &[SLOW], 3, Server, FirstNewKeys, &[1]),
-    (Strict, &[SLOW], 4, Client, FirstNewKeys, &[1]),
-    (Strict, &[FIRST], 5, Server, Normal, &[1, 2, 3, 4, 5]),
-    (Strict, &[FIRST], 5, Client, Normal, &[1, 2, 3, 4]),
+    (Strict, &[Lines], 2, Server, Initial, &[1, 20]),
+    (Strict, &[Lines], 2, Client, Initial, &[1, 20]),
+    (Strict, &[Slow], 1, Server, Initial, &[1, 30]),
+    (Strict, &[Slow], 2, Client, Initial, &[1, 31]),
+    (Strict, &[Slow], 3, Server, InitialNewKeys, &[1]),
+    (Strict, &[Slow], 4, Client, InitialNewKeys, &[1]),
+    (Strict, &[First], 5, Server, Normal, &[1, 2, 3, 4, 5]),
+    (Strict, &[First], 5, Client, Normal, &[1, 2, 3, 4]),
     (
         Strict,
-        &[FIRST, SERVICE],
+        &[First, Service],
         6,
         Client,
         Normal,
         &[1, 2, 3, 4, 6],
     ),
-    (Strict, &[FIRST, SERVICE], 8, Server, Normal, &[1, 2, 3, 4]),
-    (Strict, &[FIRST, SERVICE], 8, Client, Normal, &[1, 2, 3, 4]),
+    (Strict, &[First, Service], 8, Server, Normal, &[1, 2, 3, 4]),
+    (Strict, &[First, Service], 8, Client, Normal, &[1, 2, 3, 4]),
     (Strict, REKEYED, 14, Server, Normal, &[1, 2, 3, 4, 20]),
     (Strict, REKEYED, 14, Client, Normal, &[1, 2, 3, 4, 20]),
     // A client that sent its second KEXINIT and took none.
     (Strict, REKEYED, 17, Client, Normal, &[1, 2, 3, 4, 20]),
-    (Strict, REKEYED, 18, Server, Later, &[1, 2, 3, 4, 30]),
-    (Strict, REKEYED, 19, Client, Later, &[1, 2, 3, 4, 31]),
-    (Strict, REKEYED, 20, Server, LaterNewKeys, &[1, 2, 3, 4]),
+    (Strict, REKEYED, 18, Server, Rekeying, &[1, 2, 3, 4, 30]),
+    (Strict, REKEYED, 19, Client, Rekeying, &[1, 2, 3, 4, 31]),
+    (Strict, REKEYED, 20, Server, RekeyingNewKeys, &[1, 2, 3, 4]),
     (Strict, REKEYED, 22, Server, Normal, &[1, 2, 3, 4, 20]),
     (Strict, REKEYED, 22, Client, Normal, &[1, 2, 3, 4, 20]),
-    (Offering, &[LINES], 2, Server, First, &[1, 2, 3, 4, 20]),
-    (Offering, &[LINES], 2, Client, First, &[1, 2, 3, 4, 20]),
-    (Offering, &[SLOW], 1, Server, First, &[1, 30]),
-    (Offering, &[SLOW], 4, Client, FirstNewKeys, &[1]),
-    (Plain, &[LINES], 2, Server, First, &[1, 2, 3, 4, 20]),
-    (Plain, &[LINES], 2, Client, First, &[1, 2, 3, 4, 20]),
-    (Plain, &[PLAIN_FIRST], 1, Server, First, &[1, 2, 3, 4, 30]),
-    (Plain, &[PLAIN_FIRST], 2, Client, First, &[1, 2, 3, 4, 31]),
+    (Offering, &[Lines], 2, Server, Initial, &[1, 2, 3, 4, 20]),
+    (Offering, &[Lines], 2, Client, Initial, &[1, 2, 3, 4, 20]),
+    (Offering, &[Slow], 1, Server, Initial, &[1, 30]),
+    (Offering, &[Slow], 4, Client, InitialNewKeys, &[1]),
+    (Plain, &[Lines], 2, Server, Initial, &[1, 2, 3, 4, 20]),
+    (Plain, &[Lines], 2, Client, Initial, &[1, 2, 3, 4, 20]),
+    (Plain, &[PlainFirst], 1, Server, Initial, &[1, 2, 3, 4, 30]),
+    (Plain, &[PlainFirst], 2, Client, Initial, &[1, 2, 3, 4, 31]),
     (
         Plain,
-        &[PLAIN_FIRST],
+        &[PlainFirst],
         3,
         Server,
-        FirstNewKeys,
+        InitialNewKeys,
         &[1, 2, 3, 4],
     ),
-    (Plain, &[PLAIN_FIRST], 5, Server, Normal, &[1, 2, 3, 4, 5]),
+    (Plain, &[PlainFirst], 5, Server, Normal, &[1, 2, 3, 4, 5]),
     (
         Extended,
-        &[EXTENDED],
+        &[Stretch::Extended],
         5,
         Server,
         Normal,
         &[1, 2, 3, 4, 5, 7],
     ),
-    (Extended, &[EXTENDED], 5, Client, Normal, &[1, 2, 3, 4, 7]),
-    (Extended, &[EXTENDED], 7, Server, Normal, &[1, 2, 3, 4, 5]),
-    (Extended, &[EXTENDED], 7, Client, Normal, &[1, 2, 3, 4]),
+    (
+        Extended,
+        &[Stretch::Extended],
+        5,
+        Client,
+        Normal,
+        &[1, 2, 3, 4, 7],
+    ),
+    (
+        Extended,
+        &[Stretch::Extended],
+        7,
+        Server,
+        Normal,
+        &[1, 2, 3, 4, 5],
+    ),
+    (
+        Extended,
+        &[Stretch::Extended],
+        7,
+        Client,
+        Normal,
+        &[1, 2, 3, 4],
+    ),
 ];
 
 // Two ends at a place, or `None` where the way to it has other lines.
 fn at(
     alloc: Global,
     ends: Ends,
-    scripts: &[Script],
+    stretches: &[Stretch],
     steps: usize,
 ) -> Result<Option<Pair>, AllocError> {
     let strictness = match ends {
@@ -182,7 +151,8 @@ fn at(
     };
     let mut pair = Pair::new(alloc, &client, &server)?;
     let mut left = steps;
-    for script in scripts.iter() {
+    for stretch in stretches.iter() {
+        let script = stretch.script();
         let part = script.get(..left).unwrap_or(script);
         left = left.saturating_sub(part.len());
         if pair.script_differs(part, false)?.is_some() {
@@ -197,7 +167,7 @@ fn wanted(alloc: Global, place: Place, byte: u8, number: u64) -> Result<String, 
     let (_, _, _, side, kind, longer) = place;
     let side = if side == Client { "c" } else { "s" };
     let name = name(byte);
-    let is_newkeys = kind == FirstNewKeys || kind == LaterNewKeys;
+    let is_newkeys = kind == InitialNewKeys || kind == RekeyingNewKeys;
     if byte == 21 && is_newkeys {
         return format!(in alloc; "{side} took 21 NEWKEYS 1");
     }
@@ -221,8 +191,8 @@ fn refusal(alloc: Global, side: &str, why: &str) -> Result<String, AllocError> {
 // Unknown numbers below this one are answered.
 fn unknown_below(kind: Kind) -> u8 {
     match kind {
-        First | FirstNewKeys => 0,
-        Later | LaterNewKeys => 30,
+        Initial | InitialNewKeys => 0,
+        Rekeying | RekeyingNewKeys => 30,
         Normal => 50,
     }
 }
@@ -236,10 +206,10 @@ const BYTES: &[u8] = &[
 #[test]
 fn each_number_at_each_place(rt: HostRuntime) -> Result<(), Fail> {
     for (index, place) in PLACES.iter().enumerate() {
-        let (ends, scripts, steps, side, _, _) = *place;
+        let (ends, stretches, steps, side, _, _) = *place;
         for byte in BYTES {
             let byte = *byte;
-            let Some(mut pair) = at(rt.alloc(), ends, scripts, steps)? else {
+            let Some(mut pair) = at(rt.alloc(), ends, stretches, steps)? else {
                 panic!(rt; "the way to place {index} has other lines");
             };
             let number = pair.party(side).end().numbers().1;

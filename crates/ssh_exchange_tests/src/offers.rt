@@ -3,8 +3,8 @@
 use crate::checking::{same, same_at};
 use crate::kexinits::{OF_CLIENT, OF_SERVER, kexinit};
 use crate::pair::Pair;
-use crate::sessions::{AUTHENTICATION, FEEDS, FIRST, SERVICE};
 use crate::step::Step;
+use crate::stretch::Stretch::{Authentication, Feeds, First, Service};
 use crate::toys::settings;
 use ssh_transport::{Settings, Strictness};
 use ssh_types::Side;
@@ -125,35 +125,40 @@ const POINT: &[u8] = b"\x1e\0\0\0 11111111111111111111111111111111";
 
 const OTHER_POINT: &[u8] = b"\x1e\0\0\0\x01\x04";
 
+const SKIPPED: &str = "s took 30 KEX_ECDH_INIT 6; s told ignored";
+
+const ANSWERED: &str =
+    "s took 30 KEX_ECDH_INIT 37; s sent 31 KEX_ECDH_REPLY 85; s sent 21 NEWKEYS 1; s told completed 1";
+
+// Two ends of which the server took a KEXINIT with these two lists, and with a guess where one follows.
+fn behind_lists(alloc: Global, kex: &str, host: &str, follows: bool) -> Result<Pair, AllocError> {
+    let kex = list(alloc, Server, kex)?;
+    let others = [(0, kex.as_str()), (1, host)];
+    let payload = kexinit(alloc, 0xc1, &OF_CLIENT, &others, follows)?;
+    let mut pair = lines(alloc)?;
+    pair.play(Step::Forge(Server, &payload))?;
+    Ok(pair)
+}
+
 #[test]
 fn guesses(rt: HostRuntime) -> Result<(), Fail> {
-    let answer =
-        "s took 30 KEX_ECDH_INIT 37; s sent 31 KEX_ECDH_REPLY 85; s sent 21 NEWKEYS 1; s told completed 1";
     for (index, (kex, host, is_wrong)) in GUESSES.iter().enumerate() {
-        let kex = list(rt.alloc(), Server, kex)?;
-        let others = [(0, kex.as_str()), (1, *host)];
-        let mut pair = lines(rt.alloc())?;
-        pair.play(Step::Forge(
-            Server,
-            &kexinit(rt.alloc(), 0xc1, &OF_CLIENT, &others, true)?,
-        ))?;
+        let mut pair = behind_lists(rt.alloc(), kex, host, true)?;
         if *is_wrong {
-            let lines = pair.play(Step::Forge(Server, OTHER_POINT))?;
-            same_at(
-                &rt,
-                index,
-                lines,
-                "s took 30 KEX_ECDH_INIT 6; s told ignored",
-            );
+            let skipped = pair.play(Step::Forge(Server, OTHER_POINT))?;
+            same_at(&rt, index, skipped, SKIPPED);
         }
-        same_at(&rt, index, pair.play(Step::Forge(Server, POINT))?, answer);
-        // The same lists with no guess: nothing is skipped.
-        let mut pair = lines(rt.alloc())?;
-        pair.play(Step::Forge(
-            Server,
-            &kexinit(rt.alloc(), 0xc1, &OF_CLIENT, &others, false)?,
-        ))?;
-        same_at(&rt, index, pair.play(Step::Forge(Server, POINT))?, answer);
+        same_at(&rt, index, pair.play(Step::Forge(Server, POINT))?, ANSWERED);
+    }
+    Ok(())
+}
+
+// The same lists with no guess: nothing is skipped.
+#[test]
+fn lists_without_a_guess(rt: HostRuntime) -> Result<(), Fail> {
+    for (index, (kex, host, _)) in GUESSES.iter().enumerate() {
+        let mut pair = behind_lists(rt.alloc(), kex, host, false)?;
+        same_at(&rt, index, pair.play(Step::Forge(Server, POINT))?, ANSWERED);
     }
     Ok(())
 }
@@ -216,28 +221,41 @@ const LATER_OFFERS: &[(usize, &str, &str, &str)] = &[
 
 #[test]
 fn later_offers(rt: HostRuntime) -> Result<(), Fail> {
-    for (side, lists) in [(Server, &OF_CLIENT), (Client, &OF_SERVER)] {
+    for side in [Server, Client] {
         for (index, (place, text, without, fed)) in LATER_OFFERS.iter().enumerate() {
-            let text = list(rt.alloc(), side, text)?;
-            let others = [(*place, text.as_str())];
-            let payload = kexinit(rt.alloc(), 0xa2, lists, &others, false)?;
-            for (is_fed, why) in [(false, without), (true, fed)] {
-                let mut pair = Pair::strict(rt.alloc())?;
-                same!(
-                    rt,
-                    pair.differs(&[FIRST, SERVICE, AUTHENTICATION], false)?,
-                    None
-                );
-                if is_fed {
-                    pair.differs(&[FEEDS], false)?;
-                }
-                let lines = pair.play(Step::Forge(side, &payload))?;
-                let wanted = later_wanted(rt.alloc(), side, why, payload.len())?;
-                same_at(&rt, index, lines, wanted.as_str());
-            }
+            let payload = later_offer(rt.alloc(), side, *place, text)?;
+            let size = payload.len();
+            let mut pair = authenticated(rt.alloc(), false)?;
+            let wanted = later_wanted(rt.alloc(), side, without, size)?;
+            let lines = pair.play(Step::Forge(side, &payload))?;
+            same_at(&rt, index, lines, wanted.as_str());
+            let mut pair = authenticated(rt.alloc(), true)?;
+            let wanted = later_wanted(rt.alloc(), side, fed, size)?;
+            let lines = pair.play(Step::Forge(side, &payload))?;
+            same_at(&rt, index, lines, wanted.as_str());
         }
     }
     Ok(())
+}
+
+// A later KEXINIT to this side, of which the list at a place is another.
+fn later_offer(alloc: Global, to: Side, place: usize, text: &str) -> Result<Vec<u8>, AllocError> {
+    let lists = match to {
+        Side::Client => &OF_SERVER,
+        Side::Server => &OF_CLIENT,
+    };
+    let text = list(alloc, to, text)?;
+    kexinit(alloc, 0xa2, lists, &[(place, text.as_str())], false)
+}
+
+// Two ends whose user is authenticated, with a pair of cookie and secret or without.
+fn authenticated(alloc: Global, is_fed: bool) -> Result<Pair, AllocError> {
+    let mut pair = Pair::strict(alloc)?;
+    pair.play_all(&[First, Service, Authentication])?;
+    if is_fed {
+        pair.play_all(&[Feeds])?;
+    }
+    Ok(pair)
 }
 
 // The lines of a refusal, or of a KEXINIT that is answered by the end's own.

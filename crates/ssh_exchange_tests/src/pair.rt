@@ -2,12 +2,13 @@
 
 ghost use Rattle.ssh_transport_machine.specs.Asks.{IsSendable};
 
-use crate::end::End;
 use crate::forging::forged;
 use crate::party::Party;
-use crate::step::{Script, Step};
-use crate::toys::{client, server, settings};
+use crate::step::Step;
+use crate::stretch::Stretch;
+use crate::toys::settings;
 use crate::transcript::Transcript;
+use ssh_toy_transports::ToyTransport;
 use ssh_transport::{Settings, Strictness, TransportAsk};
 use ssh_types::Side;
 use std::alloc::{AllocError, Global};
@@ -28,18 +29,10 @@ impl Pair {
         of_client: &Settings<'_>,
         of_server: &Settings<'_>,
     ) -> Result<Pair, AllocError> {
-        let mut out = Vec::new(alloc);
-        let mut sent = Vec::new(alloc);
-        let end = client(alloc, of_client, &mut out, &mut sent)?;
-        let client = Party::new(alloc, Side::Client, End::Client(end), out, sent);
-        let mut out = Vec::new(alloc);
-        let mut sent = Vec::new(alloc);
-        let end = server(alloc, of_server, &mut out, &mut sent)?;
-        let server = Party::new(alloc, Side::Server, End::Server(end), out, sent);
         Ok(Pair {
             alloc,
-            client,
-            server,
+            client: Party::new(alloc, Side::Client, of_client)?,
+            server: Party::new(alloc, Side::Server, of_server)?,
             lines: Transcript::new(alloc),
         })
     }
@@ -151,14 +144,14 @@ impl Pair {
         }
     }
 
-    /// Plays scripts, dripped or not, and answers the first step whose lines are others, with its places.
+    /// Plays stretches, dripped or not, and answers the first step whose lines are others, with its places.
     pub fn differs(
         &mut self,
-        scripts: &[Script],
+        stretches: &[Stretch],
         is_dripped: bool,
     ) -> Result<Option<String>, AllocError> {
-        for script in scripts.iter() {
-            let found = self.script_differs(script, is_dripped)?;
+        for stretch in stretches.iter() {
+            let found = self.script_differs(stretch.script(), is_dripped)?;
             if found.is_some() {
                 return Ok(found);
             }
@@ -166,7 +159,17 @@ impl Pair {
         Ok(None)
     }
 
-    /// The same of one script.
+    /// Plays stretches, whatever lines come of them.
+    pub fn play_all(&mut self, stretches: &[Stretch]) -> Result<(), AllocError> {
+        for stretch in stretches.iter() {
+            for (step, _) in stretch.script() {
+                self.play(*step)?;
+            }
+        }
+        Ok(())
+    }
+
+    /// Plays a script, dripped or not, and answers the first step whose lines are others.
     pub fn script_differs(
         &mut self,
         script: &[(Step<'_>, &str)],

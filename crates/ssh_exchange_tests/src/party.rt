@@ -2,10 +2,10 @@
 
 ghost use Rattle.ssh_transport_machine.specs.Asks.{IsSendable};
 
-use crate::end::End;
 use crate::transcript::Transcript;
 use ssh_kex::OwnedChoice;
-use ssh_transport::{AskTurn, Effect, TransportAsk, TransportFault, TransportTurn};
+use ssh_toy_transports::ToyTransport;
+use ssh_transport::{AskTurn, Effect, Settings, TransportAsk, TransportFault, TransportTurn};
 use ssh_types::Side;
 use std::alloc::{AllocError, Global};
 
@@ -14,7 +14,7 @@ use std::alloc::{AllocError, Global};
 pub struct Party {
     alloc: Global,
     side: Side,
-    end: End,
+    end: ToyTransport,
     // All bytes that it put out, of which the first so many were passed or dropped.
     out: Vec<u8>,
     passed: usize,
@@ -30,10 +30,13 @@ pub struct Party {
 }
 
 impl Party {
-    /// An end that put out these bytes and sent these payloads.
-    pub fn new(alloc: Global, side: Side, end: End, out: Vec<u8>, sent: Vec<Vec<u8>>) -> Party {
+    /// An end of these settings, which has put out its line and its KEXINIT.
+    pub fn new(alloc: Global, side: Side, settings: &Settings<'_>) -> Result<Party, AllocError> {
+        let mut out = Vec::new(alloc);
+        let mut sent = Vec::new(alloc);
+        let end = ToyTransport::new(alloc, side, settings, &mut out, &mut sent)?;
         let shown = sent.as_slice().len();
-        Party {
+        Ok(Party {
             alloc,
             side,
             end,
@@ -45,11 +48,11 @@ impl Party {
             completed: 0,
             chosen: None,
             is_over: false,
-        }
+        })
     }
 
     /// The end.
-    pub fn end(&self) -> &End {
+    pub fn end(&self) -> &ToyTransport {
         &self.end
     }
 

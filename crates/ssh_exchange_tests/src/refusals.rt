@@ -97,31 +97,35 @@ fn nothing_changes(pair: &mut Pair, side: Side) -> Result<bool, AllocError> {
 // A server may send 64 lines before its version line, and each has at most 255 bytes (RFC 4253 section 4.2).
 #[test]
 fn the_most_lines_of_a_server(rt: HostRuntime) -> Result<(), Fail> {
-    let mut pair = Pair::strict(rt.alloc())?;
-    for _ in 0..64 {
-        same!(
-            rt,
-            pair.play(Step::Give(Client, b"hi\r\n"))?,
-            "c took line 2"
-        );
-    }
-    let mut longest = [b'x'; 255];
-    longest[..10].copy_from_slice(b"SSH-2.0-x ");
-    longest[253..].copy_from_slice(b"\r\n");
-    same!(
-        rt,
-        pair.play(Step::Give(Client, &longest))?,
-        "c took line 253"
-    );
-    let mut pair = Pair::strict(rt.alloc())?;
-    for _ in 0..64 {
-        pair.play(Step::Give(Client, b"hi\r\n"))?;
-    }
+    let mut pair = behind_other_lines(rt.alloc(), 64)?;
+    let longest = version_line(rt.alloc(), 243)?;
+    let lines = pair.play(Step::Give(Client, &longest))?;
+    same!(rt, lines, "c took line 253");
+    let mut pair = behind_other_lines(rt.alloc(), 64)?;
     let lines = pair.play(Step::Give(Client, b"hi\r\n"))?;
     same!(rt, lines, "c refused 1 BadLine; c died");
-    let mut pair = Pair::strict(rt.alloc())?;
-    longest[253] = b'x';
-    let lines = pair.play(Step::Give(Client, &longest))?;
+    let mut pair = behind_other_lines(rt.alloc(), 0)?;
+    let too_long = version_line(rt.alloc(), 244)?;
+    let lines = pair.play(Step::Give(Client, &too_long))?;
     same!(rt, lines, "c refused 1 BadLine; c died");
     Ok(())
+}
+
+// Two ends of which the client took so many lines of a server before its version line. It died where one was refused.
+fn behind_other_lines(alloc: Global, count: usize) -> Result<Pair, AllocError> {
+    let mut pair = Pair::strict(alloc)?;
+    for _ in 0..count {
+        pair.play(Step::Give(Client, b"hi\r\n"))?;
+    }
+    Ok(pair)
+}
+
+// A version line with comments of so many letters.
+fn version_line(alloc: Global, letters: usize) -> Result<Vec<u8>, AllocError> {
+    let mut line = b"SSH-2.0-x ".to_vec(alloc)?;
+    for _ in 0..letters {
+        line.push(b'x')?;
+    }
+    line.extend_from_slice(b"\r\n")?;
+    Ok(line)
 }

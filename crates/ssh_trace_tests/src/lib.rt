@@ -1,18 +1,11 @@
-//! Tests of the public calls of `ssh_trace`: packets that are shown, scripts that are played, and words, lines and digits
-//! that are wrong.
+//! Tests of the public calls of `ssh_script`, `ssh_play` and `ssh_trace`, a module a crate.
 #![tactic(auto)]
 
 #[cfg(test)]
 mod checking;
 #[cfg(test)]
-mod comparing;
+mod play;
 #[cfg(test)]
-mod decoding;
+mod script;
 #[cfg(test)]
-mod faults;
-#[cfg(test)]
-mod outcome;
-#[cfg(test)]
-mod playing;
-#[cfg(test)]
-mod usage;
+mod trace;

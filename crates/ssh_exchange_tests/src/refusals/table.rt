@@ -1,19 +1,23 @@
 //! What is refused, and how.
 
 use crate::refusals::ways::{
-    ACCEPT, ASKED, AT_CLIENT, AT_SERVER, BEHIND_POINT, BEHIND_REPLY, CUT_REPLY, DEBUG, EXTENSIONS,
-    FED, LINES, LONG_NEWKEYS, LONG_POINT, OTHER_ACCEPT, OTHER_HOST, OTHER_REQUEST, OWN_POINT,
-    OWN_REPLY, REKEY, REKEY_AT_CLIENT, REKEY_WITHOUT, REQUEST, SEALED_BY_NOBODY, SHORT_DISCONNECT,
-    SHORT_POINT, SHORT_REPLY, UNSIGNED_REPLY,
+    ACCEPT, CUT_REPLY, DEBUG, EXTENSIONS, LONG_NEWKEYS, LONG_POINT, OTHER_ACCEPT, OTHER_HOST,
+    OTHER_REQUEST, OWN_POINT, OWN_REPLY, REQUEST, SEALED_BY_NOBODY, SHORT_DISCONNECT, SHORT_POINT,
+    SHORT_REPLY, UNSIGNED_REPLY,
 };
-use crate::sessions::{AUTHENTICATION, FEEDS, FIRST, IGNORE, NEWKEYS, SECOND, SERVICE};
-use crate::step::{Script, Step};
+use crate::sessions::{IGNORE, NEWKEYS};
+use crate::step::Step;
+use crate::stretch::Stretch;
+use crate::stretch::Stretch::{
+    Asked, AtClient, AtServer, Authentication, Begun, BehindPoint, BehindReply, Fed, Feeds, First,
+    Lines, Rekey, RekeyAtClient, Second, Service,
+};
 use ssh_types::Side;
 use ssh_types::Side::{Client, Server};
 
 /// What two ends do before a refusal, the step that is refused, who refuses it, by what and by which reason code (RFC 4253 section
 /// 11.1), or 0 where nothing is said.
-pub type Refused = (&'static [Script], Step<'static>, Side, &'static str, u32);
+pub type Refused = (&'static [Stretch], Step<'static>, Side, &'static str, u32);
 
 pub const TABLE: &[Refused] = &[
     // Lines (RFC 4253 section 4.2).
@@ -62,56 +66,56 @@ pub const TABLE: &[Refused] = &[
     ),
     // Packets in clear and under a key (section 6).
     (
-        &[LINES],
+        &[Lines],
         Step::Give(Server, b"\0\0\0\x0b"),
         Server,
         "3 BadLength",
         2,
     ),
     (
-        &[LINES],
+        &[Lines],
         Step::Give(Client, b"\0\0\0\x0d"),
         Client,
         "3 BadLength",
         2,
     ),
     (
-        &[LINES],
+        &[Lines],
         Step::Give(Client, b"\0\0\x88\xbc"),
         Client,
         "3 BadLength",
         2,
     ),
     (
-        &[FIRST],
+        &[First],
         Step::Give(Server, b"\0\0\x88\x9c"),
         Server,
         "3 BadLength",
         2,
     ),
     (
-        &[LINES],
+        &[Lines],
         Step::Give(Server, b"\0\0\0\x0c\x03\x15\0\0\0\0\0\0\0\0\0\0"),
         Server,
         "4 BadPadding",
         2,
     ),
     (
-        &[LINES],
+        &[Lines],
         Step::Give(Client, b"\0\0\0\x0c\x0b\x15\0\0\0\0\0\0\0\0\0\0"),
         Client,
         "4 BadPadding",
         2,
     ),
     (
-        &[FIRST],
+        &[First],
         Step::Give(Client, SEALED_BY_NOBODY),
         Client,
         "5 BadTag",
         5,
     ),
     (
-        &[FIRST],
+        &[First],
         Step::Give(Server, SEALED_BY_NOBODY),
         Server,
         "5 BadTag",
@@ -119,21 +123,21 @@ pub const TABLE: &[Refused] = &[
     ),
     // A packet comes once more, or comes under the keys before.
     (
-        &[FIRST, SERVICE],
+        &[First, Service],
         Step::Again(Client, 251, 64),
         Server,
         "5 BadTag",
         5,
     ),
     (
-        &[FIRST, SERVICE],
+        &[First, Service],
         Step::Again(Server, 299, 64),
         Client,
         "5 BadTag",
         5,
     ),
     (
-        &[FIRST, SERVICE, AUTHENTICATION, FEEDS, SECOND],
+        &[First, Service, Authentication, Feeds, Second],
         Step::Again(Client, 251, 64),
         Server,
         "5 BadTag",
@@ -141,35 +145,35 @@ pub const TABLE: &[Refused] = &[
     ),
     // Payloads that are no messages.
     (
-        &[LINES],
+        &[Lines],
         Step::Forge(Server, b"\x14"),
         Server,
         "6 BadMessage",
         2,
     ),
     (
-        &[AT_CLIENT],
+        &[AtClient],
         Step::Forge(Client, CUT_REPLY),
         Client,
         "6 BadMessage",
         2,
     ),
     (
-        &[AT_CLIENT, BEHIND_POINT],
+        &[AtClient, BehindPoint],
         Step::Forge(Server, LONG_NEWKEYS),
         Server,
         "6 BadMessage",
         2,
     ),
     (
-        &[LINES],
+        &[Lines],
         Step::Forge(Client, SHORT_DISCONNECT),
         Client,
         "6 BadMessage",
         2,
     ),
     (
-        &[FIRST],
+        &[First],
         Step::Forge(Client, b"\x03\0\0\0"),
         Client,
         "6 BadMessage",
@@ -177,56 +181,56 @@ pub const TABLE: &[Refused] = &[
     ),
     // Messages before and within the first exchange: what Terrapin (CVE-2023-48795) puts there.
     (
-        &[LINES],
+        &[Lines],
         Step::Give(Client, IGNORE),
         Client,
         "7 Unexpected",
         2,
     ),
     (
-        &[LINES],
+        &[Lines],
         Step::Give(Server, IGNORE),
         Server,
         "7 Unexpected",
         2,
     ),
     (
-        &[LINES],
+        &[Lines],
         Step::Forge(Client, DEBUG),
         Client,
         "7 Unexpected",
         2,
     ),
     (
-        &[AT_CLIENT],
+        &[AtClient],
         Step::Give(Client, IGNORE),
         Client,
         "7 Unexpected",
         2,
     ),
     (
-        &[AT_SERVER],
+        &[AtServer],
         Step::Give(Server, IGNORE),
         Server,
         "7 Unexpected",
         2,
     ),
     (
-        &[AT_SERVER],
+        &[AtServer],
         Step::Forge(Server, b"\xc0"),
         Server,
         "7 Unexpected",
         2,
     ),
     (
-        &[AT_CLIENT, BEHIND_POINT],
+        &[AtClient, BehindPoint],
         Step::Give(Server, IGNORE),
         Server,
         "7 Unexpected",
         2,
     ),
     (
-        &[AT_CLIENT, BEHIND_POINT, BEHIND_REPLY],
+        &[AtClient, BehindPoint, BehindReply],
         Step::Give(Client, IGNORE),
         Client,
         "7 Unexpected",
@@ -234,35 +238,35 @@ pub const TABLE: &[Refused] = &[
     ),
     // NEWKEYS too early, and messages of the layers above before it.
     (
-        &[AT_SERVER],
+        &[AtServer],
         Step::Give(Server, NEWKEYS),
         Server,
         "7 Unexpected",
         2,
     ),
     (
-        &[AT_CLIENT],
+        &[AtClient],
         Step::Give(Client, NEWKEYS),
         Client,
         "7 Unexpected",
         2,
     ),
     (
-        &[AT_CLIENT, BEHIND_POINT],
+        &[AtClient, BehindPoint],
         Step::Forge(Server, REQUEST),
         Server,
         "7 Unexpected",
         2,
     ),
     (
-        &[AT_CLIENT, BEHIND_POINT],
+        &[AtClient, BehindPoint],
         Step::Forge(Server, b"2"),
         Server,
         "7 Unexpected",
         2,
     ),
     (
-        &[AT_CLIENT, BEHIND_POINT, BEHIND_REPLY],
+        &[AtClient, BehindPoint, BehindReply],
         Step::Forge(Client, b"4"),
         Client,
         "7 Unexpected",
@@ -270,63 +274,63 @@ pub const TABLE: &[Refused] = &[
     ),
     // Messages of the other side, and messages behind the exchange.
     (
-        &[AT_CLIENT],
+        &[AtClient],
         Step::Forge(Client, OWN_POINT),
         Client,
         "7 Unexpected",
         2,
     ),
     (
-        &[AT_SERVER],
+        &[AtServer],
         Step::Forge(Server, SHORT_REPLY),
         Server,
         "7 Unexpected",
         2,
     ),
     (
-        &[FIRST],
+        &[First],
         Step::Forge(Server, b"\x15"),
         Server,
         "7 Unexpected",
         2,
     ),
     (
-        &[FIRST],
+        &[First],
         Step::Forge(Client, EXTENSIONS),
         Client,
         "7 Unexpected",
         2,
     ),
     (
-        &[FIRST],
+        &[First],
         Step::Forge(Client, ACCEPT),
         Client,
         "7 Unexpected",
         2,
     ),
     (
-        &[FIRST],
+        &[First],
         Step::Forge(Client, REQUEST),
         Client,
         "7 Unexpected",
         2,
     ),
     (
-        &[FIRST, SERVICE],
+        &[First, Service],
         Step::Forge(Server, REQUEST),
         Server,
         "7 Unexpected",
         2,
     ),
     (
-        &[FIRST, SERVICE],
+        &[First, Service],
         Step::Forge(Client, ACCEPT),
         Client,
         "7 Unexpected",
         2,
     ),
     (
-        &[FIRST, ASKED],
+        &[First, Asked],
         Step::Forge(Client, OTHER_ACCEPT),
         Client,
         "7 Unexpected",
@@ -334,21 +338,14 @@ pub const TABLE: &[Refused] = &[
     ),
     // Messages of the layers above within a later exchange.
     (
-        &[FIRST, SERVICE, AUTHENTICATION, FEEDS, REKEY],
+        &[First, Service, Authentication, Feeds, Rekey],
         Step::Forge(Server, b"^\0\0\0\0\0\0\0\x02hi"),
         Server,
         "7 Unexpected",
         2,
     ),
     (
-        &[
-            FIRST,
-            SERVICE,
-            AUTHENTICATION,
-            FEEDS,
-            REKEY,
-            REKEY_AT_CLIENT,
-        ],
+        &[First, Service, Authentication, Feeds, Rekey, RekeyAtClient],
         Step::Forge(Client, b"^\0\0\0\0\0\0\0\x02hi"),
         Client,
         "7 Unexpected",
@@ -356,49 +353,49 @@ pub const TABLE: &[Refused] = &[
     ),
     // Points (RFC 8731 section 3) and hosts (RFC 4253 section 8).
     (
-        &[AT_SERVER],
+        &[AtServer],
         Step::Forge(Server, SHORT_POINT),
         Server,
         "10 BadPoint",
         3,
     ),
     (
-        &[AT_SERVER],
+        &[AtServer],
         Step::Forge(Server, LONG_POINT),
         Server,
         "10 BadPoint",
         3,
     ),
     (
-        &[AT_SERVER],
+        &[AtServer],
         Step::Forge(Server, OWN_POINT),
         Server,
         "10 BadPoint",
         3,
     ),
     (
-        &[AT_CLIENT],
+        &[AtClient],
         Step::Forge(Client, SHORT_REPLY),
         Client,
         "10 BadPoint",
         3,
     ),
     (
-        &[AT_CLIENT],
+        &[AtClient],
         Step::Forge(Client, OWN_REPLY),
         Client,
         "10 BadPoint",
         3,
     ),
     (
-        &[AT_CLIENT],
+        &[AtClient],
         Step::Forge(Client, UNSIGNED_REPLY),
         Client,
         "11 BadHost",
         9,
     ),
     (
-        &[AT_CLIENT],
+        &[AtClient],
         Step::Forge(Client, OTHER_HOST),
         Client,
         "11 BadHost",
@@ -406,7 +403,7 @@ pub const TABLE: &[Refused] = &[
     ),
     // An exchange that one end has no cookie and secret for.
     (
-        &[FIRST, SERVICE, AUTHENTICATION, FED, REKEY_WITHOUT],
+        &[First, Service, Authentication, Fed, Begun],
         Step::PassAll(Client),
         Server,
         "12 NoMaterial",
@@ -414,7 +411,7 @@ pub const TABLE: &[Refused] = &[
     ),
     // Services (section 10).
     (
-        &[FIRST],
+        &[First],
         Step::Forge(Server, OTHER_REQUEST),
         Server,
         "13 NoService",

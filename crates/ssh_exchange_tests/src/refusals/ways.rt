@@ -1,62 +1,5 @@
 //! The ways to the places at which something is refused, and the messages that are.
 
-use crate::step::{Script, Step};
-use ssh_types::Side::{Client, Server};
-
-/// Lines that the ends take before.
-pub const LINES: Script = &[
-    (Step::Pass(Client, 11), "s took line 9"),
-    (Step::Pass(Server, 11), "c took line 9"),
-];
-
-/// The ways to the end of KEXINIT, of the client's point, and of the server's reply.
-pub const AT_SERVER: Script = &[(
-    Step::PassAll(Client),
-    "s took line 9; s took 20 KEXINIT 165",
-)];
-
-pub const AT_CLIENT: Script = &[
-    (
-        Step::PassAll(Client),
-        "s took line 9; s took 20 KEXINIT 165",
-    ),
-    (
-        Step::PassAll(Server),
-        "c took line 9; c took 20 KEXINIT 165; c sent 30 KEX_ECDH_INIT 37",
-    ),
-];
-
-pub const BEHIND_POINT: Script = &[(
-    Step::PassAll(Client),
-    "s took 30 KEX_ECDH_INIT 37; s sent 31 KEX_ECDH_REPLY 85; s sent 21 NEWKEYS 1; s told completed 1",
-)];
-
-pub const BEHIND_REPLY: Script = &[(
-    Step::Pass(Server, 96),
-    "c took 31 KEX_ECDH_REPLY 85; c sent 21 NEWKEYS 1; c told completed 1",
-)];
-
-/// The second exchange up to where the server has taken a KEXINIT, and the client.
-pub const REKEY: Script = &[
-    (Step::Rekey(Client), "c asked rekey; c sent 20 KEXINIT 136"),
-    (
-        Step::PassAll(Client),
-        "s took 20 KEXINIT 136; s sent 20 KEXINIT 136",
-    ),
-];
-
-pub const REKEY_AT_CLIENT: Script = &[(
-    Step::PassAll(Server),
-    "c took 20 KEXINIT 136; c sent 30 KEX_ECDH_INIT 37",
-)];
-
-pub const ASKED: Script = &[(
-    Step::Service(Client),
-    "c asked service; c sent 5 SERVICE_REQUEST 17",
-)];
-
-pub const FED: Script = &[(Step::Feed(Client, 0xa2), "")];
-
 /// Messages, well formed but for the last two.
 pub const REQUEST: &[u8] = b"\x05\0\0\0\x0cssh-userauth";
 
@@ -100,5 +43,3 @@ pub const CUT_REPLY: &[u8] = b"\x1f\0\0\0\x08toy-host\0\0\0\x2022222222222222222
 /// An IGNORE in clear with 32 zeros for a tag.
 pub const SEALED_BY_NOBODY: &[u8] = b"\0\0\0\x0c\x06\x02\0\0\0\0\0\0\0\0\0\0\
     \0\0\0\0\0\0\0\0\0\0\0\0\0\0\0\0\0\0\0\0\0\0\0\0\0\0\0\0\0\0\0\0";
-
-pub const REKEY_WITHOUT: Script = &[(Step::Rekey(Client), "c asked rekey; c sent 20 KEXINIT 136")];

@@ -1,0 +1,136 @@
+//! Stretches of a session by their names, each played behind those before it.
+
+mod attack;
+mod session;
+mod variant;
+mod way;
+
+use crate::step::Script;
+
+/// A stretch of a session. A table names its stretches, since a table that holds them is proved with all their texts.
+#[derive(Clone, Copy, Debug)]
+pub enum Stretch {
+    /// The first exchange of two ends of which each offers strict key exchange.
+    First,
+    /// The first exchange of two ends that don't.
+    PlainFirst,
+    /// The service of authentication.
+    Service,
+    /// A request that the server's layer above accepts.
+    Authentication,
+    /// A channel that is opened.
+    Channel,
+    /// Data on it, and its end.
+    DataAndClose,
+    /// A pair of cookie and secret for each end.
+    Feeds,
+    /// The second exchange, which the client begins.
+    Second,
+    /// Data of both ends under the second keys.
+    Behind,
+    /// The first packet under the keys is dropped, the one that Terrapin (CVE-2023-48795) aims at.
+    Lost,
+    /// The same, which is not dropped.
+    NotLost,
+    /// An IGNORE in clear behind the first exchange, which is less than a packet, and then zeros for a tag.
+    Clear,
+    /// The server takes a NEWKEYS of another hand before the client's, which then is no packet.
+    EarlyNewkeys,
+    /// Both ends begin an exchange at once.
+    Crossed,
+    /// The server begins one, and the client has sent more before it saw that.
+    OfServer,
+    /// Both are fed the same secret: their points share nothing.
+    SameSecrets,
+    /// A packet of the first epoch comes again under the second keys.
+    Repeated,
+    /// A first exchange of which one end alone offers strict key exchange.
+    ClientOffers,
+    ServerOffers,
+    Rest,
+    /// An end that requires it refuses a peer that does not offer it.
+    ServerRefuses,
+    ClientRefuses,
+    /// Both ends are told that the user is authenticated.
+    AuthenticationOfAny,
+    /// What a network that puts an IGNORE before the server's KEXINIT comes to.
+    Ignored,
+    /// Where both ends offer strict key exchange, that is refused at the KEXINIT.
+    NotTheFirst,
+    /// In a plain session it is not noticed, and the first packet under the keys can be dropped.
+    Unnoticed,
+    /// A session of ends of which each takes extensions, and the server announces one.
+    Announced,
+    /// The same where the client does not take them.
+    Unasked,
+    TooMany,
+    /// An exchange where each end takes extensions, with none announced; and then a packet that is no EXT_INFO.
+    Extended,
+    /// Lines that the ends take before.
+    Lines,
+    /// The ways to the end of KEXINIT, of the client's point, and of the server's reply.
+    AtServer,
+    AtClient,
+    BehindPoint,
+    BehindReply,
+    /// The second exchange up to where the server has taken a KEXINIT, and the client.
+    Rekey,
+    RekeyAtClient,
+    Asked,
+    Fed,
+    /// A client that has begun an exchange, and one that is in it and not blocked.
+    Begun,
+    Later,
+    /// A first exchange whose last packets come one by one.
+    Slow,
+}
+
+impl Stretch {
+    /// What is done, and the lines of it.
+    pub fn script(self) -> Script {
+        match self {
+            Stretch::First => session::first(),
+            Stretch::PlainFirst => session::plain_first(),
+            Stretch::Service => session::service(),
+            Stretch::Authentication => session::authentication(),
+            Stretch::Channel => session::channel(),
+            Stretch::DataAndClose => session::data_and_close(),
+            Stretch::Feeds => session::feeds(),
+            Stretch::Second => session::second(),
+            Stretch::Behind => session::behind(),
+            Stretch::Lost => attack::lost(),
+            Stretch::NotLost => attack::not_lost(),
+            Stretch::Clear => attack::clear(),
+            Stretch::EarlyNewkeys => attack::early_newkeys(),
+            Stretch::Crossed => attack::crossed(),
+            Stretch::OfServer => attack::of_server(),
+            Stretch::SameSecrets => attack::same_secrets(),
+            Stretch::Repeated => attack::repeated(),
+            Stretch::ClientOffers => variant::client_offers(),
+            Stretch::ServerOffers => variant::server_offers(),
+            Stretch::Rest => variant::rest(),
+            Stretch::ServerRefuses => variant::server_refuses(),
+            Stretch::ClientRefuses => variant::client_refuses(),
+            Stretch::AuthenticationOfAny => variant::authentication_of_any(),
+            Stretch::Ignored => variant::ignored(),
+            Stretch::NotTheFirst => variant::not_the_first(),
+            Stretch::Unnoticed => variant::unnoticed(),
+            Stretch::Announced => variant::announced(),
+            Stretch::Unasked => variant::unasked(),
+            Stretch::TooMany => variant::too_many(),
+            Stretch::Extended => variant::extended(),
+            Stretch::Lines => way::lines(),
+            Stretch::AtServer => way::at_server(),
+            Stretch::AtClient => way::at_client(),
+            Stretch::BehindPoint => way::behind_point(),
+            Stretch::BehindReply => way::behind_reply(),
+            Stretch::Rekey => way::rekey(),
+            Stretch::RekeyAtClient => way::rekey_at_client(),
+            Stretch::Asked => way::asked(),
+            Stretch::Fed => way::fed(),
+            Stretch::Begun => way::begun(),
+            Stretch::Later => way::later(),
+            Stretch::Slow => way::slow(),
+        }
+    }
+}

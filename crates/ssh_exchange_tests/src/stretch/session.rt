@@ -1,0 +1,181 @@
+//! A session, from the first exchange to the second and beyond. The payloads of the layers above are those of RFC 4252 and RFC 4254.
+
+use crate::sessions::{CLOSE, CONFIRMATION, DATA, OPEN, REQUEST, SUCCESS};
+use crate::step::{Script, Step};
+use ssh_types::Side::{Client, Server};
+
+pub fn first() -> Script {
+    const STEPS: Script = &[
+        (
+            Step::PassAll(Client),
+            "s took line 9; s took 20 KEXINIT 165",
+        ),
+        (
+            Step::PassAll(Server),
+            "c took line 9; c took 20 KEXINIT 165; c sent 30 KEX_ECDH_INIT 37",
+        ),
+        (
+            Step::PassAll(Client),
+            "s took 30 KEX_ECDH_INIT 37; s sent 31 KEX_ECDH_REPLY 85; s sent 21 NEWKEYS 1; s told completed 1",
+        ),
+        (
+            Step::PassAll(Server),
+            "c took 31 KEX_ECDH_REPLY 85; c sent 21 NEWKEYS 1; c told completed 1; c took 21 NEWKEYS 1",
+        ),
+        (Step::PassAll(Client), "s took 21 NEWKEYS 1"),
+    ];
+    STEPS
+}
+
+pub fn plain_first() -> Script {
+    const STEPS: Script = &[
+        (
+            Step::PassAll(Client),
+            "s took line 9; s took 20 KEXINIT 136",
+        ),
+        (
+            Step::PassAll(Server),
+            "c took line 9; c took 20 KEXINIT 136; c sent 30 KEX_ECDH_INIT 37",
+        ),
+        (
+            Step::PassAll(Client),
+            "s took 30 KEX_ECDH_INIT 37; s sent 31 KEX_ECDH_REPLY 85; s sent 21 NEWKEYS 1; s told completed 1",
+        ),
+        (
+            Step::PassAll(Server),
+            "c took 31 KEX_ECDH_REPLY 85; c sent 21 NEWKEYS 1; c told completed 1; c took 21 NEWKEYS 1",
+        ),
+        (Step::PassAll(Client), "s took 21 NEWKEYS 1"),
+    ];
+    STEPS
+}
+
+pub fn service() -> Script {
+    const STEPS: Script = &[
+        (
+            Step::Service(Client),
+            "c asked service; c sent 5 SERVICE_REQUEST 17",
+        ),
+        (
+            Step::PassAll(Client),
+            "s took 5 SERVICE_REQUEST 17; s sent 6 SERVICE_ACCEPT 17",
+        ),
+        (
+            Step::PassAll(Server),
+            "c took 6 SERVICE_ACCEPT 17; c told service",
+        ),
+    ];
+    STEPS
+}
+
+pub fn authentication() -> Script {
+    const STEPS: Script = &[
+        (
+            Step::Send(Client, REQUEST),
+            "c asked send; c sent 50 USERAUTH_REQUEST 42",
+        ),
+        (
+            Step::PassAll(Client),
+            "s took 50 USERAUTH_REQUEST 42; s up 1",
+        ),
+        (
+            Step::Send(Server, SUCCESS),
+            "s asked send; s sent 52 USERAUTH_SUCCESS 1",
+        ),
+        (Step::Authenticated(Server), ""),
+        (
+            Step::PassAll(Server),
+            "c took 52 USERAUTH_SUCCESS 1; c up 1",
+        ),
+        (Step::Authenticated(Client), ""),
+    ];
+    STEPS
+}
+
+pub fn channel() -> Script {
+    const STEPS: Script = &[
+        (
+            Step::Send(Client, OPEN),
+            "c asked send; c sent 90 CHANNEL_OPEN 24",
+        ),
+        (Step::PassAll(Client), "s took 90 CHANNEL_OPEN 24; s up 2"),
+        (
+            Step::Send(Server, CONFIRMATION),
+            "s asked send; s sent 91 CHANNEL_OPEN_CONFIRMATION 17",
+        ),
+        (
+            Step::PassAll(Server),
+            "c took 91 CHANNEL_OPEN_CONFIRMATION 17; c up 2",
+        ),
+    ];
+    STEPS
+}
+
+pub fn data_and_close() -> Script {
+    const STEPS: Script = &[
+        (
+            Step::Send(Client, DATA),
+            "c asked send; c sent 94 CHANNEL_DATA 11",
+        ),
+        (Step::PassAll(Client), "s took 94 CHANNEL_DATA 11; s up 3"),
+        (
+            Step::Send(Client, CLOSE),
+            "c asked send; c sent 97 CHANNEL_CLOSE 5",
+        ),
+        (Step::PassAll(Client), "s took 97 CHANNEL_CLOSE 5; s up 4"),
+        (
+            Step::Send(Server, CLOSE),
+            "s asked send; s sent 97 CHANNEL_CLOSE 5",
+        ),
+        (Step::PassAll(Server), "c took 97 CHANNEL_CLOSE 5; c up 3"),
+    ];
+    STEPS
+}
+
+pub fn feeds() -> Script {
+    const STEPS: Script = &[
+        (Step::Feed(Client, 0xa2), ""),
+        (Step::Feed(Server, 0xb2), ""),
+    ];
+    STEPS
+}
+
+pub fn second() -> Script {
+    const STEPS: Script = &[
+        (Step::Rekey(Client), "c asked rekey; c sent 20 KEXINIT 136"),
+        (
+            Step::PassAll(Client),
+            "s took 20 KEXINIT 136; s sent 20 KEXINIT 136",
+        ),
+        (
+            Step::PassAll(Server),
+            "c took 20 KEXINIT 136; c sent 30 KEX_ECDH_INIT 37",
+        ),
+        (
+            Step::PassAll(Client),
+            "s took 30 KEX_ECDH_INIT 37; s sent 31 KEX_ECDH_REPLY 85; s sent 21 NEWKEYS 1; s told completed 2",
+        ),
+        (
+            Step::PassAll(Server),
+            "c took 31 KEX_ECDH_REPLY 85; c sent 21 NEWKEYS 1; c told completed 2; c took 21 NEWKEYS 1",
+        ),
+        (Step::PassAll(Client), "s took 21 NEWKEYS 1"),
+    ];
+    STEPS
+}
+
+pub fn behind() -> Script {
+    const STEPS: Script = &[
+        (
+            Step::Send(Client, DATA),
+            "c asked send; c sent 94 CHANNEL_DATA 11",
+        ),
+        (Step::PassAll(Client), "s took 94 CHANNEL_DATA 11; s up 0"),
+        (
+            Step::Send(Server, b"^\0\0\0\0\0\0\0\x02ho"),
+            "s asked send; s sent 94 CHANNEL_DATA 11",
+        ),
+        (Step::PassAll(Server), "c took 94 CHANNEL_DATA 11; c up 0"),
+    ];
+    STEPS
+}

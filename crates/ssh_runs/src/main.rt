@@ -1,0 +1,70 @@
+//! What is run as a program, since no test reads a file or meets its own allocations alone: stored scripts, and what becomes of calls, plays and ends where
+//! memory is refused. `make memory` runs the parts `calls`, `plays` and `data` with each allocation refused in turn, until a run meets no refusal.
+//!
+//! The word `scripts`, `calls`, `plays` or `data` names the part that is run; without a word all are. The status is 0 where nothing was refused or a smaller allocation
+//! made up for it, 3 where memory was refused before what the part is about, and 4 where it was refused within that; what this means is said beside each
+//! part. All else is wrong: a part says so, and the status is 1. It is 2 for other words.
+#![tactic(auto)]
+
+mod calls;
+mod data;
+mod plays;
+mod scripts;
+mod status;
+
+use status::Status;
+use std::process::ExitCode;
+use std::rt::Env;
+use std::{env, io};
+
+// What is run.
+#[derive(Clone, Copy)]
+enum Part {
+    Scripts,
+    Calls,
+    Plays,
+    Data,
+}
+
+fn main(rt: HostRuntime) -> ExitCode {
+    let words = match words_of(&rt) {
+        Ok(words) => words,
+        Err(_) => return ExitCode::from(Status::Before.code()),
+    };
+    let Some(parts) = parts_of(words.as_slice()) else {
+        let _ = println!(rt; "usage: ssh_runs [scripts | calls | plays | data]");
+        return ExitCode::from(2);
+    };
+    for part in parts {
+        let status = match part {
+            Part::Scripts => scripts::run(&rt, &mut rt.stdout(), &mut rt.stderr()),
+            Part::Calls => calls::run(&rt),
+            Part::Plays => plays::run(&rt),
+            Part::Data => data::run(&rt),
+        };
+        if status != Status::Done {
+            return ExitCode::from(status.code());
+        }
+    }
+    ExitCode::from(0)
+}
+
+fn words_of<R: Env + AllocGlobal>(rt: &R) -> io::Result<Vec<String>> {
+    let words: Vec<String> = env::args(rt)?.collect(rt.alloc())?;
+    Ok(words)
+}
+
+// The parts that the words name, behind the name of the program.
+fn parts_of(words: &[String]) -> Option<&'static [Part]> {
+    match words {
+        [] | [_] => Some(&[Part::Scripts, Part::Calls, Part::Plays, Part::Data]),
+        [_, word] => match word.as_str() {
+            "scripts" => Some(&[Part::Scripts]),
+            "calls" => Some(&[Part::Calls]),
+            "plays" => Some(&[Part::Plays]),
+            "data" => Some(&[Part::Data]),
+            _ => None,
+        },
+        _ => None,
+    }
+}

@@ -1,0 +1,101 @@
+//! Stored scripts, of whole sessions and of one epoch: whether the ends do what each expects of them. And the sweep of a whole session, which is played with
+//! each byte that goes over the network changed, left out and doubled in turn.
+
+use crate::status::Status;
+use ssh_trace::{check_to, sweep_to};
+use std::io::Write;
+use std::rt::Files;
+use std::{fs, io};
+
+// The names of the files of whole sessions, without their ending.
+const SESSIONS: &[&str] = &[
+    "whole_session",
+    "whole_session_dripped",
+    "key_probe_and_signature",
+    "extensions",
+    "extensions_not_taken",
+    "second_exchange",
+    "close_in_second_exchange",
+    "window_used_up_and_grown",
+    "window_of_data_and_extended_data",
+    "end_of_data_and_close",
+    "closes_that_cross",
+    "epoch_limit",
+    "channel_table_full",
+    "owed_replies_full",
+    "plain_session",
+    "plain_session_cut",
+    "offered_strictness_finds_ignore",
+    "offered_strictness_struck_out",
+    "required_strictness_not_offered",
+    "marker_struck_out",
+    "ignore_before_kexinit",
+    "ignore_after_kexinit",
+    "clear_packet_waits",
+    "clear_packet_refused",
+    "short_point",
+    "equal_secrets",
+    "injected_newkeys",
+    "lost_packet",
+    "replayed_packet",
+    "channel_before_login",
+    "second_request_too_early",
+    "wrong_password",
+    "wrong_passwords_dripped",
+    "refused_asks",
+    "both_ends_over",
+    "exchange_without_material",
+    "peer_without_material",
+];
+
+// Those of one epoch.
+const EPOCHS: &[&str] = &[
+    "epoch_packets_in_order",
+    "epoch_lost_packet",
+    "epoch_repeated_packet",
+    "epoch_dripped",
+    "epoch_cut",
+    "epoch_nothing_waits",
+    "epoch_delivered_before",
+    "epoch_dead_end",
+    "epoch_longest_length",
+    "epoch_bad_length",
+    "epoch_names_by_number",
+    "epoch_recorded_openssh",
+];
+
+// The one that is swept.
+const SWEPT: &str = "whole_session";
+
+/// Compares and sweeps, and says on `out` what came of it. It is done unless a file can't be read, which is told on `err`.
+pub fn run<R: Files + AllocGlobal, W: Write, E: Write>(rt: &R, out: &mut W, err: &mut E) -> Status {
+    match told(rt, out, err) {
+        Ok(()) => Status::Done,
+        Err(error) => {
+            let _ = writeln!(err, "wrong: {error}");
+            Status::Wrong
+        }
+    }
+}
+
+fn told<R: Files + AllocGlobal, W: Write, E: Write>(
+    rt: &R,
+    out: &mut W,
+    err: &mut E,
+) -> io::Result<()> {
+    for name in SESSIONS.iter().chain(EPOCHS.iter()) {
+        let mut script = opened(rt, name)?;
+        write!(out, "{name}: ")?;
+        check_to(rt.alloc(), &mut script, out, err);
+    }
+    let mut script = opened(rt, SWEPT)?;
+    write!(out, "{SWEPT}: ")?;
+    sweep_to(rt.alloc(), &mut script, out, err);
+    Ok(())
+}
+
+// The file of a script.
+fn opened<R: Files + AllocGlobal>(rt: &R, name: &str) -> io::Result<R::File> {
+    let file = format!(in rt.alloc(); "{name}.txt")?;
+    fs::open(rt, file.as_str())
+}

@@ -1,0 +1,26 @@
+//! How a run ends.
+
+/// How a part of a run ends.
+#[derive(Clone, Copy, Debug, PartialEq, Eq)]
+pub enum Status {
+    /// No allocation was refused, or a smaller one made up for it.
+    Done,
+    /// Memory was refused before what the part is about, or in a play that then answered so.
+    Before,
+    /// Memory was refused to what the part is about, and all was as it has to be then.
+    Within,
+    /// All else.
+    Wrong,
+}
+
+impl Status {
+    /// The exit status of the program.
+    pub fn code(self) -> u8 {
+        match self {
+            Status::Done => 0,
+            Status::Wrong => 1,
+            Status::Before => 3,
+            Status::Within => 4,
+        }
+    }
+}
