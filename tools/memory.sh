@@ -1,5 +1,5 @@
 #!/bin/sh
-# Runs three parts of a proved program, crates/ssh_runs, with each allocation refused in turn, until a run meets no refusal. The program says what
+# Runs two parts of a proved program, crates/ssh_runs, with each allocation refused in turn, until a run meets no refusal. The program says what
 # has to become of a run; the allocator under it refuses one allocation. Between the lines `taking` and `taken` of a run none may be refused. Wants a C
 # compiler. Ends with status 1 where a run went wrong.
 set -eu
@@ -46,9 +46,6 @@ wants_both() {
     fi
 }
 
-refuse_in_turn calls
-echo "$(total) allocations refused in turn: $(count 4) by a call, which left all as it was or was over, $(count 3) by what a call is given, $(count between) by calls that need none, $(count 0) did with less"
-wants_both
 refuse_in_turn plays
 echo "$(total) allocations refused in turn: $(count 3) runs answered want of memory, in $(count 4) one end died, $(count 0) did with less"
 wants_both
