@@ -1,11 +1,7 @@
-//! Tests of the public calls of the layers below the ends, a module a crate: `ssh_types`, `ssh_packet`, `ssh_kex`, `ssh_transport_base`, `ssh_auth` and
-//! `ssh_channels`. Those of the transports of both roles stand in `ssh_exchange_tests`.
+//! Tests of the public calls of the layers below the transports of both roles, a module a crate: `ssh_types`, `ssh_packet`, `ssh_kex` and `ssh_transport_base`.
+//! Those of the transports stand in `ssh_exchange_tests`, those of authentication and channels in `ssh_service_tests`.
 #![tactic(auto)]
 
-#[cfg(test)]
-mod auth;
-#[cfg(test)]
-mod channels;
 #[cfg(test)]
 mod checking;
 #[cfg(test)]
