@@ -1,5 +1,5 @@
 .DEFAULT_GOAL := help
-.PHONY: help demo quick build test falsify sweep memory bench interop
+.PHONY: help demo quick build test times falsify sweep memory bench interop
 
 RT ?= rt
 export RT
@@ -16,8 +16,13 @@ quick: ## The layout, the tests and the programs, not proved, on all cores: docs
 build: ## Proves the program from its crates up and leaves it as build/ssh_trace.
 	@sh tools/build.sh
 
-test: ## The whole gate, everything from nothing: docs/TIMES.md has how long it takes.
+test: ## The whole gate, everything from nothing, and each allocation refused in turn: docs/TIMES.md has how long it takes.
 	$(RT) ci
+	@PROGRAM=$(CURDIR)/crates/ssh_runs/out/ssh_runs sh tools/memory.sh
+
+times: ## The gate without allocations refused, with the processor time of each of its checks; what it says goes to build/gate.log.
+	@mkdir -p build
+	@python3 tools/times.py build/gate.log
 
 falsify: ## Tries the wrong bodies of crates/*/falsify that the gate leaves out; CRATE=name for those of one crate.
 	@sh tools/falsify.sh
@@ -26,7 +31,7 @@ sweep: ## Plays a whole session with each byte changed, left out and doubled in 
 	@sh tools/build.sh
 	build/ssh_trace sweep examples/whole_session.txt
 
-memory: ## Plays sessions, and takes messages of data, with each allocation refused in turn, until a run meets no refusal.
+memory: ## Makes calls, plays sessions and takes messages of data with each allocation refused in turn, until a run meets no refusal.
 	@sh tools/memory.sh
 
 bench: ## Ratios of this core's work: to the hashes that it has to compute, and of many channels to one.

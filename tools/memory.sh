@@ -1,7 +1,7 @@
 #!/bin/sh
-# Runs two parts of a proved program, crates/ssh_runs, with each allocation refused in turn, until a run meets no refusal. The program says what
+# Runs three parts of a proved program, crates/ssh_runs, with each allocation refused in turn, until a run meets no refusal. The program says what
 # has to become of a run; the allocator under it refuses one allocation. Between the lines `taking` and `taken` of a run none may be refused. Wants a C
-# compiler. Ends with status 1 where a run went wrong.
+# compiler. Ends with status 1 where a run went wrong. PROGRAM=FILE is that program where it is proved already, as the gate leaves it.
 set -eu
 tools=$(cd "$(dirname "$0")" && pwd)
 top=$tools/..
@@ -10,8 +10,11 @@ work=$(mktemp -d)
 trap 'rm -rf "$work"' EXIT
 "${CC:-cc}" -O2 -shared -fPIC -o "$work/fail_alloc.so" "$tools/fail_alloc.c" -ldl
 wrong=0
-program=$top/crates/ssh_runs/out/ssh_runs
-(cd "$top/crates/ssh_runs" && "$rt" run)
+program=${PROGRAM:-}
+if [ -z "$program" ]; then
+    program=$top/crates/ssh_runs/out/ssh_runs
+    (cd "$top/crates/ssh_runs" && "$rt" run -- calls)
+fi
 
 # Runs the part $1 so. Leaves the runs' statuses in a file, and counts those that went wrong.
 refuse_in_turn() {
@@ -46,6 +49,9 @@ wants_both() {
     fi
 }
 
+refuse_in_turn calls
+echo "$(total) allocations refused in turn: $(count 4) by a call, which left all as it was or was over, $(count 3) by what a call is given, $(count between) by calls that need none, $(count 0) did with less"
+wants_both
 refuse_in_turn plays
 echo "$(total) allocations refused in turn: $(count 3) runs answered want of memory, in $(count 4) one end died, $(count 0) did with less"
 wants_both

@@ -1,11 +1,12 @@
-//! What is run as a program, since no test reads a file or meets its own allocations alone: stored scripts, and what becomes of plays and ends where
-//! memory is refused. `make memory` runs the parts `plays` and `data` with each allocation refused in turn, until a run meets no refusal.
+//! What is run as a program, since no test reads a file or meets its own allocations alone: stored scripts, and what becomes of calls, plays and ends where
+//! memory is refused. `make memory` runs the parts `calls`, `plays` and `data` with each allocation refused in turn, until a run meets no refusal.
 //!
-//! The word `scripts`, `plays` or `data` names the part that is run; without a word all are. The status is 0 where nothing was refused or a smaller allocation
+//! The word `scripts`, `calls`, `plays` or `data` names the part that is run; without a word all are. The status is 0 where nothing was refused or a smaller allocation
 //! made up for it, 3 where memory was refused before what the part is about, and 4 where it was refused within that; what this means is said beside each
 //! part. All else is wrong: a part says so, and the status is 1. It is 2 for other words.
 #![tactic(auto)]
 
+mod calls;
 mod data;
 mod plays;
 mod scripts;
@@ -20,6 +21,7 @@ use std::{env, io};
 #[derive(Clone, Copy)]
 enum Part {
     Scripts,
+    Calls,
     Plays,
     Data,
 }
@@ -30,12 +32,13 @@ fn main(rt: HostRuntime) -> ExitCode {
         Err(_) => return ExitCode::from(Status::Before.code()),
     };
     let Some(parts) = parts_of(words.as_slice()) else {
-        let _ = println!(rt; "usage: ssh_runs [scripts | plays | data]");
+        let _ = println!(rt; "usage: ssh_runs [scripts | calls | plays | data]");
         return ExitCode::from(2);
     };
     for part in parts {
         let status = match part {
             Part::Scripts => scripts::run(&rt, &mut rt.stdout(), &mut rt.stderr()),
+            Part::Calls => calls::run(&rt),
             Part::Plays => plays::run(&rt),
             Part::Data => data::run(&rt),
         };
@@ -54,9 +57,10 @@ fn words_of<R: Env + AllocGlobal>(rt: &R) -> io::Result<Vec<String>> {
 // The parts that the words name, behind the name of the program.
 fn parts_of(words: &[String]) -> Option<&'static [Part]> {
     match words {
-        [] | [_] => Some(&[Part::Scripts, Part::Plays, Part::Data]),
+        [] | [_] => Some(&[Part::Scripts, Part::Calls, Part::Plays, Part::Data]),
         [_, word] => match word.as_str() {
             "scripts" => Some(&[Part::Scripts]),
+            "calls" => Some(&[Part::Calls]),
             "plays" => Some(&[Part::Plays]),
             "data" => Some(&[Part::Data]),
             _ => None,

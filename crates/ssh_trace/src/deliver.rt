@@ -7,7 +7,7 @@ ghost use Rattle.ssh_trace.specs.Turns.{Asked, Delivered, Turn};
 
 use crate::epoch_end::{AskStep, EpochEnd};
 use crate::history::{Done, Item, note, note_sent, note_took};
-use ssh_transport::PacketStep;
+use ssh_transport_base::PacketStep;
 use ssh_types::{AskRefusal, Refusal, Side};
 use std::alloc::{AllocError, Global};
 

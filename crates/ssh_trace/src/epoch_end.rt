@@ -5,7 +5,7 @@ ghost use Rattle.ssh_trace.specs.EpochEnd.{EndAsks, EndFinds, SameKeys, new_end}
 
 use ssh_packet::{HmacKey, LONGEST_PAYLOAD, MacOnly};
 use ssh_toys::ToyFiller;
-use ssh_transport::{PacketReceiver, PacketSender, PacketStep};
+use ssh_transport_base::{PacketReceiver, PacketSender, PacketStep};
 use std::alloc::{AllocError, Global};
 use std::marker::Model;
 

@@ -3,7 +3,7 @@
 use crate::checking::{same, same_at};
 use ssh_message::Extension;
 use ssh_packet::MacOnly;
-use ssh_transport::{
+use ssh_transport_base::{
     Config, ConfigError, ConfigLimit, ConfigList, ConfigRefusal, ExtensionFault, ListFault,
     Settings, Strictness,
 };

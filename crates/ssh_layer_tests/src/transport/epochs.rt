@@ -3,7 +3,7 @@
 ghost use Rattle.std.specs.Prelude.{◌≡◌, ◌<◌, ◌+◌, ◌-◌, ◌^◌, IsTrue, None};
 
 use ssh_packet::{HmacKey, MacOnly};
-use ssh_transport::{PacketReceiver, PacketStep};
+use ssh_transport_base::{PacketReceiver, PacketStep};
 
 // The payload of NEWKEYS.
 const NEWKEYS: &[u8] = b"\x15";

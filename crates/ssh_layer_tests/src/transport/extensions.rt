@@ -4,7 +4,7 @@ use crate::checking::{same, same_at};
 use crate::transport::config::good;
 use ssh_message::Extension;
 use ssh_packet::MacOnly;
-use ssh_transport::{Config, ConfigError, ConfigRefusal, ExtensionFault, Settings};
+use ssh_transport_base::{Config, ConfigError, ConfigRefusal, ExtensionFault, Settings};
 use std::alloc::Global;
 use std::test::*;
 

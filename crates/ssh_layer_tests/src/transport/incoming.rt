@@ -3,7 +3,7 @@
 ghost use Rattle.std.specs.Prelude.{◌≤◌, IfOk, length};
 
 use ssh_packet::{LineReader, LineStep, MacOnly};
-use ssh_transport::{PacketReceiver, PacketStep};
+use ssh_transport_base::{PacketReceiver, PacketStep};
 use ssh_types::Refusal;
 use std::alloc::{AllocError, Global};
 

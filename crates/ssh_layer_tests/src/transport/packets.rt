@@ -4,7 +4,7 @@ use crate::checking::{same, same_at};
 use crate::transport::epochs::take_newkeys;
 use ssh_packet::{HmacKey, MacOnly};
 use ssh_toys::ToyFiller;
-use ssh_transport::{PacketReceiver, PacketSender, PacketStep};
+use ssh_transport_base::{PacketReceiver, PacketSender, PacketStep};
 use ssh_types::Refusal;
 use std::alloc::{AllocError, Global};
 use std::test::*;

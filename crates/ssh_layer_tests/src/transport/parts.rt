@@ -5,7 +5,7 @@ use ssh_kex::{Agreement, HostSigner, HostTrust};
 use ssh_packet::{Filler, Sealing};
 use ssh_toy_setup::{ToyClient, ToyServer};
 use ssh_toys::{HOST_KEY, ToyAgreement, ToyFiller, ToySigner, ToyTrust};
-use ssh_transport::{ClientPartValues, ClientParts, ServerPartValues, ServerParts};
+use ssh_transport_base::{ClientPartValues, ClientParts, ServerPartValues, ServerParts};
 use std::test::*;
 
 // The sealing of these parts knows the pair.
