@@ -108,6 +108,8 @@ impl<P: ClientParts, U: UserSigner + Drop> ClientEnd<P, U> {
         out: &mut Vec<u8>,
     ) -> Result<ClientEnd<P, U>, AllocError>
         ensures opened { IfOk result (λ end. IsNewClient P.Sealing.crypto (settings_of config) cookie secret end.machine end.layers out.old.items out.new.items end.sent) }
+        ensures step { IfOk result (λ end. end.step ≡ Step.More) }
+        ensures used { IfOk result (λ end. end.used ≡ 0) }
         ensures channels { IfOk result (λ end. end.channels ≡ channels_beside end.sent (None ∷ [])) }
         ensures agreement { IfOk result (λ end. end.agreement ≡ parts.agreement) }
         ensures part { IfOk result (λ end. end.host_trust ≡ parts.host_trust) }
@@ -177,6 +179,8 @@ impl<P: ClientParts, U: UserSigner + Drop> ClientEnd<P, U> {
         ensures shown { IfOk result (λ used. self.new.used ≡ used) }
         ensures channels { IfOk result (λ used. self.new.channels ≡ channels_by self.new.step self.old.layers.channels.owed self.new.sent) }
         ensures none { OnErr result (self.new.step ≡ Step.More) }
+        ensures unused { OnErr result (self.new.used ≡ 0) }
+        ensures unsent { OnErr result (self.new.sent ≡ []) }
         ensures failed { IfErr result (λ fault. IsFault self.old.machine fault self.new.machine) }
         ensures lacks { IfErr result (λ fault. fault ≡ Fault.Memory → FrontLacks P.Sealing.crypto (record { point = P.Agreement.public_of self.old.agreement; shared = P.Agreement.shared_of self.old.agreement }) (P.HostTrust.judged self.old.host_trust) self.old.machine self.old.layers (begun_of self.old.machine) bytes.now) }
         ensures out { OnErr result (out.new.items ≡ out.old.items) }
@@ -250,6 +254,7 @@ impl<P: ClientParts, U: UserSigner + Drop> ClientEnd<P, U> {
         ensures in_session { ClientInSession P.Sealing.crypto (U.signature_of self.old.user) self.old.layers.authentication (end_of self.old.machine.kept self.old.layers) (ask_of ask.now) result (end_of self.new.machine.kept self.new.layers) (record { before = out.old.items; after = out.new.items; listed = []; relisted = self.new.sent }) }
         ensures reading { self.new.machine.kept.dead ≡ false → SameReading self.old.machine self.new.machine }
         ensures step { self.new.step ≡ Step.More }
+        ensures used { self.new.used ≡ 0 }
         ensures channels { IfOk result (λ step. AreAskChannels (ask_of ask.now) step self.new.sent self.new.channels) }
         ensures fails { IfErr result (λ fault. Fails self.old.machine fault self.new.machine) }
         ensures out { OnErr result (out.new.items ≡ out.old.items) }
@@ -280,6 +285,7 @@ impl<P: ClientParts, U: UserSigner + Drop> ClientEnd<P, U> {
         ensures kept { result ≡ true → self.new.machine ≡ record self.old.machine { kept = after_fed cookie secret self.old.machine.kept } }
         ensures same { result ≡ false → self.new.machine ≡ self.old.machine }
         ensures layers { self.new.layers ≡ self.old.layers }
+        ensures rest { self.new ≡ record self.old { machine = self.new.machine } }
         ensures parts { SameClient self.old self.new }
     {
         machines_stand::<<P::Sealing as Sealing>::Key>();

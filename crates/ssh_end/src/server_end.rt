@@ -108,6 +108,8 @@ impl<P: ServerParts, U: UserJudge + Drop> ServerEnd<P, U> {
         out: &mut Vec<u8>,
     ) -> Result<ServerEnd<P, U>, AllocError>
         ensures opened { IfOk result (λ end. IsNewServer P.Sealing.crypto (settings_of config) cookie secret end.machine end.layers out.old.items out.new.items end.sent) }
+        ensures step { IfOk result (λ end. end.step ≡ Step.More) }
+        ensures used { IfOk result (λ end. end.used ≡ 0) }
         ensures channels { IfOk result (λ end. end.channels ≡ channels_beside end.sent (None ∷ [])) }
         ensures agreement { IfOk result (λ end. end.agreement ≡ parts.agreement) }
         ensures part { IfOk result (λ end. end.host_signer ≡ parts.host_signer) }
@@ -177,6 +179,8 @@ impl<P: ServerParts, U: UserJudge + Drop> ServerEnd<P, U> {
         ensures shown { IfOk result (λ used. self.new.used ≡ used) }
         ensures channels { IfOk result (λ used. self.new.channels ≡ channels_by self.new.step self.old.layers.channels.owed self.new.sent) }
         ensures none { OnErr result (self.new.step ≡ Step.More) }
+        ensures unused { OnErr result (self.new.used ≡ 0) }
+        ensures unsent { OnErr result (self.new.sent ≡ []) }
         ensures failed { IfErr result (λ fault. IsFault self.old.machine fault self.new.machine) }
         ensures lacks { IfErr result (λ fault. fault ≡ Fault.Memory → FrontLacks P.Sealing.crypto (record { agreement = record { point = P.Agreement.public_of self.old.agreement; shared = P.Agreement.shared_of self.old.agreement }; host_key = P.HostSigner.key_of self.old.host_signer; host_signature = P.HostSigner.signature_of self.old.host_signer }) (U.verdicts self.old.user) self.old.machine self.old.layers (begun_of self.old.machine) bytes.now) }
         ensures out { OnErr result (out.new.items ≡ out.old.items) }
@@ -252,6 +256,7 @@ impl<P: ServerParts, U: UserJudge + Drop> ServerEnd<P, U> {
         ensures reading { self.new.machine.kept.dead ≡ false → SameReading self.old.machine self.new.machine }
         ensures authentication { self.new.layers.authentication ≡ self.old.layers.authentication }
         ensures step { self.new.step ≡ Step.More }
+        ensures used { self.new.used ≡ 0 }
         ensures channels { IfOk result (λ step. AreAskChannels (ask_of ask.now) step self.new.sent self.new.channels) }
         ensures fails { IfErr result (λ fault. Fails self.old.machine fault self.new.machine) }
         ensures out { OnErr result (out.new.items ≡ out.old.items) }
@@ -281,6 +286,7 @@ impl<P: ServerParts, U: UserJudge + Drop> ServerEnd<P, U> {
         ensures kept { result ≡ true → self.new.machine ≡ record self.old.machine { kept = after_fed cookie secret self.old.machine.kept } }
         ensures same { result ≡ false → self.new.machine ≡ self.old.machine }
         ensures layers { self.new.layers ≡ self.old.layers }
+        ensures rest { self.new ≡ record self.old { machine = self.new.machine } }
         ensures parts { SameServer self.old self.new }
     {
         machines_stand::<<P::Sealing as Sealing>::Key>();
