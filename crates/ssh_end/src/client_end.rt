@@ -286,6 +286,7 @@ impl<P: ClientParts, U: UserSigner + Drop> ClientEnd<P, U> {
         ensures same { result ≡ false → self.new.machine ≡ self.old.machine }
         ensures layers { self.new.layers ≡ self.old.layers }
         ensures rest { self.new ≡ record self.old { machine = self.new.machine } }
+        ensures unchanged { result ≡ false → self.new ≡ self.old }
         ensures parts { SameClient self.old self.new }
     {
         machines_stand::<<P::Sealing as Sealing>::Key>();

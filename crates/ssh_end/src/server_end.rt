@@ -287,6 +287,7 @@ impl<P: ServerParts, U: UserJudge + Drop> ServerEnd<P, U> {
         ensures same { result ≡ false → self.new.machine ≡ self.old.machine }
         ensures layers { self.new.layers ≡ self.old.layers }
         ensures rest { self.new ≡ record self.old { machine = self.new.machine } }
+        ensures unchanged { result ≡ false → self.new ≡ self.old }
         ensures parts { SameServer self.old self.new }
     {
         machines_stand::<<P::Sealing as Sealing>::Key>();

@@ -167,6 +167,7 @@ impl<
     pub fn feed(&mut self, side: Side, cookie: [u8; 16], secret: [u8; 32]) -> bool
         ensures failed { self.old.failed ≡ true → result ≡ false }
         ensures still { self.new.failed ≡ self.old.failed }
+        ensures unchanged { result ≡ false → self.new ≡ self.old }
         ensures parts { SameParts self.old self.new }
         ensures fed { self.old.failed ≡ false → (p : Parties S.Key) (w : World) → PairStands p w (record { client = client_value S.crypto C.Agreement.public_of C.Agreement.shared_of C.HostTrust.judged U.signature_of self.old.client self.old.client_lines; server = server_value S.crypto V.Agreement.public_of V.Agreement.shared_of V.HostSigner.key_of V.HostSigner.signature_of J.verdicts self.old.server self.old.server_lines }) → PairFed p w (session.Feeds (side_of side) cookie secret) (record { client = client_value S.crypto C.Agreement.public_of C.Agreement.shared_of C.HostTrust.judged U.signature_of self.new.client self.new.client_lines; server = server_value S.crypto V.Agreement.public_of V.Agreement.shared_of V.HostSigner.key_of V.HostSigner.signature_of J.verdicts self.new.server self.new.server_lines }) }
     {
