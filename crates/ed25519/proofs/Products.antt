@@ -5,7 +5,7 @@ use Rattle.std.proofs.lemmas.Nat.{mul-mod_second}
 use Rattle.x25519.specs.Bytes.{bit_of, value}
 use Rattle.ed25519.specs.declared.scalar.Scalar.{Scalar}
 use Rattle.ed25519.specs.Scalar.{chosen, number, order, zero_scalar}
-use Rattle.x25519.proofs.Values.{one_bit_more, value_below}
+use Rattle.x25519.specs.Values.{one_bit_more, value_below}
 
 -- the bits from a place on as a number, times another one
 abbrev pub product_from : List ℕ → ℕ → ℕ → ℕ

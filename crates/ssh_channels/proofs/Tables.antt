@@ -67,15 +67,6 @@ count_put l x a h e = sym (tallied (slice_set l x (Some a))) ∙ (tally_put l x 
 count_gone : {A : Type 0} (l : List (Option A)) (x : ℕ) (a : A) → at l x ≡ Some a → count_by is_some (slice_set l x None) + 1 ≡ count_by is_some l
 count_gone l x a e = ap (λ n. n + 1) (sym (tallied (slice_set l x None))) ∙ (tally_gone l x a e ∙ tallied l)
 
-tally_free : {A : Type 0} (l : List (Option A)) → tally l < length l → Contains l None
-unfolding tally
-tally_free [] h = absurd (omega (arith, h))
-tally_free (None ∷ l) h = (0, omega arith, refl)
-tally_free (Some a ∷ l) h = let c = tally_free l (omega (arith, h)) in (suc c.0, let b = c.1 in omega (arith, b), c.2)
-
-pub some_free : {A : Type 0} (l : List (Option A)) → count_by is_some l < length l → Contains l None
-some_free l h = tally_free l (rw (tallied l) h)
-
 -- ---- a table and what it keeps
 
 module _ {A B : Type 0} (kept : A → B) where

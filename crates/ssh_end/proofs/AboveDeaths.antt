@@ -14,9 +14,9 @@ use Rattle.ssh_model.specs.Sessions.Items.{Fact, Fact.Opened, Item, Item.Sent, I
 use Rattle.ssh_model.specs.Sessions.Parties.{Parties}
 use Rattle.ssh_model.specs.Sessions.Refusals.{Check.RefusedWhere, Refusal.OwedFull, first_refusal}
 use Rattle.ssh_model.specs.Sessions.Turns.{AreSpelled, IsSpelled, take_memory}
-use Rattle.ssh_channels.proofs.Tables.{some_free}
+use Rattle.ssh_model.specs.Laws.Farewells.{farewell_of}
+use Rattle.ssh_model.specs.Laws.Places.{some_unused}
 use Rattle.ssh_channels.specs.Rows.{OpensChannel}
-use Rattle.ssh_transport_machine.proofs.Deaths.{said_so}
 use Rattle.ssh_transport_machine.specs.State.{State}
 use Rattle.ssh_transport_machine.specs.Turning.{RefusalLacks}
 use Rattle.ssh_types.specs.Refusals.{refusal_of}
@@ -80,10 +80,10 @@ answered_lacks p side e payload given (Some reply) success authentication kept x
 -- Why the peer is refused would be said.
 pub refused_lacks : {K : Type 0} (p : Parties K) (side : Side) (e : EndState K) (payload : List ℕ) (m : State K) (why : code.Refusal) → RefusesAbove p e payload (refusal_of why) → RefusalLacks m why → e.transport.sending.count < 2 ^ 32 → LacksAbove p side e payload
 refused_lacks p side e payload m why x y room =
-    let say = said_so e.transport why room y.reason in
+    let say = farewell_of (refusal_of why) y.reason in
     record {
       items = _;
-      would = WouldTake.refused_above (refusal_of why) say.reason say.spelling.payload x (record { reason_is = say.reason_is; spelled = say.spelling.spells; few = say.room });
+      would = WouldTake.refused_above (refusal_of why) say.reason say.spelling.payload x (record { reason_is = say.reason_is; spelled = say.spelling.spells; few = room });
       memory = refl;
     }
 
@@ -92,7 +92,7 @@ refused_lacks p side e payload m why x y room =
 a_number : (c : Channels) → length c.places ≡ 1024 → is_table_full c.places ≡ false → (number : ℕ) × IsUnused c.places number
 a_number c size free =
     let few = leb-false 1024 (used c.places) free in
-    let x = some_free c.places (omega (arith, few, size)) in
+    let x = some_unused c.places (omega (arith, few, size)) in
     (x.0, record { inside = omega (arith, x.1, size); nothing = x.2 })
 
 -- nothing refuses an OPEN for which a number is free

@@ -12,8 +12,8 @@ use Rattle.ssh_model.specs.Sessions.Sizes.{string_size}
 use Rattle.ssh_model.specs.Channels.Places.{Place, at}
 use Rattle.ssh_model.specs.Channels.Kept as channels
 use Rattle.ssh_model.specs.Channels.Kept.{Channels, Sends, send_checks, used}
-use Rattle.ssh_model.proofs.Sessions.Stages.{all_passed}
-use Rattle.ssh_model.proofs.Wire.Written.{adjust_spelled, byte, channel_failure_spelled, channel_success_spelled, close_spelled, confirmation_spelled, ended, eof_spelled, global_request_spelled, open_failure_spelled, open_spelled, request_failure_spelled, request_spelled, request_success_spelled, spelled, string, uint32}
+use Rattle.ssh_model.specs.Laws.Checks.{all_passed}
+use Rattle.ssh_model.specs.Laws.Written.{adjust_spelled, byte, channel_failure_spelled, channel_success_spelled, close_spelled, confirmation_spelled, ended, eof_spelled, global_request_spelled, open_failure_spelled, open_spelled, request_failure_spelled, request_spelled, request_success_spelled, spelled, string, uint32}
 use Rattle.ssh_channels.specs.Rows.{AsksForChannel}
 use Rattle.ssh_channels.specs.Values.{ask_of}
 use Rattle.ssh_channels.specs.declared.ask.Ask.{Ask}

@@ -10,6 +10,7 @@ use Rattle.ssh_model.specs.Sessions.Refusals as model
 use Rattle.ssh_model.specs.Sessions.Refusals.{Check, Check.RefusedWhere, first_refusal}
 use Rattle.ssh_model.specs.Channels.Kept.{Channels}
 use Rattle.ssh_model.specs.TransportLayer.Kept.{message_ask_checks}
+use Rattle.ssh_model.specs.Laws.Farewells.{farewell_spelled}
 use Rattle.ssh_model.specs.End.Asks.{TakesAsk}
 use Rattle.ssh_model.specs.End.State.{Authentication, EndState}
 use Rattle.ssh_types.specs.AskRefusals.{ask_refusal_of}
@@ -25,7 +26,6 @@ use Rattle.ssh_transport_machine.specs.declared.machine.turn.Answer.TheVariants.
 use Rattle.ssh_transport_machine.specs.declared.machine.turn.AskTurn.TheVariants as turn
 use Rattle.ssh_transport_machine.specs.declared.outcome.TransportAsk.{TransportAsk}
 use Rattle.ssh_transport_machine.specs.declared.outcome.TransportAsk.TheVariants as given
-use Rattle.ssh_transport_machine.proofs.AskLaws.{farewell_spelled}
 use Rattle.ssh_end.specs.Asking.{AskRow, DiedRow, MachineFails, RefusedRow, ShowsAsk, TransportRow, WasOver, end_with, step_by}
 use Rattle.ssh_end.specs.declared.asking.outcome.Fault.{Fault}
 use Rattle.ssh_end.specs.declared.asking.outcome.Fault.TheVariants as fault

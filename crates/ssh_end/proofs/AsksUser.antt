@@ -1,6 +1,7 @@
 -- What comes of an ask of a user is a row of the end.
-use Rattle.std.proofs.Common.{◌≡◌, ℕ, ◌^◌, List, [], ◌∷◌, arith, refl, ap, sym, ◌∙◌, subst, true, false, Option, Some, None, Result, Ok, Err}
-use Rattle.std.proofs.lemmas.Bool.{ltb-false}
+use Rattle.std.proofs.Common.{◌≡◌, ℕ, ◌≤◌, ◌^◌, List, [], ◌∷◌, length, take, arith, refl, ap, sym, ◌∙◌, subst, true, false, Option, Some, None, Result, Ok, Err}
+use Rattle.std.proofs.lemmas.Bool.{ltb-false, not-false}
+use Rattle.std.proofs.lemmas.List.{length-take}
 use Rattle.std.specs.Prelude.{IfOk, IfErr, OnOk, OnErr, codes}
 use Rattle.ssh_model.specs.Side.{Side, Side.Client, Side.Server}
 use Rattle.ssh_model.specs.Wire.Message.{Msg}
@@ -19,9 +20,8 @@ use Rattle.ssh_model.specs.Channels.Kept.{Channels}
 use Rattle.ssh_model.specs.TransportLayer.Kept.{Transport, after_sent}
 use Rattle.ssh_model.specs.End.Asks.{AsksAbove, TakesAsk, end_ask_checks}
 use Rattle.ssh_model.specs.End.State.{Authentication.OfClient, EndState, after_items}
-use Rattle.ssh_model.proofs.Sessions.Answered.{short}
-use Rattle.ssh_model.proofs.Sessions.Stages.{all_passed, not_false}
-use Rattle.ssh_model.proofs.Wire.Written.{no_method_spelled, password_spelled, probe_spelled, sign_spelled}
+use Rattle.ssh_model.specs.Laws.Checks.{all_passed}
+use Rattle.ssh_model.specs.Laws.Written.{no_method_spelled, password_spelled, probe_spelled, sign_spelled}
 use Rattle.ssh_auth.specs.Asking.{ClientAsks, IsSigned, ask_of, short_signature}
 use Rattle.ssh_auth.specs.declared.ask.UserAsk.{UserAsk}
 use Rattle.ssh_auth.specs.declared.ask.UserAsk.TheVariants as ask
@@ -45,18 +45,22 @@ request_after Server signature id client new asked m payload s (ClientSends.pass
 request_after Server signature id client new asked m payload s (ClientSends.probe user algorithm key) = refl
 request_after Server signature id client new asked m payload s (ClientSends.sign user algorithm key) = refl
 
+-- a signature is cut to 4096 bytes
+short : (l : List ℕ) → length (take 4096 l) ≤ 4096
+short l = omega (arith, length-take 4096 l)
+
 request_spelled : (signature : List ℕ → List ℕ → List ℕ → List ℕ → List ℕ) (id : List ℕ) (client new : authentication.Client) (asked : session.Ask) (m : Msg) → first_refusal (client_checks client asked) ≡ None → ClientSends (short_signature signature) id client asked m new → HasSpelling m
 request_spelled signature id client new asked m fine (ClientSends.none user) = let passed = all_passed (client_checks client (session.Ask.AskNone user)) fine in let n = ltb-false 34000 (request_size user (codes "none")) (passed.1.1.1.0) in no_method_spelled user (omega (arith, n))
 request_spelled signature id client new asked m fine (ClientSends.password user word) = let passed = all_passed (client_checks client (session.Ask.AskPassword user word)) fine in let n = ltb-false 34000 (password_size user word) (passed.1.1.1.0) in password_spelled user word (omega (arith, n))
 request_spelled signature id client new asked m fine (ClientSends.probe user algorithm key) = let passed = all_passed (client_checks client (session.Ask.AskProbe user algorithm key)) fine in let n = ltb-false 34000 (probe_size user algorithm key) (passed.1.1.1.0) in probe_spelled user algorithm key (omega (arith, n))
-request_spelled signature id client new asked m fine (ClientSends.sign user algorithm key) = let passed = all_passed (client_checks client (session.Ask.AskSign user algorithm key)) fine in let n = ltb-false 34000 (sign_size user algorithm key) (passed.1.1.1.0) in sign_spelled user algorithm key _ (omega (arith, n)) (short 4096 _)
+request_spelled signature id client new asked m fine (ClientSends.sign user algorithm key) = let passed = all_passed (client_checks client (session.Ask.AskSign user algorithm key)) fine in let n = ltb-false 34000 (sign_size user algorithm key) (passed.1.1.1.0) in sign_spelled user algorithm key _ (omega (arith, n)) (short _)
 
 -- Only an open client is refused for nothing.
 opened : (client : authentication.Client) (a : UserAsk) → first_refusal (client_checks client (ask_of a)) ≡ None → client.opened ≡ true
-opened client (ask.None user) e = not_false client.opened (all_passed (client_checks client (ask_of (ask.None user))) e).0
-opened client (ask.Password user word) e = not_false client.opened (all_passed (client_checks client (ask_of (ask.Password user word))) e).0
-opened client (ask.Probe user algorithm key) e = not_false client.opened (all_passed (client_checks client (ask_of (ask.Probe user algorithm key))) e).0
-opened client (ask.Sign user algorithm key) e = not_false client.opened (all_passed (client_checks client (ask_of (ask.Sign user algorithm key))) e).0
+opened client (ask.None user) e = not-false client.opened (all_passed (client_checks client (ask_of (ask.None user))) e).0
+opened client (ask.Password user word) e = not-false client.opened (all_passed (client_checks client (ask_of (ask.Password user word))) e).0
+opened client (ask.Probe user algorithm key) e = not-false client.opened (all_passed (client_checks client (ask_of (ask.Probe user algorithm key))) e).0
+opened client (ask.Sign user algorithm key) e = not-false client.opened (all_passed (client_checks client (ask_of (ask.Sign user algorithm key))) e).0
 
 -- what authentication refuses, the end refuses
 user_checks : {K : Type 0} (p : Parties K) (side : Side) (s : State K) (client : authentication.Client) (ch : Channels) (a : UserAsk) → end_ask_checks p side (end_with s (OfClient client) ch) (ask_of a) ≡ client_checks client (ask_of a)

@@ -10,7 +10,7 @@ use Rattle.ssh_model.specs.Sessions.Items.{Item, messages_sent}
 use Rattle.ssh_model.specs.Sessions.Parties.{Parties}
 use Rattle.ssh_model.specs.Sessions.Turns.{AreSpelled}
 use Rattle.ssh_model.specs.TransportLayer.Kept.{Transport}
-use Rattle.ssh_model.proofs.Wire.Written.{unimplemented_spelled}
+use Rattle.ssh_model.specs.Laws.Written.{unimplemented_spelled}
 use Rattle.ssh_channels.specs.Values.{taken_of}
 use Rattle.ssh_transport_machine.specs.Puts.{Outs}
 use Rattle.ssh_transport_machine.specs.Sessions.{IsAbove}
@@ -89,7 +89,7 @@ module _ {K : Type 0} (laws : TurningLaws K) (channel_facts : ChannelFacts) (p :
         go (answer.Authentication g) some row y = absurd (cc some)
         go (answer.Channels g) some row y =
             due_above p e payload message (taken_of g).channel (taken_of g).reply (taken_of g).fact (OfClient later.authentication) later.channels y.reads y.unrefused y.answers
-            (due_spelled p asking.lawful Client history asking.run layers.channels (asking.sums.above alive).channels_sum s.blocked (probes layers) message payload (taken_of g) later.channels row.row y.reads.message_is) some
+            (due_spelled layers.channels (laws.named p asking.lawful Client history e asking.sums alive asking.run) s.blocked (probes layers) message payload (taken_of g) later.channels row.row y.reads.message_is) some
         go answer.Unknown some row y =
             let said = unimplemented_spelled s.taking.number small.1 in
             spelled_with None _ (y.answers said.payload small.0) (said.spells, tt) refl

@@ -14,7 +14,7 @@ use Rattle.ssh_model.specs.Sessions.Parties.{Parties}
 use Rattle.ssh_model.specs.Sessions.Refusals.{Check.RefusedWhere, Refusal, Refusal.TooManyTries, first_refusal}
 use Rattle.ssh_model.specs.TransportLayer.Kept.{ExchangeParts, Transport}
 use Rattle.ssh_model.specs.TransportLayer.Summary.{SumsUp, parts_of}
-use Rattle.ssh_model.proofs.Wire.Written.{success_spelled}
+use Rattle.ssh_model.specs.Laws.Written.{success_spelled}
 use Rattle.ssh_auth.specs.Serving.{NeedsText}
 use Rattle.ssh_kex.specs.Values.{owned_chosen}
 use Rattle.ssh_kex.specs.declared.owned_choice.OwnedChoice.{OwnedChoice}

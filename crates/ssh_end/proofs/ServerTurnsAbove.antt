@@ -11,7 +11,7 @@ use Rattle.ssh_model.specs.Sessions.Items.{Item, messages_sent}
 use Rattle.ssh_model.specs.Sessions.Parties.{Parties}
 use Rattle.ssh_model.specs.Sessions.Turns.{AreSpelled}
 use Rattle.ssh_model.specs.TransportLayer.Kept.{Transport}
-use Rattle.ssh_model.proofs.Wire.Written.{pk_ok_spelled, success_spelled, unimplemented_spelled}
+use Rattle.ssh_model.specs.Laws.Written.{pk_ok_spelled, success_spelled, unimplemented_spelled}
 use Rattle.ssh_auth.specs.declared.answer.ServerAnswer.TheVariants as request
 use Rattle.ssh_channels.specs.Values.{taken_of}
 use Rattle.ssh_transport_machine.specs.Puts.{Outs}
@@ -96,7 +96,7 @@ module _ {K : Type 0} (laws : TurningLaws K) (server_facts : ServerFacts) (chann
         go (answer.Authentication request.Unimplemented) short some row y = absurd (cc some)
         go (answer.Channels g) short some row y =
             due_above p e payload message (taken_of g).channel (taken_of g).reply (taken_of g).fact (OfServer later.authentication.kept) later.channels y.reads y.unrefused y.answers
-            (due_spelled p serving.lawful Server history serving.run layers.channels (serving.sums.above alive).channels_sum s.blocked false message payload (taken_of g) later.channels row.row y.reads.message_is) some
+            (due_spelled layers.channels (laws.named p serving.lawful Server history e serving.sums alive serving.run) s.blocked false message payload (taken_of g) later.channels row.row y.reads.message_is) some
         go answer.Unknown short some row y =
             let said = unimplemented_spelled s.taking.number small.1 in
             spelled_with None _ (y.answers said.payload small.0) (said.spells, tt) refl

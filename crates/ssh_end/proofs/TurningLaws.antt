@@ -1,5 +1,5 @@
 -- The laws of the model by which what an end makes of bytes is a turn of a session.
-use Rattle.std.specs.Prelude.{◌≡◌, ◌++◌, ℕ, List, [], ◌∷◌, None, true, false}
+use Rattle.std.specs.Prelude.{◌≡◌, ◌<◌, ◌^◌, ◌++◌, ℕ, List, [], ◌∷◌, None, true, false}
 use Rattle.ssh_model.specs.Side.{Side}
 use Rattle.ssh_model.specs.Wire.Message.{Msg}
 use Rattle.ssh_model.specs.Wire.Line.{IsLineBegun}
@@ -19,7 +19,8 @@ use Rattle.ssh_model.specs.End.Summary.{EndSumsUp, EndTurned}
 use Rattle.ssh_model.specs.End.Payloads.{GivesOwed, TakesPayload}
 use Rattle.ssh_model.specs.End.Below.{AreBelow, opened_by_all}
 use Rattle.ssh_model.specs.Channels.Connection.{AreReplies, owed_replies}
-use Rattle.ssh_model.specs.Channels.Kept.{Channels}
+use Rattle.ssh_model.specs.Channels.Kept.{Channels, peer_of}
+use Rattle.ssh_model.specs.Channels.Places.{at}
 use Rattle.ssh_model.specs.End.Deaths.{CanSettle}
 use Rattle.ssh_model.specs.End.Reading.{end_reading}
 
@@ -44,5 +45,6 @@ pub record TurningLaws (K : Type 0) : Type 0 where
       EndTurned p side history (OnPayload p side history payload) ((Told (Completed position) ∷ (owed ++ items)) ++ Took None message payload ∷ []) (more ++ later) (record e { transport = after_items side owed transport; channels = channels })
   pub given : (p : Parties K) (side : Side) (history : List Item) (e : EndState K) → EndSumsUp p side history e → e.transport.dead ≡ false → (owed : List Item) (channels : Channels) → GivesOwed e.channels owed channels → channels.owed ≡ [] → AreReplies (owed_replies side history) owed
   pub settled : (p : Parties K) → AreLawful p → (side : Side) (history : List Item) (e : EndState K) → EndSumsUp p side history e → e.transport.dead ≡ false → EndRun p side history → CanSettle e.channels
+  pub named : (p : Parties K) → AreLawful p → (side : Side) (history : List Item) (e : EndState K) → EndSumsUp p side history e → e.transport.dead ≡ false → EndRun p side history → (number : ℕ) → peer_of (at e.channels.places number) < 2 ^ 32
   pub packets_begun : (p : Parties K) (side : Side) (history : List Item) (s : Transport K) → SumsUp p side history s → s.dead ≡ false → IsSealing p.crypto → s.lines.found ≡ true → (bytes : List ℕ) → IsPacketBegun p.crypto s.taking.key s.taking.count bytes → Waits (end_reading p side) history bytes
   pub lines_begun : (p : Parties K) (side : Side) (history : List Item) (s : Transport K) → SumsUp p side history s → s.dead ≡ false → IsSealing p.crypto → s.lines.found ≡ false → (bytes : List ℕ) → IsLineBegun bytes → Waits (end_reading p side) history bytes

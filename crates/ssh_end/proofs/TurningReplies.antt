@@ -1,42 +1,24 @@
 -- The reply that a message makes due on channels has a spelling: the number of the peer in it is a uint32.
-use Rattle.std.proofs.Common.{◌≡◌, ℕ, ◌+◌, ◌-◌, ◌%◌, ◌<◌, ◌^◌, Bool, true, false, cond, List, length, arith, refl, sym, subst, Option, Some, None}
+use Rattle.std.proofs.Common.{◌≡◌, ℕ, ◌+◌, ◌-◌, ◌%◌, ◌<◌, ◌^◌, Bool, true, false, List, length, arith, refl, Option, Some, None}
 use Rattle.std.specs.Option.{option_map}
 use Rattle.std.specs.Prelude.{IsSome}
-use Rattle.ssh_model.specs.Side.{Side}
 use Rattle.ssh_model.specs.Wire.Message.{Msg, IsPayload}
 use Rattle.ssh_model.specs.Wire.Outcome.{Outcome.Opens}
 use Rattle.ssh_model.specs.Wire.Sealing.{Crypto}
 use Rattle.ssh_model.specs.Wire.Unit.{HasNumber, PacketUnit}
-use Rattle.ssh_model.specs.Channels.Connection.{notes, owed_replies}
-use Rattle.ssh_model.specs.Channels.History as channel
-use Rattle.ssh_model.specs.Channels.History.{is_owed}
 use Rattle.ssh_model.specs.Channels.Kept.{Channels, DueReply, DueReply.AnswersClose, DueReply.RefusesOpen, Taken, Takes, close_reply, has_said_close, peer_of, sent_at_once}
-use Rattle.ssh_model.specs.Channels.Notes.{Note}
-use Rattle.ssh_model.specs.Channels.Numbers.{is_held, peer_number}
-use Rattle.ssh_model.specs.Channels.Places.{Place, at, place, place_at, place_of}
-use Rattle.ssh_model.specs.Channels.Summary.{SumsUp, reply_sent, told}
+use Rattle.ssh_model.specs.Channels.Places.{at}
+use Rattle.ssh_model.specs.Channels.Summary.{reply_sent, told}
 use Rattle.ssh_model.specs.End.Payloads.{AnswersAbove, ReadsAbove, reply_items}
 use Rattle.ssh_model.specs.End.State.{Authentication, EndState, above_checks}
 use Rattle.ssh_model.specs.Sessions.Items.{Fact, Item, messages_sent}
-use Rattle.ssh_model.specs.Sessions.Parties.{AreLawful, Parties}
+use Rattle.ssh_model.specs.Sessions.Parties.{Parties}
 use Rattle.ssh_model.specs.Sessions.Refusals.{first_refusal}
 use Rattle.ssh_model.specs.Sessions.TurnClaims.{HasSpelling}
-use Rattle.ssh_model.specs.Sessions.Turns.{AreSpelled, EndRun}
-use Rattle.ssh_model.proofs.Sessions.PeerNumbers.{open_name, peer_number_below}
-use Rattle.ssh_model.proofs.Sessions.SoundTurns.{end_sound}
-use Rattle.ssh_model.proofs.Wire.Written.{close_spelled, open_failure_spelled}
+use Rattle.ssh_model.specs.Sessions.Turns.{AreSpelled}
+use Rattle.ssh_model.specs.Laws.Senders.{open_sender_below}
+use Rattle.ssh_model.specs.Laws.Written.{close_spelled, open_failure_spelled}
 use Rattle.ssh_end.specs.Above.{SpentAbove}
-
--- ---- the number that the peer gave a channel
-
-either_named : (held waits : Bool) (one other : Place) → one.peer_number < 2 ^ 32 → other.peer_number < 2 ^ 32 → peer_of (cond held (Some one) (cond waits (Some other) None)) < 2 ^ 32
-either_named true waits one other a b = a
-either_named false true one other a b = b
-either_named false false one other a b = omega arith
-
-place_named : (side : Side) (n : List Note) (owed : List channel.Item) (x : ℕ) → peer_number x n < 2 ^ 32 → peer_of (place side n owed x) < 2 ^ 32
-unfolding place place_at place_of
-place_named side n owed x small = either_named (is_held x n) (is_owed x owed) _ _ small small
 
 -- ---- replies
 
@@ -53,19 +35,15 @@ close_at_once : (is_said is_blocked : Bool) (number to : ℕ) → to < 2 ^ 32 �
 close_at_once true is_blocked number to x = tt
 close_at_once false is_blocked number to x = at_once is_blocked (AnswersClose number to) (close_spelled to x)
 
-module _ {K : Type 0} (p : Parties K) (lawful : AreLawful p) (side : Side) (history : List Item) (run : EndRun p side history) (c : Channels) (has : SumsUp side history (owed_replies side history) c) where
-  peer_named : (x : ℕ) → peer_of (at c.places x) < 2 ^ 32
-  peer_named x =
-      subst (λ (o : Option Place). peer_of o < 2 ^ 32) (sym (has.places x))
-      (place_named side (notes side history) (owed_replies side history) x (peer_number_below p side history x (end_sound p lawful side history run).formed))
-
+-- The numbers that the peer gave the channels are uint32s.
+module _ (c : Channels) (named : (number : ℕ) → peer_of (at c.places number) < 2 ^ 32) where
   pub due_spelled : (is_blocked probing : Bool) (message : Msg) (payload : List ℕ) (taken : Taken) (new : Channels) → Takes is_blocked c message taken new → IsPayload probing message payload → SpellsDue taken.reply
   due_spelled b probing message payload taken new (Takes.global_request name want rest) is = tt
   due_spelled b probing message payload taken new (Takes.request_success rest) is = tt
   due_spelled b probing message payload taken new Takes.request_failure is = tt
   due_spelled b probing message payload taken new (Takes.open_taken number kind sender window max_packet rest unused) is = tt
   due_spelled b probing message payload taken new (Takes.open_refused kind sender window max_packet rest full) is =
-      at_once b (RefusesOpen sender) (open_failure_spelled sender 4 (open_name kind sender window max_packet rest payload is) (omega arith))
+      at_once b (RefusesOpen sender) (open_failure_spelled sender 4 (open_sender_below kind sender window max_packet rest payload is) (omega arith))
   due_spelled b probing message payload taken new (Takes.confirmation recipient sender window max_packet rest) is = tt
   due_spelled b probing message payload taken new (Takes.failure recipient reason description language) is = tt
   due_spelled b probing message payload taken new (Takes.adjust recipient bytes) is = tt
@@ -73,7 +51,7 @@ module _ {K : Type 0} (p : Parties K) (lawful : AreLawful p) (side : Side) (hist
   due_spelled b probing message payload taken new (Takes.got_extended recipient kind body) is = tt
   due_spelled b probing message payload taken new (Takes.eof recipient) is = tt
   due_spelled b probing message payload taken new (Takes.close recipient) is =
-      close_at_once (has_said_close (at c.places recipient)) b recipient (peer_of (at c.places recipient)) (peer_named recipient)
+      close_at_once (has_said_close (at c.places recipient)) b recipient (peer_of (at c.places recipient)) (named recipient)
   due_spelled b probing message payload taken new (Takes.request recipient name want rest) is = tt
   due_spelled b probing message payload taken new (Takes.success recipient) is = tt
   due_spelled b probing message payload taken new (Takes.no_success recipient) is = tt

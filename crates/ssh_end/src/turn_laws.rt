@@ -33,7 +33,8 @@ ghost use Rattle.ssh_end.specs.declared.step.Step.{Step};
 
 use crate::fact_laws::facts_told;
 use ssh_model::end::{
-    exchange_ends, owed_replies, payloads, transport_turns, unit_turns, units, waiting,
+    exchange_ends, owed_replies, payloads, peer_numbers, transport_turns, unit_turns, units,
+    waiting,
 };
 use ssh_model::one_end::kept_by_one_end;
 use ssh_model::stream_units;
@@ -59,6 +60,7 @@ pub fn servers_turns<K>()
     payloads::<K>();
     exchange_ends::<K>();
     owed_replies::<K>();
+    peer_numbers::<K>();
     waiting::<K>();
     stream_units::<K>();
     machine_turns::<K>();
@@ -84,6 +86,7 @@ pub fn clients_turns<K>()
     payloads::<K>();
     exchange_ends::<K>();
     owed_replies::<K>();
+    peer_numbers::<K>();
     waiting::<K>();
     stream_units::<K>();
     machine_turns::<K>();
@@ -117,6 +120,7 @@ pub fn servers_deaths<K>()
     payloads::<K>();
     exchange_ends::<K>();
     owed_replies::<K>();
+    peer_numbers::<K>();
     waiting::<K>();
     units::<K>();
     kept_by_one_end::<K>();
@@ -134,6 +138,7 @@ pub fn clients_deaths<K>()
     payloads::<K>();
     exchange_ends::<K>();
     owed_replies::<K>();
+    peer_numbers::<K>();
     waiting::<K>();
     units::<K>();
     kept_by_one_end::<K>();

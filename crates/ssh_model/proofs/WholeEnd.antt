@@ -3,6 +3,7 @@ pub mod Kept
 pub mod Out
 pub mod Answers
 pub mod Owed
+pub mod PeerNumbers
 pub mod Payloads
 pub mod Ending
 pub mod Deaths

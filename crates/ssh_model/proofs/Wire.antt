@@ -16,4 +16,3 @@ pub mod Sizes
 pub mod Sealed
 pub mod FieldsDecided
 pub mod Decided
-pub mod Written

@@ -1,7 +1,7 @@
 //! Laws of what an end of a session keeps: from its transport, its authentication and its channels to one turn of a
 //! session. An end is proved against what it keeps alone, and these laws make of it what is said of histories.
 
-ghost use Rattle.std.specs.Prelude.{◌≡◌, ◌≤◌, ◌++◌, ◌↔◌, ℕ, List, [], ◌∷◌, None, true, false};
+ghost use Rattle.std.specs.Prelude.{◌≡◌, ◌<◌, ◌≤◌, ◌^◌, ◌++◌, ◌↔◌, ℕ, List, [], ◌∷◌, None, true, false};
 ghost use Rattle.ssh_model.specs.Side.{Side, Side.Client, part};
 ghost use Rattle.ssh_model.specs.Wire.Message.{Msg, Msg.KexInit};
 ghost use Rattle.ssh_model.specs.Wire.Line.{IsLineBegun, line_end};
@@ -25,7 +25,8 @@ ghost use Rattle.ssh_model.specs.End.Payloads.{GivesOwed, ReadsAbove, TakesPaylo
 ghost use Rattle.ssh_model.specs.End.Below.{AreBelow, opened_by_all};
 ghost use Rattle.ssh_model.specs.Channels.Connection.{AreReplies, owed_replies};
 ghost use Rattle.ssh_model.specs.Authentication.Kept as kept;
-ghost use Rattle.ssh_model.specs.Channels.Kept.{Channels};
+ghost use Rattle.ssh_model.specs.Channels.Kept.{Channels, peer_of};
+ghost use Rattle.ssh_model.specs.Channels.Places.{at};
 ghost use Rattle.ssh_model.specs.End.Deaths.{CanSettle};
 ghost use Rattle.ssh_model.specs.End.Units.{TakesPair, TakesUnit};
 ghost use Rattle.ssh_model.specs.End.Asks.{TakesAsk, end_ask_checks};
@@ -130,6 +131,11 @@ pub fn secrets<K>()
 /// The replies that an end of lawful parties owes can all be given, and each has a spelling.
 pub fn owed_replies<K>()
     ensures { (p : Parties K) → AreLawful p → (side : Side) (history : List Item) (e : EndState K) → EndSumsUp p side history e → e.transport.dead ≡ false → EndRun p side history → CanSettle e.channels }
+{}
+
+/// The numbers that the peer gave the channels of an end of lawful parties, as the end keeps them, are uint32s.
+pub fn peer_numbers<K>()
+    ensures { (p : Parties K) → AreLawful p → (side : Side) (history : List Item) (e : EndState K) → EndSumsUp p side history e → e.transport.dead ≡ false → EndRun p side history → (number : ℕ) → peer_of (at e.channels.places number) < 2 ^ 32 }
 {}
 
 /// An end that has a prefix of a line or of a packet, by what it keeps, waits for more.

@@ -7,7 +7,7 @@ use Rattle.ssh_model.specs.Wire.Message.{Msg, Msg.ExtInfo, Extension, IsExtensio
 use Rattle.ssh_model.specs.Wire.Sizes.{HasPayloadSize, extensions_size, payload_size}
 use Rattle.ssh_model.specs.Sessions.TurnClaims.{HasSpelling}
 use Rattle.ssh_model.specs.TransportLayer.Kept.{Transport, is_announcing}
-use Rattle.ssh_model.proofs.Wire.Written.{Made, byte, ended, spelled, string, uint32}
+use Rattle.ssh_model.specs.Laws.Written.{Made, byte, ended, spelled, string, uint32}
 use Rattle.ssh_transport_base.specs.Config.{AreExtensions, Given, extension_names, is_short_value}
 use Rattle.ssh_transport_machine.specs.Finishing.{HasAnnouncement, IsDue}
 use Rattle.ssh_transport_machine.specs.State.{State}

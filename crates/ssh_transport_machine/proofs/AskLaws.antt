@@ -1,14 +1,13 @@
 -- What a machine does on an ask is a turn of a session.
-use Rattle.std.proofs.Common.{◌≡◌, ℕ, ◌≤◌, ◌^◌, Bool, List, [], ◌∷◌, length, nat_lt, arith, refl, sym, ◌∙◌, subst, true, false, Some, None, append-nil}
+use Rattle.std.proofs.Common.{◌≡◌, ℕ, ◌^◌, List, [], ◌∷◌, sym, ◌∙◌, subst, true, false, Some, None, append-nil}
 use Rattle.ssh_model.specs.Side.{Side}
 use Rattle.ssh_model.specs.Wire.Message.{Msg, Msg.Disconnect}
 use Rattle.ssh_model.specs.Sessions.Items.{Ask, Ask.AskDisconnect, Item, Item.Asked, Item.Died, Item.Sent, Spelled.SpelledBy}
 use Rattle.ssh_model.specs.Sessions.Parties.{Parties}
 use Rattle.ssh_model.specs.Sessions.Refusals as model
 use Rattle.ssh_model.specs.Sessions.Refusals.{first_refusal}
-use Rattle.ssh_model.specs.Sessions.TurnClaims.{HasSpelling}
 use Rattle.ssh_model.specs.Sessions.Turns.{IsSpelled}
-use Rattle.ssh_model.proofs.Wire.Written.{disconnect_spelled}
+use Rattle.ssh_model.specs.Laws.Farewells.{farewell_spelled}
 use Rattle.ssh_model.specs.TransportLayer.Kept.{Asks, Transport, message_ask_checks}
 use Rattle.ssh_model.specs.TransportLayer.Summary.{SumsUp}
 use Rattle.ssh_model.specs.TransportLayer.Turns.{AskTurned, IsTransportAsk, PutsPackets}
@@ -31,16 +30,6 @@ pub record AskLaws (K : Type 0) : Type 0 where
   pub refused : (p : Parties K) (side : Side) (history : List Item) (s : Transport K) → SumsUp p side history s → s.dead ≡ false → (ask : Ask) (refusal : model.AskRefusal) → IsTransportAsk ask → first_refusal (message_ask_checks s ask) ≡ Some refusal → AskTurned p side history ask (Item.AskRefused refusal ∷ Asked ask ∷ []) [] s
   pub spent : (p : Parties K) (side : Side) (history : List Item) (s : Transport K) → SumsUp p side history s → s.dead ≡ false → (ask : Ask) (message : Msg) (payload : List ℕ) (new dead : Transport K) → first_refusal (message_ask_checks s ask) ≡ None → Asks s ask message payload new → IsSpelled message payload → s.sending.count ≡ 2 ^ 32 → dead.dead ≡ true → AskTurned p side history ask (Died ∷ Item.Refused model.Refusal.NumberSpent None ∷ Asked ask ∷ []) [] dead
   pub disconnect_spent : (p : Parties K) (side : Side) (history : List Item) (s : Transport K) → SumsUp p side history s → s.dead ≡ false → (description payload : List ℕ) (dead : Transport K) → first_refusal (message_ask_checks s (AskDisconnect description)) ≡ None → IsSpelled (Disconnect 11 description []) payload → s.sending.count ≡ 2 ^ 32 → dead.dead ≡ true → AskTurned p side history (AskDisconnect description) (Died ∷ Item.Refused model.Refusal.NumberSpent None ∷ Asked (AskDisconnect description) ∷ []) [] dead
-
-short_of : (n : ℕ) → first_refusal (model.Check.RefusedWhere (nat_lt 1024 n) model.AskRefusal.TooLong ∷ []) ≡ None → n ≤ 1024
-short_of n e = go (nat_lt 1024 n) refl e
-  where
-    go : (b : Bool) → nat_lt 1024 n ≡ b → first_refusal (model.Check.RefusedWhere b model.AskRefusal.TooLong ∷ []) ≡ None → n ≤ 1024
-    go true f g = absurd (cc g)
-    go false f g = grind (arith, f)
-
-pub farewell_spelled : {K : Type 0} (s : Transport K) (description : List ℕ) → first_refusal (message_ask_checks s (AskDisconnect description)) ≡ None → HasSpelling (Disconnect 11 description [])
-farewell_spelled s description fine = disconnect_spelled 11 description (omega arith) (short_of (length description) fine)
 
 module _ {K : Type 0} (laws : AskLaws K) (p : Parties K) (side : Side) (h : List Item) (old : State K) (sums : SumsUp p side h old.kept) (alive : old.kept.dead ≡ false) where
   quiet_ask : (ask : Ask) (done : AskTurn) (items : List Item) (new : Transport K) (o : Outs) → IsQuiet o → AskShows ask done [] items → AskTurned p side h ask items [] new → IsAskTurn p side h ask done new o

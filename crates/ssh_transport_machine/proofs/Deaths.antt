@@ -1,6 +1,5 @@
 -- Where a machine answers that memory was refused, something would be sent in a session.
-use Rattle.std.proofs.Common.{◌≡◌, ℕ, ◌^◌, ◌<◌, ◌≤◌, List, [], ◌∷◌, length, refl, ap, sym, ◌∙◌, subst, arith, true, false, Option, Some, None}
-use Rattle.std.proofs.lemmas.Bool.{false≢true}
+use Rattle.std.proofs.Common.{◌≡◌, ℕ, ◌^◌, ◌<◌, ◌≤◌, List, [], ◌∷◌, refl, ap, sym, ◌∙◌, subst, arith, true, false, Some, None}
 use Rattle.std.specs.Prelude.{IsSome}
 use Rattle.ssh_model.specs.Side.{Side, Side.Server}
 use Rattle.ssh_model.specs.Wire.Message.{Msg, Msg.KexInit, Msg.ServiceAccept, Msg.Unimplemented, IsPayload}
@@ -8,13 +7,14 @@ use Rattle.ssh_model.specs.KeyExchange.Exchanges.{Material, none_chosen}
 use Rattle.ssh_model.specs.Sessions.Items.{Item, Spelled.SpelledBy}
 use Rattle.ssh_model.specs.Sessions.Parties.{Parties, agreement_of, offer_of}
 use Rattle.ssh_model.specs.Sessions.Refusals as model
-use Rattle.ssh_model.specs.Sessions.Refusals.{first_refusal, refusal_name, refusal_reason}
+use Rattle.ssh_model.specs.Sessions.Refusals.{first_refusal, refusal_reason}
 use Rattle.ssh_model.specs.Sessions.TurnClaims.{HasSpelling}
 use Rattle.ssh_model.specs.Sessions.Turns.{number_of}
 use Rattle.ssh_model.specs.TransportLayer.Kept.{Answered, Takes, Transport, after_taken, message_checks, sends, takes, takes_in}
 use Rattle.ssh_model.specs.TransportLayer.Summary.{IsAwaited, SumsUp}
 use Rattle.ssh_model.specs.TransportLayer.Turns.{Reads}
-use Rattle.ssh_model.proofs.Wire.Written.{disconnect_spelled, unimplemented_spelled}
+use Rattle.ssh_model.specs.Laws.Farewells.{farewell_of}
+use Rattle.ssh_model.specs.Laws.Written.{unimplemented_spelled}
 use Rattle.ssh_types.specs.Refusals.{refusal_of}
 use Rattle.ssh_types.specs.declared.refusal.Refusal.{Refusal}
 use Rattle.ssh_transport_machine.specs.Judging.{MessageJudged, PayloadJudged}
@@ -26,51 +26,13 @@ use Rattle.ssh_transport_machine.specs.declared.machine.judging.Judged.{Judged}
 use Rattle.ssh_transport_machine.specs.declared.machine.judging.Judged.TheVariants as judged
 use Rattle.ssh_transport_machine.specs.declared.machine.kexinit.KexinitFacts.{KexinitFacts}
 use Rattle.ssh_transport_machine.proofs.Lifting.{PayloadLaws, accept_spelled, before, below_all, between_exchanges, checked, few_taken, reads, refused_by, requested_of}
-use Rattle.ssh_transport_machine.proofs.Refusals.{short_name}
 
 -- ---- what is said of a refusal
 
-small_code : (why : model.Refusal) (reason : ℕ) → refusal_reason why ≡ Some reason → reason < 2 ^ 32
-small_code why reason e = go why e
-  where
-    at : (n : ℕ) → n < 2 ^ 32 → Some n ≡ Some reason → reason < 2 ^ 32
-    at n l f = let g : n ≡ reason = cc f in subst (λ (m : ℕ). m < 2 ^ 32) g l
-
-    go : (why : model.Refusal) → refusal_reason why ≡ Some reason → reason < 2 ^ 32
-    go model.Refusal.BadLine f = absurd (cc f)
-    go model.Refusal.BadVersion f = absurd (cc f)
-    go model.Refusal.BadTag f = at 5 (omega arith) f
-    go model.Refusal.NoCommon f = at 3 (omega arith) f
-    go model.Refusal.NotStrict f = at 3 (omega arith) f
-    go model.Refusal.BadPoint f = at 3 (omega arith) f
-    go model.Refusal.BadHost f = at 9 (omega arith) f
-    go model.Refusal.NoMaterial f = at 3 (omega arith) f
-    go model.Refusal.NoService f = at 7 (omega arith) f
-    go model.Refusal.TooManyTries f = at 14 (omega arith) f
-    go model.Refusal.BadLength f = at 2 (omega arith) f
-    go model.Refusal.BadPadding f = at 2 (omega arith) f
-    go model.Refusal.BadMessage f = at 2 (omega arith) f
-    go model.Refusal.Unexpected f = at 2 (omega arith) f
-    go model.Refusal.NumberSpent f = at 2 (omega arith) f
-    go model.Refusal.UnknownChannel f = at 2 (omega arith) f
-    go model.Refusal.WindowOverrun f = at 2 (omega arith) f
-    go model.Refusal.WindowTooLarge f = at 2 (omega arith) f
-    go model.Refusal.OwedFull f = at 2 (omega arith) f
-
-short_text : (why : model.Refusal) → length (refusal_name why) ≤ 1024
-short_text why = omega (arith, short_name why)
-
-said_by_code : {K : Type 0} (s : Transport K) (why : model.Refusal) → s.sending.count < 2 ^ 32 → (code : Option ℕ) → refusal_reason why ≡ code → IsSome code → WouldSay s why
-said_by_code s why room None e x = absurd (false≢true x)
-said_by_code s why room (Some reason) e x = record {
-  reason = reason;
-  reason_is = e;
-  spelling = disconnect_spelled reason (refusal_name why) (small_code why reason e) (short_text why);
-  room = room;
-}
-
 pub said_so : {K : Type 0} (s : Transport K) (why : Refusal) → s.sending.count < 2 ^ 32 → IsSome (refusal_reason (refusal_of why)) → WouldSay s (refusal_of why)
-said_so s why room x = said_by_code s (refusal_of why) room (refusal_reason (refusal_of why)) refl x
+said_so s why room x =
+    let say = farewell_of (refusal_of why) x in
+    record { reason = say.reason; reason_is = say.reason_is; spelling = say.spelling; room = room }
 
 -- ---- what is answered
 

@@ -12,7 +12,7 @@ use Rattle.ssh_model.specs.Sessions.Parties.{Agreement, Parties, agreement_of, i
 use Rattle.ssh_model.specs.Sessions.Phases as model
 use Rattle.ssh_model.specs.Sessions.Phases.{is_allowed_at_first, is_allowed_during_exchange, is_general, is_spare}
 use Rattle.ssh_model.specs.Sessions.TurnClaims.{HasSpelling}
-use Rattle.ssh_model.proofs.Wire.Written.{service_accept_spelled, unimplemented_spelled}
+use Rattle.ssh_model.specs.Laws.Written.{service_accept_spelled, unimplemented_spelled}
 use Rattle.ssh_model.specs.Sessions.Refusals.{Refusal, Check.RefusedWhere, Refusal.NoService, Refusal.NumberSpent, Refusal.Unexpected, first_refusal}
 use Rattle.ssh_model.specs.Sessions.Turns.{AreSpelled, IsSpelled, number_of}
 use Rattle.ssh_model.specs.TransportLayer.Kept.{Answered, Takes, Transport, after_guess, after_own_kexinit, after_sent, after_taken, is_between, message_checks, sends, takes, takes_announced, takes_in, takes_service}

@@ -13,7 +13,7 @@ use Rattle.ssh_model.specs.Sessions.Refusals as refusals
 use Rattle.ssh_model.specs.Sessions.Refusals.{Check.RefusedWhere, first_refusal}
 use Rattle.ssh_model.specs.TransportLayer.Directions.{Direction, renewed}
 use Rattle.ssh_model.specs.Sessions.TurnClaims.{HasSpelling}
-use Rattle.ssh_model.proofs.Wire.Written.{service_request_spelled}
+use Rattle.ssh_model.specs.Laws.Written.{service_request_spelled}
 use Rattle.ssh_model.specs.TransportLayer.Kept as kept
 use Rattle.ssh_model.specs.TransportLayer.Kept.{Transport, after_sent, message_ask_checks, offer_checks, takes, takes_in}
 use Rattle.ssh_model.specs.TransportLayer.Summary.{bit, is_keying}

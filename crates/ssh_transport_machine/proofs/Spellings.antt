@@ -7,7 +7,7 @@ use Rattle.ssh_model.specs.Wire.Message.{Msg.KexInit}
 use Rattle.ssh_model.specs.Sessions.Parties.{Settings, offer_of}
 use Rattle.ssh_model.specs.Sessions.TurnClaims.{HasSpelling}
 use Rattle.ssh_model.specs.Laws.Names.{joined_length}
-use Rattle.ssh_model.proofs.Wire.Written.{byte, cookie, ended, names, spelled, truth, uint32}
+use Rattle.ssh_model.specs.Laws.Written.{byte, cookie, ended, names, spelled, truth, uint32}
 use Rattle.ssh_transport_base.specs.Config.{IsList}
 use Rattle.ssh_transport_machine.specs.State.{State}
 

@@ -2,6 +2,5 @@ pub mod Steps
 pub mod Bounds
 pub mod Modulo
 pub mod Exponents
-pub mod Values
 pub mod Spelling
 pub mod Tests

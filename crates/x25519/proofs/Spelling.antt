@@ -6,7 +6,7 @@ use Rattle.std.specs.Int.Bits.{and_shifted}
 use Rattle.x25519.specs.declared.field.Element.{Element}
 use Rattle.x25519.specs.Field.{AreBelow, number, residue}
 use Rattle.x25519.specs.Bytes.{bytes_of, element_of, frozen, le_bytes, up, value, word_of}
-use Rattle.x25519.proofs.Values.{four_words}
+use Rattle.x25519.specs.Values.{four_words}
 
 -- a word of some low bits, and bits shifted behind them
 with_low : (low high k : ℕ) → low < 2 ^ k → bit_or low (high * 2 ^ k) ≡ low + high * 2 ^ k

@@ -19,7 +19,8 @@ use Rattle.ssh_model.specs.Channels.Kept.{Channels, tells, Takes.adjust, Takes.g
 use Rattle.ssh_model.specs.Channels.Summary.{SumsUp, Accepts}
 use Rattle.ssh_model.proofs.Channels.State.{and_is}
 use Rattle.ssh_model.proofs.Channels.Steps.{Steps}
-use Rattle.ssh_model.proofs.Sessions.Stages.{all_passed, or_false, not_false}
+use Rattle.ssh_model.specs.Laws.Checks.{all_passed}
+use Rattle.ssh_model.proofs.Sessions.Stages.{or_false, not_false}
 use Rattle.ssh_model.proofs.Channels.PlaceRows.{data_taken, adjust_taken, eof_taken, request_taken, reply_taken}
 use Rattle.ssh_model.proofs.Channels.PlaceOpens.{confirm_taken, failure_taken, theirs_opened}
 use Rattle.ssh_model.proofs.Channels.Summing.{on_owed, nothing_due, held_there, changed_sums, freed_sums, opened_sums, unused_here, free_here}

@@ -16,7 +16,8 @@ use Rattle.ssh_model.specs.Channels.Connection.{channel_ask_checks, notes, owed_
 use Rattle.ssh_model.specs.Channels.Connection as connection
 use Rattle.ssh_model.specs.Channels.Kept.{Channels, Sent, sends_on, sends_globally, Sends, Sends.opens, Sends.gives_data, Sends.gives_extended, Sends.reply_yes, Sends.reply_no, Sends.global_yes, Sends.global_no, send_checks, IsUnused, peer_of, put, change, opening_place, count_where}
 use Rattle.ssh_model.specs.Channels.Summary.{SumsUp, Allows}
-use Rattle.ssh_model.proofs.Sessions.Stages.{all_passed, or_false, not_false}
+use Rattle.ssh_model.specs.Laws.Checks.{all_passed}
+use Rattle.ssh_model.proofs.Sessions.Stages.{or_false, not_false}
 use Rattle.ssh_model.proofs.Channels.State.{and_is}
 use Rattle.ssh_model.proofs.Channels.Steps.{Steps}
 use Rattle.ssh_model.proofs.Channels.PlaceRows.{data_said, adjust_said, eof_said, request_said, reply_said, close_said}

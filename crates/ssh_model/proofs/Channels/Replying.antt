@@ -17,7 +17,8 @@ use Rattle.ssh_model.specs.Channels.Connection.{connection_checks, notes, owed_r
 use Rattle.ssh_model.specs.Channels.Connection as connection
 use Rattle.ssh_model.specs.Channels.Kept.{DueReply.RefusesOpen, DueReply.AnswersClose, Channels, Taken, Takes, Takes.global_request, Takes.request_success, Takes.request_failure, Takes.open_taken, Takes.open_refused, Takes.confirmation, Takes.failure, Takes.adjust, Takes.got_data, Takes.got_extended, Takes.eof, Takes.close, Takes.request, Takes.success, Takes.no_success, take_checks, has_said_close, peer_of, put, owe, sent_at_once, owed_where, close_reply, close_taken, is_table_full}
 use Rattle.ssh_model.specs.Channels.Summary.{SumsUp, Accepts}
-use Rattle.ssh_model.proofs.Sessions.Stages.{all_passed, not_false}
+use Rattle.ssh_model.specs.Laws.Checks.{all_passed}
+use Rattle.ssh_model.proofs.Sessions.Stages.{not_false}
 use Rattle.ssh_model.proofs.Channels.PlaceRows.{close_taken_last, close_answered}
 use Rattle.ssh_model.proofs.Channels.PlaceQueue.{apart_number, same_number, place_owed, place_other, owed_kept, held_unowed, refused_place, refused_owed}
 use Rattle.ssh_model.proofs.Channels.Summing.{within, written, cond_same, queue_more, on_owed, owed_after, held_there, kept_is, freed_sums, full_here}

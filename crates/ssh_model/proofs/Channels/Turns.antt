@@ -15,7 +15,8 @@ use Rattle.ssh_model.specs.Channels.Rows as row
 use Rattle.ssh_model.specs.Channels.Connection.{channel_items, notes, AreDue, ConnectionAnswer, ConnectionAnswer.global, ConnectionAnswer.global_success, ConnectionAnswer.global_failure, ConnectionAnswer.opened, ConnectionAnswer.not_opened, ConnectionAnswer.confirmation, ConnectionAnswer.failure, ConnectionAnswer.adjust, ConnectionAnswer.got_data, ConnectionAnswer.got_extended, ConnectionAnswer.eof, ConnectionAnswer.close, ConnectionAnswer.request, ConnectionAnswer.success, ConnectionAnswer.no_success, ConnectionAsk.adjust, ConnectionAsk.eof, ConnectionAsk.close, ConnectionAsk.request, ConnectionAsk.global}
 use Rattle.ssh_model.specs.Authentication.Rows.{AuthenticationAnswer.failure, AuthenticationAnswer.success}
 use Rattle.ssh_model.specs.Sessions.Turns.{answer_checks}
-use Rattle.ssh_model.proofs.Sessions.Stages.{all_passed, or_false, not_false}
+use Rattle.ssh_model.specs.Laws.Checks.{all_passed}
+use Rattle.ssh_model.proofs.Sessions.Stages.{or_false, not_false}
 use Rattle.ssh_model.proofs.Channels.View.{items_behind, blocked_same, AreDueReplies, replies_seen}
 
 -- these items of a session are a turn on its channels, or none

@@ -6,7 +6,7 @@ use Rattle.ssh_model.specs.Sessions.Parties.{AreLawful, offer, settings_of}
 use Rattle.ssh_model.specs.Sessions.TurnClaims.{AreGood, HasSpelling}
 use Rattle.ssh_model.specs.Example.Toys.{toy}
 use Rattle.ssh_model.specs.Wire.MacOnlyLaws.{mac_only_laws}
-use Rattle.ssh_model.proofs.Wire.Written.{spelled, byte, cookie, ended, names, truth, uint32}
+use Rattle.ssh_model.specs.Laws.Written.{spelled, byte, cookie, ended, names, truth, uint32}
 
 pub toy_is_lawful : AreLawful toy
 toy_is_lawful = record { sealing = mac_only_laws; client_line = omega arith; server_line = omega arith }

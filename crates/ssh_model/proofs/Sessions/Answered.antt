@@ -14,18 +14,21 @@ use Rattle.ssh_model.specs.Channels.Connection.{AreReplies, AreReplies.none as n
 use Rattle.ssh_model.specs.Sessions.TurnClaims.{AreGood, HasNumbers}
 use Rattle.ssh_model.proofs.KeyExchange.Firsts.{text_same}
 use Rattle.ssh_model.proofs.Wire.Decided.{payload_decided}
-use Rattle.ssh_model.proofs.Wire.Written.{disconnect_spelled, unimplemented_spelled, service_accept_spelled, new_keys_spelled, kex_init_spelled, kex_reply_spelled, success_spelled, pk_ok_spelled, open_failure_spelled, close_spelled, unknown_0_spelled}
+use Rattle.ssh_model.specs.Laws.Farewells.{reason_spelled}
+use Rattle.ssh_model.specs.Laws.Senders.{open_sender_below}
+use Rattle.ssh_model.specs.Laws.Written.{unimplemented_spelled, service_accept_spelled, new_keys_spelled, kex_init_spelled, kex_reply_spelled, success_spelled, pk_ok_spelled, open_failure_spelled, close_spelled, unknown_0_spelled}
 use Rattle.ssh_model.proofs.Sessions.Blocked.{serves, in_normal}
 use Rattle.ssh_model.proofs.Sessions.Serving.{Serves, AllMaterial, normal_at_5, normal_at_6, no_5_at_client}
 use Rattle.ssh_model.proofs.Sessions.EndAnswers.{has_kept, may_be}
 use Rattle.ssh_model.proofs.Sessions.EndKeeps.{End}
-use Rattle.ssh_model.proofs.Sessions.PeerNumbers.{RepliesFit, owed_replies_fit, due_replies_fit, open_name}
+use Rattle.ssh_model.proofs.Sessions.PeerNumbers.{RepliesFit, owed_replies_fit, due_replies_fit}
 use Rattle.ssh_model.specs.Sessions.Epochs.{count, epoch}
 use Rattle.ssh_model.specs.KeyExchange.Exchanges.{offers, fed, nth, no_material, choice, taking_number, is_strict}
-use Rattle.ssh_model.specs.Sessions.Refusals.{Refusal, Refusal.BadHost, Refusal.BadLength, Refusal.BadLine, Refusal.BadMessage, Refusal.BadPadding, Refusal.BadPoint, Refusal.BadTag, Refusal.BadVersion, Refusal.NoCommon, Refusal.NoService, Refusal.NotStrict, Refusal.NumberSpent, Refusal.OwedFull, Refusal.TooManyTries, Refusal.Unexpected, Refusal.UnknownChannel, Refusal.WindowOverrun, Refusal.WindowTooLarge, refusal_name, refusal_reason, first_refusal}
+use Rattle.ssh_model.specs.Sessions.Refusals.{Refusal, Refusal.BadMessage, Refusal.NumberSpent, Refusal.Unexpected, refusal_name, refusal_reason, first_refusal}
 use Rattle.ssh_model.specs.Sessions.Items.{Item.Refused, Item.Sent, messages_sent, Item, sent, Item.Died, Item.Fed, Fact.Completed, Fact.Ignored, Item.Told, Item.Took, Item.TookGuess, Item.TookLine, Item.TookOtherLine, took}
 use Rattle.ssh_model.proofs.Sessions.Sound.{AllFormed}
-use Rattle.ssh_model.proofs.Sessions.Stages.{all_passed, and_left, and_right, not_false, normal_above}
+use Rattle.ssh_model.specs.Laws.Checks.{all_passed}
+use Rattle.ssh_model.proofs.Sessions.Stages.{and_left, and_right, not_false, normal_above}
 use Rattle.ssh_model.specs.Sessions.Phases.{has_material, Phase, Phase.Start, Phase.Guessed, Phase.Exchanging, Phase.Keying, Phase.Normal, phase, has_line, blocked, probing, sent_success, may_take, may_take_in, may_take_normally, is_allowed_during_exchange}
 use Rattle.ssh_model.specs.Sessions.Turns.{AreNumbered, AreSpelled, Refuses, Refuses.silently, Refuses.spent, Refuses.said, Answer, Answer.of_transport, Answer.of_completion, Answer.of_authentication, Answer.of_connection, Welcomes, answer_checks, number_of, OnPayload, OnPayload.takes, OnPayload.skips, OnPayload.unexpected, OnPayload.bad_message, OnOutcome, OnOutcome.other_line, OnOutcome.version_line, OnOutcome.refused_line, OnOutcome.opened, OnOutcome.refused_packet, stage, stage_after, EndRun}
 use Rattle.ssh_model.specs.Wire.Message.{Msg.ChannelOpenFailure, Msg.ChannelClose, Msg.Unknown, Msg.Disconnect, Msg.NewKeys, Msg, Proposal, Method, Method.NoMethod, Method.Password, Method.Publickey, Method.Other, IsPayload, message_number, Msg.Ignore, Msg.Unimplemented, Msg.Debug, Msg.ServiceRequest, Msg.ServiceAccept, Msg.ExtInfo, Msg.KexInit, Msg.KexEcdhInit, Msg.KexEcdhReply, Msg.UserauthRequest, Msg.UserauthFailure, Msg.UserauthSuccess, Msg.UserauthBanner, Msg.UserauthPkOk, Msg.GlobalRequest, Msg.RequestSuccess, Msg.RequestFailure, Msg.ChannelOpen, Msg.ChannelOpenConfirmation, Msg.ChannelWindowAdjust, Msg.ChannelData, Msg.ChannelExtendedData, Msg.ChannelEof, Msg.ChannelRequest, Msg.ChannelSuccess, Msg.ChannelFailure}
@@ -63,54 +66,12 @@ count_most (i ∷ h) n = count_most h n
 
 -- ---- refusals
 
-reason_small : (why : Refusal) (r : ℕ) → refusal_reason why ≡ Some r → r ≤ 100
-reason_small BadLine r e = absurd (cc e)
-reason_small BadVersion r e = absurd (cc e)
-reason_small BadLength r e = let f : r ≡ 2 = cc e in omega (arith, f)
-reason_small BadPadding r e = let f : r ≡ 2 = cc e in omega (arith, f)
-reason_small BadTag r e = let f : r ≡ 5 = cc e in omega (arith, f)
-reason_small BadMessage r e = let f : r ≡ 2 = cc e in omega (arith, f)
-reason_small Unexpected r e = let f : r ≡ 2 = cc e in omega (arith, f)
-reason_small NoCommon r e = let f : r ≡ 3 = cc e in omega (arith, f)
-reason_small NotStrict r e = let f : r ≡ 3 = cc e in omega (arith, f)
-reason_small BadPoint r e = let f : r ≡ 3 = cc e in omega (arith, f)
-reason_small BadHost r e = let f : r ≡ 9 = cc e in omega (arith, f)
-reason_small Refusal.NoMaterial r e = let f : r ≡ 3 = cc e in omega (arith, f)
-reason_small NoService r e = let f : r ≡ 7 = cc e in omega (arith, f)
-reason_small NumberSpent r e = let f : r ≡ 2 = cc e in omega (arith, f)
-reason_small TooManyTries r e = let f : r ≡ 14 = cc e in omega (arith, f)
-reason_small UnknownChannel r e = let f : r ≡ 2 = cc e in omega (arith, f)
-reason_small WindowOverrun r e = let f : r ≡ 2 = cc e in omega (arith, f)
-reason_small WindowTooLarge r e = let f : r ≡ 2 = cc e in omega (arith, f)
-reason_small OwedFull r e = let f : r ≡ 2 = cc e in omega (arith, f)
-
-name_small : (why : Refusal) → length (refusal_name why) ≤ 1024
-name_small BadLine = omega arith
-name_small BadVersion = omega arith
-name_small BadLength = omega arith
-name_small BadPadding = omega arith
-name_small BadTag = omega arith
-name_small BadMessage = omega arith
-name_small Unexpected = omega arith
-name_small NoCommon = omega arith
-name_small NotStrict = omega arith
-name_small BadPoint = omega arith
-name_small BadHost = omega arith
-name_small Refusal.NoMaterial = omega arith
-name_small NoService = omega arith
-name_small NumberSpent = omega arith
-name_small TooManyTries = omega arith
-name_small UnknownChannel = omega arith
-name_small WindowOverrun = omega arith
-name_small WindowTooLarge = omega arith
-name_small OwedFull = omega arith
-
 refused : (h : List Item) (why : Refusal) (payload : Option (List ℕ)) → count (sent h) ≤ 2 ^ 32 → (items : List Item) × Refuses h why payload items
 refused h why payload n = go (refusal_reason why) refl (nat_lt (count (sent h)) (2 ^ 32)) refl
   where
     aloud : (r : ℕ) → refusal_reason why ≡ Some r → count (sent h) < 2 ^ 32 → (items : List Item) × Refuses h why payload items
     aloud r e below =
-        let s = disconnect_spelled r (refusal_name why) (omega (arith, reason_small why r e)) (name_small why) in
+        let s = reason_spelled why r e in
         (Died ∷ Sent None (Disconnect r (refusal_name why) []) s.payload ∷ Refused why payload ∷ [], said r s.payload e below s.spells)
 
     go : (reason : Option ℕ) → refusal_reason why ≡ reason → (t : Bool) → nat_lt (count (sent h)) (2 ^ 32) ≡ t → (items : List Item) × Refuses h why payload items
@@ -329,7 +290,7 @@ module _ {K : Type 0} (p : Parties K) where
       go : (t : Bool) → is_full side h ≡ t → Answering p side h (ChannelOpen kind from window max rest)
       go true e =
           let r = replied (at_once (blocked h) (due None (Open from window max) (notes side h)))
-          (at_once_fits (blocked h) _ (due_replies_fit p side h None (Open from window max) (open_name kind from window max rest b w.message_is) v.formed)) in
+          (at_once_fits (blocked h) _ (due_replies_fit p side h None (Open from window max) (open_sender_below kind from window max rest b w.message_is) v.formed)) in
           by_connection side h r.items None _ (not_opened kind from window max rest e r.replies) r.spelled
       go false e =
           let x = place_found side (channel_items h) (not_false (has_place side (channel_items h)) e) in

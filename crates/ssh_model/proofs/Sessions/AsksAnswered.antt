@@ -16,11 +16,12 @@ use Rattle.ssh_model.specs.Sessions.Refusals.{AskRefusal, Refusal.NumberSpent, f
 use Rattle.ssh_model.specs.Sessions.Items.{Ask, Ask.AskService, Ask.AskNone, Ask.AskPassword, Ask.AskProbe, Ask.AskSign, Ask.AskRekey, Ask.AskOpen, Ask.AskConfirm, Ask.AskRefuse, Ask.AskData, Ask.AskAdjust, Ask.AskEof, Ask.AskClose, Ask.AskRequest, Ask.AskReply, Ask.AskGlobal, Ask.AskGlobalReply, Ask.AskDisconnect, Item, Item.Asked, Item.AskRefused, Item.Refused, Item.Died, has_died}
 use Rattle.ssh_model.specs.Sessions.Turns.{AreNumbered, AreSpelled, ask_checks, OnAsk, OnAsk.of_transport, OnAsk.of_authentication, OnAsk.of_connection, AsksTurn, AsksTurn.answers, EndRun}
 use Rattle.ssh_model.specs.Sessions.TurnClaims.{AreGood, HasUint32s}
-use Rattle.ssh_model.proofs.Wire.Written.{disconnect_spelled, service_request_spelled, no_method_spelled, password_spelled, probe_spelled, sign_spelled, open_spelled, confirmation_spelled, open_failure_spelled, data_message_spelled, extended_data_spelled, adjust_spelled, eof_spelled, close_spelled, request_spelled, channel_success_spelled, channel_failure_spelled, global_request_spelled, request_success_spelled, request_failure_spelled}
+use Rattle.ssh_model.specs.Laws.Written.{disconnect_spelled, service_request_spelled, no_method_spelled, password_spelled, probe_spelled, sign_spelled, open_spelled, confirmation_spelled, open_failure_spelled, data_message_spelled, extended_data_spelled, adjust_spelled, eof_spelled, close_spelled, request_spelled, channel_success_spelled, channel_failure_spelled, global_request_spelled, request_success_spelled, request_failure_spelled}
 use Rattle.ssh_model.proofs.Sessions.Answered.{Stands, stands, kept_cookie, numbered, place_found, short}
 use Rattle.ssh_model.proofs.Sessions.Deaths.{two_or_more}
 use Rattle.ssh_model.proofs.Sessions.PeerNumbers.{peer_number_below}
-use Rattle.ssh_model.proofs.Sessions.Stages.{all_passed, and_left, and_right, not_false, or_false}
+use Rattle.ssh_model.specs.Laws.Checks.{all_passed}
+use Rattle.ssh_model.proofs.Sessions.Stages.{and_left, and_right, not_false, or_false}
 
 -- ---- numbers of an ask
 

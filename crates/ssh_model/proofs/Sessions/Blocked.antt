@@ -6,7 +6,8 @@ use Rattle.ssh_model.specs.Sessions.TurnClaims.{KeepsToExchange, is_sent_while_b
 use Rattle.ssh_model.proofs.Sessions.EndKeeps.{End}
 use Rattle.ssh_model.proofs.Sessions.EndAnswers.{may_be}
 use Rattle.ssh_model.proofs.Sessions.EndTurns.{end_keeps}
-use Rattle.ssh_model.proofs.Sessions.Stages.{all_passed, or_false, not_false, ahead_at_21}
+use Rattle.ssh_model.specs.Laws.Checks.{AllPassed, all_passed}
+use Rattle.ssh_model.proofs.Sessions.Stages.{or_false, not_false, ahead_at_21}
 use Rattle.ssh_model.specs.Sessions.Parties.{Parties}
 use Rattle.ssh_model.specs.Sessions.Phases.{authenticated, blocked, may_take_in, may_take_normally, took_service_accept, Phase.Normal, outstanding, sent_service_accept, sent_service_request, sent_success, took_service_request, took_success, phase, Phase.Guessed, Phase.Exchanging, is_wrong_guess, may_take, own_names}
 use Rattle.ssh_model.specs.Wire.Message.{Msg, Msg.KexInit, Msg.KexEcdhInit, Msg.ServiceRequest, Msg.KexEcdhReply, Msg.ServiceAccept, message_number, Msg.UserauthFailure, Msg.UserauthRequest, Msg.UserauthPkOk, Msg.NewKeys, Msg.UserauthSuccess, Msg.Disconnect}
@@ -25,7 +26,7 @@ use Rattle.ssh_model.specs.Authentication.Rows.{AuthenticationAnswer.request_too
 use Rattle.ssh_model.specs.Sessions.Turns.{ask_checks, Refuses, Refuses.silently, Refuses.spent, Refuses.said, Welcomes, Answer.of_transport, Answer.of_completion, Answer.of_authentication, Answer.of_connection, OnAsk, OnAsk.of_transport as asks_transport, OnAsk.of_authentication as asks_authentication, OnAsk.of_connection as of_channels, OnPayload, OnPayload.takes, OnPayload.skips, OnPayload.unexpected, OnPayload.bad_message, OnOutcome, OnOutcome.other_line, OnOutcome.version_line, OnOutcome.refused_line, OnOutcome.refused_packet, OnUnit, FeedsTurn, AsksTurn, Turn, Turn.asks, IsOpening, EndRun}
 use Rattle.ssh_model.specs.Wire.Outcome.{Outcome}
 use Rattle.ssh_model.specs.Wire.Message.{message_number, Proposal, Method}
-use Rattle.ssh_model.proofs.Sessions.Stages.{AllPassed, normal_above}
+use Rattle.ssh_model.proofs.Sessions.Stages.{normal_above}
 use Rattle.ssh_model.proofs.Sessions.Serving.{is_in, is_in_is, Serves, first_or, second_or, third_or, without_second, left_or, right_or, both_ways, normal_at_5, normal_at_6, new_request_at_5, asked_at_6, accepted_at_50, outstanding_at_52, authenticated_at_20}
 
 -- ---- items that keep it

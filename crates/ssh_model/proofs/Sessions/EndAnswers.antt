@@ -22,7 +22,8 @@ use Rattle.ssh_model.proofs.Wire.Payloads.{tag}
 use Rattle.ssh_model.proofs.Sessions.Rules.{cookie_of}
 use Rattle.ssh_model.proofs.Sessions.Spelling.{sent_other_tag, taken_other_tag, sent_newkeys_tag, taken_newkeys_tag, spelled_cookie, AllFit, taken_fits, sent_fits}
 use Rattle.ssh_model.proofs.Sessions.EndKeeps.{End, InStep, Heard, used, IsPlainSent, IsPlainTaken, ArePlain, add_quiet, add_sent, add_taken, add_plain, last_cookie, exchange_fits}
-use Rattle.ssh_model.proofs.Sessions.Stages.{level_at_20, level_at_30, level_at_31, ahead_at_21, heard_at_30, heard_at_31, heard_at_21, all_passed, not_false, second_false}
+use Rattle.ssh_model.specs.Laws.Checks.{all_passed}
+use Rattle.ssh_model.proofs.Sessions.Stages.{level_at_20, level_at_30, level_at_31, ahead_at_21, heard_at_30, heard_at_31, heard_at_21, not_false, second_false}
 
 -- ---- replies
 

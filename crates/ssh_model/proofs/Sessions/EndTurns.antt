@@ -19,7 +19,8 @@ use Rattle.ssh_model.specs.Sessions.Turns.{IsSpelled, AreSpelled, Refuses, Refus
 use Rattle.ssh_model.proofs.Sessions.Spelling.{other_tagged, sent_other_tag, spelled_cookie, sent_fits}
 use Rattle.ssh_model.proofs.Sessions.EndKeeps.{End, ArePlain, add_quiet, add_fed, add_line, add_plain}
 use Rattle.ssh_model.proofs.Sessions.EndAnswers.{replies_plain, uses_next, transport_keeps, completion_keeps, authentication_keeps, connection_keeps}
-use Rattle.ssh_model.proofs.Sessions.Stages.{heard_at_guess, all_passed, or_false, not_false, level_when_normal}
+use Rattle.ssh_model.specs.Laws.Checks.{all_passed}
+use Rattle.ssh_model.proofs.Sessions.Stages.{heard_at_guess, or_false, not_false, level_when_normal}
 
 -- ---- sizes of what is taken
 

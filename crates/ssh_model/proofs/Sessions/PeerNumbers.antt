@@ -1,7 +1,6 @@
 -- The numbers that an end keeps of its peer, and those of the replies that it owes, are uint32s.
-use Rattle.std.proofs.Common.{◌≡◌, ℕ, ◌<◌, ◌^◌, Bool, true, false, cond, List, [], ◌∷◌, ◌++◌, length, arith, Option, None, Some}
+use Rattle.std.proofs.Common.{ℕ, ◌<◌, ◌^◌, Bool, true, false, cond, List, [], ◌∷◌, ◌++◌, arith, Option, None, Some}
 use Rattle.ssh_model.specs.Side.{Side}
-use Rattle.ssh_model.specs.Wire.DataTypes.{AreBytes, IsUint32, number}
 use Rattle.ssh_model.specs.Wire.Message.{Msg, Msg.KexInit, Msg.NewKeys, Msg.ChannelOpen, Msg.ChannelOpenConfirmation, IsPayload, Msg.ChannelOpenFailure, Msg.ChannelWindowAdjust, Msg.ChannelData, Msg.ChannelExtendedData, Msg.ChannelEof, Msg.ChannelClose, Msg.ChannelRequest, Msg.ChannelSuccess, Msg.ChannelFailure}
 use Rattle.ssh_model.specs.Sessions.Parties.{Parties}
 use Rattle.ssh_model.specs.Sessions.Items.{Item, Item.Sent, Item.Took}
@@ -11,20 +10,8 @@ use Rattle.ssh_model.specs.Channels.Numbers.{has_closed, peer_number}
 use Rattle.ssh_model.specs.Channels.History as channel
 use Rattle.ssh_model.specs.Channels.History.{due, note_sent, note_received, noted, owed}
 use Rattle.ssh_model.specs.Channels.Connection.{on_channel, sent_on, received_on, channel_items, notes, owed_replies}
+use Rattle.ssh_model.specs.Laws.Senders.{open_sender_below, uint32_below}
 use Rattle.ssh_model.proofs.Sessions.Sound.{AllFormed}
-
--- ---- uint32s
-
-four_below : (n : ℕ) (bytes : List ℕ) → AreBytes bytes → length bytes ≡ 4 → number bytes ≡ n → n < 2 ^ 32
-four_below n (a ∷ b ∷ c ∷ d ∷ []) are count value = omega (arith, are.0, are.1.0, are.1.1.0, are.1.1.1.0, value)
-four_below n [] are count value = absurd (omega (arith, count))
-four_below n (a ∷ []) are count value = absurd (omega (arith, count))
-four_below n (a ∷ b ∷ []) are count value = absurd (omega (arith, count))
-four_below n (a ∷ b ∷ c ∷ []) are count value = absurd (omega (arith, count))
-four_below n (a ∷ b ∷ c ∷ d ∷ e ∷ bytes) are count value = absurd (omega (arith, count))
-
-uint32_below : (n : ℕ) (bytes : List ℕ) → IsUint32 n bytes → n < 2 ^ 32
-uint32_below n bytes u = four_below n bytes u.are_bytes u.count u.value
 
 -- ---- messages that name a number of their sender
 
@@ -132,9 +119,6 @@ owed_fit side (channel.Item.Received at m ∷ items) a = go (channel.blocked ite
 
 -- ---- of an end
 
-pub open_name : {probing : Bool} (kind : List ℕ) (from window max : ℕ) (rest b : List ℕ) → IsPayload probing (ChannelOpen kind from window max rest) b → from < 2 ^ 32
-open_name kind from window max rest b p = let field = p.row.second.second in uint32_below from field.front field.first
-
 confirmation_name : (to from window max : ℕ) (rest b : List ℕ) → IsPayload true (ChannelOpenConfirmation to from window max rest) b → from < 2 ^ 32
 confirmation_name to from window max rest b p = let field = p.row.second.second in uint32_below from field.front field.first
 
@@ -143,7 +127,7 @@ sent_on_names at None l a = a
 sent_on_names at (Some m) l a = a
 
 taken_on_names : (at : Option ℕ) (m : Msg) (b : List ℕ) (l : List channel.Item) → IsPayload true m b → ItemsName l → ItemsName (received_on at (on_channel m) l)
-taken_on_names at (ChannelOpen kind from window max rest) b l p a = (open_name kind from window max rest b p, a)
+taken_on_names at (ChannelOpen kind from window max rest) b l p a = (open_sender_below kind from window max rest b p, a)
 taken_on_names at (ChannelOpenConfirmation to from window max rest) b l p a = (confirmation_name to from window max rest b p, a)
 taken_on_names at (ChannelOpenFailure r s d l) payload items p a = (tt, a)
 taken_on_names at (ChannelWindowAdjust r n) payload items p a = (tt, a)

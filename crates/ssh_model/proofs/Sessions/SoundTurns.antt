@@ -18,7 +18,8 @@ use Rattle.ssh_model.specs.Channels.Connection.{channel_items, owed_replies, Are
 use Rattle.ssh_model.specs.Sessions.Turns.{IsSpelled, AreSpelled, Refuses, Refuses.silently, Refuses.spent, Refuses.said, Welcomes, number_of, Answer, Answer.of_transport, Answer.of_completion, Answer.of_authentication, Answer.of_connection, OnAsk.of_authentication, OnPayload, OnPayload.takes, OnPayload.skips, OnPayload.unexpected, OnPayload.bad_message, OnPayload.refuses, OnPayload.spends, OnOutcome, OnOutcome.other_line, OnOutcome.version_line, OnOutcome.refused_line, OnOutcome.opened, OnOutcome.refused_packet, ask_checks, OnAsk, OnAsk.of_transport, OnAsk.of_connection, FeedsTurn, AsksTurn, AsksTurn.refuses, AsksTurn.spends, OnUnit, OnUnit.reads, Turn, Turn.asks, Turn.reads, IsOpening, EndRun, Run}
 use Rattle.ssh_model.specs.Wire.Outcome.{Outcome}
 use Rattle.ssh_model.proofs.Sessions.EndAnswers.{spelled_behind, may_be}
-use Rattle.ssh_model.proofs.Sessions.Stages.{all_passed, not_false, and_right, normal_above, authenticated_above, probing_at_60}
+use Rattle.ssh_model.specs.Laws.Checks.{all_passed}
+use Rattle.ssh_model.proofs.Sessions.Stages.{not_false, and_right, normal_above, authenticated_above, probing_at_60}
 use Rattle.ssh_model.proofs.Sessions.Sound.{AllFormed, Sound, IsLow, IsNotSuccess, IsApart, apart_sound, guess_sound, low_sent, high_sent, low_taken, high_taken, success_sent, success_taken, sent_number, taken_number, not_success_taken, sent_none}
 use Rattle.ssh_model.proofs.Sessions.Rules.{took_behind}
 use Rattle.ssh_model.proofs.Sessions.EndRuns.{end_run}

@@ -1,7 +1,6 @@
--- Which phases let the messages of an exchange be taken, and what the checks that hold nothing against a turn tell.
-use Rattle.std.proofs.Common.{◌≡◌, ℕ, zero, suc, ◌<◌, ◌≤◌, List, [], ◌∷◌, ◌⊎◌, inl, inr, refl, arith, Bool, true, false, not, nat_le, nat_lt, is_some, eqb-true, ◌||◌, ◌&&◌, ◌==◌, None}
+-- Which phases let the messages of an exchange be taken, and the numbers of authentication and of the connection.
+use Rattle.std.proofs.Common.{◌≡◌, ℕ, zero, suc, ◌<◌, ◌≤◌, List, ◌⊎◌, inl, inr, refl, arith, Bool, true, false, not, nat_le, nat_lt, is_some, eqb-true, ◌||◌, ◌&&◌, ◌==◌}
 use Rattle.ssh_model.specs.Side.{Side, Side.Client, Side.Server}
-use Rattle.ssh_model.specs.Sessions.Refusals.{Check, Check.RefusedWhere, first_refusal}
 use Rattle.ssh_model.specs.Sessions.Items.{Item, took}
 use Rattle.std.proofs.lemmas.Bool.{leb-true, ltb-true}
 use Rattle.ssh_model.specs.Wire.Message.{is_known}
@@ -116,17 +115,7 @@ level_when_normal Exchanging out s t e i = absurd (cc e)
 level_when_normal Keying out s t e i = absurd (cc e)
 level_when_normal Normal out s t e i = refl
 
--- ---- checks
-
--- none of these holds
-abbrev pub AllPassed : {Why : Type 0} → List (Check Why) → Type 0
-AllPassed [] = Unit {0}
-AllPassed (RefusedWhere b n ∷ checks) = (b ≡ false) × AllPassed checks
-
-pub all_passed : {Why : Type 0} → (checks : List (Check Why)) → first_refusal checks ≡ None → AllPassed checks
-all_passed [] e = tt
-all_passed (RefusedWhere true n ∷ checks) e = absurd (cc e)
-all_passed (RefusedWhere false n ∷ checks) e = (refl, all_passed checks e)
+-- ---- conditions
 
 pub or_false : (a b : Bool) → (a || b) ≡ false → (a ≡ false) × (b ≡ false)
 or_false true b e = absurd (cc e)

@@ -25,7 +25,7 @@ use Rattle.ssh_model.specs.Channels.Message.{Message.OpenFailure, Message.Close}
 use Rattle.ssh_model.specs.End.Deaths.{CanSettle}
 use Rattle.ssh_model.proofs.Sessions.PeerNumbers.{RepliesFit, owed_replies_fit}
 use Rattle.ssh_model.proofs.Sessions.SoundTurns.{end_sound}
-use Rattle.ssh_model.proofs.Wire.Written.{open_failure_spelled, close_spelled}
+use Rattle.ssh_model.specs.Laws.Written.{open_failure_spelled, close_spelled}
 
 -- What was given is the oldest of what waited.
 pub record Given (side : Side) (g : List Item) (waiting : List channel.Item) (a : Authentication) (items : List Item) (new : Channels) : Type 0 where

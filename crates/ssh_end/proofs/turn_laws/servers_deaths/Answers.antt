@@ -15,6 +15,7 @@ returns g c = record {
     ended = c.exchange_ends.ensures.ended;
     given = c.exchange_ends.ensures.given;
     settled = c.owed_replies.ensures;
+    named = c.peer_numbers.ensures;
     packets_begun = c.waiting.ensures.packets;
     lines_begun = c.waiting.ensures.lines;
   }) (record {

@@ -1,4 +1,4 @@
-use Rattle.ssh_model.proofs.Wire.Written.{no_method_spelled, password_spelled, probe_spelled, sign_spelled}
+use Rattle.ssh_model.specs.Laws.Written.{no_method_spelled, password_spelled, probe_spelled, sign_spelled}
 use Rattle.ssh_model.proofs.message.request_spellings.Goals as goal
 
 pub returns : goal.returns

@@ -1,4 +1,4 @@
-use Rattle.ssh_model.proofs.Wire.Written.{disconnect_spelled, unimplemented_spelled, service_request_spelled, service_accept_spelled, new_keys_spelled, kex_init_spelled, kex_reply_spelled, success_spelled, pk_ok_spelled, global_request_spelled, request_success_spelled, request_failure_spelled, open_spelled, confirmation_spelled, open_failure_spelled, adjust_spelled, data_message_spelled, extended_data_spelled, eof_spelled, close_spelled, request_spelled, channel_success_spelled, channel_failure_spelled}
+use Rattle.ssh_model.specs.Laws.Written.{disconnect_spelled, unimplemented_spelled, service_request_spelled, service_accept_spelled, new_keys_spelled, kex_init_spelled, kex_reply_spelled, success_spelled, pk_ok_spelled, global_request_spelled, request_success_spelled, request_failure_spelled, open_spelled, confirmation_spelled, open_failure_spelled, adjust_spelled, data_message_spelled, extended_data_spelled, eof_spelled, close_spelled, request_spelled, channel_success_spelled, channel_failure_spelled}
 use Rattle.ssh_model.proofs.message.spellings.Goals as goal
 
 pub returns : goal.returns

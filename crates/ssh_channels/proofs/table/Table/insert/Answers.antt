@@ -1,10 +1,11 @@
 use Rattle.std.proofs.Common.{refl}
+use Rattle.ssh_model.specs.Laws.Places.{some_unused}
 use Rattle.ssh_channels.specs.Entries.{place_of}
-use Rattle.ssh_channels.proofs.Tables.{some_free, used_places, free_place, inserted_places, inserted_table, same_places}
+use Rattle.ssh_channels.proofs.Tables.{used_places, free_place, inserted_places, inserted_table, same_places}
 use Rattle.ssh_channels.proofs.table.Table.insert.Goals as goal
 
 pub number_for-number-requires : goal.number_for-number-requires
-number_for-number-requires c = rw c.deref.ensures.value (some_free _ (rw (c.self.invariant.size, ← used_places place_of _ _ c.self.invariant) (rw (← c.self.view_is) at c.requires)))
+number_for-number-requires c = rw c.deref.ensures.value (some_unused _ (rw (c.self.invariant.size, ← used_places place_of _ _ c.self.invariant) (rw (← c.self.view_is) at c.requires)))
 
 pub invariant_of-self : goal.invariant_of-self
 invariant_of-self c =

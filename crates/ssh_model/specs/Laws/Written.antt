@@ -10,9 +10,9 @@ use Rattle.ssh_model.specs.Sessions.TurnClaims.{HasSpelling}
 -- ---- bytes of a known count
 
 pub record Made (Spells : List ℕ → Type 0) (count : ℕ) : Type 0 where
-  bytes : List ℕ
-  spells : Spells bytes
-  size : length bytes ≡ count
+  pub bytes : List ℕ
+  pub spells : Spells bytes
+  pub size : length bytes ≡ count
 
 pub ended : Made IsEnd 0
 ended = record { bytes = []; spells = refl; size = refl }

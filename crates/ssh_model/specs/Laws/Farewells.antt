@@ -1,0 +1,90 @@
+-- The DISCONNECT by which an end says why it refuses its peer, and the one that its user asks for, have payloads that spell
+-- them.
+use Rattle.std.proofs.Common.{◌≡◌, ℕ, ◌≤◌, length, List, [], Option, Some, None, refl, arith}
+use Rattle.std.proofs.lemmas.Bool.{false≢true, ltb-false}
+use Rattle.std.specs.Prelude.{IsSome}
+use Rattle.ssh_model.specs.Wire.Message.{Msg.Disconnect}
+use Rattle.ssh_model.specs.Sessions.Items.{Ask.AskDisconnect}
+use Rattle.ssh_model.specs.Sessions.Refusals.{Refusal, Refusal.BadLine, Refusal.BadVersion, Refusal.BadLength}
+use Rattle.ssh_model.specs.Sessions.Refusals.{Refusal.BadPadding, Refusal.BadTag, Refusal.BadMessage, Refusal.Unexpected}
+use Rattle.ssh_model.specs.Sessions.Refusals.{Refusal.NoCommon, Refusal.NotStrict, Refusal.BadPoint, Refusal.BadHost}
+use Rattle.ssh_model.specs.Sessions.Refusals.{Refusal.NoMaterial, Refusal.NoService, Refusal.NumberSpent}
+use Rattle.ssh_model.specs.Sessions.Refusals.{Refusal.TooManyTries, Refusal.UnknownChannel, Refusal.WindowOverrun}
+use Rattle.ssh_model.specs.Sessions.Refusals.{Refusal.WindowTooLarge, Refusal.OwedFull}
+use Rattle.ssh_model.specs.Sessions.Refusals.{first_refusal, refusal_name, refusal_reason}
+use Rattle.ssh_model.specs.Sessions.TurnClaims.{HasSpelling}
+use Rattle.ssh_model.specs.TransportLayer.Kept.{Transport, message_ask_checks}
+use Rattle.ssh_model.specs.Laws.Checks.{all_passed}
+use Rattle.ssh_model.specs.Laws.Written.{disconnect_spelled}
+
+-- each refusal has a short name
+pub short_name : (why : Refusal) → length (refusal_name why) ≤ 20
+short_name BadLine = omega arith
+short_name BadVersion = omega arith
+short_name BadLength = omega arith
+short_name BadPadding = omega arith
+short_name BadTag = omega arith
+short_name BadMessage = omega arith
+short_name Unexpected = omega arith
+short_name NoCommon = omega arith
+short_name NotStrict = omega arith
+short_name BadPoint = omega arith
+short_name BadHost = omega arith
+short_name NoMaterial = omega arith
+short_name NoService = omega arith
+short_name NumberSpent = omega arith
+short_name TooManyTries = omega arith
+short_name UnknownChannel = omega arith
+short_name WindowOverrun = omega arith
+short_name WindowTooLarge = omega arith
+short_name OwedFull = omega arith
+
+-- the reason codes are small numbers
+small_reason : (why : Refusal) (reason : ℕ) → refusal_reason why ≡ Some reason → reason ≤ 14
+small_reason BadLine r e = absurd (cc e)
+small_reason BadVersion r e = absurd (cc e)
+small_reason BadLength r e = let f : r ≡ 2 = cc e in omega (arith, f)
+small_reason BadPadding r e = let f : r ≡ 2 = cc e in omega (arith, f)
+small_reason BadTag r e = let f : r ≡ 5 = cc e in omega (arith, f)
+small_reason BadMessage r e = let f : r ≡ 2 = cc e in omega (arith, f)
+small_reason Unexpected r e = let f : r ≡ 2 = cc e in omega (arith, f)
+small_reason NoCommon r e = let f : r ≡ 3 = cc e in omega (arith, f)
+small_reason NotStrict r e = let f : r ≡ 3 = cc e in omega (arith, f)
+small_reason BadPoint r e = let f : r ≡ 3 = cc e in omega (arith, f)
+small_reason BadHost r e = let f : r ≡ 9 = cc e in omega (arith, f)
+small_reason NoMaterial r e = let f : r ≡ 3 = cc e in omega (arith, f)
+small_reason NoService r e = let f : r ≡ 7 = cc e in omega (arith, f)
+small_reason NumberSpent r e = let f : r ≡ 2 = cc e in omega (arith, f)
+small_reason TooManyTries r e = let f : r ≡ 14 = cc e in omega (arith, f)
+small_reason UnknownChannel r e = let f : r ≡ 2 = cc e in omega (arith, f)
+small_reason WindowOverrun r e = let f : r ≡ 2 = cc e in omega (arith, f)
+small_reason WindowTooLarge r e = let f : r ≡ 2 = cc e in omega (arith, f)
+small_reason OwedFull r e = let f : r ≡ 2 = cc e in omega (arith, f)
+
+-- where a refusal has a reason, the DISCONNECT that says so has a spelling
+pub reason_spelled : (why : Refusal) (reason : ℕ) → refusal_reason why ≡ Some reason →
+    HasSpelling (Disconnect reason (refusal_name why) [])
+reason_spelled why reason e =
+    disconnect_spelled reason (refusal_name why) (omega (arith, small_reason why reason e))
+    (omega (arith, short_name why))
+
+-- the DISCONNECT that says why the peer is refused: its reason code, and that it has a spelling
+pub record Farewell (why : Refusal) : Type 0 where
+  pub reason : ℕ
+  pub reason_is : refusal_reason why ≡ Some reason
+  pub spelling : HasSpelling (Disconnect reason (refusal_name why) [])
+
+pub farewell_of : (why : Refusal) → IsSome (refusal_reason why) → Farewell why
+farewell_of why some = go (refusal_reason why) refl some
+  where
+    go : (code : Option ℕ) → refusal_reason why ≡ code → IsSome code → Farewell why
+    go None e x = absurd (false≢true x)
+    go (Some reason) e x = record { reason = reason; reason_is = e; spelling = reason_spelled why reason e }
+
+-- a DISCONNECT that an end may send since its user asks for it has a spelling
+pub farewell_spelled : {K : Type 0} (s : Transport K) (description : List ℕ) →
+    first_refusal (message_ask_checks s (AskDisconnect description)) ≡ None →
+    HasSpelling (Disconnect 11 description [])
+farewell_spelled s description fine =
+    let passed = all_passed (message_ask_checks s (AskDisconnect description)) fine in
+    disconnect_spelled 11 description (omega arith) (ltb-false 1024 (length description) passed.0)
