@@ -1,6 +1,6 @@
 #!/bin/sh
 # What can be seen in a few minutes: the layout of the files, that each definition of the model has its line in
-# docs/definitions.md, the tests, and the programs. Nothing is proved here. As many crates are looked at at once as there
+# docs/definitions.md, that no crate cites the proofs of another, the tests, and the programs. Nothing is proved here. As many crates are looked at at once as there
 # are cores, each in a copy of the tree, since the toolchain locks the crates that it reads; a copy that is done with one crate takes
 # the next that no other has. A crate is compiled with checks and run; the interpreter, which would run it a second time, gets one step.
 set -eu
@@ -58,6 +58,7 @@ look_at() (
 
 echo "definitions"
 sh "$top/tools/definitions.sh" || fail "a definition has no line in docs/definitions.md"
+sh "$top/tools/imports.sh" || fail "a crate cites the proofs of another"
 (sh "$top/tools/misuse.sh" || fail "a call that has to be refused is not") &
 # What takes the longest comes first: the stored scripts with the sweep, and then the crates at the top, which are compiled with all below them.
 crates="ssh_runs $(sed 's/#.*//; s/:.*//; s/ .*//' "$top/crates.txt" | grep . | tac)"
