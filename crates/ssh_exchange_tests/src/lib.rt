@@ -1,5 +1,4 @@
-//! Tests of the transports of both roles: two ends played against each other, what is refused and how, and the recorded bytes of
-//! other implementations.
+//! Tests of the transports of both roles: two ends played against each other, and what is refused and how.
 #![tactic(auto)]
 
 #[cfg(test)]
@@ -24,10 +23,6 @@ mod offers;
 mod pair;
 #[cfg(test)]
 mod party;
-#[cfg(test)]
-mod peers;
-#[cfg(test)]
-mod recorded;
 #[cfg(test)]
 mod refusals;
 #[cfg(test)]

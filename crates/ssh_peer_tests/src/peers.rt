@@ -3,12 +3,11 @@
 mod captures;
 
 use crate::checking::{same, same_at};
-use crate::toys::settings;
 use ssh_parts::{Aes128Gcm, Curve25519};
 use ssh_toys::{ToyAgreement, ToyFiller, ToySigner, ToyTrust};
 use ssh_transport::{
     ClientPartValues, ClientParts, ClientTransport, Config, Effect, ServerPartValues, ServerParts,
-    ServerTransport, Settings, Strictness, TransportAsk, TransportFault, TransportTurn,
+    ServerTransport, Settings, TransportAsk, TransportFault, TransportTurn,
 };
 use ssh_types::Refusal;
 use std::alloc::Global;
@@ -42,7 +41,7 @@ fn gcm_settings() -> Settings<'static> {
     Settings {
         host: &[b"ssh-ed25519"],
         encryption: &[b"aes128-gcm@openssh.com"],
-        ..settings(b"d", Strictness::Require)
+        ..ssh_toy_setup::settings(b"d")
     }
 }
 

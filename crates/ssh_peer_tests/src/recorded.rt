@@ -7,15 +7,13 @@ mod openssh_client;
 mod openssh_server;
 mod parts;
 
-use crate::arrays::first_bytes;
 use crate::checking::{same, same_at};
-use crate::toys::settings;
 use parts::{RecordedAgreement, RecordedClient, RecordedHost, RecordedServer};
 use ssh_packet::{HmacKey, MacOnly, write_packet};
 use ssh_toys::ToyFiller;
 use ssh_transport::{
     ClientPartValues, ClientTransport, Config, ServerPartValues, ServerTransport, Settings,
-    Strictness, TransportAsk, TransportTurn,
+    TransportAsk, TransportTurn,
 };
 use std::alloc::{AllocError, Global};
 use std::test::*;
@@ -26,8 +24,13 @@ fn recorded_settings() -> Settings<'static> {
         kex: &[b"curve25519-sha256", b"curve25519-sha256@libssh.org"],
         host: &[b"ssh-ed25519"],
         takes_extensions: true,
-        ..settings(b"oracle_1", Strictness::Require)
+        ..ssh_toy_setup::settings(b"oracle_1")
     }
+}
+
+// The first bytes, or zeros where there are fewer.
+fn first_bytes<const N: usize>(bytes: &[u8]) -> [u8; N] {
+    bytes.first_chunk().copied().unwrap_or([0; N])
 }
 
 // So many bytes of hexadecimal digits, or zeros where there are fewer.
