@@ -1,9 +1,9 @@
 //! What is run as a program, since no test reads a file or meets its own allocations alone: stored scripts, and what becomes of calls, plays and ends where
 //! memory is refused. `make memory` runs the parts `calls`, `plays` and `data` with each allocation refused in turn, until a run meets no refusal.
 //!
-//! The word `scripts`, `calls`, `plays` or `data` names the part that is run; without a word all are. The status is 0 where nothing was refused or a smaller allocation
-//! made up for it, 3 where memory was refused before what the part is about, and 4 where it was refused within that; what this means is said beside each
-//! part. All else is wrong: a part says so, and the status is 1. It is 2 for other words.
+//! The word `scripts`, `calls`, `plays`, `data` or `sweep` names the part that is run, and `unswept` all but the last; without a word all are. The
+//! status is 0 where nothing was refused or a smaller allocation made up for it, 3 where memory was refused before what the part is about, and 4 where it
+//! was refused within that; what this means is said beside each part. All else is wrong: a part says so, and the status is 1. It is 2 for other words.
 #![tactic(auto)]
 
 mod calls;
@@ -24,7 +24,18 @@ enum Part {
     Calls,
     Plays,
     Data,
+    Sweep,
 }
+
+const ALL: &[Part] = &[
+    Part::Scripts,
+    Part::Calls,
+    Part::Plays,
+    Part::Data,
+    Part::Sweep,
+];
+
+const UNSWEPT: &[Part] = &[Part::Scripts, Part::Calls, Part::Plays, Part::Data];
 
 fn main(rt: HostRuntime) -> ExitCode {
     let words = match words_of(&rt) {
@@ -32,7 +43,7 @@ fn main(rt: HostRuntime) -> ExitCode {
         Err(_) => return ExitCode::from(Status::Before.code()),
     };
     let Some(parts) = parts_of(words.as_slice()) else {
-        let _ = println!(rt; "usage: ssh_runs [scripts | calls | plays | data]");
+        let _ = println!(rt; "usage: ssh_runs [scripts | calls | plays | data | sweep | unswept]");
         return ExitCode::from(2);
     };
     for part in parts {
@@ -41,6 +52,7 @@ fn main(rt: HostRuntime) -> ExitCode {
             Part::Calls => calls::run(&rt),
             Part::Plays => plays::run(&rt),
             Part::Data => data::run(&rt),
+            Part::Sweep => scripts::sweep(&rt, &mut rt.stdout(), &mut rt.stderr()),
         };
         if status != Status::Done {
             return ExitCode::from(status.code());
@@ -57,12 +69,14 @@ fn words_of<R: Env + AllocGlobal>(rt: &R) -> io::Result<Vec<String>> {
 // The parts that the words name, behind the name of the program.
 fn parts_of(words: &[String]) -> Option<&'static [Part]> {
     match words {
-        [] | [_] => Some(&[Part::Scripts, Part::Calls, Part::Plays, Part::Data]),
+        [] | [_] => Some(ALL),
         [_, word] => match word.as_str() {
             "scripts" => Some(&[Part::Scripts]),
             "calls" => Some(&[Part::Calls]),
             "plays" => Some(&[Part::Plays]),
             "data" => Some(&[Part::Data]),
+            "sweep" => Some(&[Part::Sweep]),
+            "unswept" => Some(UNSWEPT),
             _ => None,
         },
         _ => None,

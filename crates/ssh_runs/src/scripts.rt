@@ -1,5 +1,5 @@
-//! Stored scripts, of whole sessions and of one epoch: whether the ends do what each expects of them. And the sweep of a whole session, which is played with
-//! each byte that goes over the network changed, left out and doubled in turn.
+//! Stored scripts, of whole sessions and of one epoch: whether the ends do what each expects of them. And sweeps: a whole session is played with
+//! each byte that goes over the network changed, left out and doubled in turn, and so is one without strict key exchange.
 
 use crate::status::Status;
 use ssh_trace::{check_to, sweep_to};
@@ -64,12 +64,30 @@ const EPOCHS: &[&str] = &[
     "epoch_recorded_openssh",
 ];
 
-// The one that is swept.
-const SWEPT: &str = "whole_session";
+// Those that are swept: a session with strict key exchange, and one without it, in which the answer to a request for a service is lost. The second is
+// unsafe as it is, and stays so where nothing depends on the byte: on each of the 64 that are lost, in all three ways; on padding of a packet without a
+// tag that is flipped, 11 bytes behind a KEXINIT, 6 behind a point and 10 behind NEWKEYS of each side; and on the last byte of each side that comes
+// twice. The client puts out 291 bytes there, and the server 395, so 3 * 64 + 2 * (11 + 6 + 10) + 2 of its 3 * (291 + 395) runs are unsafe.
+const SWEPT: &[&str] = &["whole_session", "plain_session_cut"];
 
-/// Compares and sweeps, and says on `out` what came of it. It is done unless a file can't be read, which is told on `err`.
+/// Compares, and says on `out` what came of it. It is done unless a file can't be read, which is told on `err`.
 pub fn run<R: Files + AllocGlobal, W: Write, E: Write>(rt: &R, out: &mut W, err: &mut E) -> Status {
-    match told(rt, out, err) {
+    let outcome = compared(rt, out, err);
+    done(outcome, err)
+}
+
+/// Sweeps, and says on `out` what came of it. It is done unless a file can't be read, which is told on `err`.
+pub fn sweep<R: Files + AllocGlobal, W: Write, E: Write>(
+    rt: &R,
+    out: &mut W,
+    err: &mut E,
+) -> Status {
+    let outcome = swept(rt, out, err);
+    done(outcome, err)
+}
+
+fn done<E: Write>(outcome: io::Result<()>, err: &mut E) -> Status {
+    match outcome {
         Ok(()) => Status::Done,
         Err(error) => {
             let _ = writeln!(err, "wrong: {error}");
@@ -78,7 +96,7 @@ pub fn run<R: Files + AllocGlobal, W: Write, E: Write>(rt: &R, out: &mut W, err:
     }
 }
 
-fn told<R: Files + AllocGlobal, W: Write, E: Write>(
+fn compared<R: Files + AllocGlobal, W: Write, E: Write>(
     rt: &R,
     out: &mut W,
     err: &mut E,
@@ -88,9 +106,19 @@ fn told<R: Files + AllocGlobal, W: Write, E: Write>(
         write!(out, "{name}: ")?;
         check_to(rt.alloc(), &mut script, out, err);
     }
-    let mut script = opened(rt, SWEPT)?;
-    write!(out, "{SWEPT}: ")?;
-    sweep_to(rt.alloc(), &mut script, out, err);
+    Ok(())
+}
+
+fn swept<R: Files + AllocGlobal, W: Write, E: Write>(
+    rt: &R,
+    out: &mut W,
+    err: &mut E,
+) -> io::Result<()> {
+    for name in SWEPT {
+        let mut script = opened(rt, name)?;
+        write!(out, "{name}: ")?;
+        sweep_to(rt.alloc(), &mut script, out, err);
+    }
     Ok(())
 }
 
