@@ -66,8 +66,9 @@ echo "definitions"
 sh "$top/tools/definitions.sh" || fail "a definition has no line in docs/definitions.md"
 sh "$top/tools/imports.sh" || fail "a crate cites the proofs of another"
 (sh "$top/tools/misuse.sh" || fail "a call that has to be refused is not") &
-# What takes the longest comes first: the tests with a sweep, the stored scripts, and then the crates at the top, which are compiled with all below them.
-crates="ssh_trace_tests ssh_runs $(sed 's/#.*//; s/:.*//; s/ .*//' "$top/crates.txt" | grep . | tac)"
+# What takes the longest comes first: the tests with a sweep, of exchanges and of ends, the stored scripts, the program, and then the crates at the top, which are
+# compiled with all below them.
+crates="ssh_trace_tests ssh_exchange_tests ssh_runs ssh_trace_program ssh_end_tests ssh_bench $(sed 's/#.*//; s/:.*//; s/ .*//' "$top/crates.txt" | grep . | tac)"
 mkdir "$work/taken"
 number=0
 while [ "$number" -lt "$jobs" ]; do
