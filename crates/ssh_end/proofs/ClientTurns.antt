@@ -21,7 +21,7 @@ use Rattle.ssh_transport_machine.specs.Finishing.{after_announced}
 use Rattle.ssh_transport_machine.specs.Puts.{Outs, payloads_of}
 use Rattle.ssh_transport_machine.specs.Sessions.{IsAbove, is_left}
 use Rattle.ssh_transport_machine.specs.Shown.{IsLineRefusal, LineTurnOf, PacketTurnOf}
-use Rattle.ssh_transport_machine.specs.State.{IsLive, State}
+use Rattle.ssh_transport_machine.specs.State.{IsLive, State, begun_of}
 use Rattle.ssh_transport_machine.specs.Turning.{IsQuiet, PacketTaken}
 use Rattle.ssh_transport_machine.specs.declared.machine.judging.Judged.TheVariants as judged
 use Rattle.ssh_transport_machine.specs.declared.machine.kexinit.KexinitFacts.{KexinitFacts}
@@ -37,7 +37,7 @@ use Rattle.ssh_transport_machine.specs.declared.outcome.TransportTurn.TheVariant
 use Rattle.ssh_transport_client.specs.Kexinits.{KexinitDone, KexinitTurn}
 use Rattle.ssh_transport_client.specs.Replies.{Trusts}
 use Rattle.ssh_transport_client.specs.Sessions.{ReplyTurnOf, ClientTurnOf}
-use Rattle.ssh_transport_client.specs.Transport.{ClientTook, UnitTakes, begun_of, reply_outcome}
+use Rattle.ssh_transport_client.specs.Transport.{ClientTook, UnitTakes, reply_outcome}
 use Rattle.ssh_transport_client.specs.declared.reply.ReplyTurn.{ReplyTurn}
 use Rattle.ssh_transport_client.specs.declared.reply.ReplyTurn.TheVariants as replied
 use Rattle.ssh_transport_client.specs.declared.packet.ClientTurn.TheVariants as client

@@ -23,7 +23,7 @@ use Rattle.ssh_transport_machine.specs.Finishing.{after_announced}
 use Rattle.ssh_transport_machine.specs.Puts.{Outs, payloads_of}
 use Rattle.ssh_transport_machine.specs.Sessions.{IsAbove, is_left}
 use Rattle.ssh_transport_machine.specs.Shown.{IsLineRefusal, LineTurnOf, PacketTurnOf}
-use Rattle.ssh_transport_machine.specs.State.{IsLive, State}
+use Rattle.ssh_transport_machine.specs.State.{IsLive, State, begun_of}
 use Rattle.ssh_transport_machine.specs.Turning.{IsQuiet, PacketTaken}
 use Rattle.ssh_transport_machine.specs.declared.machine.judging.Judged.TheVariants as judged
 use Rattle.ssh_transport_machine.specs.declared.machine.line_turn.LineTurn.{LineTurn}
@@ -37,7 +37,7 @@ use Rattle.ssh_transport_machine.specs.declared.outcome.Effect.TheVariants as ef
 use Rattle.ssh_transport_machine.specs.declared.outcome.TransportTurn.{TransportTurn}
 use Rattle.ssh_transport_machine.specs.declared.outcome.TransportTurn.TheVariants as outcome
 use Rattle.ssh_transport_server.specs.Sessions.{PointTurnOf, ServerTurnOf}
-use Rattle.ssh_transport_server.specs.Transport.{ServerTook, UnitTakes, begun_of, init_outcome}
+use Rattle.ssh_transport_server.specs.Transport.{ServerTook, UnitTakes, init_outcome}
 use Rattle.ssh_transport_server.specs.declared.init.InitTurn.{InitTurn}
 use Rattle.ssh_transport_server.specs.declared.init.InitTurn.TheVariants as init
 use Rattle.ssh_transport_server.specs.declared.packet.ServerTurn.TheVariants as server

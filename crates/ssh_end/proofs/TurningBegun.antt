@@ -18,7 +18,7 @@ use Rattle.ssh_transport_base.specs.declared.packets.step.PacketStep.TheVariants
 use Rattle.ssh_transport_machine.specs.LineTurns.{LineTaken}
 use Rattle.ssh_transport_machine.specs.Outcomes.{payload_outcome}
 use Rattle.ssh_transport_machine.specs.Puts.{Outs}
-use Rattle.ssh_transport_machine.specs.State.{State}
+use Rattle.ssh_transport_machine.specs.State.{State, begun_of}
 use Rattle.ssh_transport_machine.specs.Turning as turning
 use Rattle.ssh_transport_machine.specs.Turning.{Does, KexinitDone, PacketDone, PacketTaken}
 use Rattle.ssh_transport_machine.specs.declared.machine.judging.Judged.{Judged}
@@ -32,7 +32,6 @@ use Rattle.ssh_transport_machine.specs.declared.machine.turn.PayloadTurn.{Payloa
 use Rattle.ssh_transport_machine.specs.declared.machine.turn.PayloadTurn.TheVariants as turn
 use Rattle.ssh_transport_machine.specs.declared.outcome.TransportTurn.{TransportTurn}
 use Rattle.ssh_transport_machine.specs.declared.outcome.TransportTurn.TheVariants as outcome
-use Rattle.ssh_transport_server.specs.Transport.{begun_of}
 use Rattle.ssh_types.specs.declared.refusal.Refusal.{Refusal}
 use Rattle.ssh_types.specs.declared.refusal.Refusal.TheVariants as refusal
 use Rattle.ssh_end.specs.Reading.{IsReading}

@@ -9,9 +9,8 @@ use Rattle.ssh_model.specs.Sessions.Parties.{Agreement}
 use Rattle.ssh_model.specs.TransportLayer.Kept.{ExchangeParts}
 use Rattle.ssh_model.specs.Wire.Sealing.{Crypto}
 use Rattle.ssh_transport_machine.specs.Puts.{Outs}
-use Rattle.ssh_transport_server.specs.Transport.{begun_of}
+use Rattle.ssh_transport_machine.specs.State.{begun_of}
 use Rattle.ssh_transport_client.specs.Replies.{Trusts}
-use Rattle.ssh_transport_client.specs.Transport as client_transport
 use Rattle.ssh_end.specs.Asking.{AreAskChannels, ClientInSession, Fails, InSession}
 use Rattle.ssh_end.specs.Beside.{channels_by}
 use Rattle.ssh_end.specs.ClientSessions as client
@@ -48,7 +47,7 @@ pub record ShowsTurn (payload : List ℕ) (given : Step) (payloads : List (List 
 pub record ClientTook {K A H U : Type 0} (c : Crypto K) (agreement : Agreement) (trusts : Trusts) (old : ClientState K A H U)
     (bytes before after : List ℕ) (turn : Turn) (new : ClientState K A H U) : Type 0 where
   pub goes : ClientGoes c agreement trusts old.machine old.layers
-      (client_transport.begun_of old.machine ++ take turn.used bytes) new.step new.machine new.layers
+      (begun_of old.machine ++ take turn.used bytes) new.step new.machine new.layers
       (outs_of before after new.sent)
   pub shows : ShowsTurn new.machine.receiver.payload new.step new.sent new.channels bytes turn
   pub channels : new.channels ≡ channels_by new.step old.layers.channels.owed new.sent

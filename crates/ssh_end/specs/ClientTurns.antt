@@ -9,9 +9,8 @@ use Rattle.ssh_model.specs.Sessions.Phases.{Phase.Normal}
 use Rattle.ssh_model.specs.Sessions.Turns.{EndRun}
 use Rattle.ssh_model.specs.Wire.Delivery.{Waits}
 use Rattle.ssh_transport_machine.specs.Puts.{Outs}
-use Rattle.ssh_transport_machine.specs.State.{State}
+use Rattle.ssh_transport_machine.specs.State.{State, begun_of}
 use Rattle.ssh_transport_machine.specs.Turning.{IsQuiet}
-use Rattle.ssh_transport_client.specs.Transport.{begun_of}
 use Rattle.ssh_end.specs.ClientLayers.{Layers}
 use Rattle.ssh_end.specs.ClientSessions.{end_of}
 use Rattle.ssh_end.specs.Reading.{IsReading}

@@ -11,9 +11,8 @@ use Rattle.ssh_model.specs.Sessions.Turns.{EndRun}
 use Rattle.ssh_model.specs.Wire.Delivery.{Waits}
 use Rattle.ssh_model.specs.Wire.Message.{Msg.UserauthFailure}
 use Rattle.ssh_transport_machine.specs.Puts.{Outs}
-use Rattle.ssh_transport_machine.specs.State.{State}
+use Rattle.ssh_transport_machine.specs.State.{State, begun_of}
 use Rattle.ssh_transport_machine.specs.Turning.{IsQuiet}
-use Rattle.ssh_transport_server.specs.Transport.{begun_of}
 use Rattle.ssh_end.specs.Layers.{Layers}
 use Rattle.ssh_end.specs.Reading.{IsReading}
 use Rattle.ssh_end.specs.Sessions.{AreOf, end_of}

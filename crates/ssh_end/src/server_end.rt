@@ -11,7 +11,7 @@ ghost use Rattle.ssh_transport_base.specs.Directions.{next_number};
 ghost use Rattle.ssh_transport_base.specs.Meaning.{settings_of};
 ghost use Rattle.ssh_transport_machine.specs.Opening.{IsOpened};
 ghost use Rattle.ssh_transport_machine.specs.Standing.{Stands};
-ghost use Rattle.ssh_transport_server.specs.Transport.{begun_of};
+ghost use Rattle.ssh_transport_machine.specs.State.{begun_of};
 ghost use Rattle.ssh_end.specs.Asking.{AreAskChannels, InSession, Fails, ask_of};
 ghost use Rattle.ssh_end.specs.Calls.{ServerAsked, ServerTakes};
 ghost use Rattle.ssh_end.specs.Ends.{IsFault, IsNewServer, SameServer};

@@ -5,7 +5,7 @@ ghost use Rattle.ssh_model.specs.Channels.Kept.{DueReply};
 ghost use Rattle.ssh_model.specs.Sessions.Turns.{number_of};
 ghost use Rattle.ssh_model.specs.Side as model;
 ghost use Rattle.ssh_transport_machine.specs.Standing.{Stands};
-ghost use Rattle.ssh_transport_server.specs.Transport.{begun_of};
+ghost use Rattle.ssh_transport_machine.specs.State.{begun_of};
 ghost use Rattle.ssh_end.specs.Effects.{IsOver, IsReady, is_whole};
 ghost use Rattle.ssh_end.specs.Beside.{channels_behind};
 ghost use Rattle.ssh_end.specs.Owed.{Extends};

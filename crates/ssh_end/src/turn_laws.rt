@@ -11,11 +11,9 @@ ghost use Rattle.ssh_model.specs.Sessions.Turns.{OnUnit};
 ghost use Rattle.ssh_model.specs.Side.{Side, Side.Client, Side.Server};
 ghost use Rattle.ssh_model.specs.TransportLayer.Summary.{parts_of};
 ghost use Rattle.ssh_model.specs.Wire.Sealing.{Crypto};
-ghost use Rattle.ssh_transport_client.specs.Transport as of_client;
 ghost use Rattle.ssh_transport_machine.specs.Opening.{IsOpened};
 ghost use Rattle.ssh_transport_machine.specs.Puts.{Outs};
-ghost use Rattle.ssh_transport_machine.specs.State.{State};
-ghost use Rattle.ssh_transport_server.specs.Transport as of_server;
+ghost use Rattle.ssh_transport_machine.specs.State.{State, begun_of};
 ghost use Rattle.ssh_end.specs.Beside.{channels_by};
 ghost use Rattle.ssh_end.specs.Calls.{outs_of};
 ghost use Rattle.ssh_end.specs.ClientLayers as client;
@@ -104,8 +102,7 @@ pub fn turns_channels<K>()
 /// An end that was just made has begun no line and no packet.
 pub fn new_ends_read<K>()
     ensures reading { (c : Crypto K) (settings : Settings) (side : Side) (cookie secret : List ℕ) (new : State K) (o : Outs) → IsOpened c settings side cookie secret new o → IsReading c new }
-    ensures server_begun { (c : Crypto K) (settings : Settings) (side : Side) (cookie secret : List ℕ) (new : State K) (o : Outs) → IsOpened c settings side cookie secret new o → of_server.begun_of new ≡ [] }
-    ensures client_begun { (c : Crypto K) (settings : Settings) (side : Side) (cookie secret : List ℕ) (new : State K) (o : Outs) → IsOpened c settings side cookie secret new o → of_client.begun_of new ≡ [] }
+    ensures begun { (c : Crypto K) (settings : Settings) (side : Side) (cookie secret : List ℕ) (new : State K) (o : Outs) → IsOpened c settings side cookie secret new o → begun_of new ≡ [] }
 {}
 
 /// Where a server's end answers that memory was refused, the server of a session dies. Where what it keeps sums up a history, and it is the

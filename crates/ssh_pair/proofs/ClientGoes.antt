@@ -15,8 +15,7 @@ use Rattle.ssh_model.specs.Sessions.Parties.{Agreement, Parties, agreement_of}
 use Rattle.ssh_model.specs.Sessions.Phases.{Phase.Normal}
 use Rattle.ssh_model.specs.Sessions.Turns.{AsksTurn, EndRun, OnUnit}
 use Rattle.ssh_transport_machine.specs.Puts.{Outs}
-use Rattle.ssh_transport_machine.specs.State.{State}
-use Rattle.ssh_transport_server.specs.Transport.{begun_of}
+use Rattle.ssh_transport_machine.specs.State.{State, begun_of}
 use Rattle.ssh_end.specs.ClientSessions.{end_of}
 use Rattle.ssh_end.specs.ClientLayers.{Layers}
 use Rattle.ssh_end.specs.ClientUnits.{ClientGoes, FrontLacks}

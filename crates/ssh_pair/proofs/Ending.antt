@@ -14,8 +14,7 @@ use Rattle.ssh_model.specs.Sessions.Parties.{Parties}
 use Rattle.ssh_model.specs.TransportLayer.Kept.{Transport}
 use Rattle.ssh_model.specs.TransportLayer.Summary.{SumsUp}
 use Rattle.ssh_transport_machine.specs.Standing.{Stands}
-use Rattle.ssh_transport_machine.specs.State.{State}
-use Rattle.ssh_transport_server.specs.Transport.{begun_of}
+use Rattle.ssh_transport_machine.specs.State.{State, begun_of}
 use Rattle.ssh_end.specs.Reading.{IsReading}
 use Rattle.ssh_pair.specs.Standing.{kept_bytes}
 

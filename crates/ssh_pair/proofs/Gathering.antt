@@ -11,8 +11,7 @@ use Rattle.ssh_model.specs.TransportLayer.Summary.{SumsUp}
 use Rattle.ssh_model.specs.Wire.Line.{LineIs, LineUnit, line_end}
 use Rattle.ssh_model.specs.Wire.Outcome.{Outcome, Outcome.OtherLine, Outcome.VersionLine}
 use Rattle.ssh_model.specs.Wire.Unit.{IsUnit, PacketUnit}
-use Rattle.ssh_transport_machine.specs.State.{State}
-use Rattle.ssh_transport_server.specs.Transport.{begun_of}
+use Rattle.ssh_transport_machine.specs.State.{State, begun_of}
 use Rattle.ssh_end.specs.Reading.{SameReading}
 use Rattle.ssh_end.specs.Turn.{IsTaken, oldest}
 use Rattle.ssh_end.specs.declared.turn.Took.{Took as Shown}

@@ -18,8 +18,7 @@ use Rattle.ssh_model.specs.Sessions.Parties.{Parties}
 use Rattle.ssh_model.specs.Sessions.Phases.{Phase.Normal}
 use Rattle.ssh_model.specs.Sessions.Turns.{AsksTurn, EndRun, OnUnit}
 use Rattle.ssh_transport_machine.specs.Puts.{Outs}
-use Rattle.ssh_transport_machine.specs.State.{State}
-use Rattle.ssh_transport_server.specs.Transport.{begun_of}
+use Rattle.ssh_transport_machine.specs.State.{State, begun_of}
 use Rattle.ssh_end.specs.Sessions.{end_of}
 use Rattle.ssh_end.specs.Layers.{Layers}
 use Rattle.ssh_end.specs.Deaths.{ServerDies}

@@ -12,8 +12,7 @@ use Rattle.ssh_model.specs.Sessions.Turns.{EndRun, Run}
 use Rattle.ssh_model.specs.TransportLayer.Kept.{ExchangeParts}
 use Rattle.ssh_model.specs.TransportLayer.Summary.{parts_of}
 use Rattle.ssh_model.specs.End.Summary.{EndSumsUp}
-use Rattle.ssh_transport_machine.specs.State.{State}
-use Rattle.ssh_transport_server.specs.Transport.{begun_of}
+use Rattle.ssh_transport_machine.specs.State.{State, begun_of}
 use Rattle.ssh_end.specs.ClientLayers as client
 use Rattle.ssh_end.specs.ClientSessions as client_sessions
 use Rattle.ssh_end.specs.Ends.{ClientState, SameClient, SameServer, ServerState}

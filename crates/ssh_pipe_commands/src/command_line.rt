@@ -3,8 +3,7 @@
 mod words;
 
 use clap::ArgMatches;
-use ssh_pipe::RequestKind;
-use ssh_pipe_policy::{EPOCH_LIMIT, LEAST_WINDOW, MOST_WINDOW, Policy};
+use ssh_pipe::{EPOCH_LIMIT, LEAST_WINDOW, MOST_WINDOW, Policy, RequestKind};
 use std::alloc::{AllocError, Global};
 use std::convert::AsStr;
 use thiserror::Error;

@@ -12,8 +12,10 @@ pub use error::RunError;
 use inputs::{accepted_keys, opened, password_in, private_key_in, sink, trusted_key_in};
 use ssh_key_files::PrivateKey;
 use ssh_parts::{AcceptedKey, Ed25519Signer, Ed25519Trust};
-use ssh_pipe::{Client, Ending, Login, PipeError, Request, Server, pump, string_of};
-use ssh_pipe_policy::{OneUser, PasswordHash, UserKey};
+use ssh_pipe::{
+    Client, Ending, Login, OneUser, PasswordHash, PipeError, Request, Server, UserKey, pump,
+    string_of,
+};
 use std::alloc::Global;
 use std::fmt::Display;
 use std::io::{IsTerminal, Read, Write};

@@ -2,8 +2,10 @@
 
 use crate::counted::Counted;
 use crate::keys::Keys;
-use ssh_pipe::{Client, Ending, Login, Machine, PipeError, Request, RequestKind, Server};
-use ssh_pipe_policy::{OneUser, Policy, UserKey};
+use ssh_pipe::{
+    Client, Ending, Login, Machine, OneUser, PipeError, Policy, Request, RequestKind, Server,
+    UserKey,
+};
 use std::alloc::Global;
 
 /// The end that took the bytes.

@@ -3,8 +3,10 @@
 use crate::checking::{same, same_at};
 use crate::samples::{PUBLIC_BYTES, SEED};
 use ssh_parts::{AcceptedKey, Ed25519Signer, Ed25519Trust};
-use ssh_pipe::{Client, Ending, Login, Machine, PipeError, Request, RequestKind, Server};
-use ssh_pipe_policy::{OneUser, PasswordHash, Policy, UserKey};
+use ssh_pipe::{
+    Client, Ending, Login, Machine, OneUser, PasswordHash, PipeError, Policy, Request, RequestKind,
+    Server, UserKey,
+};
 use ssh_types::Refusal;
 use std::alloc::{AllocError, Global};
 use std::cell::Cell;

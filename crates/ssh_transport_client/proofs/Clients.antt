@@ -14,7 +14,7 @@ use Rattle.ssh_transport_machine.specs.LineTurns.{LineTaken}
 use Rattle.ssh_transport_machine.specs.Outcomes.{LineOutcome}
 use Rattle.ssh_transport_machine.specs.Puts.{Outs}
 use Rattle.ssh_transport_machine.specs.Standing.{IsStanding, Stands}
-use Rattle.ssh_transport_machine.specs.State.{IsLive, State, awaits_exchange, before_taken, last_number}
+use Rattle.ssh_transport_machine.specs.State.{IsLive, State, awaits_exchange, before_taken, begun_of, last_number}
 use Rattle.ssh_transport_machine.specs.Turning.{IsQuiet, PacketTaken}
 use Rattle.ssh_transport_machine.specs.declared.machine.judging.Judged.TheVariants as judged
 use Rattle.ssh_transport_machine.specs.declared.machine.kexinit.KexinitFacts.{KexinitFacts}
@@ -28,7 +28,7 @@ use Rattle.ssh_transport_client.specs.Kexinits.{KexinitDone}
 use Rattle.ssh_transport_client.specs.Packets.{ClientLacks, ClientTaken, ReplyDone}
 use Rattle.ssh_transport_client.specs.Replies.{Trusts}
 use Rattle.ssh_transport_client.specs.Transport as transport
-use Rattle.ssh_transport_client.specs.Transport.{ClientDied, ClientTook, begun_of, client_outcome}
+use Rattle.ssh_transport_client.specs.Transport.{ClientDied, ClientTook, client_outcome}
 use Rattle.ssh_transport_client.specs.Turns.{HostAccepted}
 use Rattle.ssh_transport_client.specs.declared.packet.ClientTurn.{ClientTurn}
 use Rattle.ssh_transport_client.specs.declared.packet.ClientTurn.TheVariants as client

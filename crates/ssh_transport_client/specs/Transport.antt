@@ -1,5 +1,5 @@
 -- The transport of a client: what it keeps, and what its calls make of bytes.
-use Rattle.std.specs.Prelude.{◌≡◌, ℕ, Bool, true, false, cond, List}
+use Rattle.std.specs.Prelude.{◌≡◌, ℕ, Bool, true, false, List}
 use Rattle.ssh_model.specs.Side.{Side.Client}
 use Rattle.ssh_model.specs.Wire.Sealing.{Crypto}
 use Rattle.ssh_model.specs.Sessions.Parties.{Agreement}
@@ -34,10 +34,6 @@ pub record ClientState (K A T : Type 0) : Type 0 where
 pub record SameParts {K A T : Type 0} (old new : ClientState K A T) : Type 0 where
   pub agreement : new.agreement ≡ old.agreement
   pub host_trust : new.host_trust ≡ old.host_trust
-
--- the bytes of the line or the packet that is begun
-abbrev pub begun_of : {K : Type 0} → State K → List ℕ
-begun_of s = cond s.kept.lines.found s.receiver.begun s.reading.begun
 
 -- what a reply is answered by
 abbrev pub reply_outcome : ReplyTurn → TransportTurn

@@ -4,7 +4,8 @@ ghost use Rattle.std.specs.Prelude.{◌≡◌, ◌<◌, ◌≤◌, ◌++◌, IfE
 ghost use Rattle.ssh_model.specs.Side as model;
 ghost use Rattle.ssh_transport_base.specs.Meaning.{settings_of};
 ghost use Rattle.ssh_transport_machine.specs.Opening.{IsOpened};
-ghost use Rattle.ssh_transport_client.specs.Transport.{SameParts, ClientFailed, ClientTook, begun_of};
+ghost use Rattle.ssh_transport_machine.specs.State.{begun_of};
+ghost use Rattle.ssh_transport_client.specs.Transport.{SameParts, ClientFailed, ClientTook};
 
 mod above;
 mod asking;

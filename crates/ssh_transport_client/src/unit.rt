@@ -4,8 +4,9 @@ ghost use Rattle.std.specs.Prelude.{◌≡◌, ◌<◌, ◌≤◌, ◌++◌, IfE
 ghost use Rattle.ssh_model.specs.Side as model;
 ghost use Rattle.ssh_transport_machine.specs.Puts.{Outs};
 ghost use Rattle.ssh_transport_machine.specs.Standing.{Stands};
+ghost use Rattle.ssh_transport_machine.specs.State.{begun_of};
 ghost use Rattle.ssh_transport_machine.specs.Turning.{IsQuiet};
-ghost use Rattle.ssh_transport_client.specs.Transport.{ClientFailed, ClientTook, begun_of, reply_outcome, client_outcome};
+ghost use Rattle.ssh_transport_client.specs.Transport.{ClientFailed, ClientTook, reply_outcome, client_outcome};
 
 use crate::laws::clients_stand;
 use crate::packet::{ClientTurn, take_packet};

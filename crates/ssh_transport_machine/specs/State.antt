@@ -47,6 +47,10 @@ pub record State (K : Type 0) : Type 0 where
   pub receiver : Receiver K
   pub kept : Transport K
 
+-- the bytes of the line or the packet that is begun
+abbrev pub begun_of : {K : Type 0} → State K → List ℕ
+begun_of s = cond s.kept.lines.found s.receiver.begun s.reading.begun
+
 -- In these phases the peer's part of an exchange is awaited that this end began, or answered.
 abbrev pub awaits_exchange : model.Phase → Bool
 awaits_exchange model.Phase.Keying = false

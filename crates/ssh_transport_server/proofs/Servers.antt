@@ -15,7 +15,7 @@ use Rattle.ssh_transport_machine.specs.Puts.{Outs}
 use Rattle.ssh_transport_machine.specs.declared.machine.line_turn.LineTurn.{LineTurn}
 use Rattle.ssh_transport_machine.specs.declared.outcome.TransportTurn.{TransportTurn}
 use Rattle.ssh_transport_machine.specs.Standing.{IsStanding, Stands}
-use Rattle.ssh_transport_machine.specs.State.{IsLive, State, awaits_exchange, before_taken, last_number}
+use Rattle.ssh_transport_machine.specs.State.{IsLive, State, awaits_exchange, before_taken, begun_of, last_number}
 use Rattle.ssh_transport_machine.specs.Turning.{IsQuiet, PacketTaken}
 use Rattle.ssh_transport_machine.specs.declared.machine.judging.Judged.TheVariants as judged
 use Rattle.ssh_transport_machine.specs.declared.machine.turn.PacketTurn.{PacketTurn}
@@ -24,7 +24,7 @@ use Rattle.ssh_transport_machine.specs.declared.machine.turn.PayloadTurn.TheVari
 use Rattle.ssh_transport_server.specs.Answers.{IsSpelling, PointAnswered}
 use Rattle.ssh_transport_server.specs.Packets.{PointTaken, ServerLacks, ServerTaken}
 use Rattle.ssh_transport_server.specs.Transport as transport
-use Rattle.ssh_transport_server.specs.Transport.{ServerDied, ServerTook, begun_of, server_outcome}
+use Rattle.ssh_transport_server.specs.Transport.{ServerDied, ServerTook, server_outcome}
 use Rattle.ssh_transport_server.specs.declared.answer.Answer.{Answer}
 use Rattle.ssh_transport_server.specs.declared.answer.Spelling.{Spelling}
 use Rattle.ssh_transport_server.specs.declared.answer.Spelling.TheVariants as spelling

@@ -1,5 +1,5 @@
 -- The transport of a server: what it keeps, and what its calls make of bytes.
-use Rattle.std.specs.Prelude.{◌≡◌, ℕ, Bool, true, false, cond, List}
+use Rattle.std.specs.Prelude.{◌≡◌, ℕ, Bool, true, false, List}
 use Rattle.ssh_model.specs.Side.{Side.Server}
 use Rattle.ssh_model.specs.Wire.Sealing.{Crypto}
 use Rattle.ssh_model.specs.TransportLayer.Kept.{ExchangeParts}
@@ -32,10 +32,6 @@ pub record ServerState (K A H : Type 0) : Type 0 where
 pub record SameParts {K A H : Type 0} (old new : ServerState K A H) : Type 0 where
   pub agreement : new.agreement ≡ old.agreement
   pub host_signer : new.host_signer ≡ old.host_signer
-
--- the bytes of the line or the packet that is begun
-abbrev pub begun_of : {K : Type 0} → State K → List ℕ
-begun_of s = cond s.kept.lines.found s.receiver.begun s.reading.begun
 
 -- what a point is answered by
 abbrev pub init_outcome : InitTurn → TransportTurn

@@ -4,7 +4,8 @@ ghost use Rattle.std.specs.Prelude.{◌≡◌, ◌<◌, ◌≤◌, ◌++◌, IfE
 ghost use Rattle.ssh_model.specs.Side as model;
 ghost use Rattle.ssh_transport_base.specs.Meaning.{settings_of};
 ghost use Rattle.ssh_transport_machine.specs.Opening.{IsOpened};
-ghost use Rattle.ssh_transport_server.specs.Transport.{SameParts, ServerFailed, ServerTook, begun_of};
+ghost use Rattle.ssh_transport_machine.specs.State.{begun_of};
+ghost use Rattle.ssh_transport_server.specs.Transport.{SameParts, ServerFailed, ServerTook};
 
 mod above;
 mod asking;

@@ -4,8 +4,9 @@ ghost use Rattle.std.specs.Prelude.{◌≡◌, ◌<◌, ◌≤◌, ◌++◌, IfE
 ghost use Rattle.ssh_model.specs.Side as model;
 ghost use Rattle.ssh_transport_machine.specs.Puts.{Outs};
 ghost use Rattle.ssh_transport_machine.specs.Standing.{Stands};
+ghost use Rattle.ssh_transport_machine.specs.State.{begun_of};
 ghost use Rattle.ssh_transport_machine.specs.Turning.{IsQuiet};
-ghost use Rattle.ssh_transport_server.specs.Transport.{ServerFailed, ServerTook, begun_of, init_outcome, server_outcome};
+ghost use Rattle.ssh_transport_server.specs.Transport.{ServerFailed, ServerTook, init_outcome, server_outcome};
 
 use crate::init::InitTurn;
 use crate::laws::servers_stand;

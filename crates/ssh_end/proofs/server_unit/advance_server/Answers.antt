@@ -3,9 +3,10 @@ use Rattle.std.proofs.lemmas.List.{length-map}
 use Rattle.std.specs.Prelude.{IfErr, IfOk, Result}
 use Rattle.ssh_model.specs.TransportLayer.Kept.{ExchangeParts}
 use Rattle.ssh_transport_machine.specs.Puts.{Outs}
+use Rattle.ssh_transport_machine.specs.State.{begun_of}
 use Rattle.ssh_transport_machine.specs.declared.outcome.TransportFault.{TransportFault}
 use Rattle.ssh_transport_machine.specs.declared.outcome.TransportTurn.{TransportTurn}
-use Rattle.ssh_transport_server.specs.Transport.{ServerFailed, ServerTook, begun_of}
+use Rattle.ssh_transport_server.specs.Transport.{ServerFailed, ServerTook}
 use Rattle.ssh_end.specs.ServerUnits.{TurnLacks}
 use Rattle.ssh_end.proofs.Leftover.{extends_both, lists_extend, out_extends, ready}
 use Rattle.ssh_end.proofs.server_unit.advance_server.Goals as goal
