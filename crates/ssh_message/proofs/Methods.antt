@@ -129,7 +129,9 @@ reads_method {m = m} {before = before} {after = after} r p = named_by m before a
 
 pub ruleset methods = (no_method_name, no_method, reads_method)
 
-pub ruleset arguments = (no_none, no_password, no_old_password, no_new_password, no_publickey, no_probe, no_signed)
+pub ruleset passwords = (no_password, no_old_password, no_new_password)
+
+pub ruleset publickeys = (no_publickey, no_probe, no_signed)
 
 -- the name, and what was read of the arguments of that name
 pub method_found : {E : Type 0} (r : Result code.Method E) {name before after : List ℕ} (text : List ℕ) → Reads (IsString name) before after → name ≡ text → IfOk r (λ m. AreArguments text (method_meaning m) after) → IfOk r (λ m. IsMethod IsBoolean (method_meaning m) before)

@@ -38,7 +38,7 @@ impl<'a> Whole<'a> for Method<'a> {
     }
 }
 
-#[tactic(auto, using(crate::proofs::Methods::arguments))]
+#[tactic(auto, using(crate::proofs::Methods::no_none))]
 fn none<'a>(fields: &mut Reader<'a>) -> Result<Method<'a>, BadMessage>
     ensures found { IfOk result (λ m. AreArguments (codes "none") (method_meaning m) fields.old) }
     ensures fits { IfOk result (λ m. MethodFits m) }
@@ -48,7 +48,7 @@ fn none<'a>(fields: &mut Reader<'a>) -> Result<Method<'a>, BadMessage>
     Ok(Method::None)
 }
 
-#[tactic(auto, using(crate::proofs::Methods::arguments))]
+#[tactic(auto, using(crate::proofs::Methods::passwords))]
 fn password<'a>(fields: &mut Reader<'a>) -> Result<Method<'a>, BadMessage>
     ensures found { IfOk result (λ m. AreArguments (codes "password") (method_meaning m) fields.old) }
     ensures fits { IfOk result (λ m. MethodFits m) }
@@ -69,7 +69,7 @@ fn password<'a>(fields: &mut Reader<'a>) -> Result<Method<'a>, BadMessage>
     })
 }
 
-#[tactic(auto, using(crate::proofs::Methods::arguments))]
+#[tactic(auto, using(crate::proofs::Methods::publickeys))]
 fn publickey<'a>(fields: &mut Reader<'a>) -> Result<Method<'a>, BadMessage>
     ensures found { IfOk result (λ m. AreArguments (codes "publickey") (method_meaning m) fields.old) }
     ensures fits { IfOk result (λ m. MethodFits m) }
