@@ -1,5 +1,6 @@
-//! Tests of the public calls of the layers below the transports of both roles, a module a crate: `ssh_types`, `ssh_packet`, `ssh_kex` and `ssh_transport_base`.
-//! Those of the transports stand in `ssh_exchange_tests`, those of authentication and channels in `ssh_service_tests`.
+//! Tests of the public calls of the lowest layers, a module a crate: `ssh_types`, `ssh_packet` and `ssh_kex`.
+//! Those of what transports stand on are in `ssh_transport_base_tests`, those of the transports in `ssh_exchange_tests`, and those of authentication and
+//! channels in `ssh_service_tests`.
 #![tactic(auto)]
 
 #[cfg(test)]
@@ -8,7 +9,5 @@ mod checking;
 mod kex;
 #[cfg(test)]
 mod packet;
-#[cfg(test)]
-mod transport;
 #[cfg(test)]
 mod types;

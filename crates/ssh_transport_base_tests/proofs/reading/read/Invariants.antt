@@ -1,5 +1,5 @@
 use Rattle.std.proofs.Common.{◌-◌, ◌≤◌, length}
-use Rattle.ssh_layer_tests.proofs.transport.reading.read.Given as goal
+use Rattle.ssh_transport_base_tests.proofs.reading.read.Given as goal
 
 abbrev pub invariant-loop-at : goal.invariant-loop-at
 invariant-loop-at l = l.at ≤ length l.piece

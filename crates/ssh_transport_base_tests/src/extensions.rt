@@ -1,7 +1,7 @@
 //! Extensions that settings announce, at both sides of each bound.
 
 use crate::checking::{same, same_at};
-use crate::transport::config::good;
+use crate::config::good;
 use ssh_message::Extension;
 use ssh_packet::MacOnly;
 use ssh_transport_base::{Config, ConfigError, ConfigRefusal, ExtensionFault, Settings};

@@ -1,7 +1,7 @@
 //! Packets of one direction, sent and taken.
 
 use crate::checking::{same, same_at};
-use crate::transport::epochs::take_newkeys;
+use crate::epochs::take_newkeys;
 use ssh_packet::{HmacKey, MacOnly};
 use ssh_toys::ToyFiller;
 use ssh_transport_base::{PacketReceiver, PacketSender, PacketStep};

@@ -1,7 +1,7 @@
 //! The loop by which a program reads a stream that comes in any pieces.
 
 use crate::checking::same;
-use crate::transport::incoming::{Found, Incoming};
+use crate::incoming::{Found, Incoming};
 use ssh_types::Refusal;
 use std::test::*;
 
