@@ -224,15 +224,11 @@ fn later_offers(rt: HostRuntime) -> Result<(), Fail> {
     for side in [Server, Client] {
         for (index, (place, text, without, fed)) in LATER_OFFERS.iter().enumerate() {
             let payload = later_offer(rt.alloc(), side, *place, text)?;
-            let size = payload.len();
-            let mut pair = authenticated(rt.alloc(), false)?;
-            let wanted = later_wanted(rt.alloc(), side, without, size)?;
-            let lines = pair.play(Step::Forge(side, &payload))?;
-            same_at(&rt, index, lines, wanted.as_str());
-            let mut pair = authenticated(rt.alloc(), true)?;
-            let wanted = later_wanted(rt.alloc(), side, fed, size)?;
-            let lines = pair.play(Step::Forge(side, &payload))?;
-            same_at(&rt, index, lines, wanted.as_str());
+            for (is_fed, why) in [(false, without), (true, fed)] {
+                let lines = taken_later(rt.alloc(), side, &payload, is_fed)?;
+                let wanted = later_wanted(rt.alloc(), side, why, payload.len())?;
+                same_at(&rt, index, lines.as_str(), wanted.as_str());
+            }
         }
     }
     Ok(())
@@ -246,6 +242,18 @@ fn later_offer(alloc: Global, to: Side, place: usize, text: &str) -> Result<Vec<
     };
     let text = list(alloc, to, text)?;
     kexinit(alloc, 0xa2, lists, &[(place, text.as_str())], false)
+}
+
+// The lines of an authenticated end that takes it.
+fn taken_later(
+    alloc: Global,
+    side: Side,
+    payload: &[u8],
+    is_fed: bool,
+) -> Result<String, AllocError> {
+    let mut pair = authenticated(alloc, is_fed)?;
+    let lines = pair.play(Step::Forge(side, payload))?;
+    String::from_str(alloc, lines)
 }
 
 // Two ends whose user is authenticated, with a pair of cookie and secret or without.

@@ -1,13 +1,14 @@
-//! What is run as a program, since no test reads a file or meets its own allocations alone: stored scripts, and what becomes of calls, plays and ends where
-//! memory is refused. `make memory` runs the parts `calls`, `plays` and `data` with each allocation refused in turn, until a run meets no refusal.
+//! What is run as a program, since no test reads a file or meets its own allocations alone: stored scripts, recorded payloads of OpenSSH, Dropbear and PuTTY, and
+//! what becomes of calls, plays and ends where memory is refused. `make memory` runs the parts `calls`, `plays` and `data` with each allocation refused in turn, until a run meets no refusal.
 //!
-//! The word `scripts`, `calls`, `plays`, `data` or `sweep` names the part that is run, and `unswept` all but the last; without a word all are. The
+//! The word `scripts`, `payloads`, `calls`, `plays`, `data` or `sweep` names the part that is run, and `unswept` all but the last; without a word all are. The
 //! status is 0 where nothing was refused or a smaller allocation made up for it, 3 where memory was refused before what the part is about, and 4 where it
 //! was refused within that; what this means is said beside each part. All else is wrong: a part says so, and the status is 1. It is 2 for other words.
 #![tactic(auto)]
 
 mod calls;
 mod data;
+mod payloads;
 mod plays;
 mod scripts;
 mod status;
@@ -21,6 +22,7 @@ use std::{env, io};
 #[derive(Clone, Copy)]
 enum Part {
     Scripts,
+    Payloads,
     Calls,
     Plays,
     Data,
@@ -29,13 +31,20 @@ enum Part {
 
 const ALL: &[Part] = &[
     Part::Scripts,
+    Part::Payloads,
     Part::Calls,
     Part::Plays,
     Part::Data,
     Part::Sweep,
 ];
 
-const UNSWEPT: &[Part] = &[Part::Scripts, Part::Calls, Part::Plays, Part::Data];
+const UNSWEPT: &[Part] = &[
+    Part::Scripts,
+    Part::Payloads,
+    Part::Calls,
+    Part::Plays,
+    Part::Data,
+];
 
 fn main(rt: HostRuntime) -> ExitCode {
     let words = match words_of(&rt) {
@@ -43,12 +52,15 @@ fn main(rt: HostRuntime) -> ExitCode {
         Err(_) => return ExitCode::from(Status::Before.code()),
     };
     let Some(parts) = parts_of(words.as_slice()) else {
-        let _ = println!(rt; "usage: ssh_runs [scripts | calls | plays | data | sweep | unswept]");
+        let _ = println!(rt;
+            "usage: ssh_runs [scripts | payloads | calls | plays | data | sweep | unswept]"
+        );
         return ExitCode::from(2);
     };
     for part in parts {
         let status = match part {
             Part::Scripts => scripts::run(&rt, &mut rt.stdout(), &mut rt.stderr()),
+            Part::Payloads => payloads::run(&rt, &mut rt.stdout(), &mut rt.stderr()),
             Part::Calls => calls::run(&rt),
             Part::Plays => plays::run(&rt),
             Part::Data => data::run(&rt),
@@ -72,6 +84,7 @@ fn parts_of(words: &[String]) -> Option<&'static [Part]> {
         [] | [_] => Some(ALL),
         [_, word] => match word.as_str() {
             "scripts" => Some(&[Part::Scripts]),
+            "payloads" => Some(&[Part::Payloads]),
             "calls" => Some(&[Part::Calls]),
             "plays" => Some(&[Part::Plays]),
             "data" => Some(&[Part::Data]),

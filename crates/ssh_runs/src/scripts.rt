@@ -73,7 +73,7 @@ const SWEPT: &[&str] = &["whole_session", "plain_session_cut"];
 /// Compares, and says on `out` what came of it. It is done unless a file can't be read, which is told on `err`.
 pub fn run<R: Files + AllocGlobal, W: Write, E: Write>(rt: &R, out: &mut W, err: &mut E) -> Status {
     let outcome = compared(rt, out, err);
-    done(outcome, err)
+    Status::of(outcome, err)
 }
 
 /// Sweeps, and says on `out` what came of it. It is done unless a file can't be read, which is told on `err`.
@@ -83,17 +83,7 @@ pub fn sweep<R: Files + AllocGlobal, W: Write, E: Write>(
     err: &mut E,
 ) -> Status {
     let outcome = swept(rt, out, err);
-    done(outcome, err)
-}
-
-fn done<E: Write>(outcome: io::Result<()>, err: &mut E) -> Status {
-    match outcome {
-        Ok(()) => Status::Done,
-        Err(error) => {
-            let _ = writeln!(err, "wrong: {error}");
-            Status::Wrong
-        }
-    }
+    Status::of(outcome, err)
 }
 
 fn compared<R: Files + AllocGlobal, W: Write, E: Write>(

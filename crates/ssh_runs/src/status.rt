@@ -1,5 +1,8 @@
 //! How a run ends.
 
+use std::io;
+use std::io::Write;
+
 /// How a part of a run ends.
 #[derive(Clone, Copy, Debug, PartialEq, Eq)]
 pub enum Status {
@@ -14,6 +17,17 @@ pub enum Status {
 }
 
 impl Status {
+    /// It is done unless a file can't be read or a line not be shown, which is told on `err`.
+    pub fn of<E: Write>(outcome: io::Result<()>, err: &mut E) -> Status {
+        match outcome {
+            Ok(()) => Status::Done,
+            Err(error) => {
+                let _ = writeln!(err, "wrong: {error}");
+                Status::Wrong
+            }
+        }
+    }
+
     /// The exit status of the program.
     pub fn code(self) -> u8 {
         match self {

@@ -1,13 +1,13 @@
-//! Shows recorded payloads: for each line of standard input, a payload in hexadecimal digits, the line of its message, or why
-//! there is none. It is read as by a client that waits for the answer to a key probe; behind the word `idle`, as by an end
-//! that doesn't. Every message is written again too, and where that gives other bytes they are shown: a truth value is written
-//! as 1, and an unknown number alone.
-#![tactic(auto)]
+//! Recorded payloads: for each line of standard input, a payload in hexadecimal digits, the line of its message, or why there is none. It is
+//! read as by a client that waits for the answer to a key probe; behind the word `idle`, as by an end that doesn't. Every message is written
+//! again too, and where that gives other bytes they are shown: a truth value is written as 1, and an unknown number alone.
 
+use crate::status::Status;
 use hex::FromHexError;
 use ssh_message::{BadMessage, Line, decode, encode};
 use std::alloc::{AllocError, Global};
 use std::io;
+use std::io::Write;
 use thiserror::Error;
 
 // Why a line can't be shown.
@@ -21,11 +21,17 @@ enum Problem {
     Memory(#[from] AllocError),
 }
 
-fn main(rt: HostRuntime) -> io::Result<()> {
+/// Shows them on `out`. It is done unless a line can't be read or written, which is told on `err`.
+pub fn run<R: Input + AllocGlobal, W: Write, E: Write>(rt: &R, out: &mut W, err: &mut E) -> Status {
+    let outcome = show(rt, out);
+    Status::of(outcome, err)
+}
+
+fn show<R: Input + AllocGlobal, W: Write>(rt: &R, out: &mut W) -> io::Result<()> {
     for line in rt.lines(rt.alloc()) {
         match shown(rt.alloc(), line?.as_str()) {
-            Ok(text) => println!(rt; "{text}")?,
-            Err(problem) => println!(rt; "{problem}")?,
+            Ok(text) => writeln!(out, "{text}")?,
+            Err(problem) => writeln!(out, "{problem}")?,
         }
     }
     Ok(())
