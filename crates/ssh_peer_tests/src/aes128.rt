@@ -1,6 +1,6 @@
 //! Published vectors: FIPS 197 appendices B and C.1, and the test cases 1 to 4 of the GCM specification.
 
-use crate::checking::same;
+use crate::checking::{same, same_at};
 use aes_gcm::{GcmKey, encrypted, schedule_of};
 use std::test::*;
 
@@ -44,13 +44,14 @@ const CIPHER: [u8; 64] = *b"\x42\x83\x1e\xc2\x21\x77\x74\x24\x4b\x72\x21\xb7\x84
   \x21\xd5\x14\xb2\x54\x66\x93\x1c\x7d\x8f\x6a\x5a\xac\x84\xaa\x05\
   \x1b\xa3\x0b\x39\x6a\x0a\xac\x97\x3d\x58\xe0\x91\x47\x3f\x59\x85";
 
-// A test case: its key, nonce, data in clear and plain text, and its cipher text and tag.
+// A test case: its key, nonce and data in clear, its plain text and cipher text, of which so many bytes count, and its tag.
 struct Vector {
     key: [u8; 16],
     nonce: [u8; 12],
     beside: &'static [u8],
     plain: &'static [u8],
     cipher: &'static [u8],
+    size: usize,
     tag: [u8; 16],
 }
 
@@ -61,6 +62,7 @@ const VECTORS: [Vector; 4] = [
         beside: b"",
         plain: b"",
         cipher: b"",
+        size: 0,
         tag: *b"\x58\xe2\xfc\xce\xfa\x7e\x30\x61\x36\x7f\x1d\x57\xa4\xe7\x45\x5a",
     },
     Vector {
@@ -69,6 +71,7 @@ const VECTORS: [Vector; 4] = [
         beside: b"",
         plain: &[0; 16],
         cipher: b"\x03\x88\xda\xce\x60\xb6\xa3\x92\xf3\x28\xc2\xb9\x71\xb2\xfe\x78",
+        size: 16,
         tag: *b"\xab\x6e\x47\xd4\x2c\xec\x13\xbd\xf5\x3a\x67\xb2\x12\x57\xbd\xdf",
     },
     Vector {
@@ -77,6 +80,7 @@ const VECTORS: [Vector; 4] = [
         beside: b"",
         plain: &PLAIN,
         cipher: &CIPHER,
+        size: 64,
         tag: *b"\x4d\x5c\x2a\xf3\x27\xcd\x64\xa6\x2c\xf3\x5a\xbd\x2b\xa6\xfa\xb4",
     },
     Vector {
@@ -85,38 +89,31 @@ const VECTORS: [Vector; 4] = [
         beside: b"\xfe\xed\xfa\xce\xde\xad\xbe\xef\xfe\xed\xfa\xce\xde\xad\xbe\xef\xab\xad\xda\xd2",
         plain: &PLAIN,
         cipher: &CIPHER,
+        size: 60,
         tag: *b"\x5b\xc9\x4f\xbc\x32\x21\xa5\xdb\x94\xfa\xe9\x5a\xe7\x12\x1a\x47",
     },
 ];
 
-// How many bytes of the text the fourth case has.
-const SHORT: usize = 60;
-
 #[test]
-fn cases_of_the_specification(rt: HostRuntime) {
-    for vector in &VECTORS {
-        let whole = if vector.beside.is_empty() {
-            vector.plain.len()
-        } else {
-            SHORT
-        };
-        assert!(rt;
-            whole <= 64
-                && whole <= vector.plain.len()
-                && whole <= vector.cipher.len()
-                && vector.beside.len() < 100
-        );
-        let key = GcmKey::new(&vector.key);
-        let mut text = [0; 64];
-        text[..whole].copy_from_slice(&vector.plain[..whole]);
-        key.mask(&vector.nonce, &mut text[..whole]);
-        same!(rt, &text[..whole], &vector.cipher[..whole]);
-        same!(
-            rt,
-            key.tag(&vector.nonce, vector.beside, &text[..whole]),
-            vector.tag
-        );
-        key.mask(&vector.nonce, &mut text[..whole]);
-        same!(rt, &text[..whole], &vector.plain[..whole]);
+fn cases_of_the_specification(rt: HostRuntime) -> Result<(), Fail> {
+    for (at, vector) in VECTORS.iter().enumerate() {
+        let plain = vector.plain.get(..vector.size).ok_or("no plain text")?;
+        let cipher = vector.cipher.get(..vector.size).ok_or("no cipher text")?;
+        let mut text = plain.to_vec(rt.alloc())?;
+        same_at(&rt, at, tag_of(vector, &mut text)?, vector.tag);
+        same_at(&rt, at, text.as_slice(), cipher);
+        tag_of(vector, &mut text)?;
+        same_at(&rt, at, text.as_slice(), plain);
     }
+    Ok(())
+}
+
+// Masks a text of at most 64 bytes by the key of a test case, and gives its tag.
+fn tag_of(vector: &Vector, text: &mut [u8]) -> Result<[u8; 16], Fail> {
+    if text.len() > 64 || vector.beside.len() > 99 {
+        return Err(Fail::from("a longer text"));
+    }
+    let key = GcmKey::new(&vector.key);
+    key.mask(&vector.nonce, text);
+    Ok(key.tag(&vector.nonce, vector.beside, text))
 }

@@ -71,54 +71,117 @@ const CASE: Case<'static> = Case {
     input: b"",
 };
 
+const KEYS: &[AcceptedKey<'static>] = &[AcceptedKey {
+    user: b"reader",
+    public: PUBLIC_BYTES,
+}];
+
+// A client and a server, and what each wrote that the other has not taken.
+#[derive(Drop)]
+struct Ends<'a> {
+    client: Client<'a, Counted>,
+    server: Server<'static, Counted>,
+    to_client: Vec<u8>,
+    to_server: Vec<u8>,
+}
+
+impl Ends<'_> {
+    fn are_done(&self) -> bool {
+        self.to_client.is_empty() && self.to_server.is_empty()
+    }
+
+    // The client takes what was written to it, and its output is put behind what came before.
+    fn pass_to_client(&mut self, alloc: Global, outcome: &mut Outcome) -> Result<(), PipeError> {
+        feed(
+            alloc,
+            &mut self.client,
+            &mut self.to_client,
+            &mut self.to_server,
+        )?;
+        outcome.output.extend_from_slice(self.client.output())?;
+        outcome
+            .error_output
+            .extend_from_slice(self.client.error_output())?;
+        self.client.clear_output();
+        Ok(())
+    }
+
+    // The client goes on with the front of its input, and the rest is left.
+    fn go_on<'i>(&mut self, input: &'i [u8]) -> Result<&'i [u8], PipeError> {
+        let mut rest = input;
+        for _ in 0..ROUNDS {
+            if self.client.wants_input() {
+                let piece = rest.get(..PIECE).unwrap_or(rest);
+                rest = rest.get(PIECE..).unwrap_or(b"");
+                self.client.give_input(piece)?;
+            }
+            self.client.go_on(&mut self.to_server)?;
+        }
+        Ok(rest)
+    }
+
+    fn pass_to_server(&mut self, alloc: Global) -> Result<(), PipeError> {
+        feed(
+            alloc,
+            &mut self.server,
+            &mut self.to_server,
+            &mut self.to_client,
+        )?;
+        self.server.go_on(&mut self.to_client)?;
+        Ok(())
+    }
+}
+
 // Plays a session to its end.
 fn played(alloc: Global, case: Case<'_>) -> Result<Outcome, PipeError> {
-    let keys = [AcceptedKey {
-        user: b"reader",
-        public: PUBLIC_BYTES,
-    }];
-    let user = OneUser {
-        name: b"reader",
-        keys: &keys,
-        password: Some(PasswordHash::new(b"secret word")),
-    };
-    let host = Ed25519Signer::new(&HOST_SEED);
-    let mut to_client = Vec::new(alloc);
-    let mut to_server = Vec::new(alloc);
-    let source = Counted { next: Cell::new(0) };
-    let mut server = Server::new(alloc, &case.policy, source, host, user, &mut to_client)?;
-    let mut client = client(alloc, case, &host, &mut to_server)?;
     let mut outcome = Outcome {
         client: None,
         server: None,
         output: Vec::new(alloc),
         error_output: Vec::new(alloc),
     };
+    let mut ends = two_ends(alloc, case)?;
     let mut input = case.input;
     for _ in 0..100_000 {
-        if to_client.is_empty() && to_server.is_empty() {
+        if ends.are_done() {
             break;
         }
-        feed(alloc, &mut client, &mut to_client, &mut to_server)?;
-        outcome.output.extend_from_slice(client.output())?;
-        outcome
-            .error_output
-            .extend_from_slice(client.error_output())?;
-        client.clear_output();
-        for _ in 0..ROUNDS {
-            if client.wants_input() {
-                let piece = input.get(..PIECE).unwrap_or(input);
-                input = input.get(PIECE..).unwrap_or(b"");
-                client.give_input(piece)?;
-            }
-            client.go_on(&mut to_server)?;
-        }
-        feed(alloc, &mut server, &mut to_server, &mut to_client)?;
-        server.go_on(&mut to_client)?;
+        ends.pass_to_client(alloc, &mut outcome)?;
+        input = ends.go_on(input)?;
+        ends.pass_to_server(alloc)?;
     }
-    outcome.client = client.take_ending();
-    outcome.server = server.take_ending();
+    outcome.client = ends.client.take_ending();
+    outcome.server = ends.server.take_ending();
     Ok(outcome)
+}
+
+fn two_ends(alloc: Global, case: Case<'_>) -> Result<Ends<'_>, PipeError> {
+    let host = Ed25519Signer::new(&HOST_SEED);
+    let mut to_client = Vec::new(alloc);
+    let mut to_server = Vec::new(alloc);
+    let server = server(alloc, &case.policy, host, &mut to_client)?;
+    let client = client(alloc, case, &host, &mut to_server)?;
+    Ok(Ends {
+        client,
+        server,
+        to_client,
+        to_server,
+    })
+}
+
+fn server(
+    alloc: Global,
+    policy: &Policy,
+    host: Ed25519Signer,
+    out: &mut Vec<u8>,
+) -> Result<Server<'static, Counted>, PipeError> {
+    let user = OneUser {
+        name: b"reader",
+        keys: KEYS,
+        password: Some(PasswordHash::new(b"secret word")),
+    };
+    let source = Counted { next: Cell::new(0) };
+    Server::new(alloc, policy, source, host, user, out)
 }
 
 fn client<'a>(
