@@ -11,6 +11,7 @@ use crate::toys::settings;
 use ssh_transport::{Settings, Strictness};
 use ssh_types::Side;
 use ssh_types::Side::{Client, Server};
+use std::alloc::AllocError;
 use std::test::*;
 
 const LONG: &[u8] = &[0x78; 1025];
@@ -144,6 +145,13 @@ fn the_longest_description(rt: HostRuntime) -> Result<(), Fail> {
     Ok(())
 }
 
+// Whether an exchange was due before the client sent a message, and whether the message went out.
+fn send_one(pair: &mut Pair) -> Result<(bool, bool), AllocError> {
+    let is_due = pair.party(Client).end().rekey_due();
+    let lines = pair.play(Step::Send(Client, b"^\0\0\0\0\0\0\0\0"))?;
+    Ok((is_due, lines == "c asked send; c sent 94 CHANNEL_DATA 9"))
+}
+
 // An exchange is due once 64 packets were sent in the epoch, and no longer behind it.
 #[test]
 fn when_an_exchange_is_due(rt: HostRuntime) -> Result<(), Fail> {
@@ -160,9 +168,7 @@ fn when_an_exchange_is_due(rt: HostRuntime) -> Result<(), Fail> {
     );
     same!(rt, pair.party(Client).end().numbers().0, 3);
     for _ in 0..61 {
-        assert!(rt; !pair.party(Client).end().rekey_due());
-        let lines = pair.play(Step::Send(Client, b"^\0\0\0\0\0\0\0\0"))?;
-        same!(rt, lines, "c asked send; c sent 94 CHANNEL_DATA 9");
+        same!(rt, send_one(&mut pair)?, (false, true));
     }
     assert!(rt; pair.party(Client).end().rekey_due());
     assert!(rt; !pair.party(Server).end().rekey_due());

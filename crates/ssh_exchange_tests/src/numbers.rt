@@ -229,21 +229,19 @@ fn the_packet_after_a_wrong_guess(rt: HostRuntime) -> Result<(), Fail> {
     for byte in 0..=255u8 {
         let mut pair = Pair::strict(rt.alloc())?;
         pair.play(Step::Pass(Client, 11))?;
-        same!(
-            rt,
-            pair.play(Step::Forge(Server, &wrong))?,
-            "s took 20 KEXINIT 194"
-        );
+        let lines = pair.play(Step::Forge(Server, &wrong))?;
+        same!(rt, lines, "s took 20 KEXINIT 194");
+        let wanted = behind_a_wrong_guess(rt.alloc(), byte)?;
         let lines = pair.play(Step::Forge(Server, &[byte]))?;
-        let wanted = if 30 <= byte && byte < 50 {
-            format!(in rt.alloc(); "s took {byte} {} 1; s told ignored", name(byte))?
-        } else {
-            String::from_str(
-                rt.alloc(),
-                "s refused 7 Unexpected; s sent 1 DISCONNECT 23; s died",
-            )?
-        };
         same_at(&rt, byte, lines, wanted.as_str());
     }
     Ok(())
+}
+
+// The lines on a payload of this byte behind a wrong guess.
+fn behind_a_wrong_guess(alloc: Global, byte: u8) -> Result<String, AllocError> {
+    if 30 <= byte && byte < 50 {
+        return format!(in alloc; "s took {byte} {} 1; s told ignored", name(byte));
+    }
+    refusal(alloc, "s", "7 Unexpected")
 }

@@ -97,13 +97,19 @@ fn first_offers(rt: HostRuntime) -> Result<(), Fail> {
             let text = list(rt.alloc(), side, text)?;
             let others = [(*place, text.as_str())];
             let payload = kexinit(rt.alloc(), 0xc1, lists, &others, false)?;
-            let mut pair = lines(rt.alloc())?;
-            let lines = pair.play(Step::Forge(side, &payload))?;
+            let lines = taken_first(rt.alloc(), side, &payload)?;
             let wanted = wanted(rt.alloc(), side, why, payload.len())?;
-            same_at(&rt, index, lines, wanted.as_str());
+            same_at(&rt, index, lines.as_str(), wanted.as_str());
         }
     }
     Ok(())
+}
+
+// The lines of an end that takes it as the first.
+fn taken_first(alloc: Global, side: Side, payload: &[u8]) -> Result<String, AllocError> {
+    let mut pair = lines(alloc)?;
+    let lines = pair.play(Step::Forge(side, payload))?;
+    String::from_str(alloc, lines)
 }
 
 // A KEXINIT with a guess by these two lists, and whether the packet after it is skipped (RFC 4253 section 7).

@@ -59,13 +59,9 @@ fn each_refusal_at_its_place(rt: HostRuntime) -> Result<(), Fail> {
         );
         let wanted = lines_of(rt.alloc(), *side, refusal, *code)?;
         same_at(&rt, index, pair.play(*step)?, wanted.as_str());
-        same_at(
-            &rt,
-            index,
-            has_said(pair.party(*side), refusal, *code),
-            true,
-        );
-        same_at(&rt, index, nothing_changes(&mut pair, *side)?, true);
+        let is_said = has_said(pair.party(*side), refusal, *code);
+        let is_over = nothing_changes(&mut pair, *side)?;
+        same_at(&rt, index, (is_said, is_over), (true, true));
     }
     Ok(())
 }
@@ -97,27 +93,25 @@ fn nothing_changes(pair: &mut Pair, side: Side) -> Result<bool, AllocError> {
 // A server may send 64 lines before its version line, and each has at most 255 bytes (RFC 4253 section 4.2).
 #[test]
 fn the_most_lines_of_a_server(rt: HostRuntime) -> Result<(), Fail> {
-    let mut pair = behind_other_lines(rt.alloc(), 64)?;
     let longest = version_line(rt.alloc(), 243)?;
-    let lines = pair.play(Step::Give(Client, &longest))?;
-    same!(rt, lines, "c took line 253");
-    let mut pair = behind_other_lines(rt.alloc(), 64)?;
-    let lines = pair.play(Step::Give(Client, b"hi\r\n"))?;
-    same!(rt, lines, "c refused 1 BadLine; c died");
-    let mut pair = behind_other_lines(rt.alloc(), 0)?;
+    let lines = behind_other_lines(rt.alloc(), 64, &longest)?;
+    same!(rt, lines.as_str(), "c took line 253");
+    let lines = behind_other_lines(rt.alloc(), 64, b"hi\r\n")?;
+    same!(rt, lines.as_str(), "c refused 1 BadLine; c died");
     let too_long = version_line(rt.alloc(), 244)?;
-    let lines = pair.play(Step::Give(Client, &too_long))?;
-    same!(rt, lines, "c refused 1 BadLine; c died");
+    let lines = behind_other_lines(rt.alloc(), 0, &too_long)?;
+    same!(rt, lines.as_str(), "c refused 1 BadLine; c died");
     Ok(())
 }
 
-// Two ends of which the client took so many lines of a server before its version line. It died where one was refused.
-fn behind_other_lines(alloc: Global, count: usize) -> Result<Pair, AllocError> {
+// What a client does on this line, behind so many others of a server that are none with a version. It died where one was refused.
+fn behind_other_lines(alloc: Global, count: usize, line: &[u8]) -> Result<String, AllocError> {
     let mut pair = Pair::strict(alloc)?;
     for _ in 0..count {
         pair.play(Step::Give(Client, b"hi\r\n"))?;
     }
-    Ok(pair)
+    let lines = pair.play(Step::Give(Client, line))?;
+    String::from_str(alloc, lines)
 }
 
 // A version line with comments of so many letters.

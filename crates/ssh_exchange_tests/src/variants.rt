@@ -87,20 +87,12 @@ fn a_packet_put_in_front_of_kexinit(rt: HostRuntime) -> Result<(), Fail> {
 // hash is not what the server signed.
 #[test]
 fn a_marker_struck_out(rt: HostRuntime) -> Result<(), Fail> {
-    let struck = kexinit(rt.alloc(), 0xd1, &OF_SERVER, UNMARKED, false)?;
-    same!(rt, struck.len(), 136);
     let mut pair = of(rt.alloc(), Require, Require)?;
-    pair.play(Step::Pass(Server, 11))?;
-    let lines = pair.play(Step::Forge(Client, &struck))?;
-    same!(rt, lines, REFUSED);
+    let lines = take_struck(rt.alloc(), &mut pair)?;
+    same!(rt, lines.as_str(), REFUSED);
     let mut pair = of(rt.alloc(), Offer, Require)?;
-    pair.play(Step::Pass(Server, 11))?;
-    let lines = pair.play(Step::Forge(Client, &struck))?;
-    same!(
-        rt,
-        lines,
-        "c took 20 KEXINIT 136; c sent 30 KEX_ECDH_INIT 37"
-    );
+    let lines = take_struck(rt.alloc(), &mut pair)?;
+    same!(rt, lines.as_str(), STRUCK);
     pair.play(Step::PassAll(Client))?;
     pair.play(Step::Lose(Server, 176))?;
     let lines = pair.play(Step::PassAll(Server))?;
@@ -112,10 +104,20 @@ fn a_marker_struck_out(rt: HostRuntime) -> Result<(), Fail> {
     Ok(())
 }
 
-// The list of methods without a marker, and what an end says to it that requires one.
+// What a client does on a server's KEXINIT without its marker.
+fn take_struck(alloc: Global, pair: &mut Pair) -> Result<String, AllocError> {
+    let struck = kexinit(alloc, 0xd1, &OF_SERVER, UNMARKED, false)?;
+    pair.play(Step::Pass(Server, 11))?;
+    let lines = pair.play(Step::Forge(Client, &struck))?;
+    String::from_str(alloc, lines)
+}
+
+// The list of methods without a marker, and what an end says to it that requires one, and one that does not.
 const UNMARKED: &[(usize, &str)] = &[(0, "curve25519-sha256")];
 
 const REFUSED: &str = "c refused 9 NotStrict; c sent 1 DISCONNECT 22; c died";
+
+const STRUCK: &str = "c took 20 KEXINIT 136; c sent 30 KEX_ECDH_INIT 37";
 
 // The server sends one more, or one that was not asked for, or one right behind its second NEWKEYS.
 const EXTENSIONS: &[u8] = b"\x07\0\0\0\0";

@@ -81,18 +81,36 @@ pub fn played(
 ) -> Result<Outcome, PipeError> {
     let mut out = Vec::new(alloc);
     let ending = match role {
-        Role::Server => {
-            let mut server = server(alloc, keys, &mut out)?;
-            feed(&mut server, bytes, size, &mut out)?;
-            server.take_ending()
-        }
-        Role::Client => {
-            let mut client = client(alloc, keys, &mut out)?;
-            feed(&mut client, bytes, size, &mut out)?;
-            client.take_ending()
-        }
+        Role::Server => served(alloc, keys, bytes, size, &mut out)?,
+        Role::Client => asked(alloc, keys, bytes, size, &mut out)?,
     };
     Ok(Outcome { ending, out })
+}
+
+// How the server's session ends.
+fn served(
+    alloc: Global,
+    keys: &Keys,
+    bytes: &[u8],
+    size: usize,
+    out: &mut Vec<u8>,
+) -> Result<Option<Ending>, PipeError> {
+    let mut server = server(alloc, keys, out)?;
+    feed(&mut server, bytes, size, out)?;
+    Ok(server.take_ending())
+}
+
+// How the client's does.
+fn asked(
+    alloc: Global,
+    keys: &Keys,
+    bytes: &[u8],
+    size: usize,
+    out: &mut Vec<u8>,
+) -> Result<Option<Ending>, PipeError> {
+    let mut client = client(alloc, keys, out)?;
+    feed(&mut client, bytes, size, out)?;
+    Ok(client.take_ending())
 }
 
 // Gives an end bytes in pieces.
