@@ -18,6 +18,13 @@ fail() {
     [ $# -eq 0 ] || cat "$1"
 }
 
+# Runs the program of the crate in this folder on its cases.
+run_cases() {
+    mkdir "$1.cases"
+    python3 "$top/tools/cases.py" "$1.cases"
+    "$rt" try --steps 1 --seconds 600 --cases "$1.cases" </dev/null >"$1" 2>&1 || fail "$crate: its cases" "$1"
+}
+
 # Runs the program of the crate in this folder as the gate does, and compares what it prints. The sweeps of sessions, which take minutes where
 # all is checked as it runs, are left to the gate.
 run_program() {
@@ -55,7 +62,9 @@ look_at() (
         if grep -rq '#\[test\]' src; then
             "$rt" try --test --steps 1 --seconds 300 >"$copy.said" 2>&1 || fail "$crate: tests" "$copy.said"
         fi
-        if [ -f src/main.rt ] && [ -f stdout ]; then
+        if [ -d cases ]; then
+            run_cases "$copy.said"
+        elif [ -f src/main.rt ] && [ -f stdout ]; then
             run_program "$copy.said"
         fi
         echo "$crate"
@@ -66,9 +75,9 @@ echo "definitions"
 sh "$top/tools/definitions.sh" || fail "a definition has no line in docs/definitions.md"
 sh "$top/tools/imports.sh" || fail "a crate cites the proofs of another"
 (sh "$top/tools/misuse.sh" || fail "a call that has to be refused is not") &
-# What takes the longest comes first: the tests with a sweep, of exchanges and of ends, the stored scripts, the program, and then the crates at the top, which are
+# What takes the longest comes first: the tests of exchanges and of ends, the stored scripts, the program, and then the crates at the top, which are
 # compiled with all below them.
-crates="ssh_trace_tests ssh_exchange_tests ssh_runs ssh_trace_program ssh_end_tests ssh_bench $(sed 's/#.*//; s/:.*//; s/ .*//' "$top/crates.txt" | grep . | tac)"
+crates="ssh_exchange_tests ssh_runs ssh_trace_program ssh_end_tests ssh_bench $(sed 's/#.*//; s/:.*//; s/ .*//' "$top/crates.txt" | grep . | tac)"
 mkdir "$work/taken"
 number=0
 while [ "$number" -lt "$jobs" ]; do

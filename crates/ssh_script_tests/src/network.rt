@@ -1,7 +1,7 @@
 //! What a network delivers, and what it refuses.
 
 use crate::checking::{same, same_at};
-use crate::script::reading::{session, told};
+use crate::reading::{session, told};
 use ssh_script::{Cut, Delivery, Network, Origin, RunFault, ScriptFault, Shortage, Step};
 use ssh_types::Side;
 use std::alloc::Global;

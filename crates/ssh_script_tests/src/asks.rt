@@ -1,7 +1,7 @@
 //! Every form of ask, and what an end is asked by it.
 
 use crate::checking::same_at;
-use crate::script::reading::session;
+use crate::reading::session;
 use ssh_auth::UserAsk;
 use ssh_channels::Ask as ChannelAsk;
 use ssh_end::Ask;

@@ -22,14 +22,7 @@ pub(crate) fn epoch(alloc: Global, text: &str) -> Result<EpochScript, Fail> {
     }
 }
 
-/// The fault of a text, as it is told.
-pub(crate) fn fault(alloc: Global, text: &[u8]) -> Result<String, Fail> {
-    match Script::read(alloc, text) {
-        Ok(_) => Err(Fail::from("no fault")),
-        Err(fault) => told(alloc, fault),
-    }
-}
-
+/// A fault, as it is told.
 pub(crate) fn told(alloc: Global, fault: ScriptFault) -> Result<String, Fail> {
     Ok(format!(in alloc; "{fault}")?)
 }

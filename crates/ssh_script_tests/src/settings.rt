@@ -1,7 +1,7 @@
 //! Settings that are refused, and the line that is named.
 
 use crate::checking::same_at;
-use crate::script::reading::{session, told};
+use crate::reading::{session, told};
 use ssh_script::{ScriptFault, SessionScript};
 use ssh_transport_base::{
     ConfigError, ConfigLimit, ConfigList, ConfigRefusal, ExtensionFault, ListFault,
@@ -49,36 +49,6 @@ fn refusals(rt: HostRuntime) -> Result<(), Fail> {
     }
     let told = of_server(rt.alloc(), &session, ConfigError::Memory)?;
     same_at(&rt, "memory", told.as_str(), "out of memory");
-    Ok(())
-}
-
-#[test]
-fn long_and_many_extensions(rt: HostRuntime) -> Result<(), Fail> {
-    let mut text = String::from_str(rt.alloc(), "# extensions\n")?;
-    for name in 0..17 {
-        write!(text, "ext s name{name} ")?;
-        for _ in 0..1009 + name {
-            write!(text, "00")?;
-        }
-        writeln!(text, "")?;
-    }
-    let session = session(rt.alloc(), text.as_str())?;
-    let long = ConfigRefusal::BadExtension(ExtensionFault::LongValue);
-    let told_long = of_server(rt.alloc(), &session, ConfigError::Refused(long))?;
-    same_at(
-        &rt,
-        "long",
-        told_long.as_str(),
-        "line 18: the settings of s are refused: the extensions have a value of over 1,024 bytes",
-    );
-    let many = ConfigRefusal::BadExtension(ExtensionFault::TooMany);
-    let told_many = of_server(rt.alloc(), &session, ConfigError::Refused(many))?;
-    same_at(
-        &rt,
-        "many",
-        told_many.as_str(),
-        "line 18: the settings of s are refused: the extensions are over 16",
-    );
     Ok(())
 }
 

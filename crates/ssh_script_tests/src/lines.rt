@@ -1,7 +1,7 @@
 //! Lines that don't ask, and what they are.
 
 use crate::checking::{same, same_at};
-use crate::script::reading::{epoch, session};
+use crate::reading::{epoch, session};
 use ssh_script::{Count, Credential, Delivery, EpochStep, Line, Step};
 use ssh_transport_base::Strictness;
 use ssh_types::Side;

@@ -1,0 +1,118 @@
+"""Runs the program `ssh_trace` on the cases of crates/ssh_trace_program/cases, and says which of them do not do what is written there. PROGRAM=FILE is the
+program, which the gate leaves in that crate's folder out/. Ends with status 1 where a case fails.
+
+A case is a few lines, and an empty line or a comment, which begins with #, parts it from the next:
+
+    $ ssh_trace play script     the command, a line of the shell
+    < pass c s 11               a line of the file `script`; \\t, \\r and \\xNN stand for such bytes, and \\ at the end for no newline
+    1 c sent line 9             a line of standard output
+    2 error: ..                 a line of standard error
+    ~ Usage: ssh_trace          what standard error has somewhere, where its lines are left out
+    = 1                         the exit status, which is 0 where it is left out
+
+`cases.py FOLDER` runs nothing, and writes those that are calls of the program alone as `rt try --cases` takes them: an input, its words and its output for each.
+Sweeps, which take minutes where all is checked as it runs, are left out."""
+
+import os
+import re
+import subprocess
+import sys
+import tempfile
+from pathlib import Path
+
+TOP = Path(__file__).resolve().parent.parent
+CRATE = TOP / "crates" / "ssh_trace_program"
+KINDS = "$<12~="
+CALL = re.compile(r"ssh_trace(?! sweep)(?: [\w-]+)*")
+
+
+class Case:
+    def __init__(self, place):
+        self.place = place
+        self.lines = {kind: [] for kind in KINDS}
+
+    def command(self):
+        return self.lines["$"][0]
+
+    def script(self):
+        written = "".join(line[:-1] if line.endswith("\\") else f"{line}\n" for line in self.lines["<"])
+        return re.sub(rb"\\(t|r|x[0-9a-f]{2})", lambda it: unescaped(it[1].decode()), written.encode())
+
+    def output(self):
+        return "".join(f"{line}\n" for line in self.lines["1"])
+
+    def fault(self, program, folder):
+        """What is wrong with a run of the case, or nothing."""
+        (folder / "script").write_bytes(self.script())
+        path = {**os.environ, "PATH": f"{folder / 'bin'}:{os.environ['PATH']}"}
+        ran = subprocess.run(["sh", "-c", self.command()], cwd=folder, env=path, stdin=subprocess.DEVNULL, capture_output=True, timeout=60)
+        printed, said = ran.stdout.decode(errors="replace"), ran.stderr.decode(errors="replace")
+        status = int((self.lines["="] or ["0"])[0])
+        if ran.returncode != status:
+            return f"exit status {ran.returncode}, and not {status}: {said}"
+        if printed != self.output():
+            return f"standard output is {printed!r}"
+        if any(text not in said for text in self.lines["~"]):
+            return f"standard error is {said!r}"
+        if not self.lines["~"] and said != "".join(f"{line}\n" for line in self.lines["2"]):
+            return f"standard error is {said!r}"
+        return None
+
+
+def unescaped(letters):
+    return {"t": b"\t", "r": b"\r"}.get(letters) or bytes.fromhex(letters[1:])
+
+
+def cases_of(file):
+    """The cases of a file, in their order."""
+    found, is_open = [], False
+    for number, line in enumerate(file.read_text().split("\n"), 1):
+        if not line or line.startswith("#"):
+            is_open = False
+            continue
+        kind, space, text = line[0], line[1:2], line[2:]
+        if kind not in KINDS or space not in ("", " ") or (kind == "$") == is_open:
+            sys.exit(f"{file.name}: line {number} is no line of a case")
+        if kind == "$":
+            found.append(Case(f"{file.name}:{number}"))
+            is_open = True
+        found[-1].lines[kind].append(text)
+    return found
+
+
+def write(cases, folder):
+    """Writes the cases that are calls of the program alone, each by a number, as inputs of `rt try`."""
+    for number, case in enumerate(cases):
+        if CALL.fullmatch(case.command()):
+            words = ["{}" if word == "script" else word for word in case.command().split()[1:]]
+            (folder / f"{number}").write_bytes(case.script())
+            (folder / f"{number}.args").write_text("".join(f"{word}\n" for word in words))
+            (folder / f"{number}.stdout").write_text(case.output())
+
+
+def run(cases, program):
+    """How many of the cases fail, each of which is told."""
+    failed = 0
+    with tempfile.TemporaryDirectory() as name:
+        folder = Path(name)
+        (folder / "bin").mkdir()
+        (folder / "bin" / "ssh_trace").symlink_to(Path(program).resolve(strict=True))
+        for case in cases:
+            if fault := case.fault(program, folder):
+                failed += 1
+                print(f"{case.place}: {case.command()}: {fault}")
+    return failed
+
+
+def main(words):
+    cases = [case for file in sorted((CRATE / "cases").glob("*.txt")) for case in cases_of(file)]
+    if words:
+        write(cases, Path(words[0]))
+        return 0
+    failed = run(cases, os.environ.get("PROGRAM") or CRATE / "out" / "ssh_trace_program")
+    print(f"{len(cases)} cases of the program, {failed} failed")
+    return 1 if failed or not cases else 0
+
+
+if __name__ == "__main__":
+    sys.exit(main(sys.argv[1:]))
