@@ -16,14 +16,15 @@ quick: ## The layout, the tests and the programs, not proved, on all cores: docs
 build: ## Proves the program from its crates up and leaves it as build/ssh_trace.
 	@sh tools/build.sh
 
-test: ## The whole gate, everything from nothing, the program on its cases, and each allocation refused in turn: docs/TIMES.md has how long it takes.
+test: ## The whole gate, everything from nothing, the programs on their cases, and each allocation refused in turn: docs/TIMES.md has how long it takes.
 	$(RT) ci
 	@python3 tools/cases.py
 	@PROGRAM=$(CURDIR)/crates/ssh_runs/out/ssh_runs sh tools/memory.sh
 
-cases: ## Runs the program on its cases: words, scripts, what it prints, and exit statuses. The first time it is proved and built.
+cases: ## Runs the programs on their cases: words, scripts, files, what they print, and exit statuses. The first time they are proved and built.
 	@sh tools/build.sh
-	@PROGRAM=$(CURDIR)/build/ssh_trace python3 tools/cases.py
+	@cd crates/ssh_pipe_program && $(RT) run -- client >/dev/null 2>&1; true
+	@python3 tools/cases.py
 
 times: ## The gate without allocations refused, with the processor time of each of its checks; what it says goes to build/gate.log.
 	@mkdir -p build

@@ -1,29 +1,31 @@
-"""Runs the program `ssh_trace` on the cases of crates/ssh_trace_program/cases, and says which of them do not do what is written there. PROGRAM=FILE is the
-program, which the gate leaves in that crate's folder out/. Ends with status 1 where a case fails.
+"""Runs each program on its cases, crates/*/cases/*.txt, and says which of them do not do what is written there. A program is what the gate leaves in its crate's folder out/; the crate
+`ssh_trace_program` has that of the name `ssh_trace`. Ends with status 1 where a case fails.
 
-A case is a few lines, and an empty line or a comment, which begins with #, parts it from the next:
+A case is a few lines, and an empty line or a comment, which begins with #, parts it from the next. It is run in a folder of its own, with copies of what is in cases/files/.
 
     $ ssh_trace play script     the command, a line of the shell
-    < pass c s 11               a line of the file `script`; \\t, \\r and \\xNN stand for such bytes, and \\ at the end for no newline
+    < pass c s 11               a line of the file `script`; \\t, \\r and \\xNN stand for such bytes
     1 c sent line 9             a line of standard output
     2 error: ..                 a line of standard error
     ~ Usage: ssh_trace          what standard error has somewhere, where its lines are left out
     = 1                         the exit status, which is 0 where it is left out
 
-`cases.py FOLDER` runs nothing, and writes those that are calls of the program alone as `rt try --cases` takes them: an input, its words and its output for each.
+A backslash at the end of a line of the file or of standard output is for no newline there.
+
+`cases.py CRATE FOLDER` runs nothing, and writes those of one crate that are calls of the program alone as `rt try --cases` takes them: an input, its words and its output for each.
 Sweeps, which take minutes where all is checked as it runs, are left out."""
 
 import os
 import re
+import shutil
 import subprocess
 import sys
 import tempfile
 from pathlib import Path
 
 TOP = Path(__file__).resolve().parent.parent
-CRATE = TOP / "crates" / "ssh_trace_program"
 KINDS = "$<12~="
-CALL = re.compile(r"ssh_trace(?! sweep)(?: [\w-]+)*")
+CALL = re.compile(r"\w+(?! sweep)(?: [\w-]+)*")
 
 
 class Case:
@@ -35,16 +37,14 @@ class Case:
         return self.lines["$"][0]
 
     def script(self):
-        written = "".join(line[:-1] if line.endswith("\\") else f"{line}\n" for line in self.lines["<"])
-        return re.sub(rb"\\(t|r|x[0-9a-f]{2})", lambda it: unescaped(it[1].decode()), written.encode())
+        return re.sub(rb"\\(t|r|x[0-9a-f]{2})", lambda it: unescaped(it[1].decode()), joined(self.lines["<"]).encode())
 
     def output(self):
-        return "".join(f"{line}\n" for line in self.lines["1"])
+        return joined(self.lines["1"])
 
-    def fault(self, program, folder):
+    def fault(self, path, folder):
         """What is wrong with a run of the case, or nothing."""
         (folder / "script").write_bytes(self.script())
-        path = {**os.environ, "PATH": f"{folder / 'bin'}:{os.environ['PATH']}"}
         ran = subprocess.run(["sh", "-c", self.command()], cwd=folder, env=path, stdin=subprocess.DEVNULL, capture_output=True, timeout=60)
         printed, said = ran.stdout.decode(errors="replace"), ran.stderr.decode(errors="replace")
         status = int((self.lines["="] or ["0"])[0])
@@ -57,6 +57,10 @@ class Case:
         if not self.lines["~"] and said != "".join(f"{line}\n" for line in self.lines["2"]):
             return f"standard error is {said!r}"
         return None
+
+
+def joined(lines):
+    return "".join(line[:-1] if line.endswith("\\") else f"{line}\n" for line in lines)
 
 
 def unescaped(letters):
@@ -90,28 +94,37 @@ def write(cases, folder):
             (folder / f"{number}.stdout").write_text(case.output())
 
 
-def run(cases, program):
-    """How many of the cases fail, each of which is told."""
-    failed = 0
-    with tempfile.TemporaryDirectory() as name:
-        folder = Path(name)
-        (folder / "bin").mkdir()
-        (folder / "bin" / "ssh_trace").symlink_to(Path(program).resolve(strict=True))
+def run(crate):
+    """How many cases a crate has, and how many of them fail, each of which is told."""
+    cases, failed = of_crate(crate), 0
+    with tempfile.TemporaryDirectory() as programs:
+        program = crate / "out" / crate.name
+        Path(programs, crate.name.removesuffix("_program")).symlink_to(program.resolve(strict=True))
+        path = {**os.environ, "PATH": f"{programs}:{os.environ['PATH']}"}
         for case in cases:
-            if fault := case.fault(program, folder):
-                failed += 1
-                print(f"{case.place}: {case.command()}: {fault}")
-    return failed
+            with tempfile.TemporaryDirectory() as name:
+                if (crate / "cases" / "files").is_dir():
+                    shutil.copytree(crate / "cases" / "files", name, dirs_exist_ok=True)
+                if fault := case.fault(path, Path(name)):
+                    failed += 1
+                    print(f"{crate.name}/cases/{case.place}: {case.command()}: {fault}")
+    return len(cases), failed
+
+
+def of_crate(crate):
+    return [case for file in sorted((crate / "cases").glob("*.txt")) for case in cases_of(file)]
 
 
 def main(words):
-    cases = [case for file in sorted((CRATE / "cases").glob("*.txt")) for case in cases_of(file)]
     if words:
-        write(cases, Path(words[0]))
+        write(of_crate(TOP / "crates" / words[0]), Path(words[1]))
         return 0
-    failed = run(cases, os.environ.get("PROGRAM") or CRATE / "out" / "ssh_trace_program")
-    print(f"{len(cases)} cases of the program, {failed} failed")
-    return 1 if failed or not cases else 0
+    wrong = 0
+    for folder in sorted((TOP / "crates").glob("*/cases")):
+        count, failed = run(folder.parent)
+        print(f"{count} cases of {folder.parent.name}, {failed} failed")
+        wrong += failed or not count
+    return 1 if wrong else 0
 
 
 if __name__ == "__main__":

@@ -21,7 +21,7 @@ fail() {
 # Runs the program of the crate in this folder on its cases.
 run_cases() {
     mkdir "$1.cases"
-    python3 "$top/tools/cases.py" "$1.cases"
+    python3 "$top/tools/cases.py" "$crate" "$1.cases"
     "$rt" try --steps 1 --seconds 600 --cases "$1.cases" </dev/null >"$1" 2>&1 || fail "$crate: its cases" "$1"
 }
 
@@ -62,7 +62,7 @@ look_at() (
         if grep -rq '#\[test\]' src; then
             "$rt" try --test --steps 1 --seconds 300 >"$copy.said" 2>&1 || fail "$crate: tests" "$copy.said"
         fi
-        if [ -d cases ]; then
+        if [ "$crate" = ssh_trace_program ]; then
             run_cases "$copy.said"
         elif [ -f src/main.rt ] && [ -f stdout ]; then
             run_program "$copy.said"
@@ -75,9 +75,9 @@ echo "definitions"
 sh "$top/tools/definitions.sh" || fail "a definition has no line in docs/definitions.md"
 sh "$top/tools/imports.sh" || fail "a crate cites the proofs of another"
 (sh "$top/tools/misuse.sh" || fail "a call that has to be refused is not") &
-# What takes the longest comes first: the tests of exchanges and of ends, the stored scripts, the program, and then the crates at the top, which are
+# What takes the longest comes first: the tests of exchanges, the stored scripts, the program, the layers, the tests of ends, and then the crates at the top, which are
 # compiled with all below them.
-crates="ssh_exchange_tests ssh_runs ssh_trace_program ssh_end_tests ssh_bench $(sed 's/#.*//; s/:.*//; s/ .*//' "$top/crates.txt" | grep . | tac)"
+crates="ssh_exchange_tests ssh_runs ssh_trace_program ssh_layer_runs ssh_end_tests ssh_bench $(sed 's/#.*//; s/:.*//; s/ .*//' "$top/crates.txt" | grep . | tac)"
 mkdir "$work/taken"
 number=0
 while [ "$number" -lt "$jobs" ]; do

@@ -1,9 +1,7 @@
-//! Tests of the public calls of `ssh_end` and `ssh_pair`, a module a crate.
+//! Tests of the public calls of `ssh_end`. Pairs of ends are played by scripts: `ssh_runs`, and the cases of the program.
 #![tactic(auto)]
 
 #[cfg(test)]
 mod checking;
 #[cfg(test)]
 mod ends;
-#[cfg(test)]
-mod pair;

@@ -1,5 +1,5 @@
 //! Tests by values from outside: `aes_gcm`, `x25519`, `ed25519` and `ssh_parts` by published vectors, and by packets that another implementation sealed, and the
-//! transports of both roles by recorded bytes of sessions of other implementations, and of what they put out in clear.
+//! transports of both roles, and the authentication of both, by recorded bytes of sessions of other implementations, and of what they put out in clear.
 #![tactic(auto)]
 
 #[cfg(test)]
@@ -16,6 +16,8 @@ mod ed25519_parts;
 mod ed25519_vectors;
 #[cfg(test)]
 mod either;
+#[cfg(test)]
+mod logins;
 #[cfg(test)]
 mod peers;
 #[cfg(test)]

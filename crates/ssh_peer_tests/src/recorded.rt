@@ -8,6 +8,7 @@ mod openssh_server;
 mod parts;
 
 use crate::checking::{same, same_at};
+pub(crate) use parts::put_signature;
 use parts::{RecordedAgreement, RecordedClient, RecordedHost, RecordedServer};
 use ssh_packet::{HmacKey, MacOnly, write_packet};
 use ssh_toys::ToyFiller;

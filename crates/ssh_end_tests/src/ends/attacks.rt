@@ -1,11 +1,10 @@
-//! Networks that put in, drop and repeat packets. The end that finds it is over.
+//! Packets of a peer that come too early, under the keys. The end that finds it is over.
 
 use crate::checking::same;
 use crate::ends::playing::Playing;
 use crate::ends::stretch::Stretch;
 use crate::ends::stretch::Stretch::{
-    BeforeKexinit, BehindKexinit, BehindNewkeys, EarlyAtClient, EarlyAtServer, Feeds, First, LetIn,
-    Lost, Repeated, Second, Service, Unconfirmed,
+    EarlyAtClient, EarlyAtServer, First, LetIn, Service, Unconfirmed,
 };
 use ssh_end::Fault;
 use ssh_types::Side;
@@ -15,12 +14,7 @@ use std::test::*;
 
 // What is played, and who finds what was done.
 const TABLE: &[(&[Stretch], Side)] = &[
-    (&[BeforeKexinit], Client),
-    (&[BehindKexinit], Client),
-    (&[First, BehindNewkeys], Client),
-    (&[First, Lost], Client),
     (&[First, Service, EarlyAtClient], Client),
-    (&[First, Service, LetIn, Feeds, Second, Repeated], Server),
     (&[First, Service, EarlyAtServer], Server),
     (&[First, Service, LetIn, Unconfirmed], Server),
 ];

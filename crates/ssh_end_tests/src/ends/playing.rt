@@ -66,12 +66,8 @@ impl Playing {
     fn play(&mut self, step: Step<'_>) -> Result<(), AllocError> {
         self.lines.clear();
         match step {
-            Step::Pass(from, count) => self.pass(from, count),
-            Step::PassAll(from) => self.pass(from, usize::MAX),
+            Step::PassAll(from) => self.pass(from),
             Step::DripAll(from) => self.drip(from),
-            Step::Lose(from, count) => self.lose(from, count),
-            Step::Again(from, start, count) => self.again(from, start, count),
-            Step::Give(to, bytes) => self.deliver(to, bytes),
             Step::Forge(to, number, payload) => self.forge(to, number, payload),
             Step::Ask(Side::Client, ask) => self.client.ask(&ask, &mut self.lines),
             Step::Ask(Side::Server, ask) => self.server.ask(&ask, &mut self.lines),
@@ -80,31 +76,19 @@ impl Playing {
         }
     }
 
-    // The next waiting bytes of an end reach the other, as one piece.
-    fn pass(&mut self, from: Side, count: usize) -> Result<(), AllocError> {
-        let bytes = self.party_mut(from).next(count)?;
+    // All waiting bytes of an end reach the other, as one piece.
+    fn pass(&mut self, from: Side) -> Result<(), AllocError> {
+        let bytes = self.party_mut(from).next()?;
         self.deliver(from.peer(), &bytes)
     }
 
-    // All of them do, each as a piece.
+    // They do, each as a piece.
     fn drip(&mut self, from: Side) -> Result<(), AllocError> {
-        let bytes = self.party_mut(from).next(usize::MAX)?;
+        let bytes = self.party_mut(from).next()?;
         for byte in bytes.iter() {
             self.deliver(from.peer(), &[*byte])?;
         }
         Ok(())
-    }
-
-    // They are dropped.
-    fn lose(&mut self, from: Side, count: usize) -> Result<(), AllocError> {
-        self.party_mut(from).next(count)?;
-        Ok(())
-    }
-
-    // Bytes that an end put out before reach the other.
-    fn again(&mut self, from: Side, start: usize, count: usize) -> Result<(), AllocError> {
-        let bytes = self.party(from).again(start, count)?;
-        self.deliver(from.peer(), &bytes)
     }
 
     // A packet of another hand reaches an end, once there are keys.

@@ -18,21 +18,10 @@ pub enum Stretch {
     Channel,
     /// A pair of cookie and secret for each end.
     Feeds,
-    /// The second exchange, which the client begins.
-    Second,
     /// The client closes the channel while the server begins an exchange, and begins one too. The reply is owed until NEWKEYS.
     Crossing,
     /// The client takes the reply under the new key.
     Reply,
-    /// It comes before the first KEXINIT, and behind it.
-    BeforeKexinit,
-    BehindKexinit,
-    /// It comes behind NEWKEYS, where it is less than a packet, and zeros for a tag behind it.
-    BehindNewkeys,
-    /// The first packet under the keys is dropped, the one that Terrapin (CVE-2023-48795) aims at.
-    Lost,
-    /// The first packet under the first keys is repeated under the second.
-    Repeated,
     /// A channel is opened by the peer before a user is let in.
     EarlyAtServer,
     EarlyAtClient,
@@ -49,14 +38,8 @@ impl Stretch {
             Stretch::LetIn => session::let_in(),
             Stretch::Channel => session::channel(),
             Stretch::Feeds => session::feeds(),
-            Stretch::Second => session::second(),
             Stretch::Crossing => session::crossing(),
             Stretch::Reply => session::reply(),
-            Stretch::BeforeKexinit => attack::before_kexinit(),
-            Stretch::BehindKexinit => attack::behind_kexinit(),
-            Stretch::BehindNewkeys => attack::behind_newkeys(),
-            Stretch::Lost => attack::lost(),
-            Stretch::Repeated => attack::repeated(),
             Stretch::EarlyAtServer => attack::early_at_server(),
             Stretch::EarlyAtClient => attack::early_at_client(),
             Stretch::Unconfirmed => attack::unconfirmed(),

@@ -79,8 +79,9 @@ impl HostSigner for RecordedHost {
     }
 }
 
+/// Puts a signature where a signer has to.
 #[tactic(auto, using(crate::proofs::Fronts::front_of))]
-fn put_signature(signature: &[u8; 83], out: &mut [u8; 4096])
+pub fn put_signature(signature: &[u8; 83], out: &mut [u8; 4096])
     ensures { take 83 out.new ≡ signature.now }
 {
     out[..83].copy_from_slice(signature);

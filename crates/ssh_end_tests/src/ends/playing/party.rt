@@ -46,18 +46,14 @@ impl Party {
         self.out.as_slice()
     }
 
-    /// The next so many waiting bytes, or all where there are fewer, which wait no longer.
-    pub fn next(&mut self, count: usize) -> Result<Vec<u8>, AllocError> {
-        let waiting = self.out.as_slice().get(self.passed..).unwrap_or(&[]);
-        let next = waiting.get(..count).unwrap_or(waiting).to_vec(self.alloc)?;
+    /// All waiting bytes, which wait no longer.
+    pub fn next(&mut self) -> Result<Vec<u8>, AllocError> {
+        let next = match self.out.as_slice().get(self.passed..) {
+            Some(waiting) => waiting.to_vec(self.alloc)?,
+            None => Vec::new(self.alloc),
+        };
         self.passed = self.passed.saturating_add(next.len());
         Ok(next)
-    }
-
-    /// So many of all bytes that it put out, from this one on.
-    pub fn again(&self, start: usize, count: usize) -> Result<Vec<u8>, AllocError> {
-        let rest = self.out.as_slice().get(start..).unwrap_or(&[]);
-        rest.get(..count).unwrap_or(rest).to_vec(self.alloc)
     }
 
     /// It takes bytes, line by line and packet by packet.

@@ -8,18 +8,10 @@ use ssh_types::Side;
 /// One thing that is done.
 #[derive(Clone, Copy)]
 pub enum Step<'a> {
-    /// The next so many waiting bytes of an end reach the other, as one piece.
-    Pass(Side, usize),
-    /// All of its waiting bytes do.
+    /// All waiting bytes of an end reach the other, as one piece.
     PassAll(Side),
     /// They do, each byte as a piece.
     DripAll(Side),
-    /// Its next so many waiting bytes are dropped.
-    Lose(Side, usize),
-    /// Of all that it ever put out, the bytes from this one on, so many, reach the other.
-    Again(Side, usize, usize),
-    /// These bytes reach an end.
-    Give(Side, &'a [u8]),
     /// A packet of this sequence number and payload reaches an end, under the first key that it takes.
     Forge(Side, u32, &'a [u8]),
     /// An end is asked for something.

@@ -118,33 +118,6 @@ pub fn feeds() -> Script {
     STEPS
 }
 
-pub fn second() -> Script {
-    const STEPS: Script = &[
-        (
-            Step::Ask(Client, Ask::Rekey),
-            "c asked rekey; c sent 20 KEXINIT 136",
-        ),
-        (
-            Step::PassAll(Client),
-            "s took 20 KEXINIT 136; s sent 20 KEXINIT 136",
-        ),
-        (
-            Step::PassAll(Server),
-            "c took 20 KEXINIT 136; c sent 30 KEX_ECDH_INIT 37",
-        ),
-        (
-            Step::PassAll(Client),
-            "s took 30 KEX_ECDH_INIT 37; s sent 31 KEX_ECDH_REPLY 85; s sent 21 NEWKEYS 1; s told completed 2",
-        ),
-        (
-            Step::PassAll(Server),
-            "c took 31 KEX_ECDH_REPLY 85; c sent 21 NEWKEYS 1; c told completed 2; c took 21 NEWKEYS 1",
-        ),
-        (Step::PassAll(Client), "s took 21 NEWKEYS 1"),
-    ];
-    STEPS
-}
-
 pub fn crossing() -> Script {
     const STEPS: Script = &[
         (

@@ -1,17 +1,19 @@
 //! A session in which OpenSSH 9.2p1 (Debian 12) is the server and an independent client logs in: each request is
-//! judged as OpenSSH judged it and answered by the same bytes, and a client that is asked the same sends the same
-//! bytes.
+//! judged as OpenSSH judged it, its signature by Ed25519, and answered by the same bytes, and a client that is asked the same sends the
+//! same bytes.
 
-ghost use Rattle.std.specs.Prelude.{◌≡◌, ◌&&◌, false, take};
-ghost use Rattle.ssh_model.specs.Wire.MacOnly.{is_text};
+ghost use Rattle.std.specs.Prelude.{◌≤◌, IfOk, length};
+ghost use Rattle.ssh_types.specs.Values.{names_text};
 
-use crate::auth::ends::{client, methods, request, serve};
 use crate::checking::{same, same_at};
+use crate::recorded::put_signature;
 use ssh_auth::{
-    AuthServer, ClientAnswer, ServerAnswer, SignedText, UserAsk, UserJudge, UserSigner,
+    AuthClient, AuthServer, ClientAnswer, ServerAnswer, SignedText, UserAsk, UserSigner,
     put_signed_text,
 };
-use ssh_message::decode;
+use ssh_message::{decode, encode};
+use ssh_parts::{AcceptedKey, Ed25519Judge};
+use ssh_types::NameList;
 use std::alloc::Global;
 use std::test::*;
 
@@ -64,42 +66,14 @@ const TEXT: &[u8] = b"\
 
 const METHODS: &[u8] = b"publickey,password,keyboard-interactive";
 
-// Knows one key of one user, and one signature of one text.
-#[derive(Clone, Copy)]
-struct RecordedJudge<'a> {
-    user: &'a [u8],
-    algorithm: &'a [u8],
-    key: &'a [u8],
-    text: &'a [u8],
-    signature: &'a [u8],
-}
+const PUBLIC: [u8; 32] = *b"\
+    k\x9f:\x1f\x92\xc9\xa9/oY\xe8\xa9Hf\xa8\xe5a q\xacl\x88\x9d$6_Z\xb6@%-e";
 
-impl UserJudge for RecordedJudge<'_> {
-    ghost verdicts = { λ judge. record { admits = λ _. false; password_is_right = λ _ _. false; knows_key = λ user algorithm key. is_text user judge.user.now && (is_text algorithm judge.algorithm.now && is_text key judge.key.now); signature_is_right = λ _ _ text signature. is_text text judge.text.now && is_text signature judge.signature.now } };
-
-    fn none(&self, _user: &[u8]) -> bool {
-        false
-    }
-
-    fn password(&self, _user: &[u8], _word: &[u8]) -> bool {
-        false
-    }
-
-    fn key_known(&self, user: &[u8], algorithm: &[u8], key: &[u8]) -> bool {
-        user == self.user && (algorithm == self.algorithm && key == self.key)
-    }
-
-    fn signature(&self, _algorithm: &[u8], _key: &[u8], text: &[u8], signature: &[u8]) -> bool {
-        text == self.text && signature == self.signature
-    }
-}
-
-const JUDGE: RecordedJudge<'static> = RecordedJudge {
-    user: ROOT,
-    algorithm: ED25519,
-    key: KEY,
-    text: TEXT,
-    signature: &SIGNATURE,
+const JUDGE: Ed25519Judge<'static> = Ed25519Judge {
+    accepted: &[AcceptedKey {
+        user: ROOT,
+        public: PUBLIC,
+    }],
 };
 
 // Gives one signature.
@@ -125,13 +99,6 @@ impl UserSigner for RecordedSigner<'_> {
     }
 }
 
-#[tactic(auto, using(crate::proofs::Fronts::front_of))]
-fn put_signature(signature: &[u8; 83], out: &mut [u8; 4096])
-    ensures { take 83 out.new ≡ signature.now }
-{
-    out[..83].copy_from_slice(signature);
-}
-
 const SIGNER: RecordedSigner<'static> = RecordedSigner {
     signature: &SIGNATURE,
 };
@@ -152,6 +119,39 @@ fn the_signed_text(rt: HostRuntime) -> Result<(), Fail> {
     };
     put_signed_text(&mut text, &signed)?;
     same!(rt, text.as_slice(), TEXT);
+    Ok(())
+}
+
+// The list, where a server can name its methods.
+fn methods(text: &[u8]) -> Result<NameList<'_>, Fail>
+    ensures { IfOk result (λ list. length (names_text list) ≤ 33994) }
+{
+    let list = NameList::new(text).ok_or("no names")?;
+    if list.as_bytes().len() > 33_994 {
+        return Err(Fail::from("too many names"));
+    }
+    Ok(list)
+}
+
+// The server takes a payload, and the payload that it sends is put behind `out`.
+fn serve<'a>(
+    server: &mut AuthServer,
+    session: &[u8; 32],
+    payload: &'a [u8],
+    out: &mut Vec<u8>,
+) -> Result<ServerAnswer<'a>, Fail> {
+    let message = decode(server.probing(), payload)?;
+    let answer = server.take(session, &JUDGE, &message)?;
+    if let Some(reply) = server.message(&answer) {
+        encode(&reply, out)?;
+    }
+    Ok(answer)
+}
+
+// The payload of what the client is asked for is put behind `out`.
+fn request(client: &mut AuthClient, ask: &UserAsk<'_>, out: &mut Vec<u8>) -> Result<(), Fail> {
+    let request = client.ask(&SESSION, &SIGNER, ask)?;
+    encode(&request.message(), out)?;
     Ok(())
 }
 
@@ -176,7 +176,7 @@ fn requests_are_answered_as_openssh_answers(rt: HostRuntime) -> Result<(), Fail>
     ];
     for (at, (payload, told, sent)) in table.iter().enumerate() {
         let mut out = Vec::new(rt.alloc());
-        let answer = serve(&mut server, &SESSION, &JUDGE, payload, &mut out)?;
+        let answer = serve(&mut server, &SESSION, payload, &mut out)?;
         same_at(&rt, at, answer, *told);
         same_at(&rt, at, out.as_slice(), *sent);
     }
@@ -187,14 +187,15 @@ fn requests_are_answered_as_openssh_answers(rt: HostRuntime) -> Result<(), Fail>
 fn another_session_makes_the_signature_wrong(rt: HostRuntime) -> Result<(), Fail> {
     let mut server = recorded_server(rt.alloc())?;
     let mut out = Vec::new(rt.alloc());
-    let answer = serve(&mut server, &[7; 32], &JUDGE, SIGNED, &mut out)?;
+    let answer = serve(&mut server, &[7; 32], SIGNED, &mut out)?;
     same!(rt, answer, ServerAnswer::Failed);
     Ok(())
 }
 
 #[test]
 fn asks_send_what_openssh_took(rt: HostRuntime) -> Result<(), Fail> {
-    let mut client = client(rt.alloc());
+    let mut client = AuthClient::new(rt.alloc());
+    client.open();
     let banner = ClientAnswer::Banner {
         message: b"a banner line\r\n",
     };
@@ -227,7 +228,7 @@ fn asks_send_what_openssh_took(rt: HostRuntime) -> Result<(), Fail> {
     ];
     for (at, (ask, sent, answer, told)) in table.iter().enumerate() {
         let mut out = Vec::new(rt.alloc());
-        request(&mut client, &SESSION, &SIGNER, ask, &mut out)?;
+        request(&mut client, ask, &mut out)?;
         same_at(&rt, at, out.as_slice(), *sent);
         let message = decode(client.probing(), answer)?;
         same_at(&rt, at, client.take(&message), Ok(*told));
