@@ -70,15 +70,9 @@ impl<'a, R: RandomSource + Drop, I: Read + Drop, O: Write + Drop, E: Write + Dro
 
     // Writes what the command wrote, and what the server says to the user.
     fn write_output(&mut self) -> Result<(), PipeError> {
-        self.error_output
-            .write_all(self.client.notes())
-            .map_err(PipeError::Output)?;
-        self.output
-            .write_all(self.client.output())
-            .map_err(PipeError::Output)?;
-        self.error_output
-            .write_all(self.client.error_output())
-            .map_err(PipeError::Output)?;
+        write_to(&mut self.error_output, self.client.notes())?;
+        write_to(&mut self.output, self.client.output())?;
+        write_to(&mut self.error_output, self.client.error_output())?;
         let bytes = self.client.output().len() as u64;
         self.written = self.written.saturating_add(bytes);
         let bytes = self.client.error_output().len() as u64;
@@ -105,6 +99,11 @@ impl<'a, R: RandomSource + Drop, I: Read + Drop, O: Write + Drop, E: Write + Dro
         self.read = self.read.saturating_add(count as u64);
         Ok(())
     }
+}
+
+// Writes these bytes of the command.
+fn write_to<W: Write>(sink: &mut W, bytes: &[u8]) -> Result<(), PipeError> {
+    sink.write_all(bytes).map_err(PipeError::Output)
 }
 
 impl<R: RandomSource + Drop, I: Read + Drop, O: Write + Drop, E: Write + Drop> Machine

@@ -151,8 +151,8 @@ fn called<
     let text = string_of(rt.alloc(), options.command.as_bytes())?.ok_or(RunError::LongCommand)?;
     let mut out = Vec::new(rt.alloc());
     let client = client_of(rt, options, &credentials, text.as_slice(), &mut out)?;
-    let files = shown_files(rt, options, client, err)?;
-    Ok(ran(rt.alloc(), files, input, output, out)?)
+    let mut files = shown_files(rt, options, client, err)?;
+    Ok(ran(rt.alloc(), &mut files, input, output, out)?)
 }
 
 // A client with these credentials that runs the command of this text, behind what it put out.
@@ -197,12 +197,12 @@ fn ran<
     W: Write,
 >(
     alloc: Global,
-    mut files: ShownFiles<'c, S, F, O, E, T>,
+    files: &mut ShownFiles<'c, S, F, O, E, T>,
     input: &mut I,
     output: &mut W,
     out: Vec<u8>,
 ) -> Result<Option<Ending>, PipeError> {
-    let ran = pump(alloc, &mut files, input, output, out);
+    let ran = pump(alloc, files, input, output, out);
     files.end_line();
     ran?;
     Ok(files.take_ending())
@@ -221,9 +221,7 @@ fn shown_files<
     client: Client<'c, S>,
     err: E,
 ) -> Result<ShownFiles<'c, S, R::File, Sink<R::File, E>, Sink<R::File, E>, E>, RunError<'a>> {
-    let input = opened(rt, options.input)?;
-    let output = sink(rt, options.output, err)?;
-    let error_output = sink(rt, options.error_output, err)?;
+    let (input, output, error_output) = command_files(rt, options, err)?;
     let files = ClientFiles::new(rt.alloc(), client, input, output, error_output)?;
     let terminal = if options.output.is_some() && err.is_terminal() {
         Some(err)
@@ -231,6 +229,18 @@ fn shown_files<
         None
     };
     Ok(ShownFiles::new(files, terminal))
+}
+
+// What the command reads, where its output goes, and where its error output.
+fn command_files<'a, R: Files, E: Write + Drop + Copy>(
+    rt: &R,
+    options: &ClientOptions<'a>,
+    err: E,
+) -> Result<(Option<R::File>, Sink<R::File, E>, Sink<R::File, E>), RunError<'a>> {
+    let input = opened(rt, options.input)?;
+    let output = sink(rt, options.output, err)?;
+    let error_output = sink(rt, options.error_output, err)?;
+    Ok((input, output, error_output))
 }
 
 // The user's key, where there is one.

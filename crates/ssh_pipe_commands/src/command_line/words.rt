@@ -37,129 +37,190 @@ Exit status:
 
 /// The words of the program.
 pub(super) fn command<'a>(alloc: Global) -> Result<Command<'a>, AllocError> {
-    Command::new(alloc, PROGRAM)
-        .bin_name(PROGRAM)?
-        .about(ABOUT)
-        .after_help(EXAMPLES)
-        .subcommand_required(true)
-        .arg_required_else_help(true)
-        .subcommand(client(alloc)?)?
-        .subcommand(server(alloc)?)
+    let command = program(alloc)?.subcommand(client(alloc)?)?;
+    command.subcommand(server(alloc)?)
 }
 
-fn client<'a>(alloc: Global) -> Result<Command<'a>, AllocError> {
-    let command = Command::new(alloc, "client").about(ABOUT_CLIENT);
-    with_policy(alloc, with_files(alloc, with_login(alloc, command)?)?)?.arg(
-        Arg::new(alloc, "COMMAND")
-            .help("The command, or with --subsystem the name of a subsystem")
-            .required(true),
+// The program without its subcommands.
+fn program<'a>(alloc: Global) -> Result<Command<'a>, AllocError> {
+    let command = Command::new(alloc, PROGRAM).bin_name(PROGRAM)?;
+    Ok(
+        command
+            .about(ABOUT)
+            .after_help(EXAMPLES)
+            .subcommand_required(true)
+            .arg_required_else_help(true),
     )
 }
 
-// Who asks, and which server is trusted.
-fn with_login<'a>(alloc: Global, command: Command<'a>) -> Result<Command<'a>, AllocError> {
-    command
-        .arg(option(alloc, "user", "NAME", "The user's name at the server").required(true))?
-        .arg(option(alloc, "host-key", "FILE", HOST_KEY).required(true))?
-        .arg(option(alloc, "host", "NAME", HOST))?
-        .arg(option(
-            alloc,
-            "identity",
-            "FILE",
-            "The user's private key of ssh-ed25519",
-        ))?
-        .arg(option(alloc, "password-file", "FILE", PASSWORD))
+fn client<'a>(alloc: Global) -> Result<Command<'a>, AllocError> {
+    subcommand(alloc, "client", ABOUT_CLIENT, CLIENT_OPTIONS)?.arg(command_word(alloc))
 }
 
-const HOST_KEY: &str =
-    "The server's key of ssh-ed25519: a public key file, or a file like known_hosts";
-
-const HOST: &str = "The name under which known_hosts has the key, as it stands there";
-
-const PASSWORD: &str = "The user's password, as the one line of a file";
-
-// What the command reads, and where its output goes.
-fn with_files<'a>(alloc: Global, command: Command<'a>) -> Result<Command<'a>, AllocError> {
-    let subsystem = Arg::new(alloc, "subsystem")
-        .long("subsystem")
-        .action(ArgAction::SetTrue)
-        .help("Run a subsystem");
-    command
-        .arg(option(
-            alloc,
-            "input",
-            "FILE",
-            "The command's input; without it there is none",
-        ))?
-        .arg(option(
-            alloc,
-            "output",
-            "FILE",
-            "For its output, in place of standard error",
-        ))?
-        .arg(option(
-            alloc,
-            "error-output",
-            "FILE",
-            "For its error output, in place of standard error",
-        ))?
-        .arg(subsystem)
+// The one word of a client that is no option.
+fn command_word<'a>(alloc: Global) -> Arg<'a> {
+    Arg::new(alloc, "COMMAND")
+        .help("The command, or with --subsystem the name of a subsystem")
+        .required(true)
 }
 
 fn server<'a>(alloc: Global) -> Result<Command<'a>, AllocError> {
-    let command = Command::new(alloc, "server")
-        .about(ABOUT_SERVER)
-        .after_help(COMMANDS)
-        .arg(option(
-            alloc,
-            "host-key",
-            "FILE",
-            "The server's private key of ssh-ed25519",
-        )
-        .required(true))?
-        .arg(option(
-            alloc,
-            "user",
-            "NAME",
-            "The name of the one user that is let in",
-        )
-        .required(true))?
-        .arg(option(
-            alloc,
-            "authorized-keys",
-            "FILE",
-            "The user's public keys, a line each",
-        ))?
-        .arg(option(alloc, "password-file", "FILE", PASSWORD))?;
-    with_policy(alloc, command)
+    let command = subcommand(alloc, "server", ABOUT_SERVER, SERVER_OPTIONS)?;
+    Ok(command.after_help(COMMANDS))
 }
 
-// What both take.
-fn with_policy<'a>(alloc: Global, command: Command<'a>) -> Result<Command<'a>, AllocError> {
-    let offer_none = Arg::new(alloc, "offer-none")
-        .long("offer-none")
-        .action(ArgAction::SetTrue)
-        .help("Offer no encryption too, with hmac-sha2-256: whoever sees the bytes reads them");
-    command
-        .arg(option(alloc, "window", "BYTES", WINDOW))?
-        .arg(option(alloc, "rekey-after", "PACKETS", REKEY))?
-        .arg(offer_none)
-}
-
-const WINDOW: &str =
-    "The window of a channel; 32768 where the peer is another ssh_pipe [default: 2097152]";
-
-const REKEY: &str = "Exchange keys again after so many packets [default: 1048576]";
-
-// An option with a value.
-fn option<'a>(
+// A command with these options, and behind them those that both take.
+fn subcommand<'a>(
     alloc: Global,
     name: &'static str,
-    value: &'static str,
+    about: &'static str,
+    rows: &[Row],
+) -> Result<Command<'a>, AllocError> {
+    let command = Command::new(alloc, name).about(about);
+    let command = with_options(alloc, command, rows)?;
+    with_options(alloc, command, POLICY_OPTIONS)
+}
+
+// An option of a command.
+struct Row {
+    // The word behind `--`, by which it is also read back.
+    name: &'static str,
+    // What help calls its value. None: a flag, which has none.
+    value: Option<&'static str>,
     help: &'static str,
-) -> Arg<'a> {
-    Arg::new(alloc, name)
-        .long(name)
-        .value_name(value)
-        .help(help)
+    required: bool,
+}
+
+// Who asks, which server is trusted, what the command reads, and where its output goes.
+const CLIENT_OPTIONS: &[Row] = &[
+    Row {
+        name: "user",
+        value: Some("NAME"),
+        help: "The user's name at the server",
+        required: true,
+    },
+    Row {
+        name: "host-key",
+        value: Some("FILE"),
+        help: "The server's key of ssh-ed25519: a public key file, or a file like known_hosts",
+        required: true,
+    },
+    Row {
+        name: "host",
+        value: Some("NAME"),
+        help: "The name under which known_hosts has the key, as it stands there",
+        required: false,
+    },
+    Row {
+        name: "identity",
+        value: Some("FILE"),
+        help: "The user's private key of ssh-ed25519",
+        required: false,
+    },
+    Row {
+        name: "password-file",
+        value: Some("FILE"),
+        help: PASSWORD,
+        required: false,
+    },
+    Row {
+        name: "input",
+        value: Some("FILE"),
+        help: "The command's input; without it there is none",
+        required: false,
+    },
+    Row {
+        name: "output",
+        value: Some("FILE"),
+        help: "For its output, in place of standard error",
+        required: false,
+    },
+    Row {
+        name: "error-output",
+        value: Some("FILE"),
+        help: "For its error output, in place of standard error",
+        required: false,
+    },
+    Row {
+        name: "subsystem",
+        value: None,
+        help: "Run a subsystem",
+        required: false,
+    },
+];
+
+const PASSWORD: &str = "The user's password, as the one line of a file";
+
+// Who serves, and who is let in.
+const SERVER_OPTIONS: &[Row] = &[
+    Row {
+        name: "host-key",
+        value: Some("FILE"),
+        help: "The server's private key of ssh-ed25519",
+        required: true,
+    },
+    Row {
+        name: "user",
+        value: Some("NAME"),
+        help: "The name of the one user that is let in",
+        required: true,
+    },
+    Row {
+        name: "authorized-keys",
+        value: Some("FILE"),
+        help: "The user's public keys, a line each",
+        required: false,
+    },
+    Row {
+        name: "password-file",
+        value: Some("FILE"),
+        help: PASSWORD,
+        required: false,
+    },
+];
+
+// What both take.
+const POLICY_OPTIONS: &[Row] = &[
+    Row {
+        name: "window",
+        value: Some("BYTES"),
+        help: "The window of a channel; 32768 where the peer is another ssh_pipe [default: 2097152]",
+        required: false,
+    },
+    Row {
+        name: "rekey-after",
+        value: Some("PACKETS"),
+        help: "Exchange keys again after so many packets [default: 1048576]",
+        required: false,
+    },
+    Row {
+        name: "offer-none",
+        value: None,
+        help: "Offer no encryption too, with hmac-sha2-256: whoever sees the bytes reads them",
+        required: false,
+    },
+];
+
+// The command with these options, in help in this order.
+fn with_options<'a>(
+    alloc: Global,
+    command: Command<'a>,
+    rows: &[Row],
+) -> Result<Command<'a>, AllocError> {
+    let mut command = command;
+    for row in rows {
+        command = command.arg(option(alloc, row))?;
+    }
+    Ok(command)
+}
+
+fn option<'a>(alloc: Global, row: &Row) -> Arg<'a> {
+    let option = Arg::new(alloc, row.name)
+        .long(row.name)
+        .help(row.help)
+        .required(row.required);
+    match row.value {
+        Some(value) => option.value_name(value),
+        None => option.action(ArgAction::SetTrue),
+    }
 }
