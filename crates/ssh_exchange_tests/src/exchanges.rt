@@ -7,7 +7,7 @@ use crate::party::Party;
 use crate::sessions::DATA;
 use crate::stretch::Stretch;
 use crate::stretch::Stretch::{
-    Authentication, Behind, Channel, DataAndClose, Feeds, First, Second, Service,
+    Authentication, Behind, Channel, DataAndClose, Feeds, First, OfServer, Second, Service,
 };
 use crate::toys::settings;
 use ssh_kex::{ExchangeInputs, exchange_hash, exchange_text};
@@ -196,5 +196,22 @@ fn takes_them(rt: &impl Abort, alloc: Global, bytes: &[u8]) -> Result<(), Fail> 
     }
     assert!(rt; rest.is_empty());
     same!(rt, out.len(), 11 + 176 + 48 + 16);
+    Ok(())
+}
+
+// Three exchanges: the session id is that of the first.
+#[test]
+fn the_session_id_stays(rt: HostRuntime) -> Result<(), Fail> {
+    let mut pair = Pair::strict(rt.alloc())?;
+    same!(rt, pair.differs(&[First], false)?, None);
+    let first = pair.party(Client).end().session_id();
+    assert!(rt; first.is_some());
+    let rest = &[Service, Authentication, Channel, OfServer];
+    same!(rt, pair.differs(rest, false)?, None);
+    for side in [Client, Server] {
+        let end = pair.party(side).end();
+        same!(rt, end.session_id(), first);
+        same!(rt, (end.epochs(), end.numbers()), ((3, 3), (0, 0)));
+    }
     Ok(())
 }

@@ -6,8 +6,6 @@ mod arrays;
 #[cfg(test)]
 mod asks;
 #[cfg(test)]
-mod attacks;
-#[cfg(test)]
 mod checking;
 #[cfg(test)]
 mod exchanges;

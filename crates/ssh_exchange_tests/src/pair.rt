@@ -66,9 +66,6 @@ impl Pair {
             Step::Pass(from, count) => self.pass(from, count)?,
             Step::PassAll(from) => self.pass(from, usize::MAX)?,
             Step::DripAll(from) => self.drip(from)?,
-            Step::Lose(from, count) => {
-                self.party_mut(from).next(count)?;
-            }
             Step::Again(from, start, count) => {
                 let bytes = self.party(from).again(start, count)?;
                 self.deliver(from.peer(), &bytes)?;

@@ -11,8 +11,6 @@ pub enum Step<'a> {
     PassAll(Side),
     /// They do, each byte as a piece.
     DripAll(Side),
-    /// Its next so many waiting bytes are dropped.
-    Lose(Side, usize),
     /// Of all that it ever put out, the bytes from this one on, so many, reach the other.
     Again(Side, usize, usize),
     /// These bytes reach an end.

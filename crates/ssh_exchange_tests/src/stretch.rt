@@ -1,6 +1,5 @@
 //! Stretches of a session by their names, each played behind those before it.
 
-mod attack;
 mod session;
 mod variant;
 mod way;
@@ -28,37 +27,10 @@ pub enum Stretch {
     Second,
     /// Data of both ends under the second keys.
     Behind,
-    /// The first packet under the keys is dropped, the one that Terrapin (CVE-2023-48795) aims at.
-    Lost,
-    /// The same, which is not dropped.
-    NotLost,
-    /// An IGNORE in clear behind the first exchange, which is less than a packet, and then zeros for a tag.
-    Clear,
-    /// The server takes a NEWKEYS of another hand before the client's, which then is no packet.
-    EarlyNewkeys,
-    /// Both ends begin an exchange at once.
-    Crossed,
-    /// The server begins one, and the client has sent more before it saw that.
+    /// The server begins an exchange, and the client has sent more before it saw that; and then one more.
     OfServer,
-    /// Both are fed the same secret: their points share nothing.
-    SameSecrets,
-    /// A packet of the first epoch comes again under the second keys.
-    Repeated,
-    /// A first exchange of which one end alone offers strict key exchange.
-    ClientOffers,
-    ServerOffers,
-    Rest,
-    /// An end that requires it refuses a peer that does not offer it.
-    ServerRefuses,
-    ClientRefuses,
     /// Both ends are told that the user is authenticated.
     AuthenticationOfAny,
-    /// What a network that puts an IGNORE before the server's KEXINIT comes to.
-    Ignored,
-    /// Where both ends offer strict key exchange, that is refused at the KEXINIT.
-    NotTheFirst,
-    /// In a plain session it is not noticed, and the first packet under the keys can be dropped.
-    Unnoticed,
     /// A session of ends of which each takes extensions, and the server announces one.
     Announced,
     /// The same where the client does not take them.
@@ -98,23 +70,8 @@ impl Stretch {
             Stretch::Feeds => session::feeds(),
             Stretch::Second => session::second(),
             Stretch::Behind => session::behind(),
-            Stretch::Lost => attack::lost(),
-            Stretch::NotLost => attack::not_lost(),
-            Stretch::Clear => attack::clear(),
-            Stretch::EarlyNewkeys => attack::early_newkeys(),
-            Stretch::Crossed => attack::crossed(),
-            Stretch::OfServer => attack::of_server(),
-            Stretch::SameSecrets => attack::same_secrets(),
-            Stretch::Repeated => attack::repeated(),
-            Stretch::ClientOffers => variant::client_offers(),
-            Stretch::ServerOffers => variant::server_offers(),
-            Stretch::Rest => variant::rest(),
-            Stretch::ServerRefuses => variant::server_refuses(),
-            Stretch::ClientRefuses => variant::client_refuses(),
+            Stretch::OfServer => session::of_server(),
             Stretch::AuthenticationOfAny => variant::authentication_of_any(),
-            Stretch::Ignored => variant::ignored(),
-            Stretch::NotTheFirst => variant::not_the_first(),
-            Stretch::Unnoticed => variant::unnoticed(),
             Stretch::Announced => variant::announced(),
             Stretch::Unasked => variant::unasked(),
             Stretch::TooMany => variant::too_many(),

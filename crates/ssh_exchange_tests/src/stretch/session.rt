@@ -179,3 +179,51 @@ pub fn behind() -> Script {
     ];
     STEPS
 }
+
+pub fn of_server() -> Script {
+    const STEPS: Script = &[
+        (Step::Feed(Client, 0xa2), ""),
+        (Step::Feed(Client, 0xa3), "c not fed"),
+        (Step::Feed(Server, 0xb2), ""),
+        (Step::Rekey(Server), "s asked rekey; s sent 20 KEXINIT 136"),
+        (Step::Feed(Server, 0xb3), ""),
+        (
+            Step::Send(Client, CLOSE),
+            "c asked send; c sent 97 CHANNEL_CLOSE 5",
+        ),
+        (
+            Step::Send(Client, b"\x02\0\0\0\0"),
+            "c asked send; c sent 2 IGNORE 5",
+        ),
+        (
+            Step::PassAll(Server),
+            "c took 20 KEXINIT 136; c sent 20 KEXINIT 136; c sent 30 KEX_ECDH_INIT 37",
+        ),
+        (
+            Step::PassAll(Client),
+            "s took 97 CHANNEL_CLOSE 5; s up 3; s took 2 IGNORE 5; s told ignored; s took 20 KEXINIT 136; \
+             s took 30 KEX_ECDH_INIT 37; s sent 31 KEX_ECDH_REPLY 85; s sent 21 NEWKEYS 1; s told completed 2",
+        ),
+        (
+            Step::PassAll(Server),
+            "c took 31 KEX_ECDH_REPLY 85; c sent 21 NEWKEYS 1; c told completed 2; c took 21 NEWKEYS 1",
+        ),
+        (Step::PassAll(Client), "s took 21 NEWKEYS 1"),
+        (Step::Feed(Client, 0xa4), ""),
+        (Step::Rekey(Server), "s asked rekey; s sent 20 KEXINIT 136"),
+        (
+            Step::PassAll(Server),
+            "c took 20 KEXINIT 136; c sent 20 KEXINIT 136; c sent 30 KEX_ECDH_INIT 37",
+        ),
+        (
+            Step::PassAll(Client),
+            "s took 20 KEXINIT 136; s took 30 KEX_ECDH_INIT 37; s sent 31 KEX_ECDH_REPLY 85; s sent 21 NEWKEYS 1; s told completed 3",
+        ),
+        (
+            Step::PassAll(Server),
+            "c took 31 KEX_ECDH_REPLY 85; c sent 21 NEWKEYS 1; c told completed 3; c took 21 NEWKEYS 1",
+        ),
+        (Step::PassAll(Client), "s took 21 NEWKEYS 1"),
+    ];
+    STEPS
+}

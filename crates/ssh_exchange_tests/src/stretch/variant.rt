@@ -1,130 +1,15 @@
 //! Sessions of ends that offer strict key exchange or don't, and take extensions or don't.
 
-use crate::sessions::IGNORE;
 use crate::step::{Script, Step};
 use ssh_types::Side::{Client, Server};
 
 // The server sends one more, or one that was not asked for, or one right behind its second NEWKEYS.
 const EXTENSIONS: &[u8] = b"\x07\0\0\0\0";
 
-pub fn client_offers() -> Script {
-    const STEPS: Script = &[
-        (
-            Step::PassAll(Client),
-            "s took line 9; s took 20 KEXINIT 165",
-        ),
-        (
-            Step::PassAll(Server),
-            "c took line 9; c took 20 KEXINIT 136; c sent 30 KEX_ECDH_INIT 37",
-        ),
-    ];
-    STEPS
-}
-
-pub fn server_offers() -> Script {
-    const STEPS: Script = &[
-        (
-            Step::PassAll(Client),
-            "s took line 9; s took 20 KEXINIT 136",
-        ),
-        (
-            Step::PassAll(Server),
-            "c took line 9; c took 20 KEXINIT 165; c sent 30 KEX_ECDH_INIT 37",
-        ),
-    ];
-    STEPS
-}
-
-pub fn rest() -> Script {
-    const STEPS: Script = &[
-        (
-            Step::PassAll(Client),
-            "s took 30 KEX_ECDH_INIT 37; s sent 31 KEX_ECDH_REPLY 85; s sent 21 NEWKEYS 1; s told completed 1",
-        ),
-        (
-            Step::PassAll(Server),
-            "c took 31 KEX_ECDH_REPLY 85; c sent 21 NEWKEYS 1; c told completed 1; c took 21 NEWKEYS 1",
-        ),
-        (Step::PassAll(Client), "s took 21 NEWKEYS 1"),
-    ];
-    STEPS
-}
-
-pub fn server_refuses() -> Script {
-    const STEPS: Script = &[(
-        Step::PassAll(Client),
-        "s took line 9; s refused 9 NotStrict; s sent 1 DISCONNECT 22; s died",
-    )];
-    STEPS
-}
-
-pub fn client_refuses() -> Script {
-    const STEPS: Script = &[(
-        Step::PassAll(Server),
-        "c took line 9; c refused 9 NotStrict; c sent 1 DISCONNECT 22; c died",
-    )];
-    STEPS
-}
-
 pub fn authentication_of_any() -> Script {
     const STEPS: Script = &[
         (Step::Authenticated(Client), ""),
         (Step::Authenticated(Server), ""),
-    ];
-    STEPS
-}
-
-pub fn ignored() -> Script {
-    const STEPS: Script = &[
-        (Step::Pass(Server, 11), "c took line 9"),
-        (
-            Step::Give(Client, IGNORE),
-            "c took 2 IGNORE 5; c told ignored",
-        ),
-    ];
-    STEPS
-}
-
-pub fn not_the_first() -> Script {
-    const STEPS: Script = &[(
-        Step::PassAll(Server),
-        "c refused 7 Unexpected; c sent 1 DISCONNECT 23; c died",
-    )];
-    STEPS
-}
-
-pub fn unnoticed() -> Script {
-    const STEPS: Script = &[
-        (
-            Step::PassAll(Server),
-            "c took 20 KEXINIT 136; c sent 30 KEX_ECDH_INIT 37",
-        ),
-        (
-            Step::PassAll(Client),
-            "s took line 9; s took 20 KEXINIT 136; s took 30 KEX_ECDH_INIT 37; s sent 31 KEX_ECDH_REPLY 85; \
-             s sent 21 NEWKEYS 1; s told completed 1",
-        ),
-        (
-            Step::PassAll(Server),
-            "c took 31 KEX_ECDH_REPLY 85; c sent 21 NEWKEYS 1; c told completed 1; c took 21 NEWKEYS 1",
-        ),
-        (
-            Step::Service(Client),
-            "c asked service; c sent 5 SERVICE_REQUEST 17",
-        ),
-        (
-            Step::PassAll(Client),
-            "s took 21 NEWKEYS 1; s took 5 SERVICE_REQUEST 17; s sent 6 SERVICE_ACCEPT 17",
-        ),
-        (
-            Step::Disconnect(Server, b"x"),
-            "s asked disconnect; s sent 1 DISCONNECT 14; s died",
-        ),
-        (Step::Lose(Server, 64), ""),
-        (
-            Step::PassAll(Server),
-            "c took 1 DISCONNECT 14; c told disconnected 11; c died",
-        ),
     ];
     STEPS
 }
