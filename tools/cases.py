@@ -18,6 +18,7 @@ Sweeps, which take minutes where all is checked as it runs, are left out."""
 import os
 import re
 import shutil
+import signal
 import subprocess
 import sys
 import tempfile
@@ -45,11 +46,17 @@ class Case:
     def fault(self, path, folder):
         """What is wrong with a run of the case, or nothing."""
         (folder / "script").write_bytes(self.script())
-        ran = subprocess.run(["sh", "-c", self.command()], cwd=folder, env=path, stdin=subprocess.DEVNULL, capture_output=True, timeout=60)
-        printed, said = ran.stdout.decode(errors="replace"), ran.stderr.decode(errors="replace")
+        how = {"stdin": subprocess.DEVNULL, "stdout": subprocess.PIPE, "stderr": subprocess.PIPE, "start_new_session": True}
+        shell = subprocess.Popen(["sh", "-c", self.command()], cwd=folder, env=path, **how)
+        try:
+            printed, said = (it.decode(errors="replace") for it in shell.communicate(timeout=60))
+        except subprocess.TimeoutExpired:
+            os.killpg(shell.pid, signal.SIGKILL)
+            shell.communicate()
+            return "it had not ended after 60 seconds"
         status = int((self.lines["="] or ["0"])[0])
-        if ran.returncode != status:
-            return f"exit status {ran.returncode}, and not {status}: {said}"
+        if shell.returncode != status:
+            return f"exit status {shell.returncode}, and not {status}: {said}"
         if printed != self.output():
             return f"standard output is {printed!r}"
         if any(text not in said for text in self.lines["~"]):
