@@ -9,15 +9,15 @@ trap 'rm -rf "$copy"' EXIT
 copy_tree "$copy"
 cd "$copy"
 git init -q .
-file=crates/ssh_end_tests/src/ends/playing/party.rt
-line='self.begun = self.begun.saturating_add(turn.used);'
+file=crates/ssh_toy_ends/src/ends.rt
+line='rest = rest.get(turn.used..).unwrap_or(&[]);'
 [ "$(grep -cF "$line" "$file")" = 1 ] || {
     echo "error: '$line' does not stand once in $file"
     exit 1
 }
-sed -i "s/^\( *\)\(self\.begun = self\.begun\.saturating_add(turn\.used);\)$/\1self.end.feed_material([0; 16], [0; 32]);\n\1\2/" "$file"
-cd crates/ssh_end_tests
-if "$rt" try --test >"$copy/said" 2>&1; then
+sed -i "s/^\( *\)\(rest = rest\.get(turn\.used\.\.)\.unwrap_or(&\[\]);\)$/\1end.feed_material([0; 16], [0; 32]);\n\1\2/" "$file"
+cd crates/ssh_runs
+if "$rt" try --steps 1 </dev/null >"$copy/said" 2>&1; then
     echo "a turn is kept over the next call: not refused"
     exit 1
 fi

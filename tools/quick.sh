@@ -75,9 +75,9 @@ echo "definitions"
 sh "$top/tools/definitions.sh" || fail "a definition has no line in docs/definitions.md"
 sh "$top/tools/imports.sh" || fail "a crate cites the proofs of another"
 (sh "$top/tools/misuse.sh" || fail "a call that has to be refused is not") &
-# What takes the longest comes first: the tests of exchanges, the stored scripts, the program, the layers, the tests of ends, and then the crates at the top, which are
+# What takes the longest comes first: the tests of exchanges, the stored scripts, the program, the layers, and then the crates at the top, which are
 # compiled with all below them.
-crates="ssh_exchange_tests ssh_runs ssh_trace_program ssh_layer_runs ssh_end_tests ssh_bench $(sed 's/#.*//; s/:.*//; s/ .*//' "$top/crates.txt" | grep . | tac)"
+crates="ssh_exchange_tests ssh_runs ssh_trace_program ssh_layer_runs ssh_bench $(sed 's/#.*//; s/:.*//; s/ .*//' "$top/crates.txt" | grep . | tac)"
 mkdir "$work/taken"
 number=0
 while [ "$number" -lt "$jobs" ]; do

@@ -4,12 +4,11 @@
 ghost use Rattle.std.specs.Prelude.{IfSome};
 ghost use Rattle.ssh_message.specs.Written.{Fits};
 
-use crate::Layer;
-use crate::call::{Call, ask_of, ask_refused, call_of, payload_of, refused, sent};
-use crate::problem::Problem;
+use crate::call::{ask_of, ask_refused, message_of, refused, sent};
 use ssh_channels::{AskError, Channels, Fact, Reply, TakeError};
 use ssh_end::Ask;
-use ssh_message::{Message, decode};
+use ssh_lines::{Layer, Problem, bytes_of, parsed};
+use ssh_message::Message;
 use std::alloc::{AllocError, Global};
 
 /// Channels that are told lines.
@@ -17,30 +16,38 @@ use std::alloc::{AllocError, Global};
 pub struct ChannelLines {
     alloc: Global,
     channels: Channels,
+    // In the line that is told, a key exchange is under way, or due.
+    is_blocked: bool,
+    is_due: bool,
 }
 
 impl ChannelLines {
     pub fn new(alloc: Global) -> Result<ChannelLines, AllocError> {
         let channels = Channels::new(alloc)?;
-        Ok(ChannelLines { alloc, channels })
+        Ok(ChannelLines {
+            alloc,
+            channels,
+            is_blocked: false,
+            is_due: false,
+        })
     }
 
-    fn asked(&mut self, call: &Call, words: &str) -> Result<String, Problem> {
+    fn asked(&mut self, words: &str) -> Result<String, Problem> {
         let ask = ask_of(self.alloc, words)?;
         let Ask::Connection(ask) = ask.to_ask() else {
             return Err(Problem::NotALine);
         };
-        match self.channels.ask(&ask, call.blocked, call.due) {
+        match self.channels.ask(&ask, self.is_blocked, self.is_due) {
             Ok(sent) => told(self.alloc, sent.channel, Some(sent.message), sent.fact),
             Err(AskError::Refused(refusal)) => ask_refused(self.alloc, refusal),
             Err(AskError::Memory) => Err(Problem::from(AllocError)),
         }
     }
 
-    fn taken(&mut self, call: &Call, digits: &str) -> Result<String, Problem> {
-        let payload = payload_of(self.alloc, digits)?;
-        let message = decode(false, &payload)?;
-        match self.channels.take(&message, call.blocked) {
+    fn taken(&mut self, digits: &str) -> Result<String, Problem> {
+        let payload = bytes_of(self.alloc, digits)?;
+        let message = message_of(self.alloc, false, &payload)?;
+        match self.channels.take(&message, self.is_blocked) {
             Ok(taken) => {
                 let reply = taken.reply.map(|reply| reply.message());
                 told(self.alloc, taken.channel, reply, taken.fact)
@@ -57,11 +64,19 @@ impl ChannelLines {
         }
     }
 
+    // A line without the words before it.
+    fn unmarked<'a>(&mut self, line: &'a str) -> &'a str {
+        let behind_blocked = line.strip_prefix("blocked ");
+        self.is_blocked = behind_blocked.is_some();
+        let line = behind_blocked.unwrap_or(line);
+        let behind_due = line.strip_prefix("due ");
+        self.is_due = behind_due.is_some();
+        behind_due.unwrap_or(line)
+    }
+
     // How a channel stands, the window left for data of this end, and how many are in use.
     fn shown(&self, number: &str) -> Result<String, Problem> {
-        let Ok(number) = number.parse::<u32>() else {
-            return Err(Problem::NotALine);
-        };
+        let number = parsed(number)?;
         let state = self.channels.state(number);
         let room = self.channels.room(number);
         let count = self.channels.count();
@@ -70,17 +85,17 @@ impl ChannelLines {
 }
 
 impl Layer for ChannelLines {
-    fn said_to(&mut self, line: &str, turn: u32) -> Result<String, Problem> {
-        let call = call_of(self.alloc, line, turn)?;
-        match call.text.as_str() {
+    fn said_to(&mut self, line: &str) -> Result<String, Problem> {
+        let line = self.unmarked(line);
+        match line {
             "new" => {
                 self.channels = Channels::new(self.alloc)?;
                 Ok(String::new(self.alloc))
             }
             "owed" => self.owed(),
-            text => match text.split_once(' ') {
-                Some(("ask", words)) => self.asked(&call, words),
-                Some(("take", digits)) => self.taken(&call, digits),
+            _ => match line.split_once(' ') {
+                Some(("ask", words)) => self.asked(words),
+                Some(("take", digits)) => self.taken(digits),
                 Some(("show", number)) => self.shown(number),
                 _ => Err(Problem::NotALine),
             },

@@ -6,12 +6,10 @@ ghost use Rattle.std.specs.Prelude.{◌≤◌, true, IfOk, length};
 ghost use Rattle.ssh_types.specs.Values.{names_text};
 ghost use Rattle.ssh_auth.specs.Serving.{IsShortAnswer};
 
-use crate::Layer;
-use crate::call::{ask_of, ask_refused, call_of, payload_of, refused, sent};
-use crate::problem::Problem;
+use crate::call::{ask_of, ask_refused, message_of, refused, sent};
 use ssh_auth::{AskError, AuthClient, AuthServer, ServerAnswer, TakeError, UserJudge};
 use ssh_end::Ask;
-use ssh_message::decode;
+use ssh_lines::{Layer, Problem, bytes_of, parsed};
 use ssh_toys::{ToyCredential, ToyJudge, ToyUserSigner};
 use ssh_types::{AskRefusal, NameList, Refusal};
 use std::alloc::{AllocError, Global};
@@ -85,9 +83,7 @@ impl LoginLines {
     }
 
     fn made(&mut self, tries: &str, names: &str) -> Result<String, Problem> {
-        let Ok(tries) = tries.parse::<u32>() else {
-            return Err(Problem::NotALine);
-        };
+        let tries = parsed(tries)?;
         self.server = Some(AuthServer::new(self.alloc, tries, &methods(names)?)?);
         self.is_lenient = false;
         Ok(String::new(self.alloc))
@@ -129,8 +125,8 @@ impl LoginLines {
     }
 
     fn heard(&mut self, digits: &str) -> Result<String, Problem> {
-        let payload = payload_of(self.alloc, digits)?;
-        let message = decode(self.client.probing(), &payload)?;
+        let payload = bytes_of(self.alloc, digits)?;
+        let message = message_of(self.alloc, self.client.probing(), &payload)?;
         match self.client.take(&message) {
             Ok(answer) => Ok(format!(in self.alloc; "{answer:?}")?),
             Err(refusal) => refused(self.alloc, Refusal::from(refusal)),
@@ -151,10 +147,9 @@ impl LoginLines {
 }
 
 impl Layer for LoginLines {
-    fn said_to(&mut self, line: &str, turn: u32) -> Result<String, Problem> {
-        let call = call_of(self.alloc, line, turn)?;
-        match call.text.as_str().split_once(' ') {
-            None => self.begun(call.text.as_str()),
+    fn said_to(&mut self, line: &str) -> Result<String, Problem> {
+        match line.split_once(' ') {
+            None => self.begun(line),
             Some(("open", letter)) => self.opened(letter),
             Some(("s", text)) => self.of_server(text),
             Some(("c", text)) => self.of_client(text),
@@ -174,8 +169,8 @@ fn served(
     is_lenient: bool,
     digits: &str,
 ) -> Result<String, Problem> {
-    let payload = payload_of(alloc, digits)?;
-    let message = decode(server.probing(), &payload)?;
+    let payload = bytes_of(alloc, digits)?;
+    let message = message_of(alloc, server.probing(), &payload)?;
     let answer = if is_lenient {
         server.take(&SESSION, &Lenient, &message)
     } else {
@@ -188,8 +183,8 @@ fn served(
     }
 }
 
-// The list, where a server can name its methods.
-fn methods(text: &str) -> Result<NameList<'_>, Problem>
+/// The list, where a server can name its methods.
+pub fn methods(text: &str) -> Result<NameList<'_>, Problem>
     ensures { IfOk result (λ list. length (names_text list) ≤ 33994) }
 {
     match NameList::new(text.as_bytes()) {

@@ -30,7 +30,13 @@ pub fn run<R: Print + AllocGlobal>(rt: &R) -> Status {
         Err(fault) => return status_of(rt, fault, Status::Wrong),
     }
     match close(&mut ends) {
-        Ok(()) => Status::Done,
+        Ok(true) => Status::Done,
+        Ok(false) => {
+            let _ = println!(rt;
+                "wrong: the reply is of no channel, or the ends have two sessions"
+            );
+            Status::Wrong
+        }
         Err(fault) => status_of(rt, fault, Status::Within),
     }
 }
@@ -64,9 +70,13 @@ fn take(ends: &mut ToyEnds) -> Result<usize, Fault> {
     Ok(at_server.saturating_add(at_client))
 }
 
-// The client closes the channel, and the server does.
-fn close(ends: &mut ToyEnds) -> Result<(), Fault> {
+// The client closes the channel, and the server does. It answers whether the server's reply is shown with that channel, and both ends have one session id.
+fn close(ends: &mut ToyEnds) -> Result<bool, Fault> {
     let close = ChannelAsk::Close { channel: 0 };
     ends.ask(Side::Client, &Ask::Connection(close))?;
-    ends.pass()
+    ends.take(Side::Server)?;
+    let is_shown = ends.turn(Side::Server).sent.channel(0) == Some(0);
+    ends.take(Side::Client)?;
+    let session_id = ends.session_id(Side::Client);
+    Ok(is_shown && session_id.is_some() && session_id == ends.session_id(Side::Server))
 }

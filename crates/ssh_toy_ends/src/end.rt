@@ -66,14 +66,6 @@ impl ToyEnd {
         }
     }
 
-    /// How many channels there are.
-    pub fn channel_count(&self) -> usize {
-        match self {
-            ToyEnd::Client(end) => end.channels().count(),
-            ToyEnd::Server(end) => end.channels().count(),
-        }
-    }
-
     /// The session id.
     pub fn session_id(&self) -> Option<[u8; 32]> {
         match self {

@@ -114,6 +114,14 @@ impl ToyEnds {
         }
     }
 
+    /// The session id of an end.
+    pub fn session_id(&self, side: Side) -> Option<[u8; 32]> {
+        match side {
+            Side::Client => self.client.session_id(),
+            Side::Server => self.server.session_id(),
+        }
+    }
+
     /// What an end did in its last call.
     pub fn turn(&self, side: Side) -> Turn<'_> {
         match side {
