@@ -1,9 +1,13 @@
 use crate::extensions::Extensions;
+use crate::naming::name;
 use ssh_types::{NameList, ReadRefusal, Refusal};
+use std::fmt;
 use thiserror::Error;
 
 /// A message. Its texts are slices of the payload that it was read from, or of whatever its maker has.
-#[derive(Clone, Copy, Debug, PartialEq, Eq)]
+///
+/// `{:?}` shows its number and its name alone, since it may hold a password or what users send; `Line` shows all of a payload.
+#[derive(Clone, Copy, PartialEq, Eq)]
 pub enum Message<'a> {
     /// 1: the sender ends the connection (RFC 4253 section 11.1).
     Disconnect {
@@ -197,6 +201,16 @@ impl<'a> Message<'a> {
     }
 }
 
+impl fmt::Debug for Message<'_> {
+    fn fmt<W: fmt::Write>(&self, f: &mut fmt::Formatter<W>) -> fmt::Result {
+        let number = self.number();
+        match self {
+            Message::Unknown(_) => write!(f, "{number} UNKNOWN"),
+            _ => write!(f, "{number} {}", name(number)),
+        }
+    }
+}
+
 /// What an end offers for a key exchange (RFC 4253 section 7.1): `cs` is from client to server, `sc` back. The number
 /// that stands at the end, reserved and always 0, is not kept.
 #[derive(Clone, Copy, Debug, PartialEq, Eq)]
@@ -216,8 +230,8 @@ pub struct Proposal<'a> {
     pub follows: bool,
 }
 
-/// How a client asks for authentication (RFC 4252).
-#[derive(Clone, Copy, Debug, PartialEq, Eq)]
+/// How a client asks for authentication (RFC 4252). `{:?}` shows the name of the method alone.
+#[derive(Clone, Copy, PartialEq, Eq)]
 pub enum Method<'a> {
     /// `none` (section 5.2).
     None,
@@ -237,6 +251,17 @@ pub enum Method<'a> {
         name: &'a [u8],
         rest: &'a [u8],
     },
+}
+
+impl fmt::Debug for Method<'_> {
+    fn fmt<W: fmt::Write>(&self, f: &mut fmt::Formatter<W>) -> fmt::Result {
+        match self {
+            Method::None => write!(f, "none"),
+            Method::Password { .. } => write!(f, "password"),
+            Method::Publickey { .. } => write!(f, "publickey"),
+            Method::Other { .. } => write!(f, "other"),
+        }
+    }
 }
 
 /// The payload is no message: it ends within a field, a name-list in it holds what is no name, the last number of an
