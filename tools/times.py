@@ -1,4 +1,4 @@
-"""Runs the gate, `rt ci`, and prints the processor time of each of its checks, the largest first, and that of the whole. What the gate says goes to the file that is named.
+"""Runs the gate, `rt ci --anew`, which proves again what an earlier run on this machine proved, and prints the processor time of each of its checks, the largest first, and that of the whole. What the gate says goes to the file that is named.
 
 A check is a process of the toolchain that names its crate. Its time is read from /proc once a second, so that of its last second is missing. RT_JOBS says how many
 checks run at a time, each with one job."""
@@ -52,7 +52,7 @@ def main(log):
     taken = {}
     begun = time.time()
     with open(log, "wb") as report:
-        gate = subprocess.Popen([RT, "ci"], stdin=subprocess.DEVNULL, stdout=report, stderr=subprocess.STDOUT)
+        gate = subprocess.Popen([RT, "ci", "--anew"], stdin=subprocess.DEVNULL, stdout=report, stderr=subprocess.STDOUT)
         ended = (0, 0, None)
         while not ended[0]:
             found = processes()

@@ -33,7 +33,7 @@ use Rattle.ssh_transport_machine.specs.Turning.{Answers, HasRoom, IsQuiet, SentB
 use Rattle.ssh_transport_machine.specs.declared.machine.turn.Answer.{Answer}
 use Rattle.ssh_transport_machine.specs.declared.machine.turn.Answer.TheVariants.{Done, Spent}
 use Rattle.ssh_end.specs.Asking.{AskRow, AsksUint32s, ConnectionRow, DiedRow, GivenFails, GivenSent, HasRecipient, HasUint32s, RefusedRow, RowOf, ShowsAsk, end_with, opening_by, step_by, step_on}
-use Rattle.ssh_end.specs.Connection.{AskFails}
+use Rattle.ssh_layers.specs.Connection.{AskFails}
 use Rattle.ssh_end.specs.declared.asking.outcome.Fault.{Fault}
 use Rattle.ssh_end.specs.declared.asking.outcome.Fault.TheVariants as fault
 use Rattle.ssh_end.specs.declared.asking.outcome.AskStep.{AskStep}

@@ -31,13 +31,13 @@ use Rattle.ssh_transport_machine.specs.declared.outcome.TransportTurn.{Transport
 use Rattle.ssh_transport_machine.specs.declared.outcome.TransportTurn.TheVariants as outcome
 use Rattle.ssh_end.specs.Above.{FinishLacks, IsBeneath, LacksAbove}
 use Rattle.ssh_end.specs.ClientAbove.{JudgeLacks, JudgesPayload}
-use Rattle.ssh_end.specs.ClientLayers.{Layers, Reads}
-use Rattle.ssh_end.specs.ClientSessions.{end_of}
+use Rattle.ssh_layers.specs.ClientLayers.{Layers, Reads}
+use Rattle.ssh_layers.specs.ClientSessions.{end_of}
 use Rattle.ssh_end.specs.ClientTurns.{IsAsking}
 use Rattle.ssh_end.specs.ClientUnits.{GoLacks, TurnLacks, UpLacks}
 use Rattle.ssh_end.specs.Effects.{is_whole}
-use Rattle.ssh_end.specs.Layer.{Beneath}
-use Rattle.ssh_end.specs.Sessions.{beneath}
+use Rattle.ssh_layers.specs.Layer.{Beneath}
+use Rattle.ssh_layers.specs.Sessions.{beneath}
 use Rattle.ssh_end.specs.declared.above.Judgement.{Judgement}
 use Rattle.ssh_end.specs.declared.above.Judgement.TheVariants as judged
 use Rattle.ssh_end.proofs.AboveDeaths.{answered_lacks, channel_lacks, refused_lacks, spelled_lacks}

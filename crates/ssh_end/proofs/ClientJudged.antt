@@ -21,15 +21,15 @@ use Rattle.ssh_channels.specs.Values.{taken_of}
 use Rattle.ssh_transport_machine.specs.State.{State, last_number}
 use Rattle.ssh_end.specs.Above.{AnsweredAbove, Awaits, IsMade, SpellsReply, after_reply, after_success_where}
 use Rattle.ssh_end.specs.ClientAbove.{IsTaken, RefusesPayload, succeeds, took_by}
-use Rattle.ssh_end.specs.ClientLayers.{LayerRow, Layers, LayersRefuse, LayersTake, message_of, probes}
-use Rattle.ssh_end.specs.ClientSessions.{Accepts, end_of}
-use Rattle.ssh_end.specs.Layer.{Beneath}
-use Rattle.ssh_end.specs.Sessions.{beneath}
+use Rattle.ssh_layers.specs.ClientLayers.{LayerRow, Layers, LayersRefuse, LayersTake, message_of, probes}
+use Rattle.ssh_layers.specs.ClientSessions.{Accepts, end_of}
+use Rattle.ssh_layers.specs.Layer.{Beneath}
+use Rattle.ssh_layers.specs.Sessions.{beneath}
 use Rattle.ssh_end.specs.Steps.{fact_by}
-use Rattle.ssh_end.specs.declared.client_layers.ClientLayerAnswer.{ClientLayerAnswer}
-use Rattle.ssh_end.specs.declared.client_layers.ClientLayerAnswer.TheVariants as answer
+use Rattle.ssh_layers.specs.declared.client_layers.ClientLayerAnswer.{ClientLayerAnswer}
+use Rattle.ssh_layers.specs.declared.client_layers.ClientLayerAnswer.TheVariants as answer
 use Rattle.ssh_end.specs.declared.step.TookStep.{TookStep}
-use Rattle.ssh_end.proofs.ClientSessions.{accepts, refuses}
+use Rattle.ssh_layers.specs.Laws.Client.{accepts, refuses}
 use Rattle.ssh_end.proofs.Judging.{ChannelFacts, beneath_is, payload_in, reply_is_sent, reply_replied}
 use Rattle.ssh_end.proofs.SendingOn.{reply_on}
 

@@ -43,10 +43,10 @@ use Rattle.ssh_transport_client.specs.declared.reply.ReplyTurn.TheVariants as re
 use Rattle.ssh_transport_client.specs.declared.packet.ClientTurn.TheVariants as client
 use Rattle.ssh_types.specs.declared.refusal.Refusal.TheVariants as code
 use Rattle.ssh_end.specs.Effects.{is_whole, step_given}
-use Rattle.ssh_end.specs.ClientLayers.{Layers}
+use Rattle.ssh_layers.specs.ClientLayers.{Layers}
 use Rattle.ssh_end.specs.ClientTurns.{IsAsking, IsUnitTurned, ClientTurned}
 use Rattle.ssh_end.specs.ClientUnits.{Goes, GoesOn, GoesUp, GoesWhole, ClientGoes}
-use Rattle.ssh_end.specs.ClientSessions.{end_of}
+use Rattle.ssh_layers.specs.ClientSessions.{end_of}
 use Rattle.ssh_end.specs.Reading.{IsReading}
 use Rattle.ssh_end.specs.Steps.{Shows, UnitTurned}
 use Rattle.ssh_end.specs.declared.step.Step.{Step}

@@ -32,10 +32,10 @@ use Rattle.ssh_types.specs.declared.refusal.Refusal.{Refusal}
 use Rattle.ssh_types.specs.declared.refusal.Refusal.TheVariants as code
 use Rattle.ssh_end.specs.Completing.{Completing}
 use Rattle.ssh_end.specs.Effects.{step_given}
-use Rattle.ssh_end.specs.ClientLayers.{Layers}
+use Rattle.ssh_layers.specs.ClientLayers.{Layers}
 use Rattle.ssh_end.specs.Owed.{OwedGiven}
 use Rattle.ssh_end.specs.ClientTurns.{IsAsking}
-use Rattle.ssh_end.specs.ClientSessions.{end_of}
+use Rattle.ssh_layers.specs.ClientSessions.{end_of}
 use Rattle.ssh_end.specs.Steps as steps
 use Rattle.ssh_end.specs.Steps.{AreSent, UnitTurned, fact_by}
 use Rattle.ssh_end.specs.declared.step.Step.{Step}

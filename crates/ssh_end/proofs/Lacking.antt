@@ -11,9 +11,9 @@ use Rattle.ssh_transport_machine.specs.State.{State}
 use Rattle.ssh_transport_machine.specs.declared.outcome.TransportFault.{TransportFault}
 use Rattle.ssh_transport_machine.specs.declared.outcome.TransportFault.TheVariants as transport_fault
 use Rattle.ssh_end.specs.Asking.{fault_by}
-use Rattle.ssh_end.specs.ClientLayers as client_layers
+use Rattle.ssh_layers.specs.ClientLayers as client_layers
 use Rattle.ssh_end.specs.ClientUnits as client
-use Rattle.ssh_end.specs.Layers as server_layers
+use Rattle.ssh_layers.specs.Layers as server_layers
 use Rattle.ssh_end.specs.ServerUnits as server
 use Rattle.ssh_end.specs.declared.asking.outcome.Fault.{Fault}
 use Rattle.ssh_end.specs.declared.asking.outcome.Fault.TheVariants as fault

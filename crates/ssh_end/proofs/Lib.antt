@@ -1,8 +1,3 @@
-pub mod Each
-pub mod Rows
-pub mod ClientRows
-pub mod Sessions
-pub mod ClientSessions
 pub mod Judging
 pub mod ServerJudged
 pub mod ClientJudged

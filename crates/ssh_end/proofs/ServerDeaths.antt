@@ -33,12 +33,12 @@ use Rattle.ssh_transport_server.specs.declared.packet.ServerTurn.TheVariants as 
 use Rattle.ssh_end.specs.Above.{FinishLacks, IsBeneath, LacksAbove}
 use Rattle.ssh_end.specs.Deaths.{ServerDies}
 use Rattle.ssh_end.specs.Effects.{is_whole}
-use Rattle.ssh_end.specs.Layer.{Beneath}
-use Rattle.ssh_end.specs.Layers.{Layers, LayersLack, Reads}
+use Rattle.ssh_layers.specs.Layer.{Beneath}
+use Rattle.ssh_layers.specs.Layers.{Layers, LayersLack, Reads}
 use Rattle.ssh_end.specs.ServerAbove.{JudgeLacks, JudgesPayload}
 use Rattle.ssh_end.specs.ServerTurns.{IsServing}
 use Rattle.ssh_end.specs.ServerUnits.{GoLacks, TurnLacks, UpLacks}
-use Rattle.ssh_end.specs.Sessions.{beneath, end_of}
+use Rattle.ssh_layers.specs.Sessions.{beneath, end_of}
 use Rattle.ssh_end.specs.declared.above.Judgement.{Judgement}
 use Rattle.ssh_end.specs.declared.above.Judgement.TheVariants as judged
 use Rattle.ssh_end.proofs.AboveDeaths.{answered_lacks, channel_lacks, lacks_by, refused_lacks, spelled_lacks}

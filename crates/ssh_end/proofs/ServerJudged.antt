@@ -20,17 +20,17 @@ use Rattle.ssh_auth.specs.declared.answer.ServerAnswer.TheVariants as request
 use Rattle.ssh_channels.specs.Values.{taken_of}
 use Rattle.ssh_transport_machine.specs.State.{State, last_number}
 use Rattle.ssh_end.specs.Above.{AnsweredAbove, Awaits, IsMade, SpellsReply, after_reply, after_success_where}
-use Rattle.ssh_end.specs.Layer.{Beneath}
-use Rattle.ssh_end.specs.Layers.{LayerRow, Layers, LayersRefuse, LayersTake, message_of}
+use Rattle.ssh_layers.specs.Layer.{Beneath}
+use Rattle.ssh_layers.specs.Layers.{LayerRow, Layers, LayersRefuse, LayersTake, message_of}
 use Rattle.ssh_end.specs.ServerAbove.{IsTaken, RefusesPayload, accepts_user, took_by}
 use Rattle.ssh_end.specs.Told.{telling_of}
-use Rattle.ssh_end.specs.Sessions.{Accepts, AreOf, beneath, end_of}
+use Rattle.ssh_layers.specs.Sessions.{Accepts, AreOf, beneath, end_of}
 use Rattle.ssh_end.specs.Steps.{fact_by, fact_told}
-use Rattle.ssh_end.specs.declared.server_layers.ServerLayerAnswer.{ServerLayerAnswer}
-use Rattle.ssh_end.specs.declared.server_layers.ServerLayerAnswer.TheVariants as answer
+use Rattle.ssh_layers.specs.declared.server_layers.ServerLayerAnswer.{ServerLayerAnswer}
+use Rattle.ssh_layers.specs.declared.server_layers.ServerLayerAnswer.TheVariants as answer
 use Rattle.ssh_end.specs.declared.step.TookStep.{TookStep}
 use Rattle.ssh_end.proofs.Judging.{ServerFacts, ChannelFacts, are_replied, are_sent, beneath_is, is_told, payload_in, reply_is_sent, reply_replied}
-use Rattle.ssh_end.proofs.Sessions.{accepts, refuses}
+use Rattle.ssh_layers.specs.Laws.Server.{accepts, refuses}
 use Rattle.ssh_end.proofs.SendingOn.{reply_on, sent_with_on}
 use Rattle.ssh_end.proofs.Beside.{telling_behind}
 

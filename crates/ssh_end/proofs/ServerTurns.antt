@@ -43,11 +43,11 @@ use Rattle.ssh_transport_server.specs.declared.init.InitTurn.TheVariants as init
 use Rattle.ssh_transport_server.specs.declared.packet.ServerTurn.TheVariants as server
 use Rattle.ssh_types.specs.declared.refusal.Refusal.TheVariants as code
 use Rattle.ssh_end.specs.Effects.{is_requested, is_whole, step_given}
-use Rattle.ssh_end.specs.Layers.{Layers}
+use Rattle.ssh_layers.specs.Layers.{Layers}
 use Rattle.ssh_end.specs.Reading.{IsReading}
 use Rattle.ssh_end.specs.ServerTurns.{IsServing, IsUnitTurned, ServerTurned}
 use Rattle.ssh_end.specs.ServerUnits.{Goes, GoesOn, GoesUp, GoesWhole, ServerGoes}
-use Rattle.ssh_end.specs.Sessions.{AreOf, end_of}
+use Rattle.ssh_layers.specs.Sessions.{AreOf, end_of}
 use Rattle.ssh_end.specs.Steps.{Shows, UnitTurned}
 use Rattle.ssh_end.specs.declared.step.Step.{Step}
 use Rattle.ssh_end.specs.declared.step.Step.TheVariants as step

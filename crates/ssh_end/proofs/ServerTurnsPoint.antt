@@ -21,10 +21,10 @@ use Rattle.ssh_transport_machine.specs.State.{State}
 use Rattle.ssh_transport_machine.specs.declared.outcome.TransportTurn.TheVariants as outcome
 use Rattle.ssh_types.specs.declared.refusal.Refusal.TheVariants as code
 use Rattle.ssh_end.specs.Completing.{Completing}
-use Rattle.ssh_end.specs.Layers.{Layers}
+use Rattle.ssh_layers.specs.Layers.{Layers}
 use Rattle.ssh_end.specs.Owed.{OwedGiven}
 use Rattle.ssh_end.specs.ServerTurns.{IsServing}
-use Rattle.ssh_end.specs.Sessions.{end_of}
+use Rattle.ssh_layers.specs.Sessions.{end_of}
 use Rattle.ssh_end.specs.Steps as steps
 use Rattle.ssh_end.specs.Steps.{UnitTurned}
 use Rattle.ssh_end.specs.declared.step.Step.{Step}

@@ -24,8 +24,8 @@ use Rattle.ssh_transport_machine.specs.declared.outcome.TransportTurn.TheVariant
 use Rattle.ssh_types.specs.Refusals.{refusal_of}
 use Rattle.ssh_types.specs.declared.refusal.Refusal as code
 use Rattle.ssh_end.specs.Effects.{step_given}
-use Rattle.ssh_end.specs.Layers.{Layers}
-use Rattle.ssh_end.specs.Sessions.{end_of}
+use Rattle.ssh_layers.specs.Layers.{Layers}
+use Rattle.ssh_layers.specs.Sessions.{end_of}
 use Rattle.ssh_end.specs.Steps as steps
 use Rattle.ssh_end.specs.Steps.{UnitTurned}
 use Rattle.ssh_end.proofs.Finishing.{refusal_sends}

@@ -16,9 +16,9 @@ use Rattle.ssh_transport_machine.specs.declared.outcome.Effect.TheVariants as ef
 use Rattle.ssh_transport_machine.specs.declared.outcome.TransportTurn.{TransportTurn}
 use Rattle.ssh_transport_machine.specs.declared.outcome.TransportTurn.TheVariants as outcome
 use Rattle.ssh_end.specs.Effects.{is_requested, is_whole, opened_where, step_given}
-use Rattle.ssh_end.specs.Layers.{Layers}
+use Rattle.ssh_layers.specs.Layers.{Layers}
 use Rattle.ssh_end.specs.ServerUnits.{Goes, GoesWhole, opened_layers}
-use Rattle.ssh_end.specs.Sessions.{AreOf, end_of}
+use Rattle.ssh_layers.specs.Sessions.{AreOf, end_of}
 use Rattle.ssh_end.specs.Steps.{SendsOn, Shows, UnitTurned}
 use Rattle.ssh_end.specs.declared.step.Step.{Step}
 

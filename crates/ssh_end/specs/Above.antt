@@ -22,7 +22,7 @@ use Rattle.ssh_transport_machine.specs.Turning.{HasRoom, IsQuiet, RefusalLacks}
 use Rattle.ssh_types.specs.Refusals.{refusal_of}
 use Rattle.ssh_types.specs.declared.refusal.Refusal.TheVariants as refusal
 use Rattle.ssh_end.specs.Beside.{channels_beside, channels_given}
-use Rattle.ssh_end.specs.Layer.{Beneath}
+use Rattle.ssh_layers.specs.Layer.{Beneath}
 use Rattle.ssh_end.specs.Owed.{channels_sent}
 use Rattle.ssh_end.specs.Steps.{AreSent, fact_told}
 use Rattle.ssh_end.specs.declared.above.Judgement.{Judgement}

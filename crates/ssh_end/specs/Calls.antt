@@ -13,12 +13,12 @@ use Rattle.ssh_transport_machine.specs.State.{begun_of}
 use Rattle.ssh_transport_client.specs.Replies.{Trusts}
 use Rattle.ssh_end.specs.Asking.{AreAskChannels, ClientInSession, Fails, InSession}
 use Rattle.ssh_end.specs.Beside.{channels_by}
-use Rattle.ssh_end.specs.ClientSessions as client
+use Rattle.ssh_layers.specs.ClientSessions as client
 use Rattle.ssh_end.specs.ClientUnits.{ClientGoes}
 use Rattle.ssh_end.specs.Ends.{ClientState, IsFault, SameClient, SameServer, ServerState}
 use Rattle.ssh_end.specs.Reading.{SameReading}
 use Rattle.ssh_end.specs.ServerUnits.{ServerGoes}
-use Rattle.ssh_end.specs.Sessions as server
+use Rattle.ssh_layers.specs.Sessions as server
 use Rattle.ssh_end.specs.Steps.{Shows}
 use Rattle.ssh_end.specs.Told.{told_of}
 use Rattle.ssh_end.specs.Turn.{TurnShows, channels_in, payloads_in}

@@ -7,12 +7,12 @@ use Rattle.ssh_transport_machine.specs.State.{State, last_number}
 use Rattle.ssh_transport_machine.specs.Turning.{HasRoom}
 use Rattle.ssh_types.specs.Refusals.{refusal_of}
 use Rattle.ssh_end.specs.Above.{IsAnswer, IsBeneath}
-use Rattle.ssh_end.specs.Layer.{Beneath}
-use Rattle.ssh_end.specs.ClientLayers.{Layers, LayersLack, LayersRefuse, LayersTake, message_of, probes}
+use Rattle.ssh_layers.specs.Layer.{Beneath}
+use Rattle.ssh_layers.specs.ClientLayers.{Layers, LayersLack, LayersRefuse, LayersTake, message_of, probes}
 use Rattle.ssh_end.specs.declared.above.Judgement.{Judgement}
 use Rattle.ssh_end.specs.declared.above.Judgement.TheVariants as judged
-use Rattle.ssh_end.specs.declared.client_layers.ClientLayerAnswer.{ClientLayerAnswer}
-use Rattle.ssh_end.specs.declared.client_layers.ClientLayerAnswer.TheVariants as answer
+use Rattle.ssh_layers.specs.declared.client_layers.ClientLayerAnswer.{ClientLayerAnswer}
+use Rattle.ssh_layers.specs.declared.client_layers.ClientLayerAnswer.TheVariants as answer
 use Rattle.ssh_end.specs.declared.step.Telling.TheVariants as telling
 use Rattle.ssh_end.specs.declared.step.TookStep.{TookStep}
 

@@ -12,7 +12,7 @@ use Rattle.ssh_transport_client.specs.Transport.{ClientDied, ClientTook}
 use Rattle.ssh_end.specs.Above.{FinishLacks, Finished}
 use Rattle.ssh_end.specs.Completing.{Completing}
 use Rattle.ssh_end.specs.Effects.{is_accepted, is_whole, step_given}
-use Rattle.ssh_end.specs.ClientLayers.{Layers}
+use Rattle.ssh_layers.specs.ClientLayers.{Layers}
 use Rattle.ssh_end.specs.ClientAbove.{JudgeLacks, JudgesPayload}
 use Rattle.ssh_end.specs.declared.above.Judgement.{Judgement}
 use Rattle.ssh_end.specs.declared.step.Step.{Step}

@@ -10,8 +10,8 @@ use Rattle.ssh_model.specs.Sessions.Parties.{Parties}
 use Rattle.ssh_model.specs.Sessions.Turns.{OnUnit, stage}
 use Rattle.ssh_auth.specs.Serving.{NeedsText}
 use Rattle.ssh_transport_machine.specs.State.{State}
-use Rattle.ssh_end.specs.Layers.{Layers, Reads}
-use Rattle.ssh_end.specs.Sessions.{beneath}
+use Rattle.ssh_layers.specs.Layers.{Layers, Reads}
+use Rattle.ssh_layers.specs.Sessions.{beneath}
 
 -- The bytes are a packet of a request whose signature is due to be looked at, and all numbers are used. A session has no
 -- death for want of memory there: it ends for want of numbers.

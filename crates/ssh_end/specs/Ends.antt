@@ -9,8 +9,8 @@ use Rattle.ssh_transport_machine.specs.Asks.{WasDead}
 use Rattle.ssh_transport_machine.specs.Opening.{IsOpened}
 use Rattle.ssh_transport_machine.specs.State.{State}
 use Rattle.ssh_end.specs.Effects.{DiesOf}
-use Rattle.ssh_end.specs.ClientLayers as client
-use Rattle.ssh_end.specs.Layers as server
+use Rattle.ssh_layers.specs.ClientLayers as client
+use Rattle.ssh_layers.specs.Layers as server
 use Rattle.ssh_end.specs.declared.asking.outcome.Fault.{Fault}
 use Rattle.ssh_end.specs.declared.asking.outcome.Fault.TheVariants as fault
 use Rattle.ssh_end.specs.declared.step.Step.{Step}

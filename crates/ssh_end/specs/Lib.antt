@@ -1,10 +1,3 @@
-pub mod Faults
-pub mod Layer
-pub mod Layers
-pub mod ClientLayers
-pub mod Sessions
-pub mod ClientSessions
-pub mod Connection
 pub mod Steps
 pub mod Above
 pub mod ServerAbove

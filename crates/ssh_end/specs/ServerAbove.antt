@@ -8,13 +8,13 @@ use Rattle.ssh_transport_machine.specs.State.{State, last_number}
 use Rattle.ssh_transport_machine.specs.Turning.{HasRoom}
 use Rattle.ssh_types.specs.Refusals.{refusal_of}
 use Rattle.ssh_end.specs.Above.{IsAnswer, IsBeneath}
-use Rattle.ssh_end.specs.Layer.{Beneath}
-use Rattle.ssh_end.specs.Layers.{IsShort, Layers, LayersLack, LayersRefuse, LayersTake, message_of}
+use Rattle.ssh_layers.specs.Layer.{Beneath}
+use Rattle.ssh_layers.specs.Layers.{IsShort, Layers, LayersLack, LayersRefuse, LayersTake, message_of}
 use Rattle.ssh_end.specs.Told.{telling_of}
 use Rattle.ssh_end.specs.declared.above.Judgement.{Judgement}
 use Rattle.ssh_end.specs.declared.above.Judgement.TheVariants as judged
-use Rattle.ssh_end.specs.declared.server_layers.ServerLayerAnswer.{ServerLayerAnswer}
-use Rattle.ssh_end.specs.declared.server_layers.ServerLayerAnswer.TheVariants as answer
+use Rattle.ssh_layers.specs.declared.server_layers.ServerLayerAnswer.{ServerLayerAnswer}
+use Rattle.ssh_layers.specs.declared.server_layers.ServerLayerAnswer.TheVariants as answer
 use Rattle.ssh_end.specs.declared.step.Telling.TheVariants as telling
 use Rattle.ssh_end.specs.declared.step.TookStep.{TookStep}
 

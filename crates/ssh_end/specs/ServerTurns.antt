@@ -13,9 +13,9 @@ use Rattle.ssh_model.specs.Wire.Message.{Msg.UserauthFailure}
 use Rattle.ssh_transport_machine.specs.Puts.{Outs}
 use Rattle.ssh_transport_machine.specs.State.{State, begun_of}
 use Rattle.ssh_transport_machine.specs.Turning.{IsQuiet}
-use Rattle.ssh_end.specs.Layers.{Layers}
+use Rattle.ssh_layers.specs.Layers.{Layers}
 use Rattle.ssh_end.specs.Reading.{IsReading}
-use Rattle.ssh_end.specs.Sessions.{AreOf, end_of}
+use Rattle.ssh_layers.specs.Sessions.{AreOf, end_of}
 use Rattle.ssh_end.specs.Steps.{UnitTurned}
 use Rattle.ssh_end.specs.declared.step.Step.{Step}
 use Rattle.ssh_end.specs.declared.step.Step.TheVariants as step

@@ -12,7 +12,7 @@ use Rattle.ssh_transport_server.specs.Transport.{ServerDied, ServerTook}
 use Rattle.ssh_end.specs.Above.{FinishLacks, Finished}
 use Rattle.ssh_end.specs.Completing.{Completing}
 use Rattle.ssh_end.specs.Effects.{is_requested, is_whole, step_given}
-use Rattle.ssh_end.specs.Layers.{Layers}
+use Rattle.ssh_layers.specs.Layers.{Layers}
 use Rattle.ssh_end.specs.ServerAbove.{JudgeLacks, JudgesPayload}
 use Rattle.ssh_end.specs.declared.above.Judgement.{Judgement}
 use Rattle.ssh_end.specs.declared.step.Step.{Step}

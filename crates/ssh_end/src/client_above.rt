@@ -4,14 +4,12 @@ ghost use Rattle.std.specs.Prelude.{◌≡◌, ◌≤◌, IfOk, OnErr, false};
 ghost use Rattle.ssh_model.specs.Sessions.Turns.{number_of};
 ghost use Rattle.ssh_end.specs.Above.{CanFinish};
 ghost use Rattle.ssh_end.specs.ClientAbove.{JudgeLacks, JudgesPayload, succeeds, took_by};
-ghost use Rattle.ssh_end.specs.ClientLayers.{probes};
+ghost use Rattle.ssh_layers.specs.ClientLayers.{probes};
 
 use crate::above::{Judgement, session_of, spell_answer};
-use crate::below::Below;
-use crate::client_layers::{ClientLayerAnswer, ClientLayers};
-use crate::fault::LayerFault;
 use crate::step::{Telling, TookStep};
 use ssh_auth::ClientAnswer;
+use ssh_layers::{Below, ClientLayerAnswer, ClientLayers, LayerFault};
 use ssh_packet::{Filler, Sealing};
 use ssh_transport_machine::Machine;
 use std::alloc::AllocError;

@@ -13,12 +13,12 @@ ghost use Rattle.ssh_end.specs.ClientUnits.{ClientGoes, GoLacks, Goes, GoesUp, T
 
 use crate::above::finish_above;
 use crate::client_above::judge_client;
-use crate::client_layers::ClientLayers;
 use crate::completing::complete;
 use crate::cutting::cut_back;
 use crate::effect::step_of;
 use crate::step::Step;
 use ssh_kex::{Agreement, HostTrust};
+use ssh_layers::ClientLayers;
 use ssh_packet::{Filler, Sealing};
 use ssh_transport_client::laws::turns_left;
 use ssh_transport_client::take_unit;

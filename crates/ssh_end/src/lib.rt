@@ -1,6 +1,5 @@
-//! The ends of SSH-2, each its transport (RFC 4253) with authentication (RFC 4252) and channels (RFC 4254) on it: `ServerEnd` and
-//! `ClientEnd`. Below them the layers above the transport of each, which payload from 50 on they take, what they answer to it, and why
-//! they refuse the peer.
+//! The ends of SSH-2, each its transport (RFC 4253) with authentication (RFC 4252) and channels (RFC 4254) on it (`ssh_layers`):
+//! `ServerEnd` and `ClientEnd`.
 //!
 //! ```rust
 //! let mut server = ServerEnd::<Parts, Judge>::new(alloc, config, parts, judge, cookie, secret, &mut out)?;
@@ -19,23 +18,16 @@
 mod above;
 mod ask;
 mod asking;
-mod below;
 mod client_above;
 mod client_end;
-mod client_layers;
 mod client_unit;
 mod completing;
-mod connection;
 mod cutting;
 mod effect;
 mod fact_laws;
-mod fault;
-pub mod laws;
-mod layer;
 mod owed;
 mod server_above;
 mod server_end;
-mod server_layers;
 mod server_unit;
 mod step;
 mod told;
@@ -44,11 +36,7 @@ pub mod turn_laws;
 
 pub use ask::Ask;
 pub use asking::{AskStep, Fault};
-pub use below::Below;
 pub use client_end::ClientEnd;
-pub use client_layers::{ClientLayerAnswer, ClientLayers, ClientTaken};
-pub use fault::LayerFault;
 pub use server_end::ServerEnd;
-pub use server_layers::{ServerLayerAnswer, ServerLayers, ServerTaken};
 pub use told::Told;
 pub use turn::{SentPayloads, Took, Turn};

@@ -6,13 +6,14 @@
 ghost use Rattle.std.specs.Prelude.{◌≡◌, ◌≤◌, true, IfSome};
 ghost use Rattle.ssh_model.specs.Sessions.Turns.{number_of};
 ghost use Rattle.ssh_message.specs.Written.{Fits};
-ghost use Rattle.ssh_end.specs.Layers.{IsShort};
+ghost use Rattle.ssh_layers.specs.Layers.{IsShort};
 
 use crate::call::{ask_of, ask_refused, refused, sent};
 use crate::logins::methods;
 use ssh_auth::AskError as UserAskError;
 use ssh_channels::{AskError, Reply};
-use ssh_end::{Ask, Below, ClientLayers, LayerFault, ServerLayerAnswer, ServerLayers};
+use ssh_end::Ask;
+use ssh_layers::{Below, ClientLayers, LayerFault, ServerLayerAnswer, ServerLayers};
 use ssh_lines::{Layer, Problem, bytes_of, parsed};
 use ssh_message::Message;
 use ssh_toys::{ToyCredential, ToyJudge, ToyUserSigner};

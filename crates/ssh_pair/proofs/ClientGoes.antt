@@ -16,8 +16,8 @@ use Rattle.ssh_model.specs.Sessions.Phases.{Phase.Normal}
 use Rattle.ssh_model.specs.Sessions.Turns.{AsksTurn, EndRun, OnUnit}
 use Rattle.ssh_transport_machine.specs.Puts.{Outs}
 use Rattle.ssh_transport_machine.specs.State.{State, begun_of}
-use Rattle.ssh_end.specs.ClientSessions.{end_of}
-use Rattle.ssh_end.specs.ClientLayers.{Layers}
+use Rattle.ssh_layers.specs.ClientSessions.{end_of}
+use Rattle.ssh_layers.specs.ClientLayers.{Layers}
 use Rattle.ssh_end.specs.ClientUnits.{ClientGoes, FrontLacks}
 use Rattle.ssh_end.specs.ClientTurns.{ClientTurned, IsAsking, IsUnitTurned, IsWaiting}
 use Rattle.ssh_end.specs.Asking.{AreAskChannels, DoneInSession}

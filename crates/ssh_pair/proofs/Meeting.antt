@@ -8,10 +8,10 @@ use Rattle.ssh_model.specs.Sessions.Items.{Done, Item}
 use Rattle.ssh_model.specs.Sessions.Parties.{AreLawful, Parties}
 use Rattle.ssh_model.specs.Sessions.TurnClaims.{HasSpelling}
 use Rattle.ssh_model.specs.Sessions.Turns.{EndRun, Run}
-use Rattle.ssh_end.specs.ClientSessions as client_sessions
+use Rattle.ssh_layers.specs.ClientSessions as client_sessions
 use Rattle.ssh_end.specs.Reading.{IsReading}
-use Rattle.ssh_end.specs.Sessions as server_sessions
-use Rattle.ssh_end.specs.Sessions.{AreOf}
+use Rattle.ssh_layers.specs.Sessions as server_sessions
+use Rattle.ssh_layers.specs.Sessions.{AreOf}
 use Rattle.ssh_pair.specs.Gathering.{Gathers}
 use Rattle.ssh_pair.specs.Items.{Notes}
 use Rattle.ssh_pair.specs.Playing.{Opens, PairOpens}

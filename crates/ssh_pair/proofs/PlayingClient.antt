@@ -13,8 +13,8 @@ use Rattle.ssh_model.specs.Sessions.Events.{Event.Asks, Event.Delivers, Event.Fe
 use Rattle.ssh_model.specs.Sessions.Items.{Ask, Done, Item, Item.Fed, has_died}
 use Rattle.ssh_model.specs.Sessions.Parties.{AreLawful, BothOffer, Parties}
 use Rattle.ssh_model.specs.Sessions.Turns.{AsksTurn, EndRun, FeedsTurn, IsMaterial, Run}
-use Rattle.ssh_end.specs.ClientSessions.{end_of}
-use Rattle.ssh_end.specs.Sessions as other
+use Rattle.ssh_layers.specs.ClientSessions.{end_of}
+use Rattle.ssh_layers.specs.Sessions as other
 use Rattle.ssh_pair.specs.Playing.{Advanced, Answered, PairFed, PlaysOne, Says, SaysOf}
 use Rattle.ssh_pair.specs.Standing.{ClientStands, ClientValue, PairStands, PairValue, ServerStands, kept_bytes}
 use Rattle.ssh_pair.specs.declared.item.Done as declared

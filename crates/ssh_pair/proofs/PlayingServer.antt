@@ -13,8 +13,8 @@ use Rattle.ssh_model.specs.Sessions.Events.{Event.Asks, Event.Delivers, Event.Fe
 use Rattle.ssh_model.specs.Sessions.Items.{Ask, Done, Item, Item.Fed, has_died}
 use Rattle.ssh_model.specs.Sessions.Parties.{AreLawful, BothOffer, Parties}
 use Rattle.ssh_model.specs.Sessions.Turns.{AsksTurn, EndRun, FeedsTurn, IsMaterial, Run}
-use Rattle.ssh_end.specs.Sessions.{end_of}
-use Rattle.ssh_end.specs.ClientSessions as other
+use Rattle.ssh_layers.specs.Sessions.{end_of}
+use Rattle.ssh_layers.specs.ClientSessions as other
 use Rattle.ssh_pair.specs.Playing.{Advanced, Answered, PairFed, PlaysOne, Says, SaysOf}
 use Rattle.ssh_pair.specs.Standing.{ServerStands, ServerValue, PairStands, PairValue, ClientStands, kept_bytes}
 use Rattle.ssh_pair.specs.declared.item.Done as declared

@@ -19,8 +19,8 @@ use Rattle.ssh_model.specs.Sessions.Phases.{Phase.Normal}
 use Rattle.ssh_model.specs.Sessions.Turns.{AsksTurn, EndRun, OnUnit}
 use Rattle.ssh_transport_machine.specs.Puts.{Outs}
 use Rattle.ssh_transport_machine.specs.State.{State, begun_of}
-use Rattle.ssh_end.specs.Sessions.{end_of}
-use Rattle.ssh_end.specs.Layers.{Layers}
+use Rattle.ssh_layers.specs.Sessions.{end_of}
+use Rattle.ssh_layers.specs.Layers.{Layers}
 use Rattle.ssh_end.specs.Deaths.{ServerDies}
 use Rattle.ssh_end.specs.ServerUnits.{FrontLacks, ServerGoes}
 use Rattle.ssh_end.specs.ServerTurns.{ServerTurned, IsServing, IsUnitTurned, IsWaiting}

@@ -5,8 +5,8 @@ use Rattle.ssh_model.specs.End.Pair.{PairState, PairSumsUp, state_of}
 use Rattle.ssh_model.specs.End.Summary.{EndSumsUp}
 use Rattle.ssh_model.specs.Sessions.Events.{World}
 use Rattle.ssh_model.specs.Sessions.Parties.{Parties}
-use Rattle.ssh_end.specs.ClientSessions as client_sessions
-use Rattle.ssh_end.specs.Sessions as server_sessions
+use Rattle.ssh_layers.specs.ClientSessions as client_sessions
+use Rattle.ssh_layers.specs.Sessions as server_sessions
 use Rattle.ssh_model.specs.Authentication.Requests.{Judge}
 use Rattle.ssh_model.specs.Wire.Sealing.{Crypto}
 use Rattle.ssh_end.specs.Ends.{ClientState, SameClient, SameServer, ServerState}

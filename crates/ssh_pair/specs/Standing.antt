@@ -13,13 +13,13 @@ use Rattle.ssh_model.specs.TransportLayer.Kept.{ExchangeParts}
 use Rattle.ssh_model.specs.TransportLayer.Summary.{parts_of}
 use Rattle.ssh_model.specs.End.Summary.{EndSumsUp}
 use Rattle.ssh_transport_machine.specs.State.{State, begun_of}
-use Rattle.ssh_end.specs.ClientLayers as client
-use Rattle.ssh_end.specs.ClientSessions as client_sessions
+use Rattle.ssh_layers.specs.ClientLayers as client
+use Rattle.ssh_layers.specs.ClientSessions as client_sessions
 use Rattle.ssh_end.specs.Ends.{ClientState, SameClient, SameServer, ServerState}
-use Rattle.ssh_end.specs.Layers as server
+use Rattle.ssh_layers.specs.Layers as server
 use Rattle.ssh_end.specs.Reading.{IsReading}
-use Rattle.ssh_end.specs.Sessions as server_sessions
-use Rattle.ssh_end.specs.Sessions.{AreOf}
+use Rattle.ssh_layers.specs.Sessions as server_sessions
+use Rattle.ssh_layers.specs.Sessions.{AreOf}
 use Rattle.ssh_pair.specs.Gathering.{Gathers}
 
 -- ---- the supplied parts, as functions

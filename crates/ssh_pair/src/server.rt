@@ -8,7 +8,7 @@ ghost use Rattle.ssh_transport_machine.specs.Standing.{Stands};
 ghost use Rattle.ssh_transport_base.specs.Meaning.{settings_of};
 ghost use Rattle.ssh_end.specs.Asking.{ask_of};
 ghost use Rattle.ssh_end.specs.Ends.{SameServer};
-ghost use Rattle.ssh_end.specs.Sessions.{AreOf, end_of};
+ghost use Rattle.ssh_layers.specs.Sessions.{AreOf, end_of};
 ghost use Rattle.ssh_end.specs.Reading.{IsReading};
 ghost use Rattle.ssh_pair.specs.Playing.{Advanced, Answered, Opens};
 ghost use Rattle.ssh_pair.specs.Standing.{ServerStands, server_value, kept_bytes};

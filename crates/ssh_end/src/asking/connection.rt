@@ -15,9 +15,8 @@ use crate::asking::memory::lack_memory;
 use crate::asking::numbers::{ask_numbers, message_numbers, recipient_number};
 use crate::asking::outcome::{AskStep, Fault, step_of};
 use crate::asking::transport::ask_machine;
-use crate::below::Below;
-use crate::connection::ask_channels;
 use ssh_channels::{Ask, AskError, Channels, Sent};
+use ssh_layers::{Below, ask_channels};
 use ssh_packet::{Filler, Sealing};
 use ssh_transport_machine::{Answer, Machine, TransportAsk};
 

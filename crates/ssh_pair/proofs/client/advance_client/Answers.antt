@@ -3,7 +3,7 @@ use Rattle.std.proofs.Math.Seq.{take-length}
 use Rattle.ssh_model.specs.Side.{Side.Client, part}
 use Rattle.ssh_transport_machine.specs.Puts.{Outs}
 use Rattle.ssh_transport_machine.specs.State.{begun_of}
-use Rattle.ssh_end.specs.ClientSessions.{end_of}
+use Rattle.ssh_layers.specs.ClientSessions.{end_of}
 use Rattle.ssh_model.specs.Sessions.Items.{Item.Died}
 use Rattle.ssh_pair.specs.Playing.{Advanced}
 use Rattle.ssh_pair.specs.Standing.{ClientStands, client_value, kept_bytes}

@@ -2,7 +2,7 @@ use Rattle.std.proofs.Common.{◌≡◌, false, refl, sym, ◌∙◌, subst}
 use Rattle.std.specs.Prelude.{OnErr}
 use Rattle.ssh_model.specs.Side.{Side.Client, part}
 use Rattle.ssh_end.specs.Asking.{ask_of}
-use Rattle.ssh_end.specs.ClientSessions.{end_of}
+use Rattle.ssh_layers.specs.ClientSessions.{end_of}
 use Rattle.ssh_pair.specs.Standing.{client_value}
 use Rattle.ssh_pair.proofs.ClientGoes.{client_answer, client_over}
 use Rattle.ssh_pair.proofs.Noting.{on_ok}

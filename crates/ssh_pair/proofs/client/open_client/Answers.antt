@@ -5,7 +5,7 @@ use Rattle.ssh_model.specs.End.State.{Authentication.OfClient, new_end}
 use Rattle.ssh_model.specs.Sessions.Items.{Item.SentLine}
 use Rattle.ssh_model.specs.Sessions.Parties.{settings_of}
 use Rattle.ssh_transport_base.specs.Meaning as config
-use Rattle.ssh_end.specs.ClientSessions.{end_of}
+use Rattle.ssh_layers.specs.ClientSessions.{end_of}
 use Rattle.ssh_pair.specs.Noting.{Adds}
 use Rattle.ssh_pair.proofs.Beginning.{opened_at, opens_as}
 use Rattle.ssh_pair.proofs.client.open_client.Goals as goal

@@ -3,7 +3,7 @@ use Rattle.std.proofs.Math.Seq.{take-length}
 use Rattle.ssh_model.specs.Side.{Side.Server, part}
 use Rattle.ssh_transport_machine.specs.Puts.{Outs}
 use Rattle.ssh_transport_machine.specs.State.{begun_of}
-use Rattle.ssh_end.specs.Sessions.{end_of}
+use Rattle.ssh_layers.specs.Sessions.{end_of}
 use Rattle.ssh_model.specs.Sessions.Items.{Item.Died}
 use Rattle.ssh_pair.specs.Standing.{server_value}
 use Rattle.ssh_pair.specs.Playing.{Advanced}

@@ -2,7 +2,7 @@ use Rattle.std.proofs.Common.{◌≡◌, false, refl, sym, ◌∙◌, subst}
 use Rattle.std.specs.Prelude.{OnErr}
 use Rattle.ssh_model.specs.Side.{Side.Server, part}
 use Rattle.ssh_end.specs.Asking.{ask_of}
-use Rattle.ssh_end.specs.Sessions.{end_of}
+use Rattle.ssh_layers.specs.Sessions.{end_of}
 use Rattle.ssh_pair.specs.Standing.{server_value}
 use Rattle.ssh_pair.proofs.ServerGoes.{server_answer, server_over}
 use Rattle.ssh_pair.proofs.Noting.{on_ok}

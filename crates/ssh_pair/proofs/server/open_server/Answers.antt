@@ -5,7 +5,7 @@ use Rattle.ssh_model.specs.End.State.{Authentication.OfServer, new_end}
 use Rattle.ssh_model.specs.Sessions.Items.{Item.SentLine}
 use Rattle.ssh_model.specs.Sessions.Parties.{settings_of}
 use Rattle.ssh_transport_base.specs.Meaning as config
-use Rattle.ssh_end.specs.Sessions.{end_of}
+use Rattle.ssh_layers.specs.Sessions.{end_of}
 use Rattle.ssh_pair.specs.Noting.{Adds}
 use Rattle.ssh_pair.proofs.Beginning.{opened_at, opens_as}
 use Rattle.ssh_pair.proofs.server.open_server.Goals as goal

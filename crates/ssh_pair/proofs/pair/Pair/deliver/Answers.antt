@@ -2,8 +2,8 @@ use Rattle.std.proofs.Common.{sym, ap, subst, refl}
 use Rattle.ssh_model.specs.Side.{Side.Client, Side.Server, part}
 use Rattle.ssh_model.specs.Sessions.Events.{Event.Delivers}
 use Rattle.ssh_types.specs.Sides.{side_of}
-use Rattle.ssh_end.specs.ClientSessions as client_sessions
-use Rattle.ssh_end.specs.Sessions as server_sessions
+use Rattle.ssh_layers.specs.ClientSessions as client_sessions
+use Rattle.ssh_layers.specs.Sessions as server_sessions
 use Rattle.ssh_pair.specs.Playing.{PlaysOne}
 use Rattle.ssh_pair.specs.Standing.{PairStands, PairValue, client_value, server_value}
 use Rattle.ssh_pair.proofs.Noting.{on_both, on_ok}

@@ -3,8 +3,8 @@ use Rattle.ssh_model.specs.Side.{Side.Client, Side.Server, part}
 use Rattle.ssh_model.specs.Sessions.Events.{Event.Feeds}
 use Rattle.ssh_model.specs.TransportLayer.Kept.{after_fed}
 use Rattle.ssh_types.specs.Sides.{side_of}
-use Rattle.ssh_end.specs.ClientSessions as client_sessions
-use Rattle.ssh_end.specs.Sessions as server_sessions
+use Rattle.ssh_layers.specs.ClientSessions as client_sessions
+use Rattle.ssh_layers.specs.Sessions as server_sessions
 use Rattle.ssh_pair.specs.Playing.{PairFed}
 use Rattle.ssh_pair.specs.Standing.{PairStands, PairValue, client_value, server_value}
 use Rattle.ssh_pair.proofs.PlayingClient.{client_fed}

@@ -4,9 +4,9 @@ use Rattle.ssh_model.specs.Wire.Message.{Msg.UserauthFailure}
 use Rattle.ssh_model.specs.Wire.Sealing.{IsSealing}
 use Rattle.ssh_model.specs.Sessions.Parties.{AreLawful, Settings}
 use Rattle.ssh_model.specs.Sessions.TurnClaims.{HasSpelling}
-use Rattle.ssh_end.specs.ClientSessions as client_sessions
+use Rattle.ssh_layers.specs.ClientSessions as client_sessions
 use Rattle.ssh_end.specs.Reading.{IsReading}
-use Rattle.ssh_end.specs.Sessions as server_sessions
+use Rattle.ssh_layers.specs.Sessions as server_sessions
 use Rattle.ssh_pair.specs.Playing.{Opens}
 use Rattle.ssh_pair.specs.Standing.{PairValue, client_value, server_value}
 use Rattle.ssh_pair.specs.declared.item.Done.{Done}

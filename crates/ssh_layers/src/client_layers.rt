@@ -1,0 +1,292 @@
+//! Authentication and channels on a client's transport.
+
+ghost use Rattle.std.specs.Prelude.{◌≡◌, ◌≤◌, IfErr, IfOk, IfSome, None, OnErr, OnOk, option_map, true};
+ghost use Rattle.ssh_model.specs.Authentication.Kept.{new_client, opened_client};
+ghost use Rattle.ssh_model.specs.Channels.Connection.{after_authentication};
+ghost use Rattle.ssh_model.specs.Channels.Kept.{Sends, Unblocks, no_channels, send_checks};
+ghost use Rattle.ssh_model.specs.Sessions.Refusals.{first_refusal};
+ghost use Rattle.ssh_model.specs.Wire.Sizes.{payload_size};
+ghost use Rattle.ssh_channels.specs.Values.{ask_of, reply_of, sent_of};
+ghost use Rattle.ssh_layers.specs.Connection.{AskFails};
+ghost use Rattle.ssh_model.specs.Sessions.Turns.{number_of};
+ghost use Rattle.ssh_model.specs.Wire.Message.{IsPayload, message_number};
+ghost use Rattle.ssh_message.specs.Meaning.{meaning};
+ghost use Rattle.ssh_message.specs.Written.{Fits};
+ghost use Rattle.ssh_layers.specs.declared.layer.Layer.TheVariants as Layer;
+ghost use Rattle.ssh_layers.specs.Layer.{layer_of as layer_for};
+ghost use Rattle.ssh_auth.specs.Asking.{ClientAsks, ClientRefuses, ask_of as user_ask_of};
+ghost use Rattle.ssh_layers.specs.ClientLayers.{LayersFail, LayersTake, may_take as takes, message_of, probes};
+
+use crate::below::Below;
+use crate::connection::{ask_channels, reply_message};
+use crate::fault::LayerFault;
+use crate::layer::{Layer, layer_of, number_in};
+use ssh_auth::{
+    AskError as UserAskError, AuthClient, ClientAnswer, UserAsk, UserRequest, UserSigner,
+};
+use ssh_channels::{Ask, AskError, Channels, Reply, Sent, Taken};
+use ssh_message::{Message, decode};
+use ssh_types::Refusal;
+use std::alloc::{AllocError, Global};
+use std::marker::Model;
+
+/// What the layers above a client's transport answer to a message.
+#[derive(Clone, Copy, Debug, PartialEq, Eq)]
+pub enum ClientLayerAnswer<'a> {
+    /// Authentication took it.
+    Authentication(ClientAnswer<'a>),
+    /// Channels took it.
+    Channels(Taken<'a>),
+    /// No message has this number: UNIMPLEMENTED is sent with the sequence number of the packet (RFC 4253 section 11.4).
+    Unknown,
+}
+
+/// A message that was taken, and what is answered to it. Both hold texts of the payload.
+#[derive(Clone, Copy, Debug)]
+pub struct ClientTaken<'a> {
+    /// The message.
+    pub message: Message<'a>,
+    /// What is answered.
+    pub answer: ClientLayerAnswer<'a>,
+}
+
+/// The layers above a client's transport: authentication (RFC 4252) and channels (RFC 4254).
+#[derive(Drop)]
+pub struct ClientLayers {
+    /// What it keeps of authentication.
+    pub authentication: AuthClient,
+    /// Its channels.
+    pub channels: Channels,
+}
+
+impl Model for ClientLayers {
+    ghost use Rattle.ssh_layers.specs.ClientLayers.{Layers};
+
+    ghost Value = { Layers };
+
+    ghost view = { λ l. record { authentication = l.authentication; channels = l.channels } };
+}
+
+impl ClientLayers {
+    /// Layers of a client before SERVICE_ACCEPT was taken, with no channel.
+    ///
+    /// # Errors
+    ///
+    /// Only where memory is refused.
+    pub fn new(alloc: Global) -> Result<ClientLayers, AllocError>
+        ensures authentication { IfOk result (λ layers. layers.authentication ≡ new_client) }
+        ensures channels { IfOk result (λ layers. layers.channels ≡ no_channels) }
+    {
+        Ok(ClientLayers {
+            authentication: AuthClient::new(alloc),
+            channels: Channels::new(alloc)?,
+        })
+    }
+
+    /// Is called once SERVICE_ACCEPT was taken (RFC 4253 section 10). It needs no memory.
+    pub fn open(&mut self)
+        ensures { self.new ≡ record self.old { authentication = opened_client self.old.authentication } }
+    {
+        self.authentication.open();
+    }
+
+    /// Makes the request of a user that is asked for (RFC 4252 section 5), which is then outstanding. Its message is sent outside an exchange
+    /// of keys.
+    ///
+    /// # Errors
+    ///
+    /// The layers are then as before.
+    ///
+    /// - `Refused`, the first of these that holds: `NotYet`, SERVICE_ACCEPT was not taken; `Busy`, a request is outstanding; `Ended`,
+    ///   USERAUTH_SUCCESS was taken; `TooLong`, the payload would have over 34,000 bytes.
+    /// - `Memory`: memory was refused for the text to be signed.
+    pub fn request<'a, S: UserSigner>(
+        &mut self,
+        signer: &S,
+        below: &Below<'_>,
+        ask: &UserAsk<'a>,
+    ) -> Result<UserRequest<'a>, UserAskError>
+        ensures sent { IfOk result (λ request. ClientAsks (S.signature_of signer.now) below.now.session.now self.old.authentication (user_ask_of ask.now) request self.new.authentication) }
+        ensures refused { IfErr result (λ error. ClientRefuses self.old.authentication (user_ask_of ask.now) error) }
+        ensures channels { self.new.channels ≡ self.old.channels }
+        ensures kept { OnErr result (self.new ≡ self.old) }
+    {
+        self.authentication.ask(below.session, signer, ask)
+    }
+
+    /// Asks for a message of the connection (RFC 4254). `due` says whether an exchange of keys is due.
+    ///
+    /// # Errors
+    ///
+    /// The layers are then as before.
+    ///
+    /// - `Refused(NotYet)`: the user is not authenticated.
+    /// - `Refused` with the first refusal of channels that holds.
+    /// - `Memory`: there was none for a new channel.
+    pub fn ask<'a>(
+        &mut self,
+        below: &Below<'_>,
+        ask: &Ask<'a>,
+        due: bool,
+    ) -> Result<Sent<'a>, AskError>
+        ensures refused { IfErr result (λ error. AskFails below.now.authenticated below.now.blocked due self.old.channels (ask_of ask.now) error) }
+        ensures kept { OnErr result (self.new ≡ self.old) }
+        ensures passed { OnOk result (first_refusal (after_authentication below.now.authenticated (send_checks below.now.blocked due self.old.channels (ask_of ask.now))) ≡ None) }
+        ensures sent { IfOk result (λ sent. Sends self.old.channels (ask_of ask.now) (sent_of sent) self.new.channels) }
+        ensures authentication { self.new.authentication ≡ self.old.authentication }
+        ensures fits { IfOk result (λ sent. Fits sent.message) }
+        ensures short { IfOk result (λ sent. payload_size (meaning sent.message) ≤ 34000) }
+    {
+        ask_channels(&mut self.channels, below, ask, due)
+    }
+
+    /// The message that is sent at once for an answer of `take`, where its packet had this sequence number; `None` where nothing is. It fits, and its
+    /// payload has at most 34,000 bytes. It needs no memory.
+    pub fn message<'a>(&self, answer: &ClientLayerAnswer<'a>, number: u32) -> Option<Message<'a>>
+        ensures message { option_map meaning result ≡ message_of answer.now number }
+        ensures fits { IfSome result (λ message. Fits message) }
+        ensures short { IfSome result (λ message. payload_size (meaning message) ≤ 34000) }
+    {
+        match *answer {
+            ClientLayerAnswer::Authentication(_) => None,
+            ClientLayerAnswer::Channels(taken) => reply_message(taken.reply),
+            ClientLayerAnswer::Unknown => Some(Message::Unimplemented { number }),
+        }
+    }
+
+    /// The oldest reply that is owed, once the end sent its NEWKEYS; `None` where none is owed. A CLOSE that is given frees its number.
+    pub fn unblock(&mut self) -> Option<Reply>
+        ensures given { Unblocks self.old.channels (option_map reply_of result) self.new.channels }
+        ensures authentication { self.new.authentication ≡ self.old.authentication }
+    {
+        self.channels.unblock()
+    }
+
+    /// The channels, to show.
+    pub fn channels(&self) -> &Channels
+        ensures { result.now ≡ self.now.channels }
+    {
+        &self.channels
+    }
+
+    /// Tests whether a message of this number from 50 on may come outside an exchange of keys. It needs no memory.
+    pub fn may_take(&self, below: &Below<'_>, number: u8) -> bool
+        ensures { result ≡ takes (record { session = below.now.session.now; is_blocked = below.now.blocked; is_authenticated = below.now.authenticated }) self.now number }
+    {
+        if number < 80 {
+            self.authentication.may_take(number)
+        } else {
+            below.authenticated
+        }
+    }
+
+    /// Takes a payload from 50 on, outside an exchange of keys of the peer's: tests its number, decodes it, and gives its message to the
+    /// layer that it is for.
+    ///
+    /// # Errors
+    ///
+    /// The layers are then as before.
+    ///
+    /// - `Refused(Unexpected)`: a message of this number may not come here.
+    /// - `Refused(BadMessage)`: the payload is no message.
+    /// - `Refused` with what a layer refuses the peer for.
+    /// - `Memory`: memory was refused for a new channel.
+    pub fn take<'a>(
+        &mut self,
+        below: &Below<'_>,
+        payload: &'a [u8],
+    ) -> Result<ClientTaken<'a>, LayerFault>
+        requires { 50 ≤ number_of payload.now }
+        ensures taken { IfOk result (λ taken. LayersTake (record { session = below.now.session.now; is_blocked = below.now.blocked; is_authenticated = below.now.authenticated }) self.old (meaning taken.message) payload.now taken.answer self.new) }
+        ensures fits { IfOk result (λ taken. Fits taken.message) }
+        ensures failed { IfErr result (λ fault. LayersFail (record { session = below.now.session.now; is_blocked = below.now.blocked; is_authenticated = below.now.authenticated }) self.old payload.now fault) }
+        ensures kept { OnErr result (self.new ≡ self.old) }
+    {
+        if !self.may_take(below, number_in(payload)) {
+            return Err(LayerFault::Refused(Refusal::Unexpected));
+        }
+        match decode(self.authentication.probing(), payload) {
+            Ok(message) => self.answer(below, payload, message),
+            Err(_) => Err(LayerFault::Refused(Refusal::BadMessage)),
+        }
+    }
+
+    // Gives the message of a payload to its layer.
+    fn answer<'a>(
+        &mut self,
+        below: &Below<'_>,
+        payload: &'a [u8],
+        message: Message<'a>,
+    ) -> Result<ClientTaken<'a>, LayerFault>
+        requires above { 50 ≤ number_of payload.now }
+        requires number { message_number (meaning message) ≡ number_of payload.now }
+        requires takes { takes (record { session = below.now.session.now; is_blocked = below.now.blocked; is_authenticated = below.now.authenticated }) self.old (number_of payload.now) ≡ true }
+        requires read { IsPayload (probes self.old) (meaning message) payload.now }
+        requires fits { Fits message }
+        ensures taken { IfOk result (λ taken. LayersTake (record { session = below.now.session.now; is_blocked = below.now.blocked; is_authenticated = below.now.authenticated }) self.old (meaning taken.message) payload.now taken.answer self.new) }
+        ensures fits { IfOk result (λ taken. Fits taken.message) }
+        ensures failed { IfErr result (λ fault. LayersFail (record { session = below.now.session.now; is_blocked = below.now.blocked; is_authenticated = below.now.authenticated }) self.old payload.now fault) }
+        ensures kept { OnErr result (self.new ≡ self.old) }
+    {
+        match layer_of(&message) {
+            Layer::Authentication => self.authenticate(below, payload, message),
+            Layer::Channels => self.carry(below, payload, message),
+            Layer::Nobody => Ok(ClientTaken {
+                message,
+                answer: ClientLayerAnswer::Unknown,
+            }),
+        }
+    }
+
+    // Gives authentication its message.
+    fn authenticate<'a>(
+        &mut self,
+        below: &Below<'_>,
+        payload: &'a [u8],
+        message: Message<'a>,
+    ) -> Result<ClientTaken<'a>, LayerFault>
+        requires number { message_number (meaning message) ≡ number_of payload.now }
+        requires takes { takes (record { session = below.now.session.now; is_blocked = below.now.blocked; is_authenticated = below.now.authenticated }) self.old (number_of payload.now) ≡ true }
+        requires read { IsPayload (probes self.old) (meaning message) payload.now }
+        requires fits { Fits message }
+        requires here { layer_for (meaning message) ≡ Layer.Authentication }
+        ensures taken { IfOk result (λ taken. LayersTake (record { session = below.now.session.now; is_blocked = below.now.blocked; is_authenticated = below.now.authenticated }) self.old (meaning taken.message) payload.now taken.answer self.new) }
+        ensures fits { IfOk result (λ taken. Fits taken.message) }
+        ensures failed { IfErr result (λ fault. LayersFail (record { session = below.now.session.now; is_blocked = below.now.blocked; is_authenticated = below.now.authenticated }) self.old payload.now fault) }
+        ensures kept { OnErr result (self.new ≡ self.old) }
+    {
+        match self.authentication.take(&message) {
+            Ok(answer) => Ok(ClientTaken {
+                message,
+                answer: ClientLayerAnswer::Authentication(answer),
+            }),
+            Err(error) => Err(LayerFault::from(error)),
+        }
+    }
+
+    // Gives channels its message.
+    fn carry<'a>(
+        &mut self,
+        below: &Below<'_>,
+        payload: &'a [u8],
+        message: Message<'a>,
+    ) -> Result<ClientTaken<'a>, LayerFault>
+        requires number { message_number (meaning message) ≡ number_of payload.now }
+        requires takes { takes (record { session = below.now.session.now; is_blocked = below.now.blocked; is_authenticated = below.now.authenticated }) self.old (number_of payload.now) ≡ true }
+        requires read { IsPayload (probes self.old) (meaning message) payload.now }
+        requires fits { Fits message }
+        requires here { layer_for (meaning message) ≡ Layer.Channels }
+        ensures taken { IfOk result (λ taken. LayersTake (record { session = below.now.session.now; is_blocked = below.now.blocked; is_authenticated = below.now.authenticated }) self.old (meaning taken.message) payload.now taken.answer self.new) }
+        ensures fits { IfOk result (λ taken. Fits taken.message) }
+        ensures failed { IfErr result (λ fault. LayersFail (record { session = below.now.session.now; is_blocked = below.now.blocked; is_authenticated = below.now.authenticated }) self.old payload.now fault) }
+        ensures kept { OnErr result (self.new ≡ self.old) }
+    {
+        match self.channels.take(&message, below.blocked) {
+            Ok(answer) => Ok(ClientTaken {
+                message,
+                answer: ClientLayerAnswer::Channels(answer),
+            }),
+            Err(error) => Err(LayerFault::from(error)),
+        }
+    }
+}
