@@ -74,6 +74,11 @@ look_at() (
 echo "definitions"
 sh "$top/tools/definitions.sh" || fail "a definition has no line in docs/definitions.md"
 sh "$top/tools/imports.sh" || fail "a crate cites the proofs of another"
+mkdir "$work/strangers"
+python3 "$top/tools/stranger.py" "$work/strangers"
+for script in "$work"/strangers/*; do
+    cmp "$script" "$top/crates/ssh_runs/data/$(basename "$script")" || fail "tools/stranger.py makes another script"
+done
 (sh "$top/tools/misuse.sh" || fail "a call that has to be refused is not") &
 # What takes the longest comes first: the tests of exchanges, the stored scripts, the program, the layers, and then the crates at the top, which are
 # compiled with all below them.

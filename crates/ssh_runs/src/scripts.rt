@@ -49,6 +49,14 @@ const SESSIONS: &[&str] = &[
     "both_ends_over",
     "exchange_without_material",
     "peer_without_material",
+    "success_from_the_client",
+    "exec_before_login",
+    "open_without_a_service",
+    "request_in_the_clear",
+    "extensions_in_the_clear",
+    "ignore_in_the_exchange",
+    "host_signature_of_another_session",
+    "user_signature_of_another_session",
 ];
 
 // Those of one epoch.

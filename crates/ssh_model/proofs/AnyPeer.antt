@@ -1,0 +1,9 @@
+pub mod Allowed
+pub mod Keeps
+pub mod Rows
+pub mod Server
+pub mod Clear
+pub mod First
+pub mod Nonces
+pub mod Sent
+pub mod Guarded

@@ -1,0 +1,155 @@
+-- A server requires authentication, whoever its peer is.
+use Rattle.std.proofs.Common.{◌≤◌, List, None, Option, Some, [], ap, arith, false, inl, inr, length, nat_le, refl, subst, sym, true, ℕ, ◌&&◌, ◌<◌, ◌∙◌, ◌∷◌, ◌≡◌, ◌⊎◌}
+use Rattle.std.specs.Prelude.{codes}
+use Rattle.ssh_model.specs.Side.{Side.Server}
+use Rattle.ssh_model.specs.Lists.{IsIn, IsOlder}
+use Rattle.ssh_model.specs.Wire.Message.{Msg, message_number, Msg.UserauthRequest, Msg.UserauthSuccess, Method, Method.NoMethod, Method.Password, Method.Publickey, Method.Other}
+use Rattle.ssh_model.specs.Sessions.Parties.{Parties, AreLawful}
+use Rattle.ssh_model.specs.Sessions.Items.{Fact.Accepted, Item, Item.Sent, Item.Took, Item.Told, took}
+use Rattle.ssh_model.specs.Sessions.Epochs.{epoch}
+use Rattle.ssh_model.specs.Sessions.Phases.{sent_success}
+use Rattle.ssh_model.specs.KeyExchange.Exchanges.{exchanges, no_exchange, session_id}
+use Rattle.ssh_model.specs.KeyExchange.Exchange.{exchange_hash}
+use Rattle.ssh_model.specs.Authentication.Requests.{is_accepted, is_right, is_known_key, is_for_connection, is_configured, judge_of, signed_text}
+use Rattle.ssh_model.specs.Sessions.Turns.{EndRun}
+use Rattle.ssh_model.specs.Sessions.AnyPeer.{Authenticates, AcceptedRequest, RequiresAuthentication}
+use Rattle.ssh_model.proofs.Wire.Payloads.{not_both}
+use Rattle.ssh_model.proofs.Sessions.Older.{older_self, nth_same}
+use Rattle.ssh_model.proofs.Sessions.Rules.{Rules, rules_older, exchanges_older, exchanges_length, took_behind}
+use Rattle.ssh_model.proofs.Sessions.Stages.{and_left, and_right}
+use Rattle.ssh_model.proofs.Sessions.SoundTurns.{end_sound, authenticated_when}
+use Rattle.ssh_model.proofs.Sessions.Accepted.{held_then}
+use Rattle.ssh_model.proofs.Sessions.EndTurns.{end_keeps}
+use Rattle.ssh_model.proofs.AnyPeer.Keeps.{Grounds}
+use Rattle.ssh_model.proofs.AnyPeer.Rows.{known}
+
+pub older_part : (i : Item) (o h : List Item) → IsOlder (i ∷ o) h → IsOlder o h
+older_part i o [] e = absurd (cc e)
+older_part i o (j ∷ h) (inl e) = inr (let t : o ≡ h = cc e in let P : List Item → Type 0 = λ w. IsOlder w h in subst P (sym t) (older_self h))
+older_part i o (j ∷ h) (inr r) = inr (older_part i o h r)
+
+module _ {K : Type 0} (p : Parties K) where
+  shows : (session user service : List ℕ) (method : Method) → is_right (judge_of p) p.server.methods session user service method ≡ true → Authenticates p session user service method
+  shows session user service NoMethod e = e
+  shows session user service (Password word None) e = and_right (is_configured p.server.methods _) (p.password_is_right user word) e
+  shows session user service (Password word (Some new)) e = absurd (cc e)
+  shows session user service (Publickey algorithm key None) e = absurd (cc e)
+  shows session user service (Publickey algorithm key (Some signature)) e =
+      let named = is_configured p.server.methods (codes "publickey") in
+      let known = is_known_key (judge_of p) user algorithm key in
+      let right = p.signature_is_right algorithm key (signed_text session user service algorithm key) signature in
+      let both = and_left (named && known) right e in
+      let short = nat_le (length key) 16384 && nat_le (length algorithm) 64 in
+      (and_right short (p.knows_key user algorithm key) (and_right named known both), and_right (named && known) right e)
+  shows session user service (Other name rest) e = absurd (cc e)
+
+  -- the session id is the one that the session has ever after
+  same_id : (before h : List Item) → IsOlder before h → Rules p Server h → 0 < epoch (took before) → session_id (exchanges p Server before) ≡ session_id (exchanges p Server h)
+  same_id before h o r n =
+      let k = took_behind p Server before (rules_older p Server before h o r) in
+      ap exchange_hash (nth_same no_exchange 0 _ _ (exchanges_older p Server before h o) (omega (arith, n, k, exchanges_length p Server before)))
+
+  accepted_request : (user service : List ℕ) (method : Method) (payload success : List ℕ) (before h : List Item)
+      → IsOlder (Sent None UserauthSuccess success ∷ Took None (UserauthRequest user service method) payload ∷ before) h → Rules p Server h
+      → is_accepted p before user service method ≡ true → sent_success before ≡ false → 0 < epoch (took before) → AcceptedRequest p h
+  accepted_request user service method payload success before h o r a f n = record {
+    user = user;
+    service = service;
+    method = method;
+    payload = payload;
+    success = success;
+    before = before;
+    taken = o;
+    keyed = n;
+    first = f;
+    accepted = a;
+    shown = subst (λ s. Authenticates p s user service method) (same_id before h (older_part _ before h (older_part _ _ h o)) r n)
+        (shows (session_id (exchanges p Server before)) user service method (and_right (is_for_connection service) _ a));
+  }
+
+  by_success : (h whole : List Item) → IsOlder h whole → Rules p Server whole → Grounds p Server h → sent_success h ≡ true → AcceptedRequest p whole
+  by_success [] whole o r g e = absurd (cc e)
+  by_success (Sent c UserauthSuccess b ∷ h) whole o r g e =
+      let a = g.0 in
+      let upon : IsOlder (Sent None UserauthSuccess b ∷ Took None (UserauthRequest a.user a.service a.method) a.payload ∷ a.before) whole =
+      subst (λ w. IsOlder (Sent None UserauthSuccess b ∷ w) whole) a.history_is (subst (λ x. IsOlder (Sent x UserauthSuccess b ∷ h) whole) a.channel_is o) in
+      accepted_request a.user a.service a.method a.payload b a.before whole upon r a.request.accepted a.request.first a.request.keyed
+  by_success (i ∷ h) whole o r g e = by_success h whole (older_part _ h whole o) r g.1 e
+
+  by_told : (user : List ℕ) (h whole : List Item) → IsOlder h whole → Rules p Server whole → Grounds p Server h → IsIn (Told (Accepted user)) h → (request : AcceptedRequest p whole) × (request.user ≡ user)
+  unfolding accepted_request
+  by_told user [] whole o r g i = elim i [ ]
+  by_told user (Told (Accepted name) ∷ h) whole o r g (inl e) =
+      let a = g.0 in
+      let before = older_part _ h whole o in
+      let taken = subst (λ w. IsOlder w whole) a.history_is before in
+      let same : user ≡ name = cc e in
+      (accepted_request name a.service a.method a.payload a.success a.before whole taken r a.request.accepted a.request.first a.request.keyed, sym same)
+  by_told user (i ∷ h) whole o r g (inr l) = by_told user h whole (older_part i h whole o) r g.1 l
+  by_told user (i ∷ h) whole o r g (inl e) = absurd (cc e)
+
+  -- ---- one user
+
+  -- SUCCESS in an older part
+  was_sent_success : (c : Option ℕ) (b : List ℕ) (o h : List Item) → IsOlder (Sent c UserauthSuccess b ∷ o) h → sent_success h ≡ true
+  was_sent_success c b o [] e = absurd (cc e)
+  was_sent_success c b o (i ∷ h) (inl e) = subst (λ w. sent_success w ≡ true) e refl
+  was_sent_success c b o (i ∷ h) (inr r) = still i h (was_sent_success c b o h r)
+    where
+      still : (i : Item) (h : List Item) → sent_success h ≡ true → sent_success (i ∷ h) ≡ true
+      still (Sent c UserauthSuccess b) h e = refl
+      still (Sent c m b) h e = e
+      still i h e = e
+
+  older_either : (a b l : List Item) → IsOlder a l → IsOlder b l → IsOlder a b ⊎ IsOlder b a
+  older_either a b [] x y = inl (let P : List Item → Type 0 = λ w. IsOlder a w in subst P (x ∙ sym y) (older_self a))
+  older_either a b (i ∷ l) (inl e) y = let P : List Item → Type 0 = λ w. IsOlder b w in inr (subst P (sym e) y)
+  older_either a b (i ∷ l) (inr x) (inl e) = let P : List Item → Type 0 = λ w. IsOlder a w in inl (subst P (sym e) (inr x))
+  older_either a b (i ∷ l) (inr x) (inr y) = older_either a b l x y
+
+  same_user : (h : List Item) (a b : AcceptedRequest p h)
+      → IsOlder (Sent None UserauthSuccess a.success ∷ Took None (UserauthRequest a.user a.service a.method) a.payload ∷ a.before)
+      (Sent None UserauthSuccess b.success ∷ Took None (UserauthRequest b.user b.service b.method) b.payload ∷ b.before) → a.user ≡ b.user
+  same_user h a b (inl e) = cc e
+  same_user h a b (inr (inl e)) = absurd (cc e)
+  same_user h a b (inr (inr o)) = absurd (not_both (sym (was_sent_success None a.success _ b.before o) ∙ b.first))
+
+  one_user : (h : List Item) (a b : AcceptedRequest p h) → a.user ≡ b.user
+  one_user h a b = go (older_either _ _ h a.taken b.taken)
+    where
+      go : IsOlder (Sent None UserauthSuccess a.success ∷ Took None (UserauthRequest a.user a.service a.method) a.payload ∷ a.before)
+          (Sent None UserauthSuccess b.success ∷ Took None (UserauthRequest b.user b.service b.method) b.payload ∷ b.before)
+          ⊎ IsOlder (Sent None UserauthSuccess b.success ∷ Took None (UserauthRequest b.user b.service b.method) b.payload ∷ b.before)
+          (Sent None UserauthSuccess a.success ∷ Took None (UserauthRequest a.user a.service a.method) a.payload ∷ a.before)
+          → a.user ≡ b.user
+      go (inl o) = same_user h a b o
+      go (inr o) = sym (same_user h b a o)
+
+module _ {K : Type 0} (p : Parties K) (laws : AreLawful p) where
+  -- SUCCESS was sent for a request
+  after_success : (h : List Item) → EndRun p Server h → sent_success h ≡ true → AcceptedRequest p h
+  after_success h r e = by_success p h h (older_self h) (end_keeps p laws Server h r).rules (known p laws Server h r).grounds e
+
+  -- a message of the connection is taken after that
+  accepted_before : (h : List Item) → Grounds p Server h → (c : Option ℕ) (m : Msg) (b : List ℕ) (before : List Item) → IsOlder (Took c m b ∷ before) h → 80 ≤ message_number m → AcceptedRequest p before
+  accepted_before [] g c m b before e n = absurd (cc e)
+  accepted_before (i ∷ h) g c m b before (inl e) n =
+      let P : List Item → Type 0 = λ w. Grounds p Server w in
+      let at = (subst P (sym e) g).0 in
+      after_success before at.run (authenticated_when p Server before m b at.welcome n)
+  accepted_before (i ∷ h) g c m b before (inr o) n = accepted_before h g.1 c m b before o n
+
+  pub requires_authentication : (h : List Item) → EndRun p Server h → RequiresAuthentication p h
+  requires_authentication h r =
+      let k = known p laws Server h r in
+      let s = end_sound p laws Server h r in
+      let rules = (end_keeps p laws Server h r).rules in
+      let after : sent_success h ≡ true → AcceptedRequest p h = after_success h r in
+      record {
+        success = after;
+        messages = λ c. after (s.entitled c);
+        taken = λ c m b before o n. accepted_before h k.grounds c m b before o n;
+        channels = λ x e. after (held_then p laws Server h x s e);
+        one = one_user p h;
+        told = λ user i. by_told p user h h (older_self h) rules k.grounds i;
+      }

@@ -1,0 +1,51 @@
+//! What one end keeps to, whoever its peer is: the second headline, besides the claims on two ends in an honest run.
+
+ghost use Rattle.std.specs.Prelude.{◌≡◌, List, [], ◌∷◌, Some, None, true, false, codes, reverse};
+ghost use Rattle.ssh_model.specs.Side.{Side, Side.Client, Side.Server, part};
+ghost use Rattle.ssh_model.specs.Wire.Message.{Msg.Ignore, Msg.KexInit, Msg.NewKeys, Msg.KexEcdhInit, Msg.ExtInfo, Msg.UserauthRequest, Msg.UserauthSuccess, Method.NoMethod};
+ghost use Rattle.ssh_model.specs.Sessions.Parties.{Parties, AreLawful};
+ghost use Rattle.ssh_model.specs.Sessions.Items.{Item, took};
+ghost use Rattle.ssh_model.specs.Sessions.Turns.{EndRun};
+ghost use Rattle.ssh_model.specs.Sessions.Claims.{HasConnection};
+ghost use Rattle.ssh_model.specs.KeyExchange.Exchanges.{is_strict};
+ghost use Rattle.ssh_model.specs.Sessions.AnyPeer.{IsGuarded, AcceptedRequest, RequiresAuthentication, VerifiesHosts, EachIncludesOwn, TakesOnlyAllowed, TakesOnlyExchange, RequiresStrict, IsFresh, SendsOnlyExchange, UsesNoNonceTwice, taken_in_first_exchange, sent_in_first_exchange};
+ghost use Rattle.ssh_model.specs.Example.Toys.{toy, secret};
+ghost use Rattle.ssh_model.specs.Example.Histories.{connection, says, hears, keyed, lined, offered, offer_of, open_message};
+ghost use Rattle.ssh_model.specs.Example.Run.{takes, takes_on, session};
+
+/// Every run of one end is guarded, whatever bytes come to it and whatever its user asks. A server requires
+/// authentication. A client verifies each host. Each exchange includes what the end put into it. In the clear only the
+/// exchange is taken and sent; with strict key exchange nothing comes between its messages. No nonce is used twice.
+pub fn against_any_peer<K>()
+    ensures { (p : Parties K) → AreLawful p → (side : Side) → (h : List Item) → EndRun p side h → IsGuarded p side h }
+{}
+
+/// A run in which a server of toy parts accepts its user and takes messages of the connection. What each toy end took and
+/// sent up to NEWKEYS is the exchange.
+pub fn guarded_example()
+    ensures runs { (side : Side) → EndRun toy side (part side session) }
+    ensures serves { HasConnection (took (part Server session)) }
+    ensures accepts { AcceptedRequest toy (part Server session) }
+    ensures strict { (side : Side) → is_strict side (part side session) ≡ true }
+    ensures taken_by_server { reverse (taken_in_first_exchange (part Server session)) ≡ Some 20 ∷ Some 30 ∷ Some 21 ∷ [] }
+    ensures taken_by_client { reverse (taken_in_first_exchange (part Client session)) ≡ Some 20 ∷ Some 31 ∷ Some 21 ∷ [] }
+    ensures sent_by_server { reverse (sent_in_first_exchange (part Server session)) ≡ 20 ∷ 31 ∷ 21 ∷ [] }
+    ensures sent_by_client { reverse (sent_in_first_exchange (part Client session)) ≡ 20 ∷ 30 ∷ 21 ∷ [] }
+    ensures fresh { (side : Side) → IsFresh toy side (part side session) }
+{}
+
+/// Histories that are not guarded, so that no end has them. A server opens a channel for a client that sends SUCCESS
+/// itself. A client completes an exchange without a reply, or with a point that is not its own. An end takes a request or
+/// extensions in the clear, names its user to a host that is not verified, takes IGNORE in a strict first exchange, goes
+/// on without the marker that it requires, or sends under one key name and number twice.
+pub fn unguarded_examples()
+    ensures success_from_the_client { RequiresAuthentication toy (takes_on 5 open_message ∷ takes UserauthSuccess ∷ keyed Server) → ⊥ }
+    ensures newkeys_without_a_reply { VerifiesHosts toy (says NewKeys ∷ offered Client) → ⊥ }
+    ensures point_of_another_secret { EachIncludesOwn toy Client (says NewKeys ∷ says (KexEcdhInit (secret 2)) ∷ lined Client) → ⊥ }
+    ensures request_in_the_clear { TakesOnlyAllowed Server (hears (UserauthRequest (codes "u") connection NoMethod) ∷ offered Server) → ⊥ }
+    ensures extensions_in_the_clear { TakesOnlyAllowed Client (hears (ExtInfo []) ∷ offered Client) → ⊥ }
+    ensures ignore_in_the_exchange { TakesOnlyExchange toy Server (hears (KexEcdhInit (secret 1)) ∷ hears (Ignore []) ∷ offered Server) → ⊥ }
+    ensures request_to_an_unproven_host { SendsOnlyExchange Client (says (UserauthRequest (codes "u") connection NoMethod) ∷ offered Client) → ⊥ }
+    ensures kexinit_without_the_marker { RequiresStrict toy Server (hears (KexInit (offer_of Client false)) ∷ lined Server) → ⊥ }
+    ensures number_again { UsesNoNonceTwice toy Client (says (Ignore []) ∷ says NewKeys ∷ says (Ignore []) ∷ says NewKeys ∷ hears (KexInit (offer_of Server true)) ∷ says (KexInit (offer_of Client true)) ∷ []) → ⊥ }
+{}
