@@ -57,6 +57,23 @@ const SESSIONS: &[&str] = &[
     "ignore_in_the_exchange",
     "host_signature_of_another_session",
     "user_signature_of_another_session",
+    "banner_and_debug",
+    "data_over_the_longest",
+    "data_over_the_window",
+    "globals_over_the_limit",
+    "keys_of_a_plain_session",
+    "keys_with_extensions",
+    "no_common_mac",
+    "other_service",
+    "other_version",
+    "requests_after_success",
+    "requests_over_the_limit",
+    "window_over_the_largest",
+    "global_requests",
+    "last_try",
+    "refused_open_and_extended_data",
+    "requests_and_replies",
+    "tries_used_up",
 ];
 
 // Those of one epoch.
