@@ -148,11 +148,13 @@ impl<P: ServerParts, U: UserJudge + Drop> ServerEnd<P, U> {
     /// `used` of the bytes are used, the others are given again. Its texts are slices of the end's buffer, so nothing else can be done with
     /// the end while they are looked at.
     ///
-    /// A call that sends nothing and makes no channel and no key asks for no memory.
+    /// A call that sends nothing and makes no channel and no key asks for no memory, with one exception: a server all of whose sequence
+    /// numbers are used asks for some before it looks at the signature of a request.
     ///
     /// # Errors
     ///
-    /// - `Memory`: memory was refused. Nothing is put out, and the end is over.
+    /// - `Memory`: memory was refused. Nothing is put out, and the end is over. A server without sequence numbers answers it too, where
+    ///   with memory it would refuse for want of a number.
     /// - `Dead`: the end was over before. Nothing is put out.
     pub fn take<'a>(&'a mut self, bytes: &[u8], out: &mut Vec<u8>) -> Result<Turn<'a>, Fault>
         ensures used { IfOk result (λ turn. turn.used ≤ length bytes.now) }

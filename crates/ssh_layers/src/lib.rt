@@ -9,7 +9,7 @@
 //! let mut layers = ServerLayers::new(alloc, 6, &methods)?;
 //! layers.open();                                        // SERVICE_ACCEPT was sent
 //! let below = Below { session: &session_id, blocked: false, authenticated: false };
-//! let taken = layers.take(&below, &judge, payload)?;
+//! let taken = layers.take(&judge, &below, payload)?;
 //! if let Some(reply) = layers.message(&taken.answer, number) {
 //!     encode(&reply, &mut out)?;                        // a reply that goes out at once
 //! }

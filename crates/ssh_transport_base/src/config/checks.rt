@@ -106,12 +106,14 @@ fn fits_line(software: &[u8], comments: Option<&[u8]>) -> bool
     }
 }
 
-// The first fault of the lists.
+// The first fault of the lists. Pairs are tried only where both lists are short.
 fn lists_fault<S: Sealing>(settings: &Settings<'_>) -> Option<(ConfigList, ListFault)>
     ensures { result ≡ fault_of_lists S.crypto (given settings.now) }
 {
-    let names = each_fault(settings).or(name_fault(settings));
-    names.or(pair_fault::<S>(settings))
+    match each_fault(settings).or(name_fault(settings)) {
+        Some(fault) => Some(fault),
+        None => pair_fault::<S>(settings),
+    }
 }
 
 // The first fault of a list's texts.
@@ -233,15 +235,17 @@ fn is_tries(tries: u32) -> bool
     tries >= 1 && tries <= MOST_TRIES
 }
 
-// What is wrong with the extensions.
+// What is wrong with the extensions. They are compared with one another only where they are few.
 fn extension_fault(taken: bool, extensions: &[Extension<'_>]) -> Option<ExtensionFault>
     ensures { result ≡ fault_of_extensions taken (map extension_of extensions.now) }
 {
-    let number = number_fault(taken, extensions);
+    if let Some(fault) = number_fault(taken, extensions) {
+        return Some(fault);
+    }
     let names = told_unless(have_names(extensions), ExtensionFault::NotName);
     let values = told_unless(have_short_values(extensions), ExtensionFault::LongValue);
     let once = told_unless(are_distinct(extensions), ExtensionFault::NameTwice);
-    number.or(names).or(values.or(once))
+    names.or(values.or(once))
 }
 
 // There are none where none are taken, and at most 16.
