@@ -9,7 +9,7 @@ use Rattle.aes_gcm.specs.Streams.{entry_of, stream, sum_of}
 use Rattle.aes_gcm.specs.Tables.{IsWord, absorb, element_of, many, none, plus, word}
 use Rattle.aes_gcm.proofs.Chain.{streams, streams_sum}
 
--- today's sum is that of the elements
+-- the sum of bytes is that of the elements
 pub absorbed_is : (k s : Element) (b : List ℕ) (n : ℕ) → absorbed_all k s b n ≡ absorb k s (block_at b) n
 unfolding absorbed_all absorbed absorb
 absorbed_is k s b zero = refl
