@@ -59,7 +59,7 @@ none_word = record { hi = omega arith; lo = omega arith }
 of : ℕ → ℕ → Element
 of m n = record { hi = m; lo = n }
 
-plus_word : (x y : Element) → IsWord x → IsWord y → IsWord (plus x y)
+pub plus_word : (x y : Element) → IsWord x → IsWord y → IsWord (plus x y)
 plus_word x y a b = record { hi = xor_lt 64 x.hi y.hi a.hi b.hi; lo = xor_lt 64 x.lo y.lo a.lo b.lo }
 
 plus_none : (x : Element) → plus x none ≡ x

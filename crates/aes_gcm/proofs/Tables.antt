@@ -1,5 +1,5 @@
 -- A table of the nibbles' products is a table of all blocks' products.
-use Rattle.std.proofs.Common.{◌≡◌, ℕ, zero, suc, ◌+◌, ◌*◌, ◌/◌, ◌%◌, ◌^◌, ◌<◌, ◌≢◌, Bool, true, false, cond, eqb, List, length, slice_index, bit_xor, refl, sym, ap, ap₂, ◌∙◌, arith}
+use Rattle.std.proofs.Common.{◌≡◌, ℕ, zero, suc, ◌+◌, ◌*◌, ◌/◌, ◌%◌, ◌^◌, ◌<◌, ◌≢◌, Bool, true, false, cond, eqb, List, slice_index, bit_xor, refl, sym, ap, ap₂, ◌∙◌, arith}
 use Rattle.std.proofs.lemmas.Nat.{xor_comm, xor_lt, from_be_bytes-to_be_bytes_8}
 use Rattle.std.specs.Int.Bits.{xor_zero_r}
 use lib.Bits.{xor_zero_l, xor_shifted}
@@ -8,7 +8,7 @@ use Rattle.aes_gcm.specs.Ghash.{product}
 use Rattle.aes_gcm.specs.Streams.{sum_of}
 use Rattle.aes_gcm.specs.Tables.{IsNibbles, IsWord, at, bytes_of, element_of, many, nibble, place, plus, word}
 use Rattle.aes_gcm.proofs.Blocks.{IsTable, element_same, element_word, element_xor}
-use Rattle.aes_gcm.proofs.Chain.{many_adds, many_none, product_word}
+use Rattle.aes_gcm.proofs.Chain.{many_adds, many_none}
 use Rattle.aes_gcm.proofs.StreamLanes.{below_16}
 
 -- For each byte and each value of its low nibble and of its high one, the table has the bytes of m products, each sixteen places after the one before it.
@@ -74,7 +74,7 @@ element_same_16 : (f g : ℕ → ℕ) → ((i : ℕ) → i < 16 → f i ≡ g i)
 unfolding of
 element_same_16 f g e = ap₂ of (word_same f g (λ i h. e i (omega arith))) (word_same (λ (i : ℕ). f (8 + i)) (λ (i : ℕ). g (8 + i)) (λ i h. e (8 + i) (omega arith)))
 
-sum_lt : (t : List ℕ) (f : ℕ → ℕ) (a n : ℕ) → ((i : ℕ) → slice_index t i < 2 ^ 8) → sum_of t f a 0 n < 2 ^ 8
+pub sum_lt : (t : List ℕ) (f : ℕ → ℕ) (a n : ℕ) → ((i : ℕ) → slice_index t i < 2 ^ 8) → sum_of t f a 0 n < 2 ^ 8
 unfolding sum_of
 sum_lt t f a zero p = omega arith
 sum_lt t f a (suc n) p =
@@ -123,14 +123,14 @@ table_from_products q t k wk is = record {
 pub element_below_16 : (f g : ℕ → ℕ) → ((i : ℕ) → i < 16 → f i ≡ g i) → element_of f ≡ element_of g
 element_below_16 f g e = element_same_16 f g e
 
-low_nibble : (i v : ℕ) → v < 16 → nibble (32 * i + v) ≡ at i v
+pub low_nibble : (i v : ℕ) → v < 16 → nibble (32 * i + v) ≡ at i v
 low_nibble i v h =
     let a : (32 * i + v) / 32 ≡ i = omega arith in
     let b : (32 * i + v) / 16 % 2 ≡ 0 = omega arith in
     let c : (32 * i + v) % 16 ≡ v = omega arith in
     rw (b, c, a) refl
 
-high_nibble : (i v : ℕ) → v < 16 → nibble (32 * i + 16 + v) ≡ at i (16 * v)
+pub high_nibble : (i v : ℕ) → v < 16 → nibble (32 * i + 16 + v) ≡ at i (16 * v)
 high_nibble i v h =
     let a : (32 * i + 16 + v) / 32 ≡ i = omega arith in
     let b : (32 * i + 16 + v) / 16 % 2 ≡ 1 = omega arith in
@@ -154,44 +154,17 @@ products_of q t k p is = record {
 pub table_from_nibbles : (q : ℕ) (t : List ℕ) (k : Element) → ((i : ℕ) → slice_index t i < 2 ^ 8) → IsNibbles q t k → IsTable q t k
 table_from_nibbles q t k p is = table_from_products q t k is.key (products_of q t k p is)
 
-many_more : (a b : ℕ) (k x : Element) → many (a + b) k x ≡ many b k (many a k x)
+pub many_more : (a b : ℕ) (k x : Element) → many (a + b) k x ≡ many b k (many a k x)
 unfolding many
 many_more a zero k x = ap (λ (n : ℕ). many n k x) (omega arith)
 many_more a (suc b) k x =
     let e : a + suc b ≡ suc (a + b) = omega arith in
     ap (λ (n : ℕ). many n k x) e ∙ ap (λ (y : Element). product y k) (many_more a b k x)
 
--- A table through its own map is a table of twice as many products.
-pub doubled : (q : ℕ) (t u : List ℕ) (k : Element) → ((i : ℕ) → slice_index t i < 2 ^ 8) → IsNibbles q t k → length u ≡ 8192
-    → ((n j : ℕ) → n < 512 → j < 16 → slice_index u (place n j) ≡ sum_of t (λ (i : ℕ). slice_index t (place n i)) (16 * j) 0 16) → IsNibbles (q + q) u k
-doubled q t u k p is long e = record {
-  columns = λ n h.
-      let f : ℕ → ℕ = λ (i : ℕ). slice_index t (place n i) in
-      element_same_16 (λ (j : ℕ). slice_index u (place n j)) (λ (j : ℕ). sum_of t f (16 * j) 0 16) (λ j. e n j h)
-      ∙ (table_from_nibbles q t k p is).map f (λ i. p (place n i))
-      ∙ ap (many q k) (is.columns n h)
-      ∙ sym (many_more q q k (element_of (nibble n)));
-  long = long;
-  key = is.key;
-}
-
 -- the bytes of an element make it again
 pub element_of_bytes : (x : Element) → IsWord x → element_of (slice_index (bytes_of x)) ≡ x
 unfolding of
 element_of_bytes x w = ap₂ of (from_be_bytes-to_be_bytes_8 x.hi w.hi) (from_be_bytes-to_be_bytes_8 x.lo w.lo)
-
--- A table of the single products is one of products.
-pub first_table : (t : List ℕ) (k : Element) → IsWord k → length t ≡ 8192
-    → ((n j : ℕ) → n < 512 → j < 16 → slice_index t (place n j) ≡ slice_index (bytes_of (product (element_of (nibble n)) k)) j) → IsNibbles 1 t k
-unfolding many
-first_table t k wk long e = record {
-  columns = λ n h.
-      let x : Element = product (element_of (nibble n)) k in
-      element_same_16 (λ (j : ℕ). slice_index t (place n j)) (slice_index (bytes_of x)) (λ j. e n j h)
-      ∙ element_of_bytes x (product_word (element_of (nibble n)) k wk);
-  long = long;
-  key = wk;
-}
 
 -- ---- places
 
@@ -204,19 +177,6 @@ other_column m n i j ne h k e =
     let high : m / 16 ≡ n / 16 = omega (arith, e) in
     let same : m ≡ n = omega (arith, low, high) in
     ne same
-
--- the sixteen bytes of row n, as bytes of columns
-pub row_of_columns : (t u : List ℕ)
-    → ((m i : ℕ) → m < 512 → i < 16 → slice_index u (16 * m + i) ≡ sum_of t (λ (j : ℕ). slice_index t (256 * (m / 16) + 16 * j + i)) (16 * (m % 16)) 0 16)
-    → (n j : ℕ) → n < 512 → j < 16 → slice_index u (place n j) ≡ sum_of t (λ (i : ℕ). slice_index t (place n i)) (16 * j) 0 16
-row_of_columns t u e n j h k =
-    let m : ℕ = 16 * (n / 16) + j in
-    let i : ℕ = n % 16 in
-    let p : place n j ≡ 16 * m + i = omega arith in
-    let a : m / 16 ≡ n / 16 = omega arith in
-    let b : m % 16 ≡ j = omega arith in
-    let w : sum_of t (λ (j : ℕ). slice_index t (256 * (m / 16) + 16 * j + i)) (16 * (m % 16)) 0 16 ≡ sum_of t (λ (j : ℕ). slice_index t (256 * (n / 16) + 16 * j + i)) (16 * j) 0 16 = rw (a, b) refl in
-    ap (slice_index u) p ∙ e m i (omega arith) (omega arith) ∙ w
 
 pub place_below_16 : (l j : ℕ) → l < 16 → 16 * j + l ≡ place l j
 place_below_16 l j h = omega arith

@@ -1,9 +1,9 @@
 //! The table of a key's products, by which sixteen streams of blocks are absorbed at once.
 
-ghost use Rattle.std.specs.Prelude.{◌≡◌, ◌≢◌, ℕ, ◌≤◌, ◌<◌, ◌+◌, ◌^◌, ◌*◌, ◌/◌, ◌%◌, IfOk, length, slice_index};
+ghost use Rattle.std.specs.Prelude.{◌≡◌, ◌≢◌, ℕ, ◌≤◌, ◌<◌, ◌+◌, ◌^◌, ◌*◌, ◌/◌, ◌%◌, IfOk, bit_xor, length, slice_index};
 ghost use Rattle.aes_gcm.specs.Ghash.{absorbed_all, blocks, product};
 ghost use Rattle.aes_gcm.specs.Streams.{byte_in, sum_of};
-ghost use Rattle.aes_gcm.specs.Tables.{IsNibbles, IsWord, absorb, bytes_of, element_of, first_blocks, nibble, none, place};
+ghost use Rattle.aes_gcm.specs.Tables.{IsNibbles, IsWord, absorb, bit_column, bytes_of, element_of, first_blocks, nibble, none, part, place, sum_at};
 
 use crate::ghash::{Element, absorbed, absorbed_all, block_at, product};
 use crate::streams::{gather, row, store, times};
@@ -46,15 +46,84 @@ fn whole(x: Element) -> Element
     Element { hi, lo }
 }
 
-// The table of the single products.
+// The table of the single products, from those of the bits.
 fn fill(table: &mut [u8], key: Element)
     requires key { IsWord key }
     requires table { length table.old ≡ 8192 }
     ensures { IsNibbles 1 table.new key }
 {
-    for n in 0..512usize {
-        put_column(table, n, product(nibble(n), key));
+    for g in 0..8usize {
+        let mut products = [0; 256];
+        bit_products(&mut products, g, key);
+        put_places(table, g, &products);
     }
+}
+
+// The products of sixteen blocks of one bit, turned.
+fn bit_products(products: &mut [u8], g: usize, key: Element)
+    requires g { g < 8 }
+    requires key { IsWord key }
+    requires products { length products.old ≡ 256 }
+    ensures bytes { (l j : ℕ) → l < 16 → j < 16 → byte_in products.new l j ≡ slice_index (bytes_of (product (element_of (nibble (bit_column g l))) key)) j }
+    ensures long { length products.new ≡ 256 }
+{
+    for l in 0..16usize {
+        put_column(products, l, product(nibble(bit_column(g, l)), key));
+    }
+}
+
+// The column of one bit: of the four places of nibbles from 4 g on, four bits each.
+fn bit_column(g: usize, l: usize) -> usize
+    requires g { g < 8 }
+    requires l { l < 16 }
+    ensures column { result ≡ bit_column g l }
+    ensures below { result < 512 }
+{
+    64 * g + 16 * (l / 4) + (1 << (l % 4))
+}
+
+// The rows of four places of nibbles, from the columns of their bits, which stand turned.
+fn put_places(table: &mut [u8], g: usize, bits: &[u8])
+    requires g { g < 8 }
+    requires table { length table.old ≡ 8192 }
+    requires bits { length bits.now ≡ 256 }
+    ensures here { (s l : ℕ) → s < 64 → l < 16 → slice_index table.new (1024 * g + 16 * s + l) ≡ sum_at (λ (b : ℕ). slice_index bits.now (16 * (s % 16) + 4 * (s / 16) + b)) l }
+    ensures before { (i : ℕ) → i < 1024 * g → slice_index table.new i ≡ slice_index table.old i }
+    ensures long { length table.new ≡ 8192 }
+{
+    for s in 0..64usize {
+        let at = 16 * (s % 16) + 4 * (s / 16);
+        store(
+            table,
+            64 * g + s,
+            sums(bits[at], bits[at + 1], bits[at + 2], bits[at + 3]),
+        );
+    }
+}
+
+// The sums of four numbers that the sixteen nibbles take.
+#[inline(always)]
+fn sums(a: u8, b: u8, c: u8, d: u8) -> u8x16
+    ensures lanes { (l : ℕ) → l < 16 → slice_index result l ≡ bit_xor (bit_xor (part l 0 a) (part l 1 b)) (bit_xor (part l 2 c) (part l 3 d)) }
+    ensures long { length result ≡ 16 }
+{
+    let a = u8x16::splat(a)
+        & u8x16::from_array([
+            0, 255, 0, 255, 0, 255, 0, 255, 0, 255, 0, 255, 0, 255, 0, 255,
+        ]);
+    let b = u8x16::splat(b)
+        & u8x16::from_array([
+            0, 0, 255, 255, 0, 0, 255, 255, 0, 0, 255, 255, 0, 0, 255, 255,
+        ]);
+    let c = u8x16::splat(c)
+        & u8x16::from_array([
+            0, 0, 0, 0, 255, 255, 255, 255, 0, 0, 0, 0, 255, 255, 255, 255,
+        ]);
+    let d = u8x16::splat(d)
+        & u8x16::from_array([
+            0, 0, 0, 0, 0, 0, 0, 0, 255, 255, 255, 255, 255, 255, 255, 255,
+        ]);
+    (a ^ b) ^ (c ^ d)
 }
 
 // The block of one nibble.
@@ -93,32 +162,47 @@ fn put_column(table: &mut [u8], n: usize, x: Element)
     }
 }
 
-// The columns of a table, each through the table's map: then they have twice as many products.
+// The columns of a table, each through the table's map: then they have twice as many products. Those of the bits go through it, and the
+// others are their sums.
 fn double(from: &[u8], to: &mut [u8])
     requires from { length from.now ≡ 8192 }
     requires to { length to.old ≡ 8192 }
     ensures { (m : ℕ) (k : Element) → IsNibbles m from.now k → IsNibbles (m + m) to.new k }
 {
-    for n in 0..512usize {
-        store(to, n, through(from, n));
+    for g in 0..8usize {
+        let mut columns = [0; 256];
+        bit_columns(&mut columns, from, g);
+        let mut products = [0; 256];
+        multiply(from, &columns, &mut products);
+        put_places(to, g, &products);
     }
 }
 
-// Sixteen bytes of the columns through the map.
-#[inline(always)]
-fn through(table: &[u8], n: usize) -> u8x16
-    requires n { n < 512 }
+// Sixteen columns of a bit, turned.
+fn bit_columns(columns: &mut [u8], table: &[u8], g: usize)
+    requires g { g < 8 }
     requires table { length table.now ≡ 8192 }
-    ensures lanes { (l : ℕ) → l < 16 → slice_index result l ≡ sum_of table.now (λ (i : ℕ). slice_index table.now (256 * (n / 16) + 16 * i + l)) (16 * (n % 16)) 0 16 }
-    ensures long { length result ≡ 16 }
+    requires columns { length columns.old ≡ 256 }
+    ensures bytes { (l i : ℕ) → l < 16 → i < 16 → byte_in columns.new l i ≡ slice_index table.now (place (bit_column g l) i) }
+    ensures long { length columns.new ≡ 256 }
 {
-    let from = 256 * (n / 16);
-    times(
-        table,
-        &table[from..from + 256],
-        16 * (n % 16),
-        u8x16::splat(0),
-    )
+    for n in 0..256usize {
+        let column = bit_column(g, n % 16);
+        columns[n] = table[256 * (column / 16) + 16 * (n / 16) + column % 16];
+    }
+}
+
+// Each of sixteen columns through the map.
+fn multiply(table: &[u8], columns: &[u8], products: &mut [u8])
+    requires table { length table.now ≡ 8192 }
+    requires columns { length columns.now ≡ 256 }
+    requires products { length products.old ≡ 256 }
+    ensures bytes { (l j : ℕ) → l < 16 → j < 16 → byte_in products.new l j ≡ sum_of table.now (byte_in columns.now l) (16 * j) 0 16 }
+    ensures long { length products.new ≡ 256 }
+{
+    for j in 0..16usize {
+        store(products, j, times(table, columns, 16 * j, u8x16::splat(0)));
+    }
 }
 
 // All blocks of the bytes, in sixteen streams where there are many, by the table of sixteen products by the key.
