@@ -1,0 +1,66 @@
+//! Round keys as vectors.
+
+ghost use Rattle.std.specs.Prelude.{◌≡◌, ℕ, ◌<◌, ◌≤◌, ◌+◌, length, slice_index};
+ghost use Rattle.aes_gcm.specs.Rows.{AreVectors};
+ghost use Rattle.aes_gcm.specs.Same.{Same, lane_of};
+ghost use Rattle.aes_gcm.specs.SameBytes.{AreKeysOf};
+
+use crate::aes::Schedule;
+use crate::lanes::Vectors;
+use crate::packing::unpacked;
+use crate::planes::Planes;
+use crate::vector_packing::transposed;
+use crate::vector_rounds::VectorKeys;
+use std::simd::prelude::*;
+
+// The vectors of each round key.
+pub(crate) fn vector_keys(keys: &Schedule) -> VectorKeys
+    ensures { AreKeysOf keys.now result }
+{
+    VectorKeys {
+        k0: key_vectors(keys.k0),
+        k1: key_vectors(keys.k1),
+        k2: key_vectors(keys.k2),
+        k3: key_vectors(keys.k3),
+        k4: key_vectors(keys.k4),
+        k5: key_vectors(keys.k5),
+        k6: key_vectors(keys.k6),
+        k7: key_vectors(keys.k7),
+        k8: key_vectors(keys.k8),
+        k9: key_vectors(keys.k9),
+        k10: key_vectors(keys.k10),
+    }
+}
+
+// The vectors of a round key, of which the planes have four copies: two times these four.
+fn key_vectors(key: Planes) -> Vectors
+    ensures first { Same 0 key result }
+    ensures second { Same 4 key result }
+    ensures long { AreVectors result }
+{
+    let bytes = unpacked(key);
+    let a = block_of(&bytes, 0);
+    let b = block_of(&bytes, 16);
+    let c = block_of(&bytes, 32);
+    let d = block_of(&bytes, 48);
+    transposed(Vectors {
+        p0: a,
+        p1: b,
+        p2: c,
+        p3: d,
+        p4: a,
+        p5: b,
+        p6: c,
+        p7: d,
+    })
+}
+
+// A block with its rows one after another.
+#[inline(always)]
+fn block_of(bytes: &[u8], at: usize) -> u8x16
+    requires { at + 16 ≤ length bytes.now }
+    ensures lanes { (l : ℕ) → l < 16 → slice_index result l ≡ slice_index bytes.now (at + lane_of l) }
+    ensures long { length result ≡ 16 }
+{
+    u8x16::from_slice(&bytes[at..]).swizzle([0, 4, 8, 12, 1, 5, 9, 13, 2, 6, 10, 14, 3, 7, 11, 15])
+}
