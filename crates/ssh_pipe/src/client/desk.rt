@@ -136,7 +136,11 @@ impl<'a> Desk<'a> {
             return self.tasks.add(Task::LogIn);
         }
         let methods = Vec::from_slice(self.alloc, methods.as_bytes())?;
-        self.end_by(Ending::NotLetIn { methods })
+        self.end_by(if self.login.is_empty() {
+            Ending::NothingOffered { methods }
+        } else {
+            Ending::NotLetIn { methods }
+        })
     }
 
     // The session ends so.
