@@ -1,6 +1,7 @@
 """Takes the command lines that README, docs and help print, and looks whether they do what stands there.
 
-    printed.py names            each make target, file and folder that is named is there; nothing is run
+    printed.py names            each make target, file and folder that is named is there, and each event and refusal has its row in
+                                docs/EMBEDDING.md; nothing is run
     printed.py trace FOLDER     writes the commands of `ssh_trace` as inputs of `rt try --cases`, with what is printed below each
     printed.py proved           runs all commands with the programs in build/, those with a peer too, which wants ssh, sshd and ssh-keygen
 
@@ -87,6 +88,24 @@ def missing_names():
                 yield f"{page.name}: {name} is not there"
 
 
+EVENTS = (("crates/ssh_end/src/told.rt", "Told"), ("crates/ssh_channels/src/fact.rt", "Fact"), ("crates/ssh_types/src/refusal.rt", "Refusal"), ("crates/ssh_types/src/ask_refusal.rt", "AskRefusal"))
+
+
+def variants_of(file, name):
+    body = (TOP / file).read_text().split(f"pub enum {name}")[1].split("\n}")[0]
+    return re.findall(r"^    (\w+)", body, re.M)
+
+
+def missing_rows():
+    """Each event, refusal of a peer and refusal of an ask has to begin a row of a table in docs/EMBEDDING.md."""
+    first_cells = [line.split("|")[1] for line in (TOP / "docs/EMBEDDING.md").read_text().split("\n") if line.startswith("| ")]
+    named = set(re.findall(r"\w+", " ".join(first_cells)))
+    for file, name in EVENTS:
+        for variant in variants_of(file, name):
+            if variant not in named:
+                yield f"docs/EMBEDDING.md: no row has {name}::{variant}"
+
+
 def write_trace(folder):
     number = 0
     for block in all_blocks():
@@ -164,7 +183,7 @@ def run_proved():
 
 def main(words):
     if words == ["names"]:
-        missing = list(missing_names())
+        missing = [*missing_names(), *missing_rows()]
         print("\n".join(missing), end="\n" if missing else "")
         return 1 if missing else 0
     if words[:1] == ["trace"]:
