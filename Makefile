@@ -1,5 +1,5 @@
 .DEFAULT_GOAL := help
-.PHONY: help demo quick build test cases times falsify sweep memory bench interop
+.PHONY: help demo quick build trace pipe test cases times falsify sweep memory bench interop
 
 RT ?= rt
 export RT
@@ -13,8 +13,14 @@ demo: ## Runs the program on the examples, within two minutes. This run is not p
 quick: ## The layout, the tests and the programs, not proved, on all cores: docs/TIMES.md has how long it takes.
 	@sh tools/quick.sh
 
-build: ## Proves the program from its crates up and leaves it as build/ssh_trace.
-	@sh tools/build.sh
+build: ## Proves both programs from their crates up and leaves them as build/ssh_trace and build/ssh_pipe.
+	@sh tools/build.sh ssh_trace ssh_pipe
+
+trace: ## The same of ssh_trace alone.
+	@sh tools/build.sh ssh_trace
+
+pipe: ## The same of ssh_pipe alone.
+	@sh tools/build.sh ssh_pipe
 
 test: ## The whole gate, everything from nothing, the programs on their cases, and each allocation refused in turn: docs/TIMES.md has how long it takes.
 	$(RT) ci
@@ -22,8 +28,7 @@ test: ## The whole gate, everything from nothing, the programs on their cases, a
 	@PROGRAM=$(CURDIR)/crates/ssh_runs/out/ssh_runs sh tools/memory.sh
 
 cases: ## Runs the programs on their cases: words, scripts, files, what they print, and exit statuses. The first time they are proved and built.
-	@sh tools/build.sh
-	@cd crates/ssh_pipe_program && $(RT) run -- client >/dev/null 2>&1; true
+	@sh tools/build.sh ssh_trace ssh_pipe
 	@python3 tools/cases.py
 
 times: ## The gate without allocations refused, with the processor time of each of its checks; what it says goes to build/gate.log.
@@ -34,7 +39,7 @@ falsify: ## Tries the wrong bodies of crates/*/falsify that the gate leaves out;
 	@sh tools/falsify.sh
 
 sweep: ## Plays a whole session with each byte changed, left out and doubled in turn, by the proved program.
-	@sh tools/build.sh
+	@sh tools/build.sh ssh_trace
 	build/ssh_trace sweep examples/whole_session.txt
 
 memory: ## Makes calls, plays sessions and takes messages of data with each allocation refused in turn, until a run meets no refusal.

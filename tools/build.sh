@@ -1,12 +1,23 @@
 #!/bin/sh
-# Proves the crates of the program and builds it into build/ at the top of the repository. The first time this takes some
-# minutes; after a change only what it touches is proved again.
+# Proves the crates of the programs that are named, each NAME with its crate crates/NAME_program, and leaves the programs as build/NAME at the top of the
+# repository. The first time this takes some minutes; after a change only what it touches is proved again. What the toolchain prints goes to
+# build/NAME.log, and is shown where a program is not proved.
 set -eu
 top=$(cd "$(dirname "$0")/.." && pwd)
 . "$top/tools/common.sh"
-cd "$top/crates/ssh_trace_program"
-# `rt run` proves, builds and runs; the packet is a NEWKEYS.
-"$rt" run -- decode 0000000c0a1500000000000000000000
 mkdir -p "$top/build"
-cp out/ssh_trace_program "$top/build/ssh_trace"
-echo "The proved program is build/ssh_trace"
+for program; do
+    log=$top/build/$program.log
+    cd "$top/crates/${program}_program"
+    rm -f "out/${program}_program" "$top/build/$program"
+    echo "Proving $program; build/$program.log says how far it is"
+    # `rt run` proves, builds and runs. Without words the program tells its usage and ends with status 2, so its status says nothing of the proof.
+    "$rt" run >"$log" 2>&1 </dev/null || true
+    if [ ! -x "out/${program}_program" ]; then
+        cat "$log" >&2
+        echo "error: $program is not proved" >&2
+        exit 1
+    fi
+    cp "out/${program}_program" "$top/build/$program"
+    echo "The proved program is build/$program"
+done

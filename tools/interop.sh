@@ -21,9 +21,8 @@ limit=${LIMIT:-300}
 packets=$((size / 32768 / 16))
 [ "$packets" -ge 64 ] || packets=64
 if [ -z "${SSH_PIPE:-}" ]; then
-    (cd "$top/crates/ssh_pipe_program" && "$rt" run -- client >/dev/null 2>&1)
-    SSH_PIPE=$top/crates/ssh_pipe_program/out/ssh_pipe_program
-    [ -x "$SSH_PIPE" ] || { echo "error: crates/ssh_pipe_program is not proved" >&2; exit 2; }
+    sh "$tools/build.sh" ssh_trace ssh_pipe || exit 2
+    SSH_PIPE=$top/build/ssh_pipe
 fi
 work=$(mktemp -d)
 trap 'rm -rf "$work"' EXIT
@@ -450,6 +449,10 @@ fi
 with_putty
 with_asyncssh
 without_common
+# The commands that README, docs and help print, with the programs in build/.
+if [ -x "$top/build/ssh_pipe" ]; then
+    python3 "$tools/printed.py" proved || failed=$((failed + 1))
+fi
 if [ -n "${PAGE:-}" ]; then
     sed -e "s/@date@/$(date '+%-d %B %Y')/; s/@cores@/$(nproc)/" -e "/^@rows@$/{r $rows
 d}" -e "/^@speeds@$/{r $speeds

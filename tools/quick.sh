@@ -1,6 +1,7 @@
 #!/bin/sh
 # What can be seen in a few minutes: the layout of the files, that each definition of the model has its line in
-# docs/definitions.md, that no crate cites the proofs of another, the tests, and the programs. Nothing is proved here. As many crates are looked at at once as there
+# docs/definitions.md, that no crate cites the proofs of another, that what pages name is there and their commands of ssh_trace print what stands below them,
+# the tests, and the programs. Nothing is proved here. As many crates are looked at at once as there
 # are cores, each in a copy of the tree, since the toolchain locks the crates that it reads; a copy that is done with one crate takes
 # the next that no other has. A crate is compiled with checks and run; the interpreter, which would run it a second time, gets one step.
 set -eu
@@ -22,6 +23,7 @@ fail() {
 run_cases() {
     mkdir "$1.cases"
     python3 "$top/tools/cases.py" "$crate" "$1.cases"
+    python3 "$top/tools/printed.py" trace "$1.cases"
     "$rt" try --steps 1 --seconds 600 --cases "$1.cases" </dev/null >"$1" 2>&1 || fail "$crate: its cases" "$1"
 }
 
@@ -74,6 +76,8 @@ look_at() (
 echo "definitions"
 sh "$top/tools/definitions.sh" || fail "a definition has no line in docs/definitions.md"
 sh "$top/tools/imports.sh" || fail "a crate cites the proofs of another"
+python3 "$top/tools/believed.py" check || fail "docs/BELIEVED.md is not made of the specs as they are"
+python3 "$top/tools/printed.py" names || fail "a page names what is not there"
 mkdir "$work/strangers"
 python3 "$top/tools/stranger.py" "$work/strangers"
 for script in "$work"/strangers/*; do

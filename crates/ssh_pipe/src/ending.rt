@@ -19,6 +19,8 @@ pub enum Ending {
     NoStatus,
     /// The user is not let in; these methods could go on (RFC 4252 section 5.1).
     NotLetIn { methods: Vec<u8> },
+    /// The user offered neither a key nor a password and is not let in; these methods could go on.
+    NothingOffered { methods: Vec<u8> },
     /// The server opens no channel (RFC 4254 section 5.1).
     NoChannel { reason: u32, description: Vec<u8> },
     /// The server doesn't run the command.
@@ -68,6 +70,13 @@ impl fmt::Display for Ending {
                 write!(
                     f,
                     "the server does not let the user in (methods: {methods})"
+                )
+            }
+            Ending::NothingOffered { methods } => {
+                let methods = methods.as_slice().escape_ascii();
+                write!(
+                    f,
+                    "no key and no password was offered, and the server lets nobody in without (methods: {methods})"
                 )
             }
             Ending::NoChannel {

@@ -10,6 +10,7 @@ pub struct Login<'a> {
     user: &'a [u8],
     key: Option<[u8; 51]>,
     password: Option<&'a [u8]>,
+    is_empty: bool,
 }
 
 impl<'a> Login<'a> {
@@ -19,7 +20,13 @@ impl<'a> Login<'a> {
             user,
             key: key.signer.map(|signer| *signer.public_key()),
             password,
+            is_empty: key.signer.is_none() && password.is_none(),
         }
+    }
+
+    /// Tests whether there never was a key or a password.
+    pub fn is_empty(&self) -> bool {
+        self.is_empty
     }
 
     /// What is asked for next: the key comes before the password, and `none` asks which methods there are.

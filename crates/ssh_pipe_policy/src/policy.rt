@@ -5,8 +5,9 @@ ghost use Rattle.std.specs.Prelude.{◌≡◌, ◌<◌, ◌≤◌};
 /// The largest data of one packet, sent and offered to be taken, in bytes (RFC 4254 section 5.2). An ask for more is refused.
 pub const MOST_DATA: u32 = 32_768;
 
-/// The window of a channel, in bytes, where its user names no other: 64 of the largest packets, as OpenSSH has it.
-pub const WINDOW: u32 = 2_097_152;
+/// The window of a channel, in bytes, where its user names no other. What is under way to this end fits into a pipe of 64 KiB, so that a peer is never kept
+/// from reading by what it writes. Two ends that write before they read would wait for each other for ever where both windows are larger than the pipes.
+pub const WINDOW: u32 = 32_768;
 
 /// The smallest window that a user may name, in bytes.
 pub const LEAST_WINDOW: u32 = 1_024;

@@ -37,9 +37,8 @@ ReplyTurnOf p history s payload replied.NumberSpent new o = IsSpentEnd p Client 
 ReplyTurnOf p history s payload (replied.Completed choice) new o =
     ExchangeEnds p Client history payload (s.sending.epoch + 1) new o
 
--- What a call made of the bytes begun with those that it used: of a line, of a packet that both roles take alike, of one
--- that is for the layers above, of a server's
--- KEXINIT, or of its reply.
+-- What a call made of the bytes begun with those that it used: of a line, of a packet that both roles take alike, of
+-- one that is for the layers above, of a server's KEXINIT, or of its reply.
 pub data ClientTurnOf {K : Type 0} (p : Parties K) (history : List Item) (s : Transport K) (bytes : List ℕ)
     (given : TransportTurn) (new : State K) (o : Outs) : Type 0 where
   line : (done : LineTurn) → LineOutcome done given → IsQuiet o →

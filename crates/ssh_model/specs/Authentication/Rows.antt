@@ -1,6 +1,5 @@
 -- What an end of a session answers to the messages of authentication (RFC 4252), and to the asks for them. One clause
--- or
--- constructor is one row.
+-- or constructor is one row.
 use Rattle.std.specs.Prelude.{◌≡◌, ℕ, Bool, true, false, not, ◌+◌, ◌&&◌, nat_le, Some, None, is_some, List, [], ◌∷◌}
 use Rattle.std.specs.Prelude.{codes}
 use Rattle.ssh_model.specs.Side.{Side, Side.Client, Side.Server}
@@ -58,8 +57,7 @@ pub data AuthenticationAnswer {K : Type 0} (p : Parties K) : Side → List Item 
 -- ---- asks
 
 -- the conditions of a request for authentication of this size, at a client that took SERVICE_ACCEPT or not, has a
--- request
--- that is not answered or not, and is authenticated or not
+-- request that is not answered or not, and is authenticated or not
 abbrev pub request_checks : (opened outstanding authenticated : Bool) → (size : ℕ) → List (Check AskRefusal)
 request_checks opened outstanding authenticated size =
     RefusedWhere (not opened) NotYet ∷ RefusedWhere outstanding Busy ∷ RefusedWhere authenticated AskRefusal.Ended

@@ -20,8 +20,7 @@ WindowsHere notes =
     × (spent (took channel notes) ≤ window (said channel notes))
 
 -- No window is overrun, and each part of the window taken had been sent: what this end took on a channel, the parts
--- of its
--- window among it, is a prefix of what the other end said on it.
+-- of its window among it, is a prefix of what the other end said on it.
 pub record Within (notes others : List Note) : Type 0 where
   pub sends : (channel : Channel) → spent (said channel notes) ≤ window (took channel notes)
   pub takes : (channel : Channel) → spent (took channel notes) ≤ window (said channel notes)

@@ -10,8 +10,7 @@ use Rattle.ssh_model.specs.Channels.Numbers.{is_held, has_closed, peer_number}
 use Rattle.ssh_model.specs.Channels.Rules.{next_own, next_theirs}
 
 -- A message with the local number of its channel; an OPEN that is refused for want of a place has none, its
--- OPEN_FAILURE
--- neither.
+-- OPEN_FAILURE neither.
 pub data Item : Type 0 where
   Sent : (number : Option ℕ) (message : Message) → Item
   Received : (number : Option ℕ) (message : Message) → Item

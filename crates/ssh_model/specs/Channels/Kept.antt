@@ -1,6 +1,5 @@
 -- The channels of an end as it keeps them, and what each message and each ask makes of them (RFC 4254): no history
--- here. One
--- clause or constructor is one row.
+-- here. One clause or constructor is one row.
 use Rattle.std.specs.Prelude.{◌≡◌, ℕ, ◌+◌, ◌-◌, ◌<◌, ◌≤◌, Bool, true, false, not, ◌==◌, ◌&&◌, ◌||◌, nat_le, nat_lt}
 use Rattle.std.specs.Prelude.{Option, Some, None, is_some, option_map, List, [], ◌∷◌, ◌++◌, length, replicate}
 use Rattle.std.specs.Prelude.{count_by, slice_set}

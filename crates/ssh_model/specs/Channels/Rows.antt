@@ -71,8 +71,7 @@ pub data Take : Side → List Note → ℕ → Message → Type 0 where
       Take side notes number (Reply number success)
 
 -- What the end of this side may add to its history in one turn, the newest first. A reply is sent at once, or owed
--- while
--- the end is blocked; what is owed is sent right after NEWKEYS.
+-- while the end is blocked; what is owed is sent right after NEWKEYS.
 pub data Turn : Side → List Item → List Item → Type 0 where
   opens : {side : Side} {history : List Item} (number window max_packet : ℕ) → blocked history ≡ false →
       is_free side history number ≡ true →

@@ -73,8 +73,7 @@ pub record Accepts (side : Side) (history : List Item) (message : Msg) (taken : 
 -- ---- an owed reply sent
 
 -- The reply is the oldest that was waiting; it is one of the sent messages of those that wait; and the channels then
--- sum
--- up the history with it.
+-- sum up the history with it.
 pub record SendsOwed (side : Side) (history : List Item) (waiting : List channel.Item) (reply : DueReply)
     (channels : Channels) : Type 0 where
   pub oldest : waiting ≡ pending channels.owed ++ (reply_item reply ∷ [])

@@ -150,8 +150,7 @@ pub record BothOffer {K : Type 0} (p : Parties K) : Type 0 where
   pub server : is_offered p.server.strictness ≡ true
 
 -- What an end of these settings offers in a KEXINIT (RFC 4253 section 7.1). Its markers stand last in the first one
--- and in
--- no later one.
+-- and in no later one.
 abbrev pub offer_of : Settings → Side → (first : Bool) → (cookie : List ℕ) → Proposal
 offer_of s side first cookie =
     let uncompressed : List (List ℕ) = codes "none" ∷ [] in

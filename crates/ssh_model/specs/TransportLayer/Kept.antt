@@ -66,8 +66,7 @@ pub record Transport (K : Type 0) : Type 0 where
   pub strict : Bool
   pub peer_takes_extensions : Bool
   -- SERVICE_REQUEST was sent by a client or taken by a server, SERVICE_ACCEPT was taken, and USERAUTH_SUCCESS was
-  -- sent by
-  -- a server or taken by a client
+  -- sent by a server or taken by a client
   pub requested : Bool
   pub accepted : Bool
   pub authenticated : Bool
@@ -242,8 +241,7 @@ pub record IsChosen {K : Type 0} (s : Transport K) (c : Chosen) : Type 0 where
   pub chosen_is : c ≡ choice_with s.side (lists_of (own_offer s.settings s.side)) (lists_of theirs)
 
 -- What a message of the transport is refused for that may be taken: by an agreement, who is trusted with the host key
--- of
--- the exchange, and what was chosen in it.
+-- of the exchange, and what was chosen in it.
 abbrev pub message_checks : {K : Type 0} → Agreement → (trusts : List ℕ → List ℕ → List ℕ → List ℕ → Bool) → Chosen →
     Transport K → Msg → List (Check Refusal)
 message_checks agreement trusts c s (ServiceRequest service) =
@@ -404,10 +402,8 @@ server_reply parts c s q_c =
     (take 4096 (parts.host_signature c.host (exchange_hash (server_inputs parts c s q_c))))
 
 -- What the message that ends an exchange makes of what is kept: the messages up to NEWKEYS, what is announced behind
--- it,
--- and what is kept right after NEWKEYS and in the end. Messages stand the newest first. What the layers above owe,
--- and what
--- is told, comes after these.
+-- it, and what is kept right after NEWKEYS and in the end. Messages stand the newest first. What the layers above
+-- owe, and what is told, comes after these.
 pub data Completes {K : Type 0} (crypto : Crypto K) (parts : ExchangeParts) (c : Chosen) (s : Transport K) : Msg →
     (last announced : List Spelled) → (completed new : Transport K) → Type 0 where
   -- RFC 5656 section 4: the server right after its reply
@@ -428,8 +424,7 @@ pub data Completes {K : Type 0} (crypto : Crypto K) (parts : ExchangeParts) (c :
 -- ---- asks
 
 -- What an ask for a message of the transport sends, with its payload, and what is then kept. An ask to disconnect
--- ends the
--- end.
+-- ends the end.
 pub data Asks {K : Type 0} (s : Transport K) : Ask → Msg → List ℕ → Transport K → Type 0 where
   service : (payload : List ℕ) → s.side ≡ Client →
       Asks s AskService (ServiceRequest (codes "ssh-userauth")) payload (record (after_sent s) { requested = true })

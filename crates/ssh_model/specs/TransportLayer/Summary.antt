@@ -86,8 +86,7 @@ pub record MaterialSumsUp (used : ℕ) (pairs : List Material) (material : Optio
   pub most : length pairs ≤ suc used
 
 -- Of each message that an exchange has, there is one for each exchange completed, and one more where it was sent or
--- taken
--- in the exchange under way.
+-- taken in the exchange under way.
 pub record Counts (gone come : ℕ) (phase : Phase) (blocked : Bool) (own theirs exchanges choices : ℕ) : Type 0 where
   pub own_count : own ≡ gone + bit blocked
   pub opened : 1 ≤ own
@@ -105,8 +104,7 @@ pub record IsOffered (settings : Settings) (side : Side) (theirs : Proposal) : T
   pub offer_is : theirs ≡ offer_of settings side first cookie
 
 -- The exchange under way: what was sent stands there while the end is blocked, and what was taken while the peer's
--- answer
--- is awaited.
+-- answer is awaited.
 pub record UnderwaySumsUp (settings : Settings) (side : Side) (gone : ℕ) (phase : Phase) (blocked : Bool)
     (own theirs : List Offer) (fed : List Material) (underway : Underway) : Type 0 where
   pub own_is : blocked ≡ true → underway.own ≡ (nth no_offer gone own).payload
@@ -244,8 +242,7 @@ pub record Accepts {K : Type 0} (p : Parties K) (side : Side) (history : List It
   pub sums : SumsUp p side (answer_items answered ++ (Took None message payload ∷ history)) new
 
 -- The message ends an exchange. Up to what is announced, it does what a session does, whatever is owed behind it;
--- what is
--- kept sums up the history so far.
+-- what is kept sums up the history so far.
 pub record Ends {K : Type 0} (p : Parties K) (side : Side) (history : List Item) (message : Msg) (payload : List ℕ)
     (sent : List Spelled) (position : ℕ) (new : Transport K) : Type 0 where
   pub answer : (owed : List Item) →

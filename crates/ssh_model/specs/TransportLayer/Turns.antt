@@ -36,8 +36,7 @@ pub data PutsPackets {K : Type 0} (c : Crypto K) (direction : Direction K) : Lis
       PutsPackets c direction (SpelledBy message payload ∷ l) (bytes ++ wire)
 
 -- What is sent among these items, done after a history, spells its messages, has numbers of its own, and is put out
--- with
--- these bytes.
+-- with these bytes.
 pub record PutOut {K : Type 0} (p : Parties K) (side : Side) (history items : List Item) (more : List ℕ) : Type 0 where
   pub spelled : AreSpelled items
   pub numbered : AreNumbered items history
@@ -54,8 +53,7 @@ pub record Reads {K : Type 0} (s : Transport K) (message : Msg) (payload : List 
   pub of_transport : IsTransportMessage message
 
 -- What a transport refuses a payload for: its number, that it is no message, or what is checked of its message. Of
--- numbers
--- from 50 on it refuses those that come in an exchange, and leaves all else to the layers above.
+-- numbers from 50 on it refuses those that come in an exchange, and leaves all else to the layers above.
 pub data IsRefused {K : Type 0} (agreement : Agreement) (trusts : List ℕ → List ℕ → List ℕ → List ℕ → Bool)
     (s : Transport K) (payload : List ℕ) : Refusal → Type 0 where
   unexpected : number_of payload < 50 → takes s (number_of payload) ≡ false →
@@ -69,8 +67,7 @@ pub data IsRefused {K : Type 0} (agreement : Agreement) (trusts : List ℕ → L
       IsRefused agreement trusts s payload refusal
 
 -- What is put out where the peer is refused: nothing where the refusal has no reason code or the numbers are spent,
--- or a
--- DISCONNECT.
+-- or a DISCONNECT.
 pub data SaysWhy {K : Type 0} (c : Crypto K) (s : Transport K) (refusal : Refusal) : List Spelled → List ℕ →
     Type 0 where
   silently : refusal_reason refusal ≡ None → SaysWhy c s refusal [] []
@@ -98,8 +95,7 @@ pub record Turned {K : Type 0} (p : Parties K) (side : Side) (history : List Ite
   pub puts : (bytes : List ℕ) → PutsOut p side history bytes → PutsOut p side (items ++ history) (bytes ++ more)
 
 -- A payload ends an exchange with these items up to NEWKEYS and what is announced behind it, whatever is owed behind
--- them;
--- what is kept sums up the history so far, and these bytes are put out.
+-- them; what is kept sums up the history so far, and these bytes are put out.
 pub record EndedBy {K : Type 0} (p : Parties K) (side : Side) (history : List Item) (message : Msg) (payload : List ℕ)
     (position : ℕ) (items : List Item) (more : List ℕ) (new : Transport K) : Type 0 where
   pub welcomes : Welcomes p side history message payload

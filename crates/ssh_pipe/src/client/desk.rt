@@ -136,7 +136,12 @@ impl<'a> Desk<'a> {
             return self.tasks.add(Task::LogIn);
         }
         let methods = Vec::from_slice(self.alloc, methods.as_bytes())?;
-        self.end_by(Ending::NotLetIn { methods })
+        let ending = if self.login.is_empty() {
+            Ending::NothingOffered { methods }
+        } else {
+            Ending::NotLetIn { methods }
+        };
+        self.end_by(ending)
     }
 
     // The session ends so.

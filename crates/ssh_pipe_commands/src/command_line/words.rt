@@ -16,7 +16,8 @@ const ABOUT_SERVER: &str = "Serves one connection with commands of its own";
 const EXAMPLES: &str = "\
 A client of OpenSSH and this server, and this client and a server of OpenSSH behind two FIFOs:
   ssh -o ProxyCommand='ssh_pipe server --host-key KEY --user me --authorized-keys KEYS' me@host sha256sum <FILE
-  sshd -i -f CONFIG <up >down & ssh_pipe client --user me --host-key known_hosts --identity KEY 'uname -a' <down >up
+  mkfifo up down
+  sshd -i -f CONFIG <up >down & ssh_pipe client --user me --host-key known_hosts --identity KEY 'uname -a' >up <down
 
 The methods are curve25519-sha256 with strict key exchange, ssh-ed25519 and aes128-gcm@openssh.com. Keys are files of
 OpenSSH without a passphrase. Faults and refusals are told on standard error.";
@@ -184,7 +185,7 @@ const POLICY_OPTIONS: &[Row] = &[
     Row {
         name: "window",
         value: Some("BYTES"),
-        help: "The window of a channel; 32768 where the peer is another ssh_pipe [default: 2097152]",
+        help: "The window of a channel; more is faster over a slow network, but may hang with a peer that writes before it reads [default: 32768]",
         required: false,
     },
     Row {
