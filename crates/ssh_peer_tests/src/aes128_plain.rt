@@ -1,9 +1,10 @@
-//! What `aes_gcm` computes of many blocks at once, compared with plain programs: GHASH bit by bit, and the key stream a block at a time.
+//! What `aes_gcm` computes of many blocks at once, compared with the plain programs of `aes_gcm_plain`.
 
 ghost use Rattle.std.specs.Prelude.{◌≤◌, ◌^◌, length};
 
 use crate::checking::same_at;
-use aes_gcm::{GcmKey, Schedule, encrypted, schedule_of};
+use aes_gcm::GcmKey;
+use aes_gcm_plain::PlainKey;
 use std::process::Abort;
 use std::test::*;
 
@@ -46,85 +47,18 @@ fn check<R: AllocGlobal + Abort>(
     requires beside { length beside.now ≤ 2 ^ 20 }
     requires start { length start.now ≤ 2 ^ 20 }
 {
-    let schedule = schedule_of(&KEY);
+    let plain_key = PlainKey::new(&KEY);
     let mut text = start.to_vec(rt.alloc())?;
     let mut plain = start.to_vec(rt.alloc())?;
     let size = start.len();
     key.mask(&NONCE, &mut text);
-    plain_mask(&schedule, &mut plain);
+    plain_key.mask(&NONCE, &mut plain);
     same_at(rt, size, text.as_slice(), plain.as_slice());
     same_at(
         rt,
         size,
         key.tag(&NONCE, beside, start),
-        plain_tag(&schedule, beside, start),
+        plain_key.tag(&NONCE, beside, start),
     );
     Ok(())
-}
-
-fn plain_mask(schedule: &Schedule, text: &mut [u8])
-    requires { length text.old ≤ 2 ^ 20 }
-{
-    let mut block = [0; 64];
-    for i in 0..text.len() {
-        if i % 16 == 0 {
-            block = block_of(schedule, 2 + (i / 16) as u32);
-        }
-        text[i] ^= block[i % 16];
-    }
-}
-
-// The key stream's block of this counter.
-fn block_of(schedule: &Schedule, counter: u32) -> [u8; 64] {
-    let mut input = [0; 64];
-    input[..12].copy_from_slice(&NONCE);
-    input[12..16].copy_from_slice(&counter.to_be_bytes());
-    encrypted(schedule, &input)
-}
-
-fn plain_tag(schedule: &Schedule, beside: &[u8], text: &[u8]) -> [u8; 16]
-    requires beside { length beside.now ≤ 2 ^ 20 }
-    requires text { length text.now ≤ 2 ^ 20 }
-{
-    let hash = number(&encrypted(schedule, &[0; 64]));
-    let sum = absorbed(hash, absorbed(hash, 0, beside), text);
-    let lengths = ((8 * beside.len()) as u128) << 64 | (8 * text.len()) as u128;
-    (product(sum ^ lengths, hash) ^ number(&block_of(schedule, 1))).to_be_bytes()
-}
-
-// The first sixteen bytes.
-fn number(bytes: &[u8; 64]) -> u128 {
-    let mut first = [0; 16];
-    first.copy_from_slice(&bytes[..16]);
-    u128::from_be_bytes(first)
-}
-
-fn absorbed(hash: u128, sum: u128, bytes: &[u8]) -> u128 {
-    let mut all = sum;
-    let mut block = 0;
-    for i in 0..bytes.len() {
-        block |= (bytes[i] as u128) << (120 - 8 * (i % 16) as u32);
-        if i % 16 == 15 || i + 1 == bytes.len() {
-            all = product(all ^ block, hash);
-            block = 0;
-        }
-    }
-    all
-}
-
-// The product in the field of GHASH.
-fn product(x: u128, y: u128) -> u128 {
-    let mut sum = 0;
-    let mut multiple = y;
-    for i in 0..128u32 {
-        if (x << i) >> 127 == 1 {
-            sum ^= multiple;
-        }
-        let carried = multiple % 2 == 1;
-        multiple = multiple >> 1;
-        if carried {
-            multiple ^= 0xe100_0000_0000_0000_0000_0000_0000_0000;
-        }
-    }
-    sum
 }
