@@ -1,11 +1,13 @@
 -- Words and vectors that have the same bytes, and all rounds between two of them.
-use Rattle.std.specs.Prelude.{◌≡◌, ℕ, ◌+◌, ◌*◌, ◌/◌, ◌%◌, ◌<◌, cond, eqb}
+use Rattle.std.specs.Prelude.{◌≡◌, ℕ, ◌+◌, ◌*◌, ◌/◌, ◌%◌, ◌<◌, Option, Some, None, cond, eqb}
 use Rattle.std.specs.Int.{bit_at}
+use Rattle.aes_gcm.specs.declared.aes.MoreKeys.{MoreKeys}
 use Rattle.aes_gcm.specs.declared.aes.Schedule.{Schedule}
 use Rattle.aes_gcm.specs.declared.lanes.Vectors.{Vectors}
 use Rattle.aes_gcm.specs.declared.planes.Planes.{Planes}
+use Rattle.aes_gcm.specs.declared.vector_rounds.MoreVectors.{MoreVectors}
 use Rattle.aes_gcm.specs.declared.vector_rounds.VectorKeys.{VectorKeys}
-use Rattle.aes_gcm.specs.Aes.{last_round, round}
+use Rattle.aes_gcm.specs.Aes.{further, last_round, round}
 use Rattle.aes_gcm.specs.Planes.{added}
 use Rattle.aes_gcm.specs.Rows.{AreVectors, Eight, lane}
 use Rattle.aes_gcm.specs.Same.{Same, lane_of}
@@ -22,6 +24,30 @@ number_of a k = cond (eqb k 0) a.p0 (cond (eqb k 1) a.p1 (cond (eqb k 2) a.p2 (c
 pub record SameBytes (b : ℕ) (w : Planes) (v : Vectors) : Type 0 where
   pub same : (n i : ℕ) → n < 64 → i < 8 → bit_at (word_of w (n % 8)) (8 * (n / 8) + i) ≡ bit_at (number_of (lane v (lane_of n)) (b + n / 16)) i
 
+-- the keys of four rounds more
+pub record SameFour (b : ℕ) (k : MoreKeys) (v : MoreVectors) : Type 0 where
+  pub k10 : Same b k.k10 v.k10
+  pub k11 : Same b k.k11 v.k11
+  pub k12 : Same b k.k12 v.k12
+  pub k13 : Same b k.k13 v.k13
+
+-- where a key has them
+abbrev pub SameMore : ℕ → Option MoreKeys → Option MoreVectors → Type 0
+SameMore b None None = Unit {0}
+SameMore b (Some k) (Some v) = SameFour b k v
+SameMore b None (Some v) = ⊥
+SameMore b (Some k) None = ⊥
+
+pub record AreFour (v : MoreVectors) : Type 0 where
+  pub k10 : AreVectors v.k10
+  pub k11 : AreVectors v.k11
+  pub k12 : AreVectors v.k12
+  pub k13 : AreVectors v.k13
+
+abbrev pub AreMore : Option MoreVectors → Type 0
+AreMore None = Unit {0}
+AreMore (Some v) = AreFour v
+
 pub record SameKeys (b : ℕ) (k : Schedule) (v : VectorKeys) : Type 0 where
   pub k0 : Same b k.k0 v.k0
   pub k1 : Same b k.k1 v.k1
@@ -33,7 +59,8 @@ pub record SameKeys (b : ℕ) (k : Schedule) (v : VectorKeys) : Type 0 where
   pub k7 : Same b k.k7 v.k7
   pub k8 : Same b k.k8 v.k8
   pub k9 : Same b k.k9 v.k9
-  pub k10 : Same b k.k10 v.k10
+  pub more : SameMore b k.more v.more
+  pub last : Same b k.last v.last
 
 pub record AreKeys (v : VectorKeys) : Type 0 where
   pub k0 : AreVectors v.k0
@@ -46,7 +73,8 @@ pub record AreKeys (v : VectorKeys) : Type 0 where
   pub k7 : AreVectors v.k7
   pub k8 : AreVectors v.k8
   pub k9 : AreVectors v.k9
-  pub k10 : AreVectors v.k10
+  pub more : AreMore v.more
+  pub last : AreVectors v.last
 
 -- The vectors are the round keys of this schedule, for the four blocks of each of two batches.
 pub record AreKeysOf (k : Schedule) (v : VectorKeys) : Type 0 where
@@ -67,4 +95,4 @@ rounds_of k s =
     let s7 : Planes = round s6 k.k7 in
     let s8 : Planes = round s7 k.k8 in
     let s9 : Planes = round s8 k.k9 in
-    last_round s9 k.k10
+    last_round (further k.more s9) k.last

@@ -3,14 +3,14 @@
 ghost use Rattle.std.specs.Prelude.{◌≡◌, ℕ, ◌<◌, ◌≤◌, ◌+◌, length, slice_index};
 ghost use Rattle.aes_gcm.specs.Rows.{AreVectors};
 ghost use Rattle.aes_gcm.specs.Same.{Same, lane_of};
-ghost use Rattle.aes_gcm.specs.SameBytes.{AreKeysOf};
+ghost use Rattle.aes_gcm.specs.SameBytes.{AreFour, AreKeysOf, AreMore, SameFour, SameMore};
 
-use crate::aes::Schedule;
+use crate::aes::{MoreKeys, Schedule};
 use crate::lanes::Vectors;
 use crate::packing::unpacked;
 use crate::planes::Planes;
 use crate::vector_packing::transposed;
-use crate::vector_rounds::VectorKeys;
+use crate::vector_rounds::{MoreVectors, VectorKeys};
 use std::simd::prelude::*;
 
 // The vectors of each round key.
@@ -28,7 +28,33 @@ pub(crate) fn vector_keys(keys: &Schedule) -> VectorKeys
         k7: key_vectors(keys.k7),
         k8: key_vectors(keys.k8),
         k9: key_vectors(keys.k9),
-        k10: key_vectors(keys.k10),
+        more: more_vectors(keys.more),
+        last: key_vectors(keys.last),
+    }
+}
+
+// Those of four rounds more.
+fn more_vectors(more: Option<MoreKeys>) -> Option<MoreVectors>
+    ensures first { SameMore 0 more result }
+    ensures second { SameMore 4 more result }
+    ensures long { AreMore result }
+{
+    match more {
+        Some(more) => Some(four_vectors(more)),
+        None => None,
+    }
+}
+
+fn four_vectors(more: MoreKeys) -> MoreVectors
+    ensures first { SameFour 0 more result }
+    ensures second { SameFour 4 more result }
+    ensures long { AreFour result }
+{
+    MoreVectors {
+        k10: key_vectors(more.k10),
+        k11: key_vectors(more.k11),
+        k12: key_vectors(more.k12),
+        k13: key_vectors(more.k13),
     }
 }
 

@@ -1,19 +1,29 @@
-//! The rounds of AES-128 (FIPS 197) on eight blocks at once, in vectors of sixteen bytes.
+//! The rounds of AES (FIPS 197) on eight blocks at once, in vectors of sixteen bytes.
 
-ghost use Rattle.std.specs.Prelude.{ℕ, ◌<◌, ◌≡◌};
-ghost use Rattle.aes_gcm.specs.Aes.{last_round, round};
+ghost use Rattle.std.specs.Prelude.{ℕ, ◌<◌, ◌≡◌, Option, Some};
+ghost use Rattle.aes_gcm.specs.Aes.{further, last_round, round};
 ghost use Rattle.aes_gcm.specs.Planes.{added};
 ghost use Rattle.aes_gcm.specs.Rows.{AreVectors};
 ghost use Rattle.aes_gcm.specs.Packing.{transposed};
 ghost use Rattle.aes_gcm.specs.Same.{Same};
-ghost use Rattle.aes_gcm.specs.SameBytes.{AreKeys, SameBytes, SameKeys, rounds_of};
+ghost use Rattle.aes_gcm.specs.SameBytes.{AreFour, AreKeys, AreMore, SameBytes, SameFour, SameKeys, SameMore, rounds_of};
 ghost use Rattle.aes_gcm.specs.SubBytes.{sub_bytes};
+ghost use Rattle.aes_gcm.specs.declared.aes.MoreKeys.{MoreKeys};
 ghost use Rattle.aes_gcm.specs.declared.aes.Schedule.{Schedule};
 ghost use Rattle.aes_gcm.specs.declared.planes.Planes.{Planes};
 
 use crate::lanes::{Vectors, added, mixed_columns, shifted_rows};
 use crate::vector_bytes::sub_bytes;
 use crate::vector_packing::transposed;
+
+/// The keys of the four rounds that AES-256 has more than AES-128.
+#[derive(Clone, Copy)]
+pub(crate) struct MoreVectors {
+    pub(crate) k10: Vectors,
+    pub(crate) k11: Vectors,
+    pub(crate) k12: Vectors,
+    pub(crate) k13: Vectors,
+}
 
 /// The round keys, each as the vectors of eight copies of it.
 #[derive(Clone, Copy)]
@@ -28,7 +38,8 @@ pub(crate) struct VectorKeys {
     pub(crate) k7: Vectors,
     pub(crate) k8: Vectors,
     pub(crate) k9: Vectors,
-    pub(crate) k10: Vectors,
+    pub(crate) more: Option<MoreVectors>,
+    pub(crate) last: Vectors,
 }
 
 // Eight blocks, each with its rows one after another, each encrypted.
@@ -48,8 +59,35 @@ pub(crate) fn encrypted_vectors(keys: &VectorKeys, blocks: Vectors) -> Vectors
     let s7 = round(s6, keys.k7);
     let s8 = round(s7, keys.k8);
     let s9 = round(s8, keys.k9);
-    let last = last_round(s9, keys.k10);
+    let s13 = further(s9, keys.more);
+    let last = last_round(s13, keys.last);
     transposed(last)
+}
+
+// The four rounds more of a key of 256 bits.
+#[inline(always)]
+fn further(s: Vectors, more: Option<MoreVectors>) -> Vectors
+    requires s { AreVectors s }
+    requires more { AreMore more }
+    ensures bits { (b : ℕ) (a : Planes) (k : Option MoreKeys) → b < 5 → Same b a s → SameMore b k more → Same b (further k a) result }
+    ensures long { AreVectors result }
+{
+    match more {
+        Some(more) => four_rounds(s, more),
+        None => s,
+    }
+}
+
+fn four_rounds(s: Vectors, more: MoreVectors) -> Vectors
+    requires s { AreVectors s }
+    requires more { AreFour more }
+    ensures bits { (b : ℕ) (a : Planes) (k : MoreKeys) → b < 5 → Same b a s → SameFour b k more → Same b (further (Some k) a) result }
+    ensures long { AreVectors result }
+{
+    let s10 = round(s, more.k10);
+    let s11 = round(s10, more.k11);
+    let s12 = round(s11, more.k12);
+    round(s12, more.k13)
 }
 
 #[inline(always)]

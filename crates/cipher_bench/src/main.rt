@@ -1,10 +1,12 @@
-//! Prints how many times faster `aes_gcm` seals and opens than the plain programs of `aes_gcm_plain`, taken in turn in one run.
+//! Prints how many times faster `aes_gcm`, `x25519` and `ed25519` are than the plain programs of `aes_gcm_plain` and `curves_plain`, taken
+//! in turn in one run.
 //!
 //! `run ROUNDS` takes each time in so many rounds, of which the fastest counts. Called otherwise, it says so and times nothing.
 #![tactic(auto)]
 
 use rounds::rounds_of;
 
+mod curves;
 mod keys;
 mod packets;
 mod ratio;
@@ -19,5 +21,6 @@ fn main(rt: HostRuntime) -> anyhow::Result<()> {
     for size in [64, 256, 1024, 32_768] {
         packets::measure(&rt, size, rounds)?;
     }
-    keys::measure(&rt, rounds)
+    keys::measure(&rt, rounds)?;
+    curves::measure(&rt, rounds)
 }

@@ -65,9 +65,16 @@ pub fn measure<R: Clock + Print + AllocGlobal>(
     }
     same = same && one.as_slice() == other.as_slice();
     println!(rt;
-        "AES-128-GCM, {size} bytes: sealing {}, opening {} (same bytes: {same})",
+        "AES-128-GCM, {size} bytes: sealing {}, opening {} (same bytes: {same}; sealing {} MB/s)",
         Ratio(sealed.0, sealed.1),
-        Ratio(opened.0, opened.1)
+        Ratio(opened.0, opened.1),
+        rate(count, size, sealed.1)
     )?;
     Ok(())
+}
+
+// How many millions of bytes a second so many texts of a size are.
+fn rate(count: usize, size: usize, time: Duration) -> u128 {
+    let bytes = (count as u128).saturating_mul(size as u128);
+    bytes.saturating_mul(1000) / time.as_nanos().max(1)
 }

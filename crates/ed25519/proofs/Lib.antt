@@ -3,3 +3,4 @@ pub mod Constants
 pub mod Sums
 pub mod Products
 pub mod Curve
+pub mod Shared

@@ -1,6 +1,6 @@
 -- Sums of two numbers below the order.
 use Rattle.std.proofs.Common.{◌≡◌, ℕ, zero, suc, ◌+◌, ◌*◌, ◌%◌, ◌≤◌, ◌<◌, ◌^◌, ap, sym, ◌∙◌, arith}
-use Rattle.std.proofs.Math.Nat.{add-mod-mod, add-mod_right, mod-eq_of_lt}
+use Rattle.std.proofs.Math.Nat.{add-mod-mod, add-mod_right, add-mul-mod_self_right, mod-eq_of_lt}
 use Rattle.std.proofs.lemmas.Nat.{mul-mod_second}
 use Rattle.ed25519.specs.declared.scalar.Scalar.{Scalar}
 use Rattle.ed25519.specs.Scalar.{chosen, number, order}
@@ -18,3 +18,7 @@ chosen_sum (suc (suc n)) whole less p e l w = absurd (omega arith)
 -- what is reduced at each step is the reduced sum
 pub response_of : (r k s : ℕ) → (r + k * (s % order) % order) % order ≡ (r + k * s) % order
 response_of r k s = ap (λ (x : ℕ). (r + x) % order) (mul-mod_second k s order) ∙ add-mod-mod r (k * s) order
+
+-- a number that was folded by so many times the order
+pub folded_sum : (whole q total : ℕ) → whole + q * order ≡ total + order → whole % order ≡ total % order
+folded_sum whole q total e = sym (add-mul-mod_self_right whole q order) ∙ ap (λ (n : ℕ). n % order) e ∙ add-mod_right total order

@@ -1,4 +1,5 @@
 pub mod Point
 pub mod Encoding
 pub mod Scalar
+pub mod Order
 pub mod Signature

@@ -1,9 +1,10 @@
 -- The curve -x^2 + y^2 = 1 + d x^2 y^2 over the numbers below the prime, in extended coordinates (RFC 8032 sections 5.1 and 5.1.4).
 use Rattle.std.specs.Prelude.{ℕ, zero, suc, ◌-◌, List}
 use Rattle.x25519.specs.Bytes.{bit_of}
-use Rattle.x25519.specs.Field.{IsTight, residue}
+use Rattle.x25519.specs.Field.{IsLoose, IsTight, residue}
 use Rattle.x25519.specs.Residues.{minus, plus, times}
 use Rattle.ed25519.specs.declared.point.Point.{Point}
+use Rattle.ed25519.specs.declared.point.ReadyPoint.{ReadyPoint}
 
 -- what a sum gives and takes
 pub record IsPoint (p : Point) : Type 0 where
@@ -69,3 +70,37 @@ step q p bit = chosen bit (added q q) (added (added q q) p)
 unfoldable pub multiplied : List ℕ → Extended → ℕ → Extended
 multiplied bytes p zero = identity
 multiplied bytes p (suc n) = step (multiplied bytes p n) p (bit_of bytes (255 - n))
+
+-- ---- a point that is added often
+
+-- A point whose z is 1, made ready to be added: y - x, y + x and 2 d t.
+pub record Ready : Type 0 where
+  pub less : ℕ
+  pub more : ℕ
+  pub t : ℕ
+
+-- what the sum of a point and a prepared one takes
+pub record IsPrepared (q : ReadyPoint) : Type 0 where
+  pub less : IsLoose q.less
+  pub more : IsLoose q.more
+  pub t : IsTight q.t
+
+-- the numbers that the elements of a prepared point stand for
+abbrev pub ready : ReadyPoint → Ready
+ready q = record { less = residue q.less; more = residue q.more; t = residue q.t }
+
+abbrev pub prepared : Extended → Ready
+prepared q = record { less = minus q.y q.x; more = plus q.y q.x; t = times q.t (plus d d) }
+
+-- the sum of a point and a prepared one
+unfoldable pub added_ready : Extended → Ready → Extended
+added_ready p q =
+    let a : ℕ = times (minus p.y p.x) q.less in
+    let b : ℕ = times (plus p.y p.x) q.more in
+    let c : ℕ = times p.t q.t in
+    let d : ℕ = plus p.z p.z in
+    let e : ℕ = minus b a in
+    let f : ℕ = minus d c in
+    let g : ℕ = plus d c in
+    let h : ℕ = plus b a in
+    record { x = times e f; y = times g h; z = times f g; t = times e h }

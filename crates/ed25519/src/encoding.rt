@@ -10,6 +10,7 @@ use crate::point::Point;
 use x25519::bytes::{bytes_of, element_of, is_below_prime, is_same, parity};
 use x25519::field::{Element, ONE, ZERO, difference, is_loose, negated, product, sum, tightened};
 use x25519::powers::{inverse, root_power};
+use x25519::squares::squared;
 
 // The constant d of the curve.
 const D: Element = Element {
@@ -57,6 +58,7 @@ fn with_sign(x: Element, y: Element) -> [u8; 32]
 pub(crate) fn decoded(bytes: &[u8; 32]) -> Option<Point>
     ensures value { option_map numbers result ≡ decoded bytes.now }
     ensures point { IfSome result (λ p. IsPoint p) }
+    ensures z { IfSome result (λ p. residue p.z ≡ 1) }
 {
     let y = y_in(bytes)?;
     let x = signed(root(y)?, bytes[31] / 128)?;
@@ -82,6 +84,7 @@ fn point_of(x: Element, y: Element) -> Point
     requires y { IsTight y }
     ensures value { Some (numbers result) ≡ point_of (Some (residue x)) (residue y) }
     ensures point { IsPoint result }
+    ensures z { residue result.z ≡ 1 }
 {
     is_loose(x);
     is_loose(y);
@@ -117,7 +120,7 @@ fn root(y: Element) -> Option<Element>
     ensures tight { IfSome result (λ x. IsTight x) }
 {
     is_loose(y);
-    let square = product(y, y);
+    let square = squared(y);
     let u = tightened(difference(square, ONE));
     let v = tightened(sum(product(square, D), ONE));
     let x = candidate(u, v);
@@ -142,8 +145,8 @@ fn candidate(u: Element, v: Element) -> Element
 {
     is_loose(u);
     is_loose(v);
-    let v3 = product(product(v, v), v);
-    let v7 = product(product(v3, v3), v);
+    let v3 = product(squared(v), v);
+    let v7 = product(squared(v3), v);
     product(product(u, v3), root_power(product(u, v7)))
 }
 
@@ -156,5 +159,5 @@ fn is_root(x: Element, u: Element, v: Element) -> bool
 {
     is_loose(x);
     is_loose(v);
-    is_same(product(v, product(x, x)), u)
+    is_same(product(v, squared(x)), u)
 }

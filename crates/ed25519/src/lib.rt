@@ -10,9 +10,11 @@
 mod encoding;
 mod keys;
 pub mod laws;
+mod order;
 mod point;
 mod scalar;
 mod verification;
 
 pub use keys::KeyPair;
+pub use order::is_small_order;
 pub use verification::verify;

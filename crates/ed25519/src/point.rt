@@ -1,11 +1,16 @@
 //! The curve -x^2 + y^2 = 1 + d x^2 y^2 in extended coordinates (RFC 8032 section 5.1.4).
 
 ghost use Rattle.std.specs.Prelude.{◌≡◌, ◌≤◌};
-ghost use Rattle.ed25519.specs.Point.{IsPoint, added, chosen, multiplied, negated, numbers};
+ghost use Rattle.x25519.specs.Field.{IsLoose, IsTight, residue};
+ghost use Rattle.x25519.specs.Residues.{minus, plus, times};
+ghost use Rattle.ed25519.specs.Point.{IsPoint, IsPrepared, added, added_ready, chosen, d, multiplied, negated, numbers, prepared, ready};
 
 use x25519::bytes::bit_of;
 use x25519::field;
-use x25519::field::{Element, ONE, ZERO, difference, is_loose, product, sum};
+use x25519::field::{
+    Element, ONE, ZERO, difference, is_loose, product, sum, twice_less, twice_plus,
+};
+use x25519::squares::squared;
 
 // A point by four elements: x / z and y / z are its coordinates, and t is x y / z.
 #[derive(Clone, Copy)]
@@ -13,6 +18,14 @@ pub(crate) struct Point {
     pub x: Element,
     pub y: Element,
     pub z: Element,
+    pub t: Element,
+}
+
+// A point whose z is 1, made ready to be added: y - x, y + x and 2 d t.
+#[derive(Clone, Copy)]
+pub(crate) struct ReadyPoint {
+    pub less: Element,
+    pub more: Element,
     pub t: Element,
 }
 
@@ -86,12 +99,115 @@ pub(crate) fn added(p: Point, q: Point) -> Point
     }
 }
 
+// Twice a point: the sum of it and itself, by four squares and five products.
+#[tactic(auto, unfolding(crate::specs::Point::added))]
+fn doubled(p: Point) -> Point
+    requires { IsPoint p }
+    ensures value { numbers result ≡ added (numbers p) (numbers p) }
+    ensures point { IsPoint result }
+{
+    is_loose(p.z);
+    let a = squared(difference(p.y, p.x));
+    let b = squared(sum(p.y, p.x));
+    let c = twice_d_squared(p.t);
+    let z = squared(p.z);
+    let e = difference(b, a);
+    let f = square_less(p.z, z, c);
+    let g = square_plus(p.z, z, c);
+    let h = sum(b, a);
+    Point {
+        x: product(e, f),
+        y: product(g, h),
+        z: product(f, g),
+        t: product(e, h),
+    }
+}
+
+// A square 2 d times.
+#[inline(always)]
+#[tactic(auto, using(crate::proofs::Constants::twice_d, crate::proofs::Shared::square_first))]
+fn twice_d_squared(t: Element) -> Element
+    requires { IsTight t }
+    ensures value { residue result ≡ times (times (residue t) (plus d d)) (residue t) }
+    ensures tight { IsTight result }
+{
+    is_loose(t);
+    product(squared(t), TWICE_D)
+}
+
+// Twice the square of an element less another one.
+#[inline(always)]
+#[tactic(auto, using(crate::proofs::Shared::square_twice))]
+fn square_less(z: Element, square: Element, c: Element) -> Element
+    requires square { IsTight square }
+    requires z { residue square ≡ times (residue z) (residue z) }
+    requires c { IsTight c }
+    ensures value { residue result ≡ minus (times (residue z) (plus (residue z) (residue z))) (residue c) }
+    ensures loose { IsLoose result }
+{
+    twice_less(square, c)
+}
+
+// Twice the square of an element and another one.
+#[inline(always)]
+#[tactic(auto, using(crate::proofs::Shared::square_twice))]
+fn square_plus(z: Element, square: Element, c: Element) -> Element
+    requires square { IsTight square }
+    requires z { residue square ≡ times (residue z) (residue z) }
+    requires c { IsTight c }
+    ensures value { residue result ≡ plus (times (residue z) (plus (residue z) (residue z))) (residue c) }
+    ensures loose { IsLoose result }
+{
+    twice_plus(square, c)
+}
+
+// A point whose z is 1, made ready to be added often.
+#[tactic(auto, using(crate::proofs::Constants::twice_d))]
+fn prepared(p: Point) -> ReadyPoint
+    requires { IsPoint p }
+    ensures value { ready result ≡ prepared (numbers p) }
+    ensures prepared { IsPrepared result }
+{
+    is_loose(p.t);
+    ReadyPoint {
+        less: difference(p.y, p.x),
+        more: sum(p.y, p.x),
+        t: product(p.t, TWICE_D),
+    }
+}
+
+// The sum of a point and a prepared one, by seven products.
+#[tactic(auto, unfolding(crate::specs::Point::added_ready))]
+fn added_prepared(p: Point, q: ReadyPoint) -> Point
+    requires p { IsPoint p }
+    requires q { IsPrepared q }
+    ensures value { numbers result ≡ added_ready (numbers p) (ready q) }
+    ensures point { IsPoint result }
+{
+    is_loose(p.t);
+    is_loose(q.t);
+    let a = product(difference(p.y, p.x), q.less);
+    let b = product(sum(p.y, p.x), q.more);
+    let c = product(p.t, q.t);
+    let e = difference(b, a);
+    let f = twice_less(p.z, c);
+    let g = twice_plus(p.z, c);
+    let h = sum(b, a);
+    Point {
+        x: product(e, f),
+        y: product(g, h),
+        z: product(f, g),
+        t: product(e, h),
+    }
+}
+
 // The opposite point.
 #[tactic(auto, unfolding(crate::specs::Point::negated))]
 pub(crate) fn negated(p: Point) -> Point
     requires { IsPoint p }
     ensures value { numbers result ≡ negated (numbers p) }
     ensures point { IsPoint result }
+    ensures z { residue result.z ≡ residue p.z }
 {
     Point {
         x: field::negated(p.x),
@@ -118,18 +234,39 @@ fn chosen_point(choice: u64, p: Point, q: Point) -> Point
     }
 }
 
-// The point so many times, a number of 32 bytes with the lowest byte first. Each of 256 steps doubles and adds, and no branch and no place in
-// memory depends on the number.
-#[tactic(auto, using(crate::proofs::Steps::one_step))]
+// A point whose z is 1 so many times, a number of 32 bytes with the lowest byte first. Each of 256 steps doubles and adds, and no branch and
+// no place in memory depends on the number.
+#[tactic(auto, using(crate::proofs::Steps::one_step, crate::proofs::Shared::ready_sum))]
 pub(crate) fn multiplied(number: &[u8; 32], p: Point) -> Point
-    requires { IsPoint p }
+    requires p { IsPoint p }
+    requires z { residue p.z ≡ 1 }
     ensures value { numbers result ≡ multiplied number.now (numbers p) 256 }
     ensures point { IsPoint result }
 {
+    let ready = prepared(p);
     let mut q = IDENTITY;
     for i in 0..256usize {
-        q = added(q, q);
-        q = chosen_point(bit_of(number, 255 - i), q, added(q, p));
+        q = doubled(q);
+        q = chosen_point(bit_of(number, 255 - i), q, added_prepared(q, ready));
+    }
+    q
+}
+
+// The same for a number that is no secret: nothing is added where its bit is 0.
+#[tactic(auto, using(crate::proofs::Steps::one_step, crate::proofs::Shared::ready_sum))]
+pub(crate) fn multiplied_openly(number: &[u8; 32], p: Point) -> Point
+    requires p { IsPoint p }
+    requires z { residue p.z ≡ 1 }
+    ensures value { numbers result ≡ multiplied number.now (numbers p) 256 }
+    ensures point { IsPoint result }
+{
+    let ready = prepared(p);
+    let mut q = IDENTITY;
+    for i in 0..256usize {
+        q = doubled(q);
+        if bit_of(number, 255 - i) == 1 {
+            q = added_prepared(q, ready);
+        }
     }
     q
 }

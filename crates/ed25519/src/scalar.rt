@@ -4,7 +4,7 @@ ghost use Rattle.std.specs.Prelude.{◌≡◌, ◌<◌, ◌≤◌, ◌+◌, ◌*
 ghost use Rattle.x25519.specs.Bytes.{le_bytes, value};
 ghost use Rattle.ed25519.specs.Scalar.{chosen, is_below_order, number, order};
 
-use x25519::bytes::{bit_of, word_of};
+use x25519::bytes::word_of;
 use x25519::field::picked;
 
 // A number below 2^256 in four words, the lowest first.
@@ -40,6 +40,18 @@ const ORDER_B: u128 = 0x14de_f9de_a2f7_9cd6;
 
 const ORDER_D: u128 = 0x1000_0000_0000_0000;
 
+// What a word is lent, 2^80, and what the next one gives back for it.
+const LENT: u128 = 0x1_0000_0000_0000_0000_0000;
+
+const BACK: u128 = 0x1_0000;
+
+// A number as what it has below 2^252, and from there on.
+#[derive(Clone, Copy)]
+struct Parts {
+    low: Scalar,
+    high: u64,
+}
+
 // A number less L, modulo 2^256, and whether L is no more than the number.
 #[derive(Clone, Copy)]
 struct Less {
@@ -63,41 +75,93 @@ pub(crate) fn reduced(bytes: &[u8]) -> Scalar
     times(bytes, ONE)
 }
 
-// The number of these bytes, the lowest first, times a number below L, modulo L. There are at most 64. Each step doubles and adds, and no
-// branch depends on a number.
+// The number of these bytes, the lowest first, times a number below L, modulo L. There are at most 64. No branch depends on a number.
 pub(crate) fn times(bytes: &[u8], s: Scalar) -> Scalar
     requires bytes { length bytes.now ≤ 64 }
     requires s { number s < order }
     ensures value { number result ≡ value bytes.now * number s % order }
     ensures below { number result < order }
 {
-    let count = 8 * bytes.len();
+    let count = bytes.len();
     let mut product = ZERO;
     for i in 0..count {
-        product = doubled(product, chosen(bit_of(bytes, count - 1 - i), ZERO, s));
+        product = with_byte(product, bytes[count - 1 - i], s);
     }
     product
 }
 
-// Twice a number, and another one.
-fn doubled(x: Scalar, y: Scalar) -> Scalar
+// 256 times a number, and a byte times another one.
+fn with_byte(x: Scalar, byte: u8, s: Scalar) -> Scalar
     requires x { number x < order }
-    requires y { number y < order }
-    ensures value { number result ≡ (2 * number x + number y) % order }
+    requires s { number s < order }
+    ensures value { number result ≡ (256 * number x + byte * number s) % order }
     ensures below { number result < order }
 {
-    sum(sum(x, x), y)
+    reduced_once(folded(parts_of(x, byte, s)))
+}
+
+// The same in two parts.
+fn parts_of(x: Scalar, byte: u8, s: Scalar) -> Parts
+    requires x { number x < order }
+    requires s { number s < order }
+    ensures value { number result.low + result.high * 2 ^ 252 ≡ 256 * number x + byte * number s }
+    ensures low { number result.low < 2 ^ 252 }
+    ensures high { result.high < 1024 }
+{
+    let n = byte as u128;
+    let a = x.a as u128 * 256 + s.a as u128 * n;
+    let b = x.b as u128 * 256 + s.b as u128 * n + a / WORD;
+    let c = x.c as u128 * 256 + s.c as u128 * n + b / WORD;
+    let d = x.d as u128 * 256 + s.d as u128 * n + c / WORD;
+    Parts {
+        low: Scalar {
+            a: (a % WORD) as u64,
+            b: (b % WORD) as u64,
+            c: (c % WORD) as u64,
+            d: (d % ORDER_D) as u64,
+        },
+        high: (d / ORDER_D) as u64,
+    }
+}
+
+// The low part less so many times what L is above 2^252, and L, so that it stays above zero. Each word has 2^80 added, which the next one
+// gives back.
+fn folded(parts: Parts) -> Scalar
+    requires low { number parts.low < 2 ^ 252 }
+    requires high { parts.high < 1024 }
+    ensures value { number result + parts.high * order ≡ number parts.low + parts.high * 2 ^ 252 + order }
+    ensures below { number result < 2 * order }
+{
+    let q = parts.high as u128;
+    let a = parts.low.a as u128 + ORDER_A + LENT - q * ORDER_A;
+    let b = parts.low.b as u128 + ORDER_B + LENT - BACK - q * ORDER_B + a / WORD;
+    let c = parts.low.c as u128 + LENT - BACK + b / WORD;
+    let d = parts.low.d as u128 + ORDER_D + c / WORD - BACK;
+    Scalar {
+        a: (a % WORD) as u64,
+        b: (b % WORD) as u64,
+        c: (c % WORD) as u64,
+        d: (d % WORD) as u64,
+    }
 }
 
 // The sum of two numbers below L, modulo L.
-#[tactic(auto, using(crate::proofs::Sums::chosen_sum))]
 pub(crate) fn sum(x: Scalar, y: Scalar) -> Scalar
     requires x { number x < order }
     requires y { number y < order }
     ensures value { number result ≡ (number x + number y) % order }
     ensures below { number result < order }
 {
-    let whole = plus(x, y);
+    reduced_once(plus(x, y))
+}
+
+// A number less L, unless it is below L.
+#[tactic(auto, using(crate::proofs::Sums::chosen_sum))]
+fn reduced_once(whole: Scalar) -> Scalar
+    requires { number whole < 2 * order }
+    ensures value { number result ≡ number whole % order }
+    ensures below { number result < order }
+{
     let less = less_order(whole);
     chosen(less.at_least, whole, less.words)
 }

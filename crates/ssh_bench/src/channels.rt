@@ -8,6 +8,10 @@ use std::time::Duration;
 mod case;
 
 /// Prints the ratio.
+///
+/// # Errors
+///
+/// Those of the clock and of standard output, or an end refuses what it should take.
 pub fn measure<R: Clock + Print + AllocGlobal>(rt: &R, rounds: u32) -> anyhow::Result<()> {
     let few = fastest(rt, &mut Case::new(rt.alloc(), 1)?, rounds)?;
     let many = fastest(rt, &mut Case::new(rt.alloc(), 1024)?, rounds)?;

@@ -23,6 +23,10 @@ const FEW: usize = 100;
 const TIMES: usize = 100;
 
 /// Prints the ratios of sessions and of data.
+///
+/// # Errors
+///
+/// Those of the clock and of standard output, or an end refuses what it should take.
 pub fn measure<R: Clock + Print + AllocGlobal>(rt: &R, rounds: u32) -> anyhow::Result<()> {
     println!(rt; "Times of two ends as ratios to the hashes that they have to compute")?;
     measure_sessions(rt, rounds)?;

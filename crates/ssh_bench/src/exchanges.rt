@@ -15,6 +15,10 @@ const EXCHANGES: usize = 64;
 const MESSAGES: usize = 32;
 
 /// Prints the ratios of exchanges and of data.
+///
+/// # Errors
+///
+/// Those of the clock and of standard output, or an end refuses what it should take.
 pub fn measure<R: Clock + Print + AllocGlobal>(rt: &R, rounds: u32) -> anyhow::Result<()> {
     println!(rt; "Times of two transports as ratios to the hashes that they have to compute")?;
     measure_exchanges(rt, rounds)?;

@@ -15,6 +15,10 @@ mod times;
 const BYTES: usize = 262_144;
 
 /// Prints the ratios at payloads of three sizes.
+///
+/// # Errors
+///
+/// Those of the clock and of standard output, or memory is refused.
 pub fn measure<R: Clock + Print + AllocGlobal>(rt: &R, rounds: u32) -> io::Result<()> {
     println!(rt; "Times of MacOnly as ratios to the HMAC-SHA-256 of the same bytes")?;
     measure_size(rt, 64, rounds)?;

@@ -1,4 +1,4 @@
-//! Times sealing and opening packets under `Aes128Gcm`, an agreement by X25519, and signatures by Ed25519, against HMAC-SHA-256.
+//! Times sealing and opening packets under `AesGcm`, an agreement by X25519, and signatures by Ed25519, against HMAC-SHA-256.
 
 ghost use Rattle.std.specs.Prelude.{◌≤◌};
 
@@ -17,6 +17,10 @@ const BYTES: usize = 262_144;
 const CALLS: usize = 8;
 
 /// Prints the ratios at payloads of three sizes, of an agreement, and of signatures.
+///
+/// # Errors
+///
+/// Those of the clock and of standard output, or memory is refused.
 pub fn measure<R: Clock + Print + AllocGlobal>(rt: &R, rounds: u32) -> io::Result<()> {
     println!(rt; "Times of AES-128-GCM, X25519 and Ed25519 as ratios to HMAC-SHA-256")?;
     measure_size(rt, 64, rounds)?;

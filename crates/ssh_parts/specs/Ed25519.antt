@@ -1,6 +1,7 @@
 -- Keys and signatures of ssh-ed25519 (RFC 8709), and the parts that they make.
-use Rattle.std.specs.Prelude.{ℕ, Bool, false, ◌&&◌, if◌then◌else◌, nat_eq, List, [], ◌++◌, length, drop, codes, Option, Some, None}
+use Rattle.std.specs.Prelude.{ℕ, Bool, false, not, ◌&&◌, if◌then◌else◌, nat_eq, List, [], ◌++◌, length, drop, codes, Option, Some, None}
 use Rattle.std.specs.List.{list_any}
+use Rattle.ed25519.specs.Order.{is_small_order}
 use Rattle.ed25519.specs.Signature.{is_signature, pair_of, signature_of}
 use Rattle.ssh_model.specs.Authentication.Requests.{Judge}
 use Rattle.ssh_model.specs.KeyExchange.Exchange.{string_of}
@@ -35,9 +36,9 @@ abbrev pub signed_by : Option (List ℕ) → (key text : List ℕ) → Bool
 signed_by None key text = false
 signed_by (Some signature) key text = is_signature key text signature
 
--- The bytes are a signature of the text by this key.
+-- The bytes are a signature of the text by this key, which is no point of small order.
 unfoldable pub has_signed : (key text blob : List ℕ) → Bool
-has_signed key text blob = signed_by (signature_in blob) key text
+has_signed key text blob = signed_by (signature_in blob) key text && not (is_small_order key)
 
 -- ---- the parts
 
@@ -56,9 +57,9 @@ user_signature signer user algorithm key text =
 
 abbrev pub trusted_by : Option (List ℕ) → Option Ed25519Trust
 trusted_by None = None
-trusted_by (Some key) = Some (record { public = key })
+trusted_by (Some key) = if is_small_order key then None else Some (record { public = key })
 
--- trust in the key that bytes are
+-- trust in the key that bytes are, where it is no point of small order
 abbrev pub trust_in : List ℕ → Option Ed25519Trust
 trust_in blob = trusted_by (key_in blob)
 
@@ -67,7 +68,8 @@ is_trusted public algorithm key hash signature =
     is_name algorithm && (is_text key (key_blob public) && has_signed public hash signature)
 
 abbrev pub is_key_of : (user key : List ℕ) → AcceptedKey → Bool
-is_key_of user key entry = is_text entry.user.now user && is_text (key_blob entry.public) key
+is_key_of user key entry =
+    is_text entry.user.now user && (is_text (key_blob entry.public) key && not (is_small_order entry.public))
 
 abbrev pub is_accepted : List AcceptedKey → (user key : List ℕ) → Bool
 is_accepted accepted user key = list_any (is_key_of user key) accepted

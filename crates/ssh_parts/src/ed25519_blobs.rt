@@ -3,7 +3,7 @@
 ghost use Rattle.std.specs.Prelude.{◌≡◌};
 ghost use Rattle.ssh_parts.specs.Ed25519.{has_signed, key_blob, key_in, signature_blob, signature_in};
 
-use ed25519::verify;
+use ed25519::{is_small_order, verify};
 
 // The name of the algorithm.
 pub(crate) const NAME: &[u8] = b"ssh-ed25519";
@@ -76,13 +76,13 @@ pub(crate) fn signature_in(blob: &[u8]) -> Option<[u8; 64]>
     None
 }
 
-// Whether these bytes are a signature of the text by this key.
+// Whether these bytes are a signature of the text by this key, which is no point of small order.
 #[tactic(auto, unfolding(crate::specs::Ed25519::has_signed))]
 pub(crate) fn has_signed(key: &[u8; 32], text: &[u8], blob: &[u8]) -> bool
     ensures { result ≡ has_signed key.now text.now blob.now }
 {
     match signature_in(blob) {
-        Some(signature) => verify(key, text, &signature),
+        Some(signature) => verify(key, text, &signature) && !is_small_order(key),
         None => false,
     }
 }

@@ -4,6 +4,7 @@ ghost use Rattle.std.specs.Prelude.{◌≡◌, false};
 ghost use Rattle.ssh_parts.specs.Ed25519.{is_accepted, is_key_of, is_user_signature, judge_of};
 
 use crate::ed25519_blobs::{NAME, has_signed, key_blob, key_in};
+use ed25519::is_small_order;
 use ssh_auth::UserJudge;
 
 /// A public key that lets one user in.
@@ -15,7 +16,8 @@ pub struct AcceptedKey<'a> {
     pub public: [u8; 32],
 }
 
-/// Lets users in by their keys of ssh-ed25519 (RFC 8709), and by nothing else: no user without a key, and none by a password.
+/// Lets users in by their keys of ssh-ed25519 (RFC 8709), and by nothing else: no user without a key, and none by a password. A point of
+/// small order, as 32 zeros are, lets nobody in.
 #[derive(Clone, Copy, Debug, PartialEq, Eq)]
 pub struct Ed25519Judge<'a> {
     /// The keys of all users; a user may have several.
@@ -51,7 +53,9 @@ fn is_accepted(accepted: &[AcceptedKey<'_>], user: &[u8], key: &[u8]) -> bool
 fn is_key_of(entry: &AcceptedKey<'_>, user: &[u8], key: &[u8]) -> bool
     ensures { result ≡ is_key_of user.now key.now entry.now }
 {
-    entry.user == user && key_blob(&entry.public).as_slice() == key
+    entry.user == user
+        && key_blob(&entry.public).as_slice() == key
+        && !is_small_order(&entry.public)
 }
 
 fn is_user_signature(key: &[u8], text: &[u8], signature: &[u8]) -> bool

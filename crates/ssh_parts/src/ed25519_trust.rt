@@ -4,9 +4,11 @@ ghost use Rattle.std.specs.Prelude.{◌≡◌};
 ghost use Rattle.ssh_parts.specs.Ed25519.{is_trusted, trust_in};
 
 use crate::ed25519_blobs::{NAME, has_signed, key_blob, key_in};
+use ed25519::is_small_order;
 use ssh_kex::HostTrust;
 
-/// Trusts one host, by its key of ssh-ed25519 (RFC 8709), and no other algorithm.
+/// Trusts one host, by its key of ssh-ed25519 (RFC 8709), and no other algorithm. A point of small order, as 32 zeros are, is trusted by
+/// nobody.
 #[derive(Clone, Copy, Debug, PartialEq, Eq)]
 pub struct Ed25519Trust {
     /// The 32 bytes of the public key.
@@ -14,13 +16,16 @@ pub struct Ed25519Trust {
 }
 
 impl Ed25519Trust {
-    /// Trust in the host whose key goes over the wire as these bytes (RFC 8709 section 4); `None` where they are no key of ssh-ed25519.
+    /// Trust in the host whose key goes over the wire as these bytes (RFC 8709 section 4); `None` where they are no key of ssh-ed25519,
+    /// or one of small order, under which anyone can sign.
     pub fn from_key(key: &[u8]) -> Option<Ed25519Trust>
         ensures { result ≡ trust_in key.now }
     {
-        Some(Ed25519Trust {
-            public: key_in(key)?,
-        })
+        let public = key_in(key)?;
+        if is_small_order(&public) {
+            return None;
+        }
+        Some(Ed25519Trust { public })
     }
 }
 

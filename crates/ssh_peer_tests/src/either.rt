@@ -2,11 +2,11 @@
 
 use crate::checking::{same, same_at};
 use ssh_packet::{Lengths, MacOnly, PacketReader, ReadStep, Sealing, write_packet};
-use ssh_parts::{Aes128Gcm, Either};
+use ssh_parts::{AesGcm, Either};
 use ssh_toys::ToyFiller;
 use std::test::*;
 
-type Both = Either<Aes128Gcm, MacOnly>;
+type Both = Either<AesGcm, MacOnly>;
 
 const GCM: &[u8] = b"aes128-gcm@openssh.com";
 
@@ -60,8 +60,8 @@ fn a_key_of_each(rt: HostRuntime) -> Result<(), Fail> {
     let mut sealed = Vec::new(alloc);
     let mut by_gcm = Vec::new(alloc);
     write_packet::<Both, ToyFiller>(b"\x15", Some(&gcm), 7, &mut filler, &mut sealed)?;
-    let key = Aes128Gcm::make(alloc, GCM, b"", &[1; 12], &[2; 16], b"")?;
-    write_packet::<Aes128Gcm, ToyFiller>(b"\x15", Some(&key), 7, &mut filler, &mut by_gcm)?;
+    let key = AesGcm::make(alloc, GCM, b"", &[1; 12], &[2; 16], b"")?;
+    write_packet::<AesGcm, ToyFiller>(b"\x15", Some(&key), 7, &mut filler, &mut by_gcm)?;
     same!(rt, sealed.as_slice(), by_gcm.as_slice());
     let mut reader = PacketReader::new(alloc)?;
     let step = reader.take::<Both>(Some(&gcm), 7, &sealed);

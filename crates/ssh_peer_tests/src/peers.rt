@@ -3,7 +3,7 @@
 mod captures;
 
 use crate::checking::{same, same_at};
-use ssh_parts::{Aes128Gcm, Curve25519};
+use ssh_parts::{AesGcm, Curve25519};
 use ssh_toys::{ToyAgreement, ToyFiller, ToySigner, ToyTrust};
 use ssh_transport::{
     ClientPartValues, ClientParts, ClientTransport, Config, Effect, ServerPartValues, ServerParts,
@@ -16,7 +16,7 @@ use std::test::*;
 struct GcmClient;
 
 impl ClientParts for GcmClient {
-    type Sealing = Aes128Gcm;
+    type Sealing = AesGcm;
 
     type Filler = ToyFiller;
 
@@ -28,7 +28,7 @@ impl ClientParts for GcmClient {
 struct GcmServer;
 
 impl ServerParts for GcmServer {
-    type Sealing = Aes128Gcm;
+    type Sealing = AesGcm;
 
     type Filler = ToyFiller;
 
@@ -53,7 +53,7 @@ struct Puts {
 }
 
 fn client(alloc: Global, puts: &mut Puts) -> Result<ClientTransport<GcmClient>, Fail> {
-    let config = Config::<Aes128Gcm>::new(alloc, &gcm_settings())?;
+    let config = Config::<AesGcm>::new(alloc, &gcm_settings())?;
     let parts = ClientPartValues {
         filler: ToyFiller { byte: 0 },
         agreement: Curve25519,
@@ -72,7 +72,7 @@ fn client(alloc: Global, puts: &mut Puts) -> Result<ClientTransport<GcmClient>, 
 }
 
 fn server(alloc: Global, puts: &mut Puts) -> Result<ServerTransport<GcmServer>, Fail> {
-    let config = Config::<Aes128Gcm>::new(alloc, &gcm_settings())?;
+    let config = Config::<AesGcm>::new(alloc, &gcm_settings())?;
     let parts = ServerPartValues {
         filler: ToyFiller { byte: 0 },
         agreement: Curve25519,

@@ -1,14 +1,22 @@
 -- How large products of limbs are, and what is picked by a mask.
 use Rattle.std.proofs.Common.{◌≡◌, ℕ, zero, suc, ◌*◌, ◌≤◌, ◌<◌, ◌^◌, bit_and, bit_xor, ap, sym, ◌∙◌, arith}
 use Rattle.std.proofs.lemmas.Nat.{and_mask, mul-lt, xor_lt}
-use Rattle.std.proofs.Math.Nat.{mod-eq_of_lt}
+use Rattle.std.proofs.Math.Nat.{mod-eq_of_lt, mul-le-mul_left}
 use Rattle.std.specs.Int.Bits.{and_zero_r, xor_assoc, xor_self, xor_zero_l, xor_zero_r}
 use Rattle.x25519.specs.declared.field.Element.{Element}
 use Rattle.x25519.specs.Field.{AreBelow, chosen, picked}
 
+-- of two loose limbs
+pub small_product : (x y : ℕ) → x < 2 ^ 54 → y < 2 ^ 54 → x * y < 2 ^ 108
+small_product x y p q = mul-lt x y (2 ^ 54) (2 ^ 54) p q
+
 -- of a loose limb, and of one taken nineteen times
-pub small_product : (x y : ℕ) → x < 2 ^ 54 → y < 2 ^ 59 → x * y < 2 ^ 113
-small_product x y p q = mul-lt x y (2 ^ 54) (2 ^ 59) p q
+pub large_product : (x y : ℕ) → x < 2 ^ 54 → y ≤ 19 * 2 ^ 54 → x * y < 19 * 2 ^ 108
+large_product x y p q =
+    let most : x * y ≤ x * (19 * 2 ^ 54) = mul-le-mul_left x q in
+    omega (arith, most)
+
+pub ruleset products = (small_product, large_product)
 
 -- a bit against a bit
 pub one_bit : (x y : ℕ) → x ≤ 1 → y ≤ 1 → bit_xor x y ≤ 1

@@ -4,3 +4,4 @@ pub mod Modulo
 pub mod Exponents
 pub mod Spelling
 pub mod Tests
+pub mod Rows

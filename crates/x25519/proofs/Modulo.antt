@@ -62,6 +62,12 @@ pub difference_residue : (x y : Element) → IsTight y → residue (difference x
 unfolding residue minus
 difference_residue x y t = less (number x) (number y) (number (difference x y)) (difference_number x y t) (tight_number y t)
 
+pub twice_plus_residue : (x y : Element) → residue (sum (sum x x) y) ≡ plus (plus (residue x) (residue x)) (residue y)
+twice_plus_residue x y = sum_residue (sum x x) y ∙ ap (λ (n : ℕ). plus n (residue y)) (sum_residue x x)
+
+pub twice_less_residue : (x y : Element) → IsTight y → residue (difference (sum x x) y) ≡ minus (plus (residue x) (residue x)) (residue y)
+twice_less_residue x y t = difference_residue (sum x x) y t ∙ ap (λ (n : ℕ). minus n (residue y)) (sum_residue x x)
+
 pub times_one : (x : Element) → times (residue x) (residue (record { a = 1; b = 0; c = 0; d = 0; e = 0 })) ≡ residue x
 unfolding residue times
 times_one x = omega arith

@@ -31,13 +31,13 @@ IsTight x = AreBelow (2 ^ 52) x
 abbrev pub IsLoose : Element → Type 0
 IsLoose x = AreBelow (2 ^ 54) x
 
--- what is carried
+-- What is carried: no carry is more than a word, and nineteen times the last one is not either.
 pub record IsWide (w : Wide) : Type 0 where
-  pub a : w.a < 2 ^ 116
-  pub b : w.b < 2 ^ 116
-  pub c : w.c < 2 ^ 116
-  pub d : w.d < 2 ^ 116
-  pub e : w.e < 2 ^ 116
+  pub a : w.a < 120 * 2 ^ 108
+  pub b : w.b < 120 * 2 ^ 108
+  pub c : w.c < 120 * 2 ^ 108
+  pub d : w.d < 120 * 2 ^ 108
+  pub e : w.e < 5 * 2 ^ 108
 
 unfoldable pub sum : Element → Element → Element
 sum x y = record { a = x.a + y.a; b = x.b + y.b; c = x.c + y.c; d = x.d + y.d; e = x.e + y.e }

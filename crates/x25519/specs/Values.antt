@@ -65,6 +65,20 @@ one_bit_more bytes t f =
     let half : value bytes / 2 ^ suc t ≡ value bytes / 2 ^ t / 2 = ap (λ (k : ℕ). value bytes / k) (pow-suc 2 t) ∙ sym (div-div-eq-div-mul (value bytes) (2 ^ t) 2) in
     omega (arith, bit_of_value bytes t f, half)
 
+-- the bytes from a place on are those above it and one more
+pub one_byte_more : (bytes : List ℕ) (k : ℕ) → ((i : ℕ) → slice_index bytes i < 256) → value bytes / 2 ^ (8 * k) ≡ 256 * (value bytes / 2 ^ (8 * suc k)) + slice_index bytes k
+unfolding value
+one_byte_more [] k f = rw (zero-div, zero-div) refl
+one_byte_more (byte ∷ rest) zero f = let fits = f 0 in omega arith
+one_byte_more (byte ∷ rest) (suc k) f =
+    let n : ℕ = value rest in
+    let here : 8 * suc k ≡ 8 + 8 * k = omega arith in
+    let next : 8 * suc (suc k) ≡ 8 + 8 * suc k = omega arith in
+    ap (λ (t : ℕ). (byte + 256 * n) / 2 ^ t) here
+    ∙ high_part byte n (8 * k) (f 0)
+    ∙ one_byte_more rest k (λ i. f (suc i))
+    ∙ ap (λ (x : ℕ). 256 * x + slice_index rest k) (sym (ap (λ (t : ℕ). (byte + 256 * n) / 2 ^ t) next ∙ high_part byte n (8 * suc k) (f 0)))
+
 -- ---- words
 
 -- what the bytes from a place on spell

@@ -8,6 +8,7 @@ ghost use Rattle.x25519.specs.Field.{IsTight, residue};
 use crate::bytes::{bit_of, bytes_of, element_of};
 use crate::field::{Element, ONE, ZERO, chosen, difference, is_loose, product, sum, times_small};
 use crate::powers::inverse;
+use crate::squares::squared;
 
 // Two points of the ladder, and whether they stand swapped.
 #[derive(Clone, Copy)]
@@ -107,9 +108,9 @@ fn step(l: Ladder, x1: Element, bit: u64) -> Ladder
     let z2 = chosen(swap, l.z2, l.z3);
     let z3 = chosen(swap, l.z3, l.z2);
     let a = sum(x2, z2);
-    let aa = product(a, a);
+    let aa = squared(a);
     let b = difference(x2, z2);
-    let bb = product(b, b);
+    let bb = squared(b);
     let e = difference(aa, bb);
     let da = product(difference(x3, z3), a);
     let cb = product(sum(x3, z3), b);
@@ -119,8 +120,8 @@ fn step(l: Ladder, x1: Element, bit: u64) -> Ladder
     Ladder {
         x2: product(aa, bb),
         z2: product(e, sum(aa, times_small(e, 121_665))),
-        x3: product(s, s),
-        z3: product(x1, product(d, d)),
+        x3: squared(s),
+        z3: product(x1, squared(d)),
         swap: bit,
     }
 }

@@ -1,6 +1,6 @@
 //! The field of 2^255 - 19 elements (RFC 7748 section 4.1), in five limbs of 51 bits and some more. No sum and no product wraps.
 
-ghost use Rattle.std.specs.Prelude.{◌≡◌, ◌<◌, ◌≤◌, ◌+◌, ◌*◌, ◌^◌};
+ghost use Rattle.std.specs.Prelude.{◌≡◌, ◌<◌, ◌≤◌, ◌+◌, ◌*◌, ◌/◌, ◌%◌, ◌^◌};
 ghost use Rattle.x25519.specs.Field.{IsLoose, IsTight, IsWide, carried, chosen, difference, picked, product, residue, row_a, row_b, row_c, row_d, row_e, sum, times_small};
 ghost use Rattle.x25519.specs.Residues.{minus, plus, times as times_modulo};
 
@@ -18,11 +18,11 @@ pub struct Element {
 // A product before its carries.
 #[derive(Clone, Copy)]
 pub(crate) struct Wide {
-    a: u128,
-    b: u128,
-    c: u128,
-    d: u128,
-    e: u128,
+    pub a: u128,
+    pub b: u128,
+    pub c: u128,
+    pub d: u128,
+    pub e: u128,
 }
 
 /// The element 0.
@@ -84,14 +84,53 @@ pub fn difference(x: Element, y: Element) -> Element
     }
 }
 
+/// Twice the first tight element and the second one, which is loose.
+#[inline(always)]
+#[tactic(auto, unfolding(crate::specs::Field::sum), using(crate::proofs::Modulo::twice_plus_residue))]
+pub fn twice_plus(x: Element, y: Element) -> Element
+    requires x { IsTight x }
+    requires y { IsTight y }
+    ensures value { result ≡ sum (sum x x) y }
+    ensures residue { residue result ≡ plus (plus (residue x) (residue x)) (residue y) }
+    ensures loose { IsLoose result }
+{
+    Element {
+        a: x.a + x.a + y.a,
+        b: x.b + x.b + y.b,
+        c: x.c + x.c + y.c,
+        d: x.d + x.d + y.d,
+        e: x.e + x.e + y.e,
+    }
+}
+
+/// Twice the first tight element less the second one, which is loose.
+#[inline(always)]
+#[tactic(auto, unfolding(crate::specs::Field::difference, crate::specs::Field::sum), using(crate::proofs::Modulo::twice_less_residue))]
+pub fn twice_less(x: Element, y: Element) -> Element
+    requires x { IsTight x }
+    requires y { IsTight y }
+    ensures value { result ≡ difference (sum x x) y }
+    ensures residue { residue result ≡ minus (plus (residue x) (residue x)) (residue y) }
+    ensures loose { IsLoose result }
+{
+    Element {
+        a: x.a + x.a + 0x1f_ffff_ffff_ffb4 - y.a,
+        b: x.b + x.b + 0x1f_ffff_ffff_fffc - y.b,
+        c: x.c + x.c + 0x1f_ffff_ffff_fffc - y.c,
+        d: x.d + x.d + 0x1f_ffff_ffff_fffc - y.d,
+        e: x.e + x.e + 0x1f_ffff_ffff_fffc - y.e,
+    }
+}
+
 // A product of two limbs, the second one taken nineteen times or not.
 #[inline(always)]
-#[tactic(auto, using(crate::proofs::Bounds::small_product))]
-fn times(x: u64, y: u64) -> u128
+#[tactic(auto, using(crate::proofs::Bounds::products))]
+pub(crate) fn times(x: u64, y: u64) -> u128
     requires x { x < 2 ^ 54 }
-    requires y { y < 2 ^ 59 }
+    requires y { y ≤ 19 * 2 ^ 54 }
     ensures value { result ≡ x * y }
-    ensures most { result < 2 ^ 113 }
+    ensures small { y < 2 ^ 54 → result < 2 ^ 108 }
+    ensures most { result < 19 * 2 ^ 108 }
 {
     x as u128 * y as u128
 }
@@ -99,13 +138,13 @@ fn times(x: u64, y: u64) -> u128
 // The sum of the products that make one limb.
 #[inline(always)]
 fn five(p: u128, q: u128, r: u128, s: u128, t: u128) -> u128
-    requires p { p < 2 ^ 113 }
-    requires q { q < 2 ^ 113 }
-    requires r { r < 2 ^ 113 }
-    requires s { s < 2 ^ 113 }
-    requires t { t < 2 ^ 113 }
+    requires p { p < 19 * 2 ^ 108 }
+    requires q { q < 19 * 2 ^ 108 }
+    requires r { r < 19 * 2 ^ 108 }
+    requires s { s < 19 * 2 ^ 108 }
+    requires t { t < 19 * 2 ^ 108 }
     ensures value { result ≡ p + q + r + s + t }
-    ensures most { result < 2 ^ 116 }
+    ensures most { result < 120 * 2 ^ 108 }
 {
     p + q + r + s + t
 }
@@ -116,7 +155,7 @@ fn row_a(x: Element, y: Element) -> u128
     requires x { IsLoose x }
     requires y { IsLoose y }
     ensures value { result ≡ row_a x y }
-    ensures most { result < 2 ^ 116 }
+    ensures most { result < 120 * 2 ^ 108 }
 {
     five(
         times(x.a, y.a),
@@ -132,7 +171,7 @@ fn row_b(x: Element, y: Element) -> u128
     requires x { IsLoose x }
     requires y { IsLoose y }
     ensures value { result ≡ row_b x y }
-    ensures most { result < 2 ^ 116 }
+    ensures most { result < 120 * 2 ^ 108 }
 {
     five(
         times(x.a, y.b),
@@ -148,7 +187,7 @@ fn row_c(x: Element, y: Element) -> u128
     requires x { IsLoose x }
     requires y { IsLoose y }
     ensures value { result ≡ row_c x y }
-    ensures most { result < 2 ^ 116 }
+    ensures most { result < 120 * 2 ^ 108 }
 {
     five(
         times(x.a, y.c),
@@ -164,7 +203,7 @@ fn row_d(x: Element, y: Element) -> u128
     requires x { IsLoose x }
     requires y { IsLoose y }
     ensures value { result ≡ row_d x y }
-    ensures most { result < 2 ^ 116 }
+    ensures most { result < 120 * 2 ^ 108 }
 {
     five(
         times(x.a, y.d),
@@ -180,15 +219,9 @@ fn row_e(x: Element, y: Element) -> u128
     requires x { IsLoose x }
     requires y { IsLoose y }
     ensures value { result ≡ row_e x y }
-    ensures most { result < 2 ^ 116 }
+    ensures most { result < 5 * 2 ^ 108 }
 {
-    five(
-        times(x.a, y.e),
-        times(x.b, y.d),
-        times(x.c, y.c),
-        times(x.d, y.b),
-        times(x.e, y.a),
-    )
+    times(x.a, y.e) + times(x.b, y.d) + times(x.c, y.c) + times(x.d, y.b) + times(x.e, y.a)
 }
 
 /// The product of two loose elements, which is tight.
@@ -214,25 +247,43 @@ pub fn product(x: Element, y: Element) -> Element
 // What each limb has from 2^51 on goes to the next limb; what the last one has, to the first, nineteen times.
 #[inline(always)]
 #[tactic(auto, unfolding(crate::specs::Field::carried))]
-fn carried(w: Wide) -> Element
+pub(crate) fn carried(w: Wide) -> Element
     requires { IsWide w }
     ensures value { result ≡ carried w }
     ensures tight { IsTight result }
     ensures loose { IsLoose result }
 {
-    let b = w.b + w.a / LIMB;
-    let c = w.c + b / LIMB;
-    let d = w.d + c / LIMB;
-    let e = w.e + d / LIMB;
-    let first = w.a % LIMB + e / LIMB * 19;
-    let second = b % LIMB + first / LIMB;
+    let b = w.b + carry(w.a);
+    let c = w.c + carry(b);
+    let d = w.d + carry(c);
+    let e = w.e + carry(d);
+    let first = low(w.a) + (e / LIMB) as u64 * 19;
     Element {
-        a: (first % LIMB) as u64,
-        b: second as u64,
-        c: (c % LIMB) as u64,
-        d: (d % LIMB) as u64,
-        e: (e % LIMB) as u64,
+        a: first % (LIMB as u64),
+        b: low(b) + first / (LIMB as u64),
+        c: low(c),
+        d: low(d),
+        e: low(e),
     }
+}
+
+// What a limb has from 2^51 on, which is a word.
+#[inline(always)]
+fn carry(limb: u128) -> u128
+    requires { limb < 2 ^ 115 }
+    ensures value { result ≡ limb / 2 ^ 51 }
+    ensures most { result < 2 ^ 64 }
+{
+    (limb / LIMB) as u64 as u128
+}
+
+// What a limb has below 2^51.
+#[inline(always)]
+fn low(limb: u128) -> u64
+    ensures value { result ≡ limb % 2 ^ 51 }
+    ensures most { result < 2 ^ 51 }
+{
+    (limb % LIMB) as u64
 }
 
 /// The element so many times, at most 2^17.

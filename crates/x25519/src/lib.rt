@@ -5,6 +5,7 @@ pub mod bytes;
 mod curve;
 pub mod field;
 pub mod powers;
+pub mod squares;
 
 pub use curve::{clamped, public, shared, x25519};
 pub use field::Element;

@@ -6,6 +6,7 @@ ghost use Rattle.x25519.specs.Powers.{ArePowers, inverse, root_power, squared_ti
 ghost use Rattle.x25519.specs.Residues.{power};
 
 use crate::field::{Element, is_loose, product};
+use crate::squares::squared;
 
 // An element to the power 11, and to the power 2^250 - 1.
 #[derive(Clone, Copy)]
@@ -23,7 +24,7 @@ fn squared_times(x: Element, count: usize) -> Element
 {
     let mut y = x;
     for i in 0..count {
-        y = product(y, y);
+        y = squared(y);
     }
     y
 }
@@ -36,10 +37,10 @@ fn tower(z: Element) -> Powers
     ensures loose { ArePowers result }
 {
     is_loose(z);
-    let z2 = product(z, z);
+    let z2 = squared(z);
     let z9 = product(squared_times(z2, 2), z);
     let z11 = product(z9, z2);
-    let z5 = product(product(z11, z11), z9);
+    let z5 = product(squared(z11), z9);
     let z10 = product(squared_times(z5, 5), z5);
     let z20 = product(squared_times(z10, 10), z10);
     let z40 = product(squared_times(z20, 20), z20);

@@ -16,6 +16,10 @@ pub struct Case {
 
 impl Case {
     /// Channels that this end opened, and the peer confirmed.
+    ///
+    /// # Errors
+    ///
+    /// Memory is refused, or a channel is.
     pub fn new(alloc: Global, count: u32) -> anyhow::Result<Case> {
         let mut channels = Channels::new(alloc)?;
         let mut last = 0;
@@ -42,6 +46,10 @@ impl Case {
     }
 
     /// The time of taking data of one byte so often, on the channel that was opened last.
+    ///
+    /// # Errors
+    ///
+    /// Those of the clock, or memory is refused.
     pub fn take<R: Clock>(&mut self, rt: &R) -> anyhow::Result<Duration> {
         let data = Message::ChannelData {
             recipient: self.last,

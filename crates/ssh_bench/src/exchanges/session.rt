@@ -34,6 +34,10 @@ impl Drop for Session {
 
 impl Session {
     /// Both ends, which have put out their lines and KEXINITs.
+    ///
+    /// # Errors
+    ///
+    /// Only where memory is refused.
     pub fn new(alloc: Global) -> Result<Session, AllocError> {
         let mut from_client = Vec::new(alloc);
         let mut from_server = Vec::new(alloc);
@@ -66,6 +70,10 @@ impl Session {
     }
 
     /// The exchange that both have begun, to its end.
+    ///
+    /// # Errors
+    ///
+    /// Those of `take`: here only where memory is refused.
     pub fn exchange(&mut self) -> Result<(), TransportFault> {
         self.server_takes()?;
         self.client_takes()?;
@@ -81,6 +89,10 @@ impl Session {
     }
 
     /// One more exchange, begun by the client.
+    ///
+    /// # Errors
+    ///
+    /// Those of `ask` and `take`: here only where memory is refused.
     pub fn rekey(&mut self) -> Result<(), TransportFault> {
         self.client.feed_material([0xa2; 16], [0xa2; 32]);
         self.server.feed_material([0xb2; 16], [0xb2; 32]);
@@ -92,6 +104,10 @@ impl Session {
     }
 
     /// The client sends data, and the server takes it.
+    ///
+    /// # Errors
+    ///
+    /// Those of `send` and `take`: here only where memory is refused.
     pub fn data(&mut self, body: &[u8]) -> Result<(), TransportFault>
         requires { length body.now ≤ 32768 }
     {

@@ -41,6 +41,10 @@ impl Model for Case {
 
 impl Case {
     /// The packet of this payload.
+    ///
+    /// # Errors
+    ///
+    /// Only where memory is refused.
     pub fn new(alloc: Global, payload: &[u8]) -> Result<Case, AllocError>
         requires from { 1 ≤ length payload.now }
         requires to { length payload.now ≤ 34000 }
@@ -62,6 +66,10 @@ impl Case {
     }
 
     /// The time of sealing the payload so often, at the end of bytes that have room for it.
+    ///
+    /// # Errors
+    ///
+    /// Those of the clock, or memory is refused.
     pub fn seal<R: Clock>(&mut self, rt: &R, payload: &[u8], count: usize) -> io::Result<Duration>
         requires from { 1 ≤ length payload.now }
         requires to { length payload.now ≤ 34000 }
@@ -78,6 +86,10 @@ impl Case {
     }
 
     /// The time of opening the packet so often.
+    ///
+    /// # Errors
+    ///
+    /// Those of the clock, or memory is refused.
     pub fn open<R: Clock>(&mut self, rt: &R, count: usize) -> io::Result<Duration> {
         let start = Instant::now(rt)?;
         for _ in 0..count {
@@ -88,6 +100,10 @@ impl Case {
     }
 
     /// The time of the HMAC of the text so often, under one key.
+    ///
+    /// # Errors
+    ///
+    /// Those of the clock, or memory is refused.
     pub fn kept<R: Clock>(&mut self, rt: &R, count: usize) -> io::Result<Duration> {
         let start = Instant::now(rt)?;
         for _ in 0..count {
@@ -97,6 +113,10 @@ impl Case {
     }
 
     /// The time of the HMAC of the text so often, each under a key made anew.
+    ///
+    /// # Errors
+    ///
+    /// Those of the clock, or memory is refused.
     pub fn anew<R: Clock>(&mut self, rt: &R, count: usize) -> io::Result<Duration> {
         let start = Instant::now(rt)?;
         for _ in 0..count {

@@ -38,12 +38,13 @@ pub const KEXINITS: [&str; 2] = [
         70656e7373682e636f6d2c7a6c696200000000000000000000000000",
 ];
 
+/// The client's point in each exchange, in hexadecimal digits.
 pub const POINTS: [&str; 2] = [
     "ca9f8eeb5ade2de5117500bb7a02bd36c3014b86c92e394a823224120b7b5d68",
     "0956513ec6ea9eabfd44e1235a71c921b8a121f465c41abb9e0ccbdb4a8ade12",
 ];
 
-/// The payloads of the KEXINITs of the server, and its points.
+/// The payloads of the server's KEXINITs.
 pub const SERVER_KEXINITS: [&str; 2] = [
     "\
         14a05fa481f650bc6ad43b9dc34054612d00000056637572766532353531392d7368613235362c637572766532353531392d\
@@ -58,6 +59,7 @@ pub const SERVER_KEXINITS: [&str; 2] = [
         0000000000000000000000",
 ];
 
+/// The server's point in each exchange.
 pub const SERVER_POINTS: [&str; 2] = [
     "60b7e2e1716ac65193c08ae5b47bb34a8d1af992951c7ac87bbdeb55694f2e32",
     "4dba5ff9ffa5b92604957e8b35dc70ee244006c8dffe4554aeda6050536e4c7f",
@@ -80,6 +82,7 @@ pub const HOST_KEY: &str = "\
     0000000b7373682d65643235353139000000209ed932a12779f251331c343972eb63b43176ea749911ce43b98e198aaccc1a\
     06";
 
+/// The host's signature in each exchange.
 pub const SIGNATURES: [&str; 2] = [
     "\
         0000000b7373682d65643235353139000000405b347d488dc68fa9eaa010b1724ee1435033278d19f5b0548a89a1b5ed79f3\
@@ -89,12 +92,13 @@ pub const SIGNATURES: [&str; 2] = [
         7d41f0394f00a805cc73ca8e7a3b544e77cc229d87e7ad13bb0804ba407fccdf00",
 ];
 
-/// The keys of the MAC from the client, and those from the server.
+/// The keys of the MAC from the client.
 pub const KEYS: [&str; 2] = [
     "c0e6dc863187a7b614a5a96e6bc6d9f314697c1a5be7752f890f6b08a29ebc12",
     "0583f5ecbd92335f2be3e0dd661cda06d4b2ad9231e932e8ba31bad60b8d7d9f",
 ];
 
+/// The keys of the MAC from the server.
 pub const SERVER_KEYS: [&str; 2] = [
     "0d2ef15e3ff6d45e65509504225d84391efb1b13bd4e3dc78ae546ea6f02dee7",
     "6751802b39c1aa31ec9fdfc010585d941566888ab9d5c8275c4c573397a04b89",

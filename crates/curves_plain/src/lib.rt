@@ -1,0 +1,16 @@
+//! X25519 and Ed25519 as plain programs, for tests and times: squares are products, and each bit of a number doubles and adds.
+//! `x25519` and `ed25519` compute the same faster. Nothing is claimed of these programs but that they are safe.
+#![tactic(auto)]
+
+mod encoding;
+mod field;
+mod keys;
+mod ladder;
+mod point;
+mod powers;
+mod scalar;
+mod verification;
+
+pub use keys::PlainPair;
+pub use ladder::x25519;
+pub use verification::verify;
