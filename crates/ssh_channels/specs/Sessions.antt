@@ -72,7 +72,7 @@ IsStateInSession channels number state =
 
 abbrev pub IsRoomInSession : Channels → ℕ → Option ℕ → Type 0
 IsRoomInSession channels number left =
-    (side : Side) (history : List Item) (waiting : List channel.Item) → SumsUp side history waiting channels → left ≡ room (notes side history) number
+    (side : Side) (history : List Item) (waiting : List channel.Item) → SumsUp side history waiting channels → left ≡ room (notes side history) waiting number
 
 abbrev pub IsCountInSession : Channels → ℕ → Type 0
 IsCountInSession channels used =

@@ -54,6 +54,10 @@ impl Model for Channels {
 
 impl Channels {
     /// No channels, and nothing that waits or is owed.
+    ///
+    /// # Errors
+    ///
+    /// Only where memory is refused.
     pub fn new(alloc: Global) -> Result<Channels, AllocError>
         ensures { IfOk result (λ channels. channels ≡ no_channels) }
     {

@@ -76,6 +76,10 @@ fn number_for(keys: &[Option<usize>], key: usize) -> usize
 
 impl Table {
     /// No number is in use.
+    ///
+    /// # Errors
+    ///
+    /// Only where memory is refused.
     pub fn new(alloc: Global) -> Result<Table, AllocError>
         ensures { IfOk result (λ table. table ≡ replicate 1024 None) }
     {
@@ -124,6 +128,10 @@ impl Table {
     }
 
     /// Puts an entry at a free number.
+    ///
+    /// # Errors
+    ///
+    /// Only where memory is refused: nothing changes.
     pub fn insert(&mut self, entry: Entry) -> Result<u32, AllocError>
         requires { used self.old < 1024 }
         ensures unused { IfOk result (λ number. IsUnused self.old number) }

@@ -1,8 +1,7 @@
 -- What a client's end does with the bytes of one line or one packet is what the client of a session does with them.
-use Rattle.std.proofs.Common.{◌≡◌, ℕ, ◌+◌, ◌≤◌, ◌++◌, true, false, List, refl, ap, sym, ◌∙◌, subst, Option, None, Some}
+use Rattle.std.proofs.Common.{◌≡◌, ℕ, ◌++◌, true, false, List, refl, ap, sym, ◌∙◌, subst}
 use Rattle.std.proofs.lemmas.Bool.{false≢true}
-use Rattle.ssh_model.specs.Side.{Side, Side.Client}
-use Rattle.ssh_model.specs.End.Reading.{end_reading}
+use Rattle.ssh_model.specs.Side.{Side.Client}
 use Rattle.ssh_model.specs.End.Summary.{EndSumsUp}
 use Rattle.ssh_model.specs.Sessions.Items.{Item, messages_sent}
 use Rattle.ssh_model.specs.Sessions.Parties.{Agreement, Parties, agreement_of}
@@ -10,21 +9,17 @@ use Rattle.ssh_model.specs.Sessions.Refusals.{Refusal}
 use Rattle.ssh_model.specs.Sessions.Turns.{stage}
 use Rattle.ssh_model.specs.TransportLayer.Kept.{Transport}
 use Rattle.ssh_model.specs.TransportLayer.Summary.{SumsUp}
-use Rattle.ssh_model.specs.Wire.Delivery.{Waits}
 use Rattle.ssh_model.specs.Wire.Outcome.{Outcome.Opens}
 use Rattle.ssh_model.specs.Wire.Sealing.{Crypto}
 use Rattle.ssh_model.specs.Wire.Unit.{IsUnit}
 use Rattle.ssh_kex.specs.declared.owned_choice.OwnedChoice.{OwnedChoice}
 use Rattle.ssh_packet.specs.Refusals.{line_refusal}
 use Rattle.ssh_transport_machine.specs.Outcomes.{IsRefusal, LineOutcome, answer_outcome, packet_outcome, payload_outcome}
-use Rattle.ssh_transport_machine.specs.Finishing.{after_announced}
 use Rattle.ssh_transport_machine.specs.Puts.{Outs, payloads_of}
 use Rattle.ssh_transport_machine.specs.Sessions.{IsAbove, is_left}
 use Rattle.ssh_transport_machine.specs.Shown.{IsLineRefusal, LineTurnOf, PacketTurnOf}
-use Rattle.ssh_transport_machine.specs.State.{IsLive, State, begun_of}
-use Rattle.ssh_transport_machine.specs.Turning.{IsQuiet, PacketTaken}
-use Rattle.ssh_transport_machine.specs.declared.machine.judging.Judged.TheVariants as judged
-use Rattle.ssh_transport_machine.specs.declared.machine.kexinit.KexinitFacts.{KexinitFacts}
+use Rattle.ssh_transport_machine.specs.State.{State, begun_of}
+use Rattle.ssh_transport_machine.specs.Turning.{IsQuiet}
 use Rattle.ssh_transport_machine.specs.declared.machine.line_turn.LineTurn.{LineTurn}
 use Rattle.ssh_transport_machine.specs.declared.machine.line_turn.LineTurn.TheVariants as line_turn
 use Rattle.ssh_transport_machine.specs.declared.machine.turn.Answer.{Answer}
@@ -34,13 +29,13 @@ use Rattle.ssh_transport_machine.specs.declared.machine.turn.PacketTurn.TheVaria
 use Rattle.ssh_transport_machine.specs.declared.outcome.Effect.TheVariants as effect
 use Rattle.ssh_transport_machine.specs.declared.outcome.TransportTurn.{TransportTurn}
 use Rattle.ssh_transport_machine.specs.declared.outcome.TransportTurn.TheVariants as outcome
-use Rattle.ssh_transport_client.specs.Kexinits.{KexinitDone, KexinitTurn}
-use Rattle.ssh_transport_client.specs.Replies.{Trusts}
-use Rattle.ssh_transport_client.specs.Sessions.{ReplyTurnOf, ClientTurnOf}
-use Rattle.ssh_transport_client.specs.Transport.{ClientTook, UnitTakes, reply_outcome}
-use Rattle.ssh_transport_client.specs.declared.reply.ReplyTurn.{ReplyTurn}
-use Rattle.ssh_transport_client.specs.declared.reply.ReplyTurn.TheVariants as replied
-use Rattle.ssh_transport_client.specs.declared.packet.ClientTurn.TheVariants as client
+use Rattle.ssh_transport.specs.OfClient.Kexinits.{KexinitTurn}
+use Rattle.ssh_transport.specs.OfClient.Replies.{Trusts}
+use Rattle.ssh_transport.specs.OfClient.Roles.{ClientDoes}
+use Rattle.ssh_transport.specs.Roles.{IsCompleted, IsOwnShown, Leaves, OwnTurn}
+use Rattle.ssh_transport.specs.Sessions.{UnitTurnOf}
+use Rattle.ssh_transport.specs.Units.{Took}
+use Rattle.ssh_transport.specs.declared.own.Own.{Own}
 use Rattle.ssh_types.specs.declared.refusal.Refusal.TheVariants as code
 use Rattle.ssh_end.specs.Effects.{is_whole, step_given}
 use Rattle.ssh_layers.specs.ClientLayers.{Layers}
@@ -51,23 +46,23 @@ use Rattle.ssh_end.specs.Reading.{IsReading}
 use Rattle.ssh_end.specs.Steps.{Shows, UnitTurned}
 use Rattle.ssh_end.specs.declared.step.Step.{Step}
 use Rattle.ssh_end.specs.declared.step.Step.TheVariants as step
-use Rattle.ssh_end.proofs.TurningBegun.{Begun, Still, still_by}
+use Rattle.ssh_end.proofs.TurningBegun.{Begun}
 use Rattle.ssh_end.proofs.Judging.{ChannelFacts}
-use Rattle.ssh_end.proofs.TurningReads.{Left, OpensShown, ReadingLaws, Reads, above_reads, ended_reads, line_left, packet_left, refused_with, role_left, same_with, whole_reads}
+use Rattle.ssh_end.proofs.TurningReads.{Left, OpensShown, ReadingLaws, Reads, above_reads, ended_reads, refused_with, same_with, whole_reads}
 use Rattle.ssh_end.proofs.ClientTurnsAbove.{finished_so}
-use Rattle.ssh_end.proofs.ClientTurnsReply.{bad_host, bad_point, completed_turn, kexinit_turn, number_spent}
+use Rattle.ssh_end.proofs.ClientTurnsReply.{completed_turn, kexinit_turn, number_spent, peer_refused}
 use Rattle.ssh_end.proofs.ClientTurnsUnits.{other_line, payload_turn, refused_line, refused_packet, version_line}
 use Rattle.ssh_end.proofs.ClientTurnsWhole.{goes_whole, kept_after, whole_turn}
 use Rattle.ssh_end.proofs.TurningLaws.{TurningLaws}
-use Rattle.ssh_end.proofs.TurningWhole.{is_whole_packet, no_more, payload_waits}
+use Rattle.ssh_end.proofs.TurningUnits.{unit_left, unit_waits}
+use Rattle.ssh_end.proofs.TurningWhole.{is_whole_packet, no_more}
 
 -- the laws of a client's transport
 pub record TransportLaws (K : Type 0) : Type 0 where
-  pub packets : (p : Parties K) (side : Side) (history : List Item) (old : State K) → SumsUp p side history old.kept → old.kept.dead ≡ false → IsLive old → old.kept.lines.found ≡ true → (bytes : List ℕ) (done : PacketTurn) (new : State K) (o : Outs) → PacketTaken p.crypto old bytes done new o → PacketTurnOf p side history old.kept bytes done new o
-  pub taken : (p : Parties K) (history : List Item) (old : State K) → SumsUp p Client history old.kept → (bytes : List ℕ) (given : TransportTurn) (new : State K) (o : Outs) → ClientTook p.crypto (agreement_of p Client) p.trusts old bytes given new o → ClientTurnOf p history old.kept bytes given new o
-  pub alive : (c : Crypto K) (agreement : Agreement) (trusts : Trusts) (old : State K) (bytes : List ℕ) (choice : OwnedChoice) (new : State K) (o : Outs) → ClientTook c agreement trusts old bytes (outcome.Completed choice) new o → new.kept.dead ≡ false
-  pub few : (c : Crypto K) (agreement : Agreement) (trusts : Trusts) (old : State K) (bytes : List ℕ) (choice : OwnedChoice) (new : State K) (o : Outs) → ClientTook c agreement trusts old bytes (outcome.Completed choice) new o → new.kept.sending.count ≤ 1
-  pub epoch : (c : Crypto K) (agreement : Agreement) (trusts : Trusts) (old : State K) (bytes : List ℕ) (choice : OwnedChoice) (new : State K) (o : Outs) → ClientTook c agreement trusts old bytes (outcome.Completed choice) new o → new.kept.sending.epoch ≡ old.kept.sending.epoch + 1
+  pub taken : (p : Parties K) (history : List Item) (old : State K) → SumsUp p Client history old.kept → (bytes : List ℕ) (given : TransportTurn) (new : State K) (o : Outs) → Took p.crypto Client (ClientDoes p.crypto (agreement_of p Client) p.trusts) old bytes given new o → UnitTurnOf p Client history old.kept bytes given new o
+  pub completed : (c : Crypto K) (agreement : Agreement) (trusts : Trusts) (old : State K) (bytes : List ℕ) (choice : OwnedChoice) (new : State K) (o : Outs) → Took c Client (ClientDoes c agreement trusts) old bytes (outcome.Completed choice) new o → IsCompleted old new o
+  pub shown : (c : Crypto K) (agreement : Agreement) (trusts : Trusts) (old new : State K) (o : Outs) (own : Own) (given : TransportTurn) → ClientDoes c agreement trusts old own given new o → IsOwnShown old given new o
+  pub leaves : (c : Crypto K) (agreement : Agreement) (trusts : Trusts) (old new : State K) (o : Outs) (own : Own) (given : TransportTurn) → ClientDoes c agreement trusts old own given new o → Leaves old given new
 
 -- What is no whole line or packet is a step of its own.
 turned_step : {K : Type 0} (p : Parties K) (history : List Item) (bytes : List ℕ) (done : Step) (new : State K) (later : Layers) (o : Outs) → IsUnitTurned p history bytes done new later o → ClientTurned p history bytes done new later o
@@ -78,64 +73,14 @@ turned_step p history bytes step.Skipped new later o x = x
 turned_step p history bytes (step.Took took) new later o x = x
 turned_step p history bytes (step.Refused why) new later o x = x
 
--- what is announced behind an exchange is no line
-announced_lines : {K : Type 0} (announcement : Option (List ℕ)) (s : Transport K) → (after_announced announcement s).lines ≡ s.lines
-announced_lines None s = refl
-announced_lines (Some payload) s = refl
-
--- what a client's KEXINIT leaves
-kexinit_still : {K : Type 0} (c : Crypto K) (agreement : Agreement) (old : State K) (facts : KexinitFacts) (new : State K) (o : Outs) → KexinitDone c agreement old facts answered.Done new o → Still old new
-kexinit_still c agreement old facts new o (KexinitDone.by_point shut x) = still_by old new _ x.after refl
-kexinit_still c agreement old facts new o (KexinitDone.by_both material free has x) = still_by old new _ x.after refl
-
-kexinit_dead : {K : Type 0} (c : Crypto K) (agreement : Agreement) (old : State K) (facts : KexinitFacts) (new : State K) (o : Outs) → KexinitDone c agreement old facts answered.Spent new o → new.kept.dead ≡ true
-kexinit_dead c agreement old facts new o (KexinitDone.by_point shut x) = x.dead
-kexinit_dead c agreement old facts new o (KexinitDone.by_both material free has x) = x.dead
-
 module _ {K : Type 0} (laws : TurningLaws K) (reads : ReadingLaws K) (below : TransportLaws K) (channel_facts : ChannelFacts) (p : Parties K) (history : List Item) (old : State K) (layers : Layers) (asking : IsAsking p history old layers) (bytes : List ℕ) where
-  -- ---- bytes that are no whole unit
-
-  packet_waits : old.kept.dead ≡ false → old.kept.lines.found ≡ true → (done : PacketTurn) (number : ℕ) → outcome.More ≡ packet_outcome done number → (new : State K) (o : Outs) → PacketTurnOf p Client history old.kept bytes done new o → Waits (end_reading p Client) history bytes
-  packet_waits alive found packet_turn.More number e new o x = laws.packets_begun p Client history old.kept asking.sums.transport alive asking.lawful.sealing found bytes x.begun
-  packet_waits alive found (packet_turn.Refused why) number e new o x = absurd (cc e)
-  packet_waits alive found (packet_turn.Payload done) number e new o x = absurd (payload_waits done number e)
-
-  unit_waits : (new : State K) (o : Outs) → old.kept.dead ≡ false → IsLive old → UnitTakes p.crypto (agreement_of p Client) p.trusts old bytes outcome.More new o → Waits (end_reading p Client) history bytes
-  unit_waits new o alive live (UnitTakes.line line_turn.More x) = laws.lines_begun p Client history old.kept asking.sums.transport alive asking.lawful.sealing x.reading bytes x.taken.begun
-  unit_waits new o alive live (UnitTakes.line line_turn.Other x) = absurd (cc x.shown)
-  unit_waits new o alive live (UnitTakes.line line_turn.Version x) = absurd (cc x.shown)
-  unit_waits new o alive live (UnitTakes.line (line_turn.Refused why) x) = absurd x.shown
-  unit_waits new o alive live (UnitTakes.packet (client.Shared done) x) = packet_waits alive x.reading done _ x.shown new o (below.packets p Client history old asking.sums.transport alive live x.reading bytes done new o x.taken.taken)
-  unit_waits new o alive live (UnitTakes.packet (client.Kexinit answered.Done) x) = absurd (cc x.shown)
-  unit_waits new o alive live (UnitTakes.packet (client.Kexinit answered.Spent) x) = absurd (cc x.shown)
-  unit_waits new o alive live (UnitTakes.packet (client.Reply replied.BadPoint) x) = absurd (cc x.shown)
-  unit_waits new o alive live (UnitTakes.packet (client.Reply replied.BadHost) x) = absurd (cc x.shown)
-  unit_waits new o alive live (UnitTakes.packet (client.Reply replied.NumberSpent) x) = absurd (cc x.shown)
-  unit_waits new o alive live (UnitTakes.packet (client.Reply (replied.Completed choice)) x) = absurd (cc x.shown)
-
-  -- ---- what is left of it
-
-  unit_left : (given : TransportTurn) (new : State K) (o : Outs) → ClientTook p.crypto (agreement_of p Client) p.trusts old bytes given new o → Left p Client history bytes given new
-  unit_left given new o x = go x.takes
-    where
-      go : UnitTakes p.crypto (agreement_of p Client) p.trusts old bytes given new o → Left p Client history bytes given new
-      go (UnitTakes.line done y) = line_left reads p asking.lawful.sealing Client history old asking.sums.transport x.alive x.stands.live (asking.reading x.alive) bytes y.reading done given new y.taken y.shown
-      go (UnitTakes.packet (client.Shared done) y) = packet_left reads p asking.lawful.sealing Client history old asking.sums.transport x.alive x.stands.live (asking.reading x.alive) bytes y.reading _ done given new o y.shown y.taken.taken
-      go (UnitTakes.packet (client.Kexinit answered.Done) y) =
-          role_left reads p asking.lawful.sealing Client history old asking.sums.transport x.alive x.stands.live (asking.reading x.alive) bytes y.reading (judged.Kexinit y.taken.facts) y.taken.between given new _ (λ e. cc (sym e ∙ y.shown)) y.taken.taken
-          (kexinit_still p.crypto (agreement_of p Client) y.taken.between y.taken.facts new o y.taken.does)
-      go (UnitTakes.packet (client.Kexinit answered.Spent) y) = Left.over code.NumberSpent y.shown (kexinit_dead p.crypto (agreement_of p Client) y.taken.between y.taken.facts new o y.taken.does)
-      go (UnitTakes.packet (client.Reply replied.BadPoint) y) = Left.over code.BadPoint y.shown y.taken.does.refuses.dead
-      go (UnitTakes.packet (client.Reply replied.BadHost) y) = Left.over code.BadHost y.shown y.taken.does.refuses.dead
-      go (UnitTakes.packet (client.Reply replied.NumberSpent) y) = Left.over code.NumberSpent y.shown (ap (λ (s : State K). s.kept.dead) y.taken.does.after)
-      go (UnitTakes.packet (client.Reply (replied.Completed choice)) y) =
-          role_left reads p asking.lawful.sealing Client history old asking.sums.transport x.alive x.stands.live (asking.reading x.alive) bytes y.reading judged.Reply y.taken.between given new _ (λ e. cc (sym e ∙ y.shown)) y.taken.taken
-          (still_by y.taken.between new _ y.taken.does.after (announced_lines y.taken.does.announcement _))
+  abbrev Given : TransportTurn → State K → Outs → Type 0
+  Given given new o = Took p.crypto Client (ClientDoes p.crypto (agreement_of p Client) p.trusts) old bytes given new o
 
   -- ---- a unit
 
   module _ (done : Step) (new : State K) (later : Layers) (o : Outs) (given : TransportTurn) (between : State K) (middle : List ℕ) (listed : List (List ℕ))
-      (took : ClientTook p.crypto (agreement_of p Client) p.trusts old bytes given between (record { before = o.before; after = middle; listed = o.listed; relisted = listed }))
+      (took : Given given between (record { before = o.before; after = middle; listed = o.listed; relisted = listed }))
       (goes : Goes p.crypto given between layers done new later (record { before = middle; after = o.after; listed = listed; relisted = o.relisted })) where
     abbrev front : Outs
     front = record { before = o.before; after = middle; listed = o.listed; relisted = listed }
@@ -149,11 +94,11 @@ module _ {K : Type 0} (laws : TurningLaws K) (reads : ReadingLaws K) (below : Tr
     goes_so : (so : TransportTurn) → given ≡ so → Goes p.crypto so between layers done new later back
     goes_so so same = subst (λ (t : TransportTurn). Goes p.crypto t between layers done new later back) same goes
 
-    took_so : (so : TransportTurn) → given ≡ so → ClientTook p.crypto (agreement_of p Client) p.trusts old bytes so between front
-    took_so so same = subst (λ (t : TransportTurn). ClientTook p.crypto (agreement_of p Client) p.trusts old bytes t between front) same took
+    took_so : (so : TransportTurn) → given ≡ so → Given so between front
+    took_so so same = subst (λ (t : TransportTurn). Given t between front) same took
 
     left : Left p Client history bytes given between
-    left = unit_left given between front took
+    left = unit_left laws reads p asking.lawful Client (ClientDoes p.crypto (agreement_of p Client) p.trusts) (below.shown p.crypto (agreement_of p Client) p.trusts) (below.leaves p.crypto (agreement_of p Client) p.trusts) history old asking.sums.transport asking.reading bytes given between front took
 
     begun_now : given ≡ outcome.More → Begun p.crypto bytes between
     begun_now same = go left
@@ -185,7 +130,7 @@ module _ {K : Type 0} (laws : TurningLaws K) (reads : ReadingLaws K) (below : Tr
         subst (λ (d : Step). ClientTurned p history bytes d new later o) (sym g.shown) (record {
           sums = subst (λ (l : Layers). EndSumsUp p Client history (end_of new.kept l)) (sym g.layers_are)
               (subst (λ (m : State K). EndSumsUp p Client history (end_of m.kept layers)) (sym g.same) (record { transport = sums; above = λ live. asking.sums.above took.alive }));
-          waits = unit_waits between front taken.alive taken.stands.live taken.takes;
+          waits = unit_waits laws reads p asking.lawful Client (ClientDoes p.crypto (agreement_of p Client) p.trusts) (below.shown p.crypto (agreement_of p Client) p.trusts) (below.leaves p.crypto (agreement_of p Client) p.trusts) history old asking.sums.transport asking.reading bytes between front taken;
           quiet = record { out = g.out ∙ quiet.out; sent = g.lists ∙ quiet.sent };
           alive = ap (λ (m : State K). m.kept.dead) g.same ∙ (begun_now same).alive;
           begun = ap (λ (m : State K). begun_of m) g.same ∙ (begun_now same).begun;
@@ -238,25 +183,23 @@ module _ {K : Type 0} (laws : TurningLaws K) (reads : ReadingLaws K) (below : Tr
     kexinit answered.Done payload same unit x = whole (outcome.Done effect.Kexinit) same refl payload (λ opens. opens payload unit) (kexinit_turn laws p history old layers asking took.alive bytes payload unit answered.Done between.kept front x)
     kexinit answered.Spent payload same unit x = whole (outcome.Refused code.NumberSpent) same refl payload (λ opens. opens payload unit) (kexinit_turn laws p history old layers asking took.alive bytes payload unit answered.Spent between.kept front x)
 
-    reply : (so : ReplyTurn) (payload : List ℕ) → given ≡ reply_outcome so → IsUnit p.crypto (stage p Client history) bytes (Opens payload) → ReplyTurnOf p history old.kept payload so between.kept front → Turned
-    reply replied.BadPoint payload same unit x = whole (outcome.Refused code.BadPoint) same refl payload (λ opens. opens payload unit) (bad_point laws p history old layers asking took.alive bytes payload unit between.kept front x)
-    reply replied.BadHost payload same unit x = whole (outcome.Refused code.BadHost) same refl payload (λ opens. opens payload unit) (bad_host laws p history old layers asking took.alive bytes payload unit between.kept front x)
-    reply replied.NumberSpent payload same unit x = whole (outcome.Refused code.NumberSpent) same refl payload (λ opens. opens payload unit) (number_spent laws p history old layers asking took.alive bytes payload unit between.kept front x)
-    reply (replied.Completed choice) payload same unit x =
+    own : (payload : List ℕ) → IsUnit p.crypto (stage p Client history) bytes (Opens payload) → OwnTurn p Client history old.kept payload given between.kept front → Turned
+    own payload unit (OwnTurn.refused why same x) = whole (outcome.Refused why) same refl payload (λ opens. opens payload unit) (peer_refused laws p history old layers asking took.alive bytes payload unit why between.kept front x)
+    own payload unit (OwnTurn.spent same x) = whole (outcome.Refused code.NumberSpent) same refl payload (λ opens. opens payload unit) (number_spent laws p history old layers asking took.alive bytes payload unit between.kept front x)
+    own payload unit (OwnTurn.kexinit so same is x) = kexinit so payload same unit x
+    own payload unit (OwnTurn.ended choice same x) =
         let g : GoesOn p.crypto between layers done new later back = goes_so (outcome.Completed choice) same in
-        let taken = took_so (outcome.Completed choice) same in
+        let z : IsCompleted old between front = below.completed p.crypto (agreement_of p Client) p.trusts old bytes choice between front (took_so (outcome.Completed choice) same) in
         settle (ended_reads p Client history bytes between new done choice layers.channels later.channels back g.rest g.completing (subst (λ (t : TransportTurn). Left p Client history bytes t between) same left)) payload
-        (completed_turn laws p history old layers asking took.alive bytes payload unit between.kept
-        (below.alive p.crypto (agreement_of p Client) p.trusts old bytes choice between front taken) (below.few p.crypto (agreement_of p Client) p.trusts old bytes choice between front taken) (below.epoch p.crypto (agreement_of p Client) p.trusts old bytes choice between front taken)
+        (completed_turn laws p history old layers asking took.alive bytes payload unit between.kept z.alive z.few z.epoch
         o.before middle o.listed listed x done new later between refl o.after o.relisted g.authentication g.completing)
         (λ opens. opens payload unit)
 
-    turned_by : ClientTurnOf p history old.kept bytes given between front → Turned
-    turned_by (ClientTurnOf.line so same quiet x) = line so same quiet x
-    turned_by (ClientTurnOf.shared so left_not same x) = packet so _ left_not same x
-    turned_by (ClientTurnOf.above same x) = above _ same x
-    turned_by (ClientTurnOf.kexinit so payload same unit x) = kexinit so payload same unit x
-    turned_by (ClientTurnOf.reply so payload same unit x) = reply so payload same unit x
+    turned_by : UnitTurnOf p Client history old.kept bytes given between front → Turned
+    turned_by (UnitTurnOf.line so same quiet x) = line so same quiet x
+    turned_by (UnitTurnOf.shared so left_not same x) = packet so _ left_not same x
+    turned_by (UnitTurnOf.above same x) = above _ same x
+    turned_by (UnitTurnOf.own payload unit x) = own payload unit x
 
   pub turned : (done : Step) (new : State K) (later : Layers) (o : Outs) → ClientGoes p.crypto (agreement_of p Client) p.trusts old layers bytes done new later o → ClientTurned p history bytes done new later o
   turned done new later o x =

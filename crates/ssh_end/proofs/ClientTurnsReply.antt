@@ -13,7 +13,6 @@ use Rattle.ssh_model.specs.End.State.{Authentication, Authentication.OfClient, E
 use Rattle.ssh_model.specs.End.Summary.{EndTurned}
 use Rattle.ssh_model.specs.Sessions.Items.{Fact, Fact.Completed, Item, Item.Told, Item.Took, Spelled, Spelled.SpelledBy, messages_sent}
 use Rattle.ssh_model.specs.Sessions.Parties.{Parties}
-use Rattle.ssh_model.specs.Sessions.Refusals as refusal
 use Rattle.ssh_model.specs.Sessions.Turns.{OnUnit, stage}
 use Rattle.ssh_model.specs.TransportLayer.Kept.{Transport}
 use Rattle.ssh_model.specs.TransportLayer.Summary.{items_sent}
@@ -26,7 +25,7 @@ use Rattle.ssh_transport_machine.specs.State.{State}
 use Rattle.ssh_transport_machine.specs.declared.machine.turn.Answer.{Answer}
 use Rattle.ssh_transport_machine.specs.declared.outcome.Effect.TheVariants as effect
 use Rattle.ssh_transport_machine.specs.declared.outcome.TransportTurn.TheVariants as outcome
-use Rattle.ssh_transport_client.specs.Kexinits.{KexinitShows, KexinitTurn}
+use Rattle.ssh_transport.specs.OfClient.Kexinits.{KexinitShows, KexinitTurn}
 use Rattle.ssh_types.specs.Refusals.{refusal_of}
 use Rattle.ssh_types.specs.declared.refusal.Refusal.{Refusal}
 use Rattle.ssh_types.specs.declared.refusal.Refusal.TheVariants as code
@@ -62,11 +61,8 @@ module _ {K : Type 0} (laws : TurningLaws K) (p : Parties K) (history : List Ite
       (λ items more next below turned. laws.opened p Client history e asking.sums alive bytes payload items more _ unit (laws.layered p Client history e asking.sums alive payload items more next below turned))
       (λ items more next turned dead. laws.opened p Client history e asking.sums alive bytes payload items more next unit (laws.over p Client history e asking.sums alive payload items more next turned dead))
 
-  pub bad_point : (new : Transport K) (o : Outs) → PayloadRefused p Client history payload refusal.Refusal.BadPoint new o → UnitTurned p Client history bytes payload (step.Refused code.BadPoint) (kept_after layers (outcome.Refused code.BadPoint) new) o
-  bad_point new o x = refuses code.BadPoint x.said x.more new o x.turned x.parts x.lists
-
-  pub bad_host : (new : Transport K) (o : Outs) → PayloadRefused p Client history payload refusal.Refusal.BadHost new o → UnitTurned p Client history bytes payload (step.Refused code.BadHost) (kept_after layers (outcome.Refused code.BadHost) new) o
-  bad_host new o x = refuses code.BadHost x.said x.more new o x.turned x.parts x.lists
+  pub peer_refused : (why : Refusal) (new : Transport K) (o : Outs) → PayloadRefused p Client history payload (refusal_of why) new o → UnitTurned p Client history bytes payload (step.Refused why) (kept_after layers (outcome.Refused why) new) o
+  peer_refused why new o x = refuses why x.said x.more new o x.turned x.parts x.lists
 
   -- what is owed can be given, so that there are too few numbers for it all
   pub number_spent : (new : Transport K) (o : Outs) → IsSpentEnd p Client history payload new o → UnitTurned p Client history bytes payload (step.Refused code.NumberSpent) (kept_after layers (outcome.Refused code.NumberSpent) new) o

@@ -1,5 +1,5 @@
 -- What the layers above a transport make of a payload, by what the transport says to them.
-use Rattle.std.proofs.Common.{◌≡◌, ℕ, Bool, List, [], ◌∷◌, refl, ap, ◌∙◌, Option, Some, None}
+use Rattle.std.proofs.Common.{◌≡◌, ℕ, Bool, List, [], refl, ap, ◌∙◌, Option, Some, None}
 use Rattle.std.specs.Option.{option_map}
 use Rattle.std.specs.Prelude.{Result, Ok, Err, OnErr, unwrap_or}
 use Rattle.ssh_model.specs.Wire.Message.{Msg}
@@ -11,7 +11,7 @@ use Rattle.ssh_model.specs.Channels.Kept as channels
 use Rattle.ssh_model.specs.Channels.Kept.{Channels, DueReply}
 use Rattle.ssh_model.specs.Channels.Summary.{reply_sent, told}
 use Rattle.ssh_model.specs.End.Payloads.{reply_items}
-use Rattle.ssh_model.specs.Sessions.Items.{Fact, Item, messages_sent}
+use Rattle.ssh_model.specs.Sessions.Items.{Fact, Item}
 use Rattle.ssh_model.specs.TransportLayer.Kept.{Transport}
 use Rattle.ssh_auth.specs.Serving.{answered}
 use Rattle.ssh_auth.specs.declared.answer.ServerAnswer.{ServerAnswer}

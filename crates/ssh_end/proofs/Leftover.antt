@@ -1,37 +1,34 @@
 -- What is left to be done with an answer of the transport.
-use Rattle.std.proofs.Common.{◌≡◌, ℕ, ◌≤◌, Bool, true, false, List, [], ◌∷◌, ◌++◌, append-nil, refl, ap, sym, ◌∙◌}
+use Rattle.std.proofs.Common.{◌≡◌, ℕ, false, List, [], ◌∷◌, ◌++◌, append-nil, refl, ap, sym, ◌∙◌}
 use Rattle.ssh_kex.specs.declared.owned_choice.OwnedChoice.{OwnedChoice}
-use Rattle.ssh_model.specs.Sessions.Turns.{number_of}
 use Rattle.ssh_transport_machine.specs.Puts.{Outs}
 use Rattle.ssh_transport_machine.specs.State.{State}
-use Rattle.ssh_transport_machine.specs.Turning.{IsQuiet}
 use Rattle.ssh_transport_machine.specs.declared.outcome.TransportTurn.{TransportTurn}
 use Rattle.ssh_transport_machine.specs.declared.outcome.TransportTurn.TheVariants as outcome
+use Rattle.ssh_transport.specs.Roles as transport
 use Rattle.ssh_end.specs.Effects.{IsReady, is_whole}
 use Rattle.ssh_end.specs.Owed.{Extends}
 
 -- What the transport says of both: a payload that was left, and an exchange that was completed.
-module _ {K : Type 0} (m : State K) (o : Outs) (Took : TransportTurn → Type 0)
-    (up : (number : ℕ) → Took (outcome.Up number) → 50 ≤ number_of m.receiver.payload) (up_alive : (number : ℕ) → Took (outcome.Up number) → m.kept.dead ≡ false) (up_quiet : (number : ℕ) → Took (outcome.Up number) → IsQuiet o)
-    (completed_alive : (choice : OwnedChoice) → Took (outcome.Completed choice) → m.kept.dead ≡ false) (completed_out : (choice : OwnedChoice) → Took (outcome.Completed choice) → (more : List ℕ) × (o.after ≡ o.before ++ more))
-    (completed_lists : (choice : OwnedChoice) → Took (outcome.Completed choice) → (more : List (List ℕ)) × (o.relisted ≡ o.listed ++ more)) where
+module _ {K : Type 0} (old m : State K) (o : Outs) (Took : TransportTurn → Type 0)
+    (up : (number : ℕ) → Took (outcome.Up number) → transport.IsUp m o) (completed : (choice : OwnedChoice) → Took (outcome.Completed choice) → transport.IsCompleted old m o) where
   pub ready : (given : TransportTurn) → Took given → IsReady m given
-  ready (outcome.Up number) x = record { above = up number x; alive = up_alive number x }
-  ready (outcome.Completed choice) x = completed_alive choice x
+  ready (outcome.Up number) x = let y = up number x in record { above = y.above; alive = y.alive }
+  ready (outcome.Completed choice) x = (completed choice x).alive
   ready outcome.More x = tt
   ready (outcome.Done done) x = tt
   ready (outcome.Refused why) x = tt
 
   pub out_extends : (given : TransportTurn) → Took given → is_whole given ≡ false → Extends o.before o.after
-  out_extends (outcome.Up number) x e = record { more = []; parts = (up_quiet number x).out ∙ sym (append-nil o.before) }
-  out_extends (outcome.Completed choice) x e = let y = completed_out choice x in record { more = y.0; parts = y.1 }
+  out_extends (outcome.Up number) x e = record { more = []; parts = (up number x).quiet.out ∙ sym (append-nil o.before) }
+  out_extends (outcome.Completed choice) x e = let y = (completed choice x).out in record { more = y.0; parts = y.1 }
   out_extends outcome.More x e = absurd (cc e)
   out_extends (outcome.Done done) x e = absurd (cc e)
   out_extends (outcome.Refused why) x e = absurd (cc e)
 
   pub lists_extend : (given : TransportTurn) → Took given → is_whole given ≡ false → Extends o.listed o.relisted
-  lists_extend (outcome.Up number) x e = record { more = []; parts = (up_quiet number x).sent ∙ sym (append-nil o.listed) }
-  lists_extend (outcome.Completed choice) x e = let y = completed_lists choice x in record { more = y.0; parts = y.1 }
+  lists_extend (outcome.Up number) x e = record { more = []; parts = (up number x).quiet.sent ∙ sym (append-nil o.listed) }
+  lists_extend (outcome.Completed choice) x e = let y = (completed choice x).lists in record { more = y.0; parts = y.1 }
   lists_extend outcome.More x e = absurd (cc e)
   lists_extend (outcome.Done done) x e = absurd (cc e)
   lists_extend (outcome.Refused why) x e = absurd (cc e)

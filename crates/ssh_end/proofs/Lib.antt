@@ -23,6 +23,8 @@ pub mod TurningReads
 pub mod TurningLaws
 pub mod TurningReplies
 pub mod TurningEnds
+pub mod TurningDeaths
+pub mod TurningUnits
 pub mod ServerTurnsWhole
 pub mod ServerTurnsUnits
 pub mod ServerTurnsAbove
@@ -33,7 +35,6 @@ pub mod ClientTurnsUnits
 pub mod ClientTurnsAbove
 pub mod ClientTurnsReply
 pub mod ClientTurns
-pub mod TurningDeaths
 pub mod AboveDeaths
 pub mod ServerDeaths
 pub mod ClientDeaths

@@ -1,6 +1,6 @@
 -- Where memory is refused a server's end dies as the server of a session.
 use Rattle.std.proofs.Common.{◌≡◌, ℕ, ◌+◌, ◌<◌, ◌≤◌, ◌^◌, Bool, true, false, not, ◌&&◌, List, [], ◌∷◌, arith, refl, ap, ◌∙◌, subst, Option, Some, None, nat_le, nat_lt}
-use Rattle.std.proofs.lemmas.Bool.{false≢true, ltb-false, ltb-true}
+use Rattle.std.proofs.lemmas.Bool.{ltb-false, ltb-true}
 use Rattle.ssh_model.specs.Side.{Side.Server}
 use Rattle.ssh_model.specs.Wire.Message.{Method, Method.Publickey, Msg, Msg.UserauthRequest}
 use Rattle.ssh_model.specs.Wire.Sealing.{Crypto}
@@ -16,7 +16,6 @@ use Rattle.ssh_model.specs.TransportLayer.Kept.{ExchangeParts, Transport}
 use Rattle.ssh_model.specs.TransportLayer.Summary.{SumsUp, parts_of}
 use Rattle.ssh_model.specs.Laws.Written.{success_spelled}
 use Rattle.ssh_auth.specs.Serving.{NeedsText}
-use Rattle.ssh_kex.specs.Values.{owned_chosen}
 use Rattle.ssh_kex.specs.declared.owned_choice.OwnedChoice.{OwnedChoice}
 use Rattle.ssh_types.specs.declared.refusal.Refusal.TheVariants as code
 use Rattle.ssh_transport_machine.specs.Puts.{Outs}
@@ -24,15 +23,12 @@ use Rattle.ssh_transport_machine.specs.Sessions.{IsAbove, WouldDie}
 use Rattle.ssh_transport_machine.specs.State.{State, dead_state}
 use Rattle.ssh_transport_machine.specs.declared.outcome.TransportTurn.{TransportTurn}
 use Rattle.ssh_transport_machine.specs.declared.outcome.TransportTurn.TheVariants as outcome
-use Rattle.ssh_transport_server.specs.Answers.{InitLacks}
-use Rattle.ssh_transport_server.specs.Packets.{ServerLacks}
-use Rattle.ssh_transport_server.specs.Sessions.{ServerTurnOf}
-use Rattle.ssh_transport_server.specs.Transport.{ServerDied, ServerTook, UnitTakes}
-use Rattle.ssh_transport_server.specs.declared.init.InitTurn.TheVariants as init
-use Rattle.ssh_transport_server.specs.declared.packet.ServerTurn.TheVariants as server
+use Rattle.ssh_transport.specs.OfServer.Roles.{ServerDoes, ServerLacks}
+use Rattle.ssh_transport.specs.Sessions.{UnitTurnOf}
+use Rattle.ssh_transport.specs.Units.{Died, Took}
 use Rattle.ssh_end.specs.Above.{FinishLacks, IsBeneath, LacksAbove}
 use Rattle.ssh_end.specs.Deaths.{ServerDies}
-use Rattle.ssh_end.specs.Effects.{is_whole}
+use Rattle.ssh_end.specs.Units.{UnitLacks}
 use Rattle.ssh_layers.specs.Layer.{Beneath}
 use Rattle.ssh_layers.specs.Layers.{Layers, LayersLack, Reads}
 use Rattle.ssh_end.specs.ServerAbove.{JudgeLacks, JudgesPayload}
@@ -44,9 +40,9 @@ use Rattle.ssh_end.specs.declared.above.Judgement.TheVariants as judged
 use Rattle.ssh_end.proofs.AboveDeaths.{answered_lacks, channel_lacks, lacks_by, refused_lacks, spelled_lacks}
 use Rattle.ssh_end.proofs.Judging.{ChannelFacts, ServerFacts, beneath_is}
 use Rattle.ssh_end.proofs.ServerTurnsAbove.{awaits, judged_so, spelled_so}
-use Rattle.ssh_end.proofs.TurningDeaths.{DyingLaws, below_dies, dies, few_of, line_whole, none_completed, two_left}
+use Rattle.ssh_end.proofs.TurningDeaths.{DyingLaws, below_dies, dies, few_of}
 use Rattle.ssh_end.proofs.TurningLaws.{TurningLaws}
-use Rattle.ssh_end.proofs.TurningWhole.{is_whole_packet}
+use Rattle.ssh_end.proofs.TurningUnits.{found_above, is_above}
 
 -- ---- a request whose signature would be looked at
 
@@ -115,52 +111,10 @@ module _ {K : Type 0} (p : Parties K) (history : List Item) (old : State K) (lay
 
 -- the laws of a server's transport
 pub record ServerLaws (K : Type 0) : Type 0 where
-  pub taken : (p : Parties K) (history : List Item) (old : State K) → SumsUp p Server history old.kept → (bytes : List ℕ) (given : TransportTurn) (new : State K) (o : Outs) → ServerTook p.crypto (parts_of p Server) old bytes given new o → ServerTurnOf p history old.kept bytes given new o
-  pub died : (p : Parties K) (history : List Item) (old : State K) → SumsUp p Server history old.kept → (bytes : List ℕ) (new : State K) → ServerDied p.crypto (parts_of p Server) old bytes new → WouldDie p Server old.kept bytes
-
-is_above : {K : Type 0} (p : Parties K) (history : List Item) (s : Transport K) (bytes : List ℕ) (number : ℕ) (new : State K) (o : Outs) → ServerTurnOf p history s bytes (outcome.Up number) new o → IsAbove p Server history s bytes new o
-is_above p history s bytes number new o (ServerTurnOf.line so same quiet x) = absurd (false≢true (line_whole so (outcome.Up number) same))
-is_above p history s bytes number new o (ServerTurnOf.shared so left same x) = absurd (false≢true (ap is_whole same ∙ is_whole_packet so _ left))
-is_above p history s bytes number new o (ServerTurnOf.above same x) = x
-is_above p history s bytes number new o (ServerTurnOf.point init.BadPoint payload same unit x) = absurd (cc same)
-is_above p history s bytes number new o (ServerTurnOf.point init.NumberSpent payload same unit x) = absurd (cc same)
-is_above p history s bytes number new o (ServerTurnOf.point (init.Completed choice) payload same unit x) = absurd (cc same)
-
-found_above : {K : Type 0} (c : Crypto K) (parts : ExchangeParts) (old : State K) (bytes : List ℕ) (number : ℕ) (new : State K) (o : Outs) → UnitTakes c parts old bytes (outcome.Up number) new o → old.kept.lines.found ≡ true
-found_above c parts old bytes number new o (UnitTakes.line done y) = absurd (false≢true (line_whole done (outcome.Up number) y.shown))
-found_above c parts old bytes number new o (UnitTakes.packet done y) = y.reading
-
--- An exchange that was ended would have taken memory.
-ended_died : {K : Type 0} (c : Crypto K) (parts : ExchangeParts) (old : State K) (bytes : List ℕ) (choice : OwnedChoice) (new : State K) (o : Outs) → ServerTook c parts old bytes (outcome.Completed choice) new o → ServerDied c parts old bytes (dead_state old)
-ended_died c parts old bytes choice new o x = go x.takes
-  where
-    go : UnitTakes c parts old bytes (outcome.Completed choice) new o → ServerDied c parts old bytes (dead_state old)
-    go (UnitTakes.line done y) = absurd (false≢true (line_whole done (outcome.Completed choice) y.shown))
-    go (UnitTakes.packet (server.Shared done) y) = absurd (none_completed choice done _ y.shown)
-    go (UnitTakes.packet (server.Point init.BadPoint) y) = absurd (cc y.shown)
-    go (UnitTakes.packet (server.Point init.NumberSpent) y) = absurd (cc y.shown)
-    go (UnitTakes.packet (server.Point (init.Completed one)) y) =
-        let d = y.taken.does in
-        record {
-          alive = x.alive;
-          stands = x.stands;
-          reading = y.reading;
-          lacks = ServerLacks.point (record {
-            between = y.taken.between;
-            o = _;
-            taken = y.taken.taken;
-            lacks = InitLacks.answered d.point d.shared d.shows (record {
-              chosen = owned_chosen one;
-              reply = d.reply;
-              own = d.own;
-              theirs = d.theirs;
-              session = d.session;
-              announcement = d.announcement;
-              answer = d.answer;
-            }) (two_left c y.taken.between.kept.sending _ _ d.finishes.early d.finishes.first);
-          });
-          dead = refl;
-        }
+  pub taken : (p : Parties K) (history : List Item) (old : State K) → SumsUp p Server history old.kept → (bytes : List ℕ) (given : TransportTurn) (new : State K) (o : Outs) → Took p.crypto Server (ServerDoes p.crypto (parts_of p Server)) old bytes given new o → UnitTurnOf p Server history old.kept bytes given new o
+  pub died : (p : Parties K) (history : List Item) (old : State K) → SumsUp p Server history old.kept → (bytes : List ℕ) (new : State K) → Died p.crypto Server (ServerLacks p.crypto (parts_of p Server)) old bytes new → WouldDie p Server old.kept bytes
+  -- An exchange that was ended would have taken memory.
+  pub due : (c : Crypto K) (parts : ExchangeParts) (old : State K) (bytes : List ℕ) (choice : OwnedChoice) (new : State K) (o : Outs) → Took c Server (ServerDoes c parts) old bytes (outcome.Completed choice) new o → Died c Server (ServerLacks c parts) old bytes (dead_state old)
 
 -- ---- the turn
 
@@ -168,19 +122,19 @@ module _ {K : Type 0} (laws : TurningLaws K) (dying : DyingLaws K) (below : Serv
   abbrev Dead : Type 0
   Dead = ServerDies p history old layers bytes
 
-  transport_dies : (new : State K) → ServerDied p.crypto (parts_of p Server) old bytes new → Dead
+  transport_dies : (new : State K) → Died p.crypto Server (ServerLacks p.crypto (parts_of p Server)) old bytes new → Dead
   transport_dies new x =
       ServerDies.dies (below_dies dying p serving.lawful Server history serving.run (end_of old.kept layers) serving.sums x.alive bytes x.reading (below.died p history old serving.sums.transport bytes new x))
 
-  module _ (number : ℕ) (between : State K) (o : Outs) (took : ServerTook p.crypto (parts_of p Server) old bytes (outcome.Up number) between o) where
+  module _ (number : ℕ) (between : State K) (o : Outs) (took : Took p.crypto Server (ServerDoes p.crypto (parts_of p Server)) old bytes (outcome.Up number) between o) where
     above : IsAbove p Server history old.kept bytes between o
-    above = is_above p history old.kept bytes number between o (below.taken p history old serving.sums.transport bytes (outcome.Up number) between o took)
+    above = is_above p Server history old.kept bytes number between o (below.taken p history old serving.sums.transport bytes (outcome.Up number) between o took)
 
     abbrev payload : List ℕ
     payload = between.receiver.payload
 
     found : old.kept.lines.found ≡ true
-    found = found_above p.crypto (parts_of p Server) old bytes number between o took.takes
+    found = found_above p.crypto (ServerDoes p.crypto (parts_of p Server)) old bytes number between o took.takes
 
     few : old.kept.sending.count ≤ 2 ^ 32
     few = few_of dying p serving.lawful Server history serving.run (end_of old.kept layers) serving.sums took.alive bytes found
@@ -243,13 +197,13 @@ module _ {K : Type 0} (laws : TurningLaws K) (dying : DyingLaws K) (below : Serv
     up_dies (UpLacks.judging x) = judge_dies x
     up_dies (UpLacks.sending judgement later x y) = finish_dies judgement later x y
 
-  end_dies : (given : TransportTurn) (between : State K) (o : Outs) → ServerTook p.crypto (parts_of p Server) old bytes given between o → GoLacks (judge_of p) given between layers → Dead
+  end_dies : (given : TransportTurn) (between : State K) (o : Outs) → Took p.crypto Server (ServerDoes p.crypto (parts_of p Server)) old bytes given between o → GoLacks (judge_of p) given between layers → Dead
   end_dies (outcome.Up number) between o x y = up_dies number between o x y
-  end_dies (outcome.Completed choice) between o x y = transport_dies (dead_state old) (ended_died p.crypto (parts_of p Server) old bytes choice between o x)
+  end_dies (outcome.Completed choice) between o x y = transport_dies (dead_state old) (below.due p.crypto (parts_of p Server) old bytes choice between o x)
   end_dies outcome.More between o x y = absurd y
   end_dies (outcome.Refused why) between o x y = absurd y
   end_dies (outcome.Done done) between o x y = absurd y
 
   pub server_dies : TurnLacks p.crypto (parts_of p Server) (judge_of p) old layers bytes → Dead
-  server_dies (TurnLacks.by_transport new x) = transport_dies new x
-  server_dies (TurnLacks.by_end given between o x y) = end_dies given between o x y
+  server_dies (UnitLacks.by_transport new x) = transport_dies new x
+  server_dies (UnitLacks.by_end given between o x y) = end_dies given between o x y

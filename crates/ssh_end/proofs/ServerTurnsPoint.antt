@@ -9,7 +9,6 @@ use Rattle.ssh_model.specs.End.State.{Authentication.OfServer, EndState}
 use Rattle.ssh_model.specs.End.Summary.{EndTurned}
 use Rattle.ssh_model.specs.Sessions.Items.{Fact.Completed, Item, Item.Told, Item.Took, messages_sent}
 use Rattle.ssh_model.specs.Sessions.Parties.{Parties}
-use Rattle.ssh_model.specs.Sessions.Refusals as refusal
 use Rattle.ssh_model.specs.Sessions.Turns.{OnUnit, stage}
 use Rattle.ssh_model.specs.TransportLayer.Kept.{Transport}
 use Rattle.ssh_model.specs.TransportLayer.Summary.{items_sent}
@@ -19,6 +18,8 @@ use Rattle.ssh_transport_machine.specs.Puts.{Outs, payloads_of}
 use Rattle.ssh_transport_machine.specs.Sessions.{IsSpentEnd}
 use Rattle.ssh_transport_machine.specs.State.{State}
 use Rattle.ssh_transport_machine.specs.declared.outcome.TransportTurn.TheVariants as outcome
+use Rattle.ssh_types.specs.Refusals.{refusal_of}
+use Rattle.ssh_types.specs.declared.refusal.Refusal.{Refusal}
 use Rattle.ssh_types.specs.declared.refusal.Refusal.TheVariants as code
 use Rattle.ssh_end.specs.Completing.{Completing}
 use Rattle.ssh_layers.specs.Layers.{Layers}
@@ -41,12 +42,12 @@ module _ {K : Type 0} (laws : TurningLaws K) (p : Parties K) (history : List Ite
   abbrev e : EndState K
   e = end_of old.kept layers
 
-  pub bad_point : (new : Transport K) (o : Outs) → PayloadRefused p Server history payload refusal.Refusal.BadPoint new o → UnitTurned p Server history bytes payload (step.Refused code.BadPoint) (kept_after layers (outcome.Refused code.BadPoint) new) o
-  bad_point new o x =
+  pub peer_refused : (why : Refusal) (new : Transport K) (o : Outs) → PayloadRefused p Server history payload (refusal_of why) new o → UnitTurned p Server history bytes payload (step.Refused why) (kept_after layers (outcome.Refused why) new) o
+  peer_refused why new o x =
       refused p Server history e bytes payload
       (λ items more next below turned. laws.opened p Server history e serving.sums alive bytes payload items more _ unit (laws.layered p Server history e serving.sums alive payload items more next below turned))
       (λ items more next turned dead. laws.opened p Server history e serving.sums alive bytes payload items more next unit (laws.over p Server history e serving.sums alive payload items more next turned dead))
-      code.BadPoint x.said x.more new o x.turned x.parts x.lists
+      why x.said x.more new o x.turned x.parts x.lists
 
   -- what is owed can be given, so that there are too few numbers for it all
   pub number_spent : (new : Transport K) (o : Outs) → IsSpentEnd p Server history payload new o → UnitTurned p Server history bytes payload (step.Refused code.NumberSpent) (kept_after layers (outcome.Refused code.NumberSpent) new) o

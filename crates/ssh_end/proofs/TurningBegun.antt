@@ -32,6 +32,7 @@ use Rattle.ssh_transport_machine.specs.declared.machine.turn.PayloadTurn.{Payloa
 use Rattle.ssh_transport_machine.specs.declared.machine.turn.PayloadTurn.TheVariants as turn
 use Rattle.ssh_transport_machine.specs.declared.outcome.TransportTurn.{TransportTurn}
 use Rattle.ssh_transport_machine.specs.declared.outcome.TransportTurn.TheVariants as outcome
+use Rattle.ssh_transport.specs.Roles.{Leaves, Still}
 use Rattle.ssh_types.specs.declared.refusal.Refusal.{Refusal}
 use Rattle.ssh_types.specs.declared.refusal.Refusal.TheVariants as refusal
 use Rattle.ssh_end.specs.Reading.{IsReading}
@@ -103,12 +104,6 @@ pub record IsShown {K : Type 0} (c : Crypto K) (old : State K) (bytes : List ℕ
   pub begun : new.receiver.begun ≡ []
   pub found : new.kept.lines.found ≡ true
 
--- What is shown stays.
-pub record Still {K : Type 0} (old new : State K) : Type 0 where
-  pub payload : new.receiver.payload ≡ old.receiver.payload
-  pub begun : new.receiver.begun ≡ old.receiver.begun
-  pub found : new.kept.lines.found ≡ old.kept.lines.found
-
 pub still_by : {K : Type 0} (old new : State K) (k : Transport K) → new ≡ record old { kept = k } → k.lines ≡ old.kept.lines → Still old new
 still_by {K} old new k e lines = record {
   payload = ap (λ (s : State K). s.receiver.payload) e;
@@ -129,11 +124,6 @@ still_shown c old bytes between new x s = record {
   begun = s.begun ∙ x.begun;
   found = s.found ∙ x.found;
 }
-
--- What is shown stays after this answer, or the peer was refused.
-pub data Leaves {K : Type 0} (old : State K) (given : TransportTurn) (new : State K) : Type 0 where
-  stays : Still old new → Leaves old given new
-  over : (why : Refusal) → given ≡ outcome.Refused why → new.kept.dead ≡ true → Leaves old given new
 
 module _ {K : Type 0} (c : Crypto K) (old new : State K) (o : Outs) (number : ℕ) where
   kexinit_leaves : (facts : KexinitFacts) (answer : Answer) → KexinitDone c old facts answer new o → Leaves old (payload_outcome (turn.Kexinit answer) number) new

@@ -1,5 +1,5 @@
 -- Where memory is refused an end dies as in a session.
-use Rattle.std.proofs.Common.{◌≡◌, ℕ, ◌+◌, ◌<◌, ◌≤◌, ◌^◌, true, false, List, [], ◌∷◌, ◌++◌, length, arith, refl, ap, sym, subst, Option, None, Some}
+use Rattle.std.proofs.Common.{◌≡◌, ℕ, ◌+◌, ◌≤◌, ◌^◌, true, false, List, [], ◌∷◌, ◌++◌, length, arith, refl, ap, sym, subst, Option, None, Some}
 use Rattle.std.proofs.lemmas.Bool.{false≢true}
 use Rattle.std.proofs.lemmas.List.{length-append}
 use Rattle.ssh_model.specs.Side.{Side}
@@ -19,19 +19,11 @@ use Rattle.ssh_model.specs.Sessions.Turns.{EndRun, OnUnit, take_memory}
 use Rattle.ssh_model.specs.TransportLayer.Kept as kept
 use Rattle.ssh_model.specs.TransportLayer.Kept.{Answered, Completes, Transport}
 use Rattle.ssh_model.specs.TransportLayer.Summary.{answer_items, items_sent, parts_of, told_over}
-use Rattle.ssh_model.specs.TransportLayer.Directions.{Direction}
-use Rattle.ssh_model.specs.TransportLayer.Turns.{PutsPackets}
-use Rattle.ssh_model.specs.Wire.Sealing.{Crypto}
-use Rattle.ssh_kex.specs.declared.owned_choice.OwnedChoice.{OwnedChoice}
-use Rattle.ssh_transport_machine.specs.Outcomes.{LineOutcome, packet_outcome}
+use Rattle.ssh_transport_machine.specs.Outcomes.{LineOutcome}
 use Rattle.ssh_transport_machine.specs.Sessions.{WouldDie, WouldEnd}
 use Rattle.ssh_transport_machine.specs.Shown.{WouldAnswer, WouldAnswerPacket}
 use Rattle.ssh_transport_machine.specs.declared.machine.line_turn.LineTurn.{LineTurn}
 use Rattle.ssh_transport_machine.specs.declared.machine.line_turn.LineTurn.TheVariants as line_turn
-use Rattle.ssh_transport_machine.specs.declared.machine.turn.Answer.TheVariants as answered
-use Rattle.ssh_transport_machine.specs.declared.machine.turn.PacketTurn.{PacketTurn}
-use Rattle.ssh_transport_machine.specs.declared.machine.turn.PacketTurn.TheVariants as packet_turn
-use Rattle.ssh_transport_machine.specs.declared.machine.turn.PayloadTurn.TheVariants as turn
 use Rattle.ssh_transport_machine.specs.declared.outcome.TransportTurn.{TransportTurn}
 use Rattle.ssh_transport_machine.specs.declared.outcome.TransportTurn.TheVariants as outcome
 use Rattle.ssh_end.specs.Effects.{is_whole}
@@ -148,29 +140,3 @@ line_whole (line_turn.Refused why) outcome.More x = absurd x
 line_whole (line_turn.Refused why) (outcome.Done so) x = absurd x
 line_whole (line_turn.Refused why) (outcome.Up number) x = absurd x
 line_whole (line_turn.Refused why) (outcome.Completed choice) x = absurd x
-
--- No packet that both roles take alike ends an exchange.
-pub none_completed : (choice : OwnedChoice) (done : PacketTurn) (number : ℕ) → outcome.Completed choice ≡ packet_outcome done number → ⊥
-none_completed choice packet_turn.More number e = cc e
-none_completed choice (packet_turn.Refused why) number e = cc e
-none_completed choice (packet_turn.Payload (turn.Refused why)) number e = cc e
-none_completed choice (packet_turn.Payload turn.Skipped) number e = cc e
-none_completed choice (packet_turn.Payload turn.Disconnected) number e = cc e
-none_completed choice (packet_turn.Payload turn.Told) number e = cc e
-none_completed choice (packet_turn.Payload (turn.Unknown answered.Done)) number e = cc e
-none_completed choice (packet_turn.Payload (turn.Unknown answered.Spent)) number e = cc e
-none_completed choice (packet_turn.Payload (turn.ServiceRequested answered.Done)) number e = cc e
-none_completed choice (packet_turn.Payload (turn.ServiceRequested answered.Spent)) number e = cc e
-none_completed choice (packet_turn.Payload turn.ServiceAccepted) number e = cc e
-none_completed choice (packet_turn.Payload (turn.Kexinit answered.Done)) number e = cc e
-none_completed choice (packet_turn.Payload (turn.Kexinit answered.Spent)) number e = cc e
-none_completed choice (packet_turn.Payload turn.NewKeys) number e = cc e
-none_completed choice (packet_turn.Payload (turn.Left what)) number e = cc e
-
--- ---- the numbers of what was sent
-
-pub one_left : {K : Type 0} (c : Crypto K) (direction : Direction K) (one : Spelled) (more : List ℕ) → PutsPackets c direction (one ∷ []) more → direction.count < 2 ^ 32
-one_left c direction _ _ (PutsPackets.packet message payload wire rest spelled left sealed) = left
-
-pub two_left : {K : Type 0} (c : Crypto K) (direction : Direction K) (one two : Spelled) (more : List ℕ) → PutsPackets c direction (one ∷ two ∷ []) more → direction.count + 2 ≤ 2 ^ 32
-two_left c direction _ two _ (PutsPackets.packet message payload wire rest spelled left sealed) = omega (arith, left)

@@ -33,6 +33,7 @@ use Rattle.ssh_kex.specs.declared.owned_choice.OwnedChoice.{OwnedChoice}
 use Rattle.ssh_packet.specs.declared.refusal.LineRefusal.{LineRefusal}
 use Rattle.ssh_types.specs.declared.refusal.Refusal.{Refusal}
 use Rattle.ssh_types.specs.declared.refusal.Refusal.TheVariants as code
+use Rattle.ssh_transport.specs.Roles.{Leaves, Still}
 use Rattle.ssh_end.specs.Above.{Finished, PutsReply, after_success_where}
 use Rattle.ssh_end.specs.Completing.{Completing}
 use Rattle.ssh_end.specs.Effects.{is_whole, step_given}
@@ -43,7 +44,7 @@ use Rattle.ssh_end.specs.declared.above.Judgement.{Judgement}
 use Rattle.ssh_end.specs.declared.above.Judgement.TheVariants as judged
 use Rattle.ssh_end.specs.declared.step.Step.{Step}
 use Rattle.ssh_end.specs.declared.step.Step.TheVariants as step
-use Rattle.ssh_end.proofs.TurningBegun.{Begun, Fresh, IsShown, PacketLeaves, Still, fresh_packet, left_shown, line_begun, other_fresh, owed_lines, packet_begun, packet_leaves, packet_refused, still_by, still_same, still_shown, version_fresh}
+use Rattle.ssh_end.proofs.TurningBegun.{Begun, Fresh, IsShown, PacketLeaves, fresh_packet, left_shown, line_begun, other_fresh, owed_lines, packet_begun, packet_leaves, packet_refused, still_by, still_same, still_shown, version_fresh}
 use Rattle.ssh_end.proofs.TurningWhole.{payload_waits}
 
 -- ---- the payload that is shown
@@ -131,11 +132,16 @@ module _ {K : Type 0} (laws : ReadingLaws K) (p : Parties K) (sealing : IsSealin
     packet_left number done given new o shown x = subst (λ (t : TransportTurn). Left p side history bytes t new) (sym shown) (packet_left_so number done new o x)
 
     -- of a packet that was left to a role, which then kept what is shown
-    pub role_left : (what : Judged) (between : State K) (given : TransportTurn) (new : State K) (o : Outs) → (given ≡ outcome.More → ⊥) → PacketTaken p.crypto old bytes (packet_turn.Payload (turn.Left what)) between o → Still between new → Left p side history bytes given new
+    role_left : (what : Judged) (between : State K) (given : TransportTurn) (new : State K) (o : Outs) → (given ≡ outcome.More → ⊥) → PacketTaken p.crypto old bytes (packet_turn.Payload (turn.Left what)) between o → Still between new → Left p side history bytes given new
     role_left what between given new o more x s =
         let y = laws.packets p side history old sums alive live found bytes (packet_turn.Payload (turn.Left what)) between o x in
         let shown = still_shown p.crypto old bytes between new (left_shown p.crypto old bytes found what between o x) s in
         shown_left given new more shown (opens_shown new y.between shown y.packet y.unit)
+
+    -- or refused its peer
+    pub own_left : (what : Judged) (between : State K) (given : TransportTurn) (new : State K) (o : Outs) → (given ≡ outcome.More → ⊥) → PacketTaken p.crypto old bytes (packet_turn.Payload (turn.Left what)) between o → Leaves between given new → Left p side history bytes given new
+    own_left what between given new o more x (Leaves.stays s) = role_left what between given new o more x s
+    own_left what between given new o more x (Leaves.over why e dead) = Left.over why e dead
 
 -- ---- what an end then shows
 

@@ -2,7 +2,7 @@
 use Rattle.std.proofs.Common.{◌≡◌, ℕ, List, [], ◌∷◌, ◌++◌, refl, ap, sym, ◌∙◌, subst, Option, Some, None, option_map}
 use Rattle.ssh_types.specs.Refusals.{refusal_of}
 use Rattle.ssh_model.specs.Wire.Message.{Msg, IsPayload}
-use Rattle.ssh_model.specs.Sessions.Items.{Fact, Item, Item.Refused, Item.Told, Item.Took, Item.Died, Spelled, Spelled.SpelledBy}
+use Rattle.ssh_model.specs.Sessions.Items.{Fact, Item, Item.Refused, Item.Took, Item.Died, Spelled, Spelled.SpelledBy}
 use Rattle.ssh_model.specs.Channels.Summary.{told}
 use Rattle.ssh_model.specs.TransportLayer.Summary.{items_sent}
 use Rattle.ssh_model.specs.TransportLayer.Turns.{refusal_items}

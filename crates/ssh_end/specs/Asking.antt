@@ -1,7 +1,7 @@
 -- What an end does on an ask of its user.
 use Rattle.std.specs.Prelude.{◌≡◌, ◌<◌, ◌^◌, ◌++◌, ℕ, true, false, Option, Some, None, List, [], ◌∷◌, Result, Ok, Err}
 use Rattle.std.specs.Option.{option_map}
-use Rattle.ssh_model.specs.Side.{Side, Side.Client}
+use Rattle.ssh_model.specs.Side.{Side, Side.Client, Side.Server}
 use Rattle.ssh_model.specs.Wire.Message.{Msg, Msg.Disconnect}
 use Rattle.ssh_model.specs.Wire.Message.{Msg.ChannelOpen, Msg.ChannelOpenConfirmation, Msg.ChannelOpenFailure}
 use Rattle.ssh_model.specs.Wire.Message.{Msg.ChannelWindowAdjust, Msg.ChannelData, Msg.ChannelExtendedData}
@@ -41,6 +41,8 @@ use Rattle.ssh_transport_machine.specs.declared.outcome.TransportFault.TheVarian
 use Rattle.ssh_types.specs.AskRefusals.{ask_refusal_of}
 use Rattle.ssh_types.specs.declared.ask_refusal.AskRefusal.{AskRefusal}
 use Rattle.ssh_types.specs.declared.refusal.Refusal.TheVariants as refusal
+use Rattle.ssh_layers.specs.Layers as server
+use Rattle.ssh_layers.specs.Sessions as of_server
 use Rattle.ssh_end.specs.Owed.{channels_sent}
 use Rattle.ssh_end.specs.declared.ask.Ask.{Ask}
 use Rattle.ssh_end.specs.declared.ask.Ask.TheVariants as ask
@@ -328,3 +330,9 @@ abbrev pub ClientInSession : {K : Type 0} → Crypto K → ((user algorithm key 
 ClientInSession c signature client old asked result new o =
     (p : Parties _) (history : List Item) → AreClientOf p c signature old.transport client →
     EndSumsUp p Client history old → DoneInSession p Client history old asked result new o
+
+-- what a server's role does on an ask: a turn of a session
+pub record ServerAsks {K : Type 0} (c : Crypto K) (old : State K) (layers : server.Layers) (asked : session.Ask)
+    (given : Result AskStep Fault) (new : State K) (later : server.Layers) (o : Outs) : Type 0 where
+  pub in_session : InSession c Server (of_server.end_of old.kept layers) asked given (of_server.end_of new.kept later) o
+  pub authentication : later.authentication ≡ layers.authentication

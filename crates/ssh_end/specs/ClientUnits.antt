@@ -1,19 +1,22 @@
 -- What a client makes of the bytes of one line or one packet.
-use Rattle.std.specs.Prelude.{◌≡◌, ◌≤◌, ◌++◌, ℕ, Bool, true, false, List, length, take}
+use Rattle.std.specs.Prelude.{◌≡◌, ◌≤◌, ℕ, Bool, true, false, List, length}
 use Rattle.ssh_model.specs.Authentication.Kept.{opened_client}
 use Rattle.ssh_model.specs.Sessions.Parties.{Agreement}
+use Rattle.ssh_model.specs.Side.{Side.Client}
 use Rattle.ssh_model.specs.Wire.Sealing.{Crypto}
 use Rattle.ssh_transport_machine.specs.Puts.{Outs}
 use Rattle.ssh_transport_machine.specs.State.{State}
 use Rattle.ssh_transport_machine.specs.declared.outcome.TransportTurn.{TransportTurn}
 use Rattle.ssh_transport_machine.specs.declared.outcome.TransportTurn.TheVariants as outcome
-use Rattle.ssh_transport_client.specs.Replies.{Trusts}
-use Rattle.ssh_transport_client.specs.Transport.{ClientDied, ClientTook}
+use Rattle.ssh_transport.specs.OfClient.Replies.{Trusts}
+use Rattle.ssh_transport.specs.OfClient.Roles.{ClientDoes, ClientLacks}
 use Rattle.ssh_end.specs.Above.{FinishLacks, Finished}
 use Rattle.ssh_end.specs.Completing.{Completing}
 use Rattle.ssh_end.specs.Effects.{is_accepted, is_whole, step_given}
 use Rattle.ssh_layers.specs.ClientLayers.{Layers}
 use Rattle.ssh_end.specs.ClientAbove.{JudgeLacks, JudgesPayload}
+use Rattle.ssh_end.specs.Units as units
+use Rattle.ssh_end.specs.Units.{UnitGoes, UnitLacks}
 use Rattle.ssh_end.specs.declared.above.Judgement.{Judgement}
 use Rattle.ssh_end.specs.declared.step.Step.{Step}
 
@@ -54,18 +57,11 @@ Goes c (outcome.Completed choice) between old done new later o = GoesOn c betwee
 Goes c given between old done new later o =
     GoesWhole given between old done new later o.before o.after o.listed o.relisted
 
--- What was made of the bytes begun with those that were used: what the transport made of them, and what was done with
--- that.
-pub record ClientGoes {K : Type 0} (c : Crypto K) (agreement : Agreement) (trusts : Trusts) (old : State K)
-    (layers : Layers) (bytes : List ℕ) (done : Step) (new : State K) (later : Layers) (o : Outs) : Type 0 where
-  pub given : TransportTurn
-  pub between : State K
-  pub middle : List ℕ
-  pub listed : List (List ℕ)
-  pub took : ClientTook c agreement trusts old bytes given between
-      (record { before = o.before; after = middle; listed = o.listed; relisted = listed })
-  pub goes : Goes c given between layers done new later
-      (record { before = middle; after = o.after; listed = listed; relisted = o.relisted })
+-- what was made of the bytes begun with those that were used
+abbrev pub ClientGoes : {K : Type 0} → Crypto K → Agreement → Trusts → State K → Layers → List ℕ → Step → State K →
+    Layers → Outs → Type 0
+ClientGoes c agreement trusts old layers bytes done new later o =
+    UnitGoes c Client (ClientDoes c agreement trusts) (Goes c) old layers bytes done new later o
 
 -- ---- where memory is refused
 
@@ -81,17 +77,12 @@ GoLacks (outcome.Up number) between layers = UpLacks between layers
 GoLacks (outcome.Completed choice) between layers = 1 ≤ length layers.channels.owed
 GoLacks given between layers = ⊥
 
--- What took memory of the bytes of one line or one packet: what its transport would send, or what is done with what the
--- transport made of them.
-pub data TurnLacks {K : Type 0} (c : Crypto K) (agreement : Agreement) (trusts : Trusts) (old : State K) (layers : Layers)
-    (bytes : List ℕ) : Type 0 where
-  by_transport : (new : State K) → ClientDied c agreement trusts old bytes new → TurnLacks c agreement trusts old layers bytes
-  by_end : (given : TransportTurn) (between : State K) (o : Outs) → ClientTook c agreement trusts old bytes given between o →
-      GoLacks given between layers → TurnLacks c agreement trusts old layers bytes
+-- what took memory of the bytes of one line or one packet
+abbrev pub TurnLacks : {K : Type 0} → Crypto K → Agreement → Trusts → State K → Layers → List ℕ → Type 0
+TurnLacks c agreement trusts old layers bytes =
+    UnitLacks c Client (ClientDoes c agreement trusts) (ClientLacks c agreement trusts) GoLacks old layers bytes
 
--- It is of the bytes begun with some of those that came.
-pub record FrontLacks {K : Type 0} (c : Crypto K) (agreement : Agreement) (trusts : Trusts) (old : State K) (layers : Layers)
-    (begun bytes : List ℕ) : Type 0 where
-  pub used : ℕ
-  pub most : used ≤ length bytes
-  pub lacks : TurnLacks c agreement trusts old layers (begun ++ take used bytes)
+-- it is of the bytes begun with some of those that came
+abbrev pub FrontLacks : {K : Type 0} → Crypto K → Agreement → Trusts → State K → Layers → (begun bytes : List ℕ) → Type 0
+FrontLacks c agreement trusts old layers begun bytes =
+    units.FrontLacks (TurnLacks c agreement trusts old layers) begun bytes

@@ -1,54 +1,34 @@
--- The ends: what they keep, and how they begin.
-use Rattle.std.specs.Prelude.{◌≡◌, ℕ, Option, List, []}
-use Rattle.ssh_model.specs.Side.{Side.Client, Side.Server}
+-- The ends: what they keep, how they begin, and what becomes of them.
+use Rattle.std.specs.Prelude.{◌≡◌, ◌++◌, ℕ, List, [], Option, take}
 use Rattle.ssh_model.specs.Authentication.Kept.{new_client, new_server}
 use Rattle.ssh_model.specs.Channels.Kept.{no_channels}
+use Rattle.ssh_model.specs.Side.{Side.Client, Side.Server}
 use Rattle.ssh_model.specs.Sessions.Parties.{Settings}
 use Rattle.ssh_model.specs.Wire.Sealing.{Crypto}
-use Rattle.ssh_transport_machine.specs.Asks.{WasDead}
-use Rattle.ssh_transport_machine.specs.Opening.{IsOpened}
-use Rattle.ssh_transport_machine.specs.State.{State}
-use Rattle.ssh_end.specs.Effects.{DiesOf}
 use Rattle.ssh_layers.specs.ClientLayers as client
 use Rattle.ssh_layers.specs.Layers as server
+use Rattle.ssh_transport.specs.declared.role.Role as exchange
+use Rattle.ssh_transport_machine.specs.Asks.{WasDead}
+use Rattle.ssh_transport_machine.specs.Opening.{IsOpened}
+use Rattle.ssh_transport_machine.specs.State.{State, begun_of}
+use Rattle.ssh_types.specs.Sides.{side_of}
+use Rattle.ssh_end.specs.Beside.{channels_by}
+use Rattle.ssh_end.specs.Effects.{DiesOf}
+use Rattle.ssh_end.specs.Units.{FrontLacks, UnitGoes, UnitLacks}
 use Rattle.ssh_end.specs.declared.asking.outcome.Fault.{Fault}
 use Rattle.ssh_end.specs.declared.asking.outcome.Fault.TheVariants as fault
+use Rattle.ssh_end.specs.declared.role.EndRole as role
 use Rattle.ssh_end.specs.declared.step.Step.{Step}
 
--- A server's machine, its parts, its layers, and its last turn, with the channel of each payload that was sent in it.
-pub record ServerState (K A H U : Type 0) : Type 0 where
+-- An end's machine, its role, its layers, and its last turn, with the channel of each payload that was sent in it.
+pub record EndValue (K R L : Type 0) : Type 0 where
   pub machine : State K
-  pub agreement : A
-  pub host_signer : H
-  pub user : U
-  pub layers : server.Layers
+  pub role : R
+  pub layers : L
   pub step : Step
   pub used : ℕ
   pub sent : List (List ℕ)
   pub channels : List (Option ℕ)
-
--- the same of a client
-pub record ClientState (K A H U : Type 0) : Type 0 where
-  pub machine : State K
-  pub agreement : A
-  pub host_trust : H
-  pub user : U
-  pub layers : client.Layers
-  pub step : Step
-  pub used : ℕ
-  pub sent : List (List ℕ)
-  pub channels : List (Option ℕ)
-
--- The parts are as before.
-pub record SameServer {K A H U : Type 0} (old new : ServerState K A H U) : Type 0 where
-  pub agreement : new.agreement ≡ old.agreement
-  pub host_signer : new.host_signer ≡ old.host_signer
-  pub user : new.user ≡ old.user
-
-pub record SameClient {K A H U : Type 0} (old new : ClientState K A H U) : Type 0 where
-  pub agreement : new.agreement ≡ old.agreement
-  pub host_trust : new.host_trust ≡ old.host_trust
-  pub user : new.user ≡ old.user
 
 -- It put out its version line and its first KEXINIT, with these settings, this cookie and this secret, and its layers are new.
 pub record IsNewServer {K : Type 0} (c : Crypto K) (settings : Settings) (cookie secret : List ℕ) (machine : State K)
@@ -70,3 +50,19 @@ abbrev pub IsFault : {K : Type 0} → State K → Fault → State K → Type 0
 IsFault old fault.Memory new = DiesOf old new
 IsFault old fault.Dead new = WasDead old new
 IsFault old (fault.Ask why) new = ⊥
+
+-- So many bytes were used, and this was done with them.
+pub record Advances {R X L S F K : Type 0} (ends : role.Ghosts R X L S F K) (exchanges : exchange.Ghosts X S F K)
+    (c : Crypto K) (old : EndValue K R L) (bytes : List ℕ) (used : ℕ) (before after : List ℕ)
+    (new : EndValue K R L) : Type 0 where
+  pub goes : UnitGoes c (side_of exchanges.SIDE) (exchanges.does (ends.exchange_of old.role)) (ends.goes old.role)
+      old.machine old.layers (begun_of old.machine ++ take used bytes) new.step new.machine new.layers
+      (record { before = before; after = after; listed = []; relisted = new.sent })
+  pub channels : new.channels ≡ channels_by new.step (ends.channels_of old.layers).owed new.sent
+
+-- what took memory of the bytes begun with some of those that came
+abbrev pub EndLacks : {R X L S F K : Type 0} → role.Ghosts R X L S F K → exchange.Ghosts X S F K → Crypto K →
+    EndValue K R L → (bytes : List ℕ) → Type 0
+EndLacks ends exchanges c old bytes =
+    FrontLacks (UnitLacks c (side_of exchanges.SIDE) (exchanges.does (ends.exchange_of old.role))
+    (exchanges.lacks (ends.exchange_of old.role)) (ends.lacks old.role) old.machine old.layers) (begun_of old.machine) bytes

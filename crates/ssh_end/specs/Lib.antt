@@ -6,6 +6,7 @@ pub mod Owed
 pub mod Beside
 pub mod Completing
 pub mod Effects
+pub mod Units
 pub mod ServerUnits
 pub mod ServerTurns
 pub mod Told

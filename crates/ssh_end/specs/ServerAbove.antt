@@ -1,5 +1,5 @@
 -- What a server makes of a payload from 50 on.
-use Rattle.std.specs.Prelude.{◌≡◌, Bool, true, false, Option, Some, None, IsSome, List}
+use Rattle.std.specs.Prelude.{◌≡◌, Bool, true, false, None, IsSome}
 use Rattle.ssh_model.specs.Wire.Message.{Msg}
 use Rattle.ssh_model.specs.Sessions.Refusals.{Refusal}
 use Rattle.ssh_model.specs.Authentication.Requests.{Judge}

@@ -1,19 +1,22 @@
 -- What a server makes of the bytes of one line or one packet.
-use Rattle.std.specs.Prelude.{◌≡◌, ◌≤◌, ◌++◌, ℕ, Bool, true, false, List, length, take}
+use Rattle.std.specs.Prelude.{◌≡◌, ◌≤◌, ℕ, Bool, true, false, List, length}
 use Rattle.ssh_model.specs.Authentication.Kept.{opened_server}
 use Rattle.ssh_model.specs.Authentication.Requests.{Judge}
 use Rattle.ssh_model.specs.TransportLayer.Kept.{ExchangeParts}
+use Rattle.ssh_model.specs.Side.{Side.Server}
 use Rattle.ssh_model.specs.Wire.Sealing.{Crypto}
 use Rattle.ssh_transport_machine.specs.Puts.{Outs}
 use Rattle.ssh_transport_machine.specs.State.{State}
 use Rattle.ssh_transport_machine.specs.declared.outcome.TransportTurn.{TransportTurn}
 use Rattle.ssh_transport_machine.specs.declared.outcome.TransportTurn.TheVariants as outcome
-use Rattle.ssh_transport_server.specs.Transport.{ServerDied, ServerTook}
+use Rattle.ssh_transport.specs.OfServer.Roles.{ServerDoes, ServerLacks}
 use Rattle.ssh_end.specs.Above.{FinishLacks, Finished}
 use Rattle.ssh_end.specs.Completing.{Completing}
 use Rattle.ssh_end.specs.Effects.{is_requested, is_whole, step_given}
 use Rattle.ssh_layers.specs.Layers.{Layers}
 use Rattle.ssh_end.specs.ServerAbove.{JudgeLacks, JudgesPayload}
+use Rattle.ssh_end.specs.Units as units
+use Rattle.ssh_end.specs.Units.{UnitGoes, UnitLacks}
 use Rattle.ssh_end.specs.declared.above.Judgement.{Judgement}
 use Rattle.ssh_end.specs.declared.step.Step.{Step}
 
@@ -56,18 +59,11 @@ Goes c judge (outcome.Completed choice) between old done new later o = GoesOn c 
 Goes c judge given between old done new later o =
     GoesWhole given between old done new later o.before o.after o.listed o.relisted
 
--- What was made of the bytes begun with those that were used: what the transport made of them, and what was done with
--- that.
-pub record ServerGoes {K : Type 0} (c : Crypto K) (parts : ExchangeParts) (judge : Judge) (old : State K)
-    (layers : Layers) (bytes : List ℕ) (done : Step) (new : State K) (later : Layers) (o : Outs) : Type 0 where
-  pub given : TransportTurn
-  pub between : State K
-  pub middle : List ℕ
-  pub listed : List (List ℕ)
-  pub took : ServerTook c parts old bytes given between
-      (record { before = o.before; after = middle; listed = o.listed; relisted = listed })
-  pub goes : Goes c judge given between layers done new later
-      (record { before = middle; after = o.after; listed = listed; relisted = o.relisted })
+-- what was made of the bytes begun with those that were used
+abbrev pub ServerGoes : {K : Type 0} → Crypto K → ExchangeParts → Judge → State K → Layers → List ℕ → Step → State K →
+    Layers → Outs → Type 0
+ServerGoes c parts judge old layers bytes done new later o =
+    UnitGoes c Server (ServerDoes c parts) (Goes c judge) old layers bytes done new later o
 
 -- ---- where memory is refused
 
@@ -83,17 +79,11 @@ GoLacks judge (outcome.Up number) between layers = UpLacks judge between layers
 GoLacks judge (outcome.Completed choice) between layers = 1 ≤ length layers.channels.owed
 GoLacks judge given between layers = ⊥
 
--- What took memory of the bytes of one line or one packet: what its transport would send, or what is done with what the
--- transport made of them.
-pub data TurnLacks {K : Type 0} (c : Crypto K) (parts : ExchangeParts) (judge : Judge) (old : State K) (layers : Layers)
-    (bytes : List ℕ) : Type 0 where
-  by_transport : (new : State K) → ServerDied c parts old bytes new → TurnLacks c parts judge old layers bytes
-  by_end : (given : TransportTurn) (between : State K) (o : Outs) → ServerTook c parts old bytes given between o →
-      GoLacks judge given between layers → TurnLacks c parts judge old layers bytes
+-- what took memory of the bytes of one line or one packet
+abbrev pub TurnLacks : {K : Type 0} → Crypto K → ExchangeParts → Judge → State K → Layers → List ℕ → Type 0
+TurnLacks c parts judge old layers bytes =
+    UnitLacks c Server (ServerDoes c parts) (ServerLacks c parts) (GoLacks judge) old layers bytes
 
--- It is of the bytes begun with some of those that came.
-pub record FrontLacks {K : Type 0} (c : Crypto K) (parts : ExchangeParts) (judge : Judge) (old : State K) (layers : Layers)
-    (begun bytes : List ℕ) : Type 0 where
-  pub used : ℕ
-  pub most : used ≤ length bytes
-  pub lacks : TurnLacks c parts judge old layers (begun ++ take used bytes)
+-- it is of the bytes begun with some of those that came
+abbrev pub FrontLacks : {K : Type 0} → Crypto K → ExchangeParts → Judge → State K → Layers → (begun bytes : List ℕ) → Type 0
+FrontLacks c parts judge old layers begun bytes = units.FrontLacks (TurnLacks c parts judge old layers) begun bytes

@@ -22,7 +22,7 @@ use ssh_transport_machine::{Answer, Machine};
 use ssh_types::Refusal;
 use std::alloc::AllocError;
 
-// What the layers above made of a payload, before anything is sent.
+/// What the layers above made of a payload, before anything is sent.
 #[derive(Drop)]
 pub enum Judgement {
     // They took its message.
@@ -33,7 +33,7 @@ pub enum Judgement {
     Spent,
 }
 
-// What they answer to a message.
+/// What they answer to a message.
 #[derive(Drop)]
 pub struct Above {
     pub step: TookStep,
@@ -43,7 +43,11 @@ pub struct Above {
     pub success: bool,
 }
 
-// Sends what they answer, or refuses the peer.
+/// Sends what they answer, or refuses the peer.
+///
+/// # Errors
+///
+/// Only where memory is refused: nothing is put out, and the end is over.
 pub fn finish_above<S: Sealing, F: Filler + Drop>(
     machine: &mut Machine<S, F>,
     judgement: Judgement,
@@ -165,7 +169,11 @@ fn put<S: Sealing, F: Filler + Drop>(
     }
 }
 
-// Spells what is sent at once for a message that was taken so, if anything. The numbers are tested before any memory is asked for.
+/// Spells what is sent at once for a message that was taken so, if anything. The numbers are tested before any memory is asked for.
+///
+/// # Errors
+///
+/// Only where memory is refused.
 pub fn spell_answer<S: Sealing, F: Filler + Drop>(
     machine: &Machine<S, F>,
     step: TookStep,
@@ -199,7 +207,7 @@ pub fn spell_answer<S: Sealing, F: Filler + Drop>(
     }))
 }
 
-// The session id, or these bytes before the first exchange, when no payload from 50 on comes.
+/// The session id, or these bytes before the first exchange, when no payload from 50 on comes.
 pub fn session_of<'a, S: Sealing, F: Filler + Drop>(
     machine: &'a Machine<S, F>,
     none: &'a [u8; 32],

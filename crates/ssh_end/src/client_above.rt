@@ -14,7 +14,11 @@ use ssh_packet::{Filler, Sealing};
 use ssh_transport_machine::Machine;
 use std::alloc::AllocError;
 
-// What the layers of a client make of the payload that is shown, from 50 on.
+/// What the layers of a client make of the payload that is shown, from 50 on.
+///
+/// # Errors
+///
+/// Only where memory is refused.
 pub fn judge_client<S: Sealing, F: Filler + Drop>(
     machine: &Machine<S, F>,
     layers: &mut ClientLayers,

@@ -16,7 +16,11 @@ use ssh_transport_machine::standing::machines_stand;
 use ssh_types::Refusal;
 use std::alloc::AllocError;
 
-// Gives what is owed behind NEWKEYS, and says at which position the exchange was completed. Where nothing is owed it asks for no memory.
+/// Gives what is owed behind NEWKEYS, and says at which position the exchange was completed. Where nothing is owed it asks for no memory.
+///
+/// # Errors
+///
+/// Only where memory is refused: the end is over, and what was put out so far stands.
 pub fn complete<S: Sealing, F: Filler + Drop>(
     machine: &mut Machine<S, F>,
     channels: &mut Channels,

@@ -6,7 +6,7 @@ ghost use Rattle.ssh_end.specs.Effects.{step_by};
 use crate::step::{Step, Telling, TookStep};
 use ssh_transport_machine::Effect;
 
-// What was done with a line or a packet.
+/// What was done with a line or a packet.
 pub fn step_of(effect: Effect) -> Step
     ensures { result ≡ step_by effect }
 {

@@ -15,8 +15,12 @@ use ssh_packet::{Filler, Sealing};
 use ssh_transport_machine::Machine;
 use std::alloc::AllocError;
 
-// Gives the replies that are owed, once NEWKEYS was sent: the oldest first, each in a packet of its own. The local number of the channel
-// of each is put behind `numbers`. Where memory is refused the end is over, and what was put out so far stands.
+/// Gives the replies that are owed, once NEWKEYS was sent: the oldest first, each in a packet of its own. The local number of the channel
+/// of each is put behind `numbers`.
+///
+/// # Errors
+///
+/// Only where memory is refused: the end is over, and what was put out so far stands.
 pub fn give_owed<S: Sealing, F: Filler + Drop>(
     machine: &mut Machine<S, F>,
     channels: &mut Channels,

@@ -14,7 +14,11 @@ use ssh_packet::{Filler, Sealing};
 use ssh_transport_machine::Machine;
 use std::alloc::AllocError;
 
-// What the layers of a server make of the payload that is shown, from 50 on.
+/// What the layers of a server make of the payload that is shown, from 50 on.
+///
+/// # Errors
+///
+/// Only where memory is refused.
 pub fn judge_server<S: Sealing, F: Filler + Drop, J: UserJudge>(
     machine: &Machine<S, F>,
     layers: &mut ServerLayers,

@@ -5,7 +5,7 @@ ghost use Rattle.ssh_end.specs.Beside.{channel_of};
 
 use ssh_types::Refusal;
 
-// What an end did with the bytes of one line or one packet.
+/// What an end did with the bytes of one line or one packet.
 #[derive(Clone, Copy)]
 pub enum Step {
     // No whole line and no whole packet yet.
@@ -22,7 +22,7 @@ pub enum Step {
 }
 
 impl Step {
-    // The channel of what was taken, which is that of what was sent at once.
+    /// The channel of what was taken, which is that of what was sent at once.
     pub fn channel(self) -> Option<u32>
         ensures { result ≡ channel_of self }
     {
@@ -33,7 +33,7 @@ impl Step {
     }
 }
 
-// How the message of a packet was taken.
+/// How the message of a packet was taken.
 #[derive(Clone, Copy)]
 pub struct TookStep {
     // The end's own number of its channel, where it belongs to one.
@@ -43,7 +43,7 @@ pub struct TookStep {
     pub telling: Telling,
 }
 
-// What the user is told of a message.
+/// What the user is told of a message.
 #[derive(Clone, Copy)]
 pub enum Telling {
     // What the message says by itself, if anything.

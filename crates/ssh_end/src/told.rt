@@ -68,7 +68,7 @@ pub enum Told<'a> {
     Channel(Fact<'a>),
 }
 
-// What is told of a message, where it belongs to this channel, or to none.
+/// What is told of a message, where it belongs to this channel, or to none.
 pub fn told_in<'a>(
     telling: Telling,
     message: &Message<'a>,
@@ -94,7 +94,7 @@ fn accepted_by<'a>(message: &Message<'a>) -> Option<Told<'a>>
     }
 }
 
-// What is told of a message by itself.
+/// What is told of a message by itself.
 pub fn told_by<'a>(message: &Message<'a>, channel: Option<u32>) -> Option<Told<'a>>
     ensures { option_map told_of result ≡ fact_by (meaning message.now) channel }
 {

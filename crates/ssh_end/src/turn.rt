@@ -79,8 +79,8 @@ impl<'a> SentPayloads<'a> {
     }
 }
 
-// The payloads that were sent. The last of them have the channels of the replies that were owed, or the last one has this single channel
-// where none was owed.
+/// The payloads that were sent. The last of them have the channels of the replies that were owed, or the last one has this single channel
+/// where none was owed.
 pub fn sent_payloads<'a>(
     payloads: &'a [Vec<u8>],
     single: &'a [Option<u32>],
@@ -99,7 +99,7 @@ pub fn sent_payloads<'a>(
     SentPayloads { payloads, channels }
 }
 
-// What was done in a step, with the payload of the packet taken last.
+/// What was done in a step, with the payload of the packet taken last.
 pub fn turn_of<'a>(step: Step, used: usize, payload: &'a [u8], sent: SentPayloads<'a>) -> Turn<'a>
     ensures shows { (items : List Item) → Shows payload.now step items → TurnShows result items }
     ensures more { step ≡ Step.More → TurnShows result [] }
@@ -130,7 +130,7 @@ pub fn turn_of<'a>(step: Step, used: usize, payload: &'a [u8], sent: SentPayload
     }
 }
 
-// What was done on an ask, with these payloads.
+/// What was done on an ask, with these payloads.
 pub fn asked_turn<'a>(step: AskStep, sent: SentPayloads<'a>) -> Turn<'a>
     ensures { ShowsStep step (payloads_in sent.entry) (channels_in sent.entry) result }
 {

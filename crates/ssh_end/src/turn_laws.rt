@@ -36,9 +36,9 @@ use ssh_model::end::{
 };
 use ssh_model::one_end::kept_by_one_end;
 use ssh_model::stream_units;
-use ssh_transport_client::laws::{turns_left as client_left, units_taken as client_units};
+use ssh_transport::client::laws::{clients_left, clients_units};
+use ssh_transport::server::laws::{servers_left, servers_units};
 use ssh_transport_machine::laws::unit_turns as machine_turns;
-use ssh_transport_server::laws::{turns_left, units_taken};
 
 /// What a server's end does with the bytes of one line or one packet is what the server of a session does with them. Where what it keeps
 /// sums up a history, and it is the server of lawful parties:
@@ -62,8 +62,8 @@ pub fn servers_turns<K>()
     waiting::<K>();
     stream_units::<K>();
     machine_turns::<K>();
-    units_taken::<K>();
-    turns_left::<K>();
+    servers_units::<K>();
+    servers_left::<K>();
 }
 
 /// What a client's end does with the bytes of one line or one packet is what the client of a session does with them. Where what it keeps
@@ -88,8 +88,8 @@ pub fn clients_turns<K>()
     waiting::<K>();
     stream_units::<K>();
     machine_turns::<K>();
-    client_units::<K>();
-    client_left::<K>();
+    clients_units::<K>();
+    clients_left::<K>();
 }
 
 /// The channels that an end says of the payloads that it sent in a turn are those of the messages that were sent: what the clauses of
@@ -121,7 +121,8 @@ pub fn servers_deaths<K>()
     waiting::<K>();
     units::<K>();
     kept_by_one_end::<K>();
-    units_taken::<K>();
+    servers_units::<K>();
+    servers_left::<K>();
 }
 
 /// Where a client's end answers that memory was refused, the client of a session dies: where what it keeps sums up a history, and it is the
@@ -139,5 +140,6 @@ pub fn clients_deaths<K>()
     waiting::<K>();
     units::<K>();
     kept_by_one_end::<K>();
-    client_units::<K>();
+    clients_units::<K>();
+    clients_left::<K>();
 }

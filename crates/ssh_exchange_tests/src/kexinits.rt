@@ -16,6 +16,7 @@ pub const OF_CLIENT: [&str; 10] = [
     "",
 ];
 
+/// The ten lists of the server's KEXINIT, in the order of RFC 4253 section 7.1.
 pub const OF_SERVER: [&str; 10] = [
     "curve25519-sha256,kex-strict-s-v00@openssh.com",
     "toy@example.com",
@@ -30,6 +31,10 @@ pub const OF_SERVER: [&str; 10] = [
 ];
 
 /// A KEXINIT of these lists, of which those at these places are others, and whose cookie has this byte alone.
+///
+/// # Errors
+///
+/// Only where memory is refused.
 pub fn kexinit(
     alloc: Global,
     cookie: u8,

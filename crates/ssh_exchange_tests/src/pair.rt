@@ -24,6 +24,10 @@ pub struct Pair {
 
 impl Pair {
     /// Two ends of these settings.
+    ///
+    /// # Errors
+    ///
+    /// Only where memory is refused.
     pub fn new(
         alloc: Global,
         of_client: &Settings<'_>,
@@ -38,6 +42,10 @@ impl Pair {
     }
 
     /// Two ends that require strict key exchange.
+    ///
+    /// # Errors
+    ///
+    /// Only where memory is refused.
     pub fn strict(alloc: Global) -> Result<Pair, AllocError> {
         let client = settings(b"c", Strictness::Require);
         let server = settings(b"s", Strictness::Require);
@@ -60,6 +68,10 @@ impl Pair {
     }
 
     /// Does this, and answers the lines of what the ends do on it.
+    ///
+    /// # Errors
+    ///
+    /// Only where memory is refused.
     pub fn play(&mut self, step: Step<'_>) -> Result<&str, AllocError> {
         self.lines.clear();
         match step {
@@ -142,6 +154,10 @@ impl Pair {
     }
 
     /// Plays stretches, dripped or not, and answers the first step whose lines are others, with its places.
+    ///
+    /// # Errors
+    ///
+    /// Only where memory is refused.
     pub fn differs(
         &mut self,
         stretches: &[Stretch],
@@ -157,6 +173,10 @@ impl Pair {
     }
 
     /// Plays stretches, whatever lines come of them.
+    ///
+    /// # Errors
+    ///
+    /// Only where memory is refused.
     pub fn play_all(&mut self, stretches: &[Stretch]) -> Result<(), AllocError> {
         for stretch in stretches.iter() {
             for (step, _) in stretch.script() {
@@ -167,6 +187,10 @@ impl Pair {
     }
 
     /// Plays a script, dripped or not, and answers the first step whose lines are others.
+    ///
+    /// # Errors
+    ///
+    /// Only where memory is refused.
     pub fn script_differs(
         &mut self,
         script: &[(Step<'_>, &str)],

@@ -31,6 +31,10 @@ pub struct Party {
 
 impl Party {
     /// An end of these settings, which has put out its line and its KEXINIT.
+    ///
+    /// # Errors
+    ///
+    /// Only where memory is refused.
     pub fn new(alloc: Global, side: Side, settings: &Settings<'_>) -> Result<Party, AllocError> {
         let mut out = Vec::new(alloc);
         let mut sent = Vec::new(alloc);
@@ -92,6 +96,10 @@ impl Party {
     }
 
     /// The next so many waiting bytes, or all where there are fewer, which wait no longer.
+    ///
+    /// # Errors
+    ///
+    /// Only where memory is refused.
     pub fn next(&mut self, count: usize) -> Result<Vec<u8>, AllocError> {
         let waiting = self.out.as_slice().get(self.passed..).unwrap_or(&[]);
         let next = waiting.get(..count).unwrap_or(waiting).to_vec(self.alloc)?;
@@ -100,12 +108,20 @@ impl Party {
     }
 
     /// So many of all bytes that it put out, from this one on.
+    ///
+    /// # Errors
+    ///
+    /// Only where memory is refused.
     pub fn again(&self, start: usize, count: usize) -> Result<Vec<u8>, AllocError> {
         let rest = self.out.as_slice().get(start..).unwrap_or(&[]);
         rest.get(..count).unwrap_or(rest).to_vec(self.alloc)
     }
 
     /// It takes bytes, line by line and packet by packet.
+    ///
+    /// # Errors
+    ///
+    /// Only where memory is refused.
     pub fn deliver(&mut self, bytes: &[u8], lines: &mut Transcript) -> Result<(), AllocError> {
         let mut rest = bytes;
         for _ in 0..bytes.len() {
@@ -189,6 +205,10 @@ impl Party {
     }
 
     /// It is asked for something.
+    ///
+    /// # Errors
+    ///
+    /// Only where memory is refused.
     pub fn ask(
         &mut self,
         ask: TransportAsk<'_>,
@@ -220,6 +240,10 @@ impl Party {
     }
 
     /// It is asked to send this payload for a layer above.
+    ///
+    /// # Errors
+    ///
+    /// Only where memory is refused.
     pub fn send(&mut self, payload: &[u8], lines: &mut Transcript) -> Result<(), AllocError> {
         if payload.is_empty() || payload.len() > 34_000 {
             return lines.note(self.side, "asked to send what no packet holds");
@@ -235,6 +259,10 @@ impl Party {
     }
 
     /// It is fed a cookie and a secret of this byte alone.
+    ///
+    /// # Errors
+    ///
+    /// Only where memory is refused.
     pub fn feed(&mut self, byte: u8, lines: &mut Transcript) -> Result<(), AllocError> {
         if self.end.feed_material([byte; 16], [byte; 32]) {
             return Ok(());

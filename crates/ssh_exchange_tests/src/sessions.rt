@@ -15,9 +15,11 @@ pub const SUCCESS: &[u8] = b"4";
 /// CHANNEL_OPEN of a session with a window of 10 bytes, and its confirmation.
 pub const OPEN: &[u8] = b"Z\0\0\0\x07session\0\0\0\0\0\0\0\x0a\0\0\x80\0";
 
+/// CHANNEL_OPEN_CONFIRMATION of channel 0 by channel 0, with a window of 10 bytes and packets of at most 32,768.
 pub const CONFIRMATION: &[u8] = b"[\0\0\0\0\0\0\0\0\0\0\0\x0a\0\0\x80\0";
 
 /// CHANNEL_DATA of `hi`, and CHANNEL_CLOSE.
 pub const DATA: &[u8] = b"^\0\0\0\0\0\0\0\x02hi";
 
+/// CHANNEL_CLOSE of channel 0.
 pub const CLOSE: &[u8] = b"a\0\0\0\0";

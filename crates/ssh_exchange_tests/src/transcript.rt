@@ -41,18 +41,30 @@ impl Transcript {
     }
 
     /// A side did this.
+    ///
+    /// # Errors
+    ///
+    /// Only where memory is refused.
     pub fn note(&mut self, side: Side, what: &str) -> Result<(), AllocError> {
         self.begin(side)?;
         write!(self.text, "{what}")
     }
 
     /// It did this of this number.
+    ///
+    /// # Errors
+    ///
+    /// Only where memory is refused.
     pub fn note_number(&mut self, side: Side, what: &str, number: u64) -> Result<(), AllocError> {
         self.begin(side)?;
         write!(self.text, "{what} {number}")
     }
 
     /// It refused its peer, or an ask, by this number and name.
+    ///
+    /// # Errors
+    ///
+    /// Only where memory is refused.
     pub fn note_refusal(
         &mut self,
         side: Side,
@@ -65,6 +77,10 @@ impl Transcript {
     }
 
     /// It took or sent this payload.
+    ///
+    /// # Errors
+    ///
+    /// Only where memory is refused.
     pub fn note_payload(
         &mut self,
         side: Side,
@@ -82,6 +98,10 @@ impl Transcript {
     }
 
     /// What it is told of a payload that had this effect. Where the effect is none that the payload can have, that is the line.
+    ///
+    /// # Errors
+    ///
+    /// Only where memory is refused.
     pub fn note_effect(
         &mut self,
         side: Side,

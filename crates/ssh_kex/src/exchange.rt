@@ -32,8 +32,11 @@ pub fn exchange_hash(inputs: &ExchangeInputs<'_>) -> [u8; 32]
 
 /// The exchange text: the strings V_C, V_S, I_C, I_S, K_S, Q_C and Q_S, and K as an mpint (RFC 5656 section 4).
 ///
-/// Each text is shorter than 2^32 bytes. An `AllocError` comes only where memory
-/// was refused.
+/// Each text is shorter than 2^32 bytes.
+///
+/// # Errors
+///
+/// Only where memory is refused.
 #[tactic(auto, using(crate::proofs::Strings::written_string, crate::proofs::Strings::written_mpint))]
 pub fn exchange_text(alloc: Global, inputs: &ExchangeInputs<'_>) -> Result<Vec<u8>, AllocError>
     requires { Fits (inputs_of inputs.now) }

@@ -10,6 +10,10 @@ use ssh_types::{AskRefusal, Refusal};
 use std::alloc::Global;
 
 /// The ask of a line, in the words of a script.
+///
+/// # Errors
+///
+/// `Problem` where the words are no ask, or memory is refused.
 pub fn ask_of(alloc: Global, words: &str) -> Result<AskLine, Problem> {
     let text = format!(in alloc; "ask c {words}")?;
     let Script::Session(script) = script_of(alloc, text.as_str())? else {
@@ -31,6 +35,10 @@ fn script_of(alloc: Global, text: &str) -> Result<Script, Problem> {
 }
 
 /// The message of a payload.
+///
+/// # Errors
+///
+/// `Problem` where the payload is no message, or memory is refused.
 pub fn message_of(alloc: Global, is_probing: bool, payload: &[u8]) -> Result<Message<'_>, Problem>
     ensures { IfOk result (λ message. Fits message) }
 {
@@ -41,6 +49,10 @@ pub fn message_of(alloc: Global, is_probing: bool, payload: &[u8]) -> Result<Mes
 }
 
 /// A message that is sent, as a line.
+///
+/// # Errors
+///
+/// `Problem` where memory is refused.
 pub fn sent(alloc: Global, message: &Message<'_>) -> Result<String, Problem>
     requires { Fits message.now }
 {
@@ -53,11 +65,19 @@ pub fn sent(alloc: Global, message: &Message<'_>) -> Result<String, Problem>
 }
 
 /// A refusal of the peer.
+///
+/// # Errors
+///
+/// `Problem` where memory is refused.
 pub fn refused(alloc: Global, refusal: Refusal) -> Result<String, Problem> {
     Ok(format!(in alloc; "refused {} {}", refusal.number(), refusal.name())?)
 }
 
 /// A refusal of an ask.
+///
+/// # Errors
+///
+/// `Problem` where memory is refused.
 pub fn ask_refused(alloc: Global, refusal: AskRefusal) -> Result<String, Problem> {
     Ok(format!(in alloc; "ask refused {} {}", refusal.number(), refusal.name())?)
 }

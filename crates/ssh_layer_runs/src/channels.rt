@@ -22,6 +22,11 @@ pub struct ChannelLines {
 }
 
 impl ChannelLines {
+    /// Lines of channels, of which nothing was played.
+    ///
+    /// # Errors
+    ///
+    /// Only where memory is refused.
     pub fn new(alloc: Global) -> Result<ChannelLines, AllocError> {
         let channels = Channels::new(alloc)?;
         Ok(ChannelLines {

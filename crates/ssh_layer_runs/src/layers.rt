@@ -43,6 +43,11 @@ pub struct LayerLines {
 }
 
 impl LayerLines {
+    /// Lines of both layers, of which nothing was played.
+    ///
+    /// # Errors
+    ///
+    /// Only where memory is refused.
     pub fn new(alloc: Global) -> Result<LayerLines, AllocError> {
         Ok(LayerLines {
             alloc,

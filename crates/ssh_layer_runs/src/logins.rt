@@ -63,6 +63,7 @@ pub struct LoginLines {
 }
 
 impl LoginLines {
+    /// Lines of authentication, of which nothing was played.
     pub fn new(alloc: Global) -> LoginLines {
         LoginLines {
             alloc,
@@ -184,6 +185,10 @@ fn served(
 }
 
 /// The list, where a server can name its methods.
+///
+/// # Errors
+///
+/// `Problem` where the text is no list of names, or one that no server can name.
 pub fn methods(text: &str) -> Result<NameList<'_>, Problem>
     ensures { IfOk result (λ list. length (names_text list) ≤ 33994) }
 {

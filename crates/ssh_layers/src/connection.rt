@@ -45,7 +45,7 @@ pub fn ask_channels<'a>(
     channels.ask(ask, below.blocked, due)
 }
 
-// The message of a reply that is sent at once.
+/// The message of a reply that is sent at once.
 pub fn reply_message(reply: Option<Reply>) -> Option<Message<'static>>
     ensures message { option_map meaning result ≡ option_map (λ r. reply_sent (reply_of r)) reply }
     ensures fits { IfSome result (λ message. Fits message) }

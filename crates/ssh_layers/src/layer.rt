@@ -42,7 +42,7 @@ pub fn layer_of(message: &Message<'_>) -> Layer
     }
 }
 
-// The number of the message that a payload begins with.
+/// The number of the message that a payload begins with.
 pub fn number_in(payload: &[u8]) -> u8
     requires { 50 ≤ number_of payload.now }
     ensures { result ≡ number_of payload.now }

@@ -4,6 +4,10 @@ use crate::problem::Problem;
 use std::alloc::{AllocError, Global};
 
 /// A line with its words written out, the `turn`th time that it is told.
+///
+/// # Errors
+///
+/// Only where memory is refused.
 pub fn written_out(alloc: Global, line: &str, turn: u32) -> Result<String, AllocError> {
     let mut text = String::new(alloc);
     for word in line.split(' ') {

@@ -57,6 +57,6 @@ pub fn items_of_other_layers()
 #[tactic(auto, using(crate::proofs::Channels::Elsewhere::state_shown, crate::proofs::Channels::Elsewhere::room_shown, crate::proofs::Channels::Elsewhere::count_shown))]
 pub fn shown()
     ensures state { (side : Side) (history : List Item) (waiting : List channel.Item) (channels : Channels) → SumsUp side history waiting channels → (number : ℕ) → shown_state (at channels.places number) ≡ channel_state side (notes side history) waiting number }
-    ensures room { (side : Side) (history : List Item) (waiting : List channel.Item) (channels : Channels) → SumsUp side history waiting channels → (number : ℕ) → shown_room (at channels.places number) ≡ room (notes side history) number }
+    ensures room { (side : Side) (history : List Item) (waiting : List channel.Item) (channels : Channels) → SumsUp side history waiting channels → (number : ℕ) → shown_room (at channels.places number) ≡ room (notes side history) waiting number }
     ensures count { (side : Side) (history : List Item) (waiting : List channel.Item) (channels : Channels) → SumsUp side history waiting channels → used channels.places ≡ count (notes side history) waiting }
 {}

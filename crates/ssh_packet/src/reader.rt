@@ -57,8 +57,11 @@ enum Received {
 }
 
 impl PacketReader {
-    /// A reader that nothing was given to. This reserves its buffer of 35,000 bytes, the only memory that it ever takes,
-    /// and fails only where there is none.
+    /// A reader that nothing was given to. This reserves its buffer of 35,000 bytes, the only memory that it ever takes.
+    ///
+    /// # Errors
+    ///
+    /// Only where memory is refused.
     pub fn new(alloc: Global) -> Result<PacketReader, AllocError>
         ensures { IfOk result (λ reader. reader ≡ empty) }
     {

@@ -8,6 +8,7 @@ pub mod Fitting
 pub mod ClientGoes
 pub mod ServerGoes
 pub mod Summing
+pub mod Feeding
 pub mod PlayingClient
 pub mod PlayingServer
 pub mod Events

@@ -18,6 +18,7 @@ use Rattle.ssh_layers.specs.Sessions as other
 use Rattle.ssh_pair.specs.Playing.{Advanced, Answered, PairFed, PlaysOne, Says, SaysOf}
 use Rattle.ssh_pair.specs.Standing.{ClientStands, ClientValue, PairStands, PairValue, ServerStands, kept_bytes}
 use Rattle.ssh_pair.specs.declared.item.Done as declared
+use Rattle.ssh_pair.proofs.Feeding.{could_feed, could_not_feed}
 use Rattle.ssh_pair.proofs.Summing.{pair_of}
 
 module _ {K : Type 0} (p : Parties K) (w : World) (pair : PairValue K) (stands : PairStands p w pair) (end : ClientValue K)
@@ -111,7 +112,7 @@ module _ {K : Type 0} (p : Parties K) (w : World) (pair : PairValue K) (stands :
       PairTurned p w (Feeds Client cookie secret) (next_world w Client (done_by Client items ++ w.run) w.client_rest) (with_state Client new (pair_of pair))) →
       ((run : List Done) → AreLawful p → BothOffer p → Run p run → IsHonest p run → IsSafe p run) →
       (fed ≡ true → end ≡ record pair.client { machine = record pair.client.machine { kept = after_fed cookie secret pair.client.machine.kept } }) → (fed ≡ false → end ≡ pair.client) →
-      PairFed p w (Feeds Client cookie secret) client_moved
+      PairFed p w Client (record { cookie = cookie; secret = secret }) fed client_moved
   client_fed cookie secret true can material takes goes law safe is same =
       let kept = after_fed cookie secret pair.client.machine.kept in
       let items : List Item = Fed cookie secret ∷ [] in
@@ -119,8 +120,10 @@ module _ {K : Type 0} (p : Parties K) (w : World) (pair : PairValue K) (stands :
       let t = takes items new (TakesPair.fed (sym can) material) in
       let turned = law items new t in
       let s = stands.client in
-      subst (λ (v : ClientValue K). PairFed p w (Feeds Client cookie secret) (record pair { client = v })) (sym (is refl)) (record {
+      subst (λ (v : ClientValue K). PairFed p w Client (record { cookie = cookie; secret = secret }) true (record pair { client = v })) (sym (is refl)) (record {
         next = next_world w Client (done_by Client items ++ w.run) w.client_rest;
+        answer_is = sym (could_feed t.turn);
+        run_is = refl;
         on_event = turned.on_event;
         stands = record {
           run = turned.sums.run;
@@ -142,8 +145,10 @@ module _ {K : Type 0} (p : Parties K) (w : World) (pair : PairValue K) (stands :
       let old : EndState K = end_of pair.client.machine.kept pair.client.layers in
       let t = takes [] old (TakesPair.unfed (sym cannot)) in
       let turned = law [] old t in
-      subst (λ (v : ClientValue K). PairFed p w (Feeds Client cookie secret) (record pair { client = v })) (sym (same refl)) (record {
+      subst (λ (v : ClientValue K). PairFed p w Client (record { cookie = cookie; secret = secret }) false (record pair { client = v })) (sym (same refl)) (record {
         next = next_world w Client w.run w.client_rest;
+        answer_is = sym (could_not_feed t.turn);
+        run_is = refl;
         on_event = turned.on_event;
         stands = record { run = stands.run; client = stands.client; server = stands.server; client_rest = stands.client_rest; server_rest = stands.server_rest };
         safe = λ offer honest. safe _ stands.client.lawful offer stands.run honest;

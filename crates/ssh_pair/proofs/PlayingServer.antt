@@ -18,6 +18,7 @@ use Rattle.ssh_layers.specs.ClientSessions as other
 use Rattle.ssh_pair.specs.Playing.{Advanced, Answered, PairFed, PlaysOne, Says, SaysOf}
 use Rattle.ssh_pair.specs.Standing.{ServerStands, ServerValue, PairStands, PairValue, ClientStands, kept_bytes}
 use Rattle.ssh_pair.specs.declared.item.Done as declared
+use Rattle.ssh_pair.proofs.Feeding.{could_feed, could_not_feed}
 use Rattle.ssh_pair.proofs.Summing.{pair_of}
 
 module _ {K : Type 0} (p : Parties K) (w : World) (pair : PairValue K) (stands : PairStands p w pair) (end : ServerValue K)
@@ -109,7 +110,7 @@ module _ {K : Type 0} (p : Parties K) (w : World) (pair : PairValue K) (stands :
       PairTurned p w (Feeds Server cookie secret) (next_world w Server (done_by Server items ++ w.run) w.server_rest) (with_state Server new (pair_of pair))) →
       ((run : List Done) → AreLawful p → BothOffer p → Run p run → IsHonest p run → IsSafe p run) →
       (fed ≡ true → end ≡ record pair.server { machine = record pair.server.machine { kept = after_fed cookie secret pair.server.machine.kept } }) → (fed ≡ false → end ≡ pair.server) →
-      PairFed p w (Feeds Server cookie secret) server_moved
+      PairFed p w Server (record { cookie = cookie; secret = secret }) fed server_moved
   server_fed cookie secret true can material takes goes law safe is same =
       let kept = after_fed cookie secret pair.server.machine.kept in
       let items : List Item = Fed cookie secret ∷ [] in
@@ -117,8 +118,10 @@ module _ {K : Type 0} (p : Parties K) (w : World) (pair : PairValue K) (stands :
       let t = takes items new (TakesPair.fed (sym can) material) in
       let turned = law items new t in
       let s = stands.server in
-      subst (λ (v : ServerValue K). PairFed p w (Feeds Server cookie secret) (record pair { server = v })) (sym (is refl)) (record {
+      subst (λ (v : ServerValue K). PairFed p w Server (record { cookie = cookie; secret = secret }) true (record pair { server = v })) (sym (is refl)) (record {
         next = next_world w Server (done_by Server items ++ w.run) w.server_rest;
+        answer_is = sym (could_feed t.turn);
+        run_is = refl;
         on_event = turned.on_event;
         stands = record {
           run = turned.sums.run;
@@ -142,8 +145,10 @@ module _ {K : Type 0} (p : Parties K) (w : World) (pair : PairValue K) (stands :
       let old : EndState K = end_of pair.server.machine.kept pair.server.layers in
       let t = takes [] old (TakesPair.unfed (sym cannot)) in
       let turned = law [] old t in
-      subst (λ (v : ServerValue K). PairFed p w (Feeds Server cookie secret) (record pair { server = v })) (sym (same refl)) (record {
+      subst (λ (v : ServerValue K). PairFed p w Server (record { cookie = cookie; secret = secret }) false (record pair { server = v })) (sym (same refl)) (record {
         next = next_world w Server w.run w.server_rest;
+        answer_is = sym (could_not_feed t.turn);
+        run_is = refl;
         on_event = turned.on_event;
         stands = record { run = stands.run; server = stands.server; client = stands.client; server_rest = stands.server_rest; client_rest = stands.client_rest };
         safe = λ offer honest. safe _ stands.server.lawful offer stands.run honest;

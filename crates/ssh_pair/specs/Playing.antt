@@ -1,16 +1,17 @@
 -- What events make of a pair, as what they make of two ends of a session.
-use Rattle.std.specs.Prelude.{◌≡◌, ℕ, cond, List, [], ◌∷◌, ◌++◌}
+use Rattle.std.specs.Prelude.{◌≡◌, ℕ, Bool, cond, List, [], ◌∷◌, ◌++◌}
 use Rattle.ssh_model.specs.Side.{Side, Side.Client, Side.Server, done_by, part}
 use Rattle.ssh_model.specs.Wire.Delivery.{Delivered}
+use Rattle.ssh_model.specs.KeyExchange.Exchanges.{Material, fed}
 use Rattle.ssh_model.specs.End.State.{EndState}
 use Rattle.ssh_model.specs.End.Summary.{HasOpened}
 use Rattle.ssh_model.specs.Sessions.Claims.{IsSafe}
 use Rattle.ssh_model.specs.Sessions.Events as session
 use Rattle.ssh_model.specs.Sessions.Events.{IsFirst, OnEvent, Plays, PutsOut, World, reading_of}
 use Rattle.ssh_model.specs.Sessions.Honest.{IsHonest}
-use Rattle.ssh_model.specs.Sessions.Items.{Ask, Done, Item, has_died}
+use Rattle.ssh_model.specs.Sessions.Items.{Ask, Done, Item, Item.Fed, has_died}
 use Rattle.ssh_model.specs.Sessions.Parties.{BothOffer, Parties}
-use Rattle.ssh_model.specs.Sessions.Turns.{AsksTurn}
+use Rattle.ssh_model.specs.Sessions.Turns.{AsksTurn, can_feed}
 use Rattle.ssh_types.specs.Sides.{side_of}
 use Rattle.ssh_end.specs.Asking.{ask_of}
 use Rattle.ssh_pair.specs.Items.{Notes}
@@ -63,12 +64,13 @@ pub record Answered {K : Type 0} (p : Parties K) (side : Side) (run : List Done)
   pub stands : Stands (done_by side items ++ run)
   pub says : SaysOf p side run items log_old log_new out_old out_new
 
--- An end has opened, and this was noted and put out for it.
-pub record Opens {K : Type 0} (p : Parties K) (side : Side) (e : EndState K) (log_old log_new : List declared.Done)
-    (out_old out_new : List ℕ) : Type 0 where
+-- An end has opened with this pair of cookie and secret, and this was noted and put out for it.
+pub record Opens {K : Type 0} (p : Parties K) (side : Side) (material : Material) (e : EndState K)
+    (log_old log_new : List declared.Done) (out_old out_new : List ℕ) : Type 0 where
   pub items : List Item
   pub bytes : List ℕ
   pub opened : HasOpened p side items bytes e
+  pub material_is : fed items ≡ material ∷ []
   pub notes : Adds side items log_old log_new
   pub out : out_new ≡ out_old ++ bytes
 
@@ -112,19 +114,26 @@ pub record Played {K : Type 0} (p : Parties K) (w : World) (events : List sessio
   pub to : PlaysTo p w events new [] log [] client_bytes [] server_bytes
   pub safe : BothOffer p → IsHonest p to.next.run → IsSafe p to.next.run
 
--- A pair was fed, or not, and stands in another world.
-pub record PairFed {K : Type 0} (p : Parties K) (w : World) (event : session.Event) (new : PairValue K) : Type 0 where
+-- An end of a pair was fed, and answered this: true exactly where it could be fed, and then just that was done.
+pub record PairFed {K : Type 0} (p : Parties K) (w : World) (side : Side) (material : Material) (answer : Bool)
+    (new : PairValue K) : Type 0 where
+  pub answer_is : answer ≡ can_feed (part side w.run)
   pub next : World
-  pub on_event : OnEvent p w event next
+  pub on_event : OnEvent p w (session.Event.Feeds side material.cookie material.secret) next
+  pub run_is : next.run ≡ done_by side (cond answer (Fed material.cookie material.secret ∷ []) []) ++ w.run
   pub stands : PairStands p next new
   pub safe : BothOffer p → IsHonest p next.run → IsSafe p next.run
 
--- Two ends have opened, and this was noted and put out for it.
-pub record PairOpens {K : Type 0} (p : Parties K) (pair : PairValue K) (log : List declared.Done)
-    (client_bytes server_bytes : List ℕ) : Type 0 where
+-- Two ends have opened, each with this pair of cookie and secret, and this was noted and put out for it. Where that is
+-- honest and both ends offer strict key exchange, all is safe.
+pub record PairOpens {K : Type 0} (p : Parties K) (of_client of_server : Material) (pair : PairValue K)
+    (log : List declared.Done) (client_bytes server_bytes : List ℕ) : Type 0 where
   pub world : World
   pub first : IsFirst p world
+  pub client_fed : fed (part Client world.run) ≡ of_client ∷ []
+  pub server_fed : fed (part Server world.run) ≡ of_server ∷ []
   pub stands : PairStands p world pair
   pub notes : Notes log world.run
   pub client_puts : PutsOut p Client (part Client world.run) client_bytes
   pub server_puts : PutsOut p Server (part Server world.run) server_bytes
+  pub safe : BothOffer p → IsHonest p world.run → IsSafe p world.run

@@ -15,7 +15,9 @@ use Rattle.ssh_model.specs.End.Summary.{EndSumsUp}
 use Rattle.ssh_transport_machine.specs.State.{State, begun_of}
 use Rattle.ssh_layers.specs.ClientLayers as client
 use Rattle.ssh_layers.specs.ClientSessions as client_sessions
-use Rattle.ssh_end.specs.Ends.{ClientState, SameClient, SameServer, ServerState}
+use Rattle.ssh_end.specs.Ends.{EndValue}
+use Rattle.ssh_end.specs.declared.client_role.ClientRole.{ClientRole}
+use Rattle.ssh_end.specs.declared.server_role.ServerRole.{ServerRole}
 use Rattle.ssh_layers.specs.Layers as server
 use Rattle.ssh_end.specs.Reading.{IsReading}
 use Rattle.ssh_layers.specs.Sessions as server_sessions
@@ -73,16 +75,16 @@ pub record ServerValue (K : Type 0) : Type 0 where
   pub lines : Option (List ℕ)
 
 -- a client with what its supplied parts do, and with what is gathered of lines
-abbrev pub client_value : {K A H U : Type 0} → Crypto K → (point : A → List ℕ → List ℕ) →
+abbrev pub client_value : {P U S F A H K : Type 0} → Crypto K → (point : A → List ℕ → List ℕ) →
     (shared : A → List ℕ → List ℕ → Option (List ℕ)) → (trusts : H → List ℕ → List ℕ → List ℕ → List ℕ → Bool) →
-    (signature : U → List ℕ → List ℕ → List ℕ → List ℕ → List ℕ) → ClientState K A H U → Option (List ℕ) →
-    ClientValue K
+    (signature : U → List ℕ → List ℕ → List ℕ → List ℕ → List ℕ) →
+    EndValue K (ClientRole P U S F A H K) client.Layers → Option (List ℕ) → ClientValue K
 client_value c point shared trusts signature end lines = record {
   functions = record {
     crypto = c;
-    agreement = record { point = point end.agreement; shared = shared end.agreement };
-    trusts = trusts end.host_trust;
-    signature = signature end.user;
+    agreement = record { point = point end.role.exchange.agreement; shared = shared end.role.exchange.agreement };
+    trusts = trusts end.role.exchange.host_trust;
+    signature = signature end.role.user;
   };
   machine = end.machine;
   layers = end.layers;
@@ -90,19 +92,19 @@ client_value c point shared trusts signature end lines = record {
 }
 
 -- a server with what its supplied parts do, and with what is gathered of lines
-abbrev pub server_value : {K A H U : Type 0} → Crypto K → (point : A → List ℕ → List ℕ) →
+abbrev pub server_value : {P U S F A H K : Type 0} → Crypto K → (point : A → List ℕ → List ℕ) →
     (shared : A → List ℕ → List ℕ → Option (List ℕ)) → (key : H → List ℕ → List ℕ) →
-    (signature : H → List ℕ → List ℕ → List ℕ) → (verdicts : U → Judge) → ServerState K A H U → Option (List ℕ) →
-    ServerValue K
+    (signature : H → List ℕ → List ℕ → List ℕ) → (verdicts : U → Judge) →
+    EndValue K (ServerRole P U S F A H K) server.Layers → Option (List ℕ) → ServerValue K
 server_value c point shared key signature verdicts end lines = record {
   functions = record {
     crypto = c;
     exchange = record {
-      agreement = record { point = point end.agreement; shared = shared end.agreement };
-      host_key = key end.host_signer;
-      host_signature = signature end.host_signer;
+      agreement = record { point = point end.role.exchange.agreement; shared = shared end.role.exchange.agreement };
+      host_key = key end.role.exchange.host_signer;
+      host_signature = signature end.role.exchange.host_signer;
     };
-    judge = verdicts end.user;
+    judge = verdicts end.role.user;
   };
   machine = end.machine;
   layers = end.layers;
@@ -153,7 +155,20 @@ pub record PairStands {K : Type 0} (p : Parties K) (w : World) (pair : PairValue
   pub server_rest : w.server_rest ≡ kept_bytes pair.server.machine
 
 -- The supplied parts are as before.
-pub record SameParts {K A H U B I J : Type 0} (old new : PairState (ClientState K A H U) (ServerState K B I J)) :
-    Type 0 where
-  pub client : SameClient old.client new.client
-  pub server : SameServer old.server new.server
+pub record SameParts {K R L Q M : Type 0} (old new : PairState (EndValue K R L) (EndValue K Q M)) : Type 0 where
+  pub client : new.client.role ≡ old.client.role
+  pub server : new.server.role ≡ old.server.role
+
+-- A client was made with these parts, and has this user.
+pub record HasClientParts {P U S F A H K : Type 0} (agreement : A) (host_trust : H) (user : U)
+    (end : EndValue K (ClientRole P U S F A H K) client.Layers) : Type 0 where
+  pub agreement_is : end.role.exchange.agreement ≡ agreement
+  pub host_trust_is : end.role.exchange.host_trust ≡ host_trust
+  pub user_is : end.role.user ≡ user
+
+-- A server was made with these parts, and judges users by this.
+pub record HasServerParts {P U S F A H K : Type 0} (agreement : A) (host_signer : H) (user : U)
+    (end : EndValue K (ServerRole P U S F A H K) server.Layers) : Type 0 where
+  pub agreement_is : end.role.exchange.agreement ≡ agreement
+  pub host_signer_is : end.role.exchange.host_signer ≡ host_signer
+  pub user_is : end.role.user ≡ user

@@ -7,7 +7,6 @@ ghost use Rattle.ssh_model.specs.Sessions.Parties.{Parties};
 ghost use Rattle.ssh_transport_machine.specs.Standing.{Stands};
 ghost use Rattle.ssh_transport_base.specs.Meaning.{settings_of};
 ghost use Rattle.ssh_end.specs.Asking.{ask_of};
-ghost use Rattle.ssh_end.specs.Ends.{SameClient};
 ghost use Rattle.ssh_layers.specs.ClientSessions.{end_of};
 ghost use Rattle.ssh_end.specs.Reading.{IsReading};
 ghost use Rattle.ssh_pair.specs.Playing.{Advanced, Answered, Opens};
@@ -16,7 +15,7 @@ ghost use Rattle.ssh_pair.specs.Standing.{ClientStands, client_value, kept_bytes
 use crate::item::Done;
 use crate::lines::Lines;
 use crate::material::is_material;
-use crate::notes::{note_ask, note_death, note_line, note_sent, note_turn};
+use crate::notes::{note_ask, note_death, note_line, note_turn, noted};
 use ssh_auth::UserSigner;
 use ssh_end::turn_laws::{clients_deaths, clients_turns, turns_channels};
 use ssh_end::{Ask, ClientEnd};
@@ -80,20 +79,20 @@ pub(crate) fn open_client<P: ClientParts, U: UserSigner + Drop>(
     log: &mut Vec<Done>,
     out: &mut Vec<u8>,
 ) -> Result<ClientEnd<P, U>, AllocError>
-    ensures opens { IfOk result (λ end. (p : Parties P.Sealing.Key) → p.crypto ≡ P.Sealing.crypto → p.client ≡ settings_of values.config → Opens p model.Client (end_of end.machine.kept end.layers) log.old.items log.new.items out.old.items out.new.items) }
+    ensures opens { IfOk result (λ end. (p : Parties P.Sealing.Key) → p.crypto ≡ P.Sealing.crypto → p.client ≡ settings_of values.config → Opens p model.Client (record { cookie = values.cookie; secret = values.secret }) (end_of end.machine.kept end.layers) log.old.items log.new.items out.old.items out.new.items) }
     ensures reading { IfOk result (λ end. IsReading P.Sealing.crypto end.machine) }
     ensures begun { IfOk result (λ end. kept_bytes end.machine ≡ []) }
     ensures alive { IfOk result (λ end. end.machine.kept.dead ≡ false) }
-    ensures agreement { IfOk result (λ end. end.agreement ≡ values.parts.agreement) }
-    ensures part { IfOk result (λ end. end.host_trust ≡ values.parts.host_trust) }
-    ensures user { IfOk result (λ end. end.user ≡ values.user) }
+    ensures agreement { IfOk result (λ end. end.role.exchange.agreement ≡ values.parts.agreement) }
+    ensures part { IfOk result (λ end. end.role.exchange.host_trust ≡ values.parts.host_trust) }
+    ensures user { IfOk result (λ end. end.role.user ≡ values.user) }
 {
     openings::<<P::Sealing as Sealing>::Key>();
     let (config, parts, user, cookie, secret) = values.into_parts();
     is_material(&cookie, &secret);
     note_line(alloc, log, Side::Client, config.line())?;
-    let end = ClientEnd::new(alloc, config, parts, user, cookie, secret, out)?;
-    note_sent(alloc, log, Side::Client, &end.turn().sent)?;
+    let begun = ClientEnd::new(alloc, config, parts, user, cookie, secret, out)?;
+    let end = noted(alloc, log, Side::Client, begun)?;
     Ok(end)
 }
 
@@ -106,7 +105,7 @@ pub(crate) fn ask_client<P: ClientParts, U: UserSigner + Drop>(
     out: &mut Vec<u8>,
 ) -> Result<(), AllocError>
     ensures answers { OnOk result ((p : Parties P.Sealing.Key) (lines : Option (List ℕ)) (run : List session.Done) → ClientStands p (client_value P.Sealing.crypto P.Agreement.public_of P.Agreement.shared_of P.HostTrust.judged U.signature_of end.old lines) run → Answered p model.Client run (ask_of ask.now) (kept_bytes end.old.machine) (kept_bytes end.new.machine) (ClientStands p (client_value P.Sealing.crypto P.Agreement.public_of P.Agreement.shared_of P.HostTrust.judged U.signature_of end.new lines)) log.old.items log.new.items out.old.items out.new.items) }
-    ensures parts { SameClient end.old end.new }
+    ensures role { end.new.role ≡ end.old.role }
 {
     parts();
     asks::<<P::Sealing as Sealing>::Key>();
@@ -137,7 +136,7 @@ pub(crate) fn deliver_to_client<P: ClientParts, U: UserSigner + Drop>(
     out: &mut Vec<u8>,
 ) -> Result<(), AllocError>
     ensures advanced { OnOk result ((p : Parties P.Sealing.Key) (run : List session.Done) → ClientStands p (client_value P.Sealing.crypto P.Agreement.public_of P.Agreement.shared_of P.HostTrust.judged U.signature_of end.old lines.old) run → Advanced p model.Client run piece.now (kept_bytes end.old.machine) (kept_bytes end.new.machine) (ClientStands p (client_value P.Sealing.crypto P.Agreement.public_of P.Agreement.shared_of P.HostTrust.judged U.signature_of end.new lines.new)) log.old.items log.new.items out.old.items out.new.items) }
-    ensures parts { SameClient end.old end.new }
+    ensures role { end.new.role ≡ end.old.role }
     ensures live { OnOk result (Stands model.Client end.new.machine) }
 {
     parts();
@@ -166,7 +165,7 @@ fn advance_client<P: ClientParts, U: UserSigner + Drop>(
     ensures used { IfOk result (λ used. used ≤ length bytes.now) }
     ensures progress { IfOk result (λ used. 0 < length bytes.now → 0 < used) }
     ensures advanced { IfOk result (λ used. (p : Parties P.Sealing.Key) (run : List session.Done) → ClientStands p (client_value P.Sealing.crypto P.Agreement.public_of P.Agreement.shared_of P.HostTrust.judged U.signature_of end.old lines.old) run → Advanced p model.Client run (take used bytes.now) (kept_bytes end.old.machine) (kept_bytes end.new.machine) (ClientStands p (client_value P.Sealing.crypto P.Agreement.public_of P.Agreement.shared_of P.HostTrust.judged U.signature_of end.new lines.new)) log.old.items log.new.items out.old.items out.new.items) }
-    ensures parts { SameClient end.old end.new }
+    ensures role { end.new.role ≡ end.old.role }
 {
     parts();
     deliveries::<<P::Sealing as Sealing>::Key>();

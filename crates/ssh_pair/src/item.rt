@@ -9,7 +9,7 @@ use std::alloc::Global;
 
 /// What an end did. A payload is a whole message (RFC 4253 section 6); a channel goes by the end's own number, where the message belongs
 /// to one.
-#[derive(Debug, Drop)]
+#[derive(Debug, PartialEq, Eq, Drop)]
 pub enum Item {
     /// It was asked for this.
     Asked(AskKind),
@@ -40,7 +40,7 @@ pub enum Item {
 }
 
 /// What an end did, and which end it was.
-#[derive(Debug, Drop)]
+#[derive(Debug, PartialEq, Eq, Drop)]
 pub struct Done {
     pub side: Side,
     pub item: Item,

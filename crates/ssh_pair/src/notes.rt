@@ -1,6 +1,6 @@
 //! What an end did, noted for a transcript.
 
-ghost use Rattle.std.specs.Prelude.{◌∷◌, ◌≡◌, List, OnOk, [], option_map};
+ghost use Rattle.std.specs.Prelude.{◌∷◌, ◌≡◌, IfOk, List, OnOk, [], option_map};
 ghost use Rattle.ssh_model.specs.Wire.Message.{Msg};
 ghost use Rattle.ssh_model.specs.Side.{DoneBy.By};
 ghost use Rattle.ssh_model.specs.Sessions.Items as session;
@@ -16,7 +16,7 @@ use crate::ask_kind::AskKind;
 use crate::fact::Fact;
 use crate::item::{Done, Item};
 use crate::lines::Lines;
-use ssh_end::{Ask, AskStep, Fault, SentPayloads, Told, Took, Turn};
+use ssh_end::{Ask, AskStep, End, EndRole, Fault, SentPayloads, Told, Took, Turn};
 use ssh_types::{Refusal, Side};
 use std::alloc::{AllocError, Global};
 
@@ -86,8 +86,22 @@ fn note_refused(log: &mut Vec<Done>, side: Side, refused: Option<Refusal>) -> Re
     }
 }
 
+// The end, once what it sent in its last turn is noted.
+pub(crate) fn noted<R: EndRole>(
+    alloc: Global,
+    log: &mut Vec<Done>,
+    side: Side,
+    end: End<R>,
+) -> Result<End<R>, AllocError>
+    ensures same { IfOk result (λ given. given ≡ end) }
+    ensures notes { OnOk result (AddsSent (side_of side) end.sent end.channels log.old.items log.new.items) }
+{
+    note_sent(alloc, log, side, &end.turn().sent)?;
+    Ok(end)
+}
+
 // Notes what was sent.
-pub(crate) fn note_sent(
+fn note_sent(
     alloc: Global,
     log: &mut Vec<Done>,
     side: Side,

@@ -8,7 +8,7 @@ ghost use Rattle.ssh_types.specs.Sides.{side_of};
 ghost use Rattle.ssh_transport_base.specs.Meaning.{settings_of};
 ghost use Rattle.ssh_end.specs.Asking.{ask_of};
 ghost use Rattle.ssh_pair.specs.Playing.{PairFed, PairOpens, Played, PlaysOne, event_of, events_of};
-ghost use Rattle.ssh_pair.specs.Standing.{AreOfClient, AreOfServer, PairStands, SameParts, client_value, server_value};
+ghost use Rattle.ssh_pair.specs.Standing.{AreOfClient, AreOfServer, HasClientParts, HasServerParts, PairStands, SameParts, client_value, server_value};
 
 use crate::client::{ClientValues, ask_client, deliver_to_client, open_client};
 use crate::event::Event;
@@ -52,10 +52,14 @@ impl<
     V: ServerParts<Sealing = S>,
     J: UserJudge + Drop,
 > Model for Pair<S, C, U, V, J> {
-    ghost use Rattle.ssh_end.specs.Ends.{ClientState, ServerState};
+    ghost use Rattle.ssh_end.specs.Ends.{EndValue};
+    ghost use Rattle.ssh_end.specs.declared.client_role.ClientRole.{ClientRole};
+    ghost use Rattle.ssh_end.specs.declared.server_role.ServerRole.{ServerRole};
+    ghost use Rattle.ssh_layers.specs.ClientLayers as of_client;
+    ghost use Rattle.ssh_layers.specs.Layers as of_server;
     ghost use Rattle.ssh_pair.specs.Standing.{PairState};
 
-    ghost Value = { PairState (ClientState S.Key C.Agreement C.HostTrust U) (ServerState S.Key V.Agreement V.HostSigner J) };
+    ghost Value = { PairState (EndValue S.Key (ClientRole C U S C.Filler C.Agreement C.HostTrust S.Key) of_client.Layers) (EndValue S.Key (ServerRole V J S V.Filler V.Agreement V.HostSigner S.Key) of_server.Layers) };
 
     ghost view = { λ pair. record { client = pair.client; server = pair.server; client_lines = pair.client_lines; server_lines = pair.server_lines; failed = pair.failed } };
 }
@@ -86,7 +90,8 @@ impl<
     V: ServerParts<Sealing = S>,
     J: UserJudge + Drop,
 > Pair<S, C, U, V, J> {
-    /// Two ends that put out their version lines and first KEXINITs (RFC 4253 sections 4.2 and 7.1), and what they did.
+    /// Two ends that put out their version lines and first KEXINITs (RFC 4253 sections 4.2 and 7.1), and what they did. Each has the parts, the
+    /// user, and the pair of cookie and secret that were handed in for it.
     ///
     /// # Errors
     ///
@@ -97,11 +102,14 @@ impl<
         server: ServerValues<V, J>,
     ) -> Result<(Pair<S, C, U, V, J>, Transcript), AllocError>
         ensures opens { IfOk result (λ r. (p : Parties S.Key) → AreOfClient p (client_value S.crypto C.Agreement.public_of C.Agreement.shared_of C.HostTrust.judged U.signature_of r.0.client r.0.client_lines).functions → AreOfServer p (server_value S.crypto V.Agreement.public_of V.Agreement.shared_of V.HostSigner.key_of V.HostSigner.signature_of J.verdicts r.0.server r.0.server_lines).functions → p.client ≡ settings_of client.config → p.server ≡ settings_of server.config →
-            PairOpens p (record { client = client_value S.crypto C.Agreement.public_of C.Agreement.shared_of C.HostTrust.judged U.signature_of r.0.client r.0.client_lines; server = server_value S.crypto V.Agreement.public_of V.Agreement.shared_of V.HostSigner.key_of V.HostSigner.signature_of J.verdicts r.0.server r.0.server_lines }) r.1.items.items r.1.client_bytes.items r.1.server_bytes.items) }
+            PairOpens p (record { cookie = client.cookie; secret = client.secret }) (record { cookie = server.cookie; secret = server.secret }) (record { client = client_value S.crypto C.Agreement.public_of C.Agreement.shared_of C.HostTrust.judged U.signature_of r.0.client r.0.client_lines; server = server_value S.crypto V.Agreement.public_of V.Agreement.shared_of V.HostSigner.key_of V.HostSigner.signature_of J.verdicts r.0.server r.0.server_lines }) r.1.items.items r.1.client_bytes.items r.1.server_bytes.items) }
         ensures fine { IfOk result (λ r. r.0.failed ≡ false) }
+        ensures client_parts { IfOk result (λ r. HasClientParts client.parts.agreement client.parts.host_trust client.user r.0.client) }
+        ensures server_parts { IfOk result (λ r. HasServerParts server.parts.agreement server.parts.host_signer server.user r.0.server) }
     {
         parts();
         openings::<S::Key>();
+        safety::<S::Key>();
         runs_of_each_end::<S::Key>();
         settings_fit(&client.config);
         settings_fit(&server.config);
@@ -163,13 +171,13 @@ impl<
     }
 
     /// Hands an end a fresh pair of cookie and secret for its next exchange of keys. It answers `false` and changes nothing where the end
-    /// keeps a pair, was fed 2^32 - 1 of them, or is over, and where this pair of ends has failed. It needs no memory.
+    /// keeps a pair, was fed 2^32 - 1 of them, or is over, and where this pair of ends has failed; else `true`. It needs no memory.
     pub fn feed(&mut self, side: Side, cookie: [u8; 16], secret: [u8; 32]) -> bool
         ensures failed { self.old.failed ≡ true → result ≡ false }
         ensures still { self.new.failed ≡ self.old.failed }
         ensures unchanged { result ≡ false → self.new ≡ self.old }
         ensures parts { SameParts self.old self.new }
-        ensures fed { self.old.failed ≡ false → (p : Parties S.Key) (w : World) → PairStands p w (record { client = client_value S.crypto C.Agreement.public_of C.Agreement.shared_of C.HostTrust.judged U.signature_of self.old.client self.old.client_lines; server = server_value S.crypto V.Agreement.public_of V.Agreement.shared_of V.HostSigner.key_of V.HostSigner.signature_of J.verdicts self.old.server self.old.server_lines }) → PairFed p w (session.Feeds (side_of side) cookie secret) (record { client = client_value S.crypto C.Agreement.public_of C.Agreement.shared_of C.HostTrust.judged U.signature_of self.new.client self.new.client_lines; server = server_value S.crypto V.Agreement.public_of V.Agreement.shared_of V.HostSigner.key_of V.HostSigner.signature_of J.verdicts self.new.server self.new.server_lines }) }
+        ensures fed { self.old.failed ≡ false → (p : Parties S.Key) (w : World) → PairStands p w (record { client = client_value S.crypto C.Agreement.public_of C.Agreement.shared_of C.HostTrust.judged U.signature_of self.old.client self.old.client_lines; server = server_value S.crypto V.Agreement.public_of V.Agreement.shared_of V.HostSigner.key_of V.HostSigner.signature_of J.verdicts self.old.server self.old.server_lines }) → PairFed p w (side_of side) (record { cookie = cookie; secret = secret }) result (record { client = client_value S.crypto C.Agreement.public_of C.Agreement.shared_of C.HostTrust.judged U.signature_of self.new.client self.new.client_lines; server = server_value S.crypto V.Agreement.public_of V.Agreement.shared_of V.HostSigner.key_of V.HostSigner.signature_of J.verdicts self.new.server self.new.server_lines }) }
     {
         parts();
         feeds::<S::Key>();

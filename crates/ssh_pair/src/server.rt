@@ -7,7 +7,6 @@ ghost use Rattle.ssh_model.specs.Sessions.Parties.{Parties};
 ghost use Rattle.ssh_transport_machine.specs.Standing.{Stands};
 ghost use Rattle.ssh_transport_base.specs.Meaning.{settings_of};
 ghost use Rattle.ssh_end.specs.Asking.{ask_of};
-ghost use Rattle.ssh_end.specs.Ends.{SameServer};
 ghost use Rattle.ssh_layers.specs.Sessions.{AreOf, end_of};
 ghost use Rattle.ssh_end.specs.Reading.{IsReading};
 ghost use Rattle.ssh_pair.specs.Playing.{Advanced, Answered, Opens};
@@ -16,7 +15,7 @@ ghost use Rattle.ssh_pair.specs.Standing.{ServerStands, server_value, kept_bytes
 use crate::item::Done;
 use crate::lines::Lines;
 use crate::material::is_material;
-use crate::notes::{note_ask, note_death, note_line, note_sent, note_turn};
+use crate::notes::{note_ask, note_death, note_line, note_turn, noted};
 use ssh_auth::UserJudge;
 use ssh_end::turn_laws::{servers_deaths, servers_turns, turns_channels};
 use ssh_end::{Ask, ServerEnd};
@@ -80,21 +79,21 @@ pub(crate) fn open_server<P: ServerParts, U: UserJudge + Drop>(
     log: &mut Vec<Done>,
     out: &mut Vec<u8>,
 ) -> Result<ServerEnd<P, U>, AllocError>
-    ensures opens { IfOk result (λ end. (p : Parties P.Sealing.Key) → p.crypto ≡ P.Sealing.crypto → p.server ≡ settings_of values.config → Opens p model.Server (end_of end.machine.kept end.layers) log.old.items log.new.items out.old.items out.new.items) }
+    ensures opens { IfOk result (λ end. (p : Parties P.Sealing.Key) → p.crypto ≡ P.Sealing.crypto → p.server ≡ settings_of values.config → Opens p model.Server (record { cookie = values.cookie; secret = values.secret }) (end_of end.machine.kept end.layers) log.old.items log.new.items out.old.items out.new.items) }
     ensures reading { IfOk result (λ end. IsReading P.Sealing.crypto end.machine) }
     ensures begun { IfOk result (λ end. kept_bytes end.machine ≡ []) }
     ensures alive { IfOk result (λ end. end.machine.kept.dead ≡ false) }
     ensures layers { IfOk result (λ end. (p : Parties P.Sealing.Key) → p.server ≡ settings_of values.config → AreOf p end.layers) }
-    ensures agreement { IfOk result (λ end. end.agreement ≡ values.parts.agreement) }
-    ensures part { IfOk result (λ end. end.host_signer ≡ values.parts.host_signer) }
-    ensures user { IfOk result (λ end. end.user ≡ values.user) }
+    ensures agreement { IfOk result (λ end. end.role.exchange.agreement ≡ values.parts.agreement) }
+    ensures part { IfOk result (λ end. end.role.exchange.host_signer ≡ values.parts.host_signer) }
+    ensures user { IfOk result (λ end. end.role.user ≡ values.user) }
 {
     openings::<<P::Sealing as Sealing>::Key>();
     let (config, parts, user, cookie, secret) = values.into_parts();
     is_material(&cookie, &secret);
     note_line(alloc, log, Side::Server, config.line())?;
-    let end = ServerEnd::new(alloc, config, parts, user, cookie, secret, out)?;
-    note_sent(alloc, log, Side::Server, &end.turn().sent)?;
+    let begun = ServerEnd::new(alloc, config, parts, user, cookie, secret, out)?;
+    let end = noted(alloc, log, Side::Server, begun)?;
     Ok(end)
 }
 
@@ -107,7 +106,7 @@ pub(crate) fn ask_server<P: ServerParts, U: UserJudge + Drop>(
     out: &mut Vec<u8>,
 ) -> Result<(), AllocError>
     ensures answers { OnOk result ((p : Parties P.Sealing.Key) (lines : Option (List ℕ)) (run : List session.Done) → ServerStands p (server_value P.Sealing.crypto P.Agreement.public_of P.Agreement.shared_of P.HostSigner.key_of P.HostSigner.signature_of U.verdicts end.old lines) run → Answered p model.Server run (ask_of ask.now) (kept_bytes end.old.machine) (kept_bytes end.new.machine) (ServerStands p (server_value P.Sealing.crypto P.Agreement.public_of P.Agreement.shared_of P.HostSigner.key_of P.HostSigner.signature_of U.verdicts end.new lines)) log.old.items log.new.items out.old.items out.new.items) }
-    ensures parts { SameServer end.old end.new }
+    ensures role { end.new.role ≡ end.old.role }
 {
     parts();
     asks::<<P::Sealing as Sealing>::Key>();
@@ -138,7 +137,7 @@ pub(crate) fn deliver_to_server<P: ServerParts, U: UserJudge + Drop>(
     out: &mut Vec<u8>,
 ) -> Result<(), AllocError>
     ensures advanced { OnOk result ((p : Parties P.Sealing.Key) (run : List session.Done) → ServerStands p (server_value P.Sealing.crypto P.Agreement.public_of P.Agreement.shared_of P.HostSigner.key_of P.HostSigner.signature_of U.verdicts end.old lines.old) run → Advanced p model.Server run piece.now (kept_bytes end.old.machine) (kept_bytes end.new.machine) (ServerStands p (server_value P.Sealing.crypto P.Agreement.public_of P.Agreement.shared_of P.HostSigner.key_of P.HostSigner.signature_of U.verdicts end.new lines.new)) log.old.items log.new.items out.old.items out.new.items) }
-    ensures parts { SameServer end.old end.new }
+    ensures role { end.new.role ≡ end.old.role }
     ensures live { OnOk result (Stands model.Server end.new.machine) }
 {
     parts();
@@ -167,7 +166,7 @@ fn advance_server<P: ServerParts, U: UserJudge + Drop>(
     ensures used { IfOk result (λ used. used ≤ length bytes.now) }
     ensures progress { IfOk result (λ used. 0 < length bytes.now → 0 < used) }
     ensures advanced { IfOk result (λ used. (p : Parties P.Sealing.Key) (run : List session.Done) → ServerStands p (server_value P.Sealing.crypto P.Agreement.public_of P.Agreement.shared_of P.HostSigner.key_of P.HostSigner.signature_of U.verdicts end.old lines.old) run → Advanced p model.Server run (take used bytes.now) (kept_bytes end.old.machine) (kept_bytes end.new.machine) (ServerStands p (server_value P.Sealing.crypto P.Agreement.public_of P.Agreement.shared_of P.HostSigner.key_of P.HostSigner.signature_of U.verdicts end.new lines.new)) log.old.items log.new.items out.old.items out.new.items) }
-    ensures parts { SameServer end.old end.new }
+    ensures role { end.new.role ≡ end.old.role }
 {
     parts();
     deliveries::<<P::Sealing as Sealing>::Key>();

@@ -27,6 +27,10 @@ impl Drop for ToyEnd {
 
 impl ToyEnd {
     /// The end of a side, behind what it put out.
+    ///
+    /// # Errors
+    ///
+    /// Only where memory is refused.
     pub fn new(alloc: Global, side: Side, out: &mut Vec<u8>) -> Result<ToyEnd, AllocError> {
         match side {
             Side::Client => Ok(ToyEnd::Client(client(alloc, out)?)),
@@ -35,6 +39,10 @@ impl ToyEnd {
     }
 
     /// Takes bytes to the end of one line or packet, and shows what was done.
+    ///
+    /// # Errors
+    ///
+    /// Those of `ServerEnd::take` and `ClientEnd::take`.
     pub fn take<'a>(&'a mut self, bytes: &[u8], out: &mut Vec<u8>) -> Result<Turn<'a>, Fault> {
         match self {
             ToyEnd::Client(end) => end.take(bytes, out),
@@ -51,6 +59,10 @@ impl ToyEnd {
     }
 
     /// Does what is asked for.
+    ///
+    /// # Errors
+    ///
+    /// Those of `ServerEnd::ask` and `ClientEnd::ask`.
     pub fn ask<'a>(&'a mut self, ask: &Ask<'_>, out: &mut Vec<u8>) -> Result<Turn<'a>, Fault> {
         match self {
             ToyEnd::Client(end) => end.ask(ask, out),

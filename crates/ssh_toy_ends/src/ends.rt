@@ -25,6 +25,10 @@ pub struct ToyEnds {
 
 impl ToyEnds {
     /// Both ends, which have put out their lines and KEXINITs.
+    ///
+    /// # Errors
+    ///
+    /// Only where memory is refused.
     pub fn new(alloc: Global) -> Result<ToyEnds, AllocError> {
         let mut from_client = Vec::new(alloc);
         let mut from_server = Vec::new(alloc);
@@ -39,6 +43,10 @@ impl ToyEnds {
     }
 
     /// The first exchange of keys, the user let in, and the channel 0 with windows of 2^32 - 1 bytes.
+    ///
+    /// # Errors
+    ///
+    /// The first fault of an end.
     pub fn begin(&mut self) -> Result<(), Fault> {
         self.pass()?;
         self.pass()?;
@@ -69,6 +77,10 @@ impl ToyEnds {
     }
 
     /// An end is asked for something.
+    ///
+    /// # Errors
+    ///
+    /// The first fault of an end.
     pub fn ask(&mut self, side: Side, ask: &Ask<'_>) -> Result<(), Fault> {
         match side {
             Side::Client => {
@@ -82,6 +94,10 @@ impl ToyEnds {
     }
 
     /// An end sends data on the channel 0.
+    ///
+    /// # Errors
+    ///
+    /// The first fault of an end.
     pub fn send(&mut self, from: Side, body: &[u8]) -> Result<(), Fault> {
         let data = ChannelAsk::Data {
             channel: 0,
@@ -92,6 +108,10 @@ impl ToyEnds {
     }
 
     /// What each put out reaches the other, the server first.
+    ///
+    /// # Errors
+    ///
+    /// The first fault of an end.
     pub fn pass(&mut self) -> Result<(), Fault> {
         self.take(Side::Server)?;
         self.take(Side::Client)?;
@@ -99,6 +119,10 @@ impl ToyEnds {
     }
 
     /// An end takes all that the other put out, and answers how many lines and packets it was.
+    ///
+    /// # Errors
+    ///
+    /// The first fault of an end.
     pub fn take(&mut self, side: Side) -> Result<usize, Fault> {
         match side {
             Side::Client => take_all(

@@ -23,6 +23,10 @@ pub const fn settings(software: &[u8]) -> Settings<'_> {
 }
 
 /// What an end of these settings is configured by. Settings that are refused count as want of memory.
+///
+/// # Errors
+///
+/// Only where memory is refused.
 pub fn config(alloc: Global, settings: &Settings<'_>) -> Result<Config<MacOnly>, AllocError> {
     match Config::<MacOnly>::new(alloc, settings) {
         Ok(config) => Ok(config),

@@ -37,6 +37,10 @@ impl Drop for ToyTransport {
 
 impl ToyTransport {
     /// The transport of a side, behind what it put out and sent. Settings that are refused count as want of memory.
+    ///
+    /// # Errors
+    ///
+    /// Only where memory is refused.
     pub fn new(
         alloc: Global,
         side: Side,
@@ -51,6 +55,10 @@ impl ToyTransport {
     }
 
     /// Takes bytes to the end of one line or packet.
+    ///
+    /// # Errors
+    ///
+    /// Those of `ServerTransport::take` and `ClientTransport::take`.
     pub fn take(
         &mut self,
         bytes: &[u8],
@@ -64,6 +72,10 @@ impl ToyTransport {
     }
 
     /// Does what is asked for.
+    ///
+    /// # Errors
+    ///
+    /// Those of `ServerTransport::ask` and `ClientTransport::ask`.
     pub fn ask(
         &mut self,
         ask: TransportAsk<'_>,
@@ -79,6 +91,10 @@ impl ToyTransport {
     }
 
     /// The payload of a message of a layer above.
+    ///
+    /// # Errors
+    ///
+    /// Only where memory is refused.
     pub fn spell(&self, message: &Message<'_>) -> Result<Vec<u8>, AllocError>
         requires fits { Fits message.now }
         requires context { FitsContext true (meaning message.now) }
@@ -91,6 +107,10 @@ impl ToyTransport {
     }
 
     /// Sends a payload of a layer above.
+    ///
+    /// # Errors
+    ///
+    /// Those of `ServerTransport::send` and `ClientTransport::send`.
     pub fn send(
         &mut self,
         payload: Vec<u8>,
@@ -107,6 +127,10 @@ impl ToyTransport {
     }
 
     /// Refuses the peer for what a layer above took of it.
+    ///
+    /// # Errors
+    ///
+    /// Those of `ServerTransport::refuse` and `ClientTransport::refuse`.
     pub fn refuse(
         &mut self,
         refusal: Refusal,

@@ -20,7 +20,7 @@ const MAC: &[&[u8]] = &[b"hmac-sha2-256"];
 
 const METHODS: &[&[u8]] = &[b"publickey", b"password"];
 
-// Settings that are good.
+/// Settings that are good.
 pub fn good() -> Settings<'static> {
     Settings {
         software: b"x",

@@ -30,6 +30,10 @@ pub struct Incoming {
 
 impl Incoming {
     /// A stream of which nothing came. It reserves the 35,000 bytes that a packet may have, the only memory that it takes.
+    ///
+    /// # Errors
+    ///
+    /// Only where memory is refused.
     pub fn new(alloc: Global) -> Result<Incoming, AllocError> {
         Ok(Incoming {
             lines: LineReader::new(true),

@@ -22,8 +22,11 @@ pub struct Agreed<'a> {
     pub session: &'a [u8; 32],
 }
 
-// The key of the direction from this side (RFC 4253 section 7.2), for names that the sealing knows. It fails only where memory
-// is refused.
+/// The key of the direction from this side (RFC 4253 section 7.2), for names that the sealing knows.
+///
+/// # Errors
+///
+/// Only where memory is refused.
 pub fn key_from<S: Sealing>(
     alloc: Global,
     from: Side,

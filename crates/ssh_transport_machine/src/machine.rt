@@ -145,7 +145,7 @@ impl<S: Sealing, F: Filler + Drop> Drop for Machine<S, F> {
 }
 
 impl<S: Sealing, F: Filler + Drop> Machine<S, F> {
-    // Takes bytes to the end of one line. It needs no memory.
+    /// Takes bytes to the end of one line. It needs no memory.
     pub fn take_line(&mut self, bytes: &[u8]) -> (usize, LineTurn)
         requires { self.old.reading.ended ≡ None }
         ensures used { result.0 ≤ length bytes.now }
@@ -165,14 +165,14 @@ impl<S: Sealing, F: Filler + Drop> Machine<S, F> {
         }
     }
 
-    // Tests whether the end is over.
+    /// Tests whether the end is over.
     pub fn is_dead(&self) -> bool
         ensures { result ≡ self.now.kept.dead }
     {
         self.dead
     }
 
-    // The end is over.
+    /// The end is over.
     pub fn die(&mut self)
         ensures { self.new ≡ dead_state self.old }
     {

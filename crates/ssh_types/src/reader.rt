@@ -57,6 +57,8 @@ impl<'a> Reader<'a> {
 
     /// Reads a byte.
     ///
+    /// # Errors
+    ///
     /// `Short` where no byte is left.
     pub fn u8(&mut self) -> Result<u8, ReadRefusal>
         ensures found { IfOk result (λ n. Reads (IsByte n) self.old self.new) }
@@ -68,6 +70,8 @@ impl<'a> Reader<'a> {
 
     /// Reads a truth value of one byte: 0 is false, and every other byte is true.
     ///
+    /// # Errors
+    ///
     /// `Short` where no byte is left.
     pub fn boolean(&mut self) -> Result<bool, ReadRefusal>
         ensures found { IfOk result (λ truth. Reads (IsBoolean truth) self.old self.new) }
@@ -78,6 +82,8 @@ impl<'a> Reader<'a> {
     }
 
     /// Reads a uint32: four bytes, the most significant first.
+    ///
+    /// # Errors
     ///
     /// `Short` where fewer than four bytes are left.
     pub fn u32(&mut self) -> Result<u32, ReadRefusal>
@@ -91,6 +97,8 @@ impl<'a> Reader<'a> {
 
     /// Reads a uint64: eight bytes, the most significant first.
     ///
+    /// # Errors
+    ///
     /// `Short` where fewer than eight bytes are left.
     pub fn u64(&mut self) -> Result<u64, ReadRefusal>
         ensures found { IfOk result (λ n. Reads (IsUint64 n) self.old self.new) }
@@ -102,6 +110,8 @@ impl<'a> Reader<'a> {
     }
 
     /// Reads a string: a uint32 length and that many bytes, which may be any.
+    ///
+    /// # Errors
     ///
     /// `Short` where the length or the bytes after it aren't all there.
     #[tactic(auto, using(crate::proofs::Fronts::no_string_short, crate::proofs::Fronts::no_string_long, crate::proofs::Fronts::reads_string))]
@@ -118,6 +128,8 @@ impl<'a> Reader<'a> {
     }
 
     /// Reads an mpint: a whole number of any size in two's complement, as a string.
+    ///
+    /// # Errors
     ///
     /// `Short` where no whole string is there, and `NotCanonical` where one is there whose bytes are not the shortest of
     /// their number: an unnecessary 0 or 255 stands in front.
@@ -138,6 +150,8 @@ impl<'a> Reader<'a> {
     }
 
     /// Reads a name-list: names joined by commas, as a string. The empty string is the empty list.
+    ///
+    /// # Errors
     ///
     /// `Short` where no whole string is there, and `BadNames` where one is there and a part of it between commas is no
     /// name.
@@ -168,6 +182,8 @@ impl<'a> Reader<'a> {
     }
 
     /// Tests that nothing is left. The reader is unchanged either way.
+    ///
+    /// # Errors
     ///
     /// `LeftOver` where bytes are left.
     pub fn end(&mut self) -> Result<(), ReadRefusal>

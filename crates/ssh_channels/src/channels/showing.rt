@@ -20,7 +20,8 @@ impl Channels {
         self.kept_state(channel)
     }
 
-    /// The window left for data of this end; `None` where the channel is not confirmed, or the peer closed it.
+    /// The window left for data of this end; `None` where the channel is not confirmed. It is shown, and can't be used, while a CLOSE
+    /// is owed on the channel.
     pub fn room(&self, channel: u32) -> Option<u32>
         ensures kept { result ≡ shown_room (at self.now.places channel) }
         ensures in_session { IsRoomInSession self.now channel result }
@@ -67,7 +68,7 @@ impl Channels {
         ensures { result ≡ shown_room (at self.now.places channel) }
     {
         match self.table.get(channel) {
-            Some(entry) if entry.is_open() => Some(entry.send_window),
+            Some(entry) if entry.is_answered => Some(entry.send_window),
             _ => None,
         }
     }

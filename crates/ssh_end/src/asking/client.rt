@@ -18,7 +18,13 @@ use ssh_model::end::asks;
 use ssh_packet::{Filler, Sealing};
 use ssh_transport_machine::{Machine, TransportAsk};
 
-// Does what a client is asked for, as an end of a session does.
+/// Does what a client is asked for, as an end of a session does.
+///
+/// # Errors
+///
+/// - `Ask`: the ask is refused, by the first refusal that holds. Nothing changes.
+/// - `Memory`: memory was refused. Nothing is put out, and the end is over.
+/// - `Dead`: the end was over before. Nothing changes.
 pub fn ask_client<S: Sealing, F: Filler + Drop, U: UserSigner>(
     machine: &mut Machine<S, F>,
     layers: &mut ClientLayers,

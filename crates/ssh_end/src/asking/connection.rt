@@ -20,7 +20,13 @@ use ssh_layers::{Below, ask_channels};
 use ssh_packet::{Filler, Sealing};
 use ssh_transport_machine::{Answer, Machine, TransportAsk};
 
-// Asks channels for a message, and sends it. Where memory is refused nothing is put out, and the end is over.
+/// Asks channels for a message, and sends it.
+///
+/// # Errors
+///
+/// - `Ask`: the ask is refused, by the first refusal that holds. Nothing changes.
+/// - `Memory`: memory was refused. Nothing is put out, and the end is over.
+/// - `Dead`: the end was over before. Nothing changes.
 pub fn ask_connection<S: Sealing, F: Filler + Drop>(
     machine: &mut Machine<S, F>,
     channels: &mut Channels,

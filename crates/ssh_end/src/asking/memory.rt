@@ -11,7 +11,12 @@ use crate::asking::outcome::{AskStep, Fault, step_of};
 use ssh_packet::{Filler, Sealing};
 use ssh_transport_machine::{Answer, Machine};
 
-// A layer above got no memory for what it would send. The end is over, and where no number is left for that, for want of one.
+/// A layer above got no memory for what it would send. The end is over, and where no number is left for that, for want of one.
+///
+/// # Errors
+///
+/// - `Memory`: a number is left for what would be sent.
+/// - `Dead`: the end was over before.
 pub fn lack_memory<S: Sealing, F: Filler + Drop>(
     machine: &mut Machine<S, F>,
 ) -> Result<AskStep, Fault>

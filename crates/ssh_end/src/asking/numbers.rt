@@ -8,7 +8,7 @@ ghost use Rattle.ssh_end.specs.Asking.{AsksUint32s, HasRecipient, HasUint32s};
 use ssh_channels::Ask;
 use ssh_message::Message;
 
-// The numbers with which a channel is opened.
+/// The numbers with which a channel is opened.
 pub fn ask_numbers(ask: &Ask<'_>)
     ensures { AsksUint32s (ask_of ask.now) }
 {
@@ -23,7 +23,7 @@ pub fn ask_numbers(ask: &Ask<'_>)
     }
 }
 
-// The numbers of a message of the connection, but for its recipient.
+/// The numbers of a message of the connection, but for its recipient.
 pub fn message_numbers(message: &Message<'_>)
     ensures { HasUint32s (meaning message.now) }
 {
@@ -55,7 +55,7 @@ pub fn message_numbers(message: &Message<'_>)
     }
 }
 
-// The recipient of a message of the connection.
+/// The recipient of a message of the connection.
 pub fn recipient_number(message: &Message<'_>)
     ensures { HasRecipient (meaning message.now) }
 {

@@ -46,7 +46,7 @@ impl From<TransportFault> for Fault {
     }
 }
 
-// The step of what belongs to no channel.
+/// The step of what belongs to no channel.
 pub fn step_of(answer: Answer) -> AskStep
     ensures { result ≡ step_by answer }
 {

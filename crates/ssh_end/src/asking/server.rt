@@ -19,7 +19,13 @@ use ssh_packet::{Filler, Sealing};
 use ssh_transport_machine::{Machine, TransportAsk};
 use ssh_types::AskRefusal;
 
-// Does what a server is asked for, as an end of a session does.
+/// Does what a server is asked for, as an end of a session does.
+///
+/// # Errors
+///
+/// - `Ask`: the ask is refused, by the first refusal that holds. Nothing changes.
+/// - `Memory`: memory was refused. Nothing is put out, and the end is over.
+/// - `Dead`: the end was over before. Nothing changes.
 pub fn ask_server<S: Sealing, F: Filler + Drop>(
     machine: &mut Machine<S, F>,
     layers: &mut ServerLayers,

@@ -13,7 +13,13 @@ use ssh_packet::{Filler, Sealing};
 use ssh_transport_machine::standing::machines_stand;
 use ssh_transport_machine::{Answer, AskTurn, Machine, TransportAsk};
 
-// Does what is asked for a message of the transport. Where memory is refused nothing is put out, and the end is over.
+/// Does what is asked for a message of the transport.
+///
+/// # Errors
+///
+/// - `Ask`: the ask is refused, by the first refusal that holds. Nothing changes.
+/// - `Memory`: memory was refused. Nothing is put out, and the end is over.
+/// - `Dead`: the end was over before. Nothing changes.
 pub fn ask_transport<S: Sealing, F: Filler + Drop>(
     machine: &mut Machine<S, F>,
     ask: TransportAsk<'_>,
@@ -34,7 +40,13 @@ pub fn ask_transport<S: Sealing, F: Filler + Drop>(
     }
 }
 
-// Has the machine do what is asked for.
+/// Has the machine do what is asked for.
+///
+/// # Errors
+///
+/// - `Ask`: the ask is refused, by the first refusal that holds. Nothing changes.
+/// - `Memory`: memory was refused. Nothing is put out, and the end is over.
+/// - `Dead`: the end was over before. Nothing changes.
 pub fn ask_machine<S: Sealing, F: Filler + Drop>(
     machine: &mut Machine<S, F>,
     ask: TransportAsk<'_>,

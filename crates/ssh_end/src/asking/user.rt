@@ -16,7 +16,13 @@ use ssh_packet::{Filler, Sealing};
 use ssh_transport_machine::{Machine, TransportAsk};
 use ssh_types::AskRefusal;
 
-// Asks authentication for a request, and sends it. Where memory is refused nothing is put out, and the end is over.
+/// Asks authentication for a request, and sends it.
+///
+/// # Errors
+///
+/// - `Ask`: the ask is refused, by the first refusal that holds. Nothing changes.
+/// - `Memory`: memory was refused. Nothing is put out, and the end is over.
+/// - `Dead`: the end was over before. Nothing changes.
 pub fn ask_user<S: Sealing, F: Filler + Drop, U: UserSigner>(
     machine: &mut Machine<S, F>,
     client: &mut AuthClient,

@@ -19,6 +19,7 @@ use ssh_types::Side::{Client, Server};
 /// 11.1), or 0 where nothing is said.
 pub type Refused = (&'static [Stretch], Step<'static>, Side, &'static str, u32);
 
+/// What is refused, one way after another.
 pub const TABLE: &[Refused] = &[
     // Lines (RFC 4253 section 4.2).
     (

@@ -4,6 +4,7 @@ use crate::sessions::{CLOSE, CONFIRMATION, DATA, OPEN, REQUEST, SUCCESS};
 use crate::step::{Script, Step};
 use ssh_types::Side::{Client, Server};
 
+/// The first exchange of keys of two ends that offer strict key exchange.
 pub fn first() -> Script {
     const STEPS: Script = &[
         (
@@ -27,6 +28,7 @@ pub fn first() -> Script {
     STEPS
 }
 
+/// The first exchange of keys of two ends that offer no strict key exchange.
 pub fn plain_first() -> Script {
     const STEPS: Script = &[
         (
@@ -50,6 +52,7 @@ pub fn plain_first() -> Script {
     STEPS
 }
 
+/// The client asks for the service of authentication, and is granted it.
 pub fn service() -> Script {
     const STEPS: Script = &[
         (
@@ -68,6 +71,7 @@ pub fn service() -> Script {
     STEPS
 }
 
+/// The user is authenticated.
 pub fn authentication() -> Script {
     const STEPS: Script = &[
         (
@@ -92,6 +96,7 @@ pub fn authentication() -> Script {
     STEPS
 }
 
+/// A channel is opened and confirmed.
 pub fn channel() -> Script {
     const STEPS: Script = &[
         (
@@ -111,6 +116,7 @@ pub fn channel() -> Script {
     STEPS
 }
 
+/// Data go both ways, and the channel is closed.
 pub fn data_and_close() -> Script {
     const STEPS: Script = &[
         (
@@ -132,6 +138,7 @@ pub fn data_and_close() -> Script {
     STEPS
 }
 
+/// Each end is fed a pair of cookie and secret.
 pub fn feeds() -> Script {
     const STEPS: Script = &[
         (Step::Feed(Client, 0xa2), ""),
@@ -140,6 +147,7 @@ pub fn feeds() -> Script {
     STEPS
 }
 
+/// The second exchange of keys.
 pub fn second() -> Script {
     const STEPS: Script = &[
         (Step::Rekey(Client), "c asked rekey; c sent 20 KEXINIT 136"),
@@ -164,6 +172,7 @@ pub fn second() -> Script {
     STEPS
 }
 
+/// A message after the second exchange.
 pub fn behind() -> Script {
     const STEPS: Script = &[
         (
@@ -180,6 +189,7 @@ pub fn behind() -> Script {
     STEPS
 }
 
+/// An exchange of keys that the server begins.
 pub fn of_server() -> Script {
     const STEPS: Script = &[
         (Step::Feed(Client, 0xa2), ""),

@@ -6,6 +6,7 @@ use ssh_types::Side::{Client, Server};
 // The server sends one more, or one that was not asked for, or one right behind its second NEWKEYS.
 const EXTENSIONS: &[u8] = b"\x07\0\0\0\0";
 
+/// Both ends are told that the user is authenticated.
 pub fn authentication_of_any() -> Script {
     const STEPS: Script = &[
         (Step::Authenticated(Client), ""),
@@ -14,6 +15,7 @@ pub fn authentication_of_any() -> Script {
     STEPS
 }
 
+/// The first exchange of a server that announces its extensions.
 pub fn announced() -> Script {
     const STEPS: Script = &[
         (
@@ -38,6 +40,7 @@ pub fn announced() -> Script {
     STEPS
 }
 
+/// The first exchange of a client that did not ask for extensions.
 pub fn unasked() -> Script {
     const STEPS: Script = &[
         (
@@ -61,6 +64,7 @@ pub fn unasked() -> Script {
     STEPS
 }
 
+/// EXT_INFO at a place where none may come.
 pub fn too_many() -> Script {
     const STEPS: Script = &[
         (
@@ -75,6 +79,7 @@ pub fn too_many() -> Script {
     STEPS
 }
 
+/// The first exchange of a client that takes extensions which the server has none of.
 pub fn extended() -> Script {
     const STEPS: Script = &[
         (

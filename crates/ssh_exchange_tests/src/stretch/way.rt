@@ -3,6 +3,7 @@
 use crate::step::{Script, Step};
 use ssh_types::Side::{Client, Server};
 
+/// Both ends took each other's line.
 pub fn lines() -> Script {
     const STEPS: Script = &[
         (Step::Pass(Client, 11), "s took line 9"),
@@ -11,6 +12,7 @@ pub fn lines() -> Script {
     STEPS
 }
 
+/// The server took the client's KEXINIT, and awaits its point.
 pub fn at_server() -> Script {
     const STEPS: Script = &[(
         Step::PassAll(Client),
@@ -19,6 +21,7 @@ pub fn at_server() -> Script {
     STEPS
 }
 
+/// The client sent its point, and awaits the reply.
 pub fn at_client() -> Script {
     const STEPS: Script = &[
         (
@@ -33,6 +36,7 @@ pub fn at_client() -> Script {
     STEPS
 }
 
+/// The server answered the client's point, and awaits NEWKEYS.
 pub fn behind_point() -> Script {
     const STEPS: Script = &[(
         Step::PassAll(Client),
@@ -41,6 +45,7 @@ pub fn behind_point() -> Script {
     STEPS
 }
 
+/// The client took the reply, and awaits NEWKEYS.
 pub fn behind_reply() -> Script {
     const STEPS: Script = &[(
         Step::Pass(Server, 96),
@@ -49,6 +54,7 @@ pub fn behind_reply() -> Script {
     STEPS
 }
 
+/// The client began an exchange of keys, and the server awaits its point.
 pub fn rekey() -> Script {
     const STEPS: Script = &[
         (Step::Rekey(Client), "c asked rekey; c sent 20 KEXINIT 136"),
@@ -60,6 +66,7 @@ pub fn rekey() -> Script {
     STEPS
 }
 
+/// The client sent its point in that exchange, and awaits the reply.
 pub fn rekey_at_client() -> Script {
     const STEPS: Script = &[(
         Step::PassAll(Server),
@@ -68,6 +75,7 @@ pub fn rekey_at_client() -> Script {
     STEPS
 }
 
+/// The client asked for the service.
 pub fn asked() -> Script {
     const STEPS: Script = &[(
         Step::Service(Client),
@@ -76,16 +84,19 @@ pub fn asked() -> Script {
     STEPS
 }
 
+/// The client is fed a pair of cookie and secret.
 pub fn fed() -> Script {
     const STEPS: Script = &[(Step::Feed(Client, 0xa2), "")];
     STEPS
 }
 
+/// The client began an exchange of keys, of which the server knows nothing.
 pub fn begun() -> Script {
     const STEPS: Script = &[(Step::Rekey(Client), "c asked rekey; c sent 20 KEXINIT 136")];
     STEPS
 }
 
+/// The server completed a second exchange, and awaits NEWKEYS.
 pub fn later() -> Script {
     const STEPS: Script = &[
         (
@@ -105,6 +116,7 @@ pub fn later() -> Script {
     STEPS
 }
 
+/// The first exchange up to the reply: the client completed it, and awaits the server's NEWKEYS.
 pub fn slow() -> Script {
     const STEPS: Script = &[
         (

@@ -3,6 +3,7 @@
 
 use ssh_kex::ExchangeInputs;
 
+/// An exchange that was recorded: its inputs, and what has to come of them.
 #[derive(Clone, Copy)]
 pub struct Recorded {
     pub inputs: ExchangeInputs<'static>,
@@ -15,6 +16,7 @@ pub struct Recorded {
     pub encryption: &'static [u8],
 }
 
+/// The exchanges that were recorded, first ones and later ones.
 pub fn exchanges() -> [Recorded; 6] {
     [
         first_without_cipher(),

@@ -6,7 +6,7 @@ use ssh_packet::{HmacKey, MacOnly, PacketReader, ReadStep};
 use std::alloc::{AllocError, Global};
 use std::marker::Model;
 
-// A reader of packets under MAC keys.
+/// A reader of packets under MAC keys.
 #[derive(Drop)]
 pub struct Stream {
     reader: PacketReader,
@@ -25,18 +25,25 @@ impl Model for Stream {
 }
 
 impl Stream {
+    /// A stream of which no byte came.
+    ///
+    /// # Errors
+    ///
+    /// Only where memory is refused.
     pub fn new(alloc: Global) -> Result<Stream, AllocError> {
         Ok(Stream {
             reader: PacketReader::new(alloc)?,
         })
     }
 
+    /// Takes bytes to the end of one packet under this key and number, and answers how many.
     pub fn take(&mut self, key: &HmacKey, number: u32, bytes: &[u8]) -> (usize, ReadStep)
         ensures { result.0 ≤ length bytes.now }
     {
         self.reader.take::<MacOnly>(Some(key), number, bytes)
     }
 
+    /// The payload of the packet that was taken last.
     pub fn payload(&self) -> &[u8] {
         self.reader.payload()
     }

@@ -118,8 +118,8 @@ owed_elsewhere s h i l n = refl
 -- ---- what is shown
 
 module _ (s : Side) (h : List Item) (o : List channel.Item) (c : Channels) (has : SumsUp s h o c) where
-  pub room_shown : (x : ℕ) → shown_room (at c.places x) ≡ room (notes s h) x
-  room_shown x = ap shown_room (has.places x) ∙ sym (room_is s x (notes s h) o has.settled)
+  pub room_shown : (x : ℕ) → shown_room (at c.places x) ≡ room (notes s h) o x
+  room_shown x = ap shown_room (has.places x) ∙ sym (room_is s x (notes s h) o)
 
   pub count_shown : used c.places ≡ count (notes s h) o
   count_shown = count_is s h o c has

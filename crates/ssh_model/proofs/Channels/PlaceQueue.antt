@@ -195,25 +195,17 @@ module _ (s : Side) (x : ℕ) (n : List Note) (o : List Item) (a : AreOwed o n) 
 
 -- ---- what is shown
 
-pub room_is : (s : Side) (x : ℕ) (n : List Note) (o : List Item) → AreOwed o n → room n x ≡ shown_room (place s n o x)
-room_is s x n o a = go (place s n o x) refl (confirmed_at s x n o a)
-  where
-    held_there : is_confirmed x n ≡ true → place s n o x ≡ Some (place_at s x n)
-    held_there e = place_held s x n o (and_is (is_held x n) _ e).0
+answered_is : (s : Side) (x : ℕ) (n : List Note) → (place_at s x n).is_answered ≡ (begun (said_at x n) && begun (took_at x n))
+unfolding place_at place_of
+answered_is s x n = refl
 
-    go : (p : Option Place) → place s n o x ≡ p → is_confirmed x n ≡ is_at is_open (place s n o x) → room n x ≡ shown_room (place s n o x)
-    go None e f = let c : is_confirmed x n ≡ false = f ∙ ap (is_at is_open) e in rw (c, e) refl
-    go (Some v) e f = at_place (is_open v) refl
-      where
-        at_place : (b : Bool) → is_open v ≡ b → room n x ≡ shown_room (place s n o x)
-        at_place true z =
-            let c : is_confirmed x n ≡ true = f ∙ (ap (is_at is_open) e ∙ z) in
-            let w : v ≡ place_at s x n = let same = sym e ∙ held_there c in cc in
-            let y : v.send_window ≡ send_window x n = ap (λ (u : Place). u.send_window) w ∙ window_is s x n in
-            ap (λ b. cond b (Some (send_window x n)) None) c ∙ (ap (λ (m : ℕ). Some m) (sym y) ∙ (sym (ap (λ b. cond b (Some v.send_window) None) z) ∙ sym (ap shown_room e)))
-        at_place false z =
-            let c : is_confirmed x n ≡ false = f ∙ (ap (is_at is_open) e ∙ z) in
-            ap (λ b. cond b (Some (send_window x n)) None) c ∙ (sym (ap (λ b. cond b (Some v.send_window) None) z) ∙ sym (ap shown_room e))
+pub room_is : (s : Side) (x : ℕ) (n : List Note) (o : List Item) → room n o x ≡ shown_room (place s n o x)
+room_is s x n o = go (is_held x n) (is_owed x o) refl refl
+  where
+    go : (b c : Bool) → is_held x n ≡ b → is_owed x o ≡ c → room n o x ≡ shown_room (place s n o x)
+    go true c e f = rw (place_held s x n o e, e, answered_is s x n, window_is s x n) refl
+    go false true e f = rw (place_owed s x n o e f, e, f, answered_is s x n, window_is s x n) refl
+    go false false e f = rw (place_none s x n o e f, e, f) refl
 
 -- what is shown of a number by the tests of its history
 abbrev state_of_tests : (opening waiting used : Bool) → ChannelState → Option ChannelState

@@ -100,9 +100,11 @@ channel_state side notes owed number =
     (has_closed number notes && not (is_owed number owed)) (closed (stage (took_at number notes)))))
     None))
 
--- the window left for this end's data, where the channel is confirmed and the peer did not close
-abbrev pub room : List Note → ℕ → Option ℕ
-room notes number = cond (is_confirmed number notes) (Some (send_window number notes)) None
+-- the window left for this end's data, where the channel is confirmed, also while its CLOSE is owed
+abbrev pub room : List Note → List Item → ℕ → Option ℕ
+room notes owed number =
+    cond (in_use notes owed number && (begun (said_at number notes) && begun (took_at number notes)))
+    (Some (send_window number notes)) None
 
 -- how many numbers below this one meet a condition
 unfoldable pub count_below : (ℕ → Bool) → ℕ → ℕ
@@ -143,4 +145,4 @@ shown_state (Some place) =
 
 abbrev pub shown_room : Option Place → Option ℕ
 shown_room None = None
-shown_room (Some place) = cond (is_open place) (Some place.send_window) None
+shown_room (Some place) = cond place.is_answered (Some place.send_window) None

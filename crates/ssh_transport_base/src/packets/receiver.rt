@@ -50,16 +50,24 @@ impl<S: Sealing> Drop for PacketReceiver<S> {
 }
 
 impl<S: Sealing> PacketReceiver<S> {
-    /// A direction in which nothing came, in clear. This reserves the 35,000 bytes that a packet may have, the only memory
-    /// that it ever takes, and fails only where there is none.
+    /// A direction in which nothing came, in clear. This reserves the 35,000 bytes that a packet may have, the only memory that it ever
+    /// takes.
+    ///
+    /// # Errors
+    ///
+    /// Only where memory is refused.
     pub fn new(alloc: Global) -> Result<PacketReceiver<S>, AllocError>
         ensures { IfOk result (λ receiver. receiver ≡ new_receiver new_direction) }
     {
         PacketReceiver::begun_with(alloc, None)
     }
 
-    /// A direction in which nothing came, and whose packets are opened under this key from the first one on: that of an end
-    /// which shares the keys of one epoch with its peer. It reserves the same memory.
+    /// A direction in which nothing came, and whose packets are opened under this key from the first one on: that of an end which shares
+    /// the keys of one epoch with its peer. It reserves the same memory.
+    ///
+    /// # Errors
+    ///
+    /// Only where memory is refused.
     pub fn under(alloc: Global, key: S::Key) -> Result<PacketReceiver<S>, AllocError>
         ensures { IfOk result (λ receiver. receiver ≡ new_receiver (sealed_direction key)) }
     {

@@ -12,7 +12,12 @@ use ssh_types::Refusal;
 use std::alloc::AllocError;
 
 impl<S: Sealing, F: Filler + Drop> Machine<S, F> {
-    // Refuses the peer for what a layer above took of it. A dead end does nothing.
+    /// Refuses the peer for what a layer above took of it.
+    ///
+    /// # Errors
+    ///
+    /// - `Memory`: memory was refused. Nothing is put out, and the end is over.
+    /// - `Dead`: the end was over before. Nothing changes.
     pub fn refuse_above(
         &mut self,
         refusal: Refusal,
@@ -31,7 +36,12 @@ impl<S: Sealing, F: Filler + Drop> Machine<S, F> {
         Ok(())
     }
 
-    // Sends the payload of a message of a layer above, where a number is left for it. A dead end does nothing.
+    /// Sends the payload of a message of a layer above, where a number is left for it.
+    ///
+    /// # Errors
+    ///
+    /// - `Memory`: memory was refused. Nothing is put out, and the end is over.
+    /// - `Dead`: the end was over before. Nothing changes.
     pub fn send_above(
         &mut self,
         payload: Vec<u8>,

@@ -18,7 +18,11 @@ use ssh_transport_base::{Config, every_config_is_good};
 use std::alloc::AllocError;
 
 impl<S: Sealing, F: Filler + Drop> Machine<S, F> {
-    // The payload of the EXT_INFO that follows the NEWKEYS sent next, where one does.
+    /// The payload of the EXT_INFO that follows the NEWKEYS sent next, where one does.
+    ///
+    /// # Errors
+    ///
+    /// Only where memory is refused.
     pub fn spell_announcement(&self) -> Result<Option<Vec<u8>>, AllocError>
         ensures { IfOk result (λ payload. IsAnnouncement self.now.kept (option_map (λ v. v.items) payload)) }
     {
@@ -29,7 +33,7 @@ impl<S: Sealing, F: Filler + Drop> Machine<S, F> {
         Ok(Some(payload))
     }
 
-    // What is announced has a spelling: a fact for proofs.
+    /// What is announced has a spelling: a fact for proofs.
     pub fn announcement_fits(&self)
         ensures { HasAnnouncement self.now.kept }
     {

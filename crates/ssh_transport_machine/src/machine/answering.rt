@@ -15,7 +15,11 @@ use ssh_packet::{Filler, Sealing};
 use std::alloc::AllocError;
 
 impl<S: Sealing, F: Filler + Drop> Machine<S, F> {
-    // A client that sent its KEXINIT answers by its point.
+    /// A client that sent its KEXINIT answers by its point.
+    ///
+    /// # Errors
+    ///
+    /// Only where memory is refused: nothing is put out, and the end is over.
     pub fn answer_by_point(
         &mut self,
         facts: KexinitFacts,
@@ -35,7 +39,11 @@ impl<S: Sealing, F: Filler + Drop> Machine<S, F> {
         Ok(())
     }
 
-    // A server that sent no KEXINIT of its own answers by it.
+    /// A server that sent no KEXINIT of its own answers by it.
+    ///
+    /// # Errors
+    ///
+    /// Only where memory is refused: nothing is put out, and the end is over.
     pub fn answer_by_own(
         &mut self,
         facts: KexinitFacts,
@@ -54,7 +62,11 @@ impl<S: Sealing, F: Filler + Drop> Machine<S, F> {
         Ok(())
     }
 
-    // A client that sent no KEXINIT of its own answers by it and by its point.
+    /// A client that sent no KEXINIT of its own answers by it and by its point.
+    ///
+    /// # Errors
+    ///
+    /// Only where memory is refused: nothing is put out, and the end is over.
     pub fn answer_by_both(
         &mut self,
         facts: KexinitFacts,

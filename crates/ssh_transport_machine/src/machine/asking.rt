@@ -22,7 +22,11 @@ use std::alloc::AllocError;
 const LONGEST_DESCRIPTION: usize = 1024;
 
 impl<S: Sealing, F: Filler + Drop> Machine<S, F> {
-    // Asks for the service of authentication (RFC 4253 section 10). Where memory is refused nothing is put out, and the end is over.
+    /// Asks for the service of authentication (RFC 4253 section 10).
+    ///
+    /// # Errors
+    ///
+    /// Only where memory is refused: nothing is put out, and the end is over.
     pub fn ask_service(
         &mut self,
         out: &mut Vec<u8>,
@@ -40,8 +44,11 @@ impl<S: Sealing, F: Filler + Drop> Machine<S, F> {
         Ok(AskTurn::Answered(self.request_service(out, sent)?))
     }
 
-    // Begins an exchange of keys by this end's KEXINIT (RFC 4253 section 9). Where memory is refused nothing is put out, and the end
-    // is over.
+    /// Begins an exchange of keys by this end's KEXINIT (RFC 4253 section 9).
+    ///
+    /// # Errors
+    ///
+    /// Only where memory is refused: nothing is put out, and the end is over.
     pub fn ask_rekey(
         &mut self,
         out: &mut Vec<u8>,
@@ -62,8 +69,11 @@ impl<S: Sealing, F: Filler + Drop> Machine<S, F> {
         }
     }
 
-    // Sends DISCONNECT by the application, with this description and no language, and is over (RFC 4253 section 11.1). Where memory
-    // is refused nothing is put out, and the end is over too.
+    /// Sends DISCONNECT by the application, with this description and no language, and is over (RFC 4253 section 11.1).
+    ///
+    /// # Errors
+    ///
+    /// Only where memory is refused: nothing is put out, and the end is over.
     pub fn ask_disconnect(
         &mut self,
         description: &[u8],

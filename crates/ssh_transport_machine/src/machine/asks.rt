@@ -10,8 +10,12 @@ use ssh_packet::{Filler, Sealing};
 use std::alloc::AllocError;
 
 impl<S: Sealing, F: Filler + Drop> Machine<S, F> {
-    // Does what is asked for, or refuses that, which changes nothing. A dead end does nothing. Where memory is refused nothing is put
-    // out, and the end is over.
+    /// Does what is asked for, or refuses that, which changes nothing.
+    ///
+    /// # Errors
+    ///
+    /// - `Memory`: memory was refused. Nothing is put out, and the end is over.
+    /// - `Dead`: the end was over before. Nothing changes.
     pub fn ask(
         &mut self,
         ask: TransportAsk<'_>,

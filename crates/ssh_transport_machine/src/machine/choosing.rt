@@ -20,8 +20,8 @@ use ssh_transport_base::every_config_is_good;
 use ssh_types::Side;
 
 impl<S: Sealing, F: Filler + Drop> Machine<S, F> {
-    // The algorithms that the peer's KEXINIT, which is kept, and this end's own give. They are chosen anew, so that no memory is
-    // needed.
+    /// The algorithms that the peer's KEXINIT, which is kept, and this end's own give. They are chosen anew, so that no memory is
+    /// needed.
     pub fn choice(&self) -> Choice<'_>
         requires { HasChoice self.now.kept }
         ensures chosen { IsChosen self.now.kept (chosen_of result) }

@@ -12,8 +12,12 @@ use ssh_packet::{Filler, Sealing};
 use std::alloc::AllocError;
 
 impl<S: Sealing, F: Filler + Drop> Machine<S, F> {
-    // Sends NEWKEYS, by which the exchange is completed: from then on packets are sealed under the first key, and opened under the
-    // second one once the peer's NEWKEYS is taken. The session id is that with this exchange.
+    /// Sends NEWKEYS, by which the exchange is completed: from then on packets are sealed under the first key, and opened under the second
+    /// one once the peer's NEWKEYS is taken. The session id is that with this exchange.
+    ///
+    /// # Errors
+    ///
+    /// Only where memory is refused: nothing is put out, and the end is over.
     pub fn send_newkeys(
         &mut self,
         key: S::Key,
@@ -64,7 +68,7 @@ impl<S: Sealing, F: Filler + Drop> Machine<S, F> {
         Ok(())
     }
 
-    // Takes NEWKEYS, where it is awaited: the next epoch begins under the key that is pending.
+    /// Takes NEWKEYS, where it is awaited: the next epoch begins under the key that is pending.
     pub fn take_newkeys(&mut self)
         requires pending { self.old.kept.pending ≡ None → ⊥ }
         requires shown { self.old.receiver.payload ≡ newkeys }

@@ -29,7 +29,11 @@ pub struct ExchangeKeys<K: Drop> {
 }
 
 impl<S: Sealing, F: Filler + Drop> Machine<S, F> {
-    // Makes the keys of both directions (RFC 4253 section 7.2). It fails only where memory is refused.
+    /// Makes the keys of both directions (RFC 4253 section 7.2).
+    ///
+    /// # Errors
+    ///
+    /// Only where memory is refused.
     pub fn exchange_keys(
         &self,
         choice: &Choice<'_>,
@@ -54,7 +58,7 @@ impl<S: Sealing, F: Filler + Drop> Machine<S, F> {
         })
     }
 
-    // The session id with an exchange of this hash: the first one is it for good.
+    /// The session id with an exchange of this hash: the first one is it for good.
     pub fn session_with(&self, hash: &[u8; 32]) -> [u8; 32]
         ensures { result ≡ session_by self.now.kept hash.now }
     {
@@ -92,7 +96,11 @@ impl<S: Sealing, F: Filler + Drop> Machine<S, F> {
         }
     }
 
-    // Sends NEWKEYS and what is announced behind it, by which the exchange is completed, and drops its secret.
+    /// Sends NEWKEYS and what is announced behind it, by which the exchange is completed, and drops its secret.
+    ///
+    /// # Errors
+    ///
+    /// Only where memory is refused: nothing is put out, and the end is over.
     pub fn finish(
         &mut self,
         keys: ExchangeKeys<S::Key>,
@@ -168,7 +176,11 @@ impl<S: Sealing, F: Filler + Drop> Machine<S, F> {
         Ok(())
     }
 
-    // The same as `finish` behind a message of the exchange, by its payload.
+    /// The same as `finish` behind a message of the exchange, by its payload.
+    ///
+    /// # Errors
+    ///
+    /// Only where memory is refused: nothing is put out, and the end is over.
     pub fn finish_behind(
         &mut self,
         payload: Vec<u8>,
@@ -199,7 +211,7 @@ impl<S: Sealing, F: Filler + Drop> Machine<S, F> {
         Ok(())
     }
 
-    // Tests whether numbers for so many packets are left in the epoch.
+    /// Tests whether numbers for so many packets are left in the epoch.
     pub fn has_numbers(&self, packets: u64) -> bool
         ensures has { result ≡ true → self.now.kept.sending.count + packets ≤ 2 ^ 32 }
         ensures lacks { result ≡ false → 2 ^ 32 < self.now.kept.sending.count + packets }

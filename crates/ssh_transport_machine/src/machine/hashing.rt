@@ -22,7 +22,7 @@ pub struct Points<'a> {
 }
 
 impl<S: Sealing, F: Filler + Drop> Machine<S, F> {
-    // The hash of the exchange under way (RFC 5656 section 4). It needs no memory.
+    /// The hash of the exchange under way (RFC 5656 section 4). It needs no memory.
     pub fn hash(&self, points: &Points<'_>) -> [u8; 32]
         requires { length points.now.host_key.now ≤ 35000 }
         ensures { result ≡ hash_of (inputs_in self.now.kept.side self.now.kept points.now.host_key.now points.now.client.now points.now.server.now (number points.now.shared.now)) }
@@ -82,7 +82,7 @@ impl<S: Sealing, F: Filler + Drop> Machine<S, F> {
     }
 }
 
-// The length that the type says: a fact for proofs.
+/// The length that the type says: a fact for proofs.
 pub fn has_32_bytes(bytes: &[u8; 32])
     ensures { length bytes.now ≡ 32 }
 {}

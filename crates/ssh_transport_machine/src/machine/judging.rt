@@ -46,8 +46,8 @@ pub enum Judged {
 }
 
 impl<S: Sealing, F: Filler + Drop> Machine<S, F> {
-    // Tests the payload that is shown: by its number, then whether it is a message, and then what is checked of its message. The
-    // point of a client and the reply of a server are judged by who has the parts for it.
+    /// Tests the payload that is shown: by its number, then whether it is a message, and then what is checked of its message. The
+    /// point of a client and the reply of a server are judged by who has the parts for it.
     pub fn judge(&self) -> Judged
         requires { 1 ≤ self.now.kept.taking.count }
         ensures { PayloadJudged (before_taken self.now.kept) self.now.receiver.payload result }
@@ -136,7 +136,7 @@ impl<S: Sealing, F: Filler + Drop> Machine<S, F> {
         }
     }
 
-    // Nothing of an exchange is awaited.
+    /// Nothing of an exchange is awaited.
     pub fn is_normal(&self) -> bool
         ensures { result ≡ model.is_normal self.now.kept.phase }
     {

@@ -45,7 +45,7 @@ pub enum KexinitJudged {
 }
 
 impl<S: Sealing, F: Filler + Drop> Machine<S, F> {
-    // Tests a proposal in the order of the refusals.
+    /// Tests a proposal in the order of the refusals.
     pub fn judge_kexinit(&self, theirs: Proposal<'_>) -> KexinitJudged
         requires { 1 ≤ self.now.kept.taking.count }
         ensures { IsJudged (before_taken self.now.kept) (proposal_meaning theirs.entry) result }
@@ -135,7 +135,7 @@ impl<S: Sealing, F: Filler + Drop> Machine<S, F> {
         self.has_choice_with(&own, theirs)
     }
 
-    // The lists of this end, without markers.
+    /// The lists of this end, without markers.
     pub fn own_lists(&self) -> KexLists<'_>
         ensures { lists_of result ≡ lists_offered (own_offer self.now.kept.settings self.now.kept.side) }
     {
@@ -156,7 +156,7 @@ impl<S: Sealing, F: Filler + Drop> Machine<S, F> {
         !self.blocked && !self.has_material()
     }
 
-    // Keeps the KEXINIT whose payload is shown, and what it settles. It needs no memory.
+    /// Keeps the KEXINIT whose payload is shown, and what it settles. It needs no memory.
     pub fn note_kexinit(&mut self, facts: KexinitFacts)
         ensures { self.new ≡ record self.old { kept = noted facts.wrong facts.strict facts.extensions self.old.receiver.payload self.old.kept } }
     {
@@ -166,7 +166,7 @@ impl<S: Sealing, F: Filler + Drop> Machine<S, F> {
         self.peer_takes_extensions = facts.extensions;
     }
 
-    // A pair of cookie and secret is kept.
+    /// A pair of cookie and secret is kept.
     pub fn has_material(&self) -> bool
         ensures { result ≡ is_some self.now.kept.material }
     {

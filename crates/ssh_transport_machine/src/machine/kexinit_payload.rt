@@ -24,6 +24,10 @@ impl Model for KexinitPayload {
 
 impl KexinitPayload {
     /// Room for a payload, and none there. This takes the only memory.
+    ///
+    /// # Errors
+    ///
+    /// Only where memory is refused.
     pub fn new(alloc: Global) -> Result<KexinitPayload, AllocError>
         ensures { IfOk result (λ payload. payload ≡ []) }
     {

@@ -15,9 +15,12 @@ use ssh_types::Side;
 use std::alloc::{AllocError, Global};
 
 impl<S: Sealing, F: Filler + Drop> Machine<S, F> {
-    // An end of this side that put out its version line and its first KEXINIT, with this cookie and the secret of its point. It
-    // has room for the peer's line, for packets and for both KEXINITs of an exchange from then on. Where memory is refused nothing is
-    // put out, and the parts are dropped.
+    /// An end of this side that put out its version line and its first KEXINIT, with this cookie and the secret of its point. It has room
+    /// for the peer's line, for packets and for both KEXINITs of an exchange from then on.
+    ///
+    /// # Errors
+    ///
+    /// Only where memory is refused: nothing is put out, and the parts are dropped.
     pub fn new(
         alloc: Global,
         side: Side,

@@ -18,14 +18,14 @@ use ssh_transport_base::{Config, every_config_is_good};
 use ssh_types::Side;
 
 impl<S: Sealing, F: Filler + Drop> Machine<S, F> {
-    // The number of the message that was taken.
+    /// The number of the message that was taken.
     pub fn number(&self) -> u8
         ensures { result ≡ number_of self.now.receiver.payload }
     {
         number_in(self.taking.payload())
     }
 
-    // Tests whether the payload that is shown, of this number below 50, may be taken where the end stands.
+    /// Tests whether the payload that is shown, of this number below 50, may be taken where the end stands.
     pub fn takes(&self, number: u8) -> bool
         requires { 1 ≤ self.now.kept.taking.count }
         ensures { result ≡ kept.takes (before_taken self.now.kept) number }
@@ -96,7 +96,7 @@ impl<S: Sealing, F: Filler + Drop> Machine<S, F> {
     }
 }
 
-// The first KEXINIT of an end with this config has the marker of extensions.
+/// The first KEXINIT of an end with this config has the marker of extensions.
 #[tactic(auto, using(crate::proofs::OwnMarkers::own_extensions))]
 pub fn shows_extensions<S: Sealing>(config: &Config<S>, side: Side) -> bool
     ensures { result ≡ has_marker (extension_marker_of (side_of side)) (first_kex (settings_of config.now) (side_of side)) }
@@ -105,7 +105,7 @@ pub fn shows_extensions<S: Sealing>(config: &Config<S>, side: Side) -> bool
     config.takes_extensions()
 }
 
-// The first KEXINIT of an end with this config has the marker of strict key exchange.
+/// The first KEXINIT of an end with this config has the marker of strict key exchange.
 #[tactic(auto, using(crate::proofs::OwnMarkers::own_strict))]
 pub fn shows_strictness<S: Sealing>(config: &Config<S>, side: Side) -> bool
     ensures { result ≡ has_marker (marker_of (side_of side)) (first_kex (settings_of config.now) (side_of side)) }

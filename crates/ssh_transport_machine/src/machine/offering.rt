@@ -15,7 +15,11 @@ use ssh_transport_base::put_kexinit;
 use std::alloc::AllocError;
 
 impl<S: Sealing, F: Filler + Drop> Machine<S, F> {
-    // Sends this end's KEXINIT with a pair of cookie and secret, which is then used up.
+    /// Sends this end's KEXINIT with a pair of cookie and secret, which is then used up.
+    ///
+    /// # Errors
+    ///
+    /// Only where memory is refused: nothing is put out, and the end is over.
     pub fn send_kexinit(
         &mut self,
         material: Material,
@@ -43,7 +47,11 @@ impl<S: Sealing, F: Filler + Drop> Machine<S, F> {
         }
     }
 
-    // The payload of a KEXINIT of this end.
+    /// The payload of a KEXINIT of this end.
+    ///
+    /// # Errors
+    ///
+    /// Only where memory is refused.
     pub fn spell_kexinit(&self, first: bool, cookie: &[u8; 16]) -> Result<Vec<u8>, AllocError>
         ensures spelled { IfOk result (λ payload. IsSpelled (KexInit (offer_of self.now.kept.settings self.now.kept.side first cookie.now)) payload.items) }
         ensures some { IfOk result (λ payload. 1 ≤ length payload.items) }
@@ -61,7 +69,7 @@ impl<S: Sealing, F: Filler + Drop> Machine<S, F> {
         Ok(payload)
     }
 
-    // Keeps a pair of cookie and secret for the next KEXINIT, where none is kept.
+    /// Keeps a pair of cookie and secret for the next KEXINIT, where none is kept.
     pub fn feed(&mut self, cookie: [u8; 16], secret: [u8; 32]) -> bool
         ensures fed { result ≡ can_be_fed self.old.kept }
         ensures kept { result ≡ true → self.new ≡ record self.old { kept = after_fed cookie secret self.old.kept } }

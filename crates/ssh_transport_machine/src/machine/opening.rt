@@ -8,7 +8,7 @@ use ssh_packet::{Filler, Sealing};
 use ssh_transport_base::PacketStep;
 
 impl<S: Sealing, F: Filler + Drop> Machine<S, F> {
-    // Takes bytes to the end of one packet. It needs no memory.
+    /// Takes bytes to the end of one packet. It needs no memory.
     pub fn open(&mut self, bytes: &[u8]) -> (usize, PacketStep)
         requires { self.old.receiver.ended ≡ None }
         ensures used { result.0 ≤ length bytes.now }

@@ -8,7 +8,7 @@ use crate::machine::material::Material;
 use ssh_packet::{Filler, Sealing};
 
 impl<S: Sealing, F: Filler + Drop> Machine<S, F> {
-    // That pair, where one is kept.
+    /// That pair, where one is kept.
     pub fn material(&self) -> Option<Material>
         ensures { material_of result ≡ self.now.kept.material }
     {

@@ -9,7 +9,7 @@ use crate::machine::Machine;
 use ssh_packet::{Filler, Sealing};
 
 impl<S: Sealing, F: Filler + Drop> Machine<S, F> {
-    // The payload that was taken last.
+    /// The payload that was taken last.
     pub fn payload(&self) -> &[u8]
         ensures payload { result.now ≡ self.now.receiver.payload }
         ensures most { length self.now.receiver.payload ≤ 35000 }
@@ -17,21 +17,21 @@ impl<S: Sealing, F: Filler + Drop> Machine<S, F> {
         self.taking.payload()
     }
 
-    // Tests whether the version line of the peer was taken.
+    /// Tests whether the version line of the peer was taken.
     pub fn has_line(&self) -> bool
         ensures { result ≡ self.now.kept.lines.found }
     {
         self.lines.version_line().is_some()
     }
 
-    // The sequence number of the packet that was taken last, where one was taken in this epoch.
+    /// The sequence number of the packet that was taken last, where one was taken in this epoch.
     pub fn last_number(&self) -> u32
         ensures { result ≡ number_before self.now.kept.taking }
     {
         self.taking.last_number()
     }
 
-    // The sequence numbers of the next packets, to be sent and to be taken; 2^32 where an epoch has had all of them.
+    /// The sequence numbers of the next packets, to be sent and to be taken; 2^32 where an epoch has had all of them.
     pub fn numbers(&self) -> (u64, u64)
         ensures sending { result.0 ≡ next_number self.now.kept.sending }
         ensures taking { result.1 ≡ next_number self.now.kept.taking }
@@ -39,7 +39,7 @@ impl<S: Sealing, F: Filler + Drop> Machine<S, F> {
         (self.sending.number(), self.taking.number())
     }
 
-    // How many NEWKEYS were sent and taken.
+    /// How many NEWKEYS were sent and taken.
     pub fn epochs(&self) -> (u32, u32)
         ensures sending { result.0 ≡ self.now.kept.sending.epoch }
         ensures taking { result.1 ≡ self.now.kept.taking.epoch }
@@ -47,28 +47,28 @@ impl<S: Sealing, F: Filler + Drop> Machine<S, F> {
         (self.sending.epoch(), self.taking.epoch())
     }
 
-    // Tests whether this end sent its KEXINIT, and not yet its NEWKEYS.
+    /// Tests whether this end sent its KEXINIT, and not yet its NEWKEYS.
     pub fn is_blocked(&self) -> bool
         ensures { result ≡ self.now.kept.blocked }
     {
         self.blocked
     }
 
-    // Tests whether so many packets were sent in this epoch that the next exchange of keys is due.
+    /// Tests whether so many packets were sent in this epoch that the next exchange of keys is due.
     pub fn is_rekey_due(&self) -> bool
         ensures { result ≡ nat_le self.now.kept.settings.epoch_limit self.now.kept.sending.count }
     {
         u64::from(self.config.epoch_limit()) <= self.sending.count()
     }
 
-    // The id of the session, once an exchange of keys was completed.
+    /// The id of the session, once an exchange of keys was completed.
     pub fn session_id(&self) -> Option<&[u8; 32]>
         ensures { option_copied result ≡ self.now.kept.session }
     {
         self.session.as_ref()
     }
 
-    // Tests whether the user is authenticated.
+    /// Tests whether the user is authenticated.
     pub fn is_authenticated(&self) -> bool
         ensures { result ≡ self.now.kept.authenticated }
     {

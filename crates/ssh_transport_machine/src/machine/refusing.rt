@@ -14,8 +14,12 @@ use ssh_types::Refusal;
 use std::alloc::AllocError;
 
 impl<S: Sealing, F: Filler + Drop> Machine<S, F> {
-    // Refuses the peer: says why in a DISCONNECT, where the refusal has a reason code and a number is left, and is over (RFC 4253
-    // section 11.1).
+    /// Refuses the peer: says why in a DISCONNECT, where the refusal has a reason code and a number is left, and is over (RFC 4253 section
+    /// 11.1).
+    ///
+    /// # Errors
+    ///
+    /// Only where memory is refused: nothing is put out, and the end is over.
     pub fn refuse(
         &mut self,
         refusal: Refusal,
@@ -46,7 +50,7 @@ impl<S: Sealing, F: Filler + Drop> Machine<S, F> {
         Ok(())
     }
 
-    // Tests whether no number is left in the epoch.
+    /// Tests whether no number is left in the epoch.
     pub fn is_spent(&self) -> bool
         ensures spent { IsTrue result → self.now.kept.sending.count ≡ 2 ^ 32 }
         ensures left { result ≡ false → self.now.kept.sending.count < 2 ^ 32 }

@@ -17,8 +17,11 @@ use ssh_packet::{Filler, Sealing};
 use std::alloc::AllocError;
 
 impl<S: Sealing, F: Filler + Drop> Machine<S, F> {
-    // Sends a message where a number is left for it, and else is over. Where memory is refused nothing is put out, and the end is
-    // over.
+    /// Sends a message where a number is left for it, and else is over.
+    ///
+    /// # Errors
+    ///
+    /// Only where memory is refused: nothing is put out, and the end is over.
     pub fn answer(
         &mut self,
         message: &Message<'_>,
@@ -42,7 +45,11 @@ impl<S: Sealing, F: Filler + Drop> Machine<S, F> {
         Ok(Answer::Done)
     }
 
-    // Says that the packet whose payload is shown wasn't understood (RFC 4253 section 11.4).
+    /// Says that the packet whose payload is shown wasn't understood (RFC 4253 section 11.4).
+    ///
+    /// # Errors
+    ///
+    /// Only where memory is refused: nothing is put out, and the end is over.
     pub fn reply_unknown(
         &mut self,
         out: &mut Vec<u8>,
@@ -58,7 +65,11 @@ impl<S: Sealing, F: Filler + Drop> Machine<S, F> {
         self.answer(&Message::Unimplemented { number }, out, sent)
     }
 
-    // Grants the service that a client asked for.
+    /// Grants the service that a client asked for.
+    ///
+    /// # Errors
+    ///
+    /// Only where memory is refused: nothing is put out, and the end is over.
     pub fn accept_service(
         &mut self,
         out: &mut Vec<u8>,

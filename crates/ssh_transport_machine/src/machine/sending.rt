@@ -16,7 +16,11 @@ use ssh_packet::{Filler, Sealing};
 use std::alloc::AllocError;
 
 impl<S: Sealing, F: Filler + Drop> Machine<S, F> {
-    // Sends a message. Where memory is refused nothing is put out, and the end is over.
+    /// Sends a message.
+    ///
+    /// # Errors
+    ///
+    /// Only where memory is refused: nothing is put out, and the end is over.
     pub fn send(
         &mut self,
         message: &Message<'_>,
@@ -42,7 +46,11 @@ impl<S: Sealing, F: Filler + Drop> Machine<S, F> {
         }
     }
 
-    // The payload of a message.
+    /// The payload of a message.
+    ///
+    /// # Errors
+    ///
+    /// Only where memory is refused.
     pub fn spell(&self, message: &Message<'_>) -> Result<Vec<u8>, AllocError>
         requires fits { Fits message.now }
         requires context { FitsContext true (meaning message.now) }
@@ -55,7 +63,11 @@ impl<S: Sealing, F: Filler + Drop> Machine<S, F> {
         Ok(payload)
     }
 
-    // Puts out the packet of a payload, and lists it.
+    /// Puts out the packet of a payload, and lists it.
+    ///
+    /// # Errors
+    ///
+    /// Only where memory is refused: nothing is put out, and the end is over.
     pub fn put(
         &mut self,
         payload: Vec<u8>,

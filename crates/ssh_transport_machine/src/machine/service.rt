@@ -9,14 +9,14 @@ use ssh_packet::{Filler, Sealing};
 pub const USERAUTH: &[u8] = b"ssh-userauth";
 
 impl<S: Sealing, F: Filler + Drop> Machine<S, F> {
-    // The service that this client asked for was granted.
+    /// The service that this client asked for was granted.
     pub fn note_service(&mut self)
         ensures { self.new ≡ record self.old { kept = record self.old.kept { accepted = true } } }
     {
         self.accepted = true;
     }
 
-    // The layer above says that the user is authenticated.
+    /// The layer above says that the user is authenticated.
     pub fn note_success(&mut self)
         ensures { self.new ≡ record self.old { kept = record self.old.kept { authenticated = true } } }
     {

@@ -18,7 +18,11 @@ use ssh_types::Side;
 use std::alloc::AllocError;
 
 impl<S: Sealing, F: Filler + Drop> Machine<S, F> {
-    // A KEXINIT that nothing refuses: a server takes it, and a client's answer is left to it.
+    /// A KEXINIT that nothing refuses: a server takes it, and a client's answer is left to it.
+    ///
+    /// # Errors
+    ///
+    /// Only where memory is refused: nothing is put out, and the end is over.
     pub fn act_on_kexinit(
         &mut self,
         facts: KexinitFacts,
@@ -71,7 +75,7 @@ impl<S: Sealing, F: Filler + Drop> Machine<S, F> {
         }
     }
 
-    // A later KEXINIT of this end fits a packet: a fact for proofs.
+    /// A later KEXINIT of this end fits a packet: a fact for proofs.
     pub fn offer_fits(&self, cookie: &[u8; 16])
         ensures { HasSpelling (KexInit (offer_of self.now.kept.settings self.now.kept.side false cookie.now)) }
     {

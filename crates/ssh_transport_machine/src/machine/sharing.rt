@@ -10,8 +10,8 @@ use ssh_packet::{Filler, Sealing};
 use ssh_types::laws::are_bytes;
 
 impl<S: Sealing, F: Filler + Drop> Machine<S, F> {
-    // What the secret of the exchange under way shares with the peer's point; `None` where that has not 32 bytes, or shares
-    // nothing.
+    /// What the secret of the exchange under way shares with the peer's point; `None` where that has not 32 bytes, or shares
+    /// nothing.
     pub fn shared<A: Agreement>(&self, agreement: &A, theirs: &[u8]) -> Option<[u8; 32]>
         ensures { result ≡ (if length theirs.now == 32 then shared_with (record { point = A.public_of agreement.now; shared = A.shared_of agreement.now }) self.now.kept.underway.secret theirs.now else None) }
     {
@@ -35,7 +35,7 @@ impl<S: Sealing, F: Filler + Drop> Machine<S, F> {
         }
     }
 
-    // The public point of the secret of the exchange under way.
+    /// The public point of the secret of the exchange under way.
     pub fn own_point<A: Agreement>(&self, agreement: &A) -> [u8; 32]
         ensures { result ≡ A.public_of agreement.now self.now.kept.underway.secret }
     {

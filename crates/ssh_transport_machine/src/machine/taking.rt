@@ -13,8 +13,12 @@ use ssh_types::Refusal;
 use std::alloc::AllocError;
 
 impl<S: Sealing, F: Filler + Drop> Machine<S, F> {
-    // Takes bytes to the end of one packet, and does what its payload asks for, or refuses the peer for it; what only one role does
-    // with a payload is left. Where memory is refused nothing is put out, and the end is over.
+    /// Takes bytes to the end of one packet, and does what its payload asks for, or refuses the peer for it; what only one role does with a
+    /// payload is left.
+    ///
+    /// # Errors
+    ///
+    /// Only where memory is refused: nothing is put out, and the end is over.
     pub fn take_packet(
         &mut self,
         bytes: &[u8],

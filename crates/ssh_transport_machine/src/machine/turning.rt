@@ -13,8 +13,11 @@ use ssh_packet::{Filler, Sealing};
 use std::alloc::AllocError;
 
 impl<S: Sealing, F: Filler + Drop> Machine<S, F> {
-    // Does what the payload that is shown asks for; what only one role does with it is left. Memory is refused only
-    // where something would be sent: then nothing is put out, and the end is over.
+    /// Does what the payload that is shown asks for; what only one role does with it is left.
+    ///
+    /// # Errors
+    ///
+    /// Only where memory is refused: nothing is put out, and the end is over.
     pub fn turn(
         &mut self,
         out: &mut Vec<u8>,

@@ -1,5 +1,4 @@
 use Rattle.std.proofs.Common.{subst, sym}
-use Rattle.ssh_model.specs.Side.{Side}
 use Rattle.ssh_transport_machine.specs.Standing.{Stands}
 use Rattle.ssh_transport_machine.specs.State.{State}
 use Rattle.ssh_end.proofs.above.answer_above.Goals as goal

@@ -23,7 +23,8 @@ returns g c = record {
     settled = c.owed_replies.ensures;
     numbers = c.kept_by_one_end.ensures.numbers;
   }) (record {
-    taken = c.units_taken.ensures.taken;
-    died = c.units_taken.ensures.died;
+    taken = c.clients_units.ensures.taken;
+    died = c.clients_units.ensures.died;
+    due = c.clients_left.ensures.due;
   }) c.facts_told.ensures.channels p history old layers asking bytes;
 }

@@ -23,10 +23,9 @@ returns g c = record {
     lines = c.unit_turns-2.ensures.lines;
     packets = c.unit_turns-2.ensures.packets;
   }) (record {
-    packets = c.unit_turns-2.ensures.packets;
-    taken = c.units_taken.ensures.taken;
-    alive = c.turns_left.ensures.completed_alive;
-    few = c.turns_left.ensures.completed_few;
-    epoch = c.turns_left.ensures.completed_epoch;
+    taken = c.servers_units.ensures.taken;
+    completed = c.servers_left.ensures.completed;
+    shown = c.servers_left.ensures.shown;
+    leaves = c.servers_left.ensures.leaves;
   }) c.facts_told.ensures.server c.facts_told.ensures.channels p history old layers serving bytes;
 }

@@ -1,8 +1,7 @@
-use Rattle.std.proofs.Common.{◌-◌, ◌≤◌, List, length, take}
+use Rattle.std.proofs.Common.{◌≡◌, ◌-◌, ◌≤◌, List, length, take}
 use Rattle.ssh_model.specs.Side as model
 use Rattle.ssh_model.specs.Sessions.Items as session
 use Rattle.ssh_model.specs.Sessions.Parties.{Parties}
-use Rattle.ssh_end.specs.Ends.{SameClient}
 use Rattle.ssh_pair.specs.Playing.{Advanced}
 use Rattle.ssh_pair.specs.Standing.{ClientStands, client_value, kept_bytes}
 use Rattle.ssh_pair.proofs.client.deliver_to_client.Given as goal
@@ -10,7 +9,7 @@ use Rattle.ssh_pair.proofs.client.deliver_to_client.Given as goal
 abbrev pub invariant-loop-at : goal.invariant-loop-at
 invariant-loop-at g l = record {
   within : l.at ≤ length l.piece;
-  parts : SameClient l.fn.end l.end;
+  role : l.end.role ≡ l.fn.end.role;
   going : (p : Parties g.row.P-Sealing-Key.Denot) (run : List session.Done) → ClientStands p (client_value g.P.Sealing.Sealing.crypto g.P.Agreement.Agreement.public_of g.P.Agreement.Agreement.shared_of g.P.HostTrust.HostTrust.judged g.U.UserSigner.signature_of l.fn.end l.fn.lines) run →
       Advanced p model.Client run (take l.at l.piece) (kept_bytes l.fn.end.machine) (kept_bytes l.end.machine) (ClientStands p (client_value g.P.Sealing.Sealing.crypto g.P.Agreement.Agreement.public_of g.P.Agreement.Agreement.shared_of g.P.HostTrust.HostTrust.judged g.U.UserSigner.signature_of l.end l.lines)) l.fn.log.items l.log.items l.fn.out.items l.out.items;
 }

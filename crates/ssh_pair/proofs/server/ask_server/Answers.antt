@@ -17,9 +17,9 @@ returns-clause-answers g c =
     let alive : c.args.end.now.machine.kept.dead ≡ false = sym c.is_dead.ensures ∙ c.if-is_dead.false in
     on_ok c.note_ask.result (λ noted p lines run s.
     server_answer p run (server_value g.P.Sealing.Sealing.crypto g.P.Agreement.Agreement.public_of g.P.Agreement.Agreement.shared_of g.P.HostSigner.HostSigner.key_of g.P.HostSigner.HostSigner.signature_of g.U.UserJudge.verdicts c.args.end.now lines) s alive c.parts.ensures.here (server_value g.P.Sealing.Sealing.crypto g.P.Agreement.Agreement.public_of g.P.Agreement.Agreement.shared_of g.P.HostSigner.HostSigner.key_of g.P.HostSigner.HostSigner.signature_of g.U.UserJudge.verdicts c.perform-done.new.self lines)
-    (server_same g.P.Sealing.Sealing.crypto g.P.Agreement.Agreement.public_of g.P.Agreement.Agreement.shared_of g.P.HostSigner.HostSigner.key_of g.P.HostSigner.HostSigner.signature_of g.U.UserJudge.verdicts c.args.end.now c.perform-done.new.self lines lines c.perform-done.ensures.parts) c.perform-done.ensures.authentication c.perform-done.ensures.reading refl (ask_of c.args.ask.now) c.args.log.now.items c.note_ask.new.log.items c.args.out.now.items c.perform-done.new.out.items
+    (server_same g.P.Sealing.Sealing.crypto g.P.Agreement.Agreement.public_of g.P.Agreement.Agreement.shared_of g.P.HostSigner.HostSigner.key_of g.P.HostSigner.HostSigner.signature_of g.U.UserJudge.verdicts c.args.end.now c.perform-done.new.self lines lines c.perform-done.ensures.role) c.perform-done.ensures.asks.authentication c.perform-done.ensures.reading refl (ask_of c.args.ask.now) c.args.log.now.items c.note_ask.new.log.items c.args.out.now.items c.perform-done.new.out.items
     c.perform-done.new.self.sent _ c.turn.ensures.sent c.perform-done.new.self.channels _ c.turn.ensures.channels
     (λ items more turned. c.asks.ensures.run p Server (part Server run) (end_of c.args.end.now.machine.kept c.args.end.now.layers) s.sums s.end_run (ask_of c.args.ask.now) items more (end_of c.perform-done.new.self.machine.kept c.perform-done.new.self.layers) turned)
     c.perform-done.result c.is_dead-is_over.result c.is_dead-is_over.ensures
     (λ fault e. subst (λ r. OnErr r (c.perform-done.new.out.items ≡ c.args.out.now.items)) e c.perform-done.ensures.out)
-    (c.perform-done.ensures.in_session p (part Server run) s.fits.crypto s.sums) c.perform-done.ensures.channels noted) c.note_ask.ensures
+    (c.perform-done.ensures.asks.in_session p (part Server run) s.fits.crypto s.sums) c.perform-done.ensures.channels noted) c.note_ask.ensures

@@ -9,7 +9,7 @@ use Rattle.ssh_pair.proofs.server.deliver_to_server.Goals as goal
 pub loop-at-init : goal.loop-at-init
 loop-at-init g c = record {
   within = omega arith;
-  parts = record { agreement = refl; host_signer = refl; user = refl };
+  role = refl;
   going = λ p run s. advanced_none p Server c.parts.ensures.here run (kept_bytes c.args.end.now.machine) (ServerStands p (server_value g.P.Sealing.Sealing.crypto g.P.Agreement.Agreement.public_of g.P.Agreement.Agreement.shared_of g.P.HostSigner.HostSigner.key_of g.P.HostSigner.HostSigner.signature_of g.U.UserJudge.verdicts c.args.end.now c.args.lines.now)) c.args.log.now.items c.args.out.now.items s;
 }
 
@@ -23,13 +23,13 @@ returns-then-is_dead-clause-advanced g c = λ p run s.
 
 pub loop-at-preserved : goal.loop-at-preserved
 loop-at-preserved g c =
-    let was = c.loop-at.invariant.parts in
-    let now = c.advance_server.ensures.parts in
+    let was = c.loop-at.invariant.role in
+    let now = c.advance_server.ensures.role in
     let new = c.advance_server.new.end in
     let used = c.in_ok-at.field-0 in
     record {
       within = omega (arith, c.in_ok-at.ensures.used, c.split_at.ensures.back_len);
-      parts = record { agreement = now.agreement ∙ was.agreement; host_signer = now.host_signer ∙ was.host_signer; user = now.user ∙ was.user };
+      role = now ∙ was;
       going = λ p run s.
           let x = c.loop-at.invariant.going p run s in
           let y = c.in_ok-at.ensures.advanced p (done_by Server x.items ++ run) x.stands in

@@ -10,7 +10,7 @@ use Rattle.ssh_pair.proofs.pair.Pair.play.Goals as goal
 pub loop-event-init : goal.loop-event-init
 loop-event-init g c = record {
   fine = sym (ap (λ q. q.failed) c.self.view_is) ∙ c.if-self.false;
-  parts = record { client = record { agreement = refl; host_trust = refl; user = refl }; server = record { agreement = refl; host_signer = refl; user = refl } };
+  parts = record { client = refl; server = refl };
   plays = λ p w s.
       let pair : PairValue g.row.S-Key.Denot = (record { client = client_value g.S.Sealing.crypto g.C.Agreement.Agreement.public_of g.C.Agreement.Agreement.shared_of g.C.HostTrust.HostTrust.judged g.U.UserSigner.signature_of c.args.self.now.client c.args.self.now.client_lines; server = server_value g.S.Sealing.crypto g.V.Agreement.Agreement.public_of g.V.Agreement.Agreement.shared_of g.V.HostSigner.HostSigner.key_of g.V.HostSigner.HostSigner.signature_of g.J.UserJudge.verdicts c.args.self.now.server c.args.self.now.server_lines }) in
       subst (λ (l : List Done). PlaysTo p w [] pair [] l [] c.new-transcript.result.client_bytes.items [] c.new-transcript.result.server_bytes.items) (sym c.new-transcript.ensures.items)
@@ -24,10 +24,7 @@ loop-event-preserved g c =
     let now = c.play_one.ensures.parts in
     record {
       fine = c.play_one.ensures.failed ∙ c.loop-event.invariant.fine;
-      parts = record {
-        client = record { agreement = now.client.agreement ∙ was.client.agreement; host_trust = now.client.host_trust ∙ was.client.host_trust; user = now.client.user ∙ was.client.user };
-        server = record { agreement = now.server.agreement ∙ was.server.agreement; host_signer = now.server.host_signer ∙ was.server.host_signer; user = now.server.user ∙ was.server.user };
-      };
+      parts = record { client = now.client ∙ was.client; server = now.server ∙ was.server };
       plays = λ p w s.
           let x = c.loop-event.invariant.plays p w s in
           let y = c.in-Ok.ensures.plays p x.next x.stands in

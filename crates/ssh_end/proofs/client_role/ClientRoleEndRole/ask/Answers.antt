@@ -1,0 +1,5 @@
+use Rattle.ssh_model.specs.Side.{Side.Client}
+use Rattle.ssh_end.proofs.client_role.ClientRoleEndRole.ask.Goals as goal
+
+pub returns-clause-stands : goal.returns-clause-stands
+returns-clause-stands g c = c.ask_client.ensures.stands Client

@@ -1,0 +1,5 @@
+use Rattle.ssh_model.specs.Side.{Side.Server}
+use Rattle.ssh_end.proofs.server_role.ServerRoleEndRole.ask.Goals as goal
+
+pub returns-clause-stands : goal.returns-clause-stands
+returns-clause-stands g c = c.ask_server.ensures.stands Server

@@ -1,0 +1,102 @@
+//! What one end does above its transport and the other does not.
+
+ghost use Rattle.std.specs.Prelude.{◌≡◌, ◌++◌, IfErr, IfOk, OnErr, Result, false, map, true};
+ghost use Rattle.ssh_model.specs.Channels.Kept.{Channels};
+ghost use Rattle.ssh_model.specs.Sessions.Items as session;
+ghost use Rattle.ssh_types.specs.Sides.{side_of};
+ghost use Rattle.ssh_transport_machine.specs.Puts.{Outs};
+ghost use Rattle.ssh_transport_machine.specs.Standing.{Stands};
+ghost use Rattle.ssh_transport_machine.specs.State.{State};
+ghost use Rattle.ssh_transport_machine.specs.declared.outcome.TransportTurn.{TransportTurn};
+ghost use Rattle.ssh_end.specs.Asking.{Fails, ask_of};
+ghost use Rattle.ssh_end.specs.Beside.{channels_behind};
+ghost use Rattle.ssh_end.specs.Effects.{IsReady, is_whole};
+ghost use Rattle.ssh_end.specs.Owed.{Extends};
+ghost use Rattle.ssh_end.specs.Reading.{SameReading};
+ghost use Rattle.ssh_end.specs.declared.asking.outcome.AskStep.{AskStep};
+ghost use Rattle.ssh_end.specs.declared.asking.outcome.Fault.{Fault};
+ghost use Rattle.ssh_end.specs.declared.step.Step.{Step};
+
+use crate::ask::Ask;
+use crate::asking::{AskStep, Fault};
+use crate::step::Step;
+use ssh_channels::Channels;
+use ssh_packet::{Filler, Sealing};
+use ssh_transport::Role;
+use ssh_transport_machine::{Machine, TransportTurn};
+use std::alloc::AllocError;
+
+/// What one end does above its transport and the other does not: the authentication of a user, and what it keeps for it. `ServerRole` and
+/// `ClientRole` are the two.
+pub trait EndRole: Drop {
+    /// What it does in an exchange of keys.
+    type Exchange: Role;
+
+    /// What it keeps above its transport.
+    type Layers: Drop;
+
+    ghost exchange_of: { Self → Self.Exchange };
+
+    ghost channels_of: { Self.Layers → Channels };
+
+    ghost goes: { Self → TransportTurn → State Self.Exchange.Sealing.Key → Self.Layers → Step → State Self.Exchange.Sealing.Key → Self.Layers → Outs → Type 0 };
+
+    ghost lacks: { Self → TransportTurn → State Self.Exchange.Sealing.Key → Self.Layers → Type 0 };
+
+    ghost asks: { Self → State Self.Exchange.Sealing.Key → Self.Layers → session.Ask → Result AskStep Fault → State Self.Exchange.Sealing.Key → Self.Layers → Outs → Type 0 };
+
+    /// What it does in an exchange of keys.
+    fn exchange(&self) -> &Self::Exchange
+        ensures { result.now ≡ exchange_of self.now };
+
+    /// The channels, to show.
+    fn channels(layers: &Self::Layers) -> &Channels
+        ensures { result.now ≡ channels_of layers.now };
+
+    /// Does what is left to be done with an answer of the transport. The channels of the replies that are given go to `numbers`.
+    ///
+    /// # Errors
+    ///
+    /// Only where memory is refused: the end is over, and what was put out so far stands.
+    fn go_on(
+        &self,
+        machine: &mut Machine<<Self::Exchange as Role>::Sealing, <Self::Exchange as Role>::Filler>,
+        layers: &mut Self::Layers,
+        turn: TransportTurn,
+        out: &mut Vec<u8>,
+        sent: &mut Vec<Vec<u8>>,
+        numbers: &mut Vec<Option<u32>>,
+    ) -> Result<Step, AllocError>
+        requires ready { IsReady machine.old turn }
+        ensures goes { IfOk result (λ step. goes self.now turn machine.old layers.old step machine.new layers.new (record { before = out.old.items; after = out.new.items; listed = map (λ v. v.items) sent.old.items; relisted = map (λ v. v.items) sent.new.items })) }
+        ensures numbered { IfOk result (λ step. numbers.new.items ≡ numbers.old.items ++ channels_behind step (channels_of layers.old).owed) }
+        ensures more { IfOk result (λ step. step ≡ Step.More → turn ≡ TransportTurn.More) }
+        ensures lacks { OnErr result (lacks self.now turn machine.old layers.old) }
+        ensures dead { OnErr result (machine.new.kept.dead ≡ true) }
+        ensures left { OnErr result (is_whole turn ≡ false) }
+        ensures out { OnErr result (Extends out.old.items out.new.items) }
+        ensures sent { OnErr result (Extends (map (λ v. v.items) sent.old.items) (map (λ v. v.items) sent.new.items)) }
+        ensures stands { Stands (side_of Self.Exchange.SIDE) machine.old → Stands (side_of Self.Exchange.SIDE) machine.new };
+
+    /// Does what a user asks for, or refuses that.
+    ///
+    /// # Errors
+    ///
+    /// - `Ask`: the ask is refused, by the first refusal that holds. Nothing changes.
+    /// - `Memory`: memory was refused. Nothing is put out, and the end is over.
+    /// - `Dead`: the end was over before. Nothing changes.
+    fn ask(
+        &self,
+        machine: &mut Machine<<Self::Exchange as Role>::Sealing, <Self::Exchange as Role>::Filler>,
+        layers: &mut Self::Layers,
+        ask: &Ask<'_>,
+        out: &mut Vec<u8>,
+        sent: &mut Vec<Vec<u8>>,
+    ) -> Result<AskStep, Fault>
+        ensures asks { asks self.now machine.old layers.old (ask_of ask.now) result machine.new layers.new (record { before = out.old.items; after = out.new.items; listed = map (λ v. v.items) sent.old.items; relisted = map (λ v. v.items) sent.new.items }) }
+        ensures fails { IfErr result (λ fault. Fails machine.old fault machine.new) }
+        ensures reading { machine.new.kept.dead ≡ false → SameReading machine.old machine.new }
+        ensures out { OnErr result (out.new.items ≡ out.old.items) }
+        ensures kept { OnErr result (map (λ v. v.items) sent.new.items ≡ map (λ v. v.items) sent.old.items) }
+        ensures stands { Stands (side_of Self.Exchange.SIDE) machine.old → Stands (side_of Self.Exchange.SIDE) machine.new };
+}

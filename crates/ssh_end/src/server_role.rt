@@ -1,0 +1,82 @@
+//! What is of a server alone.
+
+ghost use Rattle.ssh_end.specs.Asking.{ServerAsks};
+ghost use Rattle.ssh_end.specs.ServerUnits.{GoLacks, Goes};
+
+use crate::ask::Ask;
+use crate::asking::{AskStep, Fault, ask_server};
+use crate::role::EndRole;
+use crate::server_unit::go_on;
+use crate::step::Step;
+use ssh_auth::UserJudge;
+use ssh_channels::Channels;
+use ssh_layers::ServerLayers;
+use ssh_transport::Server;
+use ssh_transport_base::ServerParts;
+use ssh_transport_machine::{Machine, TransportTurn};
+use std::alloc::AllocError;
+
+/// What is of a server alone: its part in an exchange of keys, and who judges its users.
+pub struct ServerRole<P: ServerParts, U: UserJudge + Drop> {
+    /// What it does in an exchange of keys.
+    pub exchange: Server<P>,
+    /// Who judges its users.
+    pub user: U,
+}
+
+// Written out, since a derive would ask it of the parts' name too.
+impl<P: ServerParts, U: UserJudge + Drop> Drop for ServerRole<P, U> {
+    fn drop(self) {
+        let ServerRole {
+            exchange: _,
+            user: _,
+        } = self;
+    }
+}
+
+impl<P: ServerParts, U: UserJudge + Drop> EndRole for ServerRole<P, U> {
+    type Exchange = Server<P>;
+
+    type Layers = ServerLayers;
+
+    ghost exchange_of = { λ role. role.exchange };
+
+    ghost channels_of = { λ layers. layers.channels };
+
+    ghost goes = { λ role turn old layers step new later o. Goes P.Sealing.crypto (U.verdicts role.user) turn old layers step new later o };
+
+    ghost lacks = { λ role turn machine layers. GoLacks (U.verdicts role.user) turn machine layers };
+
+    ghost asks = { λ role old layers asked given new later o. ServerAsks P.Sealing.crypto old layers asked given new later o };
+
+    fn exchange(&self) -> &Server<P> {
+        &self.exchange
+    }
+
+    fn channels(layers: &ServerLayers) -> &Channels {
+        layers.channels()
+    }
+
+    fn go_on(
+        &self,
+        machine: &mut Machine<P::Sealing, P::Filler>,
+        layers: &mut ServerLayers,
+        turn: TransportTurn,
+        out: &mut Vec<u8>,
+        sent: &mut Vec<Vec<u8>>,
+        numbers: &mut Vec<Option<u32>>,
+    ) -> Result<Step, AllocError> {
+        go_on(machine, layers, &self.user, turn, out, sent, numbers)
+    }
+
+    fn ask(
+        &self,
+        machine: &mut Machine<P::Sealing, P::Filler>,
+        layers: &mut ServerLayers,
+        ask: &Ask<'_>,
+        out: &mut Vec<u8>,
+        sent: &mut Vec<Vec<u8>>,
+    ) -> Result<AskStep, Fault> {
+        ask_server(machine, layers, ask, out, sent)
+    }
+}

@@ -1,0 +1,63 @@
+//! Lines and packets that an end takes.
+
+ghost use Rattle.std.specs.Prelude.{◌≡◌, ◌<◌, ◌≤◌, ◌++◌, IfErr, IfOk, OnErr, false, length, map, take};
+ghost use Rattle.ssh_types.specs.Sides.{side_of};
+ghost use Rattle.ssh_transport_machine.specs.Standing.{Stands};
+ghost use Rattle.ssh_transport_machine.specs.State.{begun_of};
+ghost use Rattle.ssh_end.specs.Beside.{channels_behind};
+ghost use Rattle.ssh_end.specs.Effects.{IsOver};
+ghost use Rattle.ssh_end.specs.Units.{UnitGoes, UnitLacks};
+
+use crate::cutting::cut_back;
+use crate::role::EndRole;
+use crate::step::Step;
+use ssh_packet::{Filler, Sealing};
+use ssh_transport::laws::turns_left;
+use ssh_transport::{Role, take_unit};
+use ssh_transport_machine::{Machine, TransportFault};
+
+/// Takes bytes to the end of one line or one packet, and does all that it asks for.
+///
+/// # Errors
+///
+/// - `Memory`: memory was refused. Nothing is put out, and the end is over.
+/// - `Dead`: it was over before. Nothing changes.
+pub fn advance<R: EndRole>(
+    machine: &mut Machine<<R::Exchange as Role>::Sealing, <R::Exchange as Role>::Filler>,
+    role: &R,
+    layers: &mut R::Layers,
+    bytes: &[u8],
+    out: &mut Vec<u8>,
+    sent: &mut Vec<Vec<u8>>,
+    numbers: &mut Vec<Option<u32>>,
+) -> (usize, Result<Step, TransportFault>)
+    requires { Stands (side_of R.Exchange.SIDE) machine.old }
+    ensures used { result.0 ≤ length bytes.now }
+    ensures progress { machine.old.kept.dead ≡ false → 0 < length bytes.now → 0 < result.0 }
+    ensures more { IfOk result.1 (λ step. step ≡ Step.More → result.0 ≡ length bytes.now) }
+    ensures goes { IfOk result.1 (λ step. UnitGoes R.Exchange.Sealing.crypto (side_of R.Exchange.SIDE) (R.Exchange.does (R.exchange_of role.now)) (R.goes role.now) machine.old layers.old (begun_of machine.old ++ take result.0 bytes.now) step machine.new layers.new (record { before = out.old.items; after = out.new.items; listed = map (λ v. v.items) sent.old.items; relisted = map (λ v. v.items) sent.new.items })) }
+    ensures numbered { IfOk result.1 (λ step. numbers.new.items ≡ numbers.old.items ++ channels_behind step (R.channels_of layers.old).owed) }
+    ensures failed { IfErr result.1 (λ fault. IsOver machine.old fault machine.new) }
+    ensures dead { IfErr result.1 (λ fault. fault ≡ TransportFault.Dead → layers.new ≡ layers.old) }
+    ensures lacks { IfErr result.1 (λ fault. fault ≡ TransportFault.Memory → UnitLacks R.Exchange.Sealing.crypto (side_of R.Exchange.SIDE) (R.Exchange.does (R.exchange_of role.now)) (R.Exchange.lacks (R.exchange_of role.now)) (R.lacks role.now) machine.old layers.old (begun_of machine.old ++ take result.0 bytes.now)) }
+    ensures out { OnErr result.1 (out.new.items ≡ out.old.items) }
+    ensures kept { OnErr result.1 (map (λ v. v.items) sent.new.items ≡ map (λ v. v.items) sent.old.items) }
+    ensures stands { Stands (side_of R.Exchange.SIDE) machine.new }
+{
+    turns_left::<R::Exchange>();
+    let start = out.as_slice().len();
+    let listed = sent.as_slice().len();
+    let exchange = role.exchange();
+    let (used, given) = take_unit(machine, exchange, bytes, out, sent);
+    let turn = match given {
+        Ok(turn) => turn,
+        Err(fault) => return (used, Err(fault)),
+    };
+    match role.go_on(machine, layers, turn, out, sent, numbers) {
+        Ok(step) => (used, Ok(step)),
+        Err(_) => {
+            cut_back(out, sent, start, listed);
+            (used, Err(TransportFault::Memory))
+        }
+    }
+}

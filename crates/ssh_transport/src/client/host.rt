@@ -1,0 +1,194 @@
+//! What the reply of a server is to a client.
+
+ghost use Rattle.std.specs.Prelude.{◌≡◌, ◌≤◌, IfOk, OnErr, Some, false, length, true};
+ghost use Rattle.std.specs.Option.{option_map};
+ghost use Rattle.ssh_model.specs.Side as model;
+ghost use Rattle.ssh_model.specs.Wire.Message.{IsPayload, KexEcdhReply};
+ghost use Rattle.ssh_model.specs.TransportLayer.Kept.{shared_with};
+ghost use Rattle.ssh_message.specs.Meaning.{meaning};
+ghost use Rattle.ssh_model.specs.Wire.DataTypes.{number};
+ghost use Rattle.ssh_kex.specs.Values.{chosen_of, owned_chosen};
+ghost use Rattle.ssh_transport_machine.specs.Finishing.{AreKeys, AreKnown, HasChoice, IsAnnouncement};
+ghost use Rattle.ssh_transport_machine.specs.Turning.{HasRoom};
+ghost use Rattle.ssh_transport.specs.OfClient.Replies.{HostDue, IsHostJudged, IsReply, IsReplyJudged, ShowsDue, ShowsReply, reply_of};
+
+use crate::bytes::{copied, has_32_bytes};
+use ssh_kex::{Agreement, Choice, HostTrust, OwnedChoice};
+use ssh_message::{Message, decode};
+use ssh_packet::{Filler, Sealing};
+use ssh_transport_machine::{ExchangeKeys, Machine, Points};
+use std::alloc::AllocError;
+
+/// What the reply of a server is to a client.
+#[derive(Drop)]
+pub enum HostJudged<K: Drop> {
+    /// Its point has not 32 bytes, or shares nothing (RFC 8731 section 3).
+    BadPoint,
+    /// Its host key or its signature is not trusted.
+    BadHost,
+    /// It is trusted, and no number is left in the epoch for NEWKEYS.
+    NumberSpent,
+    /// It is trusted.
+    Trusted(TrustedHost<K>),
+}
+
+/// What comes of a reply that is trusted: the keys, the payload of EXT_INFO where it is due, and the algorithms.
+#[derive(Drop)]
+pub struct TrustedHost<K: Drop> {
+    pub keys: ExchangeKeys<K>,
+    pub announcement: Option<Vec<u8>>,
+    pub choice: OwnedChoice,
+}
+
+// The texts of a reply.
+#[derive(Clone, Copy)]
+struct Reply<'a> {
+    host_key: &'a [u8],
+    point: &'a [u8],
+    signature: &'a [u8],
+}
+
+/// Tests the reply of the server, whose message is shown, and makes the keys.
+///
+/// # Errors
+///
+/// Only where memory is refused: nothing changes.
+pub fn judge_reply<S: Sealing, F: Filler + Drop, A: Agreement, T: HostTrust>(
+    machine: &Machine<S, F>,
+    agreement: &A,
+    trust: &T,
+) -> Result<HostJudged<S::Key>, AllocError>
+    requires shown { ShowsReply machine.now.receiver.payload }
+    requires side { machine.now.kept.side ≡ model.Client }
+    requires choice { HasChoice machine.now.kept }
+    ensures judged { IfOk result (λ judged. IsReplyJudged S.crypto (record { point = A.public_of agreement.now; shared = A.shared_of agreement.now }) (T.judged trust.now) machine.now.kept machine.now.receiver.payload judged) }
+    ensures due { OnErr result (ShowsDue S.crypto (record { point = A.public_of agreement.now; shared = A.shared_of agreement.now }) (T.judged trust.now) machine.now.kept machine.now.receiver.payload) }
+    ensures room { OnErr result (HasRoom machine.now) }
+{
+    let payload = machine.payload();
+    match decode(false, payload) {
+        Ok(message) => judge_message(machine, agreement, trust, payload, message),
+        Err(_) => unreachable!(),
+    }
+}
+
+// Tests the reply that a payload is.
+fn judge_message<S: Sealing, F: Filler + Drop, A: Agreement, T: HostTrust>(
+    machine: &Machine<S, F>,
+    agreement: &A,
+    trust: &T,
+    payload: &[u8],
+    message: Message<'_>,
+) -> Result<HostJudged<S::Key>, AllocError>
+    requires read { IsPayload false (meaning message) payload.now }
+    requires reply { IsReply (meaning message) }
+    requires most { length payload.now ≤ 35000 }
+    requires side { machine.now.kept.side ≡ model.Client }
+    requires choice { HasChoice machine.now.kept }
+    ensures judged { IfOk result (λ judged. IsReplyJudged S.crypto (record { point = A.public_of agreement.now; shared = A.shared_of agreement.now }) (T.judged trust.now) machine.now.kept payload.now judged) }
+    ensures due { OnErr result (ShowsDue S.crypto (record { point = A.public_of agreement.now; shared = A.shared_of agreement.now }) (T.judged trust.now) machine.now.kept payload.now) }
+    ensures room { OnErr result (HasRoom machine.now) }
+{
+    ssh_model::payload_sizes();
+    let reply = reply_in(message);
+    judge_point(machine, agreement, trust, reply)
+}
+
+// The texts of a message.
+fn reply_in(message: Message<'_>) -> Reply<'_>
+    requires { IsReply (meaning message) }
+    ensures { reply_of result ≡ meaning message.entry }
+{
+    match message {
+        Message::KexEcdhReply {
+            k_s,
+            q_s,
+            signature,
+        } => Reply {
+            host_key: k_s,
+            point: q_s,
+            signature,
+        },
+        _ => unreachable!(),
+    }
+}
+
+// Tests the point, and then the host.
+fn judge_point<S: Sealing, F: Filler + Drop, A: Agreement, T: HostTrust>(
+    machine: &Machine<S, F>,
+    agreement: &A,
+    trust: &T,
+    reply: Reply<'_>,
+) -> Result<HostJudged<S::Key>, AllocError>
+    requires short { length reply.host_key.now ≤ 35000 }
+    requires side { machine.now.kept.side ≡ model.Client }
+    requires choice { HasChoice machine.now.kept }
+    ensures judged { IfOk result (λ judged. IsHostJudged S.crypto (record { point = A.public_of agreement.now; shared = A.shared_of agreement.now }) (T.judged trust.now) machine.now.kept reply.entry.host_key.now reply.entry.point.now reply.entry.signature.now judged) }
+    ensures due { OnErr result (HostDue S.crypto (record { point = A.public_of agreement.now; shared = A.shared_of agreement.now }) (T.judged trust.now) machine.now.kept reply.entry.host_key.now reply.entry.point.now reply.entry.signature.now) }
+    ensures room { OnErr result (HasRoom machine.now) }
+{
+    match machine.shared(agreement, reply.point) {
+        Some(shared) => judge_host(machine, agreement, trust, reply, &shared),
+        None => Ok(HostJudged::BadPoint),
+    }
+}
+
+// Tests the host, whose point shares this.
+fn judge_host<S: Sealing, F: Filler + Drop, A: Agreement, T: HostTrust>(
+    machine: &Machine<S, F>,
+    agreement: &A,
+    trust: &T,
+    reply: Reply<'_>,
+    shared: &[u8; 32],
+) -> Result<HostJudged<S::Key>, AllocError>
+    requires short { length reply.host_key.now ≤ 35000 }
+    requires size { length reply.point.now ≡ 32 }
+    requires shares { shared_with (record { point = A.public_of agreement.now; shared = A.shared_of agreement.now }) machine.now.kept.underway.secret reply.point.now ≡ Some shared.now }
+    requires side { machine.now.kept.side ≡ model.Client }
+    requires choice { HasChoice machine.now.kept }
+    ensures judged { IfOk result (λ judged. IsHostJudged S.crypto (record { point = A.public_of agreement.now; shared = A.shared_of agreement.now }) (T.judged trust.now) machine.now.kept reply.entry.host_key.now reply.entry.point.now reply.entry.signature.now judged) }
+    ensures due { OnErr result (HostDue S.crypto (record { point = A.public_of agreement.now; shared = A.shared_of agreement.now }) (T.judged trust.now) machine.now.kept reply.entry.host_key.now reply.entry.point.now reply.entry.signature.now) }
+    ensures room { OnErr result (HasRoom machine.now) }
+{
+    let choice = machine.choice();
+    let algorithm = choice.host.as_bytes();
+    let own = machine.own_point(agreement);
+    has_32_bytes(&own);
+    let server = copied(reply.point);
+    let hash = machine.hash(&Points {
+        host_key: reply.host_key,
+        client: &own,
+        server: &server,
+        shared,
+    });
+    if !trust.judge(algorithm, reply.host_key, &hash, reply.signature) {
+        return Ok(HostJudged::BadHost);
+    }
+    machine.announcement_fits();
+    if machine.is_spent() {
+        return Ok(HostJudged::NumberSpent);
+    }
+    let host = make_keys(machine, choice, shared, &hash)?;
+    Ok(HostJudged::Trusted(host))
+}
+
+// Makes the keys of the exchange, and what is announced behind NEWKEYS.
+fn make_keys<S: Sealing, F: Filler + Drop>(
+    machine: &Machine<S, F>,
+    choice: Choice<'_>,
+    shared: &[u8; 32],
+    hash: &[u8; 32],
+) -> Result<TrustedHost<S::Key>, AllocError>
+    requires { AreKnown S.crypto (chosen_of choice) }
+    ensures keys { IfOk result (λ host. AreKeys S.crypto machine.now.kept (chosen_of choice.entry) (number shared.now) hash.now host.keys.own host.keys.theirs host.keys.session) }
+    ensures announcement { IfOk result (λ host. IsAnnouncement machine.now.kept (option_map (λ v. v.items) host.announcement)) }
+    ensures chosen { IfOk result (λ host. owned_chosen host.choice ≡ chosen_of choice.entry) }
+{
+    let keys = machine.exchange_keys(&choice, shared, hash)?;
+    let announcement = machine.spell_announcement()?;
+    Ok(TrustedHost {
+        keys,
+        announcement,
+        choice: OwnedChoice::from(choice),
+    })
+}

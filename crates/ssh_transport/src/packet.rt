@@ -1,0 +1,75 @@
+//! Packets that a transport takes.
+
+ghost use Rattle.std.specs.Prelude.{◌≡◌, ◌<◌, ◌≤◌, ◌++◌, IfOk, IfSome, None, OnErr, false, length, map, take, true};
+ghost use Rattle.ssh_types.specs.Sides.{side_of};
+ghost use Rattle.ssh_transport_machine.specs.Standing.{IsStanding, Stands};
+ghost use Rattle.ssh_transport.specs.Own.{IsReady, own_of};
+ghost use Rattle.ssh_transport.specs.Units.{IsFinished, PacketLacked, PacketTook};
+
+use crate::own::own_in;
+use crate::role::Role;
+use ssh_model::payload_numbers;
+use ssh_packet::{Filler, Sealing};
+use ssh_transport_machine::ending::choices_kept;
+use ssh_transport_machine::laws::live_machines;
+use ssh_transport_machine::standing::machines_stand;
+use ssh_transport_machine::{Machine, PacketTurn, TransportTurn, packet_outcome};
+use std::alloc::AllocError;
+
+/// Takes bytes to the end of one packet, and does what its payload asks for; a payload for the layers above is left.
+///
+/// # Errors
+///
+/// Only where memory is refused: nothing is put out, and the end is over.
+pub fn take_packet<R: Role>(
+    machine: &mut Machine<R::Sealing, R::Filler>,
+    role: &R,
+    bytes: &[u8],
+    out: &mut Vec<u8>,
+    sent: &mut Vec<Vec<u8>>,
+) -> (usize, Result<TransportTurn, AllocError>)
+    requires alive { machine.old.kept.dead ≡ false }
+    requires stands { IsStanding (side_of R.SIDE) machine.old }
+    ensures used { result.0 ≤ length bytes.now }
+    ensures progress { 0 < length bytes.now → 0 < result.0 }
+    ensures more { IfOk result.1 (λ turn. turn ≡ TransportTurn.More → result.0 ≡ length bytes.now) }
+    ensures took { IfOk result.1 (λ turn. PacketTook R.Sealing.crypto (R.does role.now) machine.old (machine.old.receiver.begun ++ take result.0 bytes.now) turn machine.new (record { before = out.old.items; after = out.new.items; listed = map (λ v. v.items) sent.old.items; relisted = map (λ v. v.items) sent.new.items })) }
+    ensures stands { IfOk result.1 (λ _. Stands (side_of R.SIDE) machine.new) }
+    ensures dead { OnErr result.1 (machine.new.kept.dead ≡ true) }
+    ensures lacks { OnErr result.1 (PacketLacked R.Sealing.crypto (R.lacks role.now) machine.old (machine.old.receiver.begun ++ take result.0 bytes.now)) }
+    ensures out { OnErr result.1 (out.new.items ≡ out.old.items) }
+    ensures kept { OnErr result.1 (map (λ v. v.items) sent.new.items ≡ map (λ v. v.items) sent.old.items) }
+{
+    R::lifts();
+    payload_numbers();
+    live_machines::<<R::Sealing as Sealing>::Key>();
+    choices_kept::<<R::Sealing as Sealing>::Key>();
+    machines_stand::<<R::Sealing as Sealing>::Key>();
+    let (used, done) = machine.take_packet(bytes, out, sent);
+    match done {
+        Ok(done) => (used, finish(machine, role, done, out, sent)),
+        Err(error) => (used, Err(error)),
+    }
+}
+
+// Does what is left of a packet to the role.
+fn finish<R: Role>(
+    machine: &mut Machine<R::Sealing, R::Filler>,
+    role: &R,
+    done: PacketTurn,
+    out: &mut Vec<u8>,
+    sent: &mut Vec<Vec<u8>>,
+) -> Result<TransportTurn, AllocError>
+    requires { IfSome (own_of done) (λ own. IsReady (side_of R.SIDE) machine.old own) }
+    ensures finished { IfOk result (λ turn. IsFinished (R.does role.now) machine.old done turn machine.new (record { before = out.old.items; after = out.new.items; listed = map (λ v. v.items) sent.old.items; relisted = map (λ v. v.items) sent.new.items })) }
+    ensures own { OnErr result (own_of done ≡ None → ⊥) }
+    ensures dead { OnErr result (machine.new.kept.dead ≡ true) }
+    ensures lacks { OnErr result (IfSome (own_of done) (λ own. R.lacks role.now machine.old own)) }
+    ensures out { OnErr result (out.new.items ≡ out.old.items) }
+    ensures kept { OnErr result (map (λ v. v.items) sent.new.items ≡ map (λ v. v.items) sent.old.items) }
+{
+    match own_in(done) {
+        Some(own) => role.finish_exchange(machine, own, out, sent),
+        None => Ok(packet_outcome(done, machine.last_number())),
+    }
+}

@@ -1,0 +1,178 @@
+//! What a server answers to a client's point, before anything is sent.
+
+ghost use Rattle.std.specs.Prelude.{◌≡◌, ◌+◌, ◌≤◌, ◌^◌, IfOk, OnErr, Some, length, take};
+ghost use Rattle.std.specs.Option.{option_map};
+ghost use Rattle.ssh_model.specs.Side as model;
+ghost use Rattle.ssh_model.specs.Wire.Message.{KexEcdhReply};
+ghost use Rattle.ssh_model.specs.Wire.Sizes.{payload_size};
+ghost use Rattle.ssh_model.specs.Sessions.Turns.{IsSpelled};
+ghost use Rattle.ssh_model.specs.TransportLayer.Kept.{IsChosen, shared_with};
+ghost use Rattle.ssh_kex.specs.Values.{chosen_of, owned_chosen};
+ghost use Rattle.ssh_transport_machine.specs.Finishing.{AreKnown, HasChoice};
+ghost use Rattle.ssh_transport.specs.OfServer.Answers.{AnswerDue, IsAnswer, IsSigned, IsSpelling};
+
+use crate::bytes::has_32_bytes;
+use ssh_kex::{Agreement, Choice, HostSigner, OwnedChoice};
+use ssh_message::Message;
+use ssh_model::{payload_sizes, spellings};
+use ssh_packet::{Filler, Sealing};
+use ssh_transport_machine::{ExchangeKeys, Machine, Points};
+use std::alloc::AllocError;
+
+/// The payload of the reply, the keys, the payload of EXT_INFO where it is due, and the algorithms.
+#[derive(Drop)]
+pub struct Answer<K: Drop> {
+    pub reply: Vec<u8>,
+    pub keys: ExchangeKeys<K>,
+    pub announcement: Option<Vec<u8>>,
+    pub choice: OwnedChoice,
+}
+
+/// That, or too few numbers are left in the epoch for it.
+#[derive(Drop)]
+pub enum Spelling<K: Drop> {
+    Answer(Answer<K>),
+    NumberSpent,
+}
+
+// The server's own point, the hash of the exchange, and the signature of that, as many bytes as its length says.
+#[derive(Clone, Copy)]
+struct Signed {
+    own: [u8; 32],
+    hash: [u8; 32],
+    signature: [u8; 4096],
+    length: usize,
+}
+
+/// The answer to this point, which shares this. The numbers are tested before any memory is asked for.
+///
+/// # Errors
+///
+/// Only where memory is refused: nothing changes.
+pub fn spell_answer<S: Sealing, F: Filler + Drop, A: Agreement, H: HostSigner>(
+    machine: &Machine<S, F>,
+    agreement: &A,
+    signer: &H,
+    point: &[u8; 32],
+    shared: &[u8; 32],
+) -> Result<Spelling<S::Key>, AllocError>
+    requires side { machine.now.kept.side ≡ model.Server }
+    requires choice { HasChoice machine.now.kept }
+    requires shares { shared_with (record { point = A.public_of agreement.now; shared = A.shared_of agreement.now }) machine.now.kept.underway.secret point.now ≡ Some shared.now }
+    ensures spelled { IfOk result (λ spelling. IsSpelling S.crypto (record { agreement = record { point = A.public_of agreement.now; shared = A.shared_of agreement.now }; host_key = H.key_of signer.now; host_signature = H.signature_of signer.now }) machine.now.kept point.now spelling) }
+    ensures due { OnErr result (AnswerDue S.crypto (record { agreement = record { point = A.public_of agreement.now; shared = A.shared_of agreement.now }; host_key = H.key_of signer.now; host_signature = H.signature_of signer.now }) machine.now.kept point.now) }
+    ensures room { OnErr result (machine.now.kept.sending.count + 2 ≤ 2 ^ 32) }
+{
+    let choice = machine.choice();
+    let signed = sign(machine, agreement, signer, &choice, point, shared);
+    answer_fits(machine, agreement, signer, &choice, point, shared, &signed);
+    if !machine.has_numbers(2) {
+        return Ok(Spelling::NumberSpent);
+    }
+    let answer = spell_signed::<S, F, A, H>(
+        machine, agreement, signer, choice, point, shared, &signed,
+    )?;
+    Ok(Spelling::Answer(answer))
+}
+
+// Signs the exchange. It needs no memory.
+fn sign<S: Sealing, F: Filler + Drop, A: Agreement, H: HostSigner>(
+    machine: &Machine<S, F>,
+    agreement: &A,
+    signer: &H,
+    choice: &Choice<'_>,
+    point: &[u8; 32],
+    shared: &[u8; 32],
+) -> Signed
+    requires side { machine.now.kept.side ≡ model.Server }
+    requires chosen { IsChosen machine.now.kept (chosen_of choice.now) }
+    requires shares { shared_with (record { point = A.public_of agreement.now; shared = A.shared_of agreement.now }) machine.now.kept.underway.secret point.now ≡ Some shared.now }
+    ensures signed { IsSigned (record { agreement = record { point = A.public_of agreement.now; shared = A.shared_of agreement.now }; host_key = H.key_of signer.now; host_signature = H.signature_of signer.now }) machine.now.kept (chosen_of choice.now) point.now shared.now result.own result.hash (take result.length result.signature) }
+    ensures length { result.length ≤ 4096 }
+{
+    let algorithm = choice.host.as_bytes();
+    let own = machine.own_point(agreement);
+    has_32_bytes(&own);
+    let hash = machine.hash(&Points {
+        host_key: signer.key(algorithm),
+        client: point,
+        server: &own,
+        shared,
+    });
+    let mut signature = [0; 4096];
+    let length = signer.sign(algorithm, &hash, &mut signature);
+    Signed {
+        own,
+        hash,
+        signature,
+        length,
+    }
+}
+
+// What answers by this has a spelling: a fact for proofs.
+fn answer_fits<S: Sealing, F: Filler + Drop, A: Agreement, H: HostSigner>(
+    machine: &Machine<S, F>,
+    agreement: &A,
+    signer: &H,
+    choice: &Choice<'_>,
+    point: &[u8; 32],
+    shared: &[u8; 32],
+    signed: &Signed,
+)
+    requires side { machine.now.kept.side ≡ model.Server }
+    requires chosen { IsChosen machine.now.kept (chosen_of choice.now) }
+    requires shares { shared_with (record { point = A.public_of agreement.now; shared = A.shared_of agreement.now }) machine.now.kept.underway.secret point.now ≡ Some shared.now }
+    requires signed { IsSigned (record { agreement = record { point = A.public_of agreement.now; shared = A.shared_of agreement.now }; host_key = H.key_of signer.now; host_signature = H.signature_of signer.now }) machine.now.kept (chosen_of choice.now) point.now shared.now signed.now.own signed.now.hash (take signed.now.length signed.now.signature) }
+    ensures { AnswerDue S.crypto (record { agreement = record { point = A.public_of agreement.now; shared = A.shared_of agreement.now }; host_key = H.key_of signer.now; host_signature = H.signature_of signer.now }) machine.now.kept point.now }
+{
+    spellings();
+    payload_sizes();
+    machine.announcement_fits();
+}
+
+// Makes the keys and the payloads of an exchange that is signed.
+fn spell_signed<S: Sealing, F: Filler + Drop, A: Agreement, H: HostSigner>(
+    machine: &Machine<S, F>,
+    agreement: &A,
+    signer: &H,
+    choice: Choice<'_>,
+    point: &[u8; 32],
+    shared: &[u8; 32],
+    signed: &Signed,
+) -> Result<Answer<S::Key>, AllocError>
+    requires side { machine.now.kept.side ≡ model.Server }
+    requires chosen { IsChosen machine.now.kept (chosen_of choice) }
+    requires known { AreKnown S.crypto (chosen_of choice) }
+    requires shares { shared_with (record { point = A.public_of agreement.now; shared = A.shared_of agreement.now }) machine.now.kept.underway.secret point.now ≡ Some shared.now }
+    requires signed { IsSigned (record { agreement = record { point = A.public_of agreement.now; shared = A.shared_of agreement.now }; host_key = H.key_of signer.now; host_signature = H.signature_of signer.now }) machine.now.kept (chosen_of choice) point.now shared.now signed.now.own signed.now.hash (take signed.now.length signed.now.signature) }
+    requires length { signed.now.length ≤ 4096 }
+    ensures { IfOk result (λ a. IsAnswer S.crypto (record { agreement = record { point = A.public_of agreement.now; shared = A.shared_of agreement.now }; host_key = H.key_of signer.now; host_signature = H.signature_of signer.now }) machine.now.kept point.now (owned_chosen a.choice) a.reply.items a.keys.own a.keys.theirs a.keys.session (option_map (λ v. v.items) a.announcement)) }
+{
+    let keys = machine.exchange_keys(&choice, shared, &signed.hash)?;
+    let reply = spell_reply(machine, signer, choice.host.as_bytes(), signed)?;
+    let announcement = machine.spell_announcement()?;
+    Ok(Answer {
+        reply,
+        keys,
+        announcement,
+        choice: OwnedChoice::from(choice),
+    })
+}
+
+// The payload of KEX_ECDH_REPLY (RFC 5656 section 4).
+fn spell_reply<S: Sealing, F: Filler + Drop, H: HostSigner>(
+    machine: &Machine<S, F>,
+    signer: &H,
+    algorithm: &[u8],
+    signed: &Signed,
+) -> Result<Vec<u8>, AllocError>
+    requires length { signed.now.length ≤ 4096 }
+    ensures spelled { IfOk result (λ reply. IsSpelled (KexEcdhReply (H.key_of signer.now algorithm.now) signed.now.own (take signed.now.length signed.now.signature)) reply.items) }
+    ensures some { IfOk result (λ reply. 1 ≤ length reply.items) }
+{
+    machine.spell(&Message::KexEcdhReply {
+        k_s: signer.key(algorithm),
+        q_s: &signed.own,
+        signature: &signed.signature[..signed.length],
+    })
+}

@@ -1,0 +1,96 @@
+//! Lines and packets that a transport takes.
+
+ghost use Rattle.std.specs.Prelude.{◌≡◌, ◌<◌, ◌≤◌, ◌++◌, IfErr, IfOk, OnErr, false, length, map, take, true};
+ghost use Rattle.ssh_types.specs.Sides.{side_of};
+ghost use Rattle.ssh_transport_machine.specs.Puts.{Outs};
+ghost use Rattle.ssh_transport_machine.specs.Standing.{Stands};
+ghost use Rattle.ssh_transport_machine.specs.State.{begun_of};
+ghost use Rattle.ssh_transport_machine.specs.Turning.{IsQuiet};
+ghost use Rattle.ssh_transport.specs.Units.{Failed, Took};
+
+use crate::packet::take_packet;
+use crate::role::Role;
+use ssh_packet::{Filler, Sealing};
+use ssh_transport_machine::standing::machines_stand;
+use ssh_transport_machine::{Machine, TransportFault, TransportTurn, line_outcome};
+
+/// Takes bytes to the end of one line or one packet, and does what that asks for.
+///
+/// # Errors
+///
+/// - `Memory`: memory was refused for what is sent. Nothing is put out, and the end is over.
+/// - `Dead`: it was over before. Nothing changes, and no byte is used.
+pub fn take_unit<R: Role>(
+    machine: &mut Machine<R::Sealing, R::Filler>,
+    role: &R,
+    bytes: &[u8],
+    out: &mut Vec<u8>,
+    sent: &mut Vec<Vec<u8>>,
+) -> (usize, Result<TransportTurn, TransportFault>)
+    requires { Stands (side_of R.SIDE) machine.old }
+    ensures used { result.0 ≤ length bytes.now }
+    ensures progress { machine.old.kept.dead ≡ false → 0 < length bytes.now → 0 < result.0 }
+    ensures more { IfOk result.1 (λ turn. turn ≡ TransportTurn.More → result.0 ≡ length bytes.now) }
+    ensures took { IfOk result.1 (λ turn. Took R.Sealing.crypto (side_of R.SIDE) (R.does role.now) machine.old (begun_of machine.old ++ take result.0 bytes.now) turn machine.new (record { before = out.old.items; after = out.new.items; listed = map (λ v. v.items) sent.old.items; relisted = map (λ v. v.items) sent.new.items })) }
+    ensures failed { IfErr result.1 (λ fault. Failed R.Sealing.crypto (side_of R.SIDE) (R.lacks role.now) machine.old (begun_of machine.old ++ take result.0 bytes.now) fault machine.new) }
+    ensures out { OnErr result.1 (out.new.items ≡ out.old.items) }
+    ensures kept { OnErr result.1 (map (λ v. v.items) sent.new.items ≡ map (λ v. v.items) sent.old.items) }
+    ensures stands { Stands (side_of R.SIDE) machine.new }
+{
+    if machine.is_dead() {
+        return (0, Err(TransportFault::Dead));
+    }
+    if machine.has_line() {
+        return take_packet_unit(machine, role, bytes, out, sent);
+    }
+    let (used, turn) = take_line_unit(machine, role, bytes);
+    (used, Ok(turn))
+}
+
+// The bytes of a line. They need no memory.
+fn take_line_unit<R: Role>(
+    machine: &mut Machine<R::Sealing, R::Filler>,
+    role: &R,
+    bytes: &[u8],
+) -> (usize, TransportTurn)
+    requires stands { Stands (side_of R.SIDE) machine.old }
+    requires alive { machine.old.kept.dead ≡ false }
+    requires reading { machine.old.kept.lines.found ≡ false }
+    ensures used { result.0 ≤ length bytes.now }
+    ensures progress { 0 < length bytes.now → 0 < result.0 }
+    ensures more { result.1 ≡ TransportTurn.More → result.0 ≡ length bytes.now }
+    ensures took { (o : Outs) → IsQuiet o → Took R.Sealing.crypto (side_of R.SIDE) (R.does role.now) machine.old (begun_of machine.old ++ take result.0 bytes.now) result.1 machine.new o }
+    ensures stands { Stands (side_of R.SIDE) machine.new }
+{
+    machines_stand::<<R::Sealing as Sealing>::Key>();
+    let (used, done) = machine.take_line(bytes);
+    (used, line_outcome(done))
+}
+
+// The bytes of a packet.
+fn take_packet_unit<R: Role>(
+    machine: &mut Machine<R::Sealing, R::Filler>,
+    role: &R,
+    bytes: &[u8],
+    out: &mut Vec<u8>,
+    sent: &mut Vec<Vec<u8>>,
+) -> (usize, Result<TransportTurn, TransportFault>)
+    requires stands { Stands (side_of R.SIDE) machine.old }
+    requires alive { machine.old.kept.dead ≡ false }
+    requires reading { machine.old.kept.lines.found ≡ true }
+    ensures used { result.0 ≤ length bytes.now }
+    ensures progress { 0 < length bytes.now → 0 < result.0 }
+    ensures more { IfOk result.1 (λ turn. turn ≡ TransportTurn.More → result.0 ≡ length bytes.now) }
+    ensures took { IfOk result.1 (λ turn. Took R.Sealing.crypto (side_of R.SIDE) (R.does role.now) machine.old (begun_of machine.old ++ take result.0 bytes.now) turn machine.new (record { before = out.old.items; after = out.new.items; listed = map (λ v. v.items) sent.old.items; relisted = map (λ v. v.items) sent.new.items })) }
+    ensures failed { IfErr result.1 (λ fault. Failed R.Sealing.crypto (side_of R.SIDE) (R.lacks role.now) machine.old (begun_of machine.old ++ take result.0 bytes.now) fault machine.new) }
+    ensures out { OnErr result.1 (out.new.items ≡ out.old.items) }
+    ensures kept { OnErr result.1 (map (λ v. v.items) sent.new.items ≡ map (λ v. v.items) sent.old.items) }
+    ensures stands { Stands (side_of R.SIDE) machine.new }
+{
+    machines_stand::<<R::Sealing as Sealing>::Key>();
+    let (used, done) = take_packet(machine, role, bytes, out, sent);
+    match done {
+        Ok(turn) => (used, Ok(turn)),
+        Err(_) => (used, Err(TransportFault::Memory)),
+    }
+}

@@ -1,9 +1,0 @@
-pub mod Replies
-pub mod Ending
-pub mod Answering
-pub mod Shown
-pub mod Packets
-pub mod Living
-pub mod Clients
-pub mod Units
-pub mod Leaving

@@ -1,5 +1,0 @@
-pub mod Points
-pub mod Answers
-pub mod Packets
-pub mod Transport
-pub mod Sessions
