@@ -1,5 +1,5 @@
 #!/bin/bash
-# Runs ssh_pipe against other implementations, as far as they are installed, and writes what was seen to docs/INTEROP.md: its server against the client of
+# Runs ssh_pipe against other implementations, as far as they are installed, and writes what was seen to docs/INTEROP.md: its server, and that of docs/EMBEDDING.md, against the client of
 # OpenSSH, its client against the server of OpenSSH over two FIFOs (`sshd -i`), both against asyncssh, its server against the client of PuTTY; and Dropbear and
 # paramiko, which have no cipher or no strict key exchange in common with it. Nothing stays behind: every process is started here and ended here, and all files
 # stand in a directory that is removed.
@@ -21,9 +21,10 @@ limit=${LIMIT:-300}
 packets=$((size / 32768 / 16))
 [ "$packets" -ge 64 ] || packets=64
 if [ -z "${SSH_PIPE:-}" ]; then
-    sh "$tools/build.sh" ssh_trace ssh_pipe || exit 2
+    sh "$tools/build.sh" ssh_trace ssh_pipe ssh_embedding || exit 2
     SSH_PIPE=$top/build/ssh_pipe
 fi
+embedding=$top/build/ssh_embedding
 work=$(mktemp -d)
 trap 'rm -rf "$work"' EXIT
 cd "$work" || exit 2
@@ -107,7 +108,7 @@ server_said() {
 # The client of OpenSSH through that server.
 stock() {
     timeout -k 5 "$limit" ssh -F /dev/null -o BatchMode="${BATCH:-yes}" -o UserKnownHostsFile="$work/${KNOWN:-known}" -o GlobalKnownHostsFile=/dev/null \
-        -o StrictHostKeyChecking=yes -o IdentitiesOnly=yes -i "$work/${IDENTITY:-user}" -o ProxyCommand="$work/server" "$@"
+        -o StrictHostKeyChecking=yes -o IdentitiesOnly=yes -i "$work/${IDENTITY:-user}" -o ProxyCommand="${PROXY:-$work/server}" "$@"
 }
 
 # What a password is asked by.
@@ -146,6 +147,7 @@ stock_client() {
     seen=$(SERVER="--rekey-after $packets" stock -v reader@example.org cat <data 2>log | hash_of)
     row "$peer" "by the server, every $packets packets" "same, more than 4 exchanges" "$(same "$seen" "$want"), $(exchanges log)"
     several "$peer"
+    stays_alive "$peer"
     stock_refusals "$peer"
 }
 
@@ -171,6 +173,18 @@ several() {
     part=$(head -c "$part" data | hash_of)
     for each in 1 2 3; do seen="$seen $(same "$(cat "several.$each")" "$part")"; done
     row "$1" "three commands at a time, on channels of one connection" "same same same" "${seen# }"
+}
+
+# The server of docs/EMBEDDING.md, which is asked for a sign of life each second, and has to give it: the client gives up after two without.
+stays_alive() {
+    local seen status answers
+    [ -x "$embedding" ] || { echo "not there: build/ssh_embedding"; return; }
+    seen=$( (sleep 10; echo alive) | PROXY="$embedding server $work/host reader $work/authorized" \
+        stock -vvv -o ServerAliveInterval=1 -o ServerAliveCountMax=2 reader@example.org cat 2>log)
+    status=$?
+    answers=$(grep -c 'receive packet: type 82' log)
+    [ "$answers" -gt 7 ] && answers="more than 7"
+    row "$1" "the server of docs/EMBEDDING.md for ten seconds, asked by \`keepalive@openssh.com\` each second" "alive, status 0, more than 7 answers" "$seen, status $status, $answers answers"
 }
 
 # What either end refuses. The server's own words stand in server.err.

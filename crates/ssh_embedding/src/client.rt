@@ -1,193 +1,161 @@
-//! A client that sends a text and reads what comes back.
+//! A client that runs `cat` at a server, sends it a text, and reads what comes back.
 
-use crate::driving::{Driver, Work};
-use crate::end::asked;
-use crate::flow::{Flow, MAX_PACKET, WINDOW};
-use crate::material::Material;
-use crate::settings::config;
-use crate::tasks::Tasks;
-use ssh_auth::UserAsk;
-use ssh_channels::{Ask as ChannelAsk, Fact};
-use ssh_end::{Ask, ClientEnd, Fault, Told};
-use ssh_toy_setup::{ToyClient, client_parts};
-use ssh_toys::ToyUserSigner;
+use crate::asks::Asks;
+use crate::driving::Work;
+use crate::flow::Flow;
+use divrelca::{
+    Ask, ChannelAsk, ChannelFact, End, Fault, MOST_DATA, Told, UserAsk, WINDOW, default_answer,
+};
 use std::alloc::{AllocError, Global};
-
-type ToyEnd = ClientEnd<ToyClient, ToyUserSigner>;
 
 /// What a client with one channel keeps.
 #[derive(Drop)]
-pub struct Client {
+pub struct Client<'a> {
     alloc: Global,
-    material: Material,
+    // How the user asks to be let in.
+    login: UserAsk<'a>,
+    text: &'a [u8],
+    asks: Asks<'a>,
     flow: Option<Flow>,
-    // What waits for the end of an exchange of keys, the oldest first.
-    tasks: Tasks<Task>,
-    text: Vec<u8>,
-    read: Vec<u8>,
-    exchanges: u32,
+    // The text was handed on, and its end has to be said.
+    is_last: bool,
+    /// What the command wrote.
+    pub read: Vec<u8>,
+    /// The exit status of the command, once that is known.
+    pub status: Option<u8>,
 }
 
-// What is to be done on what the end told.
-#[derive(Clone, Copy, Drop)]
-enum Task {
-    // The service of authentication is asked for.
-    AskService,
-    // The user asks to be let in.
-    Authenticate,
-    // A channel is opened.
-    Open,
-    // On the confirmed channel the server is asked for its echo.
-    Request { channel: u32 },
-    // The connection is ended.
-    Disconnect,
-}
-
-impl Client {
-    /// A client that put its version line and its first KEXINIT into `out`.
-    pub fn open(alloc: Global, text: Vec<u8>, out: &mut Vec<u8>) -> anyhow::Result<Driver<Client>> {
-        let mut material = Material::new(1);
-        let (cookie, secret) = material.draw();
-        let config = config(alloc, b"sender")?;
-        let end = ClientEnd::new(
+impl<'a> Client<'a> {
+    /// A client that heard nothing yet.
+    pub fn new(alloc: Global, login: UserAsk<'a>, text: &'a [u8]) -> Client<'a> {
+        Client {
             alloc,
-            config,
-            client_parts(),
-            ToyUserSigner,
-            cookie,
-            secret,
-            out,
-        )?;
-        let client = Client {
-            alloc,
-            material,
-            flow: None,
-            tasks: Tasks::new(alloc),
+            login,
             text,
+            asks: Asks::new(alloc),
+            flow: None,
+            is_last: false,
             read: Vec::new(alloc),
-            exchanges: 0,
-        };
-        Ok(Driver::new(end, client))
+            status: None,
+        }
     }
 
-    /// What came back.
-    pub fn read(&self) -> &[u8] {
-        self.read.as_slice()
-    }
-
-    /// How many exchanges of keys were completed.
-    pub fn exchanges(&self) -> u32 {
-        self.exchanges
-    }
-}
-
-impl Work for Client {
-    type End = ToyEnd;
-
-    fn hear(&mut self, told: &Told<'_>) -> Result<(), AllocError> {
-        match *told {
-            Told::Completed { position } => {
-                self.exchanges = position;
-                if position == 1 {
-                    self.tasks.add(Task::AskService)?;
-                }
+    // What is told of the client's channel, and of what the server asks for.
+    fn hear_of_channels(&mut self, fact: &ChannelFact<'_>) -> Result<(), AllocError> {
+        match *fact {
+            ChannelFact::Confirmed {
+                channel,
+                max_packet,
+                ..
+            } => {
+                self.flow = Some(Flow::new(self.alloc, channel, max_packet));
+                self.asks.add(run(channel))
+            }
+            ChannelFact::RequestDone { success: true, .. } => self.send(),
+            ChannelFact::GotData { kind, body, .. } => self.take(kind, body),
+            ChannelFact::Requested {
+                name: b"exit-status",
+                rest,
+                ..
+            } => {
+                self.status = Some(status_in(rest));
                 Ok(())
             }
-            Told::Service => self.tasks.add(Task::Authenticate),
-            Told::Authenticated => self.tasks.add(Task::Open),
-            Told::Failed { .. } => self.tasks.add(Task::Disconnect),
-            Told::Channel(Fact::GotData { body, .. }) => read(&mut self.flow, &mut self.read, body),
-            Told::Channel(Fact::RequestDone { success: true, .. }) => send(
-                &mut self.flow,
-                &self.text,
-            ),
-            Told::Channel(fact) => heard(self.alloc, &mut self.flow, &mut self.tasks, &fact),
+            ChannelFact::RequestDone { success: false, .. }
+            | ChannelFact::OpenFailed { .. }
+            | ChannelFact::Closed { .. } => {
+                self.flow = None;
+                self.asks.add(Ask::Disconnect(b"done"))
+            }
+            fact => match default_answer(&Told::Channel(fact)) {
+                Some(answer) => self.asks.add(answer),
+                None => Ok(()),
+            },
+        }
+    }
+
+    // The command runs: it is sent the text.
+    fn send(&mut self) -> Result<(), AllocError> {
+        match &mut self.flow {
+            Some(flow) => {
+                self.is_last = true;
+                flow.add(self.text)
+            }
+            None => Ok(()),
+        }
+    }
+
+    // The command wrote something. Its error output is dropped.
+    fn take(&mut self, kind: Option<u32>, body: &[u8]) -> Result<(), AllocError> {
+        if let Some(flow) = &mut self.flow {
+            flow.consume(body.len());
+        }
+        match kind {
+            None => self.read.extend_from_slice(body),
+            Some(_) => Ok(()),
+        }
+    }
+}
+
+impl Work for Client<'_> {
+    fn hear(&mut self, told: &Told<'_>) -> Result<(), AllocError> {
+        match *told {
+            Told::Completed { position: 1 } => self.asks.add(Ask::Service),
+            Told::Service => {
+                let login = self.login;
+                self.asks.add(Ask::User(login))
+            }
+            Told::Authenticated => self.asks.add(open()),
+            Told::Failed { .. } => self.asks.add(Ask::Disconnect(b"not let in")),
+            Told::Channel(fact) => self.hear_of_channels(&fact),
             _ => Ok(()),
         }
     }
 
-    fn go_on(&mut self, end: &mut ToyEnd, out: &mut Vec<u8>) -> Result<(), Fault> {
-        if let Some(flow) = &mut self.flow {
-            self.material.keep_fresh(end, out)?;
-            flow.push(end, out)?;
+    fn go_on<E: End>(&mut self, end: &mut E, out: &mut Vec<u8>) -> Result<(), Fault> {
+        if !self.asks.work(end, out)? {
+            return Ok(());
         }
-        for _ in 0..self.tasks.len() {
-            let Some(task) = self.tasks.first() else {
-                break;
-            };
-            if !asked(end, &ask_of(task), out)? {
-                break;
-            }
-            self.tasks.finish_first();
+        let Some(flow) = &mut self.flow else {
+            return Ok(());
+        };
+        flow.push(end, out)?;
+        if self.is_last && flow.is_drained() {
+            self.is_last = false;
+            let channel = flow.channel();
+            self.asks
+                .add(Ask::Connection(ChannelAsk::Eof { channel }))
+                .map_err(|_| Fault::Memory)?;
+            self.asks.work(end, out)?;
         }
         Ok(())
     }
 }
 
-// What the end is asked for.
-fn ask_of(task: Task) -> Ask<'static> {
-    match task {
-        Task::AskService => Ask::Service,
-        Task::Authenticate => Ask::User(UserAsk::Password {
-            user: b"reader",
-            password: b"secret",
-        }),
-        Task::Open => Ask::Connection(ChannelAsk::Open {
-            kind: b"session",
-            window: WINDOW,
-            max_packet: MAX_PACKET,
-            rest: b"",
-        }),
-        Task::Request { channel } => Ask::Connection(ChannelAsk::Request {
-            channel,
-            name: b"subsystem",
-            want: true,
-            rest: b"\0\0\0\x04echo",
-        }),
-        Task::Disconnect => Ask::Disconnect(b"done"),
-    }
+// A session is opened (RFC 4254 section 6.1).
+fn open() -> Ask<'static> {
+    Ask::Connection(ChannelAsk::Open {
+        kind: b"session",
+        window: WINDOW,
+        max_packet: MOST_DATA,
+        rest: b"",
+    })
 }
 
-// Keeps data, which are read at once.
-fn read(flow: &mut Option<Flow>, read: &mut Vec<u8>, body: &[u8]) -> Result<(), AllocError> {
-    if let Some(flow) = flow {
-        flow.consume(body.len());
-    }
-    read.extend_from_slice(body)
+// The command is run (RFC 4254 section 6.5): its name is a string, with its length before it.
+fn run(channel: u32) -> Ask<'static> {
+    Ask::Connection(ChannelAsk::Request {
+        channel,
+        name: b"exec",
+        want: true,
+        rest: b"\0\0\0\x03cat",
+    })
 }
 
-// The whole text has to be sent, and nothing behind it.
-fn send(flow: &mut Option<Flow>, text: &[u8]) -> Result<(), AllocError> {
-    match flow {
-        Some(flow) => {
-            flow.finish();
-            flow.add(text)
-        }
-        None => Ok(()),
-    }
-}
-
-// What is done on what else was told of the channel.
-fn heard(
-    alloc: Global,
-    flow: &mut Option<Flow>,
-    tasks: &mut Tasks<Task>,
-    fact: &Fact<'_>,
-) -> Result<(), AllocError> {
-    match *fact {
-        Fact::Confirmed {
-            channel,
-            max_packet,
-            ..
-        } => {
-            *flow = Some(Flow::new(alloc, channel, max_packet));
-            tasks.add(Task::Request { channel })
-        }
-        Fact::RequestDone { success: false, .. } | Fact::OpenFailed { .. } | Fact::Closed { .. } =>
-            {
-                *flow = None;
-                tasks.add(Task::Disconnect)
-            }
-        _ => Ok(()),
+// An exit status of four bytes (RFC 4254 section 6.10), of which a program has one.
+fn status_in(rest: &[u8]) -> u8 {
+    match *rest {
+        [0, 0, 0, status] => status,
+        _ => 255,
     }
 }

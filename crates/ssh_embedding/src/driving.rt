@@ -1,66 +1,73 @@
 //! The loop over an end, which is the same at a server and at a client.
 
-use crate::end::End;
-use ssh_end::{Fault, Told};
+use divrelca::{End, Fault, KeySupply, Refusal, Told};
 use std::alloc::AllocError;
+use std::io::{Read, Write};
+use std::random::RandomSource;
 
 /// What a program does with its end.
 pub trait Work {
-    type End: End + Drop;
-
     /// Listens to what the end told, and keeps what of it is needed: its texts are slices of the end's buffer.
     fn hear(&mut self, told: &Told<'_>) -> Result<(), AllocError>;
 
-    /// Exchanges keys where that is due, sends what can be sent, and does what is to be done.
-    fn go_on(&mut self, end: &mut Self::End, out: &mut Vec<u8>) -> Result<(), Fault>;
+    /// Asks the end for what is to be done and can be done now.
+    fn go_on<E: End>(&mut self, end: &mut E, out: &mut Vec<u8>) -> Result<(), Fault>;
 }
 
-/// An end, and the work of its program.
-pub struct Driver<W: Work + Drop> {
-    end: W::End,
-    work: W,
-}
-
-// Written out, since a derive would not ask it of the end.
-impl<W: Work + Drop> Drop for Driver<W> {
-    fn drop(self) {
-        let Driver { end: _, work: _ } = self;
-    }
-}
-
-impl<W: Work + Drop> Driver<W> {
-    /// An end that put out its line and its first KEXINIT, and what is to be done with it.
-    pub fn new(end: W::End, work: W) -> Driver<W> {
-        Driver { end, work }
-    }
-
-    /// The work.
-    pub fn work(&self) -> &W {
-        &self.work
-    }
-
-    /// Tests whether the end is over.
-    pub fn is_over(&self) -> bool {
-        self.end.is_dead()
-    }
-
-    /// Takes a piece of the peer's stream, and puts what is sent for it into `out`.
-    pub fn take(&mut self, piece: &[u8], out: &mut Vec<u8>) -> anyhow::Result<()> {
-        let mut rest = piece;
-        // Each call uses a byte at least.
-        for _ in 0..piece.len() {
-            if rest.is_empty() || self.end.is_dead() {
-                break;
-            }
-            let turn = self.end.take(rest, out)?;
-            rest = rest.split_at(turn.used).1;
-            if let Some(told) = turn.told {
-                self.work.hear(&told)?;
-            }
-            if !self.end.is_dead() {
-                self.work.go_on(&mut self.end, out)?;
-            }
+/// Lets an end go on until it is over or its peer's stream ends: reads what the peer sends, and writes what goes to the peer, what stands in `out` first.
+/// Answers why the peer was refused, if it was.
+pub fn drive<E: End, W: Work, R: RandomSource + Drop, I: Read, O: Write>(
+    end: &mut E,
+    keys: &mut KeySupply<R>,
+    work: &mut W,
+    input: &mut I,
+    output: &mut O,
+    mut out: Vec<u8>,
+) -> anyhow::Result<Option<Refusal>> {
+    let mut buffer = [0; 4096];
+    let mut refused = None;
+    for _ in 0..u64::MAX {
+        output.write_all(out.as_slice())?;
+        output.flush()?;
+        out.clear();
+        if end.is_dead() {
+            break;
         }
-        Ok(())
+        let count = input.read(&mut buffer)?;
+        let piece = buffer.get(..count).unwrap_or(&[]);
+        if piece.is_empty() {
+            break;
+        }
+        refused = take(end, keys, work, piece, &mut out)?;
     }
+    Ok(refused)
+}
+
+// Takes a piece of the peer's stream, of any size. Answers why the peer was refused, if it was.
+fn take<E: End, W: Work, R: RandomSource + Drop>(
+    end: &mut E,
+    keys: &mut KeySupply<R>,
+    work: &mut W,
+    piece: &[u8],
+    out: &mut Vec<u8>,
+) -> anyhow::Result<Option<Refusal>> {
+    let mut rest = piece;
+    let mut refused = None;
+    // Each call uses a byte at least.
+    for _ in 0..piece.len() {
+        if rest.is_empty() || end.is_dead() {
+            break;
+        }
+        let turn = end.take(rest, out)?;
+        rest = rest.split_at(turn.used).1;
+        refused = turn.refused;
+        if let Some(told) = turn.told {
+            work.hear(&told)?;
+        }
+        if !end.is_dead() {
+            keys.keep_fresh(end, out)?;
+            work.go_on(end, out)?;
+        }
+    }
+    Ok(refused)
 }

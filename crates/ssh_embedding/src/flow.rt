@@ -1,29 +1,18 @@
 //! What goes to and fro on one channel, within the windows of both ends (RFC 4254 section 5.2).
 
-use crate::end::{End, asked};
-use ssh_channels::Ask as ChannelAsk;
-use ssh_end::{Ask, Fault};
+use divrelca::{Ask, AskOutcome, ChannelAsk, End, Fault, WINDOW, Window, asked, data_len};
 use std::alloc::{AllocError, Global};
 
-/// The window that an end offers, in bytes.
-pub const WINDOW: u32 = 4_096;
-
-/// The largest data of one packet that it offers to take, in bytes.
-pub const MAX_PACKET: u32 = 1_024;
-
-/// What still has to be sent on a channel, and what was taken from it and not given back to the window.
+/// What still has to be sent on a channel, and the window that the peer was given.
 #[derive(Drop)]
 pub struct Flow {
     channel: u32,
     // The largest data of one packet that the peer takes.
     max_packet: u32,
+    window: Window,
     waiting: Vec<u8>,
     // So many of these bytes are sent.
     sent: usize,
-    consumed: u32,
-    // Nothing is sent behind what waits.
-    is_last: bool,
-    is_ended: bool,
 }
 
 impl Flow {
@@ -32,11 +21,9 @@ impl Flow {
         Flow {
             channel,
             max_packet,
+            window: Window::new(WINDOW),
             waiting: Vec::new(alloc),
             sent: 0,
-            consumed: 0,
-            is_last: false,
-            is_ended: false,
         }
     }
 
@@ -45,32 +32,27 @@ impl Flow {
         self.channel
     }
 
+    /// So many bytes came and are done with: the peer may send as many more.
+    pub fn consume(&mut self, count: usize) {
+        self.window.take(count);
+        self.window.finish(count);
+    }
+
     /// These bytes have to be sent.
     pub fn add(&mut self, bytes: &[u8]) -> Result<(), AllocError> {
-        if self.sent >= self.waiting.len() {
+        if self.is_drained() {
             self.waiting.clear();
             self.sent = 0;
         }
         self.waiting.extend_from_slice(bytes)
     }
 
-    /// So many bytes of data were taken and are done with: the peer may send as many more.
-    pub fn consume(&mut self, count: usize) {
-        let count = u32::try_from(count).unwrap_or(u32::MAX);
-        self.consumed = self.consumed.saturating_add(count);
+    /// Tests whether all that was added is sent.
+    pub fn is_drained(&self) -> bool {
+        self.sent >= self.waiting.len()
     }
 
-    /// Nothing is sent behind what was added.
-    pub fn finish(&mut self) {
-        self.is_last = true;
-    }
-
-    /// Tests whether all was sent, and that it was the last.
-    pub fn is_ended(&self) -> bool {
-        self.is_ended
-    }
-
-    /// Sends what can be sent now. The rest waits for the next call: for room in the peer's window, or for the end of an exchange of keys.
+    /// Gives back the window, and sends what can be sent now. The rest waits for room in the peer's window, or for the end of an exchange of keys.
     pub fn push<E: End>(&mut self, end: &mut E, out: &mut Vec<u8>) -> Result<(), Fault> {
         self.give_back(end, out)?;
         for _ in 0..self.waiting.len() {
@@ -78,30 +60,30 @@ impl Flow {
                 break;
             }
         }
-        self.end(end, out)
+        Ok(())
     }
 
-    // Gives back to the window what was consumed.
+    // Gives back to the peer what is done with, once it is half of the window.
     fn give_back<E: End>(&mut self, end: &mut E, out: &mut Vec<u8>) -> Result<(), Fault> {
-        if self.consumed == 0 {
+        let Some(bytes) = self.window.due() else {
             return Ok(());
-        }
+        };
         let adjust = ChannelAsk::Adjust {
             channel: self.channel,
-            bytes: self.consumed,
+            bytes,
         };
-        if asked(end, &Ask::Connection(adjust), out)? {
-            self.consumed = 0;
+        if asked(end, &Ask::Connection(adjust), out)? == AskOutcome::Done {
+            self.window.give_back();
         }
         Ok(())
     }
 
     // Sends as much as one packet takes. `false` where nothing can be sent now.
     fn send<E: End>(&mut self, end: &mut E, out: &mut Vec<u8>) -> Result<bool, Fault> {
-        let room = end.channels().room(self.channel).unwrap_or(0);
-        let most = room.min(self.max_packet).min(MAX_PACKET) as usize;
         let rest = self.waiting.as_slice().get(self.sent..).unwrap_or(&[]);
-        let body = rest.get(..most).unwrap_or(rest);
+        let room = end.channels().room(self.channel).unwrap_or(0);
+        let count = data_len(room, self.max_packet, rest.len());
+        let body = rest.get(..count).unwrap_or(&[]);
         if body.is_empty() {
             return Ok(false);
         }
@@ -110,22 +92,10 @@ impl Flow {
             kind: None,
             body,
         };
-        if !asked(end, &Ask::Connection(data), out)? {
+        if asked(end, &Ask::Connection(data), out)? != AskOutcome::Done {
             return Ok(false);
         }
-        self.sent = self.sent.saturating_add(body.len());
+        self.sent = self.sent.saturating_add(count);
         Ok(true)
-    }
-
-    // Says that no more is sent, once all was.
-    fn end<E: End>(&mut self, end: &mut E, out: &mut Vec<u8>) -> Result<(), Fault> {
-        if !self.is_last || self.is_ended || self.sent < self.waiting.len() {
-            return Ok(());
-        }
-        let eof = ChannelAsk::Eof {
-            channel: self.channel,
-        };
-        self.is_ended = asked(end, &Ask::Connection(eof), out)?;
-        Ok(())
     }
 }

@@ -1,177 +1,121 @@
 //! A server that sends back what comes to it.
 
-use crate::driving::{Driver, Work};
-use crate::end::asked;
-use crate::flow::{Flow, MAX_PACKET, WINDOW};
-use crate::material::Material;
-use crate::settings::config;
-use crate::tasks::Tasks;
-use ssh_channels::{Ask as ChannelAsk, Fact};
-use ssh_end::{Ask, Fault, ServerEnd, Told};
-use ssh_toy_setup::{ToyServer, server_parts};
-use ssh_toys::{ToyCredential, ToyJudge};
+use crate::asks::Asks;
+use crate::driving::Work;
+use crate::flow::Flow;
+use divrelca::{Ask, ChannelAsk, ChannelFact, End, Fault, MOST_DATA, Told, WINDOW, default_answer};
 use std::alloc::{AllocError, Global};
-
-const CREDENTIALS: &[ToyCredential<'static>] = &[ToyCredential::Password {
-    user: b"reader",
-    word: b"secret",
-}];
-
-type ToyEnd = ServerEnd<ToyServer, ToyJudge<'static>>;
 
 /// What a server with one channel keeps.
 #[derive(Drop)]
 pub struct Server {
     alloc: Global,
-    material: Material,
+    asks: Asks<'static>,
     flow: Option<Flow>,
-    // What waits for the end of an exchange of keys, the oldest first.
-    tasks: Tasks<Task>,
-    user: String,
-}
-
-// What is to be done on what the end told.
-#[derive(Clone, Copy, Drop)]
-enum Task {
-    // The channel that the client opens is confirmed.
-    Confirm { channel: u32, max_packet: u32 },
-    // The request of the client is granted.
-    Grant { channel: u32 },
-    // The channel is closed.
-    Close { channel: u32 },
+    // The client sends no more.
+    is_ended: bool,
 }
 
 impl Server {
-    /// A server that put its version line and its first KEXINIT into `out`.
-    pub fn open(alloc: Global, out: &mut Vec<u8>) -> anyhow::Result<Driver<Server>> {
-        let mut material = Material::new(2);
-        let (cookie, secret) = material.draw();
-        let judge = ToyJudge {
-            credentials: CREDENTIALS,
-        };
-        let config = config(alloc, b"echo")?;
-        let end = ServerEnd::new(alloc, config, server_parts(), judge, cookie, secret, out)?;
-        let server = Server {
+    /// A server that heard nothing yet.
+    pub fn new(alloc: Global) -> Server {
+        Server {
             alloc,
-            material,
+            asks: Asks::new(alloc),
             flow: None,
-            tasks: Tasks::new(alloc),
-            user: String::new(alloc),
-        };
-        Ok(Driver::new(end, server))
-    }
-
-    /// Who was let in.
-    pub fn user(&self) -> &str {
-        self.user.as_str()
-    }
-
-    // Sends what can be sent, and closes the channel behind the last of it.
-    fn flow_on(&mut self, end: &mut ToyEnd, out: &mut Vec<u8>) -> Result<(), Fault> {
-        let Some(flow) = &mut self.flow else {
-            return Ok(());
-        };
-        flow.push(end, out)?;
-        if flow.is_ended() {
-            let channel = flow.channel();
-            self.tasks
-                .add(Task::Close { channel })
-                .map_err(|_| Fault::Memory)?;
-            self.flow = None;
-        }
-        Ok(())
-    }
-
-    // Does this, or answers `false` where it has to wait.
-    fn done(&mut self, task: Task, end: &mut ToyEnd, out: &mut Vec<u8>) -> Result<bool, Fault> {
-        let ask = match task {
-            Task::Confirm {
-                channel,
-                max_packet,
-            } => {
-                self.flow = Some(Flow::new(self.alloc, channel, max_packet));
-                ChannelAsk::Confirm {
-                    channel,
-                    window: WINDOW,
-                    max_packet: MAX_PACKET,
-                    rest: b"",
-                }
-            }
-            Task::Grant { channel } => ChannelAsk::Reply {
-                channel,
-                success: true,
-            },
-            Task::Close { channel } => ChannelAsk::Close { channel },
-        };
-        asked(end, &Ask::Connection(ask), out)
-    }
-}
-
-impl Work for Server {
-    type End = ToyEnd;
-
-    fn hear(&mut self, told: &Told<'_>) -> Result<(), AllocError> {
-        match *told {
-            Told::Accepted { user } => {
-                for byte in user.iter() {
-                    self.user.push(char::from(*byte))?;
-                }
-                Ok(())
-            }
-            Told::Channel(fact) => heard(&mut self.flow, &mut self.tasks, &fact),
-            _ => Ok(()),
+            is_ended: false,
         }
     }
 
-    fn go_on(&mut self, end: &mut ToyEnd, out: &mut Vec<u8>) -> Result<(), Fault> {
-        self.material.keep_fresh(end, out)?;
-        self.flow_on(end, out)?;
-        for _ in 0..self.tasks.len() {
-            let Some(task) = self.tasks.first() else {
-                break;
-            };
-            if !self.done(task, end, out)? {
-                break;
-            }
-            self.tasks.finish_first();
-        }
-        Ok(())
+    // The client opens a session: it is confirmed.
+    fn open(&mut self, channel: u32, max_packet: u32) -> Result<(), AllocError> {
+        self.flow = Some(Flow::new(self.alloc, channel, max_packet));
+        self.asks.add(Ask::Connection(ChannelAsk::Confirm {
+            channel,
+            window: WINDOW,
+            max_packet: MOST_DATA,
+            rest: b"",
+        }))
     }
-}
 
-// Keeps what was told of a channel. Data are sent back.
-fn heard(
-    flow: &mut Option<Flow>,
-    tasks: &mut Tasks<Task>,
-    fact: &Fact<'_>,
-) -> Result<(), AllocError> {
-    match *fact {
-        Fact::Opened {
-            channel,
-            max_packet,
-            ..
-        } => tasks.add(Task::Confirm {
-            channel,
-            max_packet,
-        }),
-        Fact::Requested {
-            channel,
-            want: true,
-            ..
-        } => tasks.add(Task::Grant { channel }),
-        Fact::GotData { body, .. } => match flow {
+    // Data of the client are sent back.
+    fn take(&mut self, body: &[u8]) -> Result<(), AllocError> {
+        match &mut self.flow {
             Some(flow) => {
                 flow.consume(body.len());
                 flow.add(body)
             }
             None => Ok(()),
-        },
-        Fact::Ended { .. } => {
-            if let Some(flow) = flow {
-                flow.finish();
-            }
-            Ok(())
         }
-        _ => Ok(()),
+    }
+
+    // All was sent back: the client is told the exit status 0 (RFC 4254 section 6.10), the end of the output, and the end of the channel.
+    fn finish(&mut self, channel: u32) -> Result<(), AllocError> {
+        self.flow = None;
+        self.asks.add(Ask::Connection(ChannelAsk::Request {
+            channel,
+            name: b"exit-status",
+            want: false,
+            rest: b"\0\0\0\0",
+        }))?;
+        self.asks.add(Ask::Connection(ChannelAsk::Eof { channel }))?;
+        self.asks
+            .add(Ask::Connection(ChannelAsk::Close { channel }))
+    }
+}
+
+impl Work for Server {
+    fn hear(&mut self, told: &Told<'_>) -> Result<(), AllocError> {
+        match *told {
+            Told::Channel(
+                ChannelFact::Opened {
+                    channel,
+                    kind: b"session",
+                    max_packet,
+                    ..
+                },
+            ) if self.flow.is_none() => self.open(channel, max_packet),
+            Told::Channel(
+                ChannelFact::Requested {
+                    channel,
+                    name: b"exec" | b"shell",
+                    want: true,
+                    ..
+                },
+            ) => self.asks.add(Ask::Connection(ChannelAsk::Reply {
+                channel,
+                success: true,
+            })),
+            Told::Channel(ChannelFact::GotData { body, .. }) => self.take(body),
+            Told::Channel(ChannelFact::Ended { .. }) => {
+                self.is_ended = true;
+                Ok(())
+            }
+            Told::Channel(ChannelFact::Closed { .. }) => {
+                self.flow = None;
+                Ok(())
+            }
+            // All else is answered where an answer is owed, as OpenSSH's keepalives are.
+            ref other => match default_answer(other) {
+                Some(answer) => self.asks.add(answer),
+                None => Ok(()),
+            },
+        }
+    }
+
+    fn go_on<E: End>(&mut self, end: &mut E, out: &mut Vec<u8>) -> Result<(), Fault> {
+        if !self.asks.work(end, out)? {
+            return Ok(());
+        }
+        let Some(flow) = &mut self.flow else {
+            return Ok(());
+        };
+        flow.push(end, out)?;
+        if self.is_ended && flow.is_drained() {
+            let channel = flow.channel();
+            self.finish(channel).map_err(|_| Fault::Memory)?;
+            self.asks.work(end, out)?;
+        }
+        Ok(())
     }
 }

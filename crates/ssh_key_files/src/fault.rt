@@ -27,12 +27,18 @@ pub enum Expected {
     /// The public key that belongs to the private key.
     #[error("a public key that is that of the private key")]
     Pair,
-    /// A public key of ssh-ed25519 (RFC 8709 section 4).
-    #[error("the 68 base64 digits of a key of ssh-ed25519")]
+    /// A public key of ssh-ed25519 (RFC 8709 section 4). Under a point of small order, as 32 zeros are, anyone can sign: it is no key here.
+    #[error("the 68 base64 digits of a key of ssh-ed25519 (a point of small order is no key)")]
     Key,
     /// A line of known_hosts, or of a public key file.
     #[error("HOSTS ssh-ed25519 KEY, as in known_hosts, or ssh-ed25519 KEY, as in a public key file")]
     Host,
+    /// A line of known_hosts with a mark.
+    #[error("@revoked HOSTS TYPE KEY or @cert-authority HOSTS TYPE KEY")]
+    Mark,
+    /// A hashed name of a host.
+    #[error("|1|SALT|HASH with 28 base64 digits each, as ssh-keygen -H writes it")]
+    HashedHost,
     /// A line of authorized_keys.
     #[error("ssh-ed25519 KEY, without options before it, as in a public key file")]
     AuthorizedKey,

@@ -1,14 +1,25 @@
 //! The key of the host to trust.
 
 use crate::fault::{Expected, FileFault};
+use crate::host_names::names_host;
 use crate::public_key::key_in;
 use crate::words::{ED25519, Words, is_key_type};
 
-/// The 32 bytes of the one public key of ssh-ed25519 that a file has for a host: of a file of the form of known_hosts, or of a public key file.
+// The mark of a key that nobody is to trust any more.
+const REVOKED: &[u8] = b"@revoked";
+
+/// The 32 bytes of the one public key of ssh-ed25519 that a file has for a host: of a file of the form of known_hosts, or of a public key
+/// file.
 ///
-/// Where a host is named, lines of known_hosts count that have this very name among theirs, as `example.org` or `[example.org]:2222`; patterns and hashed
-/// names stand for no host here. Where none is named, all lines count. Keys of other types and authorities of certificates are passed over.
-/// A key that a line revokes is refused.
+/// Where a host is named, lines of known_hosts count that name it: as `example.org` or `[example.org]:2222`, in any case; by a pattern with
+/// `*` and `?`; or by a hash of its name. A line with `!` before a name or a pattern does not count for hosts of that name. Where none is
+/// named, all lines count. Keys of other types and authorities of certificates are passed over. A key that a line revokes is refused, for
+/// whatever host that line is.
+///
+/// # Errors
+///
+/// - `Line`: a line is not of known_hosts, its digits are no key, it has another key than a line before it, or it revokes the key.
+/// - `File(AnyHostKey)`: no line has a key for this host.
 pub fn trusted_key(text: &[u8], host: Option<&[u8]>) -> Result<[u8; 32], FileFault> {
     let mut found = None;
     for (before, line) in text.split(|byte| *byte == b'\n').enumerate() {
@@ -23,10 +34,16 @@ pub fn trusted_key(text: &[u8], host: Option<&[u8]>) -> Result<[u8; 32], FileFau
         }
     }
     let key = found.ok_or(FileFault::File(Expected::AnyHostKey))?;
-    if is_revoked(text, &key) {
-        return Err(FileFault::File(Expected::Unrevoked));
+    match text
+        .split(|byte| *byte == b'\n')
+        .position(|line| revokes(line, &key))
+    {
+        None => Ok(key),
+        Some(before) => Err(FileFault::Line {
+            line: before.saturating_add(1),
+            expected: Expected::Unrevoked,
+        }),
     }
-    Ok(key)
 }
 
 // The key that is found once this line is read.
@@ -46,7 +63,11 @@ fn key_after(
 
 // The key of ssh-ed25519 on a line, where that line counts for the host.
 fn key_on(words: &Words<'_>, host: Option<&[u8]>) -> Result<Option<[u8; 32]>, Expected> {
-    if words.are_none() || words.first.starts_with(b"@") {
+    if words.are_none() {
+        return Ok(None);
+    }
+    if words.first.starts_with(b"@") {
+        marked(words)?;
         return Ok(None);
     }
     if is_key_type(words.first) {
@@ -56,9 +77,22 @@ fn key_on(words: &Words<'_>, host: Option<&[u8]>) -> Result<Option<[u8; 32]>, Ex
         return Err(Expected::Host);
     }
     match host {
-        Some(host) if !names_host(words.first, host) => Ok(None),
+        Some(host) if !names_host(words.first, host)? => Ok(None),
         _ => key_of(words.second, words.third),
     }
+}
+
+// A line with a mark, which is of known_hosts like any other.
+fn marked(words: &Words<'_>) -> Result<(), Expected> {
+    if words.first != REVOKED && words.first != b"@cert-authority".as_slice() {
+        return Err(Expected::Mark);
+    }
+    if !is_key_type(words.third) {
+        return Err(Expected::Mark);
+    }
+    names_host(words.second, b"")?;
+    key_of(words.third, words.fourth)?;
+    Ok(())
 }
 
 // The key that these digits are, where its type is ssh-ed25519.
@@ -69,17 +103,8 @@ fn key_of(kind: &[u8], digits: &[u8]) -> Result<Option<[u8; 32]>, Expected> {
     key_in(digits).map(Some).ok_or(Expected::Key)
 }
 
-// Whether this name stands among those that commas part.
-fn names_host(names: &[u8], host: &[u8]) -> bool {
-    names.split(|byte| *byte == b',').any(|name| name == host)
-}
-
-// Whether a line of known_hosts revokes the key, for whatever host.
-fn is_revoked(text: &[u8], key: &[u8; 32]) -> bool {
-    text.split(|byte| *byte == b'\n').any(|line| {
-        let words = Words::new(line);
-        words.first == b"@revoked".as_slice()
-            && words.third == ED25519
-            && key_in(words.fourth) == Some(*key)
-    })
+// Tests whether a line of known_hosts revokes the key, for whatever host.
+fn revokes(line: &[u8], key: &[u8; 32]) -> bool {
+    let words = Words::new(line);
+    words.first == REVOKED && words.third == ED25519 && key_in(words.fourth) == Some(*key)
 }

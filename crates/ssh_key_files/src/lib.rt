@@ -10,6 +10,7 @@
 
 mod armor;
 mod fault;
+mod host_names;
 mod known_hosts;
 mod openssh_key;
 mod password_line;

@@ -17,6 +17,12 @@ pub struct PrivateKey {
 }
 
 /// The key of a private key file: one of ssh-ed25519 without a passphrase, whose public key is the one that stands beside it.
+///
+/// # Errors
+///
+/// - `Line`: a line is not what it has to be: the first one, or base64 digits.
+/// - `File`: the last line is missing, the digits are no base64, or the key is encrypted, of another type, or not that of its public key.
+/// - `Memory`: memory was refused.
 pub fn private_key(alloc: Global, text: &[u8]) -> Result<PrivateKey, FileFault> {
     let bytes = unarmored(alloc, text)?;
     key_in(bytes.as_slice()).map_err(FileFault::File)

@@ -6,6 +6,10 @@ use crate::fault::{Expected, FileFault};
 pub const MOST_PASSWORD_BYTES: usize = 1_024;
 
 /// The password that a file has on its one line, without the CR and LF at its end. It stands there as it is: keep such a file from others.
+///
+/// # Errors
+///
+/// `File(Password)` where the first line is empty or over 1,024 bytes, or another line has bytes.
 pub fn password(text: &[u8]) -> Result<&[u8], FileFault> {
     let mut lines = text.split(|byte| *byte == b'\n');
     let line = lines.next().unwrap_or(b"");

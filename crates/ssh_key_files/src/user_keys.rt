@@ -5,8 +5,14 @@ use crate::public_key::key_in;
 use crate::words::{ED25519, Words, is_key_type};
 use std::alloc::Global;
 
-/// The public keys of ssh-ed25519 in a file of the form of authorized_keys, 32 bytes each, at least one. Keys of other types are passed over; options
-/// before a key are refused, since a key whose options are left aside would let its holder do more than they say.
+/// The public keys of ssh-ed25519 in a file of the form of authorized_keys, 32 bytes each, at least one. Keys of other types are passed
+/// over; options before a key are refused, since a key whose options are left aside would let its holder do more than they say.
+///
+/// # Errors
+///
+/// - `Line`: a line has options before its key, or no key of its type.
+/// - `File(AnyKey)`: no line has a key of ssh-ed25519.
+/// - `Memory`: memory was refused.
 pub fn authorized_keys(alloc: Global, text: &[u8]) -> Result<Vec<[u8; 32]>, FileFault> {
     let mut keys = Vec::new(alloc);
     for (before, line) in text.split(|byte| *byte == b'\n').enumerate() {

@@ -147,11 +147,18 @@ fn refused(text: &[u8], status: u32, flow: &mut Flow) -> Result<Builtin, AllocEr
     Ok(Builtin::Said { status })
 }
 
-// The bytes of `source` from one place to another.
+// The bytes of `source` from one place to another, whole rounds of 251 bytes at a time.
 fn add_pattern(alloc: Global, from: u64, to: u64, flow: &mut Flow) -> Result<(), AllocError> {
-    let mut bytes = Vec::new(alloc);
-    for place in from..to {
-        bytes.push((place % 251) as u8)?;
+    let mut round = [0; 251];
+    for i in 0..251usize {
+        round[i] = i as u8;
     }
-    flow.add(bytes.as_slice())
+    let first = (from % 251) as usize;
+    let count = to.saturating_sub(from) as usize;
+    let mut bytes = Vec::new(alloc);
+    bytes.extend_from_slice(&round[first..])?;
+    for _ in 0..count / 251 + 1 {
+        bytes.extend_from_slice(&round)?;
+    }
+    flow.add(bytes.get(..count).unwrap_or(bytes.as_slice()))
 }

@@ -38,7 +38,7 @@ impl<'a, R: RandomSource + Drop> Client<'a, R> {
         request: Request<'a>,
         out: &mut Vec<u8>,
     ) -> Result<Client<'a, R>, PipeError> {
-        let supply = KeySupply::new(source);
+        let mut supply = KeySupply::new(source);
         let first = supply.draw()?;
         let parts = ClientPartValues {
             filler: supply.padding()?,

@@ -31,6 +31,6 @@ pub use login::Login;
 pub use machine::{Machine, pump};
 pub use server::Server;
 pub use ssh_pipe_policy::{
-    EPOCH_LIMIT, LEAST_WINDOW, MOST_WINDOW, OneUser, PasswordHash, Policy, UserKey,
+    Ciphers, EPOCH_LIMIT, LEAST_WINDOW, MOST_WINDOW, OneUser, PasswordHash, Policy, UserKey,
 };
 pub use texts::{MOST_COMMAND_BYTES, string_of};

@@ -1,13 +1,13 @@
 //! Settings and supplied parts of both ends.
 
 use ssh_packet::MacOnly;
-use ssh_parts::{Aes128Gcm, Curve25519, Ed25519Signer, Ed25519Trust, Either};
+use ssh_parts::{AesGcm, Curve25519, Ed25519Signer, Ed25519Trust, Either, GcmSettings};
 use ssh_pipe_policy::{PaddingSource, Policy, TRIES};
-use ssh_transport_base::{ClientParts, Config, ConfigError, ServerParts, Settings, Strictness};
+use ssh_transport_base::{ClientParts, Config, ConfigError, ServerParts, Settings};
 use std::alloc::Global;
 
-/// The sealing of both ends: AES-128-GCM, and `none` with hmac-sha2-256 where a policy offers it.
-pub type PipeSealing = Either<Aes128Gcm, MacOnly>;
+/// The sealing of both ends: AES-GCM, and `none` with hmac-sha2-256 where a policy offers it.
+pub type PipeSealing = Either<AesGcm, MacOnly>;
 
 /// The parts of a client.
 pub struct PipeClient;
@@ -35,10 +35,6 @@ impl ServerParts for PipeServer {
     type HostSigner = Ed25519Signer;
 }
 
-const GCM: &[u8] = b"aes128-gcm@openssh.com";
-
-const NONE: &[u8] = b"none";
-
 /// The methods of authentication that there are (RFC 4252 sections 7 and 8).
 pub const METHODS: &[&[u8]] = &[b"publickey", b"password"];
 
@@ -49,26 +45,18 @@ pub fn config(
     policy: &Policy,
     methods: &[&[u8]],
 ) -> Result<Config<PipeSealing>, ConfigError> {
-    let encryption: &[&[u8]] = if policy.offers_none {
-        &[GCM, NONE]
-    } else {
-        &[GCM]
-    };
+    let settings = GcmSettings {
+        epoch_limit: policy.epoch_limit,
+        tries: TRIES,
+        methods,
+        ..GcmSettings::new(b"Divrelca")
+    }
+    .settings();
     Config::new(
         alloc,
         &Settings {
-            software: b"Divrelca",
-            comments: None,
-            kex: &[b"curve25519-sha256"],
-            host: &[b"ssh-ed25519"],
-            encryption,
-            mac: &[b"hmac-sha2-256"],
-            epoch_limit: policy.epoch_limit,
-            tries: TRIES,
-            methods,
-            strictness: Strictness::Require,
-            takes_extensions: false,
-            extensions: &[],
+            encryption: policy.ciphers.names(policy.offers_none),
+            ..settings
         },
     )
 }

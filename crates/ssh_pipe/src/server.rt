@@ -32,7 +32,7 @@ impl<'a, R: RandomSource + Drop> Server<'a, R> {
         user: OneUser<'a>,
         out: &mut Vec<u8>,
     ) -> Result<Server<'a, R>, PipeError> {
-        let supply = KeySupply::new(source);
+        let mut supply = KeySupply::new(source);
         let first = supply.draw()?;
         let parts = ServerPartValues {
             filler: supply.padding()?,

@@ -3,7 +3,7 @@
 mod words;
 
 use clap::ArgMatches;
-use ssh_pipe::{EPOCH_LIMIT, LEAST_WINDOW, MOST_WINDOW, Policy, RequestKind};
+use ssh_pipe::{Ciphers, EPOCH_LIMIT, LEAST_WINDOW, MOST_WINDOW, Policy, RequestKind};
 use std::alloc::{AllocError, Global};
 use std::convert::AsStr;
 use thiserror::Error;
@@ -16,6 +16,8 @@ pub enum Call<'a> {
     Client(ClientOptions<'a>),
     /// Be a server.
     Server(ServerOptions<'a>),
+    /// Say what the program is.
+    Version,
 }
 
 /// What a client is told.
@@ -76,6 +78,9 @@ pub enum UsageFault {
         least: u32,
         most: u32,
     },
+    /// The ciphers are none of the lists that there are.
+    #[error("--cipher takes aes128-gcm@openssh.com, aes256-gcm@openssh.com, or both in the order aes256-gcm@openssh.com,aes128-gcm@openssh.com")]
+    Cipher,
     /// Memory was refused.
     #[error("memory was refused")]
     Memory(#[from(alloc)] AllocError),
@@ -83,6 +88,11 @@ pub enum UsageFault {
 
 /// Reads the words of a command line, the program's name the first.
 pub fn call_of<'a, S: AsStr>(alloc: Global, words: &'a [S]) -> Result<Call<'a>, UsageFault> {
+    if let [_, word] = words
+        && word.as_str() == "--version"
+    {
+        return Ok(Call::Version);
+    }
     let matches = match command(alloc)?.try_get_matches_from(words) {
         Ok(matches) => matches,
         Err(error) => return Err(UsageFault::Words(error)),
@@ -149,6 +159,10 @@ fn policy(words: &ArgMatches<'_>) -> Result<Policy, UsageFault> {
             EPOCH_LIMIT,
         )?
         .unwrap_or(Policy::DEFAULT.epoch_limit),
+        ciphers: match words.get_str("cipher") {
+            Some(names) => Ciphers::named(names).ok_or(UsageFault::Cipher)?,
+            None => Policy::DEFAULT.ciphers,
+        },
         offers_none: words.get_flag("offer-none"),
     })
 }

@@ -24,5 +24,5 @@ mod status;
 pub use client_files::ClientFiles;
 pub use command_line::{Call, ClientOptions, ServerOptions, UsageFault, call_of};
 pub use progress::ShownFiles;
-pub use running::{RunError, call, refuse, report, serve};
+pub use running::{RunError, call, refuse, report, serve, version};
 pub use status::Status;

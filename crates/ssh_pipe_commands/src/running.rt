@@ -16,11 +16,20 @@ use ssh_pipe::{
     Client, Ending, Login, OneUser, PasswordHash, PipeError, Request, Server, UserKey, pump,
     string_of,
 };
+use ssh_release::{KIT, VERSION};
 use std::alloc::Global;
 use std::fmt::Display;
 use std::io::{IsTerminal, Read, Write};
 use std::random::RandomSource;
 use std::rt::Files;
+
+/// Says on `out` what the program is: its name, its version and the kit that it is proved with, as one line.
+pub fn version<O: Write, E: Write>(out: &mut O, err: &mut E) -> Status {
+    match writeln!(out, "ssh_pipe {VERSION}, proved with {KIT}") {
+        Ok(()) => Status::Done,
+        Err(error) => report(error, err, Status::Fault),
+    }
+}
 
 /// Serves one connection as the options say. Why it can't, or whom it refused, is told on `err`.
 pub fn serve<R: Files + AllocGlobal + RandomSource, I: Read, O: Write, E: Write>(

@@ -1,2 +1,5 @@
 pub mod UserKey
 pub mod Users
+pub mod Windows
+pub mod Feeding
+pub mod Supplies

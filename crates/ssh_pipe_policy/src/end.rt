@@ -1,13 +1,25 @@
 //! What a server's and a client's end have in common.
 
-use ssh_auth::{UserJudge, UserSigner};
+ghost use Rattle.std.specs.Prelude.{◌≡◌, ◌≤◌, Bool, IfOk, List, length, nat_le, ℕ};
+ghost use Rattle.ssh_pipe_policy.specs.Feeding.{Feeds};
+
 use ssh_channels::Channels;
-use ssh_end::{Ask, ClientEnd, Fault, ServerEnd, Turn};
-use ssh_transport_base::{ClientParts, ServerParts};
+use ssh_end::{Ask, EndRole, Fault, Turn};
 use ssh_types::AskRefusal;
 
-/// An end that is asked, and whose channels are looked at.
+/// An end, a server's or a client's: each call does what the call of this name does of `ServerEnd` and `ClientEnd`.
 pub trait End {
+    ghost feeds: { Self → List ℕ → List ℕ → Bool → Self → Type 0 };
+
+    ghost is_due: { Self → Bool };
+
+    /// Takes bytes of the peer to the end of one line or one packet.
+    fn take<'a>(&'a mut self, bytes: &[u8], out: &mut Vec<u8>) -> Result<Turn<'a>, Fault>
+        ensures { IfOk result (λ turn. turn.used ≤ length bytes.now) };
+
+    /// Tests whether the end is over.
+    fn is_dead(&self) -> bool;
+
     /// Does what it is asked for.
     fn ask<'a>(&'a mut self, ask: &Ask<'_>, out: &mut Vec<u8>) -> Result<Turn<'a>, Fault>;
 
@@ -15,45 +27,41 @@ pub trait End {
     fn channels(&self) -> &Channels;
 
     /// Tests whether an exchange of keys is due.
-    fn rekey_due(&self) -> bool;
+    fn rekey_due(&self) -> bool
+        ensures { result ≡ is_due self.now };
 
     /// Keeps a cookie and a secret for the next exchange, or answers `false` where it has some.
-    fn feed_material(&mut self, cookie: [u8; 16], secret: [u8; 32]) -> bool;
+    fn feed_material(&mut self, cookie: [u8; 16], secret: [u8; 32]) -> bool
+        ensures { feeds self.old cookie secret result self.new };
 }
 
-impl<P: ClientParts, U: UserSigner + Drop> End for ClientEnd<P, U> {
+impl<R: EndRole> End for ssh_end::End<R> {
+    ghost feeds = { λ end cookie secret is_taken new. Feeds end.machine cookie secret is_taken new.machine × (new ≡ record end { machine = new.machine }) };
+
+    ghost is_due = { λ end. nat_le end.machine.kept.settings.epoch_limit end.machine.kept.sending.count };
+
+    fn take<'a>(&'a mut self, bytes: &[u8], out: &mut Vec<u8>) -> Result<Turn<'a>, Fault> {
+        ssh_end::End::take(self, bytes, out)
+    }
+
+    fn is_dead(&self) -> bool {
+        ssh_end::End::is_dead(self)
+    }
+
     fn ask<'a>(&'a mut self, ask: &Ask<'_>, out: &mut Vec<u8>) -> Result<Turn<'a>, Fault> {
-        ClientEnd::ask(self, ask, out)
+        ssh_end::End::ask(self, ask, out)
     }
 
     fn channels(&self) -> &Channels {
-        ClientEnd::channels(self)
+        ssh_end::End::channels(self)
     }
 
     fn rekey_due(&self) -> bool {
-        ClientEnd::rekey_due(self)
+        ssh_end::End::rekey_due(self)
     }
 
     fn feed_material(&mut self, cookie: [u8; 16], secret: [u8; 32]) -> bool {
-        ClientEnd::feed_material(self, cookie, secret)
-    }
-}
-
-impl<P: ServerParts, U: UserJudge + Drop> End for ServerEnd<P, U> {
-    fn ask<'a>(&'a mut self, ask: &Ask<'_>, out: &mut Vec<u8>) -> Result<Turn<'a>, Fault> {
-        ServerEnd::ask(self, ask, out)
-    }
-
-    fn channels(&self) -> &Channels {
-        ServerEnd::channels(self)
-    }
-
-    fn rekey_due(&self) -> bool {
-        ServerEnd::rekey_due(self)
-    }
-
-    fn feed_material(&mut self, cookie: [u8; 16], secret: [u8; 32]) -> bool {
-        ServerEnd::feed_material(self, cookie, secret)
+        ssh_end::End::feed_material(self, cookie, secret)
     }
 }
 
@@ -69,6 +77,10 @@ pub enum AskOutcome {
 }
 
 /// Asks an end for something.
+///
+/// # Errors
+///
+/// A `Fault::Ask` with any other refusal, and `Memory`: the end is then over.
 pub fn asked<E: End>(end: &mut E, ask: &Ask<'_>, out: &mut Vec<u8>) -> Result<AskOutcome, Fault> {
     match end.ask(ask, out) {
         Ok(_) => Ok(AskOutcome::Done),

@@ -1,12 +1,40 @@
 //! Cookies, secrets and padding.
 
+ghost use Rattle.std.specs.Prelude.{◌≡◌, IfOk, List, None, OnOk, ℕ};
+ghost use Rattle.ssh_pipe_policy.specs.Supplies.{IsDrawn, KeepsFresh, SeedsPadding, next_bytes};
+
 use crate::end::{End, asked};
 use crate::error::SupplyError;
 use rand_chacha::ChaCha20Rng;
 use rand_core::{Rng, SeedableRng};
 use ssh_end::Ask;
 use ssh_packet::Filler;
+use std::io;
 use std::random::RandomSource;
+
+/// A source of random bytes. Its ghost member `gives` says which bytes a call may give, from the value before it to the value after it, so that
+/// a clause can say that bytes are those of a call and of no earlier one. Each `RandomSource` is one, of whose bytes nothing is promised.
+pub trait Entropy: Drop {
+    ghost gives: { Self → List ℕ → Self → Type 0 };
+
+    /// Fills all of `bytes`.
+    ///
+    /// # Errors
+    ///
+    /// The source gave none.
+    fn draw(&mut self, bytes: &mut [u8]) -> io::Result<()>
+        ensures { OnOk result (gives self.old bytes.new self.new) };
+}
+
+impl<R: RandomSource + Drop> Entropy for R {
+    ghost use Rattle.std.specs.Prelude.{⊤};
+
+    ghost gives = { λ _ _ _. ⊤ };
+
+    fn draw(&mut self, bytes: &mut [u8]) -> io::Result<()> {
+        self.fill_bytes(bytes)
+    }
+}
 
 /// What an exchange of keys takes of random bytes.
 #[derive(Clone, Copy)]
@@ -19,48 +47,62 @@ pub struct Material {
 
 /// Feeds an end with cookies and secrets of a source of random bytes, and sees to it that keys are exchanged in time.
 #[derive(Drop)]
-pub struct KeySupply<R: RandomSource + Drop> {
+pub struct KeySupply<R: Entropy> {
     source: R,
     next: Option<Material>,
 }
 
-impl<R: RandomSource + Drop> KeySupply<R> {
+impl<R: Entropy> KeySupply<R> {
     /// A supply from this source.
-    pub fn new(source: R) -> KeySupply<R> {
+    pub fn new(source: R) -> KeySupply<R>
+        ensures source { result.source ≡ source }
+        ensures next { result.next ≡ None }
+    {
         KeySupply { source, next: None }
     }
 
-    /// A fresh cookie and a fresh secret.
-    pub fn draw(&self) -> Result<Material, SupplyError> {
+    /// A fresh cookie and a fresh secret, drawn one after the other.
+    ///
+    /// # Errors
+    ///
+    /// `Random`: the source gave no random bytes.
+    pub fn draw(&mut self) -> Result<Material, SupplyError>
+        ensures drawn { IfOk result (λ material. IsDrawn R.gives self.old.source material self.new.source) }
+        ensures next { self.new.next ≡ self.old.next }
+    {
         let mut cookie = [0; 16];
         let mut secret = [0; 32];
-        self.source
-            .fill_bytes(&mut cookie)
-            .map_err(SupplyError::Random)?;
-        self.source
-            .fill_bytes(&mut secret)
-            .map_err(SupplyError::Random)?;
+        self.source.draw(&mut cookie).map_err(SupplyError::Random)?;
+        self.source.draw(&mut secret).map_err(SupplyError::Random)?;
         Ok(Material { cookie, secret })
     }
 
-    /// What is used for padding.
-    pub fn padding(&self) -> Result<PaddingSource, SupplyError> {
+    /// What is used for padding: a stream of ChaCha20 whose key is drawn now.
+    ///
+    /// # Errors
+    ///
+    /// `Random`: the source gave no random bytes.
+    pub fn padding(&mut self) -> Result<PaddingSource, SupplyError>
+        ensures seeded { IfOk result (λ padding. SeedsPadding R.gives self.old.source padding self.new.source) }
+        ensures next { self.new.next ≡ self.old.next }
+    {
         let mut seed = [0; 32];
-        self.source
-            .fill_bytes(&mut seed)
-            .map_err(SupplyError::Random)?;
+        self.source.draw(&mut seed).map_err(SupplyError::Random)?;
         Ok(PaddingSource {
             stream: ChaCha20Rng::from_seed(seed),
         })
     }
 
-    /// Called behind every turn of the end. It keeps one cookie and one secret with the end, since the peer may begin an exchange at any time, and begins
-    /// the exchange where it is due. Random bytes are drawn only once the ones before were handed in.
-    pub fn keep_fresh<E: End>(
-        &mut self,
-        end: &mut E,
-        out: &mut Vec<u8>,
-    ) -> Result<(), SupplyError> {
+    /// Called after every turn of the end. It keeps one cookie and one secret with the end, since the peer may begin an exchange at any time, and begins
+    /// the exchange where it is due. Random bytes are drawn only once the ones before were handed in, and what was handed in is kept no longer.
+    ///
+    /// # Errors
+    ///
+    /// - `Random`: the source gave no random bytes, and nothing was handed in.
+    /// - `End`: the end refused to exchange keys where that was due, or memory was refused to it.
+    pub fn keep_fresh<E: End>(&mut self, end: &mut E, out: &mut Vec<u8>) -> Result<(), SupplyError>
+        ensures { OnOk result (KeepsFresh R.gives E.feeds E.is_due self.old end.old self.new end.new) }
+    {
         let material = match self.next {
             Some(material) => material,
             None => self.draw()?,
@@ -82,9 +124,7 @@ pub struct PaddingSource {
 }
 
 impl Filler for PaddingSource {
-    ghost use Rattle.std.specs.Prelude.{⊤};
-
-    ghost gives = { λ _ _ _. ⊤ };
+    ghost gives = { next_bytes };
 
     fn fill(&mut self, out: &mut [u8]) {
         self.stream.fill_bytes(out);

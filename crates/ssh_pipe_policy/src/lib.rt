@@ -22,6 +22,7 @@
 //! ```
 #![tactic(auto)]
 
+mod ciphers;
 mod end;
 mod error;
 mod keys;
@@ -30,9 +31,10 @@ mod user_key;
 mod users;
 mod window;
 
+pub use ciphers::Ciphers;
 pub use end::{AskOutcome, End, asked};
 pub use error::SupplyError;
-pub use keys::{KeySupply, Material, PaddingSource};
+pub use keys::{Entropy, KeySupply, Material, PaddingSource};
 pub use policy::{
     EPOCH_LIMIT, LEAST_WINDOW, MOST_DATA, MOST_SESSIONS, MOST_WAITING, MOST_WINDOW, Policy, TRIES,
     WINDOW, data_len,

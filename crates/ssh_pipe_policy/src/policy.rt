@@ -1,6 +1,8 @@
 //! How large windows and packets are, how much is sent at once, and when keys are exchanged.
 
-ghost use Rattle.std.specs.Prelude.{◌≡◌, ◌<◌, ◌≤◌};
+ghost use Rattle.std.specs.Prelude.{◌≡◌, ◌<◌, min};
+
+use crate::ciphers::Ciphers;
 
 /// The largest data of one packet, sent and offered to be taken, in bytes (RFC 4254 section 5.2). An ask for more is refused.
 pub const MOST_DATA: u32 = 32_768;
@@ -40,7 +42,9 @@ pub struct Policy {
     pub window: u32,
     /// After so many packets sent under the keys of one exchange the next one is due: 64 to `EPOCH_LIMIT`.
     pub epoch_limit: u32,
-    /// Whether `none` with hmac-sha2-256 is offered behind aes128-gcm@openssh.com. **It hides nothing**: whoever sees the bytes reads them, passwords
+    /// Which encryptions are offered.
+    pub ciphers: Ciphers,
+    /// Whether `none` with hmac-sha2-256 is offered after them. **It hides nothing**: whoever sees the bytes reads them, passwords
     /// too.
     pub offers_none: bool,
 }
@@ -50,18 +54,15 @@ impl Policy {
     pub const DEFAULT: Policy = Policy {
         window: WINDOW,
         epoch_limit: EPOCH_LIMIT,
+        ciphers: Ciphers::Aes128,
         offers_none: false,
     };
 }
 
 /// How many bytes of those that wait go into the next packet of data, for a channel into whose window `room` bytes fit and whose peer takes at most
-/// `max_packet` at once (RFC 4254 section 5.2). None only where nothing may be sent or nothing waits.
+/// `max_packet` at once (RFC 4254 section 5.2). It is the least of these and of `MOST_DATA`.
 pub fn data_len(room: u32, max_packet: u32, waiting: usize) -> usize
-    ensures room { result ≤ room }
-    ensures packet { result ≤ max_packet }
-    ensures most { result ≤ MOST_DATA }
-    ensures waiting { result ≤ waiting }
-    ensures some { 0 < room → 0 < max_packet → 0 < waiting → 0 < result }
+    ensures { result ≡ min (min (min room max_packet) MOST_DATA) waiting }
 {
     let most = room.min(max_packet).min(MOST_DATA) as usize;
     most.min(waiting)

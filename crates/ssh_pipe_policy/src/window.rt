@@ -1,6 +1,7 @@
 //! What the peer may send on a channel.
 
-ghost use Rattle.std.specs.Prelude.{◌≡◌, ◌<◌, ◌≤◌, ◌+◌, ◌*◌, IfSome, IsSome};
+ghost use Rattle.std.specs.Prelude.{◌≡◌, ◌<◌, ◌≤◌, ◌+◌, IsSome};
+ghost use Rattle.ssh_pipe_policy.specs.Windows.{due_of};
 
 /// The window that this end gave the peer on a channel (RFC 4254 section 5.2), in bytes.
 #[derive(Clone, Copy, Debug, PartialEq, Eq)]
@@ -63,8 +64,7 @@ impl Window {
     /// How many bytes to give back now: all that are done with, once they are half of the window. So a peer that used up the window and whose bytes
     /// are all done with is never left waiting.
     pub fn due(&self) -> Option<u32>
-        ensures all { IfSome result (λ bytes. bytes ≡ self.now.done) }
-        ensures some { IfSome result (λ bytes. 0 < bytes) }
+        ensures due { result ≡ due_of self.now.size self.now.done }
         ensures never_waits { self.now.granted ≡ 0 → self.now.held ≡ 0 → 0 < self.now.size → IsSome result }
     {
         if self.done > 0 && self.done >= self.size / 2 {

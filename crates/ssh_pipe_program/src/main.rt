@@ -2,7 +2,7 @@
 //! output what goes to it.
 #![tactic(auto)]
 
-use ssh_pipe_commands::{Call, Status, call, call_of, refuse, report, serve};
+use ssh_pipe_commands::{Call, Status, call, call_of, refuse, report, serve, version};
 use std::process::ExitCode;
 use std::rt::Env;
 use std::{env, io};
@@ -17,6 +17,7 @@ fn main(rt: HostRuntime) -> ExitCode {
             Ok(Call::Server(options)) => {
                 serve(&rt, &options, &mut rt.stdin(), &mut rt.stdout(), &mut err)
             }
+            Ok(Call::Version) => version(&mut rt.stdout(), &mut err),
             Err(fault) => refuse(fault, &mut err),
         },
         Err(error) => report(error, &mut err, Status::Fault),

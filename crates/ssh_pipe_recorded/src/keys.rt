@@ -15,6 +15,10 @@ pub struct Keys {
 
 impl Keys {
     /// The keys in the files `host` and `user`.
+    ///
+    /// # Errors
+    ///
+    /// A file that can't be read, or that is no private key.
     pub fn read<R: Files + AllocGlobal>(rt: &R) -> anyhow::Result<Keys> {
         let host = private_key(rt.alloc(), fs::read(rt, "host")?.as_slice())?;
         let user = private_key(rt.alloc(), fs::read(rt, "user")?.as_slice())?;

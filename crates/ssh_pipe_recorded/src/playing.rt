@@ -18,6 +18,10 @@ pub enum Role {
 }
 
 /// The server of the recordings, that put its first bytes into `out`.
+///
+/// # Errors
+///
+/// Those of a server of `ssh_pipe`: here only where memory is refused.
 pub fn server<'a>(
     alloc: Global,
     keys: &'a Keys,
@@ -39,6 +43,10 @@ pub fn server<'a>(
 }
 
 /// The client of the recordings, which runs a command that says `hello` and ends with status 3.
+///
+/// # Errors
+///
+/// Those of a client of `ssh_pipe`: here only where memory is refused.
 pub fn client(
     alloc: Global,
     keys: &Keys,
@@ -72,6 +80,10 @@ pub struct Outcome {
 }
 
 /// What becomes of the session in which the end of this role takes these bytes in pieces of this size.
+///
+/// # Errors
+///
+/// Those of an end of `ssh_pipe` that the outcome does not tell.
 pub fn played(
     alloc: Global,
     keys: &Keys,

@@ -23,6 +23,10 @@ impl<W: Write + Drop> Read for Copied<W> {
 }
 
 /// Lets an end go on over standard input and output, and keeps what comes in a file.
+///
+/// # Errors
+///
+/// Those of the end, of standard input and output, and of the file.
 pub fn record(rt: &HostRuntime, keys: &Keys, role: Role, file: &str) -> anyhow::Result<()> {
     let alloc = rt.alloc();
     let mut input = Copied {

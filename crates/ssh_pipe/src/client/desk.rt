@@ -7,6 +7,7 @@ use crate::flow::Flow;
 use crate::login::Login;
 use crate::tasks::Tasks;
 use crate::texts::{first_string_in, number_in};
+use divrelca::default_answer;
 use ssh_channels::{Ask as ChannelAsk, Fact};
 use ssh_end::{Ask, Fault, Told, Turn};
 use ssh_pipe_policy::{AskOutcome, End, MOST_WAITING, asked};
@@ -197,24 +198,14 @@ impl<'a> Desk<'a> {
         }
     }
 
-    // What is told of requests and channels of the server.
+    // What the server asks for. How the command ended is kept, and where an answer is owed it is that to what is not known.
     fn hear_of_requests(&mut self, fact: &Fact<'_>) -> Result<(), AllocError> {
-        match *fact {
-            Fact::Requested {
-                channel,
-                name,
-                want,
-                rest,
-            } => {
-                self.learn(name, rest)?;
-                if want {
-                    self.tasks.add(Task::RefuseRequest { channel })?;
-                }
-                Ok(())
-            }
-            Fact::Opened { channel, .. } => self.tasks.add(Task::RefuseChannel { channel }),
-            Fact::Global { want: true, .. } => self.tasks.add(Task::RefuseGlobal),
-            _ => Ok(()),
+        if let Fact::Requested { name, rest, .. } = *fact {
+            self.learn(name, rest)?;
+        }
+        match default_answer(&Told::Channel(*fact)) {
+            Some(answer) => self.tasks.add(Task::Answer(answer)),
+            None => Ok(()),
         }
     }
 

@@ -17,18 +17,11 @@ pub(super) enum Task {
     Open,
     /// On the confirmed channel the command is run.
     Run { channel: u32 },
-    /// A channel that the server opens is refused.
-    RefuseChannel { channel: u32 },
-    /// A request of the server on a channel is refused.
-    RefuseRequest { channel: u32 },
-    /// A global request is refused.
-    RefuseGlobal,
+    /// What the server asked for is answered.
+    Answer(Ask<'static>),
     /// The connection is ended.
     Disconnect,
 }
-
-// The reason for which a channel is refused (RFC 4254 section 5.1).
-const PROHIBITED: u32 = 1;
 
 /// What the end is asked for.
 pub(super) fn ask_of<'b>(
@@ -55,18 +48,7 @@ pub(super) fn ask_of<'b>(
             want: true,
             rest: request.text,
         }),
-        Task::RefuseChannel { channel } => Ask::Connection(ChannelAsk::Refuse {
-            channel,
-            reason: PROHIBITED,
-        }),
-        Task::RefuseRequest { channel } => Ask::Connection(ChannelAsk::Reply {
-            channel,
-            success: false,
-        }),
-        Task::RefuseGlobal => Ask::Connection(ChannelAsk::GlobalReply {
-            success: false,
-            rest: b"",
-        }),
+        Task::Answer(answer) => answer,
         Task::Disconnect => Ask::Disconnect(b"done"),
     }
 }

@@ -3,6 +3,7 @@
 use crate::ending::Ending;
 use crate::session::Session;
 use crate::tasks::Tasks;
+use divrelca::default_answer;
 use ssh_channels::{Ask as ChannelAsk, Fact};
 use ssh_end::{Ask, Fault, Told, Turn};
 use ssh_pipe_policy::{AskOutcome, End, MOST_DATA, MOST_SESSIONS, asked};
@@ -30,8 +31,8 @@ enum Task {
     Refuse { channel: u32, reason: u32 },
     // A request on a channel is granted or refused.
     Reply { channel: u32, success: bool },
-    // A global request is refused.
-    RefuseGlobal,
+    // What else the client asked for is answered.
+    Answer(Ask<'static>),
 }
 
 // The reasons for which a channel is refused (RFC 4254 section 5.1).
@@ -99,8 +100,10 @@ impl Desk {
                 self.sessions.retain(|session| session.channel() != channel);
                 Ok(())
             }
-            Fact::Global { want: true, .. } => self.tasks.add(Task::RefuseGlobal),
-            _ => Ok(()),
+            other => match default_answer(&Told::Channel(other)) {
+                Some(answer) => self.tasks.add(Task::Answer(answer)),
+                None => Ok(()),
+            },
         }
     }
 
@@ -170,7 +173,7 @@ impl Desk {
                 break;
             };
             let ask = ask_of(task, self.window);
-            if asked(end, &Ask::Connection(ask), out)? == AskOutcome::Later {
+            if asked(end, &ask, out)? == AskOutcome::Later {
                 return Ok(false);
             }
             self.tasks.finish_first();
@@ -188,19 +191,20 @@ impl Desk {
 }
 
 // What the end is asked for.
-fn ask_of(task: Task, window: u32) -> ChannelAsk<'static> {
+fn ask_of(task: Task, window: u32) -> Ask<'static> {
     match task {
-        Task::Confirm { channel } => ChannelAsk::Confirm {
+        Task::Confirm { channel } => Ask::Connection(ChannelAsk::Confirm {
             channel,
             window,
             max_packet: MOST_DATA,
             rest: b"",
-        },
-        Task::Refuse { channel, reason } => ChannelAsk::Refuse { channel, reason },
-        Task::Reply { channel, success } => ChannelAsk::Reply { channel, success },
-        Task::RefuseGlobal => ChannelAsk::GlobalReply {
-            success: false,
-            rest: b"",
-        },
+        }),
+        Task::Refuse { channel, reason } => {
+            Ask::Connection(ChannelAsk::Refuse { channel, reason })
+        }
+        Task::Reply { channel, success } => {
+            Ask::Connection(ChannelAsk::Reply { channel, success })
+        }
+        Task::Answer(answer) => answer,
     }
 }

@@ -19,8 +19,10 @@ A client of OpenSSH and this server, and this client and a server of OpenSSH beh
   mkfifo up down
   sshd -i -f CONFIG <up >down & ssh_pipe client --user me --host-key known_hosts --identity KEY 'uname -a' >up <down
 
-The methods are curve25519-sha256 with strict key exchange, ssh-ed25519 and aes128-gcm@openssh.com. Keys are files of
-OpenSSH without a passphrase. Faults and refusals are told on standard error.";
+The methods are curve25519-sha256 with strict key exchange, ssh-ed25519, aes128-gcm@openssh.com and, by --cipher,
+aes256-gcm@openssh.com. Keys are files of OpenSSH without a passphrase. Faults and refusals are told on standard error.
+
+ssh_pipe --version says what the program is: its version, and the kit that it is proved with.";
 
 const COMMANDS: &str = "\
 Commands of the server:
@@ -192,6 +194,12 @@ const POLICY_OPTIONS: &[Row] = &[
         name: "rekey-after",
         value: Some("PACKETS"),
         help: "Exchange keys again after so many packets [default: 1048576]",
+        required: false,
+    },
+    Row {
+        name: "cipher",
+        value: Some("NAMES"),
+        help: "Offer aes128-gcm@openssh.com, aes256-gcm@openssh.com, or aes256-gcm@openssh.com,aes128-gcm@openssh.com [default: the first]",
         required: false,
     },
     Row {

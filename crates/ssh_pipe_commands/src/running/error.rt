@@ -15,6 +15,9 @@ pub enum RunError<'a> {
     /// A file is not what it has to be.
     #[error("{file}: {fault}")]
     Content { file: &'a str, fault: FileFault },
+    /// No line of a file has a key for the host.
+    #[error("{file}: no line has a key of ssh-ed25519 for {host}")]
+    NoHostKey { file: &'a str, host: &'a str },
     /// There is nothing by which the user could be let in.
     #[error("nobody can be let in: name --authorized-keys or --password-file")]
     NoWayIn,

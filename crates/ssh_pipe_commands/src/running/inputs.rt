@@ -2,7 +2,9 @@
 
 use super::error::RunError;
 use crate::sink::Sink;
-use ssh_key_files::{FileFault, PrivateKey, authorized_keys, password, private_key, trusted_key};
+use ssh_key_files::{
+    Expected, FileFault, PrivateKey, authorized_keys, password, private_key, trusted_key,
+};
 use ssh_parts::{AcceptedKey, Ed25519Trust};
 use std::fs;
 use std::io::Write;
@@ -31,13 +33,16 @@ pub fn private_key_in<'a, R: Files + AllocGlobal>(
 pub fn trusted_key_in<'a, R: Files + AllocGlobal>(
     rt: &R,
     file: &'a str,
-    host: Option<&str>,
+    host: Option<&'a str>,
 ) -> Result<Ed25519Trust, RunError<'a>> {
     let bytes = bytes_of(rt, file)?;
-    let host = host.map(|host| host.as_bytes());
-    match trusted_key(bytes.as_slice(), host) {
-        Ok(public) => Ok(Ed25519Trust { public }),
-        Err(fault) => Err(wrong(file, fault)),
+    let found = trusted_key(bytes.as_slice(), host.map(|host| host.as_bytes()));
+    match (found, host) {
+        (Ok(public), _) => Ok(Ed25519Trust { public }),
+        (Err(FileFault::File(Expected::AnyHostKey)), Some(host)) => {
+            Err(RunError::NoHostKey { file, host })
+        }
+        (Err(fault), _) => Err(wrong(file, fault)),
     }
 }
 

@@ -1,0 +1,46 @@
+//! What is answered to what a program does not know.
+
+ghost use Rattle.std.specs.Prelude.{◌≡◌};
+ghost use Rattle.std.specs.Option.{option_map};
+ghost use Rattle.divrelca.specs.Unknown.{default_answer_of};
+ghost use Rattle.ssh_end.specs.Asking.{ask_of};
+ghost use Rattle.ssh_end.specs.Told.{told_of};
+
+use ssh_channels::{Ask as ChannelAsk, Fact};
+use ssh_end::{Ask, Told};
+
+// The channel's type is not known (RFC 4254 section 5.1).
+const UNKNOWN_TYPE: u32 = 3;
+
+/// The answer that the peer is owed for what a program does not know: a channel that the peer opens is refused as of unknown type (RFC 4254
+/// section 5.1), and a request that wants a reply fails, on a channel or global (sections 4 and 5.4). All else is owed no answer.
+///
+/// OpenSSH's `keepalive@openssh.com` is such a request, and any answer to it says that this end lives. Replies go to the oldest request that
+/// waits: give this answer in the order in which the requests were told, also among those that the program knows.
+pub fn default_answer(told: &Told<'_>) -> Option<Ask<'static>>
+    ensures { option_map ask_of result ≡ default_answer_of (told_of told.now) }
+{
+    let Told::Channel(fact) = *told else {
+        return None;
+    };
+    let ask = match fact {
+        Fact::Opened { channel, .. } => ChannelAsk::Refuse {
+            channel,
+            reason: UNKNOWN_TYPE,
+        },
+        Fact::Requested {
+            channel,
+            want: true,
+            ..
+        } => ChannelAsk::Reply {
+            channel,
+            success: false,
+        },
+        Fact::Global { want: true, .. } => ChannelAsk::GlobalReply {
+            success: false,
+            rest: b"",
+        },
+        _ => return None,
+    };
+    Some(Ask::Connection(ask))
+}

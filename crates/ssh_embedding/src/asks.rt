@@ -1,0 +1,39 @@
+//! What an end is still to be asked for.
+
+use divrelca::{Ask, AskOutcome, End, Fault, asked};
+use std::alloc::{AllocError, Global};
+use std::collections::VecDeque;
+
+/// Asks in the order in which they came up. Each waits until the end can do it.
+#[derive(Drop)]
+pub struct Asks<'a> {
+    waiting: VecDeque<Ask<'a>>,
+}
+
+impl<'a> Asks<'a> {
+    /// No asks.
+    pub fn new(alloc: Global) -> Asks<'a> {
+        Asks {
+            waiting: VecDeque::new(alloc),
+        }
+    }
+
+    /// One ask more.
+    pub fn add(&mut self, ask: Ask<'a>) -> Result<(), AllocError> {
+        self.waiting.push_back(ask).map_err(|_| AllocError)
+    }
+
+    /// Asks for what waits, and answers whether nothing is left. While keys are exchanged, and before the peer's NEWKEYS came, some is.
+    pub fn work<E: End>(&mut self, end: &mut E, out: &mut Vec<u8>) -> Result<bool, Fault> {
+        for _ in 0..self.waiting.len() {
+            let Some(ask) = self.waiting.front().copied() else {
+                break;
+            };
+            if asked(end, &ask, out)? == AskOutcome::Later {
+                return Ok(false);
+            }
+            self.waiting.pop_front();
+        }
+        Ok(true)
+    }
+}

@@ -1,0 +1,50 @@
+-- Cookies, secrets and padding, as draws of a source.
+use Rattle.std.specs.Prelude.{◌≡◌, ℕ, Bool, false, cond, List, length, Option, Some, None}
+use Rattle.rand_chacha.specs.ChaCha.{next_word, of_seed}
+use Rattle.rand_core.specs.Steps.{steps_u32, stream_of}
+use Rattle.rand_core.specs.Stream.{Stream, fill_bytes}
+use Rattle.ssh_pipe_policy.specs.declared.keys.KeySupply.{KeySupply}
+use Rattle.ssh_pipe_policy.specs.declared.keys.Material.{Material}
+use Rattle.ssh_pipe_policy.specs.declared.keys.PaddingSource.{PaddingSource}
+
+-- which bytes a source may give in a call, from its value before it to its value after it
+abbrev pub Gives : Type 0 → Type 1
+Gives S = S → List ℕ → S → Type 0
+
+-- A cookie and a secret are drawn one after the other.
+pub record IsDrawn {S : Type 0} (gives : Gives S) (old : S) (material : Material) (new : S) : Type 0 where
+  pub between : S
+  pub cookie : gives old material.cookie between
+  pub secret : gives between material.secret new
+
+-- which pair is handed in: the one that was kept, or one that is drawn now
+abbrev pub IsNext : {S : Type 0} → Gives S → Option Material → S → Material → S → Type 0
+IsNext gives None old material new = IsDrawn gives old material new
+IsNext gives (Some kept) old material new = (material ≡ kept) × (new ≡ old)
+
+-- An end was handed the next pair. It is kept no longer where the end took it, and what is due after that is asked for.
+pub record KeepsFresh {S E : Type 0} (gives : Gives S) (feeds : E → (cookie secret : List ℕ) → (is_taken : Bool) → E → Type 0)
+    (is_due : E → Bool) (old : KeySupply S) (end : E) (new : KeySupply S) (later : E) : Type 0 where
+  pub material : Material
+  pub next : IsNext gives old.next old.source material new.source
+  pub is_taken : Bool
+  pub between : E
+  pub fed : feeds end material.cookie material.secret is_taken between
+  pub kept : new.next ≡ cond is_taken None (Some material)
+  pub rest : is_due between ≡ false → later ≡ between
+
+-- ---- padding
+
+-- The padding is that of a stream of ChaCha20 whose key is drawn now.
+pub record SeedsPadding {S : Type 0} (gives : Gives S) (old : S) (padding : PaddingSource) (new : S) : Type 0 where
+  pub seed : List ℕ
+  pub given : gives old seed new
+  pub stream_is : padding.stream ≡ of_seed seed
+
+-- all that a padding's stream gives from now on
+abbrev pub stream_in : PaddingSource → Stream
+stream_in padding = stream_of (steps_u32 (next_word 10)) padding.stream
+
+-- the bytes are the next ones of the stream
+abbrev pub next_bytes : PaddingSource → List ℕ → PaddingSource → Type 0
+next_bytes old bytes new = (bytes, stream_in new) ≡ fill_bytes (length bytes) (stream_in old)
