@@ -30,6 +30,10 @@ pub(crate) struct Alteration {
 
 impl Alteration {
     /// The bytes of a parcel with the change. None where the byte is not among them.
+    ///
+    /// # Errors
+    ///
+    /// Only where memory is refused.
     pub fn altered(&self, alloc: Global, parcel: &Parcel<'_>) -> Result<Option<Vec<u8>>, AllocError>
         ensures { IfOk result (λ bytes. option_map (λ v. v.items) bytes ≡ option_map (changed_at self.now.change parcel.now.bytes.now) (index_of self.now parcel.now)) }
     {

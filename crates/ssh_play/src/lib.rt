@@ -3,7 +3,8 @@
 //!
 //! Both ends begin with one setup, of which a script changes a little: `curve25519-sha256`, a toy host key, no encryption, and
 //! `hmac-sha2-256`. `play` gives what they did, a line for each thing; `compare` tells whether these are the lines that the script
-//! expects; `sweep` plays it again and again, each time with one byte changed on its way.
+//! expects; `play_through` plays on where a line finds less than it wants; `sweep` does so again and again, each time with one byte
+//! changed on its way.
 //!
 //! ```rust
 //! let Script::Session(script) = Script::read(alloc, b"pass c s 11\n> c sent line 9\n")? else { return Ok(()) };
@@ -21,6 +22,7 @@
 
 mod alteration;
 mod comparison;
+mod course;
 mod lines;
 mod player;
 mod playing;
@@ -29,5 +31,6 @@ mod standard;
 mod sweeping;
 
 pub use comparison::{Comparison, compare};
+pub use course::{Course, play_through};
 pub use playing::{Played, play};
 pub use sweeping::{Tally, sweep};

@@ -3,7 +3,7 @@
 use crate::alteration::Alteration;
 use crate::standard::{Standard, ToyPair};
 use ssh_pair::{Done, Event, Transcript};
-use ssh_script::{Cut, Delivery, Network, Parcel, RunFault, ScriptFault, Shortage, Step};
+use ssh_script::{Delivery, Network, Parcel, RunFault, ScriptFault, Shortage, Step};
 use ssh_types::Side;
 use std::alloc::{AllocError, Global};
 
@@ -18,6 +18,10 @@ pub(crate) struct Player<'a> {
 
 impl<'a> Player<'a> {
     /// Two ends that opened, and what they did for it.
+    ///
+    /// # Errors
+    ///
+    /// Only where memory is refused.
     pub fn open(
         alloc: Global,
         standard: &'a Standard<'_>,
@@ -35,8 +39,8 @@ impl<'a> Player<'a> {
         Ok((player, items))
     }
 
-    /// How many bytes a side put out.
-    pub fn whole(&self, side: Side) -> usize {
+    /// All bytes that a side put out.
+    pub fn whole(&self, side: Side) -> &[u8] {
         self.network.whole(side)
     }
 
@@ -102,12 +106,8 @@ fn deliver_pieces(
     pair: &mut ToyPair<'_>,
     parcel: &Parcel<'_>,
 ) -> Result<Transcript, AllocError> {
-    let size = match parcel.cut {
-        Cut::Whole => parcel.bytes.len().max(1),
-        Cut::Bytes => 1,
-    };
     let mut events = Vec::new(alloc);
-    for piece in parcel.bytes.chunks(size) {
+    for piece in parcel.pieces() {
         events.push(Event::Deliver(parcel.to, piece))?;
     }
     pair.play(events.as_slice())

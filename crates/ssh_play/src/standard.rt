@@ -27,6 +27,10 @@ pub(crate) struct Standard<'a> {
 
 impl<'a> Standard<'a> {
     /// What a script's lines before its first event ask for.
+    ///
+    /// # Errors
+    ///
+    /// Only where memory is refused.
     pub fn new(alloc: Global, setup: &'a Setup) -> Result<Standard<'a>, AllocError> {
         let mut credentials = Vec::new(alloc);
         for credential in setup.credentials.iter() {
@@ -41,6 +45,10 @@ impl<'a> Standard<'a> {
     }
 
     /// Two ends that have put out their lines and their first KEXINITs.
+    ///
+    /// # Errors
+    ///
+    /// Only where memory is refused.
     pub fn open(&self, alloc: Global) -> Result<(ToyPair<'_>, Transcript), ScriptFault> {
         let client = ClientValues {
             config: self.config(alloc, Side::Client)?,

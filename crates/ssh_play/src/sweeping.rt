@@ -1,11 +1,9 @@
 //! A script that is played with each byte changed in turn.
 
 use crate::alteration::{Alteration, Change};
-use crate::player::Player;
-use crate::safety::is_safe;
+use crate::course::Course;
 use crate::standard::Standard;
-use ssh_pair::Done;
-use ssh_script::{Line, RunFault, ScriptFault, SessionScript, Shortage, Step};
+use ssh_script::{ScriptFault, SessionScript};
 use ssh_types::Side;
 use std::alloc::Global;
 use std::fmt;
@@ -30,21 +28,21 @@ pub struct Tally {
 pub fn sweep(alloc: Global, script: &SessionScript) -> Result<Tally, ScriptFault> {
     let standard = Standard::new(alloc, &script.setup)?;
     let steps = script.steps.as_slice();
-    let unchanged = Run::of(alloc, &standard, steps, None)?;
+    let unchanged = Course::of(alloc, &standard, steps, None)?;
     let mut tally = Tally {
         runs: 0,
         unsafe_runs: 0,
     };
     for side in [Side::Client, Side::Server] {
-        for place in 0..unchanged.whole(side) {
+        for place in 0..unchanged.put_out(side).len() {
             for change in [Change::Flipped, Change::LeftOut, Change::Doubled] {
                 let alteration = Alteration {
                     side,
                     place,
                     change,
                 };
-                let run = Run::of(alloc, &standard, steps, Some(alteration))?;
-                tally.count(is_safe(alloc, run.items.as_slice())?);
+                let course = Course::of(alloc, &standard, steps, Some(alteration))?;
+                tally.count(course.is_safe(alloc)?);
             }
         }
     }
@@ -62,49 +60,6 @@ impl Tally {
         self.runs = self.runs.saturating_add(1);
         if !is_safe {
             self.unsafe_runs = self.unsafe_runs.saturating_add(1);
-        }
-    }
-}
-
-// What the ends did in one run, and how many bytes each put out.
-#[derive(Drop)]
-struct Run {
-    items: Vec<Done>,
-    client_bytes: usize,
-    server_bytes: usize,
-}
-
-impl Run {
-    fn of(
-        alloc: Global,
-        standard: &Standard<'_>,
-        steps: &[Line<Step>],
-        alteration: Option<Alteration>,
-    ) -> Result<Run, ScriptFault> {
-        let (mut player, mut items) = Player::open(
-            alloc,
-            standard,
-            Shortage::Shortened,
-            alteration,
-        )?;
-        for line in steps {
-            match player.run(&line.content) {
-                Ok(mut more) => items.append(&mut more)?,
-                Err(RunFault::NotFed) => {}
-                Err(fault) => return Err(ScriptFault::at_run(alloc, line.number, fault)),
-            }
-        }
-        Ok(Run {
-            items,
-            client_bytes: player.whole(Side::Client),
-            server_bytes: player.whole(Side::Server),
-        })
-    }
-
-    fn whole(&self, side: Side) -> usize {
-        match side {
-            Side::Client => self.client_bytes,
-            Side::Server => self.server_bytes,
         }
     }
 }

@@ -74,6 +74,7 @@ const SESSIONS: &[&str] = &[
     "refused_open_and_extended_data",
     "requests_and_replies",
     "tries_used_up",
+    "asks_of_each_size",
 ];
 
 // Those of one epoch.

@@ -65,6 +65,10 @@ impl Form {
     }
 
     /// The fault of words that are more or fewer than this form has behind its first.
+    ///
+    /// # Errors
+    ///
+    /// Always that fault.
     pub fn other_words<'a, T: Drop>(self, words: &[&'a str]) -> Result<T, WordFault<'a>>
         ensures { IsErr result }
     {
@@ -73,6 +77,10 @@ impl Form {
     }
 
     /// The fault of a word that isn't one that this form has there.
+    ///
+    /// # Errors
+    ///
+    /// Always that fault.
     pub fn other_word<'a, T: Drop>(self, met: &'a str) -> Result<T, WordFault<'a>>
         ensures { IsErr result }
     {
@@ -133,6 +141,10 @@ impl AskForm {
     }
 
     /// The fault of words behind the first, `ask`, that are more or fewer than this form has.
+    ///
+    /// # Errors
+    ///
+    /// Always that fault.
     pub fn other_words<'a, T: Drop>(self, words: &[&'a str]) -> Result<T, WordFault<'a>>
         ensures { IsErr result }
     {

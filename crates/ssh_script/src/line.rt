@@ -24,6 +24,10 @@ pub(crate) enum LineText<'a> {
 
 impl<'a> LineText<'a> {
     /// The text of these bytes, a line without its line break.
+    ///
+    /// # Errors
+    ///
+    /// `NotUtf8` with the first byte that begins no character. `CarriageReturn` where a CR stands at the line's end.
     pub fn of(bytes: &'a [u8]) -> Result<LineText<'a>, LineFault<'a>> {
         let text = match str::from_utf8(bytes) {
             Ok(text) => text,

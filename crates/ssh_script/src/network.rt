@@ -1,6 +1,6 @@
 //! What lies between the two sides.
 
-ghost use Rattle.std.specs.Prelude.{◌≡◌, ◌++◌, [], length, IfOk, OnOk, OnErr};
+ghost use Rattle.std.specs.Prelude.{◌≡◌, ◌++◌, [], IfOk, OnOk, OnErr};
 ghost use Rattle.ssh_script.specs.Network.{Delivers, IsAgain, IsNext, passed_of, shortage_of, whole_of};
 ghost use Rattle.ssh_types.specs.declared.side.Side.TheVariants.{Client, Server};
 
@@ -34,9 +34,9 @@ impl Network {
         }
     }
 
-    /// How many bytes a side put out.
-    pub fn whole(&self, side: Side) -> usize
-        ensures { result ≡ length (whole_of self.now side) }
+    /// All bytes that a side put out.
+    pub fn whole(&self, side: Side) -> &[u8]
+        ensures { result.now ≡ whole_of self.now side }
     {
         match side {
             Side::Client => self.client.whole(),
@@ -45,6 +45,10 @@ impl Network {
     }
 
     /// Adds bytes that a side put out, and which wait then.
+    ///
+    /// # Errors
+    ///
+    /// Only where memory is refused: nothing is added.
     pub fn put_out(&mut self, side: Side, bytes: &[u8]) -> Result<(), AllocError>
         ensures bytes { OnOk result (whole_of self.new side ≡ whole_of self.old side ++ bytes.now) }
         ensures client { side ≡ Server → self.new.client ≡ self.old.client }

@@ -21,6 +21,7 @@ pub(crate) struct Reading {
 }
 
 impl Reading {
+    /// A script of which no line was read.
     pub fn new(alloc: Global) -> Reading {
         Reading {
             alloc,
@@ -30,6 +31,10 @@ impl Reading {
     }
 
     /// Reads one line, without its line break.
+    ///
+    /// # Errors
+    ///
+    /// The first fault of the line.
     pub fn take<'a>(&mut self, number: usize, bytes: &'a [u8]) -> Result<(), LineFault<'a>> {
         match LineText::of(bytes)? {
             LineText::Skipped => {}
@@ -38,6 +43,10 @@ impl Reading {
                 self.expected.push(text)?;
             }
             LineText::Words(text) => {
+                // Tested before the words are kept, since each takes more memory than the space before it.
+                if text.split(' ').any(|word| word.is_empty()) {
+                    return Err(LineFault::Words(WordFault::EmptyWord));
+                }
                 let words: Vec<&str> = text.split(' ').collect(self.alloc)?;
                 self.take_words(number, words.as_slice())?;
             }
@@ -46,9 +55,6 @@ impl Reading {
     }
 
     fn take_words<'a>(&mut self, number: usize, words: &[&'a str]) -> Result<(), WordFault<'a>> {
-        if words.iter().any(|word| word.is_empty()) {
-            return Err(WordFault::EmptyWord);
-        }
         let [word, rest @ ..] = words else {
             return Err(WordFault::EmptyWord);
         };

@@ -1,5 +1,8 @@
 //! A script as it was read.
 
+ghost use Rattle.std.specs.Prelude.{◌≡◌, ◌<◌, ◌^◌, Err, length};
+ghost use Rattle.ssh_script.specs.declared.script_fault.ScriptFault.TheVariants.{TooLong};
+
 use crate::ask_line::AskLine;
 use crate::delivery::Delivery;
 use crate::line::Line;
@@ -8,6 +11,9 @@ use crate::script_fault::ScriptFault;
 use crate::setup::Setup;
 use ssh_types::Side;
 use std::alloc::Global;
+
+/// The most bytes that a script may have: 16 MiB.
+pub const MOST_SCRIPT_BYTES: usize = 16_777_216;
 
 /// A script of either kind.
 #[derive(Drop)]
@@ -67,9 +73,14 @@ impl Script {
     ///
     /// # Errors
     ///
-    /// The fault of the first line that is wrong, with the line's number and what is possible there. `Memory` comes only where
-    /// memory was refused.
-    pub fn read(alloc: Global, text: &[u8]) -> Result<Script, ScriptFault> {
+    /// `TooLong` for more than `MOST_SCRIPT_BYTES`. The fault of the first line that is wrong, with the line's number and what is possible there. `Memory`
+    /// comes only where memory was refused.
+    pub fn read(alloc: Global, text: &[u8]) -> Result<Script, ScriptFault>
+        ensures { 2 ^ 24 < length text.now → result ≡ Err TooLong }
+    {
+        if text.len() > MOST_SCRIPT_BYTES {
+            return Err(ScriptFault::TooLong);
+        }
         let mut reading = Reading::new(alloc);
         for (before, bytes) in text.split(|byte| *byte == b'\n').enumerate() {
             let number = before.saturating_add(1);

@@ -53,6 +53,8 @@ pub enum RunFault {
 pub enum ScriptFault {
     #[error("can't read the script: {0}")]
     Unreadable(io::Error),
+    #[error("the script has more than 16777216 bytes")]
+    TooLong,
     /// The line, counted from 1, and what is wrong with it.
     #[error("line {line}: {message}")]
     Line { line: usize, message: String },

@@ -17,6 +17,7 @@ pub(crate) struct Stream {
 }
 
 impl Stream {
+    /// A stream into which nothing was put.
     pub fn new(alloc: Global) -> Stream
         ensures bytes { result.bytes.items ≡ [] }
         ensures passed { result.passed ≡ 0 }
@@ -27,11 +28,11 @@ impl Stream {
         }
     }
 
-    /// How many bytes were put out.
-    pub fn whole(&self) -> usize
-        ensures { result ≡ vec_len self.now.bytes }
+    /// All bytes that were put out.
+    pub fn whole(&self) -> &[u8]
+        ensures { result.now ≡ self.now.bytes.items }
     {
-        self.bytes.len()
+        self.bytes.as_slice()
     }
 
     /// How many of them don't wait any more.
@@ -42,6 +43,10 @@ impl Stream {
     }
 
     /// Adds bytes that the side put out.
+    ///
+    /// # Errors
+    ///
+    /// Only where memory is refused: nothing is added.
     pub fn put_out(&mut self, bytes: &[u8]) -> Result<(), AllocError>
         ensures bytes { OnOk result (self.new.bytes.items ≡ self.old.bytes.items ++ bytes.now) }
         ensures passed { self.new.passed ≡ self.old.passed }
@@ -50,6 +55,10 @@ impl Stream {
     }
 
     /// Passes the next waiting bytes.
+    ///
+    /// # Errors
+    ///
+    /// Fewer bytes wait, and the shortage is `Refused`.
     pub fn pass(&mut self, count: Count, shortage: Shortage) -> Result<(), RunFault>
         ensures all { count ≡ Count.All → OnOk result (self.new.passed ≡ vec_len self.old.bytes) }
         ensures next { (n : ℕ) → count ≡ Count.Next n → OnOk result (self.new.passed
@@ -81,6 +90,10 @@ impl Stream {
     }
 
     /// Bytes that were put out, waiting or not.
+    ///
+    /// # Errors
+    ///
+    /// Fewer bytes were put out, and the shortage is `Refused`.
     pub fn part(&self, start: usize, count: usize, shortage: Shortage) -> Result<&[u8], RunFault>
         ensures part { IfOk result (λ piece. piece.now ≡ take count (drop start self.now.bytes.items)) }
         ensures whole { shortage ≡ Shortage.Refused → OnOk result (start + count ≤ vec_len self.now.bytes) }

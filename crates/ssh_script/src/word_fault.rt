@@ -3,6 +3,7 @@
 ghost use Rattle.std.specs.Prelude.{◌≤◌};
 
 use crate::form::{Form, Language};
+use crate::shortened::Shortened;
 use std::alloc::AllocError;
 use thiserror::Error;
 
@@ -52,27 +53,27 @@ pub(crate) enum WordFault<'a> {
     #[error("\"epoch\" is met behind another line: it stands in the first line or in none")]
     LateEpoch,
     /// A line of the setup behind an event.
-    #[error("{0:?} is met behind an event: user, key, limit, strict and ext stand before the first")]
+    #[error("{word:?} is met behind an event: user, key, limit, strict and ext stand before the first", word = Shortened(*.0))]
     LateSetup(&'a str),
     /// The first word is of no line.
-    #[error("no line begins with {met:?}: {known}", known = .language.first_words())]
+    #[error("no line begins with {word:?}: {known}", word = Shortened(*.met), known = .language.first_words())]
     UnknownForm { met: &'a str, language: Language },
     /// The word behind the side is of no ask.
-    #[error("{0:?} is no ask: service, none, password, probe, sign, rekey, open, confirm, refuse, data, extended, adjust, eof, close, request, reply, global, globalreply and disconnect are")]
+    #[error("{word:?} is no ask: service, none, password, probe, sign, rekey, open, confirm, refuse, data, extended, adjust, eof, close, request, reply, global, globalreply and disconnect are", word = Shortened(*.0))]
     UnknownAsk(&'a str),
     /// The number of words behind the first is another one.
     #[error("{count} words follow the first: the line is written {written}", written = .form.shown())]
     Words { form: Form, count: usize },
     /// A fixed word is another one.
-    #[error("{met:?} is met: the line is written {written}", written = .form.shown())]
+    #[error("{word:?} is met: the line is written {written}", word = Shortened(*.met), written = .form.shown())]
     Word { form: Form, met: &'a str },
-    #[error("{0:?} is no side: a side is c or s")]
+    #[error("{word:?} is no side: a side is c or s", word = Shortened(*.0))]
     Side(&'a str),
     #[error("F and T are both {0:?}: they are the two different sides, c and s")]
     SameSide(&'a str),
     #[error("{0}: HEX is pairs of hexadecimal digits, or - for no bytes")]
     Hex(HexFault),
-    #[error("{0:?} is no byte: BB is one pair of hexadecimal digits")]
+    #[error("{word:?} is no byte: BB is one pair of hexadecimal digits", word = Shortened(*.0))]
     Byte(&'a str),
     #[error("{0}: a key is 32 bytes, in 64 hexadecimal digits")]
     Key(HexFault),
@@ -83,7 +84,7 @@ pub(crate) enum WordFault<'a> {
     EmptyPayload,
     #[error("byte {at}, {met:?}, is no decimal digit: a number is decimal digits")]
     Digit { at: usize, met: char },
-    #[error("{0} is too large: a number is at most 4294967295")]
+    #[error("{word} is too large: a number is at most 4294967295", word = Shortened(*.0))]
     NumberTooLarge(&'a str),
     #[error("out of memory")]
     Memory(#[from(alloc)] AllocError),

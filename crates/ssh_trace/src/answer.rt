@@ -3,6 +3,8 @@ ghost use Rattle.std.specs.Io.KnownBytes.{Appends};
 ghost use Rattle.ssh_trace.specs.declared.status.Status.TheVariants.{Fault};
 
 use crate::status::Status;
+use ssh_release::{KIT, VERSION};
+use std::alloc::{AllocError, Global};
 use std::fmt::Display;
 use std::io;
 use std::io::Write;
@@ -33,6 +35,18 @@ pub(crate) fn finish<F: Display + Drop, W: Write, E: Write>(
         Ok(()) => answer.status,
         Err(error) => report(format_args!("can't write the output: {error}"), err),
     }
+}
+
+/// Prints on `out` what the program is: its name, its version and the kit that it is proved with, as one line.
+pub fn version_to<W: Write, E: Write>(alloc: Global, out: &mut W, err: &mut E) -> Status {
+    finish(version(alloc), out, err)
+}
+
+fn version(alloc: Global) -> Result<Answer, AllocError> {
+    Ok(Answer {
+        text: format!(in alloc; "ssh_trace {VERSION}, proved with {KIT}\n")?,
+        status: Status::Done,
+    })
 }
 
 /// Says on `err` why a command did nothing.

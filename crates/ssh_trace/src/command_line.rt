@@ -5,7 +5,7 @@ ghost use Rattle.ssh_trace.specs.declared.status.Status.TheVariants.{Fault};
 
 use crate::answer::{report, say};
 use crate::status::Status;
-use clap::{Arg, Command};
+use clap::{Arg, ArgMatches, Command};
 use std::alloc::{AllocError, Global};
 use std::convert::AsStr;
 use std::io::Write;
@@ -16,12 +16,30 @@ use thiserror::Error;
 pub enum Call<'a> {
     /// Show the packet that this text is.
     Decode(&'a str),
-    /// Play the script in the file of this name.
-    Play(&'a str),
-    /// Compare the transcript of the script in the file of this name with the lines that it expects.
-    Check(&'a str),
-    /// Play the script in the file of this name with each byte changed in turn.
-    Sweep(&'a str),
+    /// Do this with the script that stands there.
+    Script(Task, Source<'a>),
+    /// Say what the program is.
+    Version,
+}
+
+/// What is done with a script.
+#[derive(Clone, Copy, Debug, PartialEq, Eq)]
+pub enum Task {
+    /// It is played.
+    Play,
+    /// Its transcript is compared with the lines that it expects.
+    Check,
+    /// It is played with each byte changed in turn.
+    Sweep,
+}
+
+/// Where a script stands.
+#[derive(Clone, Copy, Debug, PartialEq, Eq)]
+pub enum Source<'a> {
+    /// On standard input, where the word is `-`.
+    Input,
+    /// In the file of this name.
+    File(&'a str),
 }
 
 /// Why the words are no call.
@@ -39,8 +57,15 @@ pub enum UsageFault {
 
 /// Reads the words of a command line, the program's name the first.
 pub fn call_of<'a, S: AsStr>(alloc: Global, words: &'a [S]) -> Result<Call<'a>, UsageFault> {
+    if let [_, word] = words
+        && word.as_str() == "--version"
+    {
+        return Ok(Call::Version);
+    }
     let matches = match command(alloc)?.try_get_matches_from(words) {
         Ok(matches) => matches,
+        // (the text of such a fault repeats the word)
+        Err(_) if words.iter().any(is_long) => return Err(UsageFault::NoCall),
         Err(error) => return Err(UsageFault::Words(error)),
     };
     let Some((name, rest)) = matches.subcommand() else {
@@ -48,12 +73,25 @@ pub fn call_of<'a, S: AsStr>(alloc: Global, words: &'a [S]) -> Result<Call<'a>, 
     };
     let call = match name {
         "decode" => rest.get_str("HEX").map(Call::Decode),
-        "play" => rest.get_str("FILE").map(Call::Play),
-        "check" => rest.get_str("FILE").map(Call::Check),
-        "sweep" => rest.get_str("FILE").map(Call::Sweep),
+        "play" => script_call(Task::Play, rest),
+        "check" => script_call(Task::Check, rest),
+        "sweep" => script_call(Task::Sweep, rest),
         _ => None,
     };
     call.ok_or(UsageFault::NoCall)
+}
+
+// Tests whether no message repeats the whole of a word.
+fn is_long<S: AsStr>(word: &S) -> bool {
+    word.as_str().len() > MOST_REPEATED
+}
+
+// The call that does this with the script that the words name.
+fn script_call<'a>(task: Task, words: &ArgMatches<'a>) -> Option<Call<'a>> {
+    match words.get_str("FILE")? {
+        "-" => Some(Call::Script(task, Source::Input)),
+        file => Some(Call::Script(task, Source::File(file))),
+    }
 }
 
 /// Says on `err` why the words are no call, with the words that the program takes.
@@ -66,10 +104,15 @@ pub fn refuse<E: Write>(fault: UsageFault, err: &mut E) -> Status
     }
 }
 
+// No message repeats more bytes of a word.
+const MOST_REPEATED: usize = 200;
+
 // The name in usage, whatever the file of the program is called.
 const PROGRAM: &str = "ssh_trace";
 
 const STATUS: &str = "\
+ssh_trace --version says what the program is: its version, and the kit that it is proved with.
+
 Exit status:
   0  done
   1  the packet is refused, incomplete or followed by bytes, an end refused its peer, a transcript differs, or a run is unsafe
@@ -82,7 +125,8 @@ digits. The line is its message's number, name and fields, or the first of these
   incomplete             bytes are missing
   refused 4 BadPadding   no packet has this padding_length
   trailing N             N bytes follow the packet
-  refused 6 BadMessage   the payload isn't what its message number says";
+  refused 6 BadMessage   the payload isn't what its message number says
+Standard error then says which field is wrong, at which byte of the packet, counted from 1, and why.";
 
 const SCRIPTS: &str = "\
 A script is lines of words, parted by one space. It plays a session between a client, c, and a server, s, from their version lines on.
@@ -113,7 +157,7 @@ send a payload, of at least one byte:
   epoch K1 K2         each of 32 bytes, in 64 hexadecimal digits
   ask SIDE raw HEX    asks the side to send a payload
 HEX is pairs of hexadecimal digits, or - for no bytes. A number is decimal digits, and at most 4294967295. Lines end with LF. Empty lines and those that begin with
-# do nothing. A line that begins with > and a space is expected of the transcript; check compares them.";
+# do nothing. A script has at most 16777216 bytes. A line that begins with > and a space is expected of the transcript; check compares them.";
 
 const PLAY: &str = "Plays a script between two ends and prints what they did";
 
@@ -152,7 +196,7 @@ fn script_command<'a>(
     about: &'static str,
 ) -> Result<Command<'a>, AllocError> {
     let file = Arg::new(alloc, "FILE")
-        .help("The script's file")
+        .help("The script's file, or - for standard input; a file of that name is ./-")
         .required(true);
     Command::new(alloc, name)
         .about(about)

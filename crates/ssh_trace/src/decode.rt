@@ -1,14 +1,17 @@
 ghost use Rattle.std.specs.Prelude.{◌≡◌};
 ghost use Rattle.ssh_trace.specs.declared.decode.DecodeFault.TheVariants.{OutOfMemory};
 
-use crate::answer::{Answer, finish};
-use crate::history::Memory;
+use crate::answer::{Answer, finish, report};
+use crate::blame::{FieldFault, fault_of};
 use crate::shown::{Shown, packet_of};
 use crate::status::Status;
 use ssh_message::Line;
+use ssh_packet::PacketRefusal;
 use ssh_script::HexFault;
 use ssh_types::Refusal;
 use std::alloc::{AllocError, Global};
+use std::fmt;
+use std::fmt::{Display, Formatter};
 use std::io::Write;
 use thiserror::Error;
 
@@ -19,14 +22,6 @@ enum DecodeFault {
     NotHex(HexFault),
     #[error("out of memory")]
     OutOfMemory,
-}
-
-impl From<Memory> for DecodeFault {
-    ghost from_gives = { λ _ e. e ≡ OutOfMemory };
-
-    fn from(_error: Memory) -> DecodeFault {
-        DecodeFault::OutOfMemory
-    }
 }
 
 impl From<AllocError> for DecodeFault {
@@ -41,7 +36,8 @@ impl From<AllocError> for DecodeFault {
 /// first of these that holds: `refused 3 BadLength`; `incomplete`, where bytes are missing; `refused 4 BadPadding`;
 /// `trailing N`, where N bytes follow the packet; `refused 6 BadMessage`.
 ///
-/// `Status::Done` where a message was printed, `Status::Refused` for another line. `Status::Fault`, with a message on
+/// `Status::Done` where a message was printed, `Status::Refused` for another line; `err` then has a line that says which field is wrong, at which byte of the
+/// packet, counted from 1, and why. `Status::Fault`, with a message on
 /// `err` and nothing on `out`, for a text that isn't hexadecimal and where an allocation failed; and where writing to `out`
 /// failed.
 pub fn decode_to<W: Write, E: Write>(
@@ -50,14 +46,30 @@ pub fn decode_to<W: Write, E: Write>(
     out: &mut W,
     err: &mut E,
 ) -> Status {
-    finish(decoded(alloc, text), out, err)
+    let shown = match packet_of(alloc, text) {
+        Ok(shown) => shown,
+        Err(_) => return report(DecodeFault::OutOfMemory, err),
+    };
+    let status = finish(decoded(alloc, text, &shown), out, err);
+    if status == Status::Refused {
+        // Where this can't be written, the printed line still tells of the refusal.
+        let _ = writeln!(
+            err,
+            "{}",
+            Note {
+                text,
+                shown: &shown
+            }
+        );
+    }
+    status
 }
 
-fn decoded(alloc: Global, text: &str) -> Result<Answer, DecodeFault> {
-    match packet_of(alloc, text)? {
+fn decoded(alloc: Global, text: &str, shown: &Shown) -> Result<Answer, DecodeFault> {
+    match shown {
         Shown::NotHex => Err(DecodeFault::NotHex(HexFault::of(text))),
         Shown::Refused(refusal) => {
-            let refusal = Refusal::from(refusal);
+            let refusal = Refusal::from(*refusal);
             let (number, name) = (refusal.number(), refusal.name());
             refused(format!(in alloc; "refused {number} {name}\n")?)
         }
@@ -82,4 +94,41 @@ fn refused(text: String) -> Result<Answer, DecodeFault> {
         text,
         status: Status::Refused,
     })
+}
+
+// Which field of a packet that is no message is wrong, and at which byte.
+#[derive(Clone, Copy)]
+struct Note<'a> {
+    text: &'a str,
+    shown: &'a Shown,
+}
+
+// The bytes of a packet before its payload: packet_length and padding_length.
+const BEFORE_PAYLOAD: usize = 5;
+
+impl Display for Note<'_> {
+    fn fmt<W: fmt::Write>(&self, out: &mut Formatter<W>) -> fmt::Result {
+        let count = self.text.len() / 2;
+        match self.shown {
+            Shown::NotHex => write!(out, "the packet is not hexadecimal"),
+            Shown::Refused(PacketRefusal::BadLength) => write!(
+                out,
+                "byte 1, packet_length: {}",
+                PacketRefusal::BadLength
+            ),
+            Shown::Refused(refusal) => write!(out, "byte 5, padding_length: {refusal}"),
+            Shown::Incomplete => write!(out, "after byte {count}: the packet goes on"),
+            Shown::Trailing(trailing) => {
+                let last = count.saturating_sub(*trailing);
+                write!(out, "after byte {last}: the packet has ended")
+            }
+            Shown::Payload(payload) => match fault_of(payload.as_slice()) {
+                Some(FieldFault { field, at, refusal }) => {
+                    let at = at.saturating_add(BEFORE_PAYLOAD + 1);
+                    write!(out, "byte {at}, {field}: {refusal}")
+                }
+                None => write!(out, "the payload is no message"),
+            },
+        }
+    }
 }

@@ -37,6 +37,7 @@ pub(crate) enum AskStep {
 }
 
 impl EpochEnd {
+    /// An end of one epoch, under these two keys.
     pub fn new(
         alloc: Global,
         sending_key: HmacKey,
@@ -51,6 +52,7 @@ impl EpochEnd {
         })
     }
 
+    /// Tests whether the end is over.
     pub fn is_dead(&self) -> bool
         ensures { result ≡ self.now.dead }
     {

@@ -3,6 +3,7 @@
 #![tactic(auto)]
 
 mod answer;
+mod blame;
 pub mod command_line;
 mod decode;
 mod deliver;
@@ -15,7 +16,7 @@ mod shown;
 mod status;
 mod transcript;
 
-pub use answer::report;
+pub use answer::{report, version_to};
 pub use decode::decode_to;
 pub use epoch_pair::EpochPair;
 pub use history::{Done, Event, Item, Memory, Transcript};

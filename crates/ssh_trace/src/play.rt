@@ -2,15 +2,15 @@ use crate::answer::{Answer, finish};
 use crate::epoch_player::play_epoch;
 use crate::status::Status;
 use ssh_play::{Comparison, Played, Tally, compare, play, sweep};
-use ssh_script::{Script, ScriptFault};
+use ssh_script::{MOST_SCRIPT_BYTES, Script, ScriptFault};
 use std::alloc::Global;
 use std::io::{Read, Write};
 
 /// Plays a script, read to its end, and prints its transcript on `out`: a line for each thing that an end did, in their order.
 ///
 /// `Status::Done` where no end refused its peer, `Status::Refused` where one did. `Status::Fault`, with a message on
-/// `err` and nothing on `out`, where the script can't be read, a line of it is wrong (the message gives its number,
-/// from 1), or an allocation failed; and where writing to `out` failed.
+/// `err` and nothing on `out`, where the script can't be read or has more than `MOST_SCRIPT_BYTES`, a line of it is wrong (the message gives its
+/// number, from 1), or an allocation failed; and where writing to `out` failed.
 pub fn play_to<R: Read, W: Write, E: Write>(
     alloc: Global,
     script: &mut R,
@@ -93,10 +93,11 @@ fn swept<R: Read>(alloc: Global, script: &mut R) -> Result<Answer, ScriptFault> 
     })
 }
 
-// The script that a reader gives.
+// The script that a reader gives. No more is read than shows that it is too long.
 fn script_of<R: Read>(alloc: Global, script: &mut R) -> Result<Script, ScriptFault> {
     let mut text = Vec::new(alloc);
-    if let Err(error) = script.read_to_end(&mut text) {
+    let mut limited = script.by_ref().take(MOST_SCRIPT_BYTES as u64 + 1);
+    if let Err(error) = limited.read_to_end(&mut text) {
         return Err(ScriptFault::Unreadable(error));
     }
     Script::read(alloc, text.as_slice())

@@ -47,6 +47,10 @@ pub const APPENDING: &[Appending] = &[
 const OLD: &[u8] = b"old";
 
 /// Makes the call behind three bytes, beside which nothing has room.
+///
+/// # Errors
+///
+/// Only where memory is refused.
 pub fn append(alloc: Global, call: &Appending) -> Result<Outcome, AllocError> {
     let mut out = OLD.to_vec(alloc)?;
     if put(call, &mut out).is_ok() {

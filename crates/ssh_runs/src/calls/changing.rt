@@ -36,6 +36,10 @@ pub const CHANGING: &[Changing] = &[
 ];
 
 /// Makes the call, and again where memory is refused.
+///
+/// # Errors
+///
+/// Only where memory is refused.
 pub fn change(alloc: Global, call: Changing) -> Result<Outcome, AllocError> {
     match call {
         Changing::PushedName => push_name(alloc),

@@ -57,6 +57,10 @@ struct Said {
 const ROOM: usize = 1024;
 
 /// Carries the command out twice, of which one may be refused memory.
+///
+/// # Errors
+///
+/// Only where memory is refused.
 pub fn carry_out(alloc: Global, command: &Command) -> Result<Outcome, AllocError> {
     let one = say(alloc, command)?;
     let other = say(alloc, command)?;

@@ -23,6 +23,10 @@ pub enum Failing {
 pub const FAILING: &[Failing] = &[Failing::Pair, Failing::EpochPair];
 
 /// Plays. A pair that has failed plays nothing any more, and takes no cookie and secret.
+///
+/// # Errors
+///
+/// Only where memory is refused.
 pub fn fail(alloc: Global, call: Failing) -> Result<Outcome, AllocError> {
     match call {
         Failing::Pair => play_pair(alloc),

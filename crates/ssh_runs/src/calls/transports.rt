@@ -57,6 +57,10 @@ const ACTS: &[Act] = &[
 ];
 
 /// Plays both transports against each other.
+///
+/// # Errors
+///
+/// Only where memory is refused.
 pub fn play(alloc: Global) -> Result<Outcome, AllocError> {
     let mut client = opened(alloc, Client)?;
     let mut server = opened(alloc, Server)?;

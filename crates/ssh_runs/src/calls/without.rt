@@ -19,6 +19,10 @@ const KEY: [u8; 32] = [1; 32];
 const SESSION: [u8; 32] = [7; 32];
 
 /// Makes the calls, and says `taking` before them and `taken` behind them.
+///
+/// # Errors
+///
+/// Only where memory is refused.
 pub fn make_without<R: Print + AllocGlobal>(rt: &R) -> Result<Outcome, AllocError> {
     let alloc = rt.alloc();
     let Some(methods) = NameList::new(b"publickey,password") else {
