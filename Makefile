@@ -1,11 +1,11 @@
 .DEFAULT_GOAL := help
-.PHONY: help demo quick build trace pipe test cases times falsify sweep memory bench interop
+.PHONY: help demo quick build trace pipe embedding test cases times falsify sweep memory bench interop constant-time
 
 RT ?= rt
 export RT
 
 help: ## Lists these targets.
-	@grep -E '^[a-z]+: ## ' Makefile | sed 's/: ## /\t/' | expand -t 12
+	@grep -E '^[a-z-]+: ## ' Makefile | sed 's/: ## /\t/' | expand -t 12
 
 demo: ## Runs the program on the examples, within two minutes. This run is not proved, and says so.
 	@sh tools/demo.sh
@@ -22,13 +22,17 @@ trace: ## The same of ssh_trace alone.
 pipe: ## The same of ssh_pipe alone.
 	@sh tools/build.sh ssh_pipe
 
-test: ## The whole gate, everything from nothing, the programs on their cases, and each allocation refused in turn: docs/TIMES.md has how long it takes.
+embedding: ## The same of the client and the server that docs/EMBEDDING.md has in full.
+	@sh tools/build.sh ssh_embedding
+
+test: ## The whole gate, everything from nothing, a misuse that has to be refused, the programs on their cases, and each allocation refused in turn: docs/TIMES.md has how long it takes.
 	$(RT) ci
+	@sh tools/misuse.sh
 	@python3 tools/cases.py
 	@PROGRAM=$(CURDIR)/crates/ssh_runs/out/ssh_runs sh tools/memory.sh
 
 cases: ## Runs the programs on their cases: words, scripts, files, what they print, and exit statuses. The first time they are proved and built.
-	@sh tools/build.sh ssh_trace ssh_pipe
+	@sh tools/build.sh ssh_trace ssh_pipe ssh_embedding
 	@python3 tools/cases.py
 
 times: ## The gate without allocations refused, with the processor time of each of its checks; what it says goes to build/gate.log.
@@ -50,3 +54,6 @@ bench: ## Ratios of this core's work: to the hashes that it has to compute, and 
 
 interop: ## Runs ssh_pipe against the implementations that are installed, and writes docs/INTEROP.md.
 	@PAGE="$(CURDIR)/docs/INTEROP.md" bash tools/interop.sh
+
+constant-time: ## Runs the ciphers and curves under valgrind with secrets marked undefined, and finds a branch that is planted. Status 77: skipped.
+	@sh tools/constant_time.sh

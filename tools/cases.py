@@ -12,7 +12,8 @@ A case is a few lines, and an empty line or a comment, which begins with #, part
 
 A backslash at the end of a line of the file or of standard output is for no newline there.
 
-`cases.py CRATE FOLDER` runs nothing, and writes those of one crate that are calls of the program alone as `rt try --cases` takes them: an input, its words and its output for each.
+`cases.py CRATE FOLDER` runs nothing, and writes those of one crate that are calls of the program alone as `rt try --cases` takes them: an input, which is the file `script` too, its words and its output
+for each.
 Sweeps, which take minutes where all is checked as it runs, are left out."""
 
 import os
@@ -26,7 +27,7 @@ from pathlib import Path
 
 TOP = Path(__file__).resolve().parent.parent
 KINDS = "$<12~="
-CALL = re.compile(r"\w+(?! sweep)(?: [\w-]+)*")
+CALL = re.compile(r"\w+(?! sweep)(?: [\w-]+)*(?: <script)?")
 
 
 class Case:
@@ -95,7 +96,7 @@ def write(cases, folder):
     """Writes the cases that are calls of the program alone, each by a number, as inputs of `rt try`."""
     for number, case in enumerate(cases):
         if CALL.fullmatch(case.command()):
-            words = ["{}" if word == "script" else word for word in case.command().split()[1:]]
+            words = ["{}" if word == "script" else word for word in case.command().split()[1:] if word != "<script"]
             (folder / f"{number}").write_bytes(case.script())
             (folder / f"{number}.args").write_text("".join(f"{word}\n" for word in words))
             (folder / f"{number}.stdout").write_text(case.output())

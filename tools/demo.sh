@@ -1,13 +1,16 @@
 #!/bin/sh
 # Plays the scripts and shows the packets of examples/. The program is built once and not proved, so all takes about a
-# minute. Each command stands before what it prints and its exit status. build.sh leaves a proved program.
+# minute. Each command stands before what it prints and its exit status. Until then a line every ten seconds says that
+# it goes on. build.sh leaves a proved program.
 set -eu
 tools=$(cd "$(dirname "$0")" && pwd)
 examples=$tools/../examples
 . "$tools/common.sh"
 echo "Building ssh_trace without its proofs, and running it on the scripts and packets of examples/: about a minute."
 work=$(mktemp -d)
-trap 'rm -rf "$work"' EXIT
+building=
+trap '[ -z "$building" ] || kill "$building" 2>/dev/null || true; rm -rf "$work"' EXIT
+trap 'exit 130' INT TERM
 mkdir "$work/cases"
 : >"$work/commands"
 
@@ -33,10 +36,19 @@ done <"$work/packets"
 
 echo "This run is not proved: make build leaves the proved program."
 cd "$examples/../crates/ssh_trace_program"
-if ! "$rt" try --cases "$work/cases" >"$work/said" 2>&1; then
+"$rt" try --cases "$work/cases" >"$work/said" 2>&1 </dev/null &
+building=$!
+seconds=0
+while kill -0 "$building" 2>/dev/null; do
+    sleep 1
+    seconds=$((seconds + 1))
+    [ $((seconds % 10)) != 0 ] || echo "$seconds seconds: compiling ssh_trace with the crates below it, to run it on $((number - 100)) examples"
+done
+if ! wait "$building"; then
     cat "$work/said" >&2
     exit 1
 fi
+building=
 awk -F '\t' -v commands="$work/commands" '
     BEGIN { while ((getline <commands) > 0) command[$1] = $2 }
     /^== / { print "\n$ " command[substr($0, 4)]; next }

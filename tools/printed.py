@@ -1,7 +1,7 @@
 """Takes the command lines that README, docs and help print, and looks whether they do what stands there.
 
     printed.py names            each make target, file and folder that is named is there, and each event and refusal has its row in
-                                docs/EMBEDDING.md; nothing is run
+                                docs/EMBEDDING.md, and the programs say the version and the kit of CHANGELOG.md and README.md; nothing is run
     printed.py trace FOLDER     writes the commands of `ssh_trace` as inputs of `rt try --cases`, with what is printed below each
     printed.py proved           runs all commands with the programs in build/, those with a peer too, which wants ssh, sshd and ssh-keygen
 
@@ -77,10 +77,10 @@ def all_blocks():
 
 
 def missing_names():
-    targets = set(re.findall(r"^([a-z]+):", (TOP / "Makefile").read_text(), re.M))
+    targets = set(re.findall(r"^([a-z-]+):", (TOP / "Makefile").read_text(), re.M))
     for page in PAGES:
         text = page.read_text()
-        for target in re.findall(r"(?:`|^    )make ([a-z]+)", text, re.M):
+        for target in re.findall(r"(?:`|^    )make ([a-z-]+)", text, re.M):
             if target not in targets:
                 yield f"{page.name}: make {target} is no target"
         for name in NAMED.findall(text):
@@ -104,6 +104,15 @@ def missing_rows():
         for variant in variants_of(file, name):
             if variant not in named:
                 yield f"docs/EMBEDDING.md: no row has {name}::{variant}"
+
+
+def missing_release():
+    """The version and the kit that the programs say have to be those of CHANGELOG.md and README.md."""
+    named = dict(re.findall(r'pub const (\w+): &str = "(.*)";', (TOP / "crates/ssh_release/src/lib.rt").read_text()))
+    if f"\n## {named['VERSION']}" not in (TOP / "CHANGELOG.md").read_text():
+        yield f"CHANGELOG.md has no version {named['VERSION']}"
+    if named["KIT"] not in (TOP / "README.md").read_text():
+        yield f"README.md does not name the kit {named['KIT']}"
 
 
 def write_trace(folder):
@@ -183,7 +192,7 @@ def run_proved():
 
 def main(words):
     if words == ["names"]:
-        missing = [*missing_names(), *missing_rows()]
+        missing = [*missing_names(), *missing_rows(), *missing_release()]
         print("\n".join(missing), end="\n" if missing else "")
         return 1 if missing else 0
     if words[:1] == ["trace"]:

@@ -1,7 +1,7 @@
 #!/bin/sh
 # What can be seen in a few minutes: the layout of the files, that each definition of the model has its line in
 # docs/definitions.md, that no crate cites the proofs of another, that what pages name is there and their commands of ssh_trace print what stands below them,
-# the tests, and the programs. Nothing is proved here. As many crates are looked at at once as there
+# that the program of docs/EMBEDDING.md is in the page as it is and builds from the page alone, the tests, and the programs. Nothing is proved here. As many crates are looked at at once as there
 # are cores, each in a copy of the tree, since the toolchain locks the crates that it reads; a copy that is done with one crate takes
 # the next that no other has. A crate is compiled with checks and run; the interpreter, which would run it a second time, gets one step.
 set -eu
@@ -50,6 +50,17 @@ run_program() {
     diff "$said.printed" "$said.wanted" >"$said" || fail "$crate: its output" "$said"
 }
 
+# The program of docs/EMBEDDING.md, copied out of the page into an empty tree: it is built there, and without words it tells its usage.
+try_page() (
+    mkdir "$work/page"
+    python3 "$top/tools/embedding.py" tree "$work/page"
+    cd "$work/page"
+    git init -q .
+    cd crates/ssh_embedding
+    "$rt" try --steps 1 </dev/null >"$work/page.said" 2>&1 || true
+    grep -q '^error: the words are ' "$work/page.said" || fail "the program of docs/EMBEDDING.md" "$work/page.said"
+)
+
 # Looks at the crates of one copy of the tree.
 look_at() (
     copy=$1
@@ -77,12 +88,14 @@ echo "definitions"
 sh "$top/tools/definitions.sh" || fail "a definition has no line in docs/definitions.md"
 sh "$top/tools/imports.sh" || fail "a crate cites the proofs of another"
 python3 "$top/tools/believed.py" check || fail "docs/BELIEVED.md is not made of the specs as they are"
+python3 "$top/tools/embedding.py" check || fail "docs/EMBEDDING.md has not the program as it is"
 python3 "$top/tools/printed.py" names || fail "a page names what is not there"
 mkdir "$work/strangers"
 python3 "$top/tools/stranger.py" "$work/strangers"
 for script in "$work"/strangers/*; do
     cmp "$script" "$top/crates/ssh_runs/data/$(basename "$script")" || fail "tools/stranger.py makes another script"
 done
+try_page &
 (sh "$top/tools/misuse.sh" || fail "a call that has to be refused is not") &
 # What takes the longest comes first: the tests of exchanges, the stored scripts, the program, the layers, and then the crates at the top, which are
 # compiled with all below them.
