@@ -62,14 +62,12 @@ fn small_orders_are_found(rt: HostRuntime) {
 #[test]
 fn nobody_signs_under_a_small_order(rt: HostRuntime) {
     let hash = [3; 32];
-    let mut taken = 0;
+    let mut is_taken = false;
     for (place, point) in POINTS.iter().enumerate() {
         let key = key_of(point);
         let mut signature = [0; 64];
         signature[0] = 1;
-        if verify(point, &hash, &signature) {
-            taken += 1;
-        }
+        is_taken |= verify(point, &hash, &signature);
         same_at(&rt, place, &Ed25519Trust::from_key(&key), &None);
         let trust = Ed25519Trust { public: *point };
         same_at(
@@ -94,5 +92,5 @@ fn nobody_signs_under_a_small_order(rt: HostRuntime) {
         );
     }
     // The standard's verification takes this signature under the identity, for each text, and so under others for some.
-    assert!(rt; taken > 0);
+    assert!(rt; is_taken);
 }
