@@ -150,7 +150,7 @@ module _ {K : Type 0} (c : Crypto K) (signature : List ℕ → List ℕ → List
   pub sent_row : (session_bytes : List ℕ) → ((id : List ℕ) → old.kept.session ≡ Some id → session_bytes ≡ id) → (m : Msg) (kept : authentication.Client) → ClientAsks signature session_bytes client (ask_of a) m kept → (result : Result AskStep Fault) (new : State K) (o : Outs) → IfOk result (λ step. RequestSent c old m new o step) → IfErr result (λ f. GivenFails old f new) →
       UserRow c signature old client (ask_of a) result new kept o
   sent_row session_bytes session_is m kept asks result new o x y = λ p side ch are.
-      let s = identify old.kept (are.identified (opened client a asks.unrefused)) in
+      let s = identify old.kept (are.identified alive (opened client a asks.unrefused)) in
       request_row p side old client ch a alive s.id s.id_is asks.unrefused m kept
       (subst (λ (f : List ℕ → List ℕ → List ℕ → List ℕ → List ℕ). ClientSends (short_signature f) s.id client (ask_of a) m kept) (sym are.user_signature) (subst (λ (b : List ℕ). ClientSends (short_signature signature) b client (ask_of a) m kept) (session_is s.id s.id_is) asks.row))
       (request_spelled signature session_bytes client kept (ask_of a) m asks.unrefused asks.row) result new o
@@ -159,12 +159,12 @@ module _ {K : Type 0} (c : Crypto K) (signature : List ℕ → List ℕ → List
   pub memory_row : IsSigned (ask_of a) → first_refusal (client_checks client (ask_of a)) ≡ None → (result : Result AskStep Fault) (kept : authentication.Client) (new : State K) (o : Outs) → IfOk result (λ step. step ≡ step_by Spent) → OnOk result (old.kept.sending.count ≡ 2 ^ 32) → IfErr result (λ f. f ≡ fault.Memory) → OnErr result (HasRoom old) → new.kept.dead ≡ true → IsQuiet o →
       UserRow c signature old client (ask_of a) result new kept o
   memory_row signed fine (Ok step) kept new o x none_left y z dead quiet = λ p side ch are.
-      let s = identify old.kept (are.identified (opened client a fine)) in
+      let s = identify old.kept (are.identified alive (opened client a fine)) in
       let would = signed_would p.user_signature s.id client a signed in
       subst (λ (t : AskStep). AskRow p side (end_with old (OfClient client) ch) (ask_of a) t (end_with new (OfClient kept) ch) o) (sym x)
       (spent_row p side old client ch a alive s.id s.id_is fine would.message would.new would.sends (request_spelled p.user_signature s.id client would.new (ask_of a) would.message fine would.sends) kept new o none_left dead quiet)
   memory_row signed fine (Err f) kept new o x none_left y room dead quiet = λ p side ch are.
-      let s = identify old.kept (are.identified (opened client a fine)) in
+      let s = identify old.kept (are.identified alive (opened client a fine)) in
       let would = signed_would p.user_signature s.id client a signed in
       subst (λ (t : Fault). RowOf p side (end_with old (OfClient client) ch) (ask_of a) (Err t) (end_with new (OfClient kept) ch) o) (sym y)
       (died_row p side old client ch a alive s.id s.id_is fine would.message would.new would.sends (request_spelled p.user_signature s.id client would.new (ask_of a) would.message fine would.sends) kept new room dead)

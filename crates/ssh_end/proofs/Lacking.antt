@@ -25,3 +25,13 @@ front Lacks begun bytes used most r why was x e = record {
   most = most;
   lacks = subst (λ w. IfErr w (λ f. f ≡ transport_fault.Memory → Lacks (begun ++ take used bytes))) was x e;
 }
+
+-- what holds of a fault of its transport, by which it is
+pub by_fault : {A : Type 0} (P : Fault → Type 0) (r : Result A Fault) (why : TransportFault) → IsErrAnd r (λ given. given ≡ fault_by why) → (why ≡ transport_fault.Memory → P fault.Memory) → (why ≡ transport_fault.Dead → P fault.Dead) → IfErr r P
+by_fault P (Ok a) why x memory dead = tt
+by_fault P (Err e) transport_fault.Memory x memory dead = subst P (sym x) (memory refl)
+by_fault P (Err e) transport_fault.Dead x memory dead = subst P (sym x) (dead refl)
+
+-- what is said of an error, of the one that it is
+pub at_error : {A E : Type 0} (P : E → Type 0) (r : Result A E) (why : E) → r ≡ Err why → IfErr r P → P why
+at_error P r why was x = subst (λ w. IfErr w P) was x

@@ -38,3 +38,8 @@ pub mod ClientTurns
 pub mod AboveDeaths
 pub mod ServerDeaths
 pub mod ClientDeaths
+pub mod Placing
+pub mod ServerPlacing
+pub mod ClientPlacing
+pub mod Fitting
+pub mod Making

@@ -253,13 +253,14 @@ GivenFails old fault.Dead new = WasDead old new
 
 -- ---- a client's requests
 
--- The client's part of these parties is this signer, and a client that asks for authentication has a session id.
+-- The client's part of these parties is this signer, and a client that goes on and asks for authentication has a session
+-- id.
 pub record AreClientOf {K : Type 0} (p : Parties K) (c : Crypto K)
     (signature : (user algorithm key text : List ℕ) → List ℕ) (s : Transport K) (client : authentication.Client) :
     Type 0 where
   pub crypto : p.crypto ≡ c
   pub user_signature : p.user_signature ≡ signature
-  pub identified : client.opened ≡ true → s.session ≡ None → ⊥
+  pub identified : s.dead ≡ false → client.opened ≡ true → s.session ≡ None → ⊥
 
 -- what comes of an ask of a user is a row, whatever channels keep
 abbrev pub UserRow : {K : Type 0} → Crypto K → ((user algorithm key text : List ℕ) → List ℕ) → State K →

@@ -1,17 +1,23 @@
 -- What the calls of an end answer that show what was done.
-use Rattle.std.specs.Prelude.{◌≡◌, ℕ, false, Option, None, List, [], length, Result, Ok, Err, IfErr, IfOk}
+use Rattle.std.specs.Prelude.{◌≡◌, ◌++◌, ℕ, false, Option, None, List, [], length, take, Result, Ok, Err, IfErr, IfOk}
 use Rattle.std.specs.Option.{option_map}
 use Rattle.ssh_model.specs.Sessions.Items as session
 use Rattle.ssh_model.specs.Sessions.Items.{Fact.Opening, Item}
+use Rattle.ssh_model.specs.Sessions.Parties.{Parties}
 use Rattle.ssh_model.specs.Wire.Sealing.{Crypto}
 use Rattle.ssh_transport.specs.declared.role.Role as exchange
 use Rattle.ssh_transport_machine.specs.Puts.{Outs}
+use Rattle.ssh_transport_machine.specs.State.{begun_of}
+use Rattle.ssh_types.specs.Sides.{side_of}
 use Rattle.ssh_end.specs.Asking.{AreAskChannels, Fails}
-use Rattle.ssh_end.specs.Ends.{Advances, EndValue, IsFault}
+use Rattle.ssh_end.specs.Beside.{channels_by}
+use Rattle.ssh_end.specs.Ends.{EndValue, IsFault}
 use Rattle.ssh_end.specs.Reading.{SameReading}
+use Rattle.ssh_end.specs.Stands.{AdvancedTo, FailedTo, PerformedTo, StandsAt}
 use Rattle.ssh_end.specs.Steps.{Shows}
 use Rattle.ssh_end.specs.Told.{told_of}
 use Rattle.ssh_end.specs.Turn.{TurnShows, channels_in, payloads_in}
+use Rattle.ssh_end.specs.Units.{UnitGoes}
 use Rattle.ssh_end.specs.declared.asking.outcome.AskStep.{AskStep}
 use Rattle.ssh_end.specs.declared.asking.outcome.Fault.{Fault}
 use Rattle.ssh_end.specs.declared.role.EndRole as role
@@ -24,6 +30,17 @@ use Rattle.ssh_end.specs.declared.turn.Turn.{Turn}
 -- what is put out and listed, from nothing listed
 abbrev pub outs_of : (before after : List ℕ) → (sent : List (List ℕ)) → Outs
 outs_of before after sent = record { before = before; after = after; listed = []; relisted = sent }
+
+-- So many bytes were used, and this was done with them. From each place of a run the end was taken to the next.
+pub record Advances {R X L S F K : Type 0} (ends : role.Ghosts R X L S F K) (exchanges : exchange.Ghosts X S F K)
+    (c : Crypto K) (old : EndValue K R L) (bytes : List ℕ) (used : ℕ) (before after : List ℕ)
+    (new : EndValue K R L) : Type 0 where
+  pub goes : UnitGoes c (side_of exchanges.SIDE) (exchanges.does (ends.exchange_of old.role)) (ends.goes old.role)
+      old.machine old.layers (begun_of old.machine ++ take used bytes) new.step new.machine new.layers
+      (record { before = before; after = after; listed = []; relisted = new.sent })
+  pub channels : new.channels ≡ channels_by new.step (ends.channels_of old.layers).owed new.sent
+  pub placed : (p : Parties K) (history : List Item) → StandsAt ends exchanges p history old →
+      AdvancedTo ends exchanges p history old bytes used before after new
 
 -- The turn shows what was done with a step, of whose packet this is the payload.
 pub record ShowsTurn (payload : List ℕ) (given : Step) (payloads : List (List ℕ)) (channels : List (Option ℕ)) (bytes : List ℕ)
@@ -41,13 +58,20 @@ pub record EndTook {R X L S F K : Type 0} (ends : role.Ghosts R X L S F K) (exch
   pub shows : ShowsTurn new.machine.receiver.payload new.step new.sent new.channels bytes turn
   pub same : new.role ≡ old.role
 
+-- It did nothing for want of memory, or was over before.
+pub record EndFailed {R X L S F K : Type 0} (ends : role.Ghosts R X L S F K) (exchanges : exchange.Ghosts X S F K)
+    (old : EndValue K R L) (bytes : List ℕ) (given : Fault) (new : EndValue K R L) : Type 0 where
+  pub failed : IsFault old.machine given new.machine
+  pub same : new.role ≡ old.role
+  pub placed : (p : Parties K) (history : List Item) → StandsAt ends exchanges p history old →
+      FailedTo ends exchanges p history old bytes given new
+
 -- what an end answers for these bytes, and what is then left
 abbrev pub EndTakes : {R X L S F K : Type 0} → role.Ghosts R X L S F K → exchange.Ghosts X S F K → Crypto K →
     EndValue K R L → (bytes before after : List ℕ) → Result Turn Fault → EndValue K R L → Type 0
 EndTakes ends exchanges c old bytes before after (Ok turn) new =
     EndTook ends exchanges c old bytes before after turn new
-EndTakes ends exchanges c old bytes before after (Err fault) new =
-    IsFault old.machine fault new.machine × (new.role ≡ old.role)
+EndTakes ends exchanges c old bytes before after (Err fault) new = EndFailed ends exchanges old bytes fault new
 
 -- ---- asks
 
@@ -67,9 +91,10 @@ ShowsAnswer (Ok given) sent channels (Ok turn) = ShowsStep given sent channels t
 ShowsAnswer (Err fault) sent channels (Err shown) = shown ≡ fault
 ShowsAnswer _ sent channels _ = ⊥
 
--- An end did on an ask what its role does, and answered so.
-pub record EndAsked {R X L S F K : Type 0} (ends : role.Ghosts R X L S F K) (old : EndValue K R L) (asked : session.Ask)
-    (before after : List ℕ) (result : Result Turn Fault) (new : EndValue K R L) : Type 0 where
+-- An end did on an ask what its role does, and answered so. From each place of a run it was taken to the next.
+pub record EndAsked {R X L S F K : Type 0} (ends : role.Ghosts R X L S F K) (exchanges : exchange.Ghosts X S F K)
+    (old : EndValue K R L) (asked : session.Ask) (before after : List ℕ) (result : Result Turn Fault)
+    (new : EndValue K R L) : Type 0 where
   pub given : Result AskStep Fault
   pub shows : ShowsAnswer given new.sent new.channels result
   pub channels : IfOk given (λ step. AreAskChannels asked step new.sent new.channels)
@@ -77,3 +102,5 @@ pub record EndAsked {R X L S F K : Type 0} (ends : role.Ghosts R X L S F K) (old
   pub fails : IfErr given (λ fault. Fails old.machine fault new.machine)
   pub reading : new.machine.kept.dead ≡ false → SameReading old.machine new.machine
   pub same : new.role ≡ old.role
+  pub placed : (p : Parties K) (history : List Item) → StandsAt ends exchanges p history old →
+      PerformedTo ends exchanges p history old asked given before after new

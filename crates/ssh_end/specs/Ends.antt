@@ -1,5 +1,5 @@
 -- The ends: what they keep, how they begin, and what becomes of them.
-use Rattle.std.specs.Prelude.{◌≡◌, ◌++◌, ℕ, List, [], Option, take}
+use Rattle.std.specs.Prelude.{◌≡◌, ℕ, List, [], Option}
 use Rattle.ssh_model.specs.Authentication.Kept.{new_client, new_server}
 use Rattle.ssh_model.specs.Channels.Kept.{no_channels}
 use Rattle.ssh_model.specs.Side.{Side.Client, Side.Server}
@@ -12,9 +12,8 @@ use Rattle.ssh_transport_machine.specs.Asks.{WasDead}
 use Rattle.ssh_transport_machine.specs.Opening.{IsOpened}
 use Rattle.ssh_transport_machine.specs.State.{State, begun_of}
 use Rattle.ssh_types.specs.Sides.{side_of}
-use Rattle.ssh_end.specs.Beside.{channels_by}
 use Rattle.ssh_end.specs.Effects.{DiesOf}
-use Rattle.ssh_end.specs.Units.{FrontLacks, UnitGoes, UnitLacks}
+use Rattle.ssh_end.specs.Units.{FrontLacks, UnitLacks}
 use Rattle.ssh_end.specs.declared.asking.outcome.Fault.{Fault}
 use Rattle.ssh_end.specs.declared.asking.outcome.Fault.TheVariants as fault
 use Rattle.ssh_end.specs.declared.role.EndRole as role
@@ -50,15 +49,6 @@ abbrev pub IsFault : {K : Type 0} → State K → Fault → State K → Type 0
 IsFault old fault.Memory new = DiesOf old new
 IsFault old fault.Dead new = WasDead old new
 IsFault old (fault.Ask why) new = ⊥
-
--- So many bytes were used, and this was done with them.
-pub record Advances {R X L S F K : Type 0} (ends : role.Ghosts R X L S F K) (exchanges : exchange.Ghosts X S F K)
-    (c : Crypto K) (old : EndValue K R L) (bytes : List ℕ) (used : ℕ) (before after : List ℕ)
-    (new : EndValue K R L) : Type 0 where
-  pub goes : UnitGoes c (side_of exchanges.SIDE) (exchanges.does (ends.exchange_of old.role)) (ends.goes old.role)
-      old.machine old.layers (begun_of old.machine ++ take used bytes) new.step new.machine new.layers
-      (record { before = before; after = after; listed = []; relisted = new.sent })
-  pub channels : new.channels ≡ channels_by new.step (ends.channels_of old.layers).owed new.sent
 
 -- what took memory of the bytes begun with some of those that came
 abbrev pub EndLacks : {R X L S F K : Type 0} → role.Ghosts R X L S F K → exchange.Ghosts X S F K → Crypto K →

@@ -18,3 +18,6 @@ pub mod Ends
 pub mod Reading
 pub mod Deaths
 pub mod Calls
+pub mod Parts
+pub mod Places
+pub mod Stands

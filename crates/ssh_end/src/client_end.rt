@@ -1,15 +1,23 @@
 //! The end of a client.
 
 ghost use Rattle.std.specs.Prelude.{◌≡◌, ◌∷◌, IfOk, None, OnErr, []};
+ghost use Rattle.ssh_model.specs.Side as model;
 ghost use Rattle.ssh_transport_base.specs.Meaning.{settings_of};
 ghost use Rattle.ssh_end.specs.Beside.{channels_beside};
 ghost use Rattle.ssh_end.specs.Ends.{IsNewClient};
+ghost use Rattle.ssh_end.specs.Parts.{AreClientLayers, IsClient, agreement_by};
+ghost use Rattle.ssh_end.specs.Stands.{MadeOf};
+ghost use Rattle.ssh_layers.specs.ClientSessions.{end_of};
 
 use crate::client_role::ClientRole;
 use crate::end::End;
+use crate::opening_laws::is_material;
 use crate::step::Step;
+use crate::turn_laws::new_ends_read;
 use ssh_auth::UserSigner;
 use ssh_layers::ClientLayers;
+use ssh_model::any_peer::against_any_peer;
+use ssh_model::end::openings;
 use ssh_packet::{Filler, Sealing};
 use ssh_transport::Client;
 use ssh_transport_base::{ClientPartValues, ClientParts, Config};
@@ -44,8 +52,13 @@ impl<P: ClientParts, U: UserSigner + Drop> End<ClientRole<P, U>> {
         ensures agreement { IfOk result (λ end. end.role.exchange.agreement ≡ parts.agreement) }
         ensures part { IfOk result (λ end. end.role.exchange.host_trust ≡ parts.host_trust) }
         ensures user { IfOk result (λ end. end.role.user ≡ user) }
+        ensures placed { IfOk result (λ end. MadeOf model.Client (settings_of config) (λ p. IsClient p P.Sealing.crypto (agreement_by P.Agreement.public_of P.Agreement.shared_of end.role.exchange.agreement) (P.HostTrust.judged end.role.exchange.host_trust) (U.signature_of end.role.user)) (λ p. AreClientLayers p end.layers) (record { cookie = cookie; secret = secret }) end.machine (end_of end.machine.kept end.layers) out.old.items out.new.items) }
         ensures out { OnErr result (out.new.items ≡ out.old.items) }
     {
+        openings::<<P::Sealing as Sealing>::Key>();
+        new_ends_read::<<P::Sealing as Sealing>::Key>();
+        against_any_peer::<<P::Sealing as Sealing>::Key>();
+        is_material(&cookie, &secret);
         machines_stand::<<P::Sealing as Sealing>::Key>();
         let (filler, agreement, host_trust) = parts.into_parts();
         let layers = ClientLayers::new(alloc)?;

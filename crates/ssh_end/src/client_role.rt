@@ -1,7 +1,9 @@
 //! What is of a client alone.
 
+ghost use Rattle.ssh_model.specs.End.State.{Authentication.OfClient};
 ghost use Rattle.ssh_end.specs.Asking.{ClientInSession};
 ghost use Rattle.ssh_end.specs.ClientUnits.{GoLacks, Goes};
+ghost use Rattle.ssh_end.specs.Parts.{AreClientLayers, IsClient, agreement_by};
 ghost use Rattle.ssh_layers.specs.ClientSessions.{end_of};
 
 use crate::ask::Ask;
@@ -9,9 +11,13 @@ use crate::asking::{AskStep, Fault, ask_client};
 use crate::client_unit::go_on;
 use crate::role::EndRole;
 use crate::step::Step;
+use crate::turn_laws::{clients_deaths, clients_turns};
 use ssh_auth::UserSigner;
 use ssh_channels::Channels;
 use ssh_layers::ClientLayers;
+use ssh_model::any_peer::against_any_peer;
+use ssh_model::end::{asks, deaths, identified, units};
+use ssh_packet::Sealing;
 use ssh_transport::Client;
 use ssh_transport_base::ClientParts;
 use ssh_transport_machine::{Machine, TransportTurn};
@@ -41,6 +47,12 @@ impl<P: ClientParts, U: UserSigner + Drop> EndRole for ClientRole<P, U> {
     type Layers = ClientLayers;
 
     ghost exchange_of = { λ role. role.exchange };
+
+    ghost is_of = { λ role p. IsClient p P.Sealing.crypto (agreement_by P.Agreement.public_of P.Agreement.shared_of role.exchange.agreement) (P.HostTrust.judged role.exchange.host_trust) (U.signature_of role.user) };
+
+    ghost are_of = { λ layers p. AreClientLayers p layers };
+
+    ghost authentication_of = { λ layers. OfClient layers.authentication };
 
     ghost channels_of = { λ layers. layers.channels };
 
@@ -79,5 +91,15 @@ impl<P: ClientParts, U: UserSigner + Drop> EndRole for ClientRole<P, U> {
         sent: &mut Vec<Vec<u8>>,
     ) -> Result<AskStep, Fault> {
         ask_client(machine, layers, &self.user, ask, out, sent)
+    }
+
+    fn lifts() {
+        clients_turns::<<P::Sealing as Sealing>::Key>();
+        clients_deaths::<<P::Sealing as Sealing>::Key>();
+        identified::<<P::Sealing as Sealing>::Key>();
+        units::<<P::Sealing as Sealing>::Key>();
+        deaths::<<P::Sealing as Sealing>::Key>();
+        asks::<<P::Sealing as Sealing>::Key>();
+        against_any_peer::<<P::Sealing as Sealing>::Key>();
     }
 }

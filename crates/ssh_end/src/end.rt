@@ -5,24 +5,29 @@ ghost use Rattle.std.specs.Io.BufRead.{Rests};
 ghost use Rattle.std.specs.Option.{option_copied};
 ghost use Rattle.std.specs.Prelude.{◌≡◌, ◌<◌, ◌≤◌, IfErr, IfOk, List, OnErr, [], false, length, nat_le, true};
 ghost use Rattle.ssh_model.specs.Sessions.Items.{Item};
+ghost use Rattle.ssh_model.specs.Sessions.Parties.{Parties};
 ghost use Rattle.ssh_model.specs.TransportLayer.Kept.{after_fed, can_be_fed};
 ghost use Rattle.ssh_types.specs.Sides.{side_of};
 ghost use Rattle.ssh_transport_base.specs.Directions.{next_number};
 ghost use Rattle.ssh_transport_machine.specs.Standing.{Stands};
 ghost use Rattle.ssh_end.specs.Asking.{AreAskChannels, Fails, ask_of};
-ghost use Rattle.ssh_end.specs.Calls.{EndAsked, EndTakes, outs_of};
-ghost use Rattle.ssh_end.specs.Ends.{Advances, EndLacks, IsFault};
+ghost use Rattle.ssh_end.specs.Calls.{Advances, EndAsked, EndTakes, outs_of};
+ghost use Rattle.ssh_end.specs.Ends.{EndLacks, IsFault};
 ghost use Rattle.ssh_end.specs.Reading.{SameReading};
+ghost use Rattle.ssh_end.specs.Stands.{FailedTo, FeedsTo, PerformedTo, StandsAt};
 ghost use Rattle.ssh_end.specs.Steps.{Shows};
 ghost use Rattle.ssh_end.specs.Turn.{TurnShows, channels_in, payloads_in};
 
 use crate::ask::Ask;
 use crate::asking::{AskStep, Fault};
+use crate::opening_laws::is_material;
 use crate::role::EndRole;
 use crate::step::Step;
 use crate::turn::{Turn, asked_turn, sent_payloads, turn_of};
 use crate::unit::advance;
 use ssh_channels::Channels;
+use ssh_model::any_peer::against_any_peer;
+use ssh_model::end::feeds;
 use ssh_packet::{Filler, Sealing};
 use ssh_transport::Role;
 use ssh_transport_machine::Machine;
@@ -120,9 +125,11 @@ impl<R: EndRole> End<R> {
         ensures failed { IfErr result (λ fault. IsFault self.old.machine fault self.new.machine) }
         ensures dead { IfErr result (λ fault. fault ≡ Fault.Dead → self.new.layers ≡ self.old.layers) }
         ensures lacks { IfErr result (λ fault. fault ≡ Fault.Memory → EndLacks R.EndRole R.Exchange.Role R.Exchange.Sealing.crypto self.old bytes.now) }
+        ensures placed { IfErr result (λ fault. (p : Parties R.Exchange.Sealing.Key) (history : List Item) → StandsAt R.EndRole R.Exchange.Role p history self.old → FailedTo R.EndRole R.Exchange.Role p history self.old bytes.now fault self.new) }
         ensures out { OnErr result (out.new.items ≡ out.old.items) }
         ensures role { self.new.role ≡ self.old.role }
     {
+        R::lifts();
         self.step = Step::More;
         self.used = 0;
         self.sent.clear();
@@ -175,7 +182,7 @@ impl<R: EndRole> End<R> {
     /// - `Dead`: the end was over before. Nothing is put out.
     pub fn ask<'a>(&'a mut self, ask: &Ask<'_>, out: &mut Vec<u8>) -> Result<Turn<'a>, Fault>
         ensures out { OnErr result (out.new.items ≡ out.old.items) }
-        ensures* done { sem 𝓛 (Rests (the_row R.row R.Exchange.row R.Layers.row R.Exchange.Sealing.row R.Exchange.Filler.row R.Exchange.Sealing.Key.row R.EndRole R.Exchange.Role R.Exchange.Sealing.Sealing R.Exchange.Filler.Filler) self.entry (λ new. EndAsked R.EndRole self.old (ask_of ask.now) out.old.items out.new.items result new)) }
+        ensures* done { sem 𝓛 (Rests (the_row R.row R.Exchange.row R.Layers.row R.Exchange.Sealing.row R.Exchange.Filler.row R.Exchange.Sealing.Key.row R.EndRole R.Exchange.Role R.Exchange.Sealing.Sealing R.Exchange.Filler.Filler) self.entry (λ new. EndAsked R.EndRole R.Exchange.Role self.old (ask_of ask.now) out.old.items out.new.items result new)) }
     {
         let step = self.perform(ask, out)?;
         Ok(asked_turn(step, self.turn().sent))
@@ -192,11 +199,13 @@ impl<R: EndRole> End<R> {
         ensures step { self.new.step ≡ Step.More }
         ensures used { self.new.used ≡ 0 }
         ensures channels { IfOk result (λ step. AreAskChannels (ask_of ask.now) step self.new.sent self.new.channels) }
+        ensures placed { (p : Parties R.Exchange.Sealing.Key) (history : List Item) → StandsAt R.EndRole R.Exchange.Role p history self.old → PerformedTo R.EndRole R.Exchange.Role p history self.old (ask_of ask.now) result out.old.items out.new.items self.new }
         ensures fails { IfErr result (λ fault. Fails self.old.machine fault self.new.machine) }
         ensures unsent { OnErr result (self.new.sent ≡ []) }
         ensures out { OnErr result (out.new.items ≡ out.old.items) }
         ensures role { self.new.role ≡ self.old.role }
     {
+        R::lifts();
         self.step = Step::More;
         self.used = 0;
         self.sent.clear();
@@ -223,8 +232,12 @@ impl<R: EndRole> End<R> {
         ensures layers { self.new.layers ≡ self.old.layers }
         ensures rest { self.new ≡ record self.old { machine = self.new.machine } }
         ensures unchanged { result ≡ false → self.new ≡ self.old }
+        ensures placed { (p : Parties R.Exchange.Sealing.Key) (history : List Item) → StandsAt R.EndRole R.Exchange.Role p history self.old → FeedsTo R.EndRole R.Exchange.Role p history cookie secret result self.new }
         ensures role { self.new.role ≡ self.old.role }
     {
+        feeds::<<<R::Exchange as Role>::Sealing as Sealing>::Key>();
+        against_any_peer::<<<R::Exchange as Role>::Sealing as Sealing>::Key>();
+        is_material(&cookie, &secret);
         machines_stand::<<<R::Exchange as Role>::Sealing as Sealing>::Key>();
         self.machine.feed(cookie, secret)
     }

@@ -2,7 +2,9 @@
 
 ghost use Rattle.std.specs.Prelude.{◌≡◌, ◌++◌, IfErr, IfOk, OnErr, Result, false, map, true};
 ghost use Rattle.ssh_model.specs.Channels.Kept.{Channels};
+ghost use Rattle.ssh_model.specs.End.State.{Authentication};
 ghost use Rattle.ssh_model.specs.Sessions.Items as session;
+ghost use Rattle.ssh_model.specs.Sessions.Parties.{Parties};
 ghost use Rattle.ssh_types.specs.Sides.{side_of};
 ghost use Rattle.ssh_transport_machine.specs.Puts.{Outs};
 ghost use Rattle.ssh_transport_machine.specs.Standing.{Stands};
@@ -12,6 +14,7 @@ ghost use Rattle.ssh_end.specs.Asking.{Fails, ask_of};
 ghost use Rattle.ssh_end.specs.Beside.{channels_behind};
 ghost use Rattle.ssh_end.specs.Effects.{IsReady, is_whole};
 ghost use Rattle.ssh_end.specs.Owed.{Extends};
+ghost use Rattle.ssh_end.specs.Places.{EndLifts, state_by};
 ghost use Rattle.ssh_end.specs.Reading.{SameReading};
 ghost use Rattle.ssh_end.specs.declared.asking.outcome.AskStep.{AskStep};
 ghost use Rattle.ssh_end.specs.declared.asking.outcome.Fault.{Fault};
@@ -36,6 +39,12 @@ pub trait EndRole: Drop {
     type Layers: Drop;
 
     ghost exchange_of: { Self → Self.Exchange };
+
+    ghost is_of: { Self → Parties Self.Exchange.Sealing.Key → Type 0 };
+
+    ghost are_of: { Self.Layers → Parties Self.Exchange.Sealing.Key → Type 0 };
+
+    ghost authentication_of: { Self.Layers → Authentication };
 
     ghost channels_of: { Self.Layers → Channels };
 
@@ -99,4 +108,8 @@ pub trait EndRole: Drop {
         ensures out { OnErr result (out.new.items ≡ out.old.items) }
         ensures kept { OnErr result (map (λ v. v.items) sent.new.items ≡ map (λ v. v.items) sent.old.items) }
         ensures stands { Stands (side_of Self.Exchange.SIDE) machine.old → Stands (side_of Self.Exchange.SIDE) machine.new };
+
+    /// What it does is what an end of its side does in a session whose parts it has. A fact for proofs, at no cost.
+    fn lifts()
+        ensures { EndLifts (side_of Self.Exchange.SIDE) Self.Exchange.Sealing.crypto is_of are_of (λ kept layers. state_by authentication_of channels_of kept layers) (λ role. Self.Exchange.does (exchange_of role)) (λ role. Self.Exchange.lacks (exchange_of role)) goes lacks asks };
 }

@@ -1,15 +1,23 @@
 //! The end of a server.
 
 ghost use Rattle.std.specs.Prelude.{◌≡◌, ◌∷◌, IfOk, None, OnErr, []};
+ghost use Rattle.ssh_model.specs.Side as model;
 ghost use Rattle.ssh_transport_base.specs.Meaning.{settings_of};
 ghost use Rattle.ssh_end.specs.Beside.{channels_beside};
 ghost use Rattle.ssh_end.specs.Ends.{IsNewServer};
+ghost use Rattle.ssh_end.specs.Parts.{AreServerLayers, IsServer, exchange_parts};
+ghost use Rattle.ssh_end.specs.Stands.{MadeOf};
+ghost use Rattle.ssh_layers.specs.Sessions.{end_of};
 
 use crate::end::End;
+use crate::opening_laws::{is_material, settings_fit};
 use crate::server_role::ServerRole;
 use crate::step::Step;
+use crate::turn_laws::new_ends_read;
 use ssh_auth::UserJudge;
 use ssh_layers::ServerLayers;
+use ssh_model::any_peer::against_any_peer;
+use ssh_model::end::openings;
 use ssh_packet::{Filler, Sealing};
 use ssh_transport::Server;
 use ssh_transport_base::{Config, ServerPartValues, ServerParts};
@@ -44,8 +52,14 @@ impl<P: ServerParts, U: UserJudge + Drop> End<ServerRole<P, U>> {
         ensures agreement { IfOk result (λ end. end.role.exchange.agreement ≡ parts.agreement) }
         ensures part { IfOk result (λ end. end.role.exchange.host_signer ≡ parts.host_signer) }
         ensures user { IfOk result (λ end. end.role.user ≡ user) }
+        ensures placed { IfOk result (λ end. MadeOf model.Server (settings_of config) (λ p. IsServer p P.Sealing.crypto (exchange_parts P.Agreement.public_of P.Agreement.shared_of P.HostSigner.key_of P.HostSigner.signature_of end.role.exchange.agreement end.role.exchange.host_signer) (U.verdicts end.role.user)) (λ p. AreServerLayers p end.layers) (record { cookie = cookie; secret = secret }) end.machine (end_of end.machine.kept end.layers) out.old.items out.new.items) }
         ensures out { OnErr result (out.new.items ≡ out.old.items) }
     {
+        openings::<<P::Sealing as Sealing>::Key>();
+        new_ends_read::<<P::Sealing as Sealing>::Key>();
+        against_any_peer::<<P::Sealing as Sealing>::Key>();
+        is_material(&cookie, &secret);
+        settings_fit(&config);
         machines_stand::<<P::Sealing as Sealing>::Key>();
         let (filler, agreement, host_signer) = parts.into_parts();
         let layers = ServerLayers::new(alloc, config.tries(), &config.methods())?;

@@ -1,6 +1,8 @@
 //! What is of a server alone.
 
+ghost use Rattle.ssh_model.specs.End.State.{Authentication.OfServer};
 ghost use Rattle.ssh_end.specs.Asking.{ServerAsks};
+ghost use Rattle.ssh_end.specs.Parts.{AreServerLayers, IsServer, exchange_parts};
 ghost use Rattle.ssh_end.specs.ServerUnits.{GoLacks, Goes};
 
 use crate::ask::Ask;
@@ -8,9 +10,13 @@ use crate::asking::{AskStep, Fault, ask_server};
 use crate::role::EndRole;
 use crate::server_unit::go_on;
 use crate::step::Step;
+use crate::turn_laws::{servers_deaths, servers_turns};
 use ssh_auth::UserJudge;
 use ssh_channels::Channels;
 use ssh_layers::ServerLayers;
+use ssh_model::any_peer::against_any_peer;
+use ssh_model::end::{asks, deaths, identified, units};
+use ssh_packet::Sealing;
 use ssh_transport::Server;
 use ssh_transport_base::ServerParts;
 use ssh_transport_machine::{Machine, TransportTurn};
@@ -40,6 +46,12 @@ impl<P: ServerParts, U: UserJudge + Drop> EndRole for ServerRole<P, U> {
     type Layers = ServerLayers;
 
     ghost exchange_of = { λ role. role.exchange };
+
+    ghost is_of = { λ role p. IsServer p P.Sealing.crypto (exchange_parts P.Agreement.public_of P.Agreement.shared_of P.HostSigner.key_of P.HostSigner.signature_of role.exchange.agreement role.exchange.host_signer) (U.verdicts role.user) };
+
+    ghost are_of = { λ layers p. AreServerLayers p layers };
+
+    ghost authentication_of = { λ layers. OfServer layers.authentication.kept };
 
     ghost channels_of = { λ layers. layers.channels };
 
@@ -78,5 +90,15 @@ impl<P: ServerParts, U: UserJudge + Drop> EndRole for ServerRole<P, U> {
         sent: &mut Vec<Vec<u8>>,
     ) -> Result<AskStep, Fault> {
         ask_server(machine, layers, ask, out, sent)
+    }
+
+    fn lifts() {
+        servers_turns::<<P::Sealing as Sealing>::Key>();
+        servers_deaths::<<P::Sealing as Sealing>::Key>();
+        identified::<<P::Sealing as Sealing>::Key>();
+        units::<<P::Sealing as Sealing>::Key>();
+        deaths::<<P::Sealing as Sealing>::Key>();
+        asks::<<P::Sealing as Sealing>::Key>();
+        against_any_peer::<<P::Sealing as Sealing>::Key>();
     }
 }

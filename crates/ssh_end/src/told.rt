@@ -18,7 +18,8 @@ use ssh_types::NameList;
 /// What a user is told of a message that was taken. Its texts are slices of the payload.
 #[derive(Clone, Copy, Debug, PartialEq, Eq)]
 pub enum Told<'a> {
-    /// The exchange of keys at this position, from 1, is completed: NEWKEYS was sent and taken (RFC 4253 section 7.3).
+    /// The exchange of keys at this position, from 1, is completed at this end: it sent NEWKEYS, and seals under the new keys from here on. The
+    /// peer's NEWKEYS may still be to come (RFC 4253 section 7.3).
     Completed {
         position: u32,
     },

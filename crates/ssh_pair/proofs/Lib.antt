@@ -4,7 +4,6 @@ pub mod Advancing
 pub mod Answering
 pub mod Stepping
 pub mod Losing
-pub mod Fitting
 pub mod ClientGoes
 pub mod ServerGoes
 pub mod Summing

@@ -14,9 +14,9 @@ ghost use Rattle.ssh_pair.specs.Standing.{ClientStands, client_value, kept_bytes
 
 use crate::item::Done;
 use crate::lines::Lines;
-use crate::material::is_material;
 use crate::notes::{note_ask, note_death, note_line, note_turn, noted};
 use ssh_auth::UserSigner;
+use ssh_end::opening_laws::is_material;
 use ssh_end::turn_laws::{clients_deaths, clients_turns, turns_channels};
 use ssh_end::{Ask, ClientEnd};
 use ssh_model::end::{asks, deaths, identified, openings, units};

@@ -17,11 +17,9 @@ mod event;
 mod fact;
 mod item;
 mod lines;
-mod material;
 mod notes;
 mod pair;
 mod server;
-mod settings;
 
 pub use ask_kind::AskKind;
 pub use client::ClientValues;

@@ -14,9 +14,9 @@ ghost use Rattle.ssh_pair.specs.Standing.{ServerStands, server_value, kept_bytes
 
 use crate::item::Done;
 use crate::lines::Lines;
-use crate::material::is_material;
 use crate::notes::{note_ask, note_death, note_line, note_turn, noted};
 use ssh_auth::UserJudge;
+use ssh_end::opening_laws::is_material;
 use ssh_end::turn_laws::{servers_deaths, servers_turns, turns_channels};
 use ssh_end::{Ask, ServerEnd};
 use ssh_model::end::{asks, deaths, identified, openings, units};

@@ -22,4 +22,4 @@ returns-clause-answers g c =
     (λ items more turned. c.asks.ensures.run p Client (part Client run) (end_of c.args.end.now.machine.kept c.args.end.now.layers) s.sums s.end_run (ask_of c.args.ask.now) items more (end_of c.perform-done.new.self.machine.kept c.perform-done.new.self.layers) turned)
     c.perform-done.result c.is_dead-is_over.result c.is_dead-is_over.ensures
     (λ fault e. subst (λ r. OnErr r (c.perform-done.new.out.items ≡ c.args.out.now.items)) e c.perform-done.ensures.out)
-    (c.perform-done.ensures.asks p (part Client run) (record { crypto = s.fits.crypto; user_signature = s.fits.signature; identified = λ opened. c.identified.ensures.opened p s.lawful (part Client run) c.args.end.now.machine.kept c.args.end.now.layers.authentication c.args.end.now.layers.channels s.sums s.end_run alive opened }) s.sums) c.perform-done.ensures.channels noted) c.note_ask.ensures
+    (c.perform-done.ensures.asks p (part Client run) (record { crypto = s.fits.crypto; user_signature = s.fits.signature; identified = λ alive opened. c.identified.ensures.opened p s.lawful (part Client run) c.args.end.now.machine.kept c.args.end.now.layers.authentication c.args.end.now.layers.channels s.sums s.end_run alive opened }) s.sums) c.perform-done.ensures.channels noted) c.note_ask.ensures

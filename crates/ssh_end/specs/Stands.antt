@@ -1,0 +1,79 @@
+-- Where an end of either role stands in a run of its own, and where each of its calls takes it.
+use Rattle.std.specs.Prelude.{◌≡◌, ◌++◌, ℕ, Bool, List, [], ◌∷◌, Result, take}
+use Rattle.ssh_model.specs.End.State.{EndState}
+use Rattle.ssh_model.specs.End.Summary.{HasOpened}
+use Rattle.ssh_model.specs.KeyExchange.Exchanges.{Material, fed}
+use Rattle.ssh_model.specs.Sessions.Items as session
+use Rattle.ssh_model.specs.Sessions.Items.{Item}
+use Rattle.ssh_model.specs.Sessions.Parties.{AreLawful, Parties, Settings, settings_of}
+use Rattle.ssh_model.specs.Side.{Side}
+use Rattle.ssh_types.specs.Sides.{side_of}
+use Rattle.ssh_transport.specs.declared.role.Role as exchange
+use Rattle.ssh_transport_machine.specs.State.{State, begun_of}
+use Rattle.ssh_end.specs.Ends.{EndValue}
+use Rattle.ssh_end.specs.Places.{AskedTo, DiedOn, FedTo, StandsAfter, TurnedTo, state_by}
+use Rattle.ssh_end.specs.Units.{FrontLacks}
+use Rattle.ssh_end.specs.declared.asking.outcome.AskStep.{AskStep}
+use Rattle.ssh_end.specs.declared.asking.outcome.Fault.{Fault}
+use Rattle.ssh_end.specs.declared.asking.outcome.Fault.TheVariants as fault
+use Rattle.ssh_end.specs.declared.role.EndRole as role
+
+-- what an end keeps, as an end of a session
+abbrev pub state_of : {R X L S F K : Type 0} → role.Ghosts R X L S F K → EndValue K R L → EndState K
+state_of ends end = state_by ends.authentication_of ends.channels_of end.machine.kept end.layers
+
+-- The end stands after this history.
+abbrev pub StandsAt : {R X L S F K : Type 0} → role.Ghosts R X L S F K → exchange.Ghosts X S F K → Parties K →
+    List Item → EndValue K R L → Type 0
+StandsAt ends exchanges p history end =
+    StandsAfter p (side_of exchanges.SIDE) (ends.is_of end.role p) (ends.are_of end.layers p) history end.machine
+    (state_of ends end)
+
+-- where bytes of the peer took an end, of which so many were used
+abbrev pub AdvancedTo : {R X L S F K : Type 0} → role.Ghosts R X L S F K → exchange.Ghosts X S F K → Parties K →
+    List Item → EndValue K R L → (bytes : List ℕ) → (used : ℕ) → (before after : List ℕ) → EndValue K R L → Type 0
+AdvancedTo ends exchanges p history old bytes used before after new =
+    TurnedTo p (side_of exchanges.SIDE) (ends.is_of new.role p) (ends.are_of new.layers p) history
+    (begun_of old.machine ++ take used bytes) new.step new.machine (state_of ends new)
+    (record { before = before; after = after; listed = []; relisted = new.sent })
+
+-- where they left it where nothing was done: it is over by some of them, or was over before
+abbrev pub FailedTo : {R X L S F K : Type 0} → role.Ghosts R X L S F K → exchange.Ghosts X S F K → Parties K →
+    List Item → EndValue K R L → (bytes : List ℕ) → Fault → EndValue K R L → Type 0
+FailedTo ends exchanges p history old bytes fault.Memory new =
+    FrontLacks (DiedOn p (side_of exchanges.SIDE) (ends.is_of new.role p) (ends.are_of new.layers p) history old.machine
+    new.machine (state_of ends new)) (begun_of old.machine) bytes
+FailedTo ends exchanges p history old bytes fault.Dead new = StandsAt ends exchanges p history new
+FailedTo ends exchanges p history old bytes (fault.Ask why) new = ⊥
+
+-- where an ask took it
+abbrev pub PerformedTo : {R X L S F K : Type 0} → role.Ghosts R X L S F K → exchange.Ghosts X S F K → Parties K →
+    List Item → EndValue K R L → session.Ask → Result AskStep Fault → (before after : List ℕ) → EndValue K R L → Type 0
+PerformedTo ends exchanges p history old asked given before after new =
+    AskedTo p (side_of exchanges.SIDE) (ends.is_of new.role p) (ends.are_of new.layers p) history (state_of ends old)
+    asked given new.machine (state_of ends new)
+    (record { before = before; after = after; listed = []; relisted = new.sent })
+
+-- where a pair of cookie and secret took it, by the answer
+abbrev pub FeedsTo : {R X L S F K : Type 0} → role.Ghosts R X L S F K → exchange.Ghosts X S F K → Parties K → List Item →
+    (cookie secret : List ℕ) → Bool → EndValue K R L → Type 0
+FeedsTo ends exchanges p history cookie secret answer new =
+    FedTo p (side_of exchanges.SIDE) (ends.is_of new.role p) (ends.are_of new.layers p) history cookie secret answer
+    new.machine (state_of ends new)
+
+-- An end that was made stands after its opening: it was fed this pair, and put out its version line and its first KEXINIT.
+pub record MadeAt {K : Type 0} (p : Parties K) (side : Side) (parts layers : Type 0) (material : Material)
+    (machine : State K) (e : EndState K) (before after : List ℕ) : Type 0 where
+  pub items : List Item
+  pub bytes : List ℕ
+  pub opened : HasOpened p side items bytes e
+  pub material_is : fed items ≡ material ∷ []
+  pub out : after ≡ before ++ bytes
+  pub place : StandsAfter p side parts layers items machine e
+
+-- An end was made with these settings, of whichever lawful parties they and its parts are.
+abbrev pub MadeOf : {K : Type 0} → Side → Settings → (is_of are_of : Parties K → Type 0) → Material → State K → EndState K →
+    (before after : List ℕ) → Type 0
+MadeOf {K} side given is_of are_of material machine e before after =
+    (p : Parties K) → AreLawful p → settings_of p side ≡ given → is_of p →
+    MadeAt p side (is_of p) (are_of p) material machine e before after
