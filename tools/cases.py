@@ -1,7 +1,8 @@
 """Runs each program on its cases, crates/*/cases/*.txt, and says which of them do not do what is written there. A program is what the gate leaves in its crate's folder out/; the crate
 `ssh_trace_program` has that of the name `ssh_trace`. Ends with status 1 where a case fails.
 
-A case is a few lines, and an empty line or a comment, which begins with #, parts it from the next. It is run in a folder of its own, with copies of what is in cases/files/.
+A case is a few lines, and an empty line or a comment, which begins with #, parts it from the next. It is run in a folder of its own, with copies of what is in cases/files/ that their owner
+alone may read, as is right for keys.
 
     $ ssh_trace play script     the command, a line of the shell
     < pass c s 11               a line of the file `script`; \\t, \\r and \\xNN stand for such bytes
@@ -67,6 +68,11 @@ class Case:
         return None
 
 
+def copied(source, target):
+    shutil.copyfile(source, target)
+    os.chmod(target, 0o600)
+
+
 def joined(lines):
     return "".join(line[:-1] if line.endswith("\\") else f"{line}\n" for line in lines)
 
@@ -112,7 +118,7 @@ def run(crate):
         for case in cases:
             with tempfile.TemporaryDirectory() as name:
                 if (crate / "cases" / "files").is_dir():
-                    shutil.copytree(crate / "cases" / "files", name, dirs_exist_ok=True)
+                    shutil.copytree(crate / "cases" / "files", name, copy_function=copied, dirs_exist_ok=True)
                 if fault := case.fault(path, Path(name)):
                     failed += 1
                     print(f"{crate.name}/cases/{case.place}: {case.command()}: {fault}")

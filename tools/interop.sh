@@ -51,6 +51,9 @@ row() {
     fi
 }
 
+# What an end of ssh_pipe says that it has.
+methods='this end has curve25519-sha256, ssh-ed25519 and what --cipher names'
+
 has() { command -v "$1" >/dev/null 2>&1; }
 
 hash_of() { sha256sum | cut -d' ' -f1; }
@@ -98,11 +101,11 @@ fi
 END
 chmod +x server
 
-# What the server said on standard error, and its exit status.
+# What the server said on standard error but for who came in, and its exit status.
 server_said() {
     local _
     for _ in $(seq 100); do [ -e server.status ] && break; sleep 0.1; done
-    echo "$(cat server.err), status $(cat server.status)"
+    echo "$(grep -v ' is let in by ' server.err), status $(cat server.status)"
 }
 
 # The client of OpenSSH through that server.
@@ -196,7 +199,7 @@ stock_refusals() {
     DOWN=100000 stock reader@example.org source "$size" >seen 2>log
     row "$1" "a byte from the server changed" "message authentication code incorrect" "$(grep -o 'message authentication code incorrect' log | head -1)"
     stock -c aes256-ctr reader@example.org echo hello >seen 2>log
-    row "$1" "another cipher alone" "error: the peer is refused: the two ends have no algorithm in common (refusal 8 NoCommon), status 1" "$(server_said)"
+    row "$1" "another cipher alone" "error: the peer is refused: the two ends have no algorithm in common (refusal 8 NoCommon): $methods, status 1" "$(server_said)"
 }
 
 # ---- the client, and the server of OpenSSH
@@ -363,7 +366,7 @@ without_common() {
     row "client of paramiko $version" "no strict key exchange" "$not_strict, status 1" "$(server_said)"
 }
 not_strict='error: the peer is refused: the peer does not offer strict key exchange (refusal 9 NotStrict)'
-no_common='error: the peer is refused: the two ends have no algorithm in common (refusal 8 NoCommon)'
+no_common="error: the peer is refused: the two ends have no algorithm in common (refusal 8 NoCommon): $methods"
 
 # ---- how long transfers take
 

@@ -13,7 +13,8 @@ use desk::Desk;
 pub use request::{Request, RequestKind};
 use ssh_end::ClientEnd;
 use ssh_parts::{Curve25519, Ed25519Trust};
-use ssh_pipe_policy::{KeySupply, Policy, UserKey};
+use ssh_pipe_log::Watched;
+use ssh_pipe_policy::{End, KeySupply, Policy, UserKey};
 use ssh_transport_base::ClientPartValues;
 use std::alloc::{AllocError, Global};
 use std::random::RandomSource;
@@ -21,7 +22,7 @@ use std::random::RandomSource;
 /// A client of SSH-2 that runs one command. Bytes of the server go in, and bytes for it come out; beside them the command's input and its output.
 #[derive(Drop)]
 pub struct Client<'a, R: RandomSource + Drop> {
-    end: ClientEnd<PipeClient, UserKey>,
+    end: Watched<ClientEnd<PipeClient, UserKey>>,
     supply: KeySupply<R>,
     desk: Desk<'a>,
 }
@@ -48,10 +49,15 @@ impl<'a, R: RandomSource + Drop> Client<'a, R> {
         let config = config(alloc, policy, METHODS)?;
         let end = ClientEnd::new(alloc, config, parts, key, first.cookie, first.secret, out)?;
         Ok(Client {
-            end,
+            end: Watched::new(alloc, end),
             supply,
             desk: Desk::new(alloc, policy.window, login, request),
         })
+    }
+
+    /// Shows messages from now on, by number and name, in what it tells.
+    pub fn show_messages(&mut self) -> Result<(), PipeError> {
+        self.end.show_messages().map_err(|_| PipeError::Memory)
     }
 
     /// How the session ended, once that is known.
@@ -119,5 +125,13 @@ impl<R: RandomSource + Drop> Machine for Client<'_, R> {
 
     fn is_over(&self) -> bool {
         self.end.is_dead()
+    }
+
+    fn lines(&self) -> &[u8] {
+        self.end.lines()
+    }
+
+    fn clear_lines(&mut self) {
+        self.end.clear_lines();
     }
 }

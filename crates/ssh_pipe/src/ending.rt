@@ -4,6 +4,9 @@ use ssh_types::Refusal;
 use std::alloc::{AllocError, Global};
 use std::fmt;
 
+// What an end offers, which has no algorithm in common with a peer that offers others.
+const METHODS: &str = "this end has curve25519-sha256, ssh-ed25519 and what --cipher names";
+
 /// How a session ended, as one of its ends saw it.
 #[derive(Debug, Drop, PartialEq, Eq)]
 pub enum Ending {
@@ -25,6 +28,12 @@ pub enum Ending {
     NoChannel { reason: u32, description: Vec<u8> },
     /// The server doesn't run the command.
     NoCommand,
+    /// The client closed the connection with no channel open.
+    Left,
+    /// The client closed the connection and was not let in.
+    LeftOutside,
+    /// The client's stream ended while a channel was open.
+    BrokenOff,
 }
 
 impl Ending {
@@ -50,7 +59,11 @@ impl fmt::Display for Ending {
                 write!(
                     f,
                     "the peer is refused: {refusal} (refusal {number} {name})"
-                )
+                )?;
+                if *refusal == Refusal::NoCommon {
+                    write!(f, ": {METHODS}")?;
+                }
+                Ok(())
             }
             Ending::Disconnected {
                 reason,
@@ -87,6 +100,12 @@ impl fmt::Display for Ending {
                 write!(f, "the server opens no channel: {text} (reason {reason})")
             }
             Ending::NoCommand => write!(f, "the server does not run this command"),
+            Ending::Left => write!(f, "the client closed the connection"),
+            Ending::LeftOutside => write!(
+                f,
+                "the client closed the connection before it was let in"
+            ),
+            Ending::BrokenOff => write!(f, "the connection broke off while a channel was open"),
         }
     }
 }

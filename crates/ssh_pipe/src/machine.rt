@@ -14,24 +14,46 @@ pub trait Machine {
 
     /// Tests whether the end is over.
     fn is_over(&self) -> bool;
+
+    /// What is to be told of what it did, as lines.
+    fn lines(&self) -> &[u8];
+
+    /// These lines are told.
+    fn clear_lines(&mut self);
 }
 
 /// The bytes that are read at once.
 const PIECE: usize = 65_536;
 
 /// Lets an end go on until it is over or its peer's stream ends: reads what the peer sends from `input`, and writes what goes to the peer to `output`, what
-/// stands in `out` first. A peer that takes nothing any more is still heard, since it may have said why.
-pub fn pump<M: Machine, I: Read, O: Write>(
+/// stands in `out` first. What is to be told of it is written to `log`. A peer that takes nothing any more is still heard, since it may have said why.
+pub fn pump<M: Machine, I: Read, O: Write, L: Write>(
     alloc: Global,
     machine: &mut M,
     input: &mut I,
     output: &mut O,
-    mut out: Vec<u8>,
+    out: Vec<u8>,
+    log: &mut L,
 ) -> Result<(), PipeError> {
-    let mut buffer = vec![in alloc; 0u8; PIECE]?;
+    let buffer = vec![in alloc; 0u8; PIECE]?;
+    let pumped = exchange(machine, input, output, out, buffer, log);
+    tell(machine, log);
+    pumped
+}
+
+// The same, but for what is told of the last step.
+fn exchange<M: Machine, I: Read, O: Write, L: Write>(
+    machine: &mut M,
+    input: &mut I,
+    output: &mut O,
+    mut out: Vec<u8>,
+    mut buffer: Vec<u8>,
+    log: &mut L,
+) -> Result<(), PipeError> {
     let mut is_heard = true;
     for _ in 0..u64::MAX {
         write_out(machine, &mut out, output, &mut is_heard)?;
+        tell(machine, log);
         if machine.is_over() {
             break;
         }
@@ -43,6 +65,12 @@ pub fn pump<M: Machine, I: Read, O: Write>(
         machine.take(piece, &mut out)?;
     }
     Ok(())
+}
+
+// Writes what is to be told. Where that can't be written, the session goes on without it.
+fn tell<M: Machine, L: Write>(machine: &mut M, log: &mut L) {
+    let _ = log.write_all(machine.lines());
+    machine.clear_lines();
 }
 
 // Reads what there is; no bytes at the end of the stream.

@@ -9,7 +9,8 @@ use crate::parts::{METHODS, PipeServer, config};
 use desk::Desk;
 use ssh_end::ServerEnd;
 use ssh_parts::{Curve25519, Ed25519Signer};
-use ssh_pipe_policy::{KeySupply, OneUser, Policy};
+use ssh_pipe_log::Watched;
+use ssh_pipe_policy::{End, KeySupply, OneUser, Policy};
 use ssh_transport_base::ServerPartValues;
 use std::alloc::Global;
 use std::random::RandomSource;
@@ -17,7 +18,7 @@ use std::random::RandomSource;
 /// A server of SSH-2 for one connection. Bytes of the client go in, and bytes for it come out.
 #[derive(Drop)]
 pub struct Server<'a, R: RandomSource + Drop> {
-    end: ServerEnd<PipeServer, OneUser<'a>>,
+    end: Watched<ServerEnd<PipeServer, OneUser<'a>>>,
     supply: KeySupply<R>,
     desk: Desk,
 }
@@ -42,15 +43,25 @@ impl<'a, R: RandomSource + Drop> Server<'a, R> {
         let config = config(alloc, policy, methods_of(&user))?;
         let end = ServerEnd::new(alloc, config, parts, user, first.cookie, first.secret, out)?;
         Ok(Server {
-            end,
+            end: Watched::new(alloc, end),
             supply,
             desk: Desk::new(alloc, policy.window),
         })
     }
 
+    /// Shows messages from now on, by number and name, in what it tells.
+    pub fn show_messages(&mut self) -> Result<(), PipeError> {
+        self.end.show_messages().map_err(|_| PipeError::Memory)
+    }
+
     /// How the session ended, once that is known.
     pub fn take_ending(&mut self) -> Option<Ending> {
         self.desk.ending.take()
+    }
+
+    /// What it means if the client's stream ends now, where no ending is known.
+    pub fn ending_left(&self) -> Ending {
+        self.desk.ending_left()
     }
 }
 
@@ -92,5 +103,13 @@ impl<R: RandomSource + Drop> Machine for Server<'_, R> {
 
     fn is_over(&self) -> bool {
         self.end.is_dead()
+    }
+
+    fn lines(&self) -> &[u8] {
+        self.end.lines()
+    }
+
+    fn clear_lines(&mut self) {
+        self.end.clear_lines();
     }
 }

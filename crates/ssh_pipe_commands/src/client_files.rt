@@ -121,4 +121,12 @@ impl<R: RandomSource + Drop, I: Read + Drop, O: Write + Drop, E: Write + Drop> M
     fn is_over(&self) -> bool {
         self.client.is_over()
     }
+
+    fn lines(&self) -> &[u8] {
+        self.client.lines()
+    }
+
+    fn clear_lines(&mut self) {
+        self.client.clear_lines();
+    }
 }

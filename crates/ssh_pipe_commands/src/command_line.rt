@@ -7,7 +7,7 @@ use ssh_pipe::{Ciphers, EPOCH_LIMIT, LEAST_WINDOW, MOST_WINDOW, Policy, RequestK
 use std::alloc::{AllocError, Global};
 use std::convert::AsStr;
 use thiserror::Error;
-use words::command;
+use words::{VERBOSE, command};
 
 /// What the program is called to do.
 #[derive(Clone, Copy, Debug, PartialEq, Eq)]
@@ -45,6 +45,8 @@ pub struct ClientOptions<'a> {
     pub command: &'a str,
     /// Windows, exchanges of keys, and whether `none` is offered.
     pub policy: Policy,
+    /// Whether messages are shown on standard error.
+    pub is_verbose: bool,
 }
 
 /// What a server is told.
@@ -60,6 +62,8 @@ pub struct ServerOptions<'a> {
     pub password_file: Option<&'a str>,
     /// Windows, exchanges of keys, and whether `none` is offered.
     pub policy: Policy,
+    /// Whether messages are shown on standard error.
+    pub is_verbose: bool,
 }
 
 /// Why the words are no call.
@@ -122,6 +126,7 @@ fn client_options<'a>(words: &ArgMatches<'a>) -> Result<ClientOptions<'a>, Usage
         kind,
         command: needed(words, "COMMAND")?,
         policy: policy(words)?,
+        is_verbose: words.get_flag(VERBOSE),
     })
 }
 
@@ -132,6 +137,7 @@ fn server_options<'a>(words: &ArgMatches<'a>) -> Result<ServerOptions<'a>, Usage
         authorized_keys: words.get_str("authorized-keys"),
         password_file: words.get_str("password-file"),
         policy: policy(words)?,
+        is_verbose: words.get_flag(VERBOSE),
     })
 }
 

@@ -98,4 +98,12 @@ impl<
     fn is_over(&self) -> bool {
         self.files.is_over()
     }
+
+    fn lines(&self) -> &[u8] {
+        self.files.lines()
+    }
+
+    fn clear_lines(&mut self) {
+        self.files.clear_lines();
+    }
 }

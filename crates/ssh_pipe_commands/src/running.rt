@@ -31,7 +31,7 @@ pub fn version<O: Write, E: Write>(out: &mut O, err: &mut E) -> Status {
     }
 }
 
-/// Serves one connection as the options say. Why it can't, or whom it refused, is told on `err`.
+/// Serves one connection as the options say. Who came in and by what, how it ended, and why it can't be served are told on `err`.
 pub fn serve<R: Files + AllocGlobal + RandomSource, I: Read, O: Write, E: Write>(
     rt: &R,
     options: &ServerOptions<'_>,
@@ -39,10 +39,25 @@ pub fn serve<R: Files + AllocGlobal + RandomSource, I: Read, O: Write, E: Write>
     output: &mut O,
     err: &mut E,
 ) -> Status {
-    match served(rt, options, input, output) {
-        Ok(Some(ending @ Ending::Refused(_))) => report(ending, err, Status::Refused),
-        Ok(_) => Status::Done,
+    match served(rt, options, input, output, err) {
+        Ok(ending) if is_orderly(&ending) => {
+            let _ = writeln!(err, "{ending}");
+            Status::Done
+        }
+        Ok(ending) => report(ending, err, Status::Refused),
         Err(error) => report(error, err, Status::Fault),
+    }
+}
+
+// SSH_DISCONNECT_BY_APPLICATION: the peer is done (RFC 4253 section 11.1).
+const BY_APPLICATION: u32 = 11;
+
+// Tests whether a server's session ended as its client wanted it.
+fn is_orderly(ending: &Ending) -> bool {
+    match ending {
+        Ending::Disconnected { reason, .. } => *reason == BY_APPLICATION,
+        Ending::Left => true,
+        _ => false,
     }
 }
 
@@ -83,13 +98,14 @@ fn accepted_in<'a, R: Files + AllocGlobal>(
 }
 
 // A session of the server, and how it ended.
-fn served<'a, R: Files + AllocGlobal + RandomSource, I: Read, O: Write>(
+fn served<'a, R: Files + AllocGlobal + RandomSource, I: Read, O: Write, E: Write>(
     rt: &R,
     options: &ServerOptions<'a>,
     input: &mut I,
     output: &mut O,
-) -> Result<Option<Ending>, RunError<'a>> {
-    let host_key = private_key_in(rt, options.host_key)?;
+    err: &mut E,
+) -> Result<Ending, RunError<'a>> {
+    let host_key = private_key_in(rt, options.host_key, err)?;
     let accepted = accepted_in(rt, options)?;
     let user = OneUser {
         name: options.user.as_bytes(),
@@ -99,24 +115,26 @@ fn served<'a, R: Files + AllocGlobal + RandomSource, I: Read, O: Write>(
             None => None,
         },
     };
-    Ok(served_to(rt, options, &host_key, user, input, output)?)
+    let mut out = Vec::new(rt.alloc());
+    let mut server = server_of(rt, options, &host_key, user, &mut out)?;
+    pump(rt.alloc(), &mut server, input, output, out, err)?;
+    Ok(server.take_ending().unwrap_or_else(|| server.ending_left()))
 }
 
-// A session of the server that lets in this user.
-fn served_to<R: AllocGlobal + RandomSource, I: Read, O: Write>(
-    rt: &R,
+// A server with this key that lets in this user, after what it put out.
+fn server_of<'c, R: AllocGlobal + RandomSource>(
+    rt: &'c R,
     options: &ServerOptions<'_>,
     host_key: &PrivateKey,
-    user: OneUser<'_>,
-    input: &mut I,
-    output: &mut O,
-) -> Result<Option<Ending>, PipeError> {
-    let alloc = rt.alloc();
-    let mut out = Vec::new(alloc);
+    user: OneUser<'c>,
+    out: &mut Vec<u8>,
+) -> Result<Server<'c, &'c R>, PipeError> {
     let signer = Ed25519Signer::new(&host_key.seed);
-    let mut server = Server::new(alloc, &options.policy, rt, signer, user, &mut out)?;
-    pump(alloc, &mut server, input, output, out)?;
-    Ok(server.take_ending())
+    let mut server = Server::new(rt.alloc(), &options.policy, rt, signer, user, out)?;
+    if options.is_verbose {
+        server.show_messages()?;
+    }
+    Ok(server)
 }
 
 // What a client knows of the host and of its user.
@@ -128,12 +146,13 @@ struct Credentials {
 }
 
 // Those in the files that the options name.
-fn credentials_in<'a, R: Files + AllocGlobal>(
+fn credentials_in<'a, R: Files + AllocGlobal, E: Write>(
     rt: &R,
     options: &ClientOptions<'a>,
+    err: &mut E,
 ) -> Result<Credentials, RunError<'a>> {
     let host = trusted_key_in(rt, options.host_key, options.host)?;
-    let key = user_key(rt, options.identity)?;
+    let key = user_key(rt, options.identity, err)?;
     let password = password_in(rt, options.password_file)?;
     Ok(Credentials {
         host,
@@ -154,14 +173,14 @@ fn called<
     options: &ClientOptions<'a>,
     input: &mut I,
     output: &mut O,
-    err: E,
+    mut err: E,
 ) -> Result<Option<Ending>, RunError<'a>> {
-    let credentials = credentials_in(rt, options)?;
+    let credentials = credentials_in(rt, options, &mut err)?;
     let text = string_of(rt.alloc(), options.command.as_bytes())?.ok_or(RunError::LongCommand)?;
     let mut out = Vec::new(rt.alloc());
     let client = client_of(rt, options, &credentials, text.as_slice(), &mut out)?;
     let mut files = shown_files(rt, options, client, err)?;
-    Ok(ran(rt.alloc(), &mut files, input, output, out)?)
+    Ok(ran(rt.alloc(), &mut files, input, output, out, &mut err)?)
 }
 
 // A client with these credentials that runs the command of this text, behind what it put out.
@@ -182,7 +201,7 @@ fn client_of<'a, 'c, R: AllocGlobal + RandomSource>(
         kind: options.kind,
         text,
     };
-    Client::new(
+    let mut client = Client::new(
         rt.alloc(),
         &options.policy,
         rt,
@@ -191,7 +210,11 @@ fn client_of<'a, 'c, R: AllocGlobal + RandomSource>(
         login,
         request,
         out,
-    )
+    )?;
+    if options.is_verbose {
+        client.show_messages()?;
+    }
+    Ok(client)
 }
 
 // A session of this client, and how it ended.
@@ -204,14 +227,16 @@ fn ran<
     T: Write + Drop,
     I: Read,
     W: Write,
+    L: Write,
 >(
     alloc: Global,
     files: &mut ShownFiles<'c, S, F, O, E, T>,
     input: &mut I,
     output: &mut W,
     out: Vec<u8>,
+    log: &mut L,
 ) -> Result<Option<Ending>, PipeError> {
-    let ran = pump(alloc, files, input, output, out);
+    let ran = pump(alloc, files, input, output, out, log);
     files.end_line();
     ran?;
     Ok(files.take_ending())
@@ -253,12 +278,13 @@ fn command_files<'a, R: Files, E: Write + Drop + Copy>(
 }
 
 // The user's key, where there is one.
-fn user_key<'a, R: Files + AllocGlobal>(
+fn user_key<'a, R: Files + AllocGlobal, E: Write>(
     rt: &R,
     file: Option<&'a str>,
+    err: &mut E,
 ) -> Result<UserKey, RunError<'a>> {
     let signer = match file {
-        Some(file) => Some(Ed25519Signer::new(&private_key_in(rt, file)?.seed)),
+        Some(file) => Some(Ed25519Signer::new(&private_key_in(rt, file, err)?.seed)),
         None => None,
     };
     Ok(UserKey { signer })

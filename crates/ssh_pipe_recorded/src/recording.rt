@@ -37,7 +37,14 @@ pub fn record(rt: &HostRuntime, keys: &Keys, role: Role, file: &str) -> anyhow::
     match role {
         Role::Server => {
             let mut server = server(alloc, keys, &mut out)?;
-            pump(alloc, &mut server, &mut input, &mut rt.stdout(), out)?;
+            pump(
+                alloc,
+                &mut server,
+                &mut input,
+                &mut rt.stdout(),
+                out,
+                &mut rt.stderr(),
+            )?;
         }
         Role::Client => {
             let client = client(alloc, keys, &mut out)?;
@@ -48,7 +55,14 @@ pub fn record(rt: &HostRuntime, keys: &Keys, role: Role, file: &str) -> anyhow::
                 rt.stderr(),
                 rt.stderr(),
             )?;
-            pump(alloc, &mut files, &mut input, &mut rt.stdout(), out)?;
+            pump(
+                alloc,
+                &mut files,
+                &mut input,
+                &mut rt.stdout(),
+                out,
+                &mut rt.stderr(),
+            )?;
         }
     }
     Ok(())

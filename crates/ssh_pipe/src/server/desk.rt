@@ -18,6 +18,8 @@ pub(super) struct Desk {
     // What waits for the end of an exchange of keys, the oldest first.
     tasks: Tasks<Task>,
     sessions: Vec<Session>,
+    // The user was let in.
+    is_let_in: bool,
     /// How the session ended, once that is known.
     pub ending: Option<Ending>,
 }
@@ -48,6 +50,7 @@ impl Desk {
             window,
             tasks: Tasks::new(alloc),
             sessions: Vec::new(alloc),
+            is_let_in: false,
             ending: None,
         }
     }
@@ -67,8 +70,23 @@ impl Desk {
                 self.ending = Some(Ending::disconnected(self.alloc, reason, description)?);
                 Ok(())
             }
+            Some(Told::Accepted { .. }) => {
+                self.is_let_in = true;
+                Ok(())
+            }
             Some(Told::Channel(fact)) => self.hear_of_channels(&fact),
             _ => Ok(()),
+        }
+    }
+
+    /// What it means if the client's stream ends now.
+    pub fn ending_left(&self) -> Ending {
+        if !self.is_let_in {
+            Ending::LeftOutside
+        } else if self.sessions.is_empty() {
+            Ending::Left
+        } else {
+            Ending::BrokenOff
         }
     }
 

@@ -9,7 +9,14 @@ const PROGRAM: &str = "ssh_pipe";
 const ABOUT: &str =
     "SSH over standard input and output: what the peer sends is read from standard input, and what goes to it is written to standard output";
 
-const ABOUT_CLIENT: &str = "Runs one command at the server, and ends with its status, or 255";
+const ABOUT_CLIENT: &str = "Runs one command at the server";
+
+const ENDING: &str = "\
+It has one thread. The command's input is read to its end, or until the server takes no more, before the server is heard: so it is no
+dialogue. A program that has to hear and speak at a time embeds the library (docs/EMBEDDING.md).
+
+Exit status: that of the command, or 255 for all else, as a server that is not trusted, a session that breaks off, or a fault of usage,
+file, memory or input and output, which standard error tells. A fault of the words is 2.";
 
 const ABOUT_SERVER: &str = "Serves one connection with commands of its own";
 
@@ -20,7 +27,9 @@ A client of OpenSSH and this server, and this client and a server of OpenSSH beh
   sshd -i -f CONFIG <up >down & ssh_pipe client --user me --host-key known_hosts --identity KEY 'uname -a' >up <down
 
 The methods are curve25519-sha256 with strict key exchange, ssh-ed25519, aes128-gcm@openssh.com and, by --cipher,
-aes256-gcm@openssh.com. Keys are files of OpenSSH without a passphrase. Faults and refusals are told on standard error.
+aes256-gcm@openssh.com. Keys are of ssh-ed25519, in files of OpenSSH without a passphrase: keys of RSA and ECDSA, passphrases
+and agents are not there. A file of a key or a password is read to 64 KiB, a list of keys to 16 MiB. A private key that others
+may read is told. Faults and refusals are told on standard error.
 
 ssh_pipe --version says what the program is: its version, and the kit that it is proved with.";
 
@@ -34,9 +43,10 @@ Commands of the server:
   exit N        nothing; it ends with this status
 
 Exit status:
-  0  the connection is over
-  1  the client was refused, which is told on standard error
-  2  a fault of usage, file, memory or input and output";
+  0  the client ended the connection, or closed it with no channel open
+  1  the client was refused, or the session broke off
+  2  a fault of usage, file, memory or input and output
+Who came in, by what, and how it ended is told on standard error.";
 
 /// The words of the program.
 pub(super) fn command<'a>(alloc: Global) -> Result<Command<'a>, AllocError> {
@@ -57,7 +67,8 @@ fn program<'a>(alloc: Global) -> Result<Command<'a>, AllocError> {
 }
 
 fn client<'a>(alloc: Global) -> Result<Command<'a>, AllocError> {
-    subcommand(alloc, "client", ABOUT_CLIENT, CLIENT_OPTIONS)?.arg(command_word(alloc))
+    let command = subcommand(alloc, "client", ABOUT_CLIENT, CLIENT_OPTIONS)?;
+    command.after_help(ENDING).arg(command_word(alloc))
 }
 
 // The one word of a client that is no option.
@@ -81,7 +92,21 @@ fn subcommand<'a>(
 ) -> Result<Command<'a>, AllocError> {
     let command = Command::new(alloc, name).about(about);
     let command = with_options(alloc, command, rows)?;
-    with_options(alloc, command, POLICY_OPTIONS)
+    with_options(alloc, command, POLICY_OPTIONS)?.arg(verbose(alloc))
+}
+
+/// The word of the flag that shows messages.
+pub(super) const VERBOSE: &str = "verbose";
+
+// The one option with a short form.
+fn verbose<'a>(alloc: Global) -> Arg<'a> {
+    Arg::new(alloc, VERBOSE)
+        .short('v')
+        .long(VERBOSE)
+        .help(
+            "Show each message by its number and name on standard error, and nothing of what is in it",
+        )
+        .action(ArgAction::SetTrue)
 }
 
 // An option of a command.

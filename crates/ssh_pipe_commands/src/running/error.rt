@@ -12,6 +12,9 @@ pub enum RunError<'a> {
     /// A file can't be read or made.
     #[error("{file}: {error}")]
     File { file: &'a str, error: io::Error },
+    /// A file has more bytes than are read of one of its kind.
+    #[error("{file}: it has more than {most} bytes, and no more are read of such a file")]
+    Long { file: &'a str, most: usize },
     /// A file is not what it has to be.
     #[error("{file}: {fault}")]
     Content { file: &'a str, fault: FileFault },

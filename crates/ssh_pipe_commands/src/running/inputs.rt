@@ -7,12 +7,31 @@ use ssh_key_files::{
 };
 use ssh_parts::{AcceptedKey, Ed25519Trust};
 use std::fs;
-use std::io::Write;
+use std::io::{Read, Write};
+use std::os::unix::fs::PermissionsExt;
 use std::rt::Files;
 
-// The bytes of a file.
-fn bytes_of<'a, R: Files + AllocGlobal>(rt: &R, file: &'a str) -> Result<Vec<u8>, RunError<'a>> {
-    fs::read(rt, file).map_err(|error| RunError::File { file, error })
+// So many bytes are read of a file with one key or a password, and of a list of keys, so that reading ends whatever the file is.
+const MOST_KEY_BYTES: usize = 65_536;
+
+const MOST_LIST_BYTES: usize = 16_777_216;
+
+// The bytes of a file that has at most so many. No more are read than show that it has more.
+fn bytes_of<'a, R: Files + AllocGlobal>(
+    rt: &R,
+    file: &'a str,
+    most: usize,
+) -> Result<Vec<u8>, RunError<'a>> {
+    let mut bytes = Vec::new(rt.alloc());
+    let read = match fs::open(rt, file) {
+        Ok(opened) => opened.take(most as u64 + 1).read_to_end(&mut bytes),
+        Err(error) => Err(error),
+    };
+    match read {
+        Ok(count) if count > most => Err(RunError::Long { file, most }),
+        Ok(_) => Ok(bytes),
+        Err(error) => Err(RunError::File { file, error }),
+    }
 }
 
 // What is wrong in a file.
@@ -20,13 +39,32 @@ fn wrong(file: &str, fault: FileFault) -> RunError<'_> {
     RunError::Content { file, fault }
 }
 
-/// The private key in a file.
-pub fn private_key_in<'a, R: Files + AllocGlobal>(
+/// The private key in a file. Where others than the file's owner may read it, that is told on `err`.
+pub fn private_key_in<'a, R: Files + AllocGlobal, E: Write>(
     rt: &R,
     file: &'a str,
+    err: &mut E,
 ) -> Result<PrivateKey, RunError<'a>> {
-    let bytes = bytes_of(rt, file)?;
-    private_key(rt.alloc(), bytes.as_slice()).map_err(|fault| wrong(file, fault))
+    let bytes = bytes_of(rt, file, MOST_KEY_BYTES)?;
+    let key = private_key(rt.alloc(), bytes.as_slice()).map_err(|fault| wrong(file, fault))?;
+    warn_of_readers(rt, file, err);
+    Ok(key)
+}
+
+// The bits of a mode that let the group and all others read.
+const READ_BY_OTHERS: u32 = 0o044;
+
+// Tells where others may read a private key. A file whose mode is not shown, and one that is none on a disk, as a pipe, are not told of.
+fn warn_of_readers<R: Files, E: Write>(rt: &R, file: &str, err: &mut E) {
+    if let Ok(found) = fs::metadata(rt, file)
+        && found.is_file()
+        && found.permissions().mode() & READ_BY_OTHERS != 0
+    {
+        let _ = writeln!(
+            err,
+            "warning: {file}: others may read this private key: chmod 600 keeps it to its owner"
+        );
+    }
 }
 
 /// The key in a file that is trusted to be the host's.
@@ -35,7 +73,7 @@ pub fn trusted_key_in<'a, R: Files + AllocGlobal>(
     file: &'a str,
     host: Option<&'a str>,
 ) -> Result<Ed25519Trust, RunError<'a>> {
-    let bytes = bytes_of(rt, file)?;
+    let bytes = bytes_of(rt, file, MOST_LIST_BYTES)?;
     let found = trusted_key(bytes.as_slice(), host.map(|host| host.as_bytes()));
     match (found, host) {
         (Ok(public), _) => Ok(Ed25519Trust { public }),
@@ -56,7 +94,7 @@ pub fn accepted_keys<'a, R: Files + AllocGlobal>(
     let Some(file) = file else {
         return Ok(accepted);
     };
-    let bytes = bytes_of(rt, file)?;
+    let bytes = bytes_of(rt, file, MOST_LIST_BYTES)?;
     let keys = authorized_keys(rt.alloc(), bytes.as_slice()).map_err(|fault| wrong(file, fault))?;
     for public in keys.iter() {
         accepted.push(AcceptedKey {
@@ -75,7 +113,7 @@ pub fn password_in<'a, R: Files + AllocGlobal>(
     let Some(file) = file else {
         return Ok(None);
     };
-    let bytes = bytes_of(rt, file)?;
+    let bytes = bytes_of(rt, file, MOST_KEY_BYTES)?;
     let word = password(bytes.as_slice()).map_err(|fault| wrong(file, fault))?;
     Ok(Some(Vec::from_slice(rt.alloc(), word)?))
 }
