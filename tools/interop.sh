@@ -101,12 +101,15 @@ fi
 END
 chmod +x server
 
-# What the server said on standard error but for who came in, and its exit status.
-server_said() {
+# What the server said on standard error, line by line, and its exit status.
+server_told() {
     local _
-    for _ in $(seq 100); do [ -e server.status ] && break; sleep 0.1; done
-    echo "$(grep -v ' is let in by ' server.err), status $(cat server.status)"
+    for _ in $(seq 600); do [ -e server.status ] && break; sleep 0.1; done
+    echo "$(sed 's/$/, /' server.err | tr -d '\n')status $(cat server.status)"
 }
+
+# The same without who came in.
+server_said() { server_told | sed 's/^[^,]* is let in by [^,]*, //'; }
 
 # The client of OpenSSH through that server.
 stock() {
@@ -151,7 +154,28 @@ stock_client() {
     row "$peer" "by the server, every $packets packets" "same, more than 4 exchanges" "$(same "$seen" "$want"), $(exchanges log)"
     several "$peer"
     stays_alive "$peer"
+    server_tells "$peer"
     stock_refusals "$peer"
+}
+
+# Who came in, by what, and how the session ended, as the server tells it; and its messages by -v.
+server_tells() {
+    local done='the peer ended the connection: disconnected by user (reason 11), status 0'
+    stock reader@example.org true >seen 2>log
+    row "$1" "what the server tells of a key" "reader is let in by the key $(ssh-keygen -l -f user.pub | cut -d' ' -f2), $done" "$(server_told)"
+    WORD=password by_password reader@example.org true >seen 2>log
+    row "$1" "of a password" "reader is let in by the password, $done" "$(server_told)"
+    # (the client ends at once and says nothing)
+    {
+        timeout -s KILL 3 ssh -F /dev/null -o BatchMode=yes -o UserKnownHostsFile="$work/known" -o GlobalKnownHostsFile=/dev/null \
+            -o IdentitiesOnly=yes -i "$work/user" -o ProxyCommand="$work/server" reader@example.org source 1000000000000 >/dev/null
+    } 2>log
+    row "$1" "of a client that is killed" "error: the connection broke off while a channel was open, status 1" "$(server_said)"
+    SERVER=-v WORD=password by_password reader@example.org echo hello >seen 2>log
+    server_told >told
+    row "$1" "\`-v\`, password, \`exec\`" "took 50 USERAUTH_REQUEST, sent 52 USERAUTH_SUCCESS, took 90 CHANNEL_OPEN, sent 94 CHANNEL_DATA" "$(
+        tr ',' '\n' <told | grep -o -e 'took 50 .*' -e 'sent 52 .*' -e 'took 90 .*' -e 'sent 94 .*' | uniq | tail -4 | paste -sd, | sed 's/,/, /g')"
+    row "$1" "of the password and the data \`-v\` shows" "nothing" "$(grep -o -e secret -e hello told || echo nothing)"
 }
 
 same() { if [ "$1" = "$2" ]; then echo same; else echo "another hash, $1"; fi; }
@@ -275,7 +299,15 @@ stock_server() {
     row "$peer" "keys exchanged again by the server, every $((size / 16)) bytes" "same, more than 4 exchanges" "$(same "$(hash_of <answer)" "$want"), $(exchanges serve.err)"
     SSHD='-o LogLevel=DEBUG1' via_sshd --identity user --input data --output answer --rekey-after $packets cat 2>log
     row "$peer" "by the client, every $packets packets" "same, more than 4 exchanges" "$(same "$(hash_of <answer)" "$want"), $(exchanges serve.err)"
+    SERVE="timeout 3 $sshd -i -e -f $work/sshd_config" between --user "$user" --host-key host.pub --identity user --output /dev/null 'cat /dev/zero' 2>log
+    row "$peer" "a server that is ended" "status 255, error: the server closed the connection" "status $?, $(words log)"
     server_refusals "$peer"
+}
+
+# Both ends are ssh_pipe, with all defaults.
+both_ends() {
+    SERVE="./pipe server --host-key host --user reader --authorized-keys authorized" between --user reader --host-key host.pub --identity user --input data --output answer cat 2>log
+    row "\`ssh_pipe\`, all defaults at both ends" "\`cat\`: $size bytes there and back" "same" "$(same "$(hash_of <answer)" "$want")"
 }
 
 server_refusals() {
@@ -455,6 +487,7 @@ where_the_time_goes() {
 # ---- all of it
 
 stock_client
+both_ends
 if [ -x "$sshd" ] && [ "$(id -u)" = 0 ]; then
     [ -d /run/sshd ] || mkdir /run/sshd
     stock_server
