@@ -2,12 +2,13 @@
 //! one command, the server has commands of its own.
 //!
 //! `Server` and `Client` are `Machine`s, which go from bytes to bytes, and `pump` lets one go on between a reader and a writer. What they decide by
-//! themselves is `ssh_pipe_policy`; everything else that they do is to hand on. `ssh_pipe_commands` makes them from the words of a command line.
+//! themselves is `ssh_pipe_policy`, and what they tell `ssh_pipe_log`; everything else that they do is to hand on. `ssh_pipe_commands` makes them from the
+//! words of a command line.
 //!
 //! ```rust
 //! let mut out = Vec::new(alloc);
 //! let mut server = Server::new(alloc, &Policy::DEFAULT, &rt, host_key, user, &mut out)?;
-//! pump(alloc, &mut server, &mut rt.stdin(), &mut rt.stdout(), out)?;
+//! pump(alloc, &mut server, &mut rt.stdin(), &mut rt.stdout(), out, &mut rt.stderr())?;
 //! ```
 #![tactic(auto)]
 

@@ -117,8 +117,23 @@ fn served<'a, R: Files + AllocGlobal + RandomSource, I: Read, O: Write, E: Write
     };
     let mut out = Vec::new(rt.alloc());
     let mut server = server_of(rt, options, &host_key, user, &mut out)?;
-    pump(rt.alloc(), &mut server, input, output, out, err)?;
-    Ok(server.take_ending().unwrap_or_else(|| server.ending_left()))
+    Ok(server_ending(rt.alloc(), &mut server, input, output, out, err)?)
+}
+
+// A session of this server, and how it ended.
+fn server_ending<S: RandomSource + Drop, I: Read, O: Write, L: Write>(
+    alloc: Global,
+    server: &mut Server<'_, S>,
+    input: &mut I,
+    output: &mut O,
+    out: Vec<u8>,
+    log: &mut L,
+) -> Result<Ending, PipeError> {
+    pump(alloc, server, input, output, out, log)?;
+    match server.take_ending() {
+        Some(ending) => Ok(ending),
+        None => Ok(server.ending_left()),
+    }
 }
 
 // A server with this key that lets in this user, after what it put out.

@@ -6,9 +6,9 @@ ghost use Rattle.ssh_pipe_commands.specs.Status.{code_of};
 /// What a run of the program came to.
 #[derive(Clone, Copy, Debug, PartialEq, Eq)]
 pub enum Status {
-    /// A server's session is over, and nothing was refused.
+    /// A server's session is over as its client wanted it.
     Done,
-    /// A server refused its peer.
+    /// A server refused its peer, or the session broke off.
     Refused,
     /// A fault of usage, file, memory or input and output.
     Fault,

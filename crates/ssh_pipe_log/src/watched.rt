@@ -1,7 +1,5 @@
 //! An end whose turns are told.
 
-ghost use Rattle.std.specs.Prelude.{◌≡◌, IfOk};
-
 use crate::log::Log;
 use ssh_channels::Channels;
 use ssh_end::{Ask, Fault, Turn};
@@ -52,7 +50,8 @@ impl<E: End + Drop> End for Watched<E> {
 
     fn take<'a>(&'a mut self, bytes: &[u8], out: &mut Vec<u8>) -> Result<Turn<'a>, Fault> {
         let turn = self.end.take(bytes, out)?;
-        told(&mut self.log, turn)
+        tell(&mut self.log, &turn)?;
+        Ok(turn)
     }
 
     fn is_dead(&self) -> bool {
@@ -61,7 +60,8 @@ impl<E: End + Drop> End for Watched<E> {
 
     fn ask<'a>(&'a mut self, ask: &Ask<'_>, out: &mut Vec<u8>) -> Result<Turn<'a>, Fault> {
         let turn = self.end.ask(ask, out)?;
-        told(&mut self.log, turn)
+        tell(&mut self.log, &turn)?;
+        Ok(turn)
     }
 
     fn channels(&self) -> &Channels {
@@ -77,12 +77,10 @@ impl<E: End + Drop> End for Watched<E> {
     }
 }
 
-// This turn, once it is told.
-fn told<'a>(log: &mut Log, turn: Turn<'a>) -> Result<Turn<'a>, Fault>
-    ensures { IfOk result (λ answered. answered.used ≡ turn.used) }
-{
-    match log.hear(&turn) {
-        Ok(()) => Ok(turn),
+// Tells of a turn.
+fn tell(log: &mut Log, turn: &Turn<'_>) -> Result<(), Fault> {
+    match log.hear(turn) {
+        Ok(()) => Ok(()),
         Err(_) => Err(Fault::Memory),
     }
 }

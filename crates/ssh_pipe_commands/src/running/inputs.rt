@@ -24,7 +24,9 @@ fn bytes_of<'a, R: Files + AllocGlobal>(
 ) -> Result<Vec<u8>, RunError<'a>> {
     let mut bytes = Vec::new(rt.alloc());
     let read = match fs::open(rt, file) {
-        Ok(opened) => opened.take(most as u64 + 1).read_to_end(&mut bytes),
+        Ok(opened) => opened
+            .take((most as u64).saturating_add(1))
+            .read_to_end(&mut bytes),
         Err(error) => Err(error),
     };
     match read {
