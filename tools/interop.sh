@@ -167,7 +167,7 @@ server_tells() {
     row "$1" "of a password" "reader is let in by the password, $done" "$(server_told)"
     # (the client ends at once and says nothing)
     {
-        timeout -s KILL 3 ssh -F /dev/null -o BatchMode=yes -o UserKnownHostsFile="$work/known" -o GlobalKnownHostsFile=/dev/null \
+        timeout --foreground -s KILL 3 ssh -F /dev/null -o BatchMode=yes -o UserKnownHostsFile="$work/known" -o GlobalKnownHostsFile=/dev/null \
             -o IdentitiesOnly=yes -i "$work/user" -o ProxyCommand="$work/server" reader@example.org source 1000000000000 >/dev/null
     } 2>log
     row "$1" "of a client that is killed" "error: the connection broke off while a channel was open, status 1" "$(server_said)"
