@@ -41,7 +41,7 @@ pub fn pump<M: Machine, I: Read, O: Write, L: Write>(
     pumped
 }
 
-// The same, but for what is told of the last step.
+// The same without what is told of the last step.
 fn exchange<M: Machine, I: Read, O: Write, L: Write>(
     machine: &mut M,
     input: &mut I,
