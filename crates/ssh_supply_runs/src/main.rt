@@ -1,0 +1,102 @@
+//! A client and a server over real parts exchange keys three times, each kept fed by a `KeySupply` over bytes that only count. Printed is the draw that each
+//! cookie and each public value is of. The first draw of a supply gives the first cookie, the second the first secret, the third the key of the padding, and each
+//! exchange of keys takes the next two. So a draw that is used twice, one that is left out, or a secret that was never drawn is seen here.
+#![tactic(auto)]
+
+mod counted;
+mod line;
+mod parts;
+
+use divrelca::{AcceptedKey, Ask, Ed25519Signer, Ed25519Trust, UserAsk};
+use line::{Line, Seen, ask, take_all};
+use parts::{client_end, server_end};
+use std::alloc::Global;
+
+// The draws of the client count from 1 on, and those of the server after this one.
+const BEFORE_SERVER: u8 = 100;
+
+fn main(rt: HostRuntime) -> anyhow::Result<()> {
+    let alloc = rt.alloc();
+    let mut client = Line::new(alloc, 0);
+    let mut server = Line::new(alloc, BEFORE_SERVER);
+    play(alloc, &mut client, &mut server)?;
+    show(&rt, "client", &client.seen)?;
+    show(&rt, "server", &server.seen)
+}
+
+// The session: keys are exchanged, the user is let in, and each end asks for an exchange in turn.
+fn play(alloc: Global, client: &mut Line, server: &mut Line) -> anyhow::Result<()> {
+    let host = Ed25519Signer::new(&[11; 32]);
+    let user = Ed25519Signer::new(&[12; 32]);
+    let trust = trust_in(&host)?;
+    let accepted = [AcceptedKey {
+        user: b"u",
+        public: trust_in(&user)?.public,
+    }];
+    let login = UserAsk::Sign {
+        user: b"u",
+        algorithm: b"ssh-ed25519",
+        key: user.public_key(),
+    };
+    let mut at_client = client_end(alloc, &mut client.supply, trust, user, &mut client.out)?;
+    let mut at_server = server_end(alloc, &mut server.supply, host, &accepted, &mut server.out)?;
+    let asks = [
+        (None, Some(Ask::Service)),
+        (None, Some(Ask::User(login))),
+        (None, Some(Ask::Rekey)),
+        (Some(Ask::Rekey), None),
+        (None, None),
+    ];
+    for (of_server, of_client) in &asks {
+        for _ in 0..3 {
+            take_all(alloc, &mut at_server, server, client)?;
+            take_all(alloc, &mut at_client, client, server)?;
+        }
+        if let Some(of_server) = of_server {
+            ask(&mut at_server, server, of_server)?;
+        }
+        if let Some(of_client) = of_client {
+            ask(&mut at_client, client, of_client)?;
+        }
+    }
+    Ok(())
+}
+
+// Trust in the key of this signer.
+fn trust_in(signer: &Ed25519Signer) -> anyhow::Result<Ed25519Trust> {
+    Ed25519Trust::from_key(signer.public_key()).ok_or_else(|| anyhow::Error::msg(
+        "the key is of small order",
+    ))
+}
+
+// Prints what the peer of an end saw of its draws.
+fn show<R: Print>(rt: &R, side: &str, seen: &Seen) -> anyhow::Result<()> {
+    for cookie in seen.cookies.iter() {
+        match draw_of(cookie) {
+            Some(draw) => println!(rt; "{side}: a cookie of draw {draw}")?,
+            None => println!(rt; "{side}: a cookie of no draw")?,
+        }
+    }
+    for point in seen.points.iter() {
+        match secret_of(point.as_slice()) {
+            Some(draw) => println!(rt; "{side}: a public value of the secret of draw {draw}")?,
+            None => println!(rt; "{side}: a public value of no draw's secret")?,
+        }
+    }
+    Ok(())
+}
+
+// The draw that filled these bytes.
+fn draw_of(cookie: &[u8; 16]) -> Option<u8> {
+    let draw = cookie[0];
+    if *cookie == [draw; 16] {
+        Some(draw)
+    } else {
+        None
+    }
+}
+
+// The draw that filled the secret of this public value (RFC 7748 section 6.1).
+fn secret_of(point: &[u8]) -> Option<u8> {
+    (1..=u8::MAX).find(|draw| x25519::public(&[*draw; 32]).as_slice() == point)
+}
