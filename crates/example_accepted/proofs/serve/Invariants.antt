@@ -1,0 +1,14 @@
+use Rattle.std.proofs.Common.{◌-◌, ◌≤◌, List, length}
+use Rattle.ssh_model.specs.Sessions.Items.{Item}
+use Rattle.ssh_model.specs.Sessions.Parties.{Parties}
+use Rattle.example_accepted.specs.Serving.{Serves}
+use Rattle.example_accepted.proofs.serve.Given as goal
+
+abbrev pub invariant-loop-at : goal.invariant-loop-at
+invariant-loop-at g l = record {
+  within : l.at ≤ length l.bytes;
+  going : (p : Parties g.row.P-Sealing-Key.Denot) (history : List Item) → Serves g.P.Sealing.Sealing.crypto g.P.Agreement.Agreement.public_of g.P.Agreement.Agreement.shared_of g.P.HostSigner.HostSigner.key_of g.P.HostSigner.HostSigner.signature_of g.U.UserJudge.verdicts p history l.fn.server l.is_in l.server;
+}
+
+abbrev pub decreases-loop-at : goal.decreases-loop-at
+decreases-loop-at g l = length l.bytes - l.at

@@ -1,0 +1,58 @@
+-- What the loop of a server promises.
+use Rattle.std.specs.Prelude.{◌≡◌, ◌++◌, ℕ, Bool, true, false, Option, Some, List}
+use Rattle.ssh_model.specs.Authentication.Requests.{Judge}
+use Rattle.ssh_model.specs.End.State.{EndState}
+use Rattle.ssh_model.specs.Lists.{IsIn}
+use Rattle.ssh_model.specs.Sessions.AnyPeer.{AcceptedRequest}
+use Rattle.ssh_model.specs.Sessions.Items.{Fact.Accepted, Item, Item.Told}
+use Rattle.ssh_model.specs.Sessions.Parties.{Parties}
+use Rattle.ssh_model.specs.Side.{Side.Server}
+use Rattle.ssh_model.specs.Wire.Sealing.{Crypto}
+use Rattle.ssh_layers.specs.Layers.{Layers}
+use Rattle.ssh_layers.specs.Sessions.{end_of}
+use Rattle.ssh_transport_machine.specs.State.{State}
+use Rattle.ssh_end.specs.Ends.{EndValue}
+use Rattle.ssh_end.specs.Parts.{AreServerLayers, IsServer, exchange_parts}
+use Rattle.ssh_end.specs.Places.{StandsAfter}
+use Rattle.ssh_end.specs.declared.server_role.ServerRole.{ServerRole}
+use Rattle.ssh_end.specs.declared.told.Told.{Told as Tells}
+use Rattle.ssh_end.specs.declared.told.Told.TheVariants as tells
+
+-- A user is told as accepted.
+abbrev pub is_told_in : Option Tells → Bool
+is_told_in (Some (tells.Accepted user)) = true
+is_told_in other = false
+
+-- A user was let in: who was told is the user of a request that the judge accepts, at its place of the history.
+pub record LetIn {K : Type 0} (p : Parties K) (history : List Item) : Type 0 where
+  pub user : List ℕ
+  pub told : IsIn (Told (Accepted user)) history
+  pub request : AcceptedRequest p history
+  pub user_is : request.user ≡ user
+
+-- The server went on with these items, after which it stands. Where it says that a user was let in, one was.
+pub record ServedTo {K : Type 0} (p : Parties K) (parts layers : Type 0) (history : List Item) (is_in : Bool)
+    (machine : State K) (e : EndState K) : Type 0 where
+  pub items : List Item
+  pub place : StandsAfter p Server parts layers (items ++ history) machine e
+  pub let_in : is_in ≡ true → LetIn p (items ++ history)
+
+-- the parts of a server, as those of parties
+abbrev pub PartsOf : {P U S F A H K : Type 0} → Crypto K → (point : A → List ℕ → List ℕ) →
+    (shared : A → List ℕ → List ℕ → Option (List ℕ)) → (key : H → List ℕ → List ℕ) →
+    (signature : H → List ℕ → List ℕ → List ℕ) → (verdicts : U → Judge) → Parties K →
+    ServerRole P U S F A H K → Type 0
+PartsOf c point shared key signature verdicts p role =
+    IsServer p c (exchange_parts point shared key signature role.exchange.agreement role.exchange.host_signer)
+    (verdicts role.user)
+
+-- From a place at which a server stands it went on so.
+abbrev pub Serves : {P U S F A H K : Type 0} → Crypto K → (point : A → List ℕ → List ℕ) →
+    (shared : A → List ℕ → List ℕ → Option (List ℕ)) → (key : H → List ℕ → List ℕ) →
+    (signature : H → List ℕ → List ℕ → List ℕ) → (verdicts : U → Judge) → Parties K → List Item →
+    EndValue K (ServerRole P U S F A H K) Layers → Bool → EndValue K (ServerRole P U S F A H K) Layers → Type 0
+Serves c point shared key signature verdicts p history old is_in new =
+    StandsAfter p Server (PartsOf c point shared key signature verdicts p old.role) (AreServerLayers p old.layers) history
+    old.machine (end_of old.machine.kept old.layers) →
+    ServedTo p (PartsOf c point shared key signature verdicts p new.role) (AreServerLayers p new.layers) history is_in
+    new.machine (end_of new.machine.kept new.layers)
