@@ -29,8 +29,10 @@ mod playing;
 mod safety;
 mod standard;
 mod sweeping;
+mod watching;
 
 pub use comparison::{Comparison, compare};
 pub use course::{Course, play_through};
 pub use playing::{Played, play};
 pub use sweeping::{Tally, sweep};
+pub use watching::{Watched, origin_of, watch};

@@ -31,6 +31,8 @@ pub enum Task {
     Check,
     /// It is played with each byte changed in turn.
     Sweep,
+    /// What happens as it is played is drawn.
+    Draw,
 }
 
 /// Where a script stands.
@@ -49,7 +51,7 @@ pub enum UsageFault {
     #[error("{0}")]
     Words(clap::Error),
     /// A word is missing.
-    #[error("no call: the words are decode HEX, play FILE, check FILE or sweep FILE")]
+    #[error("no call: the words are decode HEX, play FILE, check FILE, sweep FILE or draw FILE")]
     NoCall,
     #[error("out of memory")]
     Memory(#[from(alloc)] AllocError),
@@ -76,6 +78,7 @@ pub fn call_of<'a, S: AsStr>(alloc: Global, words: &'a [S]) -> Result<Call<'a>, 
         "play" => script_call(Task::Play, rest),
         "check" => script_call(Task::Check, rest),
         "sweep" => script_call(Task::Sweep, rest),
+        "draw" => script_call(Task::Draw, rest),
         _ => None,
     };
     call.ok_or(UsageFault::NoCall)
@@ -167,6 +170,8 @@ const CHECK: &str =
 const SWEEP: &str =
     "Plays a session with each byte changed, left out and doubled in turn: N runs, M unsafe";
 
+const DRAW: &str = "Plays a script and prints what happened as a picture, an SVG";
+
 fn command<'a>(alloc: Global) -> Result<Command<'a>, AllocError> {
     Command::new(alloc, PROGRAM)
         .bin_name(PROGRAM)?
@@ -177,7 +182,8 @@ fn command<'a>(alloc: Global) -> Result<Command<'a>, AllocError> {
         .subcommand(decode_command(alloc)?)?
         .subcommand(script_command(alloc, "play", PLAY)?)?
         .subcommand(script_command(alloc, "check", CHECK)?)?
-        .subcommand(script_command(alloc, "sweep", SWEEP)?)
+        .subcommand(script_command(alloc, "sweep", SWEEP)?)?
+        .subcommand(script_command(alloc, "draw", DRAW)?)
 }
 
 fn decode_command<'a>(alloc: Global) -> Result<Command<'a>, AllocError> {

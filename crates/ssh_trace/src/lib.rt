@@ -7,6 +7,7 @@ mod blame;
 pub mod command_line;
 mod decode;
 mod deliver;
+mod draw;
 mod epoch_end;
 mod epoch_pair;
 mod epoch_player;
@@ -18,6 +19,7 @@ mod transcript;
 
 pub use answer::{report, version_to};
 pub use decode::decode_to;
+pub use draw::draw_to;
 pub use epoch_pair::EpochPair;
 pub use history::{Done, Event, Item, Memory, Transcript};
 pub use play::{check_to, play_to, sweep_to};

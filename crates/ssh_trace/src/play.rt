@@ -93,14 +93,20 @@ fn swept<R: Read>(alloc: Global, script: &mut R) -> Result<Answer, ScriptFault> 
     })
 }
 
-// The script that a reader gives. No more is read than shows that it is too long.
+// The script that a reader gives.
 fn script_of<R: Read>(alloc: Global, script: &mut R) -> Result<Script, ScriptFault> {
+    let text = text_of(alloc, script)?;
+    Script::read(alloc, text.as_slice())
+}
+
+/// The text that a reader gives. No more is read than shows that it is too long.
+pub(crate) fn text_of<R: Read>(alloc: Global, script: &mut R) -> Result<Vec<u8>, ScriptFault> {
     let mut text = Vec::new(alloc);
     let mut limited = script.by_ref().take(MOST_SCRIPT_BYTES as u64 + 1);
     if let Err(error) = limited.read_to_end(&mut text) {
         return Err(ScriptFault::Unreadable(error));
     }
-    Script::read(alloc, text.as_slice())
+    Ok(text)
 }
 
 fn played(alloc: Global, script: &Script) -> Result<Played, ScriptFault> {

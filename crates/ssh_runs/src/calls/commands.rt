@@ -2,7 +2,7 @@
 //! transcript says just that.
 
 use super::outcome::Outcome;
-use ssh_trace::{Status, check_to, decode_to, play_to};
+use ssh_trace::{Status, check_to, decode_to, draw_to, play_to};
 use std::alloc::{AllocError, Global};
 
 /// A command.
@@ -12,6 +12,8 @@ pub enum Command {
     /// Of a session or of one epoch.
     Play(&'static str),
     Check(&'static str),
+    /// Of one epoch: of a session, no picture says for what an end died.
+    Draw(&'static str),
 }
 
 /// Each of them. A sweep plays some thousand times, and reads and says what it does as the others do.
@@ -21,6 +23,7 @@ pub const COMMANDS: &[Command] = &[
     Command::Play(EPOCH),
     Command::Check(SESSION),
     Command::Check(EPOCH),
+    Command::Draw(EPOCH),
 ];
 
 const SESSION: &str = "\
@@ -54,7 +57,7 @@ struct Said {
 }
 
 // More bytes than any of the commands prints.
-const ROOM: usize = 1024;
+const ROOM: usize = 8192;
 
 /// Carries the command out twice, of which one may be refused memory.
 ///
@@ -85,6 +88,9 @@ fn say(alloc: Global, command: &Command) -> Result<Said, AllocError> {
         }
         Command::Play(script) => play_to(alloc, &mut script.as_bytes(), &mut out, &mut err),
         Command::Check(script) => check_to(alloc, &mut script.as_bytes(), &mut out, &mut err),
+        Command::Draw(script) => {
+            draw_to(alloc, "script", &mut script.as_bytes(), &mut out, &mut err)
+        }
     };
     Ok(Said { status, out, err })
 }

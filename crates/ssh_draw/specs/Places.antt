@@ -1,0 +1,80 @@
+-- Where the texts of a picture stand, in tenths of a pixel.
+use Rattle.std.specs.Prelude.{◌≡◌, ◌≢◌, ℕ, ◌+◌, ◌-◌, ◌*◌, ◌<◌, ◌≤◌, Bool, true, false}
+use Rattle.ssh_draw.specs.declared.places.Column.{Column}
+use Rattle.ssh_draw.specs.declared.places.Column.TheVariants.{Whole, ClientOuter, ClientInner, Network, ServerInner, ServerOuter}
+use Rattle.ssh_draw.specs.declared.layout.Layout.{Layout}
+use Rattle.ssh_draw.specs.declared.places.Place.{Place}
+use Rattle.ssh_draw.specs.declared.places.Spot.{Spot}
+
+-- where a column begins
+abbrev pub left_of : Layout → Column → ℕ
+left_of layout Whole = 160
+left_of layout ClientOuter = 160
+left_of layout ClientInner = 340 + 73 * layout.client_outer
+left_of layout Network = 460 + 73 * layout.client_outer + 73 * layout.client_inner
+left_of layout ServerInner = 8260 - 73 * layout.server_outer - 73 * layout.server_inner
+left_of layout ServerOuter = 8440 - 73 * layout.server_outer
+
+-- how wide it is
+abbrev pub width_of : Layout → Column → ℕ
+width_of layout Whole = 8280
+width_of layout ClientOuter = 73 * layout.client_outer
+width_of layout ClientInner = 73 * layout.client_inner
+width_of layout Network =
+    7680 - 73 * layout.client_outer - 73 * layout.client_inner - 73 * layout.server_inner - 73 * layout.server_outer
+width_of layout ServerInner = 73 * layout.server_inner
+width_of layout ServerOuter = 73 * layout.server_outer
+
+-- where it ends
+abbrev pub right_of : Layout → Column → ℕ
+right_of layout column = left_of layout column + width_of layout column
+
+-- where a text of a spot stands
+abbrev pub place_of : Layout → Spot → Place
+place_of layout spot = record { left = left_of layout spot.column; top = 100 + 200 * spot.line; width = width_of layout spot.column; height = 200 }
+
+-- the height of a picture
+abbrev pub height_of : Layout → ℕ
+height_of layout = 200 + 200 * (layout.head + layout.rows + layout.foot)
+
+-- The line is one of the rows.
+abbrev pub IsRow : Layout → ℕ → Type 0
+IsRow layout line = (layout.head ≤ line) × (line < layout.head + layout.rows)
+
+-- Rows have columns, and other lines are whole.
+abbrev pub HasColumn : Layout → ℕ → Column → Type 0
+HasColumn layout line Whole = IsRow layout line → ⊥
+HasColumn layout line _ = IsRow layout line
+
+-- The picture has this line, and the line this column.
+pub record Stands (layout : Layout) (spot : Spot) : Type 0 where
+  pub line : spot.line < layout.head + layout.rows + layout.foot
+  pub column : HasColumn layout spot.line spot.column
+
+-- A place is within a picture of this height.
+pub record IsInside (height : ℕ) (place : Place) : Type 0 where
+  pub right : place.left + place.width ≤ 8600
+  pub below : place.top + place.height ≤ height
+
+-- whether a column stands at the left of another
+abbrev pub is_before : Column → Column → Bool
+is_before Whole _ = false
+is_before ClientOuter ClientInner = true
+is_before ClientOuter Network = true
+is_before ClientOuter ServerInner = true
+is_before ClientOuter ServerOuter = true
+is_before ClientInner Network = true
+is_before ClientInner ServerInner = true
+is_before ClientInner ServerOuter = true
+is_before Network ServerInner = true
+is_before Network ServerOuter = true
+is_before ServerInner ServerOuter = true
+is_before _ _ = false
+
+-- A place ends where the other begins, or above.
+abbrev pub EndsAbove : Place → Place → Type 0
+EndsAbove place other = place.top + place.height ≤ other.top
+
+-- A place ends where the other begins, or at the left of it.
+abbrev pub EndsBefore : Place → Place → Type 0
+EndsBefore place other = place.left + place.width ≤ other.left
