@@ -29,11 +29,13 @@ test: ## The whole gate, everything from nothing, a misuse that has to be refuse
 	$(RT) ci
 	@sh tools/misuse.sh
 	@python3 tools/cases.py
+	@python3 tools/pictures.py drawn
 	@PROGRAM=$(CURDIR)/crates/ssh_runs/out/ssh_runs sh tools/memory.sh
 
 cases: ## Runs the programs on their cases: words, scripts, files, what they print, and exit statuses. The first time they are proved and built.
 	@sh tools/build.sh ssh_trace ssh_pipe ssh_embedding
 	@python3 tools/cases.py
+	@python3 tools/pictures.py drawn
 
 times: ## The gate without allocations refused, with the processor time of each of its checks; what it says goes to build/gate.log.
 	@mkdir -p build

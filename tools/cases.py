@@ -6,7 +6,9 @@ alone may read, as is right for keys.
 
     $ ssh_trace play script     the command, a line of the shell
     < pass c s 11               a line of the file `script`; \\t, \\r and \\xNN stand for such bytes
+    & examples/whole_session.txt    a file of this repository, which is there by its name alone
     1 c sent line 9             a line of standard output
+    @ docs/pictures/NAME.svg    what standard output is, as a file of this repository
     2 error: ..                 a line of standard error
     ~ Usage: ssh_trace          what standard error has somewhere, where its lines are left out
     = 1                         the exit status, which is 0 where it is left out
@@ -14,7 +16,7 @@ alone may read, as is right for keys.
 A backslash at the end of a line of the file or of standard output is for no newline there.
 
 `cases.py CRATE FOLDER` runs nothing, and writes those of one crate that are calls of the program alone as `rt try --cases` takes them: an input, which is the file `script` too, its words and its output
-for each.
+for each. It prints a line NAME=FILE for each file of this repository that they are given.
 Sweeps, which take minutes where all is checked as it runs, are left out."""
 
 import os
@@ -27,8 +29,8 @@ import tempfile
 from pathlib import Path
 
 TOP = Path(__file__).resolve().parent.parent
-KINDS = "$<12~="
-CALL = re.compile(r"\w+(?! sweep)(?: [\w-]+)*(?: <script)?")
+KINDS = "$<&1@2~="
+CALL = re.compile(r"\w+(?! sweep)(?: [\w.-]+)*(?: <script)?")
 
 
 class Case:
@@ -42,12 +44,18 @@ class Case:
     def script(self):
         return re.sub(rb"\\(t|r|x[0-9a-f]{2})", lambda it: unescaped(it[1].decode()), joined(self.lines["<"]).encode())
 
+    def files(self):
+        """The files of this repository that the case is given."""
+        return [TOP / name for name in self.lines["&"]]
+
     def output(self):
-        return joined(self.lines["1"])
+        return "".join((TOP / name).read_text() for name in self.lines["@"]) or joined(self.lines["1"])
 
     def fault(self, path, folder):
         """What is wrong with a run of the case, or nothing."""
         (folder / "script").write_bytes(self.script())
+        for file in self.files():
+            shutil.copy(file, folder)
         how = {"stdin": subprocess.DEVNULL, "stdout": subprocess.PIPE, "stderr": subprocess.PIPE, "start_new_session": True}
         shell = subprocess.Popen(["sh", "-c", self.command()], cwd=folder, env=path, **how)
         try:
@@ -99,7 +107,9 @@ def cases_of(file):
 
 
 def write(cases, folder):
-    """Writes the cases that are calls of the program alone, each by a number, as inputs of `rt try`."""
+    """Writes the cases that are calls of the program alone, each by a number, as inputs of `rt try`, and prints which files they are given, by name and place."""
+    for file in sorted({file for case in cases for file in case.files()}):
+        print(f"{file.name}={file}")
     for number, case in enumerate(cases):
         if CALL.fullmatch(case.command()):
             words = ["{}" if word == "script" else word for word in case.command().split()[1:] if word != "<script"]

@@ -22,9 +22,14 @@ fail() {
 # Runs the program of the crate in this folder on its cases.
 run_cases() {
     mkdir "$1.cases"
-    python3 "$top/tools/cases.py" "$crate" "$1.cases"
-    python3 "$top/tools/printed.py" trace "$1.cases"
-    "$rt" try --steps 1 --seconds 600 --cases "$1.cases" </dev/null >"$1" 2>&1 || fail "$crate: its cases" "$1"
+    said=$1
+    python3 "$top/tools/cases.py" "$crate" "$said.cases" >"$said.files"
+    python3 "$top/tools/printed.py" trace "$said.cases"
+    python3 "$top/tools/pictures.py" write "$said.cases"
+    set -- --steps 1 --seconds 600 --cases "$said.cases"
+    while IFS= read -r file; do set -- "$@" --data "$file"; done <"$said.files"
+    "$rt" try "$@" </dev/null >"$said" 2>&1 || fail "$crate: its cases" "$said"
+    python3 "$top/tools/pictures.py" printed "$said" >"$said.overlap" || fail "$crate: its pictures" "$said.overlap"
 }
 
 # Runs the program of the crate in this folder as the gate does, and compares what it prints. The sweeps of sessions, which take minutes where
@@ -90,6 +95,7 @@ sh "$top/tools/imports.sh" || fail "a crate cites the proofs of another"
 python3 "$top/tools/believed.py" check || fail "docs/BELIEVED.md is not made of the specs as they are"
 python3 "$top/tools/embedding.py" check || fail "docs/EMBEDDING.md has not the program as it is"
 python3 "$top/tools/printed.py" names || fail "a page names what is not there"
+python3 "$top/tools/pictures.py" stored || fail "texts of a stored picture overlap"
 mkdir "$work/strangers"
 python3 "$top/tools/stranger.py" "$work/strangers"
 for script in "$work"/strangers/*; do
