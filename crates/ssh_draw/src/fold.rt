@@ -57,7 +57,7 @@ impl Fold {
         let line = if self.rows <= MOST || row < FIRST {
             row
         } else {
-            FIRST + (row + LAST + 1).saturating_sub(self.rows)
+            FIRST + (LAST + 1).saturating_sub(self.rows - row)
         };
         line as u32
     }
