@@ -1,12 +1,14 @@
 //! Each public call that may answer want of memory, and those between packets and channels that need none.
 //!
-//! A call that memory is refused leaves what it was given as it was, gives nothing, and finds memory when it is made again. A transport is over instead, with nothing
+//! A call that memory is refused leaves what it was given as it was, gives nothing, and finds memory when it is made again. A transport and an end are over instead, with nothing
 //! put out, and a pair of ends has failed. Between `taking` and `taken` stand the calls that need no memory.
 
 mod appending;
 mod changing;
 mod commands;
+mod ends;
 mod failing;
+mod layered;
 mod making;
 mod outcome;
 mod transports;
@@ -16,7 +18,9 @@ use crate::status::Status;
 use appending::{APPENDING, append};
 use changing::{CHANGING, change};
 use commands::{COMMANDS, carry_out};
+use ends::converse;
 use failing::{FAILING, fail};
+use layered::{LAYERED, layer};
 use making::{MAKING, make};
 use outcome::Tally;
 use transports::play;
@@ -35,6 +39,9 @@ pub fn run<R: Print + AllocGlobal>(rt: &R) -> Status {
     for call in CHANGING {
         tally.count(rt, call, change(alloc, *call));
     }
+    for call in LAYERED {
+        tally.count(rt, call, layer(alloc, *call));
+    }
     for call in FAILING {
         tally.count(rt, call, fail(alloc, *call));
     }
@@ -42,6 +49,7 @@ pub fn run<R: Print + AllocGlobal>(rt: &R) -> Status {
         tally.count(rt, command, carry_out(alloc, command));
     }
     tally.count(rt, &"transports", play(alloc));
+    tally.count(rt, &"ends", converse(alloc));
     tally.count(rt, &"calls without memory", make_without(rt));
     tally.finish(rt)
 }

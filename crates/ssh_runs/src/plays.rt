@@ -1,23 +1,23 @@
 //! Two sessions, one of them with a second exchange of keys, each played twice and compared. Where an allocation is refused, one of the two plays meets that,
-//! and it has to end in one of two ways. Either it says that memory was refused, and nothing else. Or one end has died, the lines before that are those of the
-//! other play, and what each end took is still a prefix of what the other sent.
+//! and it has to end in one of two ways. Either it says that memory was refused, and nothing else. Or one end has died and the other has not: what was done
+//! before is what the other play did, the end put out the bytes of what it had sent before that call and no more, and the payloads that each end took after
+//! its first NEWKEYS are a prefix of those that the other sent after its own.
+//!
+//! A play that met a refusal and is the same as the other one is allowed too, where a smaller allocation made up for the one refused: docs/DECISIONS.md says which these are.
 
-mod prefix;
+mod bytes;
 
 use crate::status::Status;
-use prefix::is_prefix_of_sent;
-use ssh_play::{Played, play};
+use bytes::sent_bytes;
+use ssh_pair::{Done, Item};
+use ssh_play::{Course, play_through};
 use ssh_script::{Script, ScriptFault};
-use std::alloc::Global;
-
-// Each end has a cookie and a secret for a second exchange of keys. They are fed before anything can be refused, since an end that died is fed no more.
-const FEEDS: &str = "\
-feed c a2
-feed s b2
-";
+use ssh_types::Side;
+use std::alloc::{AllocError, Global};
 
 // The user u is let in.
 const LOGIN: &str = "\
+user u p
 pass c s all
 pass s c all
 pass c s all
@@ -44,8 +44,10 @@ pass c s all
 pass s c all
 ";
 
-// A second exchange of keys.
+// A second exchange of keys. An end that died before is fed no more, and that line is left out.
 const REKEY: &str = "\
+feed c a2
+feed s b2
 ask c rekey
 pass c s all
 pass s c all
@@ -57,10 +59,10 @@ pass c s all
 /// Plays and compares. A play that says that memory was refused counts as before, and one in which an end died as within.
 pub fn run<R: Print + AllocGlobal>(rt: &R) -> Status {
     let mut status = Status::Done;
-    for (feeds, rest) in [("", CHANNEL), (FEEDS, REKEY)] {
-        let one = played(rt.alloc(), feeds, rest);
-        let other = played(rt.alloc(), feeds, rest);
-        match judged(&one, &other) {
+    for rest in [CHANNEL, REKEY] {
+        let one = played(rt.alloc(), rest);
+        let other = played(rt.alloc(), rest);
+        match judged(rt.alloc(), &one, &other) {
             Status::Done => {}
             Status::Wrong => {
                 let _ = println!(rt; "wrong");
@@ -75,43 +77,83 @@ pub fn run<R: Print + AllocGlobal>(rt: &R) -> Status {
     status
 }
 
-// The lines of the transcript of a script with these feeds, which goes on so behind the user is let in.
-fn played(alloc: Global, feeds: &str, rest: &str) -> Result<Played, ScriptFault> {
-    let script = format!(in alloc; "user u p\n{feeds}{LOGIN}{rest}")?;
+// What both ends do in a script that goes on so once the user is let in.
+fn played(alloc: Global, rest: &str) -> Result<Course, ScriptFault> {
+    let script = format!(in alloc; "{LOGIN}{rest}")?;
     match Script::read(alloc, script.as_bytes())? {
-        Script::Session(script) => play(alloc, &script),
+        Script::Session(script) => play_through(alloc, &script),
         Script::Epoch(_) => Err(ScriptFault::Epoch),
     }
 }
 
-// One allocation is refused at most, so one of the two plays is whole.
-fn judged(one: &Result<Played, ScriptFault>, other: &Result<Played, ScriptFault>) -> Status {
+// One allocation is refused at most, so one of the two plays is whole, and the comparison meets a refusal only where both are.
+fn judged(
+    alloc: Global,
+    one: &Result<Course, ScriptFault>,
+    other: &Result<Course, ScriptFault>,
+) -> Status {
     match (one, other) {
-        (Ok(one), Ok(other)) => of_lines(one.lines.as_str(), other.lines.as_str()),
+        (Ok(one), Ok(other)) => compared(alloc, one, other).unwrap_or(Status::Before),
         (Ok(_), Err(ScriptFault::Memory)) | (Err(ScriptFault::Memory), Ok(_)) => Status::Before,
         _ => Status::Wrong,
     }
 }
 
-fn of_lines(one: &str, other: &str) -> Status {
-    if one == other {
-        return Status::Done;
-    }
-    for (mine, yours) in one.lines().zip(other.lines()) {
-        if mine != yours {
-            let short = if mine.ends_with(" died") { one } else { other };
-            return of_death(mine, yours, short);
-        }
-    }
-    Status::Wrong
-}
-
-// The first lines that differ, of which one says that an end died, and that play's transcript.
-fn of_death(mine: &str, yours: &str, transcript: &str) -> Status {
-    let has_died = mine.ends_with(" died") != yours.ends_with(" died");
-    if has_died && is_prefix_of_sent(transcript) {
+// Compares two plays. The one in which an end died did less than the other.
+fn compared(alloc: Global, one: &Course, other: &Course) -> Result<Status, AllocError> {
+    let is_right = match (death_in(one), death_in(other)) {
+        (None, None) => return Ok(of_whole(one, other)),
+        (Some(death), None) => is_cut(one, other, death),
+        (None, Some(death)) => is_cut(other, one, death),
+        (Some(_), Some(_)) => false,
+    };
+    Ok(if is_right && one.is_safe(alloc)? && other.is_safe(alloc)? {
         Status::Within
     } else {
         Status::Wrong
+    })
+}
+
+// Two plays in which no end died are the same.
+fn of_whole(one: &Course, other: &Course) -> Status {
+    let are_same = one.items == other.items
+        && one.client_bytes == other.client_bytes
+        && one.server_bytes == other.server_bytes;
+    if are_same && is_whole(one) {
+        Status::Done
+    } else {
+        Status::Wrong
     }
+}
+
+// Whether each end put out the bytes of what it sent.
+fn is_whole(course: &Course) -> bool {
+    let items = course.items.as_slice();
+    sent_bytes(items, Side::Client) == course.client_bytes.len()
+        && sent_bytes(items, Side::Server) == course.server_bytes.len()
+}
+
+// The index at which an end died.
+fn death_in(course: &Course) -> Option<usize> {
+    course.items.iter().position(|done| is_death(done))
+}
+
+fn is_death(done: &Done) -> bool {
+    done.item == Item::Died
+}
+
+// Whether a play is the beginning of another one until one of its ends died at this index, and alone.
+fn is_cut(cut: &Course, whole: &Course, death: usize) -> bool {
+    let items = cut.items.as_slice();
+    let (Some(before), Some(died)) = (items.get(..death), items.get(death)) else {
+        return false;
+    };
+    let deaths = items.iter().filter(|done| is_death(done)).count();
+    let put_out = cut.put_out(died.side);
+    deaths == 1
+        && whole.items.as_slice().starts_with(before)
+        && whole.put_out(died.side).starts_with(put_out)
+        && put_out.len() == sent_bytes(before, died.side)
+        && is_whole(cut)
+        && is_whole(whole)
 }

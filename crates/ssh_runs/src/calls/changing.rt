@@ -1,17 +1,17 @@
 //! Calls that change a value, and leave it as it was where memory is refused.
 
-use super::outcome::Outcome;
+use super::outcome::{Outcome, came};
 use ssh_auth::{
     AskError as UserAskError, AuthClient, AuthServer, ServerAnswer, TakeError as AuthTakeError,
     UserAsk,
 };
 use ssh_channels::{Ask, AskError, Channels, TakeError};
 use ssh_message::{Message, decode};
-use ssh_packet::MacOnly;
-use ssh_toy_setup::CREDENTIALS;
+use ssh_packet::{HmacKey, MacOnly};
+use ssh_toy_setup::{CLIENT_COOKIE, CREDENTIALS, config, settings};
 use ssh_toys::{ToyFiller, ToyJudge, ToyUserSigner};
-use ssh_transport::PacketSender;
-use ssh_types::{Name, NameList, NameListBuf};
+use ssh_transport::{PacketSender, put_kexinit};
+use ssh_types::{Name, NameList, NameListBuf, Side};
 use std::alloc::{AllocError, Global};
 
 /// A call that changes a value.
@@ -19,6 +19,8 @@ use std::alloc::{AllocError, Global};
 pub enum Changing {
     PushedName,
     SentPacket,
+    SentNewKeys,
+    PutKexInit,
     AskedChannel,
     TakenChannel,
     SignedRequest,
@@ -29,6 +31,8 @@ pub enum Changing {
 pub const CHANGING: &[Changing] = &[
     Changing::PushedName,
     Changing::SentPacket,
+    Changing::SentNewKeys,
+    Changing::PutKexInit,
     Changing::AskedChannel,
     Changing::TakenChannel,
     Changing::SignedRequest,
@@ -44,19 +48,12 @@ pub fn change(alloc: Global, call: Changing) -> Result<Outcome, AllocError> {
     match call {
         Changing::PushedName => push_name(alloc),
         Changing::SentPacket => Ok(send_packet(alloc)),
+        Changing::SentNewKeys => Ok(send_newkeys(alloc)),
+        Changing::PutKexInit => put_offer(alloc),
         Changing::AskedChannel => ask_channel(alloc),
         Changing::TakenChannel => take_channel(alloc),
         Changing::SignedRequest => Ok(sign_request(alloc)),
         Changing::JudgedRequest => judge_request(alloc),
-    }
-}
-
-// Done where the first call found memory, refused where the second did and the value between them is as it was.
-fn came(is_first: bool, is_kept: bool, is_second: bool) -> Outcome {
-    match (is_first, is_kept && is_second) {
-        (true, _) => Outcome::Done,
-        (false, true) => Outcome::Refused,
-        (false, false) => Outcome::Wrong,
     }
 }
 
@@ -87,7 +84,59 @@ fn send_packet(alloc: Global) -> Outcome {
     came(is_first, is_kept, is_second && sender.count() == 1)
 }
 
-const OPEN: Ask<'static> = Ask::Open {
+// The epoch is the old one where memory is refused, and the next packet is still in clear.
+fn send_newkeys(alloc: Global) -> Outcome {
+    let mut sender = PacketSender::<MacOnly>::new();
+    let mut out = Vec::new(alloc);
+    if renew(&mut sender, &mut out) {
+        return Outcome::Done;
+    }
+    let is_kept = out.is_empty() && sender.count() == 0 && sender.epoch() == 0;
+    let is_second = renew(&mut sender, &mut out)
+        && out.as_slice().starts_with(b"\0\0\0\x0c\x0a\x15");
+    came(
+        false,
+        is_kept,
+        is_second && sender.count() == 0 && sender.epoch() == 1,
+    )
+}
+
+// Whether NEWKEYS found memory.
+fn renew(sender: &mut PacketSender<MacOnly>, out: &mut Vec<u8>) -> bool {
+    if sender.is_spent() || sender.epoch() != 0 {
+        return false;
+    }
+    let key = HmacKey::new(&[1; 32]);
+    let mut zeros = ToyFiller { byte: 0 };
+    sender.send_newkeys(key, true, &mut zeros, out).is_ok()
+}
+
+const OLD: &[u8] = b"old";
+
+// The first KEXINIT of a client behind three bytes, which stay where memory is refused.
+fn put_offer(alloc: Global) -> Result<Outcome, AllocError> {
+    let config = config(alloc, &settings(b"c"))?;
+    let mut out = OLD.to_vec(alloc)?;
+    let is_first = put_kexinit(
+        alloc,
+        &config,
+        Side::Client,
+        true,
+        &CLIENT_COOKIE,
+        &mut out,
+    ).is_ok();
+    let is_kept = out.as_slice() == OLD;
+    let is_second = is_first
+        || put_kexinit(alloc, &config, Side::Client, true, &CLIENT_COOKIE, &mut out).is_ok();
+    let is_put = out.len() == OLD.len() + 165 && out.as_slice().starts_with(b"old\x14\xc1");
+    if is_first && !is_put {
+        return Ok(Outcome::Wrong);
+    }
+    Ok(came(is_first, is_kept, is_second && is_put))
+}
+
+/// A channel is asked for.
+pub const OPEN: Ask<'static> = Ask::Open {
     kind: b"session",
     window: 10,
     max_packet: 32_768,
@@ -117,9 +166,11 @@ fn take_channel(alloc: Global) -> Result<Outcome, AllocError> {
     Ok(came(first.is_none(), is_kept, is_second && channels.count() == 1))
 }
 
-const SESSION: [u8; 32] = [7; 32];
+/// The session id.
+pub const SESSION: [u8; 32] = [7; 32];
 
-const SIGN: UserAsk<'static> = UserAsk::Sign {
+/// The user signs.
+pub const SIGN: UserAsk<'static> = UserAsk::Sign {
     user: b"u",
     algorithm: b"toy@example.com",
     key: b"k",
@@ -135,8 +186,8 @@ fn sign_request(alloc: Global) -> Outcome {
     came(first.is_none(), is_kept, is_second && client.may_take(52))
 }
 
-// The key of the user, with a signature of one byte, which is wrong.
-const SIGNED: &[u8] = b"2\0\0\0\x01u\0\0\0\x0essh-connection\0\0\0\x09publickey\x01\
+/// The key of the user, with a signature of one byte, which is wrong.
+pub const SIGNED: &[u8] = b"2\0\0\0\x01u\0\0\0\x0essh-connection\0\0\0\x09publickey\x01\
     \0\0\0\x0ftoy@example.com\0\0\0\x01k\0\0\0\x01s";
 
 // One request may fail. One for which memory was refused did not.

@@ -6,12 +6,13 @@ use ssh_channels::Channels;
 use ssh_kex::{ExchangeInputs, exchange_text};
 use ssh_layers::{ClientLayers, ServerLayers};
 use ssh_message::{Extension, ExtensionsBuf};
-use ssh_packet::{MacOnly, PacketReader, Sealing};
+use ssh_packet::{HmacKey, MacOnly, PacketReader, Sealing};
 use ssh_script::{Script, ScriptFault};
+use ssh_toy_ends::ToyEnd;
 use ssh_toy_setup::{config, settings};
 use ssh_trace::{EpochPair, Shown, packet_of};
 use ssh_transport::PacketReceiver;
-use ssh_types::{NameList, NameListBuf};
+use ssh_types::{NameList, NameListBuf, Side};
 use std::alloc::{AllocError, Global};
 
 /// A call that makes something.
@@ -21,6 +22,7 @@ pub enum Making {
     Extensions,
     PacketReader,
     PacketReceiver,
+    SealedReceiver,
     Key,
     ExchangeText,
     Config,
@@ -31,6 +33,8 @@ pub enum Making {
     EpochPair,
     ShownPacket,
     Script,
+    /// The end of this side.
+    End(Side),
 }
 
 /// Each of them.
@@ -39,6 +43,7 @@ pub const MAKING: &[Making] = &[
     Making::Extensions,
     Making::PacketReader,
     Making::PacketReceiver,
+    Making::SealedReceiver,
     Making::Key,
     Making::ExchangeText,
     Making::Config,
@@ -49,6 +54,8 @@ pub const MAKING: &[Making] = &[
     Making::EpochPair,
     Making::ShownPacket,
     Making::Script,
+    Making::End(Side::Client),
+    Making::End(Side::Server),
 ];
 
 const NAMES: &[u8] = b"zlib,none";
@@ -69,6 +76,7 @@ fn made(alloc: Global, call: Making) -> Result<bool, AllocError> {
         Making::Extensions => made_extensions(alloc),
         Making::PacketReader => Ok(PacketReader::new(alloc)?.capacity() == 35_000),
         Making::PacketReceiver => Ok(PacketReceiver::<MacOnly>::new(alloc)?.count() == 0),
+        Making::SealedReceiver => made_receiver(alloc),
         Making::Key => made_key(alloc),
         Making::ExchangeText => made_text(alloc),
         Making::Config => Ok(config(alloc, &settings(b"c"))?.software() == b"c".as_slice()),
@@ -79,6 +87,7 @@ fn made(alloc: Global, call: Making) -> Result<bool, AllocError> {
         Making::EpochPair => made_pair(alloc),
         Making::ShownPacket => made_packet(alloc),
         Making::Script => made_script(alloc),
+        Making::End(side) => made_end(alloc, side),
     }
 }
 
@@ -97,6 +106,12 @@ fn made_extensions(alloc: Global) -> Result<bool, AllocError> {
     };
     let copies = ExtensionsBuf::new(alloc, &[extension])?;
     Ok(copies.as_extensions().count() == 1)
+}
+
+fn made_receiver(alloc: Global) -> Result<bool, AllocError> {
+    let key = HmacKey::new(&[1; 32]);
+    let receiver = PacketReceiver::<MacOnly>::under(alloc, key)?;
+    Ok(receiver.count() == 0 && receiver.held() == 0)
 }
 
 fn made_key(alloc: Global) -> Result<bool, AllocError> {
@@ -158,5 +173,17 @@ fn made_script(alloc: Global) -> Result<bool, AllocError> {
         Ok(Script::Session(script)) => Ok(script.steps.as_slice().len() == 1),
         Err(ScriptFault::Memory) => Err(AllocError),
         _ => Ok(false),
+    }
+}
+
+const OLD: &[u8] = b"old";
+
+// An end puts its first line and its KEXINIT behind three bytes, or nothing.
+fn made_end(alloc: Global, side: Side) -> Result<bool, AllocError> {
+    let mut out = OLD.to_vec(alloc)?;
+    match ToyEnd::new(alloc, side, &mut out) {
+        Ok(end) => Ok(!end.is_dead() && out.as_slice().starts_with(b"oldSSH-2.0-")),
+        Err(_) if out.as_slice() == OLD => Err(AllocError),
+        Err(_) => Ok(false),
     }
 }

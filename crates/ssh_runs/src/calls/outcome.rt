@@ -15,6 +15,15 @@ pub enum Outcome {
     Wrong,
 }
 
+/// Done where the first call found memory, refused where the second did and the value between them is as it was.
+pub fn came(is_first: bool, is_kept: bool, is_second: bool) -> Outcome {
+    match (is_first, is_kept && is_second) {
+        (true, _) => Outcome::Done,
+        (false, true) => Outcome::Refused,
+        (false, false) => Outcome::Wrong,
+    }
+}
+
 /// What became of all calls so far.
 #[derive(Clone, Copy)]
 pub struct Tally {

@@ -1,0 +1,178 @@
+//! Calls of the layers above a transport, which are as before where memory is refused.
+
+ghost use Rattle.std.specs.Prelude.{◌≡◌, ◌≤◌, true};
+ghost use Rattle.ssh_model.specs.Sessions.Turns.{number_of};
+
+use super::changing::{OPEN, SESSION, SIGN, SIGNED};
+use super::outcome::{Outcome, came};
+use ssh_auth::{AskError as UserAskError, ServerAnswer};
+use ssh_channels::AskError;
+use ssh_layers::{Below, ClientLayers, LayerFault, ServerLayerAnswer, ServerLayers};
+use ssh_toy_setup::CREDENTIALS;
+use ssh_toys::{ToyJudge, ToyUserSigner};
+use ssh_types::NameList;
+use std::alloc::{AllocError, Global};
+
+/// A call of layers.
+#[derive(Clone, Copy, Debug)]
+pub enum Layered {
+    AskedServer,
+    AskedClient,
+    TakenByServer,
+    TakenByClient,
+    SignedRequest,
+    JudgedRequest,
+}
+
+/// Each of them.
+pub const LAYERED: &[Layered] = &[
+    Layered::AskedServer,
+    Layered::AskedClient,
+    Layered::TakenByServer,
+    Layered::TakenByClient,
+    Layered::SignedRequest,
+    Layered::JudgedRequest,
+];
+
+/// Makes the call, and again where memory is refused.
+///
+/// # Errors
+///
+/// Only where memory is refused.
+pub fn layer(alloc: Global, call: Layered) -> Result<Outcome, AllocError> {
+    match call {
+        Layered::AskedServer => ask_server(alloc),
+        Layered::AskedClient => ask_client(alloc),
+        Layered::TakenByServer => take_at_server(alloc, OPENED),
+        Layered::TakenByClient => take_at_client(alloc, OPENED),
+        Layered::SignedRequest => sign_request(alloc),
+        Layered::JudgedRequest => judge_request(alloc, SIGNED),
+    }
+}
+
+// What a transport says before the user is authenticated, and from then on.
+fn below(authenticated: bool) -> Below<'static> {
+    Below {
+        session: &SESSION,
+        blocked: false,
+        authenticated,
+    }
+}
+
+const JUDGE: ToyJudge<'static> = ToyJudge {
+    credentials: CREDENTIALS,
+};
+
+// The peer opens a channel.
+const OPENED: &[u8] = b"\x5a\0\0\0\x07session\0\0\0\0\0\0\0\x0a\0\0\x80\0";
+
+// A payload is one for the layers above a transport.
+fn is_above(payload: &[u8]) -> bool
+    ensures { result ≡ true → 50 ≤ number_of payload.now }
+{
+    match payload.first() {
+        Some(number) => 50 <= *number,
+        None => false,
+    }
+}
+
+fn ask_server(alloc: Global) -> Result<Outcome, AllocError> {
+    let Some(methods) = NameList::new(b"publickey") else {
+        return Ok(Outcome::Wrong);
+    };
+    let mut layers = ServerLayers::new(alloc, 1, &methods)?;
+    let first = layers.ask(&below(true), &OPEN, false).err();
+    let is_kept = first == Some(AskError::Memory) && layers.channels().count() == 0;
+    let is_second = first.is_none() || layers.ask(&below(true), &OPEN, false).is_ok();
+    Ok(came(
+        first.is_none(),
+        is_kept,
+        is_second && layers.channels().count() == 1,
+    ))
+}
+
+fn ask_client(alloc: Global) -> Result<Outcome, AllocError> {
+    let mut layers = ClientLayers::new(alloc)?;
+    let first = layers.ask(&below(true), &OPEN, false).err();
+    let is_kept = first == Some(AskError::Memory) && layers.channels().count() == 0;
+    let is_second = first.is_none() || layers.ask(&below(true), &OPEN, false).is_ok();
+    Ok(came(
+        first.is_none(),
+        is_kept,
+        is_second && layers.channels().count() == 1,
+    ))
+}
+
+fn take_at_server(alloc: Global, payload: &[u8]) -> Result<Outcome, AllocError> {
+    let Some(methods) = NameList::new(b"publickey") else {
+        return Ok(Outcome::Wrong);
+    };
+    if !is_above(payload) {
+        return Ok(Outcome::Wrong);
+    }
+    let mut layers = ServerLayers::new(alloc, 1, &methods)?;
+    let first = layers.take(&JUDGE, &below(true), payload).err();
+    let is_kept = first == Some(LayerFault::Memory) && layers.channels().count() == 0;
+    let is_second = first.is_none() || layers.take(&JUDGE, &below(true), payload).is_ok();
+    Ok(came(
+        first.is_none(),
+        is_kept,
+        is_second && layers.channels().count() == 1,
+    ))
+}
+
+fn take_at_client(alloc: Global, payload: &[u8]) -> Result<Outcome, AllocError> {
+    if !is_above(payload) {
+        return Ok(Outcome::Wrong);
+    }
+    let mut layers = ClientLayers::new(alloc)?;
+    let first = layers.take(&below(true), payload).err();
+    let is_kept = first == Some(LayerFault::Memory) && layers.channels().count() == 0;
+    let is_second = first.is_none() || layers.take(&below(true), payload).is_ok();
+    Ok(came(
+        first.is_none(),
+        is_kept,
+        is_second && layers.channels().count() == 1,
+    ))
+}
+
+// A client that was refused memory has no request outstanding.
+fn sign_request(alloc: Global) -> Result<Outcome, AllocError> {
+    let below = below(false);
+    let mut layers = ClientLayers::new(alloc)?;
+    layers.open();
+    let first = layers.request(&ToyUserSigner, &below, &SIGN).err();
+    let is_kept = first == Some(UserAskError::Memory) && !layers.may_take(&below, 52);
+    let is_second = first.is_none() || layers.request(&ToyUserSigner, &below, &SIGN).is_ok();
+    Ok(came(
+        first.is_none(),
+        is_kept,
+        is_second && layers.may_take(&below, 52),
+    ))
+}
+
+// One request may fail. One for which memory was refused did not.
+fn judge_request(alloc: Global, payload: &[u8]) -> Result<Outcome, AllocError> {
+    let Some(methods) = NameList::new(b"publickey") else {
+        return Ok(Outcome::Wrong);
+    };
+    if !is_above(payload) {
+        return Ok(Outcome::Wrong);
+    }
+    let below = below(false);
+    let mut layers = ServerLayers::new(alloc, 1, &methods)?;
+    layers.open();
+    let mut taken = layers.take(&JUDGE, &below, payload);
+    let is_first = !matches!(taken, Err(LayerFault::Memory));
+    if !is_first {
+        taken = layers.take(&JUDGE, &below, payload);
+    }
+    let has_failed = match taken {
+        Ok(taken) => taken.answer == ServerLayerAnswer::Authentication(ServerAnswer::Failed),
+        Err(_) => false,
+    };
+    if is_first && !has_failed {
+        return Ok(Outcome::Wrong);
+    }
+    Ok(came(is_first, true, has_failed))
+}
