@@ -1,7 +1,7 @@
 //! What is run as a program, since no test reads a file or meets its own allocations alone: stored scripts, recorded payloads of OpenSSH, Dropbear and PuTTY, and
-//! what becomes of calls, plays and ends where memory is refused. `make memory` runs the parts `calls`, `plays` and `data` with each allocation refused in turn, until a run meets no refusal.
+//! what becomes of calls, plays and ends where memory is refused. `make memory` runs the parts `calls`, `plays` and `data` with each allocation refused in turn, until a run meets no refusal, and `sweeping` with some of its many refused.
 //!
-//! The word `scripts`, `payloads`, `calls`, `plays`, `data` or `sweep` names the part that is run, and `unswept` all but the last; without a word all are. The
+//! The word `scripts`, `payloads`, `calls`, `plays`, `data`, `sweeping` or `sweep` names the part that is run, and `unswept` all but the last; without a word all are. The
 //! status is 0 where nothing was refused or a smaller allocation made up for it, 3 where memory was refused before what the part is about, and 4 where it
 //! was refused within that; what this means is said beside each part. All else is wrong: a part says so, and the status is 1. It is 2 for other words.
 #![tactic(auto)]
@@ -12,6 +12,7 @@ mod payloads;
 mod plays;
 mod scripts;
 mod status;
+mod sweeping;
 
 use status::Status;
 use std::process::ExitCode;
@@ -26,6 +27,7 @@ enum Part {
     Calls,
     Plays,
     Data,
+    Sweeping,
     Sweep,
 }
 
@@ -35,6 +37,7 @@ const ALL: &[Part] = &[
     Part::Calls,
     Part::Plays,
     Part::Data,
+    Part::Sweeping,
     Part::Sweep,
 ];
 
@@ -44,6 +47,7 @@ const UNSWEPT: &[Part] = &[
     Part::Calls,
     Part::Plays,
     Part::Data,
+    Part::Sweeping,
 ];
 
 fn main(rt: HostRuntime) -> ExitCode {
@@ -53,7 +57,7 @@ fn main(rt: HostRuntime) -> ExitCode {
     };
     let Some(parts) = parts_of(words.as_slice()) else {
         let _ = println!(rt;
-            "usage: ssh_runs [scripts | payloads | calls | plays | data | sweep | unswept]"
+            "usage: ssh_runs [scripts | payloads | calls | plays | data | sweeping | sweep | unswept]"
         );
         return ExitCode::from(2);
     };
@@ -64,6 +68,7 @@ fn main(rt: HostRuntime) -> ExitCode {
             Part::Calls => calls::run(&rt),
             Part::Plays => plays::run(&rt),
             Part::Data => data::run(&rt),
+            Part::Sweeping => sweeping::run(&rt),
             Part::Sweep => scripts::sweep(&rt, &mut rt.stdout(), &mut rt.stderr()),
         };
         if status != Status::Done {
@@ -88,6 +93,7 @@ fn parts_of(words: &[String]) -> Option<&'static [Part]> {
             "calls" => Some(&[Part::Calls]),
             "plays" => Some(&[Part::Plays]),
             "data" => Some(&[Part::Data]),
+            "sweeping" => Some(&[Part::Sweeping]),
             "sweep" => Some(&[Part::Sweep]),
             "unswept" => Some(UNSWEPT),
             _ => None,

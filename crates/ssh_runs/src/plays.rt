@@ -3,7 +3,8 @@
 //! before is what the other play did, the end put out the bytes of what it had sent before that call and no more, and the payloads that each end took after
 //! its first NEWKEYS are a prefix of those that the other sent after its own.
 //!
-//! A play that met a refusal and is the same as the other one is allowed too, where a smaller allocation made up for the one refused: docs/DECISIONS.md says which these are.
+//! The scripts are read before `playing` is said. While they are read a smaller allocation may make up for one that is refused; from then on none may, so a play
+//! that met a refusal and did all the same is wrong.
 
 mod bytes;
 
@@ -11,7 +12,7 @@ use crate::status::Status;
 use bytes::sent_bytes;
 use ssh_pair::{Done, Item};
 use ssh_play::{Course, play_through};
-use ssh_script::{Script, ScriptFault};
+use ssh_script::{Script, ScriptFault, SessionScript};
 use ssh_types::Side;
 use std::alloc::{AllocError, Global};
 
@@ -56,13 +57,18 @@ pass s c all
 pass c s all
 ";
 
-/// Plays and compares. A play that says that memory was refused counts as before, and one in which an end died as within.
+/// Plays and compares. It counts as before where memory was refused to the scripts, and to a play that says so, and as within where an end died.
 pub fn run<R: Print + AllocGlobal>(rt: &R) -> Status {
+    let alloc = rt.alloc();
+    let (channel, rekey) = match (script_of(alloc, CHANNEL), script_of(alloc, REKEY)) {
+        (Ok(channel), Ok(rekey)) => (channel, rekey),
+        (Err(ScriptFault::Memory), _) | (_, Err(ScriptFault::Memory)) => return Status::Before,
+        _ => return Status::Wrong,
+    };
+    let _ = println!(rt; "playing");
     let mut status = Status::Done;
-    for rest in [CHANNEL, REKEY] {
-        let one = played(rt.alloc(), rest);
-        let other = played(rt.alloc(), rest);
-        match judged(rt.alloc(), &one, &other) {
+    for script in [&channel, &rekey] {
+        match twice(alloc, script) {
             Status::Done => {}
             Status::Wrong => {
                 let _ = println!(rt; "wrong");
@@ -77,23 +83,19 @@ pub fn run<R: Print + AllocGlobal>(rt: &R) -> Status {
     status
 }
 
-// What both ends do in a script that goes on so once the user is let in.
-fn played(alloc: Global, rest: &str) -> Result<Course, ScriptFault> {
+// The script that goes on so once the user is let in.
+fn script_of(alloc: Global, rest: &str) -> Result<SessionScript, ScriptFault> {
     let script = format!(in alloc; "{LOGIN}{rest}")?;
     match Script::read(alloc, script.as_bytes())? {
-        Script::Session(script) => play_through(alloc, &script),
+        Script::Session(script) => Ok(script),
         Script::Epoch(_) => Err(ScriptFault::Epoch),
     }
 }
 
-// One allocation is refused at most, so one of the two plays is whole, and the comparison meets a refusal only where both are.
-fn judged(
-    alloc: Global,
-    one: &Result<Course, ScriptFault>,
-    other: &Result<Course, ScriptFault>,
-) -> Status {
-    match (one, other) {
-        (Ok(one), Ok(other)) => compared(alloc, one, other).unwrap_or(Status::Before),
+// Plays a script twice. One allocation is refused at most, so one of the two plays is whole, and the comparison meets a refusal only where both are.
+fn twice(alloc: Global, script: &SessionScript) -> Status {
+    match (play_through(alloc, script), play_through(alloc, script)) {
+        (Ok(one), Ok(other)) => compared(alloc, &one, &other).unwrap_or(Status::Wrong),
         (Ok(_), Err(ScriptFault::Memory)) | (Err(ScriptFault::Memory), Ok(_)) => Status::Before,
         _ => Status::Wrong,
     }
