@@ -98,5 +98,10 @@ fn draw_of(cookie: &[u8; 16]) -> Option<u8> {
 
 // The draw that filled the secret of this public value (RFC 7748 section 6.1).
 fn secret_of(point: &[u8]) -> Option<u8> {
-    (1..=u8::MAX).find(|draw| x25519::public(&[*draw; 32]).as_slice() == point)
+    for draw in 1..=u8::MAX {
+        if x25519::public(&[draw; 32]).as_slice() == point {
+            return Some(draw);
+        }
+    }
+    None
 }

@@ -113,7 +113,7 @@ fn renew(sender: &mut PacketSender<MacOnly>, out: &mut Vec<u8>) -> bool {
 
 const OLD: &[u8] = b"old";
 
-// The first KEXINIT of a client behind three bytes, which stay where memory is refused.
+// The first KEXINIT of a client, of 165 bytes, behind three bytes, which stay where memory is refused.
 fn put_offer(alloc: Global) -> Result<Outcome, AllocError> {
     let config = config(alloc, &settings(b"c"))?;
     let mut out = OLD.to_vec(alloc)?;
@@ -128,7 +128,7 @@ fn put_offer(alloc: Global) -> Result<Outcome, AllocError> {
     let is_kept = out.as_slice() == OLD;
     let is_second = is_first
         || put_kexinit(alloc, &config, Side::Client, true, &CLIENT_COOKIE, &mut out).is_ok();
-    let is_put = out.len() == OLD.len() + 165 && out.as_slice().starts_with(b"old\x14\xc1");
+    let is_put = out.len() == 168 && out.as_slice().starts_with(b"old\x14\xc1");
     if is_first && !is_put {
         return Ok(Outcome::Wrong);
     }
