@@ -113,7 +113,7 @@ fn renew(sender: &mut PacketSender<MacOnly>, out: &mut Vec<u8>) -> bool {
 
 const OLD: &[u8] = b"old";
 
-// The first KEXINIT of a client, of 165 bytes, behind three bytes, which stay where memory is refused.
+// The first KEXINIT of a client, of 165 bytes, after three bytes, which stay where memory is refused.
 fn put_offer(alloc: Global) -> Result<Outcome, AllocError> {
     let config = config(alloc, &settings(b"c"))?;
     let mut out = OLD.to_vec(alloc)?;

@@ -178,7 +178,7 @@ fn made_script(alloc: Global) -> Result<bool, AllocError> {
 
 const OLD: &[u8] = b"old";
 
-// An end puts its first line and its KEXINIT behind three bytes, or nothing.
+// An end puts its first line and its KEXINIT after three bytes, or nothing.
 fn made_end(alloc: Global, side: Side) -> Result<bool, AllocError> {
     let mut out = OLD.to_vec(alloc)?;
     match ToyEnd::new(alloc, side, &mut out) {
