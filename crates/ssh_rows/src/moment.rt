@@ -115,12 +115,9 @@ impl Delivered {
     ///
     /// Only where memory is refused.
     pub fn end(mut self) -> Result<Vec<Moment>, AllocError> {
+        let alloc = self.alloc;
         if !self.bytes.is_empty() {
-            self.act(
-                String::new(self.alloc),
-                Vec::new(self.alloc),
-                Vec::new(self.alloc),
-            )?;
+            self.act(String::new(alloc), Vec::new(alloc), Vec::new(alloc))?;
         }
         Ok(self.moments)
     }
