@@ -160,7 +160,9 @@ fn carry_out(act: &Act, client: &mut Line, server: &mut Line) -> Outcome {
 fn pass(from: &mut Line, to: &mut Line) -> Outcome {
     for _ in 0..8 {
         let bytes = to.out.len();
-        let waiting = from.out.as_slice().get(from.passed..).unwrap_or(&[]);
+        let Some(waiting) = from.out.as_slice().get(from.passed..) else {
+            break;
+        };
         if waiting.is_empty() {
             break;
         }

@@ -7,7 +7,7 @@ use super::changing::{OPEN, SESSION, SIGN, SIGNED};
 use super::outcome::{Outcome, came};
 use ssh_auth::{AskError as UserAskError, ServerAnswer};
 use ssh_channels::AskError;
-use ssh_layers::{Below, ClientLayers, LayerFault, ServerLayerAnswer, ServerLayers};
+use ssh_layers::{Below, ClientLayers, LayerFault, ServerLayerAnswer, ServerLayers, ServerTaken};
 use ssh_toy_setup::CREDENTIALS;
 use ssh_toys::{ToyJudge, ToyUserSigner};
 use ssh_types::NameList;
@@ -162,17 +162,24 @@ fn judge_request(alloc: Global, payload: &[u8]) -> Result<Outcome, AllocError> {
     let below = below(false);
     let mut layers = ServerLayers::new(alloc, 1, &methods)?;
     layers.open();
-    let mut taken = layers.take(&JUDGE, &below, payload);
-    let is_first = !matches!(taken, Err(LayerFault::Memory));
-    if !is_first {
-        taken = layers.take(&JUDGE, &below, payload);
-    }
-    let has_failed = match taken {
-        Ok(taken) => taken.answer == ServerLayerAnswer::Authentication(ServerAnswer::Failed),
-        Err(_) => false,
+    let first = is_failure(layers.take(&JUDGE, &below, payload));
+    let answered = match first {
+        Some(_) => first,
+        None => is_failure(layers.take(&JUDGE, &below, payload)),
     };
-    if is_first && !has_failed {
+    if first == Some(false) {
         return Ok(Outcome::Wrong);
     }
-    Ok(came(is_first, true, has_failed))
+    Ok(came(first.is_some(), true, answered == Some(true)))
+}
+
+// Whether a request is answered by a failure. Of one for which memory was refused it is not known.
+fn is_failure(taken: Result<ServerTaken<'_>, LayerFault>) -> Option<bool> {
+    match taken {
+        Ok(taken) => {
+            Some(taken.answer == ServerLayerAnswer::Authentication(ServerAnswer::Failed))
+        }
+        Err(LayerFault::Memory) => None,
+        Err(_) => Some(false),
+    }
 }
