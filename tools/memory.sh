@@ -1,7 +1,7 @@
 #!/bin/sh
 # Runs four parts of a proved program, crates/ssh_runs, with each allocation refused in turn, until a run meets no refusal. The program says what
 # has to become of a run; the allocator under it refuses one allocation. Between the lines `taking` and `taken` of a run none may be refused, and a run
-# that met a refusal after its line `playing` may not do all the same. The last part has some 50,000 allocations: its first 50 are refused, and of the others each 499th. Wants a C
+# that met a refusal after its line `playing` may not do all the same. The last part has some 80,000 allocations: its first 50 are refused, and of the others each 499th. Wants a C
 # compiler. Ends with status 1 where a run went wrong. PROGRAM=FILE is that program where it is proved already, as the gate leaves it.
 set -eu
 tools=$(cd "$(dirname "$0")" && pwd)
