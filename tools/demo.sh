@@ -6,7 +6,7 @@ set -eu
 tools=$(cd "$(dirname "$0")" && pwd)
 examples=$tools/../examples
 . "$tools/common.sh"
-echo "Building ssh_trace without its proofs, and running it on the scripts and packets of examples/: about a minute."
+echo "Building ssh_trace without its proofs, and running it on the scripts and packets of examples/: a minute or more."
 work=$(mktemp -d)
 building=
 trap '[ -z "$building" ] || kill "$building" 2>/dev/null || true; rm -rf "$work"' EXIT
