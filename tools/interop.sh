@@ -343,14 +343,17 @@ with_asyncssh() {
     row "server of $peer" "a wrong password" "status 255, $not_let_in" "status $?, $(reason log)"
     over_socket --identity user --input data --output answer cat 2>log
     row "server of $peer" "\`cat\`: $size bytes there and back" "same" "$(same "$(hash_of <answer)" "$want")"
-    # (it may go on with data after its KEXINIT, which RFC 4253 section 7.1 forbids; whether it does is a matter of time)
-    over_socket --identity user --input data --output answer --rekey-after "$packets" cat 2>log
+    # (it may go on with data after its KEXINIT, which RFC 4253 section 7.1 forbids, and is then refused; where it does not, keys have to be exchanged)
+    over_socket --identity user --input data --output answer --rekey-after "$packets" -v cat 2>told
     status=$?
+    grep -vE '(took|sent) [0-9]+ ' told >log
     wanted="$unexpected, status 255"
     seen="$(words log), status $status"
     if [ "$status" = 0 ]; then
-        wanted=same
-        seen=$(same "$(hash_of <answer)" "$want")
+        count=$(grep -c 'sent 20 KEXINIT' told)
+        if [ "$count" -gt 4 ]; then count="more than 4"; fi
+        wanted="same, more than 4 exchanges"
+        seen="$(same "$(hash_of <answer)" "$want"), $count exchanges"
     fi
     row "server of $peer" "keys exchanged again while it sends: refused where CHANNEL_DATA comes after its KEXINIT" "$wanted" "$seen"
     kill "$pid"
