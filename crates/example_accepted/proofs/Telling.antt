@@ -10,7 +10,7 @@ use Rattle.ssh_model.specs.Side.{Side.Server}
 use Rattle.ssh_transport_machine.specs.Puts.{Outs}
 use Rattle.ssh_transport_machine.specs.State.{State}
 use Rattle.ssh_end.specs.Places.{StandsAfter, TookUnit, TurnedTo}
-use Rattle.ssh_end.specs.Steps.{Shows}
+use Rattle.ssh_end.specs.Steps.{Shows, shown_by}
 use Rattle.ssh_end.specs.Told.{told_of}
 use Rattle.ssh_end.specs.Turn.{TurnShows, fact_in}
 use Rattle.ssh_end.specs.declared.step.Step.{Step}
@@ -79,14 +79,14 @@ module _ {K : Type 0} (p : Parties K) (parts layers : Type 0) where
         let who = found turn.told (fact_in items) shows.told is_in in
         let_in_at (items ++ history) new e place who.0 (in_front (Told (Accepted who.0)) items history (fact_is_in items (Accepted who.0) who.1))
 
-    by_unit : (done : Step) → TookUnit p Server parts layers history bytes done new e o → ((items : List Item) → Shows new.receiver.payload done items → TurnShows turn items) → (is_in : Bool) → is_in ≡ is_told_in turn.told → ServedTo p parts layers history is_in new e
+    by_unit : (done : Step) → TookUnit p Server parts layers history bytes done new e o → ((items : List Item) → Shows (shown_by done new) done items → TurnShows turn items) → (is_in : Bool) → is_in ≡ is_told_in turn.told → ServedTo p parts layers history is_in new e
     by_unit done x shows is_in is = record {
       items = x.turned.items;
       place = x.place;
       let_in = λ so. told_by x.turned.items x.place (shows x.turned.items x.turned.shows) (sym is ∙ so);
     }
 
-    pub served_unit : (done : Step) → TurnedTo p Server parts layers history bytes done new e o → ((items : List Item) → Shows new.receiver.payload done items → TurnShows turn items) → (done ≡ step.More → TurnShows turn []) → (is_in : Bool) → is_in ≡ is_told_in turn.told → ServedTo p parts layers history is_in new e
+    pub served_unit : (done : Step) → TurnedTo p Server parts layers history bytes done new e o → ((items : List Item) → Shows (shown_by done new) done items → TurnShows turn items) → (done ≡ step.More → TurnShows turn []) → (is_in : Bool) → is_in ≡ is_told_in turn.told → ServedTo p parts layers history is_in new e
     served_unit step.More x shows quiet is_in is = record { items = []; place = x.place; let_in = λ so. told_by [] x.place (quiet refl) (sym is ∙ so) }
     served_unit step.OtherLine x shows quiet is_in is = by_unit step.OtherLine x shows is_in is
     served_unit step.VersionLine x shows quiet is_in is = by_unit step.VersionLine x shows is_in is

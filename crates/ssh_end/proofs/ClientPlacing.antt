@@ -1,5 +1,5 @@
 -- What a client does is what the client of a session does, from one place of a run to the next.
-use Rattle.std.proofs.Common.{◌≡◌, ℕ, true, false, List, [], ◌∷◌, ◌++◌, sym, subst, Option, None, Result}
+use Rattle.std.proofs.Common.{◌≡◌, ℕ, true, false, List, [], ◌∷◌, sym, subst, None, Result}
 use Rattle.ssh_model.specs.Authentication.Kept as kept
 use Rattle.ssh_model.specs.Channels.Kept.{Channels}
 use Rattle.ssh_model.specs.End.State.{Authentication.OfClient}

@@ -43,12 +43,13 @@ use Rattle.ssh_end.specs.ClientTurns.{IsAsking, IsUnitTurned, ClientTurned}
 use Rattle.ssh_end.specs.ClientUnits.{Goes, GoesOn, GoesUp, GoesWhole, ClientGoes}
 use Rattle.ssh_layers.specs.ClientSessions.{end_of}
 use Rattle.ssh_end.specs.Reading.{IsReading}
-use Rattle.ssh_end.specs.Steps.{Shows, UnitTurned}
+use Rattle.ssh_end.specs.Steps.{Shows, UnitTurned, shown_by}
 use Rattle.ssh_end.specs.declared.step.Step.{Step}
 use Rattle.ssh_end.specs.declared.step.Step.TheVariants as step
 use Rattle.ssh_end.proofs.TurningBegun.{Begun}
 use Rattle.ssh_end.proofs.Judging.{ChannelFacts}
 use Rattle.ssh_end.proofs.TurningReads.{Left, OpensShown, ReadingLaws, Reads, above_reads, ended_reads, refused_with, same_with, whole_reads}
+use Rattle.ssh_end.proofs.TurningShown.{shown_completing, shown_finished, shown_packet}
 use Rattle.ssh_end.proofs.ClientTurnsAbove.{finished_so}
 use Rattle.ssh_end.proofs.ClientTurnsReply.{completed_turn, kexinit_turn, number_spent, peer_refused}
 use Rattle.ssh_end.proofs.ClientTurnsUnits.{other_line, payload_turn, refused_line, refused_packet, version_line}
@@ -110,15 +111,15 @@ module _ {K : Type 0} (laws : TurningLaws K) (reads : ReadingLaws K) (below : Tr
         go (Left.packet more found none opens) = absurd (more same)
 
     -- with the payload that is shown
-    settle : Reads p Client history bytes done new → (payload : List ℕ) → UnitTurned p Client history bytes payload done (end_of new.kept later) o → (OpensShown p Client history bytes new → payload ≡ new.receiver.payload) → Turned
+    settle : Reads p Client history bytes done new → (payload : List ℕ) → UnitTurned p Client history bytes payload done (end_of new.kept later) o → (OpensShown p Client history bytes new → payload ≡ shown_by done new) → Turned
     settle (Reads.waits e) payload x agrees = absurd (no_more payload x.items (subst (λ (d : Step). Shows payload d x.items) e x.shows))
     settle (Reads.over why e dead) payload x agrees = turned_step p history bytes done new later o (record {
-      turned = refused_with p Client history bytes done (end_of new.kept later) o payload new.receiver.payload why e x;
+      turned = refused_with p Client history bytes done (end_of new.kept later) o payload (shown_by done new) why e x;
       begun = λ alive. absurd (false≢true (sym alive ∙ dead));
       reading = λ alive. absurd (false≢true (sym alive ∙ dead));
     })
     settle (Reads.whole fresh opens) payload x agrees = turned_step p history bytes done new later o (record {
-      turned = same_with p Client history bytes done (end_of new.kept later) o payload new.receiver.payload (agrees opens) x;
+      turned = same_with p Client history bytes done (end_of new.kept later) o payload (shown_by done new) (agrees opens) x;
       begun = λ alive. fresh.begun;
       reading = λ alive. fresh.reading;
     })
@@ -138,30 +139,30 @@ module _ {K : Type 0} (laws : TurningLaws K) (reads : ReadingLaws K) (below : Tr
         })
 
     -- the transport did all
-    whole : (so : TransportTurn) → given ≡ so → is_whole so ≡ true → (payload : List ℕ) → (OpensShown p Client history bytes new → payload ≡ new.receiver.payload) → UnitTurned p Client history bytes payload (step_given so) (kept_after layers so between.kept) front → Turned
+    whole : (so : TransportTurn) → given ≡ so → is_whole so ≡ true → (payload : List ℕ) → (OpensShown p Client history bytes new → new ≡ between → payload ≡ shown_by (step_given so) new) → UnitTurned p Client history bytes payload (step_given so) (kept_after layers so between.kept) front → Turned
     whole so same is payload agrees x =
         let g : GoesWhole so between layers done new later middle o.after listed o.relisted = goes_whole p.crypto so between layers done new later back is (goes_so so same) in
         settle (whole_reads p Client history bytes between new done so g.shown g.same (subst (λ (t : TransportTurn). Left p Client history bytes t between) same left)) payload
-        (whole_turn p history bytes payload so between layers done new later o middle listed g x) agrees
+        (whole_turn p history bytes payload so between layers done new later o middle listed g x) (λ opens. agrees opens g.same ∙ ap (λ (d : Step). shown_by d new) (sym g.shown))
 
     refused : (why : Refusal) (so : TransportTurn) → given ≡ so → IsRefusal why so → IsQuiet front → IsLineRefusal p Client history old.kept bytes why between.kept → Turned
-    refused why (outcome.Refused so) same is quiet x = whole (outcome.Refused so) same refl new.receiver.payload (λ opens. refl) (refused_line laws p history old.kept layers asking.sums took.alive bytes why so is between.kept front quiet x)
+    refused why (outcome.Refused so) same is quiet x = whole (outcome.Refused so) same refl new.receiver.payload (λ opens e. refl) (refused_line laws p history old.kept layers asking.sums took.alive bytes why so is between.kept front quiet x)
     refused why outcome.More same is quiet x = absurd is
     refused why (outcome.Done so) same is quiet x = absurd is
     refused why (outcome.Up number) same is quiet x = absurd is
     refused why (outcome.Completed choice) same is quiet x = absurd is
 
-    line : (so : LineTurn) → LineOutcome so given → IsQuiet front → LineTurnOf p Client history old.kept bytes so between.kept → Turned
+    line : (so : LineTurn) → LineOutcome so given → IsQuiet front → LineTurnOf p Client history old.kept bytes so between → Turned
     line line_turn.More same quiet x = waiting x quiet same
-    line line_turn.Other same quiet x = whole (outcome.Done effect.OtherLine) same refl new.receiver.payload (λ opens. refl) (other_line laws p history old.kept layers asking.sums took.alive bytes between.kept front quiet x)
-    line line_turn.Version same quiet x = whole (outcome.Done effect.VersionLine) same refl new.receiver.payload (λ opens. refl) (version_line laws p history old.kept layers asking.sums took.alive bytes between.kept front quiet x)
+    line line_turn.Other same quiet x = whole (outcome.Done effect.OtherLine) same refl between.reading.text (λ opens e. ap (λ (s : State K). s.reading.text) (sym e)) (other_line laws p history old.kept layers asking.sums took.alive bytes between front quiet x)
+    line line_turn.Version same quiet x = whole (outcome.Done effect.VersionLine) same refl between.kept.lines.line (λ opens e. ap (λ (s : State K). s.kept.lines.line) (sym e)) (version_line laws p history old.kept layers asking.sums took.alive bytes between front quiet x)
     line (line_turn.Refused why) same quiet x = refused (line_refusal why) given refl same quiet x
 
     packet : (so : PacketTurn) (number : ℕ) → is_left so ≡ false → given ≡ packet_outcome so number → PacketTurnOf p Client history old.kept bytes so between front → Turned
     packet packet_turn.More number left_not same x = waiting (subst (λ (t : Transport K). SumsUp p Client history t) (sym x.after) asking.sums.transport) x.quiet same
-    packet (packet_turn.Refused why) number left_not same x = whole (outcome.Refused why) same refl new.receiver.payload (λ opens. refl) (refused_packet laws p history old.kept layers asking.sums took.alive bytes why between.kept front x)
+    packet (packet_turn.Refused why) number left_not same x = whole (outcome.Refused why) same refl new.receiver.payload (λ opens e. refl) (refused_packet laws p history old.kept layers asking.sums took.alive bytes why between.kept front x)
     packet (packet_turn.Payload so) number left_not same x =
-        whole (payload_outcome so number) same (is_whole_packet (packet_turn.Payload so) number left_not) x.between.receiver.payload (λ opens. opens x.between.receiver.payload x.unit)
+        whole (payload_outcome so number) same (is_whole_packet (packet_turn.Payload so) number left_not) x.between.receiver.payload (λ opens e. opens x.between.receiver.payload x.unit ∙ sym (shown_packet so number new))
         (payload_turn laws p history old.kept layers asking.sums took.alive bytes so number between front left_not x)
 
     above : (number : ℕ) → given ≡ outcome.Up number → IsAbove p Client history old.kept bytes between front → Turned
@@ -177,15 +178,15 @@ module _ {K : Type 0} (laws : TurningLaws K) (reads : ReadingLaws K) (below : Tr
           parts = y.parts ∙ ap (λ (l : List ℕ). l ++ y.more) x.quiet.out;
           lists = y.lists ∙ ap (λ (l : List (List ℕ)). l ++ payloads_of (messages_sent y.items)) x.quiet.sent;
         })
-        (λ opens. opens between.receiver.payload x.unit)
+        (λ opens. opens between.receiver.payload x.unit ∙ sym (shown_finished p.crypto between g.judgement done new back g.finished new))
 
     kexinit : (so : Answer) (payload : List ℕ) → given ≡ answer_outcome so effect.Kexinit → IsUnit p.crypto (stage p Client history) bytes (Opens payload) → KexinitTurn p history payload so between.kept front → Turned
-    kexinit answered.Done payload same unit x = whole (outcome.Done effect.Kexinit) same refl payload (λ opens. opens payload unit) (kexinit_turn laws p history old layers asking took.alive bytes payload unit answered.Done between.kept front x)
-    kexinit answered.Spent payload same unit x = whole (outcome.Refused code.NumberSpent) same refl payload (λ opens. opens payload unit) (kexinit_turn laws p history old layers asking took.alive bytes payload unit answered.Spent between.kept front x)
+    kexinit answered.Done payload same unit x = whole (outcome.Done effect.Kexinit) same refl payload (λ opens e. opens payload unit) (kexinit_turn laws p history old layers asking took.alive bytes payload unit answered.Done between.kept front x)
+    kexinit answered.Spent payload same unit x = whole (outcome.Refused code.NumberSpent) same refl payload (λ opens e. opens payload unit) (kexinit_turn laws p history old layers asking took.alive bytes payload unit answered.Spent between.kept front x)
 
     own : (payload : List ℕ) → IsUnit p.crypto (stage p Client history) bytes (Opens payload) → OwnTurn p Client history old.kept payload given between.kept front → Turned
-    own payload unit (OwnTurn.refused why same x) = whole (outcome.Refused why) same refl payload (λ opens. opens payload unit) (peer_refused laws p history old layers asking took.alive bytes payload unit why between.kept front x)
-    own payload unit (OwnTurn.spent same x) = whole (outcome.Refused code.NumberSpent) same refl payload (λ opens. opens payload unit) (number_spent laws p history old layers asking took.alive bytes payload unit between.kept front x)
+    own payload unit (OwnTurn.refused why same x) = whole (outcome.Refused why) same refl payload (λ opens e. opens payload unit) (peer_refused laws p history old layers asking took.alive bytes payload unit why between.kept front x)
+    own payload unit (OwnTurn.spent same x) = whole (outcome.Refused code.NumberSpent) same refl payload (λ opens e. opens payload unit) (number_spent laws p history old layers asking took.alive bytes payload unit between.kept front x)
     own payload unit (OwnTurn.kexinit so same is x) = kexinit so payload same unit x
     own payload unit (OwnTurn.ended choice same x) =
         let g : GoesOn p.crypto between layers done new later back = goes_so (outcome.Completed choice) same in
@@ -193,7 +194,7 @@ module _ {K : Type 0} (laws : TurningLaws K) (reads : ReadingLaws K) (below : Tr
         settle (ended_reads p Client history bytes between new done choice layers.channels later.channels back g.rest g.completing (subst (λ (t : TransportTurn). Left p Client history bytes t between) same left)) payload
         (completed_turn laws p history old layers asking took.alive bytes payload unit between.kept z.alive z.few z.epoch
         o.before middle o.listed listed x done new later between refl o.after o.relisted g.authentication g.completing)
-        (λ opens. opens payload unit)
+        (λ opens. opens payload unit ∙ sym (shown_completing p.crypto between layers.channels done new later.channels back g.completing new))
 
     turned_by : UnitTurnOf p Client history old.kept bytes given between front → Turned
     turned_by (UnitTurnOf.line so same quiet x) = line so same quiet x

@@ -43,26 +43,26 @@ module _ {K : Type 0} (laws : TurningLaws K) (p : Parties K) (history : List Ite
   abbrev Turns : TransportTurn → List ℕ → Transport K → Outs → Type 0
   Turns given payload new o = UnitTurned p Client history bytes payload (step_given given) (kept_after layers given new) o
 
-  -- ---- lines, with whatever payload is shown
+  -- ---- lines, whose text is shown
 
-  pub other_line : (new : Transport K) (o : Outs) → IsQuiet o → LineTurnOf p Client history s bytes line_turn.Other new → {payload : List ℕ} → Turns (outcome.Done effect.OtherLine) payload new o
-  other_line new o quiet x {payload} = record {
-    items = Item.TookOtherLine x.text ∷ [];
+  pub other_line : (new : State K) (o : Outs) → IsQuiet o → LineTurnOf p Client history s bytes line_turn.Other new → Turns (outcome.Done effect.OtherLine) new.reading.text new.kept o
+  other_line new o quiet x = record {
+    items = Item.TookOtherLine new.reading.text ∷ [];
     more = [];
-    shows = steps.Shows.other_line x.text;
+    shows = steps.Shows.other_line;
     sends_on = λ old older live. refl;
-    turned = laws.other p Client history e sums alive bytes x.text new x.unit x.sums;
+    turned = laws.other p Client history e sums alive bytes new.reading.text new.kept x.unit x.sums;
     parts = quiet.out ∙ sym (append-nil o.before);
     lists = quiet.sent ∙ sym (append-nil o.listed);
   }
 
-  pub version_line : (new : Transport K) (o : Outs) → IsQuiet o → LineTurnOf p Client history s bytes line_turn.Version new → {payload : List ℕ} → Turns (outcome.Done effect.VersionLine) payload new o
-  version_line new o quiet x {payload} = record {
-    items = Item.TookLine x.text ∷ [];
+  pub version_line : (new : State K) (o : Outs) → IsQuiet o → LineTurnOf p Client history s bytes line_turn.Version new → Turns (outcome.Done effect.VersionLine) new.kept.lines.line new.kept o
+  version_line new o quiet x = record {
+    items = Item.TookLine new.kept.lines.line ∷ [];
     more = [];
-    shows = steps.Shows.version_line x.text;
+    shows = steps.Shows.version_line;
     sends_on = λ old older live. refl;
-    turned = laws.version p Client history e sums alive bytes x.text new x.unit x.sums;
+    turned = laws.version p Client history e sums alive bytes new.kept.lines.line new.kept x.unit x.sums;
     parts = quiet.out ∙ sym (append-nil o.before);
     lists = quiet.sent ∙ sym (append-nil o.listed);
   }

@@ -20,6 +20,7 @@ pub mod AsksUser
 pub mod TurningWhole
 pub mod TurningBegun
 pub mod TurningReads
+pub mod TurningShown
 pub mod TurningLaws
 pub mod TurningReplies
 pub mod TurningEnds

@@ -1,6 +1,5 @@
 -- Where an end stands that was made.
 use Rattle.std.proofs.Common.{◌≡◌, ℕ, true, None, arith, List, [], ◌∷◌, ◌++◌, refl, ap, sym, ◌∙◌, subst}
-use Rattle.ssh_model.specs.Authentication.Kept as authentication
 use Rattle.ssh_model.specs.Channels.Kept.{Channels, no_channels}
 use Rattle.ssh_model.specs.End.State.{Authentication, EndState, new_authentication, new_end}
 use Rattle.ssh_model.specs.End.Summary.{HasOpened}
@@ -36,8 +35,8 @@ opened_at {K} p side c given cookie secret machine o e f x =
     subst (λ (k : Crypto K). IsOpened k (settings_of p side) side cookie secret machine o) (sym e) (subst (λ (s : Settings). IsOpened c s side cookie secret machine o) (sym f) x)
 
 module _ {K : Type 0} (laws : OpeningLaws K) (p : Parties K) (side : Side) (parts layers : Type 0) (lawful : AreLawful p) (parts_are : parts) (layers_are : layers) (cookie secret : List ℕ) (material : IsMaterial cookie secret)
-    (machine : State K) (a : Authentication) (ch : Channels) (a_is : a ≡ new_authentication side) (ch_is : ch ≡ no_channels) (o : Outs) where
-  from_opened : IsOpened p.crypto (settings_of p side) side cookie secret machine o → MadeAt p side parts layers (record { cookie = cookie; secret = secret }) machine (end_with machine a ch) o.before o.after
+    (machine : State K) (a : Authentication) (ch : Channels) (a_is : a ≡ new_authentication side) (ch_is : ch ≡ no_channels) (o : Outs) (none : o.listed ≡ []) where
+  from_opened : IsOpened p.crypto (settings_of p side) side cookie secret machine o → MadeAt p side parts layers (record { cookie = cookie; secret = secret }) machine (end_with machine a ch) o.before o.after o.relisted
   from_opened x =
       let items : List Item = Sent None (KexInit (offer p side true cookie)) x.payload ∷ SentLine (settings_of p side).line ∷ Fed cookie secret ∷ [] in
       let bytes : List ℕ = ((settings_of p side).line ++ line_end) ++ x.wire in
@@ -56,6 +55,7 @@ module _ {K : Type 0} (laws : OpeningLaws K) (p : Parties K) (side : Side) (part
         opened = opened;
         material_is = refl;
         out = x.parts;
+        lists = x.lists ∙ ap (λ (l : List (List ℕ)). l ++ x.payload ∷ []) none;
         place = record {
           lawful = lawful;
           parts_are = parts_are;
@@ -67,5 +67,5 @@ module _ {K : Type 0} (laws : OpeningLaws K) (p : Parties K) (side : Side) (part
         };
       }
 
-  pub made_at : (c : Crypto K) (given : Settings) → p.crypto ≡ c → settings_of p side ≡ given → IsOpened c given side cookie secret machine o → MadeAt p side parts layers (record { cookie = cookie; secret = secret }) machine (end_with machine a ch) o.before o.after
+  pub made_at : (c : Crypto K) (given : Settings) → p.crypto ≡ c → settings_of p side ≡ given → IsOpened c given side cookie secret machine o → MadeAt p side parts layers (record { cookie = cookie; secret = secret }) machine (end_with machine a ch) o.before o.after o.relisted
   made_at c given e f x = from_opened (opened_at p side c given cookie secret machine o e f x)

@@ -1,5 +1,5 @@
 -- How an end of either role goes from one place of a run to the next.
-use Rattle.std.proofs.Common.{◌≡◌, ℕ, Bool, true, false, cond, List, [], ◌∷◌, ◌++◌, refl, ap, sym, ◌∙◌, subst, Option, Some, None, Result, Ok, Err}
+use Rattle.std.proofs.Common.{◌≡◌, ℕ, Bool, true, false, cond, List, [], ◌∷◌, ◌++◌, refl, ap, sym, ◌∙◌, subst, None, Result, Ok, Err}
 use Rattle.std.proofs.lemmas.Bool.{false≢true}
 use Rattle.ssh_model.specs.Channels.Kept.{Channels}
 use Rattle.ssh_model.specs.End.Reading.{end_reading}
@@ -25,7 +25,7 @@ use Rattle.ssh_transport_machine.specs.Turning.{IsQuiet}
 use Rattle.ssh_end.specs.Asking.{DoneInSession, end_with}
 use Rattle.ssh_end.specs.Places.{AskedTo, DiedOn, FedTo, StandsAfter, TookUnit, Waited, added, state_by}
 use Rattle.ssh_end.specs.Reading.{IsReading, SameReading}
-use Rattle.ssh_end.specs.Steps.{UnitTurned}
+use Rattle.ssh_end.specs.Steps.{UnitTurned, shown_by}
 use Rattle.ssh_end.specs.declared.asking.outcome.AskStep.{AskStep}
 use Rattle.ssh_end.specs.declared.asking.outcome.Fault.{Fault}
 use Rattle.ssh_end.specs.declared.asking.outcome.Fault.TheVariants as fault
@@ -75,7 +75,7 @@ module _ {K : Type 0} (laws : PlaceLaws K) (p : Parties K) (side : Side) (parts 
     place = record { lawful = place.lawful; parts_are = place.parts_are; layers_are = λ e. are; sums = sums; run = place.run; reading = λ e. reading; guarded = place.guarded };
   }
 
-  pub took_unit : old.kept.dead ≡ false → (bytes : List ℕ) (done : Step) (o : Outs) (t : UnitTurned p side history bytes new.receiver.payload done (end_with new b dh) o) → (new.kept.dead ≡ false → begun_of new ≡ []) → (new.kept.dead ≡ false → IsReading p.crypto new) → later → TookUnit p side parts later history bytes done new (end_with new b dh) o
+  pub took_unit : old.kept.dead ≡ false → (bytes : List ℕ) (done : Step) (o : Outs) (t : UnitTurned p side history bytes (shown_by done new) done (end_with new b dh) o) → (new.kept.dead ≡ false → begun_of new ≡ []) → (new.kept.dead ≡ false → IsReading p.crypto new) → later → TookUnit p side parts later history bytes done new (end_with new b dh) o
   took_unit alive bytes done o t begun reading are =
       let run : EndRun p side (t.items ++ history) = laws.goes_on p side history (end_with old a ch) place.sums place.run alive bytes t.items t.more (end_with new b dh) t.turned in
       record {

@@ -1,5 +1,5 @@
 -- What a server does is what the server of a session does, from one place of a run to the next.
-use Rattle.std.proofs.Common.{◌≡◌, ℕ, true, false, List, ◌++◌, refl, ap, sym, ◌∙◌, subst, Result}
+use Rattle.std.proofs.Common.{◌≡◌, ℕ, true, false, List, refl, ap, sym, ◌∙◌, subst, Result}
 use Rattle.ssh_model.specs.Authentication.Requests.{Judge, judge_of}
 use Rattle.ssh_model.specs.End.State.{Authentication.OfServer}
 use Rattle.ssh_model.specs.Sessions.Items as session

@@ -63,7 +63,7 @@ one_payload a b e = ap opened e
 -- the law of units, and those of a machine
 pub record ReadingLaws (K : Type 0) : Type 0 where
   pub one : (c : Crypto K) (stage : Stage K) (unit : List ℕ) (a b : Outcome) → IsSealing c → IsUnit c stage unit a → IsUnit c stage unit b → a ≡ b
-  pub lines : (p : Parties K) (side : Side) (history : List Item) (old : State K) → SumsUp p side history old.kept → old.kept.dead ≡ false → IsLive old → old.kept.lines.found ≡ false → (bytes : List ℕ) (done : LineTurn) (new : State K) → LineTaken old bytes done new → LineTurnOf p side history old.kept bytes done new.kept
+  pub lines : (p : Parties K) (side : Side) (history : List Item) (old : State K) → SumsUp p side history old.kept → old.kept.dead ≡ false → IsLive old → old.kept.lines.found ≡ false → (bytes : List ℕ) (done : LineTurn) (new : State K) → LineTaken old bytes done new → LineTurnOf p side history old.kept bytes done new
   pub packets : (p : Parties K) (side : Side) (history : List Item) (old : State K) → SumsUp p side history old.kept → old.kept.dead ≡ false → IsLive old → old.kept.lines.found ≡ true → (bytes : List ℕ) (done : PacketTurn) (new : State K) (o : Outs) → PacketTaken p.crypto old bytes done new o → PacketTurnOf p side history old.kept bytes done new o
 
 -- A unit of such a payload is one of the payload that is shown.
@@ -97,10 +97,10 @@ module _ {K : Type 0} (laws : ReadingLaws K) (p : Parties K) (sealing : IsSealin
   line_left unfound line_turn.More given new x shown = Left.waits shown (line_begun p.crypto old bytes new unfound reading alive x)
   line_left unfound line_turn.Other given new x shown =
       let y = laws.lines p side history old sums alive live unfound bytes line_turn.Other new x in
-      Left.line (ap is_whole shown) (λ e. cc (sym e ∙ shown)) (other_fresh p.crypto old bytes new unfound reading x) (no_payload y.text new y.unit)
+      Left.line (ap is_whole shown) (λ e. cc (sym e ∙ shown)) (other_fresh p.crypto old bytes new unfound reading x) (no_payload new.reading.text new y.unit)
   line_left unfound line_turn.Version given new x shown =
       let y = laws.lines p side history old sums alive live unfound bytes line_turn.Version new x in
-      Left.line (ap is_whole shown) (λ e. cc (sym e ∙ shown)) (version_fresh p.crypto old bytes new unfound reading x) (no_payload_there y.text new y.unit)
+      Left.line (ap is_whole shown) (λ e. cc (sym e ∙ shown)) (version_fresh p.crypto old bytes new unfound reading x) (no_payload_there new.kept.lines.line new y.unit)
   line_left unfound (line_turn.Refused why) given new x shown = is_over why given new shown (ap (λ (s : State K). s.kept.dead) x.after)
 
   -- ---- packets

@@ -14,7 +14,7 @@ use Rattle.ssh_end.specs.Beside.{channels_by}
 use Rattle.ssh_end.specs.Ends.{EndValue, IsFault}
 use Rattle.ssh_end.specs.Reading.{SameReading}
 use Rattle.ssh_end.specs.Stands.{AdvancedTo, FailedTo, PerformedTo, StandsAt}
-use Rattle.ssh_end.specs.Steps.{Shows}
+use Rattle.ssh_end.specs.Steps.{Shows, shown_by}
 use Rattle.ssh_end.specs.Told.{told_of}
 use Rattle.ssh_end.specs.Turn.{TurnShows, channels_in, payloads_in}
 use Rattle.ssh_end.specs.Units.{UnitGoes}
@@ -42,7 +42,7 @@ pub record Advances {R X L S F K : Type 0} (ends : role.Ghosts R X L S F K) (exc
   pub placed : (p : Parties K) (history : List Item) → StandsAt ends exchanges p history old →
       AdvancedTo ends exchanges p history old bytes used before after new
 
--- The turn shows what was done with a step, of whose packet this is the payload.
+-- The turn shows what was done with a step, whose packet has this payload, or whose line this text.
 pub record ShowsTurn (payload : List ℕ) (given : Step) (payloads : List (List ℕ)) (channels : List (Option ℕ)) (bytes : List ℕ)
     (turn : Turn) : Type 0 where
   pub shows : (items : List Item) → Shows payload given items → TurnShows turn items
@@ -55,7 +55,7 @@ pub record ShowsTurn (payload : List ℕ) (given : Step) (payloads : List (List 
 pub record EndTook {R X L S F K : Type 0} (ends : role.Ghosts R X L S F K) (exchanges : exchange.Ghosts X S F K)
     (c : Crypto K) (old : EndValue K R L) (bytes before after : List ℕ) (turn : Turn) (new : EndValue K R L) : Type 0 where
   pub advances : Advances ends exchanges c old bytes turn.used before after new
-  pub shows : ShowsTurn new.machine.receiver.payload new.step new.sent new.channels bytes turn
+  pub shows : ShowsTurn (shown_by new.step new.machine) new.step new.sent new.channels bytes turn
   pub same : new.role ≡ old.role
 
 -- It did nothing for want of memory, or was over before.

@@ -20,7 +20,7 @@ use Rattle.ssh_transport_machine.specs.State.{State, begun_of}
 use Rattle.ssh_transport_machine.specs.Turning.{IsQuiet}
 use Rattle.ssh_end.specs.Asking.{DoneInSession}
 use Rattle.ssh_end.specs.Reading.{IsReading, SameReading}
-use Rattle.ssh_end.specs.Steps.{UnitTurned}
+use Rattle.ssh_end.specs.Steps.{UnitTurned, shown_by}
 use Rattle.ssh_end.specs.Units.{EndDoes, EndLacks, UnitGoes, UnitLacks}
 use Rattle.ssh_end.specs.declared.asking.outcome.AskStep.{AskStep}
 use Rattle.ssh_end.specs.declared.asking.outcome.Fault.{Fault}
@@ -66,7 +66,7 @@ pub record Waited {K : Type 0} (p : Parties K) (side : Side) (parts layers : Typ
 -- more is begun.
 pub record TookUnit {K : Type 0} (p : Parties K) (side : Side) (parts layers : Type 0) (history : List Item)
     (bytes : List ℕ) (done : Step) (new : State K) (e : EndState K) (o : Outs) : Type 0 where
-  pub turned : UnitTurned p side history bytes new.receiver.payload done e o
+  pub turned : UnitTurned p side history bytes (shown_by done new) done e o
   pub begun : new.kept.dead ≡ false → begun_of new ≡ []
   pub place : StandsAfter p side parts layers (turned.items ++ history) new e
 

@@ -16,7 +16,7 @@ use Rattle.ssh_transport_machine.specs.Turning.{IsQuiet}
 use Rattle.ssh_layers.specs.Layers.{Layers}
 use Rattle.ssh_end.specs.Reading.{IsReading}
 use Rattle.ssh_layers.specs.Sessions.{AreOf, end_of}
-use Rattle.ssh_end.specs.Steps.{UnitTurned}
+use Rattle.ssh_end.specs.Steps.{UnitTurned, shown_by}
 use Rattle.ssh_end.specs.declared.step.Step.{Step}
 use Rattle.ssh_end.specs.declared.step.Step.TheVariants as step
 
@@ -47,7 +47,7 @@ pub record IsWaiting {K : Type 0} (p : Parties K) (history : List Item) (bytes :
 -- Nothing more is begun.
 pub record IsUnitTurned {K : Type 0} (p : Parties K) (history : List Item) (bytes : List ℕ) (done : Step) (new : State K)
     (later : Layers) (o : Outs) : Type 0 where
-  pub turned : UnitTurned p Server history bytes new.receiver.payload done (end_of new.kept later) o
+  pub turned : UnitTurned p Server history bytes (shown_by done new) done (end_of new.kept later) o
   pub begun : new.kept.dead ≡ false → begun_of new ≡ []
   pub reading : new.kept.dead ≡ false → IsReading p.crypto new
   pub layers_are : AreOf p later

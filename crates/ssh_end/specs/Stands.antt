@@ -4,11 +4,12 @@ use Rattle.ssh_model.specs.End.State.{EndState}
 use Rattle.ssh_model.specs.End.Summary.{HasOpened}
 use Rattle.ssh_model.specs.KeyExchange.Exchanges.{Material, fed}
 use Rattle.ssh_model.specs.Sessions.Items as session
-use Rattle.ssh_model.specs.Sessions.Items.{Item}
+use Rattle.ssh_model.specs.Sessions.Items.{Item, messages_sent}
 use Rattle.ssh_model.specs.Sessions.Parties.{AreLawful, Parties, Settings, settings_of}
 use Rattle.ssh_model.specs.Side.{Side}
 use Rattle.ssh_types.specs.Sides.{side_of}
 use Rattle.ssh_transport.specs.declared.role.Role as exchange
+use Rattle.ssh_transport_machine.specs.Puts.{payloads_of}
 use Rattle.ssh_transport_machine.specs.State.{State, begun_of}
 use Rattle.ssh_end.specs.Ends.{EndValue}
 use Rattle.ssh_end.specs.Places.{AskedTo, DiedOn, FedTo, StandsAfter, TurnedTo, state_by}
@@ -61,19 +62,21 @@ FeedsTo ends exchanges p history cookie secret answer new =
     FedTo p (side_of exchanges.SIDE) (ends.is_of new.role p) (ends.are_of new.layers p) history cookie secret answer
     new.machine (state_of ends new)
 
--- An end that was made stands after its opening: it was fed this pair, and put out its version line and its first KEXINIT.
+-- An end that was made stands after its opening: it was fed this pair, put out its version line and its first KEXINIT, and
+-- shows the payload of that as sent.
 pub record MadeAt {K : Type 0} (p : Parties K) (side : Side) (parts layers : Type 0) (material : Material)
-    (machine : State K) (e : EndState K) (before after : List ℕ) : Type 0 where
+    (machine : State K) (e : EndState K) (before after : List ℕ) (sent : List (List ℕ)) : Type 0 where
   pub items : List Item
   pub bytes : List ℕ
   pub opened : HasOpened p side items bytes e
   pub material_is : fed items ≡ material ∷ []
   pub out : after ≡ before ++ bytes
+  pub lists : sent ≡ payloads_of (messages_sent items)
   pub place : StandsAfter p side parts layers items machine e
 
 -- An end was made with these settings, of whichever lawful parties they and its parts are.
 abbrev pub MadeOf : {K : Type 0} → Side → Settings → (is_of are_of : Parties K → Type 0) → Material → State K → EndState K →
-    (before after : List ℕ) → Type 0
-MadeOf {K} side given is_of are_of material machine e before after =
+    (before after : List ℕ) → (sent : List (List ℕ)) → Type 0
+MadeOf {K} side given is_of are_of material machine e before after sent =
     (p : Parties K) → AreLawful p → settings_of p side ≡ given → is_of p →
-    MadeAt p side (is_of p) (are_of p) material machine e before after
+    MadeAt p side (is_of p) (are_of p) material machine e before after sent

@@ -23,6 +23,7 @@ use Rattle.ssh_model.specs.TransportLayer.Turns.{refusal_items}
 use Rattle.ssh_model.specs.End.State.{EndState}
 use Rattle.ssh_model.specs.End.Summary.{EndSumsUp, EndTurned}
 use Rattle.ssh_transport_machine.specs.Puts.{Outs, payloads_of}
+use Rattle.ssh_transport_machine.specs.State.{State}
 use Rattle.ssh_types.specs.Refusals.{refusal_of}
 use Rattle.ssh_end.specs.Beside.{channels_by}
 use Rattle.ssh_end.specs.Owed.{channels_sent}
@@ -84,10 +85,16 @@ AreSent [] = Unit {0}
 AreSent (Item.Sent channel message payload ∷ items) = AreSent items
 AreSent (_ ∷ items) = ⊥
 
--- The items of a turn, the newest first, by what was done; where a packet was taken, it has this payload.
+-- what an end shows of what it took in a step: the text of a line without CR LF, or the payload of a packet
+abbrev pub shown_by : {K : Type 0} → Step → State K → List ℕ
+shown_by step.OtherLine s = s.reading.text
+shown_by step.VersionLine s = s.kept.lines.line
+shown_by _ s = s.receiver.payload
+
+-- The items of a turn, the newest first, by what was done; a line that was taken has this text, and a packet this payload.
 pub data Shows (payload : List ℕ) : Step → List Item → Type 0 where
-  other_line : (line : List ℕ) → Shows payload step.OtherLine (TookOtherLine line ∷ [])
-  version_line : (line : List ℕ) → Shows payload step.VersionLine (TookLine line ∷ [])
+  other_line : Shows payload step.OtherLine (TookOtherLine payload ∷ [])
+  version_line : Shows payload step.VersionLine (TookLine payload ∷ [])
   skipped : Shows payload step.Skipped (Told Ignored ∷ TookGuess payload ∷ [])
   took : (channel : Option ℕ) (probing : Bool) (telling : Telling) (message : Msg) (sent : List Item) →
       IsPayload probing message payload → AreSent sent →

@@ -39,8 +39,8 @@ refusal_in (_ ∷ items) = refusal_in items
 abbrev pub IsTaken : Option Took → Option Item → Type 0
 IsTaken None None = Unit {0}
 IsTaken None (Some (Refused why opened)) = Unit {0}
-IsTaken (Some took.OtherLine) (Some (TookOtherLine line)) = Unit {0}
-IsTaken (Some took.VersionLine) (Some (TookLine line)) = Unit {0}
+IsTaken (Some (took.OtherLine text)) (Some item) = item ≡ TookOtherLine text.now
+IsTaken (Some (took.VersionLine text)) (Some item) = item ≡ TookLine text.now
 IsTaken (Some (took.Skipped payload)) (Some item) = item ≡ TookGuess payload.now
 IsTaken (Some (took.Message channel message payload)) (Some item) = item ≡ Item.Took channel (meaning message) payload.now
 IsTaken given item = ⊥

@@ -10,12 +10,13 @@ ghost use Rattle.ssh_model.specs.TransportLayer.Kept.{after_fed, can_be_fed};
 ghost use Rattle.ssh_types.specs.Sides.{side_of};
 ghost use Rattle.ssh_transport_base.specs.Directions.{next_number};
 ghost use Rattle.ssh_transport_machine.specs.Standing.{Stands};
+ghost use Rattle.ssh_transport_machine.specs.State.{line_taken};
 ghost use Rattle.ssh_end.specs.Asking.{AreAskChannels, Fails, ask_of};
 ghost use Rattle.ssh_end.specs.Calls.{Advances, EndAsked, EndTakes, outs_of};
 ghost use Rattle.ssh_end.specs.Ends.{EndLacks, IsFault};
 ghost use Rattle.ssh_end.specs.Reading.{SameReading};
 ghost use Rattle.ssh_end.specs.Stands.{FailedTo, FeedsTo, PerformedTo, StandsAt};
-ghost use Rattle.ssh_end.specs.Steps.{Shows};
+ghost use Rattle.ssh_end.specs.Steps.{Shows, shown_by};
 ghost use Rattle.ssh_end.specs.Turn.{TurnShows, channels_in, payloads_in};
 
 use crate::ask::Ask;
@@ -153,7 +154,7 @@ impl<R: EndRole> End<R> {
     /// What was done in the last call of `advance` or `take`. Its texts are slices of the end's buffer. After `perform` or `ask` it shows the
     /// payload that was sent.
     pub fn turn(&self) -> Turn<'_>
-        ensures shows { (items : List Item) → Shows self.now.machine.receiver.payload self.now.step items → TurnShows result items }
+        ensures shows { (items : List Item) → Shows (shown_by self.now.step self.now.machine) self.now.step items → TurnShows result items }
         ensures more { self.now.step ≡ Step.More → TurnShows result [] }
         ensures used { result.used ≡ self.now.used }
         ensures sent { payloads_in result.sent ≡ self.now.sent }
@@ -162,13 +163,24 @@ impl<R: EndRole> End<R> {
         turn_of(
             self.step,
             self.used,
-            self.machine.payload(),
+            self.shown(),
             sent_payloads(
                 self.sent.as_slice(),
                 self.channel.as_slice(),
                 self.numbers.as_slice(),
             ),
         )
+    }
+
+    // What was taken in the last call of `advance` or `take`.
+    fn shown(&self) -> &[u8]
+        ensures { result.now ≡ shown_by self.now.step self.now.machine }
+    {
+        match self.step {
+            Step::OtherLine => self.machine.other_line(),
+            Step::VersionLine => self.machine.line(),
+            _ => self.machine.payload(),
+        }
     }
 
     /// Does what a user asks for, or refuses that, which changes nothing. It shows the payload that was sent, and what is told: that a
@@ -263,6 +275,13 @@ impl<R: EndRole> End<R> {
         ensures taking { result.1 ≡ next_number self.now.machine.kept.taking }
     {
         self.machine.numbers()
+    }
+
+    /// The version line of the peer without CR LF (RFC 4253 section 4.2), at most 253 bytes, once it was taken.
+    pub fn version_line(&self) -> Option<&[u8]>
+        ensures { option_copied result ≡ line_taken self.now.machine.kept.lines }
+    {
+        self.machine.version_line()
     }
 
     /// The session id (RFC 4253 section 7.2), once an exchange of keys was completed.

@@ -52,7 +52,7 @@ impl<P: ServerParts, U: UserJudge + Drop> End<ServerRole<P, U>> {
         ensures agreement { IfOk result (λ end. end.role.exchange.agreement ≡ parts.agreement) }
         ensures part { IfOk result (λ end. end.role.exchange.host_signer ≡ parts.host_signer) }
         ensures user { IfOk result (λ end. end.role.user ≡ user) }
-        ensures placed { IfOk result (λ end. MadeOf model.Server (settings_of config) (λ p. IsServer p P.Sealing.crypto (exchange_parts P.Agreement.public_of P.Agreement.shared_of P.HostSigner.key_of P.HostSigner.signature_of end.role.exchange.agreement end.role.exchange.host_signer) (U.verdicts end.role.user)) (λ p. AreServerLayers p end.layers) (record { cookie = cookie; secret = secret }) end.machine (end_of end.machine.kept end.layers) out.old.items out.new.items) }
+        ensures placed { IfOk result (λ end. MadeOf model.Server (settings_of config) (λ p. IsServer p P.Sealing.crypto (exchange_parts P.Agreement.public_of P.Agreement.shared_of P.HostSigner.key_of P.HostSigner.signature_of end.role.exchange.agreement end.role.exchange.host_signer) (U.verdicts end.role.user)) (λ p. AreServerLayers p end.layers) (record { cookie = cookie; secret = secret }) end.machine (end_of end.machine.kept end.layers) out.old.items out.new.items end.sent) }
         ensures out { OnErr result (out.new.items ≡ out.old.items) }
     {
         openings::<<P::Sealing as Sealing>::Key>();

@@ -16,7 +16,8 @@ use ssh_channels::Fact;
 use ssh_message::{Message, decode};
 use ssh_types::Refusal;
 
-/// What an end did with bytes of its peer: with one line or one packet at most. Its texts are slices of the payload of that packet.
+/// What an end did with bytes of its peer: with one line or one packet at most. Its texts are slices of that line, or of the payload of
+/// that packet.
 #[derive(Clone, Copy, Debug)]
 pub struct Turn<'a> {
     /// How many of the bytes were used. The others are given again.
@@ -34,10 +35,14 @@ pub struct Turn<'a> {
 /// What an end took in a turn.
 #[derive(Clone, Copy, Debug)]
 pub enum Took<'a> {
-    /// A line of the server before its version line (RFC 4253 section 4.2).
-    OtherLine,
-    /// The version line (RFC 4253 section 4.2).
-    VersionLine,
+    /// A line of the server before its version line (RFC 4253 section 4.2), here without CR LF.
+    OtherLine {
+        text: &'a [u8],
+    },
+    /// The version line (RFC 4253 section 4.2), here without CR LF.
+    VersionLine {
+        text: &'a [u8],
+    },
     /// The packet after a wrong guess, which is not read (RFC 4253 section 7).
     Skipped {
         payload: &'a [u8],
@@ -99,9 +104,9 @@ pub fn sent_payloads<'a>(
     SentPayloads { payloads, channels }
 }
 
-/// What was done in a step, with the payload of the packet taken last.
-pub fn turn_of<'a>(step: Step, used: usize, payload: &'a [u8], sent: SentPayloads<'a>) -> Turn<'a>
-    ensures shows { (items : List Item) → Shows payload.now step items → TurnShows result items }
+/// What was done in a step, with what was taken in it: the text of a line, or the payload of a packet.
+pub fn turn_of<'a>(step: Step, used: usize, shown: &'a [u8], sent: SentPayloads<'a>) -> Turn<'a>
+    ensures shows { (items : List Item) → Shows shown.now step items → TurnShows result items }
     ensures more { step ≡ Step.More → TurnShows result [] }
     ensures used { result.used ≡ used }
     ensures sent { result.sent ≡ sent.entry }
@@ -110,19 +115,19 @@ pub fn turn_of<'a>(step: Step, used: usize, payload: &'a [u8], sent: SentPayload
     match step {
         Step::More => quiet,
         Step::OtherLine => Turn {
-            took: Some(Took::OtherLine),
+            took: Some(Took::OtherLine { text: shown }),
             ..quiet
         },
         Step::VersionLine => Turn {
-            took: Some(Took::VersionLine),
+            took: Some(Took::VersionLine { text: shown }),
             ..quiet
         },
         Step::Skipped => Turn {
-            took: Some(Took::Skipped { payload }),
+            took: Some(Took::Skipped { payload: shown }),
             told: Some(Told::Ignored),
             ..quiet
         },
-        Step::Took(took) => message_turn(took, payload, quiet),
+        Step::Took(took) => message_turn(took, shown, quiet),
         Step::Refused(why) => Turn {
             refused: Some(why),
             ..quiet

@@ -4,7 +4,7 @@ use Rattle.std.proofs.lemmas.List.{take_more}
 use Rattle.ssh_model.specs.Sessions.Refusals as session
 use Rattle.ssh_model.specs.Wire.Outcome.{Outcome, Outcome.RefusedLine}
 use Rattle.ssh_model.specs.Wire.Line.{IsText, IsLineBegun, IsLineBegun.in_text, IsLineBegun.at_line_end, LineIs, LineUnit, LineUnit.line, LineUnit.zero_byte, LineUnit.lf_without_cr, LineUnit.too_long, line_end}
-use Rattle.ssh_packet.specs.Lines.{Ended, Ended.WithVersion, Ended.WithRefusal, LineReading, with_cr, begun_by, ended_by, IsKept}
+use Rattle.ssh_packet.specs.Lines.{Ended, Ended.WithVersion, Ended.WithRefusal, LineReading, cleared, with_cr, begun_by, ended_by, IsKept}
 use Rattle.ssh_packet.specs.LineKinds.{IsKind}
 use Rattle.ssh_packet.specs.LineSteps.{EndsSo, Finds, GoesOn, EndsWith, LineFinds, Shows, Takes}
 use Rattle.ssh_packet.specs.declared.refusal.LineRefusal.{LineRefusal}
@@ -37,80 +37,80 @@ bad_byte s n text false byte e t room (inr (inr full)) = too_long text byte t fu
 
 -- ---- the value of a reader by its fields
 
-abbrev pub viewed : Bool → ℕ → List ℕ → ℕ → Bool → Option Verdict → LineReading
-viewed s n buffer filled cr e = record { from_server = s; others = n; begun = begun_by e cr (take filled buffer); ended = ended_by e (take filled buffer) }
+abbrev pub viewed : Bool → ℕ → List ℕ → ℕ → ℕ → Bool → Option Verdict → LineReading
+viewed s n buffer filled shown cr e = record { from_server = s; others = n; text = take shown buffer; begun = begun_by e cr (take filled buffer); ended = ended_by e (take filled buffer) }
 
 -- a reader that has not ended holds the beginning of a line
 kept_begun : (text : List ℕ) (cr : Bool) → IsText text → length (with_cr cr text) < 255 → IsLineBegun (with_cr cr text)
 kept_begun text false t room = in_text t room
 kept_begun text true t room = at_line_end text t refl room
 
-going_begun : (s : Bool) (n : ℕ) (buffer : List ℕ) (filled : ℕ) (cr : Bool) (e : Option Verdict) → is_some e ≡ false → IsKept e cr filled buffer → IsLineBegun (viewed s n buffer filled cr e).begun
-going_begun s n buffer filled cr None going kept = kept_begun (take filled buffer) cr kept.0 kept.1
-going_begun s n buffer filled cr (Some end) going kept = let f : true ≡ false = going in cc f
+going_begun : (s : Bool) (n : ℕ) (buffer : List ℕ) (filled shown : ℕ) (cr : Bool) (e : Option Verdict) → is_some e ≡ false → IsKept e cr filled buffer → IsLineBegun (viewed s n buffer filled shown cr e).begun
+going_begun s n buffer filled shown cr None going kept = kept_begun (take filled buffer) cr kept.0 kept.1
+going_begun s n buffer filled shown cr (Some end) going kept = let f : true ≡ false = going in cc f
 
-pub is_begun : (s : Bool) (n : ℕ) (buffer : List ℕ) (filled : ℕ) (cr : Bool) (e : Option Verdict) (value : LineReading) → viewed s n buffer filled cr e ≡ value → is_some e ≡ false → IsKept e cr filled buffer → IsLineBegun value.begun
-is_begun s n buffer filled cr e value v going kept = subst (λ (r : LineReading). IsLineBegun r.begun) v (going_begun s n buffer filled cr e going kept)
+pub is_begun : (s : Bool) (n : ℕ) (buffer : List ℕ) (filled shown : ℕ) (cr : Bool) (e : Option Verdict) (value : LineReading) → viewed s n buffer filled shown cr e ≡ value → is_some e ≡ false → IsKept e cr filled buffer → IsLineBegun value.begun
+is_begun s n buffer filled shown cr e value v going kept = subst (λ (r : LineReading). IsLineBegun r.begun) v (going_begun s n buffer filled shown cr e going kept)
 
 -- ---- CR
 
 abbrev AddsTo : LineReading → ℕ → LineReading → Type 0
 AddsTo old byte new = IsLineBegun (old.begun ++ byte ∷ []) × (new ≡ record old { begun = old.begun ++ byte ∷ [] })
 
-cr_added : (s : Bool) (n : ℕ) (buffer : List ℕ) (filled : ℕ) (cr : Bool) (e : Option Verdict) (byte : ℕ) → (viewed s n buffer filled cr e).ended ≡ None → IsKept e cr filled buffer → (cr ≡ false) × (byte ≡ 13) × (length (take filled buffer) < 254) → AddsTo (viewed s n buffer filled cr e) byte (viewed s n buffer filled true e)
-cr_added s n buffer filled true None byte going kept k = let f : true ≡ false = k.0 in cc f
-cr_added s n buffer filled false None byte going kept k =
+cr_added : (s : Bool) (n : ℕ) (buffer : List ℕ) (filled shown : ℕ) (cr : Bool) (e : Option Verdict) (byte : ℕ) → (viewed s n buffer filled shown cr e).ended ≡ None → IsKept e cr filled buffer → (cr ≡ false) × (byte ≡ 13) × (length (take filled buffer) < 254) → AddsTo (viewed s n buffer filled shown cr e) byte (viewed s n buffer filled shown true e)
+cr_added s n buffer filled shown true None byte going kept k = let f : true ≡ false = k.0 in cc f
+cr_added s n buffer filled shown false None byte going kept k =
     let text : List ℕ = take filled buffer in
     let same : text ++ byte ∷ [] ≡ text ++ 13 ∷ [] = ap (λ (b : ℕ). text ++ b ∷ []) (k.1) in
     let room : length text < 254 = k.2 in (
       at_line_end text kept.0 same (omega (arith, length-append text (byte ∷ []), room)),
-      ap (λ (l : List ℕ). record { from_server = s; others = n; begun = l; ended = None }) (sym same),
+      ap (λ (l : List ℕ). record { from_server = s; others = n; text = take shown buffer; begun = l; ended = None }) (sym same),
     )
-cr_added s n buffer filled cr (Some (verdict.Version minus)) byte going kept k = cc going
-cr_added s n buffer filled cr (Some (verdict.Refused refusal)) byte going kept k = cc going
+cr_added s n buffer filled shown cr (Some (verdict.Version minus)) byte going kept k = cc going
+cr_added s n buffer filled shown cr (Some (verdict.Refused refusal)) byte going kept k = cc going
 
-pub step_return : (s : Bool) (n : ℕ) (buffer : List ℕ) (filled : ℕ) (cr : Bool) (e : Option Verdict) (value : LineReading) (byte : ℕ) → viewed s n buffer filled cr e ≡ value → value.ended ≡ None → IsKept e cr filled buffer →
-    (cr ≡ false) × (byte ≡ 13) × (length (take filled buffer) < 254) → AddsTo value byte (viewed s n buffer filled true e)
-step_return s n buffer filled cr e value byte v going kept k =
-    subst (λ (r : LineReading). AddsTo r byte (viewed s n buffer filled true e)) v (cr_added s n buffer filled cr e byte (ap (λ (r : LineReading). r.ended) v ∙ going) kept k)
+pub step_return : (s : Bool) (n : ℕ) (buffer : List ℕ) (filled shown : ℕ) (cr : Bool) (e : Option Verdict) (value : LineReading) (byte : ℕ) → viewed s n buffer filled shown cr e ≡ value → value.ended ≡ None → IsKept e cr filled buffer →
+    (cr ≡ false) × (byte ≡ 13) × (length (take filled buffer) < 254) → AddsTo value byte (viewed s n buffer filled shown true e)
+step_return s n buffer filled shown cr e value byte v going kept k =
+    subst (λ (r : LineReading). AddsTo r byte (viewed s n buffer filled shown true e)) v (cr_added s n buffer filled shown cr e byte (ap (λ (r : LineReading). r.ended) v ∙ going) kept k)
 
 -- ---- the end of a line
 
-counted : (s : Bool) (n : ℕ) (buffer : List ℕ) (filled : ℕ) (cr : Bool) (e : Option Verdict) (byte : ℕ) → (viewed s n buffer filled cr e).ended ≡ None → EndsSo s n (take filled buffer) (with_cr cr (take filled buffer) ++ byte ∷ []) Other →
-    GoesOn (viewed s n buffer filled cr e) ((viewed s n buffer filled cr e).begun ++ byte ∷ []) (viewed s (n + 1) buffer 0 false e)
-counted s n buffer filled cr None byte going k = ((take filled buffer, k.0), refl)
-counted s n buffer filled cr (Some (verdict.Version minus)) byte going k = cc going
-counted s n buffer filled cr (Some (verdict.Refused refusal)) byte going k = cc going
+counted : (s : Bool) (n : ℕ) (buffer : List ℕ) (filled shown : ℕ) (cr : Bool) (e : Option Verdict) (byte : ℕ) → (viewed s n buffer filled shown cr e).ended ≡ None → EndsSo s n (take filled buffer) (with_cr cr (take filled buffer) ++ byte ∷ []) Other →
+    GoesOn (viewed s n buffer filled shown cr e) ((viewed s n buffer filled shown cr e).begun ++ byte ∷ []) (viewed s (n + 1) buffer 0 filled false e)
+counted s n buffer filled shown cr None byte going k = (k.0, refl)
+counted s n buffer filled shown cr (Some (verdict.Version minus)) byte going k = cc going
+counted s n buffer filled shown cr (Some (verdict.Refused refusal)) byte going k = cc going
 
-pub step_other : (s : Bool) (n : ℕ) (buffer : List ℕ) (filled : ℕ) (cr : Bool) (e : Option Verdict) (value : LineReading) (byte : ℕ) → viewed s n buffer filled cr e ≡ value → value.ended ≡ None →
-    EndsSo s n (take filled buffer) (with_cr cr (take filled buffer) ++ byte ∷ []) Other → GoesOn value (value.begun ++ byte ∷ []) (viewed s (n + 1) buffer 0 false e)
-step_other s n buffer filled cr e value byte v going k =
-    subst (λ (r : LineReading). GoesOn r (r.begun ++ byte ∷ []) (viewed s (n + 1) buffer 0 false e)) v (counted s n buffer filled cr e byte (ap (λ (r : LineReading). r.ended) v ∙ going) k)
+pub step_other : (s : Bool) (n : ℕ) (buffer : List ℕ) (filled shown : ℕ) (cr : Bool) (e : Option Verdict) (value : LineReading) (byte : ℕ) → viewed s n buffer filled shown cr e ≡ value → value.ended ≡ None →
+    EndsSo s n (take filled buffer) (with_cr cr (take filled buffer) ++ byte ∷ []) Other → GoesOn value (value.begun ++ byte ∷ []) (viewed s (n + 1) buffer 0 filled false e)
+step_other s n buffer filled shown cr e value byte v going k =
+    subst (λ (r : LineReading). GoesOn r (r.begun ++ byte ∷ []) (viewed s (n + 1) buffer 0 filled false e)) v (counted s n buffer filled shown cr e byte (ap (λ (r : LineReading). r.ended) v ∙ going) k)
 
-ended_so : (s : Bool) (n : ℕ) (buffer : List ℕ) (filled : ℕ) (cr : Bool) (e : Option Verdict) (byte minus : ℕ) → (viewed s n buffer filled cr e).ended ≡ None → EndsSo s n (take filled buffer) (with_cr cr (take filled buffer) ++ byte ∷ []) (Version minus) →
-    (ended : Ended) × EndsWith (viewed s n buffer filled cr e) ((viewed s n buffer filled cr e).begun ++ byte ∷ []) (viewed s n buffer filled cr (Some (verdict.Version minus))) ended
-ended_so s n buffer filled cr None byte minus going k =
+ended_so : (s : Bool) (n : ℕ) (buffer : List ℕ) (filled shown : ℕ) (cr : Bool) (e : Option Verdict) (byte minus : ℕ) → (viewed s n buffer filled shown cr e).ended ≡ None → EndsSo s n (take filled buffer) (with_cr cr (take filled buffer) ++ byte ∷ []) (Version minus) →
+    (ended : Ended) × EndsWith (viewed s n buffer filled shown cr e) ((viewed s n buffer filled shown cr e).begun ++ byte ∷ []) (viewed s n buffer filled shown cr (Some (verdict.Version minus))) ended
+ended_so s n buffer filled shown cr None byte minus going k =
     let text : List ℕ = take filled buffer in
     let place = k.1 in
     (WithVersion text (drop 4 (take minus text)) (drop (minus + 1) text), ((k.0, place.has), refl))
-ended_so s n buffer filled cr (Some (verdict.Version other)) byte minus going k = cc going
-ended_so s n buffer filled cr (Some (verdict.Refused refusal)) byte minus going k = cc going
+ended_so s n buffer filled shown cr (Some (verdict.Version other)) byte minus going k = cc going
+ended_so s n buffer filled shown cr (Some (verdict.Refused refusal)) byte minus going k = cc going
 
-pub step_version : (s : Bool) (n : ℕ) (buffer : List ℕ) (filled : ℕ) (cr : Bool) (e : Option Verdict) (value : LineReading) (byte minus : ℕ) → viewed s n buffer filled cr e ≡ value → value.ended ≡ None →
-    EndsSo s n (take filled buffer) (with_cr cr (take filled buffer) ++ byte ∷ []) (Version minus) → (ended : Ended) × EndsWith value (value.begun ++ byte ∷ []) (viewed s n buffer filled cr (Some (verdict.Version minus))) ended
-step_version s n buffer filled cr e value byte minus v going k =
-    subst (λ (r : LineReading). (ended : Ended) × EndsWith r (r.begun ++ byte ∷ []) (viewed s n buffer filled cr (Some (verdict.Version minus))) ended) v (ended_so s n buffer filled cr e byte minus (ap (λ (r : LineReading). r.ended) v ∙ going) k)
+pub step_version : (s : Bool) (n : ℕ) (buffer : List ℕ) (filled shown : ℕ) (cr : Bool) (e : Option Verdict) (value : LineReading) (byte minus : ℕ) → viewed s n buffer filled shown cr e ≡ value → value.ended ≡ None →
+    EndsSo s n (take filled buffer) (with_cr cr (take filled buffer) ++ byte ∷ []) (Version minus) → (ended : Ended) × EndsWith value (value.begun ++ byte ∷ []) (viewed s n buffer filled shown cr (Some (verdict.Version minus))) ended
+step_version s n buffer filled shown cr e value byte minus v going k =
+    subst (λ (r : LineReading). (ended : Ended) × EndsWith r (r.begun ++ byte ∷ []) (viewed s n buffer filled shown cr (Some (verdict.Version minus))) ended) v (ended_so s n buffer filled shown cr e byte minus (ap (λ (r : LineReading). r.ended) v ∙ going) k)
 
-refused_so : (s : Bool) (n : ℕ) (buffer : List ℕ) (filled : ℕ) (cr : Bool) (e : Option Verdict) (byte : ℕ) (refusal : LineRefusal) → (viewed s n buffer filled cr e).ended ≡ None → EndsSo s n (take filled buffer) (with_cr cr (take filled buffer) ++ byte ∷ []) (Refused refusal) →
-    (ended : Ended) × EndsWith (viewed s n buffer filled cr e) ((viewed s n buffer filled cr e).begun ++ byte ∷ []) (viewed s n buffer filled cr (Some (verdict.Refused refusal))) ended
-refused_so s n buffer filled cr None byte refusal going k = (WithRefusal refusal, (k, refl))
-refused_so s n buffer filled cr (Some (verdict.Version minus)) byte refusal going k = cc going
-refused_so s n buffer filled cr (Some (verdict.Refused other)) byte refusal going k = cc going
+refused_so : (s : Bool) (n : ℕ) (buffer : List ℕ) (filled shown : ℕ) (cr : Bool) (e : Option Verdict) (byte : ℕ) (refusal : LineRefusal) → (viewed s n buffer filled shown cr e).ended ≡ None → EndsSo s n (take filled buffer) (with_cr cr (take filled buffer) ++ byte ∷ []) (Refused refusal) →
+    (ended : Ended) × EndsWith (viewed s n buffer filled shown cr e) ((viewed s n buffer filled shown cr e).begun ++ byte ∷ []) (viewed s n buffer filled shown cr (Some (verdict.Refused refusal))) ended
+refused_so s n buffer filled shown cr None byte refusal going k = (WithRefusal refusal, (k, refl))
+refused_so s n buffer filled shown cr (Some (verdict.Version minus)) byte refusal going k = cc going
+refused_so s n buffer filled shown cr (Some (verdict.Refused other)) byte refusal going k = cc going
 
-pub step_refused : (s : Bool) (n : ℕ) (buffer : List ℕ) (filled : ℕ) (cr : Bool) (e : Option Verdict) (value : LineReading) (byte : ℕ) (refusal : LineRefusal) → viewed s n buffer filled cr e ≡ value → value.ended ≡ None →
-    EndsSo s n (take filled buffer) (with_cr cr (take filled buffer) ++ byte ∷ []) (Refused refusal) → (ended : Ended) × EndsWith value (value.begun ++ byte ∷ []) (viewed s n buffer filled cr (Some (verdict.Refused refusal))) ended
-step_refused s n buffer filled cr e value byte refusal v going k =
-    subst (λ (r : LineReading). (ended : Ended) × EndsWith r (r.begun ++ byte ∷ []) (viewed s n buffer filled cr (Some (verdict.Refused refusal))) ended) v (refused_so s n buffer filled cr e byte refusal (ap (λ (r : LineReading). r.ended) v ∙ going) k)
+pub step_refused : (s : Bool) (n : ℕ) (buffer : List ℕ) (filled shown : ℕ) (cr : Bool) (e : Option Verdict) (value : LineReading) (byte : ℕ) (refusal : LineRefusal) → viewed s n buffer filled shown cr e ≡ value → value.ended ≡ None →
+    EndsSo s n (take filled buffer) (with_cr cr (take filled buffer) ++ byte ∷ []) (Refused refusal) → (ended : Ended) × EndsWith value (value.begun ++ byte ∷ []) (viewed s n buffer filled shown cr (Some (verdict.Refused refusal))) ended
+step_refused s n buffer filled shown cr e value byte refusal v going k =
+    subst (λ (r : LineReading). (ended : Ended) × EndsWith r (r.begun ++ byte ∷ []) (viewed s n buffer filled shown cr (Some (verdict.Refused refusal))) ended) v (refused_so s n buffer filled shown cr e byte refusal (ap (λ (r : LineReading). r.ended) v ∙ going) k)
 
 -- ---- many bytes
 
@@ -137,9 +137,9 @@ pub nothing_added : (old : LineReading) (bytes : List ℕ) → old ≡ added old
 nothing_added old bytes = ap (λ (l : List ℕ). record old { begun = l }) (sym (append-nil old.begun))
 
 -- a reader that had not ended took so many bytes
-pub goes_on : (old new : LineReading) (bytes : List ℕ) (used : ℕ) (step : LineStep) → old.ended ≡ None → LineFinds old (old.begun ++ take used bytes) step new → Takes old bytes used step new
+pub goes_on : (old new : LineReading) (bytes : List ℕ) (used : ℕ) (step : LineStep) → old.ended ≡ None → LineFinds (cleared old) (old.begun ++ take used bytes) step new → Takes old bytes used step new
 goes_on old new bytes used step going f = record { going = λ _. f; again = subst (λ (o : Option Ended). IfSome o (λ ended. (used ≡ 0) × Shows ended step × (new ≡ old))) (sym going) tt }
 
-pub not_ended : (s : Bool) (n : ℕ) (buffer : List ℕ) (filled : ℕ) (cr : Bool) (e : Option Verdict) (value : LineReading) → viewed s n buffer filled cr e ≡ value → is_some e ≡ false → value.ended ≡ None
-not_ended s n buffer filled cr None value v going = sym (ap (λ (r : LineReading). r.ended) v)
-not_ended s n buffer filled cr (Some end) value v going = let f : true ≡ false = going in cc f
+pub not_ended : (s : Bool) (n : ℕ) (buffer : List ℕ) (filled shown : ℕ) (cr : Bool) (e : Option Verdict) (value : LineReading) → viewed s n buffer filled shown cr e ≡ value → is_some e ≡ false → value.ended ≡ None
+not_ended s n buffer filled shown cr None value v going = sym (ap (λ (r : LineReading). r.ended) v)
+not_ended s n buffer filled shown cr (Some end) value v going = let f : true ≡ false = going in cc f

@@ -2,7 +2,7 @@
 use Rattle.std.specs.Prelude.{◌≡◌, ◌<◌, ◌≤◌, ◌+◌, ℕ, Bool, false, List, [], ◌∷◌, ◌++◌, length, take, None, Some, IfSome}
 use Rattle.ssh_model.specs.Wire.Outcome.{Outcome.OtherLine, Outcome.VersionLine, Outcome.RefusedLine}
 use Rattle.ssh_model.specs.Wire.Line.{HasVersion, IsLineBegun, IsText, LineUnit, most_others}
-use Rattle.ssh_packet.specs.Lines.{with_cr, Ended, Ended.WithVersion, Ended.WithRefusal, LineReading}
+use Rattle.ssh_packet.specs.Lines.{with_cr, Ended, Ended.WithVersion, Ended.WithRefusal, LineReading, cleared}
 use Rattle.ssh_packet.specs.LineKinds.{HasMinusAt}
 use Rattle.ssh_packet.specs.Refusals.{line_refusal}
 use Rattle.ssh_packet.specs.declared.line_reader.LineStep.{LineStep}
@@ -36,9 +36,9 @@ IsEnd from_server others unit (WithRefusal refusal) = LineUnit from_server other
 abbrev pub EndsWith : LineReading → List ℕ → LineReading → Ended → Type 0
 EndsWith old bytes new ended = IsEnd old.from_server old.others bytes ended × (new ≡ record old { begun = []; ended = Some ended })
 
--- The bytes were another line, and the next one may come.
+-- The bytes were another line, whose text is shown, and the next one may come.
 abbrev pub GoesOn : LineReading → List ℕ → LineReading → Type 0
-GoesOn old bytes new = ((text : List ℕ) × LineUnit old.from_server old.others bytes (OtherLine text)) × (new ≡ record old { others = old.others + 1; begun = [] })
+GoesOn old bytes new = LineUnit old.from_server old.others bytes (OtherLine new.text) × (new ≡ record old { others = old.others + 1; text = new.text; begun = [] })
 
 -- What a reader that held the beginning of these bytes found when it had used them all.
 abbrev pub Finds : LineReading → List ℕ → Found → LineReading → Type 0
@@ -68,5 +68,5 @@ LineFinds old bytes (Refused refusal) new = EndsWith old bytes new (WithRefusal 
 -- What one call did. A reader that had ended uses nothing, and shows the same again; another goes to the end of one line
 -- and no further.
 pub record Takes (old : LineReading) (bytes : List ℕ) (used : ℕ) (step : LineStep) (new : LineReading) : Type 0 where
-  pub going : old.ended ≡ None → LineFinds old (old.begun ++ take used bytes) step new
+  pub going : old.ended ≡ None → LineFinds (cleared old) (old.begun ++ take used bytes) step new
   pub again : IfSome old.ended (λ ended. (used ≡ 0) × Shows ended step × (new ≡ old))

@@ -10,10 +10,12 @@ pub data Ended : Type 0 where
   WithVersion : (text protoversion software : List ℕ) → Ended
   WithRefusal : LineRefusal → Ended
 
--- whose lines are read, the other lines taken, the bytes of the line begun, and what the reader ended with
+-- whose lines are read, the other lines taken, the text of the one that the last call took, the bytes of the line begun,
+-- and what the reader ended with
 pub record LineReading : Type 0 where
   pub from_server : Bool
   pub others : ℕ
+  pub text : List ℕ
   pub begun : List ℕ
   pub ended : Option Ended
 
@@ -25,7 +27,11 @@ version_in (Some (WithRefusal refusal)) = None
 
 -- nothing is begun, and no line was taken
 abbrev pub no_lines : Bool → LineReading
-no_lines from_server = record { from_server = from_server; others = 0; begun = []; ended = None }
+no_lines from_server = record { from_server = from_server; others = 0; text = []; begun = []; ended = None }
+
+-- no line was taken by a call yet
+abbrev pub cleared : LineReading → LineReading
+cleared reading = record reading { text = [] }
 
 -- ---- the fields of a reader
 

@@ -3,7 +3,7 @@ ghost use Rattle.std.specs.Borrow.{sem};
 ghost use Rattle.std.specs.Io.BufRead.{Rests};
 ghost use Rattle.std.specs.Option.{option_copied};
 ghost use Rattle.ssh_model.specs.Wire.Line.{IsLineBegun, IsText};
-ghost use Rattle.ssh_packet.specs.Lines.{no_lines, version_in, with_cr};
+ghost use Rattle.ssh_packet.specs.Lines.{cleared, no_lines, version_in, with_cr};
 ghost use Rattle.ssh_packet.specs.LineSteps.{EndsSo, IsByteKind, Shows, ShowsVersion};
 
 use crate::limits::LONGEST_LINE;
@@ -59,6 +59,8 @@ pub struct LineReader {
     others: usize,
     line: [u8; LONGEST_LINE],
     filled: usize,
+    // How many bytes of `line` are the text of the other line that the last call took.
+    text: usize,
     after_cr: bool,
     ended: Option<Verdict>,
 }
@@ -69,9 +71,9 @@ impl Model for LineReader {
 
     ghost Value = { LineReading };
 
-    ghost view = { λ r. record { from_server = r.from_server; others = r.others; begun = begun_by r.ended r.after_cr (take r.filled r.line); ended = ended_by r.ended (take r.filled r.line) } };
+    ghost view = { λ r. record { from_server = r.from_server; others = r.others; text = take r.text r.line; begun = begun_by r.ended r.after_cr (take r.filled r.line); ended = ended_by r.ended (take r.filled r.line) } };
 
-    ghost invariant = { λ r. (length r.line ≡ 255) × (r.filled ≤ 255) × (r.others ≤ 64) × IsKept r.ended r.after_cr r.filled r.line };
+    ghost invariant = { λ r. (length r.line ≡ 255) × (r.filled ≤ 255) × (r.text ≤ 255) × (r.others ≤ 64) × IsKept r.ended r.after_cr r.filled r.line };
 }
 
 impl LineReader {
@@ -87,6 +89,7 @@ impl LineReader {
             others: 0,
             line: [0; LONGEST_LINE],
             filled: 0,
+            text: 0,
             after_cr: false,
             ended: None,
         }
@@ -110,12 +113,21 @@ impl LineReader {
         if self.ended.is_some() {
             return (0, self.shown());
         }
+        self.clear();
         let (used, found) = self.advance(bytes);
         match found {
             Found::More => (used, LineStep::More),
             Found::Other => (used, LineStep::Other),
             Found::Ended => (used, self.shown()),
         }
+    }
+
+    /// The text of the line that the last call answered by `LineStep::Other`, without CR LF, at most 253 bytes; empty where it
+    /// answered another step.
+    pub fn other_line(&self) -> &[u8]
+        ensures { result.now ≡ self.now.text }
+    {
+        &self.line[..self.text]
     }
 
     /// The text of the version line without CR LF, at most 253 bytes, once it was taken.
@@ -129,9 +141,17 @@ impl LineReader {
         }
     }
 
+    // No line is shown any more.
+    fn clear(&mut self)
+        ensures { self.new ≡ cleared self.old }
+    {
+        self.text = 0;
+    }
+
     // Takes bytes to the end of one line, byte by byte.
     fn advance(&mut self, bytes: &[u8]) -> (usize, Found)
         requires going { self.old.ended ≡ None }
+        requires clear { self.old.text ≡ [] }
         requires begun { IsLineBegun self.old.begun }
         ensures used { result.0 ≤ length bytes.now }
         ensures progress { 0 < length bytes.now → 0 < result.0 }
@@ -149,12 +169,14 @@ impl LineReader {
 
     // Takes one byte.
     fn step(&mut self, byte: u8) -> Found
-        requires { self.old.ended ≡ None }
+        requires going { self.old.ended ≡ None }
+        requires clear { self.old.text ≡ [] }
         ensures { Finds self.old (self.old.begun ++ byte ∷ []) result self.new }
     {
         let text = &self.line[..self.filled];
         match byte_kind(self.from_server, self.others, text, self.after_cr, byte) {
             ByteKind::Text => {
+                self.text = 0;
                 self.line[self.filled] = byte;
                 self.filled += 1;
                 Found::More
@@ -165,6 +187,7 @@ impl LineReader {
             }
             ByteKind::End(LineKind::Other) => {
                 self.others += 1;
+                self.text = self.filled;
                 self.filled = 0;
                 self.after_cr = false;
                 Found::Other

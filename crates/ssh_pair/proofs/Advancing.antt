@@ -6,7 +6,7 @@ use Rattle.ssh_model.specs.Wire.Delivery.{Delivered}
 use Rattle.ssh_model.specs.Sessions.Events.{PutsOut, reading_of}
 use Rattle.ssh_model.specs.Sessions.Items.{Done, Item, has_died}
 use Rattle.ssh_model.specs.Sessions.Parties.{Parties}
-use Rattle.ssh_pair.specs.Playing.{Advanced, SaysOf}
+use Rattle.ssh_pair.specs.Playing.{Advanced, PutsMore, SaysOf}
 use Rattle.ssh_pair.specs.declared.item.Done as declared
 use Rattle.ssh_pair.proofs.Noting.{adds_more, adds_nothing}
 
@@ -34,21 +34,27 @@ died_of (Item.Refused why payload ∷ items) history e = died_of items history e
 
 -- ---- notes and bytes
 
+pub puts_nothing : {K : Type 0} (p : Parties K) (side : Side) (history : List Item) (out : List ℕ) → PutsMore p side history history out out
+puts_nothing p side history out = record { more = []; puts = λ bytes x. subst (λ (l : List ℕ). PutsOut p side history l) (sym (append-nil bytes)) x; out = sym (append-nil out) }
+
+pub puts_more : {K : Type 0} (p : Parties K) (side : Side) (one two three : List Item) (a b c : List ℕ) → PutsMore p side one two a b → PutsMore p side two three b c → PutsMore p side one three a c
+puts_more p side one two three a b c x y = record {
+  more = x.more ++ y.more;
+  puts = λ bytes put. subst (λ (l : List ℕ). PutsOut p side three l) (append_assoc bytes x.more y.more) (y.puts (bytes ++ x.more) (x.puts bytes put));
+  out = y.out ∙ (ap (λ (l : List ℕ). l ++ y.more) x.out ∙ append_assoc a x.more y.more);
+}
+
 pub says_nothing : {K : Type 0} (p : Parties K) (side : Side) (run : List Done) (log : List declared.Done) (out : List ℕ) → SaysOf p side run [] log log out out
-says_nothing p side run log out = record { more = []; notes = adds_nothing side log; puts = λ bytes x. subst (λ (l : List ℕ). PutsOut p side (part side run) l) (sym (append-nil bytes)) x; out = sym (append-nil out) }
+says_nothing p side run log out = record { notes = adds_nothing side log; puts = puts_nothing p side (part side run) out }
 
 module _ {K : Type 0} (p : Parties K) (side : Side)
     (here : (side : Side) (items : List Item) (run : List Done) → part side (done_by side items ++ run) ≡ items ++ part side run) where
   says_more : (run : List Done) (early late : List Item) (one two three : List declared.Done) (a b c : List ℕ) → SaysOf p side run early one two a b → SaysOf p side (done_by side early ++ run) late two three b c → SaysOf p side run (late ++ early) one three a c
   says_more run early late one two three a b c x y = record {
-    more = x.more ++ y.more;
     notes = adds_more side early late one two three x.notes y.notes;
-    puts = λ bytes put.
-        let before : PutsOut p side (part side (done_by side early ++ run)) (bytes ++ x.more) = subst (λ (h : List Item). PutsOut p side h (bytes ++ x.more)) (sym (here side early run)) (x.puts bytes put) in
-        let after : PutsOut p side (late ++ (early ++ part side run)) ((bytes ++ x.more) ++ y.more) = subst (λ (h : List Item). PutsOut p side (late ++ h) ((bytes ++ x.more) ++ y.more)) (here side early run) (y.puts (bytes ++ x.more) before) in
-        subst (λ (h : List Item). PutsOut p side h (bytes ++ (x.more ++ y.more))) (sym (append_assoc late early (part side run)))
-        (subst (λ (l : List ℕ). PutsOut p side (late ++ (early ++ part side run)) l) (append_assoc bytes x.more y.more) after);
-    out = y.out ∙ (ap (λ (l : List ℕ). l ++ y.more) x.out ∙ append_assoc a x.more y.more);
+    puts = subst (λ (h : List Item). PutsMore p side (part side run) h a c) (sym (append_assoc late early (part side run)))
+        (puts_more p side (part side run) (early ++ part side run) (late ++ (early ++ part side run)) a b c x.puts
+        (subst (λ (h : List Item). PutsMore p side h (late ++ h) b c) (here side early run) y.puts));
   }
 
   -- ---- pieces

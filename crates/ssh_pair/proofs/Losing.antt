@@ -1,5 +1,5 @@
 -- What becomes of an end that memory was refused for what came to it, in a run of two.
-use Rattle.std.proofs.Common.{◌≡◌, ◌≤◌, ◌^◌, ℕ, arith, true, false, List, [], ◌∷◌, ◌++◌, append-nil, append_assoc, take, drop, take-append-drop, refl, ap, sym, ◌∙◌, subst}
+use Rattle.std.proofs.Common.{◌≡◌, ◌≤◌, ◌^◌, ℕ, arith, true, false, List, [], ◌∷◌, ◌++◌, append-nil, append_assoc, take, drop, take-append-drop, ap, sym, ◌∙◌, subst}
 use Rattle.std.proofs.lemmas.Bool.{false≢true}
 use Rattle.std.specs.Prelude.{◌==◌, if◌then◌else◌}
 use Rattle.ssh_model.specs.Side.{Side, done_by, part}
@@ -10,7 +10,10 @@ use Rattle.ssh_model.specs.Sessions.Parties.{Parties}
 use Rattle.ssh_model.specs.TransportLayer.Directions.{Direction}
 use Rattle.ssh_transport_base.specs.Directions.{next_number}
 use Rattle.ssh_transport_machine.specs.State.{State}
-use Rattle.ssh_end.specs.Ends.{IsFault}
+use Rattle.ssh_transport.specs.declared.role.Role as exchange
+use Rattle.ssh_end.specs.Ends.{EndValue, IsFault}
+use Rattle.ssh_end.specs.Stands.{FailedTo}
+use Rattle.ssh_end.specs.declared.role.EndRole as role
 use Rattle.ssh_end.specs.declared.asking.outcome.Fault.{Fault}
 use Rattle.ssh_end.specs.declared.asking.outcome.Fault.TheVariants as fault
 use Rattle.ssh_pair.specs.Noting.{Adds}
@@ -31,7 +34,7 @@ lost p side here run begun bytes kept_old kept_new S log_old log_new out_old out
           subst (λ (l : List ℕ). Delivered (reading_of p side) run l last rest) (append_assoc begun (take count bytes) behind ∙ ap (λ (l : List ℕ). l ++ (take count bytes ++ behind)) (sym kept_is))
           (unit behind last rest (subst (λ (l : List ℕ). Delivered (reading_of p side) (done_by side (Died ∷ []) ++ run) l last rest) (ap (λ (l : List ℕ). l ++ behind) none) d));
       stands = s;
-      says = record { more = []; notes = notes; puts = puts; out = out ∙ sym (append-nil out_old) };
+      says = record { notes = notes; puts = record { more = []; puts = puts; out = out ∙ sym (append-nil out_old) } };
     } in
     subst (λ (l : List ℕ). Advanced p side run l kept_old kept_new S log_old log_new out_old out_new) (take-append-drop count bytes)
     (advanced_dead p side here run (take count bytes) (drop count bytes) kept_old kept_new S log_old log_new out_old out_new x (ap has_died (here side (Died ∷ []) run)))
@@ -39,14 +42,16 @@ lost p side here run begun bytes kept_old kept_new S log_old log_new out_old out
 -- ---- why bytes were not taken
 
 -- the end is over, since memory was refused somewhere in the bytes
-pub record Fell {K : Type 0} (new : State K) (Lacks : Type 0) : Type 0 where
+pub record Fell {K : Type 0} (new : State K) (Lost : Type 0) : Type 0 where
   pub dead : new.kept.dead ≡ true
-  pub lacks : Lacks
+  pub lost : Lost
 
-pub fell : {K : Type 0} (Lacks : Type 0) (old new : State K) (why : Fault) → IsFault old why new → old.kept.dead ≡ false → (why ≡ fault.Memory → Lacks) → Fell new Lacks
-fell Lacks old new fault.Memory x alive lacks = record { dead = x.dead; lacks = lacks refl }
-fell Lacks old new fault.Dead x alive lacks = absurd (false≢true (sym alive ∙ x.dead))
-fell Lacks old new (fault.Ask why) x alive lacks = absurd x
+-- An end that was not over before fell.
+pub fell : {R X L S F K : Type 0} (ends : role.Ghosts R X L S F K) (exchanges : exchange.Ghosts X S F K) (p : Parties K) (history : List Item) (old new : EndValue K R L) (bytes : List ℕ) (why : Fault) → IsFault old.machine why new.machine → old.machine.kept.dead ≡ false →
+    FailedTo ends exchanges p history old bytes why new → Fell new.machine (FailedTo ends exchanges p history old bytes fault.Memory new)
+fell ends exchanges p history old new bytes fault.Memory x alive lost = record { dead = x.dead; lost = lost }
+fell ends exchanges p history old new bytes fault.Dead x alive lost = absurd (false≢true (sym alive ∙ x.dead))
+fell ends exchanges p history old new bytes (fault.Ask why) x alive lost = absurd x
 
 -- an end whose next number is a uint32 has not used all of its numbers
 pub numbers_left : {K : Type 0} (d : Direction K) (next : ℕ) → next ≡ next_number d → next ≤ 4294967295 → d.count ≡ 2 ^ 32 → ⊥

@@ -1,58 +1,61 @@
 -- Two ends that were made, as a pair.
-use Rattle.std.proofs.Common.{◌≡◌, ℕ, false, List, [], ◌∷◌, ◌++◌, append-nil, ap, sym, ◌∙◌, subst, Option, Some}
-use Rattle.ssh_model.specs.Side.{Side, Side.Client, Side.Server, done_by, part, peer}
-use Rattle.ssh_model.specs.Wire.Message.{Msg.UserauthFailure}
+use Rattle.std.proofs.Common.{◌≡◌, ℕ, List, [], ◌∷◌, ◌++◌, append-nil, ap, sym, ◌∙◌, subst}
 use Rattle.ssh_model.specs.End.Pair.{PairOpened}
 use Rattle.ssh_model.specs.KeyExchange.Exchanges.{Material, fed}
 use Rattle.ssh_model.specs.Sessions.Claims.{IsSafe}
-use Rattle.ssh_model.specs.Sessions.Events.{PutsOut}
+use Rattle.ssh_model.specs.Sessions.Events.{PutsOut, World}
 use Rattle.ssh_model.specs.Sessions.Honest.{IsHonest}
 use Rattle.ssh_model.specs.Sessions.Items.{Done, Item}
 use Rattle.ssh_model.specs.Sessions.Parties.{AreLawful, BothOffer, Parties}
-use Rattle.ssh_model.specs.Sessions.TurnClaims.{HasSpelling}
-use Rattle.ssh_model.specs.Sessions.Turns.{EndRun, Run}
-use Rattle.ssh_layers.specs.ClientSessions as client_sessions
-use Rattle.ssh_end.specs.Reading.{IsReading}
-use Rattle.ssh_layers.specs.Sessions as server_sessions
-use Rattle.ssh_layers.specs.Sessions.{AreOf}
-use Rattle.ssh_pair.specs.Gathering.{Gathers}
+use Rattle.ssh_model.specs.Sessions.Turns.{Run}
+use Rattle.ssh_model.specs.Side.{Side, Side.Client, Side.Server, done_by, part, peer}
+use Rattle.ssh_end.specs.Places.{StandsAfter}
 use Rattle.ssh_pair.specs.Items.{Notes}
-use Rattle.ssh_pair.specs.Playing.{Opens, PairOpens}
-use Rattle.ssh_pair.specs.Standing.{AreOfClient, AreOfServer, PairValue, kept_bytes}
+use Rattle.ssh_pair.specs.Playing.{Opens, Output, PairOpens, output_of}
+use Rattle.ssh_pair.specs.Standing.{Both, EndStands, Standing, on, state_in}
 use Rattle.ssh_pair.specs.declared.item.Done as declared
-use Rattle.ssh_pair.proofs.Gathering.{nothing_gathers}
-use Rattle.ssh_pair.proofs.Summing.{pair_of}
+use Rattle.ssh_pair.proofs.Playing.{states}
 
-module _ {K : Type 0} (p : Parties K) (pair : PairValue K) (lawful : AreLawful p) (client_fits : AreOfClient p pair.client.functions) (server_fits : AreOfServer p pair.server.functions) (failure : HasSpelling (UserauthFailure p.server.methods false))
+-- an end that has opened stands after its part of a run that is its opening
+stands_first : {K : Type 0} (p : Parties K) (side : Side) (material : Material) (v : Standing K) (log_old log_new : List declared.Done) (out_old out_new : List ℕ) (sent : List (List ℕ)) (run : List Done) (x : Opens p side material v log_old log_new out_old out_new sent) → part side run ≡ x.made.items → EndStands p side v run
+stands_first p side material v log_old log_new out_old out_new sent run x is = subst (λ (h : List Item). StandsAfter p side (v.parts p) (v.layers p) h v.machine (state_in v)) (sym is) x.made.place
+
+module _ {K : Type 0} (p : Parties K) (pair : Both K)
     (there : (side : Side) (items : List Item) (run : List Done) → part (peer side) (done_by side items ++ run) ≡ part (peer side) run)
     (here : (side : Side) (items : List Item) (run : List Done) → part side (done_by side items ++ run) ≡ items ++ part side run)
-    (of_client of_server : Material) (mid log : List declared.Done) (client_bytes server_bytes : List ℕ)
-    (client : Opens p Client of_client (client_sessions.end_of pair.client.machine.kept pair.client.layers) [] mid [] client_bytes) (server : Opens p Server of_server (server_sessions.end_of pair.server.machine.kept pair.server.layers) mid log [] server_bytes) where
-  client_run : done_by Client client.items ++ [] ≡ done_by Client client.items
-  client_run = append-nil (done_by Client client.items)
+    (of_client of_server : Material) (mid log : List declared.Done) (out : Output) (client_sent server_sent : List (List ℕ))
+    (client : Opens p Client of_client pair.client [] mid [] out.client client_sent) (server : Opens p Server of_server pair.server mid log [] out.server server_sent) where
+  abbrev run : List Done
+  run = done_by Server server.made.items ++ done_by Client client.made.items
 
-  client_part : part Client (done_by Server server.items ++ done_by Client client.items) ≡ client.items
-  client_part = there Server server.items (done_by Client client.items) ∙ (ap (λ (r : List Done). part Client r) (sym client_run) ∙ (here Client client.items [] ∙ append-nil client.items))
+  abbrev world : World
+  world = record { run = run; client_rest = []; server_rest = [] }
 
-  server_part : part Server (done_by Server server.items ++ done_by Client client.items) ≡ server.items
-  server_part = here Server server.items (done_by Client client.items) ∙ (ap (λ (h : List Item). server.items ++ h) (ap (λ (r : List Done). part Server r) (sym client_run) ∙ there Client client.items []) ∙ append-nil server.items)
+  client_run : done_by Client client.made.items ++ [] ≡ done_by Client client.made.items
+  client_run = append-nil (done_by Client client.made.items)
 
-  pub met : PairOpened p (record { run = done_by Server server.items ++ done_by Client client.items; client_rest = []; server_rest = [] }) (pair_of pair) → ((run : List Done) → Run p run → (side : Side) → EndRun p side (part side run)) → ((run : List Done) → AreLawful p → BothOffer p → Run p run → IsHonest p run → IsSafe p run) →
-      IsReading p.crypto pair.client.machine → IsReading p.crypto pair.server.machine → AreOf p pair.server.layers → kept_bytes pair.client.machine ≡ [] → kept_bytes pair.server.machine ≡ [] → pair.client.lines ≡ Some [] → pair.server.lines ≡ Some [] → PairOpens p of_client of_server pair log client_bytes server_bytes
-  met opened runs safe client_reads server_reads layers client_kept server_kept client_lines server_lines = record {
-    world = record { run = done_by Server server.items ++ done_by Client client.items; client_rest = []; server_rest = [] };
+  client_part : part Client run ≡ client.made.items
+  client_part = there Server server.made.items (done_by Client client.made.items) ∙ (ap (λ (r : List Done). part Client r) (sym client_run) ∙ (here Client client.made.items [] ∙ append-nil client.made.items))
+
+  server_part : part Server run ≡ server.made.items
+  server_part = here Server server.made.items (done_by Client client.made.items) ∙ (ap (λ (h : List Item). server.made.items ++ h) (ap (λ (r : List Done). part Server r) (sym client_run) ∙ there Client client.made.items []) ∙ append-nil server.made.items)
+
+  stand : (side : Side) → EndStands p side (on side pair) run
+  stand Client = stands_first p Client of_client pair.client [] mid [] out.client client_sent run client client_part
+  stand Server = stands_first p Server of_server pair.server mid log [] out.server server_sent run server server_part
+
+  puts : (side : Side) → PutsOut p side (part side run) (output_of side out)
+  puts Client = subst (λ (h : List Item). PutsOut p Client h out.client) (sym client_part) (subst (λ (l : List ℕ). PutsOut p Client client.made.items l) (sym client.made.out) client.made.opened.puts)
+  puts Server = subst (λ (h : List Item). PutsOut p Server h out.server) (sym server_part) (subst (λ (l : List ℕ). PutsOut p Server server.made.items l) (sym server.made.out) server.made.opened.puts)
+
+  pub met : PairOpened p world (states pair) → ((run : List Done) → AreLawful p → BothOffer p → Run p run → IsHonest p run → IsSafe p run) → PairOpens p of_client of_server pair log out
+  met opened safe = record {
+    world = world;
     first = opened.first;
-    client_fed = subst (λ (h : List Item). fed h ≡ of_client ∷ []) (sym client_part) client.material_is;
-    server_fed = subst (λ (h : List Item). fed h ≡ of_server ∷ []) (sym server_part) server.material_is;
-    stands = record {
-      run = opened.sums.run;
-      client = record { lawful = lawful; fits = client_fits; sums = opened.sums.ends Client; end_run = runs _ opened.sums.run Client; reading = λ e. client_reads; lines = subst (λ (l : Option (List ℕ)). Gathers pair.client.machine l) (sym client_lines) (nothing_gathers pair.client.machine client_kept) };
-      server = record { lawful = lawful; fits = server_fits; layers_are = λ e. layers; sums = opened.sums.ends Server; end_run = runs _ opened.sums.run Server; reading = λ e. server_reads; lines = subst (λ (l : Option (List ℕ)). Gathers pair.server.machine l) (sym server_lines) (nothing_gathers pair.server.machine server_kept); failure = failure };
-      client_rest = sym client_kept;
-      server_rest = sym server_kept;
-    };
-    notes = server.notes (done_by Client client.items) (subst (λ (r : List Done). Notes mid r) client_run (client.notes [] Notes.nothing));
-    client_puts = subst (λ (h : List Item). PutsOut p Client h client_bytes) (sym client_part) (subst (λ (l : List ℕ). PutsOut p Client client.items l) (sym client.out) client.opened.puts);
-    server_puts = subst (λ (h : List Item). PutsOut p Server h server_bytes) (sym server_part) (subst (λ (l : List ℕ). PutsOut p Server server.items l) (sym server.out) server.opened.puts);
-    safe = λ offer honest. safe _ lawful offer opened.sums.run honest;
+    client_fed = subst (λ (h : List Item). fed h ≡ of_client ∷ []) (sym client_part) client.made.material_is;
+    server_fed = subst (λ (h : List Item). fed h ≡ of_server ∷ []) (sym server_part) server.made.material_is;
+    stands = record { run = opened.sums.run; ends = stand; rest = elim [ Client ↦ sym client.begun | Server ↦ sym server.begun ] };
+    notes = server.notes (done_by Client client.made.items) (subst (λ (r : List Done). Notes mid r) client_run (client.notes [] Notes.nothing));
+    puts = puts;
+    safe = λ offer honest. safe _ client.made.place.lawful offer opened.sums.run honest;
   }

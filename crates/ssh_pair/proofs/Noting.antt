@@ -21,7 +21,6 @@ use Rattle.ssh_end.specs.declared.asking.outcome.AskStep.{AskStep}
 use Rattle.ssh_end.specs.declared.turn.Took.{Took as Shown}
 use Rattle.ssh_end.specs.declared.turn.Turn.{Turn}
 use Rattle.ssh_types.specs.Sides.{side_of}
-use Rattle.ssh_pair.specs.Gathering.{IsGathered}
 use Rattle.ssh_pair.specs.Items.{IsItem, Notes}
 use Rattle.ssh_pair.specs.Noting.{Adds, AddsDeath, AddsRefused, AddsSent, AddsStep, AddsTold, AddsTook, AddsTurn}
 use Rattle.ssh_pair.specs.declared.item.Done as declared
@@ -46,24 +45,24 @@ adds_same side items one two three x e = subst (λ (l : List declared.Done). Add
 
 -- ---- the parts of a turn
 
-took_noted : (side : Side) (took : Option Shown) (gathered : Option (List ℕ)) (item : Item) (one two : List declared.Done) → (IsTaken None (Some item) → ⊥) → IsTaken took (Some item) → IsGathered gathered (Some item) → AddsTook side took gathered one two → Adds side (item ∷ []) one two
-took_noted side None gathered item one two other x line y = absurd (other x)
-took_noted side (Some took) gathered item one two other x line y = y item x line
+took_noted : (side : Side) (took : Option Shown) (item : Item) (one two : List declared.Done) → (IsTaken None (Some item) → ⊥) → IsTaken took (Some item) → AddsTook side took one two → Adds side (item ∷ []) one two
+took_noted side None item one two other x y = absurd (other x)
+took_noted side (Some took) item one two other x y = y item x
 
-none_taken : (side : Side) (took : Option Shown) (gathered : Option (List ℕ)) (one two : List declared.Done) → IsTaken took None → AddsTook side took gathered one two → two ≡ one
-none_taken side None gathered one two x y = y
-none_taken side (Some (Shown.OtherLine)) gathered one two x y = absurd x
-none_taken side (Some (Shown.VersionLine)) gathered one two x y = absurd x
-none_taken side (Some (Shown.Skipped payload)) gathered one two x y = absurd x
-none_taken side (Some (Shown.Message channel message payload)) gathered one two x y = absurd x
+none_taken : (side : Side) (took : Option Shown) (one two : List declared.Done) → IsTaken took None → AddsTook side took one two → two ≡ one
+none_taken side None one two x y = y
+none_taken side (Some (Shown.OtherLine text)) one two x y = absurd x
+none_taken side (Some (Shown.VersionLine text)) one two x y = absurd x
+none_taken side (Some (Shown.Skipped payload)) one two x y = absurd x
+none_taken side (Some (Shown.Message channel message payload)) one two x y = absurd x
 
 -- what is taken is nothing where the oldest item is a refusal
-refusal_untaken : (side : Side) (took : Option Shown) (gathered : Option (List ℕ)) (why : _) (opened : Option (List ℕ)) (one two : List declared.Done) → IsTaken took (Some (Refused why opened)) → AddsTook side took gathered one two → two ≡ one
-refusal_untaken side None gathered why opened one two x y = y
-refusal_untaken side (Some (Shown.OtherLine)) gathered why opened one two x y = absurd x
-refusal_untaken side (Some (Shown.VersionLine)) gathered why opened one two x y = absurd x
-refusal_untaken side (Some (Shown.Skipped payload)) gathered why opened one two x y = cc x
-refusal_untaken side (Some (Shown.Message channel message payload)) gathered why opened one two x y = cc x
+refusal_untaken : (side : Side) (took : Option Shown) (why : _) (opened : Option (List ℕ)) (one two : List declared.Done) → IsTaken took (Some (Refused why opened)) → AddsTook side took one two → two ≡ one
+refusal_untaken side None why opened one two x y = y
+refusal_untaken side (Some (Shown.OtherLine text)) why opened one two x y = cc x
+refusal_untaken side (Some (Shown.VersionLine text)) why opened one two x y = cc x
+refusal_untaken side (Some (Shown.Skipped payload)) why opened one two x y = cc x
+refusal_untaken side (Some (Shown.Message channel message payload)) why opened one two x y = cc x
 
 none_refused : (side : Side) (refused : Option Refusal) (one two : List declared.Done) → option_map refusal_of refused ≡ None → AddsRefused side refused one two → two ≡ one
 none_refused side None one two e y = y
@@ -159,14 +158,14 @@ no_more (x ∷ l) = ap (λ (m : List Spelled). x ∷ m) (no_more l)
 
 -- ---- a turn
 
-module _ (side : Side) (turn : Turn) (gathered : Option (List ℕ)) (is_over : Bool) (one two three four five six : List declared.Done)
-    (took : AddsTook side turn.took gathered one two) (refused : AddsRefused side turn.refused two three)
+module _ (side : Side) (turn : Turn) (is_over : Bool) (one two three four five six : List declared.Done)
+    (took : AddsTook side turn.took one two) (refused : AddsRefused side turn.refused two three)
     (sent : AddsSent side (payloads_in turn.sent) (channels_in turn.sent) three four) (tells : AddsTold side (option_map told_of turn.told) four five)
     (dies : AddsDeath side is_over five six) where
   -- an item was taken, for which nothing was sent
-  alone : (item : Item) (fact : Option Fact) → (IsTaken None (Some item) → ⊥) → IsTaken turn.took (Some item) → IsGathered gathered (Some item) → option_map told_of turn.told ≡ fact → option_map refusal_of turn.refused ≡ None → payloads_in turn.sent ≡ [] → channels_in turn.sent ≡ [] → Adds side (told fact (item ∷ [])) one five
-  alone item fact other is line tells_is unrefused unsent on_none =
-      let a : Adds side (item ∷ []) one three = adds_same side (item ∷ []) one two three (took_noted side turn.took gathered item one two other is line took) (none_refused side turn.refused two three unrefused refused) in
+  alone : (item : Item) (fact : Option Fact) → (IsTaken None (Some item) → ⊥) → IsTaken turn.took (Some item) → option_map told_of turn.told ≡ fact → option_map refusal_of turn.refused ≡ None → payloads_in turn.sent ≡ [] → channels_in turn.sent ≡ [] → Adds side (told fact (item ∷ [])) one five
+  alone item fact other is tells_is unrefused unsent on_none =
+      let a : Adds side (item ∷ []) one three = adds_same side (item ∷ []) one two three (took_noted side turn.took item one two other is took) (none_refused side turn.refused two three unrefused refused) in
       let b : Adds side (item ∷ []) one four = adds_more side (item ∷ []) [] one three four a (sent [] tt unsent on_none) in
       told_noted side fact (item ∷ []) one four five b (subst (λ (f : Option Fact). AddsTold side f four five) tells_is tells)
 
@@ -183,7 +182,7 @@ module _ (side : Side) (turn : Turn) (gathered : Option (List ℕ)) (is_over : B
       let says : payloads_in turn.sent ≡ payloads_of (messages_sent items) = lists ∙ ap payloads_of (messages_over fact items (taken ∷ []) ∙ (quiet.messages ∙ no_more (messages_sent items))) in
       let says_on : channels_in turn.sent ≡ channels_sent items = on ∙ (channels_over fact items (taken ∷ []) ∙ quiet.channels) in
       let alive : is_over ≡ false = over ∙ (died_over fact items (taken ∷ []) ∙ quiet.alive) in
-      let a : Adds side (taken ∷ []) one three = adds_same side (taken ∷ []) one two three (took_noted side turn.took gathered taken one two (λ x. x) is tt took) (none_refused side turn.refused two three unrefused refused) in
+      let a : Adds side (taken ∷ []) one three = adds_same side (taken ∷ []) one two three (took_noted side turn.took taken one two (λ x. x) is took) (none_refused side turn.refused two three unrefused refused) in
       let b : Adds side (items ++ taken ∷ []) one four = adds_more side (taken ∷ []) items one three four a (sent items are says says_on) in
       let c : Adds side (told fact (items ++ taken ∷ [])) one five = told_noted side fact (items ++ taken ∷ []) one four five b (subst (λ (f : Option Fact). AddsTold side f four five) tells_is tells) in
       subst (λ (l : List Item). Adds side l one six) (told_over fact items (taken ∷ []))
@@ -198,7 +197,7 @@ module _ (side : Side) (turn : Turn) (gathered : Option (List ℕ)) (is_over : B
       let are = said_are_sent said in
       let quiet = are_quiet (items_sent said) (refusing ∷ []) are in
       let is : IsTaken turn.took (Some refusing) = subst (λ (i : Option Item). IsTaken turn.took i) (oldest_is (Died ∷ items_sent said) refusing) shows.took in
-      let untaken : two ≡ one = refusal_untaken side turn.took gathered (refusal_of why) opened one two is took in
+      let untaken : two ≡ one = refusal_untaken side turn.took (refusal_of why) opened one two is took in
       let refuses : option_map refusal_of turn.refused ≡ Some (refusal_of why) = shows.refused ∙ quiet.refusal in
       let says : payloads_in turn.sent ≡ payloads_of (messages_sent (items_sent said)) = lists ∙ ap payloads_of (quiet.messages ∙ no_more (messages_sent (items_sent said))) in
       let says_on : channels_in turn.sent ≡ channels_sent (items_sent said) = on ∙ quiet.channels in
@@ -208,22 +207,22 @@ module _ (side : Side) (turn : Turn) (gathered : Option (List ℕ)) (is_over : B
       let c : Adds side (items_sent said ++ refusing ∷ []) one five = told_noted side None (items_sent said ++ refusing ∷ []) one four five b (subst (λ (f : Option Fact). AddsTold side f four five) untold tells) in
       end_noted side is_over (items_sent said ++ refusing ∷ []) one five six over c dies
 
-  shown_noted : (payload : List ℕ) (given : Step) (items : List Item) → Shows payload given items → TurnShows turn items → IsGathered gathered (oldest items) → payloads_in turn.sent ≡ payloads_of (messages_sent items) → channels_in turn.sent ≡ channels_sent items → is_over ≡ has_died items → Adds side items one six
-  shown_noted payload _ _ (Shows.other_line line) shows is lists on over = death_noted side is_over (Item.TookOtherLine line ∷ []) one five six over (alone (Item.TookOtherLine line) None (λ x. x) shows.took is shows.told shows.refused lists on) dies
-  shown_noted payload _ _ (Shows.version_line line) shows is lists on over = death_noted side is_over (Item.TookLine line ∷ []) one five six over (alone (Item.TookLine line) None (λ x. x) shows.took is shows.told shows.refused lists on) dies
-  shown_noted payload _ _ Shows.skipped shows none lists on over = death_noted side is_over (Told Ignored ∷ Item.TookGuess payload ∷ []) one five six over (alone (Item.TookGuess payload) (Some Ignored) (λ x. x) shows.took tt shows.told shows.refused lists on) dies
-  shown_noted payload _ _ (Shows.took channel probing telling given items is are) shows none lists on over = message_noted (fact_told telling given channel) channel given payload items are shows lists on over
-  shown_noted payload _ _ (Shows.disconnected reason description language is) shows none lists on over = end_noted side is_over (Told (Disconnected reason description) ∷ Took None (Disconnect reason description language) payload ∷ []) one five six over (alone (Took None (Disconnect reason description language) payload) (Some (Disconnected reason description)) (λ x. x) shows.took tt shows.told shows.refused lists on) dies
-  shown_noted payload _ _ (Shows.refused why opened said) shows none lists on over = refusal_noted why opened said shows lists on over
+  shown_noted : (payload : List ℕ) (given : Step) (items : List Item) → Shows payload given items → TurnShows turn items → payloads_in turn.sent ≡ payloads_of (messages_sent items) → channels_in turn.sent ≡ channels_sent items → is_over ≡ has_died items → Adds side items one six
+  shown_noted payload _ _ Shows.other_line shows lists on over = death_noted side is_over (Item.TookOtherLine payload ∷ []) one five six over (alone (Item.TookOtherLine payload) None (λ x. x) shows.took shows.told shows.refused lists on) dies
+  shown_noted payload _ _ Shows.version_line shows lists on over = death_noted side is_over (Item.TookLine payload ∷ []) one five six over (alone (Item.TookLine payload) None (λ x. x) shows.took shows.told shows.refused lists on) dies
+  shown_noted payload _ _ Shows.skipped shows lists on over = death_noted side is_over (Told Ignored ∷ Item.TookGuess payload ∷ []) one five six over (alone (Item.TookGuess payload) (Some Ignored) (λ x. x) shows.took shows.told shows.refused lists on) dies
+  shown_noted payload _ _ (Shows.took channel probing telling given items is are) shows lists on over = message_noted (fact_told telling given channel) channel given payload items are shows lists on over
+  shown_noted payload _ _ (Shows.disconnected reason description language is) shows lists on over = end_noted side is_over (Told (Disconnected reason description) ∷ Took None (Disconnect reason description language) payload ∷ []) one five six over (alone (Took None (Disconnect reason description language) payload) (Some (Disconnected reason description)) (λ x. x) shows.took shows.told shows.refused lists on) dies
+  shown_noted payload _ _ (Shows.refused why opened said) shows lists on over = refusal_noted why opened said shows lists on over
 
   -- nothing was done
   quiet_noted : TurnShows turn [] → payloads_in turn.sent ≡ [] → channels_in turn.sent ≡ [] → is_over ≡ false → Adds side [] one six
   quiet_noted shows lists on over =
-      let a : Adds side [] one three = adds_same side [] one two three (adds_same side [] one one two (adds_nothing side one) (none_taken side turn.took gathered one two shows.took took)) (none_refused side turn.refused two three shows.refused refused) in
+      let a : Adds side [] one three = adds_same side [] one two three (adds_same side [] one one two (adds_nothing side one) (none_taken side turn.took one two shows.took took)) (none_refused side turn.refused two three shows.refused refused) in
       let b : Adds side [] one four = adds_more side [] [] one three four a (sent [] tt lists on) in
       death_noted side is_over [] one five six over (told_noted side None [] one four five b (subst (λ (f : Option Fact). AddsTold side f four five) shows.told tells)) dies
 
-  pub turn_noted : AddsTurn side turn gathered is_over one six
+  pub turn_noted : AddsTurn side turn is_over one six
   turn_noted = record { shown = shown_noted; quiet = quiet_noted }
 
 -- ---- an ask

@@ -18,7 +18,7 @@ module _ {K : Type 0} (p : Parties K) (side : Side) (run : List Done) (begun byt
     reads = λ behind last rest d.
         subst (λ (l : List ℕ). Delivered (reading_of p side) run l last rest) (ap (λ (l : List ℕ). l ++ behind) keeps ∙ (append_assoc begun bytes behind ∙ ap (λ (l : List ℕ). l ++ (bytes ++ behind)) (sym kept_is))) d;
     stands = s;
-    says = record { more = []; notes = notes; puts = λ b x. subst (λ (l : List ℕ). PutsOut p side (part side run) l) (sym (append-nil b)) x; out = out ∙ sym (append-nil out_old) };
+    says = record { notes = notes; puts = record { more = []; puts = λ b x. subst (λ (l : List ℕ). PutsOut p side (part side run) l) (sym (append-nil b)) x; out = out ∙ sym (append-nil out_old) } };
   }
 
   -- they end a unit, with which nothing is begun

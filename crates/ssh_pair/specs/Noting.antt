@@ -10,14 +10,13 @@ use Rattle.ssh_transport_machine.specs.Puts.{payloads_of}
 use Rattle.ssh_end.specs.Asking.{ShowsAsk}
 use Rattle.ssh_end.specs.Owed.{channels_sent}
 use Rattle.ssh_end.specs.Steps.{AreSent, Shows}
-use Rattle.ssh_end.specs.Turn.{IsTaken, TurnShows, channels_in, oldest, payloads_in}
+use Rattle.ssh_end.specs.Turn.{IsTaken, TurnShows, channels_in, payloads_in}
 use Rattle.ssh_end.specs.declared.asking.outcome.AskStep.{AskStep}
 use Rattle.ssh_end.specs.declared.asking.outcome.Fault.{Fault}
 use Rattle.ssh_end.specs.declared.asking.outcome.Fault.TheVariants as fault
 use Rattle.ssh_end.specs.declared.step.Step.{Step}
 use Rattle.ssh_end.specs.declared.turn.Took.{Took}
 use Rattle.ssh_end.specs.declared.turn.Turn.{Turn}
-use Rattle.ssh_pair.specs.Gathering.{IsGathered}
 use Rattle.ssh_pair.specs.Items.{Notes}
 use Rattle.ssh_pair.specs.declared.item.Done.{Done}
 
@@ -25,12 +24,11 @@ use Rattle.ssh_pair.specs.declared.item.Done.{Done}
 abbrev pub Adds : Side → List session.Item → (old new : List Done) → Type 0
 Adds side items old new = (run : List session.Done) → Notes old run → Notes new (done_by side items ++ run)
 
--- what was taken, a line out of what was gathered
-abbrev pub AddsTook : Side → Option Took → (gathered : Option (List ℕ)) → (old new : List Done) → Type 0
-AddsTook side None gathered old new = new ≡ old
-AddsTook side (Some took) gathered old new =
-    (item : session.Item) → IsTaken (Some took) (Some item) → IsGathered gathered (Some item) →
-    Adds side (item ∷ []) old new
+-- what was taken
+abbrev pub AddsTook : Side → Option Took → (old new : List Done) → Type 0
+AddsTook side None old new = new ≡ old
+AddsTook side (Some took) old new =
+    (item : session.Item) → IsTaken (Some took) (Some item) → Adds side (item ∷ []) old new
 
 -- why the peer was refused
 abbrev pub AddsRefused : Side → Option Refusal → (old new : List Done) → Type 0
@@ -79,11 +77,10 @@ pub record AddsStep (side : Side) (step : AskStep) (payloads : List (List ℕ)) 
   pub adds_sent : AddsSent side payloads channels refused sent
   pub adds_opening : AddsTold side (opening_fact step.opening) sent new
 
--- What was noted of a turn, a line out of what was gathered, with nothing more where nothing was done.
-pub record AddsTurn (side : Side) (turn : Turn) (gathered : Option (List ℕ)) (is_over : Bool) (old new : List Done) :
-    Type 0 where
+-- What was noted of a turn, with nothing more where nothing was done.
+pub record AddsTurn (side : Side) (turn : Turn) (is_over : Bool) (old new : List Done) : Type 0 where
   pub shown : (payload : List ℕ) (step : Step) (items : List session.Item) → Shows payload step items →
-      TurnShows turn items → IsGathered gathered (oldest items) →
+      TurnShows turn items →
       payloads_in turn.sent ≡ payloads_of (messages_sent items) → channels_in turn.sent ≡ channels_sent items →
       is_over ≡ has_died items → Adds side items old new
   pub quiet : TurnShows turn [] → payloads_in turn.sent ≡ [] → channels_in turn.sent ≡ [] → is_over ≡ false →

@@ -3,23 +3,26 @@ use Rattle.std.specs.Prelude.{◌≡◌, ℕ, Bool, cond, List, [], ◌∷◌, �
 use Rattle.ssh_model.specs.Side.{Side, Side.Client, Side.Server, done_by, part}
 use Rattle.ssh_model.specs.Wire.Delivery.{Delivered}
 use Rattle.ssh_model.specs.KeyExchange.Exchanges.{Material, fed}
-use Rattle.ssh_model.specs.End.State.{EndState}
-use Rattle.ssh_model.specs.End.Summary.{HasOpened}
 use Rattle.ssh_model.specs.Sessions.Claims.{IsSafe}
 use Rattle.ssh_model.specs.Sessions.Events as session
 use Rattle.ssh_model.specs.Sessions.Events.{IsFirst, OnEvent, Plays, PutsOut, World, reading_of}
 use Rattle.ssh_model.specs.Sessions.Honest.{IsHonest}
 use Rattle.ssh_model.specs.Sessions.Items.{Ask, Done, Item, Item.Fed, has_died}
-use Rattle.ssh_model.specs.Sessions.Parties.{BothOffer, Parties}
+use Rattle.ssh_model.specs.Sessions.Parties.{AreLawful, BothOffer, Parties, Settings, settings_of}
 use Rattle.ssh_model.specs.Sessions.Turns.{AsksTurn, can_feed}
 use Rattle.ssh_types.specs.Sides.{side_of}
 use Rattle.ssh_end.specs.Asking.{ask_of}
+use Rattle.ssh_end.specs.Ends.{EndValue}
+use Rattle.ssh_end.specs.Stands.{MadeAt}
+use Rattle.ssh_end.specs.declared.role.EndRole as role
 use Rattle.ssh_pair.specs.Items.{Notes}
 use Rattle.ssh_pair.specs.Noting.{Adds}
-use Rattle.ssh_pair.specs.Standing.{PairStands, PairValue}
+use Rattle.ssh_pair.specs.Standing.{Both, EndStands, PairState, PairStands, Standing, both, kept_bytes}
+use Rattle.ssh_pair.specs.Standing.{standing_of, state_in}
 use Rattle.ssh_pair.specs.declared.event.Event.{Event}
 use Rattle.ssh_pair.specs.declared.event.Event.TheVariants as event
 use Rattle.ssh_pair.specs.declared.item.Done as declared
+use Rattle.ssh_pair.specs.declared.item.Transcript.{Transcript}
 
 -- ---- events
 
@@ -34,14 +37,18 @@ events_of (event ∷ events) = event_of event ∷ events_of events
 
 -- ---- one end
 
+-- An end put out more bytes, as it did more.
+pub record PutsMore {K : Type 0} (p : Parties K) (side : Side) (history last : List Item) (old new : List ℕ) : Type 0
+  where
+    pub more : List ℕ
+    pub puts : (bytes : List ℕ) → PutsOut p side history bytes → PutsOut p side last (bytes ++ more)
+    pub out : new ≡ old ++ more
+
 -- What an end noted and put out for these items.
 pub record SaysOf {K : Type 0} (p : Parties K) (side : Side) (run : List Done) (items : List Item)
     (log_old log_new : List declared.Done) (out_old out_new : List ℕ) : Type 0 where
-  pub more : List ℕ
   pub notes : Adds side items log_old log_new
-  pub puts : (bytes : List ℕ) → PutsOut p side (part side run) bytes →
-      PutsOut p side (items ++ part side run) (bytes ++ more)
-  pub out : out_new ≡ out_old ++ more
+  pub puts : PutsMore p side (part side run) (items ++ part side run) out_old out_new
 
 -- What an end did with bytes that came to it behind those that it kept, whatever comes behind them. Where it then stands
 -- is said of a run.
@@ -64,59 +71,87 @@ pub record Answered {K : Type 0} (p : Parties K) (side : Side) (run : List Done)
   pub stands : Stands (done_by side items ++ run)
   pub says : SaysOf p side run items log_old log_new out_old out_new
 
--- An end has opened with this pair of cookie and secret, and this was noted and put out for it.
-pub record Opens {K : Type 0} (p : Parties K) (side : Side) (material : Material) (e : EndState K)
-    (log_old log_new : List declared.Done) (out_old out_new : List ℕ) : Type 0 where
-  pub items : List Item
-  pub bytes : List ℕ
-  pub opened : HasOpened p side items bytes e
-  pub material_is : fed items ≡ material ∷ []
-  pub notes : Adds side items log_old log_new
-  pub out : out_new ≡ out_old ++ bytes
+-- An end has opened with this pair of cookie and secret, and this was noted and put out for it. Nothing is begun yet.
+pub record Opens {K : Type 0} (p : Parties K) (side : Side) (material : Material) (v : Standing K)
+    (log_old log_new : List declared.Done) (out_old out_new : List ℕ) (sent : List (List ℕ)) : Type 0 where
+  pub made : MadeAt p side (v.parts p) (v.layers p) material v.machine (state_in v) out_old out_new sent
+  pub notes : Adds side made.items log_old log_new
+  pub begun : kept_bytes v.machine ≡ []
+
+-- From each place of a run an end went on by bytes, or by an ask.
+abbrev pub Advances : {R X L S F K : Type 0} → role.Ghosts R X L S F K → Side → (old : EndValue K R L) →
+    (bytes : List ℕ) → (new : EndValue K R L) → (log_old log_new : List declared.Done) →
+    (out_old out_new : List ℕ) → Type 0
+Advances {R} {X} {L} {S} {F} {K} ends side old bytes new log_old log_new out_old out_new =
+    (p : Parties K) (run : List Done) → EndStands p side (standing_of ends old) run →
+    Advanced p side run bytes (kept_bytes old.machine) (kept_bytes new.machine)
+    (EndStands p side (standing_of ends new)) log_old log_new out_old out_new
+
+abbrev pub Answers : {R X L S F K : Type 0} → role.Ghosts R X L S F K → Side → (old : EndValue K R L) → Ask →
+    (new : EndValue K R L) → (log_old log_new : List declared.Done) → (out_old out_new : List ℕ) → Type 0
+Answers {R} {X} {L} {S} {F} {K} ends side old asked new log_old log_new out_old out_new =
+    (p : Parties K) (run : List Done) → EndStands p side (standing_of ends old) run →
+    Answered p side run asked (kept_bytes old.machine) (kept_bytes new.machine)
+    (EndStands p side (standing_of ends new)) log_old log_new out_old out_new
+
+-- An end with these settings opened so, of whichever lawful parties they and its parts are.
+abbrev pub OpensAs : {R X L S F K : Type 0} → role.Ghosts R X L S F K → Side → Settings → Material →
+    EndValue K R L → (log_old log_new : List declared.Done) → (out_old out_new : List ℕ) → Type 0
+OpensAs {R} {X} {L} {S} {F} {K} ends side given material end log_old log_new out_old out_new =
+    (p : Parties K) → AreLawful p → settings_of p side ≡ given → ends.is_of end.role p →
+    Opens p side material (standing_of ends end) log_old log_new out_old out_new end.sent
 
 -- ---- a pair
 
+-- the bytes that each end put out
+pub record Output : Type 0 where
+  pub client : List ℕ
+  pub server : List ℕ
+
+-- those of one end
+abbrev pub output_of : Side → Output → List ℕ
+output_of Client o = o.client
+output_of Server o = o.server
+
+-- those of a transcript
+abbrev pub output_in : Transcript → Output
+output_in t = record { client = t.client_bytes.items; server = t.server_bytes.items }
+
 -- What was noted and put out for what was done since a world, the newest first.
-pub record Says {K : Type 0} (p : Parties K) (w next : World) (items : List Done)
-    (log_old log_new : List declared.Done) (client_old client_new server_old server_new : List ℕ) : Type 0 where
+pub record Says {K : Type 0} (p : Parties K) (w next : World) (items : List Done) (log_old log_new : List declared.Done)
+    (old new : Output) : Type 0 where
   pub run_is : next.run ≡ items ++ w.run
   pub notes : (run : List Done) → Notes log_old run → Notes log_new (items ++ run)
-  pub client_more : List ℕ
-  pub client_puts : (bytes : List ℕ) → PutsOut p Client (part Client w.run) bytes →
-      PutsOut p Client (part Client next.run) (bytes ++ client_more)
-  pub client_out : client_new ≡ client_old ++ client_more
-  pub server_more : List ℕ
-  pub server_puts : (bytes : List ℕ) → PutsOut p Server (part Server w.run) bytes →
-      PutsOut p Server (part Server next.run) (bytes ++ server_more)
-  pub server_out : server_new ≡ server_old ++ server_more
+  pub puts : (side : Side) →
+      PutsMore p side (part side w.run) (part side next.run) (output_of side old) (output_of side new)
 
 -- One event led to another world, where the pair now stands.
-pub record PlaysOne {K : Type 0} (p : Parties K) (w : World) (event : session.Event) (new : PairValue K)
-    (log_old log_new : List declared.Done) (client_old client_new server_old server_new : List ℕ) : Type 0 where
+pub record PlaysOne {K : Type 0} (p : Parties K) (w : World) (event : session.Event) (new : Both K)
+    (log_old log_new : List declared.Done) (out_old out_new : Output) : Type 0 where
   pub next : World
   pub items : List Done
   pub on_event : OnEvent p w event next
   pub stands : PairStands p next new
-  pub says : Says p w next items log_old log_new client_old client_new server_old server_new
+  pub says : Says p w next items log_old log_new out_old out_new
 
 -- These events led to another world, where the pair now stands.
-pub record PlaysTo {K : Type 0} (p : Parties K) (w : World) (events : List session.Event) (new : PairValue K)
-    (log_old log_new : List declared.Done) (client_old client_new server_old server_new : List ℕ) : Type 0 where
+pub record PlaysTo {K : Type 0} (p : Parties K) (w : World) (events : List session.Event) (new : Both K)
+    (log : List declared.Done) (out : Output) : Type 0 where
   pub next : World
   pub items : List Done
   pub plays : Plays p w events next
   pub stands : PairStands p next new
-  pub says : Says p w next items log_old log_new client_old client_new server_old server_new
+  pub says : Says p w next items [] log (record { client = []; server = [] }) out
 
 -- They did, and where what was done is honest and both ends offer strict key exchange, all is safe.
-pub record Played {K : Type 0} (p : Parties K) (w : World) (events : List session.Event) (new : PairValue K)
-    (log : List declared.Done) (client_bytes server_bytes : List ℕ) : Type 0 where
-  pub to : PlaysTo p w events new [] log [] client_bytes [] server_bytes
+pub record Played {K : Type 0} (p : Parties K) (w : World) (events : List session.Event) (new : Both K)
+    (log : List declared.Done) (out : Output) : Type 0 where
+  pub to : PlaysTo p w events new log out
   pub safe : BothOffer p → IsHonest p to.next.run → IsSafe p to.next.run
 
 -- An end of a pair was fed, and answered this: true exactly where it could be fed, and then just that was done.
 pub record PairFed {K : Type 0} (p : Parties K) (w : World) (side : Side) (material : Material) (answer : Bool)
-    (new : PairValue K) : Type 0 where
+    (new : Both K) : Type 0 where
   pub answer_is : answer ≡ can_feed (part side w.run)
   pub next : World
   pub on_event : OnEvent p w (session.Event.Feeds side material.cookie material.secret) next
@@ -126,14 +161,57 @@ pub record PairFed {K : Type 0} (p : Parties K) (w : World) (side : Side) (mater
 
 -- Two ends have opened, each with this pair of cookie and secret, and this was noted and put out for it. Where that is
 -- honest and both ends offer strict key exchange, all is safe.
-pub record PairOpens {K : Type 0} (p : Parties K) (of_client of_server : Material) (pair : PairValue K)
-    (log : List declared.Done) (client_bytes server_bytes : List ℕ) : Type 0 where
+pub record PairOpens {K : Type 0} (p : Parties K) (of_client of_server : Material) (pair : Both K)
+    (log : List declared.Done) (out : Output) : Type 0 where
   pub world : World
   pub first : IsFirst p world
   pub client_fed : fed (part Client world.run) ≡ of_client ∷ []
   pub server_fed : fed (part Server world.run) ≡ of_server ∷ []
   pub stands : PairStands p world pair
   pub notes : Notes log world.run
-  pub client_puts : PutsOut p Client (part Client world.run) client_bytes
-  pub server_puts : PutsOut p Server (part Server world.run) server_bytes
+  pub puts : (side : Side) → PutsOut p side (part side world.run) (output_of side out)
   pub safe : BothOffer p → IsHonest p world.run → IsSafe p world.run
+
+-- ---- what the calls of a pair say
+
+-- Two ends with these settings and these pairs of cookie and secret opened, of whichever parties they and their parts are.
+abbrev pub PairMade : {R X L S F Q Y M T G K : Type 0} → role.Ghosts R X L S F K → role.Ghosts Q Y M T G K →
+    (client server : Settings) → (of_client of_server : Material) → PairState (EndValue K R L) (EndValue K Q M) →
+    Transcript → Type 0
+PairMade {R} {X} {L} {S} {F} {Q} {Y} {M} {T} {G} {K} clients servers client server of_client of_server pair t =
+    (p : Parties K) → clients.is_of pair.client.role p → servers.is_of pair.server.role p → p.client ≡ client →
+    p.server ≡ server → PairOpens p of_client of_server (both clients servers pair) t.items.items (output_in t)
+
+-- From each world in which the pair stands:
+
+-- an event was played
+abbrev pub GoesOn : {R X L S F Q Y M T G K : Type 0} → role.Ghosts R X L S F K → role.Ghosts Q Y M T G K →
+    (old : PairState (EndValue K R L) (EndValue K Q M)) → session.Event →
+    (new : PairState (EndValue K R L) (EndValue K Q M)) → (before after : Transcript) → Type 0
+GoesOn {R} {X} {L} {S} {F} {Q} {Y} {M} {T} {G} {K} clients servers old event new before after =
+    (p : Parties K) (w : World) → PairStands p w (both clients servers old) →
+    PlaysOne p w event (both clients servers new) before.items.items after.items.items (output_in before) (output_in after)
+
+-- events were, up to here
+abbrev pub HasPlayed : {R X L S F Q Y M T G K : Type 0} → role.Ghosts R X L S F K → role.Ghosts Q Y M T G K →
+    (old : PairState (EndValue K R L) (EndValue K Q M)) → List session.Event →
+    (new : PairState (EndValue K R L) (EndValue K Q M)) → Transcript → Type 0
+HasPlayed {R} {X} {L} {S} {F} {Q} {Y} {M} {T} {G} {K} clients servers old events new t =
+    (p : Parties K) (w : World) → PairStands p w (both clients servers old) →
+    PlaysTo p w events (both clients servers new) t.items.items (output_in t)
+
+-- events were
+abbrev pub PairPlays : {R X L S F Q Y M T G K : Type 0} → role.Ghosts R X L S F K → role.Ghosts Q Y M T G K →
+    (old : PairState (EndValue K R L) (EndValue K Q M)) → List session.Event →
+    (new : PairState (EndValue K R L) (EndValue K Q M)) → Transcript → Type 0
+PairPlays {R} {X} {L} {S} {F} {Q} {Y} {M} {T} {G} {K} clients servers old events new t =
+    (p : Parties K) (w : World) → PairStands p w (both clients servers old) →
+    Played p w events (both clients servers new) t.items.items (output_in t)
+
+-- an end was fed
+abbrev pub PairFeeds : {R X L S F Q Y M T G K : Type 0} → role.Ghosts R X L S F K → role.Ghosts Q Y M T G K →
+    (old : PairState (EndValue K R L) (EndValue K Q M)) → Side → Material → Bool →
+    (new : PairState (EndValue K R L) (EndValue K Q M)) → Type 0
+PairFeeds {R} {X} {L} {S} {F} {Q} {Y} {M} {T} {G} {K} clients servers old side material answer new =
+    (p : Parties K) (w : World) → PairStands p w (both clients servers old) →
+    PairFed p w side material answer (both clients servers new)

@@ -1,158 +1,90 @@
 -- The two ends of a pair: what they keep, and where they stand in a run.
-use Rattle.std.specs.Prelude.{◌≡◌, ℕ, Bool, false, cond, Option, List, []}
-use Rattle.ssh_model.specs.Side.{Side.Client, Side.Server, part}
-use Rattle.ssh_model.specs.Wire.Message.{Msg.UserauthFailure}
-use Rattle.ssh_model.specs.Wire.Sealing.{Crypto}
-use Rattle.ssh_model.specs.Authentication.Requests.{Judge, judge_of}
-use Rattle.ssh_model.specs.Sessions.Events.{World}
+use Rattle.std.specs.Prelude.{◌≡◌, ℕ, Bool, cond, List, []}
+use Rattle.ssh_model.specs.Channels.Kept.{Channels}
+use Rattle.ssh_model.specs.End.State.{Authentication, EndState}
+use Rattle.ssh_model.specs.Sessions.Events.{World, rest_of}
 use Rattle.ssh_model.specs.Sessions.Items.{Done}
-use Rattle.ssh_model.specs.Sessions.Parties.{Agreement, AreLawful, Parties, agreement_of}
-use Rattle.ssh_model.specs.Sessions.TurnClaims.{HasSpelling}
-use Rattle.ssh_model.specs.Sessions.Turns.{EndRun, Run}
-use Rattle.ssh_model.specs.TransportLayer.Kept.{ExchangeParts}
-use Rattle.ssh_model.specs.TransportLayer.Summary.{parts_of}
-use Rattle.ssh_model.specs.End.Summary.{EndSumsUp}
+use Rattle.ssh_model.specs.Sessions.Parties.{Parties}
+use Rattle.ssh_model.specs.Sessions.Turns.{Run}
+use Rattle.ssh_model.specs.Side.{Side, Side.Client, Side.Server, part}
 use Rattle.ssh_transport_machine.specs.State.{State, begun_of}
 use Rattle.ssh_layers.specs.ClientLayers as client
-use Rattle.ssh_layers.specs.ClientSessions as client_sessions
-use Rattle.ssh_end.specs.Ends.{EndValue}
-use Rattle.ssh_end.specs.declared.client_role.ClientRole.{ClientRole}
-use Rattle.ssh_end.specs.declared.server_role.ServerRole.{ServerRole}
 use Rattle.ssh_layers.specs.Layers as server
-use Rattle.ssh_end.specs.Reading.{IsReading}
-use Rattle.ssh_layers.specs.Sessions as server_sessions
-use Rattle.ssh_layers.specs.Sessions.{AreOf}
-use Rattle.ssh_pair.specs.Gathering.{Gathers}
+use Rattle.ssh_end.specs.Ends.{EndValue}
+use Rattle.ssh_end.specs.Places.{StandsAfter}
+use Rattle.ssh_end.specs.declared.client_role.ClientRole.{ClientRole}
+use Rattle.ssh_end.specs.declared.role.EndRole as role
+use Rattle.ssh_end.specs.declared.server_role.ServerRole.{ServerRole}
 
--- ---- the supplied parts, as functions
-
--- what a client is made with: sealing, agreement, whom it trusts, and the signatures of its user
-pub record ClientFunctions (K : Type 0) : Type 0 where
-  pub crypto : Crypto K
-  pub agreement : Agreement
-  pub trusts : (algorithm key hash signature : List ℕ) → Bool
-  pub signature : (user algorithm key text : List ℕ) → List ℕ
-
--- what a server is made with: sealing, agreement and host keys, and its verdicts on users
-pub record ServerFunctions (K : Type 0) : Type 0 where
-  pub crypto : Crypto K
-  pub exchange : ExchangeParts
-  pub judge : Judge
-
--- They are those of the client of these parties.
-pub record AreOfClient {K : Type 0} (p : Parties K) (f : ClientFunctions K) : Type 0 where
-  pub crypto : p.crypto ≡ f.crypto
-  pub agreement : agreement_of p Client ≡ f.agreement
-  pub trusts : p.trusts ≡ f.trusts
-  pub signature : p.user_signature ≡ f.signature
-
--- They are those of the server of these parties.
-pub record AreOfServer {K : Type 0} (p : Parties K) (f : ServerFunctions K) : Type 0 where
-  pub crypto : p.crypto ≡ f.crypto
-  pub exchange : parts_of p Server ≡ f.exchange
-  pub judge : judge_of p ≡ f.judge
-
--- ---- where an end stands
+-- ---- an end
 
 -- The bytes that it was given and has not used: a dead one keeps none.
 abbrev pub kept_bytes : {K : Type 0} → State K → List ℕ
 kept_bytes s = cond s.kept.dead [] (begun_of s)
 
--- ---- ends with their parts
-
--- a client: what its parts do, its transport, the layers above, and what is gathered of the lines that come to it
-pub record ClientValue (K : Type 0) : Type 0 where
-  pub functions : ClientFunctions K
+-- An end of a pair whatever its role is: when its supplied parts are those of parties, and what it keeps above its
+-- transport; its transport; and what it keeps above, as an end of a session.
+pub record Standing (K : Type 0) : Type 1 where
+  pub parts : Parties K → Type 0
+  pub layers : Parties K → Type 0
   pub machine : State K
-  pub layers : client.Layers
-  pub lines : Option (List ℕ)
+  pub authentication : Authentication
+  pub channels : Channels
 
--- a server: the same
-pub record ServerValue (K : Type 0) : Type 0 where
-  pub functions : ServerFunctions K
-  pub machine : State K
-  pub layers : server.Layers
-  pub lines : Option (List ℕ)
-
--- a client with what its supplied parts do, and with what is gathered of lines
-abbrev pub client_value : {P U S F A H K : Type 0} → Crypto K → (point : A → List ℕ → List ℕ) →
-    (shared : A → List ℕ → List ℕ → Option (List ℕ)) → (trusts : H → List ℕ → List ℕ → List ℕ → List ℕ → Bool) →
-    (signature : U → List ℕ → List ℕ → List ℕ → List ℕ → List ℕ) →
-    EndValue K (ClientRole P U S F A H K) client.Layers → Option (List ℕ) → ClientValue K
-client_value c point shared trusts signature end lines = record {
-  functions = record {
-    crypto = c;
-    agreement = record { point = point end.role.exchange.agreement; shared = shared end.role.exchange.agreement };
-    trusts = trusts end.role.exchange.host_trust;
-    signature = signature end.role.user;
-  };
+-- an end of a role, by the ghost members of the role
+abbrev pub standing_of : {R X L S F K : Type 0} → role.Ghosts R X L S F K → EndValue K R L → Standing K
+standing_of ends end = record {
+  parts = ends.is_of end.role;
+  layers = ends.are_of end.layers;
   machine = end.machine;
-  layers = end.layers;
-  lines = lines;
+  authentication = ends.authentication_of end.layers;
+  channels = ends.channels_of end.layers;
 }
 
--- a server with what its supplied parts do, and with what is gathered of lines
-abbrev pub server_value : {P U S F A H K : Type 0} → Crypto K → (point : A → List ℕ → List ℕ) →
-    (shared : A → List ℕ → List ℕ → Option (List ℕ)) → (key : H → List ℕ → List ℕ) →
-    (signature : H → List ℕ → List ℕ → List ℕ) → (verdicts : U → Judge) →
-    EndValue K (ServerRole P U S F A H K) server.Layers → Option (List ℕ) → ServerValue K
-server_value c point shared key signature verdicts end lines = record {
-  functions = record {
-    crypto = c;
-    exchange = record {
-      agreement = record { point = point end.role.exchange.agreement; shared = shared end.role.exchange.agreement };
-      host_key = key end.role.exchange.host_signer;
-      host_signature = signature end.role.exchange.host_signer;
-    };
-    judge = verdicts end.role.user;
-  };
-  machine = end.machine;
-  layers = end.layers;
-  lines = lines;
-}
+-- what it keeps, as an end of a session
+abbrev pub state_in : {K : Type 0} → Standing K → EndState K
+state_in v = record { transport = v.machine.kept; authentication = v.authentication; channels = v.channels }
 
--- A client of lawful parties, which has these parts, sums up its part of a run.
-pub record ClientStands {K : Type 0} (p : Parties K) (v : ClientValue K) (run : List Done) : Type 0 where
-  pub lawful : AreLawful p
-  pub fits : AreOfClient p v.functions
-  pub sums : EndSumsUp p Client (part Client run) (client_sessions.end_of v.machine.kept v.layers)
-  pub end_run : EndRun p Client (part Client run)
-  pub reading : v.machine.kept.dead ≡ false → IsReading p.crypto v.machine
-  pub lines : Gathers v.machine v.lines
-
--- So does a server. The methods that it names fit into a packet.
-pub record ServerStands {K : Type 0} (p : Parties K) (v : ServerValue K) (run : List Done) : Type 0 where
-  pub lawful : AreLawful p
-  pub fits : AreOfServer p v.functions
-  pub layers_are : v.machine.kept.dead ≡ false → AreOf p v.layers
-  pub sums : EndSumsUp p Server (part Server run) (server_sessions.end_of v.machine.kept v.layers)
-  pub end_run : EndRun p Server (part Server run)
-  pub reading : v.machine.kept.dead ≡ false → IsReading p.crypto v.machine
-  pub lines : Gathers v.machine v.lines
-  pub failure : HasSpelling (UserauthFailure p.server.methods false)
+-- It stands after its part of a run.
+abbrev pub EndStands : {K : Type 0} → Parties K → Side → Standing K → List Done → Type 0
+EndStands p side v run = StandsAfter p side (v.parts p) (v.layers p) (part side run) v.machine (state_in v)
 
 -- ---- a pair
 
--- both ends, what is gathered of the lines that come to each, and whether a call found no memory
+-- both ends
+pub record Both (K : Type 0) : Type 1 where
+  pub client : Standing K
+  pub server : Standing K
+
+-- the end of this side
+abbrev pub on : {K : Type 0} → Side → Both K → Standing K
+on Client pair = pair.client
+on Server pair = pair.server
+
+-- where that is another one
+abbrev pub with_end : {K : Type 0} → Side → Standing K → Both K → Both K
+with_end Client v pair = record pair { client = v }
+with_end Server v pair = record pair { server = v }
+
+-- Both ends stand in a run of two, with the bytes that each was given and has not used.
+pub record PairStands {K : Type 0} (p : Parties K) (w : World) (pair : Both K) : Type 0 where
+  pub run : Run p w.run
+  pub ends : (side : Side) → EndStands p side (on side pair) w.run
+  pub rest : (side : Side) → rest_of w side ≡ kept_bytes (on side pair).machine
+
+-- both ends, and whether a call found no memory
 pub record PairState (C S : Type 0) : Type 0 where
   pub client : C
   pub server : S
-  pub client_lines : Option (List ℕ)
-  pub server_lines : Option (List ℕ)
   pub failed : Bool
 
--- both ends, with what their supplied parts do
-pub record PairValue (K : Type 0) : Type 0 where
-  pub client : ClientValue K
-  pub server : ServerValue K
-
--- Both ends sum up where they stand, which a run led to.
-pub record PairStands {K : Type 0} (p : Parties K) (w : World) (pair : PairValue K) : Type 0 where
-  pub run : Run p w.run
-  pub client : ClientStands p pair.client w.run
-  pub server : ServerStands p pair.server w.run
-  pub client_rest : w.client_rest ≡ kept_bytes pair.client.machine
-  pub server_rest : w.server_rest ≡ kept_bytes pair.server.machine
+-- both ends, by the ghost members of their roles
+abbrev pub both : {R X L S F Q Y M T G K : Type 0} → role.Ghosts R X L S F K → role.Ghosts Q Y M T G K →
+    PairState (EndValue K R L) (EndValue K Q M) → Both K
+both clients servers pair = record {
+  client = standing_of clients pair.client;
+  server = standing_of servers pair.server;
+}
 
 -- The supplied parts are as before.
 pub record SameParts {K R L Q M : Type 0} (old new : PairState (EndValue K R L) (EndValue K Q M)) : Type 0 where

@@ -1,27 +1,15 @@
-//! The client of a pair.
+//! How the client of a pair is made.
 
-ghost use Rattle.std.specs.Prelude.{◌≡◌, ◌<◌, ◌≤◌, ℕ, IfOk, List, OnOk, Option, [], false, length, take};
+ghost use Rattle.std.specs.Prelude.{◌≡◌, IfOk};
 ghost use Rattle.ssh_model.specs.Side as model;
-ghost use Rattle.ssh_model.specs.Sessions.Items as session;
-ghost use Rattle.ssh_model.specs.Sessions.Parties.{Parties};
-ghost use Rattle.ssh_transport_machine.specs.Standing.{Stands};
 ghost use Rattle.ssh_transport_base.specs.Meaning.{settings_of};
-ghost use Rattle.ssh_end.specs.Asking.{ask_of};
-ghost use Rattle.ssh_layers.specs.ClientSessions.{end_of};
-ghost use Rattle.ssh_end.specs.Reading.{IsReading};
-ghost use Rattle.ssh_pair.specs.Playing.{Advanced, Answered, Opens};
-ghost use Rattle.ssh_pair.specs.Standing.{ClientStands, client_value, kept_bytes};
+ghost use Rattle.ssh_pair.specs.Playing.{OpensAs};
+ghost use Rattle.ssh_pair.specs.Standing.{HasClientParts};
 
 use crate::item::Done;
-use crate::lines::Lines;
-use crate::notes::{note_ask, note_death, note_line, note_turn, noted};
+use crate::notes::{note_line, noted};
 use ssh_auth::UserSigner;
-use ssh_end::opening_laws::is_material;
-use ssh_end::turn_laws::{clients_deaths, clients_turns, turns_channels};
-use ssh_end::{Ask, ClientEnd};
-use ssh_model::end::{asks, deaths, identified, openings, units};
-use ssh_model::pair::{deliveries, parts};
-use ssh_packet::Sealing;
+use ssh_end::{ClientEnd, ClientRole, EndRole};
 use ssh_transport_base::{ClientPartValues, ClientParts, Config};
 use ssh_types::Side;
 use std::alloc::{AllocError, Global};
@@ -79,108 +67,12 @@ pub(crate) fn open_client<P: ClientParts, U: UserSigner + Drop>(
     log: &mut Vec<Done>,
     out: &mut Vec<u8>,
 ) -> Result<ClientEnd<P, U>, AllocError>
-    ensures opens { IfOk result (λ end. (p : Parties P.Sealing.Key) → p.crypto ≡ P.Sealing.crypto → p.client ≡ settings_of values.config → Opens p model.Client (record { cookie = values.cookie; secret = values.secret }) (end_of end.machine.kept end.layers) log.old.items log.new.items out.old.items out.new.items) }
-    ensures reading { IfOk result (λ end. IsReading P.Sealing.crypto end.machine) }
-    ensures begun { IfOk result (λ end. kept_bytes end.machine ≡ []) }
-    ensures alive { IfOk result (λ end. end.machine.kept.dead ≡ false) }
-    ensures agreement { IfOk result (λ end. end.role.exchange.agreement ≡ values.parts.agreement) }
-    ensures part { IfOk result (λ end. end.role.exchange.host_trust ≡ values.parts.host_trust) }
-    ensures user { IfOk result (λ end. end.role.user ≡ values.user) }
+    ensures opens { IfOk result (λ end. OpensAs ⟦<ClientRole<P, U> as EndRole>⟧ model.Client (settings_of values.config) (record { cookie = values.cookie; secret = values.secret }) end log.old.items log.new.items out.old.items out.new.items) }
+    ensures parts { IfOk result (λ end. HasClientParts values.parts.agreement values.parts.host_trust values.user end) }
 {
-    openings::<<P::Sealing as Sealing>::Key>();
     let (config, parts, user, cookie, secret) = values.into_parts();
-    is_material(&cookie, &secret);
     note_line(alloc, log, Side::Client, config.line())?;
     let begun = ClientEnd::new(alloc, config, parts, user, cookie, secret, out)?;
     let end = noted(alloc, log, Side::Client, begun)?;
     Ok(end)
-}
-
-// Asks the client for something. Where it is over it does nothing.
-pub(crate) fn ask_client<P: ClientParts, U: UserSigner + Drop>(
-    end: &mut ClientEnd<P, U>,
-    alloc: Global,
-    ask: &Ask<'_>,
-    log: &mut Vec<Done>,
-    out: &mut Vec<u8>,
-) -> Result<(), AllocError>
-    ensures answers { OnOk result ((p : Parties P.Sealing.Key) (lines : Option (List ℕ)) (run : List session.Done) → ClientStands p (client_value P.Sealing.crypto P.Agreement.public_of P.Agreement.shared_of P.HostTrust.judged U.signature_of end.old lines) run → Answered p model.Client run (ask_of ask.now) (kept_bytes end.old.machine) (kept_bytes end.new.machine) (ClientStands p (client_value P.Sealing.crypto P.Agreement.public_of P.Agreement.shared_of P.HostTrust.judged U.signature_of end.new lines)) log.old.items log.new.items out.old.items out.new.items) }
-    ensures role { end.new.role ≡ end.old.role }
-{
-    parts();
-    asks::<<P::Sealing as Sealing>::Key>();
-    identified::<<P::Sealing as Sealing>::Key>();
-    if end.is_dead() {
-        return Ok(());
-    }
-    let done = end.perform(ask, out);
-    let is_over = end.is_dead();
-    note_ask(
-        alloc,
-        log,
-        Side::Client,
-        ask,
-        done,
-        &end.turn().sent,
-        is_over,
-    )
-}
-
-// Delivers a piece of the server's stream to the client. Where it is over it does nothing.
-pub(crate) fn deliver_to_client<P: ClientParts, U: UserSigner + Drop>(
-    end: &mut ClientEnd<P, U>,
-    alloc: Global,
-    lines: &mut Lines,
-    piece: &[u8],
-    log: &mut Vec<Done>,
-    out: &mut Vec<u8>,
-) -> Result<(), AllocError>
-    ensures advanced { OnOk result ((p : Parties P.Sealing.Key) (run : List session.Done) → ClientStands p (client_value P.Sealing.crypto P.Agreement.public_of P.Agreement.shared_of P.HostTrust.judged U.signature_of end.old lines.old) run → Advanced p model.Client run piece.now (kept_bytes end.old.machine) (kept_bytes end.new.machine) (ClientStands p (client_value P.Sealing.crypto P.Agreement.public_of P.Agreement.shared_of P.HostTrust.judged U.signature_of end.new lines.new)) log.old.items log.new.items out.old.items out.new.items) }
-    ensures role { end.new.role ≡ end.old.role }
-    ensures live { OnOk result (Stands model.Client end.new.machine) }
-{
-    parts();
-    let mut at = 0;
-    while at < piece.len() {
-        if end.is_dead() {
-            return Ok(());
-        }
-        let rest = piece.split_at(at).1;
-        at += advance_client(end, alloc, lines, rest, log, out)?;
-    }
-    end.stands();
-    Ok(())
-}
-
-// Delivers bytes to the end of one line or packet, and answers how many.
-fn advance_client<P: ClientParts, U: UserSigner + Drop>(
-    end: &mut ClientEnd<P, U>,
-    alloc: Global,
-    lines: &mut Lines,
-    bytes: &[u8],
-    log: &mut Vec<Done>,
-    out: &mut Vec<u8>,
-) -> Result<usize, AllocError>
-    requires alive { end.old.machine.kept.dead ≡ false }
-    ensures used { IfOk result (λ used. used ≤ length bytes.now) }
-    ensures progress { IfOk result (λ used. 0 < length bytes.now → 0 < used) }
-    ensures advanced { IfOk result (λ used. (p : Parties P.Sealing.Key) (run : List session.Done) → ClientStands p (client_value P.Sealing.crypto P.Agreement.public_of P.Agreement.shared_of P.HostTrust.judged U.signature_of end.old lines.old) run → Advanced p model.Client run (take used bytes.now) (kept_bytes end.old.machine) (kept_bytes end.new.machine) (ClientStands p (client_value P.Sealing.crypto P.Agreement.public_of P.Agreement.shared_of P.HostTrust.judged U.signature_of end.new lines.new)) log.old.items log.new.items out.old.items out.new.items) }
-    ensures role { end.new.role ≡ end.old.role }
-{
-    parts();
-    deliveries::<<P::Sealing as Sealing>::Key>();
-    identified::<<P::Sealing as Sealing>::Key>();
-    units::<<P::Sealing as Sealing>::Key>();
-    clients_turns::<<P::Sealing as Sealing>::Key>();
-    turns_channels::<<P::Sealing as Sealing>::Key>();
-    clients_deaths::<<P::Sealing as Sealing>::Key>();
-    deaths::<<P::Sealing as Sealing>::Key>();
-    let Ok(used) = end.advance(bytes, out) else {
-        note_death(log, Side::Client, true)?;
-        return Ok(bytes.len());
-    };
-    lines.gather(bytes.split_at(used).0)?;
-    let is_over = end.is_dead();
-    note_turn(alloc, log, Side::Client, &end.turn(), lines, is_over)?;
-    Ok(used)
 }

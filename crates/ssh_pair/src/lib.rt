@@ -16,8 +16,8 @@ mod client;
 mod event;
 mod fact;
 mod item;
-mod lines;
 mod notes;
+mod one_end;
 mod pair;
 mod server;
 

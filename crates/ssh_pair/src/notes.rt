@@ -8,14 +8,12 @@ ghost use Rattle.ssh_types.specs.Sides.{side_of};
 ghost use Rattle.ssh_end.specs.Asking.{ask_of};
 ghost use Rattle.ssh_end.specs.Told.{told_of};
 ghost use Rattle.ssh_end.specs.Turn.{channels_in, payloads_in};
-ghost use Rattle.ssh_pair.specs.Gathering.{gathered_after};
 ghost use Rattle.ssh_pair.specs.Items.{IsItem, Notes};
 ghost use Rattle.ssh_pair.specs.Noting.{Adds, AddsAsk, AddsDeath, AddsRefused, AddsSent, AddsStep, AddsTold, AddsTook, AddsTurn};
 
 use crate::ask_kind::AskKind;
 use crate::fact::Fact;
 use crate::item::{Done, Item};
-use crate::lines::Lines;
 use ssh_end::{Ask, AskStep, End, EndRole, Fault, SentPayloads, Told, Took, Turn};
 use ssh_types::{Refusal, Side};
 use std::alloc::{AllocError, Global};
@@ -34,13 +32,11 @@ pub(crate) fn note_turn(
     log: &mut Vec<Done>,
     side: Side,
     turn: &Turn<'_>,
-    lines: &mut Lines,
     is_over: bool,
 ) -> Result<(), AllocError>
-    ensures noted { OnOk result (AddsTurn (side_of side) turn.now lines.old is_over log.old.items log.new.items) }
-    ensures gathered { OnOk result (lines.new ≡ gathered_after turn.now.took lines.old) }
+    ensures { OnOk result (AddsTurn (side_of side) turn.now is_over log.old.items log.new.items) }
 {
-    note_took(alloc, log, side, turn.took, lines)?;
+    note_took(alloc, log, side, turn.took)?;
     note_refused(log, side, turn.refused)?;
     note_sent(alloc, log, side, &turn.sent)?;
     note_told(log, side, turn.told)?;
@@ -53,15 +49,14 @@ fn note_took(
     log: &mut Vec<Done>,
     side: Side,
     took: Option<Took<'_>>,
-    lines: &mut Lines,
 ) -> Result<(), AllocError>
-    ensures noted { OnOk result (AddsTook (side_of side) took.entry lines.old log.old.items log.new.items) }
-    ensures gathered { OnOk result (lines.new ≡ gathered_after took.entry lines.old) }
+    ensures { OnOk result (AddsTook (side_of side) took.entry log.old.items log.new.items) }
 {
     match took {
         None => Ok(()),
-        Some(Took::OtherLine) => note(log, side, Item::TookLine(lines.other(alloc)?)),
-        Some(Took::VersionLine) => note(log, side, Item::TookLine(lines.version(alloc)?)),
+        Some(Took::OtherLine { text } | Took::VersionLine { text }) => {
+            note(log, side, Item::TookLine(text.to_vec(alloc)?))
+        }
         Some(Took::Skipped { payload }) => note(log, side, Item::Skipped(payload.to_vec(alloc)?)),
         Some(
             Took::Message {

@@ -1,25 +1,22 @@
 //! Two ends of SSH-2.
 
-ghost use Rattle.std.specs.Prelude.{◌≡◌, IfOk, IsErr, List, OnErr, OnOk, [], false, true};
+ghost use Rattle.std.specs.Prelude.{◌≡◌, IfOk, IsErr, OnErr, OnOk, false, true};
 ghost use Rattle.ssh_model.specs.Sessions.Events as session;
-ghost use Rattle.ssh_model.specs.Sessions.Events.{World};
-ghost use Rattle.ssh_model.specs.Sessions.Parties.{Parties};
 ghost use Rattle.ssh_types.specs.Sides.{side_of};
 ghost use Rattle.ssh_transport_base.specs.Meaning.{settings_of};
 ghost use Rattle.ssh_end.specs.Asking.{ask_of};
-ghost use Rattle.ssh_pair.specs.Playing.{PairFed, PairOpens, Played, PlaysOne, event_of, events_of};
-ghost use Rattle.ssh_pair.specs.Standing.{AreOfClient, AreOfServer, HasClientParts, HasServerParts, PairStands, SameParts, client_value, server_value};
+ghost use Rattle.ssh_pair.specs.Playing.{GoesOn, PairFeeds, PairMade, PairPlays, event_of, events_of};
+ghost use Rattle.ssh_pair.specs.Standing.{HasClientParts, HasServerParts, SameParts};
 
-use crate::client::{ClientValues, ask_client, deliver_to_client, open_client};
+use crate::client::{ClientValues, open_client};
 use crate::event::Event;
 use crate::item::Transcript;
-use crate::lines::Lines;
-use crate::server::{ServerValues, ask_server, deliver_to_server, open_server};
+use crate::one_end::{ask_end, deliver_to_end};
+use crate::server::{ServerValues, open_server};
 use ssh_auth::{UserJudge, UserSigner};
-use ssh_end::opening_laws::{is_material, settings_fit};
-use ssh_end::{Ask, ClientEnd, ServerEnd};
-use ssh_model::end::{feeds, waiting};
-use ssh_model::one_end::runs_of_each_end;
+use ssh_end::opening_laws::settings_fit;
+use ssh_end::{Ask, ClientEnd, ClientRole, EndRole, ServerEnd, ServerRole};
+use ssh_model::end::waiting;
 use ssh_model::pair::{deliveries, events, openings, parts, plays};
 use ssh_model::session::safety;
 use ssh_packet::Sealing;
@@ -39,8 +36,6 @@ pub struct Pair<
     alloc: Global,
     client: ClientEnd<C, U>,
     server: ServerEnd<V, J>,
-    client_lines: Lines,
-    server_lines: Lines,
     failed: bool,
 }
 
@@ -60,7 +55,7 @@ impl<
 
     ghost Value = { PairState (EndValue S.Key (ClientRole C U S C.Filler C.Agreement C.HostTrust S.Key) of_client.Layers) (EndValue S.Key (ServerRole V J S V.Filler V.Agreement V.HostSigner S.Key) of_server.Layers) };
 
-    ghost view = { λ pair. record { client = pair.client; server = pair.server; client_lines = pair.client_lines; server_lines = pair.server_lines; failed = pair.failed } };
+    ghost view = { λ pair. record { client = pair.client; server = pair.server; failed = pair.failed } };
 }
 
 impl<
@@ -75,8 +70,6 @@ impl<
             alloc: _,
             client: _,
             server: _,
-            client_lines: _,
-            server_lines: _,
             failed: _,
         } = self;
     }
@@ -100,8 +93,7 @@ impl<
         client: ClientValues<C, U>,
         server: ServerValues<V, J>,
     ) -> Result<(Pair<S, C, U, V, J>, Transcript), AllocError>
-        ensures opens { IfOk result (λ r. (p : Parties S.Key) → AreOfClient p (client_value S.crypto C.Agreement.public_of C.Agreement.shared_of C.HostTrust.judged U.signature_of r.0.client r.0.client_lines).functions → AreOfServer p (server_value S.crypto V.Agreement.public_of V.Agreement.shared_of V.HostSigner.key_of V.HostSigner.signature_of J.verdicts r.0.server r.0.server_lines).functions → p.client ≡ settings_of client.config → p.server ≡ settings_of server.config →
-            PairOpens p (record { cookie = client.cookie; secret = client.secret }) (record { cookie = server.cookie; secret = server.secret }) (record { client = client_value S.crypto C.Agreement.public_of C.Agreement.shared_of C.HostTrust.judged U.signature_of r.0.client r.0.client_lines; server = server_value S.crypto V.Agreement.public_of V.Agreement.shared_of V.HostSigner.key_of V.HostSigner.signature_of J.verdicts r.0.server r.0.server_lines }) r.1.items.items r.1.client_bytes.items r.1.server_bytes.items) }
+        ensures opens { IfOk result (λ r. PairMade ⟦<ClientRole<C, U> as EndRole>⟧ ⟦<ServerRole<V, J> as EndRole>⟧ (settings_of client.config) (settings_of server.config) (record { cookie = client.cookie; secret = client.secret }) (record { cookie = server.cookie; secret = server.secret }) r.0 r.1) }
         ensures fine { IfOk result (λ r. r.0.failed ≡ false) }
         ensures client_parts { IfOk result (λ r. HasClientParts client.parts.agreement client.parts.host_trust client.user r.0.client) }
         ensures server_parts { IfOk result (λ r. HasServerParts server.parts.agreement server.parts.host_signer server.user r.0.server) }
@@ -109,7 +101,6 @@ impl<
         parts();
         openings::<S::Key>();
         safety::<S::Key>();
-        runs_of_each_end::<S::Key>();
         settings_fit(&client.config);
         settings_fit(&server.config);
         let mut transcript = Transcript::new(alloc);
@@ -125,14 +116,10 @@ impl<
             &mut transcript.items,
             &mut transcript.server_bytes,
         )?;
-        let client_lines = Lines::new(alloc);
-        let server_lines = Lines::new(alloc);
         let pair = Pair {
             alloc,
             client,
             server,
-            client_lines,
-            server_lines,
             failed: false,
         };
         Ok((pair, transcript))
@@ -149,7 +136,7 @@ impl<
         ensures fails { OnErr result (self.new.failed ≡ true) }
         ensures fine { OnOk result (self.new.failed ≡ false) }
         ensures parts { SameParts self.old self.new }
-        ensures plays { IfOk result (λ t. (p : Parties S.Key) (w : World) → PairStands p w (record { client = client_value S.crypto C.Agreement.public_of C.Agreement.shared_of C.HostTrust.judged U.signature_of self.old.client self.old.client_lines; server = server_value S.crypto V.Agreement.public_of V.Agreement.shared_of V.HostSigner.key_of V.HostSigner.signature_of J.verdicts self.old.server self.old.server_lines }) → Played p w (events_of events.now) (record { client = client_value S.crypto C.Agreement.public_of C.Agreement.shared_of C.HostTrust.judged U.signature_of self.new.client self.new.client_lines; server = server_value S.crypto V.Agreement.public_of V.Agreement.shared_of V.HostSigner.key_of V.HostSigner.signature_of J.verdicts self.new.server self.new.server_lines }) t.items.items t.client_bytes.items t.server_bytes.items) }
+        ensures plays { IfOk result (λ t. PairPlays ⟦<ClientRole<C, U> as EndRole>⟧ ⟦<ServerRole<V, J> as EndRole>⟧ self.old (events_of events.now) self.new t) }
     {
         plays::<S::Key>();
         safety::<S::Key>();
@@ -176,13 +163,11 @@ impl<
         ensures still { self.new.failed ≡ self.old.failed }
         ensures unchanged { result ≡ false → self.new ≡ self.old }
         ensures parts { SameParts self.old self.new }
-        ensures fed { self.old.failed ≡ false → (p : Parties S.Key) (w : World) → PairStands p w (record { client = client_value S.crypto C.Agreement.public_of C.Agreement.shared_of C.HostTrust.judged U.signature_of self.old.client self.old.client_lines; server = server_value S.crypto V.Agreement.public_of V.Agreement.shared_of V.HostSigner.key_of V.HostSigner.signature_of J.verdicts self.old.server self.old.server_lines }) → PairFed p w (side_of side) (record { cookie = cookie; secret = secret }) result (record { client = client_value S.crypto C.Agreement.public_of C.Agreement.shared_of C.HostTrust.judged U.signature_of self.new.client self.new.client_lines; server = server_value S.crypto V.Agreement.public_of V.Agreement.shared_of V.HostSigner.key_of V.HostSigner.signature_of J.verdicts self.new.server self.new.server_lines }) }
+        ensures fed { self.old.failed ≡ false → PairFeeds ⟦<ClientRole<C, U> as EndRole>⟧ ⟦<ServerRole<V, J> as EndRole>⟧ self.old (side_of side) (record { cookie = cookie; secret = secret }) result self.new }
     {
         parts();
-        feeds::<S::Key>();
         events::<S::Key>();
         safety::<S::Key>();
-        is_material(&cookie, &secret);
         if self.failed {
             return false;
         }
@@ -196,8 +181,7 @@ impl<
     fn play_one(&mut self, event: Event<'_>, transcript: &mut Transcript) -> Result<(), AllocError>
         ensures failed { self.new.failed ≡ self.old.failed }
         ensures parts { SameParts self.old self.new }
-        ensures plays { OnOk result ((p : Parties S.Key) (w : World) → PairStands p w (record { client = client_value S.crypto C.Agreement.public_of C.Agreement.shared_of C.HostTrust.judged U.signature_of self.old.client self.old.client_lines; server = server_value S.crypto V.Agreement.public_of V.Agreement.shared_of V.HostSigner.key_of V.HostSigner.signature_of J.verdicts self.old.server self.old.server_lines }) → PlaysOne p w (event_of event.entry) (record { client = client_value S.crypto C.Agreement.public_of C.Agreement.shared_of C.HostTrust.judged U.signature_of self.new.client self.new.client_lines; server = server_value S.crypto V.Agreement.public_of V.Agreement.shared_of V.HostSigner.key_of V.HostSigner.signature_of J.verdicts self.new.server self.new.server_lines })
-            transcript.old.items.items transcript.new.items.items transcript.old.client_bytes.items transcript.new.client_bytes.items transcript.old.server_bytes.items transcript.new.server_bytes.items) }
+        ensures plays { OnOk result (GoesOn ⟦<ClientRole<C, U> as EndRole>⟧ ⟦<ServerRole<V, J> as EndRole>⟧ self.old (event_of event.entry) self.new transcript.old transcript.new) }
     {
         match event {
             Event::Ask(side, ask) => self.ask(side, &ask, transcript),
@@ -214,20 +198,19 @@ impl<
     ) -> Result<(), AllocError>
         ensures failed { self.new.failed ≡ self.old.failed }
         ensures parts { SameParts self.old self.new }
-        ensures plays { OnOk result ((p : Parties S.Key) (w : World) → PairStands p w (record { client = client_value S.crypto C.Agreement.public_of C.Agreement.shared_of C.HostTrust.judged U.signature_of self.old.client self.old.client_lines; server = server_value S.crypto V.Agreement.public_of V.Agreement.shared_of V.HostSigner.key_of V.HostSigner.signature_of J.verdicts self.old.server self.old.server_lines }) → PlaysOne p w (session.Asks (side_of side) (ask_of ask.now)) (record { client = client_value S.crypto C.Agreement.public_of C.Agreement.shared_of C.HostTrust.judged U.signature_of self.new.client self.new.client_lines; server = server_value S.crypto V.Agreement.public_of V.Agreement.shared_of V.HostSigner.key_of V.HostSigner.signature_of J.verdicts self.new.server self.new.server_lines })
-            transcript.old.items.items transcript.new.items.items transcript.old.client_bytes.items transcript.new.client_bytes.items transcript.old.server_bytes.items transcript.new.server_bytes.items) }
+        ensures plays { OnOk result (GoesOn ⟦<ClientRole<C, U> as EndRole>⟧ ⟦<ServerRole<V, J> as EndRole>⟧ self.old (session.Asks (side_of side) (ask_of ask.now)) self.new transcript.old transcript.new) }
     {
         parts();
         events::<S::Key>();
         match side {
-            Side::Client => ask_client(
+            Side::Client => ask_end(
                 &mut self.client,
                 self.alloc,
                 ask,
                 &mut transcript.items,
                 &mut transcript.client_bytes,
             ),
-            Side::Server => ask_server(
+            Side::Server => ask_end(
                 &mut self.server,
                 self.alloc,
                 ask,
@@ -246,26 +229,23 @@ impl<
     ) -> Result<(), AllocError>
         ensures failed { self.new.failed ≡ self.old.failed }
         ensures parts { SameParts self.old self.new }
-        ensures plays { OnOk result ((p : Parties S.Key) (w : World) → PairStands p w (record { client = client_value S.crypto C.Agreement.public_of C.Agreement.shared_of C.HostTrust.judged U.signature_of self.old.client self.old.client_lines; server = server_value S.crypto V.Agreement.public_of V.Agreement.shared_of V.HostSigner.key_of V.HostSigner.signature_of J.verdicts self.old.server self.old.server_lines }) → PlaysOne p w (session.Delivers (side_of side) bytes.now) (record { client = client_value S.crypto C.Agreement.public_of C.Agreement.shared_of C.HostTrust.judged U.signature_of self.new.client self.new.client_lines; server = server_value S.crypto V.Agreement.public_of V.Agreement.shared_of V.HostSigner.key_of V.HostSigner.signature_of J.verdicts self.new.server self.new.server_lines })
-            transcript.old.items.items transcript.new.items.items transcript.old.client_bytes.items transcript.new.client_bytes.items transcript.old.server_bytes.items transcript.new.server_bytes.items) }
+        ensures plays { OnOk result (GoesOn ⟦<ClientRole<C, U> as EndRole>⟧ ⟦<ServerRole<V, J> as EndRole>⟧ self.old (session.Delivers (side_of side) bytes.now) self.new transcript.old transcript.new) }
     {
         parts();
         events::<S::Key>();
         deliveries::<S::Key>();
         waiting::<S::Key>();
         match side {
-            Side::Client => deliver_to_client(
+            Side::Client => deliver_to_end(
                 &mut self.client,
                 self.alloc,
-                &mut self.client_lines,
                 bytes,
                 &mut transcript.items,
                 &mut transcript.client_bytes,
             ),
-            Side::Server => deliver_to_server(
+            Side::Server => deliver_to_end(
                 &mut self.server,
                 self.alloc,
-                &mut self.server_lines,
                 bytes,
                 &mut transcript.items,
                 &mut transcript.server_bytes,

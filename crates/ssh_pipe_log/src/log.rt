@@ -75,10 +75,14 @@ impl Log {
     // What was taken in a turn.
     fn show_taken(&mut self, took: &Took<'_>) -> io::Result<()> {
         match took {
-            Took::OtherLine => self
-                .lines
-                .write_all(b"took a line before the version line\n"),
-            Took::VersionLine => self.lines.write_all(b"took the version line\n"),
+            Took::OtherLine { text } => {
+                let text = text.escape_ascii();
+                writeln!(self.lines, "took the line {text} before the version line")
+            }
+            Took::VersionLine { text } => {
+                let text = text.escape_ascii();
+                writeln!(self.lines, "took the version line {text}")
+            }
             Took::Skipped { payload } => self.show("took unread", number_of(payload)),
             Took::Message { payload, .. } => self.show("took", number_of(payload)),
         }

@@ -30,6 +30,7 @@ pub fn take_unit<R: Role>(
     requires { Stands (side_of R.SIDE) machine.old }
     ensures used { result.0 ≤ length bytes.now }
     ensures progress { machine.old.kept.dead ≡ false → 0 < length bytes.now → 0 < result.0 }
+    ensures dead { machine.old.kept.dead ≡ true → result.0 ≡ 0 }
     ensures more { IfOk result.1 (λ turn. turn ≡ TransportTurn.More → result.0 ≡ length bytes.now) }
     ensures took { IfOk result.1 (λ turn. Took R.Sealing.crypto (side_of R.SIDE) (R.does role.now) machine.old (begun_of machine.old ++ take result.0 bytes.now) turn machine.new (record { before = out.old.items; after = out.new.items; listed = map (λ v. v.items) sent.old.items; relisted = map (λ v. v.items) sent.new.items })) }
     ensures failed { IfErr result.1 (λ fault. Failed R.Sealing.crypto (side_of R.SIDE) (R.lacks role.now) machine.old (begun_of machine.old ++ take result.0 bytes.now) fault machine.new) }

@@ -1,6 +1,6 @@
 -- What a line that is begun makes of an end.
-use Rattle.std.proofs.Common.{◌≡◌, ℕ, ◌++◌, List, take, None, ap, sym, ◌∙◌, subst}
-use Rattle.ssh_packet.specs.Lines.{LineReading}
+use Rattle.std.proofs.Common.{◌≡◌, ℕ, ◌++◌, [], List, take, None, ap, sym, ◌∙◌, subst}
+use Rattle.ssh_packet.specs.Lines.{LineReading, cleared}
 use Rattle.ssh_packet.specs.LineSteps.{LineFinds, Takes}
 use Rattle.ssh_packet.specs.declared.line_reader.LineStep.TheVariants as step
 use Rattle.ssh_transport_machine.specs.LineTurns.{LineBegun}
@@ -13,9 +13,9 @@ pub begun : {K : Type 0} (s o : State K) (used : ℕ) (bytes : List ℕ) (r : Li
     Takes s.reading bytes used step.More r → LineBegun o (o.reading.begun ++ take used bytes) (record s { reading = r; kept = record s.kept { lines = lines_of r } })
 unfolding with_lines
 begun {K} s o used bytes r same lines going t =
-    let f : LineFinds s.reading (s.reading.begun ++ take used bytes) step.More r = t.going (ap (λ (w : State K). w.reading.ended) same ∙ going) in
+    let f : LineFinds (cleared s.reading) (s.reading.begun ++ take used bytes) step.More r = t.going (ap (λ (w : State K). w.reading.ended) same ∙ going) in
     let here : LineBegun s (s.reading.begun ++ take used bytes) (with_lines s r) = record {
       begun = f.0;
-      after = ap (with_lines s) f.1 ∙ (λ i. record s { reading = record s.reading { begun = s.reading.begun ++ take used bytes }; kept = record s.kept { lines = sym lines i } });
+      after = ap (with_lines s) f.1 ∙ (λ i. record s { reading = record s.reading { text = []; begun = s.reading.begun ++ take used bytes }; kept = record s.kept { lines = sym lines i } });
     } in
     subst (λ (w : State K). LineBegun w (w.reading.begun ++ take used bytes) (with_lines s r)) same here

@@ -27,7 +27,7 @@ use Rattle.ssh_transport_base.specs.declared.packets.step.PacketStep.TheVariants
 use Rattle.ssh_transport_machine.specs.LineTurns.{LineTaken}
 use Rattle.ssh_transport_machine.specs.Opening.{IsOpened}
 use Rattle.ssh_transport_machine.specs.Puts.{Outs}
-use Rattle.ssh_transport_machine.specs.Shown.{IsOpening, LineTurnOf, PacketTurnOf, WouldAnswerPacket, opening}
+use Rattle.ssh_transport_machine.specs.Shown.{IsLineItem, IsOpening, LineTurnOf, PacketTurnOf, WouldAnswerPacket, opening}
 use Rattle.ssh_transport_machine.specs.State.{IsLive, State}
 use Rattle.ssh_transport_machine.specs.Turning.{Becomes, FoundLacks, PacketDone, PacketLacks, PacketTaken, RefusalDone}
 use Rattle.ssh_transport_machine.specs.declared.machine.line_turn.LineTurn.{LineTurn}
@@ -60,20 +60,18 @@ module _ {K : Type 0} (laws : UnitLaws K) (p : Parties K) (side : Side) (h : Lis
     unit_by : (bytes : List ℕ) (outcome : Outcome) → LineUnit old.reading.from_server old.reading.others bytes outcome → IsUnit p.crypto (stage p side h) bytes outcome
     unit_by bytes outcome x = laws.lines p side h old.kept sums alive none_found bytes outcome (line_at bytes outcome x)
 
-    pub line_lifted : (bytes : List ℕ) (done : LineTurn) (new : State K) → LineTaken old bytes done new → LineTurnOf p side h old.kept bytes done new.kept
+    pub line_lifted : (bytes : List ℕ) (done : LineTurn) (new : State K) → LineTaken old bytes done new → LineTurnOf p side h old.kept bytes done new
     line_lifted bytes turn.More new x = subst (λ (t : State K). SumsUp p side h t.kept) (sym x.after) sums
     line_lifted bytes turn.Other new x = record {
-      text = x.text;
-      line = line_at bytes (OtherLine x.text) x.unit;
-      unit = unit_by bytes (OtherLine x.text) x.unit;
-      sums = subst (λ (t : State K). SumsUp p side (TookOtherLine x.text ∷ h) t.kept) (sym x.after) (laws.other p side h old.kept x.text (sym ((sums.live alive).lines.found_is) ∙ none_found) sums);
+      line = line_at bytes (OtherLine new.reading.text) x.unit;
+      unit = unit_by bytes (OtherLine new.reading.text) x.unit;
+      sums = subst (λ (t : State K). SumsUp p side (TookOtherLine new.reading.text ∷ h) t.kept) (sym x.after) (laws.other p side h old.kept new.reading.text (sym ((sums.live alive).lines.found_is) ∙ none_found) sums);
     }
-    line_lifted bytes turn.Version new x = record {
-      text = x.text;
+    line_lifted bytes turn.Version new x = subst (λ (text : List ℕ). IsLineItem p side h old.kept bytes VersionLine TookLine text new.kept) (sym (ap (λ (t : State K). t.kept.lines.line) x.after)) (record {
       line = line_at bytes (VersionLine x.text) x.unit;
       unit = unit_by bytes (VersionLine x.text) x.unit;
       sums = subst (λ (t : State K). SumsUp p side (TookLine x.text ∷ h) t.kept) (sym x.after) (laws.version p side h old.kept x.text sums);
-    }
+    })
     line_lifted bytes (turn.Refused why) new x = record {
       line = line_at bytes (RefusedLine (line_refusal why)) x.unit;
       unit = unit_by bytes (RefusedLine (line_refusal why)) x.unit;

@@ -12,13 +12,12 @@ use Rattle.ssh_transport_machine.specs.declared.machine.line_turn.LineTurn.TheVa
 -- no whole line yet
 pub record LineBegun {K : Type 0} (old : State K) (bytes : List ℕ) (new : State K) : Type 0 where
   pub begun : IsLineBegun bytes
-  pub after : new ≡ record old { reading = record old.reading { begun = bytes } }
+  pub after : new ≡ record old { reading = record old.reading { text = []; begun = bytes } }
 
--- another line, and the next one may come
+-- another line, whose text is shown, and the next one may come
 pub record OtherTaken {K : Type 0} (old : State K) (bytes : List ℕ) (new : State K) : Type 0 where
-  pub text : List ℕ
-  pub unit : LineUnit old.reading.from_server old.reading.others bytes (OtherLine text)
-  pub after : new ≡ record old { reading = record old.reading { others = old.reading.others + 1; begun = [] }; kept = after_other_line old.kept }
+  pub unit : LineUnit old.reading.from_server old.reading.others bytes (OtherLine new.reading.text)
+  pub after : new ≡ record old { reading = record old.reading { others = old.reading.others + 1; text = new.reading.text; begun = [] }; kept = after_other_line old.kept }
 
 -- the version line, which is kept
 pub record VersionTaken {K : Type 0} (old : State K) (bytes : List ℕ) (new : State K) : Type 0 where

@@ -158,13 +158,13 @@ pub record IsOpening {K : Type 0} (p : Parties K) (side : Side) (cookie secret :
 
 -- ---- lines and packets
 
--- The unit is this, and what is kept sums up the history with it.
+-- The unit is a line of this text, and what is kept sums up the history with it.
 pub record IsLineItem {K : Type 0} (p : Parties K) (side : Side) (history : List Item) (s : Transport K)
-    (bytes : List ℕ) (outcome : List ℕ → Outcome) (item : List ℕ → Item) (new : Transport K) : Type 0 where
-  pub text : List ℕ
-  pub line : LineUnit (is_client s.side) s.lines.others bytes (outcome text)
-  pub unit : IsUnit p.crypto (stage p side history) bytes (outcome text)
-  pub sums : SumsUp p side (item text ∷ history) new
+    (bytes : List ℕ) (outcome : List ℕ → Outcome) (item : List ℕ → Item) (text : List ℕ) (new : Transport K) : Type 0
+  where
+    pub line : LineUnit (is_client s.side) s.lines.others bytes (outcome text)
+    pub unit : IsUnit p.crypto (stage p side history) bytes (outcome text)
+    pub sums : SumsUp p side (item text ∷ history) new
 
 -- The line is refused, and nothing is said.
 pub record IsLineRefusal {K : Type 0} (p : Parties K) (side : Side) (history : List Item) (s : Transport K)
@@ -173,14 +173,16 @@ pub record IsLineRefusal {K : Type 0} (p : Parties K) (side : Side) (history : L
   pub unit : IsUnit p.crypto (stage p side history) bytes (RefusedLine why)
   pub turned : UnitRefused p side history (refusal_items why None []) why [] new
 
--- what a call made of the bytes of a line begun with those that it used
+-- what a call made of the bytes of a line begun with those that it used, whose text is shown
 abbrev pub LineTurnOf : {K : Type 0} → Parties K → Side → (history : List Item) → Transport K → List ℕ → LineTurn →
-    Transport K → Type 0
-LineTurnOf p side history s bytes line_turn.More new = SumsUp p side history new
-LineTurnOf p side history s bytes line_turn.Other new = IsLineItem p side history s bytes OtherLine TookOtherLine new
-LineTurnOf p side history s bytes line_turn.Version new = IsLineItem p side history s bytes VersionLine TookLine new
+    State K → Type 0
+LineTurnOf p side history s bytes line_turn.More new = SumsUp p side history new.kept
+LineTurnOf p side history s bytes line_turn.Other new =
+    IsLineItem p side history s bytes OtherLine TookOtherLine new.reading.text new.kept
+LineTurnOf p side history s bytes line_turn.Version new =
+    IsLineItem p side history s bytes VersionLine TookLine new.kept.lines.line new.kept
 LineTurnOf p side history s bytes (line_turn.Refused why) new =
-    IsLineRefusal p side history s bytes (line_refusal why) new
+    IsLineRefusal p side history s bytes (line_refusal why) new.kept
 
 -- The unit is a packet of this payload, and what was done with that is a turn of a session, or it is left.
 pub record IsPayloadTurn {K : Type 0} (p : Parties K) (side : Side) (history : List Item) (s : Transport K)

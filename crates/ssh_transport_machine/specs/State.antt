@@ -40,6 +40,10 @@ line_by _ = []
 abbrev pub lines_of : LineReading → kept.Lines
 lines_of reading = record { found = found_by reading.ended; line = line_by reading.ended; others = reading.others }
 
+-- the version line of the peer, once it was taken
+abbrev pub line_taken : kept.Lines → Option (List ℕ)
+line_taken lines = cond lines.found (Some lines.line) None
+
 -- The reader of lines, the receiver of packets, and what the transport keeps: its lines and its direction of taking are
 -- those of the readers.
 pub record State (K : Type 0) : Type 0 where

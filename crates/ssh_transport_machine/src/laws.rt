@@ -51,7 +51,7 @@ pub fn ask_turns<K>()
 
 /// What a machine finds in a line or a packet is what an end of a session finds; and where it refuses that, it does as one.
 pub fn unit_turns<K>()
-    ensures lines { (p : Parties K) (side : Side) (history : List Item) (old : State K) → SumsUp p side history old.kept → old.kept.dead ≡ false → IsLive old → old.kept.lines.found ≡ false → (bytes : List ℕ) (done : LineTurn) (new : State K) → LineTaken old bytes done new → LineTurnOf p side history old.kept bytes done new.kept }
+    ensures lines { (p : Parties K) (side : Side) (history : List Item) (old : State K) → SumsUp p side history old.kept → old.kept.dead ≡ false → IsLive old → old.kept.lines.found ≡ false → (bytes : List ℕ) (done : LineTurn) (new : State K) → LineTaken old bytes done new → LineTurnOf p side history old.kept bytes done new }
     ensures packets { (p : Parties K) (side : Side) (history : List Item) (old : State K) → SumsUp p side history old.kept → old.kept.dead ≡ false → IsLive old → old.kept.lines.found ≡ true → (bytes : List ℕ) (done : PacketTurn) (new : State K) (o : Outs) → PacketTaken p.crypto old bytes done new o → PacketTurnOf p side history old.kept bytes done new o }
 {
     units::<K>();

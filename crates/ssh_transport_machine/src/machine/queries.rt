@@ -3,7 +3,7 @@
 ghost use Rattle.std.specs.Prelude.{◌≡◌, ◌≤◌, length, nat_le};
 ghost use Rattle.std.specs.Option.{option_copied};
 ghost use Rattle.ssh_transport_base.specs.Directions.{next_number};
-ghost use Rattle.ssh_transport_machine.specs.State.{last_number as number_before};
+ghost use Rattle.ssh_transport_machine.specs.State.{last_number as number_before, line_taken};
 
 use crate::machine::Machine;
 use ssh_packet::{Filler, Sealing};
@@ -15,6 +15,27 @@ impl<S: Sealing, F: Filler + Drop> Machine<S, F> {
         ensures most { length self.now.receiver.payload ≤ 35000 }
     {
         self.taking.payload()
+    }
+
+    /// The text of the line before the version line that was taken last, without CR LF; empty once more bytes of a line were taken.
+    pub fn other_line(&self) -> &[u8]
+        ensures { result.now ≡ self.now.reading.text }
+    {
+        self.lines.other_line()
+    }
+
+    /// The version line of the peer without CR LF, at most 253 bytes, once it was taken.
+    pub fn version_line(&self) -> Option<&[u8]>
+        ensures { option_copied result ≡ line_taken self.now.kept.lines }
+    {
+        self.lines.version_line()
+    }
+
+    /// The same; empty before.
+    pub fn line(&self) -> &[u8]
+        ensures { result.now ≡ self.now.kept.lines.line }
+    {
+        self.lines.version_line().unwrap_or(&[])
     }
 
     /// Tests whether the version line of the peer was taken.

@@ -1,4 +1,4 @@
-use Rattle.std.proofs.Common.{ap}
+use Rattle.std.proofs.Common.{ap, rules}
 use Rattle.ssh_model.specs.End.State.{Authentication.OfClient}
 use Rattle.ssh_model.specs.Side.{Side.Client}
 use Rattle.ssh_transport_base.specs.Meaning.{settings_of}
@@ -8,4 +8,4 @@ use Rattle.ssh_end.proofs.client_end.End+ClientRole+P+U.new.Goals as goal
 pub returns-clause-placed : goal.returns-clause-placed
 returns-clause-placed g c = λ p lawful settings parts.
     made_at (record { opened = c.openings.ensures.opened; run = c.openings.ensures.run; reading = c.new_ends_read.ensures.reading; guards = c.against_any_peer.ensures }) p Client _ _ lawful parts tt c.args.cookie c.args.secret c.is_material.ensures c.in_ok-machine.machine
-    (OfClient c.in_ok-layers.layers.authentication) c.in_ok-layers.layers.channels (ap (λ w. OfClient w) c.in_ok-layers.ensures.authentication) c.in_ok-layers.ensures.channels _ g.P.Sealing.Sealing.crypto (settings_of c.args.config) parts.exchange.crypto settings c.in_ok-machine.ensures.opened
+    (OfClient c.in_ok-layers.layers.authentication) c.in_ok-layers.layers.channels (ap (λ w. OfClient w) c.in_ok-layers.ensures.authentication) c.in_ok-layers.ensures.channels _ (search rules) g.P.Sealing.Sealing.crypto (settings_of c.args.config) parts.exchange.crypto settings c.in_ok-machine.ensures.opened

@@ -17,4 +17,4 @@ returns-clause-placed g c = λ p lawful settings parts.
       are = record { tries = tries ∙ sym (ap (λ (s : Settings). s.tries) settings); methods = methods ∙ sym (ap (λ (s : Settings). s.methods) settings) };
       failure = subst (λ (s : Settings). HasSpelling (UserauthFailure s.methods false)) (sym settings) c.settings_fit.ensures.methods;
     }) c.args.cookie c.args.secret c.is_material.ensures c.in_ok-machine.machine
-    (OfServer c.in_ok-layers.layers.authentication.kept) c.in_ok-layers.layers.channels (ap (λ w. OfServer w) c.in_ok-layers.ensures.kept) c.in_ok-layers.ensures.channels _ g.P.Sealing.Sealing.crypto (settings_of c.args.config) parts.exchange.crypto settings c.in_ok-machine.ensures.opened
+    (OfServer c.in_ok-layers.layers.authentication.kept) c.in_ok-layers.layers.channels (ap (λ w. OfServer w) c.in_ok-layers.ensures.kept) c.in_ok-layers.ensures.channels _ (search rules) g.P.Sealing.Sealing.crypto (settings_of c.args.config) parts.exchange.crypto settings c.in_ok-machine.ensures.opened

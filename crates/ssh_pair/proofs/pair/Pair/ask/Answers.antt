@@ -1,28 +1,34 @@
-use Rattle.std.proofs.Common.{sym, ap, subst}
+use Rattle.std.proofs.Common.{sym, subst}
 use Rattle.ssh_model.specs.Side.{Side.Client, Side.Server}
 use Rattle.ssh_model.specs.Sessions.Events.{Event.Asks}
 use Rattle.ssh_types.specs.Sides.{side_of}
 use Rattle.ssh_end.specs.Asking.{ask_of}
-use Rattle.ssh_pair.specs.Playing.{PlaysOne}
-use Rattle.ssh_pair.specs.Standing.{PairStands, PairValue, client_value, server_value}
+use Rattle.ssh_pair.specs.Playing.{GoesOn, output_in}
+use Rattle.ssh_pair.specs.Standing.{both}
 use Rattle.ssh_pair.proofs.Noting.{on_ok}
-use Rattle.ssh_pair.proofs.Summing.{pair_of, pair_sums}
-use Rattle.ssh_pair.proofs.PlayingClient.{client_asked}
-use Rattle.ssh_pair.proofs.PlayingServer.{server_asked}
+use Rattle.ssh_pair.proofs.Playing.{asked, pair_sums, states}
+use Rattle.ssh_end.specs.contracts.client_role.ClientRoleEndRole.TheImpl as client
+use Rattle.ssh_end.specs.contracts.server_role.ServerRoleEndRole.TheImpl as server
 use Rattle.ssh_pair.proofs.pair.Pair.ask.Goals as goal
 
 pub returns-in-Client-clause-plays : goal.returns-in-Client-clause-plays
-returns-in-Client-clause-plays g c = on_ok c.ask_client.result (λ x p w given.
-    let pair : PairValue g.row.S-Key.Denot = (record { client = client_value g.S.Sealing.crypto g.C.Agreement.Agreement.public_of g.C.Agreement.Agreement.shared_of g.C.HostTrust.HostTrust.judged g.U.UserSigner.signature_of c.self.inside.client c.self.inside.client_lines; server = server_value g.S.Sealing.crypto g.V.Agreement.Agreement.public_of g.V.Agreement.Agreement.shared_of g.V.HostSigner.HostSigner.key_of g.V.HostSigner.HostSigner.signature_of g.J.UserJudge.verdicts c.self.inside.server c.self.inside.server_lines }) in
-    let s : PairStands p w pair = subst (λ q. PairStands p w (record { client = client_value g.S.Sealing.crypto g.C.Agreement.Agreement.public_of g.C.Agreement.Agreement.shared_of g.C.HostTrust.HostTrust.judged g.U.UserSigner.signature_of q.client q.client_lines; server = server_value g.S.Sealing.crypto g.V.Agreement.Agreement.public_of g.V.Agreement.Agreement.shared_of g.V.HostSigner.HostSigner.key_of g.V.HostSigner.HostSigner.signature_of g.J.UserJudge.verdicts q.server q.server_lines })) (sym c.self.view_is) given in
-    subst (λ e. PlaysOne p w e (record { client = client_value g.S.Sealing.crypto g.C.Agreement.Agreement.public_of g.C.Agreement.Agreement.shared_of g.C.HostTrust.HostTrust.judged g.U.UserSigner.signature_of c.ask_client.new.end c.self.inside.client_lines; server = server_value g.S.Sealing.crypto g.V.Agreement.Agreement.public_of g.V.Agreement.Agreement.shared_of g.V.HostSigner.HostSigner.key_of g.V.HostSigner.HostSigner.signature_of g.J.UserJudge.verdicts c.self.inside.server c.self.inside.server_lines }) c.args.transcript.now.items.items c.ask_client.new.log.items c.args.transcript.now.client_bytes.items c.ask_client.new.out.items c.args.transcript.now.server_bytes.items c.args.transcript.now.server_bytes.items) (ap (λ z. Asks (side_of z) (ask_of c.args.ask.now)) (sym c.in-Client.is))
-    (client_asked p w pair s (client_value g.S.Sealing.crypto g.C.Agreement.Agreement.public_of g.C.Agreement.Agreement.shared_of g.C.HostTrust.HostTrust.judged g.U.UserSigner.signature_of c.ask_client.new.end c.self.inside.client_lines) c.parts.ensures.there c.parts.ensures.here (ask_of c.args.ask.now) c.args.transcript.now.items.items c.ask_client.new.log.items c.args.transcript.now.client_bytes.items c.ask_client.new.out.items c.args.transcript.now.server_bytes.items
-    (λ items more new turned. c.events.ensures.asks p w (pair_of pair) (pair_sums p w pair s) Client (ask_of c.args.ask.now) items more new turned) (x p c.self.inside.client_lines w.run s.client))) c.ask_client.ensures.answers
+returns-in-Client-clause-plays g c =
+    let clients = client.ghosts g.row.C g.row.U g.row.S g.row.C-Filler g.row.C-Agreement g.row.C-HostTrust g.row.S-Key g.C.ClientParts g.C.ClientParts-dict g.S.Sealing g.S.Sealing-dict g.C.Filler.Filler g.C.Filler.Filler-dict g.C.Agreement.Agreement g.C.Agreement.Agreement-dict g.C.HostTrust.HostTrust g.C.HostTrust.HostTrust-dict g.U.UserSigner g.U.UserSigner-dict g.U.Destruct-dict g.C.Filler.Destruct-dict g.C.Agreement.Destruct-dict g.C.HostTrust.Destruct-dict g.S.Key.Destruct-dict in
+    let servers = server.ghosts g.row.V g.row.J g.row.S g.row.V-Filler g.row.V-Agreement g.row.V-HostSigner g.row.S-Key g.V.ServerParts g.V.ServerParts-dict g.S.Sealing g.S.Sealing-dict g.V.Filler.Filler g.V.Filler.Filler-dict g.V.Agreement.Agreement g.V.Agreement.Agreement-dict g.V.HostSigner.HostSigner g.V.HostSigner.HostSigner-dict g.J.UserJudge g.J.UserJudge-dict g.J.Destruct-dict g.V.Filler.Destruct-dict g.V.Agreement.Destruct-dict g.V.HostSigner.Destruct-dict g.S.Key.Destruct-dict in
+    let pair = both clients servers (record { client = c.self.inside.client; server = c.self.inside.server; failed = c.self.inside.failed }) in
+    on_ok c.ask_end.result (λ x.
+    subst (λ q. GoesOn clients servers q (Asks (side_of c.args.side) (ask_of c.args.ask.now)) (record { client = c.ask_end.new.end; server = c.self.inside.server; failed = c.self.inside.failed }) c.args.transcript.now (record { items = c.ask_end.new.log; client_bytes = c.ask_end.new.out; server_bytes = c.args.transcript.now.server_bytes })) c.self.view_is
+    (subst (λ z. GoesOn clients servers (record { client = c.self.inside.client; server = c.self.inside.server; failed = c.self.inside.failed }) (Asks (side_of z) (ask_of c.args.ask.now)) (record { client = c.ask_end.new.end; server = c.self.inside.server; failed = c.self.inside.failed }) c.args.transcript.now (record { items = c.ask_end.new.log; client_bytes = c.ask_end.new.out; server_bytes = c.args.transcript.now.server_bytes })) (sym c.in-Client.is)
+    (λ p w s. asked p w pair s Client _ c.parts.ensures.there c.parts.ensures.here (ask_of c.args.ask.now) c.args.transcript.now.items.items c.ask_end.new.log.items (output_in c.args.transcript.now) c.ask_end.new.out.items
+    (λ items more new turned. c.events.ensures.asks p w (states pair) (pair_sums p w pair s) Client (ask_of c.args.ask.now) items more new turned) (x p w.run (s.ends Client))))) c.ask_end.ensures.answers
 
 pub returns-in-Server-clause-plays : goal.returns-in-Server-clause-plays
-returns-in-Server-clause-plays g c = on_ok c.ask_server.result (λ x p w given.
-    let pair : PairValue g.row.S-Key.Denot = (record { client = client_value g.S.Sealing.crypto g.C.Agreement.Agreement.public_of g.C.Agreement.Agreement.shared_of g.C.HostTrust.HostTrust.judged g.U.UserSigner.signature_of c.self.inside.client c.self.inside.client_lines; server = server_value g.S.Sealing.crypto g.V.Agreement.Agreement.public_of g.V.Agreement.Agreement.shared_of g.V.HostSigner.HostSigner.key_of g.V.HostSigner.HostSigner.signature_of g.J.UserJudge.verdicts c.self.inside.server c.self.inside.server_lines }) in
-    let s : PairStands p w pair = subst (λ q. PairStands p w (record { client = client_value g.S.Sealing.crypto g.C.Agreement.Agreement.public_of g.C.Agreement.Agreement.shared_of g.C.HostTrust.HostTrust.judged g.U.UserSigner.signature_of q.client q.client_lines; server = server_value g.S.Sealing.crypto g.V.Agreement.Agreement.public_of g.V.Agreement.Agreement.shared_of g.V.HostSigner.HostSigner.key_of g.V.HostSigner.HostSigner.signature_of g.J.UserJudge.verdicts q.server q.server_lines })) (sym c.self.view_is) given in
-    subst (λ e. PlaysOne p w e (record { client = client_value g.S.Sealing.crypto g.C.Agreement.Agreement.public_of g.C.Agreement.Agreement.shared_of g.C.HostTrust.HostTrust.judged g.U.UserSigner.signature_of c.self.inside.client c.self.inside.client_lines; server = server_value g.S.Sealing.crypto g.V.Agreement.Agreement.public_of g.V.Agreement.Agreement.shared_of g.V.HostSigner.HostSigner.key_of g.V.HostSigner.HostSigner.signature_of g.J.UserJudge.verdicts c.ask_server.new.end c.self.inside.server_lines }) c.args.transcript.now.items.items c.ask_server.new.log.items c.args.transcript.now.client_bytes.items c.args.transcript.now.client_bytes.items c.args.transcript.now.server_bytes.items c.ask_server.new.out.items) (ap (λ z. Asks (side_of z) (ask_of c.args.ask.now)) (sym c.in-Server.is))
-    (server_asked p w pair s (server_value g.S.Sealing.crypto g.V.Agreement.Agreement.public_of g.V.Agreement.Agreement.shared_of g.V.HostSigner.HostSigner.key_of g.V.HostSigner.HostSigner.signature_of g.J.UserJudge.verdicts c.ask_server.new.end c.self.inside.server_lines) c.parts.ensures.there c.parts.ensures.here (ask_of c.args.ask.now) c.args.transcript.now.items.items c.ask_server.new.log.items c.args.transcript.now.server_bytes.items c.ask_server.new.out.items c.args.transcript.now.client_bytes.items
-    (λ items more new turned. c.events.ensures.asks p w (pair_of pair) (pair_sums p w pair s) Server (ask_of c.args.ask.now) items more new turned) (x p c.self.inside.server_lines w.run s.server))) c.ask_server.ensures.answers
+returns-in-Server-clause-plays g c =
+    let clients = client.ghosts g.row.C g.row.U g.row.S g.row.C-Filler g.row.C-Agreement g.row.C-HostTrust g.row.S-Key g.C.ClientParts g.C.ClientParts-dict g.S.Sealing g.S.Sealing-dict g.C.Filler.Filler g.C.Filler.Filler-dict g.C.Agreement.Agreement g.C.Agreement.Agreement-dict g.C.HostTrust.HostTrust g.C.HostTrust.HostTrust-dict g.U.UserSigner g.U.UserSigner-dict g.U.Destruct-dict g.C.Filler.Destruct-dict g.C.Agreement.Destruct-dict g.C.HostTrust.Destruct-dict g.S.Key.Destruct-dict in
+    let servers = server.ghosts g.row.V g.row.J g.row.S g.row.V-Filler g.row.V-Agreement g.row.V-HostSigner g.row.S-Key g.V.ServerParts g.V.ServerParts-dict g.S.Sealing g.S.Sealing-dict g.V.Filler.Filler g.V.Filler.Filler-dict g.V.Agreement.Agreement g.V.Agreement.Agreement-dict g.V.HostSigner.HostSigner g.V.HostSigner.HostSigner-dict g.J.UserJudge g.J.UserJudge-dict g.J.Destruct-dict g.V.Filler.Destruct-dict g.V.Agreement.Destruct-dict g.V.HostSigner.Destruct-dict g.S.Key.Destruct-dict in
+    let pair = both clients servers (record { client = c.self.inside.client; server = c.self.inside.server; failed = c.self.inside.failed }) in
+    on_ok c.ask_end-in-Server.result (λ x.
+    subst (λ q. GoesOn clients servers q (Asks (side_of c.args.side) (ask_of c.args.ask.now)) (record { client = c.self.inside.client; server = c.ask_end-in-Server.new.end; failed = c.self.inside.failed }) c.args.transcript.now (record { items = c.ask_end-in-Server.new.log; client_bytes = c.args.transcript.now.client_bytes; server_bytes = c.ask_end-in-Server.new.out })) c.self.view_is
+    (subst (λ z. GoesOn clients servers (record { client = c.self.inside.client; server = c.self.inside.server; failed = c.self.inside.failed }) (Asks (side_of z) (ask_of c.args.ask.now)) (record { client = c.self.inside.client; server = c.ask_end-in-Server.new.end; failed = c.self.inside.failed }) c.args.transcript.now (record { items = c.ask_end-in-Server.new.log; client_bytes = c.args.transcript.now.client_bytes; server_bytes = c.ask_end-in-Server.new.out })) (sym c.in-Server.is)
+    (λ p w s. asked p w pair s Server _ c.parts.ensures.there c.parts.ensures.here (ask_of c.args.ask.now) c.args.transcript.now.items.items c.ask_end-in-Server.new.log.items (output_in c.args.transcript.now) c.ask_end-in-Server.new.out.items
+    (λ items more new turned. c.events.ensures.asks p w (states pair) (pair_sums p w pair s) Server (ask_of c.args.ask.now) items more new turned) (x p w.run (s.ends Server))))) c.ask_end-in-Server.ensures.answers

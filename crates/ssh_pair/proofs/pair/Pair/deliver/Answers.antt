@@ -1,42 +1,44 @@
-use Rattle.std.proofs.Common.{sym, ap, subst, refl}
+use Rattle.std.proofs.Common.{refl, sym, subst}
 use Rattle.ssh_model.specs.Side.{Side.Client, Side.Server, part}
 use Rattle.ssh_model.specs.Sessions.Events.{Event.Delivers}
 use Rattle.ssh_types.specs.Sides.{side_of}
-use Rattle.ssh_layers.specs.ClientSessions as client_sessions
-use Rattle.ssh_layers.specs.Sessions as server_sessions
-use Rattle.ssh_pair.specs.Playing.{PlaysOne}
-use Rattle.ssh_pair.specs.Standing.{PairStands, PairValue, client_value, server_value}
+use Rattle.ssh_pair.specs.Playing.{GoesOn, output_in}
+use Rattle.ssh_pair.specs.Standing.{both}
 use Rattle.ssh_pair.proofs.Noting.{on_both, on_ok}
-use Rattle.ssh_pair.proofs.Summing.{pair_of, pair_sums}
 use Rattle.ssh_pair.proofs.Ending.{at_end}
-use Rattle.ssh_pair.proofs.PlayingClient.{client_delivered}
-use Rattle.ssh_pair.proofs.PlayingServer.{server_delivered}
+use Rattle.ssh_pair.proofs.Playing.{delivered, pair_sums, states}
+use Rattle.ssh_end.specs.contracts.client_role.ClientRoleEndRole.TheImpl as client
+use Rattle.ssh_end.specs.contracts.server_role.ServerRoleEndRole.TheImpl as server
 use Rattle.ssh_pair.proofs.pair.Pair.deliver.Goals as goal
 
 pub returns-in-Client-clause-plays : goal.returns-in-Client-clause-plays
-returns-in-Client-clause-plays g c = on_ok c.deliver_to_client.result (λ both p w given.
-    let pair : PairValue g.row.S-Key.Denot = (record { client = client_value g.S.Sealing.crypto g.C.Agreement.Agreement.public_of g.C.Agreement.Agreement.shared_of g.C.HostTrust.HostTrust.judged g.U.UserSigner.signature_of c.self.inside.client c.self.inside.client_lines; server = server_value g.S.Sealing.crypto g.V.Agreement.Agreement.public_of g.V.Agreement.Agreement.shared_of g.V.HostSigner.HostSigner.key_of g.V.HostSigner.HostSigner.signature_of g.J.UserJudge.verdicts c.self.inside.server c.self.inside.server_lines }) in
-    let s : PairStands p w pair = subst (λ q. PairStands p w (record { client = client_value g.S.Sealing.crypto g.C.Agreement.Agreement.public_of g.C.Agreement.Agreement.shared_of g.C.HostTrust.HostTrust.judged g.U.UserSigner.signature_of q.client q.client_lines; server = server_value g.S.Sealing.crypto g.V.Agreement.Agreement.public_of g.V.Agreement.Agreement.shared_of g.V.HostSigner.HostSigner.key_of g.V.HostSigner.HostSigner.signature_of g.J.UserJudge.verdicts q.server q.server_lines })) (sym c.self.view_is) given in
-    subst (λ e. PlaysOne p w e (record { client = client_value g.S.Sealing.crypto g.C.Agreement.Agreement.public_of g.C.Agreement.Agreement.shared_of g.C.HostTrust.HostTrust.judged g.U.UserSigner.signature_of c.deliver_to_client.new.end c.deliver_to_client.new.lines; server = server_value g.S.Sealing.crypto g.V.Agreement.Agreement.public_of g.V.Agreement.Agreement.shared_of g.V.HostSigner.HostSigner.key_of g.V.HostSigner.HostSigner.signature_of g.J.UserJudge.verdicts c.self.inside.server c.self.inside.server_lines }) c.args.transcript.now.items.items c.deliver_to_client.new.log.items c.args.transcript.now.client_bytes.items c.deliver_to_client.new.out.items c.args.transcript.now.server_bytes.items c.args.transcript.now.server_bytes.items) (ap (λ z. Delivers (side_of z) c.args.bytes.now) (sym c.in-Client.is))
-    (client_delivered p w pair s (client_value g.S.Sealing.crypto g.C.Agreement.Agreement.public_of g.C.Agreement.Agreement.shared_of g.C.HostTrust.HostTrust.judged g.U.UserSigner.signature_of c.deliver_to_client.new.end c.deliver_to_client.new.lines) c.parts.ensures.there c.parts.ensures.here c.args.bytes.now c.args.transcript.now.items.items c.deliver_to_client.new.log.items c.args.transcript.now.client_bytes.items c.deliver_to_client.new.out.items c.args.transcript.now.server_bytes.items
-    (λ items rest new d sums. c.events.ensures.delivered p w (pair_of pair) (pair_sums p w pair s) Client c.args.bytes.now items rest new d sums)
-    (λ run st. let e = client_sessions.end_of c.deliver_to_client.new.end.machine.kept c.deliver_to_client.new.end.layers in
-    at_end p Client run e c.deliver_to_client.new.end.machine refl st.sums st.lawful.sealing st.reading both.1
-    (λ bytes over. c.deliveries.ensures.dead p Client run e st.sums over bytes) (λ bytes alive begun. c.deliveries.ensures.waits p Client run e st.sums alive bytes begun)
+returns-in-Client-clause-plays g c =
+    let clients = client.ghosts g.row.C g.row.U g.row.S g.row.C-Filler g.row.C-Agreement g.row.C-HostTrust g.row.S-Key g.C.ClientParts g.C.ClientParts-dict g.S.Sealing g.S.Sealing-dict g.C.Filler.Filler g.C.Filler.Filler-dict g.C.Agreement.Agreement g.C.Agreement.Agreement-dict g.C.HostTrust.HostTrust g.C.HostTrust.HostTrust-dict g.U.UserSigner g.U.UserSigner-dict g.U.Destruct-dict g.C.Filler.Destruct-dict g.C.Agreement.Destruct-dict g.C.HostTrust.Destruct-dict g.S.Key.Destruct-dict in
+    let servers = server.ghosts g.row.V g.row.J g.row.S g.row.V-Filler g.row.V-Agreement g.row.V-HostSigner g.row.S-Key g.V.ServerParts g.V.ServerParts-dict g.S.Sealing g.S.Sealing-dict g.V.Filler.Filler g.V.Filler.Filler-dict g.V.Agreement.Agreement g.V.Agreement.Agreement-dict g.V.HostSigner.HostSigner g.V.HostSigner.HostSigner-dict g.J.UserJudge g.J.UserJudge-dict g.J.Destruct-dict g.V.Filler.Destruct-dict g.V.Agreement.Destruct-dict g.V.HostSigner.Destruct-dict g.S.Key.Destruct-dict in
+    let pair = both clients servers (record { client = c.self.inside.client; server = c.self.inside.server; failed = c.self.inside.failed }) in
+    on_ok c.deliver_to_end.result (λ x.
+    subst (λ q. GoesOn clients servers q (Delivers (side_of c.args.side) c.args.bytes.now) (record { client = c.deliver_to_end.new.end; server = c.self.inside.server; failed = c.self.inside.failed }) c.args.transcript.now (record { items = c.deliver_to_end.new.log; client_bytes = c.deliver_to_end.new.out; server_bytes = c.args.transcript.now.server_bytes })) c.self.view_is
+    (subst (λ z. GoesOn clients servers (record { client = c.self.inside.client; server = c.self.inside.server; failed = c.self.inside.failed }) (Delivers (side_of z) c.args.bytes.now) (record { client = c.deliver_to_end.new.end; server = c.self.inside.server; failed = c.self.inside.failed }) c.args.transcript.now (record { items = c.deliver_to_end.new.log; client_bytes = c.deliver_to_end.new.out; server_bytes = c.args.transcript.now.server_bytes })) (sym c.in-Client.is)
+    (λ p w s. delivered p w pair s Client _ c.parts.ensures.there c.parts.ensures.here c.args.bytes.now c.args.transcript.now.items.items c.deliver_to_end.new.log.items (output_in c.args.transcript.now) c.deliver_to_end.new.out.items
+    (λ items rest new d sums. c.events.ensures.delivered p w (states pair) (pair_sums p w pair s) Client c.args.bytes.now items rest new d sums)
+    (λ run st. at_end p Client run _ c.deliver_to_end.new.end.machine refl st.sums st.lawful.sealing st.reading x.1
+    (λ bytes over. c.deliveries.ensures.dead p Client run _ st.sums over bytes) (λ bytes alive begun. c.deliveries.ensures.waits p Client run _ st.sums alive bytes begun)
     (λ t sums alive sealing found bytes begun. c.waiting.ensures.packets p Client (part Client run) t sums alive sealing found bytes begun)
     (λ t sums alive sealing found bytes begun. c.waiting.ensures.lines p Client (part Client run) t sums alive sealing found bytes begun))
-    (both.0 p w.run s.client))) (on_both _ _ c.deliver_to_client.result c.deliver_to_client.ensures.advanced c.deliver_to_client.ensures.live)
+    (x.0 p w.run (s.ends Client))))) (on_both _ _ c.deliver_to_end.result c.deliver_to_end.ensures.advanced c.deliver_to_end.ensures.live)
 
 pub returns-in-Server-clause-plays : goal.returns-in-Server-clause-plays
-returns-in-Server-clause-plays g c = on_ok c.deliver_to_server.result (λ both p w given.
-    let pair : PairValue g.row.S-Key.Denot = (record { client = client_value g.S.Sealing.crypto g.C.Agreement.Agreement.public_of g.C.Agreement.Agreement.shared_of g.C.HostTrust.HostTrust.judged g.U.UserSigner.signature_of c.self.inside.client c.self.inside.client_lines; server = server_value g.S.Sealing.crypto g.V.Agreement.Agreement.public_of g.V.Agreement.Agreement.shared_of g.V.HostSigner.HostSigner.key_of g.V.HostSigner.HostSigner.signature_of g.J.UserJudge.verdicts c.self.inside.server c.self.inside.server_lines }) in
-    let s : PairStands p w pair = subst (λ q. PairStands p w (record { client = client_value g.S.Sealing.crypto g.C.Agreement.Agreement.public_of g.C.Agreement.Agreement.shared_of g.C.HostTrust.HostTrust.judged g.U.UserSigner.signature_of q.client q.client_lines; server = server_value g.S.Sealing.crypto g.V.Agreement.Agreement.public_of g.V.Agreement.Agreement.shared_of g.V.HostSigner.HostSigner.key_of g.V.HostSigner.HostSigner.signature_of g.J.UserJudge.verdicts q.server q.server_lines })) (sym c.self.view_is) given in
-    subst (λ e. PlaysOne p w e (record { client = client_value g.S.Sealing.crypto g.C.Agreement.Agreement.public_of g.C.Agreement.Agreement.shared_of g.C.HostTrust.HostTrust.judged g.U.UserSigner.signature_of c.self.inside.client c.self.inside.client_lines; server = server_value g.S.Sealing.crypto g.V.Agreement.Agreement.public_of g.V.Agreement.Agreement.shared_of g.V.HostSigner.HostSigner.key_of g.V.HostSigner.HostSigner.signature_of g.J.UserJudge.verdicts c.deliver_to_server.new.end c.deliver_to_server.new.lines }) c.args.transcript.now.items.items c.deliver_to_server.new.log.items c.args.transcript.now.client_bytes.items c.args.transcript.now.client_bytes.items c.args.transcript.now.server_bytes.items c.deliver_to_server.new.out.items) (ap (λ z. Delivers (side_of z) c.args.bytes.now) (sym c.in-Server.is))
-    (server_delivered p w pair s (server_value g.S.Sealing.crypto g.V.Agreement.Agreement.public_of g.V.Agreement.Agreement.shared_of g.V.HostSigner.HostSigner.key_of g.V.HostSigner.HostSigner.signature_of g.J.UserJudge.verdicts c.deliver_to_server.new.end c.deliver_to_server.new.lines) c.parts.ensures.there c.parts.ensures.here c.args.bytes.now c.args.transcript.now.items.items c.deliver_to_server.new.log.items c.args.transcript.now.server_bytes.items c.deliver_to_server.new.out.items c.args.transcript.now.client_bytes.items
-    (λ items rest new d sums. c.events.ensures.delivered p w (pair_of pair) (pair_sums p w pair s) Server c.args.bytes.now items rest new d sums)
-    (λ run st. let e = server_sessions.end_of c.deliver_to_server.new.end.machine.kept c.deliver_to_server.new.end.layers in
-    at_end p Server run e c.deliver_to_server.new.end.machine refl st.sums st.lawful.sealing st.reading both.1
-    (λ bytes over. c.deliveries.ensures.dead p Server run e st.sums over bytes) (λ bytes alive begun. c.deliveries.ensures.waits p Server run e st.sums alive bytes begun)
+returns-in-Server-clause-plays g c =
+    let clients = client.ghosts g.row.C g.row.U g.row.S g.row.C-Filler g.row.C-Agreement g.row.C-HostTrust g.row.S-Key g.C.ClientParts g.C.ClientParts-dict g.S.Sealing g.S.Sealing-dict g.C.Filler.Filler g.C.Filler.Filler-dict g.C.Agreement.Agreement g.C.Agreement.Agreement-dict g.C.HostTrust.HostTrust g.C.HostTrust.HostTrust-dict g.U.UserSigner g.U.UserSigner-dict g.U.Destruct-dict g.C.Filler.Destruct-dict g.C.Agreement.Destruct-dict g.C.HostTrust.Destruct-dict g.S.Key.Destruct-dict in
+    let servers = server.ghosts g.row.V g.row.J g.row.S g.row.V-Filler g.row.V-Agreement g.row.V-HostSigner g.row.S-Key g.V.ServerParts g.V.ServerParts-dict g.S.Sealing g.S.Sealing-dict g.V.Filler.Filler g.V.Filler.Filler-dict g.V.Agreement.Agreement g.V.Agreement.Agreement-dict g.V.HostSigner.HostSigner g.V.HostSigner.HostSigner-dict g.J.UserJudge g.J.UserJudge-dict g.J.Destruct-dict g.V.Filler.Destruct-dict g.V.Agreement.Destruct-dict g.V.HostSigner.Destruct-dict g.S.Key.Destruct-dict in
+    let pair = both clients servers (record { client = c.self.inside.client; server = c.self.inside.server; failed = c.self.inside.failed }) in
+    on_ok c.deliver_to_end-in-Server.result (λ x.
+    subst (λ q. GoesOn clients servers q (Delivers (side_of c.args.side) c.args.bytes.now) (record { client = c.self.inside.client; server = c.deliver_to_end-in-Server.new.end; failed = c.self.inside.failed }) c.args.transcript.now (record { items = c.deliver_to_end-in-Server.new.log; client_bytes = c.args.transcript.now.client_bytes; server_bytes = c.deliver_to_end-in-Server.new.out })) c.self.view_is
+    (subst (λ z. GoesOn clients servers (record { client = c.self.inside.client; server = c.self.inside.server; failed = c.self.inside.failed }) (Delivers (side_of z) c.args.bytes.now) (record { client = c.self.inside.client; server = c.deliver_to_end-in-Server.new.end; failed = c.self.inside.failed }) c.args.transcript.now (record { items = c.deliver_to_end-in-Server.new.log; client_bytes = c.args.transcript.now.client_bytes; server_bytes = c.deliver_to_end-in-Server.new.out })) (sym c.in-Server.is)
+    (λ p w s. delivered p w pair s Server _ c.parts.ensures.there c.parts.ensures.here c.args.bytes.now c.args.transcript.now.items.items c.deliver_to_end-in-Server.new.log.items (output_in c.args.transcript.now) c.deliver_to_end-in-Server.new.out.items
+    (λ items rest new d sums. c.events.ensures.delivered p w (states pair) (pair_sums p w pair s) Server c.args.bytes.now items rest new d sums)
+    (λ run st. at_end p Server run _ c.deliver_to_end-in-Server.new.end.machine refl st.sums st.lawful.sealing st.reading x.1
+    (λ bytes over. c.deliveries.ensures.dead p Server run _ st.sums over bytes) (λ bytes alive begun. c.deliveries.ensures.waits p Server run _ st.sums alive bytes begun)
     (λ t sums alive sealing found bytes begun. c.waiting.ensures.packets p Server (part Server run) t sums alive sealing found bytes begun)
     (λ t sums alive sealing found bytes begun. c.waiting.ensures.lines p Server (part Server run) t sums alive sealing found bytes begun))
-    (both.0 p w.run s.server))) (on_both _ _ c.deliver_to_server.result c.deliver_to_server.ensures.advanced c.deliver_to_server.ensures.live)
+    (x.0 p w.run (s.ends Server))))) (on_both _ _ c.deliver_to_end-in-Server.result c.deliver_to_end-in-Server.ensures.advanced c.deliver_to_end-in-Server.ensures.live)

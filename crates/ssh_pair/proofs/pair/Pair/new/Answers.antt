@@ -1,34 +1,26 @@
-use Rattle.std.proofs.Common.{◌≤◌, ℕ, List, [], length, false, sym, subst}
+use Rattle.std.proofs.Common.{◌≤◌, [], length, sym, subst}
 use Rattle.ssh_model.specs.Side.{Side.Client, Side.Server}
-use Rattle.ssh_model.specs.Wire.Message.{Msg.UserauthFailure}
 use Rattle.ssh_model.specs.Wire.Sealing.{IsSealing}
 use Rattle.ssh_model.specs.Sessions.Parties.{AreLawful, Settings}
-use Rattle.ssh_model.specs.Sessions.TurnClaims.{HasSpelling}
-use Rattle.ssh_layers.specs.ClientSessions as client_sessions
-use Rattle.ssh_end.specs.Reading.{IsReading}
-use Rattle.ssh_layers.specs.Sessions as server_sessions
 use Rattle.ssh_pair.specs.Playing.{Opens}
-use Rattle.ssh_pair.specs.Standing.{PairValue, client_value, server_value}
-use Rattle.ssh_pair.specs.declared.item.Done.{Done}
+use Rattle.ssh_pair.specs.Standing.{standing_of}
+use Rattle.ssh_end.specs.contracts.client_role.ClientRoleEndRole.TheImpl as client
+use Rattle.ssh_end.specs.contracts.server_role.ServerRoleEndRole.TheImpl as server
 use Rattle.ssh_pair.proofs.Meeting.{met}
 use Rattle.ssh_pair.proofs.pair.Pair.new.Goals as goal
 
 pub returns-clause-opens : goal.returns-clause-opens
-returns-clause-opens g c = λ p client_fits server_fits client_is server_is.
-    let pair : PairValue g.row.S-Key.Denot = (record { client = client_value g.S.Sealing.crypto g.C.Agreement.Agreement.public_of g.C.Agreement.Agreement.shared_of g.C.HostTrust.HostTrust.judged g.U.UserSigner.signature_of c.in_ok-client.client c.new-client_lines.result; server = server_value g.S.Sealing.crypto g.V.Agreement.Agreement.public_of g.V.Agreement.Agreement.shared_of g.V.HostSigner.HostSigner.key_of g.V.HostSigner.HostSigner.signature_of g.J.UserJudge.verdicts c.in_ok-server.server c.new-server_lines.result }) in
-    let client_end = client_sessions.end_of c.in_ok-client.client.machine.kept c.in_ok-client.client.layers in
-    let server_end = server_sessions.end_of c.in_ok-server.server.machine.kept c.in_ok-server.server.layers in
-    let client = subst (λ (l : List Done). Opens p Client (record { cookie = c.args.client.cookie; secret = c.args.client.secret }) client_end l c.open_client.new.log.items [] c.open_client.new.out.items) c.new-transcript.ensures.items
-    (subst (λ (b : List ℕ). Opens p Client (record { cookie = c.args.client.cookie; secret = c.args.client.secret }) client_end c.new-transcript.result.items.items c.open_client.new.log.items b c.open_client.new.out.items) c.new-transcript.ensures.client (c.in_ok-client.ensures.opens p client_fits.crypto client_is)) in
-    let server = subst (λ (b : List ℕ). Opens p Server (record { cookie = c.args.server.cookie; secret = c.args.server.secret }) server_end c.open_client.new.log.items c.open_server.new.log.items b c.open_server.new.out.items) c.new-transcript.ensures.server (c.in_ok-server.ensures.opens p server_fits.crypto server_is) in
+returns-clause-opens g c = λ p of_client of_server client_is server_is.
+    let clients = client.ghosts g.row.C g.row.U g.row.S g.row.C-Filler g.row.C-Agreement g.row.C-HostTrust g.row.S-Key g.C.ClientParts g.C.ClientParts-dict g.S.Sealing g.S.Sealing-dict g.C.Filler.Filler g.C.Filler.Filler-dict g.C.Agreement.Agreement g.C.Agreement.Agreement-dict g.C.HostTrust.HostTrust g.C.HostTrust.HostTrust-dict g.U.UserSigner g.U.UserSigner-dict g.U.Destruct-dict g.C.Filler.Destruct-dict g.C.Agreement.Destruct-dict g.C.HostTrust.Destruct-dict g.S.Key.Destruct-dict in
+    let servers = server.ghosts g.row.V g.row.J g.row.S g.row.V-Filler g.row.V-Agreement g.row.V-HostSigner g.row.S-Key g.V.ServerParts g.V.ServerParts-dict g.S.Sealing g.S.Sealing-dict g.V.Filler.Filler g.V.Filler.Filler-dict g.V.Agreement.Agreement g.V.Agreement.Agreement-dict g.V.HostSigner.HostSigner g.V.HostSigner.HostSigner-dict g.J.UserJudge g.J.UserJudge-dict g.J.Destruct-dict g.V.Filler.Destruct-dict g.V.Agreement.Destruct-dict g.V.HostSigner.Destruct-dict g.S.Key.Destruct-dict in
     let lawful : AreLawful p = record {
-      sealing = subst (λ k. IsSealing k) (sym client_fits.crypto) g.met.S.Sealing.laws;
+      sealing = subst (λ k. IsSealing k) (sym of_client.exchange.crypto) g.met.S.Sealing.laws;
       client_line = subst (λ (t : Settings). length t.line ≤ 253) (sym client_is) c.settings_fit.ensures.line;
       server_line = subst (λ (t : Settings). length t.line ≤ 253) (sym server_is) c.settings_fit-2.ensures.line;
     } in
-    let failure = subst (λ (t : Settings). HasSpelling (UserauthFailure t.methods false)) (sym server_is) c.settings_fit-2.ensures.methods in
-    met p pair lawful client_fits server_fits failure c.parts.ensures.there c.parts.ensures.here (record { cookie = c.args.client.cookie; secret = c.args.client.secret }) (record { cookie = c.args.server.cookie; secret = c.args.server.secret }) c.open_client.new.log.items c.open_server.new.log.items c.open_client.new.out.items c.open_server.new.out.items client server
-    (c.openings.ensures p client.items server.items client.bytes server.bytes client_end server_end client.opened server.opened)
-    (λ run r side. c.runs_of_each_end.ensures p run r side) (λ run lawful offer r honest. c.safety.ensures p lawful offer run r honest)
-    (subst (λ k. IsReading k c.in_ok-client.client.machine) (sym client_fits.crypto) c.in_ok-client.ensures.reading) (subst (λ k. IsReading k c.in_ok-server.server.machine) (sym server_fits.crypto) c.in_ok-server.ensures.reading)
-    (c.in_ok-server.ensures.layers p server_is) c.in_ok-client.ensures.begun c.in_ok-server.ensures.begun c.new-client_lines.ensures c.new-server_lines.ensures
+    let client = subst (λ l. Opens p Client (record { cookie = c.args.client.cookie; secret = c.args.client.secret }) (standing_of clients c.in_ok-client.client) l c.open_client.new.log.items [] c.open_client.new.out.items c.in_ok-client.client.sent) c.new-transcript.ensures.items
+    (subst (λ b. Opens p Client (record { cookie = c.args.client.cookie; secret = c.args.client.secret }) (standing_of clients c.in_ok-client.client) c.new-transcript.result.items.items c.open_client.new.log.items b c.open_client.new.out.items c.in_ok-client.client.sent) c.new-transcript.ensures.client (c.in_ok-client.ensures.opens p lawful client_is of_client)) in
+    let server = subst (λ b. Opens p Server (record { cookie = c.args.server.cookie; secret = c.args.server.secret }) (standing_of servers c.in_ok-server.server) c.open_client.new.log.items c.open_server.new.log.items b c.open_server.new.out.items c.in_ok-server.server.sent) c.new-transcript.ensures.server (c.in_ok-server.ensures.opens p lawful server_is of_server) in
+    met p _ c.parts.ensures.there c.parts.ensures.here _ _ c.open_client.new.log.items c.open_server.new.log.items _ _ _ client server
+    (c.openings.ensures p client.made.items server.made.items client.made.bytes server.made.bytes _ _ client.made.opened server.made.opened)
+    (λ run lawful offer r honest. c.safety.ensures p lawful offer run r honest)

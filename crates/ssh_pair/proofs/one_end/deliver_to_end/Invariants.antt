@@ -1,0 +1,14 @@
+use Rattle.std.proofs.Common.{◌≡◌, ◌-◌, ◌≤◌, length, take}
+use Rattle.ssh_types.specs.Sides.{side_of}
+use Rattle.ssh_pair.specs.Playing.{Advances}
+use Rattle.ssh_pair.proofs.one_end.deliver_to_end.Given as goal
+
+abbrev pub invariant-loop-at : goal.invariant-loop-at
+invariant-loop-at g l = record {
+  within : l.at ≤ length l.piece;
+  role : l.end.role ≡ l.fn.end.role;
+  going : Advances g.R.EndRole (side_of g.R.Exchange.Role.SIDE) l.fn.end (take l.at l.piece) l.end l.fn.log.items l.log.items l.fn.out.items l.out.items;
+}
+
+abbrev pub decreases-loop-at : goal.decreases-loop-at
+decreases-loop-at g l = length l.piece - l.at

@@ -1,0 +1,113 @@
+//! What one end of a pair does, of either role.
+
+ghost use Rattle.std.specs.Prelude.{◌≡◌, ◌<◌, ◌≤◌, IfOk, OnOk, false, length, take};
+ghost use Rattle.ssh_model.specs.Side.{Side.Server};
+ghost use Rattle.ssh_types.specs.Sides.{side_of};
+ghost use Rattle.ssh_transport_machine.specs.Standing.{Stands};
+ghost use Rattle.ssh_end.specs.Asking.{ask_of};
+ghost use Rattle.ssh_pair.specs.Playing.{Advances, Answers};
+
+use crate::item::Done;
+use crate::notes::{note_ask, note_death, note_turn};
+use ssh_end::{Ask, End, EndRole};
+use ssh_model::end::deaths;
+use ssh_model::pair::{deliveries, parts};
+use ssh_packet::Sealing;
+use ssh_transport::Role;
+use ssh_types::Side;
+use std::alloc::{AllocError, Global};
+
+// Asks an end for something. Where it is over it does nothing.
+pub(crate) fn ask_end<R: EndRole>(
+    end: &mut End<R>,
+    alloc: Global,
+    ask: &Ask<'_>,
+    log: &mut Vec<Done>,
+    out: &mut Vec<u8>,
+) -> Result<(), AllocError>
+    ensures answers { OnOk result (Answers R.EndRole (side_of R.Exchange.SIDE) end.old (ask_of ask.now) end.new log.old.items log.new.items out.old.items out.new.items) }
+    ensures role { end.new.role ≡ end.old.role }
+{
+    parts();
+    if end.is_dead() {
+        return Ok(());
+    }
+    let done = end.perform(ask, out);
+    let is_over = end.is_dead();
+    let sent = end.turn().sent;
+    note_ask(
+        alloc,
+        log,
+        <R::Exchange as Role>::SIDE,
+        ask,
+        done,
+        &sent,
+        is_over,
+    )
+}
+
+// Delivers a piece of the peer's stream to an end. Where it is over it does nothing.
+pub(crate) fn deliver_to_end<R: EndRole>(
+    end: &mut End<R>,
+    alloc: Global,
+    piece: &[u8],
+    log: &mut Vec<Done>,
+    out: &mut Vec<u8>,
+) -> Result<(), AllocError>
+    ensures advanced { OnOk result (Advances R.EndRole (side_of R.Exchange.SIDE) end.old piece.now end.new log.old.items log.new.items out.old.items out.new.items) }
+    ensures role { end.new.role ≡ end.old.role }
+    ensures live { OnOk result (Stands (side_of R.Exchange.SIDE) end.new.machine) }
+{
+    parts();
+    let mut at = 0;
+    while at < piece.len() {
+        if end.is_dead() {
+            return Ok(());
+        }
+        let rest = piece.split_at(at).1;
+        at += advance_end(end, alloc, rest, log, out)?;
+    }
+    end.stands();
+    Ok(())
+}
+
+// Delivers bytes to the end of one line or packet, and answers how many.
+fn advance_end<R: EndRole>(
+    end: &mut End<R>,
+    alloc: Global,
+    bytes: &[u8],
+    log: &mut Vec<Done>,
+    out: &mut Vec<u8>,
+) -> Result<usize, AllocError>
+    requires alive { end.old.machine.kept.dead ≡ false }
+    ensures used { IfOk result (λ used. used ≤ length bytes.now) }
+    ensures progress { IfOk result (λ used. 0 < length bytes.now → 0 < used) }
+    ensures advanced { IfOk result (λ used. Advances R.EndRole (side_of R.Exchange.SIDE) end.old (take used bytes.now) end.new log.old.items log.new.items out.old.items out.new.items) }
+    ensures role { end.new.role ≡ end.old.role }
+{
+    parts();
+    deliveries::<<<R::Exchange as Role>::Sealing as Sealing>::Key>();
+    deaths::<<<R::Exchange as Role>::Sealing as Sealing>::Key>();
+    let side = <R::Exchange as Role>::SIDE;
+    let (next, _) = end.numbers();
+    let Ok(used) = end.advance(bytes, out) else {
+        if is_spent_server(side, next) {
+            return Err(AllocError);
+        }
+        note_death(log, side, true)?;
+        return Ok(bytes.len());
+    };
+    let is_over = end.is_dead();
+    note_turn(alloc, log, side, &end.turn(), is_over)?;
+    Ok(used)
+}
+
+// Tests whether an end is a server that has no number left: it is not known to die where memory is refused.
+fn is_spent_server(side: Side, next: u64) -> bool
+    ensures { result ≡ false → side_of side ≡ Server → next ≤ 4294967295 }
+{
+    match side {
+        Side::Client => false,
+        Side::Server => next > u64::from(u32::MAX),
+    }
+}
