@@ -67,7 +67,8 @@ pub(crate) fn open_client<P: ClientParts, U: UserSigner + Drop>(
     log: &mut Vec<Done>,
     out: &mut Vec<u8>,
 ) -> Result<ClientEnd<P, U>, AllocError>
-    ensures opens { IfOk result (λ end. OpensAs ⟦<ClientRole<P, U> as EndRole>⟧ model.Client (settings_of values.config) (record { cookie = values.cookie; secret = values.secret }) end log.old.items log.new.items out.old.items out.new.items) }
+    ensures opens { IfOk result (λ end. OpensAs ⟦<ClientRole<P, U> as EndRole>⟧ model.Client (settings_of values.config)
+        (record { cookie = values.cookie; secret = values.secret }) end log.old.items log.new.items out.old.items out.new.items) }
     ensures parts { IfOk result (λ end. HasClientParts values.parts.agreement values.parts.host_trust values.user end) }
 {
     let (config, parts, user, cookie, secret) = values.into_parts();

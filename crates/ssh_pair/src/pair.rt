@@ -93,7 +93,8 @@ impl<
         client: ClientValues<C, U>,
         server: ServerValues<V, J>,
     ) -> Result<(Pair<S, C, U, V, J>, Transcript), AllocError>
-        ensures opens { IfOk result (λ r. PairMade ⟦<ClientRole<C, U> as EndRole>⟧ ⟦<ServerRole<V, J> as EndRole>⟧ (settings_of client.config) (settings_of server.config) (record { cookie = client.cookie; secret = client.secret }) (record { cookie = server.cookie; secret = server.secret }) r.0 r.1) }
+        ensures opens { IfOk result (λ r. PairMade ⟦<ClientRole<C, U> as EndRole>⟧ ⟦<ServerRole<V, J> as EndRole>⟧
+            (settings_of client.config) (settings_of server.config) (record { cookie = client.cookie; secret = client.secret }) (record { cookie = server.cookie; secret = server.secret }) r.0 r.1) }
         ensures fine { IfOk result (λ r. r.0.failed ≡ false) }
         ensures client_parts { IfOk result (λ r. HasClientParts client.parts.agreement client.parts.host_trust client.user r.0.client) }
         ensures server_parts { IfOk result (λ r. HasServerParts server.parts.agreement server.parts.host_signer server.user r.0.server) }

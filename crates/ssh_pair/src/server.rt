@@ -67,7 +67,8 @@ pub(crate) fn open_server<P: ServerParts, U: UserJudge + Drop>(
     log: &mut Vec<Done>,
     out: &mut Vec<u8>,
 ) -> Result<ServerEnd<P, U>, AllocError>
-    ensures opens { IfOk result (λ end. OpensAs ⟦<ServerRole<P, U> as EndRole>⟧ model.Server (settings_of values.config) (record { cookie = values.cookie; secret = values.secret }) end log.old.items log.new.items out.old.items out.new.items) }
+    ensures opens { IfOk result (λ end. OpensAs ⟦<ServerRole<P, U> as EndRole>⟧ model.Server (settings_of values.config)
+        (record { cookie = values.cookie; secret = values.secret }) end log.old.items log.new.items out.old.items out.new.items) }
     ensures parts { IfOk result (λ end. HasServerParts values.parts.agreement values.parts.host_signer values.user end) }
 {
     let (config, parts, user, cookie, secret) = values.into_parts();
