@@ -12,6 +12,10 @@ const MESSAGE: [u8; 64] = [0x61; 64];
 const CALLS: usize = 8;
 
 /// Prints the ratios of an agreement, of a signature, and of its verification.
+///
+/// # Errors
+///
+/// Standard output can't be written to, or memory is refused.
 pub fn measure<R: Clock + Print>(rt: &R, rounds: u32) -> anyhow::Result<()> {
     measure_agreement(rt, rounds)?;
     measure_signing(rt, rounds)?;

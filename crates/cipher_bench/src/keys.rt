@@ -8,6 +8,10 @@ use std::time::{Duration, Instant};
 const NONCE: [u8; 12] = [1; 12];
 
 /// Prints the time of a key, and its ratio to that of sealing 32 KiB.
+///
+/// # Errors
+///
+/// Standard output can't be written to, or memory is refused.
 pub fn measure<R: Clock + Print + AllocGlobal>(rt: &R, rounds: u32) -> anyhow::Result<()> {
     let mut text = [0x61; 32_768];
     let mut made = Duration::MAX;

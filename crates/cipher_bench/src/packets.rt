@@ -19,6 +19,10 @@ const CLEAR: [u8; 4] = [3; 4];
 const BYTES: usize = 65_536;
 
 /// Prints the ratios at a text of this size.
+///
+/// # Errors
+///
+/// Standard output can't be written to, or memory is refused.
 pub fn measure<R: Clock + Print + AllocGlobal>(
     rt: &R,
     size: usize,

@@ -2,6 +2,10 @@ use std::rt::Env;
 use std::{env, io};
 
 /// The number after the word `run`, where the program is called by these two words.
+///
+/// # Errors
+///
+/// Only where the words of the call can't be read.
 pub fn rounds_of<R: Env + AllocGlobal>(rt: &R) -> io::Result<Option<u32>> {
     let words: Vec<String> = env::args(rt)?.collect(rt.alloc())?;
     match words.as_slice() {

@@ -19,11 +19,20 @@ impl<'a> Asks<'a> {
     }
 
     /// One ask more.
+    ///
+    /// # Errors
+    ///
+    /// Only where memory is refused: the ask is dropped.
     pub fn add(&mut self, ask: Ask<'a>) -> Result<(), AllocError> {
         self.waiting.push_back(ask).map_err(|_| AllocError)
     }
 
     /// Asks for what waits, and answers whether nothing is left. While keys are exchanged, and before the peer's NEWKEYS came, some is.
+    ///
+    /// # Errors
+    ///
+    /// - `Memory`: memory was refused, and the end is over.
+    /// - `Dead`: the end was over before.
     pub fn work<E: End>(&mut self, end: &mut E, out: &mut Vec<u8>) -> Result<bool, Fault> {
         for _ in 0..self.waiting.len() {
             let Some(ask) = self.waiting.front().copied() else {

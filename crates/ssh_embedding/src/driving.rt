@@ -16,6 +16,10 @@ pub trait Work {
 
 /// Lets an end go on until it is over or its peer's stream ends: reads what the peer sends, and writes what goes to the peer, what stands in `out` first.
 /// Answers why the peer was refused, if it was.
+///
+/// # Errors
+///
+/// `input` could not be read, `output` could not be written to, no random bytes were there for the next exchange of keys, or memory was refused.
 pub fn drive<E: End, W: Work, R: RandomSource + Drop, I: Read, O: Write>(
     end: &mut E,
     keys: &mut KeySupply<R>,

@@ -39,6 +39,10 @@ impl Flow {
     }
 
     /// These bytes have to be sent.
+    ///
+    /// # Errors
+    ///
+    /// Only where memory is refused: nothing is added.
     pub fn add(&mut self, bytes: &[u8]) -> Result<(), AllocError> {
         if self.is_drained() {
             self.waiting.clear();
@@ -53,6 +57,11 @@ impl Flow {
     }
 
     /// Gives back the window, and sends what can be sent now. The rest waits for room in the peer's window, or for the end of an exchange of keys.
+    ///
+    /// # Errors
+    ///
+    /// - `Memory`: memory was refused, and the end is over.
+    /// - `Dead`: the end was over before.
     pub fn push<E: End>(&mut self, end: &mut E, out: &mut Vec<u8>) -> Result<(), Fault> {
         self.give_back(end, out)?;
         for _ in 0..self.waiting.len() {

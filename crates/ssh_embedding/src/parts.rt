@@ -35,6 +35,10 @@ impl ClientParts for EchoClient {
 }
 
 /// A server with this host key, which lets these users in and put its version line and its first KEXINIT into `out`.
+///
+/// # Errors
+///
+/// No random bytes were there, or memory was refused.
 pub fn server_end<'a, R: RandomSource + Drop>(
     alloc: Global,
     keys: &mut KeySupply<R>,
@@ -54,6 +58,10 @@ pub fn server_end<'a, R: RandomSource + Drop>(
 }
 
 /// A client that trusts this host, whose user signs with this key, and that put its version line and its first KEXINIT into `out`.
+///
+/// # Errors
+///
+/// No random bytes were there, or memory was refused.
 pub fn client_end<R: RandomSource + Drop>(
     alloc: Global,
     keys: &mut KeySupply<R>,

@@ -21,7 +21,11 @@ use ssh_transport_machine::standing::machines_stand;
 use ssh_transport_machine::{Effect, Machine, TransportTurn};
 use std::alloc::AllocError;
 
-// Does what is left to be done with an answer of the transport.
+/// Does what is left to be done with an answer of the transport.
+///
+/// # Errors
+///
+/// Only where memory is refused: the end is over, and what was put out so far stands.
 pub fn go_on<S: Sealing, F: Filler + Drop>(
     machine: &mut Machine<S, F>,
     layers: &mut ClientLayers,

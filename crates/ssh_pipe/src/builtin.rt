@@ -40,6 +40,10 @@ const PIECE: u64 = 32_768;
 
 impl Builtin {
     /// Begins what a line of a command and its arguments says. What it says at once is added to the flow.
+    ///
+    /// # Errors
+    ///
+    /// Only where memory is refused: the command does not begin.
     pub fn new(line: &[u8], flow: &mut Flow) -> Result<Builtin, AllocError> {
         let line = line.trim_ascii();
         let (name, rest) = match line.iter().position(|byte| *byte == b' ') {
@@ -69,6 +73,10 @@ impl Builtin {
     }
 
     /// Takes bytes of the input, and answers how many of them are done with. The others are once they were sent on.
+    ///
+    /// # Errors
+    ///
+    /// Only where memory is refused: the command can't go on.
     pub fn take(&mut self, bytes: &[u8], flow: &mut Flow) -> Result<usize, AllocError> {
         match self {
             Builtin::Cat => {
@@ -89,6 +97,10 @@ impl Builtin {
     }
 
     /// Adds what can be said once all before is sent. Nothing where the command is done, or waits for its input.
+    ///
+    /// # Errors
+    ///
+    /// Only where memory is refused: the command is dropped.
     pub fn go_on(
         self,
         alloc: Global,

@@ -29,6 +29,12 @@ pub struct Client<'a, R: RandomSource + Drop> {
 
 impl<'a, R: RandomSource + Drop> Client<'a, R> {
     /// A client that trusts this host, and that put its version line and its first KEXINIT into `out`.
+    ///
+    /// # Errors
+    ///
+    /// - `Random`: the source gave no random bytes.
+    /// - `Settings`: the policy makes no settings of an end.
+    /// - `Memory`: memory was refused. What was handed in is dropped.
     pub fn new(
         alloc: Global,
         policy: &Policy,
@@ -56,6 +62,10 @@ impl<'a, R: RandomSource + Drop> Client<'a, R> {
     }
 
     /// Shows messages from now on, by number and name, in what it tells.
+    ///
+    /// # Errors
+    ///
+    /// Only `Memory`: messages are not shown.
     pub fn show_messages(&mut self) -> Result<(), PipeError> {
         self.end.show_messages().map_err(|_| PipeError::Memory)
     }
@@ -91,6 +101,10 @@ impl<'a, R: RandomSource + Drop> Client<'a, R> {
     }
 
     /// Gives bytes of the command's input; none where it has ended.
+    ///
+    /// # Errors
+    ///
+    /// Only where memory is refused: no byte is taken.
     pub fn give_input(&mut self, bytes: &[u8]) -> Result<(), AllocError> {
         self.desk.give_input(bytes)
     }

@@ -48,6 +48,10 @@ impl Flow {
     }
 
     /// These bytes have to be sent as data.
+    ///
+    /// # Errors
+    ///
+    /// Only where memory is refused: nothing is added.
     pub fn add(&mut self, bytes: &[u8]) -> Result<(), AllocError> {
         if self.is_drained() {
             self.waiting.clear();
@@ -57,6 +61,10 @@ impl Flow {
     }
 
     /// These bytes have to be sent as extended data of this type, as all that is added behind them.
+    ///
+    /// # Errors
+    ///
+    /// Only where memory is refused: no byte is added.
     pub fn add_extended(&mut self, kind: u32, bytes: &[u8]) -> Result<(), AllocError> {
         self.kind = Some(kind);
         self.add(bytes)
@@ -69,6 +77,11 @@ impl Flow {
 
     /// Sends as much as one packet takes, and answers how many bytes that was: none where nothing can be sent now, for want of room in the peer's window
     /// or while keys are exchanged.
+    ///
+    /// # Errors
+    ///
+    /// - `Memory`: memory was refused, and the end is over.
+    /// - `Dead`: the end was over before.
     pub fn send<E: End>(&mut self, end: &mut E, out: &mut Vec<u8>) -> Result<usize, Fault> {
         let rest = self.waiting.as_slice().get(self.sent..).unwrap_or(&[]);
         let room = end.channels().room(self.channel).unwrap_or(0);
@@ -92,6 +105,11 @@ impl Flow {
     }
 
     /// Gives back to the peer's window what is done with, where that is due.
+    ///
+    /// # Errors
+    ///
+    /// - `Memory`: memory was refused, and the end is over.
+    /// - `Dead`: the end was over before.
     pub fn give_back<E: End>(&mut self, end: &mut E, out: &mut Vec<u8>) -> Result<(), Fault> {
         let Some(bytes) = self.window.due() else {
             return Ok(());

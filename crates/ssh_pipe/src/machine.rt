@@ -27,6 +27,14 @@ const PIECE: usize = 65_536;
 
 /// Lets an end go on until it is over or its peer's stream ends: reads what the peer sends from `input`, and writes what goes to the peer to `output`, what
 /// stands in `out` first. What is to be told of it is written to `log`. A peer that takes nothing any more is still heard, since it may have said why.
+///
+/// # Errors
+///
+/// - `Read`, `Write`: `input` could not be read, or `output` could not be written to.
+/// - `Input`, `Output`: the files of the command.
+/// - `Random`: no random bytes were there for the next exchange of keys.
+/// - `End`: the end refused what the program asked for.
+/// - `Memory`: memory was refused.
 pub fn pump<M: Machine, I: Read, O: Write, L: Write>(
     alloc: Global,
     machine: &mut M,

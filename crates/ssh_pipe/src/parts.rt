@@ -40,6 +40,10 @@ pub const METHODS: &[&[u8]] = &[b"publickey", b"password"];
 
 /// The settings of an end, which requires strict key exchange, under this policy. `methods` are those of authentication that a server names; at a client
 /// they mean nothing.
+///
+/// # Errors
+///
+/// Those of `ssh_transport_base::Config::new`: `Refused` settings, or `Memory`.
 pub fn config(
     alloc: Global,
     policy: &Policy,

@@ -25,6 +25,12 @@ pub struct Server<'a, R: RandomSource + Drop> {
 
 impl<'a, R: RandomSource + Drop> Server<'a, R> {
     /// A server with this host key, that lets this user in, and that put its version line and its first KEXINIT into `out`.
+    ///
+    /// # Errors
+    ///
+    /// - `Random`: the source gave no random bytes.
+    /// - `Settings`: the policy makes no settings of an end.
+    /// - `Memory`: memory was refused. What was handed in is dropped.
     pub fn new(
         alloc: Global,
         policy: &Policy,
@@ -50,6 +56,10 @@ impl<'a, R: RandomSource + Drop> Server<'a, R> {
     }
 
     /// Shows messages from now on, by number and name, in what it tells.
+    ///
+    /// # Errors
+    ///
+    /// Only `Memory`: messages are not shown.
     pub fn show_messages(&mut self) -> Result<(), PipeError> {
         self.end.show_messages().map_err(|_| PipeError::Memory)
     }

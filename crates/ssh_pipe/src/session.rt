@@ -56,6 +56,10 @@ impl Session {
     }
 
     /// Takes a request of the client (RFC 4254 section 6.5), and answers whether it is granted: the first `exec` alone.
+    ///
+    /// # Errors
+    ///
+    /// Only where memory is refused: the session can't go on.
     pub fn request(&mut self, name: &[u8], rest: &[u8]) -> Result<bool, AllocError> {
         let line = match string_in(rest) {
             Some(line) if name == b"exec".as_slice() && self.command.is_none() => line,
@@ -70,6 +74,10 @@ impl Session {
     }
 
     /// Takes data of the client. Extended data mean nothing here.
+    ///
+    /// # Errors
+    ///
+    /// Only where memory is refused: the session can't go on.
     pub fn take(&mut self, kind: Option<u32>, body: &[u8]) -> Result<(), AllocError> {
         self.flow.take(body.len());
         let done = match &mut self.command {
@@ -90,6 +98,11 @@ impl Session {
     }
 
     /// Sends what can be sent, and gives the window back; behind the command's last byte its status, EOF and CLOSE.
+    ///
+    /// # Errors
+    ///
+    /// - `Memory`: memory was refused, and the end is over.
+    /// - `Dead`: the end was over before.
     pub fn go_on<E: End>(&mut self, end: &mut E, out: &mut Vec<u8>) -> Result<(), Fault> {
         for _ in 0..ROUNDS {
             self.refill()?;

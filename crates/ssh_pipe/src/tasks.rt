@@ -18,6 +18,10 @@ impl<T: Copy + Drop> Tasks<T> {
     }
 
     /// One task more.
+    ///
+    /// # Errors
+    ///
+    /// Only where memory is refused: the task is dropped.
     pub fn add(&mut self, task: T) -> Result<(), AllocError> {
         match self.waiting.push_back(task) {
             Ok(()) => Ok(()),

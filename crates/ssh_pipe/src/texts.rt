@@ -25,6 +25,10 @@ pub(crate) fn first_string_in(bytes: &[u8]) -> Option<&[u8]> {
 }
 
 /// A text of at most `MOST_COMMAND_BYTES` as a string (RFC 4251 section 5), which a `Request` has; `None` where it is longer.
+///
+/// # Errors
+///
+/// Only where memory is refused.
 pub fn string_of(alloc: Global, text: &[u8]) -> Result<Option<Vec<u8>>, AllocError> {
     if text.len() > MOST_COMMAND_BYTES {
         return Ok(None);

@@ -35,6 +35,10 @@ impl<'a, R: RandomSource + Drop, I: Read + Drop, O: Write + Drop, E: Write + Dro
     E,
 > {
     /// This client, whose command reads nothing where there is no `input`.
+    ///
+    /// # Errors
+    ///
+    /// Only where memory is refused: what was handed in is dropped.
     pub fn new(
         alloc: Global,
         client: Client<'a, R>,

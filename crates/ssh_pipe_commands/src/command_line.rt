@@ -91,6 +91,13 @@ pub enum UsageFault {
 }
 
 /// Reads the words of a command line, the program's name the first.
+///
+/// # Errors
+///
+/// - `Words`: the words are other ones than the program takes, or ask for help.
+/// - `NoCall`: a word is missing.
+/// - `Number`, `Cipher`: an option has a value that it can't have.
+/// - `Memory`: memory was refused.
 pub fn call_of<'a, S: AsStr>(alloc: Global, words: &'a [S]) -> Result<Call<'a>, UsageFault> {
     if let [_, word] = words
         && word.as_str() == "--version"

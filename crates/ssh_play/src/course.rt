@@ -72,6 +72,10 @@ impl Course {
     }
 
     /// Whether the payloads that each end took after its first NEWKEYS are a prefix of those that the other sent after its own.
+    ///
+    /// # Errors
+    ///
+    /// Only where memory is refused.
     pub fn is_safe(&self, alloc: Global) -> Result<bool, AllocError>
         ensures { IfOk result (λ safe. IsTrue safe ↔ IsSafe self.now.items.items) }
     {

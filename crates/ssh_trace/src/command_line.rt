@@ -58,6 +58,12 @@ pub enum UsageFault {
 }
 
 /// Reads the words of a command line, the program's name the first.
+///
+/// # Errors
+///
+/// - `Words`: the words are other ones than the program takes, or ask for help.
+/// - `NoCall`: a word is missing.
+/// - `Memory`: memory was refused.
 pub fn call_of<'a, S: AsStr>(alloc: Global, words: &'a [S]) -> Result<Call<'a>, UsageFault> {
     if let [_, word] = words
         && word.as_str() == "--version"

@@ -38,6 +38,10 @@ pub(crate) enum AskStep {
 
 impl EpochEnd {
     /// An end of one epoch, under these two keys.
+    ///
+    /// # Errors
+    ///
+    /// Only where memory is refused.
     pub fn new(
         alloc: Global,
         sending_key: HmacKey,
@@ -75,6 +79,10 @@ impl EpochEnd {
     }
 
     /// Sends a payload.
+    ///
+    /// # Errors
+    ///
+    /// Only where memory is refused: nothing is put out, and no payload is counted.
     #[tactic(auto, using(crate::proofs::Counts::sealed_as))]
     pub fn ask(&mut self, payload: &[u8], out: &mut Vec<u8>) -> Result<AskStep, AllocError>
         requires alive { self.old.dead ≡ false }

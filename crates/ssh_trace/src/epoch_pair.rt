@@ -41,6 +41,10 @@ impl Model for EpochPair {
 
 impl EpochPair {
     /// A pair that nothing happened to, with the MAC keys of what the client and of what the server sends.
+    ///
+    /// # Errors
+    ///
+    /// `Memory`: memory was refused.
     pub fn new(
         alloc: Global,
         client_key: &[u8; 32],
@@ -61,8 +65,9 @@ impl EpochPair {
     /// Plays events, and answers what they added. An ask for a payload over 34,000 bytes is refused, and an event for
     /// an end that is dead adds nothing.
     ///
-    /// Memory is answered where the transcript finds none. The pair has then failed, and each later call answers
-    /// Memory too.
+    /// # Errors
+    ///
+    /// `Memory`: the transcript finds no memory. The pair has then failed, and each later call answers `Memory` too.
     pub fn play(&mut self, events: &[Event<'_>]) -> Result<Transcript, Memory>
         requires filled { AreFilled (events_of events.now) }
         ensures failed { self.old.failed ≡ true → IsErr result }

@@ -27,7 +27,9 @@ pub enum Shown {
 
 /// Reads the one clear packet that `text` is in hexadecimal digits. The empty text is `Shown::Incomplete`.
 ///
-/// `Memory` where an allocation for the bytes or for the reader fails. A text of odd length takes none: it is `NotHex`.
+/// # Errors
+///
+/// `Memory`: an allocation for the bytes or for the reader fails. A text of odd length takes none: it is `NotHex`.
 pub fn packet_of(alloc: Global, text: &str) -> Result<Shown, Memory>
     ensures shows { IfOk result (Shows text.now) }
     ensures odd { length text.now % 2 ≡ 1 → result ≡ Ok NotHex }

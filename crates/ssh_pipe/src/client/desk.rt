@@ -94,6 +94,10 @@ impl<'a> Desk<'a> {
     }
 
     /// Takes bytes of the command's input; none where it has ended.
+    ///
+    /// # Errors
+    ///
+    /// Only where memory is refused: no byte is taken.
     pub fn give_input(&mut self, bytes: &[u8]) -> Result<(), AllocError> {
         if bytes.is_empty() {
             self.input = Input::Ended;
@@ -105,6 +109,10 @@ impl<'a> Desk<'a> {
     }
 
     /// Listens to what was told in a turn, and keeps what of it is needed.
+    ///
+    /// # Errors
+    ///
+    /// Only where memory is refused: what was told may be kept in part.
     pub fn hear(&mut self, turn: &Turn<'_>) -> Result<(), AllocError> {
         if let Some(refusal) = turn.refused {
             self.ending = Some(Ending::Refused(refusal));
@@ -242,6 +250,11 @@ impl<'a> Desk<'a> {
     }
 
     /// Does what is to be done, the oldest first, and answers whether all of it is done.
+    ///
+    /// # Errors
+    ///
+    /// - `Memory`: memory was refused, and the end is over.
+    /// - `Dead`: the end was over before.
     pub fn work<E: End>(&mut self, end: &mut E, out: &mut Vec<u8>) -> Result<bool, Fault> {
         for _ in 0..self.tasks.len() {
             let Some(task) = self.tasks.first() else {
@@ -257,6 +270,11 @@ impl<'a> Desk<'a> {
     }
 
     /// Sends what can be sent, and gives the window back; behind the last byte of the input says that it has ended.
+    ///
+    /// # Errors
+    ///
+    /// - `Memory`: memory was refused, and the end is over.
+    /// - `Dead`: the end was over before.
     pub fn flow_on<E: End>(&mut self, end: &mut E, out: &mut Vec<u8>) -> Result<(), Fault> {
         let Some(flow) = &mut self.flow else {
             return Ok(());

@@ -56,6 +56,10 @@ impl Desk {
     }
 
     /// Listens to what was told in a turn, and keeps what of it is needed.
+    ///
+    /// # Errors
+    ///
+    /// Only where memory is refused: what was told may be kept in part.
     pub fn hear(&mut self, turn: &Turn<'_>) -> Result<(), AllocError> {
         if let Some(refusal) = turn.refused {
             self.ending = Some(Ending::Refused(refusal));
@@ -185,6 +189,11 @@ impl Desk {
     }
 
     /// Does what is to be done, the oldest first, and answers whether all of it is done.
+    ///
+    /// # Errors
+    ///
+    /// - `Memory`: memory was refused, and the end is over.
+    /// - `Dead`: the end was over before.
     pub fn work<E: End>(&mut self, end: &mut E, out: &mut Vec<u8>) -> Result<bool, Fault> {
         for _ in 0..self.tasks.len() {
             let Some(task) = self.tasks.first() else {
@@ -200,6 +209,11 @@ impl Desk {
     }
 
     /// Lets each session send what it can.
+    ///
+    /// # Errors
+    ///
+    /// - `Memory`: memory was refused, and the end is over.
+    /// - `Dead`: the end was over before.
     pub fn flow_on<E: End>(&mut self, end: &mut E, out: &mut Vec<u8>) -> Result<(), Fault> {
         for session in self.sessions.iter_mut() {
             session.go_on(end, out)?;

@@ -42,6 +42,13 @@ fn wrong(file: &str, fault: FileFault) -> RunError<'_> {
 }
 
 /// The private key in a file. Where others than the file's owner may read it, that is told on `err`.
+///
+/// # Errors
+///
+/// - `File`: the file can't be read.
+/// - `Long`: it has more bytes than are read of one of its kind.
+/// - `Content`: it has no private key of ssh-ed25519 without a passphrase.
+/// - `Session`: memory was refused.
 pub fn private_key_in<'a, R: Files + AllocGlobal, E: Write>(
     rt: &R,
     file: &'a str,
@@ -70,6 +77,13 @@ fn warn_of_readers<R: Files, E: Write>(rt: &R, file: &str, err: &mut E) {
 }
 
 /// The key in a file that is trusted to be the host's.
+///
+/// # Errors
+///
+/// - `File`: the file can't be read.
+/// - `Long`: it has more bytes than are read of one of its kind.
+/// - `NoHostKey`: no line has a key of this host.
+/// - `Content`: a line is malformed, or the file has no key.
 pub fn trusted_key_in<'a, R: Files + AllocGlobal>(
     rt: &R,
     file: &'a str,
@@ -87,6 +101,13 @@ pub fn trusted_key_in<'a, R: Files + AllocGlobal>(
 }
 
 /// The keys in a file that let this user in. None where there is no file.
+///
+/// # Errors
+///
+/// - `File`: the file can't be read.
+/// - `Long`: it has more bytes than are read of one of its kind.
+/// - `Content`: a line is malformed, or the file has no key.
+/// - `Session`: memory was refused.
 pub fn accepted_keys<'a, R: Files + AllocGlobal>(
     rt: &R,
     file: Option<&'a str>,
@@ -108,6 +129,13 @@ pub fn accepted_keys<'a, R: Files + AllocGlobal>(
 }
 
 /// The password in a file, where there is one.
+///
+/// # Errors
+///
+/// - `File`: the file can't be read.
+/// - `Long`: it has more bytes than are read of one of its kind.
+/// - `Content`: it has no line that is a password.
+/// - `Session`: memory was refused.
 pub fn password_in<'a, R: Files + AllocGlobal>(
     rt: &R,
     file: Option<&'a str>,
@@ -121,6 +149,10 @@ pub fn password_in<'a, R: Files + AllocGlobal>(
 }
 
 /// A file that is read from, where there is one.
+///
+/// # Errors
+///
+/// Only `File`: the file can't be opened.
 pub fn opened<'a, R: Files>(
     rt: &R,
     file: Option<&'a str>,
@@ -135,6 +167,10 @@ pub fn opened<'a, R: Files>(
 }
 
 /// A new file for output, or the stream where there is none.
+///
+/// # Errors
+///
+/// Only `File`: the file can't be made.
 pub fn sink<'a, R: Files, S: Write + Drop>(
     rt: &R,
     file: Option<&'a str>,
