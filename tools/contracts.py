@@ -1,0 +1,99 @@
+"""Compares the contracts of public functions in two trees, for who reviews a change: which are the same, which changed, which are new, gone, or stand elsewhere now.
+
+usage: contracts.py OLD NEW      two folders, each with a tree of this repository
+
+A function goes by its crate, the type of its impl, and its name; where no such function is left, by these without a role in them, in that crate or in another one. Two contracts are the same where
+their clauses are, but for white space. Prints a line for each function whose contract is not the same, with the clauses that differ, and then how many there are of each kind."""
+
+import re
+import sys
+from collections import Counter
+from pathlib import Path
+
+FUNCTION = re.compile(r"^(\s*)pub (?:const )?fn (\w+)")
+IMPL = re.compile(r"^impl(?:<.*?>)? (?:(\w+)(?:<.*>)? for )?(\w+)")
+CLAUSE = re.compile(r"(requires|ensures\*?)\s*(\w+)?\s*\{")
+
+
+def braces(text, start):
+    """The end of the braces that open at `start`."""
+    depth = 0
+    for at in range(start, len(text)):
+        depth += {"{": 1, "}": -1}.get(text[at], 0)
+        if not depth:
+            return at + 1
+    return len(text)
+
+
+def clauses_of(text):
+    """The clauses that stand between a signature and its body, by kind and name."""
+    found, at = {}, 0
+    while (clause := CLAUSE.match(text, at)) is not None:
+        end = braces(text, clause.end() - 1)
+        name = f"{clause[1]} {clause[2] or ''}".strip()
+        found[name] = " ".join(text[clause.end() : end - 1].split())
+        at = end + len(text[end:]) - len(text[end:].lstrip())
+    return found
+
+
+def contracts_in(tree):
+    """The contracts of a tree's public functions."""
+    found = {}
+    for path in sorted((tree / "crates").glob("*/src/**/*.rt")):
+        crate, text, owner, at = path.relative_to(tree).parts[1], path.read_text(encoding="utf-8"), "", 0
+        for line in text.split("\n"):
+            if impl := IMPL.match(line):
+                owner = impl[2]
+            elif line.startswith(("pub fn", "fn", "}")):
+                owner = "" if not line.startswith("}") else owner
+            if function := FUNCTION.match(line):
+                first = CLAUSE.search(text, at)
+                body = text.find("\n" + function[1] + "{\n", at)
+                inside = first is not None and (body < 0 or first.start() < body)
+                key = crate, owner if function[1] else "", function[2]
+                found[key] = clauses_of(text[first.start() :]) if inside else {}
+            at += len(line) + 1
+    return found
+
+
+def of_either_role(key):
+    """The key without the role in it."""
+    crate, owner, name = key
+    return re.sub(r"_(client|server)$", "", crate), re.sub(r"^(Client|Server)", "", owner), re.sub(r"_(client|server)$", "", name)
+
+
+def counterpart(key, new):
+    """The key of the same function in the other tree, or none."""
+    if key in new:
+        return key
+    crate, owner, name = of_either_role(key)
+    for wanted in ((crate, owner, name), (None, owner, name), (None, None, name)):
+        places = [it for it in new if all(want in (None, has) for want, has in zip(wanted, it))]
+        if len(places) == 1 or places and wanted[0]:
+            return places[0]
+    return None
+
+
+def main(old, new):
+    kinds = Counter()
+    matched = set()
+    for key, before in old.items():
+        place = counterpart(key, new)
+        name = "::".join(it for it in key if it)
+        if place is None:
+            kinds["gone"] += 1
+            print(f"gone     {name}")
+            continue
+        matched.add(place)
+        after = new[place]
+        differ = [it for it in sorted(before | after) if before.get(it) != after.get(it)]
+        kind = ("changed" if differ else "same") + ("" if place == key else ", elsewhere")
+        kinds[kind] += 1
+        if kind != "same":
+            print(f"{kind:<8} {name}" + ("" if place == key else " -> " + "::".join(it for it in place if it)) + (": " + ", ".join(differ) if differ else ""))
+    kinds["new"] = len(set(new) - matched)
+    print(", ".join(f"{kind} {count}" for kind, count in sorted(kinds.items())))
+
+
+if __name__ == "__main__":
+    main(*(contracts_in(Path(it)) for it in sys.argv[1:3]))
