@@ -298,40 +298,54 @@ def banner_and_debug():
     return script
 
 
-def requests_over_the_limit():
-    about = ["256 requests wait for a reply at a channel of the server. One more is not asked for, and is refused where it comes all the same."]
-    script = Script(about, "s", user="user u p")
-    script.two_ends_with_channel()
+def over_the_limit(script, ask, sent, reply, answer, done, payload):
+    """256 requests of the peer wait for a reply at the end. One more is not asked for, and is refused where it comes all the same."""
+    to, peer = script.to, script.peer
+    asked, told = f"{peer} asked {ask.split()[0]}", f"{to} told {ask.removesuffix(' x')}"
     for _ in range(256):
-        script.does("ask c request 0 x yes", "c asked request", "c sent 98 CHANNEL_REQUEST 11")
-    script.does("ask c request 0 x yes", "c asked request", "c ask refused 2 Busy")
-    script.does("ask c request 0 x no", "c asked request", "c sent 98 CHANNEL_REQUEST 11")
-    script.does("pass c s all", *["s took 98 CHANNEL_REQUEST 11", "s told request 0"] * 257)
-    script.does("ask s reply 0 yes", "s asked reply", "s sent 99 CHANNEL_SUCCESS 5")
-    script.does("pass s c all", "c took 99 CHANNEL_SUCCESS 5", "c told request_done 0 yes")
-    script.does("ask c request 0 x yes", "c asked request", "c sent 98 CHANNEL_REQUEST 11")
-    script.does("pass c s all", "s took 98 CHANNEL_REQUEST 11", "s told request 0")
+        script.does(f"ask {peer} {ask} yes", asked, f"{peer} sent {sent}")
+    script.does(f"ask {peer} {ask} yes", asked, f"{peer} ask refused 2 Busy")
+    script.does(f"ask {peer} {ask} no", asked, f"{peer} sent {sent}")
+    script.does(f"pass {peer} {to} all", *[f"{to} took {sent}", told] * 257)
+    script.does(f"ask {to} {reply}", f"{to} asked {reply.split()[0]}", f"{to} sent {answer}")
+    script.does(f"pass {to} {peer} all", f"{peer} took {answer}", f"{peer} told {done}")
+    script.does(f"ask {peer} {ask} yes", asked, f"{peer} sent {sent}")
+    script.does(f"pass {peer} {to} all", f"{to} took {sent}", told)
     script.number += 258
-    script.both_are_over(b"\x62" + bytes(4) + string(b"x") + b"\x01", "19 OwedFull", 2)
+    script.both_are_over(payload, "19 OwedFull", 2)
     return script
+
+
+def requests_at(to, end):
+    about = [f"256 requests wait for a reply at a channel of the {end}. One more is not asked for, and is refused where it comes all the same."]
+    script = Script(about, to, user="user u p")
+    script.two_ends_with_channel()
+    request = b"\x62" + bytes(4) + string(b"x") + b"\x01"
+    return over_the_limit(script, "request 0 x", "98 CHANNEL_REQUEST 11", "reply 0 yes", "99 CHANNEL_SUCCESS 5", "request_done 0 yes", request)
+
+
+def globals_at(to, end):
+    about = [f"256 global requests wait for a reply at the {end}. One more is not asked for, and is refused where it comes all the same."]
+    script = Script(about, to, user="user u p")
+    script.two_ends_with_user()
+    request = b"\x50" + string(b"x") + b"\x01"
+    return over_the_limit(script, "global x", "80 GLOBAL_REQUEST 7", "globalreply no", "82 REQUEST_FAILURE 1", "global_done no", request)
+
+
+def requests_over_the_limit():
+    return requests_at("s", "server")
+
+
+def requests_over_the_clients_limit():
+    return requests_at("c", "client")
 
 
 def globals_over_the_limit():
-    about = ["256 global requests wait for a reply at the client. One more is not asked for, and is refused where it comes all the same."]
-    script = Script(about, "c", user="user u p")
-    script.two_ends_with_user()
-    for _ in range(256):
-        script.does("ask s global x yes", "s asked global", "s sent 80 GLOBAL_REQUEST 7")
-    script.does("ask s global x yes", "s asked global", "s ask refused 2 Busy")
-    script.does("ask s global x no", "s asked global", "s sent 80 GLOBAL_REQUEST 7")
-    script.does("pass s c all", *["c took 80 GLOBAL_REQUEST 7", "c told global"] * 257)
-    script.does("ask c globalreply no", "c asked globalreply", "c sent 82 REQUEST_FAILURE 1")
-    script.does("pass c s all", "s took 82 REQUEST_FAILURE 1", "s told global_done no")
-    script.does("ask s global x yes", "s asked global", "s sent 80 GLOBAL_REQUEST 7")
-    script.does("pass s c all", "c took 80 GLOBAL_REQUEST 7", "c told global")
-    script.number += 258
-    script.both_are_over(b"\x50" + string(b"x") + b"\x01", "19 OwedFull", 2)
-    return script
+    return globals_at("c", "client")
+
+
+def globals_over_the_servers_limit():
+    return globals_at("s", "server")
 
 
 def keys_of_a_plain_session():
@@ -353,8 +367,8 @@ def keys_with_extensions():
 
 SCRIPTS = (success_from_the_client, exec_before_login, open_without_a_service, request_in_the_clear, extensions_in_the_clear, ignore_in_the_exchange,
            host_signature_of_another_session, user_signature_of_another_session, other_version, no_common_mac, other_service, data_over_the_window,
-           data_over_the_longest, window_over_the_largest, requests_after_success, banner_and_debug, requests_over_the_limit, globals_over_the_limit,
-           keys_of_a_plain_session, keys_with_extensions)
+           data_over_the_longest, window_over_the_largest, requests_after_success, banner_and_debug, requests_over_the_limit, requests_over_the_clients_limit,
+           globals_over_the_limit, globals_over_the_servers_limit, keys_of_a_plain_session, keys_with_extensions)
 
 
 def main(folder):
