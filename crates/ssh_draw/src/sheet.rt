@@ -34,6 +34,7 @@ enum Anchor {
 }
 
 impl<'a> Sheet<'a> {
+    /// A sheet of which nothing is written.
     pub fn new(alloc: Global, layout: Layout, fold: Fold, board: &'a Board) -> Sheet<'a> {
         Sheet {
             alloc,
@@ -58,16 +59,21 @@ impl<'a> Sheet<'a> {
         (MARGIN + LINE / 2).saturating_add(LINE.saturating_mul(self.line_of(row)))
     }
 
-    /// Where the rows begin, and where they end.
+    /// How far from the top the rows begin.
     pub fn top(&self) -> u32 {
         MARGIN + LINE * (self.layout.head + 1)
     }
 
+    /// How far from the top they end.
     pub fn bottom(&self) -> u32 {
         MARGIN + LINE * (self.layout.head + self.layout.rows)
     }
 
     /// What the picture is called, and what its author says of it.
+    ///
+    /// # Errors
+    ///
+    /// Only where memory is refused.
     pub fn draw_head(&mut self, name: &str, comment: &[String]) -> Result<(), AllocError> {
         self.write(0, Column::Whole, Anchor::Start, "t", name)?;
         for (index, text) in comment.iter().take(2).enumerate() {
@@ -83,6 +89,10 @@ impl<'a> Sheet<'a> {
     }
 
     /// The lines below the rows: an empty one, the verdict, and others.
+    ///
+    /// # Errors
+    ///
+    /// Only where memory is refused.
     pub fn draw_foot(&mut self, foot: &[String]) -> Result<(), AllocError> {
         let first = self.layout.head + self.layout.rows;
         for (index, text) in foot.iter().take(9).enumerate() {
@@ -94,6 +104,10 @@ impl<'a> Sheet<'a> {
     }
 
     /// All rows, their arrows, and what lies below them.
+    ///
+    /// # Errors
+    ///
+    /// Only where memory is refused.
     pub fn draw_rows(&mut self) -> Result<(), AllocError> {
         self.draw_bands()?;
         self.draw_lifelines()?;
@@ -217,6 +231,10 @@ impl<'a> Sheet<'a> {
     }
 
     /// The whole of the picture.
+    ///
+    /// # Errors
+    ///
+    /// Only where memory is refused.
     pub fn finish(self, title: &str, words: &str) -> Result<String, AllocError> {
         let mut out = String::new(self.alloc);
         let height = self.layout.height();

@@ -26,6 +26,10 @@ impl Sheet<'_> {
     }
 
     /// Tints what a side sends in an epoch.
+    ///
+    /// # Errors
+    ///
+    /// Only where memory is refused.
     pub fn draw_bands(&mut self) -> Result<(), AllocError> {
         for (index, band) in self.board.bands.iter().enumerate() {
             let later = self
@@ -73,6 +77,10 @@ impl Sheet<'_> {
     }
 
     /// Draws the lifelines: dotted after the end died.
+    ///
+    /// # Errors
+    ///
+    /// Only where memory is refused.
     pub fn draw_lifelines(&mut self) -> Result<(), AllocError> {
         for side in [Side::Client, Side::Server] {
             let (x, top, bottom) = (self.life(side), self.top(), self.bottom());
@@ -90,6 +98,10 @@ impl Sheet<'_> {
     }
 
     /// Draws all arrows of which an end is in a row that is drawn.
+    ///
+    /// # Errors
+    ///
+    /// Only where memory is refused.
     pub fn draw_arrows(&mut self) -> Result<(), AllocError> {
         for arrow in self.board.arrows.iter() {
             if self.fold.shows(arrow.start) || self.fold.shows(arrow.end) {
@@ -187,6 +199,10 @@ impl Sheet<'_> {
     }
 
     /// Draws what lies below a refusal of so many bytes.
+    ///
+    /// # Errors
+    ///
+    /// Only where memory is refused.
     pub fn draw_badge(&mut self, side: Side, row: usize, length: usize) -> Result<(), AllocError> {
         let width = CELL * (length.min(96) as u32);
         let y = self.middle(row).saturating_sub(90);

@@ -62,6 +62,7 @@ pub(crate) struct End {
 const TAG: usize = 32;
 
 impl End {
+    /// An end that did nothing, whose packets have tags from the first one on or not yet.
     pub fn new(alloc: Global, is_sealed: bool) -> End {
         End {
             alloc,
@@ -80,6 +81,10 @@ impl End {
     }
 
     /// It sent a unit, whose bytes are put out already.
+    ///
+    /// # Errors
+    ///
+    /// Only where memory is refused.
     pub fn send(&mut self, label: &str, row: usize) -> Result<(), AllocError> {
         let start = self.units.last().map_or(0, |unit| unit.end);
         let end = unit_end(
@@ -125,6 +130,10 @@ impl End {
     }
 
     /// So many of the next bytes that wait are lost. Gives the indices of the units of which all is lost now.
+    ///
+    /// # Errors
+    ///
+    /// Only where memory is refused.
     pub fn lose(&mut self, count: usize) -> Result<Vec<usize>, AllocError> {
         let (start, end) = self.go_on(count);
         let (first, last) = self.touched(start, end);
@@ -148,7 +157,11 @@ impl End {
         (start, end)
     }
 
-    /// Bytes came to it, which `start` says where the other end put them out.
+    /// Bytes came to it. The other end put those that waited out after `passed` others.
+    ///
+    /// # Errors
+    ///
+    /// Only where memory is refused.
     pub fn take(
         &mut self,
         origin: Origin,
@@ -171,6 +184,7 @@ impl End {
 }
 
 impl Unit {
+    /// How many bytes it has.
     pub fn size(&self) -> usize {
         self.end.saturating_sub(self.start)
     }

@@ -23,6 +23,10 @@ pub(crate) struct Run {
 
 impl Run {
     /// A run in which nothing happened: of one epoch, whose keys are given, or of a whole session.
+    ///
+    /// # Errors
+    ///
+    /// Only where memory is refused.
     pub fn new(alloc: Global, is_epoch: bool) -> Result<Run, AllocError> {
         let mut run = Run {
             alloc,
@@ -60,6 +64,10 @@ impl Run {
     }
 
     /// Something happens.
+    ///
+    /// # Errors
+    ///
+    /// Only where memory is refused.
     pub fn play(&mut self, moment: Moment) -> Result<(), AllocError> {
         let Moment {
             cause,

@@ -15,6 +15,7 @@ pub(crate) struct Tally {
 }
 
 impl Tally {
+    /// Nothing became of any message.
     pub fn new() -> Tally {
         Tally {
             lost: 0,
