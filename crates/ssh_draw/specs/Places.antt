@@ -1,7 +1,8 @@
 -- Where the texts of a picture stand, in tenths of a pixel.
-use Rattle.std.specs.Prelude.{◌≡◌, ◌≢◌, ℕ, ◌+◌, ◌-◌, ◌*◌, ◌<◌, ◌≤◌, Bool, true, false}
+use Rattle.std.specs.Prelude.{◌≡◌, ℕ, ◌+◌, ◌-◌, ◌*◌, ◌<◌, ◌≤◌, Bool, true, false}
+use Rattle.ssh_types.specs.declared.side.Side.TheVariants.{Client, Server}
 use Rattle.ssh_draw.specs.declared.places.Column.{Column}
-use Rattle.ssh_draw.specs.declared.places.Column.TheVariants.{Whole, ClientOuter, ClientInner, Network, ServerInner, ServerOuter}
+use Rattle.ssh_draw.specs.declared.places.Column.TheVariants.{Whole, Outer, Inner, Network}
 use Rattle.ssh_draw.specs.declared.layout.Layout.{Layout}
 use Rattle.ssh_draw.specs.declared.places.Place.{Place}
 use Rattle.ssh_draw.specs.declared.places.Spot.{Spot}
@@ -9,21 +10,18 @@ use Rattle.ssh_draw.specs.declared.places.Spot.{Spot}
 -- where a column begins
 abbrev pub left_of : Layout → Column → ℕ
 left_of layout Whole = 160
-left_of layout ClientOuter = 160
-left_of layout ClientInner = 340 + 73 * layout.client_outer
-left_of layout Network = 460 + 73 * layout.client_outer + 73 * layout.client_inner
-left_of layout ServerInner = 8260 - 73 * layout.server_outer - 73 * layout.server_inner
-left_of layout ServerOuter = 8440 - 73 * layout.server_outer
+left_of layout (Outer Client) = 160
+left_of layout (Inner Client) = 340 + 73 * layout.outer
+left_of layout Network = 460 + 73 * layout.outer + 73 * layout.inner
+left_of layout (Inner Server) = 8260 - 73 * layout.outer - 73 * layout.inner
+left_of layout (Outer Server) = 8440 - 73 * layout.outer
 
 -- how wide it is
 abbrev pub width_of : Layout → Column → ℕ
 width_of layout Whole = 8280
-width_of layout ClientOuter = 73 * layout.client_outer
-width_of layout ClientInner = 73 * layout.client_inner
-width_of layout Network =
-    7680 - 73 * layout.client_outer - 73 * layout.client_inner - 73 * layout.server_inner - 73 * layout.server_outer
-width_of layout ServerInner = 73 * layout.server_inner
-width_of layout ServerOuter = 73 * layout.server_outer
+width_of layout (Outer _) = 73 * layout.outer
+width_of layout (Inner _) = 73 * layout.inner
+width_of layout Network = 7680 - 146 * layout.outer - 146 * layout.inner
 
 -- where it ends
 abbrev pub right_of : Layout → Column → ℕ
@@ -58,17 +56,15 @@ pub record IsInside (height : ℕ) (place : Place) : Type 0 where
 
 -- whether a column stands at the left of another
 abbrev pub is_before : Column → Column → Bool
-is_before Whole _ = false
-is_before ClientOuter ClientInner = true
-is_before ClientOuter Network = true
-is_before ClientOuter ServerInner = true
-is_before ClientOuter ServerOuter = true
-is_before ClientInner Network = true
-is_before ClientInner ServerInner = true
-is_before ClientInner ServerOuter = true
-is_before Network ServerInner = true
-is_before Network ServerOuter = true
-is_before ServerInner ServerOuter = true
+is_before (Outer Client) (Inner _) = true
+is_before (Outer Client) Network = true
+is_before (Outer Client) (Outer Server) = true
+is_before (Inner Client) Network = true
+is_before (Inner Client) (Inner Server) = true
+is_before (Inner Client) (Outer Server) = true
+is_before Network (Inner Server) = true
+is_before Network (Outer Server) = true
+is_before (Inner Server) (Outer Server) = true
 is_before _ _ = false
 
 -- A place ends where the other begins, or above.

@@ -1,10 +1,12 @@
 //! Where each text of a picture stands. All lengths are tenths of a pixel.
 
-ghost use Rattle.std.specs.Prelude.{◌≡◌, ◌≤◌, ◌<◌, ◌+◌, ◌↔◌, IfSome, IsSome, IsTrue};
+ghost use Rattle.std.specs.Prelude.{◌≡◌, ◌≤◌, ◌<◌, ◌+◌, ◌-◌, ◌↔◌, IfSome, IsSome, IsTrue, min};
+ghost use Rattle.ssh_types.specs.declared.side.Side.TheVariants.{Client, Server};
 ghost use Rattle.ssh_draw.specs.Places.{EndsAbove, EndsBefore, IsInside, Stands, height_of, is_before, left_of, place_of, right_of, width_of};
-ghost use Rattle.ssh_draw.specs.declared.places.Column.TheVariants.{ClientInner, ClientOuter, ServerInner, ServerOuter};
+ghost use Rattle.ssh_draw.specs.declared.places.Column.TheVariants.{Inner, Network, Outer};
 
 use crate::layout::Layout;
+use ssh_types::Side;
 
 /// The width of each picture.
 pub(crate) const WIDTH: u32 = 8600;
@@ -25,29 +27,28 @@ pub(crate) const GAP: u32 = 90;
 
 const STUB: u32 = 120;
 
-// The columns of both sides have at most so many characters, which leaves 67 pixels for the network.
-const MOST_CELLS: u32 = 96;
+// The columns of a side have at most so many characters, which leaves 52 pixels for the network.
+const MOST_CELLS: u32 = 49;
 
-const MOST_INNER: u32 = 32;
+pub(crate) const MOST_INNER: u32 = 32;
 
 const MOST_HEAD: u32 = 3;
 
-const MOST_ROWS: u32 = 62;
+/// At most so many rows are drawn.
+pub(crate) const MOST_ROWS: usize = 60;
 
-const MOST_FOOT: u32 = 9;
+const MOST_FOOT: u32 = 4;
 
-/// A part of a line, from the left to the right; or all of it.
+/// A part of a line, or all of it.
 #[derive(Clone, Copy, Debug, PartialEq, Eq)]
 pub enum Column {
     /// The whole line, above and below the rows.
     Whole,
-    /// Outside of the client's lifeline: what is asked and told.
-    ClientOuter,
-    /// Inside of it: what is sent, and what becomes of what comes.
-    ClientInner,
+    /// Outside of a side's lifeline: what is asked and told, and refusals.
+    Outer(Side),
+    /// Inside of it: what is sent, and what became of it on its way.
+    Inner(Side),
     Network,
-    ServerInner,
-    ServerOuter,
 }
 
 /// A column of a line. Lines are counted from the top, from 0.
@@ -66,60 +67,49 @@ pub struct Place {
     pub height: u32,
 }
 
-/// How far from the left the lifelines stand, and the edges of the network between them.
-#[derive(Clone, Copy, Debug, PartialEq, Eq)]
-pub struct Rails {
-    pub client: u32,
-    pub client_edge: u32,
-    pub server_edge: u32,
-    pub server: u32,
-}
-
-/// How many characters the widest text of each column has.
-#[derive(Clone, Copy, Debug, PartialEq, Eq)]
-pub struct Widths {
-    pub client_outer: u32,
-    pub client_inner: u32,
-    pub server_inner: u32,
-    pub server_outer: u32,
-}
-
 impl Layout {
-    /// A layout with these lines and columns. What is more than a picture can have is left out: the inner columns have at most 32 characters each,
-    /// and all columns together 96.
-    pub fn new(head: u32, rows: u32, foot: u32, widths: Widths) -> Layout
-        ensures rows { rows ≤ 62 → result.rows ≡ rows }
+    /// A layout for so many lines above and below, so many rows, and columns of so many characters. Of more than 60 rows the last 60 are drawn. What else is
+    /// more than a picture can have is left out: an inner column has at most 32 characters, and both columns of a side have 49.
+    pub fn new(head: u32, count: usize, foot: u32, outer: u32, inner: u32) -> Layout
+        ensures rows { result.rows ≡ 2 + min count 60 }
+        ensures left_out { result.left_out ≡ count - 60 }
         ensures head { head ≤ 3 → result.head ≡ head }
-        ensures foot { foot ≤ 9 → result.foot ≡ foot }
-        ensures columns { widths.client_inner ≤ 32 → widths.server_inner ≤ 32
-            → widths.client_outer + widths.client_inner + widths.server_inner + widths.server_outer ≤ 96
-            → (result.client_outer ≡ widths.client_outer) × (result.client_inner ≡ widths.client_inner)
-            × (result.server_inner ≡ widths.server_inner) × (result.server_outer ≡ widths.server_outer) }
+        ensures foot { foot ≤ 4 → result.foot ≡ foot }
+        ensures inner { inner ≤ 32 → result.inner ≡ inner }
+        ensures outer { inner ≤ 32 → outer + inner ≤ 49 → result.outer ≡ outer }
     {
-        let client_inner = widths.client_inner.min(MOST_INNER);
-        let server_inner = widths.server_inner.min(MOST_INNER);
-        let room = MOST_CELLS - client_inner - server_inner;
-        let server_outer = widths
-            .server_outer
-            .min(room - widths.client_outer.min(room / 2));
-        let client_outer = widths.client_outer.min(room - server_outer);
+        let inner = inner.min(MOST_INNER);
         Layout {
             head: head.min(MOST_HEAD),
-            rows: rows.min(MOST_ROWS),
+            rows: 2 + count.min(MOST_ROWS) as u32,
             foot: foot.min(MOST_FOOT),
-            client_outer,
-            client_inner,
-            server_inner,
-            server_outer,
+            left_out: count.saturating_sub(MOST_ROWS),
+            outer: outer.min(MOST_CELLS - inner),
+            inner,
         }
     }
 
-    /// The height of the picture: at most 1,500 pixels.
+    /// The height of the picture: at most 1,400 pixels.
     pub fn height(&self) -> u32
         ensures height { result ≡ height_of self.now }
-        ensures bounded { result ≤ 15000 }
+        ensures bounded { result ≤ 14000 }
     {
         2 * MARGIN + LINE * (self.head + self.rows + self.foot)
+    }
+
+    /// The line in which a row of the run is drawn, below the line that says how many are left out. None where the row is left out, or the run has none such.
+    pub fn line_of(&self, row: usize) -> Option<u32>
+        ensures drawn { IsSome result ↔ ((self.now.left_out ≤ row) × (row + 2 < self.now.left_out + self.now.rows)) }
+        ensures line { IfSome result (λ line. line + self.now.left_out ≡ self.now.head + 2 + row) }
+    {
+        let Some(below) = row.checked_sub(self.left_out) else {
+            return None;
+        };
+        if below < (self.rows - 2) as usize {
+            Some(self.head + 2 + below as u32)
+        } else {
+            None
+        }
     }
 
     /// Where a text of this spot stands. None where the picture has no such line, or the line no such column.
@@ -143,21 +133,28 @@ impl Layout {
         })
     }
 
-    /// Where the lifelines and the network stand: no text of a side's columns reaches a lifeline, or into the network.
-    pub fn rails(&self) -> Rails
-        ensures client { (right_of self.now ClientOuter ≤ result.client) × (result.client ≤ left_of self.now ClientInner) }
-        ensures client_edge { right_of self.now ClientInner ≤ result.client_edge }
-        ensures network { result.client_edge + 672 ≤ result.server_edge }
-        ensures server_edge { result.server_edge ≤ left_of self.now ServerInner }
-        ensures server { (right_of self.now ServerInner ≤ result.server) × (result.server ≤ left_of self.now ServerOuter) }
-        ensures inside { result.server ≤ 8600 }
+    /// How far from the left the lifeline of a side stands: between its two columns.
+    pub fn life(&self, side: Side) -> u32
+        ensures client { side ≡ Client → (right_of self.now (Outer Client) ≤ result) × (result ≤ left_of self.now (Inner Client)) }
+        ensures server { side ≡ Server → (right_of self.now (Inner Server) ≤ result) × (result ≤ left_of self.now (Outer Server)) }
+        ensures inside { result ≤ 8600 }
+    {
+        match side {
+            Side::Client => self.across(Column::Inner(side)).0 - GAP,
+            Side::Server => self.across(Column::Outer(side)).0 - GAP,
+        }
+    }
+
+    /// How far from the left the edge of the network is on the side of an end: no text of a side reaches into the network, which is 52 pixels wide at least.
+    pub fn edge(&self, side: Side) -> u32
+        ensures client { side ≡ Client → (right_of self.now (Inner Client) ≤ result) × (result ≡ left_of self.now Network) }
+        ensures server { side ≡ Server → (result ≤ left_of self.now (Inner Server)) × (result ≡ right_of self.now Network) }
+        ensures network { 526 ≤ width_of self.now Network }
     {
         let (left, width) = self.across(Column::Network);
-        Rails {
-            client: self.across(Column::ClientInner).0 - GAP,
-            client_edge: left,
-            server_edge: left + width,
-            server: self.across(Column::ServerOuter).0 - GAP,
+        match side {
+            Side::Client => left,
+            Side::Server => left + width,
         }
     }
 
@@ -175,21 +172,17 @@ impl Layout {
         ensures left { result.0 ≡ left_of self.now column }
         ensures width { result.1 ≡ width_of self.now column }
     {
-        let client_outer = CELL * self.client_outer;
-        let client_inner = CELL * self.client_inner;
-        let server_inner = CELL * self.server_inner;
-        let server_outer = CELL * self.server_outer;
-        let client = PADDING + client_outer + GAP + GAP;
-        let server = WIDTH - PADDING - server_outer - GAP - GAP;
-        let left = client + client_inner + STUB;
-        let right = server - server_inner - STUB;
+        let (outer, inner) = (CELL * self.outer, CELL * self.inner);
+        let client = PADDING + outer + 2 * GAP;
+        let server = WIDTH - client;
+        let network = client + inner + STUB;
         match column {
             Column::Whole => (PADDING, WIDTH - 2 * PADDING),
-            Column::ClientOuter => (PADDING, client_outer),
-            Column::ClientInner => (client, client_inner),
-            Column::Network => (left, right - left),
-            Column::ServerInner => (server - server_inner, server_inner),
-            Column::ServerOuter => (WIDTH - PADDING - server_outer, server_outer),
+            Column::Outer(Side::Client) => (PADDING, outer),
+            Column::Inner(Side::Client) => (client, inner),
+            Column::Network => (network, WIDTH - 2 * network),
+            Column::Inner(Side::Server) => (server - inner, inner),
+            Column::Outer(Side::Server) => (WIDTH - PADDING - outer, outer),
         }
     }
 }

@@ -1,194 +1,158 @@
-//! Writes a picture: its texts, each at its place.
+//! The texts of a picture, and the whole of it.
 
-use crate::board::{Board, Half, Stand, Tone};
-use crate::fold::Fold;
+ghost use Rattle.std.specs.Prelude.{◌≤◌};
+
+use crate::drawing::{Drawing, Label, MOST_SAID, Stand};
 use crate::layout::Layout;
-use crate::places::{Column, LINE, MARGIN, Rails, Spot, WIDTH};
-use crate::style::STYLE;
-use crate::text::{push_escaped, put_at};
+use crate::places::{Column, LINE, MARGIN, MOST_ROWS, Spot, WIDTH};
+use crate::text::{Anchor, push_escaped, push_placed, put_at};
 use ssh_types::Side;
-use std::alloc::{AllocError, Global};
+use std::alloc::AllocError;
 
 /// A picture as far as it is written.
 #[derive(Drop)]
 pub(crate) struct Sheet<'a> {
-    pub alloc: Global,
+    pub drawing: &'a Drawing,
     pub layout: Layout,
-    pub fold: Fold,
-    pub rails: Rails,
-    pub board: &'a Board,
-    /// What lies below the lines.
-    pub bands: String,
-    pub lines: String,
-    /// What lies on them.
-    pub marks: String,
-    texts: String,
+    /// How many rows the run has.
+    pub count: usize,
+    pub out: String,
 }
 
-// At which end of its place a text stands.
-#[derive(Clone, Copy, Debug, PartialEq, Eq)]
-enum Anchor {
-    Start,
-    Middle,
-    End,
+const LABELS: &str =
+    "A label is a message's number, its name and the length of its payload. What is tinted is sealed.";
+
+// The classes of a picture: `b` the ground, `p` a text, `g` one that says less, `t` a heading, `r` and `h` what has to be seen, `e0` and `e1` what is sent in an
+// even and an odd epoch, `l` a lifeline, `o` that of an end that is over, `a` an arrow.
+const STYLE: &str = "\
+text{font:120px ui-monospace,SFMono-Regular,Menlo,Consolas,\"DejaVu Sans Mono\",\"Liberation Mono\",monospace}\
+.t,.r{font-weight:600}path{fill:none;stroke-width:12.5}.l{stroke-width:20}.h{stroke-width:17.5}.o{stroke-dasharray:10 40}\
+.b{fill:#ffffff}text{fill:#1f2328}.g{fill:#59636e}.r{fill:#b13600}.e1{fill:#ebf2fb}.e0{fill:#d8e5f6}\
+.l{stroke:#3d444d}.a,.o{stroke:#6e7781}.h{stroke:#b13600}\
+@media screen and (prefers-color-scheme:dark){\
+.b{fill:#0d1117}text{fill:#e6edf3}.g{fill:#9aa4af}.r{fill:#ff9b70}.e1{fill:#152030}.e0{fill:#21324b}\
+.l{stroke:#b7bfc8}.a,.o{stroke:#8b949e}.h{stroke:#ff9b70}}";
+
+/// Draws a run as an SVG.
+pub(crate) fn sheet_of(
+    drawing: &Drawing,
+    name: &str,
+    comment: &[String],
+) -> Result<String, AllocError> {
+    let count = drawing.client.rows.max(drawing.server.rows);
+    let left_out = count.saturating_sub(MOST_ROWS);
+    let (outer, inner) = widths_of(drawing, left_out);
+    let (head, foot) = (1 + comment.len().min(2), 2 + drawing.refusals.len().min(2));
+    let layout = Layout::new(head as u32, count, foot as u32, outer, inner);
+    let mut sheet = Sheet {
+        drawing,
+        layout,
+        count,
+        out: String::new(drawing.alloc),
+    };
+    sheet.begin(name, comment)?;
+    sheet.draw_epochs()?;
+    sheet.draw_lifelines()?;
+    sheet.draw_arrows()?;
+    sheet.write_head(name, comment)?;
+    for label in drawing.labels.iter() {
+        sheet.write_label(label)?;
+    }
+    sheet.write_foot()?;
+    sheet.out.push_str("</svg>\n")?;
+    Ok(sheet.out)
 }
 
-impl<'a> Sheet<'a> {
-    /// A sheet of which nothing is written.
-    pub fn new(alloc: Global, layout: Layout, fold: Fold, board: &'a Board) -> Sheet<'a> {
-        Sheet {
-            alloc,
-            layout,
-            fold,
-            rails: layout.rails(),
-            board,
-            bands: String::new(alloc),
-            lines: String::new(alloc),
-            marks: String::new(alloc),
-            texts: String::new(alloc),
+// How many characters the longest texts outside and inside of the lifelines have, in the rows that are drawn.
+fn widths_of(drawing: &Drawing, left_out: usize) -> (u32, u32) {
+    let (mut outer, mut inner) = (12, 20);
+    for label in drawing.labels.iter() {
+        let width = label.text.len().min(49) as u32;
+        if label.row < left_out {
+            continue;
+        }
+        match label.stand {
+            Stand::Outer => outer = width.max(outer),
+            Stand::Lifeline | Stand::Network => inner = width.max(inner),
         }
     }
+    (outer, inner)
+}
 
-    /// The line in which a row is drawn. The rows are below the head and the line of headings.
-    pub fn line_of(&self, row: usize) -> u32 {
-        self.layout.head + 1 + self.fold.line_of(row)
+impl Sheet<'_> {
+    // The picture up to its ground, with its title and a description for who can't see it.
+    fn begin(&mut self, name: &str, comment: &[String]) -> Result<(), AllocError> {
+        let height = self.layout.height();
+        let (width, pixels) = (WIDTH / 10, height / 10);
+        writeln!(
+            self.out,
+            "<svg xmlns=\"http://www.w3.org/2000/svg\" role=\"img\" lang=\"en\" width=\"{width}\" height=\"{pixels}\" viewBox=\"0 0 {WIDTH} {height}\">"
+        )?;
+        self.out.push_str("<title>")?;
+        push_escaped(&mut self.out, name)?;
+        self.out.push_str("</title>\n<desc>")?;
+        for text in comment.iter().chain(self.drawing.refusals.iter()) {
+            push_escaped(&mut self.out, text.as_str())?;
+            self.out.push(' ')?;
+        }
+        push_escaped(&mut self.out, self.drawing.words.as_str())?;
+        let more = self.drawing.said.saturating_sub(MOST_SAID);
+        if more > 0 {
+            write!(self.out, "; and {more} more")?;
+        }
+        writeln!(
+            self.out,
+            "</desc>\n<style>{STYLE}</style>\n<rect class=\"b\" width=\"{WIDTH}\" height=\"{height}\"/>"
+        )
     }
 
-    /// How far from the top the middle of a row is.
-    pub fn middle(&self, row: usize) -> u32 {
-        (MARGIN + LINE / 2).saturating_add(LINE.saturating_mul(self.line_of(row)))
-    }
-
-    /// How far from the top the rows begin.
-    pub fn top(&self) -> u32 {
-        MARGIN + LINE * (self.layout.head + 1)
-    }
-
-    /// How far from the top they end.
-    pub fn bottom(&self) -> u32 {
-        MARGIN + LINE * (self.layout.head + self.layout.rows)
-    }
-
-    /// What the picture is called, and what its author says of it.
-    ///
-    /// # Errors
-    ///
-    /// Only where memory is refused.
-    pub fn draw_head(&mut self, name: &str, comment: &[String]) -> Result<(), AllocError> {
+    // What the picture is called, what its author says of it, and what stands in its columns.
+    fn write_head(&mut self, name: &str, comment: &[String]) -> Result<(), AllocError> {
         self.write(0, Column::Whole, Anchor::Start, "t", name)?;
-        for (index, text) in comment.iter().take(2).enumerate() {
-            let line = line_after(1, index);
-            self.write(line, Column::Whole, Anchor::Start, "", text.as_str())?;
+        let mut line: u32 = 0;
+        for text in comment.iter().take(2) {
+            line = line.saturating_add(1);
+            self.write(line, Column::Whole, Anchor::Start, "p", text.as_str())?;
         }
         let line = self.layout.head;
-        self.write(line, Column::ClientOuter, Anchor::End, "g", "user")?;
-        self.write(line, Column::ClientInner, Anchor::Start, "t", "client")?;
         self.write(line, Column::Network, Anchor::Middle, "g", "network")?;
-        self.write(line, Column::ServerInner, Anchor::End, "t", "server")?;
-        self.write(line, Column::ServerOuter, Anchor::Start, "g", "user")
-    }
-
-    /// The lines below the rows: an empty one, the verdict, and others.
-    ///
-    /// # Errors
-    ///
-    /// Only where memory is refused.
-    pub fn draw_foot(&mut self, foot: &[String]) -> Result<(), AllocError> {
-        let first = self.layout.head + self.layout.rows;
-        for (index, text) in foot.iter().take(9).enumerate() {
-            let class = if index == 1 { "t" } else { "" };
-            let line = line_after(first, index);
-            self.write(line, Column::Whole, Anchor::Start, class, text.as_str())?;
-        }
-        Ok(())
-    }
-
-    /// All rows, their arrows, and what lies below them.
-    ///
-    /// # Errors
-    ///
-    /// Only where memory is refused.
-    pub fn draw_rows(&mut self) -> Result<(), AllocError> {
-        self.draw_bands()?;
-        self.draw_lifelines()?;
-        self.draw_arrows()?;
-        for (row, both) in self.board.rows.iter().enumerate() {
-            if self.fold.shows(row) {
-                self.draw_half(Side::Client, row, &both.client)?;
-                self.draw_half(Side::Server, row, &both.server)?;
-            }
-        }
-        self.draw_fold()
-    }
-
-    // Where rows are left out: how many messages of each side.
-    fn draw_fold(&mut self) -> Result<(), AllocError> {
-        if self.fold.left_out() == 0 {
-            return Ok(());
-        }
-        let line = self.layout.head + 1 + 16;
-        let client = self.left_out(Side::Client)?;
-        let server = self.left_out(Side::Server)?;
-        self.write(
-            line,
-            Column::ClientInner,
-            Anchor::Start,
-            "g",
-            client.as_str(),
-        )?;
-        self.write(line, Column::Network, Anchor::Middle, "g", "⋮")?;
-        self.write(line, Column::ServerInner, Anchor::End, "g", server.as_str())
-    }
-
-    // How many more messages a side sent in rows that are left out.
-    fn left_out(&self, side: Side) -> Result<String, AllocError> {
-        let mut count: usize = 0;
-        for (row, both) in self.board.rows.iter().enumerate() {
-            let half = match side {
-                Side::Client => &both.client,
-                Side::Server => &both.server,
-            };
-            if !self.fold.shows(row) && half.is_sent() {
-                count = count.saturating_add(1);
-            }
-        }
-        format!(in self.alloc; "{count} messages more")
-    }
-
-    fn draw_half(&mut self, side: Side, row: usize, half: &Half) -> Result<(), AllocError> {
-        let line = self.line_of(row);
-        if let Some(label) = &half.outer {
-            let (column, anchor) = match side {
-                Side::Client => (Column::ClientOuter, Anchor::End),
-                Side::Server => (Column::ServerOuter, Anchor::Start),
-            };
-            if label.tone == Tone::Hot {
-                self.draw_badge(side, row, label.text.len())?;
-                self.write(line, column, anchor, "v", label.text.as_str())?;
-            } else {
-                self.write(
-                    line,
-                    column,
-                    anchor,
-                    class_of(label.tone),
-                    label.text.as_str(),
+        for (side, word) in [(Side::Client, "client"), (Side::Server, "server")] {
+            let (column, anchor) = stand_of(side, Stand::Outer);
+            self.write(line, column, anchor, "g", "user")?;
+            let (column, anchor) = stand_of(side, Stand::Lifeline);
+            self.write(line, column, anchor, "t", word)?;
+            if self.layout.left_out > 0 {
+                let more = format!(in self.drawing.alloc;
+                    "rows left out: {}",
+                    self.layout.left_out
                 )?;
+                self.write(line + 1, column, anchor, "g", more.as_str())?;
             }
-        }
-        if let Some(label) = &half.inner {
-            let (column, anchor) = stand_of(side, label.stand);
-            self.write(
-                line,
-                column,
-                anchor,
-                class_of(label.tone),
-                label.text.as_str(),
-            )?;
         }
         Ok(())
     }
 
-    // Writes a text at a spot.
+    // A text of a row, if that is drawn.
+    fn write_label(&mut self, label: &Label) -> Result<(), AllocError> {
+        let Some(line) = self.layout.line_of(label.row) else {
+            return Ok(());
+        };
+        let (column, anchor) = stand_of(label.side, label.stand);
+        let class = if label.is_hot { "r" } else { "p" };
+        self.write(line, column, anchor, class, label.text.as_str())
+    }
+
+    // Below the rows and an empty line: who refused what, and what a label is.
+    fn write_foot(&mut self) -> Result<(), AllocError> {
+        let mut line: u32 = self.layout.head + self.layout.rows + 1;
+        for refusal in self.drawing.refusals.iter().take(2) {
+            self.write(line, Column::Whole, Anchor::Start, "t", refusal.as_str())?;
+            line = line.saturating_add(1);
+        }
+        self.write(line, Column::Whole, Anchor::Start, "g", LABELS)
+    }
+
+    // Writes a text at a spot, if the picture has that and the text is not empty.
     fn write(
         &mut self,
         line: u32,
@@ -198,117 +162,38 @@ impl<'a> Sheet<'a> {
         text: &str,
     ) -> Result<(), AllocError> {
         let spot = Spot { line, column };
-        let Some(placed) = put_at(self.alloc, &self.layout, spot, text)? else {
-            return Ok(());
-        };
-        if placed.text.is_empty() {
-            return Ok(());
+        match put_at(self.drawing.alloc, &self.layout, spot, text)? {
+            Some(placed) => push_placed(&mut self.out, &placed, anchor, class),
+            None => Ok(()),
         }
-        let place = placed.place;
-        let (x, word) = match anchor {
-            Anchor::Start => (place.left, ""),
-            Anchor::Middle => (
-                place.left.saturating_add(place.width / 2),
-                " text-anchor=\"middle\"",
-            ),
-            Anchor::End => (
-                place.left.saturating_add(place.width),
-                " text-anchor=\"end\"",
-            ),
-        };
-        let y = place.top.saturating_add(140);
-        write!(self.texts, "<text x=\"{x}\" y=\"{y}\"{word}")?;
-        if !class.is_empty() {
-            write!(self.texts, " class=\"{class}\"")?;
-        }
-        self.texts.push('>')?;
-        if class.is_empty() && column != Column::Whole {
-            push_words(&mut self.texts, placed.text.as_str())?;
-        } else {
-            push_escaped(&mut self.texts, placed.text.as_str())?;
-        }
-        self.texts.push_str("</text>\n")
     }
 
-    /// The whole of the picture.
-    ///
-    /// # Errors
-    ///
-    /// Only where memory is refused.
-    pub fn finish(self, title: &str, words: &str) -> Result<String, AllocError> {
-        let mut out = String::new(self.alloc);
-        let height = self.layout.height();
-        let (width, pixels) = (WIDTH / 10, height / 10);
-        writeln!(
-            out,
-            "<svg xmlns=\"http://www.w3.org/2000/svg\" role=\"img\" lang=\"en\" width=\"{width}\" height=\"{pixels}\" viewBox=\"0 0 {WIDTH} {height}\">"
-        )?;
-        out.push_str("<title>")?;
-        push_escaped(&mut out, title)?;
-        out.push_str("</title>\n<desc>")?;
-        push_escaped(&mut out, words)?;
-        out.push_str("</desc>\n<style>")?;
-        out.push_str(STYLE)?;
-        writeln!(
-            out,
-            "</style>\n<rect class=\"b\" width=\"{WIDTH}\" height=\"{height}\"/>"
-        )?;
-        out.push_str(self.bands.as_str())?;
-        out.push_str(self.lines.as_str())?;
-        out.push_str(self.marks.as_str())?;
-        out.push_str(self.texts.as_str())?;
-        out.push_str("</svg>\n")?;
-        Ok(out)
+    /// How far from the top the line begins that says how many rows are left out.
+    pub(crate) fn top(&self) -> u32
+        ensures { result ≤ 900 }
+    {
+        MARGIN + LINE * (self.layout.head + 1)
+    }
+
+    /// How far from the top a row begins: below that line where it is left out, and below all rows where the run has none such.
+    pub(crate) fn begin_of(&self, row: usize) -> u32
+        ensures { (500 ≤ result) × (result ≤ 13100) }
+    {
+        let above = row.min(self.count).saturating_sub(self.layout.left_out);
+        MARGIN + LINE * (self.layout.head + 2 + above.min(MOST_ROWS) as u32)
     }
 }
 
-// The line so many lines after this one.
-fn line_after(line: u32, count: usize) -> u32 {
-    line.saturating_add(count.min(99) as u32)
-}
-
-fn class_of(tone: Tone) -> &'static str {
-    match tone {
-        Tone::Plain => "",
-        Tone::Soft => "g",
-        Tone::Hot => "r",
-    }
-}
-
-// Where a text inside of a lifeline stands.
+// In which column a text of a side stands, and at which end of it.
 fn stand_of(side: Side, stand: Stand) -> (Column, Anchor) {
     match (side, stand) {
-        (Side::Client, Stand::Lifeline) => (Column::ClientInner, Anchor::Start),
-        (Side::Client, Stand::Network) => (Column::ClientInner, Anchor::End),
-        (Side::Client, Stand::Arrow) => (Column::ClientInner, Anchor::Middle),
-        (Side::Server, Stand::Lifeline) => (Column::ServerInner, Anchor::End),
-        (Side::Server, Stand::Network) => (Column::ServerInner, Anchor::Start),
-        (Side::Server, Stand::Arrow) => (Column::ServerInner, Anchor::Middle),
-    }
-}
-
-// Writes the words of a text, numbers and verbs in grey.
-fn push_words(out: &mut String, text: &str) -> Result<(), AllocError> {
-    for (index, word) in text.split(' ').enumerate() {
-        if index > 0 {
-            out.push(' ')?;
+        (Side::Client, Stand::Outer) => (Column::Outer(side), Anchor::End),
+        (Side::Server, Stand::Outer) => (Column::Outer(side), Anchor::Start),
+        (Side::Client, Stand::Lifeline) | (Side::Server, Stand::Network) => {
+            (Column::Inner(side), Anchor::Start)
         }
-        if is_soft(word) {
-            out.push_str("<tspan class=\"g\">")?;
-            push_escaped(out, word)?;
-            out.push_str("</tspan>")?;
-        } else {
-            push_escaped(out, word)?;
+        (Side::Server, Stand::Lifeline) | (Side::Client, Stand::Network) => {
+            (Column::Inner(side), Anchor::End)
         }
     }
-    Ok(())
-}
-
-fn is_soft(word: &str) -> bool {
-    word == "ask"
-        || word == "told"
-        || word == "waits"
-        || word
-            .bytes()
-            .all(|byte| byte.is_ascii_digit() || byte == b',')
 }

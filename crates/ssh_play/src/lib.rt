@@ -35,4 +35,4 @@ pub use comparison::{Comparison, compare};
 pub use course::{Course, play_through};
 pub use playing::{Played, play};
 pub use sweeping::{Tally, sweep};
-pub use watching::{Watched, origin_of, watch};
+pub use watching::{origin_of, watch};

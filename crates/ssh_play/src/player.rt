@@ -1,11 +1,10 @@
 //! Runs the lines of a script against its two ends.
 
 use crate::alteration::Alteration;
-use crate::playing::has_refusal;
 use crate::standard::{Standard, ToyPair};
-use crate::watching::{Watched, lines_of, origin_of};
+use crate::watching::{lines_of, origin_of};
+use ssh_draw::Drawing;
 use ssh_pair::{Done, Event, Transcript};
-use ssh_rows::{Cause, Delivered};
 use ssh_script::{Delivery, Network, Parcel, RunFault, ScriptFault, Shortage, Step};
 use ssh_types::Side;
 use std::alloc::{AllocError, Global};
@@ -61,52 +60,42 @@ impl<'a> Player<'a> {
         }
     }
 
-    /// Runs one line as `run` does, and answers what happened.
+    /// Runs one line as `run` does, and draws what happens.
     ///
     /// # Errors
     ///
     /// Those of `run`.
-    pub fn watch(&mut self, step: &Step) -> Result<Watched, RunFault> {
+    pub fn watch(&mut self, step: &Step, drawing: &mut Drawing) -> Result<(), RunFault> {
         match step {
             Step::Feed { side, byte } => {
                 self.feed(*side, *byte)?;
-                Ok(Watched::nothing(self.alloc))
             }
             Step::Ask { side, ask } => {
-                let transcript = self.pair.play(&[Event::Ask(*side, ask.to_ask())])?;
-                let watched = Watched::one(self.alloc, Cause::Ask(*side), transcript)?;
-                self.put_out_watched(&watched)?;
-                Ok(watched)
+                let done = self.pair.play(&[Event::Ask(*side, ask.to_ask())])?;
+                let lines = lines_of(self.alloc, done.items.as_slice())?;
+                drawing.ask(
+                    *side,
+                    lines.as_str(),
+                    done.client_bytes.as_slice(),
+                    done.server_bytes.as_slice(),
+                )?;
+                self.put_out(done)?;
             }
-            Step::Network(delivery) => self.watch_delivery(delivery),
-        }
-    }
-
-    fn watch_delivery(&mut self, delivery: &Delivery) -> Result<Watched, RunFault> {
-        if let Delivery::Lose { from, count } = delivery {
-            self.network.deliver(delivery)?;
-            let cause = Cause::Loss {
-                from: *from,
-                count: *count as usize,
-            };
-            let watched = Watched::one(self.alloc, cause, nothing(self.alloc))?;
-            return Ok(watched);
-        }
-        let Some(parcel) = self.network.deliver(delivery)? else {
-            return Ok(Watched::nothing(self.alloc));
-        };
-        let watched = watched_bytes(self.alloc, &mut self.pair, delivery, &parcel)?;
-        self.put_out_watched(&watched)?;
-        Ok(watched)
-    }
-
-    // What the ends put out waits from now on.
-    fn put_out_watched(&mut self, watched: &Watched) -> Result<(), AllocError> {
-        for moment in watched.moments.iter() {
-            self.network
-                .put_out(Side::Client, moment.client_bytes.as_slice())?;
-            self.network
-                .put_out(Side::Server, moment.server_bytes.as_slice())?;
+            Step::Network(delivery) => {
+                if let Delivery::Lose { from, count } = delivery {
+                    drawing.lose(*from, *count as usize)?;
+                }
+                if let Some(parcel) = self.network.deliver(delivery)? {
+                    let done = watched_bytes(
+                        self.alloc,
+                        &mut self.pair,
+                        delivery,
+                        &parcel,
+                        drawing,
+                    )?;
+                    self.put_out(done)?;
+                }
+            }
         }
         Ok(())
     }
@@ -166,35 +155,32 @@ fn deliver_pieces(
     pair.play(events.as_slice())
 }
 
-// Nothing was done.
-fn nothing(alloc: Global) -> Transcript {
-    Transcript {
-        items: Vec::new(alloc),
-        client_bytes: Vec::new(alloc),
-        server_bytes: Vec::new(alloc),
-    }
-}
-
 // Delivers the bytes of a parcel one by one.
 fn watched_bytes(
     alloc: Global,
     pair: &mut ToyPair<'_>,
     delivery: &Delivery,
     parcel: &Parcel<'_>,
-) -> Result<Watched, AllocError> {
-    let mut delivered = Delivered::new(alloc, parcel.to, origin_of(delivery));
-    let mut refused = false;
-    for piece in parcel.bytes.chunks(1) {
-        let transcript = pair.play(&[Event::Deliver(parcel.to, piece)])?;
-        delivered.come(piece)?;
-        if !transcript.items.is_empty() {
-            refused = refused || has_refusal(transcript.items.as_slice());
-            let lines = lines_of(alloc, transcript.items.as_slice())?;
-            delivered.act(lines, transcript.client_bytes, transcript.server_bytes)?;
+    drawing: &mut Drawing,
+) -> Result<Transcript, AllocError> {
+    let mut all = Transcript {
+        items: Vec::new(alloc),
+        client_bytes: Vec::new(alloc),
+        server_bytes: Vec::new(alloc),
+    };
+    for (index, piece) in parcel.bytes.chunks(1).enumerate() {
+        drawing.come(parcel.to, origin_of(delivery, index), piece)?;
+        let mut done = pair.play(&[Event::Deliver(parcel.to, piece)])?;
+        if !done.items.is_empty() {
+            let lines = lines_of(alloc, done.items.as_slice())?;
+            drawing.act(
+                lines.as_str(),
+                done.client_bytes.as_slice(),
+                done.server_bytes.as_slice(),
+            )?;
         }
+        all.client_bytes.append(&mut done.client_bytes)?;
+        all.server_bytes.append(&mut done.server_bytes)?;
     }
-    Ok(Watched {
-        moments: delivered.end()?,
-        refused,
-    })
+    Ok(all)
 }

@@ -51,8 +51,8 @@ impl Played {
     }
 }
 
-/// Whether an end refused its peer.
-pub(crate) fn has_refusal(items: &[Done]) -> bool {
+// Whether an end refused its peer.
+fn has_refusal(items: &[Done]) -> bool {
     items
         .iter()
         .any(|done| matches!(done.item, Item::Refused(_)))

@@ -2,13 +2,13 @@ use crate::answer::{Answer, finish};
 use crate::epoch_player::watch_epoch;
 use crate::play::text_of;
 use crate::status::Status;
-use ssh_play::{Watched, watch};
-use ssh_rows::{Heading, Subject, comment_of, draw_run};
+use ssh_draw::comment_of;
+use ssh_play::watch;
 use ssh_script::{Script, ScriptFault};
 use std::alloc::Global;
 use std::io::{Read, Write};
 
-/// Plays a script and writes what happened to `out` as a picture, an SVG of at most 860 by 1,500 pixels: the messages as arrows, what the network did
+/// Plays a script and writes what happened to `out` as a picture, an SVG of at most 860 by 1,400 pixels: the messages as arrows, what the network did
 /// to them, what users asked and were told, and which end refused what. It is called `name`, and has the comment that the script begins with.
 ///
 /// The status is that of `play_to`, and so are the faults.
@@ -24,22 +24,18 @@ pub fn draw_to<R: Read, W: Write, E: Write>(
 
 fn drawn<R: Read>(alloc: Global, name: &str, script: &mut R) -> Result<Answer, ScriptFault> {
     let text = text_of(alloc, script)?;
-    let (subject, watched) = match Script::read(alloc, text.as_slice())? {
-        Script::Epoch(script) => (Subject::Epoch, watch_epoch(alloc, &script)?),
-        Script::Session(script) => (Subject::Session, watch(alloc, &script)?),
+    let drawing = match Script::read(alloc, text.as_slice())? {
+        Script::Epoch(script) => watch_epoch(alloc, &script)?,
+        Script::Session(script) => watch(alloc, &script)?,
     };
-    let Watched { moments, refused } = watched;
     let comment = comment_of(alloc, text.as_slice())?;
-    let heading = Heading {
-        name,
-        comment: comment.as_str(),
+    let status = if drawing.has_refusal() {
+        Status::Refused
+    } else {
+        Status::Done
     };
     Ok(Answer {
-        text: draw_run(alloc, &heading, subject, moments)?,
-        status: if refused {
-            Status::Refused
-        } else {
-            Status::Done
-        },
+        text: drawing.finish(name, comment.as_slice())?,
+        status,
     })
 }

@@ -5,8 +5,8 @@ ghost use Rattle.ssh_trace.specs.History.{AreFilled, events_of};
 use crate::epoch_pair::EpochPair;
 use crate::history::{Done, Event, Item, Memory, Transcript};
 use crate::transcript::write_items;
-use ssh_play::{Played, Watched, origin_of};
-use ssh_rows::{Cause, Delivered, Moment};
+use ssh_draw::Drawing;
+use ssh_play::{Played, origin_of};
 use ssh_script::{
     Delivery, EpochScript, EpochStep, Keys, Network, Parcel, RunFault, ScriptFault, Shortage,
 };
@@ -29,20 +29,16 @@ pub(crate) fn play_epoch(alloc: Global, script: &EpochScript) -> Result<Played, 
     Ok(played)
 }
 
-/// Plays a script of one epoch, and answers what happened.
-pub(crate) fn watch_epoch(alloc: Global, script: &EpochScript) -> Result<Watched, ScriptFault> {
+/// Plays a script of one epoch, and draws what happens.
+pub(crate) fn watch_epoch(alloc: Global, script: &EpochScript) -> Result<Drawing, ScriptFault> {
     let mut player = Player::new(alloc, &script.keys)?;
-    let mut watched = Watched {
-        moments: Vec::new(alloc),
-        refused: false,
-    };
+    let mut drawing = Drawing::new(alloc, true)?;
     for line in script.steps.iter() {
-        match player.watch(&line.content, &mut watched.moments) {
-            Ok(refused) => watched.refused = watched.refused || refused,
-            Err(fault) => return Err(ScriptFault::at_run(alloc, line.number, fault)),
+        if let Err(fault) = player.watch(&line.content, &mut drawing) {
+            return Err(ScriptFault::at_run(alloc, line.number, fault));
         }
     }
-    Ok(watched)
+    Ok(drawing)
 }
 
 // The ends did this.
@@ -89,51 +85,46 @@ impl Player {
                 None => nothing(self.alloc),
             },
         };
-        let Transcript {
-            items,
-            client_bytes,
-            server_bytes,
-        } = transcript;
-        self.network.put_out(Side::Client, client_bytes.as_slice())?;
-        self.network.put_out(Side::Server, server_bytes.as_slice())?;
-        Ok(items)
+        self.put_out(&transcript)?;
+        Ok(transcript.items)
     }
 
-    // Runs one step, adds what happened, and tells whether an end refused its peer.
-    fn watch(&mut self, step: &EpochStep, moments: &mut Vec<Moment>) -> Result<bool, RunFault> {
-        let (mut more, refused) = match step {
+    // Runs one step, and draws what happens.
+    fn watch(&mut self, step: &EpochStep, drawing: &mut Drawing) -> Result<(), RunFault> {
+        let done = match step {
             EpochStep::Ask { side, payload } => {
-                let transcript = self.ask(*side, payload.as_slice())?;
-                one(self.alloc, Cause::Ask(*side), transcript)?
+                let done = self.ask(*side, payload.as_slice())?;
+                let lines = lines_of(self.alloc, done.items.as_slice())?;
+                drawing.ask(
+                    *side,
+                    lines.as_str(),
+                    done.client_bytes.as_slice(),
+                    done.server_bytes.as_slice(),
+                )?;
+                done
             }
             EpochStep::Network(delivery) => {
-                let parcel = self.network.deliver(delivery)?;
-                match (delivery, parcel) {
-                    (_, Some(parcel)) => watched_bytes(
-                        self.alloc,
-                        &mut self.pair,
-                        delivery,
-                        &parcel,
-                    )?,
-                    (Delivery::Lose { from, count }, None) => {
-                        let cause = Cause::Loss {
-                            from: *from,
-                            count: *count as usize,
-                        };
-                        one(self.alloc, cause, nothing(self.alloc))?
+                if let Delivery::Lose { from, count } = delivery {
+                    drawing.lose(*from, *count as usize)?;
+                }
+                match self.network.deliver(delivery)? {
+                    Some(parcel) => {
+                        watched_bytes(self.alloc, &mut self.pair, delivery, &parcel, drawing)?
                     }
-                    (_, None) => return Ok(false),
+                    None => nothing(self.alloc),
                 }
             }
         };
-        for moment in more.iter() {
-            self.network
-                .put_out(Side::Client, moment.client_bytes.as_slice())?;
-            self.network
-                .put_out(Side::Server, moment.server_bytes.as_slice())?;
-        }
-        moments.append(&mut more)?;
-        Ok(refused)
+        self.put_out(&done)?;
+        Ok(())
+    }
+
+    // What the ends put out waits from now on.
+    fn put_out(&mut self, done: &Transcript) -> Result<(), AllocError> {
+        self.network
+            .put_out(Side::Client, done.client_bytes.as_slice())?;
+        self.network
+            .put_out(Side::Server, done.server_bytes.as_slice())
     }
 
     // A payload of a script has at least one byte.
@@ -170,46 +161,30 @@ fn delivered(
     Ok(all)
 }
 
-// One thing happened, and the ends did this then; and whether one of them refused its peer.
-fn one(
-    alloc: Global,
-    cause: Cause,
-    transcript: Transcript,
-) -> Result<(Vec<Moment>, bool), AllocError> {
-    let Transcript {
-        items,
-        client_bytes,
-        server_bytes,
-    } = transcript;
-    let mut moments = Vec::new(alloc);
-    moments.push(Moment {
-        cause,
-        lines: lines_of(alloc, items.as_slice())?,
-        client_bytes,
-        server_bytes,
-    })?;
-    Ok((moments, has_refusal(items.as_slice())))
-}
-
 // Delivers the bytes of a parcel one by one.
 fn watched_bytes(
     alloc: Global,
     pair: &mut EpochPair,
     delivery: &Delivery,
     parcel: &Parcel<'_>,
-) -> Result<(Vec<Moment>, bool), AllocError> {
-    let mut delivered = Delivered::new(alloc, parcel.to, origin_of(delivery));
-    let mut refused = false;
-    for piece in parcel.bytes.chunks(1) {
-        let transcript = play(pair, &[Event::Deliver(parcel.to, piece)])?;
-        delivered.come(piece)?;
-        if !transcript.items.is_empty() {
-            refused = refused || has_refusal(transcript.items.as_slice());
-            let lines = lines_of(alloc, transcript.items.as_slice())?;
-            delivered.act(lines, transcript.client_bytes, transcript.server_bytes)?;
+    drawing: &mut Drawing,
+) -> Result<Transcript, AllocError> {
+    let mut all = nothing(alloc);
+    for (index, piece) in parcel.bytes.chunks(1).enumerate() {
+        drawing.come(parcel.to, origin_of(delivery, index), piece)?;
+        let mut done = play(pair, &[Event::Deliver(parcel.to, piece)])?;
+        if !done.items.is_empty() {
+            let lines = lines_of(alloc, done.items.as_slice())?;
+            drawing.act(
+                lines.as_str(),
+                done.client_bytes.as_slice(),
+                done.server_bytes.as_slice(),
+            )?;
         }
+        all.client_bytes.append(&mut done.client_bytes)?;
+        all.server_bytes.append(&mut done.server_bytes)?;
     }
-    Ok((delivered.end()?, refused))
+    Ok(all)
 }
 
 fn lines_of(alloc: Global, items: &[Done]) -> Result<String, AllocError> {
