@@ -1,5 +1,6 @@
+pub mod Ciphers
+pub mod Feeding
+pub mod Supplies
 pub mod UserKey
 pub mod Users
 pub mod Windows
-pub mod Feeding
-pub mod Supplies

@@ -1,6 +1,7 @@
 //! Which encryptions are offered.
 
-ghost use Rattle.std.specs.Prelude.{◌<◌, length};
+ghost use Rattle.std.specs.Prelude.{◌≡◌, ◌<◌, length, map};
+ghost use Rattle.ssh_pipe_policy.specs.Ciphers.{choice_of, names_of};
 
 /// A choice of encryptions. `none` is offered after these where a policy says so.
 #[derive(Clone, Copy, Debug, PartialEq, Eq)]
@@ -21,7 +22,9 @@ const NONE: &[u8] = b"none";
 
 impl Ciphers {
     /// The choice that a list of names with commas asks for; `None` where it is another list than the three.
-    pub fn named(names: &str) -> Option<Ciphers> {
+    pub fn named(names: &str) -> Option<Ciphers>
+        ensures { result ≡ choice_of names.now }
+    {
         match names {
             "aes128-gcm@openssh.com" => Some(Ciphers::Aes128),
             "aes256-gcm@openssh.com" => Some(Ciphers::Aes256),
@@ -32,7 +35,8 @@ impl Ciphers {
 
     /// The names that go into a KEXINIT (RFC 4253 section 7.1), with `none` last where it is offered.
     pub fn names(self, offers_none: bool) -> &'static [&'static [u8]]
-        ensures { 0 < length result.now }
+        ensures names { map (λ name. name.now) result.now ≡ names_of self offers_none }
+        ensures some { 0 < length result.now }
     {
         match (self, offers_none) {
             (Ciphers::Aes128, false) => &[AES_128],
