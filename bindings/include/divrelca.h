@@ -31,7 +31,7 @@
  * - A dv_bytes or dv_event that a call writes over was begun by DV_BYTES_INIT or DV_EVENT_INIT.
  * - A thread that calls has 128 KiB of stack at least.
  *
- * MEMORY. All of it is malloc's, and `_free` gives all memory of an end back. An end holds about 110 KiB, what waits to be written,
+ * MEMORY. All of it is malloc's, and `_free` gives all memory of an end back. An end holds 153 KiB, and besides what waits to be written
  * and what waits in its queue.
  */
 #ifndef DIVRELCA_H
@@ -101,8 +101,7 @@ enum dv_code {
   DV_BAD_CIPHERS = 305,     /* `ciphers` is none of enum dv_ciphers */
   DV_BAD_ASK = 306,         /* `kind` of an ask is none of enum dv_ask_kind */
   DV_NO_KEY = 307,          /* the client was made without a key of its user */
-  DV_JUDGED = 308,          /* users were set already, or a request by key or password was judged */
-  DV_NOTHING_QUEUED = 309,  /* no ask waits in the queue */
+  DV_NOTHING_QUEUED = 308,  /* no ask waits in the queue */
 
   DV_MEMORY = -1,           /* memory was refused. From `_take`, `_ask`, `_send` and `_work` the end is over; else nothing changed */
   DV_OVER = -2              /* the end is over: nothing is taken and nothing sent */
@@ -323,7 +322,7 @@ static inline dv_ask dv_ask_window(uint32_t kind, uint32_t channel, dv_bytes nam
  *             keep their order.
  * E_queued    how many asks wait.
  * E_work      makes the oldest ask that waits, and answers as `_ask` does. Where dv_is_later holds of the answer the ask stays where it
- *             is; else it waits no longer, whatever the answer is. DV_NOTHING_QUEUED (309) where none waits.
+ *             is; else it waits no longer, whatever the answer is. DV_NOTHING_QUEUED (308) where none waits.
  * E_decline   queues the answer that the peer is owed for what `_event` shows, where a program does not know what that is about: a channel
  *             is refused as of unknown type, and a request that wants a reply fails, on a channel or global, as OpenSSH's keepalives do. Other
  *             events are owed nothing, and nothing is queued. 0, -1.
@@ -354,12 +353,6 @@ static inline dv_ask dv_ask_window(uint32_t kind, uint32_t channel, dv_bytes nam
 DV_EACH(dv_server)
 DV_EACH(dv_client)
 #undef DV_EACH
-
-/* Adds users to those of the settings, once, while no request by key or password was judged. A program that looks users up by name does so
- * at the first DV_TRIED: OpenSSH, PuTTY and most others ask by no method first, which lets nobody in and shows the name. A client that begins
- * with a key or a password is judged by the users that are there, and DV_JUDGED (308) answers afterwards: so one question never gets two
- * verdicts. 0, 302, 303, 308, -1; -2 where the end is over. */
-int32_t dv_server_set_user(dv_server *end, const dv_user *users, size_t users_len);
 
 #ifdef __cplusplus
 }

@@ -1,0 +1,3 @@
+pub mod Boxing
+pub mod ClientBoxed
+pub mod ServerBoxed

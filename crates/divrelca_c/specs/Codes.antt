@@ -1,0 +1,46 @@
+-- What C is answered.
+use Rattle.std.specs.Prelude.{ℤ, pos, negsuc, Option, Some, None, Result, Ok, Err}
+use Rattle.ssh_model.specs.Sessions.Refusals.{ask_refusal_number}
+use Rattle.ssh_types.specs.AskRefusals.{ask_refusal_of}
+use Rattle.ssh_types.specs.declared.refusal.Refusal.{Refusal}
+use Rattle.ssh_end.specs.declared.asking.outcome.AskStep.{AskStep}
+use Rattle.ssh_end.specs.declared.asking.outcome.Fault.{Fault}
+use Rattle.ssh_end.specs.declared.asking.outcome.Fault.TheVariants as fault
+use Rattle.ssh_key_files.specs.declared.fault.Expected.{Expected}
+use Rattle.ssh_key_files.specs.declared.fault.Expected.TheVariants as expected
+
+-- A refused ask is its own number; -1 where memory was refused, and -2 where the end was over.
+abbrev pub code_of : Fault → ℤ
+code_of fault.Memory = negsuc 0
+code_of fault.Dead = negsuc 1
+code_of (fault.Ask why) = pos (ask_refusal_number (ask_refusal_of why))
+
+-- An end that has no number left is over.
+abbrev pub code_done : Option Refusal → ℤ
+code_done None = pos 0
+code_done (Some why) = negsuc 1
+
+-- what an ask is answered
+abbrev pub code_asked : Result AskStep Fault → ℤ
+code_asked (Ok step) = code_done step.refused
+code_asked (Err why) = code_of why
+
+-- what was expected in a file
+abbrev pub file_code : Expected → ℤ
+file_code expected.Begin = pos 201
+file_code expected.End = pos 202
+file_code expected.Base64 = pos 203
+file_code expected.Format = pos 204
+file_code expected.Unencrypted = pos 205
+file_code expected.Ed25519 = pos 206
+file_code expected.Pair = pos 207
+file_code expected.Key = pos 208
+file_code expected.Host = pos 209
+file_code expected.Mark = pos 210
+file_code expected.HashedHost = pos 211
+file_code expected.AuthorizedKey = pos 212
+file_code expected.AnyHostKey = pos 213
+file_code expected.OneHostKey = pos 214
+file_code expected.Unrevoked = pos 215
+file_code expected.AnyKey = pos 216
+file_code expected.Password = pos 217

@@ -1,0 +1,152 @@
+-- What C is shown of a turn, field by field.
+use Rattle.std.specs.Prelude.{◌≡◌, ℕ, Bool, true, false, Option, Some, None, List, [], ◌∷◌, codes}
+use Rattle.ssh_model.specs.Sessions.Items.{Item}
+use Rattle.ssh_model.specs.Sessions.Refusals.{refusal_name, refusal_number}
+use Rattle.ssh_types.specs.Refusals.{refusal_of}
+use Rattle.ssh_types.specs.Values.{names_text}
+use Rattle.ssh_types.specs.declared.refusal.Refusal.{Refusal}
+use Rattle.ssh_message.specs.declared.message.Message.{Message}
+use Rattle.ssh_message.specs.declared.message.Message.TheVariants as message
+use Rattle.ssh_message.specs.declared.message.Method.{Method}
+use Rattle.ssh_message.specs.declared.message.Method.TheVariants as method
+use Rattle.ssh_channels.specs.declared.fact.Fact.{Fact}
+use Rattle.ssh_channels.specs.declared.fact.Fact.TheVariants as fact
+use Rattle.ssh_end.specs.Steps.{Shows}
+use Rattle.ssh_end.specs.Turn.{TurnShows}
+use Rattle.ssh_end.specs.declared.step.Step.{Step}
+use Rattle.ssh_end.specs.declared.told.Told.{Told}
+use Rattle.ssh_end.specs.declared.told.Told.TheVariants as told
+use Rattle.ssh_end.specs.declared.turn.Took.{Took}
+use Rattle.ssh_end.specs.declared.turn.Took.TheVariants as took
+use Rattle.ssh_end.specs.declared.turn.Turn.{Turn}
+use Rattle.divrelca_c.specs.declared.event.DvEvent.{DvEvent}
+
+-- the fields of an event, except the number of the message that was taken
+pub record Fields : Type 0 where
+  pub kind : ℕ
+  pub channel : ℕ
+  pub window : ℕ
+  pub max_packet : ℕ
+  pub number : ℕ
+  pub flag : Bool
+  pub extended : Bool
+  pub name : List ℕ
+  pub text : List ℕ
+
+abbrev pub fields_of : DvEvent → Fields
+fields_of e = record {
+  kind = e.kind;
+  channel = e.channel;
+  window = e.window;
+  max_packet = e.max_packet;
+  number = e.number;
+  flag = e.flag;
+  extended = e.extended;
+  name = e.name.now;
+  text = e.text.now;
+}
+
+-- an event of no window and no extended data
+abbrev pub simple : (kind channel number : ℕ) → (flag : Bool) → (name text : List ℕ) → Fields
+simple kind channel number flag name text = record {
+  kind = kind;
+  channel = channel;
+  window = 0;
+  max_packet = 0;
+  number = number;
+  flag = flag;
+  extended = false;
+  name = name;
+  text = text;
+}
+
+-- ---- of channels and global requests
+
+abbrev pub data_fields : (channel : ℕ) → Option ℕ → (body : List ℕ) → Fields
+data_fields channel None body = simple 22 channel 0 false [] body
+data_fields channel (Some kind) body = record (simple 22 channel kind false [] body) { extended = true }
+
+-- a channel that the peer opens, or confirms
+abbrev pub opened_fields : Fact → Fields
+opened_fields (fact.Opened channel kind window most rest) =
+    record (simple 19 channel 0 false kind.now rest.now) { window = window; max_packet = most }
+opened_fields (fact.Confirmed channel window most rest) =
+    record (simple 20 channel 0 false [] rest.now) { window = window; max_packet = most }
+opened_fields _ = simple 0 0 0 false [] []
+
+abbrev pub fact_fields : Fact → Fields
+fact_fields (fact.Global name want rest) = simple 16 0 0 want name.now rest.now
+fact_fields (fact.GlobalDone success rest) = simple 17 0 0 success [] rest.now
+fact_fields (fact.Opening channel) = simple 18 channel 0 false [] []
+fact_fields (fact.Opened channel kind window most rest) = opened_fields (fact.Opened channel kind window most rest)
+fact_fields (fact.Confirmed channel window most rest) = opened_fields (fact.Confirmed channel window most rest)
+fact_fields (fact.OpenFailed channel reason description) = simple 21 channel reason false [] description.now
+fact_fields (fact.GotData channel kind body) = data_fields channel kind body.now
+fact_fields (fact.Adjusted channel bytes) = simple 23 channel bytes false [] []
+fact_fields (fact.Ended channel) = simple 24 channel 0 false [] []
+fact_fields (fact.Closed channel) = simple 25 channel 0 false [] []
+fact_fields (fact.Requested channel name want rest) = simple 26 channel 0 want name.now rest.now
+fact_fields (fact.RequestDone channel success) = simple 27 channel 0 success [] []
+
+-- ---- of what is told
+
+abbrev pub told_fields : Told → Fields
+told_fields (told.Completed position) = simple 2 0 position false [] []
+told_fields told.Service = simple 3 0 0 false [] []
+told_fields (told.Accepted user) = simple 4 0 0 false user.now []
+told_fields told.Authenticated = simple 5 0 0 false [] []
+told_fields (told.Failed methods partial) = simple 6 0 0 partial [] (names_text methods)
+told_fields (told.Banner text) = simple 7 0 0 false [] text.now
+told_fields (told.KeyOk algorithm key) = simple 8 0 0 false algorithm.now key.now
+told_fields told.Ignored = simple 9 0 0 false [] []
+told_fields (told.Extensions given) = simple 13 0 0 false [] []
+told_fields (told.Debugged display text) = simple 10 0 0 display [] text.now
+told_fields (told.Unimplemented number) = simple 11 0 number false [] []
+told_fields (told.Disconnected reason description) = simple 12 0 reason false [] description.now
+told_fields (told.Channel given) = fact_fields given
+
+-- ---- of requests for authentication that let nobody in
+
+abbrev pub method_name : Method → List ℕ
+method_name method.None = codes "none"
+method_name (method.Password password other) = codes "password"
+method_name (method.Publickey algorithm key signature) = codes "publickey"
+method_name (method.Other name rest) = name.now
+
+abbrev pub requested_fields : Message → Fields
+requested_fields (message.UserauthRequest user service given) = simple 14 0 0 false user.now (method_name given)
+requested_fields _ = simple 0 0 0 false [] []
+
+abbrev pub tried_fields : Option Took → Fields
+tried_fields (Some (took.Message channel given payload)) = requested_fields given
+tried_fields _ = simple 0 0 0 false [] []
+
+-- ---- of all
+
+-- what is shown of what was told, or tried where nothing was
+abbrev pub told_or_tried : Option Told → Option Took → Fields
+told_or_tried (Some given) took = told_fields given
+told_or_tried None took = tried_fields took
+
+-- A refusal comes first, and nothing else is then shown.
+abbrev pub turn_fields : Option Refusal → Option Told → Option Took → Fields
+turn_fields (Some why) given took =
+    simple 1 0 (refusal_number (refusal_of why)) false (refusal_name (refusal_of why)) []
+turn_fields None given took = told_or_tried given took
+
+-- the first byte of a payload
+abbrev pub first_byte : List ℕ → ℕ
+first_byte [] = 0
+first_byte (n ∷ rest) = n
+
+-- the number of the message that was taken
+abbrev pub took_of : Option Took → ℕ
+took_of (Some (took.Message channel given payload)) = first_byte payload.now
+took_of _ = 0
+
+-- The event is that of a turn that shows what was done in a step.
+pub record ShowsTurn (payload : List ℕ) (step : Step) (e : DvEvent) : Type 0 where
+  pub turn : Turn
+  pub shows : (items : List Item) → Shows payload step items → TurnShows turn items
+  pub fields : fields_of e ≡ turn_fields turn.refused turn.told turn.took
+  pub took : e.took ≡ took_of turn.took

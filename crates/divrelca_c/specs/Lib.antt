@@ -1,0 +1,4 @@
+pub mod Codes
+pub mod Events
+pub mod Handles
+pub mod Lent

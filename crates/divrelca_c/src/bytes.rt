@@ -1,0 +1,55 @@
+//! What C passes and is shown.
+
+/// Bytes. Those that an end shows stand until the next call on it.
+#[repr(C)]
+#[derive(Clone, Copy, Drop)]
+pub struct DvBytes<'a> {
+    pub bytes: &'a [u8],
+}
+
+/// One user and what lets this user in: a public key of 32 bytes, or a password.
+#[repr(C)]
+#[derive(Clone, Copy, Drop)]
+pub struct DvUser<'a> {
+    pub name: &'a [u8],
+    pub login: &'a [u8],
+    /// 1 of a key, 2 of a password.
+    pub kind: u32,
+}
+
+/// Random bytes of one exchange of keys.
+#[repr(C)]
+#[derive(Clone, Copy, Drop)]
+pub struct DvMaterial {
+    pub cookie: [u8; 16],
+    pub secret: [u8; 32],
+}
+
+/// What a server is made of.
+#[repr(C)]
+#[derive(Clone, Copy, Drop)]
+pub struct DvServerSettings<'a> {
+    /// The bytes of this struct.
+    pub size: usize,
+    pub software: &'a [u8],
+    pub host_seed: &'a [u8],
+    pub users: &'a [DvUser<'a>],
+    pub epoch_limit: u32,
+    pub tries: u32,
+    pub methods: u32,
+    pub ciphers: u32,
+}
+
+/// What a client is made of.
+#[repr(C)]
+#[derive(Clone, Copy, Drop)]
+pub struct DvClientSettings<'a> {
+    /// The bytes of this struct.
+    pub size: usize,
+    pub software: &'a [u8],
+    pub host_key: &'a [u8],
+    /// No bytes where the user has no key.
+    pub user_seed: &'a [u8],
+    pub epoch_limit: u32,
+    pub ciphers: u32,
+}

@@ -1,0 +1,16 @@
+//! A server and a client of SSH-2 for C and all that calls C: `bindings/include/divrelca.h` declares what stands here. One call is one call of `ssh_embedded`;
+//! nothing is called back, and nothing is global.
+#![tactic(auto)]
+
+pub mod bytes;
+pub mod client;
+pub mod client_handle;
+pub mod client_lent;
+mod codes;
+mod event;
+pub mod keys;
+mod making;
+pub mod names;
+pub mod server;
+pub mod server_handle;
+pub mod server_lent;

@@ -1,0 +1,99 @@
+//! Names of codes and messages.
+
+use crate::bytes::DvBytes;
+use ssh_message::name;
+
+// The version of the interface: its first number in the upper 16 bits.
+const VERSION: u32 = 0x0001_0000;
+
+/// The version of the library.
+#[unsafe(no_mangle)]
+pub extern "C" fn dv_version() -> u32 {
+    VERSION
+}
+
+/// The name of a message by its number.
+#[unsafe(no_mangle)]
+pub extern "C" fn dv_message_name(number: u8, text: &mut DvBytes<'static>) {
+    text.bytes = name(number).as_bytes();
+}
+
+/// The name of a code.
+#[unsafe(no_mangle)]
+pub extern "C" fn dv_code_name(code: i32, text: &mut DvBytes<'static>) {
+    text.bytes = match code {
+        1..=12 => ask_name(code),
+        101..=104 => setting_name(code),
+        201..=217 => file_name(code),
+        301..=308 => argument_name(code),
+        0 => b"Done",
+        -1 => b"Memory",
+        -2 => b"Over",
+        _ => b"UNKNOWN",
+    };
+}
+
+// Of refused asks.
+fn ask_name(code: i32) -> &'static [u8] {
+    match code {
+        1 => b"NotYet",
+        2 => b"Busy",
+        3 => b"NoChannel",
+        4 => b"NoRoom",
+        5 => b"TooLong",
+        6 => b"Ended",
+        7 => b"TableFull",
+        8 => b"NothingOwed",
+        9 => b"RekeyDue",
+        10 => b"TooMuch",
+        11 => b"WrongSide",
+        _ => b"NoMaterial",
+    }
+}
+
+// Of settings.
+fn setting_name(code: i32) -> &'static [u8] {
+    match code {
+        101 => b"BadSoftware",
+        102 => b"BadList",
+        103 => b"BadLimit",
+        _ => b"BadExtension",
+    }
+}
+
+// Of what was expected in a file.
+fn file_name(code: i32) -> &'static [u8] {
+    match code {
+        201 => b"FileBegin",
+        202 => b"FileEnd",
+        203 => b"FileBase64",
+        204 => b"FileFormat",
+        205 => b"FileUnencrypted",
+        206 => b"FileEd25519",
+        207 => b"FilePair",
+        208 => b"FileKey",
+        209 => b"FileHost",
+        210 => b"FileMark",
+        211 => b"FileHashedHost",
+        212 => b"FileAuthorizedKey",
+        213 => b"FileAnyHostKey",
+        214 => b"FileOneHostKey",
+        215 => b"FileUnrevoked",
+        216 => b"FileAnyKey",
+        _ => b"FilePassword",
+    }
+}
+
+// Of arguments.
+fn argument_name(code: i32) -> &'static [u8] {
+    match code {
+        301 => b"BadSize",
+        302 => b"BadKey",
+        303 => b"BadLogin",
+        304 => b"BadMethods",
+        305 => b"BadCiphers",
+        306 => b"BadAsk",
+        307 => b"NoKey",
+        _ => b"NothingQueued",
+    }
+}

@@ -1,0 +1,257 @@
+//! What C calls of a server.
+
+ghost use Rattle.std.specs.Prelude.{◌≡◌, ◌≤◌, drop, false, length, nat_le, pos, true};
+ghost use Rattle.divrelca_c.specs.Events.{ShowsTurn};
+ghost use Rattle.ssh_end.specs.Steps.{shown_by};
+ghost use Rattle.ssh_model.specs.TransportLayer.Kept.{after_fed, can_be_fed};
+
+use crate::bytes::{DvBytes, DvMaterial, DvServerSettings};
+use crate::codes::{
+    BAD_SIZE, DONE, MEMORY, NOTHING_QUEUED, code_asked, code_form, code_made, code_of, code_taken,
+};
+use crate::event::{DvEvent, event_of};
+use crate::making::{ciphers_in, methods_in, signer_in, users_in};
+use crate::server_handle::DvServer;
+use ssh_embedded::{AskForm, KeptForm, Material, Server, ServerSettings, Waiting};
+use std::alloc::Global;
+
+// The bytes of the settings.
+const SETTINGS: usize = 72;
+
+/// Makes a server that put out its version line and its first KEXINIT.
+#[unsafe(no_mangle)]
+pub extern "C" fn dv_server_new(
+    alloc: Global,
+    out: &mut *mut u8,
+    settings: &DvServerSettings<'_>,
+    first: &DvMaterial,
+    padding: &[u8; 32],
+) -> i32 {
+    match made(alloc, settings, first, padding) {
+        Ok(server) => match Box::new(alloc, server) {
+            Ok(boxed) => {
+                *out = Box::into_raw(boxed) as *mut u8;
+                DONE
+            }
+            Err(_) => MEMORY,
+        },
+        Err(code) => code,
+    }
+}
+
+// A server of what C passes.
+fn made(
+    alloc: Global,
+    given: &DvServerSettings<'_>,
+    first: &DvMaterial,
+    padding: &[u8; 32],
+) -> Result<Server, i32> {
+    if given.size != SETTINGS {
+        return Err(BAD_SIZE);
+    }
+    let settings = ServerSettings {
+        software: given.software,
+        epoch_limit: given.epoch_limit,
+        tries: given.tries,
+        methods: methods_in(given.methods)?,
+        ciphers: ciphers_in(given.ciphers)?,
+        host: signer_in(given.host_seed)?,
+    };
+    let users = users_in(alloc, given.users)?;
+    let material = Material {
+        cookie: first.cookie,
+        secret: first.secret,
+        padding: *padding,
+    };
+    Server::new(alloc, &settings, users, material).map_err(code_made)
+}
+
+/// Gives all memory of the server back.
+#[unsafe(no_mangle)]
+pub extern "C" fn dv_server_free(h: DvServer) {
+    drop(h.into_box());
+}
+
+/// Takes bytes of the client to the end of one line or one packet. `dv_server_event` shows what was done.
+#[unsafe(no_mangle)]
+pub extern "C" fn dv_server_take(h: &mut DvServer, bytes: &[u8], used: &mut usize) -> i32
+    ensures used { used.new ≤ length bytes.now }
+    ensures unused { (result ≡ pos 0 → ⊥) → used.new ≡ 0 }
+    ensures out { (result ≡ pos 0 → ⊥) → h.new.value.state.out.items ≡ h.old.value.state.out.items }
+{
+    *used = 0;
+    match h.state().state.advance(bytes) {
+        Ok(count) => {
+            *used = count;
+            DONE
+        }
+        Err(fault) => code_taken(fault),
+    }
+}
+
+/// Shows what was done in the last call of `dv_server_take`.
+#[unsafe(no_mangle)]
+pub extern "C" fn dv_server_event<'a>(h: &'a mut DvServer, event: &mut DvEvent<'a>)
+    ensures { ShowsTurn (shown_by h.old.value.state.end.step h.old.value.state.end.machine) h.old.value.state.end.step event.new }
+{
+    *event = event_of(&h.state().state.turn());
+}
+
+/// Shows the bytes that wait for the client.
+#[unsafe(no_mangle)]
+pub extern "C" fn dv_server_output<'a>(h: &'a mut DvServer, bytes: &mut DvBytes<'a>)
+    ensures { bytes.new.bytes.now ≡ h.old.value.state.out.items }
+{
+    *bytes = waiting_of(h.state());
+}
+
+// The bytes that wait.
+fn waiting_of(server: &Server) -> DvBytes<'_>
+    ensures { result.bytes.now ≡ server.now.state.out.items }
+{
+    DvBytes {
+        bytes: server.state.output(),
+    }
+}
+
+/// The first `count` of the bytes that wait were written.
+#[unsafe(no_mangle)]
+pub extern "C" fn dv_server_written(h: &mut DvServer, count: usize)
+    ensures out { h.new.value.state.out.items ≡ drop count h.old.value.state.out.items }
+    ensures end { h.new.value.state.end ≡ h.old.value.state.end }
+{
+    h.state().state.written(count);
+}
+
+/// Keeps a fresh pair for the next exchange of keys, or answers `false` where the server keeps one or can take no more.
+#[unsafe(no_mangle)]
+pub extern "C" fn dv_server_feed(h: &mut DvServer, material: &DvMaterial) -> bool
+    ensures fed { result ≡ can_be_fed h.old.value.state.end.machine.kept }
+    ensures kept { result ≡ true → h.new.value.state.end.machine ≡ record h.old.value.state.end.machine { kept = after_fed material.now.cookie material.now.secret h.old.value.state.end.machine.kept } }
+    ensures unchanged { result ≡ false → h.new.value ≡ h.old.value }
+    ensures out { h.new.value.state.out ≡ h.old.value.state.out }
+{
+    h.state().state.feed(material.cookie, material.secret)
+}
+
+/// Tests whether the server is over.
+#[unsafe(no_mangle)]
+pub extern "C" fn dv_server_is_over(h: &mut DvServer) -> bool
+    ensures dead { result ≡ h.old.value.state.end.machine.kept.dead }
+    ensures same { h.new.value ≡ h.old.value }
+{
+    h.state().state.is_over()
+}
+
+/// Tests whether an exchange of keys is due.
+#[unsafe(no_mangle)]
+pub extern "C" fn dv_server_rekey_due(h: &mut DvServer) -> bool
+    ensures due { result ≡ nat_le h.old.value.state.end.machine.kept.settings.epoch_limit h.old.value.state.end.machine.kept.sending.count }
+    ensures same { h.new.value ≡ h.old.value }
+{
+    h.state().state.rekey_due()
+}
+
+/// Tells how many bytes of data fit into the client's window on a channel.
+#[unsafe(no_mangle)]
+pub extern "C" fn dv_server_room(h: &mut DvServer, channel: u32) -> u32
+    ensures same { h.new.value ≡ h.old.value }
+{
+    h.state().state.room(channel)
+}
+
+/// Does what is asked for, now. The number of a channel that it opens goes to `channel`.
+#[unsafe(no_mangle)]
+pub extern "C" fn dv_server_ask(h: &mut DvServer, ask: &AskForm<'_>, channel: &mut u32) -> i32 {
+    match h.state().state.ask(ask) {
+        Ok(done) => {
+            if let Ok(step) = done
+                && let Some(number) = step.opening
+            {
+                *channel = number;
+            }
+            code_asked(done)
+        }
+        Err(fault) => code_form(fault),
+    }
+}
+
+/// Puts an ask after those that wait.
+#[unsafe(no_mangle)]
+pub extern "C" fn dv_server_queue(alloc: Global, h: &mut DvServer, ask: &AskForm<'_>) -> i32 {
+    let state = &mut h.state().state;
+    if let Err(fault) = state.is_ask(ask) {
+        return code_form(fault);
+    }
+    let Ok(kept) = KeptForm::new(alloc, ask) else {
+        return MEMORY;
+    };
+    match state.queue(Waiting::Form(kept)) {
+        Ok(()) => DONE,
+        Err(_) => MEMORY,
+    }
+}
+
+/// Tells how many asks wait.
+#[unsafe(no_mangle)]
+pub extern "C" fn dv_server_queued(h: &mut DvServer) -> usize
+    ensures same { h.new.value ≡ h.old.value }
+{
+    h.state().state.queued()
+}
+
+/// Makes the oldest ask that waits. It stays where it comes too early.
+#[unsafe(no_mangle)]
+pub extern "C" fn dv_server_work(alloc: Global, h: &mut DvServer, channel: &mut u32) -> i32 {
+    match h.state().state.work(alloc) {
+        Some(done) => {
+            if let Ok(step) = done
+                && let Some(number) = step.opening
+            {
+                *channel = number;
+            }
+            code_asked(done)
+        }
+        None => NOTHING_QUEUED,
+    }
+}
+
+/// Queues the answer that the client is owed for what `dv_server_event` shows.
+#[unsafe(no_mangle)]
+pub extern "C" fn dv_server_decline(h: &mut DvServer) -> i32 {
+    match h.state().state.decline() {
+        Ok(()) => DONE,
+        Err(_) => MEMORY,
+    }
+}
+
+/// Sends as much data as one packet takes, extended data where `stream` is not 0.
+#[unsafe(no_mangle)]
+pub extern "C" fn dv_server_send(
+    h: &mut DvServer,
+    channel: u32,
+    stream: u32,
+    body: &[u8],
+    taken: &mut usize,
+) -> i32
+    ensures taken { taken.new ≤ length body.now }
+{
+    *taken = 0;
+    let kind = if stream == 0 { None } else { Some(stream) };
+    match h.state().state.send(channel, kind, body) {
+        Ok(count) => {
+            *taken = count;
+            DONE
+        }
+        Err(fault) => code_of(fault),
+    }
+}
+
+/// So many bytes that came on a channel are done with.
+#[unsafe(no_mangle)]
+pub extern "C" fn dv_server_consume(h: &mut DvServer, channel: u32, bytes: usize) -> i32 {
+    match h.state().state.consume(channel, bytes) {
+        Ok(()) => DONE,
+        Err(_) => MEMORY,
+    }
+}

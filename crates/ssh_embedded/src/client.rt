@@ -1,0 +1,90 @@
+//! A client.
+
+use crate::embedded::Embedded;
+use crate::flows::Flows;
+use crate::making::{MakeError, Material, Methods, config};
+use crate::padding::Padding;
+use crate::parts::EmbeddedClient;
+use ed25519::is_small_order;
+use ssh_end::{ClientEnd, ClientRole};
+use ssh_parts::{Curve25519, Ed25519Signer, Ed25519Trust};
+use ssh_pipe_policy::{Ciphers, TRIES, UserKey};
+use ssh_transport_base::ClientPartValues;
+use std::alloc::Global;
+use std::collections::VecDeque;
+
+/// What a client is made of.
+#[derive(Clone, Copy)]
+pub struct ClientSettings<'a> {
+    /// The version of the software (RFC 4253 section 4.2).
+    pub software: &'a [u8],
+    /// After so many packets sent under the keys of one exchange the next one is due: 64 to 2^31.
+    pub epoch_limit: u32,
+    /// The encryptions.
+    pub ciphers: Ciphers,
+    /// The 32 bytes of the public key of the host.
+    pub host: [u8; 32],
+    /// The key pair of the user, where there is one.
+    pub user: Option<Ed25519Signer>,
+}
+
+/// A client, with what a program keeps beside it.
+#[derive(Drop)]
+pub struct Client {
+    pub state: Embedded<ClientRole<EmbeddedClient, UserKey>>,
+}
+
+impl Client {
+    /// A client that put out its version line and its first KEXINIT.
+    ///
+    /// # Errors
+    ///
+    /// - `Key`: the host's key is a point of small order.
+    /// - `Settings`: a setting is not one.
+    /// - `Memory`: memory was refused.
+    pub fn new(
+        alloc: Global,
+        settings: &ClientSettings<'_>,
+        material: Material,
+    ) -> Result<Client, MakeError> {
+        if is_small_order(&settings.host) {
+            return Err(MakeError::Key);
+        }
+        let config = config(
+            alloc,
+            settings.software,
+            settings.epoch_limit,
+            TRIES,
+            Methods::Both,
+            settings.ciphers,
+        )?;
+        let parts = ClientPartValues {
+            filler: Padding::new(material.padding),
+            agreement: Curve25519,
+            host_trust: Ed25519Trust {
+                public: settings.host,
+            },
+        };
+        let flows = Flows::new(alloc)?;
+        let mut out = Vec::new(alloc);
+        let end = ClientEnd::<EmbeddedClient, UserKey>::new(
+            alloc,
+            config,
+            parts,
+            UserKey {
+                signer: settings.user,
+            },
+            material.cookie,
+            material.secret,
+            &mut out,
+        )?;
+        let state = Embedded {
+            end,
+            out,
+            key: settings.user.map(|signer| *signer.public_key()),
+            waiting: VecDeque::new(alloc),
+            flows,
+        };
+        Ok(Client { state })
+    }
+}

@@ -1,0 +1,223 @@
+//! An end of either role, with what a program keeps beside it.
+
+ghost use Rattle.std.specs.Prelude.{◌≡◌, ◌<◌, ◌≤◌, IfErr, IfOk, IsSome, List, None, OnErr, [], drop, false, length, nat_le, true};
+ghost use Rattle.ssh_embedded.specs.Forms.{form_asks};
+ghost use Rattle.ssh_end.specs.Asking.{AreAskChannels, Fails, ask_of};
+ghost use Rattle.ssh_end.specs.Calls.{Advances, outs_of};
+ghost use Rattle.ssh_end.specs.Ends.{EndLacks, IsFault};
+ghost use Rattle.ssh_end.specs.Reading.{SameReading};
+ghost use Rattle.ssh_end.specs.Stands.{FailedTo, FeedsTo, PerformedTo, StandsAt};
+ghost use Rattle.ssh_end.specs.Steps.{Shows, shown_by};
+ghost use Rattle.ssh_end.specs.Turn.{TurnShows, channels_in, payloads_in};
+ghost use Rattle.ssh_end.specs.declared.step.Step.{Step};
+ghost use Rattle.ssh_model.specs.Sessions.Items.{Item};
+ghost use Rattle.ssh_model.specs.Sessions.Parties.{Parties};
+ghost use Rattle.ssh_model.specs.TransportLayer.Kept.{after_fed, can_be_fed};
+
+use crate::ask_form::{AskForm, FormFault};
+use crate::flows::Flows;
+use crate::waiting::Waiting;
+use ssh_end::{Ask, AskStep, End, EndRole, Fault, Turn};
+use ssh_packet::{Filler, Sealing};
+use ssh_transport::Role;
+use ssh_types::AskRefusal;
+use std::alloc::{AllocError, Global};
+use std::collections::VecDeque;
+use std::mem::replace;
+
+/// An end, with the bytes for its peer that are not written yet, the asks that wait, and the account of its channels' windows.
+pub struct Embedded<R: EndRole> {
+    /// The end.
+    pub end: End<R>,
+    /// What it put out and what is not written.
+    pub out: Vec<u8>,
+    // The public key that its user signs with, as it goes over the wire. A server has none.
+    pub(crate) key: Option<[u8; 51]>,
+    // The oldest first.
+    pub(crate) waiting: VecDeque<Waiting>,
+    pub(crate) flows: Flows,
+}
+
+impl<R: EndRole> Drop for Embedded<R> {
+    fn drop(self) {
+        let Embedded {
+            end: _,
+            out: _,
+            key: _,
+            waiting: _,
+            flows: _,
+        } = self;
+    }
+}
+
+impl<R: EndRole> Embedded<R> {
+    /// What `ssh_end::End::advance` does. What is put out goes after what waits, and the account of the channels' windows follows what is told.
+    ///
+    /// # Errors
+    ///
+    /// Those of `ssh_end::End::take`.
+    pub fn advance(&mut self, bytes: &[u8]) -> Result<usize, Fault>
+        ensures used { IfOk result (λ used. used ≤ length bytes.now) }
+        ensures progress { IfOk result (λ used. self.old.end.machine.kept.dead ≡ false → 0 < length bytes.now → 0 < used) }
+        ensures advances { IfOk result (λ used. Advances R.EndRole R.Exchange.Role R.Exchange.Sealing.crypto self.old.end bytes.now used self.old.out.items self.new.out.items self.new.end) }
+        ensures failed { IfErr result (λ fault. IsFault self.old.end.machine fault self.new.end.machine) }
+        ensures lacks { IfErr result (λ fault. fault ≡ Fault.Memory → EndLacks R.EndRole R.Exchange.Role R.Exchange.Sealing.crypto self.old.end bytes.now) }
+        ensures placed { IfErr result (λ fault. (p : Parties R.Exchange.Sealing.Key) (history : List Item) → StandsAt R.EndRole R.Exchange.Role p history self.old.end → FailedTo R.EndRole R.Exchange.Role p history self.old.end bytes.now fault self.new.end) }
+        ensures none { OnErr result (self.new.end.step ≡ Step.More) }
+        ensures out { OnErr result (self.new.out.items ≡ self.old.out.items) }
+        ensures role { self.new.end.role ≡ self.old.end.role }
+        ensures key { self.new.key ≡ self.old.key }
+        ensures waiting { self.new.waiting ≡ self.old.waiting }
+    {
+        let used = self.end.advance(bytes, &mut self.out)?;
+        if let Some(told) = self.end.turn().told {
+            self.flows.hear(&told);
+        }
+        Ok(used)
+    }
+
+    /// What was done in the last `advance`. After `perform`, `send` and `work` it shows that nothing was taken.
+    pub fn turn(&self) -> Turn<'_>
+        ensures shows { (items : List Item) → Shows (shown_by self.now.end.step self.now.end.machine) self.now.end.step items → TurnShows result items }
+        ensures more { self.now.end.step ≡ Step.More → TurnShows result [] }
+        ensures used { result.used ≡ self.now.end.used }
+        ensures sent { payloads_in result.sent ≡ self.now.end.sent }
+        ensures channels { channels_in result.sent ≡ self.now.end.channels }
+    {
+        self.end.turn()
+    }
+
+    /// What `ssh_end::End::perform` does. What is put out goes after what waits, and the account of the channels' windows follows what is done.
+    ///
+    /// # Errors
+    ///
+    /// Those of `ssh_end::End::ask`.
+    pub fn perform(&mut self, ask: &Ask<'_>) -> Result<AskStep, Fault>
+        ensures asks { R.asks self.old.end.role self.old.end.machine self.old.end.layers (ask_of ask.now) result self.new.end.machine self.new.end.layers (outs_of self.old.out.items self.new.out.items self.new.end.sent) }
+        ensures reading { self.new.end.machine.kept.dead ≡ false → SameReading self.old.end.machine self.new.end.machine }
+        ensures step { self.new.end.step ≡ Step.More }
+        ensures channels { IfOk result (λ step. AreAskChannels (ask_of ask.now) step self.new.end.sent self.new.end.channels) }
+        ensures placed { (p : Parties R.Exchange.Sealing.Key) (history : List Item) → StandsAt R.EndRole R.Exchange.Role p history self.old.end → PerformedTo R.EndRole R.Exchange.Role p history self.old.end (ask_of ask.now) result self.old.out.items self.new.out.items self.new.end }
+        ensures fails { IfErr result (λ fault. Fails self.old.end.machine fault self.new.end.machine) }
+        ensures out { OnErr result (self.new.out.items ≡ self.old.out.items) }
+        ensures role { self.new.end.role ≡ self.old.end.role }
+        ensures key { self.new.key ≡ self.old.key }
+        ensures waiting { self.new.waiting ≡ self.old.waiting }
+    {
+        let done = self.end.perform(ask, &mut self.out);
+        if let Ok(step) = done {
+            self.flows.note(ask, step);
+        }
+        done
+    }
+
+    /// Does what a form asks for.
+    ///
+    /// # Errors
+    ///
+    /// Those of `AskForm::ask`, and nothing changes. What is answered otherwise is that of `perform`.
+    pub fn ask(&mut self, form: &AskForm<'_>) -> Result<Result<AskStep, Fault>, FormFault> {
+        let key = self.key;
+        let ask = form.ask(&key)?;
+        Ok(self.perform(&ask))
+    }
+
+    /// Tests whether a form is an ask of this end.
+    ///
+    /// # Errors
+    ///
+    /// Those of `AskForm::ask`.
+    pub fn is_ask(&self, form: &AskForm<'_>) -> Result<(), FormFault> {
+        form.ask(&self.key)?;
+        Ok(())
+    }
+
+    /// What `ssh_end::End::feed_material` does.
+    pub fn feed(&mut self, cookie: [u8; 16], secret: [u8; 32]) -> bool
+        ensures fed { result ≡ can_be_fed self.old.end.machine.kept }
+        ensures kept { result ≡ true → self.new.end.machine ≡ record self.old.end.machine { kept = after_fed cookie secret self.old.end.machine.kept } }
+        ensures rest { self.new.end ≡ record self.old.end { machine = self.new.end.machine } }
+        ensures unchanged { result ≡ false → self.new ≡ self.old }
+        ensures placed { (p : Parties R.Exchange.Sealing.Key) (history : List Item) → StandsAt R.EndRole R.Exchange.Role p history self.old.end → FeedsTo R.EndRole R.Exchange.Role p history cookie secret result self.new.end }
+        ensures same { self.new ≡ record self.old { end = self.new.end } }
+    {
+        self.end.feed_material(cookie, secret)
+    }
+
+    /// Tests whether an exchange of keys is due.
+    pub fn rekey_due(&self) -> bool
+        ensures { result ≡ nat_le self.now.end.machine.kept.settings.epoch_limit self.now.end.machine.kept.sending.count }
+    {
+        self.end.rekey_due()
+    }
+
+    /// Tests whether the end is over.
+    pub fn is_over(&self) -> bool
+        ensures { result ≡ self.now.end.machine.kept.dead }
+    {
+        self.end.is_dead()
+    }
+
+    /// How many bytes of data fit into the peer's window on a channel; none where the channel is not confirmed.
+    pub fn room(&self, channel: u32) -> u32 {
+        self.end.channels().room(channel).unwrap_or(0)
+    }
+
+    /// The bytes that wait to be written.
+    pub fn output(&self) -> &[u8]
+        ensures { result.now ≡ self.now.out.items }
+    {
+        self.out.as_slice()
+    }
+
+    /// So many of the bytes that wait were written.
+    pub fn written(&mut self, count: usize)
+        ensures out { self.new.out.items ≡ drop count self.old.out.items }
+        ensures same { self.new ≡ record self.old { out = self.new.out } }
+    {
+        let count = count.min(self.out.len());
+        drop(self.out.drain(..count));
+    }
+
+    /// Puts an ask after those that wait.
+    ///
+    /// # Errors
+    ///
+    /// Only where memory is refused: nothing changes.
+    pub fn queue(&mut self, ask: Waiting) -> Result<(), AllocError> {
+        self.waiting.push_back(ask).map_err(|_| AllocError)
+    }
+
+    /// How many asks wait.
+    pub fn queued(&self) -> usize {
+        self.waiting.len()
+    }
+
+    /// Makes the oldest ask that waits. Where it comes too early (`is_later`) it stays where it is; otherwise it waits no longer. `None` where none waits.
+    pub fn work(&mut self, alloc: Global) -> Option<Result<AskStep, Fault>> {
+        let mut waiting = replace(&mut self.waiting, VecDeque::new(alloc));
+        let Some(front) = waiting.front() else {
+            self.waiting = waiting;
+            return None;
+        };
+        let done = match front {
+            Waiting::Form(kept) => self.ask(&kept.form()),
+            Waiting::Known(ask) => Ok(self.perform(ask)),
+        };
+        // Only asks are put there.
+        let done = done.unwrap_or(Err(Fault::Ask(AskRefusal::WrongSide)));
+        if !is_later(&done) {
+            waiting.pop_front();
+        }
+        self.waiting = waiting;
+        Some(done)
+    }
+}
+
+/// Tests whether an ask came too early: keys are being exchanged or have to be, or what it needs is still to come.
+pub fn is_later(done: &Result<AskStep, Fault>) -> bool {
+    matches!(
+        done,
+        Err(Fault::Ask(AskRefusal::NotYet | AskRefusal::Busy | AskRefusal::RekeyDue))
+    )
+}

@@ -1,0 +1,92 @@
+//! What ends are made of, and why none is made.
+
+use ssh_parts::{AesGcm, GcmSettings};
+use ssh_pipe_policy::Ciphers;
+use ssh_transport_base::{Config, ConfigError, ConfigRefusal, Settings};
+use std::alloc::{AllocError, Global};
+
+/// What an end takes of random bytes when it is made. Each is from a good source, and is used once.
+#[derive(Clone, Copy)]
+pub struct Material {
+    /// The cookie of the first KEXINIT (RFC 4253 section 7.1).
+    pub cookie: [u8; 16],
+    /// The secret whose point the peer gets (RFC 8731 section 3).
+    pub secret: [u8; 32],
+    /// The key of the stream that the padding of packets comes from (RFC 4253 section 6).
+    pub padding: [u8; 32],
+}
+
+/// Which methods of authentication a server names and takes (RFC 4252).
+#[derive(Clone, Copy, Debug, PartialEq, Eq)]
+pub enum Methods {
+    /// `publickey` (section 7).
+    Key,
+    /// `password` (section 8).
+    Password,
+    /// Both.
+    Both,
+}
+
+impl Methods {
+    // The names that a server gives.
+    fn names(self) -> &'static [&'static [u8]] {
+        match self {
+            Methods::Key => &[b"publickey"],
+            Methods::Password => &[b"password"],
+            Methods::Both => &[b"publickey", b"password"],
+        }
+    }
+}
+
+/// Why no end is made, and why a user is none.
+#[derive(Clone, Copy, Debug, PartialEq, Eq)]
+pub enum MakeError {
+    /// Memory was refused.
+    Memory,
+    /// A setting is not one.
+    Settings(ConfigRefusal),
+    /// A public key is a point of small order, under which anyone can sign.
+    Key,
+    /// A user has no name, or an empty password.
+    Login,
+}
+
+impl From<AllocError> for MakeError {
+    fn from(_error: AllocError) -> MakeError {
+        MakeError::Memory
+    }
+}
+
+impl From<ConfigError> for MakeError {
+    fn from(error: ConfigError) -> MakeError {
+        match error {
+            ConfigError::Memory => MakeError::Memory,
+            ConfigError::Refused(why) => MakeError::Settings(why),
+        }
+    }
+}
+
+/// The config of either end: AES-GCM, X25519, Ed25519 and strict key exchange, required.
+pub(crate) fn config(
+    alloc: Global,
+    software: &[u8],
+    epoch_limit: u32,
+    tries: u32,
+    methods: Methods,
+    ciphers: Ciphers,
+) -> Result<Config<AesGcm>, ConfigError> {
+    let settings = GcmSettings {
+        epoch_limit,
+        tries,
+        methods: methods.names(),
+        ..GcmSettings::new(software)
+    }
+    .settings();
+    Config::new(
+        alloc,
+        &Settings {
+            encryption: ciphers.names(false),
+            ..settings
+        },
+    )
+}
