@@ -1,0 +1,281 @@
+"""Ends without I/O: bytes of the peer and asks go in, bytes for the peer and events come out."""
+
+import collections
+import ctypes
+import dataclasses
+import os
+import threading
+
+from . import library
+from .codes import AskKind, Ciphers, Code, Kind, Login, Methods
+from .errors import check, error_of, is_later
+from .library import LIBRARY, Held
+
+SOFTWARE = b"Divrelca_Python"
+
+
+@dataclasses.dataclass(frozen=True)
+class Event:
+    """What a `take` did. `Kind` says which fields mean something; the others are 0, False and no bytes. `took` is the number of the message that was
+    taken, 0 where none was. All bytes are copies."""
+
+    kind: Kind
+    channel: int = 0
+    window: int = 0
+    max_packet: int = 0
+    number: int = 0
+    took: int = 0
+    flag: bool = False
+    extended: bool = False
+    name: bytes = b""
+    data: bytes = b""
+
+
+@dataclasses.dataclass(frozen=True)
+class Ask:
+    """What an end is asked for. `AskKind` says which fields are read."""
+
+    kind: AskKind
+    channel: int = 0
+    window: int = 0
+    max_packet: int = 0
+    number: int = 0
+    flag: bool = False
+    name: bytes = b""
+    data: bytes = b""
+
+    def _in_c(self, held):
+        numbers = (self.kind, self.channel, self.window, self.max_packet, self.number)
+        if any(not 0 <= it < 2**32 for it in numbers):
+            raise OverflowError("a number of an ask has 32 bits")
+        return library.Ask(*numbers, self.flag, held.bytes(self.name), held.bytes(self.data))
+
+
+@dataclasses.dataclass(frozen=True)
+class User:
+    """One user and one thing that lets the user in: a public key of 32 bytes, or a password. A user may stand in a list several times."""
+
+    name: bytes
+    login: bytes
+    kind: Login
+
+
+class End:
+    """What both ends have in common. Nothing is read or written. A call holds the end's lock, so that threads may share one, and a call on a closed end is a
+    ValueError. Random bytes come from `draw`, which answers as many as it is asked for, and each once."""
+
+    def __init__(self, prefix, settings, draw):
+        self._calls = {}
+        self._prefix = prefix
+        self._handle = library.Handle()
+        self._is_open = False
+        self._lock = threading.RLock()
+        self._draw = draw
+        self._waiting = collections.deque()
+        padding = draw(32)
+        self._fresh = draw(48)
+        check(self._function("new")(self._handle, settings, self._fresh, padding))
+        self._is_open = True
+        self._fresh = draw(48)
+
+    def __enter__(self):
+        return self
+
+    def __exit__(self, *_):
+        self.close()
+
+    def __del__(self):
+        if getattr(self, "_is_open", False):
+            self.close()
+
+    def _function(self, name):
+        if name not in self._calls:
+            self._calls[name] = getattr(LIBRARY, f"{self._prefix}_{name}")
+        return self._calls[name]
+
+    def _call(self, name, *words):
+        if not self._is_open:
+            raise ValueError("the end is closed")
+        return self._function(name)(self._handle, *words)
+
+    def close(self):
+        """Gives all memory of the end back. A second call does nothing."""
+        with self._lock:
+            if self._is_open:
+                self._is_open = False
+                self._function("free")(self._handle)
+
+    def _take(self, address, count):
+        used = ctypes.c_size_t()
+        check(self._call("take", address, count, used))
+        return used.value
+
+    def take(self, data):
+        """Takes bytes of the peer to the end of one line or one packet, and returns how many it used; the rest is given again. `event` shows what that was.
+        `Over` after the end, `NoMemory`."""
+        with self._lock:
+            return self._take(bytes(data), len(data))
+
+    def event(self):
+        """What the last `take` did, until the next `take`, `ask`, `work` or `send`."""
+        with self._lock:
+            shown = library.Event(name=library.none(), data=library.none())
+            self._call("event", shown)
+            numbers = (shown.channel, shown.window, shown.max_packet, shown.number, shown.took)
+            return Event(Kind(shown.kind), *numbers, shown.flag, shown.extended, shown.name.copied(), shown.data.copied())
+
+    def events(self, data):
+        """Takes all bytes and yields each event but `Kind.NOTHING`. Once one is dealt with, the end is fed, asks for an exchange of keys where one is due, and
+        makes the asks that wait. The end may be over at the end of the bytes, and then leaves the rest. Exhaust the iterator."""
+        kept = ctypes.create_string_buffer(bytes(data), len(data)) if data else None
+        at = 0
+        while at < len(data) and not self.is_over:
+            with self._lock:
+                at += self._take(ctypes.addressof(kept) + at, len(data) - at)
+                event = self.event()
+            if event.kind != Kind.NOTHING:
+                yield event
+            self.go_on()
+
+    def go_on(self):
+        """Feeds the end a fresh pair where it takes one, asks for an exchange of keys where one is due, and makes the asks that wait."""
+        with self._lock:
+            if self._call("feed", self._fresh):
+                self._fresh = self._draw(48)
+            if self.rekey_due:
+                held, channel = Held(), ctypes.c_uint32()
+                code = self._call("ask", Ask(AskKind.REKEY)._in_c(held), channel)
+                if code == Code.MEMORY:
+                    check(code)
+            self.work()
+
+    def feed(self, cookie, secret):
+        """Keeps a pair of 16 and 32 random bytes for the next exchange of keys; False where the end keeps one, or can take no more."""
+        if len(cookie) != 16 or len(secret) != 32:
+            raise ValueError("a cookie has 16 bytes and a secret 32")
+        with self._lock:
+            return self._call("feed", bytes(cookie) + bytes(secret))
+
+    @property
+    def is_over(self):
+        """Whether the end takes nothing and sends nothing. What it put out is still to be written."""
+        with self._lock:
+            return self._call("is_over")
+
+    @property
+    def rekey_due(self):
+        """Whether as many packets were sent under the keys as `epoch_limit` says."""
+        with self._lock:
+            return self._call("rekey_due")
+
+    def room(self, channel):
+        """How many bytes of data the peer's window takes on the channel; 0 where it is not confirmed."""
+        with self._lock:
+            return self._call("room", channel)
+
+    def output(self):
+        """The bytes that wait for the peer, copied."""
+        with self._lock:
+            shown = library.none()
+            self._call("output", shown)
+            return shown.copied()
+
+    def written(self, count):
+        """Says that the first `count` bytes of the output were written: they are dropped."""
+        with self._lock:
+            self._call("written", count)
+
+    def ask(self, ask):
+        """Does what is asked for, now, and returns the number of the channel that it opens, else None. `AskRefused`, `BadArgument`, `NoMemory`, `Over`."""
+        held, channel = Held(), ctypes.c_uint32()
+        with self._lock:
+            check(self._call("ask", ask._in_c(held), channel))
+        return channel.value if ask.kind == AskKind.OPEN else None
+
+    def queue(self, ask, done=None):
+        """Puts an ask after those that wait; its bytes are copied. Once it was made, `done(error, channel)` is called: `error` is None or what refused it, and
+        `channel` the number of the channel that it opened. `BadArgument`, `NoMemory`."""
+        held = Held()
+        with self._lock:
+            check(self._call("queue", ask._in_c(held)))
+            self._waiting.append((ask.kind, done))
+
+    @property
+    def queued(self):
+        """How many asks wait."""
+        with self._lock:
+            return self._call("queued")
+
+    def work(self):
+        """Makes the asks that wait, in their order, until one comes too early. `NoMemory`, after which the end is over."""
+        with self._lock:
+            while self._call("queued"):
+                channel = ctypes.c_uint32()
+                code = self._call("work", channel)
+                if is_later(code):
+                    return
+                kind, done = self._waiting.popleft()
+                if done is not None:
+                    done(error_of(code) if code != Code.DONE else None, channel.value if kind == AskKind.OPEN else None)
+                if code == Code.MEMORY:
+                    check(code)
+
+    def _queueing(self, name, *words):
+        code = self._call(name, *words)
+        while len(self._waiting) < self._call("queued"):
+            self._waiting.append((None, None))
+        check(code)
+
+    def decline(self):
+        """Queues the answer that the peer is owed for what `event` shows, where a program does not know what that is about. `NoMemory`."""
+        with self._lock:
+            self._queueing("decline")
+
+    def consume(self, channel, count):
+        """Says that so many bytes of data that came on the channel are done with. Once half of the window is, an ask that gives them back is queued."""
+        with self._lock:
+            self._queueing("consume", channel, count)
+
+    def send(self, channel, data, stream=0):
+        """Sends as much data as window and packet allow, at most 32,768 bytes, and returns how many: 0 where nothing fits. `stream` 0 is data, any other number
+        extended data of that kind. Errors as those of `ask`."""
+        taken = ctypes.c_size_t()
+        with self._lock:
+            check(self._call("send", channel, stream, bytes(data), len(data), taken))
+        return taken.value
+
+
+class ServerEnd(End):
+    """A server: `host_seed` is the seed of its host key, and `users` whom it lets in. `BadSetting`, `BadArgument`, `NoMemory`."""
+
+    def __init__(
+        self,
+        host_seed,
+        users=(),
+        *,
+        software=SOFTWARE,
+        epoch_limit=1 << 20,
+        tries=6,
+        methods=Methods.KEY | Methods.PASSWORD,
+        ciphers=Ciphers.AES_BOTH,
+        draw=os.urandom,
+    ):
+        held, users = Held(), list(users)
+        rows = (library.User * max(len(users), 1))()
+        rows[0].name = rows[0].login = library.none()
+        for row, user in zip(rows, users):
+            row.name, row.login, row.kind = held.bytes(user.name), held.bytes(user.login), user.kind
+        size = ctypes.sizeof(library.ServerSettings)
+        texts = held.bytes(software), held.bytes(host_seed)
+        super().__init__("dv_server", library.ServerSettings(size, *texts, rows, len(users), epoch_limit, tries, methods, ciphers), draw)
+
+
+class ClientEnd(End):
+    """A client: `host_key` is the public key of the one host to trust, and `user_seed` the seed of the user's key, no bytes where there is none.
+    `BadSetting`, `BadArgument`, `NoMemory`."""
+
+    def __init__(self, host_key, user_seed=b"", *, software=SOFTWARE, epoch_limit=1 << 20, ciphers=Ciphers.AES_BOTH, draw=os.urandom):
+        held = Held()
+        size = ctypes.sizeof(library.ClientSettings)
+        texts = held.bytes(software), held.bytes(host_key), held.bytes(user_seed)
+        super().__init__("dv_client", library.ClientSettings(size, *texts, epoch_limit, ciphers), draw)

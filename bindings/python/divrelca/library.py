@@ -1,0 +1,173 @@
+"""The shared library: its structs and calls, as `divrelca.h` declares them.
+
+It is looked for where DIVRELCA_LIBRARY says, else in this package, else in `build/` of the repository that holds the package.
+"""
+
+import ctypes
+import os
+import pathlib
+from ctypes import POINTER, c_bool, c_int32, c_size_t, c_uint8, c_uint32, c_void_p
+
+MAJOR = 1
+
+
+class Bytes(ctypes.Structure):
+    """dv_bytes."""
+
+    _fields_ = [("at", c_void_p), ("len", c_size_t)]
+
+    def copied(self):
+        """The bytes, copied."""
+        return ctypes.string_at(self.at, self.len)
+
+
+class Handle(ctypes.Structure):
+    """dv_server, dv_client."""
+
+    _fields_ = [("at", c_void_p)]
+
+
+class User(ctypes.Structure):
+    """dv_user."""
+
+    _fields_ = [("name", Bytes), ("login", Bytes), ("kind", c_uint32)]
+
+
+class ServerSettings(ctypes.Structure):
+    """dv_server_settings."""
+
+    _fields_ = [
+        ("size", c_size_t),
+        ("software", Bytes),
+        ("host_seed", Bytes),
+        ("users", POINTER(User)),
+        ("users_len", c_size_t),
+        ("epoch_limit", c_uint32),
+        ("tries", c_uint32),
+        ("methods", c_uint32),
+        ("ciphers", c_uint32),
+    ]
+
+
+class ClientSettings(ctypes.Structure):
+    """dv_client_settings."""
+
+    _fields_ = [
+        ("size", c_size_t),
+        ("software", Bytes),
+        ("host_key", Bytes),
+        ("user_seed", Bytes),
+        ("epoch_limit", c_uint32),
+        ("ciphers", c_uint32),
+    ]
+
+
+NUMBERS = [(name, c_uint32) for name in ("kind", "channel", "window", "max_packet", "number")]
+
+
+class Event(ctypes.Structure):
+    """dv_event."""
+
+    _fields_ = [*NUMBERS, ("took", c_uint8), ("flag", c_bool), ("extended", c_bool), ("name", Bytes), ("data", Bytes)]
+
+
+class Ask(ctypes.Structure):
+    """dv_ask."""
+
+    _fields_ = [*NUMBERS, ("flag", c_bool), ("name", Bytes), ("data", Bytes)]
+
+
+class Held:
+    """Bytes that C reads, kept alive as long as the structs that point at them."""
+
+    def __init__(self):
+        self.kept = []
+
+    def bytes(self, value):
+        """A dv_bytes of these bytes. It points at a byte also where there are none."""
+        kept = ctypes.create_string_buffer(bytes(value))
+        self.kept.append(kept)
+        return Bytes(ctypes.addressof(kept), len(value))
+
+
+def file():
+    """The file of the library that would be loaded, or None where there is none."""
+    named = os.environ.get("DIVRELCA_LIBRARY")
+    here = pathlib.Path(__file__).resolve().parent
+    places = [pathlib.Path(named)] if named else [here / "libdivrelca.so", *(it / "build" / "libdivrelca.so" for it in here.parents[2:3])]
+    return next((it for it in places if it.is_file()), None)
+
+
+def loaded():
+    """The library with its calls declared. OSError where it is missing, or where its version is another."""
+    path = file()
+    if path is None:
+        raise OSError("libdivrelca.so is not found: run `make lib`, or name it by DIVRELCA_LIBRARY")
+    library = ctypes.CDLL(str(path))
+    declare(library, "dv_version", c_uint32)
+    if library.dv_version() >> 16 != MAJOR:
+        raise OSError(f"{path} has version {library.dv_version() >> 16}, and version {MAJOR} is wanted")
+    key, number = c_uint8 * 32, POINTER(c_size_t)
+    declare(library, "dv_code_name", None, c_int32, POINTER(Bytes))
+    declare(library, "dv_message_name", None, c_uint8, POINTER(Bytes))
+    declare(library, "dv_private_key", c_int32, c_void_p, c_size_t, key, key, number)
+    declare(library, "dv_authorized_key", c_int32, c_void_p, c_size_t, c_size_t, key, number, number)
+    declare(library, "dv_known_host", c_int32, c_void_p, c_size_t, c_void_p, c_size_t, key, number)
+    declare(library, "dv_public_key", None, key, key)
+    declare_end(library, "dv_server", ServerSettings)
+    declare_end(library, "dv_client", ClientSettings)
+    return library
+
+
+def declare(library, name, answer, *words):
+    """What a call answers and takes."""
+    call = getattr(library, name)
+    call.restype = answer
+    call.argtypes = words
+
+
+def declare_end(library, name, settings):
+    """The calls of one end."""
+    end = POINTER(Handle)
+    declare(library, f"{name}_new", c_int32, end, POINTER(settings), c_void_p, c_void_p)
+    declare(library, f"{name}_free", None, Handle)
+    declare(library, f"{name}_take", c_int32, end, c_void_p, c_size_t, POINTER(c_size_t))
+    declare(library, f"{name}_event", None, end, POINTER(Event))
+    declare(library, f"{name}_output", None, end, POINTER(Bytes))
+    declare(library, f"{name}_written", None, end, c_size_t)
+    declare(library, f"{name}_feed", c_bool, end, c_void_p)
+    declare(library, f"{name}_is_over", c_bool, end)
+    declare(library, f"{name}_rekey_due", c_bool, end)
+    declare(library, f"{name}_room", c_uint32, end, c_uint32)
+    declare(library, f"{name}_ask", c_int32, end, POINTER(Ask), POINTER(c_uint32))
+    declare(library, f"{name}_queue", c_int32, end, POINTER(Ask))
+    declare(library, f"{name}_queued", c_size_t, end)
+    declare(library, f"{name}_work", c_int32, end, POINTER(c_uint32))
+    declare(library, f"{name}_decline", c_int32, end)
+    declare(library, f"{name}_send", c_int32, end, c_uint32, c_uint32, c_void_p, c_size_t, POINTER(c_size_t))
+    declare(library, f"{name}_consume", c_int32, end, c_uint32, c_size_t)
+
+
+LIBRARY = loaded()
+
+
+def none():
+    """A dv_bytes of no bytes, which points at one."""
+    return Bytes(ctypes.addressof(NONE), 0)
+
+
+NONE = (c_uint8 * 1)()
+
+
+def code_name(code):
+    """The name of a code, as "NotYet"; "UNKNOWN" where there is none."""
+    name = none()
+    LIBRARY.dv_code_name(code, name)
+    return name.copied().decode()
+
+
+def message_name(number):
+    """The name of a message of SSH by its number, as "KEXINIT"; "UNKNOWN" where there is none."""
+    name = none()
+    LIBRARY.dv_message_name(number, name)
+    return name.copied().decode()

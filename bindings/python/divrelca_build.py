@@ -1,0 +1,57 @@
+"""Makes the wheel that `pip install bindings/python` installs: the package and the built library, with nothing but the standard library.
+
+The library is `build/libdivrelca.so` of this repository, or the file that DIVRELCA_LIBRARY names.
+"""
+
+import base64
+import hashlib
+import os
+import pathlib
+import sysconfig
+import zipfile
+
+HERE = pathlib.Path(__file__).resolve().parent
+NAME, VERSION = "divrelca", "1.0"
+INFO = f"{NAME}-{VERSION}.dist-info"
+METADATA = f"""Metadata-Version: 2.1
+Name: {NAME}
+Version: {VERSION}
+Summary: A proved server and client of SSH-2, over the library for C
+License: Apache-2.0 OR MIT
+Requires-Python: >=3.9
+"""
+
+
+def library():
+    """The built library; a FileNotFoundError says how it is made."""
+    named = os.environ.get("DIVRELCA_LIBRARY")
+    file = pathlib.Path(named) if named else HERE.parents[1] / "build" / "libdivrelca.so"
+    if not file.is_file():
+        raise FileNotFoundError(f"{file} is not there: run `make lib` first, or name the library by DIVRELCA_LIBRARY")
+    return file
+
+
+def build_wheel(wheel_directory, config_settings=None, metadata_directory=None):
+    """Writes the wheel and returns the name of its file."""
+    platform = sysconfig.get_platform().replace("-", "_").replace(".", "_")
+    tag = f"py3-none-{platform}"
+    files = {f"{NAME}/{it.name}": it.read_bytes() for it in sorted((HERE / NAME).glob("*.py"))}
+    files[f"{NAME}/py.typed"] = b""
+    files[f"{NAME}/libdivrelca.so"] = library().read_bytes()
+    files[f"{INFO}/METADATA"] = METADATA.encode()
+    files[f"{INFO}/WHEEL"] = f"Wheel-Version: 1.0\nGenerator: {NAME}_build\nRoot-Is-Purelib: false\nTag: {tag}\n".encode()
+    lines = []
+    for name, body in files.items():
+        digest = base64.urlsafe_b64encode(hashlib.sha256(body).digest()).rstrip(b"=").decode()
+        lines.append(f"{name},sha256={digest},{len(body)}\n")
+    files[f"{INFO}/RECORD"] = ("".join(lines) + f"{INFO}/RECORD,,\n").encode()
+    wheel = f"{NAME}-{VERSION}-{tag}.whl"
+    with zipfile.ZipFile(pathlib.Path(wheel_directory) / wheel, "w", zipfile.ZIP_DEFLATED) as archive:
+        for name, body in files.items():
+            archive.writestr(name, body)
+    return wheel
+
+
+def build_sdist(sdist_directory, config_settings=None):
+    """A source archive would lack the library."""
+    raise NotImplementedError("the library is built by `make lib` of the repository, so there is no source archive of this package alone")
