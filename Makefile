@@ -61,5 +61,12 @@ bench: ## Ratios of this core's work: to the hashes that it has to compute, and 
 interop: ## Runs ssh_pipe against the implementations that are installed, and writes docs/INTEROP.md.
 	@PAGE="$(CURDIR)/docs/INTEROP.md" bash tools/interop.sh
 
+.PHONY: programs bindings
+programs: ## Builds the examples in C, a client and a server over the library that `make lib` left, as build/dvssh and build/dvsshd.
+	@sh tools/bindings.sh programs
+
+bindings: ## Tests the libraries for Python and Rust over the library that `make lib` left.
+	@sh tools/bindings.sh test
+
 constant-time: ## Runs the ciphers and curves under valgrind with secrets marked undefined, and finds a branch that is planted. Status 77: skipped.
 	@sh tools/constant_time.sh
