@@ -1,0 +1,70 @@
+//! Keys, all of ssh-ed25519, in files of OpenSSH. An error has the line at which it stands; 0 is the file as a whole.
+
+use crate::Error;
+use divrelca_sys as sys;
+
+/// What a key file lacks, and in which line, counted from 1; 0 is the file as a whole.
+#[derive(Clone, Copy, Debug, PartialEq, Eq)]
+pub struct FileError {
+    pub error: Error,
+    pub line: usize,
+}
+
+impl std::fmt::Display for FileError {
+    fn fmt(&self, f: &mut std::fmt::Formatter<'_>) -> std::fmt::Result {
+        write!(f, "{} in line {}", self.error, self.line)
+    }
+}
+
+impl std::error::Error for FileError {}
+
+fn check(code: i32, line: usize) -> Result<(), FileError> {
+    Error::check(code).map_err(|error| FileError { error, line })
+}
+
+/// The seed and the public key of a private key file without a passphrase.
+///
+/// # Errors
+/// Where the text is none.
+pub fn private_key(text: &[u8]) -> Result<([u8; 32], [u8; 32]), FileError> {
+    let (mut seed, mut key, mut line) = ([0; 32], [0; 32], 0);
+    // SAFETY: the text is read during the call, and each pointer has room for its type.
+    let code = unsafe { sys::dv_private_key(text.as_ptr(), text.len(), &mut seed, &mut key, &mut line) };
+    check(code, line).map(|()| (seed, key))
+}
+
+/// The public keys of a file of the form of authorized_keys.
+///
+/// # Errors
+/// Where a line is none, or has options, or there is no key.
+pub fn authorized_keys(text: &[u8]) -> Result<Vec<[u8; 32]>, FileError> {
+    let (mut keys, mut count) = (Vec::new(), 1);
+    while keys.len() < count {
+        let (mut key, mut line) = ([0; 32], 0);
+        // SAFETY: as above.
+        let code = unsafe { sys::dv_authorized_key(text.as_ptr(), text.len(), keys.len(), &mut key, &mut count, &mut line) };
+        check(code, line)?;
+        keys.push(key);
+    }
+    Ok(keys)
+}
+
+/// The one key that a file of the form of known_hosts has for this host, "example.org", or "[example.org]:2222" where the port is not 22. A host of no bytes
+/// stands for any.
+///
+/// # Errors
+/// Where there is no such key, or more than one, or it is revoked.
+pub fn known_host(text: &[u8], host: &str) -> Result<[u8; 32], FileError> {
+    let (mut key, mut line) = ([0; 32], 0);
+    // SAFETY: as above.
+    let code = unsafe { sys::dv_known_host(text.as_ptr(), text.len(), host.as_ptr(), host.len(), &mut key, &mut line) };
+    check(code, line).map(|()| key)
+}
+
+/// The public key of a seed.
+pub fn public_key(seed: &[u8; 32]) -> [u8; 32] {
+    let mut key = [0; 32];
+    // SAFETY: both pointers are of 32 bytes.
+    unsafe { sys::dv_public_key(seed, &mut key) };
+    key
+}
