@@ -495,6 +495,7 @@ where_the_time_goes() {
 
 # ---- all of it
 
+. "$tools/interop/library.sh"
 stock_client
 both_ends
 if [ -x "$sshd" ] && [ "$(id -u)" = 0 ]; then
@@ -508,6 +509,7 @@ fi
 with_putty
 with_asyncssh
 without_common
+with_library
 # The commands that README, docs and help print, with the programs in build/.
 if [ -x "$top/build/ssh_pipe" ]; then
     python3 "$tools/printed.py" proved || failed=$((failed + 1))
