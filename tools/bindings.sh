@@ -27,7 +27,7 @@ tests() {
     if ! command -v python3 >/dev/null 2>&1; then
         skip "the tests of bindings/python" python3
     else
-        (cd "$top/bindings/python" && PYTHONDONTWRITEBYTECODE=1 DIVRELCA_LIBRARY="$build/libdivrelca.so" python3 -m unittest)
+        (cd "$top/bindings/python" && PYTHONDONTWRITEBYTECODE=1 DIVRELCA_LIBRARY="$build/libdivrelca.so" python3 -m unittest discover -s tests -t .)
     fi
     if ! command -v cargo >/dev/null 2>&1; then
         skip "the tests of bindings/rust" cargo
