@@ -56,7 +56,7 @@ class Aio(unittest.IsolatedAsyncioTestCase):
         self.assertIn("refused", str(refused.exception))
 
     async def test_much_data_in_several_channels(self):
-        body = os.urandom(3_000_000)
+        body = os.urandom(500_000)
         async with await self.connect(epoch_limit=64) as connection:
             done = await asyncio.gather(*(connection.run(str(it), body) for it in range(3)))
             self.assertEqual([it.status for it in done], [0, 1, 2])
@@ -65,13 +65,13 @@ class Aio(unittest.IsolatedAsyncioTestCase):
     async def test_slow_reader_stops_its_peer(self):
         async with await self.connect() as connection:
             process = await connection.start("0")
-            process.stdin.write(bytes(16_000_000))
+            process.stdin.write(bytes(6_000_000))
             with self.assertRaises(asyncio.TimeoutError):
                 await asyncio.wait_for(process.stdin.drain(), 1.0)
             reading = asyncio.ensure_future(process.stdout.read())
             await process.stdin.drain()
             process.stdin.write_eof()
-            self.assertEqual(len(await reading), 16_000_000)
+            self.assertEqual(len(await reading), 6_000_000)
 
     async def test_handler_that_fails(self):
         told = []
