@@ -1,5 +1,5 @@
 .DEFAULT_GOAL := help
-.PHONY: help demo quick build trace pipe embedding lib test cases times falsify sweep memory bench interop constant-time
+.PHONY: help demo quick build trace pipe embedding lib test cases times falsify sweep memory bench interop programs bindings constant-time
 
 RT ?= rt
 export RT
@@ -61,7 +61,6 @@ bench: ## Ratios of this core's work: to the hashes that it has to compute, and 
 interop: ## Runs ssh_pipe against the implementations that are installed, and writes docs/INTEROP.md.
 	@PAGE="$(CURDIR)/docs/INTEROP.md" bash tools/interop.sh
 
-.PHONY: programs bindings
 programs: ## Builds the examples in C, a client and a server over the library that `make lib` left, as build/dvssh and build/dvsshd.
 	@sh tools/bindings.sh programs
 
