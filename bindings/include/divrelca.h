@@ -216,7 +216,7 @@ enum dv_kind {
   DV_DATA = 22,         /* [channel, data; extended; number: the kind of extended data, 1 of standard error] */
   DV_ADJUSTED = 23,     /* the window for this end's data grew [channel; number: by how many bytes] */
   DV_ENDED = 24,        /* the peer sends no more data [channel] */
-  DV_CLOSED = 25,       /* the peer closed the channel [channel] */
+  DV_CLOSED = 25,       /* the peer closed the channel, and has its CLOSE back [channel] */
   DV_REQUESTED = 26,    /* a request on a channel [channel, name; flag: a reply is wanted; data] */
   DV_REQUEST_DONE = 27  /* the reply to this end's oldest one on the channel [channel; flag: success] */
 };
