@@ -1,5 +1,5 @@
 .DEFAULT_GOAL := help
-.PHONY: help demo quick build trace pipe embedding lib test cases times falsify sweep memory bench interop programs bindings constant-time
+.PHONY: help demo quick build trace pipe embedding lib lib-test test cases times falsify sweep memory bench interop programs bindings constant-time
 
 RT ?= rt
 export RT
@@ -28,13 +28,15 @@ embedding: ## The same of the client and the server that docs/EMBEDDING.md has i
 lib: ## Proves the library for C and leaves it as build/libdivrelca.a and build/libdivrelca.so, with its header: docs/C.md.
 	@sh tools/lib.sh
 
+lib-test: ## Makes the library for C and runs its test, a session in memory, with the archives of both compilers.
+	@sh tools/lib.sh test
+
 test: ## The whole gate, everything from nothing, a misuse that has to be refused, the programs on their cases, and each allocation refused in turn: docs/TIMES.md has how long it takes.
 	$(RT) ci
 	@sh tools/misuse.sh
 	@python3 tools/cases.py
 	@python3 tools/pictures.py drawn
 	@PROGRAM=$(CURDIR)/crates/ssh_runs/out/ssh_runs sh tools/memory.sh
-	@sh tools/lib.sh test
 
 cases: ## Runs the programs on their cases: words, scripts, files, what they print, and exit statuses. The first time they are proved and built.
 	@sh tools/build.sh ssh_trace ssh_pipe ssh_embedding
