@@ -1,5 +1,7 @@
 //! Why a file is not what it has to be.
 
+ghost use Rattle.ssh_key_files.specs.declared.fault.FileFault.TheVariants as file_fault;
+
 use std::alloc::AllocError;
 use thiserror::Error;
 
@@ -74,6 +76,10 @@ pub enum FileFault {
 }
 
 impl From<AllocError> for FileFault {
+    ghost use Rattle.std.specs.Prelude.{◌≡◌};
+
+    ghost from_gives = { λ _ fault. fault ≡ file_fault.Memory };
+
     fn from(_error: AllocError) -> FileFault {
         FileFault::Memory
     }

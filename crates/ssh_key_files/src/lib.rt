@@ -9,10 +9,12 @@
 #![tactic(auto)]
 
 mod armor;
+mod digits;
 mod fault;
 mod host_names;
 mod known_hosts;
 mod openssh_key;
+mod parts;
 mod password_line;
 mod public_key;
 mod user_keys;

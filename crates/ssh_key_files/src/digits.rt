@@ -1,0 +1,19 @@
+//! Bytes that stand in a file as base64.
+
+ghost use Rattle.std.specs.Prelude.{◌≡◌, length};
+ghost use Rattle.std.specs.Bool.{OnFalse, OnTrue};
+ghost use Rattle.ssh_key_files.specs.Keys.{bytes_in};
+
+use base64::engine::general_purpose::STANDARD;
+
+/// Writes the bytes that base64 digits are (RFC 4648 section 4), and tests whether they are as many as there is room for.
+pub(crate) fn decoded(digits: &[u8], out: &mut [u8]) -> bool
+    ensures taken { OnTrue result (bytes_in (length out.old) digits.now ≡ Some out.new) }
+    ensures refused { OnFalse result (bytes_in (length out.old) digits.now ≡ None) }
+{
+    let room = out.len();
+    match STANDARD.decode_slice(digits, out) {
+        Ok(count) => count == room,
+        Err(_) => false,
+    }
+}
