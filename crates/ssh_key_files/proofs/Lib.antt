@@ -1,4 +1,5 @@
 pub mod Cuts
 pub mod Decoding
+pub mod Fields
 pub mod Naming
 pub mod Reading

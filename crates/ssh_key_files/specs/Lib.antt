@@ -5,3 +5,4 @@ pub mod HostNames
 pub mod KnownHosts
 pub mod Passwords
 pub mod UserKeys
+pub mod PrivateKeys
