@@ -1,6 +1,5 @@
 -- When decoding into a slice gives as many bytes as the slice has.
-use Rattle.std.proofs.Common.{◌≡◌, ℕ, zero, suc, ◌+◌, ◌*◌, ◌/◌, ◌<◌, ◌≤◌, Bool, true, false, cond, eqb, ltb, List, [], ◌∷◌, ◌++◌, length, drop, Option, Some, None, Result, Ok, Err, if◌then◌else◌, nat_lt, nat_eq, ◌==◌, refl, sym, ap, inl, inr, ◌∙◌, arith, length-append, append-nil, eqb-true, ltb-true}
-use Rattle.std.specs.Bool.{OnTrue, OnFalse}
+use Rattle.std.proofs.Common.{◌≡◌, ℕ, zero, suc, ◌+◌, ◌*◌, ◌/◌, ◌<◌, ◌≤◌, Bool, true, false, cond, eqb, ltb, List, [], ◌∷◌, ◌++◌, length, drop, Option, Some, None, Result, Ok, Err, if◌then◌else◌, nat_lt, nat_eq, ◌==◌, refl, sym, ap, inl, inr, ◌∙◌, arith, length-append, append-nil, eq-eqb, eqb-true, ltb-true, ne_eqb}
 use Rattle.std.proofs.lemmas.Bool.{cases_Bool}
 use Rattle.std.proofs.lemmas.Bool.Decides.{nat_tests}
 use Rattle.std.proofs.lemmas.List.{drop_all}
@@ -82,22 +81,18 @@ length-of count (Ok found) bytes e =
     ]
 
 -- a filled slice is the bytes
-taken : (s old new : List ℕ) (n : ℕ) → Ok n ≡ decode_slice_of standard s (length old) → IsWrittenOver (decoded_bytes_of standard s) old new → nat_eq n (length old) ≡ true → bytes_in (length old) s ≡ Some new
+pub taken : (s old new : List ℕ) (n : ℕ) → Ok n ≡ decode_slice_of standard s (length old) → IsWrittenOver (decoded_bytes_of standard s) old new → n ≡ length old → bytes_in (length old) s ≡ Some new
 unfolding bytes_in
 taken s old new n e w same =
     let b : List ℕ = decoded_bytes_of standard s in
-    let found : bytes_in (length old) s ≡ Some b = counted s (length old) n e ∙ ap (λ (t : Bool). if t then Some b else None) same in
+    let found : bytes_in (length old) s ≡ Some b = counted s (length old) n e ∙ ap (λ (t : Bool). if t then Some b else None) (eq-eqb n (length old) same) in
     let size : length b ≡ length old = length-of (length old) (decode_of standard s) b found in
     let none : drop (length b) old ≡ [] = drop_all (length b) old (omega arith) in
     let whole : new ≡ b = w ∙ ap (λ (l : List ℕ). b ++ l) none ∙ append-nil b in
     found ∙ ap (λ (l : List ℕ). Some l) (sym whole)
 
 -- a slice that is not filled
-not_taken : (s old : List ℕ) (n : ℕ) → Ok n ≡ decode_slice_of standard s (length old) → nat_eq n (length old) ≡ false → bytes_in (length old) s ≡ None
-not_taken s old n e other = counted s (length old) n e ∙ ap (λ (t : Bool). if t then Some (decoded_bytes_of standard s) else None) other
-
--- the test whether a slice is filled tells whether it has the bytes
-pub tells : (s old new : List ℕ) (n : ℕ) (r : Bool) → Ok n ≡ decode_slice_of standard s (length old) → IsWrittenOver (decoded_bytes_of standard s) old new → r ≡ nat_eq n (length old) →
-    OnTrue r (bytes_in (length old) s ≡ Some new) × OnFalse r (bytes_in (length old) s ≡ None)
-tells s old new n true e w t = (taken s old new n e w (sym t), tt)
-tells s old new n false e w t = (tt, not_taken s old n e (sym t))
+pub not_taken : (s old : List ℕ) (n : ℕ) → Ok n ≡ decode_slice_of standard s (length old) → (n ≡ length old → ⊥) → bytes_in (length old) s ≡ None
+not_taken s old n e other =
+    let unlike : nat_eq n (length old) ≡ false = ne_eqb n (length old) other in
+    counted s (length old) n e ∙ ap (λ (t : Bool). if t then Some (decoded_bytes_of standard s) else None) unlike
