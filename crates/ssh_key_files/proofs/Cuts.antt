@@ -1,5 +1,5 @@
 -- A text is cut at the first byte that ends a part.
-use Rattle.std.proofs.Common.{◌≡◌, ℕ, ◌≤◌, ◌+◌, Bool, false, List, [], ◌∷◌, ◌++◌, length, ltb, take, drop, get_or, take-append-drop, Some, None, refl, sym, ap, inl, inr, ◌∙◌, arith, All, position}
+use Rattle.std.proofs.Common.{◌≡◌, ℕ, ◌≤◌, ◌+◌, false, List, [], ◌∷◌, ◌++◌, length, ltb, take, drop, get_or, take-append-drop, Some, None, refl, sym, ap, inl, inr, ◌∙◌, arith, All, position}
 use Rattle.std.specs.List.{slice_split, onto_first, position_or_len}
 use Rattle.std.proofs.lemmas.Bool.{cases_Bool, cond-true, ltb-false}
 use Rattle.std.proofs.lemmas.Grind.{common_steps}
