@@ -1,9 +1,23 @@
 //! What comes to an end of a run, and what does not.
 
-use crate::drawing::{Arrow, Drawing, MOST_SAID, Stand};
-use crate::reading::{Kind, Reading, reading_of};
+use crate::Result;
+use crate::drawing::Drawing;
+use crate::end::End;
+use crate::places::Column;
+use crate::text::push_refusal;
 use ssh_types::Side;
-use std::alloc::AllocError;
+
+/// An arrow to a row of a side.
+#[derive(Clone, Copy, Debug, PartialEq, Eq)]
+pub(crate) struct Arrow {
+    /// The row of the other side in which it begins. None where it begins in the network, since nobody sent what it stands for.
+    pub start: Option<usize>,
+    pub to: Side,
+    pub row: usize,
+    /// What was done to what it stands for. If anything was, a text stands where it leaves the network, and it ends there.
+    pub word: &'static str,
+    pub is_hot: bool,
+}
 
 /// What an end does with what came to it.
 #[derive(Clone, Copy)]
@@ -12,178 +26,141 @@ pub(crate) enum Outcome<'a> {
     Taken(&'a str),
     /// It refuses it with this.
     Refused(&'a str),
-    /// It does not read it, for this.
-    Unread(&'a str),
+    /// It is over, or waits for more.
+    Unread,
+}
+
+/// What came, next to what was sent.
+#[derive(Clone, Copy)]
+struct Reading {
+    /// What was done to it, if anything was.
+    word: &'static str,
+    /// Whether it came besides what waits.
+    is_foreign: bool,
+    /// How many bytes it has.
+    count: usize,
+    /// The units that it is from: the index of the first, and that after the last.
+    first: usize,
+    last: usize,
 }
 
 impl Drawing {
     /// An end does this with what came to it.
-    pub(crate) fn arrive(&mut self, to: Side, outcome: Outcome<'_>) -> Result<(), AllocError> {
-        let arrived = self.end_mut(to).take_arrived();
-        if arrived.bytes.is_empty() {
-            return self.stop(to, outcome);
-        }
-        let reading = reading_of(&arrived, self.end(to).read, self.end(to.peer()));
-        if let Some((_, read)) = arrived.waited {
-            self.end_mut(to).read = read;
-        }
-        let name = self.name_of(to.peer(), &reading, outcome, arrived.bytes.len())?;
-        let mut said = String::from_str(self.alloc, reading.kind.word())?;
-        if let Outcome::Unread(why) = outcome {
-            push_part(&mut said, why)?;
-        }
-        let is_hot = reading.kind.is_hot() || matches!(outcome, Outcome::Refused(_));
-        let row = self.row_of(to, &reading, name.as_str())?;
-        self.draw_arrival(to, row, &reading, is_hot, said.as_str())?;
-        match outcome {
-            Outcome::Taken(_) => push_part(&mut said, "taken")?,
-            Outcome::Refused(refusal) => {
-                let text = format!(in self.alloc; "refused {refusal}")?;
-                push_part(&mut said, text.as_str())?;
-                self.put_outside(to, true, text)?;
-                let (side, name) = (word_of(to), name.as_str());
-                let line = format!(in self.alloc; "The {side} refused {name} with {refusal}.")?;
-                self.refusals.push(line)?;
+    pub(crate) fn arrive(&mut self, to: Side, outcome: Outcome<'_>) -> Result<()> {
+        let mut name = String::from_str(self.alloc, "to go on")?;
+        if !self.end(to).unread.is_empty() {
+            let mut reading = reading_of(self.end(to), self.end(to.peer()));
+            if matches!(outcome, Outcome::Unread) {
+                reading.word = "not read";
             }
-            Outcome::Unread(_) => {}
+            self.end_mut(to).settle();
+            name = self.show(to, &reading, outcome)?;
         }
-        self.say(to.peer(), name.as_str(), said.as_str())
-    }
-
-    // An end refuses what no end sent: its own numbers are spent.
-    fn stop(&mut self, side: Side, outcome: Outcome<'_>) -> Result<(), AllocError> {
-        let Outcome::Refused(refusal) = outcome else {
-            return Ok(());
-        };
-        let text = format!(in self.alloc; "refused {refusal}")?;
-        self.put_outside(side, true, text)?;
-        let line = format!(in self.alloc; "The {} stopped with {refusal}.", word_of(side))?;
-        self.refusals.push(line)?;
+        if let Outcome::Refused(refusal) = outcome {
+            push_refusal(&mut self.verdict, to, name.as_str(), refusal)?;
+        }
         Ok(())
     }
 
-    // The row of a side to which this comes. What its peer did not send now stands at the network in a row of that one.
-    fn row_of(&mut self, to: Side, reading: &Reading, name: &str) -> Result<usize, AllocError> {
-        if reading.kind.is_foreign() {
-            let from = to.peer();
-            let row = self.next_row(from, self.client.rows.max(self.server.rows));
-            let text = String::from_str(self.alloc, name)?;
-            self.put(from, row, Stand::Network, true, text)?;
-            return Ok(self.next_row(to, row));
+    /// So many of the next bytes that wait at an end are lost.
+    ///
+    /// # Errors
+    ///
+    /// Only where memory is refused.
+    pub fn lose(&mut self, from: Side, count: usize) -> Result<()> {
+        let start = self.end_mut(from).pass(count);
+        let stop = self.end(from).passed;
+        let (first, last) = self.end(from).touched(start, stop);
+        // What was put out after the last byte that came is lost.
+        let to = self.end(from.peer());
+        let came = to.waited.map_or(to.read, |(_, end)| end);
+        for first in first..last {
+            let unit = self.end(from).units.get(first);
+            if unit.is_some_and(|unit| unit.start >= came && unit.end <= stop) {
+                let reading = Reading {
+                    word: "lost",
+                    is_foreign: false,
+                    count: 0,
+                    first,
+                    last: first.saturating_add(1),
+                };
+                self.show(from.peer(), &reading, Outcome::Unread)?;
+            }
         }
-        let last = reading.last.saturating_sub(1);
-        let unit = self.end(to.peer()).units.get(last);
-        let label = unit.and_then(|unit| self.labels.get(unit.label));
-        let least = label.map_or(0, |label| label.row);
-        Ok(self.next_row(to, least))
+        Ok(())
     }
 
-    // Draws an arrow for each unit that comes to a row, or one from the network, and what is said of it.
-    fn draw_arrival(
-        &mut self,
-        to: Side,
-        row: usize,
-        reading: &Reading,
-        is_hot: bool,
-        note: &str,
-    ) -> Result<(), AllocError> {
+    // Shows in a row what came, or did not: an arrow for each unit, or one from the network, and what was done to it. Gives its name: that of its first unit, or
+    // else what the end took it as.
+    fn show(&mut self, to: Side, reading: &Reading, outcome: Outcome<'_>) -> Result<String> {
+        let name = match (self.end(to.peer()).units.get(reading.first), outcome) {
+            (Some(unit), _) if reading.first < reading.last => unit.name.clone()?,
+            (_, Outcome::Taken(name)) => String::from_str(self.alloc, name)?,
+            _ => format!(in self.alloc; "{} bytes", reading.count)?,
+        };
+        let row = self.row_of(to, reading);
+        let (word, is_noted) = (reading.word, !reading.word.is_empty());
+        if is_noted {
+            let text = format!(in self.alloc; "{word}: {name}")?;
+            self.put(row, Column::Inner(to), true, text.as_str())?;
+        }
         let mut arrow = Arrow {
             start: None,
             to,
             row,
-            is_noted: !note.is_empty(),
-            is_lost: reading.kind == Kind::Lost,
-            is_hot,
+            word,
+            is_hot: is_noted || matches!(outcome, Outcome::Refused(_)),
         };
-        if arrow.is_noted {
-            let text = String::from_str(self.alloc, note)?;
-            self.put(to, row, Stand::Network, is_hot, text)?;
-        }
-        if reading.kind.is_foreign() {
+        if reading.is_foreign {
             self.arrows.push(arrow)?;
-            return Ok(());
+            return Ok(name);
         }
         for index in reading.first..reading.last {
             let unit = self.end(to.peer()).units.get(index);
-            arrow.start = unit.map(|unit| unit.label);
+            arrow.start = unit.map(|unit| unit.row);
             self.arrows.push(arrow)?;
         }
-        Ok(())
+        Ok(name)
     }
 
-    /// All bytes of a unit are lost.
-    pub(crate) fn note_loss(&mut self, from: Side, unit: usize) -> Result<(), AllocError> {
-        let reading = Reading {
-            kind: Kind::Lost,
-            first: unit,
-            last: unit.saturating_add(1),
+    // The row of a side to which something comes: none above those in which it was sent. What its peer did not send now has a row of that one too.
+    fn row_of(&mut self, to: Side, reading: &Reading) -> usize {
+        let last = reading.last.saturating_sub(1);
+        let least = match self.end(to.peer()).units.get(last) {
+            Some(unit) if !reading.is_foreign => unit.row,
+            _ => self.client.rows().max(self.server.rows()),
         };
-        let name = self.name_of(from, &reading, Outcome::Unread(""), 0)?;
-        let row = self.row_of(from.peer(), &reading, name.as_str())?;
-        self.draw_arrival(from.peer(), row, &reading, true, "lost")?;
-        self.say(from, name.as_str(), "lost")
-    }
-
-    /// What a side sent and still waits is shown so.
-    pub(crate) fn note_waiting(&mut self, from: Side) -> Result<(), AllocError> {
-        for index in 0..self.end(from).units.len() {
-            let end = self.end(from);
-            let unit = match end.units.get(index) {
-                Some(unit) if unit.end > end.passed => unit,
-                _ => continue,
-            };
-            let (label, name) = (unit.label, unit.name.clone()?);
-            if let Some(label) = self.labels.get_mut(label) {
-                label.text.push_str(", waits")?;
-            }
-            self.say(from, name.as_str(), "waits")?;
+        if reading.is_foreign {
+            self.end_mut(to.peer()).row_of_deed(least);
         }
-        Ok(())
-    }
-
-    // What came, by the messages that it is from or else by what the end took it as.
-    fn name_of(
-        &self,
-        from: Side,
-        reading: &Reading,
-        outcome: Outcome<'_>,
-        count: usize,
-    ) -> Result<String, AllocError> {
-        let more = reading.last.saturating_sub(reading.first).saturating_sub(1);
-        match (self.end(from).units.get(reading.first), outcome) {
-            (Some(unit), _) if reading.first < reading.last => {
-                let mut name = unit.name.clone()?;
-                if more > 0 {
-                    write!(name, " and {more} more")?;
-                }
-                Ok(name)
-            }
-            (_, Outcome::Taken(name)) => String::from_str(self.alloc, name),
-            _ => format!(in self.alloc; "{count} bytes"),
-        }
-    }
-
-    // Adds to the description what became of something that a side sent.
-    fn say(&mut self, from: Side, name: &str, said: &str) -> Result<(), AllocError> {
-        if self.said < MOST_SAID {
-            let begin = if self.said == 0 { "In order: " } else { "; " };
-            write!(self.words, "{begin}{} {name}: {said}", word_of(from))?;
-        }
-        self.said = self.said.saturating_add(1);
-        Ok(())
+        self.end_mut(to).row_of_deed(least)
     }
 }
 
-// A side in words.
-fn word_of(side: Side) -> &'static str {
-    match side {
-        Side::Client => "client",
-        Side::Server => "server",
+// What came to an end and was not read yet, next to what the other one sent. What did not wait there is from a unit where it is all bytes of that.
+fn reading_of(end: &End, sender: &End) -> Reading {
+    let is_foreign = end.waited.is_none();
+    let (start, stop) = end.waited.or(end.again).unwrap_or((0, 0));
+    let (first, last) = sender.touched(start, stop);
+    let unit = sender.units.get(first);
+    let is_unit = unit.is_some_and(|unit| unit.start == start && unit.end == stop);
+    let from = unit.map_or(start, |unit| unit.start.max(end.read));
+    let to = from.saturating_add(end.unread.len());
+    let is_same = sender.bytes.as_slice().get(from..to) == Some(end.unread.as_slice());
+    let is_early = start >= sender.passed;
+    let (word, last) = match end.again {
+        _ if !is_foreign => (if is_same { "" } else { "changed" }, last),
+        Some(_) if !end.is_given => (
+            if is_early { "out of order" } else { "repeated" },
+            if is_unit { last } else { first },
+        ),
+        _ => ("injected", first),
+    };
+    Reading {
+        word,
+        is_foreign,
+        count: end.unread.len(),
+        first,
+        last,
     }
-}
-
-// Adds a part to a text, after a comma where there is one before it.
-fn push_part(text: &mut String, part: &str) -> Result<(), AllocError> {
-    text.push_str(if text.is_empty() { "" } else { ", " })?;
-    text.push_str(part)
 }

@@ -2,8 +2,8 @@
 
 ghost use Rattle.std.specs.Prelude.{◌≡◌, ◌+◌, ◌<◌, max};
 
-use std::alloc::{AllocError, Global};
-use std::mem;
+use crate::Result;
+use std::alloc::Global;
 
 /// Where bytes that come to an end are from.
 #[derive(Clone, Copy, Debug, PartialEq, Eq)]
@@ -24,21 +24,9 @@ pub(crate) struct Unit {
     /// Where it begins and ends among all bytes that its end put out.
     pub start: usize,
     pub end: usize,
-    /// How many of its bytes were lost.
-    pub lost: usize,
-    /// Which of the labels of the picture shows it.
+    /// In which row it was sent, and which of the labels shows it.
+    pub row: usize,
     pub label: usize,
-}
-
-/// Bytes that came to an end and that it did not read yet.
-#[derive(Drop)]
-pub(crate) struct Arrived {
-    pub bytes: Vec<u8>,
-    /// From where to where those that waited at the other end reach among all that it put out.
-    pub waited: Option<(usize, usize)>,
-    /// The same of those that it had put out and that came besides.
-    pub again: Option<(usize, usize)>,
-    pub is_given: bool,
 }
 
 #[derive(Drop)]
@@ -49,19 +37,21 @@ pub(crate) struct End {
     pub bytes: Vec<u8>,
     /// How many of them wait no longer.
     pub passed: usize,
+    /// What came to it and was not read yet.
+    pub unread: Vec<u8>,
+    /// From where to where those of it that waited at the other end reach among all that this put out, and those that came besides.
+    pub waited: Option<(usize, usize)>,
+    pub again: Option<(usize, usize)>,
+    /// Whether some of it is from neither end.
+    pub is_given: bool,
     /// How many of the other end's bytes it read, or never will since others came for them.
     pub read: usize,
-    pub arrived: Arrived,
-    /// How many rows of its half are taken.
-    pub rows: usize,
-    /// The row of what it did last on what happens now, and the last row with a text outside of its lifeline.
-    pub last: Option<usize>,
-    pub outer: Option<usize>,
-    /// What it is asked for, where no row shows that yet.
-    pub asked: Option<String>,
+    /// How many rows are taken inside of its lifeline, and outside.
+    inner: usize,
+    outer: usize,
     /// The first row of each epoch of what it sends.
     pub epochs: Vec<usize>,
-    /// The row in which it died.
+    /// How many of its rows were taken when it died.
     pub death: Option<usize>,
 }
 
@@ -69,123 +59,112 @@ pub(crate) struct End {
 const TAG: usize = 32;
 
 impl End {
-    pub(crate) fn new(alloc: Global) -> End {
-        End {
+    /// An end that did nothing, with the keys of an epoch or with none.
+    pub(crate) fn new(alloc: Global, is_epoch: bool) -> Result<End> {
+        let mut epochs = Vec::new(alloc);
+        if is_epoch {
+            epochs.push(0)?;
+        }
+        Ok(End {
             alloc,
             units: Vec::new(alloc),
             bytes: Vec::new(alloc),
             passed: 0,
+            unread: Vec::new(alloc),
+            waited: None,
+            again: None,
+            is_given: false,
             read: 0,
-            arrived: Arrived::new(alloc),
-            rows: 0,
-            last: None,
-            outer: None,
-            asked: None,
-            epochs: Vec::new(alloc),
+            inner: 0,
+            outer: 0,
+            epochs,
             death: None,
-        }
+        })
     }
 
-    /// It sent a unit, whose bytes are put out already and which this label shows.
-    pub(crate) fn send(&mut self, name: &str, label: usize) -> Result<(), AllocError> {
+    /// It sent a unit, whose bytes are put out already. A NEWKEYS begins an epoch below it (RFC 4253 section 7.3), except where the keys were given.
+    pub(crate) fn send(&mut self, name: &str, row: usize, label: usize) -> Result<()> {
         let start = self.units.last().map_or(0, |unit| unit.end);
-        let size = match self.bytes.as_slice().get(start..) {
-            Some(rest) => size_of(rest, name.starts_with("line "), !self.epochs.is_empty()),
-            None => 0,
-        };
+        let rest = self.bytes.as_slice().get(start..).unwrap_or(&[]);
+        let size = size_of(rest, name.starts_with("line "), !self.epochs.is_empty());
         self.units.push(Unit {
             name: String::from_str(self.alloc, name)?,
             start,
             end: start.saturating_add(size).min(self.bytes.len()),
-            lost: 0,
+            row,
             label,
         })?;
+        if name.starts_with("21 ") && self.epochs.first().copied() != Some(0) {
+            self.epochs.push(row.saturating_add(1))?;
+        }
         Ok(())
     }
 
-    /// So many of the next bytes that wait do so no longer: where they begin and end.
-    pub(crate) fn pass(&mut self, count: usize) -> (usize, usize) {
+    /// So many of the next bytes that wait do so no longer. Gives after how many others they were put out.
+    pub(crate) fn pass(&mut self, count: usize) -> usize {
         let start = self.passed;
         self.passed = start.saturating_add(count).min(self.bytes.len());
-        (start, self.passed)
+        start
     }
 
     /// The units that have bytes from `start` to before `end`: the index of the first, and that after the last.
     pub(crate) fn touched(&self, start: usize, end: usize) -> (usize, usize) {
         let units = self.units.as_slice();
-        (
-            units.partition_point(|unit| unit.end <= start),
-            units.partition_point(|unit| unit.start < end),
-        )
+        let first = units.partition_point(|unit| unit.end <= start);
+        (first, units.partition_point(|unit| unit.start < end))
     }
 
-    /// Tests whether one ends with the last byte that waits no longer.
-    pub(crate) fn is_between_units(&self) -> bool {
-        let units = self.units.as_slice();
-        let next = units.partition_point(|unit| unit.end < self.passed);
-        units.get(next).is_some_and(|unit| unit.end == self.passed)
+    /// More bytes came, of which the other end put out the first after `start` others.
+    pub(crate) fn hear(&mut self, origin: Origin, start: usize, bytes: &[u8]) -> Result<()> {
+        let end = start.saturating_add(bytes.len());
+        match origin {
+            Origin::Next => self.waited = Some((self.waited.map_or(start, |it| it.0), end)),
+            Origin::Again { .. } => self.again = Some((self.again.map_or(start, |it| it.0), end)),
+            Origin::Script => self.is_given = true,
+        }
+        self.unread.extend_from_slice(bytes)
     }
 
-    /// The next row of its half, none above this one: below all rows that it gave before.
-    pub(crate) fn next_row(&mut self, least: usize) -> usize
-        ensures row { result ≡ max self.old.rows least }
-        ensures taken { result < usize.MAX → self.new.rows ≡ result + 1 }
-    {
-        let row = self.rows.max(least);
-        self.rows = row.saturating_add(1);
-        self.last = Some(row);
+    /// What came is read.
+    pub(crate) fn settle(&mut self) {
+        if let Some((_, read)) = self.waited.take() {
+            self.read = read;
+        }
+        self.again = None;
+        self.is_given = false;
+        self.unread.clear();
+    }
+
+    /// How many rows of its half are taken.
+    pub(crate) fn rows(&self) -> usize {
+        self.inner.max(self.outer)
+    }
+
+    /// The row of what it is asked, none above this one. What it does for that stands there too.
+    pub(crate) fn row_of_ask(&mut self, least: usize) -> usize {
+        let row = self.rows().max(least);
+        self.inner = row;
+        self.outer = row.saturating_add(1);
         row
     }
 
-    /// What came and was not read yet is read now.
-    pub(crate) fn take_arrived(&mut self) -> Arrived {
-        mem::replace(&mut self.arrived, Arrived::new(self.alloc))
-    }
-}
-
-impl Unit {
-    pub(crate) fn size(&self) -> usize {
-        self.end.saturating_sub(self.start)
-    }
-
-    /// Counts its bytes from `start` to before `end` as lost, and tells whether all are now.
-    pub(crate) fn lose(&mut self, start: usize, end: usize) -> bool {
-        let count = self.end.min(end).saturating_sub(self.start.max(start));
-        self.lost = self.lost.saturating_add(count);
-        self.lost >= self.size()
-    }
-}
-
-impl Arrived {
-    fn new(alloc: Global) -> Arrived {
-        Arrived {
-            bytes: Vec::new(alloc),
-            waited: None,
-            again: None,
-            is_given: false,
-        }
+    /// The row of what it does, none above this one: below all that it did before.
+    pub(crate) fn row_of_deed(&mut self, least: usize) -> usize
+        ensures row { result ≡ max self.old.inner least }
+        ensures taken { result < usize.MAX → self.new.inner ≡ result + 1 }
+    {
+        let row = self.inner.max(least);
+        self.inner = row.saturating_add(1);
+        row
     }
 
-    /// More bytes came. Those that waited at the other end were put out after `passed` others.
-    pub(crate) fn come(
-        &mut self,
-        origin: Origin,
-        passed: usize,
-        bytes: &[u8],
-    ) -> Result<(), AllocError> {
-        match origin {
-            Origin::Next => self.waited = widened(self.waited, passed, bytes.len()),
-            Origin::Again { start } => self.again = widened(self.again, start, bytes.len()),
-            Origin::Script => self.is_given = true,
-        }
-        self.bytes.extend_from_slice(bytes)
+    /// The row of what it is told: that of what it did last, if nothing stands there, or else the next one.
+    pub(crate) fn row_of_word(&mut self) -> usize {
+        let row = self.outer.max(self.inner.saturating_sub(1));
+        self.outer = row.saturating_add(1);
+        self.inner = self.inner.max(self.outer);
+        row
     }
-}
-
-// From where bytes reach to where, with so many more from `start` on.
-fn widened(reach: Option<(usize, usize)>, start: usize, count: usize) -> Option<(usize, usize)> {
-    let first = reach.map_or(start, |(first, _)| first);
-    Some((first, start.saturating_add(count)))
 }
 
 // How many bytes the first of these units has: a line with its LF (RFC 4253 section 4.2), a packet with its length and tag (RFC 4253 section 6).

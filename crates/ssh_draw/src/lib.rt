@@ -2,18 +2,20 @@
 //! and length, and what came is compared with what was sent, byte by byte.
 #![tactic(auto)]
 
+use std::alloc::AllocError;
+
 mod arrivals;
 mod drawing;
 mod end;
 mod layout;
 mod places;
-mod reading;
 mod sheet;
-mod strokes;
 mod text;
 
 pub use drawing::Drawing;
 pub use end::Origin;
 pub use layout::Layout;
-pub use places::{Column, Place, Spot};
-pub use text::{Anchor, Placed, comment_of, fit, push_escaped, push_placed, put_at};
+pub use places::{Column, Place};
+
+/// What a call gives. Its only error is that memory is refused.
+pub type Result<T> = std::result::Result<T, AllocError>;

@@ -1,9 +1,10 @@
 //! Where each text of a picture stands. All lengths are tenths of a pixel.
 
-ghost use Rattle.std.specs.Prelude.{◌≡◌, ◌≤◌, ◌<◌, ◌+◌, ◌-◌, ◌↔◌, IfSome, IsSome, IsTrue, min};
+ghost use Rattle.std.specs.Prelude.{◌≡◌, ℕ, ◌≤◌, ◌<◌, ◌+◌, ◌-◌, ◌*◌, ◌↔◌, IfSome, IsSome, IsTrue, min};
 ghost use Rattle.ssh_types.specs.declared.side.Side.TheVariants.{Client, Server};
-ghost use Rattle.ssh_draw.specs.Places.{EndsAbove, EndsBefore, IsInside, Stands, height_of, is_before, left_of, place_of, right_of, width_of};
-ghost use Rattle.ssh_draw.specs.declared.places.Column.TheVariants.{Inner, Network, Outer};
+ghost use Rattle.ssh_draw.specs.Places.{EndsAbove, EndsBefore, IsDrawn, IsInside, Stands, edge_of, height_of, is_before, left_of, line_at, place_of, right_of, width_of};
+ghost use Rattle.ssh_draw.specs.declared.places.Column.{Column};
+ghost use Rattle.ssh_draw.specs.declared.places.Column.TheVariants.{Inner, Outer};
 
 use crate::layout::Layout;
 use ssh_types::Side;
@@ -11,10 +12,10 @@ use ssh_types::Side;
 /// The width of each picture.
 pub(crate) const WIDTH: u32 = 8600;
 
-// What is free at the left and at the right, above and below.
+// What is free at the left and at the right, and above and below.
 const PADDING: u32 = 160;
 
-pub(crate) const MARGIN: u32 = 100;
+const MARGIN: u32 = 100;
 
 /// The width that one character is given, in the font of 12 pixels.
 pub(crate) const CELL: u32 = 73;
@@ -22,22 +23,23 @@ pub(crate) const CELL: u32 = 73;
 /// The height of a line of text.
 pub(crate) const LINE: u32 = 200;
 
-// Between a lifeline and a text, and the least line of an arrow next to a text.
-pub(crate) const GAP: u32 = 90;
+// Between a lifeline and a text, and between a text and the network.
+const GAP: u32 = 90;
 
 const STUB: u32 = 120;
+
+// Above the rows stand the name, the headings, and how many rows are left out. Below are an empty line, who refused what, and what a label is.
+pub(crate) const HEAD: u32 = 3;
+
+const FOOT: u32 = 3;
+
+/// Of more rows the last so many are drawn.
+pub(crate) const MOST_ROWS: usize = 60;
 
 // The columns of a side have at most so many characters, which leaves 52 pixels for the network.
 const MOST_CELLS: u32 = 49;
 
-pub(crate) const MOST_INNER: u32 = 32;
-
-const MOST_HEAD: u32 = 3;
-
-/// At most so many rows are drawn.
-pub(crate) const MOST_ROWS: usize = 60;
-
-const MOST_FOOT: u32 = 4;
+const MOST_INNER: u32 = 32;
 
 /// A part of a line, or all of it.
 #[derive(Clone, Copy, Debug, PartialEq, Eq)]
@@ -46,43 +48,30 @@ pub enum Column {
     Whole,
     /// Outside of a side's lifeline: what is asked and told, and refusals.
     Outer(Side),
-    /// Inside of it: what is sent, and what became of it on its way.
+    /// Between it and the network: what is sent, and what became of it on its way.
     Inner(Side),
-    Network,
 }
 
-/// A column of a line. Lines are counted from the top, from 0.
-#[derive(Clone, Copy, Debug, PartialEq, Eq)]
-pub struct Spot {
-    pub line: u32,
-    pub column: Column,
-}
-
-/// Where a text stands.
+/// Where a text stands: in a line of 20 pixels.
 #[derive(Clone, Copy, Debug, PartialEq, Eq)]
 pub struct Place {
     pub left: u32,
     pub top: u32,
     pub width: u32,
-    pub height: u32,
 }
 
 impl Layout {
-    /// A layout for so many lines above and below, so many rows, and columns of so many characters. Of more than 60 rows the last 60 are drawn. What else is
-    /// more than a picture can have is left out: an inner column has at most 32 characters, and both columns of a side have 49.
-    pub fn new(head: u32, count: usize, foot: u32, outer: u32, inner: u32) -> Layout
-        ensures rows { result.rows ≡ 2 + min count 60 }
+    /// A layout for so many rows, and columns of so many characters. Of more than 60 rows the last 60 are drawn. What else is more than a picture can have is left
+    /// out: an inner column has at most 32 characters, and both columns of a side have 49.
+    pub fn new(count: usize, outer: u32, inner: u32) -> Layout
+        ensures rows { result.rows ≡ min count 60 }
         ensures left_out { result.left_out ≡ count - 60 }
-        ensures head { head ≤ 3 → result.head ≡ head }
-        ensures foot { foot ≤ 4 → result.foot ≡ foot }
         ensures inner { inner ≤ 32 → result.inner ≡ inner }
         ensures outer { inner ≤ 32 → outer + inner ≤ 49 → result.outer ≡ outer }
     {
         let inner = inner.min(MOST_INNER);
         Layout {
-            head: head.min(MOST_HEAD),
-            rows: 2 + count.min(MOST_ROWS) as u32,
-            foot: foot.min(MOST_FOOT),
+            rows: count.min(MOST_ROWS) as u32,
             left_out: count.saturating_sub(MOST_ROWS),
             outer: outer.min(MOST_CELLS - inner),
             inner,
@@ -94,43 +83,51 @@ impl Layout {
         ensures height { result ≡ height_of self.now }
         ensures bounded { result ≤ 14000 }
     {
-        2 * MARGIN + LINE * (self.head + self.rows + self.foot)
+        2 * MARGIN + LINE * (HEAD + self.rows + FOOT)
     }
 
-    /// The line in which a row of the run is drawn, below the line that says how many are left out. None where the row is left out, or the run has none such.
+    /// The line in which a row of the run is drawn. None where the row is left out, or the run has none such.
     pub fn line_of(&self, row: usize) -> Option<u32>
-        ensures drawn { IsSome result ↔ ((self.now.left_out ≤ row) × (row + 2 < self.now.left_out + self.now.rows)) }
-        ensures line { IfSome result (λ line. line + self.now.left_out ≡ self.now.head + 2 + row) }
+        ensures drawn { IsSome result ↔ IsDrawn self.now row }
+        ensures line { IfSome result (λ line. line ≡ line_at self.now row) }
     {
         let Some(below) = row.checked_sub(self.left_out) else {
             return None;
         };
-        if below < (self.rows - 2) as usize {
-            Some(self.head + 2 + below as u32)
+        if below < self.rows as usize {
+            Some(HEAD + below as u32)
         } else {
             None
         }
     }
 
-    /// Where a text of this spot stands. None where the picture has no such line, or the line no such column.
-    pub fn place(&self, spot: Spot) -> Option<Place>
-        ensures stands { IsSome result ↔ Stands self.now spot }
-        ensures place { IfSome result (λ place. place ≡ place_of self.now spot) }
-        ensures inside { IfSome result (λ place. IsInside (height_of self.now) place) }
-        ensures lines { IfSome result (λ place. (other : Spot) → other.line < spot.line → EndsAbove (place_of self.now other) place) }
-        ensures columns { IfSome result (λ place. (other : Spot) → other.line ≡ spot.line
-            → IsTrue (is_before other.column spot.column) → EndsBefore (place_of self.now other) place) }
+    /// How far from the top the line of a row begins: that of the rows left out where it is one of them, and below all rows where the run has none such.
+    pub fn top_of(&self, row: usize) -> u32
+        ensures drawn { IsDrawn self.now row → result ≡ 100 + 200 * line_at self.now row }
+        ensures within { (500 ≤ result) × (result ≤ 12700) }
     {
-        if !self.has(spot) {
+        if row < self.left_out {
+            return MARGIN + LINE * (HEAD - 1);
+        }
+        let below = (row - self.left_out).min(self.rows as usize) as u32;
+        MARGIN + LINE * (HEAD + below)
+    }
+
+    /// Where a text of this line and column stands. Lines are counted from the top, from 0. None where the picture has no such line, or the line no such column.
+    pub fn place(&self, line: u32, column: Column) -> Option<Place>
+        ensures stands { IsSome result ↔ Stands self.now line column }
+        ensures place { IfSome result (λ place. place ≡ place_of self.now line column) }
+        ensures inside { IfSome result (λ place. IsInside (height_of self.now) place) }
+        ensures lines { IfSome result (λ place. (above : ℕ) → (other : Column) → above < line → EndsAbove (place_of self.now above other) place) }
+        ensures columns { IfSome result (λ place. (other : Column) → IsTrue (is_before other column)
+            → EndsBefore (place_of self.now line other) place) }
+    {
+        if !self.has(line, column) {
             return None;
         }
-        let (left, width) = self.across(spot.column);
-        Some(Place {
-            left,
-            top: MARGIN + LINE * spot.line,
-            width,
-            height: LINE,
-        })
+        let (left, width) = self.across(column);
+        let top = MARGIN + LINE * line;
+        Some(Place { left, top, width })
     }
 
     /// How far from the left the lifeline of a side stands: between its two columns.
@@ -147,24 +144,24 @@ impl Layout {
 
     /// How far from the left the edge of the network is on the side of an end: no text of a side reaches into the network, which is 52 pixels wide at least.
     pub fn edge(&self, side: Side) -> u32
-        ensures client { side ≡ Client → (right_of self.now (Inner Client) ≤ result) × (result ≡ left_of self.now Network) }
-        ensures server { side ≡ Server → (result ≤ left_of self.now (Inner Server)) × (result ≡ right_of self.now Network) }
-        ensures network { 526 ≤ width_of self.now Network }
+        ensures client { side ≡ Client → (right_of self.now (Inner Client) ≤ result) × (result ≡ edge_of self.now Client) }
+        ensures server { side ≡ Server → (result ≤ left_of self.now (Inner Server)) × (result ≡ edge_of self.now Server) }
+        ensures network { edge_of self.now Client + 526 ≤ edge_of self.now Server }
     {
-        let (left, width) = self.across(Column::Network);
+        let client = PADDING + 2 * GAP + STUB + CELL * (self.outer + self.inner);
         match side {
-            Side::Client => left,
-            Side::Server => left + width,
+            Side::Client => client,
+            Side::Server => WIDTH - client,
         }
     }
 
     // Tests whether the picture has such a line, and the line such a column.
-    fn has(&self, spot: Spot) -> bool
-        ensures { IsTrue result ↔ Stands self.now spot }
+    fn has(&self, line: u32, column: Column) -> bool
+        ensures { IsTrue result ↔ Stands self.now line column }
     {
-        let is_row = self.head <= spot.line && spot.line < self.head + self.rows;
-        let is_whole = spot.column == Column::Whole;
-        spot.line < self.head + self.rows + self.foot && is_row != is_whole
+        let is_row = 1 <= line && line < HEAD + self.rows;
+        let is_whole = column == Column::Whole;
+        line < HEAD + self.rows + FOOT && is_row != is_whole
     }
 
     // Where a column begins, and how wide it is.
@@ -174,14 +171,11 @@ impl Layout {
     {
         let (outer, inner) = (CELL * self.outer, CELL * self.inner);
         let client = PADDING + outer + 2 * GAP;
-        let server = WIDTH - client;
-        let network = client + inner + STUB;
         match column {
             Column::Whole => (PADDING, WIDTH - 2 * PADDING),
             Column::Outer(Side::Client) => (PADDING, outer),
             Column::Inner(Side::Client) => (client, inner),
-            Column::Network => (network, WIDTH - 2 * network),
-            Column::Inner(Side::Server) => (server - inner, inner),
+            Column::Inner(Side::Server) => (WIDTH - client - inner, inner),
             Column::Outer(Side::Server) => (WIDTH - PADDING - outer, outer),
         }
     }

@@ -1,79 +1,88 @@
 //! Texts of a picture: cut to their places, escaped, and written.
 
-ghost use Rattle.std.specs.Prelude.{◌≡◌, ◌≤◌, ◌*◌, ◌++◌, IfOk, IfSome, OnOk, length, string_bytes};
-ghost use Rattle.ssh_draw.specs.Places.{IsInside, height_of, place_of};
-ghost use Rattle.ssh_draw.specs.Texts.{anchor_word, element_of, escaped, escaped_char, is_hidden, tag_of, x_of};
+ghost use Rattle.std.specs.Prelude.{◌≡◌, ◌≤◌, ◌+◌, ◌++◌, ℕ, List, OnOk, length, string_bytes};
+ghost use Rattle.ssh_draw.specs.Texts.{IsCut, Writes, WritesLabel, anchor_of, class_of, escaped, escaped_char, is_hidden, refusal_of, word_of, x_of};
 
+use crate::Result;
 use crate::layout::Layout;
-use crate::places::{CELL, Place, Spot};
-use std::alloc::{AllocError, Global};
+use crate::places::{CELL, Column, Place};
+use ssh_types::Side;
 
-/// A text that is cut to its place.
+/// A text of a row. Rows are counted from the top, from 0.
 #[derive(Drop)]
-pub struct Placed {
-    pub place: Place,
+pub(crate) struct Label {
+    pub row: usize,
+    pub column: Column,
+    /// Whether it has to be seen.
+    pub is_hot: bool,
     pub text: String,
 }
 
-/// At which part of its place a text stands.
-#[derive(Clone, Copy, Debug, PartialEq, Eq)]
-pub enum Anchor {
-    Start,
-    Middle,
-    End,
-}
-
-/// A text at a spot of a picture: cut, with an ellipsis, where it is too wide for it. A character is reckoned as wide as it has bytes, which none
-/// passes. None where the picture has no such spot.
-///
-/// # Errors
-///
-/// Only where memory is refused.
-pub fn put_at(
-    alloc: Global,
-    layout: &Layout,
-    spot: Spot,
-    text: &str,
-) -> Result<Option<Placed>, AllocError>
-    ensures place { IfOk result (λ it. IfSome it (λ placed. placed.place ≡ place_of layout.now spot)) }
-    ensures inside { IfOk result (λ it. IfSome it (λ placed. IsInside (height_of layout.now) placed.place)) }
-    ensures bounded { IfOk result (λ it. IfSome it (λ placed. IsInside 14000 placed.place)) }
-    ensures fits { IfOk result (λ it. IfSome it (λ placed. 73 * length (string_bytes placed.text) ≤ placed.place.width)) }
+/// Writes the text of a row, if that is drawn.
+pub(crate) fn write_label(out: &mut String, layout: &Layout, label: &Label) -> Result<()>
+    ensures { OnOk result (WritesLabel layout.now label.now (string_bytes out.old) (string_bytes out.new)) }
 {
-    let Some(place) = layout.place(spot) else {
-        return Ok(None);
+    let Some(line) = layout.line_of(label.row) else {
+        return Ok(());
     };
-    let text = fit(alloc, text, (place.width / CELL) as usize)?;
-    Ok(Some(Placed { place, text }))
+    let class = class_of(label.is_hot);
+    write_at(out, layout, line, label.column, class, label.text.as_str())?;
+    Ok(())
 }
 
-/// A text of at most so many bytes: this one, or what fits of it and an ellipsis.
-///
-/// # Errors
-///
-/// Only where memory is refused.
-pub fn fit(alloc: Global, text: &str, most: usize) -> Result<String, AllocError>
-    ensures short { IfOk result (λ fitted. length (string_bytes fitted) ≤ most) }
-    ensures whole { length text.now ≤ most → IfOk result (λ fitted. string_bytes fitted ≡ text.now) }
+fn class_of(is_hot: bool) -> &'static str
+    ensures { result.now ≡ class_of is_hot }
+{
+    if is_hot { "r" } else { "p" }
+}
+
+/// Writes a text as an element at its place, 14 pixels below its top, escaped, and cut where it is too wide: a character is reckoned as wide as it has bytes.
+/// `class` names how it looks, and is written as it is. Where the picture has no such place nothing is written.
+pub(crate) fn write_at(
+    out: &mut String,
+    layout: &Layout,
+    line: u32,
+    column: Column,
+    class: &str,
+    text: &str,
+) -> Result<()>
+    ensures { OnOk result (Writes layout.now line column class.now text.now (string_bytes out.old) (string_bytes out.new)) }
+{
+    let Some(place) = layout.place(line, column) else {
+        return Ok(());
+    };
+    let (shown, mark) = cut(text, (place.width / CELL) as usize);
+    let (x, word) = anchor_of(column, &place);
+    let y = place.top + 140;
+    write!(
+        out,
+        "<text x='{x}' y='{y}' text-anchor='{word}' class='{class}'>"
+    )?;
+    push_escaped(out, shown)?;
+    writeln!(out, "{mark}</text>")?;
+    Ok(())
+}
+
+// A text of at most so many bytes: this one and nothing, or what fits of it and an ellipsis.
+fn cut(text: &str, most: usize) -> (&str, &str)
+    ensures { IsCut most text.now result.0.now result.1.now }
 {
     if text.len() <= most {
-        return String::from_str(alloc, text);
+        return (text, "");
     }
-    let Some(room) = most.checked_sub(ELLIPSIS.len()) else {
-        return Ok(String::new(alloc));
-    };
-    let mut fitted = String::from_str(alloc, front_of(text, room))?;
-    fitted.push_str(ELLIPSIS)?;
-    Ok(fitted)
+    match most.checked_sub(ELLIPSIS.len()) {
+        Some(room) => (front_of(text, room), ELLIPSIS),
+        None => ("", ""),
+    }
 }
 
 const ELLIPSIS: &str = "…";
 
-// The longest front of a text of at most so many bytes.
+// The longest front of a text of at most so many bytes: a character has four at most.
 fn front_of(text: &str, most: usize) -> &str
-    ensures { length result.now ≤ most }
+    ensures short { length result.now ≤ most }
+    ensures front { (rest : List ℕ) × (text.now ≡ result.now ++ rest) }
 {
-    // A character has four bytes at most.
     for less in 0..4 {
         if let Some(front) = text.get(..most.saturating_sub(less)) {
             return front;
@@ -82,70 +91,22 @@ fn front_of(text: &str, most: usize) -> &str
     ""
 }
 
-/// Writes a text of a picture as an element at its place, 14 pixels below the top of its line. `class` names how it looks, and is written as it is.
-///
-/// # Errors
-///
-/// Only where memory is refused.
-pub fn push_placed(
-    out: &mut String,
-    placed: &Placed,
-    anchor: Anchor,
-    class: &str,
-) -> Result<(), AllocError>
-    requires { IsInside 14000 placed.now.place }
-    ensures { OnOk result (string_bytes out.new ≡ string_bytes out.old
-        ++ element_of placed.now.place anchor class.now (string_bytes placed.now.text)) }
+// At which end of its place a text stands, and how far from the left that is: a client's at the right.
+fn anchor_of(column: Column, place: &Place) -> (u32, &'static str)
+    requires { place.now.left + place.now.width ≤ 8600 }
+    ensures x { result.0 ≡ x_of column place.now }
+    ensures word { result.1.now ≡ anchor_of column }
 {
-    push_tag(out, &placed.place, anchor, class)?;
-    push_escaped(out, placed.text.as_str())?;
-    out.push_str("</text>\n")?;
-    Ok(())
-}
-
-// Writes the beginning of an element.
-fn push_tag(out: &mut String, place: &Place, anchor: Anchor, class: &str) -> Result<(), AllocError>
-    requires { IsInside 14000 place.now }
-    ensures { OnOk result (string_bytes out.new ≡ string_bytes out.old ++ tag_of place.now anchor class.now) }
-{
-    let (x, y, word) = (anchor.x(place), place.top + 140, anchor.word());
-    write!(
-        out,
-        "<text x='{x}' y='{y}' text-anchor='{word}' class='{class}'>"
-    )?;
-    Ok(())
-}
-
-impl Anchor {
-    fn word(self) -> &'static str
-        ensures { result.now ≡ anchor_word self }
-    {
-        match self {
-            Anchor::Start => "start",
-            Anchor::Middle => "middle",
-            Anchor::End => "end",
-        }
-    }
-
-    // How far from the left that part of a place is.
-    fn x(self, place: &Place) -> u32
-        requires { IsInside 14000 place.now }
-        ensures { result ≡ x_of self place.now }
-    {
-        match self {
-            Anchor::Start => place.left,
-            Anchor::Middle => place.left + place.width / 2,
-            Anchor::End => place.left + place.width,
-        }
+    let right = place.left + place.width;
+    match column {
+        Column::Outer(Side::Client) | Column::Inner(Side::Client) => (right, "end"),
+        Column::Outer(Side::Server) | Column::Inner(Side::Server) => (place.left, "start"),
+        Column::Whole => (place.left, "start"),
     }
 }
 
 /// Writes a text so that it stands in an SVG as it is. In place of each character that does not show, or changes the direction of those after it, stands U+FFFD.
-///
-/// # Errors
-///
-/// Only where memory is refused.
-pub fn push_escaped(out: &mut String, text: &str) -> Result<(), AllocError>
+pub(crate) fn push_escaped(out: &mut String, text: &str) -> Result<()>
     ensures { OnOk result (string_bytes out.new ≡ string_bytes out.old ++ escaped text.now) }
 {
     for letter in text.chars() {
@@ -154,7 +115,7 @@ pub fn push_escaped(out: &mut String, text: &str) -> Result<(), AllocError>
     Ok(())
 }
 
-fn push_letter(out: &mut String, letter: char) -> Result<(), AllocError>
+fn push_letter(out: &mut String, letter: char) -> Result<()>
     ensures { OnOk result (string_bytes out.new ≡ string_bytes out.old ++ escaped_char letter) }
 {
     match letter {
@@ -174,24 +135,21 @@ fn is_hidden(letter: char) -> bool
         | '\u{2066}'..='\u{2069}' | '\u{fffe}'..='\u{ffff}')
 }
 
-// Of each line of a comment so many bytes are kept.
-const MOST_COMMENT: usize = 300;
+/// Writes that an end refused something with this.
+pub(crate) fn push_refusal(out: &mut String, side: Side, name: &str, refusal: &str) -> Result<()>
+    ensures { OnOk result (string_bytes out.new ≡ string_bytes out.old ++ refusal_of side name.now refusal.now) }
+{
+    let word = word_of(side);
+    write!(out, "The {word} refused {name} with {refusal}. ")?;
+    Ok(())
+}
 
-/// The comment that a script begins with, without its marks: its first two lines, each cut to 300 bytes. Nothing where the script is no UTF-8.
-///
-/// # Errors
-///
-/// Only where memory is refused.
-pub fn comment_of(alloc: Global, script: &[u8]) -> Result<Vec<String>, AllocError> {
-    let mut comment = Vec::new(alloc);
-    let Ok(script) = str::from_utf8(script) else {
-        return Ok(comment);
-    };
-    for line in script.trim_start().split('\n').take(2) {
-        let Some(text) = line.strip_prefix("#") else {
-            break;
-        };
-        comment.push(fit(alloc, text.trim(), MOST_COMMENT)?)?;
+/// A side in words.
+pub(crate) fn word_of(side: Side) -> &'static str
+    ensures { result.now ≡ word_of side }
+{
+    match side {
+        Side::Client => "client",
+        Side::Server => "server",
     }
-    Ok(comment)
 }

@@ -73,8 +73,7 @@ impl<'a> Player<'a> {
             Step::Ask { side, ask } => {
                 let done = self.pair.play(&[Event::Ask(*side, ask.to_ask())])?;
                 let lines = lines_of(self.alloc, done.items.as_slice())?;
-                drawing.ask(
-                    *side,
+                drawing.act(
                     lines.as_str(),
                     done.client_bytes.as_slice(),
                     done.server_bytes.as_slice(),

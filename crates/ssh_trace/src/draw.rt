@@ -2,14 +2,13 @@ use crate::answer::{Answer, finish};
 use crate::epoch_player::watch_epoch;
 use crate::play::text_of;
 use crate::status::Status;
-use ssh_draw::comment_of;
 use ssh_play::watch;
 use ssh_script::{Script, ScriptFault};
 use std::alloc::Global;
 use std::io::{Read, Write};
 
 /// Plays a script and writes what happened to `out` as a picture, an SVG of at most 860 by 1,400 pixels: the messages as arrows, what the network did
-/// to them, what users asked and were told, and which end refused what. It is called `name`, and has the comment that the script begins with.
+/// to them, what users asked and were told, and which end refused what. It is called `name`.
 ///
 /// The status is that of `play_to`, and so are the faults.
 pub fn draw_to<R: Read, W: Write, E: Write>(
@@ -28,14 +27,13 @@ fn drawn<R: Read>(alloc: Global, name: &str, script: &mut R) -> Result<Answer, S
         Script::Epoch(script) => watch_epoch(alloc, &script)?,
         Script::Session(script) => watch(alloc, &script)?,
     };
-    let comment = comment_of(alloc, text.as_slice())?;
     let status = if drawing.has_refusal() {
         Status::Refused
     } else {
         Status::Done
     };
     Ok(Answer {
-        text: drawing.finish(name, comment.as_slice())?,
+        text: drawing.finish(name)?,
         status,
     })
 }

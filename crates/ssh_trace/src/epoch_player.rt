@@ -95,8 +95,7 @@ impl Player {
             EpochStep::Ask { side, payload } => {
                 let done = self.ask(*side, payload.as_slice())?;
                 let lines = lines_of(self.alloc, done.items.as_slice())?;
-                drawing.ask(
-                    *side,
+                drawing.act(
                     lines.as_str(),
                     done.client_bytes.as_slice(),
                     done.server_bytes.as_slice(),
