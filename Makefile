@@ -7,7 +7,7 @@ export RT
 help: ## Lists these targets.
 	@grep -E '^[a-z-]+: ## ' Makefile | sed 's/: ## /\t/' | expand -t 12
 
-demo: ## Runs the program on the examples, within two minutes. This run is not proved, and says so.
+demo: ## Runs the program on the examples, in a minute or two on idle cores and more on busy ones. This run is not proved, and says so.
 	@sh tools/demo.sh
 
 quick: ## The layout, the tests and the programs, not proved, on all cores: docs/TIMES.md has how long it takes.
