@@ -13,7 +13,8 @@ const ABOUT_CLIENT: &str = "Runs one command at the server";
 
 const ENDING: &str = "\
 It has one thread. The command's input is read to its end, or until the server takes no more, before the server is heard: so it is no
-dialogue. A program that has to hear and speak at a time embeds the library (docs/EMBEDDING.md).
+dialogue. dvssh, a client over the library for C (make lib programs), hears and speaks at a time, and so does a program that embeds the
+library (docs/EMBEDDING.md).
 
 Exit status: that of the command, or 255 for all else, as a server that is not trusted, a session that breaks off, or a fault of usage,
 file, memory or input and output, which standard error tells. A fault of the words is 2.";
