@@ -118,7 +118,8 @@ impl Layout {
         ensures stands { IsSome result ↔ Stands self.now line column }
         ensures place { IfSome result (λ place. place ≡ place_of self.now line column) }
         ensures inside { IfSome result (λ place. IsInside (height_of self.now) place) }
-        ensures lines { IfSome result (λ place. (above : ℕ) → (other : Column) → above < line → EndsAbove (place_of self.now above other) place) }
+        ensures lines { IfSome result (λ place. (above : ℕ) → (other : Column) → above < line
+            → EndsAbove (place_of self.now above other) place) }
         ensures columns { IfSome result (λ place. (other : Column) → IsTrue (is_before other column)
             → EndsBefore (place_of self.now line other) place) }
     {
