@@ -312,7 +312,7 @@ both_ends() {
 
 server_refusals() {
     HOST=other.pub via_sshd --identity user true 2>log
-    row "$1" "a wrong host key" "status 255, error: the peer is refused: the host is not trusted (refusal 11 BadHost)" "status $?, $(words log)"
+    row "$1" "a wrong host key" "status 255, error: the peer is refused: the host is not trusted (refusal 11 BadHost)" "status $?, $(grep '^error' log)"
     DOWN=100000 via_sshd --identity user --output answer "cat $work/data" 2>log
     row "$1" "a byte from the server changed" "status 255, error: the peer is refused: a packet's MAC does not verify (refusal 5 BadTag)" "status $?, $(words log)"
     UP=100000 via_sshd --identity user --input data --output answer cat 2>log

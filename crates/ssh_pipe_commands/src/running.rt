@@ -72,9 +72,27 @@ pub fn call<R: Files + AllocGlobal + RandomSource, I: Read, O: Write, E: Write +
 ) -> Status {
     match called(rt, options, input, output, err) {
         Ok(Some(Ending::Status(status))) => Status::Command(u8::try_from(status).unwrap_or(255)),
-        Ok(Some(ending)) => report(ending, &mut err, Status::Failed),
+        Ok(Some(ending)) => {
+            tell_host(&ending, options, &mut err);
+            report(ending, &mut err, Status::Failed)
+        }
         Ok(None) => report("the server closed the connection", &mut err, Status::Failed),
         Err(error) => report(error, &mut err, Status::Failed),
+    }
+}
+
+// Says on `err` which key a host that is not trusted was to show, if that is how the session ended.
+fn tell_host<E: Write>(ending: &Ending, options: &ClientOptions<'_>, err: &mut E) {
+    let Ending::Refused(refusal) = ending else {
+        return;
+    };
+    if refusal.name() == "BadHost" {
+        let (file, host) = (options.host_key, options.host.unwrap_or("any host"));
+        // Where even this can't be written, the status alone tells of the fault.
+        let _ = writeln!(
+            err,
+            "{file}: the key in it for {host} is not the one that the server shows and signs with"
+        );
     }
 }
 
