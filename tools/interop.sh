@@ -90,14 +90,15 @@ run() {
     echo $? >status.new
     mv status.new server.status
 }
+# (what runs the server is a process of its own: a client that kills its proxy does not keep it from telling the status)
 if [ -n "${UP:-}${DOWN:-}" ]; then
-    # (the shell itself keeps neither stream open, so that either end sees the other go)
     { changed "${UP:-}" | run | changed "${DOWN:-}"; } <&0 &
-    exec <&- >&-
-    wait
 else
-    run
+    run <&0 &
 fi
+# (the shell itself keeps neither stream open, so that either end sees the other go)
+exec <&- >&-
+wait
 END
 chmod +x server
 
