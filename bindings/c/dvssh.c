@@ -1,6 +1,6 @@
 /* dvssh: a client of SSH-2 that takes the words that git, rsync, scp and sftp pass to OpenSSH's ssh.
  *
- *   dvssh [-46aqsTtvx] [-i KEY] [-l USER] [-p PORT] [-o NAME=VALUE].. [USER@]HOST [COMMAND..]
+ *   dvssh [-46aqsTtvx] [-c CIPHERS] [-i KEY] [-l USER] [-p PORT] [-o NAME=VALUE].. [USER@]HOST [COMMAND..]
  *
  * It runs a command, a subsystem (-s) or a shell, with a terminal where there is one; its exit status is the command's. Each word that it does not know it refuses by name. It
  * reads no configuration. The host's key has to stand in known_hosts. Without a key (-i) that does, the password is that of the environment's DVSSH_PASSWORD, or is asked for.
@@ -24,7 +24,7 @@
 /* ---- the terminal */
 
 static struct termios cooked;
-static bool is_raw;
+static bool is_raw, shows_terminal; /* whether standard output is a terminal */
 static int flags_before[2] = {-1, -1};
 
 static void restore(void) {
@@ -41,6 +41,7 @@ static void make_raw(void) {
 }
 /* Pipes and sockets are not waited for; a terminal and a file are left as they are. */
 static void unblock_streams(void) {
+  shows_terminal = isatty(1);
   for (int i = 0; i < 2; i++) {
     struct stat of;
     if (fstat(i, &of) || !(S_ISFIFO(of.st_mode) || S_ISSOCK(of.st_mode))) continue;
@@ -61,9 +62,17 @@ static bool wants_terminal(void) {
   return words.terminal == TERMINAL_FORCE || (words.terminal == TERMINAL_YES && isatty(0));
 }
 
+/* Signals come while the loop waits and at no other time, so that it misses none. */
 static volatile sig_atomic_t got_signal, got_resized;
+static sigset_t while_waiting;
 static void on_signal(int number) { got_signal = number; }
 static void on_resized(int number) { (void)number, got_resized = 1; }
+static void hold_signals(void) {
+  sigset_t held;
+  sigemptyset(&held);
+  for (int i = 0; i < 4; i++) sigaddset(&held, (int[]){SIGTERM, SIGHUP, SIGINT, SIGWINCH}[i]);
+  sigprocmask(SIG_BLOCK, &held, &while_waiting);
+}
 
 /* ---- keys and passwords */
 
@@ -270,10 +279,10 @@ static void send_input(void) {
   session.sent_eof = true;
   queue(dv_ask_on(DV_ASK_EOF, session.channel));
 }
-/* Where nobody reads standard output any more, what comes for it is dropped. */
+/* A terminal, and standard error, are written a little at a time, so that they hold nothing else up. Where nobody reads any more, what comes is dropped. */
 static void write_output(int stream) {
   size_t before = waits(&session.out[stream]);
-  if (drain(stream + 1, &session.out[stream], flags_before[1] >= 0 && !stream ? before : 4096) < 0) session.out[stream].from = session.out[stream].to;
+  if (drain(stream + 1, &session.out[stream], stream || shows_terminal ? 4096 : before) < 0) session.out[stream].from = session.out[stream].to;
   if (session.is_open && !session.is_closed) consume(session.channel, before - waits(&session.out[stream]));
 }
 static void on_signals(void) {
@@ -294,7 +303,7 @@ static bool turn(int net, bool *is_up) {
                         {*is_up && may_read() ? 0 : -1, POLLIN, 0},
                         {waits(&session.out[0]) ? 1 : -1, POLLOUT, 0},
                         {waits(&session.out[1]) ? 2 : -1, POLLOUT, 0}};
-  if (poll(p, 4, -1) < 0 && errno != EINTR) DIE("poll: %s", strerror(errno));
+  if (ppoll(p, 4, NULL, &while_waiting) < 0 && errno != EINTR) DIE("poll: %s", strerror(errno));
   if (takes && p[0].revents & (POLLIN | POLLHUP | POLLERR) && hear(net) <= 0) {
     if (!session.is_closed && !session.is_over) say("the connection was lost");
     *is_up = false;
@@ -318,6 +327,7 @@ static void new_end(void) {
   host_key(trusted);
   settings.software = text("Divrelca_dvssh");
   settings.host_key = (dv_bytes){trusted, 32};
+  settings.ciphers = words.ciphers;
   session.has_key = user_seed(seed);
   if (session.has_key) settings.user_seed = (dv_bytes){seed, 32};
   random_bytes(&fresh, sizeof fresh);
@@ -339,6 +349,7 @@ int main(int count, char **all) {
   unblock(net);
   atexit(restore);
   unblock_streams();
+  hold_signals();
   bool is_up = true;
   while (turn(net, &is_up)) {}
   if (!dv_client_is_over(&end)) {

@@ -13,9 +13,10 @@ static struct {
   const char *send_env[16];
   int sends, family;
   enum terminal terminal;
+  uint32_t ciphers;
   bool is_subsystem, is_batch;
   buffer command;
-} words = {.family = AF_UNSPEC, .port = "22"};
+} words = {.family = AF_UNSPEC, .port = "22", .ciphers = DV_AES_BOTH};
 
 /* Options of OpenSSH that ask for what this program does anyway, or does never. */
 static const struct {
@@ -38,6 +39,19 @@ static void set_terminal(const char *value) {
   DIE("the option RequestTTY=%s is not known", value);
 }
 
+static void set_ciphers(const char *value) {
+  static const struct {
+    const char *names;
+    uint32_t ciphers;
+  } known[] = {{"aes128-gcm@openssh.com", DV_AES128}, {"aes256-gcm@openssh.com", DV_AES256}, {"aes256-gcm@openssh.com,aes128-gcm@openssh.com", DV_AES_BOTH}};
+  for (size_t i = 0; i < sizeof known / sizeof *known; i++)
+    if (!strcmp(value, known[i].names)) {
+      words.ciphers = known[i].ciphers;
+      return;
+    }
+  DIE("the ciphers %s are not there", value);
+}
+
 static void set_option(const char *name, const char *value) {
   if (!strcasecmp(name, "Port")) words.port = value;
   else if (!strcasecmp(name, "User")) words.user = value;
@@ -45,6 +59,7 @@ static void set_option(const char *name, const char *value) {
   else if (!strcasecmp(name, "UserKnownHostsFile")) words.known_hosts = value;
   else if (!strcasecmp(name, "ProxyCommand")) words.proxy = strcasecmp(value, "none") ? value : NULL;
   else if (!strcasecmp(name, "RequestTTY")) set_terminal(value);
+  else if (!strcasecmp(name, "Ciphers")) set_ciphers(value);
   else if (!strcasecmp(name, "BatchMode")) words.is_batch = !option_is_no(value);
   else if (!strcasecmp(name, "SendEnv")) {
     if (words.sends == 16) DIE("more than 16 options SendEnv");
@@ -75,6 +90,7 @@ static void read_flag(int flag) {
     case 'T': words.terminal = TERMINAL_NO; break;
     case 't': words.terminal = words.terminal == TERMINAL_YES ? TERMINAL_FORCE : TERMINAL_YES; break;
     case 'v': verbose++; break;
+    case 'c': set_ciphers(optarg); break;
     case 'i': words.key = optarg; break;
     case 'l': words.user = optarg; break;
     case 'p': words.port = optarg; break;
@@ -87,7 +103,7 @@ static void read_flag(int flag) {
 static void read_words(int count, char **all) {
   opterr = 0;
   for (;;) {
-    for (int flag; (flag = getopt(count, all, "+46aqsTtvxi:l:p:o:")) != -1;) read_flag(flag);
+    for (int flag; (flag = getopt(count, all, "+46aqsTtvxc:i:l:p:o:")) != -1;) read_flag(flag);
     if (words.host || optind >= count) break;
     char *host = all[optind++], *sign = strrchr(host, '@');
     words.host = sign ? sign + 1 : host;
@@ -96,7 +112,7 @@ static void read_words(int count, char **all) {
       words.user = host;
     }
   }
-  if (!words.host || !*words.host) DIE("usage: dvssh [-46aqsTtvx] [-i KEY] [-l USER] [-p PORT] [-o NAME=VALUE] [USER@]HOST [COMMAND..]");
+  if (!words.host || !*words.host) DIE("usage: dvssh [-46aqsTtvx] [-c CIPHERS] [-i KEY] [-l USER] [-p PORT] [-o NAME=VALUE] [USER@]HOST [COMMAND..]");
   for (bool first = true; optind < count; optind++, first = false) {
     if (!first) put(&words.command, " ", 1);
     put(&words.command, all[optind], strlen(all[optind]));

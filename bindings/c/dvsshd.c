@@ -106,7 +106,6 @@ static void close_channel(channel *c) {
     queue_request(c->number, "exit-status", false, bytes_of(&rest));
   }
   free(rest.at);
-  queue(dv_ask_on(DV_ASK_EOF, c->number));
   queue(dv_ask_on(DV_ASK_CLOSE, c->number));
   c->is_closing = true;
   shut(&c->in);
@@ -130,6 +129,10 @@ static void pump(channel *c) {
   for (int i = 0; i < 2; i++)
     if (!pump_out(c, i)) return;
   bool is_dry = c->out[0].fd < 0 && c->out[1].fd < 0 && c->out[0].from == c->out[0].to && c->out[1].from == c->out[1].to;
+  if (is_dry && !c->sent_eof) {
+    c->sent_eof = true; /* the command may run on, and take input */
+    queue(dv_ask_on(DV_ASK_EOF, c->number));
+  }
   if (is_dry && c->is_reaped) close_channel(c);
 }
 static void reap(void) {
@@ -279,15 +282,34 @@ static int listening(void) {
   say("listens on %s port %s", words.address, words.port);
   return fd;
 }
-/* A process for each connection, at most 100 at once. */
+static void serve_connection(int fd, const struct sockaddr *from, socklen_t len) {
+  char host[200] = "?", port[20] = "?";
+  int one = 1;
+  setsockopt(fd, IPPROTO_TCP, TCP_NODELAY, &one, sizeof one);
+  getnameinfo(from, len, host, sizeof host, port, sizeof port, NI_NUMERICHOST | NI_NUMERICSERV);
+  snprintf(who, sizeof who, "%s port %s", host, port);
+  serve(fd, fd);
+  exit(0);
+}
+static void on_ended(int number) { (void)number; /* it ends a wait */ }
+/* A process for each connection, at most 100 at once. SIGCHLD comes while it waits and at no other time, so that each that ended is reaped at once. */
 static void serve_all(void) {
-  int listener = listening(), running = 0, one = 1;
+  int listener = listening(), running = 0;
+  struct sigaction ended = {.sa_handler = on_ended, .sa_flags = SA_NOCLDSTOP};
+  sigset_t held, while_waiting;
+  sigemptyset(&held);
+  sigaddset(&held, SIGCHLD);
+  sigaction(SIGCHLD, &ended, NULL);
+  sigprocmask(SIG_BLOCK, &held, &while_waiting);
+  unblock(listener);
   for (;;) {
     struct sockaddr_storage from;
     socklen_t len = sizeof from;
-    char host[200] = "?", port[20] = "?";
+    struct pollfd p = {running < MOST_CONNECTIONS ? listener : -1, POLLIN, 0};
+    int ready = ppoll(&p, 1, NULL, &while_waiting);
+    while (running && waitpid(-1, NULL, WNOHANG) > 0) running--;
+    if (ready <= 0) continue;
     int fd = accept4(listener, (struct sockaddr *)&from, &len, SOCK_CLOEXEC);
-    while (running && waitpid(-1, NULL, running < MOST_CONNECTIONS ? WNOHANG : 0) > 0) running--;
     if (fd < 0) {
       if (errno == EMFILE || errno == ENFILE) sleep(1);
       continue;
@@ -295,11 +317,8 @@ static void serve_all(void) {
     pid_t pid = fork();
     if (pid == 0) {
       close(listener);
-      setsockopt(fd, IPPROTO_TCP, TCP_NODELAY, &one, sizeof one);
-      getnameinfo((struct sockaddr *)&from, len, host, sizeof host, port, sizeof port, NI_NUMERICHOST | NI_NUMERICSERV);
-      snprintf(who, sizeof who, "%s port %s", host, port);
-      serve(fd, fd);
-      exit(0);
+      sigprocmask(SIG_SETMASK, &while_waiting, NULL);
+      serve_connection(fd, (struct sockaddr *)&from, len);
     }
     if (pid > 0) running++;
     else say("fork: %s", strerror(errno));

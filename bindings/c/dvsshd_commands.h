@@ -26,7 +26,7 @@ typedef struct outlet {
 } outlet;
 
 typedef struct channel {
-  bool is_used, is_started, is_ended, is_reaped, is_closing, is_closed;
+  bool is_used, is_started, is_ended, sent_eof, is_reaped, is_closing, is_closed;
   bool has_terminal;
   int terminal, terminal_end; /* of the pty: this side and the command's */
   uint32_t number;
