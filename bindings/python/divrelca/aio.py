@@ -4,6 +4,7 @@ A channel's input is an `asyncio.StreamReader`. One that is not read stops its p
 """
 
 import asyncio
+import contextlib
 import dataclasses
 import struct
 
@@ -247,10 +248,11 @@ class ClientConnection(Connection):
         return ClientProcess(channel)
 
     async def run(self, command, input=b""):
-        """Runs a command to its end and returns what it left, a `Completed`."""
+        """Runs a command to its end and returns what it left, a `Completed`. A command that ends before it took all of its input is no failure."""
         process = await self.start(command)
         read = asyncio.gather(process.stdout.read(), process.stderr.read())
-        process.stdin.write(input)
+        with contextlib.suppress(ConnectionFailed):
+            process.stdin.write(input)
         process.stdin.write_eof()
         out, err = await read
         return Completed(out, err, *await process.wait())

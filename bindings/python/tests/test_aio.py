@@ -16,6 +16,8 @@ async def handle(process):
     """Echoes what comes, and ends with the status that the command is."""
     if process.subsystem == b"fails":
         raise RuntimeError("as planned")
+    if process.command == b"ends at once":
+        return 5
     process.stderr.write(process.user)
     while data := await process.stdin.read(65536):
         process.stdout.write(data)
@@ -41,6 +43,11 @@ class Aio(unittest.IsolatedAsyncioTestCase):
         async with await self.connect() as connection:
             done = await connection.run("3", b"hello")
             self.assertEqual((done.stdout, done.stderr, done.status, done.signal), (b"hello", b"me", 3, None))
+
+    async def test_command_that_takes_no_input(self):
+        async with await self.connect() as connection:
+            for body in (b"", bytes(10), bytes(3_000_000)) * 10:
+                self.assertEqual((await connection.run("ends at once", body)).status, 5)
 
     async def test_password(self):
         async with await self.connect(seed=b"", password="word") as connection:
