@@ -1,13 +1,14 @@
 #!/bin/bash
-# Runs ssh_pipe against other implementations, as far as they are installed, and writes what was seen to docs/INTEROP.md: its server, and that of docs/EMBEDDING.md, against the client of
-# OpenSSH, its client against the server of OpenSSH over two FIFOs (`sshd -i`), both against asyncssh, its server against the client of PuTTY; and Dropbear and
-# paramiko, which have no cipher or no strict key exchange in common with it. Nothing stays behind: every process is started here and ended here, and all files
-# stand in a directory that is removed.
+# Runs ssh_pipe, and what stands on the library for C, against other implementations, as far as they are installed, and writes what was seen to docs/INTEROP.md: the server of
+# ssh_pipe, and that of docs/EMBEDDING.md, against the client of OpenSSH, its client against the server of OpenSSH over two FIFOs (`sshd -i`), both against asyncssh, its server
+# against the client of PuTTY; Dropbear and paramiko, which have no cipher or no strict key exchange in common with it; and what tools/interop/library*.sh say. Nothing stays
+# behind: every process is started here and ended here, and all files stand in a directory that is removed.
 #
 # Wants ssh, ssh-keygen, python3, and as root sshd. What is missing is said and left out; on Debian it comes by
-#   apt-get install openssh-client openssh-server dropbear-bin putty-tools python3-asyncssh python3-paramiko
+#   apt-get install openssh-client openssh-server dropbear-bin putty-tools python3-asyncssh python3-paramiko erlang-ssh
 # The program is proved and built first; SSH_PIPE=FILE takes another one. SIZE is that of the transfers in bytes, ROUNDS how often each is timed. With perf
-# (linux-perf on Debian) it is also sampled where the time of a transfer goes.
+# (linux-perf on Debian) it is also sampled where the time of a transfer goes. ONLY=library runs the rows of the library for C alone, over what `make lib programs` left, and
+# writes no page.
 set -u
 tools=$(cd "$(dirname "$0")" && pwd)
 top=$(dirname "$tools")
@@ -20,7 +21,8 @@ limit=${LIMIT:-300}
 # Keys are exchanged again after so many packets of 32,768 bytes, some 16 times in a transfer: 64 is the least that an end takes.
 packets=$((size / 32768 / 16))
 [ "$packets" -ge 64 ] || packets=64
-if [ -z "${SSH_PIPE:-}" ]; then
+only=${ONLY:-}
+if [ -z "${SSH_PIPE:-}" ] && [ -z "$only" ]; then
     sh "$tools/build.sh" ssh_trace ssh_pipe ssh_embedding || exit 2
     SSH_PIPE=$top/build/ssh_pipe
 fi
@@ -28,14 +30,12 @@ embedding=$top/build/ssh_embedding
 work=$(mktemp -d)
 trap 'rm -rf "$work"' EXIT
 cd "$work" || exit 2
-cp "$SSH_PIPE" pipe
+[ -n "$only" ] || cp "$SSH_PIPE" pipe
 failed=0
-rows=$work/rows
-speeds=$work/speeds
-where=$work/where
-: >"$rows"
-: >"$speeds"
-: >"$where"
+for each in rows speeds where paces memories; do
+    declare "$each=$work/$each"
+    : >"$work/$each"
+done
 
 # ---- what the cases need
 
@@ -49,6 +49,12 @@ row() {
         printf '| %s | %s | **%s**, and not %s |\n' "$1" "$2" "${4//|/\\|}" "$3" >>"$rows"
         failed=$((failed + 1))
     fi
+}
+
+# absent WHAT: what is left out, for it is not there.
+absent() {
+    echo "SKIPPED not there: $1"
+    printf '| %s | left out: not there | |\n' "$1" >>"$rows"
 }
 
 # What an end of ssh_pipe says that it has.
@@ -206,7 +212,7 @@ several() {
 # The server of docs/EMBEDDING.md, which is asked for a sign of life each second, and has to give it: the client gives up after two without.
 stays_alive() {
     local seen status answers
-    [ -x "$embedding" ] || { echo "not there: build/ssh_embedding"; return; }
+    [ -x "$embedding" ] || { absent "build/ssh_embedding"; return; }
     seen=$( (sleep 10; echo alive) | PROXY="$embedding server $work/host reader $work/authorized" \
         stock -vvv -o ServerAliveInterval=1 -o ServerAliveCountMax=2 reader@example.org cat 2>log)
     status=$?
@@ -327,7 +333,7 @@ unexpected='error: the peer is refused: a message came that may not come here (r
 # A server on the loopback, which prints its port and is ended by its number.
 with_asyncssh() {
     local peer version pid port
-    version=$("$python" -W ignore -c 'import asyncssh; print(asyncssh.__version__)' 2>/dev/null) || { echo "not there: asyncssh"; return; }
+    version=$("$python" -W ignore -c 'import asyncssh; print(asyncssh.__version__)' 2>/dev/null) || { absent "asyncssh"; return; }
     peer="asyncssh $version"
     "$python" -W ignore "$tools/interop/asyncssh_server.py" "$work" >port 2>serve.err &
     pid=$!
@@ -368,7 +374,7 @@ with_asyncssh() {
 # The client of PuTTY, which takes a fingerprint for the host key and has a format of its own for the user's.
 with_putty() {
     local peer print seen
-    has plink && has puttygen || { echo "not there: plink and puttygen"; return; }
+    has plink && has puttygen || { absent "plink and puttygen"; return; }
     peer=$(plink -V | sed -n 's/^plink: Release /plink of PuTTY /p')
     print=$(ssh-keygen -l -f host.pub | cut -d' ' -f2)
     puttygen user -O private -o user.ppk
@@ -395,6 +401,8 @@ without_common() {
         version="dbclient of $(dbclient -V 2>&1 | head -1)"
         timeout 20 dbclient -y -y -J "$work/server" reader@example.org echo hello </dev/null >seen 2>log
         row "$version" "no cipher in common" "$no_common, status 1" "$(server_said)"
+    else
+        absent "dbclient of Dropbear"
     fi
     if [ -x /usr/sbin/dropbear ] && has dropbearkey; then
         version="$(/usr/sbin/dropbear -V 2>&1 | head -1) as a server"
@@ -402,8 +410,10 @@ without_common() {
         SERVE="/usr/sbin/dropbear -i -E -r $work/dropbear_key" between --user "$user" --host-key host.pub --identity user true 2>log
         status=$?
         row "$version" "no cipher in common: it closes the connection" "error: the server closed the connection, status 255" "$(words log), status $status"
+    else
+        absent "Dropbear as a server"
     fi
-    version=$("$python" -W ignore -c 'import paramiko; print(paramiko.__version__)' 2>/dev/null) || return
+    version=$("$python" -W ignore -c 'import paramiko; print(paramiko.__version__)' 2>/dev/null) || { absent paramiko; return; }
     "$python" -W ignore "$tools/interop/paramiko_client.py" "$work" >seen 2>log
     row "client of paramiko $version" "no strict key exchange" "$not_strict, status 1" "$(server_said)"
 }
@@ -475,7 +485,7 @@ sampled() {
 }
 where_the_time_goes() {
     local part name
-    has perf && perf record -q -e cpu-clock -o samples true 2>/dev/null || { echo "not there: perf"; echo "perf was not there." >"$where"; return; }
+    has perf && perf record -q -e cpu-clock -o samples true 2>/dev/null || { echo "SKIPPED not there: perf"; echo "perf was not there." >"$where"; return; }
     sampled server_takes up_to_server
     sampled server_sends down_from_server
     sampled client_sends up_from_client
@@ -496,16 +506,22 @@ where_the_time_goes() {
 
 # ---- all of it
 
-. "$tools/interop/library.sh"
+for each in library library_sessions library_python; do . "$tools/interop/$each.sh"; done
+[ -d /run/sshd ] || [ "$(id -u)" != 0 ] || mkdir /run/sshd
+if [ -n "$only" ]; then
+    with_library
+    echo "$failed failed"
+    [ "$failed" = 0 ]
+    exit
+fi
 stock_client
 both_ends
 if [ -x "$sshd" ] && [ "$(id -u)" = 0 ]; then
-    [ -d /run/sshd ] || mkdir /run/sshd
     stock_server
     timings
     where_the_time_goes
 else
-    echo "not there: sshd, or not run as root"
+    absent "sshd, or not run as root"
 fi
 with_putty
 with_asyncssh
@@ -519,6 +535,8 @@ if [ -n "${PAGE:-}" ]; then
     sed -e "s/@date@/$(date '+%-d %B %Y')/; s/@cores@/$(nproc)/" -e "/^@rows@$/{r $rows
 d}" -e "/^@speeds@$/{r $speeds
 d}" -e "/^@where@$/{r $where
+d}" -e "/^@paces@$/{r $paces
+d}" -e "/^@memories@$/{r $memories
 d}" "$tools/interop/page.md" >"$PAGE"
 fi
 echo "$failed failed"
