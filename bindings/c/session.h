@@ -1,0 +1,147 @@
+/* What the tests in C share: a heap that counts blocks and can refuse one, and a client and a server in one process, with nothing between them but bytes. They are
+ * linked without heap.c, since this has the three heap calls. */
+#ifndef DIVRELCA_SESSION_H
+#define DIVRELCA_SESSION_H
+#include "divrelca.h"
+#include <stdio.h>
+#include <stdlib.h>
+#include <string.h>
+
+/* ---- the heap: counts blocks, and refuses the allocation that `left` counts down to */
+
+struct block {
+  uint64_t ok;
+  void *at;
+};
+static long left = -1, held;
+static char nothing[16] __attribute__((aligned(16)));
+static struct block answer(void *at) { return (struct block){at != 0, at ? at : nothing}; }
+static bool refused_now(void) {
+  if (left == 0) left = -2;
+  else if (left > 0) left--;
+  else return false;
+  return left == -2;
+}
+struct block rattle_alloc(size_t size, size_t align) {
+  if (refused_now()) return answer(0);
+  held++;
+  return answer(malloc(size ? size : align));
+}
+struct block rattle_realloc(void *at, size_t old_size, size_t size, size_t align) {
+  (void)old_size;
+  if (refused_now()) return answer(0);
+  return answer(realloc(at, size ? size : align));
+}
+void rattle_dealloc(void *at) {
+  held--;
+  free(at);
+}
+
+/* ---- what is checked */
+
+static int bad;
+static void check(int line, bool holds) {
+  if (holds) return;
+  printf("line %d fails\n", line);
+  bad++;
+}
+#define CHECK(holds) check(__LINE__, holds)
+
+static dv_bytes text(const char *words) {
+  dv_bytes bytes = {(const uint8_t *)words, strlen(words)};
+  return bytes;
+}
+static const dv_bytes none = DV_BYTES_INIT;
+static bool is(dv_bytes bytes, const char *words) { return bytes.len == strlen(words) && !memcmp(bytes.at, words, bytes.len); }
+
+/* ---- the two ends */
+
+static dv_server server;
+static dv_client client;
+static bool feeds = true; /* whether the ends are given fresh pairs */
+static uint8_t pairs_fed;
+static dv_material fresh(void) {
+  dv_material material;
+  pairs_fed++;
+  memset(material.cookie, pairs_fed, sizeof material.cookie);
+  memset(material.secret, pairs_fed, sizeof material.secret);
+  return material;
+}
+
+/* What came of a session: how often each event was told at the client (0) and at the server (1), the channel at both, bytes of data, the last
+ * code that was no DV_DONE, and whether the name of who tried to come in was shown. */
+static int told[2][32];
+static uint32_t here, there;
+static size_t came[2], came_extended;
+static int32_t stopped;
+static bool tried_me;
+
+static int32_t take(bool at_server, dv_bytes bytes, size_t *used, dv_event *event) {
+  int32_t code = at_server ? dv_server_take(&server, bytes.at, bytes.len, used) : dv_client_take(&client, bytes.at, bytes.len, used);
+  if (code != DV_DONE) return code;
+  if (at_server) dv_server_event(&server, event);
+  else dv_client_event(&client, event);
+  told[at_server][event->kind]++;
+  if (at_server && event->kind == DV_OPENED) there = event->channel;
+  if (event->kind == DV_DATA) {
+    came[at_server] += event->data.len;
+    if (event->extended) came_extended += event->data.len;
+    code = at_server ? dv_server_consume(&server, event->channel, event->data.len) : dv_client_consume(&client, event->channel, event->data.len);
+    if (code != DV_DONE) return code;
+  }
+  if (event->kind == DV_TRIED && is(event->name, "me") && is(event->data, "none")) tried_me = true;
+  if (event->kind == DV_OPENED && is(event->name, "session")) return DV_DONE;
+  if (event->kind == DV_REQUESTED && is(event->name, "exec")) return DV_DONE;
+  return at_server ? dv_server_decline(&server) : dv_client_decline(&client);
+}
+
+/* Carries what waits at one end to the other, 1,000 bytes at a time. Each end is fed after each unit, and does what waits in its queue. */
+static bool carry(bool to_server) {
+  dv_bytes out = DV_BYTES_INIT;
+  if (to_server) dv_client_output(&client, &out);
+  else dv_server_output(&server, &out);
+  size_t all = out.len;
+  uint8_t *copy = malloc(all ? all : 1);
+  memcpy(copy, out.at, all);
+  if (to_server) dv_client_written(&client, all);
+  else dv_server_written(&server, all);
+  size_t at = 0;
+  while (at < all && !stopped) {
+    size_t used = 0;
+    uint32_t channel;
+    dv_event event = DV_EVENT_INIT;
+    dv_bytes piece = {copy + at, all - at < 1000 ? all - at : 1000};
+    stopped = take(to_server, piece, &used, &event);
+    if (event.kind == DV_REFUSED) stopped = 1000 + (int32_t)event.number;
+    at += used;
+    dv_material pair = fresh();
+    if (feeds && to_server) dv_server_feed(&server, &pair);
+    else if (feeds) dv_client_feed(&client, &pair);
+    int32_t code = DV_DONE;
+    while (code == DV_DONE && !stopped) code = to_server ? dv_server_work(&server, &channel) : dv_client_work(&client, &channel);
+    if (code == DV_MEMORY) stopped = code;
+  }
+  free(copy);
+  return !stopped;
+}
+static bool go(void) {
+  for (int round = 0; round < 200; round++) {
+    dv_bytes a = DV_BYTES_INIT, b = DV_BYTES_INIT;
+    dv_client_output(&client, &a);
+    dv_server_output(&server, &b);
+    if (!a.len && !b.len) return true;
+    if (!carry(true) || !carry(false)) return false;
+  }
+  stopped = 2000;
+  return false;
+}
+static bool done(int32_t code) {
+  if (code != DV_DONE && !stopped) stopped = code;
+  return code == DV_DONE;
+}
+static bool ask_client(dv_ask ask, uint32_t *channel) { return done(dv_client_ask(&client, &ask, channel)) && go(); }
+static bool ask_server(dv_ask ask) {
+  uint32_t channel;
+  return done(dv_server_ask(&server, &ask, &channel)) && go();
+}
+#endif
