@@ -2,14 +2,18 @@
 # What stands on the library for C, which `make lib` leaves in build/.
 #
 # `programs` builds the examples bindings/c/dvssh.c and bindings/c/dvsshd.c over build/libdivrelca.a, as build/dvssh and build/dvsshd. `test` runs the tests of
-# bindings/python and bindings/rust. It says what is skipped where a tool is missing.
+# bindings/python, which it installs by pip into a folder of its own too, and of bindings/rust. It says what is skipped where a tool is missing.
 set -eu
 top=$(cd "$(dirname "$0")/.." && pwd)
 build=${LIBRARY:-$top/build}
 cc=${CC:-cc}
 
+skipped=0
 # Says that what is named $1 was left out, for $2 is not there.
-skip() { echo "SKIPPED: $1, for $2 is not there" >&2; }
+skip() {
+    echo "SKIPPED: $1, for $2 is not there"
+    skipped=$((skipped + 1))
+}
 
 programs() {
     if [ ! -e "$build/libdivrelca.a" ]; then
@@ -23,19 +27,41 @@ programs() {
     echo "The examples are build/dvssh and build/dvsshd"
 }
 
-tests() {
+of_python() {
     if ! command -v python3 >/dev/null 2>&1; then
         skip "the tests of bindings/python" python3
-    else
-        (cd "$top/bindings/python" && PYTHONDONTWRITEBYTECODE=1 DIVRELCA_LIBRARY="$build/libdivrelca.so" python3 -m unittest discover -s tests -t .)
+        return
     fi
-    if ! command -v cargo >/dev/null 2>&1; then
+    export DIVRELCA_LIBRARY="$build/libdivrelca.so"
+    (cd "$top/bindings/python" && PYTHONDONTWRITEBYTECODE=1 python3 -m unittest discover -s tests -t .)
+    if ! python3 -m pip --version >/dev/null 2>&1; then
+        skip "the installation of bindings/python" pip
+        return
+    fi
+    installed=$(mktemp -d)
+    trap 'rm -rf "$installed"' EXIT
+    PIP_ROOT_USER_ACTION=ignore python3 -m pip install --quiet --disable-pip-version-check --no-index --no-deps --target "$installed" "$top/bindings/python"
+    (cd "$installed" && unset DIVRELCA_LIBRARY && python3 -c 'import divrelca; assert len(divrelca.public_key(bytes(32))) == 32')
+    echo "bindings/python is installed by pip, and has the library inside"
+}
+
+of_rust() {
+    if ! cargo --version >/dev/null 2>&1; then
         skip "the tests of bindings/rust" cargo
-    elif [ ! -e "$build/libdivrelca.a" ]; then
-        skip "the tests of bindings/rust" "$build/libdivrelca.a"
-    else
-        (cd "$top/bindings/rust" && DIVRELCA_LIB_DIR="$build" cargo test --offline --quiet --target-dir "$top/build/rust" && DIVRELCA_LIB_DIR="$build" cargo build --offline --quiet --examples --target-dir "$top/build/rust")
+        return
     fi
+    export DIVRELCA_LIB_DIR="$build"
+    (cd "$top/bindings/rust" && cargo test --offline --quiet --target-dir "$top/build/rust" && cargo build --offline --quiet --examples --target-dir "$top/build/rust")
+}
+
+tests() {
+    if [ ! -e "$build/libdivrelca.a" ] || [ ! -e "$build/libdivrelca.so" ]; then
+        skip "the tests of bindings/python and bindings/rust" "$build/libdivrelca.a or libdivrelca.so"
+        return
+    fi
+    of_python
+    of_rust
+    echo "The libraries for Python and Rust were tested; skipped: $skipped"
 }
 
 case "${1:-}" in

@@ -1,8 +1,9 @@
 #!/bin/sh
 # Proves the library for C and leaves it in build/: libdivrelca.a, and beside it libdivrelca.so with no visible names but dv_*, divrelca.h and divrelca.pc. Rattle's own
 # compiler makes build/rattle/libdivrelca.a of the same source. What the toolchain prints goes to build/divrelca_c.log. Wants a C compiler and ar.
+# Where the gate proved the same files in this copy of the repository, and what it left is there, the crates below are not proved again (tools/proved.py).
 #
-# `test` besides runs bindings/c/session_test.c with the archive of each compiler, as it is, under valgrind, and with the C side checked for addresses and
+# `test` besides runs bindings/c/session_test.c and asks_test.c with the archive of each compiler, as it is, under valgrind, and with the C side checked for addresses and
 # undefined behaviour. Where valgrind or the C compiler's checks are missing it says what was skipped; that test is then not run, and all others are.
 set -eu
 top=$(cd "$(dirname "$0")/.." && pwd)
@@ -20,23 +21,36 @@ for tool in "$cc" ar; do
     fi
 done
 
-# Proves the crate and leaves its archive as $1; further words go to `rt lib`.
+# Says that the library is not proved, and how far it was.
+refused() {
+    cat "$log" >&2
+    echo "error: the library is not proved" >&2
+    exit 1
+}
+# Proves the crate, with all below it, and leaves its archive as $1; further words go to `rt lib`.
 archive() {
     to=$1
     shift
-    rm -f "$crate/out/libdivrelca_c.a" "$to"
-    if ! (cd "$crate" && "$rt" lib "$@") >>"$log" 2>&1 </dev/null || [ ! -e "$crate/out/libdivrelca_c.a" ]; then
-        cat "$log" >&2
-        echo "error: the library is not proved" >&2
-        exit 1
-    fi
+    rm -f "$crate/out/libdivrelca_c.a"
+    (cd "$crate" && "$rt" lib "$@") >>"$log" 2>&1 </dev/null || refused
+    [ -e "$crate/out/libdivrelca_c.a" ] || refused
     cp "$crate/out/libdivrelca_c.a" "$to"
 }
 
-: >"$log"
+rm -f "$build/bare.a" "$build/rattle/bare.a"
 echo "Proving the library; build/divrelca_c.log says how far it is"
-archive "$build/bare.a"
-archive "$build/rattle/bare.a" --backend rattle
+status=3
+if command -v python3 >/dev/null 2>&1; then
+    python3 "$top/tools/proved.py" archive "$build/bare.a" "$build/rattle/bare.a" >"$log" 2>&1 && status=0 || status=$?
+fi
+case $status in
+    0) echo "The crates below it are those that the gate proved here" ;;
+    3)
+        archive "$build/bare.a"
+        archive "$build/rattle/bare.a" --backend rattle
+        ;;
+    *) refused ;;
+esac
 $cc $flags -fPIC -c "$top/bindings/c/heap.c" -o "$build/heap.o"
 for folder in "$build" "$build/rattle"; do
     cp "$folder/bare.a" "$folder/libdivrelca.a"
@@ -49,27 +63,36 @@ sed "s|@folder@|$build|" "$top/bindings/c/divrelca.pc.in" >"$build/divrelca.pc"
 echo "The proved library is build/libdivrelca.a and build/libdivrelca.so, with build/divrelca.h and build/divrelca.pc"
 [ "${1:-}" = test ] || exit 0
 
-test=$top/bindings/c/session_test.c
 skipped=0
 # Says that the test named $1 was left out, for $2 is not there.
 skip() {
-    echo "SKIPPED: $1, for $2 is not there" >&2
+    echo "SKIPPED: $1, for $2 is not there"
     skipped=$((skipped + 1))
 }
+has_valgrind=false
+has_checks=false
+! valgrind -q true >/dev/null 2>&1 || has_valgrind=true
+! { echo 'int main(void) { return 0; }' | $cc -fsanitize=address,undefined -x c - -o "$build/checked" && "$build/checked"; } >/dev/null 2>&1 || has_checks=true
+# Runs the test $2 with the archive in the folder $1, in each of the three ways.
+run_test() {
+    source=$top/bindings/c/$2.c
+    $cc $flags "$source" "$1/bare.a" -o "$1/$2"
+    "$1/$2"
+    if $has_valgrind; then
+        # (a session takes a quarter of a second there: the session test refuses each eighth allocation alone)
+        valgrind -q --error-exitcode=1 --leak-check=full --errors-for-leak-kinds=all "$1/$2" 8
+    else
+        skip "$2 under valgrind" valgrind
+    fi
+    if $has_checks; then
+        $cc $flags -g -fsanitize=address,undefined -fno-sanitize-recover=all "$source" "$1/bare.a" -o "$1/$2_checked"
+        "$1/$2_checked"
+    else
+        skip "$2 with the C side checked" "address and undefined-behaviour checks of $cc"
+    fi
+}
 for folder in "$build" "$build/rattle"; do
-    $cc $flags "$test" "$folder/bare.a" -o "$folder/session_test"
-    "$folder/session_test"
-    if command -v valgrind >/dev/null 2>&1; then
-        valgrind -q --error-exitcode=1 --leak-check=full --errors-for-leak-kinds=all "$folder/session_test"
-    else
-        skip "the session test under valgrind" valgrind
-    fi
-    if echo 'int main(void) { return 0; }' | $cc -fsanitize=address,undefined -x c - -o "$build/checked" >/dev/null 2>&1; then
-        $cc $flags -g -fsanitize=address,undefined -fno-sanitize-recover=all "$test" "$folder/bare.a" -o "$folder/session_test_checked"
-        "$folder/session_test_checked"
-    else
-        skip "the session test with the C side checked" "the checks of $cc"
-    fi
+    for test in session_test asks_test; do run_test "$folder" "$test"; done
 done
 visible=$(nm -D --defined-only "$build/libdivrelca.so" | awk '$3 !~ /^dv_/ { print $3 }')
 if [ -n "$visible" ]; then
