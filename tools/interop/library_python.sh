@@ -66,8 +66,9 @@ to_python() {
 }
 denied() { grep -o 'Permission denied (.*' "$1" | tr -d '\r'; }
 
+# (the interpreter with the package has 22 MiB; each connection has a window of 2 MiB and what waits for its peer)
 stock_to_python() {
-    local peer="client of OpenSSH to a server of \`bindings/python\`" seen at=reader@127.0.0.1 each pids=() most=131072
+    local peer="client of OpenSSH to a server of \`bindings/python\`" seen at=reader@127.0.0.1 each pids=() most=49152
     seen=$(to_python "$at" hello 2>log)
     row "$peer" "\`exec\`, exit status" "hello, status 5" "$seen, status $?"
     to_python "$at" cat <data >answer 2>log
