@@ -161,7 +161,7 @@ module _ {K : Type 0} (p : Parties K) (side : Side) (old : State K) (authenticat
 
     step_row : HasSpelling given.message → (new : State K) (o : Outs) (step : AskStep) → GivenSent p.crypto old (ask_of a) given new o step → AskRow p side before (ask_of a) step (end_with new authentication kept) o
     step_row spelling new o step (GivenSent.done x) = done_row new o x
-    step_row spelling new o step (GivenSent.spent x) = spent_row spelling kept new o x.none_left x.dead x.quiet
+    step_row spelling new o step (GivenSent.spent x) = spent_row spelling kept new o x.none_left (ap (λ (t : State K). t.kept.dead) x.after) x.quiet
 
     fault_row : HasSpelling given.message → (new : State K) (o : Outs) (f : Fault) → GivenFails old f new → RowOf p side before (ask_of a) (Err f) (end_with new authentication kept) o
     fault_row spelling new o (fault.Ask why) x = elim x [ ]

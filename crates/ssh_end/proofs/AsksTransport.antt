@@ -31,7 +31,7 @@ use Rattle.ssh_end.specs.declared.asking.outcome.Fault.{Fault}
 use Rattle.ssh_end.specs.declared.asking.outcome.Fault.TheVariants as fault
 use Rattle.ssh_end.specs.declared.asking.outcome.AskStep.{AskStep}
 
--- The first refusal stays the first with more checks behind.
+-- The first refusal stays the first with more checks after.
 pub first_stays : (l more : List (Check model.AskRefusal)) (why : model.AskRefusal) → first_refusal l ≡ Some why → first_refusal (l ++ more) ≡ Some why
 first_stays [] more why e = absurd (cc e)
 first_stays (RefusedWhere true x ∷ l) more why e = e
@@ -64,7 +64,7 @@ module _ {K : Type 0} (p : Parties K) (side : Side) (old : State K) (a : Authent
     items = Died ∷ Refused model.Refusal.NumberSpent None ∷ Asked ask ∷ [];
     more = [];
     shows = ShowsAsk.spent;
-    takes = TakesAsk.spent ask x.message x.spelling.payload x.kept (end_with new a ch) alive x.fine x.asks x.spelling.spells x.spent.none_left x.spent.dead;
+    takes = TakesAsk.spent ask x.message x.spelling.payload x.kept (end_with new a ch) alive x.fine x.asks x.spelling.spells x.spent.none_left (ap (λ (t : State K). t.kept.dead) x.spent.after);
     parts = quiet_parts o x.spent.quiet;
     lists = quiet_lists o x.spent.quiet;
   }
@@ -74,7 +74,7 @@ module _ {K : Type 0} (p : Parties K) (side : Side) (old : State K) (a : Authent
     items = Died ∷ Sent None (Disconnect 11 d []) x.sends.payload ∷ Asked (session.Ask.AskDisconnect d) ∷ [];
     more = x.sends.puts.more;
     shows = ShowsAsk.disconnected d x.sends.payload refl;
-    takes = TakesAsk.disconnects d x.sends.payload (end_with new a ch) alive x.fine x.sends.puts.packets x.dead;
+    takes = TakesAsk.disconnects d x.sends.payload (end_with new a ch) alive x.fine x.sends.puts.packets (ap (λ (t : State K). t.kept.dead) x.after);
     parts = x.sends.puts.parts;
     lists = x.sends.puts.lists;
   }
@@ -86,7 +86,7 @@ module _ {K : Type 0} (p : Parties K) (side : Side) (old : State K) (a : Authent
         items = Died ∷ Refused model.Refusal.NumberSpent None ∷ Asked (session.Ask.AskDisconnect d) ∷ [];
         more = [];
         shows = ShowsAsk.spent;
-        takes = TakesAsk.disconnect_spent d said.payload (end_with new a ch) alive x.fine said.spells x.spent.none_left x.spent.dead;
+        takes = TakesAsk.disconnect_spent d said.payload (end_with new a ch) alive x.fine said.spells x.spent.none_left (ap (λ (t : State K). t.kept.dead) x.spent.after);
         parts = quiet_parts o x.spent.quiet;
         lists = quiet_lists o x.spent.quiet;
       }

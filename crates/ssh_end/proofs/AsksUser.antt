@@ -124,7 +124,7 @@ module _ {K : Type 0} (p : Parties K) (side : Side) (old : State K) (client : au
 
   step_row : HasSpelling m → (new : State K) (o : Outs) (answer : Answer) → Answers p.crypto old m (after_sent old.kept) answer new o → AskRow p side before (ask_of a) (step_by answer) (end_with new (OfClient kept) ch) o
   step_row spelling new o Done x = done_row new o x
-  step_row spelling new o Spent x = spent_row spelling kept new o x.none_left x.dead x.quiet
+  step_row spelling new o Spent x = spent_row spelling kept new o x.none_left (ap (λ (t : State K). t.kept.dead) x.after) x.quiet
 
   pub request_row : HasSpelling m → (result : Result AskStep Fault) (new : State K) (o : Outs) → IfOk result (λ step. RequestSent p.crypto old m new o step) → IfErr result (λ f. GivenFails old f new) → RowOf p side before (ask_of a) result (end_with new (OfClient kept) ch) o
   request_row spelling (Ok step) new o x y = subst (λ (s : AskStep). AskRow p side before (ask_of a) s (end_with new (OfClient kept) ch) o) (sym x.step_is) (step_row spelling new o x.answer x.answers)

@@ -1,4 +1,4 @@
--- What a client's end does with its server's KEXINIT and reply, and with what is owed behind it, is what the client of a session does.
+-- What a client's end does with its server's KEXINIT and reply, and with what is owed after it, is what the client of a session does.
 use Rattle.std.proofs.Common.{◌≡◌, ℕ, ◌+◌, ◌≤◌, ◌++◌, false, List, [], ◌∷◌, length, append-nil, append_assoc, arith, refl, ap, sym, ◌∙◌, subst, Option, Some, None}
 use Rattle.ssh_model.specs.Side.{Side.Client}
 use Rattle.ssh_model.specs.Wire.Message.{Msg, Msg.KexEcdhInit, Msg.KexInit, IsPayload}

@@ -134,19 +134,19 @@ module _ {K : Type 0} (p : Parties K) (side : Side) (history : List Item) (e : E
         shows = steps.Shows.refused why (Some payload) r.said;
         sends_on = λ old older live. refusal_on r.said (refusal_of why) (Some payload);
         turned = opened _ _ _ (taken _ _ _ (payloads.TakesPayload.refused_above (refusal_of why) (record { transport = new.kept; authentication = authentication; channels = channels }) x
-            (says_before p.crypto e.transport (refusal_of why) r.said r.more (subst (λ (t : Transport K). SaysWhy p.crypto t (refusal_of why) r.said r.more) awaits.kept r.says)) r.dead));
+            (says_before p.crypto e.transport (refusal_of why) r.said r.more (subst (λ (t : Transport K). SaysWhy p.crypto t (refusal_of why) r.said r.more) awaits.kept r.says)) (ap (λ (t : Transport K). t.dead) r.after)));
         parts = r.parts;
         lists = r.lists ∙ ap (λ (l : List Spelled). o.listed ++ payloads_of l) (sym (refusal_sends r.said (refusal_of why) (Some payload)));
       }
 
-  spend : (authentication : Authentication) (channels : Channels) → SpentAbove p e payload → (new : State K) (o : Outs) → FinishedSpent (step.Refused refusal.NumberSpent) new o →
+  spend : (authentication : Authentication) (channels : Channels) → SpentAbove p e payload → (new : State K) (o : Outs) → FinishedSpent m (step.Refused refusal.NumberSpent) new o →
       UnitTurned p side history unit payload (step.Refused refusal.NumberSpent) (record { transport = new.kept; authentication = authentication; channels = channels }) o
   spend authentication channels x new o y = record {
     items = refusal_items NumberSpent (Some payload) [];
     more = [];
     shows = steps.Shows.refused refusal.NumberSpent (Some payload) [];
     sends_on = λ old older live. refl;
-    turned = opened _ _ _ (taken _ _ _ (payloads.TakesPayload.above_spent x.message x.channel (record { transport = new.kept; authentication = authentication; channels = channels }) x.reads x.unrefused x.answers x.spelled x.some x.none_left y.dead));
+    turned = opened _ _ _ (taken _ _ _ (payloads.TakesPayload.above_spent x.message x.channel (record { transport = new.kept; authentication = authentication; channels = channels }) x.reads x.unrefused x.answers x.spelled x.some x.none_left (ap (λ (t : State K). t.kept.dead) y.after)));
     parts = y.quiet.out ∙ sym (append-nil o.before);
     lists = y.quiet.sent ∙ sym (append-nil o.listed);
   }
@@ -162,4 +162,4 @@ module _ {K : Type 0} (p : Parties K) (side : Side) (history : List Item) (e : E
       (refuse why authentication channels x new o (record { shown = refl; refused = y.refused }))
   finished judged.Spent authentication channels x done new o y =
       subst (λ (d : Step). UnitTurned p side history unit payload d (record { transport = new.kept; authentication = authentication; channels = channels }) o) (sym y.shown)
-      (spend authentication channels x new o (record { shown = refl; dead = y.dead; quiet = y.quiet }))
+      (spend authentication channels x new o (record { shown = refl; after = y.after; quiet = y.quiet }))

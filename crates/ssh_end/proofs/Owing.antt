@@ -103,7 +103,7 @@ pub all_given : (before after : Channels) (items : List Item) → GivesOwed befo
 all_given before after items gives none =
     sym (append-nil (channels_sent items)) ∙ (ap (λ l. channels_sent items ++ map reply_channel l) (sym none) ∙ channels_left before after items gives)
 
--- what was owed is given, and its channels stand behind
+-- what was owed is given, and its channels stand after
 pub all_behind : (before after : Channels) (old new : List (Option ℕ)) (items : List Item) → GivesOwed before items after → after.owed ≡ [] → ListsChannels before after old new → new ≡ old ++ map reply_channel before.owed
 all_behind before after old new items gives none lists = lists items gives ∙ ap (λ l. old ++ l) (all_given before after items gives none)
 
@@ -126,7 +126,7 @@ pub rest_after : {K : Type 0} (old now next : State K) → now ≡ record old { 
 rest_after {K} old now next e f =
     subst (λ (t : State K). t ≡ record old { kept = t.kept }) (sym f) (ap (λ (t : State K). let w : State K = record t { kept = after_sent now.kept } in w) e)
 
--- ---- what is put behind
+-- ---- what is put after
 
 pub extends_itself : {A : Type 0} (l : List A) → Extends l l
 extends_itself l = record { more = []; parts = sym (append-nil l) }

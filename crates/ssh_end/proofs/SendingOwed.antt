@@ -1,4 +1,4 @@
--- On which channels an end sends behind NEWKEYS.
+-- On which channels an end sends after NEWKEYS.
 use Rattle.std.proofs.Common.{◌≡◌, ◌≤◌, ◌+◌, ◌-◌, ℕ, List, [], ◌∷◌, ◌++◌, append-nil, append_assoc, length, map, replicate, reverse, refl, ap, sym, ◌∙◌, Option, Some, None, arith, false}
 use Rattle.std.proofs.lemmas.List.{length-append, reverse-reverse}
 use Rattle.ssh_model.specs.Side.{Side}
@@ -66,7 +66,7 @@ owed_beside early late (first ∷ rest) e =
     let others : length early ≡ length (early ++ late) - length (first ∷ rest) = omega (arith, size, e) in
     ap (λ (n : ℕ). replicate n None ++ first ∷ rest) others ∙ sym (beside_some (early ++ late) (first ∷ rest) some)
 
--- behind what the transport sent, all that was owed
+-- after what the transport sent, all that was owed
 pub completed_on : {K : Type 0} (p : Parties K) (side : Side) (history : List Item) (e : EndState K) → EndSumsUp p side history e → e.transport.dead ≡ false → (after : Channels) (owed : List Item) → GivesOwed e.channels owed after → after.owed ≡ [] →
     (said : List Spelled) (position : ℕ) (message : Msg) (payload : List ℕ) → SendsOn p side history ((Told (Completed position) ∷ (owed ++ items_sent said)) ++ Took None message payload ∷ []) (step.Took (record { channel = None; probing = false; telling = telling.Completed position }))
 completed_on p side history e sums alive after owed gives none said position message payload old older live =

@@ -1,4 +1,4 @@
--- What a server's end does with a client's point, and with what is owed behind it, is what the server of a session does.
+-- What a server's end does with a client's point, and with what is owed after it, is what the server of a session does.
 use Rattle.std.proofs.Common.{◌≡◌, ℕ, ◌+◌, ◌≤◌, ◌++◌, false, List, [], ◌∷◌, length, append-nil, append_assoc, arith, ap, sym, ◌∙◌, subst, None}
 use Rattle.ssh_model.specs.Side.{Side.Server}
 use Rattle.ssh_model.specs.Wire.Outcome.{Outcome.Opens}

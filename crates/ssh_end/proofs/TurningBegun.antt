@@ -129,17 +129,17 @@ module _ {K : Type 0} (c : Crypto K) (old new : State K) (o : Outs) (number : �
   kexinit_leaves : (facts : KexinitFacts) (answer : Answer) → KexinitDone c old facts answer new o → Leaves old (payload_outcome (turn.Kexinit answer) number) new
   kexinit_leaves facts answer (turning.KexinitDone.kept shut x) = Leaves.stays (still_by old new _ x.after refl)
   kexinit_leaves facts answer (turning.KexinitDone.answered material free has x) = Leaves.stays (still_by old new _ x.after refl)
-  kexinit_leaves facts answer (turning.KexinitDone.spent material free has spelling x) = Leaves.over refusal.NumberSpent refl x.dead
+  kexinit_leaves facts answer (turning.KexinitDone.spent material free has spelling x) = Leaves.over refusal.NumberSpent refl (ap (λ (t : State K). t.kept.dead) x.after)
 
   does_leave : (what : Judged) (done : PayloadTurn) → Does c old what done new o → Leaves old (payload_outcome done number) new
-  does_leave (judged.Refused r) (turn.Refused why) y = Leaves.over why refl y.refuses.dead
+  does_leave (judged.Refused r) (turn.Refused why) y = Leaves.over why refl (ap (λ (t : Transport K). t.dead) y.refuses.after)
   does_leave judged.Skipped turn.Skipped y = Leaves.stays (still_by old new _ y.after refl)
   does_leave judged.Disconnected turn.Disconnected y = Leaves.stays (still_by old new _ y.after refl)
   does_leave judged.Told turn.Told y = Leaves.stays (still_by old new _ y.after refl)
   does_leave judged.Unknown (turn.Unknown Done) y = Leaves.stays (still_by old new _ y.after refl)
-  does_leave judged.Unknown (turn.Unknown Spent) y = Leaves.over refusal.NumberSpent refl y.dead
+  does_leave judged.Unknown (turn.Unknown Spent) y = Leaves.over refusal.NumberSpent refl (ap (λ (t : State K). t.kept.dead) y.after)
   does_leave judged.ServiceRequested (turn.ServiceRequested Done) y = Leaves.stays (still_by old new _ y.after refl)
-  does_leave judged.ServiceRequested (turn.ServiceRequested Spent) y = Leaves.over refusal.NumberSpent refl y.dead
+  does_leave judged.ServiceRequested (turn.ServiceRequested Spent) y = Leaves.over refusal.NumberSpent refl (ap (λ (t : State K). t.kept.dead) y.after)
   does_leave judged.ServiceAccepted turn.ServiceAccepted y = Leaves.stays (still_by old new _ y.after refl)
   does_leave (judged.Kexinit facts) (turn.Kexinit answer) y = kexinit_leaves facts answer y.done
   does_leave (judged.Kexinit facts) (turn.Left left) y = Leaves.stays (still_same old new y.left.after)
@@ -188,7 +188,7 @@ module _ {K : Type 0} (c : Crypto K) (old : State K) (bytes : List ℕ) (found :
 
     refuses : (step_is : PacketStep) (why : Refusal) (new : State K) (o : Outs) → PacketDone c between step_is (packet_turn.Refused why) new o → new.kept.dead ≡ true
     refuses step.More why new o y = absurd y
-    refuses (step.Refused r) why new o y = y.refuses.dead
+    refuses (step.Refused r) why new o y = (ap (λ (t : Transport K). t.dead) y.refuses.after)
     refuses step.Payload why new o y = absurd y
 
     leaves_so : (new : State K) (given : TransportTurn) → IsShown c old bytes between → Leaves between given new → PacketLeaves c old bytes given new
@@ -220,7 +220,7 @@ module _ {K : Type 0} (c : Crypto K) (old : State K) (bytes : List ℕ) (found :
       go (PacketLeaves.shows y) = y
       go (PacketLeaves.over why e dead) = absurd (cc e)
 
--- ---- what is given behind an exchange
+-- ---- what is given after an exchange
 
 pub owed_lines : {K : Type 0} (before after : Channels) (owed : List Item) → GivesOwed before owed after → (s : Transport K) → (after_items Client owed s).lines ≡ s.lines
 owed_lines before _ _ payloads.GivesOwed.nothing s = refl

@@ -47,7 +47,7 @@ later_memory (Sent channel message payload ∷ a) b x = refl
 later_memory (Told fact ∷ a) b x = told_memory fact (a ++ b) (later_memory a b x)
 later_memory (_ ∷ a) b x = later_memory a b x
 
--- What takes memory does with what stands behind it.
+-- What takes memory does with what stands after it.
 pub front_memory : (a b : List Item) → take_memory a ≡ true → take_memory (a ++ b) ≡ true
 front_memory [] b x = absurd (false≢true x)
 front_memory (Sent channel message payload ∷ a) b x = refl

@@ -1,4 +1,4 @@
--- What an end sends behind NEWKEYS, and what it then lists.
+-- What an end sends after NEWKEYS, and what it then lists.
 use Rattle.std.proofs.Common.{◌≡◌, ℕ, Bool, false, List, [], ◌∷◌, ◌++◌, append-nil, append_assoc, refl, ap, sym, ◌∙◌}
 use Rattle.ssh_model.specs.Side.{Side}
 use Rattle.ssh_model.specs.Wire.Message.{Msg, IsPayload}

@@ -178,10 +178,10 @@ module _ {K : Type 0} (p : Parties K) (side : Side) (history : List Item) (bytes
   pub above_reads : (number : ℕ) (judgement : Judgement) (o : Outs) → Finished p.crypto between judgement done new o → Left p side history bytes (outcome.Up number) between → Reads p side history bytes done new
   above_reads number (judged.Answered above) o x y =
       still_reads (outcome.Up number) refl (λ e. cc e) (λ why e. cc e) (success_still above.success x.between x.after (put_still p.crypto (option_map (λ v. v.items) above.reply) x.between o x.puts)) y
-  above_reads number (judged.Refused why) o x y = Reads.over why x.shown x.refused.refuses.dead
-  above_reads number judged.Spent o x y = Reads.over code.NumberSpent x.shown x.dead
+  above_reads number (judged.Refused why) o x y = Reads.over why x.shown (ap (λ (t : Transport K). t.dead) x.refused.refuses.after)
+  above_reads number judged.Spent o x y = Reads.over code.NumberSpent x.shown (ap (λ (t : State K). t.kept.dead) x.after)
 
-  -- what was owed was given behind an exchange
+  -- what was owed was given after an exchange
   pub ended_reads : (choice : OwnedChoice) (channels later : Channels) (o : Outs) → new ≡ record between { kept = new.kept } → Completing p.crypto between channels done new later o → Left p side history bytes (outcome.Completed choice) between → Reads p side history bytes done new
   ended_reads choice channels later o rest (Completing.given x shown) y =
       still_reads (outcome.Completed choice) refl (λ e. cc e) (λ why e. cc e)

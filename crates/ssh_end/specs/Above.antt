@@ -17,7 +17,7 @@ use Rattle.ssh_model.specs.End.Payloads.{AnswersAbove, ReadsAbove, RefusesAbove}
 use Rattle.ssh_model.specs.End.State.{Authentication, EndState, above_checks, after_above, after_items, probes}
 use Rattle.ssh_transport_machine.specs.Above.{IsPut, PeerRefused}
 use Rattle.ssh_transport_machine.specs.Puts.{Outs, payloads_of}
-use Rattle.ssh_transport_machine.specs.State.{State, last_number}
+use Rattle.ssh_transport_machine.specs.State.{State, dead_state, last_number}
 use Rattle.ssh_transport_machine.specs.Turning.{HasRoom, IsQuiet, RefusalLacks}
 use Rattle.ssh_types.specs.Refusals.{refusal_of}
 use Rattle.ssh_types.specs.declared.refusal.Refusal.TheVariants as refusal
@@ -181,10 +181,10 @@ pub record FinishedRefusal {K : Type 0} (c : Crypto K) (old : State K) (why : _)
   pub shown : done ≡ step.Refused why
   pub refused : PeerRefused c old why new o
 
--- No number was left.
-pub record FinishedSpent {K : Type 0} (done : Step) (new : State K) (o : Outs) : Type 0 where
+-- No number was left: the end is over, and all else stays as it was.
+pub record FinishedSpent {K : Type 0} (old : State K) (done : Step) (new : State K) (o : Outs) : Type 0 where
   pub shown : done ≡ step.Refused refusal.NumberSpent
-  pub dead : new.kept.dead ≡ true
+  pub after : new ≡ dead_state old
   pub quiet : IsQuiet o
 
 -- what was done with what they made of a payload
@@ -192,7 +192,7 @@ abbrev pub Finished : {K : Type 0} → Crypto K → State K → Judgement → St
 Finished c old (judged.Answered above) done new o =
     FinishedAnswer c old above.step (option_map (λ v. v.items) above.reply) above.success done new o
 Finished c old (judged.Refused why) done new o = FinishedRefusal c old why done new o
-Finished c old judged.Spent done new o = FinishedSpent done new o
+Finished c old judged.Spent done new o = FinishedSpent old done new o
 
 -- Something would be sent.
 abbrev pub IsReply : Option (List ℕ) → Type 0

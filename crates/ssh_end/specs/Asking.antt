@@ -26,11 +26,10 @@ use Rattle.ssh_model.specs.End.State.{Authentication, Authentication.OfClient, E
 use Rattle.ssh_model.specs.End.Summary.{EndSumsUp, EndTurned}
 use Rattle.ssh_auth.specs.Asking.{ask_of as user_ask_of}
 use Rattle.ssh_channels.specs.Values.{ask_of as channel_ask_of}
-use Rattle.ssh_transport_machine.specs.Above.{SendDied}
 use Rattle.ssh_transport_machine.specs.Asks.{AskDied, AskTaken, WasDead}
 use Rattle.ssh_transport_machine.specs.Puts.{Outs, payloads_of}
 use Rattle.ssh_transport_machine.specs.State.{State}
-use Rattle.ssh_transport_machine.specs.Turning.{Answers, SentBy, SpentBy}
+use Rattle.ssh_transport_machine.specs.Turning.{Answers, HasRoom, SentBy, SpentBy}
 use Rattle.ssh_transport_machine.specs.declared.machine.turn.Answer.{Answer}
 use Rattle.ssh_transport_machine.specs.declared.machine.turn.Answer.TheVariants.{Done, Spent}
 use Rattle.ssh_transport_machine.specs.declared.machine.turn.AskTurn.TheVariants as turn
@@ -65,7 +64,7 @@ abbrev pub AsksUint32s : session.Ask → Type 0
 AsksUint32s (session.Ask.AskOpen kind window max rest) = (window < 2 ^ 32) × (max < 2 ^ 32)
 AsksUint32s _ = Unit {0}
 
--- The numbers of a message of the connection, but for its recipient, are uint32s.
+-- The numbers of a message of the connection, except for its recipient, are uint32s.
 abbrev pub HasUint32s : Msg → Type 0
 HasUint32s (ChannelOpen kind sender window max rest) = (sender < 2 ^ 32) × (window < 2 ^ 32) × (max < 2 ^ 32)
 HasUint32s (ChannelOpenConfirmation recipient sender window max rest) =
@@ -245,10 +244,16 @@ pub data GivenSent {K : Type 0} (c : Crypto K) (old : State K) (asked : session.
       GivenSent c old asked given new o (step_on asked given.channel Done)
   spent : SpentBy old new o → GivenSent c old asked given new o (step_by Spent)
 
+-- Memory was refused for it, and the end is over.
+pub record GivenDied {K : Type 0} (old new : State K) : Type 0 where
+  pub alive : old.kept.dead ≡ false
+  pub room : HasRoom old
+  pub dead : new.kept.dead ≡ true
+
 -- why it was not sent: it is no ask that a transport refuses
 abbrev pub GivenFails : {K : Type 0} → State K → Fault → State K → Type 0
 GivenFails old (fault.Ask why) new = ⊥
-GivenFails old fault.Memory new = SendDied old new
+GivenFails old fault.Memory new = GivenDied old new
 GivenFails old fault.Dead new = WasDead old new
 
 -- ---- a client's requests

@@ -14,7 +14,7 @@ use Rattle.ssh_end.specs.declared.step.Telling.TheVariants as telling
 abbrev pub completed_at : ℕ → Step
 completed_at position = step.Took (record { channel = None; probing = false; telling = telling.Completed position })
 
--- What was owed is given behind NEWKEYS, or too few numbers are left for it.
+-- What was owed is given after NEWKEYS, or too few numbers are left for it.
 pub data Completing {K : Type 0} (c : Crypto K) (old : State K) (channels : Channels) (done : Step) (new : State K)
     (later : Channels) (o : Outs) : Type 0 where
   given : OwedGiven c old.kept channels new.kept later o →

@@ -25,12 +25,12 @@ channels_sent [] = []
 channels_sent (Sent channel message payload ∷ items) = channels_sent items ++ channel ∷ []
 channels_sent (_ ∷ items) = channels_sent items
 
--- The channels of the replies that were given stand behind these numbers, the oldest first.
+-- The channels of the replies that were given stand after these numbers, the oldest first.
 abbrev pub ListsChannels : (before after : Channels) → (old new : List (Option ℕ)) → Type 0
 ListsChannels before after old new =
     (items : List Item) → GivesOwed before items after → new ≡ old ++ channels_sent items
 
--- The later list is the earlier one with more behind it.
+-- The later list is the earlier one with more after it.
 pub record Extends {A : Type 0} (earlier later : List A) : Type 0 where
   pub more : List A
   pub parts : later ≡ earlier ++ more

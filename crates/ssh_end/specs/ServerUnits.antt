@@ -44,7 +44,7 @@ pub record GoesUp {K : Type 0} (c : Crypto K) (judge : Judge) (between : State K
   pub judged : JudgesPayload judge between old judgement later
   pub finished : Finished c between judgement done new o
 
--- An exchange was ended, and what was owed is given behind it; what is read is as before.
+-- An exchange was ended, and what was owed is given after it; what is read is as before.
 pub record GoesOn {K : Type 0} (c : Crypto K) (between : State K) (old : Layers) (done : Step) (new : State K)
     (later : Layers) (o : Outs) : Type 0 where
   pub completing : Completing c between old.channels done new later.channels o
@@ -73,7 +73,7 @@ pub data UpLacks {K : Type 0} (judge : Judge) (between : State K) (layers : Laye
   sending : (judgement : Judgement) (later : Layers) → JudgesPayload judge between layers judgement later →
       FinishLacks between judgement → UpLacks judge between layers
 
--- what took memory behind an answer of the transport
+-- what took memory after an answer of the transport
 abbrev pub GoLacks : {K : Type 0} → Judge → TransportTurn → State K → Layers → Type 0
 GoLacks judge (outcome.Up number) between layers = UpLacks judge between layers
 GoLacks judge (outcome.Completed choice) between layers = 1 ≤ length layers.channels.owed

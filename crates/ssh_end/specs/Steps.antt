@@ -108,7 +108,7 @@ pub data Shows (payload : List ℕ) : Step → List Item → Type 0 where
   refused : (why : _) (opened : Option (List ℕ)) (said : List Spelled) →
       Shows payload (step.Refused why) (refusal_items (refusal_of why) opened said)
 
--- Where an end that sums up this history does this step, these items are sent on the channels of the step: what was owed behind all else.
+-- Where an end that sums up this history does this step, these items are sent on the channels of the step: what was owed after all else.
 abbrev pub SendsOn : {K : Type 0} → Parties K → Side → (history items : List Item) → Step → Type 0
 SendsOn {K} p side history items given =
     (old : EndState K) → EndSumsUp p side history old → old.transport.dead ≡ false →

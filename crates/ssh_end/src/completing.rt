@@ -16,7 +16,7 @@ use ssh_transport_machine::standing::machines_stand;
 use ssh_types::Refusal;
 use std::alloc::AllocError;
 
-/// Gives what is owed behind NEWKEYS, and says at which position the exchange was completed. Where nothing is owed it asks for no memory.
+/// Gives what is owed after NEWKEYS, and says at which position the exchange was completed. Where nothing is owed it asks for no memory.
 ///
 /// # Errors
 ///

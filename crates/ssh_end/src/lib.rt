@@ -8,7 +8,7 @@
 //! if let Some(told) = turn.told {
 //!     tell(told);
 //! }
-//! // the bytes behind the first `turn.used` are given again
+//! // the bytes after the first `turn.used` are given again
 //! // the user wants something
 //! server.ask(&Ask::Rekey, &mut out)?;
 //! // what stands in `out` goes to the client

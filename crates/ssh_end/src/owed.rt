@@ -16,7 +16,7 @@ use ssh_transport_machine::Machine;
 use std::alloc::AllocError;
 
 /// Gives the replies that are owed, once NEWKEYS was sent: the oldest first, each in a packet of its own. The local number of the channel
-/// of each is put behind `numbers`.
+/// of each is appended to `numbers`.
 ///
 /// # Errors
 ///
@@ -45,7 +45,7 @@ pub fn give_owed<S: Sealing, F: Filler + Drop>(
     Ok(())
 }
 
-// Gives a reply, and puts the local number of its channel behind `numbers`. Where memory is refused nothing is put out, and the end is
+// Gives a reply, and appends the local number of its channel to `numbers`. Where memory is refused nothing is put out, and the end is
 // over.
 fn give_reply<S: Sealing, F: Filler + Drop>(
     machine: &mut Machine<S, F>,

@@ -152,7 +152,7 @@ fn send_one(pair: &mut Pair) -> Result<(bool, bool), AllocError> {
     Ok((is_due, lines == "c asked send; c sent 94 CHANNEL_DATA 9"))
 }
 
-// An exchange is due once 64 packets were sent in the epoch, and no longer behind it.
+// An exchange is due once 64 packets were sent in the epoch, and no longer after it.
 #[test]
 fn when_an_exchange_is_due(rt: HostRuntime) -> Result<(), Fail> {
     let of_client = Settings {

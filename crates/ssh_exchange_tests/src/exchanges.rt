@@ -18,7 +18,7 @@ use std::alloc::{AllocError, Global};
 use std::process::Abort;
 use std::test::*;
 
-// What a client and a server put out in a session of two exchanges with a message each behind it. These and the hashes of both
+// What a client and a server put out in a session of two exchanges with a message each after it. These and the hashes of both
 // exchanges were computed by HMAC-SHA-256 and SHA-256 of another library from RFC 4253 sections 6 to 8 and RFC 8731.
 const FROM_CLIENT: &str = "\
     5353482d322e302d630d0a000000ac0614c1c1c1c1c1c1c1c1c1c1c1c1c1c1c1c10000002e637572766532353531392d7368\

@@ -28,7 +28,7 @@ enum Ends {
     Extended,
 }
 
-// What may come at a place beside the numbers that it names.
+// What may come at a place besides the numbers that it names.
 #[derive(Clone, Copy, PartialEq, Eq)]
 enum Kind {
     // Nothing.
@@ -197,7 +197,7 @@ fn unknown_below(kind: Kind) -> u8 {
     }
 }
 
-// Each number that is known below 50, those beside it, and those at both sides of each bound.
+// Each number that is known below 50, those next to it, and those at both sides of each bound.
 const BYTES: &[u8] = &[
     0, 1, 2, 3, 4, 5, 6, 7, 8, 19, 20, 21, 22, 29, 30, 31, 32, 49, 50, 52, 60, 79, 80, 100, 101,
     255,
@@ -238,7 +238,7 @@ fn the_packet_after_a_wrong_guess(rt: HostRuntime) -> Result<(), Fail> {
     Ok(())
 }
 
-// The lines on a payload of this byte behind a wrong guess.
+// The lines on a payload of this byte after a wrong guess.
 fn behind_a_wrong_guess(alloc: Global, byte: u8) -> Result<String, AllocError> {
     if 30 <= byte && byte < 50 {
         return format!(in alloc; "s took {byte} {} 1; s told ignored", name(byte));

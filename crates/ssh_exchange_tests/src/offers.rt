@@ -22,7 +22,7 @@ fn lines(alloc: Global) -> Result<Pair, AllocError> {
 
 // The place and the text of a list in a first KEXINIT, and why it is refused, if it is, at a server and at a client.
 const FIRST_OFFERS: &[(usize, &str, &str)] = &[
-    // The peer's marker, which stands anywhere, beside the other side's. Both are taken out before the choice.
+    // The peer's marker, which stands anywhere, next to the other side's. Both are taken out before the choice.
     (0, "curve25519-sha256", "9 NotStrict"),
     (0, "", "9 NotStrict"),
     (0, "MARKER", "8 NoCommon"),

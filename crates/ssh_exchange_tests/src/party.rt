@@ -245,12 +245,10 @@ impl Party {
     ///
     /// Only where memory is refused.
     pub fn send(&mut self, payload: &[u8], lines: &mut Transcript) -> Result<(), AllocError> {
-        if payload.is_empty() || payload.len() > 34_000 {
-            return lines.note(self.side, "asked to send what no packet holds");
-        }
         let payload = payload.to_vec(self.alloc)?;
         match self.end.send(payload, &mut self.out, &mut self.sent) {
-            Ok(answer) => {
+            Ok(None) => lines.note(self.side, "asked to send what it can't"),
+            Ok(Some(answer)) => {
                 lines.note(self.side, "asked send")?;
                 self.note_ask(AskTurn::Answered(answer), lines)
             }

@@ -1,4 +1,4 @@
-//! Each refusal of the peer at its places: what is told, the DISCONNECT that goes out, and that nothing happens behind it.
+//! Each refusal of the peer at its places: what is told, the DISCONNECT that goes out, and that nothing happens after it.
 
 mod table;
 mod ways;
@@ -25,7 +25,7 @@ fn lines_of(alloc: Global, side: Side, refusal: &str, code: u32) -> Result<Strin
     format!(in alloc; "{side} refused {refusal}; {side} sent 1 DISCONNECT {size}; {side} died")
 }
 
-// The name behind the number of a refusal.
+// The name of the number of a refusal.
 fn name_of(refusal: &str) -> &str {
     refusal.split_once(' ').map_or("", |(_, name)| name)
 }
@@ -104,7 +104,7 @@ fn the_most_lines_of_a_server(rt: HostRuntime) -> Result<(), Fail> {
     Ok(())
 }
 
-// What a client does on this line, behind so many others of a server that are none with a version. It died where one was refused.
+// What a client does on this line, after so many others of a server that are none with a version. It died where one was refused.
 fn behind_other_lines(alloc: Global, count: usize, line: &[u8]) -> Result<String, AllocError> {
     let mut pair = Pair::strict(alloc)?;
     for _ in 0..count {

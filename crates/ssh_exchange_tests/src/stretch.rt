@@ -1,4 +1,4 @@
-//! Stretches of a session by their names, each played behind those before it.
+//! Stretches of a session by their names, each played after those before it.
 
 mod session;
 mod variant;

@@ -54,7 +54,7 @@ fn extensions_are_announced_once(rt: HostRuntime) -> Result<(), Fail> {
     Ok(())
 }
 
-// A whole session of two plain ends, whose numbers go on behind NEWKEYS, and whose streams are shorter by the markers alone.
+// A whole session of two plain ends, whose numbers go on after NEWKEYS, and whose streams are shorter by the markers alone.
 #[test]
 fn a_plain_session(rt: HostRuntime) -> Result<(), Fail> {
     let mut pair = Pair::new(rt.alloc(), &settings(b"c", Off), &settings(b"s", Off))?;

@@ -115,7 +115,7 @@ fn tag_of(alloc: Global, vector: &Vector, text: &mut [u8]) -> Result<[u8; 16], F
     Ok(key.tag(&vector.nonce, vector.beside, text))
 }
 
-// An IV whose counter wraps behind packet 0.
+// An IV whose counter wraps after packet 0.
 const IV: [u8; 12] = *b"\x01\x02\x03\x04\xff\xff\xff\xff\xff\xff\xff\xff";
 
 // A payload, and its packet under the number.

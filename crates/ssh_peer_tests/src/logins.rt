@@ -133,7 +133,7 @@ fn methods(text: &[u8]) -> Result<NameList<'_>, Fail>
     Ok(list)
 }
 
-// The server takes a payload, and the payload that it sends is put behind `out`.
+// The server takes a payload, and the payload that it sends is appended to `out`.
 fn serve<'a>(
     server: &mut AuthServer,
     session: &[u8; 32],
@@ -148,7 +148,7 @@ fn serve<'a>(
     Ok(answer)
 }
 
-// The payload of what the client is asked for is put behind `out`.
+// The payload of what the client is asked for is appended to `out`.
 fn request(client: &mut AuthClient, ask: &UserAsk<'_>, out: &mut Vec<u8>) -> Result<(), Fail> {
     let request = client.ask(&SESSION, &SIGNER, ask)?;
     encode(&request.message(), out)?;

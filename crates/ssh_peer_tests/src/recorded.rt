@@ -206,14 +206,14 @@ impl Recording {
 
     // The client is asked to send a payload.
     fn is_asked(&mut self, payload: &[u8]) -> Result<bool, AllocError> {
-        if payload.is_empty() || payload.len() > 34_000 {
-            return Ok(false);
-        }
         match payload.first() {
             Some(&5) => Ok(self.is_done(TransportAsk::Service)),
             Some(&20) => Ok(self.is_done(TransportAsk::Rekey)),
             _ => {
                 let payload = payload.to_vec(self.alloc)?;
+                if !self.client.can_send(payload.as_slice()) {
+                    return Ok(false);
+                }
                 let answer = self.client.send(payload, &mut self.out, &mut self.sent);
                 Ok(answer.is_ok())
             }

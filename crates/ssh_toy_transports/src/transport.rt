@@ -1,6 +1,6 @@
 //! The transport of either role.
 
-ghost use Rattle.std.specs.Prelude.{◌≤◌, length, true};
+ghost use Rattle.std.specs.Prelude.{◌≤◌, true};
 ghost use Rattle.ssh_model.specs.Wire.Message.{FitsContext};
 ghost use Rattle.ssh_model.specs.Wire.Sizes.{payload_size};
 ghost use Rattle.ssh_message.specs.Meaning.{meaning};
@@ -36,7 +36,7 @@ impl Drop for ToyTransport {
 }
 
 impl ToyTransport {
-    /// The transport of a side, behind what it put out and sent. Settings that are refused count as want of memory.
+    /// The transport of a side, after what it put out and sent. Settings that are refused count as want of memory.
     ///
     /// # Errors
     ///
@@ -106,7 +106,7 @@ impl ToyTransport {
         }
     }
 
-    /// Sends a payload of a layer above.
+    /// Sends a payload of a layer above, or answers `None` where the transport can't send it now.
     ///
     /// # Errors
     ///
@@ -116,13 +116,20 @@ impl ToyTransport {
         payload: Vec<u8>,
         out: &mut Vec<u8>,
         sent: &mut Vec<Vec<u8>>,
-    ) -> Result<Answer, TransportFault>
-        requires some { 1 ≤ length payload.items }
-        requires most { length payload.items ≤ 34000 }
-    {
+    ) -> Result<Option<Answer>, TransportFault> {
         match self {
-            ToyTransport::Client(end) => end.send(payload, out, sent),
-            ToyTransport::Server(end) => end.send(payload, out, sent),
+            ToyTransport::Client(end) => {
+                if !end.can_send(payload.as_slice()) {
+                    return Ok(None);
+                }
+                Ok(Some(end.send(payload, out, sent)?))
+            }
+            ToyTransport::Server(end) => {
+                if !end.can_send(payload.as_slice()) {
+                    return Ok(None);
+                }
+                Ok(Some(end.send(payload, out, sent)?))
+            }
         }
     }
 

@@ -1,5 +1,5 @@
 -- What a machine does on an ask is a turn of a session.
-use Rattle.std.proofs.Common.{◌≡◌, ℕ, ◌^◌, List, [], ◌∷◌, sym, ◌∙◌, subst, true, false, Some, None, append-nil}
+use Rattle.std.proofs.Common.{◌≡◌, ℕ, ◌^◌, List, [], ◌∷◌, ap, sym, ◌∙◌, subst, true, false, Some, None, append-nil}
 use Rattle.ssh_model.specs.Side.{Side}
 use Rattle.ssh_model.specs.Wire.Message.{Msg, Msg.Disconnect}
 use Rattle.ssh_model.specs.Sessions.Items.{Ask, Ask.AskDisconnect, Item, Item.Asked, Item.Died, Item.Sent, Spelled.SpelledBy}
@@ -61,7 +61,7 @@ module _ {K : Type 0} (laws : AskLaws K) (p : Parties K) (side : Side) (h : List
   }
   ask_lifted ask (turn.Answered Spent) new o own x =
       quiet_ask ask (turn.Answered Spent) _ new.kept o x.spent.quiet (AskShows.spent ask)
-      (laws.spent p side h old.kept sums alive ask x.message x.spelling.payload x.kept new.kept x.fine x.asks x.spelling.spells x.spent.none_left x.spent.dead)
+      (laws.spent p side h old.kept sums alive ask x.message x.spelling.payload x.kept new.kept x.fine x.asks x.spelling.spells x.spent.none_left (ap (λ (t : State K). t.kept.dead) x.spent.after))
 
   pub disconnect_lifted : (description : List ℕ) (done : AskTurn) (new : State K) (o : Outs) → DisconnectDone p.crypto old description done new o → IsAskTurn p side h (AskDisconnect description) done new.kept o
   disconnect_lifted description (turn.Refused why) new o x = refused_ask (AskDisconnect description) why new o tt x
@@ -70,11 +70,11 @@ module _ {K : Type 0} (laws : AskLaws K) (p : Parties K) (side : Side) (h : List
     items = Died ∷ Sent None (Disconnect 11 description []) x.sends.payload ∷ Asked (AskDisconnect description) ∷ [];
     more = x.sends.puts.more;
     shows = AskShows.disconnected description x.sends.payload;
-    turned = laws.disconnected p side h old.kept sums alive description x.sends.payload new.kept x.sends.puts.more x.fine x.dead x.sends.puts.packets;
+    turned = laws.disconnected p side h old.kept sums alive description x.sends.payload new.kept x.sends.puts.more x.fine (ap (λ (t : State K). t.kept.dead) x.after) x.sends.puts.packets;
     parts = x.sends.puts.parts;
     lists = x.sends.puts.lists;
   }
   disconnect_lifted description (turn.Answered Spent) new o x =
       let said = farewell_spelled old.kept description x.fine in
       quiet_ask (AskDisconnect description) (turn.Answered Spent) _ new.kept o x.spent.quiet (AskShows.spent (AskDisconnect description))
-      (laws.disconnect_spent p side h old.kept sums alive description said.payload new.kept x.fine said.spells x.spent.none_left x.spent.dead)
+      (laws.disconnect_spent p side h old.kept sums alive description said.payload new.kept x.fine said.spells x.spent.none_left (ap (λ (t : State K). t.kept.dead) x.spent.after))

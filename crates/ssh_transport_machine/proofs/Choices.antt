@@ -97,18 +97,18 @@ module _ {K : Type 0} where
     kexinit_choosing facts answer is (turning.KexinitDone.answered material free has y) =
         moved old new _ y.after
         (record { choice = λ e. noted_choice (before_taken old.kept) old.receiver.payload facts (noted facts.wrong facts.strict facts.extensions old.receiver.payload (after_own_kexinit material y.payload old.kept)) refl refl refl is })
-    kexinit_choosing facts answer is (turning.KexinitDone.spent material free has fits y) = over new.kept.dead y.dead alive
+    kexinit_choosing facts answer is (turning.KexinitDone.spent material free has fits y) = over new.kept.dead (ap (λ (t : State K). t.kept.dead) y.after) alive
 
     does_choosing : (what : Judged) (done : PayloadTurn) → PayloadJudged (before_taken old.kept) old.receiver.payload what → Does c old what done new o → IsChoosing new.kept
-    does_choosing (judged.Refused r) (turn.Refused why) is y = over new.kept.dead y.refuses.dead alive
+    does_choosing (judged.Refused r) (turn.Refused why) is y = over new.kept.dead (ap (λ (t : Transport K). t.dead) y.refuses.after) alive
     does_choosing judged.Skipped turn.Skipped is y =
         moved old new _ y.after (record { choice = λ e. choice_on old.kept (record old.kept { phase = model.Phase.Exchanging }) refl refl refl (x.choice (ap is_agreeing (guessed _ _ is))) })
     does_choosing judged.Disconnected turn.Disconnected is y = over new.kept.dead (ap (λ (t : State K). t.kept.dead) y.after) alive
     does_choosing judged.Told turn.Told is y = same _ y.after refl refl refl refl
     does_choosing judged.Unknown (turn.Unknown Done) is y = same _ y.after refl refl refl refl
-    does_choosing judged.Unknown (turn.Unknown Spent) is y = over new.kept.dead y.dead alive
+    does_choosing judged.Unknown (turn.Unknown Spent) is y = over new.kept.dead (ap (λ (t : State K). t.kept.dead) y.after) alive
     does_choosing judged.ServiceRequested (turn.ServiceRequested Done) is y = same _ y.after refl refl refl refl
-    does_choosing judged.ServiceRequested (turn.ServiceRequested Spent) is y = over new.kept.dead y.dead alive
+    does_choosing judged.ServiceRequested (turn.ServiceRequested Spent) is y = over new.kept.dead (ap (λ (t : State K). t.kept.dead) y.after) alive
     does_choosing judged.ServiceAccepted turn.ServiceAccepted is y = same _ y.after refl refl refl refl
     does_choosing (judged.Kexinit facts) (turn.Kexinit answer) is y = kexinit_choosing facts answer is y.done
     does_choosing (judged.Kexinit facts) (turn.Left left) is y = subst (λ (w : State K). IsChoosing w.kept) (sym y.left.after) x
@@ -123,7 +123,7 @@ module _ {K : Type 0} where
 
   packet_done : (c : Crypto K) (between new : State K) (o : Outs) → IsChoosing between.kept → new.kept.dead ≡ false → (found : PacketStep) (done : PacketTurn) → PacketDone c between found done new o → IsChoosing new.kept
   packet_done c between new o x alive step.More packet_turn.More y = moved between new between.kept y.after x
-  packet_done c between new o x alive (step.Refused r) (packet_turn.Refused why) y = over new.kept.dead y.refuses.dead alive
+  packet_done c between new o x alive (step.Refused r) (packet_turn.Refused why) y = over new.kept.dead (ap (λ (t : Transport K). t.dead) y.refuses.after) alive
   packet_done c between new o x alive step.Payload (packet_turn.Payload done) y = does_choosing c between new o x alive y.what done y.is_judged y.does
   packet_done c between new o x alive _ _ y = absurd y
 
@@ -138,7 +138,7 @@ module _ {K : Type 0} where
 
   pub answer_choosing : (c : Crypto K) (old : State K) (m : Msg) (answer : Answer) (new : State K) (o : Outs) → IsChoosing old.kept → Answers c old m (after_sent old.kept) answer new o → new.kept.dead ≡ false → IsChoosing new.kept
   answer_choosing c old m Done new o x y alive = same c old new o x alive _ y.after refl refl refl refl
-  answer_choosing c old m Spent new o x y alive = over new.kept.dead y.dead alive
+  answer_choosing c old m Spent new o x y alive = over new.kept.dead (ap (λ (t : State K). t.kept.dead) y.after) alive
 
   asked : (old new : State K) (next : Transport K) (ask : Ask) (m : Msg) (payload : List ℕ) → Asks old.kept ask m payload next → new ≡ record old { kept = next } → IsChoosing old.kept → IsChoosing new.kept
   asked old new next ask m payload (kept.Asks.service p side) e x = moved old new _ e (goes_on old.kept _ refl refl refl refl x)
@@ -147,7 +147,7 @@ module _ {K : Type 0} where
   pub ask_choosing : (c : Crypto K) (old : State K) (ask : Ask) (done : AskTurn) (new : State K) (o : Outs) → IsChoosing old.kept → AskDone c old ask done new o → new.kept.dead ≡ false → IsChoosing new.kept
   ask_choosing c old ask (ask_turn.Refused why) new o x y alive = subst (λ (w : State K). IsChoosing w.kept) (sym y.after) x
   ask_choosing c old ask (ask_turn.Answered Done) new o x y alive = asked old new y.kept ask y.message y.payload y.asks y.after x
-  ask_choosing c old ask (ask_turn.Answered Spent) new o x y alive = over new.kept.dead y.spent.dead alive
+  ask_choosing c old ask (ask_turn.Answered Spent) new o x y alive = over new.kept.dead (ap (λ (t : State K). t.kept.dead) y.spent.after) alive
 
   pub opened_choosing : (c : Crypto K) (settings : Settings) (side : Side) (cookie secret : List ℕ) (new : State K) (o : Outs) → IsOpened c settings side cookie secret new o → IsChoosing new.kept
   opened_choosing c settings side cookie secret new o y = subst (λ (w : State K). IsChoosing w.kept) (sym y.state_is) (record { choice = λ e. absurd (false≢true e) })

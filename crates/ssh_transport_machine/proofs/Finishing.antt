@@ -1,4 +1,4 @@
--- NEWKEYS, and what stands before and behind it.
+-- NEWKEYS, and what stands before and after it.
 use Rattle.std.proofs.Common.{◌≡◌, ℕ, List, [], ◌∷◌, ◌++◌, refl, ap, sym, ◌∙◌, append-nil, append_assoc, subst, Option, Some, None}
 use Rattle.ssh_model.specs.Wire.Message.{Msg, Msg.ExtInfo, Msg.NewKeys}
 use Rattle.ssh_model.specs.Wire.Sealing.{Crypto}

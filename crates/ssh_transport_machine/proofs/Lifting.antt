@@ -219,7 +219,7 @@ module _ {K : Type 0} (laws : PayloadLaws K) (p : Parties K) (side : Side) (h : 
     items = refusal_items (refusal_of why) (Some payload) x.said;
     more = x.more;
     shows = shown.Shows.refused why;
-    turned = laws.refused p side h s sums alive payload (refusal_of why) x.said x.more new (refused_by agreement p.trusts s payload why is) (says_before p.crypto s (refusal_of why) x.said x.more x.says) x.dead;
+    turned = laws.refused p side h s sums alive payload (refusal_of why) x.said x.more new (refused_by agreement p.trusts s payload why is) (says_before p.crypto s (refusal_of why) x.said x.more x.says) (ap (λ (t : Transport K). t.dead) x.after);
     parts = x.parts;
     lists = x.lists;
   }
@@ -316,7 +316,7 @@ module _ {K : Type 0} (laws : PayloadLaws K) (p : Parties K) (side : Side) (h : 
       go message is (judging.MessageJudged.unknown number) Spent x =
           let said = unimplemented_spelled s.taking.number small in
           spent_turn (turn.Unknown Spent) message (Unimplemented s.taking.number) (sends (SpelledBy (Unimplemented s.taking.number) said.payload ∷ [])) said.payload _ new.kept o (reads agreement p.trusts s payload message below taken no_guess is tt) tt refl refl (Takes.unknown number said.payload room)
-          said.spells (sym (ap (λ (t : Transport K). t.sending.count) same) ∙ x.none_left) x.dead x.quiet shown.Shows.unknown_spent
+          said.spells (sym (ap (λ (t : Transport K). t.sending.count) same) ∙ x.none_left) (ap (λ (t : State K). t.kept.dead) x.after) x.quiet shown.Shows.unknown_spent
       go message is (judging.MessageJudged.requested service given) answer x = absurd given
       go message is (judging.MessageJudged.accepted service given) answer x = absurd given
 
@@ -337,7 +337,7 @@ module _ {K : Type 0} (laws : PayloadLaws K) (p : Parties K) (side : Side) (h : 
           let said = accept_spelled service given in
           spent_turn (turn.ServiceRequested Spent) message (ServiceAccept service) (sends (SpelledBy (ServiceAccept service) said.payload ∷ [])) said.payload _ new.kept o (reads agreement p.trusts s payload message below taken no_guess is tt) tt (checked service true NoService given) refl
           (Takes.service_request service said.payload (requested_of s s.phase no_guess (number_at 5 message is refl taken)))
-          said.spells (sym (ap (λ (t : Transport K). t.sending.count) same) ∙ x.none_left) x.dead x.quiet shown.Shows.service_spent
+          said.spells (sym (ap (λ (t : Transport K). t.sending.count) same) ∙ x.none_left) (ap (λ (t : State K). t.kept.dead) x.after) x.quiet shown.Shows.service_spent
 
   -- ---- a KEXINIT at a server
 
@@ -366,7 +366,7 @@ module _ {K : Type 0} (laws : PayloadLaws K) (p : Parties K) (side : Side) (h : 
     kexinit_row answer (turning.KexinitDone.spent material free has spelling x) =
         spent_turn (turn.Kexinit Spent) (KexInit theirs) (KexInit (offer_of s.settings Server false material.cookie)) (sends (SpelledBy (KexInit (offer_of s.settings Server false material.cookie)) spelling.payload ∷ [])) spelling.payload _ new.kept o r tt fine.fine refl
         (Takes.answered_at_server theirs spelling.payload material side_is between is (sym (ap (λ (t : Transport K). t.blocked) same) ∙ free) (sym (ap (λ (t : Transport K). t.material) same) ∙ has))
-        (subst (λ (q : Proposal). IsSpelled (KexInit q) spelling.payload) (offer_is material.cookie) spelling.spells) (sym (ap (λ (t : Transport K). t.sending.count) same) ∙ x.none_left) x.dead x.quiet shown.Shows.kexinit_spent
+        (subst (λ (q : Proposal). IsSpelled (KexInit q) spelling.payload) (offer_is material.cookie) spelling.spells) (sym (ap (λ (t : Transport K). t.sending.count) same) ∙ x.none_left) (ap (λ (t : State K). t.kept.dead) x.after) x.quiet shown.Shows.kexinit_spent
 
   kexinit_judged : (facts : KexinitFacts) (answer : Answer) (old new : State K) (o : Outs) → old.kept ≡ after_taken s → s.side ≡ Server → old.receiver.payload ≡ payload → PayloadJudged s payload (judged.Kexinit facts) →
       KexinitDone p.crypto old facts answer new o → IsTurn p side h s payload (turn.Kexinit answer) new.kept o

@@ -178,7 +178,7 @@ module _ {K : Type 0} where
     kexinit_live facts answer (turning.KexinitDone.kept shut x) = same_side old new _ x.after refl refl refl (noted_on facts.wrong facts.strict facts.extensions old.receiver.payload old.kept shut live.kept) live
     kexinit_live facts answer (turning.KexinitDone.answered material free has x) =
         same_side old new _ x.after refl refl refl (noted_on facts.wrong facts.strict facts.extensions old.receiver.payload (after_own_kexinit material x.payload old.kept) refl (own_on material x.payload old.kept free has live.kept)) live
-    kexinit_live facts answer (turning.KexinitDone.spent material free has spelling x) = over new.kept.dead x.dead alive
+    kexinit_live facts answer (turning.KexinitDone.spent material free has spelling x) = over new.kept.dead (ap (λ (t : State K). t.kept.dead) x.after) alive
 
     newkeys_live : old.kept.phase ≡ model.Phase.Keying → NewkeysDone old new o → IsLive new
     newkeys_live here x = subst (λ (t : State K). IsLive t) (sym x.taken.after) (record {
@@ -192,14 +192,14 @@ module _ {K : Type 0} where
     left_live e = subst (λ (t : State K). IsLive t) (sym e) live
 
     does_live : (what : Judged) (done : PayloadTurn) → PayloadJudged (before_taken old.kept) old.receiver.payload what → Does c old what done new o → IsLive new
-    does_live (judged.Refused r) (turn.Refused why) is y = over new.kept.dead y.refuses.dead alive
+    does_live (judged.Refused r) (turn.Refused why) is y = over new.kept.dead (ap (λ (t : Transport K). t.dead) y.refuses.after) alive
     does_live judged.Skipped turn.Skipped is y = same_side old new _ y.after refl refl refl (skipped_on old.kept (guessed _ _ is) live.kept) live
     does_live judged.Disconnected turn.Disconnected is y = over new.kept.dead (ap (λ (t : State K). t.kept.dead) y.after) alive
     does_live judged.Told turn.Told is y = same_side old new _ y.after refl refl refl live.kept live
     does_live judged.Unknown (turn.Unknown Done) is y = same_side old new _ y.after refl refl refl (sent_on old.kept old.kept.requested live.kept) live
-    does_live judged.Unknown (turn.Unknown Spent) is y = over new.kept.dead y.dead alive
+    does_live judged.Unknown (turn.Unknown Spent) is y = over new.kept.dead (ap (λ (t : State K). t.kept.dead) y.after) alive
     does_live judged.ServiceRequested (turn.ServiceRequested Done) is y = same_side old new _ y.after refl refl refl (sent_on old.kept true live.kept) live
-    does_live judged.ServiceRequested (turn.ServiceRequested Spent) is y = over new.kept.dead y.dead alive
+    does_live judged.ServiceRequested (turn.ServiceRequested Spent) is y = over new.kept.dead (ap (λ (t : State K). t.kept.dead) y.after) alive
     does_live judged.ServiceAccepted turn.ServiceAccepted is y = same_side old new _ y.after refl refl refl (accepted_on old.kept live.kept) live
     does_live (judged.Kexinit facts) (turn.Kexinit answer) is y = kexinit_live facts answer y.done
     does_live (judged.Kexinit facts) (turn.Left left) is y = left_live y.left.after
@@ -231,7 +231,7 @@ module _ {K : Type 0} where
       (found : PacketStep) (done : PacketTurn) → Receives c bytes old.receiver found between.receiver → PacketDone c between found done new o → IsLive new
   packet_done_live c old between new o bytes live e alive step.More packet_turn.More x y =
       subst (λ (t : State K). IsLive t) (sym y.after) (received old between live e (ap (λ (r : Receiver K). r.ended) x.1 ∙ live.receiving) (ap (λ (r : Receiver K). r.direction.epoch) x.1))
-  packet_done_live c old between new o bytes live e alive (step.Refused r) (packet_turn.Refused why) x y = over new.kept.dead y.refuses.dead alive
+  packet_done_live c old between new o bytes live e alive (step.Refused r) (packet_turn.Refused why) x y = over new.kept.dead (ap (λ (t : Transport K). t.dead) y.refuses.after) alive
   packet_done_live c old between new o bytes live e alive step.Payload (packet_turn.Payload done) x y = turns_live c between done new o (payload_live c old between bytes live x e) y alive
   packet_done_live c old between new o bytes live e alive _ _ x y = absurd y
 
@@ -265,7 +265,7 @@ module _ {K : Type 0} where
 
   pub answer_live : (c : Crypto K) (old : State K) (m : Msg) (answer : Answer) (new : State K) (o : Outs) → IsLive old → Answers c old m (after_sent old.kept) answer new o → new.kept.dead ≡ false → IsLive new
   answer_live c old m Done new o live x alive = same_side old new _ x.after refl refl refl (sent_on old.kept old.kept.requested live.kept) live
-  answer_live c old m Spent new o live x alive = over new.kept.dead x.dead alive
+  answer_live c old m Spent new o live x alive = over new.kept.dead (ap (λ (t : State K). t.kept.dead) x.after) alive
 
   pub fed_live : (old new : State K) (cookie secret : List ℕ) → IsLive old → can_be_fed old.kept ≡ true → new ≡ record old { kept = after_fed cookie secret old.kept } → IsLive new
   fed_live old new cookie secret live can e = same_side old new _ e refl refl refl (fed_on old.kept cookie secret can live.kept) live
@@ -277,7 +277,7 @@ module _ {K : Type 0} where
   pub ask_live : (c : Crypto K) (old : State K) (ask : Ask) (done : AskTurn) (new : State K) (o : Outs) → IsLive old → AskDone c old ask done new o → new.kept.dead ≡ false → IsLive new
   ask_live c old ask (ask_turn.Refused why) new o live x alive = subst (λ (t : State K). IsLive t) (sym x.after) live
   ask_live c old ask (ask_turn.Answered Done) new o live x alive = asked_side old new x.kept ask x.message x.payload x.asks x.after live
-  ask_live c old ask (ask_turn.Answered Spent) new o live x alive = over new.kept.dead x.spent.dead alive
+  ask_live c old ask (ask_turn.Answered Spent) new o live x alive = over new.kept.dead (ap (λ (t : State K). t.kept.dead) x.spent.after) alive
 
   pub opened_live : (c : Crypto K) (settings : Settings) (side : Side) (cookie secret : List ℕ) (new : State K) (o : Outs) → IsOpened c settings side cookie secret new o → IsLive new
   opened_live c settings side cookie secret new o x = subst (λ (t : State K). IsLive t) (sym x.state_is) (record {

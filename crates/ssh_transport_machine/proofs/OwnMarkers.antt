@@ -16,7 +16,7 @@ no_text : (marker name : List ℕ) → is_text (codes "curve25519-sha256") marke
 no_text marker name one other (inl e) = subst (λ (t : List ℕ). is_text t marker ≡ false) (sym e) one
 no_text marker name one other (inr e) = subst (λ (t : List ℕ). is_text t marker ≡ false) (sym e) other
 
--- behind names of methods, a marker is there where it is among those that follow
+-- after names of methods, a marker is there where it is among those that follow
 behind : (marker : List ℕ) → is_text (codes "curve25519-sha256") marker ≡ false → is_text (codes "curve25519-sha256@libssh.org") marker ≡ false → (names more : List (List ℕ)) → AreMethods names → has_marker marker (names ++ more) ≡ has_marker marker more
 unfolding AreMethods
 behind marker one other [] more methods = refl

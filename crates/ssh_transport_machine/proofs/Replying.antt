@@ -1,5 +1,5 @@
 -- What the rows of a machine do, from what its calls do.
-use Rattle.std.proofs.Common.{◌≡◌, ℕ, ◌+◌, ◌^◌, ◌<◌, ◌≤◌, List, [], ◌∷◌, refl, ap, subst, arith, Bool, true, false, not, ◌&&◌, ◌||◌, ◌==◌, ◌-◌, Option, Some, None, is_some}
+use Rattle.std.proofs.Common.{◌≡◌, ℕ, ◌+◌, ◌^◌, ◌<◌, ◌≤◌, List, [], ◌∷◌, refl, ap, subst, ◌∙◌, arith, Bool, true, false, not, ◌&&◌, ◌||◌, ◌==◌, ◌-◌, Option, Some, None, is_some}
 use Rattle.std.specs.Prelude.{Result, Ok, Err, IfOk, OnErr, codes}
 use Rattle.ssh_model.specs.Side.{Side, Side.Client, Side.Server}
 use Rattle.ssh_model.specs.Wire.Message.{Msg, Msg.KexInit, Msg.ServiceRequest}
@@ -23,7 +23,7 @@ use Rattle.ssh_transport_machine.specs.Judging.{MessageJudged, PayloadJudged}
 use Rattle.ssh_transport_machine.specs.Judging as judging
 use Rattle.ssh_transport_machine.specs.Offering.{OwnAnswered}
 use Rattle.ssh_transport_machine.specs.Puts.{Outs, Sends}
-use Rattle.ssh_transport_machine.specs.State.{IsLive, State, before_taken, noted}
+use Rattle.ssh_transport_machine.specs.State.{IsLive, State, before_taken, dead_state, noted}
 use Rattle.ssh_transport_machine.specs.Turning as turning
 use Rattle.ssh_transport_machine.specs.Turning.{Answers, HasRoom, KexinitDone, KexinitLacks, NewkeysTaken, SentBy}
 use Rattle.ssh_transport_machine.specs.declared.machine.judging.Judged.{Judged}
@@ -127,9 +127,9 @@ kexinit_kept {K} c s old new facts bytes payloads same shut e =
     turning.KexinitDone.kept (subst (λ (t : State K). t.kept.blocked ≡ true) same shut) (record { after = e; quiet = record { out = refl; sent = refl } })
 
 pub kexinit_spent : {K : Type 0} (c : Crypto K) (s old new : State K) (facts : KexinitFacts) (m : Material) (bytes : List ℕ) (payloads : List (List ℕ)) → s ≡ old → s.kept.blocked ≡ false → s.kept.material ≡ Some m → HasSpelling (KexInit (offer_of old.kept.settings old.kept.side false m.cookie)) →
-    old.kept.sending.count ≡ 2 ^ 32 → new.kept.dead ≡ true → KexinitDone c old facts Spent new (record { before = bytes; after = bytes; listed = payloads; relisted = payloads })
-kexinit_spent {K} c s old new facts m bytes payloads same free has spelling none_left dead =
-    turning.KexinitDone.spent m (subst (λ (t : State K). t.kept.blocked ≡ false) same free) (subst (λ (t : State K). t.kept.material ≡ Some m) same has) spelling (record { none_left = none_left; dead = dead; quiet = record { out = refl; sent = refl } })
+    old.kept.sending.count ≡ 2 ^ 32 → new ≡ dead_state s → KexinitDone c old facts Spent new (record { before = bytes; after = bytes; listed = payloads; relisted = payloads })
+kexinit_spent {K} c s old new facts m bytes payloads same free has spelling none_left over =
+    turning.KexinitDone.spent m (subst (λ (t : State K). t.kept.blocked ≡ false) same free) (subst (λ (t : State K). t.kept.material ≡ Some m) same has) spelling (record { none_left = none_left; after = over ∙ ap dead_state same; quiet = record { out = refl; sent = refl } })
 
 pub kexinit_answered : {K : Type 0} (c : Crypto K) (s old new : State K) (facts : KexinitFacts) (m : Material) (o : Outs) → s ≡ old → s.kept.blocked ≡ false → s.kept.material ≡ Some m → OwnAnswered c old m facts new o → KexinitDone c old facts Done new o
 kexinit_answered {K} c s old new facts m o same free has x =

@@ -63,17 +63,17 @@ module _ {K : Type 0} where
     kexinit_side : (facts : KexinitFacts) (answer : Answer) → KexinitDone c old facts answer new o → side_of new ≡ side_of old
     kexinit_side facts answer (turning.KexinitDone.kept shut x) = ap side_of x.after
     kexinit_side facts answer (turning.KexinitDone.answered material free has x) = ap side_of x.after
-    kexinit_side facts answer (turning.KexinitDone.spent material free has spelling x) = over new.kept.dead x.dead alive
+    kexinit_side facts answer (turning.KexinitDone.spent material free has spelling x) = over new.kept.dead (ap (λ (t : State K). t.kept.dead) x.after) alive
 
     does_side : (what : Judged) (done : PayloadTurn) → Does c old what done new o → side_of new ≡ side_of old
-    does_side (judged.Refused r) (turn.Refused why) y = over new.kept.dead y.refuses.dead alive
+    does_side (judged.Refused r) (turn.Refused why) y = over new.kept.dead (ap (λ (t : Transport K). t.dead) y.refuses.after) alive
     does_side judged.Skipped turn.Skipped y = ap side_of y.after
     does_side judged.Disconnected turn.Disconnected y = ap side_of y.after
     does_side judged.Told turn.Told y = ap side_of y.after
     does_side judged.Unknown (turn.Unknown Done) y = ap side_of y.after
-    does_side judged.Unknown (turn.Unknown Spent) y = over new.kept.dead y.dead alive
+    does_side judged.Unknown (turn.Unknown Spent) y = over new.kept.dead (ap (λ (t : State K). t.kept.dead) y.after) alive
     does_side judged.ServiceRequested (turn.ServiceRequested Done) y = ap side_of y.after
-    does_side judged.ServiceRequested (turn.ServiceRequested Spent) y = over new.kept.dead y.dead alive
+    does_side judged.ServiceRequested (turn.ServiceRequested Spent) y = over new.kept.dead (ap (λ (t : State K). t.kept.dead) y.after) alive
     does_side judged.ServiceAccepted turn.ServiceAccepted y = ap side_of y.after
     does_side (judged.Kexinit facts) (turn.Kexinit answer) y = kexinit_side facts answer y.done
     does_side (judged.Kexinit facts) (turn.Left left) y = ap side_of y.left.after
@@ -85,7 +85,7 @@ module _ {K : Type 0} where
 
     packet_done_side : (found : PacketStep) (done : PacketTurn) → PacketDone c old found done new o → side_of new ≡ side_of old
     packet_done_side step.More packet_turn.More y = ap side_of y.after
-    packet_done_side (step.Refused r) (packet_turn.Refused why) y = over new.kept.dead y.refuses.dead alive
+    packet_done_side (step.Refused r) (packet_turn.Refused why) y = over new.kept.dead (ap (λ (t : Transport K). t.dead) y.refuses.after) alive
     packet_done_side step.Payload (packet_turn.Payload done) y = does_side y.what done y.does
     packet_done_side _ _ y = absurd y
 
@@ -99,11 +99,11 @@ module _ {K : Type 0} where
   ask_side : (c : Crypto K) (old : State K) (given : Ask) (done : AskTurn) (new : State K) (o : Outs) → AskDone c old given done new o → new.kept.dead ≡ false → side_of new ≡ side_of old
   ask_side c old given (ask_turn.Refused why) new o x alive = ap side_of x.after
   ask_side c old given (ask_turn.Answered Done) new o x alive = ap side_of x.after ∙ asked_side old.kept x.kept given x.message x.payload x.asks
-  ask_side c old given (ask_turn.Answered Spent) new o x alive = over new.kept.dead x.spent.dead alive
+  ask_side c old given (ask_turn.Answered Spent) new o x alive = over new.kept.dead (ap (λ (t : State K). t.kept.dead) x.spent.after) alive
 
   answer_side : (c : Crypto K) (old : State K) (m : Msg) (answer : Answer) (new : State K) (o : Outs) → Answers c old m (after_sent old.kept) answer new o → new.kept.dead ≡ false → side_of new ≡ side_of old
   answer_side c old m Done new o x alive = ap side_of x.after
-  answer_side c old m Spent new o x alive = over new.kept.dead x.dead alive
+  answer_side c old m Spent new o x alive = over new.kept.dead (ap (λ (t : State K). t.kept.dead) x.after) alive
 
 -- ---- all of it
 
@@ -150,8 +150,8 @@ module _ {K : Type 0} where
   turned c side old ask.Service done new o s x alive = asked c side old _ done new o s x alive
   turned c side old ask.Rekey done new o s x alive = asked c side old _ done new o s x alive
   turned c side old (ask.Disconnect description) (ask_turn.Refused why) new o s x alive = same side old new x.after s
-  turned c side old (ask.Disconnect description) (ask_turn.Answered Done) new o s x alive = over new.kept.dead x.dead alive
-  turned c side old (ask.Disconnect description) (ask_turn.Answered Spent) new o s x alive = over new.kept.dead x.spent.dead alive
+  turned c side old (ask.Disconnect description) (ask_turn.Answered Done) new o s x alive = over new.kept.dead (ap (λ (t : State K). t.kept.dead) x.after) alive
+  turned c side old (ask.Disconnect description) (ask_turn.Answered Spent) new o s x alive = over new.kept.dead (ap (λ (t : State K). t.kept.dead) x.spent.after) alive
   turned c side old (ask.Send message) (ask_turn.Refused why) new o s x alive = absurd x
   turned c side old (ask.Send message) (ask_turn.Answered answer) new o s x alive = answered c side old (meaning message.now) answer new o s x alive
 
@@ -175,8 +175,8 @@ module _ {K : Type 0} where
   asks c side old given (Err why) new o stands x y = failed side old given why new stands y
 
   pub refused : (c : Crypto K) (side : Side) (old : State K) (why : Refusal) (result : Result (Unit {0}) TransportFault) (new : State K) (o : Outs) → Stands side old → OnOk result (PeerRefused c old why new o) → IfErr result (λ fault. RefuseFailed old why fault new) → Stands side new
-  refused c side old why (Ok done) new o stands x y = λ alive. over new.kept.dead x.refuses.dead alive
-  refused c side old why (Err fault.Memory) new o stands x y = λ alive. over new.kept.dead y.dead alive
+  refused c side old why (Ok done) new o stands x y = λ alive. over new.kept.dead (ap (λ (t : Transport K). t.dead) x.refuses.after) alive
+  refused c side old why (Err fault.Memory) new o stands x y = λ alive. over new.kept.dead (ap (λ (t : State K). t.kept.dead) y.after) alive
   refused c side old why (Err fault.Dead) new o stands x y = subst (λ (w : State K). Stands side w) (sym y.after) stands
 
   put : (c : Crypto K) (side : Side) (old new : State K) → new ≡ record old { kept = after_sent old.kept } → Stands side old → Stands side new
@@ -188,8 +188,8 @@ module _ {K : Type 0} where
 
   pub sent : (c : Crypto K) (side : Side) (old : State K) (payload : List ℕ) (result : Result Answer TransportFault) (new : State K) (o : Outs) → Stands side old → IfOk result (λ answer. PayloadSent c old payload answer new o) → IfErr result (λ fault. SendFailed old fault new) → Stands side new
   sent c side old payload (Ok Done) new o stands x y = put c side old new x.sent.after stands
-  sent c side old payload (Ok Spent) new o stands x y = λ alive. over new.kept.dead x.sent.dead alive
-  sent c side old payload (Err fault.Memory) new o stands x y = λ alive. over new.kept.dead y.dead alive
+  sent c side old payload (Ok Spent) new o stands x y = λ alive. over new.kept.dead (ap (λ (t : State K). t.kept.dead) x.sent.after) alive
+  sent c side old payload (Err fault.Memory) new o stands x y = λ alive. over new.kept.dead (ap (λ (t : State K). t.kept.dead) y.after) alive
   sent c side old payload (Err fault.Dead) new o stands x y = subst (λ (w : State K). Stands side w) (sym y.after) stands
 
   pub fed : (side : Side) (old : State K) (done : Bool) (new : State K) (cookie secret : List ℕ) → Stands side old → done ≡ can_be_fed old.kept → (done ≡ true → new ≡ record old { kept = after_fed cookie secret old.kept }) → (done ≡ false → new ≡ old) → Stands side new

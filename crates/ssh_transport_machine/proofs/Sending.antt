@@ -34,31 +34,31 @@ spelled_out c d m payload o spelled x = record {
   };
 }
 
-pub silent : {K : Type 0} (c : Crypto K) (old : Transport K) (refusal : Refusal) (new : Transport K) (bytes : List ℕ) (payloads : List (List ℕ)) → refusal_reason refusal ≡ None → new.dead ≡ true →
+pub silent : {K : Type 0} (c : Crypto K) (old : Transport K) (refusal : Refusal) (new : Transport K) (bytes : List ℕ) (payloads : List (List ℕ)) → refusal_reason refusal ≡ None → new ≡ record old { dead = true } →
     Refuses c old refusal new (record { before = bytes; after = bytes; listed = payloads; relisted = payloads })
-silent c old refusal new bytes payloads e d = record {
+silent c old refusal new bytes payloads e after = record {
   said = [];
   more = [];
   says = turns.SaysWhy.silently e;
   parts = sym (append-nil bytes);
   lists = sym (append-nil payloads);
-  dead = d;
+  after = after;
 }
 
-pub spent : {K : Type 0} (c : Crypto K) (old : Transport K) (refusal : Refusal) (new : Transport K) (bytes : List ℕ) (payloads : List (List ℕ)) → old.sending.count ≡ 2 ^ 32 → new.dead ≡ true →
+pub spent : {K : Type 0} (c : Crypto K) (old : Transport K) (refusal : Refusal) (new : Transport K) (bytes : List ℕ) (payloads : List (List ℕ)) → old.sending.count ≡ 2 ^ 32 → new ≡ record old { dead = true } →
     Refuses c old refusal new (record { before = bytes; after = bytes; listed = payloads; relisted = payloads })
-spent c old refusal new bytes payloads e d = record {
+spent c old refusal new bytes payloads e after = record {
   said = [];
   more = [];
   says = turns.SaysWhy.spent e;
   parts = sym (append-nil bytes);
   lists = sym (append-nil payloads);
-  dead = d;
+  after = after;
 }
 
-pub farewell : {K : Type 0} (c : Crypto K) (old : Transport K) (refusal : Refusal) (new : Transport K) (o : Outs) (reason : ℕ) (name : List ℕ) → refusal_reason refusal ≡ Some reason → name ≡ refusal_name refusal → new.dead ≡ true →
+pub farewell : {K : Type 0} (c : Crypto K) (old : Transport K) (refusal : Refusal) (new : Transport K) (o : Outs) (reason : ℕ) (name : List ℕ) → refusal_reason refusal ≡ Some reason → name ≡ refusal_name refusal → new ≡ record (after_sent old) { dead = true } →
     Sends c old.sending (Disconnect reason name []) o → Refuses c old refusal new o
-farewell c old refusal new o reason name e n d x =
+farewell c old refusal new o reason name e n after x =
     let y : Sends c old.sending (Disconnect reason (refusal_name refusal) []) o = subst (λ (t : List ℕ). Sends c old.sending (Disconnect reason t []) o) n x in
     record {
       said = SpelledBy (Disconnect reason (refusal_name refusal) []) y.payload ∷ [];
@@ -66,7 +66,7 @@ farewell c old refusal new o reason name e n d x =
       says = turns.SaysWhy.said reason y.payload e y.puts.packets;
       parts = y.puts.parts;
       lists = y.puts.lists;
-      dead = d;
+      after = after;
     }
 
 pub own_sent : {K A E : Type 0} (c : Crypto K) (s o : State K) (m : Material) (payload own : List ℕ) (new : State K) (out : Outs) (r : Result A E) → s ≡ o → own ≡ payload →

@@ -110,7 +110,7 @@ module _ {K : Type 0} (laws : UnitLaws K) (p : Parties K) (side : Side) (h : Lis
           unit = packet_by bytes (RefusedPacket (refusal_of r)) x.0;
           said = y.refuses.said;
           more = y.refuses.more;
-          turned = laws.refused p side h old.kept sums alive (refusal_of r) y.refuses.said y.refuses.more new.kept (said_by (refusal_of r) between.kept y.refuses.said y.refuses.more (same_by between.receiver between e (ap (λ (w : Receiver K). w.direction) x.1)) y.refuses.says) y.refuses.dead;
+          turned = laws.refused p side h old.kept sums alive (refusal_of r) y.refuses.said y.refuses.more new.kept (said_by (refusal_of r) between.kept y.refuses.said y.refuses.more (same_by between.receiver between e (ap (λ (w : Receiver K). w.direction) x.1)) y.refuses.says) (ap (λ (t : Transport K). t.dead) y.refuses.after);
           parts = y.refuses.parts;
           lists = y.refuses.lists;
         })

@@ -1,29 +1,30 @@
 -- What a layer above has an end do.
-use Rattle.std.specs.Prelude.{◌≡◌, ℕ, true, false, List}
+use Rattle.std.specs.Prelude.{◌≡◌, ℕ, false, List}
 use Rattle.ssh_model.specs.Wire.Sealing.{Crypto}
 use Rattle.ssh_model.specs.TransportLayer.Kept.{after_sent}
 use Rattle.ssh_types.specs.Refusals.{refusal_of}
 use Rattle.ssh_types.specs.declared.refusal.Refusal.{Refusal}
 use Rattle.ssh_transport_machine.specs.Asks.{WasDead}
 use Rattle.ssh_transport_machine.specs.Puts.{Outs, PutsPayload, Refuses}
-use Rattle.ssh_transport_machine.specs.State.{State}
+use Rattle.ssh_transport_machine.specs.State.{State, dead_state}
 use Rattle.ssh_transport_machine.specs.Turning.{HasRoom, RefusalLacks, SpentBy}
 use Rattle.ssh_transport_machine.specs.declared.machine.turn.Answer.{Answer}
 use Rattle.ssh_transport_machine.specs.declared.machine.turn.Answer.TheVariants.{Done, Spent}
 use Rattle.ssh_transport_machine.specs.declared.outcome.TransportFault.{TransportFault}
 use Rattle.ssh_transport_machine.specs.declared.outcome.TransportFault.TheVariants as fault
 
--- The end was not over, and refused its peer.
+-- The end was not over, and refused its peer. What is read of it stays as it was.
 pub record PeerRefused {K : Type 0} (c : Crypto K) (old : State K) (why : Refusal) (new : State K) (o : Outs) :
     Type 0 where
   pub alive : old.kept.dead ≡ false
   pub refuses : Refuses c old.kept (refusal_of why) new.kept o
+  pub reading : new ≡ record old { kept = new.kept }
 
--- Memory was refused for why it is refused, and the end is over.
+-- Memory was refused for why it is refused, and the end is over. All else stays as it was.
 pub record RefuseDied {K : Type 0} (old : State K) (why : Refusal) (new : State K) : Type 0 where
   pub alive : old.kept.dead ≡ false
   pub lacks : RefusalLacks old why
-  pub dead : new.kept.dead ≡ true
+  pub after : new ≡ dead_state old
 
 -- why the peer was not refused
 abbrev pub RefuseFailed : {K : Type 0} → State K → Refusal → TransportFault → State K → Type 0
@@ -47,11 +48,11 @@ pub record PayloadSent {K : Type 0} (c : Crypto K) (old : State K) (payload : Li
   pub alive : old.kept.dead ≡ false
   pub sent : PutOrSpent c old payload answer new o
 
--- Memory was refused for the payload, and the end is over.
+-- Memory was refused for the payload, and the end is over. All else stays as it was.
 pub record SendDied {K : Type 0} (old new : State K) : Type 0 where
   pub alive : old.kept.dead ≡ false
   pub room : HasRoom old
-  pub dead : new.kept.dead ≡ true
+  pub after : new ≡ dead_state old
 
 -- why the payload was not sent
 abbrev pub SendFailed : {K : Type 0} → State K → TransportFault → State K → Type 0

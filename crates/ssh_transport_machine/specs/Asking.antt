@@ -8,7 +8,7 @@ use Rattle.ssh_model.specs.Sessions.Parties.{offer_of}
 use Rattle.ssh_model.specs.Sessions.Refusals as model
 use Rattle.ssh_model.specs.Sessions.TurnClaims.{HasSpelling}
 use Rattle.ssh_model.specs.Sessions.Refusals.{first_refusal}
-use Rattle.ssh_model.specs.TransportLayer.Kept.{Asks, Transport, message_ask_checks}
+use Rattle.ssh_model.specs.TransportLayer.Kept.{Asks, Transport, after_sent, message_ask_checks}
 use Rattle.ssh_types.specs.AskRefusals.{ask_refusal_of}
 use Rattle.ssh_types.specs.declared.ask_refusal.AskRefusal.{AskRefusal}
 use Rattle.ssh_transport_machine.specs.Offering.{OwnSent}
@@ -57,12 +57,12 @@ AskDone c old ask (turn.Refused why) new o = AskRefused old ask why new o
 AskDone c old ask (turn.Answered Done) new o = AskSent c old ask new o
 AskDone c old ask (turn.Answered Spent) new o = AskSpent old ask new o
 
--- DISCONNECT was sent, and the end is over.
+-- DISCONNECT was sent, and the end is over. All else stays as it was, except for its number.
 pub record DisconnectSent {K : Type 0} (c : Crypto K) (old : State K) (description : List ℕ) (new : State K)
     (o : Outs) : Type 0 where
   pub fine : first_refusal (message_ask_checks old.kept (AskDisconnect description)) ≡ None
   pub sends : Sends c old.kept.sending (Disconnect 11 description []) o
-  pub dead : new.kept.dead ≡ true
+  pub after : new ≡ record old { kept = record (after_sent old.kept) { dead = true } }
 
 -- No number was left for it.
 pub record DisconnectSpent {K : Type 0} (old : State K) (description : List ℕ) (new : State K) (o : Outs) :

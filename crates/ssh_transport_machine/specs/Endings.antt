@@ -18,8 +18,8 @@ pub record IsRead {K : Type 0} (s : Transport K) (payload : List ℕ) : Type 0 w
   pub taken : takes s (number_of payload) ≡ true
   pub no_guess : s.phase ≡ model.Phase.Guessed → ⊥
 
--- The payload ends an exchange: what is done with it, up to what is announced, is what a session does, whatever is owed
--- behind it.
+-- The payload ends an exchange. What is done with it, up to what is announced, is what a session does, whatever is owed
+-- after it.
 pub record ExchangeEnds {K : Type 0} (p : Parties K) (side : Side) (history : List Item) (payload : List ℕ)
     (position : ℕ) (new : Transport K) (o : Outs) : Type 0 where
   pub message : Msg

@@ -1,4 +1,4 @@
--- The end of an exchange: its keys, NEWKEYS, and what is announced behind it.
+-- The end of an exchange: its keys, NEWKEYS, and what is announced after it.
 use Rattle.std.specs.Prelude.{◌≡◌, ℕ, ◌≤◌, Bool, true, false, Option, Some, None, unwrap_or, IsSome, List, [], ◌∷◌}
 use Rattle.std.specs.Prelude.{◌++◌, length, replicate}
 use Rattle.ssh_model.specs.Side.{Side, Side.Client, Side.Server, peer}
@@ -64,14 +64,14 @@ pub record AreKeys {K : Type 0} (c : Crypto K) (s : Transport K) (chosen : Chose
 
 -- ---- what is announced
 
--- The payload is that of the EXT_INFO that is due behind NEWKEYS.
+-- The payload is that of the EXT_INFO that is due after NEWKEYS.
 pub record IsDue {K : Type 0} (s : Transport K) (payload : List ℕ) : Type 0 where
   pub due : is_announcing s ≡ true
   pub spelled : IsSpelled (ExtInfo s.settings.extensions) payload
   pub some : 1 ≤ length payload
   pub most : length payload ≤ 34000
 
--- what is announced behind NEWKEYS, if anything
+-- what is announced after NEWKEYS, if anything
 abbrev pub IsAnnouncement : {K : Type 0} → Transport K → Option (List ℕ) → Type 0
 IsAnnouncement s (Some payload) = IsDue s payload
 IsAnnouncement s None = is_announcing s ≡ false
@@ -107,7 +107,7 @@ keyed own theirs session s = record s {
   session = Some session;
 }
 
--- These messages were put out, the newest first, NEWKEYS behind them, and behind that, under the new key, what is
+-- These messages were put out, the newest first, NEWKEYS after them, and after that, under the new key, what is
 -- announced.
 pub record Finishes {K : Type 0} (c : Crypto K) (old : Transport K) (before : List Spelled) (own : K)
     (announced : List Spelled) (o : Outs) : Type 0 where

@@ -6,7 +6,7 @@ use Rattle.ssh_model.specs.Sessions.Items.{Spelled, Spelled.SpelledBy}
 use Rattle.ssh_model.specs.Sessions.Refusals.{Refusal}
 use Rattle.ssh_model.specs.TransportLayer.Directions.{Direction}
 use Rattle.ssh_model.specs.TransportLayer.Kept.{Transport}
-use Rattle.ssh_model.specs.TransportLayer.Turns.{PutsPackets, SaysWhy}
+use Rattle.ssh_model.specs.TransportLayer.Turns.{PutsPackets, SaysWhy, counted_by}
 
 -- The bytes put out, and the payloads listed, before a call and after it.
 pub record Outs : Type 0 where
@@ -40,11 +40,12 @@ pub record Sends {K : Type 0} (c : Crypto K) (direction : Direction K) (message 
   pub payload : List ℕ
   pub puts : Puts c direction (SpelledBy message payload ∷ []) o
 
--- The peer was refused: why was said, or nothing, and the end is over.
+-- The peer was refused: why was said, or nothing, and the end is over. All else stays as it was, except for the number of what
+-- was said.
 pub record Refuses {K : Type 0} (c : Crypto K) (old : Transport K) (refusal : Refusal) (new : Transport K) (o : Outs) : Type 0 where
   pub said : List Spelled
   pub more : List ℕ
   pub says : SaysWhy c old refusal said more
   pub parts : o.after ≡ o.before ++ more
   pub lists : o.relisted ≡ o.listed ++ payloads_of said
-  pub dead : new.dead ≡ true
+  pub after : new ≡ record old { sending = counted_by said old.sending; dead = true }

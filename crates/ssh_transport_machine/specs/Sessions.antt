@@ -1,4 +1,4 @@
--- What a transport makes of a unit, as a turn of a session, beside what a machine does alone.
+-- What a transport makes of a unit, as a turn of a session, besides what a machine does alone.
 use Rattle.std.specs.Prelude.{◌≡◌, ℕ, ◌≤◌, ◌+◌, ◌^◌, Bool, true, false, Some, None, List, [], ◌∷◌, ◌++◌, length}
 use Rattle.ssh_model.specs.Side.{Side}
 use Rattle.ssh_model.specs.Wire.Message.{Msg}

@@ -18,7 +18,7 @@ use Rattle.ssh_transport_base.specs.declared.packets.step.PacketStep.TheVariants
 use Rattle.ssh_transport_machine.specs.Judging.{PayloadJudged}
 use Rattle.ssh_transport_machine.specs.Offering.{OwnAnswered}
 use Rattle.ssh_transport_machine.specs.Puts.{Outs, Refuses, Sends}
-use Rattle.ssh_transport_machine.specs.State.{State, before_taken, last_number, noted}
+use Rattle.ssh_transport_machine.specs.State.{State, before_taken, dead_state, last_number, noted}
 use Rattle.ssh_transport_machine.specs.declared.machine.judging.Judged.{Judged}
 use Rattle.ssh_transport_machine.specs.declared.machine.judging.Judged.TheVariants as judged
 use Rattle.ssh_transport_machine.specs.declared.machine.kexinit.KexinitFacts.{KexinitFacts}
@@ -42,10 +42,10 @@ pub record SentBy {K : Type 0} (c : Crypto K) (old : State K) (message : Msg) (k
   pub sends : Sends c old.kept.sending message o
   pub after : new ≡ record old { kept = kept }
 
--- No number was left for what would have been sent: nothing was put out, and the end is over.
+-- No number was left for what would have been sent: nothing was put out, and the end is over. All else stays as it was.
 pub record SpentBy {K : Type 0} (old new : State K) (o : Outs) : Type 0 where
   pub none_left : old.kept.sending.count ≡ 2 ^ 32
-  pub dead : new.kept.dead ≡ true
+  pub after : new ≡ dead_state old
   pub quiet : IsQuiet o
 
 -- The message was sent, and then this is kept, or no number was left for it.
@@ -55,11 +55,12 @@ Answers c old message kept Spent new o = SpentBy old new o
 
 -- ---- the rows of payloads
 
--- The peer was refused.
+-- The peer was refused. What is read of it stays as it was.
 pub record RefusalDone {K : Type 0} (c : Crypto K) (old : State K) (judged why : Refusal) (new : State K)
     (o : Outs) : Type 0 where
   pub same : why ≡ judged
   pub refuses : Refuses c old.kept (refusal_of judged) new.kept o
+  pub reading : new ≡ record old { kept = new.kept }
 
 -- Nothing was put out, and this is kept.
 pub record Becomes {K : Type 0} (old : State K) (kept : Transport K) (new : State K) (o : Outs) : Type 0 where

@@ -23,7 +23,7 @@ pub fn ask_numbers(ask: &Ask<'_>)
     }
 }
 
-/// The numbers of a message of the connection, but for its recipient.
+/// The numbers of a message of the connection, except for its recipient.
 pub fn message_numbers(message: &Message<'_>)
     ensures { HasUint32s (meaning message.now) }
 {

@@ -273,7 +273,7 @@ pub const TABLE: &[Refused] = &[
         "7 Unexpected",
         2,
     ),
-    // Messages of the other side, and messages behind the exchange.
+    // Messages of the other side, and messages after the exchange.
     (
         &[AtClient],
         Step::Forge(Client, OWN_POINT),

@@ -3,7 +3,7 @@
 use crate::step::{Script, Step};
 use ssh_types::Side::{Client, Server};
 
-// The server sends one more, or one that was not asked for, or one right behind its second NEWKEYS.
+// The server sends one more, or one that was not asked for, or one right after its second NEWKEYS.
 const EXTENSIONS: &[u8] = b"\x07\0\0\0\0";
 
 /// Both ends are told that the user is authenticated.

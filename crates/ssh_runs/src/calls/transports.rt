@@ -77,7 +77,7 @@ pub fn play(alloc: Global) -> Result<Outcome, AllocError> {
     Ok(Outcome::Wrong)
 }
 
-// A transport behind what it put out.
+// A transport after what it put out.
 fn opened(alloc: Global, side: Side) -> Result<Line, AllocError> {
     let mut out = Vec::new(alloc);
     let mut sent = Vec::new(alloc);
@@ -178,11 +178,10 @@ fn succeed(line: &mut Line) -> Result<Outcome, AllocError> {
         Ok(payload) => (payload, false),
         Err(_) => (line.end.spell(&message)?, true),
     };
-    if payload.is_empty() || payload.len() > 34_000 {
-        return Ok(Outcome::Wrong);
-    }
-    let sent = line.end.send(payload, &mut line.out, &mut line.sent);
-    let came = outcome_of(line, sent.err(), bytes, payloads);
+    let came = match line.end.send(payload, &mut line.out, &mut line.sent) {
+        Ok(None) => return Ok(Outcome::Wrong),
+        done => outcome_of(line, done.err(), bytes, payloads),
+    };
     Ok(if is_refused && came == Outcome::Done {
         Outcome::Refused
     } else {

@@ -172,7 +172,7 @@ fn judge_host<S: Sealing, F: Filler + Drop, A: Agreement, T: HostTrust>(
     Ok(HostJudged::Trusted(host))
 }
 
-// Makes the keys of the exchange, and what is announced behind NEWKEYS.
+// Makes the keys of the exchange, and what is announced after NEWKEYS.
 fn make_keys<S: Sealing, F: Filler + Drop>(
     machine: &Machine<S, F>,
     choice: Choice<'_>,

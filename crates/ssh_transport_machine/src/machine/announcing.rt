@@ -1,4 +1,4 @@
-//! What an end announces behind its first NEWKEYS (RFC 8308 section 2.4).
+//! What an end announces after its first NEWKEYS (RFC 8308 section 2.4).
 
 ghost use Rattle.std.specs.Prelude.{◌≡◌, ◌≤◌, IfOk, Bool, length, nat_lt};
 ghost use Rattle.std.specs.Option.{option_map};

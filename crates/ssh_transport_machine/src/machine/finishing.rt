@@ -1,4 +1,4 @@
-//! The end of an exchange: both keys are made, NEWKEYS is sent, and behind it what is announced.
+//! The end of an exchange: both keys are made, NEWKEYS is sent, and after it what is announced.
 
 ghost use Rattle.std.specs.Prelude.{◌≡◌, ◌<◌, ◌≤◌, ◌+◌, ◌-◌, ◌^◌, ◌∷◌, [], None, Some, IfOk, OnOk, OnErr, length, map, replicate, true, false};
 ghost use Rattle.std.specs.Option.{option_map};
@@ -96,7 +96,7 @@ impl<S: Sealing, F: Filler + Drop> Machine<S, F> {
         }
     }
 
-    /// Sends NEWKEYS and what is announced behind it, by which the exchange is completed, and drops its secret.
+    /// Sends NEWKEYS and what is announced after it, by which the exchange is completed, and drops its secret.
     ///
     /// # Errors
     ///
@@ -123,7 +123,7 @@ impl<S: Sealing, F: Filler + Drop> Machine<S, F> {
         }
     }
 
-    // With nothing behind NEWKEYS.
+    // With nothing after NEWKEYS.
     fn finish_silently(
         &mut self,
         keys: ExchangeKeys<S::Key>,
@@ -148,7 +148,7 @@ impl<S: Sealing, F: Filler + Drop> Machine<S, F> {
         Ok(())
     }
 
-    // With this EXT_INFO behind NEWKEYS.
+    // With this EXT_INFO after NEWKEYS.
     fn finish_announcing(
         &mut self,
         keys: ExchangeKeys<S::Key>,
@@ -176,7 +176,7 @@ impl<S: Sealing, F: Filler + Drop> Machine<S, F> {
         Ok(())
     }
 
-    /// The same as `finish` behind a message of the exchange, by its payload.
+    /// The same as `finish` after a message of the exchange, by its payload.
     ///
     /// # Errors
     ///

@@ -46,7 +46,7 @@ impl<S: Sealing, F: Filler + Drop> Machine<S, F> {
         at_first(self.config.strictness().is_required(), number) || number == 20
     }
 
-    // What may come in an exchange beside the message that is awaited.
+    // What may come in an exchange besides the message that is awaited.
     fn takes_beside(&self, number: u8) -> bool
         ensures { result ≡ model.is_allowed_during_exchange self.now.kept.strict self.now.kept.taking.epoch number }
     {

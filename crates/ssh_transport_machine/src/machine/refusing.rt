@@ -27,6 +27,7 @@ impl<S: Sealing, F: Filler + Drop> Machine<S, F> {
         sent: &mut Vec<Vec<u8>>,
     ) -> Result<(), AllocError>
         ensures refuses { OnOk result (Refuses S.crypto self.old.kept (refusal_of refusal) self.new.kept (record { before = out.old.items; after = out.new.items; listed = map (λ v. v.items) sent.old.items; relisted = map (λ v. v.items) sent.new.items })) }
+        ensures reading { OnOk result (self.new ≡ record self.old { kept = self.new.kept }) }
         ensures dead { OnErr result (self.new ≡ dead_state self.old) }
         ensures lacks { OnErr result (RefusalLacks self.old refusal) }
         ensures out { OnErr result (out.new.items ≡ out.old.items) }
