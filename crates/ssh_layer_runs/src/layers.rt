@@ -13,7 +13,7 @@ use crate::logins::methods;
 use ssh_auth::AskError as UserAskError;
 use ssh_channels::{AskError, Reply};
 use ssh_end::Ask;
-use ssh_layers::{Below, ClientLayers, LayerFault, ServerLayerAnswer, ServerLayers};
+use ssh_layers::{Below, ClientLayers, LayerFault, ServerLayerAnswer, ServerLayers, ask_channels};
 use ssh_lines::{Layer, Problem, bytes_of, parsed};
 use ssh_message::Message;
 use ssh_toys::{ToyCredential, ToyJudge, ToyUserSigner};
@@ -77,7 +77,7 @@ impl LayerLines {
         };
         match text.split_once(' ') {
             Some(("take", digits)) => served(self.alloc, server, below, digits),
-            None if text == "owed" => given(self.alloc, server.unblock()),
+            None if text == "owed" => given(self.alloc, server.channels.unblock()),
             _ => Err(Problem::NotALine),
         }
     }
@@ -85,7 +85,7 @@ impl LayerLines {
     fn of_client(&mut self, below: &Below<'_>, text: &str) -> Result<String, Problem> {
         match text.split_once(' ') {
             Some(("take", digits)) => heard(self.alloc, &mut self.client, below, digits),
-            None if text == "owed" => given(self.alloc, self.client.unblock()),
+            None if text == "owed" => given(self.alloc, self.client.channels.unblock()),
             _ => Err(Problem::NotALine),
         }
     }
@@ -94,10 +94,24 @@ impl LayerLines {
     fn asked(&mut self, below: &Below<'_>, letter: &str, words: &str) -> Result<String, Problem> {
         let ask = ask_of(self.alloc, words)?;
         let answer = match (ask.to_ask(), letter, &mut self.server) {
-            (Ask::Connection(ask), "s", Some(server)) => server.ask(below, &ask, false),
-            (Ask::Connection(ask), "c", _) => self.client.ask(below, &ask, false),
+            (Ask::Connection(ask), "s", Some(server)) => ask_channels(
+                &mut server.channels,
+                below,
+                &ask,
+                false,
+            ),
+            (Ask::Connection(ask), "c", _) => ask_channels(
+                &mut self.client.channels,
+                below,
+                &ask,
+                false,
+            ),
             (Ask::User(ask), "c", _) => {
-                return match self.client.request(&ToyUserSigner, below, &ask) {
+                return match self
+                    .client
+                    .authentication
+                    .ask(below.session, &ToyUserSigner, &ask)
+                {
                     Ok(request) => sent(self.alloc, &request.message()),
                     Err(UserAskError::Refused(why)) => {
                         ask_refused(self.alloc, AskRefusal::from(why))

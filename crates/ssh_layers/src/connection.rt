@@ -16,8 +16,7 @@ use ssh_channels::{Ask, AskError, Channels, Reply, Sent};
 use ssh_message::Message;
 use ssh_types::AskRefusal;
 
-/// Asks channels for a message of the connection (RFC 4254), before authentication in vain: what `ask` of both layers does. `due` says whether
-/// an exchange of keys is due.
+/// Asks channels for a message of the connection (RFC 4254), in vain before authentication. `due` says whether an exchange of keys is due.
 ///
 /// # Errors
 ///

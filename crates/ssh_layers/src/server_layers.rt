@@ -1,13 +1,9 @@
 //! Authentication and channels on a server's transport.
 
-ghost use Rattle.std.specs.Prelude.{◌≡◌, ◌≤◌, IfErr, IfOk, IfSome, None, OnErr, OnOk, option_map, false, length, true};
+ghost use Rattle.std.specs.Prelude.{◌≡◌, ◌≤◌, IfErr, IfOk, IfSome, OnErr, option_map, false, length, true};
 ghost use Rattle.ssh_model.specs.Authentication.Kept.{new_server, opened_server};
-ghost use Rattle.ssh_model.specs.Channels.Connection.{after_authentication};
-ghost use Rattle.ssh_model.specs.Channels.Kept.{Sends, Unblocks, no_channels, send_checks};
-ghost use Rattle.ssh_model.specs.Sessions.Refusals.{first_refusal};
+ghost use Rattle.ssh_model.specs.Channels.Kept.{no_channels};
 ghost use Rattle.ssh_model.specs.Wire.Sizes.{payload_size};
-ghost use Rattle.ssh_channels.specs.Values.{ask_of, reply_of, sent_of};
-ghost use Rattle.ssh_layers.specs.Connection.{AskFails};
 ghost use Rattle.ssh_model.specs.Sessions.Turns.{number_of};
 ghost use Rattle.ssh_model.specs.Wire.Message.{IsPayload, message_number};
 ghost use Rattle.ssh_message.specs.Meaning.{meaning};
@@ -18,11 +14,11 @@ ghost use Rattle.ssh_layers.specs.Layer.{layer_of as layer_for};
 ghost use Rattle.ssh_layers.specs.Layers.{IsShort, LayersFail, LayersTake, may_take as takes, message_of};
 
 use crate::below::Below;
-use crate::connection::{ask_channels, reply_message};
+use crate::connection::reply_message;
 use crate::fault::LayerFault;
 use crate::layer::{Layer, layer_of, number_in};
 use ssh_auth::{AuthServer, ServerAnswer, UserJudge};
-use ssh_channels::{Ask, AskError, Channels, Reply, Sent, Taken};
+use ssh_channels::{Channels, Taken};
 use ssh_message::{Message, decode};
 use ssh_types::{NameList, Refusal};
 use std::alloc::{AllocError, Global};
@@ -96,32 +92,6 @@ impl ServerLayers {
         self.authentication.open();
     }
 
-    /// Asks for a message of the connection (RFC 4254). `due` says whether an exchange of keys is due.
-    ///
-    /// # Errors
-    ///
-    /// The layers are then as before.
-    ///
-    /// - `Refused(NotYet)`: the user is not authenticated.
-    /// - `Refused` with the first refusal of channels that holds.
-    /// - `Memory`: there was none for a new channel.
-    pub fn ask<'a>(
-        &mut self,
-        below: &Below<'_>,
-        ask: &Ask<'a>,
-        due: bool,
-    ) -> Result<Sent<'a>, AskError>
-        ensures refused { IfErr result (λ error. AskFails below.now.authenticated below.now.blocked due self.old.channels (ask_of ask.now) error) }
-        ensures kept { OnErr result (self.new ≡ self.old) }
-        ensures passed { OnOk result (first_refusal (after_authentication below.now.authenticated (send_checks below.now.blocked due self.old.channels (ask_of ask.now))) ≡ None) }
-        ensures sent { IfOk result (λ sent. Sends self.old.channels (ask_of ask.now) (sent_of sent) self.new.channels) }
-        ensures authentication { self.new.authentication ≡ self.old.authentication }
-        ensures fits { IfOk result (λ sent. Fits sent.message) }
-        ensures short { IfOk result (λ sent. payload_size (meaning sent.message) ≤ 34000) }
-    {
-        ask_channels(&mut self.channels, below, ask, due)
-    }
-
     /// The message that is sent at once for an answer of `take`, where its packet had this sequence number; `None` where nothing is. It fits, and its
     /// payload has at most 34,000 bytes. It needs no memory.
     pub fn message<'a>(&'a self, answer: &ServerLayerAnswer<'a>, number: u32) -> Option<Message<'a>>
@@ -135,14 +105,6 @@ impl ServerLayers {
             ServerLayerAnswer::Channels(taken) => reply_message(taken.reply),
             ServerLayerAnswer::Unknown => Some(Message::Unimplemented { number }),
         }
-    }
-
-    /// The oldest reply that is owed, once the end sent its NEWKEYS; `None` where none is owed. A CLOSE that is given frees its number.
-    pub fn unblock(&mut self) -> Option<Reply>
-        ensures given { Unblocks self.old.channels (option_map reply_of result) self.new.channels }
-        ensures authentication { self.new.authentication ≡ self.old.authentication }
-    {
-        self.channels.unblock()
     }
 
     /// The channels, to show.

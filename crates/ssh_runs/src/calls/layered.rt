@@ -6,8 +6,10 @@ ghost use Rattle.ssh_model.specs.Sessions.Turns.{number_of};
 use super::changing::{OPEN, SESSION, SIGN, SIGNED};
 use super::outcome::{Outcome, came};
 use ssh_auth::{AskError as UserAskError, ServerAnswer};
-use ssh_channels::AskError;
-use ssh_layers::{Below, ClientLayers, LayerFault, ServerLayerAnswer, ServerLayers, ServerTaken};
+use ssh_channels::{AskError, Channels};
+use ssh_layers::{
+    Below, ClientLayers, LayerFault, ServerLayerAnswer, ServerLayers, ServerTaken, ask_channels,
+};
 use ssh_toy_setup::CREDENTIALS;
 use ssh_toys::{ToyJudge, ToyUserSigner};
 use ssh_types::NameList;
@@ -16,8 +18,7 @@ use std::alloc::{AllocError, Global};
 /// A call of layers.
 #[derive(Clone, Copy, Debug)]
 pub enum Layered {
-    AskedServer,
-    AskedClient,
+    Asked,
     TakenByServer,
     TakenByClient,
     SignedRequest,
@@ -26,8 +27,7 @@ pub enum Layered {
 
 /// Each of them.
 pub const LAYERED: &[Layered] = &[
-    Layered::AskedServer,
-    Layered::AskedClient,
+    Layered::Asked,
     Layered::TakenByServer,
     Layered::TakenByClient,
     Layered::SignedRequest,
@@ -41,8 +41,7 @@ pub const LAYERED: &[Layered] = &[
 /// Only where memory is refused.
 pub fn layer(alloc: Global, call: Layered) -> Result<Outcome, AllocError> {
     match call {
-        Layered::AskedServer => ask_server(alloc),
-        Layered::AskedClient => ask_client(alloc),
+        Layered::Asked => ask(alloc),
         Layered::TakenByServer => take_at_server(alloc, OPENED),
         Layered::TakenByClient => take_at_client(alloc, OPENED),
         Layered::SignedRequest => sign_request(alloc),
@@ -76,31 +75,13 @@ fn is_above(payload: &[u8]) -> bool
     }
 }
 
-fn ask_server(alloc: Global) -> Result<Outcome, AllocError> {
-    let Some(methods) = NameList::new(b"publickey") else {
-        return Ok(Outcome::Wrong);
-    };
-    let mut layers = ServerLayers::new(alloc, 1, &methods)?;
-    let first = layers.ask(&below(true), &OPEN, false).err();
-    let is_kept = first == Some(AskError::Memory) && layers.channels().count() == 0;
-    let is_second = first.is_none() || layers.ask(&below(true), &OPEN, false).is_ok();
-    Ok(came(
-        first.is_none(),
-        is_kept,
-        is_second && layers.channels().count() == 1,
-    ))
-}
-
-fn ask_client(alloc: Global) -> Result<Outcome, AllocError> {
-    let mut layers = ClientLayers::new(alloc)?;
-    let first = layers.ask(&below(true), &OPEN, false).err();
-    let is_kept = first == Some(AskError::Memory) && layers.channels().count() == 0;
-    let is_second = first.is_none() || layers.ask(&below(true), &OPEN, false).is_ok();
-    Ok(came(
-        first.is_none(),
-        is_kept,
-        is_second && layers.channels().count() == 1,
-    ))
+fn ask(alloc: Global) -> Result<Outcome, AllocError> {
+    let mut channels = Channels::new(alloc)?;
+    let first = ask_channels(&mut channels, &below(true), &OPEN, false).err();
+    let is_kept = first == Some(AskError::Memory) && channels.count() == 0;
+    let is_second = first.is_none()
+        || ask_channels(&mut channels, &below(true), &OPEN, false).is_ok();
+    Ok(came(first.is_none(), is_kept, is_second && channels.count() == 1))
 }
 
 fn take_at_server(alloc: Global, payload: &[u8]) -> Result<Outcome, AllocError> {
@@ -141,9 +122,16 @@ fn sign_request(alloc: Global) -> Result<Outcome, AllocError> {
     let below = below(false);
     let mut layers = ClientLayers::new(alloc)?;
     layers.open();
-    let first = layers.request(&ToyUserSigner, &below, &SIGN).err();
+    let first = layers
+        .authentication
+        .ask(below.session, &ToyUserSigner, &SIGN)
+        .err();
     let is_kept = first == Some(UserAskError::Memory) && !layers.may_take(&below, 52);
-    let is_second = first.is_none() || layers.request(&ToyUserSigner, &below, &SIGN).is_ok();
+    let is_second = first.is_none()
+        || layers
+            .authentication
+            .ask(below.session, &ToyUserSigner, &SIGN)
+            .is_ok();
     Ok(came(
         first.is_none(),
         is_kept,
