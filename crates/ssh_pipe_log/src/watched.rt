@@ -1,5 +1,7 @@
 //! An end whose turns are told.
 
+ghost use Rattle.std.specs.Prelude.{⊤};
+
 use crate::log::Log;
 use ssh_channels::Channels;
 use ssh_end::{Ask, Fault, Turn};
@@ -47,6 +49,8 @@ impl<E: End + Drop> End for Watched<E> {
     ghost feeds = { λ watched cookie secret is_taken new. E.feeds watched.end cookie secret is_taken new.end };
 
     ghost is_due = { λ watched. E.is_due watched.end };
+
+    ghost answers = { λ _ _ _. ⊤ };
 
     fn take<'a>(&'a mut self, bytes: &[u8], out: &mut Vec<u8>) -> Result<Turn<'a>, Fault> {
         let turn = self.end.take(bytes, out)?;

@@ -1,8 +1,12 @@
 -- Cookies, secrets and padding, as draws of a source.
-use Rattle.std.specs.Prelude.{◌≡◌, ℕ, Bool, false, cond, List, length, Option, Some, None}
+use Rattle.std.specs.Prelude.{◌≡◌, ℕ, Bool, true, false, cond, List, length, Option, Some, None}
 use Rattle.rand_chacha.specs.ChaCha.{next_word, of_seed}
 use Rattle.rand_core.specs.Steps.{steps_u32, stream_of}
 use Rattle.rand_core.specs.Stream.{Stream, fill_bytes}
+use Rattle.ssh_model.specs.Sessions.Items.{Ask, Ask.AskRekey}
+use Rattle.ssh_end.specs.declared.asking.outcome.Fault.{Fault}
+use Rattle.ssh_pipe_policy.specs.Asking.{IsOutcome}
+use Rattle.ssh_pipe_policy.specs.declared.end.AskOutcome.{AskOutcome}
 use Rattle.ssh_pipe_policy.specs.declared.keys.KeySupply.{KeySupply}
 use Rattle.ssh_pipe_policy.specs.declared.keys.Material.{Material}
 use Rattle.ssh_pipe_policy.specs.declared.keys.PaddingSource.{PaddingSource}
@@ -22,9 +26,14 @@ abbrev pub IsNext : {S : Type 0} → Gives S → Option Material → S → Mater
 IsNext gives None old material new = IsDrawn gives old material new
 IsNext gives (Some kept) old material new = (material ≡ kept) × (new ≡ old)
 
+-- An exchange of keys was asked for, and this became of it.
+pub record IsRekeyAsked (answers : Ask → Option Fault → Type 0) : Type 0 where
+  pub outcome : AskOutcome
+  pub is : IsOutcome (answers AskRekey) outcome
+
 -- An end was handed the next pair. It is kept no longer where the end took it, and what is due after that is asked for.
 pub record KeepsFresh {S E : Type 0} (gives : Gives S) (feeds : E → (cookie secret : List ℕ) → (is_taken : Bool) → E → Type 0)
-    (is_due : E → Bool) (old : KeySupply S) (end : E) (new : KeySupply S) (later : E) : Type 0 where
+    (is_due : E → Bool) (answers : E → Ask → Option Fault → Type 0) (old : KeySupply S) (end : E) (new : KeySupply S) (later : E) : Type 0 where
   pub material : Material
   pub next : IsNext gives old.next old.source material new.source
   pub is_taken : Bool
@@ -32,6 +41,7 @@ pub record KeepsFresh {S E : Type 0} (gives : Gives S) (feeds : E → (cookie se
   pub fed : feeds end material.cookie material.secret is_taken between
   pub kept : new.next ≡ cond is_taken None (Some material)
   pub rest : is_due between ≡ false → later ≡ between
+  pub due : is_due between ≡ true → IsRekeyAsked (answers between)
 
 -- ---- padding
 

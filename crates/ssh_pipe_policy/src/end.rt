@@ -1,6 +1,10 @@
 //! What a server's and a client's end have in common.
 
-ghost use Rattle.std.specs.Prelude.{◌≡◌, ◌≤◌, Bool, IfOk, List, length, nat_le, ℕ};
+ghost use Rattle.std.specs.Prelude.{◌≡◌, ◌≤◌, ⊤, Bool, IfErr, IfOk, List, Option, length, nat_le, ℕ};
+ghost use Rattle.ssh_model.specs.Sessions.Items as session;
+ghost use Rattle.ssh_end.specs.Asking.{ask_of};
+ghost use Rattle.ssh_end.specs.declared.asking.outcome.Fault.{Fault};
+ghost use Rattle.ssh_pipe_policy.specs.Asking.{IsOutcome, IsRefusal, fault_in};
 ghost use Rattle.ssh_pipe_policy.specs.Feeding.{Feeds};
 
 use ssh_channels::Channels;
@@ -13,6 +17,9 @@ pub trait End {
 
     ghost is_due: { Self → Bool };
 
+    // With which fault, if any, the end may answer to an ask.
+    ghost answers: { Self → session.Ask → Option Fault → Type 0 };
+
     /// Takes bytes of the peer to the end of one line or one packet.
     fn take<'a>(&'a mut self, bytes: &[u8], out: &mut Vec<u8>) -> Result<Turn<'a>, Fault>
         ensures { IfOk result (λ turn. turn.used ≤ length bytes.now) };
@@ -21,7 +28,8 @@ pub trait End {
     fn is_dead(&self) -> bool;
 
     /// Does what it is asked for.
-    fn ask<'a>(&'a mut self, ask: &Ask<'_>, out: &mut Vec<u8>) -> Result<Turn<'a>, Fault>;
+    fn ask<'a>(&'a mut self, ask: &Ask<'_>, out: &mut Vec<u8>) -> Result<Turn<'a>, Fault>
+        ensures { answers self.old (ask_of ask.now) (fault_in result) };
 
     /// Its channels.
     fn channels(&self) -> &Channels;
@@ -39,6 +47,8 @@ impl<R: EndRole> End for ssh_end::End<R> {
     ghost feeds = { λ end cookie secret is_taken new. Feeds end.machine cookie secret is_taken new.machine × (new ≡ record end { machine = new.machine }) };
 
     ghost is_due = { λ end. nat_le end.machine.kept.settings.epoch_limit end.machine.kept.sending.count };
+
+    ghost answers = { λ _ _ _. ⊤ };
 
     fn take<'a>(&'a mut self, bytes: &[u8], out: &mut Vec<u8>) -> Result<Turn<'a>, Fault> {
         ssh_end::End::take(self, bytes, out)
@@ -81,7 +91,10 @@ pub enum AskOutcome {
 /// # Errors
 ///
 /// A `Fault::Ask` with any other refusal, and `Memory`: the end is then over.
-pub fn asked<E: End>(end: &mut E, ask: &Ask<'_>, out: &mut Vec<u8>) -> Result<AskOutcome, Fault> {
+pub fn asked<E: End>(end: &mut E, ask: &Ask<'_>, out: &mut Vec<u8>) -> Result<AskOutcome, Fault>
+    ensures done { IfOk result (λ outcome. IsOutcome (E.answers end.old (ask_of ask.now)) outcome) }
+    ensures refused { IfErr result (λ why. IsRefusal (E.answers end.old (ask_of ask.now)) why) }
+{
     match end.ask(ask, out) {
         Ok(_) => Ok(AskOutcome::Done),
         Err(Fault::Ask(AskRefusal::NotYet | AskRefusal::Busy | AskRefusal::RekeyDue)) => {

@@ -101,7 +101,7 @@ impl<R: Entropy> KeySupply<R> {
     /// - `Random`: the source gave no random bytes, and nothing was handed in.
     /// - `End`: the end refused to exchange keys where that was due, or memory was refused to it.
     pub fn keep_fresh<E: End>(&mut self, end: &mut E, out: &mut Vec<u8>) -> Result<(), SupplyError>
-        ensures { OnOk result (KeepsFresh R.gives E.feeds E.is_due self.old end.old self.new end.new) }
+        ensures { OnOk result (KeepsFresh R.gives E.feeds E.is_due E.answers self.old end.old self.new end.new) }
     {
         let material = match self.next {
             Some(material) => material,

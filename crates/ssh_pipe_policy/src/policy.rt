@@ -26,7 +26,7 @@ const MOST_BLOCKS: u64 = 2_188;
 // Fewer than 2^32 blocks go under one key, as RFC 4344 section 3.2 asks for blocks of 16 bytes.
 const _: () = prove!((EPOCH_LIMIT as u64) * MOST_BLOCKS < 4_294_967_296);
 
-/// Once so many bytes wait to be written, they are written before more is put behind them.
+/// Once so many bytes wait to be written, they are written before more is put after them.
 pub const MOST_WAITING: usize = 1_048_576;
 
 /// How many channels a client may have at a server at a time.
