@@ -7,26 +7,37 @@ use ssh_embedded::{FormFault, MakeError};
 use ssh_end::{AskStep, Fault};
 use ssh_key_files::{Expected, FileFault};
 
+/// What was asked for is done.
 pub const DONE: i32 = 0;
 
+/// The size of a settings struct is not that of this version.
 pub const BAD_SIZE: i32 = 301;
 
+/// A seed or a key does not have 32 bytes, or a key is a point of small order, under which anyone can sign.
 pub const BAD_KEY: i32 = 302;
 
+/// An entry of the users' list is neither a key nor a password, or its name or its password has no bytes.
 pub const BAD_LOGIN: i32 = 303;
 
+/// The methods of authentication are neither keys, nor passwords, nor both.
 pub const BAD_METHODS: i32 = 304;
 
+/// The encryptions are neither aes128-gcm, nor aes256-gcm, nor both.
 pub const BAD_CIPHERS: i32 = 305;
 
+/// The form is no ask of this end.
 pub const BAD_ASK: i32 = 306;
 
+/// A client that was made without a key pair is to log in by key.
 pub const NO_KEY: i32 = 307;
 
+/// No ask waits in the queue.
 pub const NOTHING_QUEUED: i32 = 308;
 
+/// Memory was refused. An end that says so is over.
 pub const MEMORY: i32 = -1;
 
+/// The end was over before.
 pub const OVER: i32 = -2;
 
 /// A refused ask is its own number, 1 to 12.

@@ -1,7 +1,8 @@
 -- Which ask a flat form is.
-use Rattle.std.specs.Prelude.{◌&&◌, ℕ, List, Option, Some, None, codes, if◌then◌else◌, nat_eq, nat_le}
+use Rattle.std.specs.Prelude.{◌≡◌, ◌&&◌, ℕ, List, Option, Some, None, codes, if◌then◌else◌, nat_eq, nat_le}
 use Rattle.ssh_model.specs.Sessions.Items as session
 use Rattle.ssh_embedded.specs.declared.ask_form.AskForm.{AskForm}
+use Rattle.ssh_embedded.specs.declared.waiting.KeptForm.{KeptForm}
 
 -- a login by the user's key, or a probe of it
 abbrev pub by_key : AskForm → List ℕ → session.Ask
@@ -53,3 +54,22 @@ form_asks f key =
     if nat_eq f.kind 1 then Some session.Ask.AskRekey else if nat_eq f.kind 2 then
     Some (session.Ask.AskDisconnect f.text.now) else if nat_eq f.kind 3 then Some session.Ask.AskService else
     if nat_le 4 f.kind && nat_le f.kind 7 then login_by f key else connection_by f
+
+-- The form that a form with bytes of its own is a copy of.
+abbrev pub form_of : KeptForm → AskForm
+form_of kept = record {
+  kind = kept.kind;
+  channel = kept.channel;
+  window = kept.window;
+  max_packet = kept.max_packet;
+  number = kept.number;
+  flag = kept.flag;
+  name = record { ref_ptr = (0, 0); now = kept.name.items };
+  text = record { ref_ptr = (0, 0); now = kept.text.items };
+}
+
+-- The form is this ask, and it was done.
+pub record IsAsked (given : Option session.Ask) (IsDone : session.Ask → Type 0) : Type 0 where
+  pub asked : session.Ask
+  pub is : given ≡ Some asked
+  pub done : IsDone asked

@@ -1,2 +1,4 @@
 pub mod Forms
+pub mod Queues
 pub mod Users
+pub mod Windows

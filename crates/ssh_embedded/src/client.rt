@@ -28,7 +28,7 @@ pub struct ClientSettings<'a> {
     pub user: Option<Ed25519Signer>,
 }
 
-/// A client, with what a program keeps beside it.
+/// A client, with what a program keeps besides it.
 #[derive(Drop)]
 pub struct Client {
     pub state: Embedded<ClientRole<EmbeddedClient, UserKey>>,

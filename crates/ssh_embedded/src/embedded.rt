@@ -1,7 +1,10 @@
-//! An end of either role, with what a program keeps beside it.
+//! An end of either role, with what a program keeps besides it.
 
-ghost use Rattle.std.specs.Prelude.{◌≡◌, ◌<◌, ◌≤◌, IfErr, IfOk, IsSome, List, None, OnErr, [], drop, false, length, nat_le, true};
-ghost use Rattle.ssh_embedded.specs.Forms.{form_asks};
+ghost use Rattle.std.specs.Prelude.{◌≡◌, ◌<◌, ◌≤◌, ◌++◌, ◌∷◌, cond, IfErr, IfOk, IfSome, IsSome, List, None, OnErr, OnOk, [], drop, false, length, nat_le, true};
+ghost use Rattle.std.specs.VecDeque.{deque_len};
+ghost use Rattle.ssh_embedded.specs.Forms.{IsAsked, form_asks};
+ghost use Rattle.ssh_embedded.specs.Queues.{IsMade, asked_by, is_early};
+ghost use Rattle.ssh_embedded.specs.Windows.{bytes_in};
 ghost use Rattle.ssh_end.specs.Asking.{AreAskChannels, Fails, ask_of};
 ghost use Rattle.ssh_end.specs.Calls.{Advances, outs_of};
 ghost use Rattle.ssh_end.specs.Ends.{EndLacks, IsFault};
@@ -10,6 +13,7 @@ ghost use Rattle.ssh_end.specs.Stands.{FailedTo, FeedsTo, PerformedTo, StandsAt}
 ghost use Rattle.ssh_end.specs.Steps.{Shows, shown_by};
 ghost use Rattle.ssh_end.specs.Turn.{TurnShows, channels_in, payloads_in};
 ghost use Rattle.ssh_end.specs.declared.step.Step.{Step};
+ghost use Rattle.ssh_model.specs.Channels.Places.{at, shown_room};
 ghost use Rattle.ssh_model.specs.Sessions.Items.{Item};
 ghost use Rattle.ssh_model.specs.Sessions.Parties.{Parties};
 ghost use Rattle.ssh_model.specs.TransportLayer.Kept.{after_fed, can_be_fed};
@@ -116,7 +120,13 @@ impl<R: EndRole> Embedded<R> {
     /// # Errors
     ///
     /// Those of `AskForm::ask`, and nothing changes. What is answered otherwise is that of `perform`.
-    pub fn ask(&mut self, form: &AskForm<'_>) -> Result<Result<AskStep, Fault>, FormFault> {
+    pub fn ask(&mut self, form: &AskForm<'_>) -> Result<Result<AskStep, Fault>, FormFault>
+        ensures asked { IfOk result (λ done. IsAsked (form_asks form.now self.old.key) (λ asked. R.asks self.old.end.role self.old.end.machine self.old.end.layers asked done self.new.end.machine self.new.end.layers (outs_of self.old.out.items self.new.out.items self.new.end.sent))) }
+        ensures none { OnErr result (form_asks form.now self.old.key ≡ None) }
+        ensures unchanged { OnErr result (self.new ≡ self.old) }
+        ensures key { self.new.key ≡ self.old.key }
+        ensures waiting { self.new.waiting ≡ self.old.waiting }
+    {
         let key = self.key;
         let ask = form.ask(&key)?;
         Ok(self.perform(&ask))
@@ -127,9 +137,14 @@ impl<R: EndRole> Embedded<R> {
     /// # Errors
     ///
     /// Those of `AskForm::ask`.
-    pub fn is_ask(&self, form: &AskForm<'_>) -> Result<(), FormFault> {
-        form.ask(&self.key)?;
-        Ok(())
+    pub fn is_ask(&self, form: &AskForm<'_>) -> Result<(), FormFault>
+        ensures is { OnOk result (form_asks form.now self.now.key ≡ None → ⊥) }
+        ensures none { OnErr result (form_asks form.now self.now.key ≡ None) }
+    {
+        match form.ask(&self.key) {
+            Ok(_) => Ok(()),
+            Err(fault) => Err(fault),
+        }
     }
 
     /// What `ssh_end::End::feed_material` does.
@@ -159,7 +174,9 @@ impl<R: EndRole> Embedded<R> {
     }
 
     /// How many bytes of data fit into the peer's window on a channel; none where the channel is not confirmed.
-    pub fn room(&self, channel: u32) -> u32 {
+    pub fn room(&self, channel: u32) -> u32
+        ensures { result ≡ bytes_in (shown_room (at (R.channels_of self.now.end.layers).places channel)) }
+    {
         self.end.channels().room(channel).unwrap_or(0)
     }
 
@@ -184,38 +201,65 @@ impl<R: EndRole> Embedded<R> {
     /// # Errors
     ///
     /// Only where memory is refused: nothing changes.
-    pub fn queue(&mut self, ask: Waiting) -> Result<(), AllocError> {
+    pub fn queue(&mut self, ask: Waiting) -> Result<(), AllocError>
+        ensures queued { OnOk result (self.new.waiting.items ≡ self.old.waiting.items ++ ask ∷ []) }
+        ensures kept { OnErr result (self.new.waiting.items ≡ self.old.waiting.items) }
+        ensures same { self.new ≡ record self.old { waiting = self.new.waiting } }
+    {
         self.waiting.push_back(ask).map_err(|_| AllocError)
     }
 
     /// How many asks wait.
-    pub fn queued(&self) -> usize {
+    pub fn queued(&self) -> usize
+        ensures { result ≡ deque_len self.now.waiting }
+    {
         self.waiting.len()
     }
 
     /// Makes the oldest ask that waits. Where it comes too early (`is_later`) it stays where it is; otherwise it waits no longer. `None` where none waits.
-    pub fn work(&mut self, alloc: Global) -> Option<Result<AskStep, Fault>> {
+    ///
+    /// # Errors
+    ///
+    /// Those of `perform`.
+    pub fn work(&mut self, alloc: Global) -> Option<Result<AskStep, Fault>>
+        ensures none { result ≡ None → self.old.waiting.items ≡ [] }
+        ensures unchanged { result ≡ None → self.new ≡ self.old }
+        ensures waits { IfSome result (λ done. self.new.waiting.items ≡ cond (is_early done) self.old.waiting.items (drop 1 self.old.waiting.items)) }
+        ensures key { self.new.key ≡ self.old.key }
+    {
         let mut waiting = replace(&mut self.waiting, VecDeque::new(alloc));
         let Some(front) = waiting.front() else {
             self.waiting = waiting;
             return None;
         };
-        let done = match front {
-            Waiting::Form(kept) => self.ask(&kept.form()),
-            Waiting::Known(ask) => Ok(self.perform(ask)),
-        };
-        // Only asks are put there.
-        let done = done.unwrap_or(Err(Fault::Ask(AskRefusal::WrongSide)));
+        let done = self.make(front);
         if !is_later(&done) {
             waiting.pop_front();
         }
         self.waiting = waiting;
         Some(done)
     }
+
+    // Makes an ask that waits. Only asks are put there.
+    fn make(&mut self, waiting: &Waiting) -> Result<AskStep, Fault>
+        ensures made { IsMade (asked_by waiting.now self.old.key) (λ asked. R.asks self.old.end.role self.old.end.machine self.old.end.layers asked result self.new.end.machine self.new.end.layers (outs_of self.old.out.items self.new.out.items self.new.end.sent)) }
+        ensures key { self.new.key ≡ self.old.key }
+        ensures waiting { self.new.waiting ≡ self.old.waiting }
+    {
+        match waiting {
+            Waiting::Form(kept) => match self.ask(&kept.form()) {
+                Ok(done) => done,
+                Err(_) => Err(Fault::Ask(AskRefusal::WrongSide)),
+            },
+            Waiting::Known(ask) => self.perform(ask),
+        }
+    }
 }
 
 /// Tests whether an ask came too early: keys are being exchanged or have to be, or what it needs is still to come.
-pub fn is_later(done: &Result<AskStep, Fault>) -> bool {
+pub fn is_later(done: &Result<AskStep, Fault>) -> bool
+    ensures { result ≡ is_early done.now }
+{
     matches!(
         done,
         Err(Fault::Ask(AskRefusal::NotYet | AskRefusal::Busy | AskRefusal::RekeyDue))

@@ -30,7 +30,7 @@ pub struct ServerSettings<'a> {
     pub host: Ed25519Signer,
 }
 
-/// A server, with what a program keeps beside it.
+/// A server, with what a program keeps besides it.
 #[derive(Drop)]
 pub struct Server {
     pub state: Embedded<ServerRole<EmbeddedServer, Users>>,

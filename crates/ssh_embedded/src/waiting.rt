@@ -1,5 +1,8 @@
 //! Asks that wait until an end can do them.
 
+ghost use Rattle.std.specs.Prelude.{◌≡◌, IfOk, List, Option, ℕ};
+ghost use Rattle.ssh_embedded.specs.Forms.{form_asks, form_of};
+
 use crate::ask_form::AskForm;
 use ssh_end::Ask;
 use std::alloc::{AllocError, Global};
@@ -23,7 +26,9 @@ impl KeptForm {
     /// # Errors
     ///
     /// Only where memory is refused.
-    pub fn new(alloc: Global, form: &AskForm<'_>) -> Result<KeptForm, AllocError> {
+    pub fn new(alloc: Global, form: &AskForm<'_>) -> Result<KeptForm, AllocError>
+        ensures { IfOk result (λ kept. (key : Option (List ℕ)) → form_asks (form_of kept) key ≡ form_asks form.now key) }
+    {
         let mut name = Vec::new(alloc);
         name.extend_from_slice(form.name)?;
         let mut text = Vec::new(alloc);
@@ -41,7 +46,9 @@ impl KeptForm {
     }
 
     /// The form.
-    pub fn form(&self) -> AskForm<'_> {
+    pub fn form(&self) -> AskForm<'_>
+        ensures { (key : Option (List ℕ)) → form_asks result key ≡ form_asks (form_of self.now) key }
+    {
         AskForm {
             kind: self.kind,
             channel: self.channel,
