@@ -1,7 +1,7 @@
 use std::rt::Env;
 use std::{env, io};
 
-/// The number behind the word `run`, where the program is called by these two words.
+/// The number after the word `run`, where the program is called by these two words.
 ///
 /// # Errors
 ///

@@ -1,4 +1,4 @@
-//! Layers by themselves, by the lines of files: what a layer is asked and takes, and behind it, after `> `, what has to come of it. The channels of one end, and
+//! Layers by themselves, by the lines of files: what a layer is asked and takes, and after it, after `> `, what has to come of it. The channels of one end, and
 //! the authentication of both. For each file it is said how many lines were as they have to be, or which is the first that is not; the exit status is then 1.
 #![tactic(auto)]
 

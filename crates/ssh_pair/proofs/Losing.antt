@@ -21,7 +21,7 @@ use Rattle.ssh_pair.specs.Playing.{Advanced}
 use Rattle.ssh_pair.specs.declared.item.Done as declared
 use Rattle.ssh_pair.proofs.Advancing.{advanced_dead}
 
--- The unit by which the end died ends somewhere in the bytes, and what comes behind it is dropped.
+-- The unit by which the end died ends somewhere in the bytes, and what comes after it is dropped.
 pub lost : {K : Type 0} (p : Parties K) (side : Side) → ((side : Side) (items : List Item) (run : List Done) → part side (done_by side items ++ run) ≡ items ++ part side run) →
     (run : List Done) (begun bytes kept_old kept_new : List ℕ) (S : List Done → Type 0) (log_old log_new : List declared.Done) (out_old out_new : List ℕ) → kept_old ≡ begun → (count : ℕ) → kept_new ≡ [] →
     ((behind : List ℕ) (last : List Done) (rest : List ℕ) → Delivered (reading_of p side) (done_by side (Died ∷ []) ++ run) behind last rest → Delivered (reading_of p side) run ((begun ++ take count bytes) ++ behind) last rest) →

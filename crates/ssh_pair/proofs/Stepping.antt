@@ -11,7 +11,7 @@ use Rattle.ssh_pair.specs.declared.item.Done as declared
 
 module _ {K : Type 0} (p : Parties K) (side : Side) (run : List Done) (begun bytes kept_old kept_new : List ℕ) (S : List Done → Type 0)
     (log_old log_new : List declared.Done) (out_old out_new : List ℕ) (kept_is : kept_old ≡ begun) where
-  -- they are begun behind what was begun before
+  -- they are begun after what was begun before
   pub waited : kept_new ≡ begun ++ bytes → S run → Adds side [] log_old log_new → out_new ≡ out_old → Advanced p side run bytes kept_old kept_new S log_old log_new out_old out_new
   waited keeps s notes out = record {
     items = [];

@@ -50,7 +50,7 @@ pub record SaysOf {K : Type 0} (p : Parties K) (side : Side) (run : List Done) (
   pub notes : Adds side items log_old log_new
   pub puts : PutsMore p side (part side run) (items ++ part side run) out_old out_new
 
--- What an end did with bytes that came to it behind those that it kept, whatever comes behind them. Where it then stands
+-- What an end did with bytes that came to it after those that it kept, whatever comes after them. Where it then stands
 -- is said of a run.
 pub record Advanced {K : Type 0} (p : Parties K) (side : Side) (run : List Done) (bytes kept_old kept_new : List ℕ)
     (Stands : List Done → Type 0) (log_old log_new : List declared.Done) (out_old out_new : List ℕ) : Type 0 where

@@ -11,7 +11,7 @@ pub struct Counted {
 }
 
 impl Counted {
-    /// Bytes that begin behind this one.
+    /// Bytes that begin after this one.
     pub fn new(first: u8) -> Counted {
         Counted {
             next: Cell::new(first),

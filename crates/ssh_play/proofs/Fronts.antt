@@ -22,7 +22,7 @@ pub no_front : (text front : List ℕ) (r : Option (Bor (List ℕ))) → MatchOp
 no_front text front None m = m
 no_front text front (Some x) m = tt
 
--- Where what is behind a line does not begin with LF, the text does not begin with the line and LF.
+-- Where what is after a line does not begin with LF, the text does not begin with the line and LF.
 pub no_line : (text line rest : List ℕ) (r : Option (Bor (List ℕ))) → text ≡ line ++ rest → IfNone r ((more : List ℕ) → rest ≢ (10 ∷ []) ++ more) → IfNone r ((more : List ℕ) → text ≢ line ++ (10 ∷ more))
 no_line text line rest None cut none = λ more e. none more (append_cancel_left line rest (10 ∷ more) (sym cut ∙ e))
 no_line text line rest (Some x) cut none = tt
@@ -61,7 +61,7 @@ differs_here text expected i x rest line e h l t none = record {
   longer = λ past. absurd (omega arith);
 }
 
--- Where all lines stand there and more follows, it is the line behind them.
+-- Where all lines stand there and more follows, it is the line after them.
 pub differs_behind : (text : List ℕ) (expected : List (String Global)) (i : ℕ) (rest : List ℕ) → i ≡ length expected → text ≡ text_of (take i expected) ++ rest → false ≡ (length rest == 0) → Differs text expected (length expected + 1)
 differs_behind text expected i rest e t more =
     let whole : take i expected ≡ expected = ap (λ n. take n expected) e ∙ take-length expected in

@@ -12,7 +12,7 @@ pub payloads_in-append : (xs ys : List (Bor (List ℕ))) → payloads_in (xs ++ 
 payloads_in-append [] ys = refl
 payloads_in-append (x ∷ xs) ys = ap (λ l. x.now ∷ l) (payloads_in-append xs ys)
 
--- those of an item and of what is behind it
+-- those of an item and of what is after it
 pub went-drop : (side : Side) (way : Way) (run : List Done) (i : ℕ) (done : Done) → done ≡ get_or run i done → i < length run → went side way (drop i run) ≡ cond (is_side done.side side) (payload_in way done.item) [] ++ went side way (drop (suc i) run)
 went-drop side way [] i done e h = absurd (omega arith)
 went-drop side way (other ∷ run) zero done e h = ap (λ d. cond (is_side d.side side) (payload_in way d.item) [] ++ went side way run) (sym e)

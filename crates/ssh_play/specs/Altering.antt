@@ -19,7 +19,7 @@ changes Doubled byte = byte ∷ (byte ∷ [])
 abbrev pub changed_at : Change → List ℕ → ℕ → List ℕ
 changed_at change bytes index = take index bytes ++ changes change (slice_index bytes index) ++ drop (suc index) bytes
 
--- where the byte behind so many others of its side stands among so many bytes, the first of them behind others of that side
+-- where the byte after so many others of its side stands among so many bytes, the first of them after others of that side
 abbrev pub index_by : ℕ → Origin → ℕ → Option ℕ
 index_by place (PutOut start) count = cond (nat_le start place && nat_lt (place - start) count) (Some (place - start)) None
 index_by place Script count = None

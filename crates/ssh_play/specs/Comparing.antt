@@ -1,4 +1,4 @@
--- A transcript beside the lines that a script expects of it.
+-- A transcript next to the lines that a script expects of it.
 use Rattle.std.specs.Prelude.{◌≡◌, ◌≢◌, ℕ, suc, ◌-◌, ◌≤◌, List, [], ◌∷◌, ◌++◌, length, take}
 use Rattle.std.specs.Prelude.{Option, Some, None, string_bytes}
 use Rattle.std.specs.declared.alloc.Global.{Global}
@@ -6,7 +6,7 @@ use Rattle.std.specs.declared.string.String.{String}
 use Rattle.ssh_play.specs.declared.comparison.Comparison.{Comparison}
 use Rattle.ssh_play.specs.declared.comparison.Comparison.TheVariants.{DiffersAt, Same}
 
--- lines, each with LF behind it
+-- lines, each with LF after it
 abbrev pub text_of : List (String Global) → List ℕ
 text_of [] = []
 text_of (line ∷ lines) = string_bytes line ++ (10 ∷ text_of lines)
@@ -19,7 +19,7 @@ pub record Differs (text : List ℕ) (expected : List (String Global)) (at : ℕ
   pub here : at ≤ length expected → (rest : List ℕ) → text ≢ text_of (take at expected) ++ rest
   pub longer : at ≡ suc (length expected) → text ≢ text_of expected
 
--- This is what the text is beside the expected lines.
+-- This is what the text is compared with the expected lines.
 abbrev pub Compares : List ℕ → List (String Global) → Comparison → Type 0
 Compares text expected (Same count) = (text ≡ text_of expected) × (count ≡ length expected)
 Compares text expected (DiffersAt at) = Differs text expected at

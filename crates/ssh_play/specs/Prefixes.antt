@@ -13,7 +13,7 @@ abbrev pub has_newkeys : List ℕ → Bool
 has_newkeys [] = false
 has_newkeys (number ∷ rest) = nat_eq number 21
 
--- the payloads behind the first NEWKEYS
+-- the payloads after the first NEWKEYS
 abbrev pub behind_first : List (List ℕ) → List (List ℕ)
 behind_first [] = []
 behind_first (payload ∷ payloads) = cond (has_newkeys payload) payloads (behind_first payloads)

@@ -10,7 +10,7 @@ use Rattle.ssh_play.specs.declared.safety.Way.{Way}
 use Rattle.ssh_play.specs.declared.safety.Way.TheVariants as way
 use Rattle.ssh_play.specs.Prefixes.{behind_first}
 
--- the payload that was taken, that of a packet behind a wrong guess too
+-- the payload that was taken, that of a packet after a wrong guess too
 abbrev pub taken_in : Item → List (List ℕ)
 taken_in (item.Took channel payload) = payload.items ∷ []
 taken_in (item.Skipped payload) = payload.items ∷ []

@@ -1,11 +1,11 @@
-//! The lines of a transcript beside those that a script expects.
+//! The lines of a transcript next to those that a script expects.
 
 ghost use Rattle.std.specs.Prelude.{◌≡◌, ◌≢◌, ◌++◌, ◌∷◌, IfNone, IfSome, List, ℕ};
 ghost use Rattle.ssh_play.specs.Comparing.{Compares};
 
 use std::fmt;
 
-/// What a transcript is beside the expected lines.
+/// What a transcript is compared with the expected lines.
 #[derive(Clone, Copy, Debug, PartialEq, Eq)]
 pub enum Comparison {
     /// The same, so many lines.
@@ -41,7 +41,7 @@ pub fn compare(lines: &str, expected: &[String]) -> Comparison
     }
 }
 
-// What stands behind this line and its LF, where the text begins with them.
+// What stands after this line and its LF, where the text begins with them.
 fn behind_line<'a>(text: &'a [u8], line: &[u8]) -> Option<&'a [u8]>
     ensures found { IfSome result (λ rest. text.now ≡ line.now ++ (10 ∷ rest.now)) }
     ensures none { IfNone result ((rest : List ℕ) → text.now ≢ line.now ++ (10 ∷ rest)) }
@@ -52,7 +52,7 @@ fn behind_line<'a>(text: &'a [u8], line: &[u8]) -> Option<&'a [u8]>
     behind(rest, b"\n")
 }
 
-// What stands behind these bytes, where the text begins with them.
+// What stands after these bytes, where the text begins with them.
 fn behind<'a>(text: &'a [u8], front: &[u8]) -> Option<&'a [u8]>
     ensures found { IfSome result (λ rest. text.now ≡ front.now ++ rest.now) }
     ensures none { IfNone result ((rest : List ℕ) → text.now ≢ front.now ++ rest) }

@@ -5,7 +5,7 @@ use ssh_pair::{AskKind, Done, Fact, Item};
 use ssh_types::Side;
 use std::alloc::AllocError;
 
-/// Writes the lines of these items, each with LF behind it.
+/// Writes the lines of these items, each with LF after it.
 pub(crate) fn write_items(items: &[Done], text: &mut String) -> Result<(), AllocError> {
     let mut taken: &[u8] = &[];
     for done in items {
@@ -25,7 +25,7 @@ fn letter_of(side: Side) -> char {
     }
 }
 
-// What is told stands behind the payload that was taken last, where it is told of one.
+// What is told stands after the payload that was taken last, where it is told of one.
 fn write_item(item: &Item, taken: &[u8], text: &mut String) -> Result<(), AllocError> {
     match item {
         Item::Asked(kind) => writeln!(text, "asked {}", word_of_ask(*kind)),
@@ -79,7 +79,7 @@ fn word_of_ask(kind: AskKind) -> &'static str {
     }
 }
 
-// What an end is told: a word, and behind it the numbers that belong to it.
+// What an end is told: a word, and after it the numbers that belong to it.
 fn write_fact(fact: Fact, taken: &[u8], text: &mut String) -> Result<(), AllocError> {
     write!(text, "told {}", word_of_fact(fact))?;
     match fact {

@@ -10,7 +10,7 @@ use std::alloc::{AllocError, Global};
 /// What the two ends of a script did.
 #[derive(Debug, Drop)]
 pub struct Played {
-    /// A line for each thing that an end did, in their order, each with LF behind it.
+    /// A line for each thing that an end did, in their order, each with LF after it.
     pub lines: String,
     /// Whether an end refused its peer, or found its own numbers spent.
     pub refused: bool,

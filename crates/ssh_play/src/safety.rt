@@ -69,7 +69,7 @@ fn is_by(done: &Done, side: Side) -> bool
     done.side == side
 }
 
-// The payload that was taken or sent. That of a packet behind a wrong guess was taken too.
+// The payload that was taken or sent. That of a packet after a wrong guess was taken too.
 fn payload_of(item: &Item, way: Way) -> Option<&[u8]>
     ensures some { IfSome result (λ payload. payload_in way item.now ≡ payload.now ∷ []) }
     ensures none { IfNone result (payload_in way item.now ≡ []) }
@@ -82,7 +82,7 @@ fn payload_of(item: &Item, way: Way) -> Option<&[u8]>
     }
 }
 
-// Those behind the first NEWKEYS.
+// Those after the first NEWKEYS.
 fn behind_newkeys<'a, 'b>(payloads: &'b [&'a [u8]]) -> &'b [&'a [u8]]
     ensures { payloads_in result.now ≡ behind_first (payloads_in payloads.now) }
 {

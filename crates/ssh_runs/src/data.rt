@@ -1,4 +1,4 @@
-//! 100 CHANNEL_DATA messages of 327 to 32,700 bytes at each of two ends. `taking` is said before the first is taken and `taken` behind the last: between the two no
+//! 100 CHANNEL_DATA messages of 327 to 32,700 bytes at each of two ends. `taking` is said before the first is taken and `taken` after the last: between the two no
 //! allocation may be refused, since no message is taken by one.
 
 use crate::status::Status;
@@ -14,7 +14,7 @@ const MESSAGES: usize = 100;
 // Each has so many bytes more than the one before it.
 const STEP: usize = 327;
 
-/// Sends the messages, takes them, and closes the channel. Memory was refused before they were taken, or within the closing behind them.
+/// Sends the messages, takes them, and closes the channel. Memory was refused before they were taken, or within the closing after them.
 pub fn run<R: Print + AllocGlobal>(rt: &R) -> Status {
     let mut ends = match sent(rt.alloc()) {
         Ok(ends) => ends,

@@ -3,7 +3,7 @@
 //!
 //! The word `scripts`, `payloads`, `calls`, `plays`, `data`, `sweeping` or `sweep` names the part that is run, and `unswept` all but the last; without a word all are. The
 //! status is 0 where nothing was refused or a smaller allocation made up for it, 3 where memory was refused before what the part is about, and 4 where it
-//! was refused within that; what this means is said beside each part. All else is wrong: a part says so, and the status is 1. It is 2 for other words.
+//! was refused within that; what this means is said next to each part. All else is wrong: a part says so, and the status is 1. It is 2 for other words.
 #![tactic(auto)]
 
 mod calls;
@@ -83,7 +83,7 @@ fn words_of<R: Env + AllocGlobal>(rt: &R) -> io::Result<Vec<String>> {
     Ok(words)
 }
 
-// The parts that the words name, behind the name of the program.
+// The parts that the words name, after the name of the program.
 fn parts_of(words: &[String]) -> Option<&'static [Part]> {
     match words {
         [] | [_] => Some(ALL),

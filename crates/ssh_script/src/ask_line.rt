@@ -51,7 +51,7 @@ impl AskLine {
     }
 }
 
-/// The side and the ask of a line, by the words behind its first.
+/// The side and the ask of a line, by the words after its first.
 pub(crate) fn side_and_ask<'a>(
     alloc: Global,
     words: &[&'a str],

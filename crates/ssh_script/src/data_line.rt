@@ -67,7 +67,7 @@ impl DataLine {
     }
 }
 
-// Each takes the words behind the line's first: the side, the ask's word, and what is asked.
+// Each takes the words after the line's first: the side, the ask's word, and what is asked.
 
 pub(crate) fn data<'a>(alloc: Global, words: &[&'a str]) -> Result<DataLine, WordFault<'a>> {
     let [_, _, channel, body] = words else {

@@ -28,7 +28,7 @@ pub enum Delivery {
     Again { from: Side, start: u32, count: u32 },
 }
 
-/// What a line of the network does, by its first word and the words behind it.
+/// What a line of the network does, by its first word and the words after it.
 pub(crate) fn delivery_of<'a>(
     alloc: Global,
     language: Language,

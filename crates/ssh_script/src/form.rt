@@ -64,7 +64,7 @@ impl Form {
         }
     }
 
-    /// The fault of words that are more or fewer than this form has behind its first.
+    /// The fault of words that are more or fewer than this form has after its first.
     ///
     /// # Errors
     ///
@@ -140,7 +140,7 @@ impl AskForm {
         }
     }
 
-    /// The fault of words behind the first, `ask`, that are more or fewer than this form has.
+    /// The fault of words after the first, `ask`, that are more or fewer than this form has.
     ///
     /// # Errors
     ///

@@ -70,7 +70,7 @@ impl OpeningLine {
     }
 }
 
-// Each takes the words behind the line's first: the side, the ask's word, and what is asked.
+// Each takes the words after the line's first: the side, the ask's word, and what is asked.
 
 pub(crate) fn open<'a>(alloc: Global, words: &[&'a str]) -> Result<OpeningLine, WordFault<'a>> {
     let [_, _, kind, window, max_packet, rest @ ..] = words else {

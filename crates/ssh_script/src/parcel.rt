@@ -18,7 +18,7 @@ pub struct Parcel<'a> {
 /// Where the bytes of a parcel come from.
 #[derive(Clone, Copy, Debug, PartialEq, Eq)]
 pub enum Origin {
-    /// The other side put them out, the first of them behind so many others.
+    /// The other side put them out, the first of them after so many others.
     PutOut { start: usize },
     /// The script's line has them.
     Script,

@@ -15,7 +15,7 @@ use std::alloc::Global;
 #[derive(Drop)]
 pub(crate) struct Reading {
     alloc: Global,
-    // None until a line of words was read. Its expected lines stand beside it.
+    // None until a line of words was read. Its expected lines stand next to it.
     script: Option<Script>,
     expected: Vec<String>,
 }

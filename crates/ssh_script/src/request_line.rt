@@ -77,7 +77,7 @@ impl RequestLine {
     }
 }
 
-// Each takes the words behind the line's first: the side, the ask's word, and what is asked.
+// Each takes the words after the line's first: the side, the ask's word, and what is asked.
 
 pub(crate) fn request<'a>(alloc: Global, words: &[&'a str]) -> Result<RequestLine, WordFault<'a>> {
     let [_, _, channel, name, want, rest @ ..] = words else {

@@ -1,4 +1,4 @@
-//! What the two ends of a session are made with, beside what every session has.
+//! What the two ends of a session are made with, besides what every session has.
 
 use crate::form::Form;
 use crate::line::Line;

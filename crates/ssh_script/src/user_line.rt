@@ -71,7 +71,7 @@ impl UserLine {
     }
 }
 
-// Each takes the words behind the line's first: the side, the ask's word, and what is asked.
+// Each takes the words after the line's first: the side, the ask's word, and what is asked.
 
 pub(crate) fn none<'a>(alloc: Global, words: &[&'a str]) -> Result<UserLine, WordFault<'a>> {
     let [_, _, user] = words else {

@@ -49,19 +49,19 @@ pub(crate) enum WordFault<'a> {
     /// The keys are given again.
     #[error("\"epoch\" is met again: the keys are given once, in the first line")]
     SecondEpoch,
-    /// The keys are given behind a line of a session.
+    /// The keys are given after a line of a session.
     #[error("\"epoch\" is met behind another line: it stands in the first line or in none")]
     LateEpoch,
-    /// A line of the setup behind an event.
+    /// A line of the setup after an event.
     #[error("{word:?} is met behind an event: user, key, limit, strict and ext stand before the first", word = Shortened(*.0))]
     LateSetup(&'a str),
     /// The first word is of no line.
     #[error("no line begins with {word:?}: {known}", word = Shortened(*.met), known = .language.first_words())]
     UnknownForm { met: &'a str, language: Language },
-    /// The word behind the side is of no ask.
+    /// The word after the side is of no ask.
     #[error("{word:?} is no ask: service, none, password, probe, sign, rekey, open, confirm, refuse, data, extended, adjust, eof, close, request, reply, global, globalreply and disconnect are", word = Shortened(*.0))]
     UnknownAsk(&'a str),
-    /// The number of words behind the first is another one.
+    /// The number of words after the first is another one.
     #[error("{count} words follow the first: the line is written {written}", written = .form.shown())]
     Words { form: Form, count: usize },
     /// A fixed word is another one.

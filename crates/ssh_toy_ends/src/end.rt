@@ -26,7 +26,7 @@ impl Drop for ToyEnd {
 }
 
 impl ToyEnd {
-    /// The end of a side, behind what it put out.
+    /// The end of a side, after what it put out.
     ///
     /// # Errors
     ///

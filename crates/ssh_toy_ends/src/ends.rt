@@ -155,7 +155,7 @@ impl ToyEnds {
     }
 }
 
-// An end takes these bytes, line by line and packet by packet, and puts what it sends for them behind `out`.
+// An end takes these bytes, line by line and packet by packet, and appends what it sends for them to `out`.
 fn take_all(end: &mut ToyEnd, bytes: &mut Vec<u8>, out: &mut Vec<u8>) -> Result<usize, Fault> {
     let mut rest = bytes.as_slice();
     let mut count = 0;

@@ -1,4 +1,4 @@
-//! Calls that put something behind bytes.
+//! Calls that put something after bytes.
 
 use super::outcome::Outcome;
 use ssh_auth::{SignedText, put_signed_text};
@@ -8,7 +8,7 @@ use ssh_toys::ToyFiller;
 use ssh_types::{MpInt, NameList, Put};
 use std::alloc::{AllocError, Global};
 
-/// A call that puts something behind bytes.
+/// A call that puts something after bytes.
 #[derive(Clone, Copy, Debug)]
 pub enum Appending {
     Byte,
@@ -46,7 +46,7 @@ pub const APPENDING: &[Appending] = &[
 
 const OLD: &[u8] = b"old";
 
-/// Makes the call behind three bytes, beside which nothing has room.
+/// Makes the call after three bytes, next to which nothing has room.
 ///
 /// # Errors
 ///
@@ -71,7 +71,7 @@ pub fn append(alloc: Global, call: &Appending) -> Result<Outcome, AllocError> {
     })
 }
 
-// Whether something stands behind the old bytes.
+// Whether something stands after the old bytes.
 fn is_behind(out: &[u8]) -> bool {
     out.starts_with(OLD) && out.len() > OLD.len()
 }

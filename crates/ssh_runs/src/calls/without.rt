@@ -18,7 +18,7 @@ const KEY: [u8; 32] = [1; 32];
 
 const SESSION: [u8; 32] = [7; 32];
 
-/// Makes the calls, and says `taking` before them and `taken` behind them.
+/// Makes the calls, and says `taking` before them and `taken` after them.
 ///
 /// # Errors
 ///
