@@ -12,8 +12,8 @@ CRATES = TOP / "crates"
 PAGE = TOP / "docs/BELIEVED.md"
 USE = re.compile(r"^use Rattle\.(\w+)\.specs\.([\w.]+?)(?:\.\{| as |$)", re.M)
 
-ANY_PEER = ["ssh_model/specs/Sessions/AnyPeer.antt"]
-TWO_ENDS = ["ssh_model/specs/Sessions/Claims.antt", "ssh_model/specs/Sessions/Honest.antt", "ssh_model/specs/Sessions/Events.antt"]
+ANY_PEER = ["ssh_model/specs/Protocol/Sessions/AnyPeer.antt"]
+TWO_ENDS = ["ssh_model/specs/Protocol/Sessions/Claims.antt", "ssh_model/specs/Protocol/Sessions/Honest.antt", "ssh_model/specs/Protocol/Sessions/Events.antt"]
 TRANSCRIPT = ["ssh_pair/specs/Playing.antt", "ssh_pair/specs/Items.antt", "ssh_pair/specs/Noting.antt"]
 # What these use to say which ask is which, and what refusals and sides are called.
 NAMES = ["ssh_end/specs/Asking.antt", "ssh_types/specs/Refusals.antt", "ssh_types/specs/AskRefusals.antt", "ssh_types/specs/Sides.antt"]

@@ -1,6 +1,6 @@
 -- What is answered to what a program does not know.
 use Rattle.std.specs.Prelude.{true, false, Option, Some, None, []}
-use Rattle.ssh_model.specs.Sessions.Items.{Ask, Ask.AskGlobalReply, Ask.AskRefuse, Ask.AskReply, Fact, Fact.Global, Fact.Opened, Fact.Requested}
+use Rattle.ssh_model.specs.Protocol.Sessions.Items.{Ask, Ask.AskGlobalReply, Ask.AskRefuse, Ask.AskReply, Fact, Fact.Global, Fact.Opened, Fact.Requested}
 
 -- A channel is refused as of unknown type, which is reason 3 (RFC 4254 section 5.1). A request that wants a reply fails (sections 4 and 5.4).
 abbrev pub default_answer_of : Fact → Option Ask

@@ -1,6 +1,6 @@
 -- What C is answered.
 use Rattle.std.specs.Prelude.{ℤ, pos, negsuc, Option, Some, None, Result, Ok, Err}
-use Rattle.ssh_model.specs.Sessions.Refusals.{ask_refusal_number}
+use Rattle.ssh_model.specs.Protocol.Sessions.Refusals.{ask_refusal_number}
 use Rattle.ssh_types.specs.AskRefusals.{ask_refusal_of}
 use Rattle.ssh_types.specs.declared.refusal.Refusal.{Refusal}
 use Rattle.ssh_end.specs.declared.asking.outcome.AskStep.{AskStep}

@@ -1,7 +1,7 @@
 -- What C is shown of a turn, field by field.
 use Rattle.std.specs.Prelude.{◌≡◌, ℕ, Bool, true, false, Option, Some, None, List, [], ◌∷◌, codes}
-use Rattle.ssh_model.specs.Sessions.Items.{Item}
-use Rattle.ssh_model.specs.Sessions.Refusals.{refusal_name, refusal_number}
+use Rattle.ssh_model.specs.Protocol.Sessions.Items.{Item}
+use Rattle.ssh_model.specs.Protocol.Sessions.Refusals.{refusal_name, refusal_number}
 use Rattle.ssh_types.specs.Refusals.{refusal_of}
 use Rattle.ssh_types.specs.Values.{names_text}
 use Rattle.ssh_types.specs.declared.refusal.Refusal.{Refusal}

@@ -2,7 +2,7 @@
 
 ghost use Rattle.std.specs.Prelude.{◌≡◌, false, []};
 ghost use Rattle.divrelca_c.specs.Events.{data_fields, fact_fields, fields_of, method_name, opened_fields, requested_fields, simple, told_fields, told_or_tried, took_of, tried_fields, turn_fields};
-ghost use Rattle.ssh_model.specs.Sessions.Refusals.{refusal_name, refusal_number};
+ghost use Rattle.ssh_model.specs.Protocol.Sessions.Refusals.{refusal_name, refusal_number};
 ghost use Rattle.ssh_types.specs.Refusals.{refusal_of};
 
 use ssh_channels::Fact;

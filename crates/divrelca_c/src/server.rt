@@ -3,7 +3,7 @@
 ghost use Rattle.std.specs.Prelude.{◌≡◌, ◌≤◌, drop, false, length, nat_le, pos, true};
 ghost use Rattle.divrelca_c.specs.Events.{ShowsTurn};
 ghost use Rattle.ssh_end.specs.Steps.{shown_by};
-ghost use Rattle.ssh_model.specs.TransportLayer.Kept.{after_fed, can_be_fed};
+ghost use Rattle.ssh_model.specs.State.TransportLayer.Kept.{after_fed, can_be_fed};
 
 use crate::bytes::{DvBytes, DvMaterial, DvServerSettings};
 use crate::codes::{

@@ -1,13 +1,13 @@
 -- What the loop of a server promises.
 use Rattle.std.specs.Prelude.{◌≡◌, ◌++◌, ℕ, Bool, true, false, Option, Some, List}
-use Rattle.ssh_model.specs.Authentication.Requests.{Judge}
-use Rattle.ssh_model.specs.End.State.{EndState}
-use Rattle.ssh_model.specs.Lists.{IsIn}
-use Rattle.ssh_model.specs.Sessions.AnyPeer.{AcceptedRequest}
-use Rattle.ssh_model.specs.Sessions.Items.{Fact.Accepted, Item, Item.Told}
-use Rattle.ssh_model.specs.Sessions.Parties.{Parties}
-use Rattle.ssh_model.specs.Side.{Side.Server}
-use Rattle.ssh_model.specs.Wire.Sealing.{Crypto}
+use Rattle.ssh_model.specs.Protocol.Authentication.Requests.{Judge}
+use Rattle.ssh_model.specs.State.End.State.{EndState}
+use Rattle.ssh_model.specs.Protocol.Lists.{IsIn}
+use Rattle.ssh_model.specs.Protocol.Sessions.AnyPeer.{AcceptedRequest}
+use Rattle.ssh_model.specs.Protocol.Sessions.Items.{Fact.Accepted, Item, Item.Told}
+use Rattle.ssh_model.specs.Protocol.Sessions.Parties.{Parties}
+use Rattle.ssh_model.specs.Protocol.Side.{Side.Server}
+use Rattle.ssh_model.specs.Protocol.Wire.Sealing.{Crypto}
 use Rattle.ssh_layers.specs.Layers.{Layers}
 use Rattle.ssh_layers.specs.Sessions.{end_of}
 use Rattle.ssh_transport_machine.specs.State.{State}

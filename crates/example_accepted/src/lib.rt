@@ -10,8 +10,8 @@
 #![tactic(auto)]
 
 ghost use Rattle.std.specs.Prelude.{◌≡◌, ◌<◌, ◌≤◌, ◌||◌, IfOk, List, false, length};
-ghost use Rattle.ssh_model.specs.Sessions.Items.{Item};
-ghost use Rattle.ssh_model.specs.Sessions.Parties.{Parties};
+ghost use Rattle.ssh_model.specs.Protocol.Sessions.Items.{Item};
+ghost use Rattle.ssh_model.specs.Protocol.Sessions.Parties.{Parties};
 ghost use Rattle.example_accepted.specs.Serving.{Serves, is_told_in};
 
 use ssh_auth::UserJudge;

@@ -1,7 +1,7 @@
 -- The checks of an ask go by its size.
 use Rattle.std.proofs.Common.{◌≡◌, refl}
-use Rattle.ssh_model.specs.Authentication.Rows.{request_checks}
-use Rattle.ssh_model.specs.Authentication.Kept.{Client, client_checks, is_outstanding}
+use Rattle.ssh_model.specs.Protocol.Authentication.Rows.{request_checks}
+use Rattle.ssh_model.specs.State.Authentication.Kept.{Client, client_checks, is_outstanding}
 use Rattle.ssh_auth.specs.Asking.{ask_of, ask_size}
 use Rattle.ssh_auth.specs.declared.ask.UserAsk.{UserAsk}
 use Rattle.ssh_auth.specs.declared.ask.UserAsk.TheVariants.{None, Password, Probe, Sign}

@@ -2,11 +2,11 @@
 use Rattle.std.proofs.Common.{Bor, ◌≡◌, ◌≤◌, ℕ, Bool, true, List, take, length, refl, sym, subst, ◌∙◌, arith}
 use Rattle.std.proofs.lemmas.List.{take_all, length-take}
 use Rattle.std.specs.Prelude.{Some, None, codes}
-use Rattle.ssh_model.specs.Wire.Message.{Msg, Method.NoMethod, Method.Password, Method.Publickey, message_number}
-use Rattle.ssh_model.specs.Sessions.Refusals.{first_refusal}
-use Rattle.ssh_model.specs.Authentication.Requests.{signed_text}
-use Rattle.ssh_model.specs.Authentication.Kept as kept
-use Rattle.ssh_model.specs.Authentication.Kept.{Client, ClientSends, ClientTakes, client_checks, client_takes, request_by}
+use Rattle.ssh_model.specs.Protocol.Wire.Message.{Msg, Method.NoMethod, Method.Password, Method.Publickey, message_number}
+use Rattle.ssh_model.specs.Protocol.Sessions.Refusals.{first_refusal}
+use Rattle.ssh_model.specs.Protocol.Authentication.Requests.{signed_text}
+use Rattle.ssh_model.specs.State.Authentication.Kept as kept
+use Rattle.ssh_model.specs.State.Authentication.Kept.{Client, ClientSends, ClientTakes, client_checks, client_takes, request_by}
 use Rattle.ssh_types.specs.Values.{names}
 use Rattle.ssh_types.specs.declared.name_list.NameList.{NameList}
 use Rattle.ssh_message.specs.Meaning.{meaning}

@@ -1,17 +1,17 @@
 -- The rows of this crate as turns of a session.
 use Rattle.std.proofs.Common.{◌≡◌, ℕ, List, ◌∷◌, sym, subst}
 use Rattle.std.specs.Prelude.{None}
-use Rattle.ssh_model.specs.Side.{Side.Client, Side.Server}
-use Rattle.ssh_model.specs.Wire.Message.{Msg, Msg.Unimplemented, Msg.Unknown}
-use Rattle.ssh_model.specs.Sessions.Parties.{Parties, user_signature_by}
-use Rattle.ssh_model.specs.Sessions.Refusals.{first_refusal}
-use Rattle.ssh_model.specs.Sessions.Items.{Ask, Item, Item.Sent, Item.Took}
-use Rattle.ssh_model.specs.KeyExchange.Exchanges.{exchanges, session_id}
-use Rattle.ssh_model.specs.Authentication.Requests.{Judge, judge_of}
-use Rattle.ssh_model.specs.Authentication.Rows.{authentication_checks}
-use Rattle.ssh_model.specs.Authentication.Kept as kept
-use Rattle.ssh_model.specs.Authentication.Kept.{Answered, ClientSends, ClientTakes, ServerTakes, server_checks}
-use Rattle.ssh_model.specs.Authentication.Summary.{ClientAccepts, ClientAllows, ClientSumsUp, LeavesClient, LeavesServer, ServerAccepts, ServerSumsUp}
+use Rattle.ssh_model.specs.Protocol.Side.{Side.Client, Side.Server}
+use Rattle.ssh_model.specs.Protocol.Wire.Message.{Msg, Msg.Unimplemented, Msg.Unknown}
+use Rattle.ssh_model.specs.Protocol.Sessions.Parties.{Parties, user_signature_by}
+use Rattle.ssh_model.specs.Protocol.Sessions.Refusals.{first_refusal}
+use Rattle.ssh_model.specs.Protocol.Sessions.Items.{Ask, Item, Item.Sent, Item.Took}
+use Rattle.ssh_model.specs.Protocol.KeyExchange.Exchanges.{exchanges, session_id}
+use Rattle.ssh_model.specs.Protocol.Authentication.Requests.{Judge, judge_of}
+use Rattle.ssh_model.specs.Protocol.Authentication.Rows.{authentication_checks}
+use Rattle.ssh_model.specs.State.Authentication.Kept as kept
+use Rattle.ssh_model.specs.State.Authentication.Kept.{Answered, ClientSends, ClientTakes, ServerTakes, server_checks}
+use Rattle.ssh_model.specs.State.Authentication.Summary.{ClientAccepts, ClientAllows, ClientSumsUp, LeavesClient, LeavesServer, ServerAccepts, ServerSumsUp}
 use Rattle.ssh_auth.specs.Serving as serving
 use Rattle.ssh_auth.specs.Serving.{IsUnknown, ServerAnswers, answered}
 use Rattle.ssh_auth.specs.Asking.{ClientAnswers, ClientAsks, client_answered, short_signature}

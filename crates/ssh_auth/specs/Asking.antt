@@ -1,13 +1,13 @@
 -- What a client of authentication makes of a message and of an ask (RFC 4252).
 use Rattle.std.specs.Prelude.{◌≡◌, ℕ, Bool, true, Some, None, List, take, codes}
-use Rattle.ssh_model.specs.Wire.Message as model
-use Rattle.ssh_model.specs.Wire.Message.{Msg, Method.NoMethod, Method.Password, Method.Publickey, message_number}
-use Rattle.ssh_model.specs.Sessions.Refusals.{first_refusal}
-use Rattle.ssh_model.specs.Sessions.Items.{Ask, Ask.AskNone, Ask.AskPassword, Ask.AskProbe, Ask.AskSign, Fact.Authenticated, Fact.Failed, Fact.Banner, Fact.KeyOk}
-use Rattle.ssh_model.specs.Sessions.Sizes.{request_size}
-use Rattle.ssh_model.specs.Authentication.Rows.{password_size, probe_size, sign_size}
-use Rattle.ssh_model.specs.Authentication.Kept as kept
-use Rattle.ssh_model.specs.Authentication.Kept.{Answered, Client, ClientSends, ClientTakes, client_checks, client_takes, request_by, told}
+use Rattle.ssh_model.specs.Protocol.Wire.Message as model
+use Rattle.ssh_model.specs.Protocol.Wire.Message.{Msg, Method.NoMethod, Method.Password, Method.Publickey, message_number}
+use Rattle.ssh_model.specs.Protocol.Sessions.Refusals.{first_refusal}
+use Rattle.ssh_model.specs.Protocol.Sessions.Items.{Ask, Ask.AskNone, Ask.AskPassword, Ask.AskProbe, Ask.AskSign, Fact.Authenticated, Fact.Failed, Fact.Banner, Fact.KeyOk}
+use Rattle.ssh_model.specs.Protocol.Sessions.Sizes.{request_size}
+use Rattle.ssh_model.specs.Protocol.Authentication.Rows.{password_size, probe_size, sign_size}
+use Rattle.ssh_model.specs.State.Authentication.Kept as kept
+use Rattle.ssh_model.specs.State.Authentication.Kept.{Answered, Client, ClientSends, ClientTakes, client_checks, client_takes, request_by, told}
 use Rattle.ssh_types.specs.Values.{names}
 use Rattle.ssh_auth.specs.Refusals.{auth_ask_refusal}
 use Rattle.ssh_auth.specs.Serving.{IsUnknown}

@@ -1,5 +1,5 @@
 -- The refusals of this crate, as those of a session.
-use Rattle.ssh_model.specs.Sessions.Refusals as session
+use Rattle.ssh_model.specs.Protocol.Sessions.Refusals as session
 use Rattle.ssh_auth.specs.declared.refusal.AuthRefusal.{AuthRefusal}
 use Rattle.ssh_auth.specs.declared.refusal.AuthRefusal.TheVariants.{Unexpected, TooManyTries}
 use Rattle.ssh_auth.specs.declared.refusal.AuthAskRefusal.{AuthAskRefusal}

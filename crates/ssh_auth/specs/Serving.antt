@@ -1,12 +1,12 @@
 -- What a server of authentication keeps, and what it makes of a message (RFC 4252).
 use Rattle.std.specs.Prelude.{◌≡◌, ℕ, ◌≤◌, ◌+◌, Bool, true, false, not, Some, None, List, ◌∷◌, length, codes}
-use Rattle.ssh_model.specs.Wire.DataTypes.{IsNameText}
-use Rattle.ssh_model.specs.Wire.Message.{Msg, Msg.UserauthRequest, Msg.UserauthFailure, Msg.UserauthSuccess, Msg.UserauthPkOk, Msg.Unknown, Method, Method.Publickey, message_number}
-use Rattle.ssh_model.specs.Sessions.Refusals.{Check, Check.RefusedWhere, Refusal, Refusal.Unexpected, first_refusal}
-use Rattle.ssh_model.specs.Sessions.Items.{Fact.Accepted, Fact.Ignored}
-use Rattle.ssh_model.specs.Authentication.Requests.{Judge, accepts, approves, fails, is_configured, is_for_connection, is_known_key}
-use Rattle.ssh_model.specs.Authentication.Kept as kept
-use Rattle.ssh_model.specs.Authentication.Kept.{Answered, ServerTakes, replied, server_checks, server_takes, told}
+use Rattle.ssh_model.specs.Protocol.Wire.DataTypes.{IsNameText}
+use Rattle.ssh_model.specs.Protocol.Wire.Message.{Msg, Msg.UserauthRequest, Msg.UserauthFailure, Msg.UserauthSuccess, Msg.UserauthPkOk, Msg.Unknown, Method, Method.Publickey, message_number}
+use Rattle.ssh_model.specs.Protocol.Sessions.Refusals.{Check, Check.RefusedWhere, Refusal, Refusal.Unexpected, first_refusal}
+use Rattle.ssh_model.specs.Protocol.Sessions.Items.{Fact.Accepted, Fact.Ignored}
+use Rattle.ssh_model.specs.Protocol.Authentication.Requests.{Judge, accepts, approves, fails, is_configured, is_for_connection, is_known_key}
+use Rattle.ssh_model.specs.State.Authentication.Kept as kept
+use Rattle.ssh_model.specs.State.Authentication.Kept.{Answered, ServerTakes, replied, server_checks, server_takes, told}
 use Rattle.ssh_types.specs.Names.{names_of}
 use Rattle.ssh_auth.specs.Refusals.{auth_refusal}
 use Rattle.ssh_auth.specs.declared.answer.ServerAnswer.{ServerAnswer}

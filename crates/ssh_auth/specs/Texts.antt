@@ -1,7 +1,7 @@
 -- What a signature of a request covers.
 use Rattle.std.specs.Prelude.{ℕ, ◌<◌, ◌^◌, List, ◌∷◌, ◌++◌, length, codes}
-use Rattle.ssh_model.specs.KeyExchange.Exchange.{string_of}
-use Rattle.ssh_model.specs.Authentication.Requests.{signed_text}
+use Rattle.ssh_model.specs.Protocol.KeyExchange.Exchange.{string_of}
+use Rattle.ssh_model.specs.Protocol.Authentication.Requests.{signed_text}
 use Rattle.ssh_auth.specs.declared.signed_text.SignedText.{SignedText}
 
 abbrev pub text_of : SignedText → List ℕ

@@ -1,11 +1,11 @@
 //! The client of authentication.
 
 ghost use Rattle.std.specs.Prelude.{◌≡◌, ◌≤◌, ◌<◌, ◌+◌, ◌^◌, false, true, Bool, IfErr, IfOk, OnErr, OnOk, None, Some, length};
-ghost use Rattle.ssh_model.specs.Wire.Message.{message_number};
-ghost use Rattle.ssh_model.specs.Sessions.Refusals.{first_refusal};
-ghost use Rattle.ssh_model.specs.Sessions.Sizes as sizes;
-ghost use Rattle.ssh_model.specs.Authentication.Rows as sizes_of;
-ghost use Rattle.ssh_model.specs.Authentication.Kept.{client_checks, client_takes, is_key_probe, is_outstanding as model_outstanding, new_client, opened_client};
+ghost use Rattle.ssh_model.specs.Protocol.Wire.Message.{message_number};
+ghost use Rattle.ssh_model.specs.Protocol.Sessions.Refusals.{first_refusal};
+ghost use Rattle.ssh_model.specs.Protocol.Sessions.Sizes as sizes;
+ghost use Rattle.ssh_model.specs.Protocol.Authentication.Rows as sizes_of;
+ghost use Rattle.ssh_model.specs.State.Authentication.Kept.{client_checks, client_takes, is_key_probe, is_outstanding as model_outstanding, new_client, opened_client};
 ghost use Rattle.ssh_message.specs.Meaning.{meaning};
 ghost use Rattle.ssh_auth.specs.Refusals.{auth_ask_refusal};
 ghost use Rattle.ssh_auth.specs.Asking.{ClientAnswers, ClientAsks, ClientRefuses, ask_of, ask_size};
@@ -49,7 +49,7 @@ enum Outstanding {
 }
 
 impl Model for AuthClient {
-    ghost use Rattle.ssh_model.specs.Authentication.Kept.{Client};
+    ghost use Rattle.ssh_model.specs.State.Authentication.Kept.{Client};
     ghost use Rattle.ssh_auth.specs.Asking.{client_of};
 
     ghost Value = { Client };

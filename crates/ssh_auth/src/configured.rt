@@ -1,7 +1,7 @@
 // The names of service and methods (RFC 4252), and which methods a server names.
 
 ghost use Rattle.std.specs.Prelude.{◌≡◌};
-ghost use Rattle.ssh_model.specs.Authentication.Requests.{is_configured as model_configured};
+ghost use Rattle.ssh_model.specs.Protocol.Authentication.Requests.{is_configured as model_configured};
 ghost use Rattle.ssh_types.specs.Values.{names};
 
 use ssh_types::NameList;

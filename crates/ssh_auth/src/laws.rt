@@ -2,18 +2,18 @@
 //! after each call. Facts for proofs, at no cost.
 
 ghost use Rattle.std.specs.Prelude.{◌≡◌, ◌≤◌, ◌<◌, ℕ, List, [], ◌∷◌, None, Option};
-ghost use Rattle.ssh_model.specs.Side.{Side.Client, Side.Server};
-ghost use Rattle.ssh_model.specs.Wire.Message.{Msg, Msg.ServiceAccept};
-ghost use Rattle.ssh_model.specs.Sessions.Refusals.{first_refusal};
-ghost use Rattle.ssh_model.specs.Sessions.Parties.{Parties};
-ghost use Rattle.ssh_model.specs.Sessions.Items.{Ask, Item};
-ghost use Rattle.ssh_model.specs.Sessions.Phases.{Phase.Normal, phase, may_take, probing};
-ghost use Rattle.ssh_model.specs.KeyExchange.Exchanges.{exchanges, session_id};
-ghost use Rattle.ssh_model.specs.Authentication.Requests.{Judge};
-ghost use Rattle.ssh_model.specs.Authentication.Rows.{authentication_ask_checks, authentication_checks};
-ghost use Rattle.ssh_model.specs.Authentication.Kept as kept;
-ghost use Rattle.ssh_model.specs.Authentication.Kept.{client_checks, client_takes, is_key_probe, server_checks, server_takes};
-ghost use Rattle.ssh_model.specs.Authentication.Summary.{ClientAllows, ClientSumsUp};
+ghost use Rattle.ssh_model.specs.Protocol.Side.{Side.Client, Side.Server};
+ghost use Rattle.ssh_model.specs.Protocol.Wire.Message.{Msg, Msg.ServiceAccept};
+ghost use Rattle.ssh_model.specs.Protocol.Sessions.Refusals.{first_refusal};
+ghost use Rattle.ssh_model.specs.Protocol.Sessions.Parties.{Parties};
+ghost use Rattle.ssh_model.specs.Protocol.Sessions.Items.{Ask, Item};
+ghost use Rattle.ssh_model.specs.Protocol.Sessions.Phases.{Phase.Normal, phase, may_take, probing};
+ghost use Rattle.ssh_model.specs.Protocol.KeyExchange.Exchanges.{exchanges, session_id};
+ghost use Rattle.ssh_model.specs.Protocol.Authentication.Requests.{Judge};
+ghost use Rattle.ssh_model.specs.Protocol.Authentication.Rows.{authentication_ask_checks, authentication_checks};
+ghost use Rattle.ssh_model.specs.State.Authentication.Kept as kept;
+ghost use Rattle.ssh_model.specs.State.Authentication.Kept.{client_checks, client_takes, is_key_probe, server_checks, server_takes};
+ghost use Rattle.ssh_model.specs.State.Authentication.Summary.{ClientAllows, ClientSumsUp};
 ghost use Rattle.ssh_auth.specs.Serving as serving;
 ghost use Rattle.ssh_auth.specs.Serving.{ServerAnswers};
 ghost use Rattle.ssh_auth.specs.Asking.{ClientAnswers, ClientAsks};

@@ -1,7 +1,7 @@
 //! The supplied parts of authentication.
 
 ghost use Rattle.std.specs.Prelude.{◌≡◌, ◌≤◌, ℕ, List, take};
-ghost use Rattle.ssh_model.specs.Authentication.Requests.{Judge};
+ghost use Rattle.ssh_model.specs.Protocol.Authentication.Requests.{Judge};
 
 /// Whom a server authenticates. Each answer is a function of the part and the arguments, and true is acceptance. A method
 /// that the server does not name is never put to it, nor is a request for another service, a key over 16,384 bytes or

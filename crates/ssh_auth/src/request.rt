@@ -1,10 +1,10 @@
 //! The requests of a client.
 
 ghost use Rattle.std.specs.Prelude.{◌≡◌, ◌≤◌, ◌+◌, IfOk, None, Some, codes, length};
-ghost use Rattle.ssh_model.specs.Wire.Message.{Method.NoMethod, Method.Password, Method.Publickey};
-ghost use Rattle.ssh_model.specs.Wire.Sizes.{payload_size};
-ghost use Rattle.ssh_model.specs.Authentication.Requests.{signed_text};
-ghost use Rattle.ssh_model.specs.Authentication.Kept.{request_by};
+ghost use Rattle.ssh_model.specs.Protocol.Wire.Message.{Method.NoMethod, Method.Password, Method.Publickey};
+ghost use Rattle.ssh_model.specs.Laws.Sizes.{payload_size};
+ghost use Rattle.ssh_model.specs.Protocol.Authentication.Requests.{signed_text};
+ghost use Rattle.ssh_model.specs.State.Authentication.Kept.{request_by};
 ghost use Rattle.ssh_message.specs.Meaning.{meaning, method_meaning};
 ghost use Rattle.ssh_message.specs.Written.{Fits, IsShort, MethodFits};
 ghost use Rattle.ssh_auth.specs.Asking.{short_signature};
@@ -27,9 +27,9 @@ pub struct UserRequest<'a> {
 
 impl<'a> Model for UserRequest<'a> {
     ghost use Rattle.std.specs.Prelude.{◌≤◌};
-    ghost use Rattle.ssh_model.specs.Wire.Message.{Msg};
-    ghost use Rattle.ssh_model.specs.Wire.Sizes.{payload_size};
-    ghost use Rattle.ssh_model.specs.Authentication.Kept.{request_by};
+    ghost use Rattle.ssh_model.specs.Protocol.Wire.Message.{Msg};
+    ghost use Rattle.ssh_model.specs.Laws.Sizes.{payload_size};
+    ghost use Rattle.ssh_model.specs.State.Authentication.Kept.{request_by};
     ghost use Rattle.ssh_auth.specs.Asking.{method_in};
 
     ghost Value = { Msg };

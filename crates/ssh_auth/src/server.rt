@@ -2,13 +2,13 @@
 
 ghost use Rattle.std.specs.Prelude.{◌≡◌, ◌<◌, ◌≤◌, false, true, IfErr, IfOk, IfSome, OnErr, OnOk, length};
 ghost use Rattle.std.specs.Option.{option_map};
-ghost use Rattle.ssh_model.specs.Wire.Message as model;
-ghost use Rattle.ssh_model.specs.Authentication.Kept.{new_server, opened_server, server_takes};
+ghost use Rattle.ssh_model.specs.Protocol.Wire.Message as model;
+ghost use Rattle.ssh_model.specs.State.Authentication.Kept.{new_server, opened_server, server_takes};
 ghost use Rattle.ssh_types.specs.Values.{names, names_text};
 ghost use Rattle.ssh_message.specs.Meaning.{meaning, method_meaning};
 ghost use Rattle.ssh_message.specs.Written.{Fits, IsShort};
-ghost use Rattle.ssh_model.specs.Wire.DataTypes.{IsNameText};
-ghost use Rattle.ssh_model.specs.Wire.Sizes.{payload_size};
+ghost use Rattle.ssh_model.specs.Protocol.Wire.DataTypes.{IsNameText};
+ghost use Rattle.ssh_model.specs.Laws.Sizes.{payload_size};
 ghost use Rattle.ssh_auth.specs.Serving.{IsShortAnswer, ServerAnswers, ServerRefuses, answered, settled};
 ghost use Rattle.ssh_auth.specs.declared.answer.ServerAnswer.TheVariants as answers;
 ghost use Rattle.ssh_auth.specs.declared.refusal.AuthRefusal.TheVariants as refusals;

@@ -1,9 +1,9 @@
 //! What a signature of a request covers.
 
 ghost use Rattle.std.specs.Prelude.{◌≡◌, ◌<◌, ◌≤◌, ◌+◌, ◌^◌, ◌++◌, ◌∷◌, [], IfOk, OnOk, OnErr, codes, length, vec_capacity};
-ghost use Rattle.ssh_model.specs.Wire.Reading.{Extends};
-ghost use Rattle.ssh_model.specs.KeyExchange.Exchange.{string_of};
-ghost use Rattle.ssh_model.specs.Authentication.Requests.{signed_text};
+ghost use Rattle.ssh_model.specs.Laws.Reading.{Extends};
+ghost use Rattle.ssh_model.specs.Protocol.KeyExchange.Exchange.{string_of};
+ghost use Rattle.ssh_model.specs.Protocol.Authentication.Requests.{signed_text};
 ghost use Rattle.ssh_auth.specs.Texts.{IsShortText, back_of, front_of, text_of};
 
 use crate::configured::{CONNECTION, PUBLICKEY};
@@ -132,7 +132,7 @@ fn put_byte(out: &mut Vec<u8>, byte: u8) -> Result<(), AllocError>
 }
 
 // A string: its length as a uint32, and its bytes (RFC 4251 section 5).
-#[tactic(auto, unfolding(ssh_model::specs::KeyExchange::Exchange::string_of))]
+#[tactic(auto, unfolding(ssh_model::specs::Protocol::KeyExchange::Exchange::string_of))]
 fn put_text(out: &mut Vec<u8>, text: &[u8]) -> Result<(), AllocError>
     requires { length text.now < 2 ^ 32 }
     ensures written { OnOk result (out.new.items ≡ out.old.items ++ string_of text.now) }

@@ -3,7 +3,7 @@ use Rattle.std.proofs.Common.{◌≡◌, ◌≢◌, ℕ, zero, suc, ◌<◌, Lis
 use Rattle.std.proofs.lemmas.List.Recursion.{is_count_by}
 use lib.ListN.{get_or-map, length-map, length-replicate}
 use Rattle.slab.specs.Slab.{Slab, get, slab_len, Updates, with_value}
-use Rattle.ssh_model.specs.Channels.Places.{at}
+use Rattle.ssh_model.specs.State.Channels.Places.{at}
 use Rattle.ssh_channels.specs.Table.{found, places, IsTable}
 
 pub nothing_there : {A : Type 0} (l : List (Option A)) (x : ℕ) → slice_get l x ≡ None → at l x ≡ None

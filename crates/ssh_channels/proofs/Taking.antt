@@ -1,9 +1,9 @@
 -- The rows of the messages that are taken, from what they answer and what they change.
 use Rattle.std.proofs.Common.{◌≡◌, ℕ, ◌+◌, ◌-◌, Bool, true, false, not, ◌&&◌, Option, Some, None, length, List, [], refl}
-use Rattle.ssh_model.specs.Wire.Message.{Msg.GlobalRequest, Msg.ChannelOpen, Msg.ChannelOpenConfirmation, Msg.ChannelOpenFailure, Msg.ChannelWindowAdjust, Msg.ChannelEof, Msg.ChannelClose, Msg.ChannelRequest}
-use Rattle.ssh_model.specs.Sessions.Items.{Fact.Global, Fact.GlobalDone, Fact.Opened, Fact.Confirmed, Fact.OpenFailed, Fact.GotData, Fact.Adjusted, Fact.Ended, Fact.Closed, Fact.Requested, Fact.RequestDone}
-use Rattle.ssh_model.specs.Channels.Places.{at}
-use Rattle.ssh_model.specs.Channels.Kept.{Channels, DueReply.RefusesOpen, IsUnused, Taken, Takes, Takes.global_request, Takes.request_success, Takes.request_failure, Takes.open_taken, Takes.open_refused, Takes.confirmation, Takes.failure, Takes.adjust, Takes.got_data, Takes.got_extended, Takes.eof, Takes.close, Takes.request, Takes.success, Takes.no_success, change, put, tells, count_where, has_said_close, is_table_full, owed_where, peer_of, sent_at_once, close_reply, close_taken, waiting_place}
+use Rattle.ssh_model.specs.Protocol.Wire.Message.{Msg.GlobalRequest, Msg.ChannelOpen, Msg.ChannelOpenConfirmation, Msg.ChannelOpenFailure, Msg.ChannelWindowAdjust, Msg.ChannelEof, Msg.ChannelClose, Msg.ChannelRequest}
+use Rattle.ssh_model.specs.Protocol.Sessions.Items.{Fact.Global, Fact.GlobalDone, Fact.Opened, Fact.Confirmed, Fact.OpenFailed, Fact.GotData, Fact.Adjusted, Fact.Ended, Fact.Closed, Fact.Requested, Fact.RequestDone}
+use Rattle.ssh_model.specs.State.Channels.Places.{at}
+use Rattle.ssh_model.specs.State.Channels.Kept.{Channels, DueReply.RefusesOpen, IsUnused, Taken, Takes, Takes.global_request, Takes.request_success, Takes.request_failure, Takes.open_taken, Takes.open_refused, Takes.confirmation, Takes.failure, Takes.adjust, Takes.got_data, Takes.got_extended, Takes.eof, Takes.close, Takes.request, Takes.success, Takes.no_success, change, put, tells, count_where, has_said_close, is_table_full, owed_where, peer_of, sent_at_once, close_reply, close_taken, waiting_place}
 use Rattle.ssh_channels.specs.Rows.{data_message, reply_message, global_reply_message}
 
 module _ (is_blocked : Bool) (channels : Channels) where

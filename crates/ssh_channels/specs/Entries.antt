@@ -1,5 +1,5 @@
 -- An entry of the table in the words of the model.
-use Rattle.ssh_model.specs.Channels.Places.{Place}
+use Rattle.ssh_model.specs.State.Channels.Places.{Place}
 use Rattle.ssh_channels.specs.declared.entry.Entry.{Entry}
 
 abbrev pub place_of : Entry → Place

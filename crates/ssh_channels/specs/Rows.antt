@@ -1,13 +1,13 @@
 -- What a message is refused for, and the words in which the rows of single messages and asks are said.
 use Rattle.std.specs.Prelude.{◌≡◌, ℕ, Bool, true, false, not, ◌&&◌, Option, Some, None, List, ◌∷◌}
-use Rattle.ssh_model.specs.Wire.Message.{Msg, Msg.GlobalRequest, Msg.RequestSuccess, Msg.RequestFailure, Msg.ChannelOpen, Msg.ChannelOpenConfirmation, Msg.ChannelOpenFailure, Msg.ChannelWindowAdjust, Msg.ChannelData, Msg.ChannelExtendedData, Msg.ChannelEof, Msg.ChannelClose, Msg.ChannelRequest, Msg.ChannelSuccess, Msg.ChannelFailure}
+use Rattle.ssh_model.specs.Protocol.Wire.Message.{Msg, Msg.GlobalRequest, Msg.RequestSuccess, Msg.RequestFailure, Msg.ChannelOpen, Msg.ChannelOpenConfirmation, Msg.ChannelOpenFailure, Msg.ChannelWindowAdjust, Msg.ChannelData, Msg.ChannelExtendedData, Msg.ChannelEof, Msg.ChannelClose, Msg.ChannelRequest, Msg.ChannelSuccess, Msg.ChannelFailure}
 use Rattle.ssh_types.specs.Refusals.{refusal_of}
 use Rattle.ssh_types.specs.AskRefusals.{ask_refusal_of}
-use Rattle.ssh_model.specs.Sessions.Refusals.{Check, Check.RefusedWhere, Refusal, Refusal.Unexpected, first_refusal}
-use Rattle.ssh_model.specs.Sessions.Items.{Ask, Ask.AskOpen, Ask.AskRequest, Ask.AskGlobal}
-use Rattle.ssh_model.specs.Channels.Places.{at, is_at}
-use Rattle.ssh_model.specs.Channels.Connection.{is_limit_reached}
-use Rattle.ssh_model.specs.Channels.Kept.{Channels, is_table_full, send_checks, take_checks}
+use Rattle.ssh_model.specs.Protocol.Sessions.Refusals.{Check, Check.RefusedWhere, Refusal, Refusal.Unexpected, first_refusal}
+use Rattle.ssh_model.specs.Protocol.Sessions.Items.{Ask, Ask.AskOpen, Ask.AskRequest, Ask.AskGlobal}
+use Rattle.ssh_model.specs.State.Channels.Places.{at, is_at}
+use Rattle.ssh_model.specs.Protocol.Channels.Connection.{is_limit_reached}
+use Rattle.ssh_model.specs.State.Channels.Kept.{Channels, is_table_full, send_checks, take_checks}
 use Rattle.ssh_channels.specs.declared.error.AskError.{AskError}
 use Rattle.ssh_channels.specs.declared.error.AskError.TheVariants as ask_error
 use Rattle.ssh_channels.specs.declared.error.TakeError.{TakeError}

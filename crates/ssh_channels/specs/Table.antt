@@ -1,7 +1,7 @@
 -- A table of 1,024 numbers over a slab, as one list.
 use Rattle.std.specs.Prelude.{◌≡◌, ℕ, List, length, map, Option, None, Some, IsSome, option_map, count_by, is_some}
 use Rattle.slab.specs.Slab.{Slab, get, slab_len}
-use Rattle.ssh_model.specs.Channels.Places.{at}
+use Rattle.ssh_model.specs.State.Channels.Places.{at}
 
 -- what is kept under the key of a number
 abbrev pub found : {A B : Type 0} → (A → B) → Slab A → Option ℕ → Option B

@@ -1,9 +1,9 @@
 -- The values of this crate in the words of the model: texts without where they lie.
 use Rattle.std.specs.Prelude.{option_map}
 use Rattle.ssh_message.specs.Meaning.{meaning}
-use Rattle.ssh_model.specs.Channels.Places as places
-use Rattle.ssh_model.specs.Channels.Kept as kept
-use Rattle.ssh_model.specs.Sessions.Items as session
+use Rattle.ssh_model.specs.State.Channels.Places as places
+use Rattle.ssh_model.specs.State.Channels.Kept as kept
+use Rattle.ssh_model.specs.Protocol.Sessions.Items as session
 use Rattle.ssh_channels.specs.declared.ask.Ask.{Ask}
 use Rattle.ssh_channels.specs.declared.ask.Ask.TheVariants as ask
 use Rattle.ssh_channels.specs.declared.fact.Fact.{Fact}

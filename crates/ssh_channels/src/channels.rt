@@ -1,9 +1,9 @@
 //! The channels of one end.
 
 ghost use Rattle.std.specs.Prelude.{◌≡◌, ◌<◌, ◌&&◌, Some, None, IfOk, IfSome, IfNone, true, false, length};
-ghost use Rattle.ssh_model.specs.Channels.Connection.{is_limit_reached};
-ghost use Rattle.ssh_model.specs.Channels.Places.{at, is_at, is_open};
-ghost use Rattle.ssh_model.specs.Channels.Kept.{no_channels, count_where, is_queue_full, is_table_full, owe};
+ghost use Rattle.ssh_model.specs.Protocol.Channels.Connection.{is_limit_reached};
+ghost use Rattle.ssh_model.specs.State.Channels.Places.{at, is_at, is_open};
+ghost use Rattle.ssh_model.specs.State.Channels.Kept.{no_channels, count_where, is_queue_full, is_table_full, owe};
 ghost use Rattle.ssh_channels.specs.Entries.{place_of};
 ghost use Rattle.ssh_channels.specs.Values.{reply_of};
 
@@ -42,7 +42,7 @@ pub struct Channels {
 impl Model for Channels {
     ghost use Rattle.std.specs.Prelude.{◌≤◌, map};
     ghost use Rattle.std.specs.VecDeque.{deque_capacity};
-    ghost use Rattle.ssh_model.specs.Channels.Kept as kept;
+    ghost use Rattle.ssh_model.specs.State.Channels.Kept as kept;
     ghost use Rattle.ssh_channels.specs.Values.{reply_of};
 
     ghost Value = { kept.Channels };
@@ -97,7 +97,7 @@ impl Channels {
         blocked && self.owed.len() >= LIMIT
     }
 
-    // A reply is owed behind the others.
+    // A reply is owed after the others.
     fn owe(&mut self, reply: Reply)
         requires { length self.old.owed < 256 }
         ensures { self.new ≡ owe (reply_of reply) self.old }

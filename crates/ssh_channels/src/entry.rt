@@ -25,8 +25,8 @@ pub(crate) struct Entry {
 
 impl Entry {
     ghost use Rattle.std.specs.Prelude.{◌≡◌};
-    ghost use Rattle.ssh_model.specs.Channels.Places.{is_open};
-    ghost use Rattle.ssh_model.specs.Channels.Kept.{is_ended, opening_place, waiting_place};
+    ghost use Rattle.ssh_model.specs.State.Channels.Places.{is_open};
+    ghost use Rattle.ssh_model.specs.State.Channels.Kept.{is_ended, opening_place, waiting_place};
     ghost use Rattle.ssh_channels.specs.Entries.{place_of};
 
     /// The peer's OPEN waits for this end's answer.

@@ -1,8 +1,8 @@
 ghost use Rattle.std.specs.Prelude.{◌≡◌, ◌≤◌};
 ghost use Rattle.ssh_message.specs.Meaning.{meaning};
 ghost use Rattle.ssh_message.specs.Written.{Fits};
-ghost use Rattle.ssh_model.specs.Wire.Sizes.{payload_size};
-ghost use Rattle.ssh_model.specs.Channels.Summary.{reply_channel, reply_sent};
+ghost use Rattle.ssh_model.specs.Laws.Sizes.{payload_size};
+ghost use Rattle.ssh_model.specs.State.Channels.Summary.{reply_channel, reply_sent};
 ghost use Rattle.ssh_channels.specs.Values.{reply_of};
 
 use ssh_message::Message;

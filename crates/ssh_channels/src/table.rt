@@ -1,6 +1,6 @@
 ghost use Rattle.std.specs.Prelude.{◌≡◌, ◌<◌, None, Some, IfOk, IfSome, IfNone, ℕ, OnErr, IsSome, Contains, length, replicate, slice_set, count_by, is_some, option_map};
-ghost use Rattle.ssh_model.specs.Channels.Places.{at};
-ghost use Rattle.ssh_model.specs.Channels.Kept.{used, IsUnused};
+ghost use Rattle.ssh_model.specs.State.Channels.Places.{at};
+ghost use Rattle.ssh_model.specs.State.Channels.Kept.{used, IsUnused};
 ghost use Rattle.ssh_channels.specs.Entries.{place_of};
 
 use crate::entry::Entry;
@@ -20,7 +20,7 @@ pub(crate) struct Table {
 
 impl Model for Table {
     ghost use Rattle.std.specs.Prelude.{List, Option};
-    ghost use Rattle.ssh_model.specs.Channels.Places.{Place};
+    ghost use Rattle.ssh_model.specs.State.Channels.Places.{Place};
     ghost use Rattle.ssh_channels.specs.Entries.{place_of};
     ghost use Rattle.ssh_channels.specs.Table.{places, IsTable};
 

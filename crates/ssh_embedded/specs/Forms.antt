@@ -1,6 +1,6 @@
 -- Which ask a flat form is.
 use Rattle.std.specs.Prelude.{◌≡◌, ◌&&◌, ℕ, List, Option, Some, None, codes, if◌then◌else◌, nat_eq, nat_le}
-use Rattle.ssh_model.specs.Sessions.Items as session
+use Rattle.ssh_model.specs.Protocol.Sessions.Items as session
 use Rattle.ssh_embedded.specs.declared.ask_form.AskForm.{AskForm}
 use Rattle.ssh_embedded.specs.declared.waiting.KeptForm.{KeptForm}
 

@@ -1,6 +1,6 @@
 -- The asks that wait until an end can do them.
 use Rattle.std.specs.Prelude.{ℕ, Bool, true, false, List, Option, Some, None, Result, Ok, Err}
-use Rattle.ssh_model.specs.Sessions.Items as session
+use Rattle.ssh_model.specs.Protocol.Sessions.Items as session
 use Rattle.ssh_types.specs.declared.ask_refusal.AskRefusal.TheVariants as refusal
 use Rattle.ssh_end.specs.Asking.{ask_of}
 use Rattle.ssh_end.specs.declared.asking.outcome.AskStep.{AskStep}

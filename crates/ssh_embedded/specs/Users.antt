@@ -1,7 +1,7 @@
 -- Whom a server lets in.
 use Rattle.std.specs.Prelude.{ℕ, Bool, false, List, [], ◌∷◌, Some}
 use Rattle.std.specs.List.{list_any}
-use Rattle.ssh_model.specs.Authentication.Requests.{Judge}
+use Rattle.ssh_model.specs.Protocol.Authentication.Requests.{Judge}
 use Rattle.ssh_parts.specs.Ed25519.{judge_of}
 use Rattle.ssh_pipe_policy.specs.Users.{is_password}
 use Rattle.ssh_embedded.specs.declared.users.Login.{Login}

@@ -13,10 +13,10 @@ ghost use Rattle.ssh_end.specs.Stands.{FailedTo, FeedsTo, PerformedTo, StandsAt}
 ghost use Rattle.ssh_end.specs.Steps.{Shows, shown_by};
 ghost use Rattle.ssh_end.specs.Turn.{TurnShows, channels_in, payloads_in};
 ghost use Rattle.ssh_end.specs.declared.step.Step.{Step};
-ghost use Rattle.ssh_model.specs.Channels.Places.{at, shown_room};
-ghost use Rattle.ssh_model.specs.Sessions.Items.{Item};
-ghost use Rattle.ssh_model.specs.Sessions.Parties.{Parties};
-ghost use Rattle.ssh_model.specs.TransportLayer.Kept.{after_fed, can_be_fed};
+ghost use Rattle.ssh_model.specs.State.Channels.Places.{at, shown_room};
+ghost use Rattle.ssh_model.specs.Protocol.Sessions.Items.{Item};
+ghost use Rattle.ssh_model.specs.Protocol.Sessions.Parties.{Parties};
+ghost use Rattle.ssh_model.specs.State.TransportLayer.Kept.{after_fed, can_be_fed};
 
 use crate::ask_form::{AskForm, FormFault};
 use crate::flows::Flows;

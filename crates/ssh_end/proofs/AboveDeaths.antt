@@ -1,19 +1,19 @@
 -- Where memory is refused above its transport an end dies as in a session.
 use Rattle.std.proofs.Common.{◌≡◌, ℕ, ◌+◌, ◌<◌, ◌≤◌, ◌^◌, Bool, true, false, List, [], ◌∷◌, ◌++◌, ◌&&◌, length, arith, refl, ap, sym, ◌∙◌, subst, Option, None, Some}
 use Rattle.std.proofs.lemmas.Bool.{leb-false}
-use Rattle.ssh_model.specs.Side.{Side}
-use Rattle.ssh_model.specs.Wire.Message.{Msg, Msg.ChannelOpen}
-use Rattle.ssh_model.specs.Channels.Kept as channels
-use Rattle.ssh_model.specs.Channels.Kept.{Channels, IsUnused, is_queue_full, is_table_full, used}
-use Rattle.ssh_model.specs.Channels.Summary.{told}
-use Rattle.ssh_model.specs.End.Deaths.{WouldTake}
-use Rattle.ssh_model.specs.End.Payloads as payloads
-use Rattle.ssh_model.specs.End.Payloads.{AnswersAbove, ReadsAbove, RefusesAbove}
-use Rattle.ssh_model.specs.End.State.{Authentication, Authentication.OfClient, Authentication.OfServer, EndState, above_checks, authentication_refuses, session_of}
-use Rattle.ssh_model.specs.Sessions.Items.{Fact, Fact.Opened, Item, Item.Sent, Item.Told, Item.Took, Spelled, Spelled.SpelledBy, messages_sent}
-use Rattle.ssh_model.specs.Sessions.Parties.{Parties}
-use Rattle.ssh_model.specs.Sessions.Refusals.{Check.RefusedWhere, Refusal.OwedFull, first_refusal}
-use Rattle.ssh_model.specs.Sessions.Turns.{AreSpelled, IsSpelled, take_memory}
+use Rattle.ssh_model.specs.Protocol.Side.{Side}
+use Rattle.ssh_model.specs.Protocol.Wire.Message.{Msg, Msg.ChannelOpen}
+use Rattle.ssh_model.specs.State.Channels.Kept as channels
+use Rattle.ssh_model.specs.State.Channels.Kept.{Channels, IsUnused, is_queue_full, is_table_full, used}
+use Rattle.ssh_model.specs.State.Channels.Summary.{told}
+use Rattle.ssh_model.specs.State.End.Deaths.{WouldTake}
+use Rattle.ssh_model.specs.State.End.Payloads as payloads
+use Rattle.ssh_model.specs.State.End.Payloads.{AnswersAbove, ReadsAbove, RefusesAbove}
+use Rattle.ssh_model.specs.State.End.State.{Authentication, Authentication.OfClient, Authentication.OfServer, EndState, above_checks, authentication_refuses, session_of}
+use Rattle.ssh_model.specs.Protocol.Sessions.Items.{Fact, Fact.Opened, Item, Item.Sent, Item.Told, Item.Took, Spelled, Spelled.SpelledBy, messages_sent}
+use Rattle.ssh_model.specs.Protocol.Sessions.Parties.{Parties}
+use Rattle.ssh_model.specs.Protocol.Sessions.Refusals.{Check.RefusedWhere, Refusal.OwedFull, first_refusal}
+use Rattle.ssh_model.specs.Protocol.Sessions.Turns.{AreSpelled, IsSpelled, take_memory}
 use Rattle.ssh_model.specs.Laws.Farewells.{farewell_of}
 use Rattle.ssh_model.specs.Laws.Places.{some_unused}
 use Rattle.ssh_channels.specs.Rows.{OpensChannel}

@@ -2,24 +2,24 @@
 use Rattle.std.proofs.Common.{◌≡◌, ℕ, ◌≤◌, ◌^◌, Bool, List, [], ◌∷◌, ◌++◌, refl, ap, sym, ◌∙◌, subst, nat_le, true, false, Option, Some, None, Result, Ok, Err}
 use Rattle.std.specs.Prelude.{IfOk, IfErr, OnOk, OnErr}
 use Rattle.std.specs.Option.{option_map}
-use Rattle.ssh_model.specs.Side.{Side, Side.Client, Side.Server}
-use Rattle.ssh_model.specs.Wire.Sealing.{Crypto}
-use Rattle.ssh_model.specs.Wire.Sizes.{payload_size}
-use Rattle.ssh_model.specs.Sessions.Items as session
-use Rattle.ssh_model.specs.Sessions.Items.{Fact, Fact.Opening, Item, Item.Asked, Item.Died, Item.Refused, Item.Sent, Spelled, messages_sent}
-use Rattle.ssh_model.specs.Sessions.Parties.{Parties, Settings, settings_of}
-use Rattle.ssh_model.specs.Sessions.Refusals as model
-use Rattle.ssh_model.specs.Sessions.Refusals.{Check, first_refusal}
-use Rattle.ssh_model.specs.Sessions.TurnClaims.{HasSpelling}
-use Rattle.ssh_model.specs.Sessions.Turns.{AreSpelled}
-use Rattle.ssh_model.specs.Channels.Connection.{after_authentication}
-use Rattle.ssh_model.specs.Channels.Kept as channels
-use Rattle.ssh_model.specs.Channels.Kept.{Channels, Sends, send_checks}
-use Rattle.ssh_model.specs.Channels.Summary.{told}
-use Rattle.ssh_model.specs.TransportLayer.Kept.{Transport, after_sent}
-use Rattle.ssh_model.specs.TransportLayer.Turns.{PutsPackets}
-use Rattle.ssh_model.specs.End.Asks.{AsksAbove, TakesAsk, end_ask_checks}
-use Rattle.ssh_model.specs.End.State.{Authentication, Authentication.OfClient, Authentication.OfServer, EndState, after_items}
+use Rattle.ssh_model.specs.Protocol.Side.{Side, Side.Client, Side.Server}
+use Rattle.ssh_model.specs.Protocol.Wire.Sealing.{Crypto}
+use Rattle.ssh_model.specs.Laws.Sizes.{payload_size}
+use Rattle.ssh_model.specs.Protocol.Sessions.Items as session
+use Rattle.ssh_model.specs.Protocol.Sessions.Items.{Fact, Fact.Opening, Item, Item.Asked, Item.Died, Item.Refused, Item.Sent, Spelled, messages_sent}
+use Rattle.ssh_model.specs.Protocol.Sessions.Parties.{Parties, Settings, settings_of}
+use Rattle.ssh_model.specs.Protocol.Sessions.Refusals as model
+use Rattle.ssh_model.specs.Protocol.Sessions.Refusals.{Check, first_refusal}
+use Rattle.ssh_model.specs.Protocol.Sessions.TurnClaims.{HasSpelling}
+use Rattle.ssh_model.specs.Protocol.Sessions.Turns.{AreSpelled}
+use Rattle.ssh_model.specs.Protocol.Channels.Connection.{after_authentication}
+use Rattle.ssh_model.specs.State.Channels.Kept as channels
+use Rattle.ssh_model.specs.State.Channels.Kept.{Channels, Sends, send_checks}
+use Rattle.ssh_model.specs.State.Channels.Summary.{told}
+use Rattle.ssh_model.specs.State.TransportLayer.Kept.{Transport, after_sent}
+use Rattle.ssh_model.specs.State.TransportLayer.Turns.{PutsPackets}
+use Rattle.ssh_model.specs.State.End.Asks.{AsksAbove, TakesAsk, end_ask_checks}
+use Rattle.ssh_model.specs.State.End.State.{Authentication, Authentication.OfClient, Authentication.OfServer, EndState, after_items}
 use Rattle.ssh_types.specs.AskRefusals.{ask_refusal_of}
 use Rattle.ssh_types.specs.declared.ask_refusal.AskRefusal.{AskRefusal}
 use Rattle.ssh_channels.specs.Rows.{AsksForChannel}

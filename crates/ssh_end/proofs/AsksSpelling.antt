@@ -3,15 +3,15 @@ use Rattle.std.proofs.Common.{◌≡◌, ℕ, zero, suc, ◌+◌, ◌<◌, ◌�
 use Rattle.std.proofs.lemmas.Bool.{leb-false, ltb-false}
 use Rattle.std.proofs.lemmas.List.Sums.{length-filter}
 use Rattle.std.specs.Option.{option_map}
-use Rattle.ssh_model.specs.Wire.Message.{Msg.ChannelData, Msg.ChannelExtendedData, FitsContext}
-use Rattle.ssh_model.specs.Wire.Sizes.{payload_size}
-use Rattle.ssh_model.specs.Sessions.Items as session
-use Rattle.ssh_model.specs.Sessions.Items.{Fact.Opening}
-use Rattle.ssh_model.specs.Sessions.TurnClaims.{HasSpelling}
-use Rattle.ssh_model.specs.Sessions.Sizes.{string_size}
-use Rattle.ssh_model.specs.Channels.Places.{Place, at}
-use Rattle.ssh_model.specs.Channels.Kept as channels
-use Rattle.ssh_model.specs.Channels.Kept.{Channels, Sends, send_checks, used}
+use Rattle.ssh_model.specs.Protocol.Wire.Message.{Msg.ChannelData, Msg.ChannelExtendedData, FitsContext}
+use Rattle.ssh_model.specs.Laws.Sizes.{payload_size}
+use Rattle.ssh_model.specs.Protocol.Sessions.Items as session
+use Rattle.ssh_model.specs.Protocol.Sessions.Items.{Fact.Opening}
+use Rattle.ssh_model.specs.Protocol.Sessions.TurnClaims.{HasSpelling}
+use Rattle.ssh_model.specs.Protocol.Sessions.Sizes.{string_size}
+use Rattle.ssh_model.specs.State.Channels.Places.{Place, at}
+use Rattle.ssh_model.specs.State.Channels.Kept as channels
+use Rattle.ssh_model.specs.State.Channels.Kept.{Channels, Sends, send_checks, used}
 use Rattle.ssh_model.specs.Laws.Checks.{all_passed}
 use Rattle.ssh_model.specs.Laws.Written.{adjust_spelled, byte, channel_failure_spelled, channel_success_spelled, close_spelled, confirmation_spelled, ended, eof_spelled, global_request_spelled, open_failure_spelled, open_spelled, request_failure_spelled, request_spelled, request_success_spelled, spelled, string, uint32}
 use Rattle.ssh_channels.specs.Rows.{AsksForChannel}

@@ -1,18 +1,18 @@
 -- What comes of an ask for the transport is a row of the end.
 use Rattle.std.proofs.Common.{◌≡◌, ℕ, List, [], ◌∷◌, ◌++◌, refl, ap, sym, ◌∙◌, subst, append-nil, true, false, Some, None, Ok, Err}
-use Rattle.ssh_model.specs.Side.{Side}
-use Rattle.ssh_model.specs.Wire.Message.{Msg.Disconnect}
-use Rattle.ssh_model.specs.Wire.Sealing.{Crypto}
-use Rattle.ssh_model.specs.Sessions.Items as session
-use Rattle.ssh_model.specs.Sessions.Items.{Item.Asked, Item.Died, Item.Refused, Item.Sent}
-use Rattle.ssh_model.specs.Sessions.Parties.{Parties}
-use Rattle.ssh_model.specs.Sessions.Refusals as model
-use Rattle.ssh_model.specs.Sessions.Refusals.{Check, Check.RefusedWhere, first_refusal}
-use Rattle.ssh_model.specs.Channels.Kept.{Channels}
-use Rattle.ssh_model.specs.TransportLayer.Kept.{message_ask_checks}
+use Rattle.ssh_model.specs.Protocol.Side.{Side}
+use Rattle.ssh_model.specs.Protocol.Wire.Message.{Msg.Disconnect}
+use Rattle.ssh_model.specs.Protocol.Wire.Sealing.{Crypto}
+use Rattle.ssh_model.specs.Protocol.Sessions.Items as session
+use Rattle.ssh_model.specs.Protocol.Sessions.Items.{Item.Asked, Item.Died, Item.Refused, Item.Sent}
+use Rattle.ssh_model.specs.Protocol.Sessions.Parties.{Parties}
+use Rattle.ssh_model.specs.Protocol.Sessions.Refusals as model
+use Rattle.ssh_model.specs.Protocol.Sessions.Refusals.{Check, Check.RefusedWhere, first_refusal}
+use Rattle.ssh_model.specs.State.Channels.Kept.{Channels}
+use Rattle.ssh_model.specs.State.TransportLayer.Kept.{message_ask_checks}
 use Rattle.ssh_model.specs.Laws.Farewells.{farewell_spelled}
-use Rattle.ssh_model.specs.End.Asks.{TakesAsk}
-use Rattle.ssh_model.specs.End.State.{Authentication, EndState}
+use Rattle.ssh_model.specs.State.End.Asks.{TakesAsk}
+use Rattle.ssh_model.specs.State.End.State.{Authentication, EndState}
 use Rattle.ssh_types.specs.AskRefusals.{ask_refusal_of}
 use Rattle.ssh_types.specs.declared.ask_refusal.AskRefusal.{AskRefusal}
 use Rattle.ssh_transport_machine.specs.Asking as machine

@@ -3,23 +3,23 @@ use Rattle.std.proofs.Common.{◌≡◌, ℕ, ◌≤◌, ◌^◌, List, [], ◌�
 use Rattle.std.proofs.lemmas.Bool.{ltb-false, not-false}
 use Rattle.std.proofs.lemmas.List.{length-take}
 use Rattle.std.specs.Prelude.{IfOk, IfErr, OnOk, OnErr, codes}
-use Rattle.ssh_model.specs.Side.{Side, Side.Client, Side.Server}
-use Rattle.ssh_model.specs.Wire.Message.{Msg}
-use Rattle.ssh_model.specs.Wire.Sealing.{Crypto}
-use Rattle.ssh_model.specs.Sessions.Items as session
-use Rattle.ssh_model.specs.Sessions.Items.{Item.Asked, Item.Died, Item.Refused, Item.Sent}
-use Rattle.ssh_model.specs.Sessions.Parties.{Parties, user_signature_by}
-use Rattle.ssh_model.specs.Sessions.Refusals as model
-use Rattle.ssh_model.specs.Sessions.Refusals.{first_refusal}
-use Rattle.ssh_model.specs.Sessions.Sizes.{request_size}
-use Rattle.ssh_model.specs.Sessions.TurnClaims.{HasSpelling}
-use Rattle.ssh_model.specs.Authentication.Kept as authentication
-use Rattle.ssh_model.specs.Authentication.Kept.{ClientSends, client_checks}
-use Rattle.ssh_model.specs.Authentication.Rows.{password_size, probe_size, sign_size}
-use Rattle.ssh_model.specs.Channels.Kept.{Channels}
-use Rattle.ssh_model.specs.TransportLayer.Kept.{Transport, after_sent}
-use Rattle.ssh_model.specs.End.Asks.{AsksAbove, TakesAsk, end_ask_checks}
-use Rattle.ssh_model.specs.End.State.{Authentication.OfClient, EndState, after_items}
+use Rattle.ssh_model.specs.Protocol.Side.{Side, Side.Client, Side.Server}
+use Rattle.ssh_model.specs.Protocol.Wire.Message.{Msg}
+use Rattle.ssh_model.specs.Protocol.Wire.Sealing.{Crypto}
+use Rattle.ssh_model.specs.Protocol.Sessions.Items as session
+use Rattle.ssh_model.specs.Protocol.Sessions.Items.{Item.Asked, Item.Died, Item.Refused, Item.Sent}
+use Rattle.ssh_model.specs.Protocol.Sessions.Parties.{Parties, user_signature_by}
+use Rattle.ssh_model.specs.Protocol.Sessions.Refusals as model
+use Rattle.ssh_model.specs.Protocol.Sessions.Refusals.{first_refusal}
+use Rattle.ssh_model.specs.Protocol.Sessions.Sizes.{request_size}
+use Rattle.ssh_model.specs.Protocol.Sessions.TurnClaims.{HasSpelling}
+use Rattle.ssh_model.specs.State.Authentication.Kept as authentication
+use Rattle.ssh_model.specs.State.Authentication.Kept.{ClientSends, client_checks}
+use Rattle.ssh_model.specs.Protocol.Authentication.Rows.{password_size, probe_size, sign_size}
+use Rattle.ssh_model.specs.State.Channels.Kept.{Channels}
+use Rattle.ssh_model.specs.State.TransportLayer.Kept.{Transport, after_sent}
+use Rattle.ssh_model.specs.State.End.Asks.{AsksAbove, TakesAsk, end_ask_checks}
+use Rattle.ssh_model.specs.State.End.State.{Authentication.OfClient, EndState, after_items}
 use Rattle.ssh_model.specs.Laws.Checks.{all_passed}
 use Rattle.ssh_model.specs.Laws.Written.{no_method_spelled, password_spelled, probe_spelled, sign_spelled}
 use Rattle.ssh_auth.specs.Asking.{ClientAsks, IsSigned, ask_of, short_signature}

@@ -1,15 +1,15 @@
 -- Where memory is refused a client's end dies as the client of a session.
 use Rattle.std.proofs.Common.{◌≡◌, ℕ, ◌≤◌, ◌^◌, true, List, [], ◌∷◌, arith, ap, subst}
-use Rattle.ssh_model.specs.Side.{Side.Client}
-use Rattle.ssh_model.specs.Wire.Message.{Msg}
-use Rattle.ssh_model.specs.Wire.Sealing.{Crypto}
-use Rattle.ssh_model.specs.End.Payloads.{ReadsAbove}
-use Rattle.ssh_model.specs.End.State.{Authentication.OfClient}
-use Rattle.ssh_model.specs.Sessions.Items.{Item, Item.Died}
-use Rattle.ssh_model.specs.Sessions.Parties.{Agreement, Parties, agreement_of}
-use Rattle.ssh_model.specs.Sessions.Turns.{OnUnit}
-use Rattle.ssh_model.specs.TransportLayer.Kept.{Transport}
-use Rattle.ssh_model.specs.TransportLayer.Summary.{SumsUp}
+use Rattle.ssh_model.specs.Protocol.Side.{Side.Client}
+use Rattle.ssh_model.specs.Protocol.Wire.Message.{Msg}
+use Rattle.ssh_model.specs.Protocol.Wire.Sealing.{Crypto}
+use Rattle.ssh_model.specs.State.End.Payloads.{ReadsAbove}
+use Rattle.ssh_model.specs.State.End.State.{Authentication.OfClient}
+use Rattle.ssh_model.specs.Protocol.Sessions.Items.{Item, Item.Died}
+use Rattle.ssh_model.specs.Protocol.Sessions.Parties.{Agreement, Parties, agreement_of}
+use Rattle.ssh_model.specs.Protocol.Sessions.Turns.{OnUnit}
+use Rattle.ssh_model.specs.State.TransportLayer.Kept.{Transport}
+use Rattle.ssh_model.specs.State.TransportLayer.Summary.{SumsUp}
 use Rattle.ssh_kex.specs.declared.owned_choice.OwnedChoice.{OwnedChoice}
 use Rattle.ssh_transport_machine.specs.Puts.{Outs}
 use Rattle.ssh_transport_machine.specs.Sessions.{IsAbove, WouldDie}

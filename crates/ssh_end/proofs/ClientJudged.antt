@@ -1,19 +1,19 @@
 -- What the layers of a client make of a payload is what the client of a session makes of it.
 use Rattle.std.proofs.Common.{◌≡◌, ℕ, Bool, true, false, List, [], ◌∷◌, refl, ap, sym, ◌∙◌, subst, Option, Some, None}
 use Rattle.std.specs.Option.{option_map}
-use Rattle.ssh_model.specs.Side.{Side.Client}
-use Rattle.ssh_model.specs.Wire.Message.{Msg, Msg.Unimplemented}
-use Rattle.ssh_model.specs.Authentication.Kept as kept
-use Rattle.ssh_model.specs.Authentication.Kept.{Answered, ClientTakes}
-use Rattle.ssh_model.specs.Authentication.Summary.{items_of}
-use Rattle.ssh_model.specs.Channels.Kept.{Channels, DueReply, DueReply.AnswersClose, DueReply.RefusesOpen, Takes}
-use Rattle.ssh_model.specs.Channels.Summary.{reply_sent, told}
-use Rattle.ssh_model.specs.End.Payloads.{AnswersAbove, RefusesAbove, reply_items}
-use Rattle.ssh_model.specs.End.State.{Authentication.OfClient, after_above, after_items}
-use Rattle.ssh_model.specs.Sessions.Items.{Fact, Fact.Authenticated, Item, Item.Sent}
-use Rattle.ssh_model.specs.Sessions.Parties.{Parties}
-use Rattle.ssh_model.specs.Sessions.Refusals.{Refusal}
-use Rattle.ssh_model.specs.TransportLayer.Kept.{Transport, after_taken}
+use Rattle.ssh_model.specs.Protocol.Side.{Side.Client}
+use Rattle.ssh_model.specs.Protocol.Wire.Message.{Msg, Msg.Unimplemented}
+use Rattle.ssh_model.specs.State.Authentication.Kept as kept
+use Rattle.ssh_model.specs.State.Authentication.Kept.{Answered, ClientTakes}
+use Rattle.ssh_model.specs.State.Authentication.Summary.{items_of}
+use Rattle.ssh_model.specs.State.Channels.Kept.{Channels, DueReply, DueReply.AnswersClose, DueReply.RefusesOpen, Takes}
+use Rattle.ssh_model.specs.State.Channels.Summary.{reply_sent, told}
+use Rattle.ssh_model.specs.State.End.Payloads.{AnswersAbove, RefusesAbove, reply_items}
+use Rattle.ssh_model.specs.State.End.State.{Authentication.OfClient, after_above, after_items}
+use Rattle.ssh_model.specs.Protocol.Sessions.Items.{Fact, Fact.Authenticated, Item, Item.Sent}
+use Rattle.ssh_model.specs.Protocol.Sessions.Parties.{Parties}
+use Rattle.ssh_model.specs.Protocol.Sessions.Refusals.{Refusal}
+use Rattle.ssh_model.specs.State.TransportLayer.Kept.{Transport, after_taken}
 use Rattle.ssh_auth.specs.Asking.{client_answered}
 use Rattle.ssh_auth.specs.declared.answer.ClientAnswer.{ClientAnswer}
 use Rattle.ssh_auth.specs.declared.answer.ClientAnswer.TheVariants as request

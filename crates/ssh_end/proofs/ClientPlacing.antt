@@ -1,16 +1,16 @@
 -- What a client does is what the client of a session does, from one place of a run to the next.
 use Rattle.std.proofs.Common.{◌≡◌, ℕ, true, false, List, [], ◌∷◌, sym, subst, None, Result}
-use Rattle.ssh_model.specs.Authentication.Kept as kept
-use Rattle.ssh_model.specs.Channels.Kept.{Channels}
-use Rattle.ssh_model.specs.End.State.{Authentication.OfClient}
-use Rattle.ssh_model.specs.End.Summary.{EndSumsUp}
-use Rattle.ssh_model.specs.Sessions.Items as session
-use Rattle.ssh_model.specs.Sessions.Items.{Item, Item.Died}
-use Rattle.ssh_model.specs.Sessions.Parties.{Agreement, AreLawful, Parties, agreement_of}
-use Rattle.ssh_model.specs.Sessions.Turns.{EndRun, OnUnit}
-use Rattle.ssh_model.specs.Side.{Side.Client}
-use Rattle.ssh_model.specs.TransportLayer.Kept.{Transport}
-use Rattle.ssh_model.specs.Wire.Sealing.{Crypto}
+use Rattle.ssh_model.specs.State.Authentication.Kept as kept
+use Rattle.ssh_model.specs.State.Channels.Kept.{Channels}
+use Rattle.ssh_model.specs.State.End.State.{Authentication.OfClient}
+use Rattle.ssh_model.specs.State.End.Summary.{EndSumsUp}
+use Rattle.ssh_model.specs.Protocol.Sessions.Items as session
+use Rattle.ssh_model.specs.Protocol.Sessions.Items.{Item, Item.Died}
+use Rattle.ssh_model.specs.Protocol.Sessions.Parties.{Agreement, AreLawful, Parties, agreement_of}
+use Rattle.ssh_model.specs.Protocol.Sessions.Turns.{EndRun, OnUnit}
+use Rattle.ssh_model.specs.Protocol.Side.{Side.Client}
+use Rattle.ssh_model.specs.State.TransportLayer.Kept.{Transport}
+use Rattle.ssh_model.specs.Protocol.Wire.Sealing.{Crypto}
 use Rattle.ssh_layers.specs.ClientLayers.{Layers}
 use Rattle.ssh_layers.specs.ClientSessions.{end_of}
 use Rattle.ssh_transport.specs.OfClient.Replies.{Trusts}

@@ -1,15 +1,15 @@
 -- What a client's end does with a payload from 50 on is what the client of a session does with it.
 use Rattle.std.proofs.Common.{◌≡◌, ℕ, false, List, length, refl, ap, sym, ◌∙◌, subst, Option, None}
 use Rattle.std.specs.Prelude.{IsSome}
-use Rattle.ssh_model.specs.Side.{Side.Client}
-use Rattle.ssh_model.specs.Wire.Message.{Msg}
-use Rattle.ssh_model.specs.Wire.Unit.{HasNumber}
-use Rattle.ssh_model.specs.End.Payloads.{AnswersAbove}
-use Rattle.ssh_model.specs.End.State.{Authentication.OfClient, EndState}
-use Rattle.ssh_model.specs.Sessions.Items.{Item, messages_sent}
-use Rattle.ssh_model.specs.Sessions.Parties.{Parties}
-use Rattle.ssh_model.specs.Sessions.Turns.{AreSpelled}
-use Rattle.ssh_model.specs.TransportLayer.Kept.{Transport}
+use Rattle.ssh_model.specs.Protocol.Side.{Side.Client}
+use Rattle.ssh_model.specs.Protocol.Wire.Message.{Msg}
+use Rattle.ssh_model.specs.Protocol.Wire.Unit.{HasNumber}
+use Rattle.ssh_model.specs.State.End.Payloads.{AnswersAbove}
+use Rattle.ssh_model.specs.State.End.State.{Authentication.OfClient, EndState}
+use Rattle.ssh_model.specs.Protocol.Sessions.Items.{Item, messages_sent}
+use Rattle.ssh_model.specs.Protocol.Sessions.Parties.{Parties}
+use Rattle.ssh_model.specs.Protocol.Sessions.Turns.{AreSpelled}
+use Rattle.ssh_model.specs.State.TransportLayer.Kept.{Transport}
 use Rattle.ssh_model.specs.Laws.Written.{unimplemented_spelled}
 use Rattle.ssh_channels.specs.Values.{taken_of}
 use Rattle.ssh_transport_machine.specs.Puts.{Outs}

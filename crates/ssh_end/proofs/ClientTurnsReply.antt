@@ -1,22 +1,22 @@
 -- What a client's end does with its server's KEXINIT and reply, and with what is owed after it, is what the client of a session does.
 use Rattle.std.proofs.Common.{◌≡◌, ℕ, ◌+◌, ◌≤◌, ◌++◌, false, List, [], ◌∷◌, length, append-nil, append_assoc, arith, refl, ap, sym, ◌∙◌, subst, Option, Some, None}
-use Rattle.ssh_model.specs.Side.{Side.Client}
-use Rattle.ssh_model.specs.Wire.Message.{Msg, Msg.KexEcdhInit, Msg.KexInit, IsPayload}
-use Rattle.ssh_model.specs.Wire.Outcome.{Outcome.Opens}
-use Rattle.ssh_model.specs.Wire.Unit.{IsUnit}
-use Rattle.ssh_model.specs.Authentication.Kept as kept
-use Rattle.ssh_model.specs.Channels.Kept.{Channels}
-use Rattle.ssh_model.specs.Channels.Summary.{told}
-use Rattle.ssh_model.specs.End.Below.{AreBelow, opened_by_all}
-use Rattle.ssh_model.specs.End.Deaths.{CanSettle}
-use Rattle.ssh_model.specs.End.State.{Authentication, Authentication.OfClient, EndState}
-use Rattle.ssh_model.specs.End.Summary.{EndTurned}
-use Rattle.ssh_model.specs.Sessions.Items.{Fact, Fact.Completed, Item, Item.Told, Item.Took, Spelled, Spelled.SpelledBy, messages_sent}
-use Rattle.ssh_model.specs.Sessions.Parties.{Parties}
-use Rattle.ssh_model.specs.Sessions.Turns.{OnUnit, stage}
-use Rattle.ssh_model.specs.TransportLayer.Kept.{Transport}
-use Rattle.ssh_model.specs.TransportLayer.Summary.{items_sent}
-use Rattle.ssh_model.specs.TransportLayer.Turns.{Turned, refusal_items}
+use Rattle.ssh_model.specs.Protocol.Side.{Side.Client}
+use Rattle.ssh_model.specs.Protocol.Wire.Message.{Msg, Msg.KexEcdhInit, Msg.KexInit, IsPayload}
+use Rattle.ssh_model.specs.Protocol.Wire.Outcome.{Outcome.Opens}
+use Rattle.ssh_model.specs.Protocol.Wire.Unit.{IsUnit}
+use Rattle.ssh_model.specs.State.Authentication.Kept as kept
+use Rattle.ssh_model.specs.State.Channels.Kept.{Channels}
+use Rattle.ssh_model.specs.State.Channels.Summary.{told}
+use Rattle.ssh_model.specs.State.End.Below.{AreBelow, opened_by_all}
+use Rattle.ssh_model.specs.State.End.Deaths.{CanSettle}
+use Rattle.ssh_model.specs.State.End.State.{Authentication, Authentication.OfClient, EndState}
+use Rattle.ssh_model.specs.State.End.Summary.{EndTurned}
+use Rattle.ssh_model.specs.Protocol.Sessions.Items.{Fact, Fact.Completed, Item, Item.Told, Item.Took, Spelled, Spelled.SpelledBy, messages_sent}
+use Rattle.ssh_model.specs.Protocol.Sessions.Parties.{Parties}
+use Rattle.ssh_model.specs.Protocol.Sessions.Turns.{OnUnit, stage}
+use Rattle.ssh_model.specs.State.TransportLayer.Kept.{Transport}
+use Rattle.ssh_model.specs.State.TransportLayer.Summary.{items_sent}
+use Rattle.ssh_model.specs.State.TransportLayer.Turns.{Turned, refusal_items}
 use Rattle.ssh_transport_machine.specs.Endings.{ExchangeEnds, PayloadRefused}
 use Rattle.ssh_transport_machine.specs.Outcomes.{answer_outcome}
 use Rattle.ssh_transport_machine.specs.Puts.{Outs, payloads_of}

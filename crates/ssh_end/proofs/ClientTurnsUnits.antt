@@ -1,14 +1,14 @@
 -- What a client's end does with a line, and with a packet that both roles take alike, is what the client of a session does.
 use Rattle.std.proofs.Common.{◌≡◌, ◌++◌, ℕ, false, List, [], ◌∷◌, None, append-nil, refl, ap, sym, ◌∙◌, subst}
-use Rattle.ssh_model.specs.Side.{Side.Client}
-use Rattle.ssh_model.specs.End.State.{EndState}
-use Rattle.ssh_model.specs.End.Summary.{EndSumsUp, EndTurned}
-use Rattle.ssh_model.specs.Sessions.Items.{Item}
-use Rattle.ssh_model.specs.Sessions.Parties.{Parties}
-use Rattle.ssh_model.specs.Sessions.Refusals.{Refusal}
-use Rattle.ssh_model.specs.Sessions.Turns.{OnUnit}
-use Rattle.ssh_model.specs.TransportLayer.Kept.{Transport}
-use Rattle.ssh_model.specs.TransportLayer.Turns.{refusal_items}
+use Rattle.ssh_model.specs.Protocol.Side.{Side.Client}
+use Rattle.ssh_model.specs.State.End.State.{EndState}
+use Rattle.ssh_model.specs.State.End.Summary.{EndSumsUp, EndTurned}
+use Rattle.ssh_model.specs.Protocol.Sessions.Items.{Item}
+use Rattle.ssh_model.specs.Protocol.Sessions.Parties.{Parties}
+use Rattle.ssh_model.specs.Protocol.Sessions.Refusals.{Refusal}
+use Rattle.ssh_model.specs.Protocol.Sessions.Turns.{OnUnit}
+use Rattle.ssh_model.specs.State.TransportLayer.Kept.{Transport}
+use Rattle.ssh_model.specs.State.TransportLayer.Turns.{refusal_items}
 use Rattle.ssh_transport_machine.specs.Outcomes.{payload_outcome}
 use Rattle.ssh_transport_machine.specs.Puts.{Outs, payloads_of}
 use Rattle.ssh_transport_machine.specs.Sessions.{is_left}

@@ -1,7 +1,7 @@
 -- What channels tell of a message is what is told of it by itself.
 use Rattle.std.proofs.Common.{◌≡◌, Bool, refl}
-use Rattle.ssh_model.specs.Wire.Message.{Msg}
-use Rattle.ssh_model.specs.Channels.Kept.{Channels, Taken, Takes}
+use Rattle.ssh_model.specs.Protocol.Wire.Message.{Msg}
+use Rattle.ssh_model.specs.State.Channels.Kept.{Channels, Taken, Takes}
 use Rattle.ssh_end.specs.Steps.{fact_by}
 
 pub by_channels : (is_blocked : Bool) (c : Channels) (message : Msg) (taken : Taken) (new : Channels) → Takes is_blocked c message taken new → taken.fact ≡ fact_by message taken.channel

@@ -3,9 +3,9 @@ use Rattle.std.proofs.Common.{ℕ, ◌<◌, ◌≤◌, ◌^◌, List, [], ◌∷
 use Rattle.std.specs.List.{join_with_byte}
 use Rattle.std.specs.Int.{w32, to_be_bytes}
 use Rattle.ssh_model.specs.Laws.Names.{joined_length}
-use Rattle.ssh_model.specs.Wire.DataTypes.{IsNameList, IsUint32}
-use Rattle.ssh_model.specs.Wire.Message.{Msg.UserauthFailure}
-use Rattle.ssh_model.specs.Sessions.TurnClaims.{HasSpelling}
+use Rattle.ssh_model.specs.Protocol.Wire.DataTypes.{IsNameList, IsUint32}
+use Rattle.ssh_model.specs.Protocol.Wire.Message.{Msg.UserauthFailure}
+use Rattle.ssh_model.specs.Protocol.Sessions.TurnClaims.{HasSpelling}
 use Rattle.ssh_transport_base.specs.Config.{IsList}
 
 is_uint32 : (n : ℕ) → n < 2 ^ 32 → IsUint32 n (to_be_bytes w32 n)

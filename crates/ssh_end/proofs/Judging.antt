@@ -2,17 +2,17 @@
 use Rattle.std.proofs.Common.{◌≡◌, ℕ, Bool, List, [], refl, ap, ◌∙◌, Option, Some, None}
 use Rattle.std.specs.Option.{option_map}
 use Rattle.std.specs.Prelude.{Result, Ok, Err, OnErr, unwrap_or}
-use Rattle.ssh_model.specs.Wire.Message.{Msg}
-use Rattle.ssh_model.specs.Authentication.Kept as kept
-use Rattle.ssh_model.specs.Authentication.Kept.{ServerTakes}
-use Rattle.ssh_model.specs.Authentication.Requests.{Judge}
-use Rattle.ssh_model.specs.Authentication.Summary.{sent_with, told_over}
-use Rattle.ssh_model.specs.Channels.Kept as channels
-use Rattle.ssh_model.specs.Channels.Kept.{Channels, DueReply}
-use Rattle.ssh_model.specs.Channels.Summary.{reply_sent, told}
-use Rattle.ssh_model.specs.End.Payloads.{reply_items}
-use Rattle.ssh_model.specs.Sessions.Items.{Fact, Item}
-use Rattle.ssh_model.specs.TransportLayer.Kept.{Transport}
+use Rattle.ssh_model.specs.Protocol.Wire.Message.{Msg}
+use Rattle.ssh_model.specs.State.Authentication.Kept as kept
+use Rattle.ssh_model.specs.State.Authentication.Kept.{ServerTakes}
+use Rattle.ssh_model.specs.Protocol.Authentication.Requests.{Judge}
+use Rattle.ssh_model.specs.State.Authentication.Summary.{sent_with, told_over}
+use Rattle.ssh_model.specs.State.Channels.Kept as channels
+use Rattle.ssh_model.specs.State.Channels.Kept.{Channels, DueReply}
+use Rattle.ssh_model.specs.State.Channels.Summary.{reply_sent, told}
+use Rattle.ssh_model.specs.State.End.Payloads.{reply_items}
+use Rattle.ssh_model.specs.Protocol.Sessions.Items.{Fact, Item}
+use Rattle.ssh_model.specs.State.TransportLayer.Kept.{Transport}
 use Rattle.ssh_auth.specs.Serving.{answered}
 use Rattle.ssh_auth.specs.declared.answer.ServerAnswer.{ServerAnswer}
 use Rattle.ssh_transport_machine.specs.State.{State}

@@ -1,19 +1,19 @@
 -- Where an end stands that was made.
 use Rattle.std.proofs.Common.{◌≡◌, ℕ, true, None, arith, List, [], ◌∷◌, ◌++◌, refl, ap, sym, ◌∙◌, subst}
-use Rattle.ssh_model.specs.Channels.Kept.{Channels, no_channels}
-use Rattle.ssh_model.specs.End.State.{Authentication, EndState, new_authentication, new_end}
-use Rattle.ssh_model.specs.End.Summary.{HasOpened}
-use Rattle.ssh_model.specs.Sessions.AnyPeer.{IsGuarded}
-use Rattle.ssh_model.specs.Sessions.Items.{Item, Item.Fed, Item.Sent, Item.SentLine, Spelled.SpelledBy}
-use Rattle.ssh_model.specs.Sessions.Parties.{AreLawful, Parties, Settings, offer, settings_of}
-use Rattle.ssh_model.specs.Sessions.Turns.{EndRun, IsMaterial}
-use Rattle.ssh_model.specs.Side.{Side}
-use Rattle.ssh_model.specs.TransportLayer.Directions.{new_direction}
-use Rattle.ssh_model.specs.TransportLayer.Kept.{Transport}
-use Rattle.ssh_model.specs.TransportLayer.Turns.{PutsPackets}
-use Rattle.ssh_model.specs.Wire.Line.{line_end}
-use Rattle.ssh_model.specs.Wire.Message.{Msg.KexInit}
-use Rattle.ssh_model.specs.Wire.Sealing.{Crypto}
+use Rattle.ssh_model.specs.State.Channels.Kept.{Channels, no_channels}
+use Rattle.ssh_model.specs.State.End.State.{Authentication, EndState, new_authentication, new_end}
+use Rattle.ssh_model.specs.State.End.Summary.{HasOpened}
+use Rattle.ssh_model.specs.Protocol.Sessions.AnyPeer.{IsGuarded}
+use Rattle.ssh_model.specs.Protocol.Sessions.Items.{Item, Item.Fed, Item.Sent, Item.SentLine, Spelled.SpelledBy}
+use Rattle.ssh_model.specs.Protocol.Sessions.Parties.{AreLawful, Parties, Settings, offer, settings_of}
+use Rattle.ssh_model.specs.Protocol.Sessions.Turns.{EndRun, IsMaterial}
+use Rattle.ssh_model.specs.Protocol.Side.{Side}
+use Rattle.ssh_model.specs.State.TransportLayer.Directions.{new_direction}
+use Rattle.ssh_model.specs.State.TransportLayer.Kept.{Transport}
+use Rattle.ssh_model.specs.State.TransportLayer.Turns.{PutsPackets}
+use Rattle.ssh_model.specs.Protocol.Wire.Line.{line_end}
+use Rattle.ssh_model.specs.Protocol.Wire.Message.{Msg.KexInit}
+use Rattle.ssh_model.specs.Protocol.Wire.Sealing.{Crypto}
 use Rattle.ssh_transport_machine.specs.Opening.{IsOpened}
 use Rattle.ssh_transport_machine.specs.Puts.{Outs}
 use Rattle.ssh_transport_machine.specs.State.{State}

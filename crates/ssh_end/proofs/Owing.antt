@@ -1,19 +1,19 @@
 -- The replies that are owed are given one after the other.
 use Rattle.std.proofs.Common.{◌≡◌, ℕ, ◌+◌, ◌≤◌, ◌^◌, Option, Some, None, List, [], ◌∷◌, ◌++◌, length, map, refl, sym, ap, subst, ◌∙◌, append-nil, append_assoc, arith, false}
-use Rattle.ssh_model.specs.Side.{Side, Side.Client, Side.Server}
-use Rattle.ssh_model.specs.Wire.Message.{Msg}
-use Rattle.ssh_model.specs.Wire.Sealing.{Crypto}
-use Rattle.ssh_model.specs.Sessions.Items.{Item, Item.Sent, Spelled, Spelled.SpelledBy, messages_sent}
-use Rattle.ssh_model.specs.Channels.Kept.{Channels, DueReply, DueReply.RefusesOpen, DueReply.AnswersClose, Unblocks}
-use Rattle.ssh_model.specs.Channels.Kept.{Unblocks.oldest, Unblocks.nothing}
-use Rattle.ssh_model.specs.Channels.Summary.{reply_channel, reply_sent}
-use Rattle.ssh_model.specs.TransportLayer.Directions.{Direction, counted}
-use Rattle.ssh_model.specs.TransportLayer.Kept.{Transport, after_sent}
-use Rattle.ssh_model.specs.TransportLayer.Turns as turns
-use Rattle.ssh_model.specs.TransportLayer.Turns.{PutsPackets, counted_by}
-use Rattle.ssh_model.specs.End.Payloads as payloads
-use Rattle.ssh_model.specs.End.Payloads.{GivesOwed}
-use Rattle.ssh_model.specs.End.State.{after_item, after_items}
+use Rattle.ssh_model.specs.Protocol.Side.{Side, Side.Client, Side.Server}
+use Rattle.ssh_model.specs.Protocol.Wire.Message.{Msg}
+use Rattle.ssh_model.specs.Protocol.Wire.Sealing.{Crypto}
+use Rattle.ssh_model.specs.Protocol.Sessions.Items.{Item, Item.Sent, Spelled, Spelled.SpelledBy, messages_sent}
+use Rattle.ssh_model.specs.State.Channels.Kept.{Channels, DueReply, DueReply.RefusesOpen, DueReply.AnswersClose, Unblocks}
+use Rattle.ssh_model.specs.State.Channels.Kept.{Unblocks.oldest, Unblocks.nothing}
+use Rattle.ssh_model.specs.State.Channels.Summary.{reply_channel, reply_sent}
+use Rattle.ssh_model.specs.State.TransportLayer.Directions.{Direction, counted}
+use Rattle.ssh_model.specs.State.TransportLayer.Kept.{Transport, after_sent}
+use Rattle.ssh_model.specs.State.TransportLayer.Turns as turns
+use Rattle.ssh_model.specs.State.TransportLayer.Turns.{PutsPackets, counted_by}
+use Rattle.ssh_model.specs.State.End.Payloads as payloads
+use Rattle.ssh_model.specs.State.End.Payloads.{GivesOwed}
+use Rattle.ssh_model.specs.State.End.State.{after_item, after_items}
 use Rattle.ssh_transport_machine.specs.Puts.{Outs, Puts, Sends}
 use Rattle.ssh_transport_machine.specs.State.{State}
 use Rattle.ssh_end.specs.Owed.{Extends, ListsChannels, channels_sent}

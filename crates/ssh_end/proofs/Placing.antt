@@ -1,23 +1,23 @@
 -- How an end of either role goes from one place of a run to the next.
 use Rattle.std.proofs.Common.{◌≡◌, ℕ, Bool, true, false, cond, List, [], ◌∷◌, ◌++◌, refl, ap, sym, ◌∙◌, subst, None, Result, Ok, Err}
 use Rattle.std.proofs.lemmas.Bool.{false≢true}
-use Rattle.ssh_model.specs.Channels.Kept.{Channels}
-use Rattle.ssh_model.specs.End.Reading.{end_reading}
-use Rattle.ssh_model.specs.End.State.{Authentication, EndState}
-use Rattle.ssh_model.specs.End.Summary.{EndSumsUp, EndTurned}
-use Rattle.ssh_model.specs.End.Units.{TakesPair}
-use Rattle.ssh_model.specs.Sessions.AnyPeer.{IsGuarded}
-use Rattle.ssh_model.specs.Sessions.Items as session
-use Rattle.ssh_model.specs.Sessions.Items.{Item, Item.Asked, Item.AskRefused, Item.Died, has_died}
-use Rattle.ssh_model.specs.Sessions.Parties.{AreLawful, Parties}
-use Rattle.ssh_model.specs.Sessions.Phases.{Phase.Normal}
-use Rattle.ssh_model.specs.Sessions.Turns.{AsksTurn, EndRun, FeedsTurn, IsMaterial, OnUnit}
-use Rattle.ssh_model.specs.Side.{Side}
-use Rattle.ssh_model.specs.TransportLayer.Kept.{after_fed, can_be_fed}
-use Rattle.ssh_model.specs.Wire.Delivery.{Waits}
-use Rattle.ssh_model.specs.Wire.Line.{IsLineBegun}
-use Rattle.ssh_model.specs.Wire.Sealing.{Crypto}
-use Rattle.ssh_model.specs.Wire.Unit.{IsPacketBegun}
+use Rattle.ssh_model.specs.State.Channels.Kept.{Channels}
+use Rattle.ssh_model.specs.State.End.Reading.{end_reading}
+use Rattle.ssh_model.specs.State.End.State.{Authentication, EndState}
+use Rattle.ssh_model.specs.State.End.Summary.{EndSumsUp, EndTurned}
+use Rattle.ssh_model.specs.State.End.Units.{TakesPair}
+use Rattle.ssh_model.specs.Protocol.Sessions.AnyPeer.{IsGuarded}
+use Rattle.ssh_model.specs.Protocol.Sessions.Items as session
+use Rattle.ssh_model.specs.Protocol.Sessions.Items.{Item, Item.Asked, Item.AskRefused, Item.Died, has_died}
+use Rattle.ssh_model.specs.Protocol.Sessions.Parties.{AreLawful, Parties}
+use Rattle.ssh_model.specs.Protocol.Sessions.Phases.{Phase.Normal}
+use Rattle.ssh_model.specs.Protocol.Sessions.Turns.{AsksTurn, EndRun, FeedsTurn, IsMaterial, OnUnit}
+use Rattle.ssh_model.specs.Protocol.Side.{Side}
+use Rattle.ssh_model.specs.State.TransportLayer.Kept.{after_fed, can_be_fed}
+use Rattle.ssh_model.specs.Protocol.Wire.Delivery.{Waits}
+use Rattle.ssh_model.specs.Protocol.Wire.Line.{IsLineBegun}
+use Rattle.ssh_model.specs.Protocol.Wire.Sealing.{Crypto}
+use Rattle.ssh_model.specs.Protocol.Wire.Unit.{IsPacketBegun}
 use Rattle.ssh_types.specs.AskRefusals.{ask_refusal_of}
 use Rattle.ssh_transport_machine.specs.Puts.{Outs}
 use Rattle.ssh_transport_machine.specs.State.{State, begun_of}

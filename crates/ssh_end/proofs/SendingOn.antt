@@ -1,16 +1,16 @@
 -- On which channels the items of a turn are sent.
 use Rattle.std.proofs.Common.{◌≡◌, ◌+◌, ◌-◌, ℕ, List, [], ◌∷◌, ◌++◌, length, replicate, refl, ap, sym, ◌∙◌, Option, Some, None, arith, Bool, true, false}
 use Rattle.std.proofs.lemmas.List.{length-append, replicate_more}
-use Rattle.ssh_model.specs.Wire.Message.{Msg}
-use Rattle.ssh_model.specs.Authentication.Summary.{sent_with}
-use Rattle.ssh_model.specs.Channels.Kept.{Channels, DueReply, DueReply.AnswersClose, DueReply.RefusesOpen, Taken, Takes, close_reply, has_said_close, peer_of, sent_at_once}
-use Rattle.ssh_model.specs.Channels.Places.{at}
-use Rattle.ssh_model.specs.Channels.Summary.{reply_channel, told}
-use Rattle.ssh_model.specs.End.Payloads.{reply_items}
-use Rattle.ssh_model.specs.Sessions.Items.{Fact, Item, Item.Refused, Item.Sent, Item.Took, Spelled, Spelled.SpelledBy, messages_sent}
-use Rattle.ssh_model.specs.Sessions.Refusals.{Refusal}
-use Rattle.ssh_model.specs.TransportLayer.Summary.{items_sent}
-use Rattle.ssh_model.specs.TransportLayer.Turns.{refusal_items}
+use Rattle.ssh_model.specs.Protocol.Wire.Message.{Msg}
+use Rattle.ssh_model.specs.State.Authentication.Summary.{sent_with}
+use Rattle.ssh_model.specs.State.Channels.Kept.{Channels, DueReply, DueReply.AnswersClose, DueReply.RefusesOpen, Taken, Takes, close_reply, has_said_close, peer_of, sent_at_once}
+use Rattle.ssh_model.specs.State.Channels.Places.{at}
+use Rattle.ssh_model.specs.State.Channels.Summary.{reply_channel, told}
+use Rattle.ssh_model.specs.State.End.Payloads.{reply_items}
+use Rattle.ssh_model.specs.Protocol.Sessions.Items.{Fact, Item, Item.Refused, Item.Sent, Item.Took, Spelled, Spelled.SpelledBy, messages_sent}
+use Rattle.ssh_model.specs.Protocol.Sessions.Refusals.{Refusal}
+use Rattle.ssh_model.specs.State.TransportLayer.Summary.{items_sent}
+use Rattle.ssh_model.specs.State.TransportLayer.Turns.{refusal_items}
 use Rattle.ssh_transport_machine.specs.Puts.{payloads_of}
 use Rattle.ssh_end.specs.Beside.{channels_beside}
 use Rattle.ssh_end.specs.Owed.{channels_sent}

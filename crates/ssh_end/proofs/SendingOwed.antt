@@ -1,18 +1,18 @@
 -- On which channels an end sends after NEWKEYS.
 use Rattle.std.proofs.Common.{◌≡◌, ◌≤◌, ◌+◌, ◌-◌, ℕ, List, [], ◌∷◌, ◌++◌, append-nil, append_assoc, length, map, replicate, reverse, refl, ap, sym, ◌∙◌, Option, Some, None, arith, false}
 use Rattle.std.proofs.lemmas.List.{length-append, reverse-reverse}
-use Rattle.ssh_model.specs.Side.{Side}
-use Rattle.ssh_model.specs.Wire.Message.{Msg}
-use Rattle.ssh_model.specs.Channels.History as channel
-use Rattle.ssh_model.specs.Channels.Kept.{Channels, DueReply, DueReply.AnswersClose, DueReply.RefusesOpen}
-use Rattle.ssh_model.specs.Channels.Summary.{pending, reply_channel, reply_item}
-use Rattle.ssh_model.specs.End.Payloads as payloads
-use Rattle.ssh_model.specs.End.Payloads.{GivesOwed}
-use Rattle.ssh_model.specs.End.State.{EndState}
-use Rattle.ssh_model.specs.End.Summary.{EndSumsUp}
-use Rattle.ssh_model.specs.Sessions.Items.{Fact.Completed, Item, Item.Told, Item.Took, Spelled, messages_sent}
-use Rattle.ssh_model.specs.Sessions.Parties.{Parties}
-use Rattle.ssh_model.specs.TransportLayer.Summary.{items_sent}
+use Rattle.ssh_model.specs.Protocol.Side.{Side}
+use Rattle.ssh_model.specs.Protocol.Wire.Message.{Msg}
+use Rattle.ssh_model.specs.Protocol.Channels.History as channel
+use Rattle.ssh_model.specs.State.Channels.Kept.{Channels, DueReply, DueReply.AnswersClose, DueReply.RefusesOpen}
+use Rattle.ssh_model.specs.State.Channels.Summary.{pending, reply_channel, reply_item}
+use Rattle.ssh_model.specs.State.End.Payloads as payloads
+use Rattle.ssh_model.specs.State.End.Payloads.{GivesOwed}
+use Rattle.ssh_model.specs.State.End.State.{EndState}
+use Rattle.ssh_model.specs.State.End.Summary.{EndSumsUp}
+use Rattle.ssh_model.specs.Protocol.Sessions.Items.{Fact.Completed, Item, Item.Told, Item.Took, Spelled, messages_sent}
+use Rattle.ssh_model.specs.Protocol.Sessions.Parties.{Parties}
+use Rattle.ssh_model.specs.State.TransportLayer.Summary.{items_sent}
 use Rattle.ssh_transport_machine.specs.Puts.{payloads_of}
 use Rattle.ssh_end.specs.Beside.{channels_beside, last_channels}
 use Rattle.ssh_end.specs.Owed.{channels_sent}

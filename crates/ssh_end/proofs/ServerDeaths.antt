@@ -1,19 +1,19 @@
 -- Where memory is refused a server's end dies as the server of a session.
 use Rattle.std.proofs.Common.{◌≡◌, ℕ, ◌+◌, ◌<◌, ◌≤◌, ◌^◌, Bool, true, false, not, ◌&&◌, List, [], ◌∷◌, arith, refl, ap, ◌∙◌, subst, Option, Some, None, nat_le, nat_lt}
 use Rattle.std.proofs.lemmas.Bool.{ltb-false, ltb-true}
-use Rattle.ssh_model.specs.Side.{Side.Server}
-use Rattle.ssh_model.specs.Wire.Message.{Method, Method.Publickey, Msg, Msg.UserauthRequest}
-use Rattle.ssh_model.specs.Wire.Sealing.{Crypto}
-use Rattle.ssh_model.specs.Authentication.Kept as kept
-use Rattle.ssh_model.specs.Authentication.Requests.{accepts, fails, judge_of}
-use Rattle.ssh_model.specs.End.Payloads as payloads
-use Rattle.ssh_model.specs.End.Payloads.{ReadsAbove}
-use Rattle.ssh_model.specs.End.State.{Authentication.OfServer, EndState, session_of}
-use Rattle.ssh_model.specs.Sessions.Items.{Item}
-use Rattle.ssh_model.specs.Sessions.Parties.{Parties}
-use Rattle.ssh_model.specs.Sessions.Refusals.{Check.RefusedWhere, Refusal, Refusal.TooManyTries, first_refusal}
-use Rattle.ssh_model.specs.TransportLayer.Kept.{ExchangeParts, Transport}
-use Rattle.ssh_model.specs.TransportLayer.Summary.{SumsUp, parts_of}
+use Rattle.ssh_model.specs.Protocol.Side.{Side.Server}
+use Rattle.ssh_model.specs.Protocol.Wire.Message.{Method, Method.Publickey, Msg, Msg.UserauthRequest}
+use Rattle.ssh_model.specs.Protocol.Wire.Sealing.{Crypto}
+use Rattle.ssh_model.specs.State.Authentication.Kept as kept
+use Rattle.ssh_model.specs.Protocol.Authentication.Requests.{accepts, fails, judge_of}
+use Rattle.ssh_model.specs.State.End.Payloads as payloads
+use Rattle.ssh_model.specs.State.End.Payloads.{ReadsAbove}
+use Rattle.ssh_model.specs.State.End.State.{Authentication.OfServer, EndState, session_of}
+use Rattle.ssh_model.specs.Protocol.Sessions.Items.{Item}
+use Rattle.ssh_model.specs.Protocol.Sessions.Parties.{Parties}
+use Rattle.ssh_model.specs.Protocol.Sessions.Refusals.{Check.RefusedWhere, Refusal, Refusal.TooManyTries, first_refusal}
+use Rattle.ssh_model.specs.State.TransportLayer.Kept.{ExchangeParts, Transport}
+use Rattle.ssh_model.specs.State.TransportLayer.Summary.{SumsUp, parts_of}
 use Rattle.ssh_model.specs.Laws.Written.{success_spelled}
 use Rattle.ssh_auth.specs.Serving.{NeedsText}
 use Rattle.ssh_kex.specs.declared.owned_choice.OwnedChoice.{OwnedChoice}

@@ -1,19 +1,19 @@
 -- What the layers of a server make of a payload is what the server of a session makes of it.
 use Rattle.std.proofs.Common.{◌≡◌, ℕ, Bool, List, [], ◌∷◌, refl, ap, sym, ◌∙◌, subst, Option, Some, None}
 use Rattle.std.specs.Option.{option_map}
-use Rattle.ssh_model.specs.Side.{Side.Server}
-use Rattle.ssh_model.specs.Wire.Message.{Msg, Msg.Unimplemented}
-use Rattle.ssh_model.specs.Authentication.Kept.{ServerTakes}
-use Rattle.ssh_model.specs.Authentication.Requests.{judge_of}
-use Rattle.ssh_model.specs.Authentication.Summary.{sent_with}
-use Rattle.ssh_model.specs.Channels.Kept.{DueReply, DueReply.AnswersClose, DueReply.RefusesOpen}
-use Rattle.ssh_model.specs.Channels.Summary.{reply_sent, told}
-use Rattle.ssh_model.specs.End.Payloads.{AnswersAbove, RefusesAbove, reply_items}
-use Rattle.ssh_model.specs.End.State.{Authentication.OfServer, after_items}
-use Rattle.ssh_model.specs.Sessions.Items.{Fact, Item, Item.Sent}
-use Rattle.ssh_model.specs.Sessions.Parties.{Parties}
-use Rattle.ssh_model.specs.Sessions.Refusals.{Refusal}
-use Rattle.ssh_model.specs.TransportLayer.Kept.{Transport, after_taken}
+use Rattle.ssh_model.specs.Protocol.Side.{Side.Server}
+use Rattle.ssh_model.specs.Protocol.Wire.Message.{Msg, Msg.Unimplemented}
+use Rattle.ssh_model.specs.State.Authentication.Kept.{ServerTakes}
+use Rattle.ssh_model.specs.Protocol.Authentication.Requests.{judge_of}
+use Rattle.ssh_model.specs.State.Authentication.Summary.{sent_with}
+use Rattle.ssh_model.specs.State.Channels.Kept.{DueReply, DueReply.AnswersClose, DueReply.RefusesOpen}
+use Rattle.ssh_model.specs.State.Channels.Summary.{reply_sent, told}
+use Rattle.ssh_model.specs.State.End.Payloads.{AnswersAbove, RefusesAbove, reply_items}
+use Rattle.ssh_model.specs.State.End.State.{Authentication.OfServer, after_items}
+use Rattle.ssh_model.specs.Protocol.Sessions.Items.{Fact, Item, Item.Sent}
+use Rattle.ssh_model.specs.Protocol.Sessions.Parties.{Parties}
+use Rattle.ssh_model.specs.Protocol.Sessions.Refusals.{Refusal}
+use Rattle.ssh_model.specs.State.TransportLayer.Kept.{Transport, after_taken}
 use Rattle.ssh_auth.specs.Serving.{answered}
 use Rattle.ssh_auth.specs.declared.answer.ServerAnswer.{ServerAnswer}
 use Rattle.ssh_auth.specs.declared.answer.ServerAnswer.TheVariants as request

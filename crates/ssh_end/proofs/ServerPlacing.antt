@@ -1,14 +1,14 @@
 -- What a server does is what the server of a session does, from one place of a run to the next.
 use Rattle.std.proofs.Common.{◌≡◌, ℕ, true, false, List, refl, ap, sym, ◌∙◌, subst, Result}
-use Rattle.ssh_model.specs.Authentication.Requests.{Judge, judge_of}
-use Rattle.ssh_model.specs.End.State.{Authentication.OfServer}
-use Rattle.ssh_model.specs.Sessions.Items as session
-use Rattle.ssh_model.specs.Sessions.Items.{Item}
-use Rattle.ssh_model.specs.Sessions.Parties.{Parties}
-use Rattle.ssh_model.specs.Side.{Side.Server}
-use Rattle.ssh_model.specs.TransportLayer.Kept.{ExchangeParts}
-use Rattle.ssh_model.specs.TransportLayer.Summary.{parts_of}
-use Rattle.ssh_model.specs.Wire.Sealing.{Crypto}
+use Rattle.ssh_model.specs.Protocol.Authentication.Requests.{Judge, judge_of}
+use Rattle.ssh_model.specs.State.End.State.{Authentication.OfServer}
+use Rattle.ssh_model.specs.Protocol.Sessions.Items as session
+use Rattle.ssh_model.specs.Protocol.Sessions.Items.{Item}
+use Rattle.ssh_model.specs.Protocol.Sessions.Parties.{Parties}
+use Rattle.ssh_model.specs.Protocol.Side.{Side.Server}
+use Rattle.ssh_model.specs.State.TransportLayer.Kept.{ExchangeParts}
+use Rattle.ssh_model.specs.State.TransportLayer.Summary.{parts_of}
+use Rattle.ssh_model.specs.Protocol.Wire.Sealing.{Crypto}
 use Rattle.ssh_layers.specs.Layers.{Layers}
 use Rattle.ssh_layers.specs.Sessions.{end_of}
 use Rattle.ssh_transport.specs.OfServer.Roles.{ServerDoes, ServerLacks}

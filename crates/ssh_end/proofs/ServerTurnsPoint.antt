@@ -1,17 +1,17 @@
 -- What a server's end does with a client's point, and with what is owed after it, is what the server of a session does.
 use Rattle.std.proofs.Common.{◌≡◌, ℕ, ◌+◌, ◌≤◌, ◌++◌, false, List, [], ◌∷◌, length, append-nil, append_assoc, arith, ap, sym, ◌∙◌, subst, None}
-use Rattle.ssh_model.specs.Side.{Side.Server}
-use Rattle.ssh_model.specs.Wire.Outcome.{Outcome.Opens}
-use Rattle.ssh_model.specs.Wire.Unit.{IsUnit}
-use Rattle.ssh_model.specs.Channels.Kept.{Channels}
-use Rattle.ssh_model.specs.End.Deaths.{CanSettle}
-use Rattle.ssh_model.specs.End.State.{Authentication.OfServer, EndState}
-use Rattle.ssh_model.specs.End.Summary.{EndTurned}
-use Rattle.ssh_model.specs.Sessions.Items.{Fact.Completed, Item, Item.Told, Item.Took, messages_sent}
-use Rattle.ssh_model.specs.Sessions.Parties.{Parties}
-use Rattle.ssh_model.specs.Sessions.Turns.{OnUnit, stage}
-use Rattle.ssh_model.specs.TransportLayer.Kept.{Transport}
-use Rattle.ssh_model.specs.TransportLayer.Summary.{items_sent}
+use Rattle.ssh_model.specs.Protocol.Side.{Side.Server}
+use Rattle.ssh_model.specs.Protocol.Wire.Outcome.{Outcome.Opens}
+use Rattle.ssh_model.specs.Protocol.Wire.Unit.{IsUnit}
+use Rattle.ssh_model.specs.State.Channels.Kept.{Channels}
+use Rattle.ssh_model.specs.State.End.Deaths.{CanSettle}
+use Rattle.ssh_model.specs.State.End.State.{Authentication.OfServer, EndState}
+use Rattle.ssh_model.specs.State.End.Summary.{EndTurned}
+use Rattle.ssh_model.specs.Protocol.Sessions.Items.{Fact.Completed, Item, Item.Told, Item.Took, messages_sent}
+use Rattle.ssh_model.specs.Protocol.Sessions.Parties.{Parties}
+use Rattle.ssh_model.specs.Protocol.Sessions.Turns.{OnUnit, stage}
+use Rattle.ssh_model.specs.State.TransportLayer.Kept.{Transport}
+use Rattle.ssh_model.specs.State.TransportLayer.Summary.{items_sent}
 use Rattle.ssh_auth.specs.Serving as serving_layer
 use Rattle.ssh_transport_machine.specs.Endings.{ExchangeEnds, PayloadRefused}
 use Rattle.ssh_transport_machine.specs.Puts.{Outs, payloads_of}

@@ -1,15 +1,15 @@
 -- What a transport makes of a unit alone is what an end of a session makes of it.
 use Rattle.std.proofs.Common.{◌≡◌, ℕ, true, false, List, [], ◌∷◌, ◌++◌, refl, ap, sym, ◌∙◌, subst, Some, None}
-use Rattle.ssh_model.specs.Side.{Side, Side.Server}
-use Rattle.ssh_model.specs.Wire.Message.{Msg, Msg.KexInit, Msg.ServiceAccept, Msg.ServiceRequest, Msg.Unimplemented, Msg.Unknown, IsPayload}
-use Rattle.ssh_model.specs.End.Below.{AreBelow, opened_by_all}
-use Rattle.ssh_model.specs.End.State.{Authentication, Authentication.OfClient, Authentication.OfServer, EndState}
-use Rattle.ssh_model.specs.End.Summary.{EndTurned}
-use Rattle.ssh_model.specs.Sessions.Items.{Fact, Item, Item.Sent, Item.Took, Spelled, Spelled.SpelledBy, messages_sent}
-use Rattle.ssh_model.specs.Sessions.Parties.{Parties, offer_of}
-use Rattle.ssh_model.specs.Sessions.Turns.{OnUnit}
-use Rattle.ssh_model.specs.TransportLayer.Kept.{Transport}
-use Rattle.ssh_model.specs.TransportLayer.Turns.{Turned, refusal_items}
+use Rattle.ssh_model.specs.Protocol.Side.{Side, Side.Server}
+use Rattle.ssh_model.specs.Protocol.Wire.Message.{Msg, Msg.KexInit, Msg.ServiceAccept, Msg.ServiceRequest, Msg.Unimplemented, Msg.Unknown, IsPayload}
+use Rattle.ssh_model.specs.State.End.Below.{AreBelow, opened_by_all}
+use Rattle.ssh_model.specs.State.End.State.{Authentication, Authentication.OfClient, Authentication.OfServer, EndState}
+use Rattle.ssh_model.specs.State.End.Summary.{EndTurned}
+use Rattle.ssh_model.specs.Protocol.Sessions.Items.{Fact, Item, Item.Sent, Item.Took, Spelled, Spelled.SpelledBy, messages_sent}
+use Rattle.ssh_model.specs.Protocol.Sessions.Parties.{Parties, offer_of}
+use Rattle.ssh_model.specs.Protocol.Sessions.Turns.{OnUnit}
+use Rattle.ssh_model.specs.State.TransportLayer.Kept.{Transport}
+use Rattle.ssh_model.specs.State.TransportLayer.Turns.{Turned, refusal_items}
 use Rattle.ssh_transport_machine.specs.Outcomes.{payload_outcome}
 use Rattle.ssh_transport_machine.specs.Puts.{Outs, payloads_of}
 use Rattle.ssh_transport_machine.specs.Shown as shown

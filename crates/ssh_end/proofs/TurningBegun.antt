@@ -1,17 +1,17 @@
 -- What is begun after a line or a packet, and the payload that is then shown.
 use Rattle.std.proofs.Common.{◌≡◌, ℕ, Bool, true, false, cond, List, [], arith, refl, ap, sym, ◌∙◌, subst, Option}
 use Rattle.std.proofs.lemmas.Bool.{false≢true}
-use Rattle.ssh_model.specs.Side.{Side.Client}
-use Rattle.ssh_model.specs.Channels.Kept.{Channels}
-use Rattle.ssh_model.specs.End.Payloads as payloads
-use Rattle.ssh_model.specs.End.Payloads.{GivesOwed}
-use Rattle.ssh_model.specs.End.State.{after_items}
-use Rattle.ssh_model.specs.Sessions.Items.{Item}
-use Rattle.ssh_model.specs.TransportLayer.Kept.{Lines, Transport}
-use Rattle.ssh_model.specs.Wire.Line.{IsLineBegun}
-use Rattle.ssh_model.specs.Wire.Outcome.{Outcome.Opens}
-use Rattle.ssh_model.specs.Wire.Sealing.{Crypto, IsBegun.no_length}
-use Rattle.ssh_model.specs.Wire.Unit.{IsPacketBegun, PacketUnit}
+use Rattle.ssh_model.specs.Protocol.Side.{Side.Client}
+use Rattle.ssh_model.specs.State.Channels.Kept.{Channels}
+use Rattle.ssh_model.specs.State.End.Payloads as payloads
+use Rattle.ssh_model.specs.State.End.Payloads.{GivesOwed}
+use Rattle.ssh_model.specs.State.End.State.{after_items}
+use Rattle.ssh_model.specs.Protocol.Sessions.Items.{Item}
+use Rattle.ssh_model.specs.State.TransportLayer.Kept.{Lines, Transport}
+use Rattle.ssh_model.specs.Protocol.Wire.Line.{IsLineBegun}
+use Rattle.ssh_model.specs.Protocol.Wire.Outcome.{Outcome.Opens}
+use Rattle.ssh_model.specs.Protocol.Wire.Sealing.{Crypto, IsBegun.no_length}
+use Rattle.ssh_model.specs.Protocol.Wire.Unit.{IsPacketBegun, PacketUnit}
 use Rattle.ssh_transport_base.specs.Directions.{Receiver, Receives}
 use Rattle.ssh_transport_base.specs.declared.packets.step.PacketStep.{PacketStep}
 use Rattle.ssh_transport_base.specs.declared.packets.step.PacketStep.TheVariants as step

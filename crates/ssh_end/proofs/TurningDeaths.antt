@@ -2,23 +2,23 @@
 use Rattle.std.proofs.Common.{◌≡◌, ℕ, ◌+◌, ◌≤◌, ◌^◌, true, false, List, [], ◌∷◌, ◌++◌, length, arith, refl, ap, sym, subst, Option, None, Some}
 use Rattle.std.proofs.lemmas.Bool.{false≢true}
 use Rattle.std.proofs.lemmas.List.{length-append}
-use Rattle.ssh_model.specs.Side.{Side}
-use Rattle.ssh_model.specs.Wire.Message.{Msg}
-use Rattle.ssh_model.specs.Wire.Outcome.{Outcome.Opens}
-use Rattle.ssh_model.specs.Wire.Unit.{PacketUnit}
-use Rattle.ssh_model.specs.End.Deaths.{CanSettle, WouldTake}
-use Rattle.ssh_model.specs.End.State.{EndState}
-use Rattle.ssh_model.specs.End.Summary.{EndSumsUp, EndTurned}
-use Rattle.ssh_model.specs.End.Units.{TakesUnit}
-use Rattle.ssh_model.specs.KeyExchange.Choice.{Chosen}
-use Rattle.ssh_model.specs.Sessions.Epochs.{count}
-use Rattle.ssh_model.specs.Sessions.Items.{Fact, Fact.Completed, Fact.Opened, Item, Item.Died, Item.Sent, Item.Told, Item.Took, Spelled, Spelled.SpelledBy, messages_sent, sent}
-use Rattle.ssh_model.specs.Sessions.Parties.{AreLawful, Parties}
-use Rattle.ssh_model.specs.Sessions.TurnClaims.{HasNumbers}
-use Rattle.ssh_model.specs.Sessions.Turns.{EndRun, OnUnit, take_memory}
-use Rattle.ssh_model.specs.TransportLayer.Kept as kept
-use Rattle.ssh_model.specs.TransportLayer.Kept.{Answered, Completes, Transport}
-use Rattle.ssh_model.specs.TransportLayer.Summary.{answer_items, items_sent, parts_of, told_over}
+use Rattle.ssh_model.specs.Protocol.Side.{Side}
+use Rattle.ssh_model.specs.Protocol.Wire.Message.{Msg}
+use Rattle.ssh_model.specs.Protocol.Wire.Outcome.{Outcome.Opens}
+use Rattle.ssh_model.specs.Protocol.Wire.Unit.{PacketUnit}
+use Rattle.ssh_model.specs.State.End.Deaths.{CanSettle, WouldTake}
+use Rattle.ssh_model.specs.State.End.State.{EndState}
+use Rattle.ssh_model.specs.State.End.Summary.{EndSumsUp, EndTurned}
+use Rattle.ssh_model.specs.State.End.Units.{TakesUnit}
+use Rattle.ssh_model.specs.Protocol.KeyExchange.Choice.{Chosen}
+use Rattle.ssh_model.specs.Protocol.Sessions.Epochs.{count}
+use Rattle.ssh_model.specs.Protocol.Sessions.Items.{Fact, Fact.Completed, Fact.Opened, Item, Item.Died, Item.Sent, Item.Told, Item.Took, Spelled, Spelled.SpelledBy, messages_sent, sent}
+use Rattle.ssh_model.specs.Protocol.Sessions.Parties.{AreLawful, Parties}
+use Rattle.ssh_model.specs.Protocol.Sessions.TurnClaims.{HasNumbers}
+use Rattle.ssh_model.specs.Protocol.Sessions.Turns.{EndRun, OnUnit, take_memory}
+use Rattle.ssh_model.specs.State.TransportLayer.Kept as kept
+use Rattle.ssh_model.specs.State.TransportLayer.Kept.{Answered, Completes, Transport}
+use Rattle.ssh_model.specs.State.TransportLayer.Summary.{answer_items, items_sent, parts_of, told_over}
 use Rattle.ssh_transport_machine.specs.Outcomes.{LineOutcome}
 use Rattle.ssh_transport_machine.specs.Sessions.{WouldDie, WouldEnd}
 use Rattle.ssh_transport_machine.specs.Shown.{WouldAnswer, WouldAnswerPacket}

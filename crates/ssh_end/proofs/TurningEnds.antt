@@ -1,15 +1,15 @@
 -- What an end sends after NEWKEYS, and what it then lists.
 use Rattle.std.proofs.Common.{◌≡◌, ℕ, Bool, false, List, [], ◌∷◌, ◌++◌, append-nil, append_assoc, refl, ap, sym, ◌∙◌}
-use Rattle.ssh_model.specs.Side.{Side}
-use Rattle.ssh_model.specs.Wire.Message.{Msg, IsPayload}
-use Rattle.ssh_model.specs.Channels.Kept.{Channels}
-use Rattle.ssh_model.specs.Channels.Summary.{reply_sent}
-use Rattle.ssh_model.specs.End.Payloads as payloads
-use Rattle.ssh_model.specs.End.Payloads.{GivesOwed}
-use Rattle.ssh_model.specs.Sessions.Items.{Item, Spelled, Spelled.SpelledBy, messages_sent}
-use Rattle.ssh_model.specs.Sessions.Parties.{Parties}
-use Rattle.ssh_model.specs.Sessions.Transport.{CompletingAnswer}
-use Rattle.ssh_model.specs.TransportLayer.Summary.{items_sent}
+use Rattle.ssh_model.specs.Protocol.Side.{Side}
+use Rattle.ssh_model.specs.Protocol.Wire.Message.{Msg, IsPayload}
+use Rattle.ssh_model.specs.State.Channels.Kept.{Channels}
+use Rattle.ssh_model.specs.State.Channels.Summary.{reply_sent}
+use Rattle.ssh_model.specs.State.End.Payloads as payloads
+use Rattle.ssh_model.specs.State.End.Payloads.{GivesOwed}
+use Rattle.ssh_model.specs.Protocol.Sessions.Items.{Item, Spelled, Spelled.SpelledBy, messages_sent}
+use Rattle.ssh_model.specs.Protocol.Sessions.Parties.{Parties}
+use Rattle.ssh_model.specs.Protocol.Sessions.Transport.{CompletingAnswer}
+use Rattle.ssh_model.specs.State.TransportLayer.Summary.{items_sent}
 use Rattle.ssh_transport_machine.specs.Puts.{payloads_of}
 use Rattle.ssh_end.specs.Steps.{AreSent}
 

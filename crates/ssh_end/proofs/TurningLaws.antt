@@ -1,28 +1,28 @@
 -- The laws of the model by which what an end makes of bytes is a turn of a session.
 use Rattle.std.specs.Prelude.{◌≡◌, ◌<◌, ◌^◌, ◌++◌, ℕ, List, [], ◌∷◌, None, true, false}
-use Rattle.ssh_model.specs.Side.{Side}
-use Rattle.ssh_model.specs.Wire.Message.{Msg}
-use Rattle.ssh_model.specs.Wire.Line.{IsLineBegun}
-use Rattle.ssh_model.specs.Wire.Sealing.{IsSealing}
-use Rattle.ssh_model.specs.Wire.Unit.{IsPacketBegun, IsUnit}
-use Rattle.ssh_model.specs.Wire.Outcome.{Outcome.OtherLine, Outcome.VersionLine, Outcome.RefusedLine, Outcome.Opens, Outcome.RefusedPacket}
-use Rattle.ssh_model.specs.Wire.Delivery.{Waits}
-use Rattle.ssh_model.specs.Sessions.Refusals.{Refusal}
-use Rattle.ssh_model.specs.Sessions.Parties.{AreLawful, Parties}
-use Rattle.ssh_model.specs.Sessions.Items.{Item, Fact.Completed, Item.Took, Item.TookLine, Item.TookOtherLine, Item.Told, messages_sent}
-use Rattle.ssh_model.specs.Sessions.Turns.{EndRun, OnPayload, OnUnit, stage}
-use Rattle.ssh_model.specs.TransportLayer.Kept.{Transport}
-use Rattle.ssh_model.specs.TransportLayer.Summary.{SumsUp}
-use Rattle.ssh_model.specs.TransportLayer.Turns.{EndedBy, PutsPackets, Turned, UnitRefused}
-use Rattle.ssh_model.specs.End.State.{EndState, after_items}
-use Rattle.ssh_model.specs.End.Summary.{EndSumsUp, EndTurned}
-use Rattle.ssh_model.specs.End.Payloads.{GivesOwed, TakesPayload}
-use Rattle.ssh_model.specs.End.Below.{AreBelow, opened_by_all}
-use Rattle.ssh_model.specs.Channels.Connection.{AreReplies, owed_replies}
-use Rattle.ssh_model.specs.Channels.Kept.{Channels, peer_of}
-use Rattle.ssh_model.specs.Channels.Places.{at}
-use Rattle.ssh_model.specs.End.Deaths.{CanSettle}
-use Rattle.ssh_model.specs.End.Reading.{end_reading}
+use Rattle.ssh_model.specs.Protocol.Side.{Side}
+use Rattle.ssh_model.specs.Protocol.Wire.Message.{Msg}
+use Rattle.ssh_model.specs.Protocol.Wire.Line.{IsLineBegun}
+use Rattle.ssh_model.specs.Protocol.Wire.Sealing.{IsSealing}
+use Rattle.ssh_model.specs.Protocol.Wire.Unit.{IsPacketBegun, IsUnit}
+use Rattle.ssh_model.specs.Protocol.Wire.Outcome.{Outcome.OtherLine, Outcome.VersionLine, Outcome.RefusedLine, Outcome.Opens, Outcome.RefusedPacket}
+use Rattle.ssh_model.specs.Protocol.Wire.Delivery.{Waits}
+use Rattle.ssh_model.specs.Protocol.Sessions.Refusals.{Refusal}
+use Rattle.ssh_model.specs.Protocol.Sessions.Parties.{AreLawful, Parties}
+use Rattle.ssh_model.specs.Protocol.Sessions.Items.{Item, Fact.Completed, Item.Took, Item.TookLine, Item.TookOtherLine, Item.Told, messages_sent}
+use Rattle.ssh_model.specs.Protocol.Sessions.Turns.{EndRun, OnPayload, OnUnit, stage}
+use Rattle.ssh_model.specs.State.TransportLayer.Kept.{Transport}
+use Rattle.ssh_model.specs.State.TransportLayer.Summary.{SumsUp}
+use Rattle.ssh_model.specs.State.TransportLayer.Turns.{EndedBy, PutsPackets, Turned, UnitRefused}
+use Rattle.ssh_model.specs.State.End.State.{EndState, after_items}
+use Rattle.ssh_model.specs.State.End.Summary.{EndSumsUp, EndTurned}
+use Rattle.ssh_model.specs.State.End.Payloads.{GivesOwed, TakesPayload}
+use Rattle.ssh_model.specs.State.End.Below.{AreBelow, opened_by_all}
+use Rattle.ssh_model.specs.Protocol.Channels.Connection.{AreReplies, owed_replies}
+use Rattle.ssh_model.specs.State.Channels.Kept.{Channels, peer_of}
+use Rattle.ssh_model.specs.State.Channels.Places.{at}
+use Rattle.ssh_model.specs.State.End.Deaths.{CanSettle}
+use Rattle.ssh_model.specs.State.End.Reading.{end_reading}
 
 pub record TurningLaws (K : Type 0) : Type 0 where
   pub layered : (p : Parties K) (side : Side) (history : List Item) (e : EndState K) → EndSumsUp p side history e → e.transport.dead ≡ false → (payload : List ℕ) (items : List Item) (more : List ℕ) (transport : Transport K) → AreBelow items → Turned p side history payload items more transport →

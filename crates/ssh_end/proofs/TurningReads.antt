@@ -2,18 +2,18 @@
 use Rattle.std.proofs.Common.{◌≡◌, ℕ, Bool, true, false, List, [], refl, ap, sym, ◌∙◌, subst, Option, None, Some}
 use Rattle.std.proofs.lemmas.Bool.{false≢true}
 use Rattle.std.specs.Option.{option_map}
-use Rattle.ssh_model.specs.Side.{Side, Side.Client}
-use Rattle.ssh_model.specs.Channels.Kept.{Channels}
-use Rattle.ssh_model.specs.End.State.{EndState}
-use Rattle.ssh_model.specs.Sessions.Items.{Item}
-use Rattle.ssh_model.specs.Sessions.Parties.{Parties}
-use Rattle.ssh_model.specs.Sessions.Turns.{stage}
-use Rattle.ssh_model.specs.TransportLayer.Kept.{Transport}
-use Rattle.ssh_model.specs.TransportLayer.Directions.{Direction}
-use Rattle.ssh_model.specs.TransportLayer.Summary.{SumsUp}
-use Rattle.ssh_model.specs.Wire.Outcome.{Outcome, Outcome.Opens, Outcome.OtherLine, Outcome.RefusedLine, Outcome.RefusedPacket, Outcome.VersionLine}
-use Rattle.ssh_model.specs.Wire.Sealing.{Crypto, IsSealing}
-use Rattle.ssh_model.specs.Wire.Unit.{IsUnit, PacketUnit, Stage, Stage.Packets}
+use Rattle.ssh_model.specs.Protocol.Side.{Side, Side.Client}
+use Rattle.ssh_model.specs.State.Channels.Kept.{Channels}
+use Rattle.ssh_model.specs.State.End.State.{EndState}
+use Rattle.ssh_model.specs.Protocol.Sessions.Items.{Item}
+use Rattle.ssh_model.specs.Protocol.Sessions.Parties.{Parties}
+use Rattle.ssh_model.specs.Protocol.Sessions.Turns.{stage}
+use Rattle.ssh_model.specs.State.TransportLayer.Kept.{Transport}
+use Rattle.ssh_model.specs.State.TransportLayer.Directions.{Direction}
+use Rattle.ssh_model.specs.State.TransportLayer.Summary.{SumsUp}
+use Rattle.ssh_model.specs.Protocol.Wire.Outcome.{Outcome, Outcome.Opens, Outcome.OtherLine, Outcome.RefusedLine, Outcome.RefusedPacket, Outcome.VersionLine}
+use Rattle.ssh_model.specs.Protocol.Wire.Sealing.{Crypto, IsSealing}
+use Rattle.ssh_model.specs.Protocol.Wire.Unit.{IsUnit, PacketUnit, Stage, Stage.Packets}
 use Rattle.ssh_transport_machine.specs.LineTurns.{LineTaken}
 use Rattle.ssh_transport_machine.specs.Outcomes.{LineOutcome, packet_outcome, payload_outcome}
 use Rattle.ssh_transport_machine.specs.Puts.{Outs}

@@ -2,20 +2,20 @@
 use Rattle.std.proofs.Common.{◌≡◌, ℕ, ◌+◌, ◌-◌, ◌%◌, ◌<◌, ◌^◌, Bool, true, false, List, length, arith, refl, Option, Some, None}
 use Rattle.std.specs.Option.{option_map}
 use Rattle.std.specs.Prelude.{IsSome}
-use Rattle.ssh_model.specs.Wire.Message.{Msg, IsPayload}
-use Rattle.ssh_model.specs.Wire.Outcome.{Outcome.Opens}
-use Rattle.ssh_model.specs.Wire.Sealing.{Crypto}
-use Rattle.ssh_model.specs.Wire.Unit.{HasNumber, PacketUnit}
-use Rattle.ssh_model.specs.Channels.Kept.{Channels, DueReply, DueReply.AnswersClose, DueReply.RefusesOpen, Taken, Takes, close_reply, has_said_close, peer_of, sent_at_once}
-use Rattle.ssh_model.specs.Channels.Places.{at}
-use Rattle.ssh_model.specs.Channels.Summary.{reply_sent, told}
-use Rattle.ssh_model.specs.End.Payloads.{AnswersAbove, ReadsAbove, reply_items}
-use Rattle.ssh_model.specs.End.State.{Authentication, EndState, above_checks}
-use Rattle.ssh_model.specs.Sessions.Items.{Fact, Item, messages_sent}
-use Rattle.ssh_model.specs.Sessions.Parties.{Parties}
-use Rattle.ssh_model.specs.Sessions.Refusals.{first_refusal}
-use Rattle.ssh_model.specs.Sessions.TurnClaims.{HasSpelling}
-use Rattle.ssh_model.specs.Sessions.Turns.{AreSpelled}
+use Rattle.ssh_model.specs.Protocol.Wire.Message.{Msg, IsPayload}
+use Rattle.ssh_model.specs.Protocol.Wire.Outcome.{Outcome.Opens}
+use Rattle.ssh_model.specs.Protocol.Wire.Sealing.{Crypto}
+use Rattle.ssh_model.specs.Protocol.Wire.Unit.{HasNumber, PacketUnit}
+use Rattle.ssh_model.specs.State.Channels.Kept.{Channels, DueReply, DueReply.AnswersClose, DueReply.RefusesOpen, Taken, Takes, close_reply, has_said_close, peer_of, sent_at_once}
+use Rattle.ssh_model.specs.State.Channels.Places.{at}
+use Rattle.ssh_model.specs.State.Channels.Summary.{reply_sent, told}
+use Rattle.ssh_model.specs.State.End.Payloads.{AnswersAbove, ReadsAbove, reply_items}
+use Rattle.ssh_model.specs.State.End.State.{Authentication, EndState, above_checks}
+use Rattle.ssh_model.specs.Protocol.Sessions.Items.{Fact, Item, messages_sent}
+use Rattle.ssh_model.specs.Protocol.Sessions.Parties.{Parties}
+use Rattle.ssh_model.specs.Protocol.Sessions.Refusals.{first_refusal}
+use Rattle.ssh_model.specs.Protocol.Sessions.TurnClaims.{HasSpelling}
+use Rattle.ssh_model.specs.Protocol.Sessions.Turns.{AreSpelled}
 use Rattle.ssh_model.specs.Laws.Senders.{open_sender_below}
 use Rattle.ssh_model.specs.Laws.Written.{close_spelled, open_failure_spelled}
 use Rattle.ssh_end.specs.Above.{SpentAbove}

@@ -1,11 +1,11 @@
 -- What a turn shows is what stands in its items.
 use Rattle.std.proofs.Common.{◌≡◌, ℕ, List, [], ◌∷◌, ◌++◌, refl, ap, sym, ◌∙◌, subst, Option, Some, None, option_map}
 use Rattle.ssh_types.specs.Refusals.{refusal_of}
-use Rattle.ssh_model.specs.Wire.Message.{Msg, IsPayload}
-use Rattle.ssh_model.specs.Sessions.Items.{Fact, Item, Item.Refused, Item.Took, Item.Died, Spelled, Spelled.SpelledBy}
-use Rattle.ssh_model.specs.Channels.Summary.{told}
-use Rattle.ssh_model.specs.TransportLayer.Summary.{items_sent}
-use Rattle.ssh_model.specs.TransportLayer.Turns.{refusal_items}
+use Rattle.ssh_model.specs.Protocol.Wire.Message.{Msg, IsPayload}
+use Rattle.ssh_model.specs.Protocol.Sessions.Items.{Fact, Item, Item.Refused, Item.Took, Item.Died, Spelled, Spelled.SpelledBy}
+use Rattle.ssh_model.specs.State.Channels.Summary.{told}
+use Rattle.ssh_model.specs.State.TransportLayer.Summary.{items_sent}
+use Rattle.ssh_model.specs.State.TransportLayer.Turns.{refusal_items}
 use Rattle.ssh_end.specs.Steps.{AreSent, Shows, fact_told}
 use Rattle.ssh_end.specs.Told.{told_of}
 use Rattle.ssh_end.specs.Turn.{IsMessageTurn, IsTaken, TurnShows, fact_in, oldest, refusal_in}

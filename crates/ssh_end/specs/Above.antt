@@ -1,20 +1,20 @@
 -- What an end does with a payload from 50 on: what the layers above its transport make of it, and what is then sent.
 use Rattle.std.specs.Prelude.{◌≡◌, ℕ, ◌<◌, ◌≤◌, ◌^◌, Bool, true, false, Option, Some, None, IsSome, List, [], ◌∷◌, length}
 use Rattle.std.specs.Option.{option_map}
-use Rattle.ssh_model.specs.Side.{Side}
-use Rattle.ssh_model.specs.Wire.Message.{Msg}
-use Rattle.ssh_model.specs.Wire.Sealing.{Crypto}
-use Rattle.ssh_model.specs.Channels.Kept.{Channels, DueReply}
-use Rattle.ssh_model.specs.Channels.Summary.{told}
-use Rattle.ssh_model.specs.Sessions.Items.{Item, Spelled.SpelledBy, messages_sent}
-use Rattle.ssh_model.specs.Sessions.Parties.{Parties}
-use Rattle.ssh_model.specs.Sessions.Phases.{Phase.Normal}
-use Rattle.ssh_model.specs.Sessions.Refusals.{first_refusal}
-use Rattle.ssh_model.specs.Sessions.Turns.{AreSpelled, IsSpelled, number_of, take_memory}
-use Rattle.ssh_model.specs.TransportLayer.Kept.{Transport, after_sent, after_success, after_taken}
-use Rattle.ssh_model.specs.End.Deaths.{WouldTake}
-use Rattle.ssh_model.specs.End.Payloads.{AnswersAbove, ReadsAbove, RefusesAbove}
-use Rattle.ssh_model.specs.End.State.{Authentication, EndState, above_checks, after_above, after_items, probes}
+use Rattle.ssh_model.specs.Protocol.Side.{Side}
+use Rattle.ssh_model.specs.Protocol.Wire.Message.{Msg}
+use Rattle.ssh_model.specs.Protocol.Wire.Sealing.{Crypto}
+use Rattle.ssh_model.specs.State.Channels.Kept.{Channels, DueReply}
+use Rattle.ssh_model.specs.State.Channels.Summary.{told}
+use Rattle.ssh_model.specs.Protocol.Sessions.Items.{Item, Spelled.SpelledBy, messages_sent}
+use Rattle.ssh_model.specs.Protocol.Sessions.Parties.{Parties}
+use Rattle.ssh_model.specs.Protocol.Sessions.Phases.{Phase.Normal}
+use Rattle.ssh_model.specs.Protocol.Sessions.Refusals.{first_refusal}
+use Rattle.ssh_model.specs.Protocol.Sessions.Turns.{AreSpelled, IsSpelled, number_of, take_memory}
+use Rattle.ssh_model.specs.State.TransportLayer.Kept.{Transport, after_sent, after_success, after_taken}
+use Rattle.ssh_model.specs.State.End.Deaths.{WouldTake}
+use Rattle.ssh_model.specs.State.End.Payloads.{AnswersAbove, ReadsAbove, RefusesAbove}
+use Rattle.ssh_model.specs.State.End.State.{Authentication, EndState, above_checks, after_above, after_items, probes}
 use Rattle.ssh_transport_machine.specs.Above.{IsPut, PeerRefused}
 use Rattle.ssh_transport_machine.specs.Puts.{Outs, payloads_of}
 use Rattle.ssh_transport_machine.specs.State.{State, dead_state, last_number}

@@ -1,29 +1,29 @@
 -- What an end does on an ask of its user.
 use Rattle.std.specs.Prelude.{◌≡◌, ◌<◌, ◌^◌, ◌++◌, ℕ, true, false, Option, Some, None, List, [], ◌∷◌, Result, Ok, Err}
 use Rattle.std.specs.Option.{option_map}
-use Rattle.ssh_model.specs.Side.{Side, Side.Client, Side.Server}
-use Rattle.ssh_model.specs.Wire.Message.{Msg, Msg.Disconnect}
-use Rattle.ssh_model.specs.Wire.Message.{Msg.ChannelOpen, Msg.ChannelOpenConfirmation, Msg.ChannelOpenFailure}
-use Rattle.ssh_model.specs.Wire.Message.{Msg.ChannelWindowAdjust, Msg.ChannelData, Msg.ChannelExtendedData}
-use Rattle.ssh_model.specs.Wire.Message.{Msg.ChannelEof, Msg.ChannelClose, Msg.ChannelRequest, Msg.ChannelSuccess}
-use Rattle.ssh_model.specs.Wire.Message.{Msg.ChannelFailure}
-use Rattle.ssh_model.specs.Wire.Sealing.{Crypto}
-use Rattle.ssh_model.specs.Sessions.Items as session
-use Rattle.ssh_model.specs.Sessions.Items.{Fact.Opening, Item, Item.Asked, Item.AskRefused, Item.Died, Item.Refused}
-use Rattle.ssh_model.specs.Sessions.Items.{Item.Sent, messages_sent}
-use Rattle.ssh_model.specs.Sessions.Parties.{Parties, settings_of}
-use Rattle.ssh_model.specs.Sessions.Refusals as model
-use Rattle.ssh_model.specs.Sessions.Refusals.{first_refusal}
-use Rattle.ssh_model.specs.Sessions.TurnClaims.{HasSpelling}
-use Rattle.ssh_model.specs.Sessions.Turns.{AsksTurn, ask_checks}
-use Rattle.ssh_model.specs.Authentication.Kept as authentication
-use Rattle.ssh_model.specs.Channels.Kept as channels
-use Rattle.ssh_model.specs.Channels.Kept.{Channels}
-use Rattle.ssh_model.specs.Channels.Summary.{told}
-use Rattle.ssh_model.specs.TransportLayer.Kept.{Transport, after_sent}
-use Rattle.ssh_model.specs.End.Asks.{TakesAsk, end_ask_checks}
-use Rattle.ssh_model.specs.End.State.{Authentication, Authentication.OfClient, EndState}
-use Rattle.ssh_model.specs.End.Summary.{EndSumsUp, EndTurned}
+use Rattle.ssh_model.specs.Protocol.Side.{Side, Side.Client, Side.Server}
+use Rattle.ssh_model.specs.Protocol.Wire.Message.{Msg, Msg.Disconnect}
+use Rattle.ssh_model.specs.Protocol.Wire.Message.{Msg.ChannelOpen, Msg.ChannelOpenConfirmation, Msg.ChannelOpenFailure}
+use Rattle.ssh_model.specs.Protocol.Wire.Message.{Msg.ChannelWindowAdjust, Msg.ChannelData, Msg.ChannelExtendedData}
+use Rattle.ssh_model.specs.Protocol.Wire.Message.{Msg.ChannelEof, Msg.ChannelClose, Msg.ChannelRequest, Msg.ChannelSuccess}
+use Rattle.ssh_model.specs.Protocol.Wire.Message.{Msg.ChannelFailure}
+use Rattle.ssh_model.specs.Protocol.Wire.Sealing.{Crypto}
+use Rattle.ssh_model.specs.Protocol.Sessions.Items as session
+use Rattle.ssh_model.specs.Protocol.Sessions.Items.{Fact.Opening, Item, Item.Asked, Item.AskRefused, Item.Died, Item.Refused}
+use Rattle.ssh_model.specs.Protocol.Sessions.Items.{Item.Sent, messages_sent}
+use Rattle.ssh_model.specs.Protocol.Sessions.Parties.{Parties, settings_of}
+use Rattle.ssh_model.specs.Protocol.Sessions.Refusals as model
+use Rattle.ssh_model.specs.Protocol.Sessions.Refusals.{first_refusal}
+use Rattle.ssh_model.specs.Protocol.Sessions.TurnClaims.{HasSpelling}
+use Rattle.ssh_model.specs.Protocol.Sessions.Turns.{AsksTurn, ask_checks}
+use Rattle.ssh_model.specs.State.Authentication.Kept as authentication
+use Rattle.ssh_model.specs.State.Channels.Kept as channels
+use Rattle.ssh_model.specs.State.Channels.Kept.{Channels}
+use Rattle.ssh_model.specs.State.Channels.Summary.{told}
+use Rattle.ssh_model.specs.State.TransportLayer.Kept.{Transport, after_sent}
+use Rattle.ssh_model.specs.State.End.Asks.{TakesAsk, end_ask_checks}
+use Rattle.ssh_model.specs.State.End.State.{Authentication, Authentication.OfClient, EndState}
+use Rattle.ssh_model.specs.State.End.Summary.{EndSumsUp, EndTurned}
 use Rattle.ssh_auth.specs.Asking.{ask_of as user_ask_of}
 use Rattle.ssh_channels.specs.Values.{ask_of as channel_ask_of}
 use Rattle.ssh_transport_machine.specs.Asks.{AskDied, AskTaken, WasDead}

@@ -1,7 +1,7 @@
 -- The channels of the payloads that an end sends in a turn.
 use Rattle.std.specs.Prelude.{ℕ, ◌-◌, length, map, Option, None, List, [], ◌∷◌, ◌++◌, replicate}
-use Rattle.ssh_model.specs.Channels.Kept.{DueReply}
-use Rattle.ssh_model.specs.Channels.Summary.{reply_channel}
+use Rattle.ssh_model.specs.State.Channels.Kept.{DueReply}
+use Rattle.ssh_model.specs.State.Channels.Summary.{reply_channel}
 use Rattle.ssh_end.specs.declared.step.Step.{Step}
 use Rattle.ssh_end.specs.declared.step.Step.TheVariants as step
 use Rattle.ssh_end.specs.declared.step.Telling.{Telling}

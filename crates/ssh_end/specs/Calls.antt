@@ -1,10 +1,10 @@
 -- What the calls of an end answer that show what was done.
 use Rattle.std.specs.Prelude.{◌≡◌, ◌++◌, ℕ, false, Option, None, List, [], length, take, Result, Ok, Err, IfErr, IfOk}
 use Rattle.std.specs.Option.{option_map}
-use Rattle.ssh_model.specs.Sessions.Items as session
-use Rattle.ssh_model.specs.Sessions.Items.{Fact.Opening, Item}
-use Rattle.ssh_model.specs.Sessions.Parties.{Parties}
-use Rattle.ssh_model.specs.Wire.Sealing.{Crypto}
+use Rattle.ssh_model.specs.Protocol.Sessions.Items as session
+use Rattle.ssh_model.specs.Protocol.Sessions.Items.{Fact.Opening, Item}
+use Rattle.ssh_model.specs.Protocol.Sessions.Parties.{Parties}
+use Rattle.ssh_model.specs.Protocol.Wire.Sealing.{Crypto}
 use Rattle.ssh_transport.specs.declared.role.Role as exchange
 use Rattle.ssh_transport_machine.specs.Puts.{Outs}
 use Rattle.ssh_transport_machine.specs.State.{begun_of}

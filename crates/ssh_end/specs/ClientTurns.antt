@@ -1,13 +1,13 @@
 -- What a client's end makes of the bytes of one line or one packet, as a turn of a session.
 use Rattle.std.specs.Prelude.{◌≡◌, ℕ, false, None, List, []}
-use Rattle.ssh_model.specs.Side.{Side.Client}
-use Rattle.ssh_model.specs.End.Reading.{end_reading}
-use Rattle.ssh_model.specs.End.Summary.{EndSumsUp}
-use Rattle.ssh_model.specs.Sessions.Items.{Item}
-use Rattle.ssh_model.specs.Sessions.Parties.{AreLawful, Parties}
-use Rattle.ssh_model.specs.Sessions.Phases.{Phase.Normal}
-use Rattle.ssh_model.specs.Sessions.Turns.{EndRun}
-use Rattle.ssh_model.specs.Wire.Delivery.{Waits}
+use Rattle.ssh_model.specs.Protocol.Side.{Side.Client}
+use Rattle.ssh_model.specs.State.End.Reading.{end_reading}
+use Rattle.ssh_model.specs.State.End.Summary.{EndSumsUp}
+use Rattle.ssh_model.specs.Protocol.Sessions.Items.{Item}
+use Rattle.ssh_model.specs.Protocol.Sessions.Parties.{AreLawful, Parties}
+use Rattle.ssh_model.specs.Protocol.Sessions.Phases.{Phase.Normal}
+use Rattle.ssh_model.specs.Protocol.Sessions.Turns.{EndRun}
+use Rattle.ssh_model.specs.Protocol.Wire.Delivery.{Waits}
 use Rattle.ssh_transport_machine.specs.Puts.{Outs}
 use Rattle.ssh_transport_machine.specs.State.{State, begun_of}
 use Rattle.ssh_transport_machine.specs.Turning.{IsQuiet}

@@ -1,9 +1,9 @@
 -- What a client makes of the bytes of one line or one packet.
 use Rattle.std.specs.Prelude.{◌≡◌, ◌≤◌, ℕ, Bool, true, false, List, length}
-use Rattle.ssh_model.specs.Authentication.Kept.{opened_client}
-use Rattle.ssh_model.specs.Sessions.Parties.{Agreement}
-use Rattle.ssh_model.specs.Side.{Side.Client}
-use Rattle.ssh_model.specs.Wire.Sealing.{Crypto}
+use Rattle.ssh_model.specs.State.Authentication.Kept.{opened_client}
+use Rattle.ssh_model.specs.Protocol.Sessions.Parties.{Agreement}
+use Rattle.ssh_model.specs.Protocol.Side.{Side.Client}
+use Rattle.ssh_model.specs.Protocol.Wire.Sealing.{Crypto}
 use Rattle.ssh_transport_machine.specs.Puts.{Outs}
 use Rattle.ssh_transport_machine.specs.State.{State}
 use Rattle.ssh_transport_machine.specs.declared.outcome.TransportTurn.{TransportTurn}

@@ -1,13 +1,13 @@
 -- What becomes of an end that memory was refused, as a turn of a session.
 use Rattle.std.specs.Prelude.{◌≡◌, ◌^◌, ℕ, List, [], ◌∷◌}
-use Rattle.ssh_model.specs.Side.{Side.Server}
-use Rattle.ssh_model.specs.Wire.Message.{Msg}
-use Rattle.ssh_model.specs.Wire.Outcome.{Outcome.Opens}
-use Rattle.ssh_model.specs.Wire.Unit.{IsUnit}
-use Rattle.ssh_model.specs.Authentication.Requests.{judge_of}
-use Rattle.ssh_model.specs.Sessions.Items.{Item, Item.Died}
-use Rattle.ssh_model.specs.Sessions.Parties.{Parties}
-use Rattle.ssh_model.specs.Sessions.Turns.{OnUnit, stage}
+use Rattle.ssh_model.specs.Protocol.Side.{Side.Server}
+use Rattle.ssh_model.specs.Protocol.Wire.Message.{Msg}
+use Rattle.ssh_model.specs.Protocol.Wire.Outcome.{Outcome.Opens}
+use Rattle.ssh_model.specs.Protocol.Wire.Unit.{IsUnit}
+use Rattle.ssh_model.specs.Protocol.Authentication.Requests.{judge_of}
+use Rattle.ssh_model.specs.Protocol.Sessions.Items.{Item, Item.Died}
+use Rattle.ssh_model.specs.Protocol.Sessions.Parties.{Parties}
+use Rattle.ssh_model.specs.Protocol.Sessions.Turns.{OnUnit, stage}
 use Rattle.ssh_auth.specs.Serving.{NeedsText}
 use Rattle.ssh_transport_machine.specs.State.{State}
 use Rattle.ssh_layers.specs.Layers.{Layers, Reads}

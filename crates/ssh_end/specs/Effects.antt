@@ -1,8 +1,8 @@
 -- What an end makes of an answer of its transport that asks for nothing more.
 use Rattle.std.specs.Prelude.{◌≡◌, ◌≤◌, Bool, true, false, None}
-use Rattle.ssh_model.specs.Sessions.Turns.{number_of}
-use Rattle.ssh_model.specs.Authentication.Kept.{opened_client, opened_server}
-use Rattle.ssh_model.specs.End.State.{Authentication, Authentication.OfClient, Authentication.OfServer}
+use Rattle.ssh_model.specs.Protocol.Sessions.Turns.{number_of}
+use Rattle.ssh_model.specs.State.Authentication.Kept.{opened_client, opened_server}
+use Rattle.ssh_model.specs.State.End.State.{Authentication, Authentication.OfClient, Authentication.OfServer}
 use Rattle.ssh_transport_machine.specs.Asks.{WasDead}
 use Rattle.ssh_transport_machine.specs.State.{State}
 use Rattle.ssh_transport_machine.specs.declared.outcome.Effect.{Effect}

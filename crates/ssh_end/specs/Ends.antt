@@ -1,10 +1,10 @@
 -- The ends: what they keep, how they begin, and what becomes of them.
 use Rattle.std.specs.Prelude.{◌≡◌, ℕ, List, [], Option}
-use Rattle.ssh_model.specs.Authentication.Kept.{new_client, new_server}
-use Rattle.ssh_model.specs.Channels.Kept.{no_channels}
-use Rattle.ssh_model.specs.Side.{Side.Client, Side.Server}
-use Rattle.ssh_model.specs.Sessions.Parties.{Settings}
-use Rattle.ssh_model.specs.Wire.Sealing.{Crypto}
+use Rattle.ssh_model.specs.State.Authentication.Kept.{new_client, new_server}
+use Rattle.ssh_model.specs.State.Channels.Kept.{no_channels}
+use Rattle.ssh_model.specs.Protocol.Side.{Side.Client, Side.Server}
+use Rattle.ssh_model.specs.Protocol.Sessions.Parties.{Settings}
+use Rattle.ssh_model.specs.Protocol.Wire.Sealing.{Crypto}
 use Rattle.ssh_layers.specs.ClientLayers as client
 use Rattle.ssh_layers.specs.Layers as server
 use Rattle.ssh_transport.specs.declared.role.Role as exchange

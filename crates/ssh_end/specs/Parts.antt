@@ -1,11 +1,11 @@
 -- When the parts of an end, and what it keeps above its transport, are those of parties.
 use Rattle.std.specs.Prelude.{◌≡◌, ℕ, false, List, Option}
-use Rattle.ssh_model.specs.Authentication.Requests.{Judge, judge_of}
-use Rattle.ssh_model.specs.Sessions.Parties.{Agreement, Parties}
-use Rattle.ssh_model.specs.Sessions.TurnClaims.{HasSpelling}
-use Rattle.ssh_model.specs.TransportLayer.Kept.{ExchangeParts}
-use Rattle.ssh_model.specs.Wire.Message.{Msg.UserauthFailure}
-use Rattle.ssh_model.specs.Wire.Sealing.{Crypto}
+use Rattle.ssh_model.specs.Protocol.Authentication.Requests.{Judge, judge_of}
+use Rattle.ssh_model.specs.Protocol.Sessions.Parties.{Agreement, Parties}
+use Rattle.ssh_model.specs.Protocol.Sessions.TurnClaims.{HasSpelling}
+use Rattle.ssh_model.specs.State.TransportLayer.Kept.{ExchangeParts}
+use Rattle.ssh_model.specs.Protocol.Wire.Message.{Msg.UserauthFailure}
+use Rattle.ssh_model.specs.Protocol.Wire.Sealing.{Crypto}
 use Rattle.ssh_layers.specs.ClientLayers as client
 use Rattle.ssh_layers.specs.Layers as server
 use Rattle.ssh_layers.specs.Sessions.{AreOf}

@@ -1,18 +1,18 @@
 -- Where an end stands in a run of its own, and where each call takes it. A history has the newest item first.
 use Rattle.std.specs.Prelude.{◌≡◌, ◌++◌, ◌^◌, ℕ, Bool, true, false, List, [], ◌∷◌, Result, Ok, Err}
-use Rattle.ssh_model.specs.Channels.Kept.{Channels}
-use Rattle.ssh_model.specs.End.Reading.{end_reading}
-use Rattle.ssh_model.specs.End.State.{Authentication, EndState}
-use Rattle.ssh_model.specs.End.Summary.{EndSumsUp}
-use Rattle.ssh_model.specs.Sessions.AnyPeer.{IsGuarded}
-use Rattle.ssh_model.specs.Sessions.Items as session
-use Rattle.ssh_model.specs.Sessions.Items.{Item, Item.Asked, Item.AskRefused, Item.Died, Item.Fed}
-use Rattle.ssh_model.specs.Sessions.Parties.{AreLawful, Parties}
-use Rattle.ssh_model.specs.Sessions.Turns.{EndRun, FeedsTurn, OnUnit}
-use Rattle.ssh_model.specs.Side.{Side, Side.Server}
-use Rattle.ssh_model.specs.TransportLayer.Kept.{Transport}
-use Rattle.ssh_model.specs.Wire.Delivery.{Waits}
-use Rattle.ssh_model.specs.Wire.Sealing.{Crypto}
+use Rattle.ssh_model.specs.State.Channels.Kept.{Channels}
+use Rattle.ssh_model.specs.State.End.Reading.{end_reading}
+use Rattle.ssh_model.specs.State.End.State.{Authentication, EndState}
+use Rattle.ssh_model.specs.State.End.Summary.{EndSumsUp}
+use Rattle.ssh_model.specs.Protocol.Sessions.AnyPeer.{IsGuarded}
+use Rattle.ssh_model.specs.Protocol.Sessions.Items as session
+use Rattle.ssh_model.specs.Protocol.Sessions.Items.{Item, Item.Asked, Item.AskRefused, Item.Died, Item.Fed}
+use Rattle.ssh_model.specs.Protocol.Sessions.Parties.{AreLawful, Parties}
+use Rattle.ssh_model.specs.Protocol.Sessions.Turns.{EndRun, FeedsTurn, OnUnit}
+use Rattle.ssh_model.specs.Protocol.Side.{Side, Side.Server}
+use Rattle.ssh_model.specs.State.TransportLayer.Kept.{Transport}
+use Rattle.ssh_model.specs.Protocol.Wire.Delivery.{Waits}
+use Rattle.ssh_model.specs.Protocol.Wire.Sealing.{Crypto}
 use Rattle.ssh_types.specs.AskRefusals.{ask_refusal_of}
 use Rattle.ssh_transport.specs.Units.{RoleDoes, RoleLacks}
 use Rattle.ssh_transport_machine.specs.Puts.{Outs}

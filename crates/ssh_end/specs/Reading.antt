@@ -1,8 +1,8 @@
 -- What an end has begun to read, and what stays of it.
 use Rattle.std.specs.Prelude.{◌≡◌, true, false, []}
-use Rattle.ssh_model.specs.Wire.Line.{IsLineBegun}
-use Rattle.ssh_model.specs.Wire.Sealing.{Crypto}
-use Rattle.ssh_model.specs.Wire.Unit.{IsPacketBegun}
+use Rattle.ssh_model.specs.Protocol.Wire.Line.{IsLineBegun}
+use Rattle.ssh_model.specs.Protocol.Wire.Sealing.{Crypto}
+use Rattle.ssh_model.specs.Protocol.Wire.Unit.{IsPacketBegun}
 use Rattle.ssh_transport_machine.specs.State.{State}
 
 -- The bytes that are begun are a prefix of a line, or of a packet.

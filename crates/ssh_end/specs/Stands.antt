@@ -1,12 +1,12 @@
 -- Where an end of either role stands in a run of its own, and where each of its calls takes it.
 use Rattle.std.specs.Prelude.{◌≡◌, ◌++◌, ℕ, Bool, List, [], ◌∷◌, Result, take}
-use Rattle.ssh_model.specs.End.State.{EndState}
-use Rattle.ssh_model.specs.End.Summary.{HasOpened}
-use Rattle.ssh_model.specs.KeyExchange.Exchanges.{Material, fed}
-use Rattle.ssh_model.specs.Sessions.Items as session
-use Rattle.ssh_model.specs.Sessions.Items.{Item, messages_sent}
-use Rattle.ssh_model.specs.Sessions.Parties.{AreLawful, Parties, Settings, settings_of}
-use Rattle.ssh_model.specs.Side.{Side}
+use Rattle.ssh_model.specs.State.End.State.{EndState}
+use Rattle.ssh_model.specs.State.End.Summary.{HasOpened}
+use Rattle.ssh_model.specs.Protocol.KeyExchange.Exchanges.{Material, fed}
+use Rattle.ssh_model.specs.Protocol.Sessions.Items as session
+use Rattle.ssh_model.specs.Protocol.Sessions.Items.{Item, messages_sent}
+use Rattle.ssh_model.specs.Protocol.Sessions.Parties.{AreLawful, Parties, Settings, settings_of}
+use Rattle.ssh_model.specs.Protocol.Side.{Side}
 use Rattle.ssh_types.specs.Sides.{side_of}
 use Rattle.ssh_transport.specs.declared.role.Role as exchange
 use Rattle.ssh_transport_machine.specs.Puts.{payloads_of}

@@ -1,27 +1,27 @@
 -- What an end did in a turn, as the items of a session.
 use Rattle.std.specs.Prelude.{◌≡◌, ℕ, Bool, true, false, Option, Some, None, List, [], ◌∷◌, ◌++◌}
-use Rattle.ssh_model.specs.Side.{Side}
-use Rattle.ssh_model.specs.Wire.Message.{Msg, Msg.Disconnect, Msg.Ignore, Msg.Unimplemented, Msg.Debug}
-use Rattle.ssh_model.specs.Wire.Message.{Msg.ServiceAccept, Msg.ExtInfo, Msg.UserauthRequest, Msg.UserauthFailure}
-use Rattle.ssh_model.specs.Wire.Message.{Msg.UserauthSuccess, Msg.UserauthBanner, Msg.UserauthPkOk, Msg.GlobalRequest}
-use Rattle.ssh_model.specs.Wire.Message.{Msg.RequestSuccess, Msg.RequestFailure, Msg.ChannelOpen}
-use Rattle.ssh_model.specs.Wire.Message.{Msg.ChannelOpenConfirmation, Msg.ChannelOpenFailure}
-use Rattle.ssh_model.specs.Wire.Message.{Msg.ChannelWindowAdjust, Msg.ChannelData, Msg.ChannelExtendedData}
-use Rattle.ssh_model.specs.Wire.Message.{Msg.ChannelEof, Msg.ChannelClose, Msg.ChannelRequest, Msg.ChannelSuccess}
-use Rattle.ssh_model.specs.Wire.Message.{Msg.ChannelFailure, IsPayload}
-use Rattle.ssh_model.specs.Sessions.Items.{Fact, Fact.Disconnected, Fact.Ignored, Fact.NotImplemented, Fact.Debugged}
-use Rattle.ssh_model.specs.Sessions.Items.{Fact.Service, Fact.GotExtensions, Fact.Failed, Fact.Authenticated}
-use Rattle.ssh_model.specs.Sessions.Items.{Fact.Banner, Fact.KeyOk, Fact.Global, Fact.GlobalDone, Fact.Opened}
-use Rattle.ssh_model.specs.Sessions.Items.{Fact.Confirmed, Fact.OpenFailed, Fact.GotData, Fact.Adjusted, Fact.Ended}
-use Rattle.ssh_model.specs.Sessions.Items.{Fact.Closed, Fact.Requested, Fact.RequestDone, Fact.Accepted}
-use Rattle.ssh_model.specs.Sessions.Items.{Fact.Completed, Item, Item.Died, Item.Told, Item.Took, Item.TookGuess}
-use Rattle.ssh_model.specs.Sessions.Items.{Item.TookLine, Item.TookOtherLine, Spelled, messages_sent}
-use Rattle.ssh_model.specs.Sessions.Parties.{Parties}
-use Rattle.ssh_model.specs.Sessions.Turns.{OnUnit}
-use Rattle.ssh_model.specs.Channels.Summary.{told}
-use Rattle.ssh_model.specs.TransportLayer.Turns.{refusal_items}
-use Rattle.ssh_model.specs.End.State.{EndState}
-use Rattle.ssh_model.specs.End.Summary.{EndSumsUp, EndTurned}
+use Rattle.ssh_model.specs.Protocol.Side.{Side}
+use Rattle.ssh_model.specs.Protocol.Wire.Message.{Msg, Msg.Disconnect, Msg.Ignore, Msg.Unimplemented, Msg.Debug}
+use Rattle.ssh_model.specs.Protocol.Wire.Message.{Msg.ServiceAccept, Msg.ExtInfo, Msg.UserauthRequest, Msg.UserauthFailure}
+use Rattle.ssh_model.specs.Protocol.Wire.Message.{Msg.UserauthSuccess, Msg.UserauthBanner, Msg.UserauthPkOk, Msg.GlobalRequest}
+use Rattle.ssh_model.specs.Protocol.Wire.Message.{Msg.RequestSuccess, Msg.RequestFailure, Msg.ChannelOpen}
+use Rattle.ssh_model.specs.Protocol.Wire.Message.{Msg.ChannelOpenConfirmation, Msg.ChannelOpenFailure}
+use Rattle.ssh_model.specs.Protocol.Wire.Message.{Msg.ChannelWindowAdjust, Msg.ChannelData, Msg.ChannelExtendedData}
+use Rattle.ssh_model.specs.Protocol.Wire.Message.{Msg.ChannelEof, Msg.ChannelClose, Msg.ChannelRequest, Msg.ChannelSuccess}
+use Rattle.ssh_model.specs.Protocol.Wire.Message.{Msg.ChannelFailure, IsPayload}
+use Rattle.ssh_model.specs.Protocol.Sessions.Items.{Fact, Fact.Disconnected, Fact.Ignored, Fact.NotImplemented, Fact.Debugged}
+use Rattle.ssh_model.specs.Protocol.Sessions.Items.{Fact.Service, Fact.GotExtensions, Fact.Failed, Fact.Authenticated}
+use Rattle.ssh_model.specs.Protocol.Sessions.Items.{Fact.Banner, Fact.KeyOk, Fact.Global, Fact.GlobalDone, Fact.Opened}
+use Rattle.ssh_model.specs.Protocol.Sessions.Items.{Fact.Confirmed, Fact.OpenFailed, Fact.GotData, Fact.Adjusted, Fact.Ended}
+use Rattle.ssh_model.specs.Protocol.Sessions.Items.{Fact.Closed, Fact.Requested, Fact.RequestDone, Fact.Accepted}
+use Rattle.ssh_model.specs.Protocol.Sessions.Items.{Fact.Completed, Item, Item.Died, Item.Told, Item.Took, Item.TookGuess}
+use Rattle.ssh_model.specs.Protocol.Sessions.Items.{Item.TookLine, Item.TookOtherLine, Spelled, messages_sent}
+use Rattle.ssh_model.specs.Protocol.Sessions.Parties.{Parties}
+use Rattle.ssh_model.specs.Protocol.Sessions.Turns.{OnUnit}
+use Rattle.ssh_model.specs.State.Channels.Summary.{told}
+use Rattle.ssh_model.specs.State.TransportLayer.Turns.{refusal_items}
+use Rattle.ssh_model.specs.State.End.State.{EndState}
+use Rattle.ssh_model.specs.State.End.Summary.{EndSumsUp, EndTurned}
 use Rattle.ssh_transport_machine.specs.Puts.{Outs, payloads_of}
 use Rattle.ssh_transport_machine.specs.State.{State}
 use Rattle.ssh_types.specs.Refusals.{refusal_of}

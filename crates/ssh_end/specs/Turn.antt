@@ -2,10 +2,10 @@
 use Rattle.std.specs.Prelude.{◌≡◌, ℕ, ◌-◌, length, map, Option, Some, None, option_map, List, [], ◌∷◌, ◌++◌, replicate}
 use Rattle.ssh_types.specs.Refusals.{refusal_of}
 use Rattle.ssh_message.specs.Meaning.{meaning}
-use Rattle.ssh_model.specs.Wire.Message.{Msg}
-use Rattle.ssh_model.specs.Sessions.Items.{Fact, Item, Item.Refused, Item.Told, Item.TookGuess, Item.TookLine}
-use Rattle.ssh_model.specs.Sessions.Items.{Item.TookOtherLine}
-use Rattle.ssh_model.specs.Sessions.Refusals.{Refusal}
+use Rattle.ssh_model.specs.Protocol.Wire.Message.{Msg}
+use Rattle.ssh_model.specs.Protocol.Sessions.Items.{Fact, Item, Item.Refused, Item.Told, Item.TookGuess, Item.TookLine}
+use Rattle.ssh_model.specs.Protocol.Sessions.Items.{Item.TookOtherLine}
+use Rattle.ssh_model.specs.Protocol.Sessions.Refusals.{Refusal}
 use Rattle.ssh_end.specs.Steps.{fact_told}
 use Rattle.ssh_end.specs.Told.{told_of}
 use Rattle.ssh_end.specs.declared.step.TookStep.{TookStep}

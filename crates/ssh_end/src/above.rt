@@ -3,13 +3,13 @@
 ghost use Rattle.std.specs.Prelude.{◌≡◌, ◌≤◌, IfOk, IfSome, IsSome, List, OnErr, OnOk, Some, false, map, true, ℕ};
 ghost use Rattle.ssh_message.specs.Meaning.{meaning};
 ghost use Rattle.ssh_message.specs.Written.{Fits};
-ghost use Rattle.ssh_model.specs.Wire.Message.{FitsContext};
-ghost use Rattle.ssh_model.specs.Wire.Sizes.{payload_size};
+ghost use Rattle.ssh_model.specs.Protocol.Wire.Message.{FitsContext};
+ghost use Rattle.ssh_model.specs.Laws.Sizes.{payload_size};
 ghost use Rattle.ssh_end.specs.Above.{CanFinish, CanReply, CanReplyWith, FinishLacks, Finished, IsAnswer, IsReply, PutsReply};
 ghost use Rattle.ssh_end.specs.declared.above.Judgement.TheVariants as Judgement;
 ghost use Rattle.ssh_end.specs.declared.step.Step.TheVariants as Step;
 ghost use Rattle.ssh_transport_machine.specs.Above.{IsPut};
-ghost use Rattle.ssh_model.specs.Side.{Side};
+ghost use Rattle.ssh_model.specs.Protocol.Side.{Side};
 ghost use Rattle.ssh_transport_machine.specs.Standing.{Stands};
 ghost use Rattle.ssh_transport_machine.specs.Turning.{HasRoom};
 ghost use Rattle.std.specs.Option.{option_map};

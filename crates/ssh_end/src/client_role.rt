@@ -1,6 +1,6 @@
 //! What is of a client alone.
 
-ghost use Rattle.ssh_model.specs.End.State.{Authentication.OfClient};
+ghost use Rattle.ssh_model.specs.State.End.State.{Authentication.OfClient};
 ghost use Rattle.ssh_end.specs.Asking.{ClientInSession};
 ghost use Rattle.ssh_end.specs.ClientUnits.{GoLacks, Goes};
 ghost use Rattle.ssh_end.specs.Parts.{AreClientLayers, IsClient, agreement_by};

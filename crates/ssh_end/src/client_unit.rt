@@ -1,9 +1,9 @@
 //! What a client does with an answer of its transport.
 
 ghost use Rattle.std.specs.Prelude.{◌≡◌, ◌<◌, ◌≤◌, ◌++◌, IfErr, IfOk, List, OnErr, [], false, length, map, take, true};
-ghost use Rattle.ssh_model.specs.Channels.Kept.{DueReply};
-ghost use Rattle.ssh_model.specs.Sessions.Turns.{number_of};
-ghost use Rattle.ssh_model.specs.Side as model;
+ghost use Rattle.ssh_model.specs.State.Channels.Kept.{DueReply};
+ghost use Rattle.ssh_model.specs.Protocol.Sessions.Turns.{number_of};
+ghost use Rattle.ssh_model.specs.Protocol.Side as model;
 ghost use Rattle.ssh_transport_machine.specs.Standing.{Stands};
 ghost use Rattle.ssh_end.specs.Effects.{IsReady, is_whole};
 ghost use Rattle.ssh_end.specs.Beside.{channels_behind};

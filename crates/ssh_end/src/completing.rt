@@ -1,7 +1,7 @@
 //! What an end does once its transport ended an exchange of keys.
 
 ghost use Rattle.std.specs.Prelude.{◌≡◌, ◌≤◌, ◌++◌, IfOk, OnErr, OnOk, false, length, map, true};
-ghost use Rattle.ssh_model.specs.Side.{Side};
+ghost use Rattle.ssh_model.specs.Protocol.Side.{Side};
 ghost use Rattle.ssh_transport_machine.specs.Standing.{Stands};
 ghost use Rattle.ssh_end.specs.Completing.{Completing, completed_at};
 ghost use Rattle.ssh_end.specs.Beside.{channels_behind};

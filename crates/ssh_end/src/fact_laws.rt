@@ -2,12 +2,12 @@
 //! no cost.
 
 ghost use Rattle.std.specs.Prelude.{◌≡◌, Bool, List, None, Some, ℕ};
-ghost use Rattle.ssh_model.specs.Wire.Message.{Msg};
-ghost use Rattle.ssh_model.specs.Sessions.Items.{Fact};
-ghost use Rattle.ssh_model.specs.Authentication.Kept as of_authentication;
-ghost use Rattle.ssh_model.specs.Authentication.Kept.{ClientTakes, ServerTakes};
-ghost use Rattle.ssh_model.specs.Authentication.Requests.{Judge};
-ghost use Rattle.ssh_model.specs.Channels.Kept.{Channels, Taken, Takes};
+ghost use Rattle.ssh_model.specs.Protocol.Wire.Message.{Msg};
+ghost use Rattle.ssh_model.specs.Protocol.Sessions.Items.{Fact};
+ghost use Rattle.ssh_model.specs.State.Authentication.Kept as of_authentication;
+ghost use Rattle.ssh_model.specs.State.Authentication.Kept.{ClientTakes, ServerTakes};
+ghost use Rattle.ssh_model.specs.Protocol.Authentication.Requests.{Judge};
+ghost use Rattle.ssh_model.specs.State.Channels.Kept.{Channels, Taken, Takes};
 ghost use Rattle.ssh_auth.specs.Serving.{answered as answered_by};
 ghost use Rattle.ssh_auth.specs.declared.answer.ServerAnswer.{ServerAnswer};
 ghost use Rattle.ssh_transport_machine.specs.Shown.{IsTold};

@@ -1,9 +1,9 @@
 //! Laws of how an end begins. Facts for proofs, at no cost.
 
 ghost use Rattle.std.specs.Prelude.{◌≤◌, false, length};
-ghost use Rattle.ssh_model.specs.Sessions.TurnClaims.{HasSpelling};
-ghost use Rattle.ssh_model.specs.Sessions.Turns.{IsMaterial};
-ghost use Rattle.ssh_model.specs.Wire.Message.{Msg.UserauthFailure};
+ghost use Rattle.ssh_model.specs.Protocol.Sessions.TurnClaims.{HasSpelling};
+ghost use Rattle.ssh_model.specs.Protocol.Sessions.Turns.{IsMaterial};
+ghost use Rattle.ssh_model.specs.Protocol.Wire.Message.{Msg.UserauthFailure};
 ghost use Rattle.ssh_transport_base.specs.Meaning.{settings_of};
 
 use ssh_packet::Sealing;

@@ -1,9 +1,9 @@
 //! The replies that channels owe once an exchange of keys is over.
 
 ghost use Rattle.std.specs.Prelude.{◌≡◌, ◌+◌, ◌<◌, ◌≤◌, ◌^◌, ◌++◌, ◌∷◌, [], OnErr, OnOk, false, length, map, true};
-ghost use Rattle.ssh_model.specs.Channels.Summary.{reply_channel, reply_sent};
-ghost use Rattle.ssh_model.specs.Side.{Side};
-ghost use Rattle.ssh_model.specs.TransportLayer.Kept.{after_sent};
+ghost use Rattle.ssh_model.specs.State.Channels.Summary.{reply_channel, reply_sent};
+ghost use Rattle.ssh_model.specs.Protocol.Side.{Side};
+ghost use Rattle.ssh_model.specs.State.TransportLayer.Kept.{after_sent};
 ghost use Rattle.ssh_channels.specs.Values.{reply_of};
 ghost use Rattle.ssh_transport_machine.specs.Puts.{Sends};
 ghost use Rattle.ssh_transport_machine.specs.Standing.{Stands};

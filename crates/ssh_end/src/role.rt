@@ -1,10 +1,10 @@
 //! What one end does above its transport and the other does not.
 
 ghost use Rattle.std.specs.Prelude.{◌≡◌, ◌++◌, IfErr, IfOk, OnErr, Result, false, map, true};
-ghost use Rattle.ssh_model.specs.Channels.Kept.{Channels};
-ghost use Rattle.ssh_model.specs.End.State.{Authentication};
-ghost use Rattle.ssh_model.specs.Sessions.Items as session;
-ghost use Rattle.ssh_model.specs.Sessions.Parties.{Parties};
+ghost use Rattle.ssh_model.specs.State.Channels.Kept.{Channels};
+ghost use Rattle.ssh_model.specs.State.End.State.{Authentication};
+ghost use Rattle.ssh_model.specs.Protocol.Sessions.Items as session;
+ghost use Rattle.ssh_model.specs.Protocol.Sessions.Parties.{Parties};
 ghost use Rattle.ssh_types.specs.Sides.{side_of};
 ghost use Rattle.ssh_transport_machine.specs.Puts.{Outs};
 ghost use Rattle.ssh_transport_machine.specs.Standing.{Stands};

@@ -1,7 +1,7 @@
 //! What a server makes of a payload from 50 on.
 
 ghost use Rattle.std.specs.Prelude.{◌≡◌, ◌≤◌, IfOk, OnErr, false};
-ghost use Rattle.ssh_model.specs.Sessions.Turns.{number_of};
+ghost use Rattle.ssh_model.specs.Protocol.Sessions.Turns.{number_of};
 ghost use Rattle.ssh_end.specs.Above.{CanFinish};
 ghost use Rattle.ssh_end.specs.ServerAbove.{JudgeLacks, JudgesPayload, accepts_user, took_by};
 ghost use Rattle.ssh_end.specs.Told.{telling_of as telling_by};

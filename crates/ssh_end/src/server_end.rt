@@ -1,7 +1,7 @@
 //! The end of a server.
 
 ghost use Rattle.std.specs.Prelude.{◌≡◌, ◌∷◌, IfOk, None, OnErr, []};
-ghost use Rattle.ssh_model.specs.Side as model;
+ghost use Rattle.ssh_model.specs.Protocol.Side as model;
 ghost use Rattle.ssh_transport_base.specs.Meaning.{settings_of};
 ghost use Rattle.ssh_end.specs.Beside.{channels_beside};
 ghost use Rattle.ssh_end.specs.Ends.{IsNewServer};

@@ -1,6 +1,6 @@
 //! What is of a server alone.
 
-ghost use Rattle.ssh_model.specs.End.State.{Authentication.OfServer};
+ghost use Rattle.ssh_model.specs.State.End.State.{Authentication.OfServer};
 ghost use Rattle.ssh_end.specs.Asking.{ServerAsks};
 ghost use Rattle.ssh_end.specs.Parts.{AreServerLayers, IsServer, exchange_parts};
 ghost use Rattle.ssh_end.specs.ServerUnits.{GoLacks, Goes};

@@ -3,7 +3,7 @@
 ghost use Rattle.std.specs.Prelude.{◌≡◌, ℕ, None, Option, Some, false, option_map};
 ghost use Rattle.ssh_channels.specs.Values.{fact_of};
 ghost use Rattle.ssh_message.specs.Meaning.{meaning};
-ghost use Rattle.ssh_model.specs.Sessions.Items.{Fact.GotData, Fact.OpenFailed};
+ghost use Rattle.ssh_model.specs.Protocol.Sessions.Items.{Fact.GotData, Fact.OpenFailed};
 ghost use Rattle.ssh_layers.specs.Layer.{layer_of as layer_for};
 ghost use Rattle.ssh_end.specs.Steps.{accepted_by as accepted, fact_by, fact_told};
 ghost use Rattle.ssh_end.specs.Told.{opens, told_of};

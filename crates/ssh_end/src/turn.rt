@@ -1,8 +1,8 @@
 //! What an end did in a turn.
 
 ghost use Rattle.std.specs.Prelude.{◌≡◌, List, [], None, map, slice_index_or};
-ghost use Rattle.ssh_model.specs.Sessions.Items.{Item};
-ghost use Rattle.ssh_model.specs.Wire.Message.{Msg, IsPayload};
+ghost use Rattle.ssh_model.specs.Protocol.Sessions.Items.{Item};
+ghost use Rattle.ssh_model.specs.Protocol.Wire.Message.{Msg, IsPayload};
 ghost use Rattle.ssh_end.specs.Calls.{ShowsStep};
 ghost use Rattle.ssh_end.specs.Steps.{Shows};
 ghost use Rattle.ssh_end.specs.Beside.{channels_beside, last_channels};

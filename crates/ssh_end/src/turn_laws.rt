@@ -2,15 +2,15 @@
 //! proofs, at no cost.
 
 ghost use Rattle.std.specs.Prelude.{◌≡◌, ◌∷◌, List, [], false, ℕ};
-ghost use Rattle.ssh_model.specs.Authentication.Requests.{judge_of};
-ghost use Rattle.ssh_model.specs.End.State.{EndState};
-ghost use Rattle.ssh_model.specs.End.Summary.{EndSumsUp};
-ghost use Rattle.ssh_model.specs.Sessions.Items.{Item, Item.Died};
-ghost use Rattle.ssh_model.specs.Sessions.Parties.{Parties, Settings, agreement_of};
-ghost use Rattle.ssh_model.specs.Sessions.Turns.{OnUnit};
-ghost use Rattle.ssh_model.specs.Side.{Side, Side.Client, Side.Server};
-ghost use Rattle.ssh_model.specs.TransportLayer.Summary.{parts_of};
-ghost use Rattle.ssh_model.specs.Wire.Sealing.{Crypto};
+ghost use Rattle.ssh_model.specs.Protocol.Authentication.Requests.{judge_of};
+ghost use Rattle.ssh_model.specs.State.End.State.{EndState};
+ghost use Rattle.ssh_model.specs.State.End.Summary.{EndSumsUp};
+ghost use Rattle.ssh_model.specs.Protocol.Sessions.Items.{Item, Item.Died};
+ghost use Rattle.ssh_model.specs.Protocol.Sessions.Parties.{Parties, Settings, agreement_of};
+ghost use Rattle.ssh_model.specs.Protocol.Sessions.Turns.{OnUnit};
+ghost use Rattle.ssh_model.specs.Protocol.Side.{Side, Side.Client, Side.Server};
+ghost use Rattle.ssh_model.specs.State.TransportLayer.Summary.{parts_of};
+ghost use Rattle.ssh_model.specs.Protocol.Wire.Sealing.{Crypto};
 ghost use Rattle.ssh_transport_machine.specs.Opening.{IsOpened};
 ghost use Rattle.ssh_transport_machine.specs.Puts.{Outs};
 ghost use Rattle.ssh_transport_machine.specs.State.{State, begun_of};

@@ -7,7 +7,7 @@ use Rattle.sha2.specs.declared.Sha256.{Sha256}
 use Rattle.sha2.specs.Hashers.{Holds256}
 use Rattle.sha2.specs.Sha256.{sha256}
 use Rattle.sha2.proofs.Facts256.{length-sha256}
-use Rattle.ssh_model.specs.KeyExchange.Exchange.{blocks}
+use Rattle.ssh_model.specs.Protocol.KeyExchange.Exchange.{blocks}
 
 -- So many bytes of out are filled, all of them whole blocks; the chain holds the front and these, and block is next.
 pub record Filled (front begin out block : List ℕ) (chain : Sha256) (filled : ℕ) : Type 0 where
@@ -67,7 +67,7 @@ goes_on front begin out block new_out new_block chain new_chain filled f room le
       next = more_blocks front begin f.count ∙ ap (λ (l : List ℕ). blocks front begin (suc f.count) ++ l) (sym (digest _ held));
     }
 
--- what the next block puts behind
+-- what the next block puts after
 next_block : (front begin : List ℕ) (n : ℕ) → (block : List ℕ) × (blocks front begin (suc n) ≡ blocks front begin n ++ block)
 next_block front begin zero = (sha256 (front ++ begin), one_block front begin ∙ ap (λ (l : List ℕ). l ++ sha256 (front ++ begin)) (sym (no_blocks front begin)))
 next_block front begin (suc n) = (sha256 (front ++ blocks front begin (suc n)), more_blocks front begin n)

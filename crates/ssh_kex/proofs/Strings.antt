@@ -2,9 +2,9 @@
 use Rattle.std.proofs.Common.{◌≡◌, ℕ, ◌^◌, ◌<◌, Bool, true, false, List, [], ◌++◌, length, IsTrue, append_assoc, refl, ap, subst, ◌∙◌, arith}
 use Rattle.std.specs.Prelude.{pos, ℤ}
 use Rattle.std.specs.Int.{w32, to_be_bytes}
-use Rattle.ssh_model.specs.Wire.DataTypes.{AreBytes, integer, IsUint32, IsString, IsShortest, IsMpint}
-use Rattle.ssh_model.specs.Wire.Reading.{Writes}
-use Rattle.ssh_model.specs.KeyExchange.Exchange.{string_of, mpint_body, mpint_of}
+use Rattle.ssh_model.specs.Protocol.Wire.DataTypes.{AreBytes, integer, IsUint32, IsString, IsShortest, IsMpint}
+use Rattle.ssh_model.specs.Laws.Reading.{Writes}
+use Rattle.ssh_model.specs.Protocol.KeyExchange.Exchange.{string_of, mpint_body, mpint_of}
 use Rattle.ssh_types.specs.Spellings.{mpint_spelling, string_spelling}
 use Rattle.ssh_types.specs.WholeNumbers.{one_shortest, kept_shortest}
 use Rattle.ssh_types.specs.Digits.{marked_bytes, is_canonical}
@@ -47,6 +47,6 @@ kept_body n m k ds es kept value are same =
     let bytes = bytes_behind_mark m ds (subst (λ (l : List ℕ). AreBytes l) same (bytes_with_mark k es are)) in
     one_body n (marked_bytes m ds) (subst (λ z. IsShortest z (marked_bytes m ds)) value (kept_shortest m ds kept bytes))
 
--- pieces put behind one another
+-- pieces put after one another
 pub eight_pieces : (a b c d e f g h : List ℕ) → ((((((([] ++ a) ++ b) ++ c) ++ d) ++ e) ++ f) ++ g) ++ h ≡ a ++ b ++ c ++ d ++ e ++ f ++ g ++ h
 eight_pieces a b c d e f g h = simp append_assoc refl

@@ -1,8 +1,8 @@
 -- What the types of this crate stand for.
 use Rattle.std.specs.Prelude.{ℕ}
-use Rattle.ssh_model.specs.Wire.DataTypes.{number}
-use Rattle.ssh_model.specs.KeyExchange.Exchange.{Inputs}
-use Rattle.ssh_model.specs.KeyExchange.Choice as model
+use Rattle.ssh_model.specs.Protocol.Wire.DataTypes.{number}
+use Rattle.ssh_model.specs.Protocol.KeyExchange.Exchange.{Inputs}
+use Rattle.ssh_model.specs.Protocol.KeyExchange.Choice as model
 use Rattle.ssh_types.specs.Values.{name_text, names, owned_text}
 use Rattle.ssh_kex.specs.declared.choice.Choice.{Choice}
 use Rattle.ssh_kex.specs.declared.owned_choice.OwnedChoice.{OwnedChoice}

@@ -1,8 +1,8 @@
 //! Facts for proofs, each the contract of a function without a body. A call of one costs nothing.
 
 ghost use Rattle.std.specs.Prelude.{◌≡◌, ◌≤◌, ◌<◌, ◌+◌, ◌^◌, pos, List, ℕ, length};
-ghost use Rattle.ssh_model.specs.Wire.DataTypes.{AreBytes, IsMpint, IsString, number};
-ghost use Rattle.ssh_model.specs.KeyExchange.Exchange.{Fits, Inputs, exchange_text, mpint_body, mpint_of, string_of};
+ghost use Rattle.ssh_model.specs.Protocol.Wire.DataTypes.{AreBytes, IsMpint, IsString, number};
+ghost use Rattle.ssh_model.specs.Protocol.KeyExchange.Exchange.{Fits, Inputs, exchange_text, mpint_body, mpint_of, string_of};
 
 use ssh_types::laws::are_bytes;
 

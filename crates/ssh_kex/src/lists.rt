@@ -1,9 +1,9 @@
 ghost use Rattle.std.specs.Prelude.{◌≡◌, ◌↔◌, IsTrue};
 ghost use Rattle.std.specs.List.{Contains};
-ghost use Rattle.ssh_model.specs.KeyExchange.Choice.{client_extension_marker, client_marker, server_extension_marker, server_marker};
-ghost use Rattle.ssh_model.specs.KeyExchange.Exchanges.{has_marker};
-ghost use Rattle.ssh_model.specs.Wire.DataTypes.{is_name};
-ghost use Rattle.ssh_model.specs.Sessions.Parties.{extension_marker_of, marker_of};
+ghost use Rattle.ssh_model.specs.Protocol.KeyExchange.Choice.{client_extension_marker, client_marker, server_extension_marker, server_marker};
+ghost use Rattle.ssh_model.specs.Protocol.KeyExchange.Exchanges.{has_marker};
+ghost use Rattle.ssh_model.specs.Protocol.Wire.DataTypes.{is_name};
+ghost use Rattle.ssh_model.specs.Protocol.Sessions.Parties.{extension_marker_of, marker_of};
 ghost use Rattle.ssh_types.specs.Sides.{side_of};
 ghost use Rattle.ssh_types.specs.Values.{name_text, names};
 

@@ -2,9 +2,9 @@
 
 ghost use Rattle.std.specs.Prelude.{◌≡◌, ◌<◌, ◌^◌, ◌++◌, ◌+◌, pos, List, ℕ, length};
 ghost use Rattle.sha2.specs.Hashers.{Holds256};
-ghost use Rattle.ssh_model.specs.Wire.DataTypes.{number};
+ghost use Rattle.ssh_model.specs.Protocol.Wire.DataTypes.{number};
 ghost use Rattle.ssh_types.specs.Values.{value_of, bytes_of};
-ghost use Rattle.ssh_model.specs.KeyExchange.Exchange.{string_of, mpint_of, mpint_body};
+ghost use Rattle.ssh_model.specs.Protocol.KeyExchange.Exchange.{string_of, mpint_of, mpint_body};
 
 use sha2::{Digest, Sha256};
 use ssh_types::MpInt;
@@ -32,7 +32,7 @@ pub(crate) fn hash_mpint(hasher: &mut Sha256, bytes: &[u8])
 }
 
 // Takes in a string of two parts.
-#[tactic(auto, unfolding(ssh_model::specs::KeyExchange::Exchange::string_of))]
+#[tactic(auto, unfolding(ssh_model::specs::Protocol::KeyExchange::Exchange::string_of))]
 fn hash_joined(hasher: &mut Sha256, front: &[u8], text: &[u8])
     requires { length front.now + length text.now < 2 ^ 32 }
     ensures { (m : List ℕ) → Holds256 hasher.old m → Holds256 hasher.new (m ++ string_of (front.now ++ text.now)) }

@@ -2,8 +2,8 @@
 use Rattle.std.proofs.Common.{◌≡◌, ℕ, zero, suc, ◌≤◌, Bool, true, false, List, [], ◌∷◌, ◌++◌, length, take, drop, Ok, Err, nat_le, if◌then◌else◌, refl, sym, ap, inl, inr, ◌∙◌, arith, append_assoc, length-append, length-take-le, take-append-drop, take_at, drop_at, leb-true}
 use Rattle.std.proofs.lemmas.Bool.{cases_Bool}
 use Rattle.std.proofs.lemmas.Bool.Decides.{nat_tests}
-use Rattle.ssh_model.specs.Wire.DataTypes.{AreBytes, IsString, IsUint32, number}
-use Rattle.ssh_model.specs.Wire.Reading.{NoFront, Reads}
+use Rattle.ssh_model.specs.Protocol.Wire.DataTypes.{AreBytes, IsString, IsUint32, number}
+use Rattle.ssh_model.specs.Laws.Reading.{NoFront, Reads}
 use Rattle.ssh_key_files.specs.PrivateKeys.{number_at, string_after, string_at}
 use Rattle.ssh_key_files.specs.declared.fault.Expected.TheVariants.{Format}
 

@@ -4,7 +4,7 @@ use Rattle.std.specs.List.{starts_with}
 use Rattle.base64.specs.Engines.{standard}
 use Rattle.base64.specs.GeneralPurpose.{decode_of}
 use Rattle.base64.specs.declared.decode.DecodeError.{DecodeError}
-use Rattle.ssh_model.specs.Wire.MacOnly.{is_text}
+use Rattle.ssh_model.specs.Protocol.Wire.MacOnly.{is_text}
 use Rattle.ssh_parts.specs.Ed25519.{trust_in}
 use Rattle.ssh_parts.specs.declared.ed25519_trust.Ed25519Trust.{Ed25519Trust}
 use Rattle.ssh_key_files.specs.declared.fault.Expected.{Expected}

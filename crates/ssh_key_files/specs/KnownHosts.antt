@@ -1,7 +1,7 @@
 -- The key of the host to trust: which lines of known_hosts count for it, and what each line has to be.
 use Rattle.std.specs.Prelude.{ℕ, Bool, true, false, not, ◌&&◌, ◌||◌, if◌then◌else◌, List, [], codes, nat_eq, Option, Some, None, Result, Ok, Err}
 use Rattle.std.specs.List.{starts_with}
-use Rattle.ssh_model.specs.Wire.MacOnly.{is_text}
+use Rattle.ssh_model.specs.Protocol.Wire.MacOnly.{is_text}
 use Rattle.ssh_key_files.specs.HostNames.{names_host}
 use Rattle.ssh_key_files.specs.Keys.{is_key_type, key_in, key_of}
 use Rattle.ssh_key_files.specs.Lines.{read_lines}

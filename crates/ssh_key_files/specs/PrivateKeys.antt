@@ -7,8 +7,8 @@ use Rattle.base64.specs.Engines.{standard}
 use Rattle.base64.specs.GeneralPurpose.{decode_of}
 use Rattle.base64.specs.declared.decode.DecodeError.{DecodeError}
 use Rattle.ed25519.specs.Signature.{pair_of}
-use Rattle.ssh_model.specs.Wire.DataTypes.{number}
-use Rattle.ssh_model.specs.Wire.MacOnly.{is_text}
+use Rattle.ssh_model.specs.Protocol.Wire.DataTypes.{number}
+use Rattle.ssh_model.specs.Protocol.Wire.MacOnly.{is_text}
 use Rattle.ssh_parts.specs.Ed25519.{key_blob, trust_in}
 use Rattle.ssh_key_files.specs.Keys.{public_in}
 use Rattle.ssh_key_files.specs.KnownHosts.{is_key}

@@ -1,7 +1,7 @@
 //! Public keys as they stand on a line.
 
 ghost use Rattle.std.specs.Prelude.{◌≡◌};
-ghost use Rattle.ssh_model.specs.Wire.MacOnly.{is_text};
+ghost use Rattle.ssh_model.specs.Protocol.Wire.MacOnly.{is_text};
 ghost use Rattle.ssh_key_files.specs.Keys.{key_in, key_of};
 
 use crate::digits::decoded;

@@ -4,7 +4,7 @@
 //! `in` once the user is authenticated. The user `u` has the password `p`.
 
 ghost use Rattle.std.specs.Prelude.{◌≡◌, ◌≤◌, true, IfSome};
-ghost use Rattle.ssh_model.specs.Sessions.Turns.{number_of};
+ghost use Rattle.ssh_model.specs.Protocol.Sessions.Turns.{number_of};
 ghost use Rattle.ssh_message.specs.Written.{Fits};
 ghost use Rattle.ssh_layers.specs.Layers.{IsShort};
 

@@ -1,7 +1,7 @@
 -- The largest payloads, whose packets have 35,000 bytes.
 use Rattle.std.proofs.Common.{◌≡◌, ℕ, ◌≤◌, refl, sym, subst}
 use Rattle.std.proofs.lemmas.Bool.{leb-true}
-use Rattle.ssh_model.specs.Wire.Packet.{with_length}
+use Rattle.ssh_model.specs.Protocol.Wire.Packet.{with_length}
 use Rattle.ssh_packet.specs.Writing.{packet_size}
 
 pub sealed_fits : (n : ℕ) → n ≡ 34959 → packet_size (with_length 8) 32 n ≤ 35000

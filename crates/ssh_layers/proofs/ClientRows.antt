@@ -1,12 +1,12 @@
 -- What the layers above a client's transport make of a message.
 use Rattle.std.proofs.Common.{◌≡◌, ℕ, Bool, true, false, cond, List, refl, ap, sym, ◌∙◌, subst, Some, None}
 use Rattle.std.proofs.lemmas.Bool.{false≢true}
-use Rattle.ssh_model.specs.Wire.Message.{Msg, IsPayload, message_number}
-use Rattle.ssh_model.specs.Authentication.Kept as kept
-use Rattle.ssh_model.specs.Authentication.Kept.{ClientTakes, client_takes}
-use Rattle.ssh_model.specs.Channels.Kept.{Takes, take_checks}
-use Rattle.ssh_model.specs.Sessions.Refusals.{Refusal, Refusal.Unexpected, first_refusal}
-use Rattle.ssh_model.specs.Sessions.Turns.{number_of}
+use Rattle.ssh_model.specs.Protocol.Wire.Message.{Msg, IsPayload, message_number}
+use Rattle.ssh_model.specs.State.Authentication.Kept as kept
+use Rattle.ssh_model.specs.State.Authentication.Kept.{ClientTakes, client_takes}
+use Rattle.ssh_model.specs.State.Channels.Kept.{Takes, take_checks}
+use Rattle.ssh_model.specs.Protocol.Sessions.Refusals.{Refusal, Refusal.Unexpected, first_refusal}
+use Rattle.ssh_model.specs.Protocol.Sessions.Turns.{number_of}
 use Rattle.ssh_auth.specs.Asking.{ClientAnswers, IsClientRow, client_answered}
 use Rattle.ssh_auth.specs.declared.answer.ClientAnswer.{ClientAnswer}
 use Rattle.ssh_auth.specs.declared.answer.ClientAnswer.TheVariants as auth_answer

@@ -2,12 +2,12 @@
 use Rattle.std.proofs.Common.{◌≡◌, ℕ, Bool, true, false, not, cond, List, [], ◌∷◌, ◌++◌, append-nil, refl, ap, sym, ◌∙◌, subst, Option, Some, None}
 use Rattle.std.proofs.lemmas.Bool.{false≢true}
 use Rattle.std.specs.Prelude.{Result, Ok, Err, IfOk, IfErr}
-use Rattle.ssh_model.specs.Wire.Message.{Msg, Msg.Disconnect, Msg.Ignore, Msg.Unimplemented, Msg.Debug, Msg.ServiceRequest, Msg.ServiceAccept, Msg.ExtInfo, Msg.KexInit, Msg.NewKeys, Msg.KexEcdhInit, Msg.KexEcdhReply, Msg.UserauthRequest, Msg.UserauthFailure, Msg.UserauthSuccess, Msg.UserauthBanner, Msg.UserauthPkOk, Msg.GlobalRequest, Msg.RequestSuccess, Msg.RequestFailure, Msg.ChannelOpen, Msg.ChannelOpenConfirmation, Msg.ChannelOpenFailure, Msg.ChannelWindowAdjust, Msg.ChannelData, Msg.ChannelExtendedData, Msg.ChannelEof, Msg.ChannelClose, Msg.ChannelRequest, Msg.ChannelSuccess, Msg.ChannelFailure, Msg.Unknown, IsPayload, message_number}
-use Rattle.ssh_model.specs.Authentication.Kept.{ServerTakes, server_checks, server_takes}
-use Rattle.ssh_model.specs.Authentication.Requests.{Judge}
-use Rattle.ssh_model.specs.Channels.Kept.{Channels, Takes, take_checks}
-use Rattle.ssh_model.specs.Sessions.Refusals.{Check, Check.RefusedWhere, Refusal, Refusal.Unexpected, first_refusal}
-use Rattle.ssh_model.specs.Sessions.Turns.{number_of}
+use Rattle.ssh_model.specs.Protocol.Wire.Message.{Msg, Msg.Disconnect, Msg.Ignore, Msg.Unimplemented, Msg.Debug, Msg.ServiceRequest, Msg.ServiceAccept, Msg.ExtInfo, Msg.KexInit, Msg.NewKeys, Msg.KexEcdhInit, Msg.KexEcdhReply, Msg.UserauthRequest, Msg.UserauthFailure, Msg.UserauthSuccess, Msg.UserauthBanner, Msg.UserauthPkOk, Msg.GlobalRequest, Msg.RequestSuccess, Msg.RequestFailure, Msg.ChannelOpen, Msg.ChannelOpenConfirmation, Msg.ChannelOpenFailure, Msg.ChannelWindowAdjust, Msg.ChannelData, Msg.ChannelExtendedData, Msg.ChannelEof, Msg.ChannelClose, Msg.ChannelRequest, Msg.ChannelSuccess, Msg.ChannelFailure, Msg.Unknown, IsPayload, message_number}
+use Rattle.ssh_model.specs.State.Authentication.Kept.{ServerTakes, server_checks, server_takes}
+use Rattle.ssh_model.specs.Protocol.Authentication.Requests.{Judge}
+use Rattle.ssh_model.specs.State.Channels.Kept.{Channels, Takes, take_checks}
+use Rattle.ssh_model.specs.Protocol.Sessions.Refusals.{Check, Check.RefusedWhere, Refusal, Refusal.Unexpected, first_refusal}
+use Rattle.ssh_model.specs.Protocol.Sessions.Turns.{number_of}
 use Rattle.ssh_auth.specs.Refusals.{auth_refusal}
 use Rattle.ssh_auth.specs.Serving as serving
 use Rattle.ssh_auth.specs.Serving.{IsServerRow, NeedsText, ServerAnswers, ServerRefuses, answered, server_refusals}

@@ -1,13 +1,13 @@
 -- The layers above a client's transport: what they keep, and what they make of a payload.
 use Rattle.std.specs.Prelude.{◌≡◌, ℕ, Bool, true, false, cond, nat_lt, Option, None, Some, List}
-use Rattle.ssh_model.specs.Wire.Message.{Msg, Msg.Unimplemented, Msg.Unknown, IsPayload}
+use Rattle.ssh_model.specs.Protocol.Wire.Message.{Msg, Msg.Unimplemented, Msg.Unknown, IsPayload}
 use Rattle.std.specs.Option.{option_map}
-use Rattle.ssh_model.specs.Channels.Summary.{reply_sent}
-use Rattle.ssh_model.specs.Authentication.Kept as kept
-use Rattle.ssh_model.specs.Authentication.Kept.{Answered, ClientTakes, client_takes, is_key_probe}
-use Rattle.ssh_model.specs.Channels.Kept.{Channels, Taken, Takes, take_checks}
-use Rattle.ssh_model.specs.Sessions.Refusals.{Refusal, Refusal.BadMessage, Refusal.Unexpected, first_refusal}
-use Rattle.ssh_model.specs.Sessions.Turns.{number_of}
+use Rattle.ssh_model.specs.State.Channels.Summary.{reply_sent}
+use Rattle.ssh_model.specs.State.Authentication.Kept as kept
+use Rattle.ssh_model.specs.State.Authentication.Kept.{Answered, ClientTakes, client_takes, is_key_probe}
+use Rattle.ssh_model.specs.State.Channels.Kept.{Channels, Taken, Takes, take_checks}
+use Rattle.ssh_model.specs.Protocol.Sessions.Refusals.{Refusal, Refusal.BadMessage, Refusal.Unexpected, first_refusal}
+use Rattle.ssh_model.specs.Protocol.Sessions.Turns.{number_of}
 use Rattle.ssh_auth.specs.Asking.{client_answered}
 use Rattle.ssh_channels.specs.Rows.{OpensChannel}
 use Rattle.ssh_channels.specs.Values.{taken_of}

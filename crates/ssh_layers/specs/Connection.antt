@@ -1,9 +1,9 @@
 -- Asks for messages of the connection, at an end that may not be authenticated.
 use Rattle.std.specs.Prelude.{◌≡◌, Bool, true, Some}
-use Rattle.ssh_model.specs.Channels.Connection.{after_authentication}
-use Rattle.ssh_model.specs.Channels.Kept.{Channels, send_checks}
-use Rattle.ssh_model.specs.Sessions.Items as session
-use Rattle.ssh_model.specs.Sessions.Refusals.{first_refusal}
+use Rattle.ssh_model.specs.Protocol.Channels.Connection.{after_authentication}
+use Rattle.ssh_model.specs.State.Channels.Kept.{Channels, send_checks}
+use Rattle.ssh_model.specs.Protocol.Sessions.Items as session
+use Rattle.ssh_model.specs.Protocol.Sessions.Refusals.{first_refusal}
 use Rattle.ssh_channels.specs.Rows.{AsksForChannel}
 use Rattle.ssh_channels.specs.declared.error.AskError.{AskError}
 use Rattle.ssh_channels.specs.declared.error.AskError.TheVariants as ask_error

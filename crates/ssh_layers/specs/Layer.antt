@@ -1,10 +1,10 @@
 -- Which layer a message is for, and what a transport says to the layers above it.
 use Rattle.std.specs.Prelude.{◌≡◌, ℕ, Bool, List}
-use Rattle.ssh_model.specs.Wire.Message.{Msg, Msg.GlobalRequest, Msg.RequestSuccess, Msg.RequestFailure, Msg.Unknown}
-use Rattle.ssh_model.specs.Wire.Message.{Msg.ChannelOpen, Msg.ChannelOpenConfirmation, Msg.ChannelOpenFailure}
-use Rattle.ssh_model.specs.Wire.Message.{Msg.ChannelWindowAdjust, Msg.ChannelData, Msg.ChannelExtendedData}
-use Rattle.ssh_model.specs.Wire.Message.{Msg.ChannelEof, Msg.ChannelClose, Msg.ChannelRequest, Msg.ChannelSuccess}
-use Rattle.ssh_model.specs.Wire.Message.{Msg.ChannelFailure}
+use Rattle.ssh_model.specs.Protocol.Wire.Message.{Msg, Msg.GlobalRequest, Msg.RequestSuccess, Msg.RequestFailure, Msg.Unknown}
+use Rattle.ssh_model.specs.Protocol.Wire.Message.{Msg.ChannelOpen, Msg.ChannelOpenConfirmation, Msg.ChannelOpenFailure}
+use Rattle.ssh_model.specs.Protocol.Wire.Message.{Msg.ChannelWindowAdjust, Msg.ChannelData, Msg.ChannelExtendedData}
+use Rattle.ssh_model.specs.Protocol.Wire.Message.{Msg.ChannelEof, Msg.ChannelClose, Msg.ChannelRequest, Msg.ChannelSuccess}
+use Rattle.ssh_model.specs.Protocol.Wire.Message.{Msg.ChannelFailure}
 use Rattle.ssh_layers.specs.declared.layer.Layer.{Layer}
 use Rattle.ssh_layers.specs.declared.layer.Layer.TheVariants as layer
 

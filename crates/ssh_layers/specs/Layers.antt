@@ -1,13 +1,13 @@
 -- The layers above a server's transport: what they keep, and what they make of a payload.
 use Rattle.std.specs.Prelude.{◌≡◌, ℕ, Bool, true, false, cond, nat_lt, Option, None, Some, List, ◌++◌}
-use Rattle.ssh_model.specs.Wire.Message.{Msg, Msg.Unimplemented, Msg.Unknown, IsPayload}
+use Rattle.ssh_model.specs.Protocol.Wire.Message.{Msg, Msg.Unimplemented, Msg.Unknown, IsPayload}
 use Rattle.std.specs.Option.{option_map}
-use Rattle.ssh_model.specs.Channels.Summary.{reply_sent}
-use Rattle.ssh_model.specs.Authentication.Kept.{ServerTakes, server_checks, server_takes}
-use Rattle.ssh_model.specs.Authentication.Requests.{Judge}
-use Rattle.ssh_model.specs.Channels.Kept.{Channels, Takes, take_checks}
-use Rattle.ssh_model.specs.Sessions.Refusals.{Check, Refusal, Refusal.BadMessage, Refusal.Unexpected, first_refusal}
-use Rattle.ssh_model.specs.Sessions.Turns.{number_of}
+use Rattle.ssh_model.specs.State.Channels.Summary.{reply_sent}
+use Rattle.ssh_model.specs.State.Authentication.Kept.{ServerTakes, server_checks, server_takes}
+use Rattle.ssh_model.specs.Protocol.Authentication.Requests.{Judge}
+use Rattle.ssh_model.specs.State.Channels.Kept.{Channels, Takes, take_checks}
+use Rattle.ssh_model.specs.Protocol.Sessions.Refusals.{Check, Refusal, Refusal.BadMessage, Refusal.Unexpected, first_refusal}
+use Rattle.ssh_model.specs.Protocol.Sessions.Turns.{number_of}
 use Rattle.ssh_auth.specs.Serving as serving
 use Rattle.ssh_auth.specs.Serving.{IsShortAnswer, NeedsText, answered}
 use Rattle.ssh_channels.specs.Rows.{OpensChannel}

@@ -1,14 +1,14 @@
 -- What the layers above a server's transport make of a payload, as what an end makes of it.
 use Rattle.std.specs.Prelude.{◌≡◌, ℕ, ◌<◌, ◌^◌, None, List, [], ◌∷◌, unwrap_or}
-use Rattle.ssh_model.specs.Wire.Message.{Msg, Msg.Unimplemented, Msg.Unknown}
-use Rattle.ssh_model.specs.Authentication.Summary.{items_of}
-use Rattle.ssh_model.specs.Channels.Summary.{told}
-use Rattle.ssh_model.specs.Sessions.Items.{Item.Sent}
-use Rattle.ssh_model.specs.Sessions.Parties.{Parties}
-use Rattle.ssh_model.specs.Sessions.Refusals.{first_refusal}
-use Rattle.ssh_model.specs.TransportLayer.Kept.{Transport}
-use Rattle.ssh_model.specs.End.Payloads.{AnswersAbove, ReadsAbove, reply_items}
-use Rattle.ssh_model.specs.End.State.{Authentication.OfServer, EndState, above_checks}
+use Rattle.ssh_model.specs.Protocol.Wire.Message.{Msg, Msg.Unimplemented, Msg.Unknown}
+use Rattle.ssh_model.specs.State.Authentication.Summary.{items_of}
+use Rattle.ssh_model.specs.State.Channels.Summary.{told}
+use Rattle.ssh_model.specs.Protocol.Sessions.Items.{Item.Sent}
+use Rattle.ssh_model.specs.Protocol.Sessions.Parties.{Parties}
+use Rattle.ssh_model.specs.Protocol.Sessions.Refusals.{first_refusal}
+use Rattle.ssh_model.specs.State.TransportLayer.Kept.{Transport}
+use Rattle.ssh_model.specs.State.End.Payloads.{AnswersAbove, ReadsAbove, reply_items}
+use Rattle.ssh_model.specs.State.End.State.{Authentication.OfServer, EndState, above_checks}
 use Rattle.ssh_auth.specs.Serving.{answered}
 use Rattle.ssh_channels.specs.Values.{taken_of}
 use Rattle.ssh_layers.specs.Layer.{Beneath}

@@ -1,11 +1,11 @@
 //! Asks for messages of the connection, at an end that may not be authenticated.
 
 ghost use Rattle.std.specs.Prelude.{◌≡◌, ◌≤◌, None, IfErr, IfOk, IfSome, OnErr, OnOk, option_map};
-ghost use Rattle.ssh_model.specs.Channels.Connection.{after_authentication};
-ghost use Rattle.ssh_model.specs.Channels.Kept.{Sends, send_checks};
-ghost use Rattle.ssh_model.specs.Channels.Summary.{reply_sent};
-ghost use Rattle.ssh_model.specs.Sessions.Refusals.{first_refusal};
-ghost use Rattle.ssh_model.specs.Wire.Sizes.{payload_size};
+ghost use Rattle.ssh_model.specs.Protocol.Channels.Connection.{after_authentication};
+ghost use Rattle.ssh_model.specs.State.Channels.Kept.{Sends, send_checks};
+ghost use Rattle.ssh_model.specs.State.Channels.Summary.{reply_sent};
+ghost use Rattle.ssh_model.specs.Protocol.Sessions.Refusals.{first_refusal};
+ghost use Rattle.ssh_model.specs.Laws.Sizes.{payload_size};
 ghost use Rattle.ssh_message.specs.Meaning.{meaning};
 ghost use Rattle.ssh_message.specs.Written.{Fits};
 ghost use Rattle.ssh_channels.specs.Values.{ask_of, reply_of, sent_of};

@@ -1,14 +1,14 @@
 //! Laws of the layers above a transport: what they make of a payload is what an end of a session makes of it. Facts for proofs, at no cost.
 
 ghost use Rattle.std.specs.Prelude.{◌≡◌, ◌≤◌, List, ℕ};
-ghost use Rattle.ssh_model.specs.Authentication.Requests.{judge_of};
-ghost use Rattle.ssh_model.specs.End.Payloads.{RefusesAbove};
-ghost use Rattle.ssh_model.specs.Sessions.Parties.{Parties};
-ghost use Rattle.ssh_model.specs.Sessions.Phases.{Phase.Normal};
-ghost use Rattle.ssh_model.specs.Sessions.Refusals.{Refusal};
-ghost use Rattle.ssh_model.specs.Sessions.Turns.{number_of};
-ghost use Rattle.ssh_model.specs.TransportLayer.Kept.{Transport};
-ghost use Rattle.ssh_model.specs.Wire.Message.{Msg};
+ghost use Rattle.ssh_model.specs.Protocol.Authentication.Requests.{judge_of};
+ghost use Rattle.ssh_model.specs.State.End.Payloads.{RefusesAbove};
+ghost use Rattle.ssh_model.specs.Protocol.Sessions.Parties.{Parties};
+ghost use Rattle.ssh_model.specs.Protocol.Sessions.Phases.{Phase.Normal};
+ghost use Rattle.ssh_model.specs.Protocol.Sessions.Refusals.{Refusal};
+ghost use Rattle.ssh_model.specs.Protocol.Sessions.Turns.{number_of};
+ghost use Rattle.ssh_model.specs.State.TransportLayer.Kept.{Transport};
+ghost use Rattle.ssh_model.specs.Protocol.Wire.Message.{Msg};
 ghost use Rattle.ssh_layers.specs.ClientLayers as client;
 ghost use Rattle.ssh_layers.specs.ClientSessions as of_client;
 ghost use Rattle.ssh_layers.specs.declared.client_layers.ClientLayerAnswer.{ClientLayerAnswer};

@@ -1,11 +1,11 @@
 //! Authentication and channels on a server's transport.
 
 ghost use Rattle.std.specs.Prelude.{◌≡◌, ◌≤◌, IfErr, IfOk, IfSome, OnErr, option_map, false, length, true};
-ghost use Rattle.ssh_model.specs.Authentication.Kept.{new_server, opened_server};
-ghost use Rattle.ssh_model.specs.Channels.Kept.{no_channels};
-ghost use Rattle.ssh_model.specs.Wire.Sizes.{payload_size};
-ghost use Rattle.ssh_model.specs.Sessions.Turns.{number_of};
-ghost use Rattle.ssh_model.specs.Wire.Message.{IsPayload, message_number};
+ghost use Rattle.ssh_model.specs.State.Authentication.Kept.{new_server, opened_server};
+ghost use Rattle.ssh_model.specs.State.Channels.Kept.{no_channels};
+ghost use Rattle.ssh_model.specs.Laws.Sizes.{payload_size};
+ghost use Rattle.ssh_model.specs.Protocol.Sessions.Turns.{number_of};
+ghost use Rattle.ssh_model.specs.Protocol.Wire.Message.{IsPayload, message_number};
 ghost use Rattle.ssh_message.specs.Meaning.{meaning};
 ghost use Rattle.ssh_message.specs.Written.{Fits};
 ghost use Rattle.ssh_types.specs.Values.{names, names_text};

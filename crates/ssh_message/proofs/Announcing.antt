@@ -5,10 +5,10 @@ use Rattle.std.proofs.Math.Dec.{eqb-suc-zero}
 use Rattle.std.proofs.Math.Seq.{take-append_seam, drop-append_seam}
 use Rattle.std.proofs.lemmas.Bool.{and_parts, leb-true, le-leb}
 use Rattle.std.proofs.lemmas.List.{take-append-drop, length-take-le}
-use Rattle.ssh_model.specs.Wire.DataTypes.{AreBytes, number, IsByte, IsUint32, IsString}
-use Rattle.ssh_model.specs.Wire.Reading.{Reads, NoFront, Writes}
-use Rattle.ssh_model.specs.Wire.Message.{Extension, ◌▸◌, IsExtensions, IsRest}
-use Rattle.ssh_model.specs.Wire.Sizes.{extensions_size}
+use Rattle.ssh_model.specs.Protocol.Wire.DataTypes.{AreBytes, number, IsByte, IsUint32, IsString}
+use Rattle.ssh_model.specs.Laws.Reading.{Reads, NoFront, Writes}
+use Rattle.ssh_model.specs.Protocol.Wire.Message.{Extension, ◌▸◌, IsExtensions, IsRest}
+use Rattle.ssh_model.specs.Laws.Sizes.{extensions_size}
 use Rattle.ssh_model.specs.Laws.Spellings.{one_uint32}
 use Rattle.ssh_message.specs.Announced.{IsAnnounced}
 use Rattle.ssh_message.specs.Parts.{NoWhole}
@@ -188,7 +188,7 @@ not_announced count before rest r none = record {
       none all (sym one.0) (subst (IsExtensions all) (sym one.2) h.second);
 }
 
--- a count and spelled extensions behind the number
+-- a count and spelled extensions after the number
 pub writes_extensions : (all : List Extension) (count : ℕ) (bytes before after : List ℕ) → count ≡ length all → IsExtensions all bytes
     → Writes (IsByte 7 ▸ IsUint32 count ▸ IsRest bytes) before after → Writes (IsByte 7 ▸ IsUint32 (length all) ▸ IsExtensions all) before after
 writes_extensions all count bytes before after counts h w = record {

@@ -1,9 +1,9 @@
 -- Fields that follow one another, read from left to right.
 use Rattle.std.proofs.Common.{◌≡◌, ℕ, Bool, ◌<◌, ◌+◌, ◌≢◌, List, [], ◌∷◌, ◌++◌, length, take, drop, refl, sym, ap, subst, ◌∙◌, arith}
 use Rattle.std.proofs.lemmas.List.{take-append-drop, length-append, length-take}
-use Rattle.ssh_model.specs.Wire.DataTypes.{IsByte, IsBoolean, IsUint32, IsNameList}
-use Rattle.ssh_model.specs.Wire.Reading.{Reads, NoFront, OneForm}
-use Rattle.ssh_model.specs.Wire.Message.{Then, IsCookie, Proposal, Msg, IsRow, IsPayload, FitsContext}
+use Rattle.ssh_model.specs.Protocol.Wire.DataTypes.{IsByte, IsBoolean, IsUint32, IsNameList}
+use Rattle.ssh_model.specs.Laws.Reading.{Reads, NoFront, OneForm}
+use Rattle.ssh_model.specs.Protocol.Wire.Message.{Then, IsCookie, Proposal, Msg, IsRow, IsPayload, FitsContext}
 use Rattle.ssh_message.specs.Meaning.{IsZero}
 use Rattle.ssh_message.specs.Parts.{Both, IsNothing, NoWhole}
 use Rattle.ssh_model.specs.Laws.Spellings.{one_uint32}

@@ -1,9 +1,9 @@
 -- The method of a request for authentication, from its name on.
 use Rattle.std.proofs.Common.{◌≡◌, ℕ, Bool, true, false, List, Option, Some, None, Result, Ok, Err, sym, subst, ◌∙◌}
 use Rattle.std.specs.Prelude.{codes, IfOk, IfErr}
-use Rattle.ssh_model.specs.Wire.DataTypes.{IsBoolean, IsString}
-use Rattle.ssh_model.specs.Wire.Reading.{Reads, NoFront}
-use Rattle.ssh_model.specs.Wire.Message.{Method, NoMethod, Password, Publickey, Other, Then, IsMethod}
+use Rattle.ssh_model.specs.Protocol.Wire.DataTypes.{IsBoolean, IsString}
+use Rattle.ssh_model.specs.Laws.Reading.{Reads, NoFront}
+use Rattle.ssh_model.specs.Protocol.Wire.Message.{Method, NoMethod, Password, Publickey, Other, Then, IsMethod}
 use Rattle.ssh_model.specs.Laws.Spellings.{one_boolean, one_string}
 use Rattle.ssh_message.specs.declared.message.Method as code
 use Rattle.ssh_message.specs.Meaning.{method_meaning}

@@ -1,10 +1,10 @@
 -- A payload and its message: at most one, and the one that was written.
 use Rattle.std.proofs.Common.{◌≡◌, ℕ, Bool, true, false, List, [], ◌∷◌, ◌++◌, Some, None, Result, Ok, Err, refl, sym, ap, subst, ◌∙◌}
 use Rattle.std.specs.Prelude.{IfOk, IfErr, IsOkAnd}
-use Rattle.ssh_model.specs.Wire.DataTypes.{IsByte, IsBoolean, IsWrittenBoolean}
-use Rattle.ssh_model.specs.Wire.Reading.{Reads, NoFront}
-use Rattle.ssh_model.specs.Wire.Message.{Method, Msg, Then, IsRow, IsMethod, IsPayload, IsWrittenPayload, FitsContext, message_number, Password, Publickey, Debug, KexInit, UserauthRequest, UserauthFailure, GlobalRequest, ChannelRequest, Unknown}
-use Rattle.ssh_model.specs.Sessions.Turns.{number_of}
+use Rattle.ssh_model.specs.Protocol.Wire.DataTypes.{IsByte, IsBoolean, IsWrittenBoolean}
+use Rattle.ssh_model.specs.Laws.Reading.{Reads, NoFront}
+use Rattle.ssh_model.specs.Protocol.Wire.Message.{Method, Msg, Then, IsRow, IsMethod, IsPayload, IsWrittenPayload, FitsContext, message_number, Password, Publickey, Debug, KexInit, UserauthRequest, UserauthFailure, GlobalRequest, ChannelRequest, Unknown}
+use Rattle.ssh_model.specs.Protocol.Sessions.Turns.{number_of}
 use Rattle.ssh_message.specs.declared.message.Message as code
 use Rattle.ssh_message.specs.Meaning.{meaning, IsMeant, NoMessage}
 

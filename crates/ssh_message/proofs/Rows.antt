@@ -1,8 +1,8 @@
 -- Which rows a number leaves: a payload with a number is a message of that number's row, and of no other.
 use Rattle.std.proofs.Common.{◌≡◌, ℕ, Bool, true, false, List, ◌∷◌, ◌++◌, refl, sym, ap, subst, ◌∙◌}
 use Rattle.std.specs.Prelude.{◌==◌, IsTrue}
-use Rattle.ssh_model.specs.Wire.DataTypes.{IsByte, IsBoolean, IsUint32, IsString, IsNameList}
-use Rattle.ssh_model.specs.Wire.Message.{Msg, Then, IsRest, IsMethod, IsProposal, IsPayload, is_unknown, Disconnect, Ignore, Unimplemented, Debug, ServiceRequest, ServiceAccept, ExtInfo, KexInit, NewKeys, KexEcdhInit, KexEcdhReply, UserauthRequest, UserauthFailure, UserauthSuccess, UserauthBanner, UserauthPkOk, GlobalRequest, RequestSuccess, RequestFailure, ChannelOpen, ChannelOpenConfirmation, ChannelOpenFailure, ChannelWindowAdjust, ChannelData, ChannelExtendedData, ChannelEof, ChannelClose, ChannelRequest, ChannelSuccess, ChannelFailure, Unknown}
+use Rattle.ssh_model.specs.Protocol.Wire.DataTypes.{IsByte, IsBoolean, IsUint32, IsString, IsNameList}
+use Rattle.ssh_model.specs.Protocol.Wire.Message.{Msg, Then, IsRest, IsMethod, IsProposal, IsPayload, is_unknown, Disconnect, Ignore, Unimplemented, Debug, ServiceRequest, ServiceAccept, ExtInfo, KexInit, NewKeys, KexEcdhInit, KexEcdhReply, UserauthRequest, UserauthFailure, UserauthSuccess, UserauthBanner, UserauthPkOk, GlobalRequest, RequestSuccess, RequestFailure, ChannelOpen, ChannelOpenConfirmation, ChannelOpenFailure, ChannelWindowAdjust, ChannelData, ChannelExtendedData, ChannelEof, ChannelClose, ChannelRequest, ChannelSuccess, ChannelFailure, Unknown}
 use Rattle.ssh_message.specs.Announced.{IsAnnounced}
 use Rattle.ssh_message.specs.Meaning.{NoMessage, IsNone}
 use Rattle.ssh_message.specs.Parts.{Both, IsNothing, NoWhole}

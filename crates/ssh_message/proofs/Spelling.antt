@@ -1,13 +1,13 @@
--- Extensions written one behind the other.
+-- Extensions written one after the other.
 use Rattle.std.proofs.Common.{◌≡◌, ℕ, ◌+◌, ◌<◌, ◌^◌, Bool, true, false, ltb, List, [], ◌∷◌, ◌++◌, length, take, map, get_or, refl, sym, ap, subst, ◌∙◌, append_assoc, inl, inr}
 use Rattle.std.proofs.lemmas.Bool.{and_parts, cases_Bool, ltb-true}
 use Rattle.std.proofs.lemmas.List.{append-nil, map-append, take_more}
 use Rattle.std.proofs.lemmas.List.Folds.{list_all-map, list_all_at}
 use Rattle.std.specs.List.{list_all}
-use Rattle.ssh_model.specs.Wire.DataTypes.{IsString}
-use Rattle.ssh_model.specs.Wire.Message as model
-use Rattle.ssh_model.specs.Wire.Message.{◌▸◌, IsExtensions}
-use Rattle.ssh_model.specs.Wire.Reading.{Writes}
+use Rattle.ssh_model.specs.Protocol.Wire.DataTypes.{IsString}
+use Rattle.ssh_model.specs.Protocol.Wire.Message as model
+use Rattle.ssh_model.specs.Protocol.Wire.Message.{◌▸◌, IsExtensions}
+use Rattle.ssh_model.specs.Laws.Reading.{Writes}
 use Rattle.ssh_message.specs.Announced.{extension_of, is_short}
 use Rattle.ssh_message.specs.declared.extensions.Extension.{Extension}
 

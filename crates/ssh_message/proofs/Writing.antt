@@ -2,10 +2,10 @@
 use Rattle.std.proofs.Common.{◌≡◌, ℕ, ◌+◌, ◌<◌, ◌≤◌, List, [], ◌∷◌, zero, suc, Result, Ok, Err, ◌++◌, length, get_or, take, length-append, refl, sym, ap, subst, ◌∙◌, append_assoc, append-nil, arith}
 use Rattle.std.proofs.lemmas.List.{take_all, take_more}
 use Rattle.std.specs.Prelude.{OnErr, OnOk}
-use Rattle.ssh_model.specs.Wire.DataTypes.{IsByte}
-use Rattle.ssh_model.specs.Wire.Reading.{Writes}
-use Rattle.ssh_model.specs.Wire.Message.{Msg, Msg.Unknown, IsWrittenPayload, Then}
-use Rattle.ssh_model.specs.Wire.Sizes.{payload_size, HasPayloadSize}
+use Rattle.ssh_model.specs.Protocol.Wire.DataTypes.{IsByte}
+use Rattle.ssh_model.specs.Laws.Reading.{Writes}
+use Rattle.ssh_model.specs.Protocol.Wire.Message.{Msg, Msg.Unknown, IsWrittenPayload, Then}
+use Rattle.ssh_model.specs.Laws.Sizes.{payload_size, HasPayloadSize}
 use Rattle.ssh_message.specs.declared.write.field.Field.{Field}
 use Rattle.ssh_message.specs.Fields.{all_sizes, field_size, AreFields, AreFit, FieldFits, IsField, IsRowOf}
 use Rattle.ssh_message.specs.Written.{Grown}

@@ -1,8 +1,8 @@
 -- What the extensions of this crate mean.
 use Rattle.std.specs.Prelude.{ℕ, ◌^◌, Bool, ◌&&◌, nat_lt, List, length}
-use Rattle.ssh_model.specs.Wire.DataTypes.{IsUint32}
-use Rattle.ssh_model.specs.Wire.Message as model
-use Rattle.ssh_model.specs.Wire.Message.{◌▸◌, IsExtensions}
+use Rattle.ssh_model.specs.Protocol.Wire.DataTypes.{IsUint32}
+use Rattle.ssh_model.specs.Protocol.Wire.Message as model
+use Rattle.ssh_model.specs.Protocol.Wire.Message.{◌▸◌, IsExtensions}
 use Rattle.ssh_message.specs.declared.extensions.Extension.{Extension}
 use Rattle.ssh_message.specs.declared.extensions.Extensions.{Extensions}
 use Rattle.ssh_message.specs.declared.extensions.ExtensionsIter.{ExtensionsIter}

@@ -1,7 +1,7 @@
 -- The extensions of an EXT_INFO as they stand in its payload (RFC 8308 section 2.3).
 use Rattle.std.specs.Prelude.{ℕ, zero, suc, Bool, true, false, ◌&&◌, nat_le, List, [], ◌∷◌, length, take, drop}
-use Rattle.ssh_model.specs.Wire.DataTypes.{number}
-use Rattle.ssh_model.specs.Wire.Message as model
+use Rattle.ssh_model.specs.Protocol.Wire.DataTypes.{number}
+use Rattle.ssh_model.specs.Protocol.Wire.Message as model
 
 -- ---- the string that stands in front
 

@@ -1,8 +1,8 @@
 -- What the fields of a message are written as.
 use Rattle.std.specs.Prelude.{ℕ, ◌+◌, List, [], ◌∷◌, length}
-use Rattle.ssh_model.specs.Wire.Sizes.{names_size, text_size}
-use Rattle.ssh_model.specs.Wire.DataTypes.{IsByte, IsWrittenBoolean, IsUint32, IsString, IsNameList}
-use Rattle.ssh_model.specs.Wire.Message.{◌▸◌, IsCookie, IsRest}
+use Rattle.ssh_model.specs.Laws.Sizes.{names_size, text_size}
+use Rattle.ssh_model.specs.Protocol.Wire.DataTypes.{IsByte, IsWrittenBoolean, IsUint32, IsString, IsNameList}
+use Rattle.ssh_model.specs.Protocol.Wire.Message.{◌▸◌, IsCookie, IsRest}
 use Rattle.ssh_types.specs.Values.{names, names_text}
 use Rattle.ssh_message.specs.declared.write.field.Field.{Field}
 use Rattle.ssh_message.specs.declared.write.field.Field.TheVariants as field

@@ -1,8 +1,8 @@
 -- What the messages of this crate mean, and what is said of a payload.
 use Rattle.std.specs.Prelude.{ℕ, Bool, Some, None, List}
-use Rattle.ssh_model.specs.Wire.DataTypes.{IsUint32}
-use Rattle.ssh_model.specs.Wire.Message as model
-use Rattle.ssh_model.specs.Wire.Message.{Msg, IsPayload}
+use Rattle.ssh_model.specs.Protocol.Wire.DataTypes.{IsUint32}
+use Rattle.ssh_model.specs.Protocol.Wire.Message as model
+use Rattle.ssh_model.specs.Protocol.Wire.Message.{Msg, IsPayload}
 use Rattle.ssh_types.specs.Values.{names}
 use Rattle.ssh_message.specs.Announced.{extensions_of}
 use Rattle.ssh_message.specs.declared.message.Proposal.{Proposal}

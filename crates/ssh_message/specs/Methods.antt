@@ -1,7 +1,7 @@
 -- A method of authentication as its name and what follows the name.
 use Rattle.std.specs.Prelude.{◌≡◌, ℕ, true, false, Some, None, List, codes}
-use Rattle.ssh_model.specs.Wire.DataTypes.{IsBoolean, IsString}
-use Rattle.ssh_model.specs.Wire.Message.{Method, NoMethod, Password, Publickey, Other, IsOther, Then, IsEnd, IsRest}
+use Rattle.ssh_model.specs.Protocol.Wire.DataTypes.{IsBoolean, IsString}
+use Rattle.ssh_model.specs.Protocol.Wire.Message.{Method, NoMethod, Password, Publickey, Other, IsOther, Then, IsEnd, IsRest}
 
 abbrev pub method_name : Method → List ℕ
 method_name NoMethod = codes "none"

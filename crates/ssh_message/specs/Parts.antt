@@ -1,8 +1,8 @@
 -- Fields that follow one another, each as a value and the bytes that spell it.
 use Rattle.std.specs.Prelude.{List, ℕ}
 use Rattle.std.proofs.Common.{refl}
-use Rattle.ssh_model.specs.Wire.Reading.{OneForm}
-use Rattle.ssh_model.specs.Wire.Message.{Then, IsEnd}
+use Rattle.ssh_model.specs.Laws.Reading.{OneForm}
+use Rattle.ssh_model.specs.Protocol.Wire.Message.{Then, IsEnd}
 use Rattle.ssh_model.specs.Laws.Spellings.{one_uint32}
 use Rattle.ssh_message.specs.Meaning.{IsZero}
 

@@ -1,6 +1,6 @@
 -- What can be written, and what is left where it can't.
 use Rattle.std.specs.Prelude.{◌≡◌, ℕ, ◌<◌, ◌^◌, ◌++◌, false, IsTrue, Some, None, List, length}
-use Rattle.ssh_model.specs.Wire.Message.{IsOther, is_unknown}
+use Rattle.ssh_model.specs.Protocol.Wire.Message.{IsOther, is_unknown}
 use Rattle.ssh_types.specs.Values.{names_text}
 use Rattle.ssh_message.specs.declared.message.Proposal.{Proposal}
 use Rattle.ssh_message.specs.declared.message.Method.{Method}

@@ -35,7 +35,7 @@ pub struct ExtensionsIter<'a> {
 
 impl<'a> Extensions<'a> {
     ghost use Rattle.std.specs.Prelude.{◌≡◌, IfSome, IfNone, List, ℕ, length};
-    ghost use Rattle.ssh_model.specs.Wire.Message.{Extension as announced, IsExtensions};
+    ghost use Rattle.ssh_model.specs.Protocol.Wire.Message.{Extension as announced, IsExtensions};
     ghost use Rattle.ssh_message.specs.Announced.{extensions_of, extensions_left};
 
     /// The extensions that the bytes are: so many names, each with its value, every one a string. `None` where they are
@@ -61,7 +61,7 @@ impl<'a> Extensions<'a> {
         self.count
     }
 
-    /// Names and values as they stand in the message, behind their count.
+    /// Names and values as they stand in the message, after their count.
     #[tactic(auto, using(crate::proofs::Announcing::spelled))]
     pub fn as_bytes(&self) -> &'a [u8]
         ensures { IsExtensions (extensions_of self.now) result.now }

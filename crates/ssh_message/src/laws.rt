@@ -1,5 +1,5 @@
 ghost use Rattle.std.specs.Prelude.{◌≡◌, Bool, List, ℕ};
-ghost use Rattle.ssh_model.specs.Wire.Message.{Msg, IsPayload, IsWrittenPayload, FitsContext};
+ghost use Rattle.ssh_model.specs.Protocol.Wire.Message.{Msg, IsPayload, IsWrittenPayload, FitsContext};
 
 /// A payload is one message at most, for an end that waits for the answer to a key probe and for one that does not.
 pub fn one_message()

@@ -18,7 +18,7 @@ pub struct Line<'a> {
 
 impl<'a> Line<'a> {
     ghost use Rattle.std.specs.Prelude.{◌≡◌, IfOk, IfErr};
-    ghost use Rattle.ssh_model.specs.Wire.Message.{IsPayload};
+    ghost use Rattle.ssh_model.specs.Protocol.Wire.Message.{IsPayload};
     ghost use Rattle.ssh_message.specs.Meaning.{meaning, NoMessage};
 
     /// The line of the message that the payload is. `probing` is that of `decode`.

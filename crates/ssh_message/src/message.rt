@@ -123,7 +123,7 @@ pub enum Message<'a> {
         recipient: u32,
         body: &'a [u8],
     },
-    /// 95: bytes of the channel beside its main stream, such as those of standard error (RFC 4254 section 5.2).
+    /// 95: bytes of the channel besides its main stream, such as those of standard error (RFC 4254 section 5.2).
     ChannelExtendedData {
         recipient: u32,
         kind: u32,
@@ -158,7 +158,7 @@ pub enum Message<'a> {
 
 impl<'a> Message<'a> {
     ghost use Rattle.std.specs.Prelude.{◌≡◌};
-    ghost use Rattle.ssh_model.specs.Wire.Message.{message_number};
+    ghost use Rattle.ssh_model.specs.Protocol.Wire.Message.{message_number};
     ghost use Rattle.ssh_message.specs.Meaning.{meaning};
 
     /// The number of the message, as it stands at the front of its payload.

@@ -1,5 +1,5 @@
 ghost use Rattle.std.specs.Prelude.{◌≡◌};
-ghost use Rattle.ssh_model.specs.Wire.Message.{message_name};
+ghost use Rattle.ssh_model.specs.Protocol.Wire.Message.{message_name};
 
 /// The name of the message of this number, without `SSH_MSG_`, or `UNKNOWN` (RFC 4250 section 4.1.2, RFC 5656 section
 /// 4). A number of which methods of authentication share the meanings, 60, has that of public keys.

@@ -1,3 +1,6 @@
+pub mod Reading
+pub mod Sizes
+pub mod MacOnly
 pub mod Names
 pub mod Spellings
 pub mod Checks

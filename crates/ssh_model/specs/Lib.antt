@@ -1,12 +1,5 @@
-pub mod Side
-pub mod Lists
-pub mod Wire
-pub mod OneEpoch
-pub mod KeyExchange
-pub mod Authentication
-pub mod Channels
-pub mod Sessions
-pub mod Example
+pub mod Protocol
+pub mod State
 pub mod Laws
-pub mod TransportLayer
-pub mod End
+pub mod OneEpoch
+pub mod Example

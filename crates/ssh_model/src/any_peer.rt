@@ -1,14 +1,14 @@
 //! What one end keeps to, whoever its peer is: the second headline, besides the claims on two ends in an honest run.
 
 ghost use Rattle.std.specs.Prelude.{◌≡◌, List, [], ◌∷◌, Some, None, true, false, codes, reverse};
-ghost use Rattle.ssh_model.specs.Side.{Side, Side.Client, Side.Server, part};
-ghost use Rattle.ssh_model.specs.Wire.Message.{Msg.Ignore, Msg.KexInit, Msg.NewKeys, Msg.KexEcdhInit, Msg.ExtInfo, Msg.UserauthRequest, Msg.UserauthSuccess, Method.NoMethod};
-ghost use Rattle.ssh_model.specs.Sessions.Parties.{Parties, AreLawful};
-ghost use Rattle.ssh_model.specs.Sessions.Items.{Item, took};
-ghost use Rattle.ssh_model.specs.Sessions.Turns.{EndRun};
-ghost use Rattle.ssh_model.specs.Sessions.Claims.{HasConnection};
-ghost use Rattle.ssh_model.specs.KeyExchange.Exchanges.{is_strict};
-ghost use Rattle.ssh_model.specs.Sessions.AnyPeer.{IsGuarded, AcceptedRequest, RequiresAuthentication, VerifiesHosts, EachIncludesOwn, TakesOnlyAllowed, TakesOnlyExchange, RequiresStrict, IsFresh, SendsOnlyExchange, UsesNoNonceTwice, taken_in_first_exchange, sent_in_first_exchange};
+ghost use Rattle.ssh_model.specs.Protocol.Side.{Side, Side.Client, Side.Server, part};
+ghost use Rattle.ssh_model.specs.Protocol.Wire.Message.{Msg.Ignore, Msg.KexInit, Msg.NewKeys, Msg.KexEcdhInit, Msg.ExtInfo, Msg.UserauthRequest, Msg.UserauthSuccess, Method.NoMethod};
+ghost use Rattle.ssh_model.specs.Protocol.Sessions.Parties.{Parties, AreLawful};
+ghost use Rattle.ssh_model.specs.Protocol.Sessions.Items.{Item, took};
+ghost use Rattle.ssh_model.specs.Protocol.Sessions.Turns.{EndRun};
+ghost use Rattle.ssh_model.specs.Protocol.Sessions.Claims.{HasConnection};
+ghost use Rattle.ssh_model.specs.Protocol.KeyExchange.Exchanges.{is_strict};
+ghost use Rattle.ssh_model.specs.Protocol.Sessions.AnyPeer.{IsGuarded, AcceptedRequest, RequiresAuthentication, VerifiesHosts, EachIncludesOwn, TakesOnlyAllowed, TakesOnlyExchange, RequiresStrict, IsFresh, SendsOnlyExchange, UsesNoNonceTwice, taken_in_first_exchange, sent_in_first_exchange};
 ghost use Rattle.ssh_model.specs.Example.Toys.{toy, secret};
 ghost use Rattle.ssh_model.specs.Example.Histories.{connection, says, hears, keyed, lined, offered, offer_of, open_message};
 ghost use Rattle.ssh_model.specs.Example.Run.{takes, takes_on, session};

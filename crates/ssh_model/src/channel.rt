@@ -1,15 +1,15 @@
 //! Laws of channels (RFC 4254 section 5).
 
 ghost use Rattle.std.specs.Prelude.{ℕ, suc, Bool, true, false, List, ◌∷◌, length, Option, ◌≡◌, ◌-◌, ◌⊎◌};
-ghost use Rattle.ssh_model.specs.Side.{Side, peer, part};
-ghost use Rattle.ssh_model.specs.Channels.Message.{Message, Message.Data, Message.Request, Message.Reply, Channel, Stage.Closed, Stage.Failed, stage, over};
-ghost use Rattle.ssh_model.specs.Channels.Notes.{Note, Note.Said, Note.Took, channel_at, At, Free};
-ghost use Rattle.ssh_model.specs.Channels.Numbers.{is_held, has_closed, send_window, receive_window, waiting_here, waiting_there};
-ghost use Rattle.ssh_model.specs.Channels.Rules.{EndRun, Run, Next};
-ghost use Rattle.ssh_model.specs.Channels.History.{Item, noted, is_free, has_place};
-ghost use Rattle.ssh_model.specs.Channels.Rows.{EndTurns, Done, PairRun, Ordered};
-ghost use Rattle.ssh_model.specs.Channels.Claims.{WindowsHere, Within, DataBegins, Welcome, WindowsKept, NotRefused, DataInOrder, Partnered, IsExample};
-ghost use Rattle.ssh_model.specs.Channels.SinceOpen.{EachSinceOpen};
+ghost use Rattle.ssh_model.specs.Protocol.Side.{Side, peer, part};
+ghost use Rattle.ssh_model.specs.Protocol.Channels.Message.{Message, Message.Data, Message.Request, Message.Reply, Channel, Stage.Closed, Stage.Failed, stage, over};
+ghost use Rattle.ssh_model.specs.Protocol.Channels.Notes.{Note, Note.Said, Note.Took, channel_at, At, Free};
+ghost use Rattle.ssh_model.specs.Protocol.Channels.Numbers.{is_held, has_closed, send_window, receive_window, waiting_here, waiting_there};
+ghost use Rattle.ssh_model.specs.Protocol.Channels.Rules.{EndRun, Run, Next};
+ghost use Rattle.ssh_model.specs.Protocol.Channels.History.{Item, noted, is_free, has_place};
+ghost use Rattle.ssh_model.specs.Protocol.Channels.Rows.{EndTurns, Done, PairRun, Ordered};
+ghost use Rattle.ssh_model.specs.Protocol.Channels.Claims.{WindowsHere, Within, DataBegins, Welcome, WindowsKept, NotRefused, DataInOrder, Partnered, IsExample};
+ghost use Rattle.ssh_model.specs.State.Channels.SinceOpen.{EachSinceOpen};
 
 /// On every channel, at each end, data sent is at most the window taken, data taken is at most the window granted, and
 /// what was taken on it, the parts of the window among it, is a prefix of what the other had sent.

@@ -1,10 +1,10 @@
 ghost use Rattle.std.specs.Prelude.{◌≡◌, ◌↔◌, ◌++◌, [], ◌∷◌, IsTrue, List, ℕ, None, Some, false, true};
 ghost use Rattle.std.specs.List.{Contains};
-ghost use Rattle.ssh_model.specs.KeyExchange.Choice.{Chosen, HasNoCommon, IsChoice, IsFirstCommon, IsFirstWithout, IsRightGuess, Kind, Lists, is_method, methods};
-ghost use Rattle.ssh_model.specs.KeyExchange.Exchanges.{chosen, first_common, has_choice, has_marker};
-ghost use Rattle.ssh_model.specs.Wire.Message.{Proposal};
-ghost use Rattle.ssh_model.specs.Sessions.Parties.{lists_of};
-ghost use Rattle.ssh_model.specs.Sessions.Phases.{is_wrong_guess};
+ghost use Rattle.ssh_model.specs.Protocol.KeyExchange.Choice.{Chosen, HasNoCommon, IsChoice, IsFirstCommon, IsFirstWithout, IsRightGuess, Kind, Lists, is_method, methods};
+ghost use Rattle.ssh_model.specs.Protocol.KeyExchange.Exchanges.{chosen, first_common, has_choice, has_marker};
+ghost use Rattle.ssh_model.specs.Protocol.Wire.Message.{Proposal};
+ghost use Rattle.ssh_model.specs.Protocol.Sessions.Parties.{lists_of};
+ghost use Rattle.ssh_model.specs.Protocol.Sessions.Phases.{is_wrong_guess};
 
 /// The name that is computed of two lists is the first of the client's that is in the server's, and where none is computed
 /// there is none.
@@ -29,7 +29,7 @@ pub fn computed_choice()
     ensures none { (client server : Lists) (kind : Kind) → IsFirstWithout client server kind → has_choice client server ≡ false }
 {}
 
-/// A marker that is computed to be there is there. Behind other names it chooses nothing.
+/// A marker that is computed to be there is there. After other names it chooses nothing.
 pub fn markers()
     ensures there { (marker : List ℕ) (names : List (List ℕ)) → IsTrue (has_marker marker names) ↔ Contains names marker }
     ensures chooses_nothing { (names : List (List ℕ)) (marker : List ℕ) → is_method marker ≡ false → methods (names ++ marker ∷ []) ≡ methods names }

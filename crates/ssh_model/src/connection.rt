@@ -3,16 +3,16 @@
 //! histories.
 
 ghost use Rattle.std.specs.Prelude.{◌≡◌, ℕ, Bool, List, [], ◌∷◌, Option, Some, None};
-ghost use Rattle.ssh_model.specs.Side.{Side};
-ghost use Rattle.ssh_model.specs.Wire.Message.{Msg};
-ghost use Rattle.ssh_model.specs.Sessions.Refusals.{first_refusal};
-ghost use Rattle.ssh_model.specs.Sessions.Items.{Ask, Item};
-ghost use Rattle.ssh_model.specs.Sessions.Phases.{blocked};
-ghost use Rattle.ssh_model.specs.Channels.History as channel;
-ghost use Rattle.ssh_model.specs.Channels.Places.{at, shown_state, channel_state, shown_room, room, count};
-ghost use Rattle.ssh_model.specs.Channels.Connection.{connection_checks, channel_ask_checks, notes, owed_replies};
-ghost use Rattle.ssh_model.specs.Channels.Kept.{Channels, no_channels, used, DueReply, Taken, Takes, take_checks, Unblocks, Sent, Sends, send_checks};
-ghost use Rattle.ssh_model.specs.Channels.Summary.{SumsUp, Accepts, SendsOwed, Allows, LeavesChannels, IsNoNewkeys};
+ghost use Rattle.ssh_model.specs.Protocol.Side.{Side};
+ghost use Rattle.ssh_model.specs.Protocol.Wire.Message.{Msg};
+ghost use Rattle.ssh_model.specs.Protocol.Sessions.Refusals.{first_refusal};
+ghost use Rattle.ssh_model.specs.Protocol.Sessions.Items.{Ask, Item};
+ghost use Rattle.ssh_model.specs.Protocol.Sessions.Phases.{blocked};
+ghost use Rattle.ssh_model.specs.Protocol.Channels.History as channel;
+ghost use Rattle.ssh_model.specs.State.Channels.Places.{at, shown_state, channel_state, shown_room, room, count};
+ghost use Rattle.ssh_model.specs.Protocol.Channels.Connection.{connection_checks, channel_ask_checks, notes, owed_replies};
+ghost use Rattle.ssh_model.specs.State.Channels.Kept.{Channels, no_channels, used, DueReply, Taken, Takes, take_checks, Unblocks, Sent, Sends, send_checks};
+ghost use Rattle.ssh_model.specs.State.Channels.Summary.{SumsUp, Accepts, SendsOwed, Allows, LeavesChannels, IsNoNewkeys};
 
 /// No channels sum up the empty history.
 #[tactic(auto, using(crate::proofs::Channels::Elsewhere::starts))]
@@ -44,7 +44,7 @@ pub fn owed_replies_given()
     ensures none_left { (side : Side) (history : List Item) (waiting : List channel.Item) (channels : Channels) → SumsUp side history waiting channels → (new : Channels) → Unblocks channels None new → (waiting ≡ []) × (new ≡ channels) }
 {}
 
-/// What is kept sums up the history also with an item of another layer. So do the replies that are owed, but for
+/// What is kept sums up the history also with an item of another layer. So do the replies that are owed, except for
 /// NEWKEYS: after it none is, and those that waited are sent.
 #[tactic(auto, using(crate::proofs::Channels::Elsewhere::kept_elsewhere, crate::proofs::Channels::Elsewhere::owed_elsewhere))]
 pub fn items_of_other_layers()

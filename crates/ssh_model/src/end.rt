@@ -2,35 +2,35 @@
 //! session. An end is proved against what it keeps alone, and these laws make of it what is said of histories.
 
 ghost use Rattle.std.specs.Prelude.{◌≡◌, ◌<◌, ◌≤◌, ◌^◌, ◌++◌, ◌↔◌, ℕ, List, [], ◌∷◌, None, true, false};
-ghost use Rattle.ssh_model.specs.Side.{Side, Side.Client, part};
-ghost use Rattle.ssh_model.specs.Wire.Message.{Msg, Msg.KexInit};
-ghost use Rattle.ssh_model.specs.Wire.Line.{IsLineBegun, line_end};
-ghost use Rattle.ssh_model.specs.Wire.Sealing.{IsSealing};
-ghost use Rattle.ssh_model.specs.Wire.Unit.{IsPacketBegun, IsUnit};
-ghost use Rattle.ssh_model.specs.Wire.Outcome.{Outcome.OtherLine, Outcome.VersionLine, Outcome.RefusedLine, Outcome.Opens, Outcome.RefusedPacket};
-ghost use Rattle.ssh_model.specs.Wire.Delivery.{Delivered, InPieces, Waits};
-ghost use Rattle.ssh_model.specs.KeyExchange.Exchanges.{exchanges, session_id};
-ghost use Rattle.ssh_model.specs.Sessions.Refusals.{Refusal, first_refusal};
-ghost use Rattle.ssh_model.specs.Sessions.Parties.{AreLawful, Parties, offer, settings_of};
-ghost use Rattle.ssh_model.specs.Sessions.Items.{Ask, Done, Item, Fact.Completed, Item.Fed, Item.SentLine, Item.Sent, Item.Took, Item.TookLine, Item.TookOtherLine, Item.Told, Item.Died, Spelled.SpelledBy, messages_sent};
-ghost use Rattle.ssh_model.specs.Sessions.Phases.{Phase.Normal, may_take, probing};
-ghost use Rattle.ssh_model.specs.Sessions.Turns.{AsksTurn, EndRun, FeedsTurn, IsMaterial, OnPayload, OnUnit, answer_checks, ask_checks, stage};
-ghost use Rattle.ssh_model.specs.TransportLayer.Directions.{new_direction};
-ghost use Rattle.ssh_model.specs.TransportLayer.Kept.{Transport, after_wiping};
-ghost use Rattle.ssh_model.specs.TransportLayer.Summary.{SumsUp};
-ghost use Rattle.ssh_model.specs.TransportLayer.Turns.{AskTurned, EndedBy, PutsPackets, Turned, UnitRefused};
-ghost use Rattle.ssh_model.specs.End.State.{Authentication.OfClient, EndState, above_checks, after_items, new_end, probes, session_of, takes_above};
-ghost use Rattle.ssh_model.specs.End.Summary.{EndSumsUp, EndTurned, HasOpened};
-ghost use Rattle.ssh_model.specs.End.Payloads.{GivesOwed, ReadsAbove, TakesPayload};
-ghost use Rattle.ssh_model.specs.End.Below.{AreBelow, opened_by_all};
-ghost use Rattle.ssh_model.specs.Channels.Connection.{AreReplies, owed_replies};
-ghost use Rattle.ssh_model.specs.Authentication.Kept as kept;
-ghost use Rattle.ssh_model.specs.Channels.Kept.{Channels, peer_of};
-ghost use Rattle.ssh_model.specs.Channels.Places.{at};
-ghost use Rattle.ssh_model.specs.End.Deaths.{CanSettle};
-ghost use Rattle.ssh_model.specs.End.Units.{TakesPair, TakesUnit};
-ghost use Rattle.ssh_model.specs.End.Asks.{TakesAsk, end_ask_checks};
-ghost use Rattle.ssh_model.specs.End.Reading.{DeliversTo, end_reading};
+ghost use Rattle.ssh_model.specs.Protocol.Side.{Side, Side.Client, part};
+ghost use Rattle.ssh_model.specs.Protocol.Wire.Message.{Msg, Msg.KexInit};
+ghost use Rattle.ssh_model.specs.Protocol.Wire.Line.{IsLineBegun, line_end};
+ghost use Rattle.ssh_model.specs.Protocol.Wire.Sealing.{IsSealing};
+ghost use Rattle.ssh_model.specs.Protocol.Wire.Unit.{IsPacketBegun, IsUnit};
+ghost use Rattle.ssh_model.specs.Protocol.Wire.Outcome.{Outcome.OtherLine, Outcome.VersionLine, Outcome.RefusedLine, Outcome.Opens, Outcome.RefusedPacket};
+ghost use Rattle.ssh_model.specs.Protocol.Wire.Delivery.{Delivered, InPieces, Waits};
+ghost use Rattle.ssh_model.specs.Protocol.KeyExchange.Exchanges.{exchanges, session_id};
+ghost use Rattle.ssh_model.specs.Protocol.Sessions.Refusals.{Refusal, first_refusal};
+ghost use Rattle.ssh_model.specs.Protocol.Sessions.Parties.{AreLawful, Parties, offer, settings_of};
+ghost use Rattle.ssh_model.specs.Protocol.Sessions.Items.{Ask, Done, Item, Fact.Completed, Item.Fed, Item.SentLine, Item.Sent, Item.Took, Item.TookLine, Item.TookOtherLine, Item.Told, Item.Died, Spelled.SpelledBy, messages_sent};
+ghost use Rattle.ssh_model.specs.Protocol.Sessions.Phases.{Phase.Normal, may_take, probing};
+ghost use Rattle.ssh_model.specs.Protocol.Sessions.Turns.{AsksTurn, EndRun, FeedsTurn, IsMaterial, OnPayload, OnUnit, answer_checks, ask_checks, stage};
+ghost use Rattle.ssh_model.specs.State.TransportLayer.Directions.{new_direction};
+ghost use Rattle.ssh_model.specs.State.TransportLayer.Kept.{Transport, after_wiping};
+ghost use Rattle.ssh_model.specs.State.TransportLayer.Summary.{SumsUp};
+ghost use Rattle.ssh_model.specs.State.TransportLayer.Turns.{AskTurned, EndedBy, PutsPackets, Turned, UnitRefused};
+ghost use Rattle.ssh_model.specs.State.End.State.{Authentication.OfClient, EndState, above_checks, after_items, new_end, probes, session_of, takes_above};
+ghost use Rattle.ssh_model.specs.State.End.Summary.{EndSumsUp, EndTurned, HasOpened};
+ghost use Rattle.ssh_model.specs.State.End.Payloads.{GivesOwed, ReadsAbove, TakesPayload};
+ghost use Rattle.ssh_model.specs.State.End.Below.{AreBelow, opened_by_all};
+ghost use Rattle.ssh_model.specs.Protocol.Channels.Connection.{AreReplies, owed_replies};
+ghost use Rattle.ssh_model.specs.State.Authentication.Kept as kept;
+ghost use Rattle.ssh_model.specs.State.Channels.Kept.{Channels, peer_of};
+ghost use Rattle.ssh_model.specs.State.Channels.Places.{at};
+ghost use Rattle.ssh_model.specs.State.End.Deaths.{CanSettle};
+ghost use Rattle.ssh_model.specs.State.End.Units.{TakesPair, TakesUnit};
+ghost use Rattle.ssh_model.specs.State.End.Asks.{TakesAsk, end_ask_checks};
+ghost use Rattle.ssh_model.specs.State.End.Reading.{DeliversTo, end_reading};
 
 /// An end that was fed a pair and put out its version line with CR LF and a packet of its first KEXINIT has opened, and
 /// what it keeps sums up its opening, with which its run begins.
@@ -89,7 +89,7 @@ pub fn unit_turns<K>()
         EndTurned p side history (OnUnit p side history unit) items more new }
 {}
 
-/// What ends an exchange at the transport, with the replies that were owed behind it, all of them, and then what is told, is a
+/// What ends an exchange at the transport, with the replies that were owed after it, all of them, and then what is told, is a
 /// turn of the end. The replies that are given are those that a session owes.
 pub fn exchange_ends<K>()
     ensures ended { (p : Parties K) (side : Side) (history : List Item) (e : EndState K) → EndSumsUp p side history e → e.transport.dead ≡ false → (message : Msg) (payload : List ℕ) (position : ℕ) (items : List Item) (more later : List ℕ) (transport : Transport K) (owed : List Item) (channels : Channels) → EndedBy p side history message payload position items more transport → transport.dead ≡ false →
@@ -150,7 +150,7 @@ pub fn pieces<K>()
     ensures { (p : Parties K) → IsSealing p.crypto → (side : Side) (history last : List Item) (one two rest : List ℕ) → Delivered (end_reading p side) history (one ++ two) last rest ↔ InPieces (end_reading p side) history one two last rest }
 {}
 
-/// An end that uses a unit, and then whatever it makes of the bytes behind it, has made that of all of them; one that waits
+/// An end that uses a unit, and then whatever it makes of the bytes after it, has made that of all of them; one that waits
 /// keeps them; and a dead one drops them. What the bytes make of an end goes on with its run, and is a delivery in each run
 /// of two of which its history is a part.
 pub fn deliveries<K>()

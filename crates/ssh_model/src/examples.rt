@@ -1,28 +1,28 @@
 //! What the definitions say of two toy ends.
 
 ghost use Rattle.std.specs.Prelude.{◌≡◌, ℕ, ◌∷◌, ◌++◌, true, false, List, [], Some, None, codes, replicate, length, take, map};
-ghost use Rattle.ssh_model.specs.Side.{Side, Side.Client, Side.Server, peer, part};
-ghost use Rattle.ssh_model.specs.Lists.{IsIn};
+ghost use Rattle.ssh_model.specs.Protocol.Side.{Side, Side.Client, Side.Server, peer, part};
+ghost use Rattle.ssh_model.specs.Protocol.Lists.{IsIn};
 ghost use Rattle.ssh_model.specs.Example.Histories.{taken, refusal, ask_refusal, says, hears, says_on, hears_on, offer_of, opened, lined, offered, first_reply, completed, keyed, userauth, connection, asking, served, right_request, wrong_request, probe, right_signature, requesting, probing_client, failed, admitted, fed_again, rekeying, offered_again, completed_again, open_message, confirm_message, channel_opened, channel_confirmed, heard_data, heard_eof, heard_request, closed_by_peer, guessing, said_data, said_request, wide_channel, requests, connection_asks, with_methods, patient, friendly, plain_crypto, first_inputs, mac_key};
 ghost use Rattle.ssh_model.specs.Example.Toys.{toy_key, toy, secret, every_refusal, every_ask_refusal, from_to};
 ghost use Rattle.ssh_model.specs.Example.Run.{session};
-ghost use Rattle.ssh_model.specs.Wire.Message.{Method.NoMethod, Method.Password, Method.Publickey, Method.Other, Msg.Disconnect, Msg.Ignore, Msg.Unimplemented, Msg.Debug, Msg.ServiceRequest, Msg.ServiceAccept, Msg.KexInit, Msg.NewKeys, Msg.KexEcdhInit, Msg.KexEcdhReply, Msg.UserauthRequest, Msg.UserauthFailure, Msg.UserauthSuccess, Msg.UserauthBanner, Msg.UserauthPkOk, Msg.GlobalRequest, Msg.RequestSuccess, Msg.RequestFailure, Msg.ChannelOpenConfirmation, Msg.ChannelOpenFailure, Msg.ChannelWindowAdjust, Msg.ChannelData, Msg.ChannelExtendedData, Msg.ChannelEof, Msg.ChannelClose, Msg.ChannelRequest, Msg.ChannelSuccess, Msg.ChannelFailure, Msg.Unknown};
-ghost use Rattle.ssh_model.specs.Sessions.Refusals.{first_refusal, refusal_number, refusal_name, refusal_reason, ask_refusal_number, ask_refusal_name, Refusal, Refusal.Unexpected, Refusal.NoCommon, Refusal.NotStrict, Refusal.BadPoint, Refusal.BadHost, Refusal.NoService, Refusal.TooManyTries, Refusal.UnknownChannel, Refusal.WindowOverrun, Refusal.WindowTooLarge, Refusal.OwedFull, AskRefusal.NotYet, AskRefusal.Busy, AskRefusal.NoChannel, AskRefusal.NoRoom, AskRefusal.TooLong, AskRefusal.TableFull, AskRefusal.NothingOwed, AskRefusal.RekeyDue, AskRefusal.TooMuch, AskRefusal.WrongSide, AskRefusal};
-ghost use Rattle.ssh_model.specs.Sessions.Parties.{AreLawful, marker_of, lists_of};
-ghost use Rattle.ssh_model.specs.Sessions.Items.{Item, has_died, sent, took, Ask.AskService, Ask.AskNone, Ask.AskPassword, Ask.AskProbe, Ask.AskSign, Ask.AskRekey, Ask.AskOpen, Ask.AskConfirm, Ask.AskRefuse, Ask.AskData, Ask.AskAdjust, Ask.AskEof, Ask.AskClose, Ask.AskRequest, Ask.AskReply, Ask.AskGlobal, Ask.AskGlobalReply, Ask.AskDisconnect, Fact.Completed, Fact.Service, Fact.Accepted, Fact.Authenticated, Fact.Failed, Fact.Banner, Fact.KeyOk, Fact.Ignored, Fact.Debugged, Fact.NotImplemented, Fact.Disconnected, Fact.Global, Fact.GlobalDone, Fact.Opening, Fact.Opened, Fact.Confirmed, Fact.OpenFailed, Fact.GotData, Fact.Adjusted, Fact.Ended, Fact.Closed, Fact.Requested, Fact.RequestDone, Item.TookGuess, Item.Told, Item.Died};
-ghost use Rattle.ssh_model.specs.Sessions.Epochs.{epoch};
-ghost use Rattle.ssh_model.specs.KeyExchange.Exchange.{Inputs, exchange_hash, derived};
-ghost use Rattle.ssh_model.specs.KeyExchange.Exchanges.{sending_number, taking_number, exchange, exchanges, first_common, common, choice, iv_letter, cipher_letter, mac_letter, key_of, sending_key, taking_key};
-ghost use Rattle.ssh_model.specs.Sessions.Phases.{is_wrong_guess, own_names, blocked, authenticated};
-ghost use Rattle.ssh_model.specs.Authentication.Requests.{judge_of, is_known_key, signed_text, is_accepted, is_good_probe};
-ghost use Rattle.ssh_model.specs.Sessions.Transport.{hash_to_sign, reply_now};
-ghost use Rattle.ssh_model.specs.Channels.Connection.{notes, is_full, is_limit_reached, is_owed_limit_reached, is_rekey_due};
-ghost use Rattle.ssh_model.specs.Sessions.Turns.{ask_checks, Answer, OnAsk, Run};
-ghost use Rattle.ssh_model.specs.Sessions.Honest.{IsHonest};
-ghost use Rattle.ssh_model.specs.Sessions.Claims.{TookUnder, HasAccepted};
-ghost use Rattle.ssh_model.specs.Sessions.TurnClaims.{AreGood};
-ghost use Rattle.ssh_model.specs.KeyExchange.Choice.{client_marker, server_marker, Kind.Kex};
-ghost use Rattle.ssh_model.specs.Channels.Numbers.{is_confirmed, has_closed};
+ghost use Rattle.ssh_model.specs.Protocol.Wire.Message.{Method.NoMethod, Method.Password, Method.Publickey, Method.Other, Msg.Disconnect, Msg.Ignore, Msg.Unimplemented, Msg.Debug, Msg.ServiceRequest, Msg.ServiceAccept, Msg.KexInit, Msg.NewKeys, Msg.KexEcdhInit, Msg.KexEcdhReply, Msg.UserauthRequest, Msg.UserauthFailure, Msg.UserauthSuccess, Msg.UserauthBanner, Msg.UserauthPkOk, Msg.GlobalRequest, Msg.RequestSuccess, Msg.RequestFailure, Msg.ChannelOpenConfirmation, Msg.ChannelOpenFailure, Msg.ChannelWindowAdjust, Msg.ChannelData, Msg.ChannelExtendedData, Msg.ChannelEof, Msg.ChannelClose, Msg.ChannelRequest, Msg.ChannelSuccess, Msg.ChannelFailure, Msg.Unknown};
+ghost use Rattle.ssh_model.specs.Protocol.Sessions.Refusals.{first_refusal, refusal_number, refusal_name, refusal_reason, ask_refusal_number, ask_refusal_name, Refusal, Refusal.Unexpected, Refusal.NoCommon, Refusal.NotStrict, Refusal.BadPoint, Refusal.BadHost, Refusal.NoService, Refusal.TooManyTries, Refusal.UnknownChannel, Refusal.WindowOverrun, Refusal.WindowTooLarge, Refusal.OwedFull, AskRefusal.NotYet, AskRefusal.Busy, AskRefusal.NoChannel, AskRefusal.NoRoom, AskRefusal.TooLong, AskRefusal.TableFull, AskRefusal.NothingOwed, AskRefusal.RekeyDue, AskRefusal.TooMuch, AskRefusal.WrongSide, AskRefusal};
+ghost use Rattle.ssh_model.specs.Protocol.Sessions.Parties.{AreLawful, marker_of, lists_of};
+ghost use Rattle.ssh_model.specs.Protocol.Sessions.Items.{Item, has_died, sent, took, Ask.AskService, Ask.AskNone, Ask.AskPassword, Ask.AskProbe, Ask.AskSign, Ask.AskRekey, Ask.AskOpen, Ask.AskConfirm, Ask.AskRefuse, Ask.AskData, Ask.AskAdjust, Ask.AskEof, Ask.AskClose, Ask.AskRequest, Ask.AskReply, Ask.AskGlobal, Ask.AskGlobalReply, Ask.AskDisconnect, Fact.Completed, Fact.Service, Fact.Accepted, Fact.Authenticated, Fact.Failed, Fact.Banner, Fact.KeyOk, Fact.Ignored, Fact.Debugged, Fact.NotImplemented, Fact.Disconnected, Fact.Global, Fact.GlobalDone, Fact.Opening, Fact.Opened, Fact.Confirmed, Fact.OpenFailed, Fact.GotData, Fact.Adjusted, Fact.Ended, Fact.Closed, Fact.Requested, Fact.RequestDone, Item.TookGuess, Item.Told, Item.Died};
+ghost use Rattle.ssh_model.specs.Protocol.Sessions.Epochs.{epoch};
+ghost use Rattle.ssh_model.specs.Protocol.KeyExchange.Exchange.{Inputs, exchange_hash, derived};
+ghost use Rattle.ssh_model.specs.Protocol.KeyExchange.Exchanges.{sending_number, taking_number, exchange, exchanges, first_common, common, choice, iv_letter, cipher_letter, mac_letter, key_of, sending_key, taking_key};
+ghost use Rattle.ssh_model.specs.Protocol.Sessions.Phases.{is_wrong_guess, own_names, blocked, authenticated};
+ghost use Rattle.ssh_model.specs.Protocol.Authentication.Requests.{judge_of, is_known_key, signed_text, is_accepted, is_good_probe};
+ghost use Rattle.ssh_model.specs.Protocol.Sessions.Transport.{hash_to_sign, reply_now};
+ghost use Rattle.ssh_model.specs.Protocol.Channels.Connection.{notes, is_full, is_limit_reached, is_owed_limit_reached, is_rekey_due};
+ghost use Rattle.ssh_model.specs.Protocol.Sessions.Turns.{ask_checks, Answer, OnAsk, Run};
+ghost use Rattle.ssh_model.specs.Protocol.Sessions.Honest.{IsHonest};
+ghost use Rattle.ssh_model.specs.Protocol.Sessions.Claims.{TookUnder, HasAccepted};
+ghost use Rattle.ssh_model.specs.Protocol.Sessions.TurnClaims.{AreGood};
+ghost use Rattle.ssh_model.specs.Protocol.KeyExchange.Choice.{client_marker, server_marker, Kind.Kex};
+ghost use Rattle.ssh_model.specs.Protocol.Channels.Numbers.{is_confirmed, has_closed};
 
 /// The toy parts keep what is promised of parts, and the toy settings are good.
 pub fn toy_parts()

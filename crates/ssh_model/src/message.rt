@@ -1,11 +1,11 @@
 ghost use Rattle.std.specs.Prelude.{◌≡◌, ◌<◌, ◌≤◌, ◌+◌, ◌^◌, Bool, List, [], length, ℕ, None, Some, codes};
-ghost use Rattle.ssh_model.specs.Wire.Message.{Msg, Msg.Disconnect, Msg.Unimplemented, Msg.ServiceRequest, Msg.ServiceAccept, Msg.NewKeys, Msg.KexEcdhInit, Msg.KexEcdhReply, Msg.UserauthSuccess, Msg.UserauthPkOk, Msg.GlobalRequest, Msg.RequestSuccess, Msg.RequestFailure, Msg.ChannelOpen, Msg.ChannelOpenConfirmation, Msg.ChannelOpenFailure, Msg.ChannelWindowAdjust, Msg.ChannelData, Msg.ChannelExtendedData, Msg.ChannelEof, Msg.ChannelClose, Msg.ChannelRequest, Msg.ChannelSuccess, Msg.ChannelFailure, Method.NoMethod, Method.Password, Method.Publickey, IsPayload, IsWrittenPayload, message_number};
-ghost use Rattle.ssh_model.specs.Sessions.Sizes.{request_size};
-ghost use Rattle.ssh_model.specs.Sessions.TurnClaims.{HasSpelling};
-ghost use Rattle.ssh_model.specs.Authentication.Rows.{password_size, probe_size, sign_size};
-ghost use Rattle.ssh_model.specs.Authentication.Kept.{request_by};
-ghost use Rattle.ssh_model.specs.Sessions.Turns.{number_of};
-ghost use Rattle.ssh_model.specs.Wire.Sizes.{HasPayloadSize};
+ghost use Rattle.ssh_model.specs.Protocol.Wire.Message.{Msg, Msg.Disconnect, Msg.Unimplemented, Msg.ServiceRequest, Msg.ServiceAccept, Msg.NewKeys, Msg.KexEcdhInit, Msg.KexEcdhReply, Msg.UserauthSuccess, Msg.UserauthPkOk, Msg.GlobalRequest, Msg.RequestSuccess, Msg.RequestFailure, Msg.ChannelOpen, Msg.ChannelOpenConfirmation, Msg.ChannelOpenFailure, Msg.ChannelWindowAdjust, Msg.ChannelData, Msg.ChannelExtendedData, Msg.ChannelEof, Msg.ChannelClose, Msg.ChannelRequest, Msg.ChannelSuccess, Msg.ChannelFailure, Method.NoMethod, Method.Password, Method.Publickey, IsPayload, IsWrittenPayload, message_number};
+ghost use Rattle.ssh_model.specs.Protocol.Sessions.Sizes.{request_size};
+ghost use Rattle.ssh_model.specs.Protocol.Sessions.TurnClaims.{HasSpelling};
+ghost use Rattle.ssh_model.specs.Protocol.Authentication.Rows.{password_size, probe_size, sign_size};
+ghost use Rattle.ssh_model.specs.State.Authentication.Kept.{request_by};
+ghost use Rattle.ssh_model.specs.Protocol.Sessions.Turns.{number_of};
+ghost use Rattle.ssh_model.specs.Laws.Sizes.{HasPayloadSize};
 
 /// A payload is one message at most, for an end that waits for the answer to a key probe (RFC 4252 section 7) and for
 /// one that does not.

@@ -1,21 +1,21 @@
 //! What holds of one end alone, whatever comes to it.
 
 ghost use Rattle.std.specs.Prelude.{◌≡◌, ◌<◌, ◌^◌, ◌-◌, ℕ, List, [], ◌∷◌, length, map, true, false, Option, Some, None};
-ghost use Rattle.ssh_model.specs.Side.{Side, part};
-ghost use Rattle.ssh_model.specs.Sessions.Parties.{Parties, AreLawful};
-ghost use Rattle.ssh_model.specs.Sessions.Items.{Ask, Item, Item.Asked, Item.SentLine, Item.Sent, Item.Refused, Item.Died, Done, has_died, sent};
-ghost use Rattle.ssh_model.specs.Sessions.Turns.{AsksTurn, EndRun, OnOutcome, OnUnit, Refuses, Run, Turn, ask_checks, can_feed, stage};
-ghost use Rattle.ssh_model.specs.Sessions.TurnClaims.{AreGood, DiesAt, EndsWithLine, EndsWithPacket, HasNumbers, HasUint32s, KeepsToExchange, shown};
-ghost use Rattle.ssh_model.specs.Sessions.Events.{Event, IsFirst, Plays, PutsOut, World, rest_of};
-ghost use Rattle.ssh_model.specs.Sessions.Claims.{WindowsAt};
-ghost use Rattle.ssh_model.specs.Wire.Message.{Msg, Msg.Disconnect};
-ghost use Rattle.ssh_model.specs.Wire.Sealing.{IsSealing};
-ghost use Rattle.ssh_model.specs.Sessions.Refusals.{Refusal, Refusal.NumberSpent, first_refusal, refusal_name, refusal_reason};
-ghost use Rattle.ssh_model.specs.Sessions.Epochs.{count};
-ghost use Rattle.ssh_model.specs.Sessions.Phases.{has_material};
-ghost use Rattle.ssh_model.specs.KeyExchange.Exchanges.{fed};
-ghost use Rattle.ssh_model.specs.Wire.Outcome.{Outcome};
-ghost use Rattle.ssh_model.specs.Wire.Unit.{IsUnit};
+ghost use Rattle.ssh_model.specs.Protocol.Side.{Side, part};
+ghost use Rattle.ssh_model.specs.Protocol.Sessions.Parties.{Parties, AreLawful};
+ghost use Rattle.ssh_model.specs.Protocol.Sessions.Items.{Ask, Item, Item.Asked, Item.SentLine, Item.Sent, Item.Refused, Item.Died, Done, has_died, sent};
+ghost use Rattle.ssh_model.specs.Protocol.Sessions.Turns.{AsksTurn, EndRun, OnOutcome, OnUnit, Refuses, Run, Turn, ask_checks, can_feed, stage};
+ghost use Rattle.ssh_model.specs.Protocol.Sessions.TurnClaims.{AreGood, DiesAt, EndsWithLine, EndsWithPacket, HasNumbers, HasUint32s, KeepsToExchange, shown};
+ghost use Rattle.ssh_model.specs.Protocol.Sessions.Events.{Event, IsFirst, Plays, PutsOut, World, rest_of};
+ghost use Rattle.ssh_model.specs.Protocol.Sessions.Claims.{WindowsAt};
+ghost use Rattle.ssh_model.specs.Protocol.Wire.Message.{Msg, Msg.Disconnect};
+ghost use Rattle.ssh_model.specs.Protocol.Wire.Sealing.{IsSealing};
+ghost use Rattle.ssh_model.specs.Protocol.Sessions.Refusals.{Refusal, Refusal.NumberSpent, first_refusal, refusal_name, refusal_reason};
+ghost use Rattle.ssh_model.specs.Protocol.Sessions.Epochs.{count};
+ghost use Rattle.ssh_model.specs.Protocol.Sessions.Phases.{has_material};
+ghost use Rattle.ssh_model.specs.Protocol.KeyExchange.Exchanges.{fed};
+ghost use Rattle.ssh_model.specs.Protocol.Wire.Outcome.{Outcome};
+ghost use Rattle.ssh_model.specs.Protocol.Wire.Unit.{IsUnit};
 
 /// What each end does in a run of two ends is a run of its own, so each law of one end holds of both.
 pub fn runs_of_each_end<K>()

@@ -1,10 +1,10 @@
 ghost use Rattle.std.specs.Prelude.{◌≡◌, ◌≤◌, ◌^◌, ◌++◌, ◌⊎◌, ℕ, true, false, List, [], ◌∷◌, replicate, Option, None};
-ghost use Rattle.ssh_model.specs.Wire.DataTypes.{AreBytes};
-ghost use Rattle.ssh_model.specs.Wire.Outcome.{HasUnit, Outcome, Outcome.Opens, Outcome.RefusedPacket};
-ghost use Rattle.ssh_model.specs.Wire.Packet.{IsPacket, is_size, with_length, without_length};
-ghost use Rattle.ssh_model.specs.Wire.Sealing.{Crypto, IsBadLength, IsSealing};
-ghost use Rattle.ssh_model.specs.Wire.Unit.{IsPacketBegun, IsPlace, PacketUnit};
-ghost use Rattle.ssh_model.specs.Sessions.Refusals.{Refusal.BadLength, Refusal.BadPadding, Refusal.NumberSpent};
+ghost use Rattle.ssh_model.specs.Protocol.Wire.DataTypes.{AreBytes};
+ghost use Rattle.ssh_model.specs.Protocol.Wire.Outcome.{HasUnit, Outcome, Outcome.Opens, Outcome.RefusedPacket};
+ghost use Rattle.ssh_model.specs.Protocol.Wire.Packet.{IsPacket, is_size, with_length, without_length};
+ghost use Rattle.ssh_model.specs.Protocol.Wire.Sealing.{Crypto, IsBadLength, IsSealing};
+ghost use Rattle.ssh_model.specs.Protocol.Wire.Unit.{IsPacketBegun, IsPlace, PacketUnit};
+ghost use Rattle.ssh_model.specs.Protocol.Sessions.Refusals.{Refusal.BadLength, Refusal.BadPadding, Refusal.NumberSpent};
 
 /// Under one key, with one number and one count of packets, no unit of a stream of packets (RFC 4253 section 6) is a
 /// prefix of another, a unit has one outcome and at least one byte, and bytes have a unit in front exactly where they
@@ -20,8 +20,8 @@ pub fn packet_units<K>()
 {}
 
 /// Which sizes packets have whose tag has 16 bytes, at both sides of each bound: in blocks of which packet_length is a
-/// part (RFC 4253 section 6), and in blocks behind it (RFC 5647 section 7.2, encrypt-then-MAC). There the least packet
-/// is one block behind packet_length.
+/// part (RFC 4253 section 6), and in blocks after it (RFC 5647 section 7.2, encrypt-then-MAC). There the least packet
+/// is one block after packet_length.
 pub fn size_examples()
     ensures whole_blocks { is_size (with_length 16) 16 32 ≡ true }
     ensures no_whole_blocks { is_size (with_length 16) 16 36 ≡ false }
@@ -57,7 +57,7 @@ pub fn packet_examples<K>()
     ensures short_padding { (c : Crypto K) → PacketUnit c None 0 0 (0 ∷ 0 ∷ 0 ∷ 12 ∷ 3 ∷ replicate 11 0) (RefusedPacket BadPadding) }
 {}
 
-/// What is a packet, and what no packet, where blocks of 8 bytes begin behind packet_length and the tag has 16 bytes.
+/// What is a packet, and what no packet, where blocks of 8 bytes begin after packet_length and the tag has 16 bytes.
 pub fn behind_examples()
     ensures least { IsPacket (without_length 8) 16 (52 ∷ []) (0 ∷ 0 ∷ 0 ∷ 8 ∷ 6 ∷ 52 ∷ replicate 6 0) }
     ensures least_padding { IsPacket (without_length 8) 16 (9 ∷ 9 ∷ 9 ∷ []) (0 ∷ 0 ∷ 0 ∷ 8 ∷ 4 ∷ 9 ∷ 9 ∷ 9 ∷ replicate 4 0) }

@@ -1,16 +1,16 @@
 //! Laws of two ends of a session, by what both keep: from a turn of one end to an event, and to a play of events.
 
 ghost use Rattle.std.specs.Prelude.{◌≡◌, ◌++◌, ℕ, List, [], ◌∷◌, true, false};
-ghost use Rattle.ssh_model.specs.Side.{Side, Side.Client, Side.Server, done_by, part, peer};
-ghost use Rattle.ssh_model.specs.Wire.Delivery.{Delivered, Waits};
-ghost use Rattle.ssh_model.specs.Sessions.Parties.{Parties};
-ghost use Rattle.ssh_model.specs.Sessions.Items.{Ask, Done, Item};
-ghost use Rattle.ssh_model.specs.Sessions.Turns.{AsksTurn, FeedsTurn, OnUnit};
-ghost use Rattle.ssh_model.specs.Sessions.Events.{Event, Event.Asks, Event.Delivers, Event.Feeds, OnEvent, Plays, World, kept_rest, next_world, reading_of, rest_of};
-ghost use Rattle.ssh_model.specs.End.State.{EndState};
-ghost use Rattle.ssh_model.specs.End.Summary.{EndSumsUp, EndTurned, HasOpened};
-ghost use Rattle.ssh_model.specs.End.Reading.{DeliversTo, end_reading};
-ghost use Rattle.ssh_model.specs.End.Pair.{PairOpened, PairState, PairSumsUp, PairTurned, with_state};
+ghost use Rattle.ssh_model.specs.Protocol.Side.{Side, Side.Client, Side.Server, done_by, part, peer};
+ghost use Rattle.ssh_model.specs.Protocol.Wire.Delivery.{Delivered, Waits};
+ghost use Rattle.ssh_model.specs.Protocol.Sessions.Parties.{Parties};
+ghost use Rattle.ssh_model.specs.Protocol.Sessions.Items.{Ask, Done, Item};
+ghost use Rattle.ssh_model.specs.Protocol.Sessions.Turns.{AsksTurn, FeedsTurn, OnUnit};
+ghost use Rattle.ssh_model.specs.Protocol.Sessions.Events.{Event, Event.Asks, Event.Delivers, Event.Feeds, OnEvent, Plays, World, kept_rest, next_world, reading_of, rest_of};
+ghost use Rattle.ssh_model.specs.State.End.State.{EndState};
+ghost use Rattle.ssh_model.specs.State.End.Summary.{EndSumsUp, EndTurned, HasOpened};
+ghost use Rattle.ssh_model.specs.State.End.Reading.{DeliversTo, end_reading};
+ghost use Rattle.ssh_model.specs.State.End.Pair.{PairOpened, PairState, PairSumsUp, PairTurned, with_state};
 
 /// Two ends that have opened stand at the beginning of a run, and what they keep sums it up.
 pub fn openings<K>()
@@ -24,7 +24,7 @@ pub fn parts()
     ensures there { (side : Side) (items : List Item) (run : List Done) → part (peer side) (done_by side items ++ run) ≡ part (peer side) run }
 {}
 
-/// In a run of two, one end that uses a unit, and then whatever it makes of the bytes behind it, has made that of all of them;
+/// In a run of two, one end that uses a unit, and then whatever it makes of the bytes after it, has made that of all of them;
 /// one that waits keeps them, and a dead one drops them.
 pub fn deliveries<K>()
     ensures unit { (p : Parties K) (side : Side) (run : List Done) (e : EndState K) → EndSumsUp p side (part side run) e → e.transport.dead ≡ false → (unit : List ℕ) (items : List Item) (more : List ℕ) (new : EndState K) → EndTurned p side (part side run) (OnUnit p side (part side run) unit) items more new →

@@ -1,13 +1,13 @@
 ghost use Rattle.std.specs.Prelude.{◌++◌, ◌↔◌, ℕ, List};
-ghost use Rattle.ssh_model.specs.Side.{Side, part};
-ghost use Rattle.ssh_model.specs.Sessions.Parties.{Parties, AreLawful, BothOffer};
-ghost use Rattle.ssh_model.specs.Sessions.Items.{Done};
-ghost use Rattle.ssh_model.specs.Sessions.Turns.{Run};
-ghost use Rattle.ssh_model.specs.Wire.Delivery.{Delivered, InPieces};
-ghost use Rattle.ssh_model.specs.Sessions.Events.{Event, Plays, World, reading_of};
-ghost use Rattle.ssh_model.specs.Sessions.Honest.{IsHonest};
-ghost use Rattle.ssh_model.specs.Wire.Sealing.{IsSealing};
-ghost use Rattle.ssh_model.specs.Sessions.Claims.{Agreement, Authorized, Beginning, IsSafe, Undisturbed, Windows, WindowsAt};
+ghost use Rattle.ssh_model.specs.Protocol.Side.{Side, part};
+ghost use Rattle.ssh_model.specs.Protocol.Sessions.Parties.{Parties, AreLawful, BothOffer};
+ghost use Rattle.ssh_model.specs.Protocol.Sessions.Items.{Done};
+ghost use Rattle.ssh_model.specs.Protocol.Sessions.Turns.{Run};
+ghost use Rattle.ssh_model.specs.Protocol.Wire.Delivery.{Delivered, InPieces};
+ghost use Rattle.ssh_model.specs.Protocol.Sessions.Events.{Event, Plays, World, reading_of};
+ghost use Rattle.ssh_model.specs.Protocol.Sessions.Honest.{IsHonest};
+ghost use Rattle.ssh_model.specs.Protocol.Wire.Sealing.{IsSealing};
+ghost use Rattle.ssh_model.specs.Protocol.Sessions.Claims.{Agreement, Authorized, Beginning, IsSafe, Undisturbed, Windows, WindowsAt};
 
 /// In an honest run of two ends that offer strict key exchange they agree on the eight inputs of each exchange that the
 /// client completed, or under whose keys the server took a message.

@@ -1,9 +1,9 @@
 ghost use Rattle.std.specs.Prelude.{◌≡◌, ◌++◌, ◌⊎◌, ◌↔◌, ℕ, Bool, false, List, []};
-ghost use Rattle.ssh_model.specs.Wire.DataTypes.{AreBytes};
-ghost use Rattle.ssh_model.specs.Wire.Delivery.{Delivered, InPieces, Waits};
-ghost use Rattle.ssh_model.specs.Wire.Outcome.{HasUnit, Outcome};
-ghost use Rattle.ssh_model.specs.Wire.Sealing.{Crypto, IsSealing};
-ghost use Rattle.ssh_model.specs.Wire.Unit.{IsStage, IsUnit, IsUnitBegun, Stage, reading};
+ghost use Rattle.ssh_model.specs.Protocol.Wire.DataTypes.{AreBytes};
+ghost use Rattle.ssh_model.specs.Protocol.Wire.Delivery.{Delivered, InPieces, Waits};
+ghost use Rattle.ssh_model.specs.Protocol.Wire.Outcome.{HasUnit, Outcome};
+ghost use Rattle.ssh_model.specs.Protocol.Wire.Sealing.{Crypto, IsSealing};
+ghost use Rattle.ssh_model.specs.Protocol.Wire.Unit.{IsStage, IsUnit, IsUnitBegun, Stage, reading};
 
 /// At one stage no unit of the stream is a prefix of another, a unit has one outcome and at least one byte, and bytes
 /// have a unit in front exactly where they are not a prefix of one.

@@ -1,19 +1,19 @@
 //! What the definitions say of peers with and without strict key exchange, and of extensions (RFC 8308).
 
 ghost use Rattle.std.specs.Prelude.{◌≡◌, ◌+◌, ◌-◌, ◌^◌, ℕ, ◌∷◌, ◌++◌, true, false, List, [], Some, None, codes, length};
-ghost use Rattle.ssh_model.specs.Side.{Side, Side.Client, Side.Server, peer};
-ghost use Rattle.ssh_model.specs.Wire.Message.{Msg.Ignore, Msg.Unimplemented, Msg.ExtInfo, Msg.KexInit, Msg.NewKeys, Msg.KexEcdhInit, Msg.Unknown};
-ghost use Rattle.ssh_model.specs.KeyExchange.Choice.{Kind.Kex, client_marker, server_marker, client_extension_marker, server_extension_marker};
-ghost use Rattle.ssh_model.specs.KeyExchange.Exchanges.{common, sending_number, taking_number};
-ghost use Rattle.ssh_model.specs.Sessions.Parties.{Strictness.Offer, Strictness.Off, AreLawful, lists_of};
-ghost use Rattle.ssh_model.specs.Sessions.Refusals.{Refusal.Unexpected, Refusal.NoCommon, Refusal.NotStrict};
-ghost use Rattle.ssh_model.specs.Sessions.Items.{Payload, took, Fact.Completed, Fact.GotExtensions, Item.TookGuess, Item.Told};
-ghost use Rattle.ssh_model.specs.Sessions.Epochs.{count, wire_number};
-ghost use Rattle.ssh_model.specs.Sessions.Phases.{is_wrong_guess, may_take};
-ghost use Rattle.ssh_model.specs.Sessions.Transport.{reply_now};
-ghost use Rattle.ssh_model.specs.Sessions.Turns.{Answer, Run};
-ghost use Rattle.ssh_model.specs.Sessions.Honest.{IsHonest};
-ghost use Rattle.ssh_model.specs.Sessions.Claims.{Beginning};
+ghost use Rattle.ssh_model.specs.Protocol.Side.{Side, Side.Client, Side.Server, peer};
+ghost use Rattle.ssh_model.specs.Protocol.Wire.Message.{Msg.Ignore, Msg.Unimplemented, Msg.ExtInfo, Msg.KexInit, Msg.NewKeys, Msg.KexEcdhInit, Msg.Unknown};
+ghost use Rattle.ssh_model.specs.Protocol.KeyExchange.Choice.{Kind.Kex, client_marker, server_marker, client_extension_marker, server_extension_marker};
+ghost use Rattle.ssh_model.specs.Protocol.KeyExchange.Exchanges.{common, sending_number, taking_number};
+ghost use Rattle.ssh_model.specs.Protocol.Sessions.Parties.{Strictness.Offer, Strictness.Off, AreLawful, lists_of};
+ghost use Rattle.ssh_model.specs.Protocol.Sessions.Refusals.{Refusal.Unexpected, Refusal.NoCommon, Refusal.NotStrict};
+ghost use Rattle.ssh_model.specs.Protocol.Sessions.Items.{Payload, took, Fact.Completed, Fact.GotExtensions, Item.TookGuess, Item.Told};
+ghost use Rattle.ssh_model.specs.Protocol.Sessions.Epochs.{count, wire_number};
+ghost use Rattle.ssh_model.specs.Protocol.Sessions.Phases.{is_wrong_guess, may_take};
+ghost use Rattle.ssh_model.specs.Protocol.Sessions.Transport.{reply_now};
+ghost use Rattle.ssh_model.specs.Protocol.Sessions.Turns.{Answer, Run};
+ghost use Rattle.ssh_model.specs.Protocol.Sessions.Honest.{IsHonest};
+ghost use Rattle.ssh_model.specs.Protocol.Sessions.Claims.{Beginning};
 ghost use Rattle.ssh_model.specs.Example.Toys.{announcing, from_to, plain, plain_announcing, secret, toy, toy_extensions, toys_announcing, toys_with};
 ghost use Rattle.ssh_model.specs.Example.Histories.{completed_by, first_reply_by, guessing_by, hears, keyed_by, lined_by, offer_by, offered_by, refusal_by, says, taken_by};
 ghost use Rattle.ssh_model.specs.Example.PlainRun.{plain_session};

@@ -2,25 +2,25 @@
 //! proved against what it keeps alone, and these laws make of it what is said of histories.
 
 ghost use Rattle.std.specs.Prelude.{◌≡◌, ◌<◌, ◌≤◌, ◌+◌, ◌^◌, ◌++◌, ℕ, Bool, length, Some, List, [], ◌∷◌, Option, None, true, false};
-ghost use Rattle.ssh_model.specs.Side.{Side, Side.Client, Side.Server};
-ghost use Rattle.ssh_model.specs.Wire.Message.{Msg, Msg.Disconnect, Msg.KexInit, Msg.UserauthSuccess};
-ghost use Rattle.ssh_model.specs.KeyExchange.Choice.{Chosen};
-ghost use Rattle.ssh_model.specs.Sessions.Refusals.{AskRefusal, Refusal, Refusal.NumberSpent, first_refusal};
-ghost use Rattle.ssh_model.specs.Sessions.Transport.{transport_ask_checks};
-ghost use Rattle.ssh_model.specs.Sessions.Turns.{AreSpelled, IsSpelled, OnPayload, answer_checks, can_feed, number_of, stage};
-ghost use Rattle.ssh_model.specs.Channels.Connection.{AreReplies, owed_replies};
-ghost use Rattle.ssh_model.specs.Wire.Line.{LineUnit};
-ghost use Rattle.ssh_model.specs.Wire.Outcome.{Outcome};
-ghost use Rattle.ssh_model.specs.Wire.Unit.{IsUnit, PacketUnit};
-ghost use Rattle.ssh_model.specs.Sessions.Parties.{Parties, agreement_of, offer, settings_of};
-ghost use Rattle.ssh_model.specs.Sessions.Items.{Ask, Ask.AskDisconnect, Fact.Completed, Fact.Disconnected, Fact.Ignored, Item, Item.Asked, Item.AskRefused, Item.Died, Item.Refused, Item.Told, Item.Fed, Item.SentLine, Item.Sent, Item.Took, Item.TookLine, Item.TookGuess, Item.TookOtherLine, Spelled, Spelled.SpelledBy, Payload, Payload.NewkeysOf, Payload.OtherOf};
-ghost use Rattle.ssh_model.specs.Sessions.Epochs.{epoch};
-ghost use Rattle.ssh_model.specs.Sessions.Phases.{Phase.Guessed, is_client, has_line, may_take};
-ghost use Rattle.ssh_model.specs.TransportLayer.Directions as directions;
-ghost use Rattle.ssh_model.specs.TransportLayer.Directions.{Direction, counted, new_direction, renewed};
-ghost use Rattle.ssh_model.specs.TransportLayer.Kept.{Answered, Asks, Completes, Takes, Transport, new_transport, after_sent, after_taken, after_line, after_other_line, after_success, after_fed, after_guess, after_wiping, can_be_fed, message_ask_checks, message_checks, takes};
-ghost use Rattle.ssh_model.specs.TransportLayer.Summary.{Accepts, Allows, Ends, SumsUp, answer_items, items_sent, parts_of, IsAwaited, IsPlain, IsTransportMessage, LeavesTransport};
-ghost use Rattle.ssh_model.specs.TransportLayer.Turns.{AskTurned, EndedBy, IsRefused, IsTransportAsk, PutOut, PutsPackets, Reads, SaysWhy, Turned, UnitRefused, refusal_items};
+ghost use Rattle.ssh_model.specs.Protocol.Side.{Side, Side.Client, Side.Server};
+ghost use Rattle.ssh_model.specs.Protocol.Wire.Message.{Msg, Msg.Disconnect, Msg.KexInit, Msg.UserauthSuccess};
+ghost use Rattle.ssh_model.specs.Protocol.KeyExchange.Choice.{Chosen};
+ghost use Rattle.ssh_model.specs.Protocol.Sessions.Refusals.{AskRefusal, Refusal, Refusal.NumberSpent, first_refusal};
+ghost use Rattle.ssh_model.specs.Protocol.Sessions.Transport.{transport_ask_checks};
+ghost use Rattle.ssh_model.specs.Protocol.Sessions.Turns.{AreSpelled, IsSpelled, OnPayload, answer_checks, can_feed, number_of, stage};
+ghost use Rattle.ssh_model.specs.Protocol.Channels.Connection.{AreReplies, owed_replies};
+ghost use Rattle.ssh_model.specs.Protocol.Wire.Line.{LineUnit};
+ghost use Rattle.ssh_model.specs.Protocol.Wire.Outcome.{Outcome};
+ghost use Rattle.ssh_model.specs.Protocol.Wire.Unit.{IsUnit, PacketUnit};
+ghost use Rattle.ssh_model.specs.Protocol.Sessions.Parties.{Parties, agreement_of, offer, settings_of};
+ghost use Rattle.ssh_model.specs.Protocol.Sessions.Items.{Ask, Ask.AskDisconnect, Fact.Completed, Fact.Disconnected, Fact.Ignored, Item, Item.Asked, Item.AskRefused, Item.Died, Item.Refused, Item.Told, Item.Fed, Item.SentLine, Item.Sent, Item.Took, Item.TookLine, Item.TookGuess, Item.TookOtherLine, Spelled, Spelled.SpelledBy, Payload, Payload.NewkeysOf, Payload.OtherOf};
+ghost use Rattle.ssh_model.specs.Protocol.Sessions.Epochs.{epoch};
+ghost use Rattle.ssh_model.specs.Protocol.Sessions.Phases.{Phase.Guessed, is_client, has_line, may_take};
+ghost use Rattle.ssh_model.specs.State.TransportLayer.Directions as directions;
+ghost use Rattle.ssh_model.specs.State.TransportLayer.Directions.{Direction, counted, new_direction, renewed};
+ghost use Rattle.ssh_model.specs.State.TransportLayer.Kept.{Answered, Asks, Completes, Takes, Transport, new_transport, after_sent, after_taken, after_line, after_other_line, after_success, after_fed, after_guess, after_wiping, can_be_fed, message_ask_checks, message_checks, takes};
+ghost use Rattle.ssh_model.specs.State.TransportLayer.Summary.{Accepts, Allows, Ends, SumsUp, answer_items, items_sent, parts_of, IsAwaited, IsPlain, IsTransportMessage, LeavesTransport};
+ghost use Rattle.ssh_model.specs.State.TransportLayer.Turns.{AskTurned, EndedBy, IsRefused, IsTransportAsk, PutOut, PutsPackets, Reads, SaysWhy, Turned, UnitRefused, refusal_items};
 
 /// A direction sums up the payloads that went through it, the newest first: its number is that of the next packet (RFC
 /// 4253 section 6.4, and OpenSSH's strict key exchange), its count is of those after the last NEWKEYS, and its epoch of
@@ -84,7 +84,7 @@ pub fn messages<K>()
     ensures { (p : Parties K) (side : Side) (history : List Item) (s : Transport K) → SumsUp p side history s → s.dead ≡ false → (payload : List ℕ) (message : Msg) (answered : Answered) (new : Transport K) → Takes (agreement_of p side) s payload message answered new → Accepts p side history message payload answered new }
 {}
 
-/// The message that ends an exchange is answered, up to NEWKEYS and what is announced behind it, as in a session, and what
+/// The message that ends an exchange is answered, up to NEWKEYS and what is announced after it, as in a session, and what
 /// is then kept sums up the history so far. The replies that the layers above owe come next, and then what is told: with
 /// these the answer is one of a session.
 #[tactic(auto, using(crate::proofs::TransportLayer::Rows::ended))]

@@ -1,11 +1,11 @@
 ghost use Rattle.std.specs.Prelude.{◌≡◌, ℕ, List, map, Option};
-ghost use Rattle.ssh_model.specs.Wire.Message.{Msg};
-ghost use Rattle.ssh_model.specs.Side.{Side, part};
-ghost use Rattle.ssh_model.specs.Sessions.Parties.{Parties, AreLawful};
-ghost use Rattle.ssh_model.specs.Sessions.Items.{Ask, Item, Done};
-ghost use Rattle.ssh_model.specs.Sessions.Phases.{Phase.Guessed, phase};
-ghost use Rattle.ssh_model.specs.Sessions.Turns.{Answer, AsksTurn, FeedsTurn, OnPayload, OnUnit, Run};
-ghost use Rattle.ssh_model.specs.Sessions.TurnClaims.{AreAlike, HasNumbers, IsSkipped, shown};
+ghost use Rattle.ssh_model.specs.Protocol.Wire.Message.{Msg};
+ghost use Rattle.ssh_model.specs.Protocol.Side.{Side, part};
+ghost use Rattle.ssh_model.specs.Protocol.Sessions.Parties.{Parties, AreLawful};
+ghost use Rattle.ssh_model.specs.Protocol.Sessions.Items.{Ask, Item, Done};
+ghost use Rattle.ssh_model.specs.Protocol.Sessions.Phases.{Phase.Guessed, phase};
+ghost use Rattle.ssh_model.specs.Protocol.Sessions.Turns.{Answer, AsksTurn, FeedsTurn, OnPayload, OnUnit, Run};
+ghost use Rattle.ssh_model.specs.Protocol.Sessions.TurnClaims.{AreAlike, HasNumbers, IsSkipped, shown};
 
 /// The packet after a wrong guess (RFC 4253 section 7) is skipped, or its number is refused, and it is never read.
 pub fn guesses_are_skipped<K>()

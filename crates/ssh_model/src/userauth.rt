@@ -2,18 +2,18 @@
 //! session. A layer is proved against what it keeps alone, and these laws make of it what is said of histories.
 
 ghost use Rattle.std.specs.Prelude.{◌≡◌, ◌≤◌, ◌<◌, ℕ, List, [], ◌∷◌, Option};
-ghost use Rattle.ssh_model.specs.Side.{Side.Client, Side.Server};
-ghost use Rattle.ssh_model.specs.Wire.Message.{Msg, Msg.ServiceAccept};
-ghost use Rattle.ssh_model.specs.Sessions.Refusals.{first_refusal};
-ghost use Rattle.ssh_model.specs.Sessions.Parties.{Parties, user_signature_by};
-ghost use Rattle.ssh_model.specs.Sessions.Items.{Ask, Item, Item.Sent, Item.Took};
-ghost use Rattle.ssh_model.specs.Sessions.Phases.{Phase.Normal, phase, may_take, probing};
-ghost use Rattle.ssh_model.specs.KeyExchange.Exchanges.{exchanges, session_id};
-ghost use Rattle.ssh_model.specs.Authentication.Requests.{judge_of};
-ghost use Rattle.ssh_model.specs.Authentication.Rows.{authentication_checks, authentication_ask_checks};
-ghost use Rattle.ssh_model.specs.Authentication.Kept as kept;
-ghost use Rattle.ssh_model.specs.Authentication.Kept.{Answered, new_server, opened_server, server_checks, server_takes, ServerTakes, new_client, opened_client, client_takes, is_key_probe, ClientTakes, client_checks, ClientSends};
-ghost use Rattle.ssh_model.specs.Authentication.Summary.{ServerSumsUp, ClientSumsUp, ServerAccepts, ClientAccepts, ClientAllows, LeavesServer, LeavesClient};
+ghost use Rattle.ssh_model.specs.Protocol.Side.{Side.Client, Side.Server};
+ghost use Rattle.ssh_model.specs.Protocol.Wire.Message.{Msg, Msg.ServiceAccept};
+ghost use Rattle.ssh_model.specs.Protocol.Sessions.Refusals.{first_refusal};
+ghost use Rattle.ssh_model.specs.Protocol.Sessions.Parties.{Parties, user_signature_by};
+ghost use Rattle.ssh_model.specs.Protocol.Sessions.Items.{Ask, Item, Item.Sent, Item.Took};
+ghost use Rattle.ssh_model.specs.Protocol.Sessions.Phases.{Phase.Normal, phase, may_take, probing};
+ghost use Rattle.ssh_model.specs.Protocol.KeyExchange.Exchanges.{exchanges, session_id};
+ghost use Rattle.ssh_model.specs.Protocol.Authentication.Requests.{judge_of};
+ghost use Rattle.ssh_model.specs.Protocol.Authentication.Rows.{authentication_checks, authentication_ask_checks};
+ghost use Rattle.ssh_model.specs.State.Authentication.Kept as kept;
+ghost use Rattle.ssh_model.specs.State.Authentication.Kept.{Answered, new_server, opened_server, server_checks, server_takes, ServerTakes, new_client, opened_client, client_takes, is_key_probe, ClientTakes, client_checks, ClientSends};
+ghost use Rattle.ssh_model.specs.State.Authentication.Summary.{ServerSumsUp, ClientSumsUp, ServerAccepts, ClientAccepts, ClientAllows, LeavesServer, LeavesClient};
 
 /// What a new server keeps sums up the empty history, and what an opened one keeps sums up the history with
 /// SERVICE_ACCEPT sent; items of other layers keep it.

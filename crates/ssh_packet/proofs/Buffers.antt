@@ -3,7 +3,7 @@ use Rattle.std.proofs.Common.{◌≡◌, ℕ, ◌+◌, ◌≤◌, List, ◌++◌
 use Rattle.std.proofs.Math.Seq.{take-append_seam}
 use Rattle.std.proofs.lemmas.List.{length-take-le, take-take}
 
--- what stands in front once bytes are put behind the first ones
+-- what stands in front once bytes are put after the first ones
 pub front_put : (at : ℕ) (old bytes behind : List ℕ) → at ≤ length old → take (at + length bytes) (take at old ++ (bytes ++ behind)) ≡ take at old ++ bytes
 front_put at old bytes behind h =
     let n : at + length bytes ≡ length (take at old ++ bytes) = omega (arith, length-append (take at old) bytes, length-take-le at old h) in

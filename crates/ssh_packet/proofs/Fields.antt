@@ -1,10 +1,10 @@
 -- The length field in front of a packet.
 use Rattle.std.proofs.Common.{◌≡◌, ℕ, ◌+◌, ◌≤◌, true, false, List, [], ◌∷◌, ◌++◌, length, take, drop, refl, sym, ap, subst, ◌∙◌, arith, length-append, append-nil, append_assoc}
 use Rattle.std.proofs.lemmas.List.{take-append-drop, length-take-le}
-use Rattle.ssh_model.specs.Wire.DataTypes.{AreBytes, IsUint32, number}
-use Rattle.ssh_model.specs.Wire.Reading.{Reads, NoFront, OneForm}
-use Rattle.ssh_model.specs.Wire.Packet.{Blocks, is_size}
-use Rattle.ssh_model.specs.Wire.Sealing.{HasSize, IsBadLength}
+use Rattle.ssh_model.specs.Protocol.Wire.DataTypes.{AreBytes, IsUint32, number}
+use Rattle.ssh_model.specs.Laws.Reading.{Reads, NoFront, OneForm}
+use Rattle.ssh_model.specs.Protocol.Wire.Packet.{Blocks, is_size}
+use Rattle.ssh_model.specs.Protocol.Wire.Sealing.{HasSize, IsBadLength}
 use Rattle.ssh_packet.specs.Bytes.{first_bytes}
 
 -- four bytes are a uint32

@@ -1,9 +1,9 @@
 -- One byte more of a line.
 use Rattle.std.proofs.Common.{◌≡◌, ℕ, ◌+◌, ◌<◌, ◌⊎◌, inl, inr, Bool, true, false, List, [], ◌∷◌, ◌++◌, length, take, drop, Option, Some, None, is_some, IfSome, refl, ap, sym, subst, ◌∙◌, arith, append_assoc, append-nil, get_or, length-append}
 use Rattle.std.proofs.lemmas.List.{take_more}
-use Rattle.ssh_model.specs.Sessions.Refusals as session
-use Rattle.ssh_model.specs.Wire.Outcome.{Outcome, Outcome.RefusedLine}
-use Rattle.ssh_model.specs.Wire.Line.{IsText, IsLineBegun, IsLineBegun.in_text, IsLineBegun.at_line_end, LineIs, LineUnit, LineUnit.line, LineUnit.zero_byte, LineUnit.lf_without_cr, LineUnit.too_long, line_end}
+use Rattle.ssh_model.specs.Protocol.Sessions.Refusals as session
+use Rattle.ssh_model.specs.Protocol.Wire.Outcome.{Outcome, Outcome.RefusedLine}
+use Rattle.ssh_model.specs.Protocol.Wire.Line.{IsText, IsLineBegun, IsLineBegun.in_text, IsLineBegun.at_line_end, LineIs, LineUnit, LineUnit.line, LineUnit.zero_byte, LineUnit.lf_without_cr, LineUnit.too_long, line_end}
 use Rattle.ssh_packet.specs.Lines.{Ended, Ended.WithVersion, Ended.WithRefusal, LineReading, cleared, with_cr, begun_by, ended_by, IsKept}
 use Rattle.ssh_packet.specs.LineKinds.{IsKind}
 use Rattle.ssh_packet.specs.LineSteps.{EndsSo, Finds, GoesOn, EndsWith, LineFinds, Shows, Takes}

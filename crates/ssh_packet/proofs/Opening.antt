@@ -4,9 +4,9 @@ use Rattle.std.specs.Prelude.{Option, Some, None}
 use Rattle.std.proofs.Math.Seq.{take-append_seam, drop-append_seam, drop-cons}
 use Rattle.std.proofs.lemmas.Bool.{le-leb}
 use Rattle.std.proofs.lemmas.List.{length-take-le, take-append-drop}
-use Rattle.ssh_model.specs.Wire.DataTypes.{AreBytes, IsUint32}
-use Rattle.ssh_model.specs.Wire.Packet.{Blocks, IsBody, IsPacket, is_size}
-use Rattle.ssh_model.specs.Wire.Sealing.{Crypto, IsSealing, IsWhole, is_wire_size, blocks_under, tag_under, opened_under}
+use Rattle.ssh_model.specs.Protocol.Wire.DataTypes.{AreBytes, IsUint32}
+use Rattle.ssh_model.specs.Protocol.Wire.Packet.{Blocks, IsBody, IsPacket, is_size}
+use Rattle.ssh_model.specs.Protocol.Wire.Sealing.{Crypto, IsSealing, IsWhole, is_wire_size, blocks_under, tag_under, opened_under}
 use Rattle.ssh_packet.specs.Reading.{Finds, HasPadding, Reading, empty, inner}
 use Rattle.ssh_packet.specs.declared.refusal.PacketRefusal.TheVariants.{BadPadding}
 use Rattle.ssh_packet.specs.declared.reader.ReadStep.TheVariants.{Packet, Refused}

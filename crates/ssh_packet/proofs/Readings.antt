@@ -1,7 +1,7 @@
 -- The value of a reader by its parts.
 use Rattle.std.proofs.Common.{◌≡◌, ℕ, List, [], Option, None, ap, sym, subst, arith, ◌∙◌}
-use Rattle.ssh_model.specs.Wire.Packet.{Blocks}
-use Rattle.ssh_model.specs.Wire.Sealing.{Crypto, IsBegun, IsBegun.no_length, blocks_under, tag_under}
+use Rattle.ssh_model.specs.Protocol.Wire.Packet.{Blocks}
+use Rattle.ssh_model.specs.Protocol.Wire.Sealing.{Crypto, IsBegun, IsBegun.no_length, blocks_under, tag_under}
 use Rattle.ssh_packet.specs.Reading.{Finds, Reading, empty}
 use Rattle.ssh_packet.specs.declared.reader.ReadStep.{ReadStep}
 use Rattle.ssh_packet.specs.declared.reader.ReadStep.TheVariants.{Packet, More, Refused}

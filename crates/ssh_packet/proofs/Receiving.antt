@@ -1,10 +1,10 @@
 -- Bytes that are added to a packet begun.
 use Rattle.std.proofs.Common.{◌≡◌, ℕ, ◌+◌, ◌-◌, ◌<◌, ◌≤◌, ◌⊎◌, inl, inr, min, List, ◌++◌, length, take, drop, sym, ap, subst, ◌∙◌, arith, length-append, append_assoc}
 use Rattle.std.proofs.lemmas.List.{take-append-drop, length-take, drop-take, take-take}
-use Rattle.ssh_model.specs.Wire.DataTypes.{IsUint32}
-use Rattle.ssh_model.specs.Wire.Reading.{OneForm}
-use Rattle.ssh_model.specs.Wire.Packet.{Blocks}
-use Rattle.ssh_model.specs.Wire.Sealing.{HasSize, IsBegun, IsBegun.no_length, IsBegun.has_length, IsWhole}
+use Rattle.ssh_model.specs.Protocol.Wire.DataTypes.{IsUint32}
+use Rattle.ssh_model.specs.Laws.Reading.{OneForm}
+use Rattle.ssh_model.specs.Protocol.Wire.Packet.{Blocks}
+use Rattle.ssh_model.specs.Protocol.Wire.Sealing.{HasSize, IsBegun, IsBegun.no_length, IsBegun.has_length, IsWhole}
 use Rattle.ssh_packet.proofs.Fields.{longer, one_size, from_four}
 
 -- the first a + m bytes are the first a, and the m after them

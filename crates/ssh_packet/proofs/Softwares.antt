@@ -2,7 +2,7 @@
 use Rattle.std.proofs.Common.{◌≡◌, ℕ, ◌+◌, ◌<◌, ◌≤◌, Bool, true, false, not, eqb, ltb, eq-eqb, List, [], ◌∷◌, ◌++◌, length, get_or, take, drop, Option, Some, None, MatchOption, refl, ap, sym, ◌∙◌, arith, append-nil, length-append}
 use Rattle.std.specs.List.{list_all, position}
 use Rattle.std.proofs.lemmas.Bool.{eqb-true, ltb-true, ne_eqb}
-use Rattle.ssh_model.specs.Wire.Line.{HasNoMinus, IsSoftware, is_version_byte, comment_text}
+use Rattle.ssh_model.specs.Protocol.Wire.Line.{HasNoMinus, IsSoftware, is_version_byte, comment_text}
 use Rattle.ssh_packet.specs.LineKinds.{HasSoftware}
 use Rattle.ssh_packet.proofs.FirstOthers.{IsFirstOther, first_other, no_other, not_all, one_first}
 

@@ -1,8 +1,8 @@
 -- What was sealed is a wire.
 use Rattle.std.proofs.Common.{◌≡◌, ℕ, ◌+◌, ◌-◌, ◌<◌, ◌^◌, true, leb, List, length, refl, sym, subst, Option, Some, None, arith}
 use Rattle.std.proofs.lemmas.Bool.{le-leb}
-use Rattle.ssh_model.specs.Wire.Packet.{Blocks, IsPacket, is_size, with_length}
-use Rattle.ssh_model.specs.Wire.Sealing.{Crypto, IsSealing, IsSealed, IsWire, is_wire_size}
+use Rattle.ssh_model.specs.Protocol.Wire.Packet.{Blocks, IsPacket, is_size, with_length}
+use Rattle.ssh_model.specs.Protocol.Wire.Sealing.{Crypto, IsSealing, IsSealed, IsWire, is_wire_size}
 
 -- a packet's size with its tag
 wire_size : (blocks : Blocks) (tag size : ℕ) → is_size blocks tag size ≡ true → is_wire_size blocks tag (size + tag) ≡ true

@@ -3,10 +3,10 @@ use Rattle.std.proofs.Common.{◌≡◌, ℕ, ◌+◌, ◌-◌, ◌%◌, ◌<◌
 use Rattle.std.proofs.lemmas.Bool.{le-leb, eq-eqb, cases_Bool, ltb-true, ltb-false, cond-true, cond-false}
 use Rattle.std.proofs.lemmas.List.{length-take-le}
 use Rattle.std.proofs.Math.Seq.{take-add, take-append_seam}
-use Rattle.ssh_model.specs.Wire.DataTypes.{AreBytes, IsByte, IsUint32}
-use Rattle.ssh_model.specs.Wire.Reading.{Writes}
-use Rattle.ssh_model.specs.Wire.Packet.{Blocks, IsBlock, IsPacket, IsLeastPacket, counted, is_size, least_size}
-use Rattle.ssh_model.specs.Wire.Sealing.{Crypto, IsSealed, blocks_under, tag_under, sealed_under}
+use Rattle.ssh_model.specs.Protocol.Wire.DataTypes.{AreBytes, IsByte, IsUint32}
+use Rattle.ssh_model.specs.Laws.Reading.{Writes}
+use Rattle.ssh_model.specs.Protocol.Wire.Packet.{Blocks, IsBlock, IsPacket, IsLeastPacket, counted, is_size, least_size}
+use Rattle.ssh_model.specs.Protocol.Wire.Sealing.{Crypto, IsSealed, blocks_under, tag_under, sealed_under}
 use Rattle.ssh_packet.specs.Bytes.{first_bytes}
 use Rattle.std.specs.Prelude.{Option}
 use Rattle.std.proofs.Math.Seq.{drop-append_seam}
@@ -182,7 +182,7 @@ least_packet blocks tag IsGiven payload bytes is some fits h =
 
 -- ---- the bytes put out
 
--- a packet was written behind the old bytes
+-- a packet was written after the old bytes
 pub record Written {K : Type 0} (c : Crypto K) (key : Option K) (IsGiven : List ℕ → Type 0) (blocks : Blocks) (tag start : ℕ) (payload old put : List ℕ) : Type 0 where
   pub blocks_are : blocks ≡ blocks_under c key
   pub are_blocks : IsBlock blocks.size
@@ -212,7 +212,7 @@ module _ {K : Type 0} (c : Crypto K) (key : Option K) (IsGiven : List ℕ → Ty
   least : IsLeastPacket blocks tag payload packet
   least = subst (λ (x : List ℕ). IsLeastPacket blocks tag payload x) (sym packet_is) (least_packet blocks tag IsGiven payload w.parts.bytes w.are_blocks w.some w.fits w.parts.meets)
 
-  -- its bytes behind the old ones, sealed
+  -- its bytes after the old ones, sealed
   pub sealed_written : (final : List ℕ) → final ≡ take start put ++ sealed_under c key number packet → Writes (IsSealed c key number payload) old final
   sealed_written final e =
       record {

@@ -1,6 +1,6 @@
 -- Lists of bytes, cut and joined.
 use Rattle.std.specs.Prelude.{ℕ, zero, suc, List, [], ◌∷◌, ◌++◌, take}
-use Rattle.ssh_model.specs.Wire.DataTypes.{AreBytes}
+use Rattle.ssh_model.specs.Protocol.Wire.DataTypes.{AreBytes}
 
 pub first_bytes : (n : ℕ) (bytes : List ℕ) → AreBytes bytes → AreBytes (take n bytes)
 first_bytes zero bytes h = tt

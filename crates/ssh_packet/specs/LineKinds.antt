@@ -1,7 +1,7 @@
 -- What the text of a complete line is to a reader of lines.
 use Rattle.std.specs.Prelude.{◌≤◌, ◌<◌, ◌+◌, ℕ, Bool, List, length, take, drop, Option}
-use Rattle.ssh_model.specs.Wire.Outcome.{Outcome.OtherLine, Outcome.VersionLine, Outcome.RefusedLine}
-use Rattle.ssh_model.specs.Wire.Line.{HasVersion, IsSoftware, LineIs, most_others}
+use Rattle.ssh_model.specs.Protocol.Wire.Outcome.{Outcome.OtherLine, Outcome.VersionLine, Outcome.RefusedLine}
+use Rattle.ssh_model.specs.Protocol.Wire.Line.{HasVersion, IsSoftware, LineIs, most_others}
 use Rattle.ssh_packet.specs.Refusals.{line_refusal}
 use Rattle.ssh_packet.specs.declared.version.LineKind.{LineKind}
 use Rattle.ssh_packet.specs.declared.version.LineKind.TheVariants.{Other, Version, Refused}

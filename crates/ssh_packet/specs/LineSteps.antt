@@ -1,7 +1,7 @@
 -- What one call of a reader of lines finds.
 use Rattle.std.specs.Prelude.{◌≡◌, ◌<◌, ◌≤◌, ◌+◌, ℕ, Bool, false, List, [], ◌∷◌, ◌++◌, length, take, None, Some, IfSome}
-use Rattle.ssh_model.specs.Wire.Outcome.{Outcome.OtherLine, Outcome.VersionLine, Outcome.RefusedLine}
-use Rattle.ssh_model.specs.Wire.Line.{HasVersion, IsLineBegun, IsText, LineUnit, most_others}
+use Rattle.ssh_model.specs.Protocol.Wire.Outcome.{Outcome.OtherLine, Outcome.VersionLine, Outcome.RefusedLine}
+use Rattle.ssh_model.specs.Protocol.Wire.Line.{HasVersion, IsLineBegun, IsText, LineUnit, most_others}
 use Rattle.ssh_packet.specs.Lines.{with_cr, Ended, Ended.WithVersion, Ended.WithRefusal, LineReading, cleared}
 use Rattle.ssh_packet.specs.LineKinds.{HasMinusAt}
 use Rattle.ssh_packet.specs.Refusals.{line_refusal}

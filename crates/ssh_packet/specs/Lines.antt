@@ -1,6 +1,6 @@
 -- What a reader of lines holds.
 use Rattle.std.specs.Prelude.{◌≤◌, ◌<◌, ◌+◌, ℕ, Bool, true, false, List, [], ◌∷◌, ◌++◌, length, take, drop, Option, None, Some}
-use Rattle.ssh_model.specs.Wire.Line.{IsText}
+use Rattle.ssh_model.specs.Protocol.Wire.Line.{IsText}
 use Rattle.ssh_packet.specs.declared.refusal.LineRefusal.{LineRefusal}
 use Rattle.ssh_packet.specs.declared.line_reader.Verdict.{Verdict}
 use Rattle.ssh_packet.specs.declared.line_reader.Verdict.TheVariants as verdict

@@ -1,7 +1,7 @@
 -- What a reader of packets holds, and what one call of it finds.
 use Rattle.std.specs.Prelude.{◌≡◌, ◌≤◌, ◌<◌, ◌+◌, ◌-◌, ℕ, List, [], length, take, drop, slice_index, Option, None, Some}
-use Rattle.ssh_model.specs.Wire.Packet.{Blocks}
-use Rattle.ssh_model.specs.Wire.Sealing.{Crypto, IsWire, IsBadLength, IsBadTag, IsBadPadding, IsBegun, IsWhole, blocks_under, tag_under}
+use Rattle.ssh_model.specs.Protocol.Wire.Packet.{Blocks}
+use Rattle.ssh_model.specs.Protocol.Wire.Sealing.{Crypto, IsWire, IsBadLength, IsBadTag, IsBadPadding, IsBegun, IsWhole, blocks_under, tag_under}
 use Rattle.ssh_packet.specs.declared.refusal.PacketRefusal.{PacketRefusal}
 use Rattle.ssh_packet.specs.declared.refusal.PacketRefusal.TheVariants.{BadLength, BadPadding, BadTag}
 use Rattle.ssh_packet.specs.declared.reader.Received.{Received}

@@ -1,5 +1,5 @@
 -- The refusals of lines and of packets, as those of a session.
-use Rattle.ssh_model.specs.Sessions.Refusals as session
+use Rattle.ssh_model.specs.Protocol.Sessions.Refusals as session
 use Rattle.ssh_packet.specs.declared.refusal.PacketRefusal.{PacketRefusal}
 use Rattle.ssh_packet.specs.declared.refusal.PacketRefusal.TheVariants.{BadLength, BadPadding, BadTag}
 use Rattle.ssh_packet.specs.declared.refusal.LineRefusal.{LineRefusal}

@@ -1,5 +1,5 @@
 -- The lengths of key material as the definitions have them.
-use Rattle.ssh_model.specs.Wire.Sealing as seal
+use Rattle.ssh_model.specs.Protocol.Wire.Sealing as seal
 use Rattle.ssh_packet.specs.declared.sealing.Lengths.{Lengths}
 
 abbrev pub lengths_of : Lengths → seal.Lengths

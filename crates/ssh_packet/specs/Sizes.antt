@@ -2,8 +2,8 @@
 use Rattle.std.specs.Prelude.{◌≡◌, ℕ, ◌+◌, ◌-◌, ◌≤◌, ◌%◌, ◌&&◌, ◌==◌, if◌then◌else◌, Bool, max, nat_le, true, false}
 use Rattle.std.proofs.Common.{arith}
 use Rattle.std.proofs.lemmas.Bool.{leb-true, and_parts, eqb-true}
-use Rattle.ssh_model.specs.Wire.Packet.{Blocks, counted, is_size, least_size}
-use Rattle.ssh_model.specs.Wire.Sealing.{is_wire_size}
+use Rattle.ssh_model.specs.Protocol.Wire.Packet.{Blocks, counted, is_size, least_size}
+use Rattle.ssh_model.specs.Protocol.Wire.Sealing.{is_wire_size}
 
 -- what the test of a size says
 pub record SizeFacts (blocks : Blocks) (tag size : ℕ) : Type 0 where

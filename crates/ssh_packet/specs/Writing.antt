@@ -1,17 +1,17 @@
 -- Writing packets.
 use Rattle.std.specs.Prelude.{◌≡◌, ℕ, ◌+◌, ◌-◌, ◌%◌, nat_lt, if◌then◌else◌, List, ◌∷◌, ◌++◌, length, Option}
-use Rattle.ssh_model.specs.Wire.DataTypes.{IsUint32}
-use Rattle.ssh_model.specs.Wire.Packet.{Blocks, counted}
-use Rattle.ssh_model.specs.Wire.Reading.{Writes}
-use Rattle.ssh_model.specs.Wire.Sealing.{Crypto, sealed_under}
+use Rattle.ssh_model.specs.Protocol.Wire.DataTypes.{IsUint32}
+use Rattle.ssh_model.specs.Protocol.Wire.Packet.{Blocks, counted}
+use Rattle.ssh_model.specs.Laws.Reading.{Writes}
+use Rattle.ssh_model.specs.Protocol.Wire.Sealing.{Crypto, sealed_under}
 
--- how many bytes fill up the last block behind so many that count, where four are wanted
+-- how many bytes fill up the last block after so many that count, where four are wanted
 abbrev pub gap_behind : ℕ → ℕ → ℕ
 gap_behind size front =
     let gap = size - front % size in
     if nat_lt gap 4 then gap + size else gap
 
--- how many bytes of padding stand behind a payload of so many bytes
+-- how many bytes of padding stand after a payload of so many bytes
 abbrev pub padding_for : Blocks → ℕ → ℕ
 padding_for blocks count = gap_behind blocks.size (counted blocks (5 + count))
 
@@ -19,7 +19,7 @@ padding_for blocks count = gap_behind blocks.size (counted blocks (5 + count))
 abbrev pub packet_size : Blocks → ℕ → ℕ → ℕ
 packet_size blocks tag count = 5 + count + padding_for blocks count + tag
 
--- What stands behind a payload: so many bytes of padding, which were given, and room for a tag of so many.
+-- What stands after a payload: so many bytes of padding, which were given, and room for a tag of so many.
 pub record IsTail (count tag : ℕ) (IsGiven : List ℕ → Type 0) (bytes : List ℕ) : Type 0 where
   pub padding : List ℕ
   pub room : List ℕ

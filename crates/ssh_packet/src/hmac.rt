@@ -1,6 +1,6 @@
 ghost use Rattle.std.specs.Prelude.{◌≡◌, ◌≤◌, ◌<◌, ◌++◌, ◌-◌, ◌+◌, List, ℕ, [], length, take, map, drop, bit_xor, replicate};
 ghost use Rattle.std.specs.Int.{w32, to_be_bytes};
-ghost use Rattle.ssh_model.specs.Wire.MacOnly.{key_block, padded, tag_of, hmac_under};
+ghost use Rattle.ssh_model.specs.Protocol.Wire.MacOnly.{key_block, padded, tag_of, hmac_under};
 
 use sha2::{Digest, Sha256};
 use std::marker::Model;
@@ -24,7 +24,7 @@ pub struct HmacKey {
 impl Model for HmacKey {
     ghost use Rattle.std.specs.Prelude.{List, ℕ};
     ghost use Rattle.sha2.specs.Hashers.{Holds256};
-    ghost use Rattle.ssh_model.specs.Wire.MacOnly.{padded};
+    ghost use Rattle.ssh_model.specs.Protocol.Wire.MacOnly.{padded};
 
     ghost Value = { List ℕ };
 
@@ -90,7 +90,7 @@ fn block_of(key: &[u8]) -> [u8; 64]
     filled(key)
 }
 
-// The bytes, and zeros behind them.
+// The bytes, and zeros after them.
 #[tactic(auto, using(crate::proofs::Pads::zeros_left))]
 fn filled(bytes: &[u8]) -> [u8; 64]
     requires { length bytes.now ≤ 64 }

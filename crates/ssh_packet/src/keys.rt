@@ -1,7 +1,7 @@
 ghost use Rattle.std.specs.Prelude.{◌≡◌, ◌≤◌};
 ghost use Rattle.std.specs.Option.{option_copied};
-ghost use Rattle.ssh_model.specs.Wire.Packet.{IsBlock};
-ghost use Rattle.ssh_model.specs.Wire.Sealing.{blocks_under, tag_under};
+ghost use Rattle.ssh_model.specs.Protocol.Wire.Packet.{IsBlock};
+ghost use Rattle.ssh_model.specs.Protocol.Wire.Sealing.{blocks_under, tag_under};
 
 use crate::blocks::Blocks;
 use crate::sealing::Sealing;

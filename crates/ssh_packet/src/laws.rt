@@ -1,5 +1,5 @@
 ghost use Rattle.std.specs.Prelude.{◌<◌, ◌^◌, ℕ, List, Option};
-ghost use Rattle.ssh_model.specs.Wire.Sealing.{IsSealed, IsWire};
+ghost use Rattle.ssh_model.specs.Protocol.Wire.Sealing.{IsSealed, IsWire};
 
 use crate::sealing::Sealing;
 

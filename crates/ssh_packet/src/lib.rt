@@ -9,7 +9,7 @@
 //!
 //! `MacOnly` is the sealing of encryption `none` with MAC `hmac-sha2-256`, and `HmacKey` its key.
 //!
-//! A version line, and what comes behind it:
+//! A version line, and what comes after it:
 //!
 //! ```rust
 //! let mut lines = LineReader::new(true);

@@ -2,7 +2,7 @@ ghost use Rattle.std.specs.Prelude.{◌≡◌, ◌≢◌, ◌⊎◌, ◌<◌, �
 ghost use Rattle.std.specs.Borrow.{sem};
 ghost use Rattle.std.specs.Io.BufRead.{Rests};
 ghost use Rattle.std.specs.Option.{option_copied};
-ghost use Rattle.ssh_model.specs.Wire.Line.{IsLineBegun, IsText};
+ghost use Rattle.ssh_model.specs.Protocol.Wire.Line.{IsLineBegun, IsText};
 ghost use Rattle.ssh_packet.specs.Lines.{cleared, no_lines, version_in, with_cr};
 ghost use Rattle.ssh_packet.specs.LineSteps.{EndsSo, IsByteKind, Shows, ShowsVersion};
 
@@ -246,7 +246,7 @@ fn byte_kind(from_server: bool, others: usize, text: &[u8], after_cr: bool, byte
     }
 }
 
-// The byte can't stand behind this text in a line: a line has no byte 0, an LF only behind CR, and room for LF.
+// The byte can't stand after this text in a line: a line has no byte 0, an LF only after CR, and room for LF.
 fn is_bad(text: &[u8], byte: u8) -> bool
     ensures bad { result ≡ true → (byte ≡ 0) ⊎ ((byte ≡ 10) ⊎ (length text.now ≡ 254)) }
     ensures good { result ≡ false → (byte ≢ 0) × (byte ≢ 10) × (length text.now ≢ 254) }

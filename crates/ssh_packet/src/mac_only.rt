@@ -1,5 +1,5 @@
-ghost use Rattle.ssh_model.specs.Wire.MacOnlyLaws.{mac_only_laws};
-ghost use Rattle.ssh_model.specs.Wire.MacOnly.{mac_only};
+ghost use Rattle.ssh_model.specs.Laws.MacOnly.{mac_only_laws};
+ghost use Rattle.ssh_model.specs.Protocol.Wire.MacOnly.{mac_only};
 
 use crate::hmac::HmacKey;
 use crate::sealing::{Lengths, Sealing};

@@ -1,9 +1,9 @@
 ghost use Rattle.std.specs.Prelude.{◌≡◌, ◌≢◌, ◌↔◌, IsTrue, ◌<◌, ◌≤◌, ◌+◌, ◌-◌, ◌++◌, ◌^◌, ℕ, List, [], true, false, length, take, min, drop, IfSome, IfNone, OnOk, IfOk, Some, None, slice_index};
 ghost use Rattle.std.specs.Vec.{vec_capacity, vec_len};
 ghost use Rattle.std.specs.Option.{option_copied};
-ghost use Rattle.ssh_model.specs.Wire.DataTypes.{AreBytes};
-ghost use Rattle.ssh_model.specs.Wire.Packet.{IsBlock, IsPacket, is_size as fits_size};
-ghost use Rattle.ssh_model.specs.Wire.Sealing.{HasSize, IsBadLength, IsBegun, IsWhole, blocks_under, is_wire_size, opened_under, tag_under};
+ghost use Rattle.ssh_model.specs.Protocol.Wire.DataTypes.{AreBytes};
+ghost use Rattle.ssh_model.specs.Protocol.Wire.Packet.{IsBlock, IsPacket, is_size as fits_size};
+ghost use Rattle.ssh_model.specs.Protocol.Wire.Sealing.{HasSize, IsBadLength, IsBegun, IsWhole, blocks_under, is_wire_size, opened_under, tag_under};
 ghost use Rattle.ssh_packet.specs.Reading.{Finds, HasPadding, IsReceived, Reading, empty, inner};
 
 use crate::blocks::Blocks;

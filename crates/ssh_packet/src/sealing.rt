@@ -1,6 +1,6 @@
 ghost use Rattle.std.specs.Prelude.{◌≡◌, ◌-◌, ◌≤◌, ℕ, IfOk, IsSomeAnd, IsTrue, List, length, take};
 ghost use Rattle.std.specs.Option.{option_map};
-ghost use Rattle.ssh_model.specs.Wire.Sealing.{Crypto, IsSealing, is_wire_size};
+ghost use Rattle.ssh_model.specs.Protocol.Wire.Sealing.{Crypto, IsSealing, is_wire_size};
 ghost use Rattle.ssh_packet.specs.Sealing.{lengths_of};
 
 use std::alloc::{AllocError, Global};
@@ -21,7 +21,7 @@ pub struct Lengths {
 /// both leave the first four bytes, the packet's length, which so stands in clear.
 ///
 /// No method but `make` can fail. `seal` and `open` work in place, on a packet that a length field may count: whole
-/// blocks of `block` bytes, at least 16 bytes, or at least one block behind packet_length where that doesn't count, and
+/// blocks of `block` bytes, at least 16 bytes, or at least one block after packet_length where that doesn't count, and
 /// at most 35,000 bytes with the tag.
 pub trait Sealing {
     /// The keys of one direction in one epoch.
@@ -52,7 +52,7 @@ pub trait Sealing {
         ensures { result ≡ (crypto.blocks key.now).size };
 
     /// Whether the four bytes of packet_length count in the blocks, as RFC 4253 section 6 has it. They don't where
-    /// packet_length stands in clear beside a cipher: under AES-GCM (RFC 5647 section 7.2) and in the encrypt-then-MAC modes of
+    /// packet_length stands in clear next to a cipher: under AES-GCM (RFC 5647 section 7.2) and in the encrypt-then-MAC modes of
     /// OpenSSH. There a packet without these four bytes fills whole blocks, at least one.
     fn counts_length(key: &Self::Key) -> bool
         ensures { result ≡ (crypto.blocks key.now).counts_length };

@@ -1,5 +1,5 @@
 ghost use Rattle.std.specs.Prelude.{◌≡◌, ◌<◌, ◌↔◌, ◌==◌, IfSome, IsTrue, List, length, not, position, ℕ};
-ghost use Rattle.ssh_model.specs.Wire.Line.{IsAccepted, IsOther, is_version_byte as is_printable};
+ghost use Rattle.ssh_model.specs.Protocol.Wire.Line.{IsAccepted, IsOther, is_version_byte as is_printable};
 ghost use Rattle.ssh_packet.specs.LineKinds.{HasSoftware, IsKind};
 
 use crate::limits::MOST_OTHERS;

@@ -1,18 +1,18 @@
 -- An end of a pair that used what came waits, or is over.
 use Rattle.std.proofs.Common.{◌≡◌, ℕ, Bool, true, false, cond, List, [], refl, ap, sym, ◌∙◌, subst}
-use Rattle.ssh_model.specs.Side.{Side, part}
-use Rattle.ssh_model.specs.Wire.Delivery.{Delivered, Waits}
-use Rattle.ssh_model.specs.Wire.Line.{IsLineBegun}
-use Rattle.ssh_model.specs.Wire.Sealing.{IsSealing}
-use Rattle.ssh_model.specs.Wire.Unit.{IsPacketBegun}
-use Rattle.ssh_model.specs.End.Reading.{end_reading}
-use Rattle.ssh_model.specs.End.State.{EndState}
-use Rattle.ssh_model.specs.End.Summary.{EndSumsUp}
-use Rattle.ssh_model.specs.Sessions.Events.{reading_of}
-use Rattle.ssh_model.specs.Sessions.Items.{Done}
-use Rattle.ssh_model.specs.Sessions.Parties.{Parties}
-use Rattle.ssh_model.specs.TransportLayer.Kept.{Transport}
-use Rattle.ssh_model.specs.TransportLayer.Summary.{SumsUp}
+use Rattle.ssh_model.specs.Protocol.Side.{Side, part}
+use Rattle.ssh_model.specs.Protocol.Wire.Delivery.{Delivered, Waits}
+use Rattle.ssh_model.specs.Protocol.Wire.Line.{IsLineBegun}
+use Rattle.ssh_model.specs.Protocol.Wire.Sealing.{IsSealing}
+use Rattle.ssh_model.specs.Protocol.Wire.Unit.{IsPacketBegun}
+use Rattle.ssh_model.specs.State.End.Reading.{end_reading}
+use Rattle.ssh_model.specs.State.End.State.{EndState}
+use Rattle.ssh_model.specs.State.End.Summary.{EndSumsUp}
+use Rattle.ssh_model.specs.Protocol.Sessions.Events.{reading_of}
+use Rattle.ssh_model.specs.Protocol.Sessions.Items.{Done}
+use Rattle.ssh_model.specs.Protocol.Sessions.Parties.{Parties}
+use Rattle.ssh_model.specs.State.TransportLayer.Kept.{Transport}
+use Rattle.ssh_model.specs.State.TransportLayer.Summary.{SumsUp}
 use Rattle.ssh_transport_machine.specs.Standing.{Stands}
 use Rattle.ssh_transport_machine.specs.State.{State, begun_of}
 use Rattle.ssh_end.specs.Reading.{IsReading}

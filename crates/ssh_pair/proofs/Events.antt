@@ -1,12 +1,12 @@
 -- Events one after the other.
 use Rattle.std.proofs.Common.{◌≡◌, List, [], ◌∷◌, ◌++◌, append_assoc, refl, ap, sym, ◌∙◌, subst}
-use Rattle.ssh_model.specs.Side.{Side.Client, part}
-use Rattle.ssh_model.specs.Sessions.Claims.{IsSafe}
-use Rattle.ssh_model.specs.Sessions.Events.{Event, OnEvent, Plays, World}
-use Rattle.ssh_model.specs.Sessions.Honest.{IsHonest}
-use Rattle.ssh_model.specs.Sessions.Items.{Done}
-use Rattle.ssh_model.specs.Sessions.Parties.{AreLawful, BothOffer, Parties}
-use Rattle.ssh_model.specs.Sessions.Turns.{Run}
+use Rattle.ssh_model.specs.Protocol.Side.{Side.Client, part}
+use Rattle.ssh_model.specs.Protocol.Sessions.Claims.{IsSafe}
+use Rattle.ssh_model.specs.Protocol.Sessions.Events.{Event, OnEvent, Plays, World}
+use Rattle.ssh_model.specs.Protocol.Sessions.Honest.{IsHonest}
+use Rattle.ssh_model.specs.Protocol.Sessions.Items.{Done}
+use Rattle.ssh_model.specs.Protocol.Sessions.Parties.{AreLawful, BothOffer, Parties}
+use Rattle.ssh_model.specs.Protocol.Sessions.Turns.{Run}
 use Rattle.ssh_pair.specs.Items.{Notes}
 use Rattle.ssh_pair.specs.Playing.{Output, Played, PlaysOne, PlaysTo, Says, event_of, events_of, output_of}
 use Rattle.ssh_pair.specs.Standing.{Both, PairStands}

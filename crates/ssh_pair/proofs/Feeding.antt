@@ -1,8 +1,8 @@
 -- What a turn in which an end is fed says of its history.
 use Rattle.std.proofs.Common.{◌≡◌, ℕ, false, true, List, [], ◌∷◌}
-use Rattle.ssh_model.specs.Side.{Side}
-use Rattle.ssh_model.specs.Sessions.Items.{Item}
-use Rattle.ssh_model.specs.Sessions.Turns.{FeedsTurn, can_feed}
+use Rattle.ssh_model.specs.Protocol.Side.{Side}
+use Rattle.ssh_model.specs.Protocol.Sessions.Items.{Item}
+use Rattle.ssh_model.specs.Protocol.Sessions.Turns.{FeedsTurn, can_feed}
 
 pub could_feed : {side : Side} {h rest : List Item} {cookie secret : List ℕ} {item : Item} → FeedsTurn side h cookie secret (item ∷ rest) → can_feed h ≡ true
 could_feed (FeedsTurn.feeds can material) = can

@@ -1,14 +1,14 @@
 -- What an end of a pair did with bytes, and on an ask: where it stands then.
 use Rattle.std.proofs.Common.{◌≡◌, ◌^◌, ℕ, Bool, true, false, cond, List, [], ◌∷◌, ◌++◌, take, refl, ap, sym, ◌∙◌, subst, Option, Err}
 use Rattle.std.specs.Prelude.{IfOk, Result}
-use Rattle.ssh_model.specs.End.State.{EndState}
-use Rattle.ssh_model.specs.End.Summary.{EndTurned}
-use Rattle.ssh_model.specs.Sessions.Events.{reading_of}
-use Rattle.ssh_model.specs.Sessions.Items.{Ask, Done, Item, Item.Died, has_died}
-use Rattle.ssh_model.specs.Sessions.Parties.{Parties}
-use Rattle.ssh_model.specs.Sessions.Turns.{OnUnit}
-use Rattle.ssh_model.specs.Side.{Side, Side.Server, done_by, part}
-use Rattle.ssh_model.specs.Wire.Delivery.{Delivered}
+use Rattle.ssh_model.specs.State.End.State.{EndState}
+use Rattle.ssh_model.specs.State.End.Summary.{EndTurned}
+use Rattle.ssh_model.specs.Protocol.Sessions.Events.{reading_of}
+use Rattle.ssh_model.specs.Protocol.Sessions.Items.{Ask, Done, Item, Item.Died, has_died}
+use Rattle.ssh_model.specs.Protocol.Sessions.Parties.{Parties}
+use Rattle.ssh_model.specs.Protocol.Sessions.Turns.{OnUnit}
+use Rattle.ssh_model.specs.Protocol.Side.{Side, Side.Server, done_by, part}
+use Rattle.ssh_model.specs.Protocol.Wire.Delivery.{Delivered}
 use Rattle.ssh_transport_machine.specs.Puts.{Outs}
 use Rattle.ssh_transport_machine.specs.State.{State, begun_of}
 use Rattle.ssh_end.specs.Asking.{AreAskChannels}

@@ -2,12 +2,12 @@
 use Rattle.std.proofs.Common.{◌≡◌, ◌≤◌, ◌^◌, ℕ, arith, true, false, List, [], ◌∷◌, ◌++◌, append-nil, append_assoc, take, drop, take-append-drop, ap, sym, ◌∙◌, subst}
 use Rattle.std.proofs.lemmas.Bool.{false≢true}
 use Rattle.std.specs.Prelude.{◌==◌, if◌then◌else◌}
-use Rattle.ssh_model.specs.Side.{Side, done_by, part}
-use Rattle.ssh_model.specs.Wire.Delivery.{Delivered}
-use Rattle.ssh_model.specs.Sessions.Events.{PutsOut, reading_of}
-use Rattle.ssh_model.specs.Sessions.Items.{Done, Item, Item.Died, has_died}
-use Rattle.ssh_model.specs.Sessions.Parties.{Parties}
-use Rattle.ssh_model.specs.TransportLayer.Directions.{Direction}
+use Rattle.ssh_model.specs.Protocol.Side.{Side, done_by, part}
+use Rattle.ssh_model.specs.Protocol.Wire.Delivery.{Delivered}
+use Rattle.ssh_model.specs.Protocol.Sessions.Events.{PutsOut, reading_of}
+use Rattle.ssh_model.specs.Protocol.Sessions.Items.{Done, Item, Item.Died, has_died}
+use Rattle.ssh_model.specs.Protocol.Sessions.Parties.{Parties}
+use Rattle.ssh_model.specs.State.TransportLayer.Directions.{Direction}
 use Rattle.ssh_transport_base.specs.Directions.{next_number}
 use Rattle.ssh_transport_machine.specs.State.{State}
 use Rattle.ssh_transport.specs.declared.role.Role as exchange

@@ -1,14 +1,14 @@
 -- Two ends that were made, as a pair.
 use Rattle.std.proofs.Common.{◌≡◌, ℕ, List, [], ◌∷◌, ◌++◌, append-nil, ap, sym, ◌∙◌, subst}
-use Rattle.ssh_model.specs.End.Pair.{PairOpened}
-use Rattle.ssh_model.specs.KeyExchange.Exchanges.{Material, fed}
-use Rattle.ssh_model.specs.Sessions.Claims.{IsSafe}
-use Rattle.ssh_model.specs.Sessions.Events.{PutsOut, World}
-use Rattle.ssh_model.specs.Sessions.Honest.{IsHonest}
-use Rattle.ssh_model.specs.Sessions.Items.{Done, Item}
-use Rattle.ssh_model.specs.Sessions.Parties.{AreLawful, BothOffer, Parties}
-use Rattle.ssh_model.specs.Sessions.Turns.{Run}
-use Rattle.ssh_model.specs.Side.{Side, Side.Client, Side.Server, done_by, part, peer}
+use Rattle.ssh_model.specs.State.End.Pair.{PairOpened}
+use Rattle.ssh_model.specs.Protocol.KeyExchange.Exchanges.{Material, fed}
+use Rattle.ssh_model.specs.Protocol.Sessions.Claims.{IsSafe}
+use Rattle.ssh_model.specs.Protocol.Sessions.Events.{PutsOut, World}
+use Rattle.ssh_model.specs.Protocol.Sessions.Honest.{IsHonest}
+use Rattle.ssh_model.specs.Protocol.Sessions.Items.{Done, Item}
+use Rattle.ssh_model.specs.Protocol.Sessions.Parties.{AreLawful, BothOffer, Parties}
+use Rattle.ssh_model.specs.Protocol.Sessions.Turns.{Run}
+use Rattle.ssh_model.specs.Protocol.Side.{Side, Side.Client, Side.Server, done_by, part, peer}
 use Rattle.ssh_end.specs.Places.{StandsAfter}
 use Rattle.ssh_pair.specs.Items.{Notes}
 use Rattle.ssh_pair.specs.Playing.{Opens, Output, PairOpens, output_of}

@@ -4,12 +4,12 @@ use Rattle.std.specs.Prelude.{Result, OnOk}
 use Rattle.std.proofs.lemmas.List.{length-append, length-map, take_all, take_more}
 use Rattle.ssh_types.specs.Refusals.{refusal_of}
 use Rattle.ssh_types.specs.declared.refusal.Refusal.{Refusal}
-use Rattle.ssh_model.specs.Side.{Side, DoneBy.By, done_by}
-use Rattle.ssh_model.specs.Channels.Summary.{told}
-use Rattle.ssh_model.specs.Wire.Message.{Msg, Msg.Disconnect}
-use Rattle.ssh_model.specs.Sessions.Refusals.{Refusal.NumberSpent}
-use Rattle.ssh_model.specs.Sessions.Items.{Ask, Done, Fact, Fact.Disconnected, Fact.Ignored, Fact.Opening, Item, Item.Asked, Item.Died, Item.Refused, Item.Sent, Item.Told, Item.Took, Spelled, Spelled.SpelledBy, has_died, messages_sent}
-use Rattle.ssh_model.specs.TransportLayer.Summary.{items_sent}
+use Rattle.ssh_model.specs.Protocol.Side.{Side, DoneBy.By, done_by}
+use Rattle.ssh_model.specs.State.Channels.Summary.{told}
+use Rattle.ssh_model.specs.Protocol.Wire.Message.{Msg, Msg.Disconnect}
+use Rattle.ssh_model.specs.Protocol.Sessions.Refusals.{Refusal.NumberSpent}
+use Rattle.ssh_model.specs.Protocol.Sessions.Items.{Ask, Done, Fact, Fact.Disconnected, Fact.Ignored, Fact.Opening, Item, Item.Asked, Item.Died, Item.Refused, Item.Sent, Item.Told, Item.Took, Spelled, Spelled.SpelledBy, has_died, messages_sent}
+use Rattle.ssh_model.specs.State.TransportLayer.Summary.{items_sent}
 use Rattle.ssh_transport_machine.specs.Puts.{payloads_of}
 use Rattle.ssh_end.specs.Asking.{ShowsAsk}
 use Rattle.ssh_end.specs.Owed.{channels_sent}

@@ -1,11 +1,11 @@
 -- What an end did when it was made, and how that is noted.
 use Rattle.std.proofs.Common.{◌≡◌, ℕ, true, Option, None, List, [], ◌∷◌, ap, sym, ◌∙◌, subst}
-use Rattle.ssh_model.specs.KeyExchange.Exchanges.{Material}
-use Rattle.ssh_model.specs.Sessions.Items.{Item, Item.Fed, Item.Sent, Item.SentLine, messages_sent}
-use Rattle.ssh_model.specs.Sessions.Parties.{Parties, Settings, offer, settings_of}
-use Rattle.ssh_model.specs.Side.{Side}
-use Rattle.ssh_model.specs.Wire.Message.{Msg.KexInit}
-use Rattle.ssh_model.specs.Wire.Sealing.{Crypto}
+use Rattle.ssh_model.specs.Protocol.KeyExchange.Exchanges.{Material}
+use Rattle.ssh_model.specs.Protocol.Sessions.Items.{Item, Item.Fed, Item.Sent, Item.SentLine, messages_sent}
+use Rattle.ssh_model.specs.Protocol.Sessions.Parties.{Parties, Settings, offer, settings_of}
+use Rattle.ssh_model.specs.Protocol.Side.{Side}
+use Rattle.ssh_model.specs.Protocol.Wire.Message.{Msg.KexInit}
+use Rattle.ssh_model.specs.Protocol.Wire.Sealing.{Crypto}
 use Rattle.ssh_transport_machine.specs.Opening.{IsOpened}
 use Rattle.ssh_transport_machine.specs.Puts.{Outs, payloads_of}
 use Rattle.ssh_transport_machine.specs.State.{State}

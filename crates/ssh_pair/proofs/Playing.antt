@@ -1,17 +1,17 @@
 -- What happens to one end, as an event of a pair.
 use Rattle.std.proofs.Common.{◌≡◌, ℕ, Bool, true, false, cond, List, [], ◌∷◌, ◌++◌, append-nil, refl, ap, sym, ◌∙◌, subst}
-use Rattle.ssh_model.specs.End.Pair.{PairState, PairSumsUp, PairTurned, state_of, with_state}
-use Rattle.ssh_model.specs.End.State.{EndState}
-use Rattle.ssh_model.specs.End.Summary.{EndSumsUp, EndTurned}
-use Rattle.ssh_model.specs.Sessions.Claims.{IsSafe}
-use Rattle.ssh_model.specs.Sessions.Events.{Event.Asks, Event.Delivers, Event.Feeds, PutsOut, PutsOut.other, World, kept_rest, next_world, reading_of, rest_of}
-use Rattle.ssh_model.specs.Sessions.Honest.{IsHonest}
-use Rattle.ssh_model.specs.Sessions.Items.{Ask, Done, Item, Item.Fed, has_died}
-use Rattle.ssh_model.specs.Sessions.Parties.{AreLawful, BothOffer, Parties}
-use Rattle.ssh_model.specs.Sessions.Turns.{AsksTurn, FeedsTurn, Run, can_feed}
-use Rattle.ssh_model.specs.Side.{Side, Side.Client, Side.Server, done_by, part, peer}
-use Rattle.ssh_model.specs.TransportLayer.Kept.{after_fed}
-use Rattle.ssh_model.specs.Wire.Delivery.{Delivered}
+use Rattle.ssh_model.specs.State.End.Pair.{PairState, PairSumsUp, PairTurned, state_of, with_state}
+use Rattle.ssh_model.specs.State.End.State.{EndState}
+use Rattle.ssh_model.specs.State.End.Summary.{EndSumsUp, EndTurned}
+use Rattle.ssh_model.specs.Protocol.Sessions.Claims.{IsSafe}
+use Rattle.ssh_model.specs.Protocol.Sessions.Events.{Event.Asks, Event.Delivers, Event.Feeds, PutsOut, PutsOut.other, World, kept_rest, next_world, reading_of, rest_of}
+use Rattle.ssh_model.specs.Protocol.Sessions.Honest.{IsHonest}
+use Rattle.ssh_model.specs.Protocol.Sessions.Items.{Ask, Done, Item, Item.Fed, has_died}
+use Rattle.ssh_model.specs.Protocol.Sessions.Parties.{AreLawful, BothOffer, Parties}
+use Rattle.ssh_model.specs.Protocol.Sessions.Turns.{AsksTurn, FeedsTurn, Run, can_feed}
+use Rattle.ssh_model.specs.Protocol.Side.{Side, Side.Client, Side.Server, done_by, part, peer}
+use Rattle.ssh_model.specs.State.TransportLayer.Kept.{after_fed}
+use Rattle.ssh_model.specs.Protocol.Wire.Delivery.{Delivered}
 use Rattle.ssh_transport_machine.specs.State.{State}
 use Rattle.ssh_end.specs.Places.{FedTo, StandsAfter, fed_items}
 use Rattle.ssh_pair.specs.Playing.{Advanced, Answered, Output, PairFed, PlaysOne, PutsMore, Says, SaysOf, output_of}

@@ -1,10 +1,10 @@
 -- What an end did with the bytes of one line or one packet, in a run of two.
 use Rattle.std.proofs.Common.{◌≡◌, ℕ, List, [], ◌++◌, append-nil, append_assoc, ap, sym, ◌∙◌, subst}
-use Rattle.ssh_model.specs.Side.{Side, done_by, part}
-use Rattle.ssh_model.specs.Wire.Delivery.{Delivered}
-use Rattle.ssh_model.specs.Sessions.Events.{PutsOut, reading_of}
-use Rattle.ssh_model.specs.Sessions.Items.{Done, Item}
-use Rattle.ssh_model.specs.Sessions.Parties.{Parties}
+use Rattle.ssh_model.specs.Protocol.Side.{Side, done_by, part}
+use Rattle.ssh_model.specs.Protocol.Wire.Delivery.{Delivered}
+use Rattle.ssh_model.specs.Protocol.Sessions.Events.{PutsOut, reading_of}
+use Rattle.ssh_model.specs.Protocol.Sessions.Items.{Done, Item}
+use Rattle.ssh_model.specs.Protocol.Sessions.Parties.{Parties}
 use Rattle.ssh_pair.specs.Noting.{Adds}
 use Rattle.ssh_pair.specs.Playing.{Advanced, SaysOf}
 use Rattle.ssh_pair.specs.declared.item.Done as declared

@@ -3,9 +3,9 @@ use Rattle.std.specs.Prelude.{◌≡◌, ℕ, Some, None, List, [], ◌∷◌, �
 use Rattle.ssh_types.specs.AskRefusals.{ask_refusal_of}
 use Rattle.ssh_types.specs.Refusals.{refusal_of}
 use Rattle.ssh_types.specs.Sides.{side_of}
-use Rattle.ssh_model.specs.Side.{DoneBy.By}
-use Rattle.ssh_model.specs.Sessions.Items as session
-use Rattle.ssh_model.specs.Sessions.Items.{Item.Fed}
+use Rattle.ssh_model.specs.Protocol.Side.{DoneBy.By}
+use Rattle.ssh_model.specs.Protocol.Sessions.Items as session
+use Rattle.ssh_model.specs.Protocol.Sessions.Items.{Item.Fed}
 use Rattle.ssh_pair.specs.declared.ask_kind.AskKind.{AskKind}
 use Rattle.ssh_pair.specs.declared.ask_kind.AskKind.TheVariants as kind
 use Rattle.ssh_pair.specs.declared.fact.Fact.{Fact}

@@ -1,15 +1,15 @@
 -- What events make of a pair, as what they make of two ends of a session.
 use Rattle.std.specs.Prelude.{◌≡◌, ℕ, Bool, cond, List, [], ◌∷◌, ◌++◌}
-use Rattle.ssh_model.specs.Side.{Side, Side.Client, Side.Server, done_by, part}
-use Rattle.ssh_model.specs.Wire.Delivery.{Delivered}
-use Rattle.ssh_model.specs.KeyExchange.Exchanges.{Material, fed}
-use Rattle.ssh_model.specs.Sessions.Claims.{IsSafe}
-use Rattle.ssh_model.specs.Sessions.Events as session
-use Rattle.ssh_model.specs.Sessions.Events.{IsFirst, OnEvent, Plays, PutsOut, World, reading_of}
-use Rattle.ssh_model.specs.Sessions.Honest.{IsHonest}
-use Rattle.ssh_model.specs.Sessions.Items.{Ask, Done, Item, Item.Fed, has_died}
-use Rattle.ssh_model.specs.Sessions.Parties.{AreLawful, BothOffer, Parties, Settings, settings_of}
-use Rattle.ssh_model.specs.Sessions.Turns.{AsksTurn, can_feed}
+use Rattle.ssh_model.specs.Protocol.Side.{Side, Side.Client, Side.Server, done_by, part}
+use Rattle.ssh_model.specs.Protocol.Wire.Delivery.{Delivered}
+use Rattle.ssh_model.specs.Protocol.KeyExchange.Exchanges.{Material, fed}
+use Rattle.ssh_model.specs.Protocol.Sessions.Claims.{IsSafe}
+use Rattle.ssh_model.specs.Protocol.Sessions.Events as session
+use Rattle.ssh_model.specs.Protocol.Sessions.Events.{IsFirst, OnEvent, Plays, PutsOut, World, reading_of}
+use Rattle.ssh_model.specs.Protocol.Sessions.Honest.{IsHonest}
+use Rattle.ssh_model.specs.Protocol.Sessions.Items.{Ask, Done, Item, Item.Fed, has_died}
+use Rattle.ssh_model.specs.Protocol.Sessions.Parties.{AreLawful, BothOffer, Parties, Settings, settings_of}
+use Rattle.ssh_model.specs.Protocol.Sessions.Turns.{AsksTurn, can_feed}
 use Rattle.ssh_types.specs.Sides.{side_of}
 use Rattle.ssh_end.specs.Asking.{ask_of}
 use Rattle.ssh_end.specs.Ends.{EndValue}

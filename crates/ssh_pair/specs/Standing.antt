@@ -1,12 +1,12 @@
 -- The two ends of a pair: what they keep, and where they stand in a run.
 use Rattle.std.specs.Prelude.{◌≡◌, ℕ, Bool, cond, List, []}
-use Rattle.ssh_model.specs.Channels.Kept.{Channels}
-use Rattle.ssh_model.specs.End.State.{Authentication, EndState}
-use Rattle.ssh_model.specs.Sessions.Events.{World, rest_of}
-use Rattle.ssh_model.specs.Sessions.Items.{Done}
-use Rattle.ssh_model.specs.Sessions.Parties.{Parties}
-use Rattle.ssh_model.specs.Sessions.Turns.{Run}
-use Rattle.ssh_model.specs.Side.{Side, Side.Client, Side.Server, part}
+use Rattle.ssh_model.specs.State.Channels.Kept.{Channels}
+use Rattle.ssh_model.specs.State.End.State.{Authentication, EndState}
+use Rattle.ssh_model.specs.Protocol.Sessions.Events.{World, rest_of}
+use Rattle.ssh_model.specs.Protocol.Sessions.Items.{Done}
+use Rattle.ssh_model.specs.Protocol.Sessions.Parties.{Parties}
+use Rattle.ssh_model.specs.Protocol.Sessions.Turns.{Run}
+use Rattle.ssh_model.specs.Protocol.Side.{Side, Side.Client, Side.Server, part}
 use Rattle.ssh_transport_machine.specs.State.{State, begun_of}
 use Rattle.ssh_layers.specs.ClientLayers as client
 use Rattle.ssh_layers.specs.Layers as server

@@ -1,7 +1,7 @@
 //! How the client of a pair is made.
 
 ghost use Rattle.std.specs.Prelude.{◌≡◌, IfOk};
-ghost use Rattle.ssh_model.specs.Side as model;
+ghost use Rattle.ssh_model.specs.Protocol.Side as model;
 ghost use Rattle.ssh_transport_base.specs.Meaning.{settings_of};
 ghost use Rattle.ssh_pair.specs.Playing.{OpensAs};
 ghost use Rattle.ssh_pair.specs.Standing.{HasClientParts};

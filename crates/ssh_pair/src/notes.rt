@@ -1,9 +1,9 @@
 //! What an end did, noted for a transcript.
 
 ghost use Rattle.std.specs.Prelude.{◌∷◌, ◌≡◌, IfOk, List, OnOk, [], option_map};
-ghost use Rattle.ssh_model.specs.Wire.Message.{Msg};
-ghost use Rattle.ssh_model.specs.Side.{DoneBy.By};
-ghost use Rattle.ssh_model.specs.Sessions.Items as session;
+ghost use Rattle.ssh_model.specs.Protocol.Wire.Message.{Msg};
+ghost use Rattle.ssh_model.specs.Protocol.Side.{DoneBy.By};
+ghost use Rattle.ssh_model.specs.Protocol.Sessions.Items as session;
 ghost use Rattle.ssh_types.specs.Sides.{side_of};
 ghost use Rattle.ssh_end.specs.Asking.{ask_of};
 ghost use Rattle.ssh_end.specs.Told.{told_of};

@@ -1,7 +1,7 @@
 //! What one end of a pair does, of either role.
 
 ghost use Rattle.std.specs.Prelude.{◌≡◌, ◌<◌, ◌≤◌, IfOk, OnOk, false, length, take};
-ghost use Rattle.ssh_model.specs.Side.{Side.Server};
+ghost use Rattle.ssh_model.specs.Protocol.Side.{Side.Server};
 ghost use Rattle.ssh_types.specs.Sides.{side_of};
 ghost use Rattle.ssh_transport_machine.specs.Standing.{Stands};
 ghost use Rattle.ssh_end.specs.Asking.{ask_of};

@@ -1,7 +1,7 @@
 //! Two ends of SSH-2.
 
 ghost use Rattle.std.specs.Prelude.{◌≡◌, IfOk, IsErr, OnErr, OnOk, false, true};
-ghost use Rattle.ssh_model.specs.Sessions.Events as session;
+ghost use Rattle.ssh_model.specs.Protocol.Sessions.Events as session;
 ghost use Rattle.ssh_types.specs.Sides.{side_of};
 ghost use Rattle.ssh_transport_base.specs.Meaning.{settings_of};
 ghost use Rattle.ssh_end.specs.Asking.{ask_of};

@@ -3,9 +3,9 @@ use Rattle.std.specs.Prelude.{ℕ, Bool, false, not, ◌&&◌, if◌then◌else�
 use Rattle.std.specs.List.{list_any}
 use Rattle.ed25519.specs.Order.{is_small_order}
 use Rattle.ed25519.specs.Signature.{is_signature, pair_of, signature_of}
-use Rattle.ssh_model.specs.Authentication.Requests.{Judge}
-use Rattle.ssh_model.specs.KeyExchange.Exchange.{string_of}
-use Rattle.ssh_model.specs.Wire.MacOnly.{is_text}
+use Rattle.ssh_model.specs.Protocol.Authentication.Requests.{Judge}
+use Rattle.ssh_model.specs.Protocol.KeyExchange.Exchange.{string_of}
+use Rattle.ssh_model.specs.Protocol.Wire.MacOnly.{is_text}
 use Rattle.ssh_parts.specs.declared.ed25519_judge.AcceptedKey.{AcceptedKey}
 use Rattle.ssh_parts.specs.declared.ed25519_signer.Ed25519Signer.{Ed25519Signer}
 use Rattle.ssh_parts.specs.declared.ed25519_trust.Ed25519Trust.{Ed25519Trust}

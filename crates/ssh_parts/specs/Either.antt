@@ -1,6 +1,6 @@
 -- One sealing of two: the names that the first one knows are its own, and all else is the second's.
 use Rattle.std.specs.Prelude.{Option, Some, None}
-use Rattle.ssh_model.specs.Wire.Sealing.{Crypto, Lengths}
+use Rattle.ssh_model.specs.Protocol.Wire.Sealing.{Crypto, Lengths}
 use Rattle.ssh_parts.specs.declared.either.EitherKey.{EitherKey}
 use Rattle.ssh_parts.specs.declared.either.EitherKey.TheVariants.{First, Second}
 

@@ -1,8 +1,8 @@
 -- One sealing of two keeps the laws that both keep.
 use Rattle.std.specs.Prelude.{◌≡◌, ℕ, ◌+◌, ◌≤◌, ◌<◌, ◌^◌, true, Option, Some, None, IfSome, IsTrue, List, length, take}
-use Rattle.ssh_model.specs.Wire.DataTypes.{AreBytes}
-use Rattle.ssh_model.specs.Wire.Packet.{IsBlock, is_size}
-use Rattle.ssh_model.specs.Wire.Sealing.{Crypto, IsSealing, Lengths, is_wire_size}
+use Rattle.ssh_model.specs.Protocol.Wire.DataTypes.{AreBytes}
+use Rattle.ssh_model.specs.Protocol.Wire.Packet.{IsBlock, is_size}
+use Rattle.ssh_model.specs.Protocol.Wire.Sealing.{Crypto, IsSealing, Lengths, is_wire_size}
 use Rattle.ssh_parts.specs.declared.either.EitherKey.{EitherKey}
 use Rattle.ssh_parts.specs.declared.either.EitherKey.TheVariants.{First, Second}
 use Rattle.ssh_parts.specs.Either.{either, first_of}

@@ -2,7 +2,7 @@
 use Rattle.std.specs.Prelude.{ℕ, List, [], ◌∷◌, ◌^◌, map, codes, None, false}
 use Rattle.std.specs.Option.{option_copied}
 use Rattle.ssh_message.specs.Announced.{extension_of}
-use Rattle.ssh_model.specs.Sessions.Parties as model
+use Rattle.ssh_model.specs.Protocol.Sessions.Parties as model
 use Rattle.ssh_transport_base.specs.Config.{Given}
 use Rattle.ssh_parts.specs.declared.gcm_settings.GcmSettings.{GcmSettings}
 

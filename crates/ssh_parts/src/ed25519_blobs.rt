@@ -19,7 +19,7 @@ const BEFORE_KEY: [u8; 19] = *b"\0\0\0\x0bssh-ed25519\0\0\0\x20";
 const BEFORE_SIGNATURE: [u8; 19] = *b"\0\0\0\x0bssh-ed25519\0\0\0\x40";
 
 // The name and a key, each as a string.
-#[tactic(auto, unfolding(crate::specs::Ed25519::key_blob, ssh_model::specs::KeyExchange::Exchange::string_of))]
+#[tactic(auto, unfolding(crate::specs::Ed25519::key_blob, ssh_model::specs::Protocol::KeyExchange::Exchange::string_of))]
 pub(crate) fn key_blob(key: &[u8; 32]) -> [u8; 51]
     ensures { result ≡ key_blob key.now }
 {
@@ -31,7 +31,7 @@ pub(crate) fn key_blob(key: &[u8; 32]) -> [u8; 51]
 }
 
 // The name and a signature, each as a string.
-#[tactic(auto, unfolding(crate::specs::Ed25519::signature_blob, ssh_model::specs::KeyExchange::Exchange::string_of))]
+#[tactic(auto, unfolding(crate::specs::Ed25519::signature_blob, ssh_model::specs::Protocol::KeyExchange::Exchange::string_of))]
 pub(crate) fn signature_blob(signature: &[u8; 64]) -> [u8; 83]
     ensures { result ≡ signature_blob signature.now }
 {

@@ -1,6 +1,6 @@
 -- Which encryptions a list of names asks for, and which names a choice offers.
 use Rattle.std.specs.Prelude.{ℕ, Bool, true, false, if◌then◌else◌, List, [], ◌∷◌, codes, Option, Some, None}
-use Rattle.ssh_model.specs.Wire.MacOnly.{is_text}
+use Rattle.ssh_model.specs.Protocol.Wire.MacOnly.{is_text}
 use Rattle.ssh_pipe_policy.specs.declared.ciphers.Ciphers.{Ciphers}
 use Rattle.ssh_pipe_policy.specs.declared.ciphers.Ciphers.TheVariants.{Aes128, Aes256, Both}
 

@@ -1,6 +1,6 @@
 -- What an end does with a pair of cookie and secret.
 use Rattle.std.specs.Prelude.{◌≡◌, Bool, true, false, List, ℕ}
-use Rattle.ssh_model.specs.TransportLayer.Kept.{after_fed, can_be_fed}
+use Rattle.ssh_model.specs.State.TransportLayer.Kept.{after_fed, can_be_fed}
 use Rattle.ssh_transport_machine.specs.State.{State}
 
 -- It keeps just this pair, or keeps none and stays as it was.

@@ -3,7 +3,7 @@ use Rattle.std.specs.Prelude.{◌≡◌, ℕ, Bool, true, false, cond, List, len
 use Rattle.rand_chacha.specs.ChaCha.{next_word, of_seed}
 use Rattle.rand_core.specs.Steps.{steps_u32, stream_of}
 use Rattle.rand_core.specs.Stream.{Stream, fill_bytes}
-use Rattle.ssh_model.specs.Sessions.Items.{Ask, Ask.AskRekey}
+use Rattle.ssh_model.specs.Protocol.Sessions.Items.{Ask, Ask.AskRekey}
 use Rattle.ssh_end.specs.declared.asking.outcome.Fault.{Fault}
 use Rattle.ssh_pipe_policy.specs.Asking.{IsOutcome}
 use Rattle.ssh_pipe_policy.specs.declared.end.AskOutcome.{AskOutcome}

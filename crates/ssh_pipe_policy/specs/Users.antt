@@ -1,8 +1,8 @@
 -- Whom a server lets in.
 use Rattle.std.specs.Prelude.{◌&&◌, ℕ, Bool, false, List, Option, Some, None}
 use Rattle.sha2.specs.Sha256.{sha256}
-use Rattle.ssh_model.specs.Authentication.Requests.{Judge}
-use Rattle.ssh_model.specs.Wire.MacOnly.{is_text}
+use Rattle.ssh_model.specs.Protocol.Authentication.Requests.{Judge}
+use Rattle.ssh_model.specs.Protocol.Wire.MacOnly.{is_text}
 use Rattle.ssh_parts.specs.Ed25519.{judge_of}
 use Rattle.ssh_parts.specs.declared.ed25519_judge.AcceptedKey.{AcceptedKey}
 use Rattle.ssh_pipe_policy.specs.declared.users.PasswordHash.{PasswordHash}

@@ -1,7 +1,7 @@
 //! What a server's and a client's end have in common.
 
 ghost use Rattle.std.specs.Prelude.{◌≡◌, ◌≤◌, ⊤, Bool, IfErr, IfOk, List, Option, length, nat_le, ℕ};
-ghost use Rattle.ssh_model.specs.Sessions.Items as session;
+ghost use Rattle.ssh_model.specs.Protocol.Sessions.Items as session;
 ghost use Rattle.ssh_end.specs.Asking.{ask_of};
 ghost use Rattle.ssh_end.specs.declared.asking.outcome.Fault.{Fault};
 ghost use Rattle.ssh_pipe_policy.specs.Asking.{IsOutcome, IsRefusal, fault_in};

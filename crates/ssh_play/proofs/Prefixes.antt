@@ -3,7 +3,7 @@ use Rattle.std.proofs.Common.{◌≡◌, ℕ, suc, zero, ◌<◌, ◌≤◌, ◌
 use Rattle.std.proofs.lemmas.Grind.{common_steps}
 use Rattle.std.specs.Cmp.Lexicographic.{pointwise, pointwise_decides}
 use Rattle.std.proofs.lemmas.Bool.Decides.{Decides-eqb}
-use Rattle.ssh_model.specs.Lists.{Begins}
+use Rattle.ssh_model.specs.Protocol.Lists.{Begins}
 use Rattle.ssh_play.specs.Prefixes.{begins, payloads_in}
 
 -- Only an empty list is a prefix of none.

@@ -1,6 +1,6 @@
 -- What went between two ends in a run, by the items of their transcript.
 use Rattle.std.specs.Prelude.{ℕ, Bool, true, false, cond, List, [], ◌∷◌, ◌++◌}
-use Rattle.ssh_model.specs.Lists.{Begins}
+use Rattle.ssh_model.specs.Protocol.Lists.{Begins}
 use Rattle.ssh_types.specs.declared.side.Side.{Side}
 use Rattle.ssh_types.specs.declared.side.Side.TheVariants.{Client, Server}
 use Rattle.ssh_pair.specs.declared.item.Done.{Done}

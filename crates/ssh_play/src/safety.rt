@@ -1,7 +1,7 @@
 //! Whether what each end took under keys is what the other sent under them.
 
 ghost use Rattle.std.specs.Prelude.{◌≡◌, ◌↔◌, ◌∷◌, IfOk, IfSome, IfNone, IsTrue, []};
-ghost use Rattle.ssh_model.specs.Lists.{Begins};
+ghost use Rattle.ssh_model.specs.Protocol.Lists.{Begins};
 ghost use Rattle.ssh_play.specs.Prefixes.{begins, behind_first, has_newkeys, payloads_in};
 ghost use Rattle.ssh_play.specs.Runs.{IsSafe, TakesWhatIsSent, is_side, payload_in, went};
 ghost use Rattle.ssh_play.specs.declared.safety.Way.TheVariants.{Sent, Taken};

@@ -1,6 +1,6 @@
 -- What the lines of asks ask, in the words of the model.
 use Rattle.std.specs.Prelude.{true, false, Some, None, []}
-use Rattle.ssh_model.specs.Sessions.Items as session
+use Rattle.ssh_model.specs.Protocol.Sessions.Items as session
 use Rattle.ssh_script.specs.declared.ask_line.AskLine.{AskLine}
 use Rattle.ssh_script.specs.declared.ask_line.AskLine.TheVariants as ask
 use Rattle.ssh_script.specs.declared.data_line.DataLine.{DataLine}

@@ -1,6 +1,6 @@
 -- What lies between two sides, and what a line delivers of it.
 use Rattle.std.specs.Prelude.{◌≡◌, ℕ, List, length, take, drop, Option, Some, None}
-use Rattle.ssh_model.specs.Side.{peer}
+use Rattle.ssh_model.specs.Protocol.Side.{peer}
 use Rattle.ssh_types.specs.Sides.{side_of}
 use Rattle.ssh_types.specs.declared.side.Side.{Side}
 use Rattle.ssh_types.specs.declared.side.Side.TheVariants.{Client, Server}

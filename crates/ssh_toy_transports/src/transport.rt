@@ -1,8 +1,8 @@
 //! The transport of either role.
 
 ghost use Rattle.std.specs.Prelude.{◌≤◌, true};
-ghost use Rattle.ssh_model.specs.Wire.Message.{FitsContext};
-ghost use Rattle.ssh_model.specs.Wire.Sizes.{payload_size};
+ghost use Rattle.ssh_model.specs.Protocol.Wire.Message.{FitsContext};
+ghost use Rattle.ssh_model.specs.Laws.Sizes.{payload_size};
 ghost use Rattle.ssh_message.specs.Meaning.{meaning};
 ghost use Rattle.ssh_message.specs.Written.{Fits};
 ghost use Rattle.ssh_transport_machine.specs.Asks.{IsSendable};

@@ -1,7 +1,7 @@
 -- What lets a user of the toys in.
 use Rattle.std.specs.Prelude.{◌&&◌, ℕ, Bool, false, List}
 use Rattle.std.specs.List.{list_any}
-use Rattle.ssh_model.specs.Wire.MacOnly.{is_text}
+use Rattle.ssh_model.specs.Protocol.Wire.MacOnly.{is_text}
 use Rattle.ssh_toys.specs.declared.user.ToyCredential.{ToyCredential}
 use Rattle.ssh_toys.specs.declared.user.ToyCredential.TheVariants.{Password, Key}
 

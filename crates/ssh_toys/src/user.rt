@@ -1,5 +1,5 @@
 ghost use Rattle.std.specs.Prelude.{◌≡◌, false};
-ghost use Rattle.ssh_model.specs.Wire.MacOnly.{is_text};
+ghost use Rattle.ssh_model.specs.Protocol.Wire.MacOnly.{is_text};
 ghost use Rattle.sha2.specs.Sha256.{sha256};
 ghost use Rattle.ssh_toys.specs.Users.{is_key_of, is_password_of, key_fits, password_fits};
 

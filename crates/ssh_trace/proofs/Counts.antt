@@ -2,11 +2,11 @@
 use Rattle.std.proofs.Common.{◌≡◌, ℕ, ◌<◌, ◌%◌, ◌^◌, List, sym, subst, ◌∙◌}
 use Rattle.std.specs.Prelude.{Some}
 use Rattle.std.proofs.Math.Nat.{mod-eq_of_lt}
-use Rattle.ssh_model.specs.Wire.MacOnly.{mac_only}
-use Rattle.ssh_model.specs.Wire.Outcome.{Outcome}
-use Rattle.ssh_model.specs.Wire.Reading.{Writes}
-use Rattle.ssh_model.specs.Wire.Sealing.{IsBadPadding, IsBadTag, IsSealed, IsWire}
-use Rattle.ssh_model.specs.Wire.Unit.{PacketUnit, PacketUnit.opens, PacketUnit.bad_length, PacketUnit.spent, PacketUnit.bad_tag, PacketUnit.bad_padding}
+use Rattle.ssh_model.specs.Protocol.Wire.MacOnly.{mac_only}
+use Rattle.ssh_model.specs.Protocol.Wire.Outcome.{Outcome}
+use Rattle.ssh_model.specs.Laws.Reading.{Writes}
+use Rattle.ssh_model.specs.Protocol.Wire.Sealing.{IsBadPadding, IsBadTag, IsSealed, IsWire}
+use Rattle.ssh_model.specs.Protocol.Wire.Unit.{PacketUnit, PacketUnit.opens, PacketUnit.bad_length, PacketUnit.spent, PacketUnit.bad_tag, PacketUnit.bad_padding}
 
 next_is : (number count : ℕ) → number ≡ count % 2 ^ 32 → count < 2 ^ 32 → number ≡ count
 next_is number count e left = e ∙ mod-eq_of_lt left

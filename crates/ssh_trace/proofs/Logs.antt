@@ -1,6 +1,6 @@
 -- Records that are put after a run.
 use Rattle.std.proofs.Common.{◌≡◌, List, [], ◌∷◌, ◌++◌, refl}
-use Rattle.ssh_model.specs.Side.{DoneBy.By}
+use Rattle.ssh_model.specs.Protocol.Side.{DoneBy.By}
 use Rattle.ssh_model.specs.OneEpoch.History as history
 use Rattle.ssh_types.specs.Sides.{side_of}
 use Rattle.ssh_trace.specs.History.{logged, item_of}

@@ -1,11 +1,11 @@
 -- One end of an epoch.
 use Rattle.std.specs.Prelude.{◌≡◌, ◌≤◌, ◌<◌, ◌+◌, ◌%◌, ◌^◌, ℕ, Bool, true, false, if◌then◌else◌, List, [], length, Option, None, Some, unwrap_or}
 use Rattle.ssh_model.specs.OneEpoch.History.{Item, has_died, sent, took}
-use Rattle.ssh_model.specs.Wire.MacOnly.{mac_only}
-use Rattle.ssh_model.specs.Wire.Outcome.{Outcome.Opens, Outcome.RefusedPacket}
-use Rattle.ssh_model.specs.Wire.Reading.{Writes}
-use Rattle.ssh_model.specs.Wire.Sealing.{IsSealed}
-use Rattle.ssh_model.specs.Wire.Unit.{IsPacketBegun, PacketUnit}
+use Rattle.ssh_model.specs.Protocol.Wire.MacOnly.{mac_only}
+use Rattle.ssh_model.specs.Protocol.Wire.Outcome.{Outcome.Opens, Outcome.RefusedPacket}
+use Rattle.ssh_model.specs.Laws.Reading.{Writes}
+use Rattle.ssh_model.specs.Protocol.Wire.Sealing.{IsSealed}
+use Rattle.ssh_model.specs.Protocol.Wire.Unit.{IsPacketBegun, PacketUnit}
 use Rattle.ssh_types.specs.Refusals.{refusal_of}
 use Rattle.ssh_transport_base.specs.Directions.{Direction, Receiver}
 use Rattle.ssh_transport_base.specs.declared.packets.step.PacketStep.{PacketStep}

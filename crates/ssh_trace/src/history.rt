@@ -2,7 +2,7 @@
 
 ghost use Rattle.std.specs.Prelude.{◌≡◌, ◌∷◌, List, OnOk};
 ghost use Rattle.ssh_model.specs.OneEpoch.History as history;
-ghost use Rattle.ssh_model.specs.Side.{DoneBy.By};
+ghost use Rattle.ssh_model.specs.Protocol.Side.{DoneBy.By};
 ghost use Rattle.ssh_types.specs.Sides.{side_of};
 ghost use Rattle.ssh_trace.specs.History.{item_of, logged};
 

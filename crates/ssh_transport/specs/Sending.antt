@@ -1,7 +1,7 @@
 -- Which payloads a transport sends for the layers above it.
 use Rattle.std.specs.Prelude.{◌≡◌, ◌||◌, ◌==◌, ℕ, ◌≤◌, Bool, true, false, List, length}
-use Rattle.ssh_model.specs.Sessions.Turns.{number_of}
-use Rattle.ssh_model.specs.TransportLayer.Kept.{Transport}
+use Rattle.ssh_model.specs.Protocol.Sessions.Turns.{number_of}
+use Rattle.ssh_model.specs.State.TransportLayer.Kept.{Transport}
 
 -- the numbers of the messages that a transport sends by itself alone: DISCONNECT, those of the service, and those of an
 -- exchange of keys

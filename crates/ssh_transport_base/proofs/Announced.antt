@@ -3,8 +3,8 @@ use Rattle.std.proofs.Common.{◌≡◌, ℕ, zero, suc, ◌+◌, ◌<◌, ◌�
 use Rattle.std.specs.Prelude.{not}
 use Rattle.std.specs.List.{list_all, list_any}
 use Rattle.std.proofs.lemmas.Bool.{and_parts, leb-true, lt-ltb}
-use Rattle.ssh_model.specs.Wire.DataTypes.{is_name}
-use Rattle.ssh_model.specs.Wire.Message as model
+use Rattle.ssh_model.specs.Protocol.Wire.DataTypes.{is_name}
+use Rattle.ssh_model.specs.Protocol.Wire.Message as model
 use Rattle.ssh_message.specs.Announced.{extension_of, is_short}
 use Rattle.ssh_message.specs.declared.extensions.Extension.{Extension}
 use Rattle.ssh_transport_base.specs.Checks.{are_distinct}
@@ -21,7 +21,7 @@ drop_more (x ∷ xs) (suc i) d here =
     let next : suc (i + 1) ≡ suc i + 1 = omega arith in
     drop_more xs i d (omega (arith, here)) ∙ ap (λ (n : ℕ). get_or xs i d ∷ drop n (x ∷ xs)) next
 
--- a place, and those behind it
+-- a place, and those after it
 pub distinct_from : (xs : List Extension) (i : ℕ) (d : Extension) → i < length xs →
     are_distinct (extension_names (map extension_of (drop i xs)))
     ≡ (not (list_any (is_same (get_or xs i d).name.now) (extension_names (map extension_of (drop (i + 1) xs)))) && are_distinct (extension_names (map extension_of (drop (i + 1) xs))))

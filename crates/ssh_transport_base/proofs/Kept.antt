@@ -3,10 +3,10 @@ use Rattle.std.proofs.Common.{◌≡◌, ℕ, ◌≤◌, ◌+◌, Bool, true, lt
 use Rattle.std.specs.Prelude.{Option, Some, None, IsTrue, codes}
 use Rattle.std.proofs.Math.Seq.{take-append_seam, drop-append_seam}
 use Rattle.std.proofs.lemmas.Bool.{cond-true, cond-false, lt-ltb, le-ltb}
-use Rattle.ssh_model.specs.Sessions.Parties.{Strictness}
-use Rattle.ssh_model.specs.Wire.Line.{comment_text}
-use Rattle.ssh_model.specs.Wire.Message.{Extension}
-use Rattle.ssh_model.specs.Wire.Sealing.{Crypto}
+use Rattle.ssh_model.specs.Protocol.Sessions.Parties.{Strictness}
+use Rattle.ssh_model.specs.Protocol.Wire.Line.{comment_text}
+use Rattle.ssh_model.specs.Protocol.Wire.Message.{Extension}
+use Rattle.ssh_model.specs.Protocol.Wire.Sealing.{Crypto}
 use Rattle.ssh_transport_base.specs.Config.{AreGood, Given, version_text}
 use Rattle.ssh_transport_base.specs.Checks.{are_good, comments_in, kept, software_in}
 use Rattle.ssh_transport_base.proofs.Lists.{good_pass}

@@ -5,7 +5,7 @@ use Rattle.std.specs.List.{list_all}
 use Rattle.std.proofs.lemmas.Bool.{and_parts, leb-true, le-leb}
 use Rattle.std.proofs.lemmas.Bool.Decides.{nat_tests}
 use Rattle.std.proofs.lemmas.List.Folds.{list_all-append}
-use Rattle.ssh_model.specs.Wire.Line.{comment_text, is_text_byte, is_version_byte, line_end}
+use Rattle.ssh_model.specs.Protocol.Wire.Line.{comment_text, is_text_byte, is_version_byte, line_end}
 use Rattle.ssh_transport_base.specs.Config.{Given, HasLine, IsBadSoftware, IsLineOf, version_text}
 use Rattle.ssh_transport_base.specs.Checks.{are_comments, fits_line, has_line, is_software}
 use Rattle.ssh_transport_base.proofs.Booleans.{both, implied, not_both}

@@ -4,11 +4,11 @@ use Rattle.std.specs.Prelude.{Option, is_none, not, codes, get_or, map}
 use Rattle.std.specs.Option.{option_or}
 use Rattle.std.specs.List.{AllByRecursion, IsDistinct, list_all, list_any}
 use Rattle.std.proofs.lemmas.Bool.{and_parts, cases_Bool, leb-true, le-leb}
-use Rattle.ssh_model.specs.Wire.DataTypes.{is_name}
+use Rattle.ssh_model.specs.Protocol.Wire.DataTypes.{is_name}
 use Rattle.std.proofs.lemmas.List.Folds.{list_all-map, list_all_at}
 use denote.Ref.{Bor}
-use Rattle.ssh_model.specs.Wire.Message.{Extension}
-use Rattle.ssh_model.specs.Wire.Sealing.{Crypto}
+use Rattle.ssh_model.specs.Protocol.Wire.Message.{Extension}
+use Rattle.ssh_model.specs.Protocol.Wire.Sealing.{Crypto}
 use Rattle.ssh_transport_base.specs.declared.config.error.ConfigList.{ConfigList}
 use Rattle.ssh_transport_base.specs.declared.config.error.ConfigList.TheVariants.{Kex, Host, Encryption, Mac, Methods}
 use Rattle.ssh_transport_base.specs.declared.config.error.ListFault.{ListFault}
@@ -16,7 +16,7 @@ use Rattle.ssh_transport_base.specs.declared.config.error.ListFault.TheVariants.
 use Rattle.ssh_transport_base.specs.declared.config.error.ExtensionFault.{ExtensionFault}
 use Rattle.ssh_transport_base.specs.declared.config.error.ExtensionFault.TheVariants.{NotTaken, TooMany as TooManyExtensions, NotName as NotExtensionName, LongValue, NameTwice}
 use Rattle.ssh_transport_base.specs.Config.{AreExtensions, AreGood, AreLists, Given, IsBadExtension, IsBadList, IsEpochLimit, IsKexMethod, IsList, IsTries, IsUserMethod, extension_names, is_same, is_short_value, version_text}
-use Rattle.ssh_model.specs.Wire.Line.{line_end}
+use Rattle.ssh_model.specs.Protocol.Wire.Line.{line_end}
 use Rattle.ssh_transport_base.specs.Checks.{are_distinct, are_good, each_fault, extension_fault, has_line, is_empty, is_epoch_limit, is_kex_method, is_tries, is_user_method, name_fault, number_fault, pair_fault, knows, knows_each, knows_pairs, lists_fault, texts_fault, told_unless}
 use Rattle.ssh_transport_base.proofs.Booleans.{all_pass, both, either, first_of, neither, no_one, not_both, not_true, passes, same_text, second_of, text_same}
 use Rattle.ssh_transport_base.proofs.Lines.{good_line, passes_line}

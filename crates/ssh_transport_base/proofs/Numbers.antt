@@ -1,8 +1,8 @@
 -- The number of a direction before its first NEWKEYS.
 use Rattle.std.proofs.Common.{◌≡◌, ℕ, suc, ◌%◌, ◌^◌, Bool, true, false, List, [], ◌∷◌, length, refl, sym, ap, ◌∙◌}
 use Rattle.std.proofs.Math.Nat.{mod-mod}
-use Rattle.ssh_model.specs.Sessions.Epochs.{count, epoch, wire_number}
-use Rattle.ssh_model.specs.Sessions.Items.{Payload, Payload.NewkeysOf, Payload.OtherOf}
+use Rattle.ssh_model.specs.Protocol.Sessions.Epochs.{count, epoch, wire_number}
+use Rattle.ssh_model.specs.Protocol.Sessions.Items.{Payload, Payload.NewkeysOf, Payload.OtherOf}
 use Rattle.ssh_transport_base.specs.Directions.{Direction, SumsUp}
 
 all_counted : (l : List Payload) → epoch l ≡ 0 → count l ≡ length l

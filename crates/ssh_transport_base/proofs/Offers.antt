@@ -4,11 +4,11 @@ use Rattle.std.specs.Prelude.{codes, if◌then◌else◌, Result, Ok, Err, OnOk}
 use Rattle.std.specs.List.{join_with_byte, list_all}
 use Rattle.std.proofs.lemmas.List.{append-nil}
 use Rattle.std.proofs.lemmas.List.Folds.{list_all-append}
-use Rattle.ssh_model.specs.Wire.DataTypes.{IsByte, IsNameList, IsNameText, IsUint32, IsWrittenBoolean, is_name}
-use Rattle.ssh_model.specs.Side.{Side}
-use Rattle.ssh_model.specs.Wire.Message.{IsCookie, IsEnd, IsWrittenPayload, KexInit, Proposal, Then}
-use Rattle.ssh_model.specs.Sessions.Parties.{Settings, extension_marker_of, first_markers, is_offered, marker_of}
-use Rattle.ssh_model.specs.Wire.Reading.{Writes}
+use Rattle.ssh_model.specs.Protocol.Wire.DataTypes.{IsByte, IsNameList, IsNameText, IsUint32, IsWrittenBoolean, is_name}
+use Rattle.ssh_model.specs.Protocol.Side.{Side}
+use Rattle.ssh_model.specs.Protocol.Wire.Message.{IsCookie, IsEnd, IsWrittenPayload, KexInit, Proposal, Then}
+use Rattle.ssh_model.specs.Protocol.Sessions.Parties.{Settings, extension_marker_of, first_markers, is_offered, marker_of}
+use Rattle.ssh_model.specs.Laws.Reading.{Writes}
 use Rattle.ssh_types.specs.Names.{are_names, names_of}
 use Rattle.ssh_transport_base.specs.Config.{IsList}
 use Rattle.ssh_transport_base.specs.Offers.{offer_with, offered_kex}

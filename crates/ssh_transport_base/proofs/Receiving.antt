@@ -3,12 +3,12 @@ use Rattle.std.proofs.Common.{◌≡◌, ℕ, ◌+◌, ◌-◌, ◌<◌, ◌≤�
 use Rattle.std.specs.Prelude.{Some}
 use Rattle.std.proofs.lemmas.Bool.{cases_lt}
 use Rattle.std.proofs.lemmas.List.{length-take, take-take}
-use Rattle.ssh_model.specs.Wire.DataTypes.{AreBytes}
-use Rattle.ssh_model.specs.Sessions.Refusals as session
-use Rattle.ssh_model.specs.Wire.Outcome.{Outcome.RefusedPacket}
-use Rattle.ssh_model.specs.Wire.Packet.{Blocks}
-use Rattle.ssh_model.specs.Wire.Sealing.{Crypto, IsBegun, IsBegun.no_length, IsBegun.has_length, IsWhole, blocks_under, tag_under}
-use Rattle.ssh_model.specs.Wire.Unit.{HasNumber, IsPacketBegun, PacketUnit, PacketUnit.opens, PacketUnit.bad_length, PacketUnit.spent, PacketUnit.bad_tag, PacketUnit.bad_padding}
+use Rattle.ssh_model.specs.Protocol.Wire.DataTypes.{AreBytes}
+use Rattle.ssh_model.specs.Protocol.Sessions.Refusals as session
+use Rattle.ssh_model.specs.Protocol.Wire.Outcome.{Outcome.RefusedPacket}
+use Rattle.ssh_model.specs.Protocol.Wire.Packet.{Blocks}
+use Rattle.ssh_model.specs.Protocol.Wire.Sealing.{Crypto, IsBegun, IsBegun.no_length, IsBegun.has_length, IsWhole, blocks_under, tag_under}
+use Rattle.ssh_model.specs.Protocol.Wire.Unit.{HasNumber, IsPacketBegun, PacketUnit, PacketUnit.opens, PacketUnit.bad_length, PacketUnit.spent, PacketUnit.bad_tag, PacketUnit.bad_padding}
 use Rattle.ssh_packet.specs.Bytes.{first_bytes, joined_bytes}
 use Rattle.ssh_packet.specs.Reading.{Finds, Reading}
 use Rattle.ssh_packet.specs.Refusals.{packet_refusal}

@@ -2,11 +2,11 @@
 use Rattle.std.specs.Prelude.{ℕ, Bool, true, false, not, nat_le, nat_lt, ◌+◌, ◌&&◌, ◌||◌, if◌then◌else◌, Option, Some, None, is_some, is_none, List, [], ◌∷◌, length, take, drop, codes}
 use Rattle.std.specs.Option.{option_or}
 use Rattle.std.specs.List.{list_all, list_any}
-use Rattle.ssh_model.specs.Wire.DataTypes.{is_name}
-use Rattle.ssh_model.specs.Wire.Line.{is_version_byte, is_text_byte}
-use Rattle.ssh_model.specs.Sessions.Parties.{Strictness}
-use Rattle.ssh_model.specs.Wire.Message.{Extension}
-use Rattle.ssh_model.specs.Wire.Sealing.{Crypto}
+use Rattle.ssh_model.specs.Protocol.Wire.DataTypes.{is_name}
+use Rattle.ssh_model.specs.Protocol.Wire.Line.{is_version_byte, is_text_byte}
+use Rattle.ssh_model.specs.Protocol.Sessions.Parties.{Strictness}
+use Rattle.ssh_model.specs.Protocol.Wire.Message.{Extension}
+use Rattle.ssh_model.specs.Protocol.Wire.Sealing.{Crypto}
 use Rattle.ssh_transport_base.specs.Config.{Given, extension_names, is_same, is_short_value, version_text}
 use Rattle.ssh_transport_base.specs.declared.config.error.ConfigList.{ConfigList}
 use Rattle.ssh_transport_base.specs.declared.config.error.ConfigList.TheVariants.{Kex, Host, Encryption, Mac, Methods}

@@ -2,11 +2,11 @@
 use Rattle.std.specs.Prelude.{◌≡◌, ℕ, ◌≤◌, ◌^◌, ◌⊎◌, Bool, false, nat_eq, nat_le, Option, IsSome, IsTrue, List, [], ◌++◌, length, map, codes}
 use Rattle.std.specs.Cmp.Lexicographic.{pointwise}
 use Rattle.std.specs.List.{Contains, IsDistinct, list_all}
-use Rattle.ssh_model.specs.Wire.DataTypes.{is_name}
-use Rattle.ssh_model.specs.Wire.Line.{IsVersionLine, comment_text, line_end}
-use Rattle.ssh_model.specs.Sessions.Parties.{Settings, Strictness}
-use Rattle.ssh_model.specs.Wire.Message.{Extension}
-use Rattle.ssh_model.specs.Wire.Sealing.{Crypto}
+use Rattle.ssh_model.specs.Protocol.Wire.DataTypes.{is_name}
+use Rattle.ssh_model.specs.Protocol.Wire.Line.{IsVersionLine, comment_text, line_end}
+use Rattle.ssh_model.specs.Protocol.Sessions.Parties.{Settings, Strictness}
+use Rattle.ssh_model.specs.Protocol.Wire.Message.{Extension}
+use Rattle.ssh_model.specs.Protocol.Wire.Sealing.{Crypto}
 
 -- what an end is given
 pub record Given : Type 0 where

@@ -1,12 +1,12 @@
 -- One direction's packets at one end: what the sender and the receiver of them hold.
 use Rattle.std.specs.Prelude.{◌≡◌, ◌≤◌, ◌<◌, ◌+◌, ◌%◌, ◌^◌, ◌==◌, ℕ, Bool, if◌then◌else◌, List, [], ◌∷◌, length, Option, None, Some}
-use Rattle.ssh_model.specs.Wire.DataTypes.{AreBytes}
-pub use Rattle.ssh_model.specs.TransportLayer.Directions.{Direction, SumsUp, counted, new_direction, renewed}
-use Rattle.ssh_model.specs.Sessions.Epochs.{count, epoch, wire_number}
-use Rattle.ssh_model.specs.Sessions.Items as session
-use Rattle.ssh_model.specs.Wire.Outcome.{Outcome.Opens, Outcome.RefusedPacket}
-use Rattle.ssh_model.specs.Wire.Sealing.{Crypto, IsBegun, blocks_under, tag_under}
-use Rattle.ssh_model.specs.Wire.Unit.{IsPacketBegun, PacketUnit}
+use Rattle.ssh_model.specs.Protocol.Wire.DataTypes.{AreBytes}
+pub use Rattle.ssh_model.specs.State.TransportLayer.Directions.{Direction, SumsUp, counted, new_direction, renewed}
+use Rattle.ssh_model.specs.Protocol.Sessions.Epochs.{count, epoch, wire_number}
+use Rattle.ssh_model.specs.Protocol.Sessions.Items as session
+use Rattle.ssh_model.specs.Protocol.Wire.Outcome.{Outcome.Opens, Outcome.RefusedPacket}
+use Rattle.ssh_model.specs.Protocol.Wire.Sealing.{Crypto, IsBegun, blocks_under, tag_under}
+use Rattle.ssh_model.specs.Protocol.Wire.Unit.{IsPacketBegun, PacketUnit}
 use Rattle.ssh_packet.specs.Reading.{Reading}
 use Rattle.ssh_types.specs.Refusals.{refusal_of}
 use Rattle.ssh_types.specs.declared.refusal.Refusal.{Refusal}

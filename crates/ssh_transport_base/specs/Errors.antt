@@ -1,6 +1,6 @@
 -- The numbers and names of the refusals, and when each answer comes.
 use Rattle.std.specs.Prelude.{◌≡◌, ℕ, List, Some, codes}
-use Rattle.ssh_model.specs.Wire.Sealing.{Crypto}
+use Rattle.ssh_model.specs.Protocol.Wire.Sealing.{Crypto}
 use Rattle.ssh_transport_base.specs.declared.config.error.ConfigRefusal.{ConfigRefusal}
 use Rattle.ssh_transport_base.specs.declared.config.error.ConfigRefusal.TheVariants.{BadSoftware, BadList, BadLimit, BadExtension}
 use Rattle.ssh_transport_base.specs.declared.config.error.ConfigError.{ConfigError}

@@ -1,6 +1,6 @@
 -- What a config stands for.
 use Rattle.ssh_transport_base.specs.declared.config.Config.{Config}
-use Rattle.ssh_model.specs.Sessions.Parties.{Settings}
+use Rattle.ssh_model.specs.Protocol.Sessions.Parties.{Settings}
 use Rattle.ssh_transport_base.specs.Config.{Given, settings_given}
 use Rattle.ssh_transport_base.specs.Checks.{kept}
 use Rattle.ssh_transport_base.specs.Values.{strictness_of}

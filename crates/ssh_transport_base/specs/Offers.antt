@@ -1,8 +1,8 @@
 -- What an end offers in a KEXINIT of its own (RFC 4253 section 7.1), from its settings.
 use Rattle.std.specs.Prelude.{ℕ, Bool, false, if◌then◌else◌, List, [], ◌∷◌, ◌++◌, codes}
-use Rattle.ssh_model.specs.Side.{Side}
-use Rattle.ssh_model.specs.Wire.Message.{Proposal}
-use Rattle.ssh_model.specs.Sessions.Parties.{Settings, first_markers}
+use Rattle.ssh_model.specs.Protocol.Side.{Side}
+use Rattle.ssh_model.specs.Protocol.Wire.Message.{Proposal}
+use Rattle.ssh_model.specs.Protocol.Sessions.Parties.{Settings, first_markers}
 
 -- The markers of extensions and of strict key exchange stand last in the first KEXINIT and in no later one.
 abbrev pub offered_kex : Settings → Side → (first : Bool) → List (List ℕ)

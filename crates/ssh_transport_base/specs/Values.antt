@@ -2,7 +2,7 @@
 use Rattle.std.specs.Prelude.{map}
 use Rattle.std.specs.Option.{option_copied}
 use Rattle.ssh_message.specs.Announced.{extension_of}
-use Rattle.ssh_model.specs.Sessions.Parties as model
+use Rattle.ssh_model.specs.Protocol.Sessions.Parties as model
 use Rattle.ssh_transport_base.specs.declared.config.strictness.Strictness.{Strictness}
 use Rattle.ssh_transport_base.specs.declared.config.strictness.Strictness.TheVariants.{Require, Offer, Off}
 use Rattle.ssh_transport_base.specs.declared.config.settings.Settings.{Settings}

@@ -1,10 +1,10 @@
 //! What an end offers in a KEXINIT of its own.
 
 ghost use Rattle.std.specs.Prelude.{◌≡◌, ◌<◌, ◌≤◌, ◌+◌, ◌^◌, ◌++◌, ◌∷◌, [], Bool, if◌then◌else◌, IfOk, IsTrue, List, OnErr, OnOk, codes, length, ℕ};
-ghost use Rattle.ssh_model.specs.Side as model;
-ghost use Rattle.ssh_model.specs.Wire.Message.{IsWrittenPayload, KexInit};
-ghost use Rattle.ssh_model.specs.Sessions.Parties.{Parties, offer, settings_of as settings_at};
-ghost use Rattle.ssh_model.specs.Wire.Reading.{Writes};
+ghost use Rattle.ssh_model.specs.Protocol.Side as model;
+ghost use Rattle.ssh_model.specs.Protocol.Wire.Message.{IsWrittenPayload, KexInit};
+ghost use Rattle.ssh_model.specs.Protocol.Sessions.Parties.{Parties, offer, settings_of as settings_at};
+ghost use Rattle.ssh_model.specs.Laws.Reading.{Writes};
 ghost use Rattle.ssh_message.specs.Meaning.{proposal_meaning};
 ghost use Rattle.ssh_message.specs.Written.{ProposalFits};
 ghost use Rattle.ssh_types.specs.Sides.{side_of};
@@ -25,7 +25,7 @@ pub fn offer_of_settings<K>()
     ensures { (p : Parties K) (side : model.Side) (first : Bool) (cookie : List ℕ) → offer p side first cookie ≡ offer_of (settings_at p side) side first cookie }
 {}
 
-/// Puts the payload of a KEXINIT of this end behind `out` (RFC 4253 section 7.1): the names of its config in both
+/// Puts the payload of a KEXINIT of this end after `out` (RFC 4253 section 7.1): the names of its config in both
 /// directions, no compression, no languages and no guess. The first one has its markers last in its kex list: that of
 /// extensions where the end takes some, and then that of strict key exchange where the end offers it. It has at most 34,000
 /// bytes.

@@ -2,11 +2,11 @@
 use Rattle.std.proofs.Common.{◌≡◌, ◌≤◌, ◌<◌, ◌+◌, ◌*◌, ◌^◌, ◌==◌, ℕ, Bool, true, false, ◌&&◌, List, [], ◌∷◌, length, arith, refl, subst, leb-true, Some, None}
 use Rattle.std.specs.Prelude.{nat_le}
 use Rattle.std.specs.List.{count_by, list_all}
-use Rattle.ssh_model.specs.Wire.DataTypes.{is_name, is_name_byte}
-use Rattle.ssh_model.specs.Wire.Message.{Msg, Msg.ExtInfo, Extension, IsExtensions, IsWrittenPayload}
-use Rattle.ssh_model.specs.Wire.Sizes.{HasPayloadSize, extensions_size, payload_size}
-use Rattle.ssh_model.specs.Sessions.TurnClaims.{HasSpelling}
-use Rattle.ssh_model.specs.TransportLayer.Kept.{Transport, is_announcing}
+use Rattle.ssh_model.specs.Protocol.Wire.DataTypes.{is_name, is_name_byte}
+use Rattle.ssh_model.specs.Protocol.Wire.Message.{Msg, Msg.ExtInfo, Extension, IsExtensions, IsWrittenPayload}
+use Rattle.ssh_model.specs.Laws.Sizes.{HasPayloadSize, extensions_size, payload_size}
+use Rattle.ssh_model.specs.Protocol.Sessions.TurnClaims.{HasSpelling}
+use Rattle.ssh_model.specs.State.TransportLayer.Kept.{Transport, is_announcing}
 use Rattle.ssh_model.specs.Laws.Written.{Made, byte, ended, spelled, string, uint32}
 use Rattle.ssh_transport_base.specs.Config.{AreExtensions, Given, extension_names, is_short_value}
 use Rattle.ssh_transport_machine.specs.Finishing.{HasAnnouncement, IsDue}

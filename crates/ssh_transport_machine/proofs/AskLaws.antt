@@ -1,16 +1,16 @@
 -- What a machine does on an ask is a turn of a session.
 use Rattle.std.proofs.Common.{◌≡◌, ℕ, ◌^◌, List, [], ◌∷◌, ap, sym, ◌∙◌, subst, true, false, Some, None, append-nil}
-use Rattle.ssh_model.specs.Side.{Side}
-use Rattle.ssh_model.specs.Wire.Message.{Msg, Msg.Disconnect}
-use Rattle.ssh_model.specs.Sessions.Items.{Ask, Ask.AskDisconnect, Item, Item.Asked, Item.Died, Item.Sent, Spelled.SpelledBy}
-use Rattle.ssh_model.specs.Sessions.Parties.{Parties}
-use Rattle.ssh_model.specs.Sessions.Refusals as model
-use Rattle.ssh_model.specs.Sessions.Refusals.{first_refusal}
-use Rattle.ssh_model.specs.Sessions.Turns.{IsSpelled}
+use Rattle.ssh_model.specs.Protocol.Side.{Side}
+use Rattle.ssh_model.specs.Protocol.Wire.Message.{Msg, Msg.Disconnect}
+use Rattle.ssh_model.specs.Protocol.Sessions.Items.{Ask, Ask.AskDisconnect, Item, Item.Asked, Item.Died, Item.Sent, Spelled.SpelledBy}
+use Rattle.ssh_model.specs.Protocol.Sessions.Parties.{Parties}
+use Rattle.ssh_model.specs.Protocol.Sessions.Refusals as model
+use Rattle.ssh_model.specs.Protocol.Sessions.Refusals.{first_refusal}
+use Rattle.ssh_model.specs.Protocol.Sessions.Turns.{IsSpelled}
 use Rattle.ssh_model.specs.Laws.Farewells.{farewell_spelled}
-use Rattle.ssh_model.specs.TransportLayer.Kept.{Asks, Transport, message_ask_checks}
-use Rattle.ssh_model.specs.TransportLayer.Summary.{SumsUp}
-use Rattle.ssh_model.specs.TransportLayer.Turns.{AskTurned, IsTransportAsk, PutsPackets}
+use Rattle.ssh_model.specs.State.TransportLayer.Kept.{Asks, Transport, message_ask_checks}
+use Rattle.ssh_model.specs.State.TransportLayer.Summary.{SumsUp}
+use Rattle.ssh_model.specs.State.TransportLayer.Turns.{AskTurned, IsTransportAsk, PutsPackets}
 use Rattle.ssh_types.specs.AskRefusals.{ask_refusal_of}
 use Rattle.ssh_types.specs.declared.ask_refusal.AskRefusal.{AskRefusal}
 use Rattle.ssh_transport_machine.specs.Asking as asking

@@ -1,17 +1,17 @@
 -- Where the peer's next message of an exchange is awaited, there is a choice by its KEXINIT: this goes on holding.
 use Rattle.std.proofs.Common.{◌≡◌, ℕ, ◌-◌, List, [], ◌∷◌, refl, ap, sym, ◌∙◌, subst, Bool, true, false, not, Some, None}
 use Rattle.std.proofs.lemmas.Bool.{false≢true}
-use Rattle.ssh_model.specs.Side.{Side}
-use Rattle.ssh_model.specs.Wire.Message.{Msg, Msg.KexInit, IsPayload, Proposal}
-use Rattle.ssh_model.specs.Wire.Sealing.{Crypto}
-use Rattle.ssh_model.specs.Sessions.Items.{Ask}
-use Rattle.ssh_model.specs.Sessions.Parties.{Settings, lists_of}
-use Rattle.ssh_model.specs.Sessions.Phases as model
-use Rattle.ssh_model.specs.Sessions.Refusals.{Check, Check.RefusedWhere, Refusal, Refusal.NotStrict, Refusal.Unexpected, Refusal.NoCommon, Refusal.NoMaterial, first_refusal}
-use Rattle.ssh_model.specs.TransportLayer.Directions.{Direction}
-use Rattle.ssh_model.specs.TransportLayer.Kept as kept
-use Rattle.ssh_model.specs.TransportLayer.Kept.{Asks, Transport, after_fed, after_own_kexinit, after_sent, has_choice_with, own_offer}
-use Rattle.ssh_model.specs.TransportLayer.Summary.{is_agreeing}
+use Rattle.ssh_model.specs.Protocol.Side.{Side}
+use Rattle.ssh_model.specs.Protocol.Wire.Message.{Msg, Msg.KexInit, IsPayload, Proposal}
+use Rattle.ssh_model.specs.Protocol.Wire.Sealing.{Crypto}
+use Rattle.ssh_model.specs.Protocol.Sessions.Items.{Ask}
+use Rattle.ssh_model.specs.Protocol.Sessions.Parties.{Settings, lists_of}
+use Rattle.ssh_model.specs.Protocol.Sessions.Phases as model
+use Rattle.ssh_model.specs.Protocol.Sessions.Refusals.{Check, Check.RefusedWhere, Refusal, Refusal.NotStrict, Refusal.Unexpected, Refusal.NoCommon, Refusal.NoMaterial, first_refusal}
+use Rattle.ssh_model.specs.State.TransportLayer.Directions.{Direction}
+use Rattle.ssh_model.specs.State.TransportLayer.Kept as kept
+use Rattle.ssh_model.specs.State.TransportLayer.Kept.{Asks, Transport, after_fed, after_own_kexinit, after_sent, has_choice_with, own_offer}
+use Rattle.ssh_model.specs.State.TransportLayer.Summary.{is_agreeing}
 use Rattle.ssh_transport_base.specs.Directions.{Receives}
 use Rattle.ssh_transport_base.specs.declared.packets.step.PacketStep.{PacketStep}
 use Rattle.ssh_transport_base.specs.declared.packets.step.PacketStep.TheVariants as step

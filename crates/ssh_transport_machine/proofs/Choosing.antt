@@ -3,13 +3,13 @@ use Rattle.std.proofs.Common.{◌≡◌, ◌<◌, ℕ, List, ◌∷◌, ◌++◌
 use Rattle.std.specs.Prelude.{IsSome}
 use Rattle.std.specs.List.{Contains}
 use Rattle.std.proofs.lemmas.List.Elements.{Contains-append_right}
-use Rattle.ssh_model.specs.Side.{Side, Side.Client, Side.Server}
-use Rattle.ssh_model.specs.Wire.Message.{Msg, Msg.KexInit, Proposal}
-use Rattle.ssh_model.specs.Wire.Sealing.{Crypto}
-use Rattle.ssh_model.specs.KeyExchange.Choice.{Chosen, IsFirstCommon, Lists}
-use Rattle.ssh_model.specs.KeyExchange.Exchanges.{no_offer}
-use Rattle.ssh_model.specs.Sessions.Parties.{Settings, lists_of}
-use Rattle.ssh_model.specs.TransportLayer.Kept.{Transport, own_offer}
+use Rattle.ssh_model.specs.Protocol.Side.{Side, Side.Client, Side.Server}
+use Rattle.ssh_model.specs.Protocol.Wire.Message.{Msg, Msg.KexInit, Proposal}
+use Rattle.ssh_model.specs.Protocol.Wire.Sealing.{Crypto}
+use Rattle.ssh_model.specs.Protocol.KeyExchange.Choice.{Chosen, IsFirstCommon, Lists}
+use Rattle.ssh_model.specs.Protocol.KeyExchange.Exchanges.{no_offer}
+use Rattle.ssh_model.specs.Protocol.Sessions.Parties.{Settings, lists_of}
+use Rattle.ssh_model.specs.State.TransportLayer.Kept.{Transport, own_offer}
 use Rattle.ssh_transport_base.specs.Config.{AreLists, Given, settings_given}
 use Rattle.ssh_transport_machine.specs.Finishing.{AreKnown, HasChoice, IsChoiceOf, is_choice_with}
 

@@ -1,18 +1,18 @@
 -- Where a machine answers that memory was refused, something would be sent in a session.
 use Rattle.std.proofs.Common.{◌≡◌, ℕ, ◌^◌, ◌<◌, ◌≤◌, List, [], ◌∷◌, refl, ap, sym, ◌∙◌, subst, arith, true, false, Some, None}
 use Rattle.std.specs.Prelude.{IsSome}
-use Rattle.ssh_model.specs.Side.{Side, Side.Server}
-use Rattle.ssh_model.specs.Wire.Message.{Msg, Msg.KexInit, Msg.ServiceAccept, Msg.Unimplemented, IsPayload}
-use Rattle.ssh_model.specs.KeyExchange.Exchanges.{Material, none_chosen}
-use Rattle.ssh_model.specs.Sessions.Items.{Item, Spelled.SpelledBy}
-use Rattle.ssh_model.specs.Sessions.Parties.{Parties, agreement_of, offer_of}
-use Rattle.ssh_model.specs.Sessions.Refusals as model
-use Rattle.ssh_model.specs.Sessions.Refusals.{first_refusal, refusal_reason}
-use Rattle.ssh_model.specs.Sessions.TurnClaims.{HasSpelling}
-use Rattle.ssh_model.specs.Sessions.Turns.{number_of}
-use Rattle.ssh_model.specs.TransportLayer.Kept.{Answered, Takes, Transport, after_taken, message_checks, sends, takes, takes_in}
-use Rattle.ssh_model.specs.TransportLayer.Summary.{IsAwaited, SumsUp}
-use Rattle.ssh_model.specs.TransportLayer.Turns.{Reads}
+use Rattle.ssh_model.specs.Protocol.Side.{Side, Side.Server}
+use Rattle.ssh_model.specs.Protocol.Wire.Message.{Msg, Msg.KexInit, Msg.ServiceAccept, Msg.Unimplemented, IsPayload}
+use Rattle.ssh_model.specs.Protocol.KeyExchange.Exchanges.{Material, none_chosen}
+use Rattle.ssh_model.specs.Protocol.Sessions.Items.{Item, Spelled.SpelledBy}
+use Rattle.ssh_model.specs.Protocol.Sessions.Parties.{Parties, agreement_of, offer_of}
+use Rattle.ssh_model.specs.Protocol.Sessions.Refusals as model
+use Rattle.ssh_model.specs.Protocol.Sessions.Refusals.{first_refusal, refusal_reason}
+use Rattle.ssh_model.specs.Protocol.Sessions.TurnClaims.{HasSpelling}
+use Rattle.ssh_model.specs.Protocol.Sessions.Turns.{number_of}
+use Rattle.ssh_model.specs.State.TransportLayer.Kept.{Answered, Takes, Transport, after_taken, message_checks, sends, takes, takes_in}
+use Rattle.ssh_model.specs.State.TransportLayer.Summary.{IsAwaited, SumsUp}
+use Rattle.ssh_model.specs.State.TransportLayer.Turns.{Reads}
 use Rattle.ssh_model.specs.Laws.Farewells.{farewell_of}
 use Rattle.ssh_model.specs.Laws.Written.{unimplemented_spelled}
 use Rattle.ssh_types.specs.Refusals.{refusal_of}

@@ -1,13 +1,13 @@
 -- A secret counts no more once its exchange is over.
 use Rattle.std.proofs.Common.{◌≡◌, ℕ, List, refl, sym, ◌∙◌, Bool, true, false}
-use Rattle.ssh_model.specs.Side.{Side, Side.Client, Side.Server}
-use Rattle.ssh_model.specs.Sessions.Parties.{Parties, point_by}
-use Rattle.ssh_model.specs.Sessions.Phases.{Phase}
-use Rattle.ssh_model.specs.Sessions.Items.{Item}
-use Rattle.ssh_model.specs.KeyExchange.Exchanges.{Reply}
-use Rattle.ssh_model.specs.TransportLayer.Kept.{Transport}
-use Rattle.ssh_model.specs.TransportLayer.Summary.{ClientPoints, Live, PointsSumUp, SumsUp, is_agreeing}
-use Rattle.ssh_model.specs.TransportLayer.View.{View, view}
+use Rattle.ssh_model.specs.Protocol.Side.{Side, Side.Client, Side.Server}
+use Rattle.ssh_model.specs.Protocol.Sessions.Parties.{Parties, point_by}
+use Rattle.ssh_model.specs.Protocol.Sessions.Phases.{Phase}
+use Rattle.ssh_model.specs.Protocol.Sessions.Items.{Item}
+use Rattle.ssh_model.specs.Protocol.KeyExchange.Exchanges.{Reply}
+use Rattle.ssh_model.specs.State.TransportLayer.Kept.{Transport}
+use Rattle.ssh_model.specs.State.TransportLayer.Summary.{ClientPoints, Live, PointsSumUp, SumsUp, is_agreeing}
+use Rattle.ssh_model.specs.State.TransportLayer.View.{View, view}
 use Rattle.ssh_transport_machine.specs.Finishing.{forgotten}
 
 points_go_on : {K : Type 0} (p : Parties K) (side : Side) (gone : ℕ) (phase : Phase) (own_points their_points : List (List ℕ)) (own_replies their_replies : List Reply) (secret other : List ℕ) →

@@ -1,13 +1,13 @@
 -- NEWKEYS, and what stands before and after it.
 use Rattle.std.proofs.Common.{◌≡◌, ℕ, List, [], ◌∷◌, ◌++◌, refl, ap, sym, ◌∙◌, append-nil, append_assoc, subst, Option, Some, None}
-use Rattle.ssh_model.specs.Wire.Message.{Msg, Msg.ExtInfo, Msg.NewKeys}
-use Rattle.ssh_model.specs.Wire.Sealing.{Crypto}
-use Rattle.ssh_model.specs.Sessions.Items.{Spelled, Spelled.SpelledBy}
-use Rattle.ssh_model.specs.Sessions.Turns.{IsSpelled}
-use Rattle.ssh_model.specs.TransportLayer.Directions.{counted, renewed}
-use Rattle.ssh_model.specs.TransportLayer.Kept.{Transport, after_sent}
-use Rattle.ssh_model.specs.TransportLayer.Turns.{PutsPackets}
-use Rattle.ssh_model.specs.TransportLayer.Turns as turns
+use Rattle.ssh_model.specs.Protocol.Wire.Message.{Msg, Msg.ExtInfo, Msg.NewKeys}
+use Rattle.ssh_model.specs.Protocol.Wire.Sealing.{Crypto}
+use Rattle.ssh_model.specs.Protocol.Sessions.Items.{Spelled, Spelled.SpelledBy}
+use Rattle.ssh_model.specs.Protocol.Sessions.Turns.{IsSpelled}
+use Rattle.ssh_model.specs.State.TransportLayer.Directions.{counted, renewed}
+use Rattle.ssh_model.specs.State.TransportLayer.Kept.{Transport, after_sent}
+use Rattle.ssh_model.specs.State.TransportLayer.Turns.{PutsPackets}
+use Rattle.ssh_model.specs.State.TransportLayer.Turns as turns
 use Rattle.ssh_transport_machine.specs.Finishing.{Finishes, IsAnnouncement, announced_by, forgotten, keyed}
 use Rattle.ssh_transport_machine.specs.Puts.{PutsPayload, Sends, payloads_of}
 use Rattle.ssh_transport_machine.specs.State.{State}

@@ -1,11 +1,11 @@
 -- What a KEXINIT is refused for, by four tests.
 use Rattle.std.proofs.Common.{◌≡◌, [], ◌∷◌, refl, sym, ◌∙◌, Bool, true, false, not, ◌&&◌, ◌==◌, is_some, Some, None, Option}
 use Rattle.std.specs.Prelude.{nat_lt}
-use Rattle.ssh_model.specs.Wire.Message.{Proposal}
-use Rattle.ssh_model.specs.Sessions.Refusals.{Check.RefusedWhere, first_refusal, Refusal, Refusal.NotStrict, Refusal.Unexpected, Refusal.NoCommon}
-use Rattle.ssh_model.specs.Sessions.Parties.{is_required, lists_of}
-use Rattle.ssh_model.specs.Sessions.Transport.{is_marked}
-use Rattle.ssh_model.specs.TransportLayer.Kept.{Transport, becomes_strict, has_choice_with, offer_checks, own_offer}
+use Rattle.ssh_model.specs.Protocol.Wire.Message.{Proposal}
+use Rattle.ssh_model.specs.Protocol.Sessions.Refusals.{Check.RefusedWhere, first_refusal, Refusal, Refusal.NotStrict, Refusal.Unexpected, Refusal.NoCommon}
+use Rattle.ssh_model.specs.Protocol.Sessions.Parties.{is_required, lists_of}
+use Rattle.ssh_model.specs.Protocol.Sessions.Transport.{is_marked}
+use Rattle.ssh_model.specs.State.TransportLayer.Kept.{Transport, becomes_strict, has_choice_with, offer_checks, own_offer}
 
 of_four : (lacks late can wants : Bool) → Option Refusal
 of_four lacks late can wants = first_refusal (RefusedWhere lacks NotStrict ∷ RefusedWhere late Unexpected ∷ RefusedWhere (not can) NoCommon ∷ RefusedWhere wants Refusal.NoMaterial ∷ [])

@@ -1,25 +1,25 @@
 -- What a machine does with a payload is a turn of a session.
 use Rattle.std.proofs.Common.{◌≡◌, ℕ, zero, suc, ◌+◌, ◌-◌, ◌%◌, ◌^◌, ◌<◌, ◌≤◌, List, [], ◌∷◌, ◌++◌, length, refl, ap, sym, ◌∙◌, subst, arith, Bool, true, false, not, ◌&&◌, ◌||◌, ◌==◌, nat_eq, eqb-true, Some, None, append-nil}
 use Rattle.std.specs.Prelude.{codes}
-use Rattle.ssh_model.specs.Side.{Side, Side.Client, Side.Server}
-use Rattle.ssh_model.specs.Wire.MacOnly.{is_text}
-use Rattle.ssh_model.specs.Wire.Message.{Msg, Msg.Disconnect, Msg.KexInit, Msg.ServiceAccept, Msg.Unimplemented, IsPayload, Proposal, message_number}
-use Rattle.ssh_model.specs.Wire.Sealing.{Crypto}
-use Rattle.ssh_model.specs.KeyExchange.Choice.{Chosen}
-use Rattle.ssh_model.specs.KeyExchange.Exchanges.{none_chosen}
-use Rattle.ssh_model.specs.Sessions.Items.{Fact.Disconnected, Fact.Ignored, Item, Item.Died, Item.Told, Item.Took, Item.TookGuess, Spelled, Spelled.SpelledBy}
-use Rattle.ssh_model.specs.Sessions.Parties.{Agreement, Parties, agreement_of, is_required, offer_of}
-use Rattle.ssh_model.specs.Sessions.Phases as model
-use Rattle.ssh_model.specs.Sessions.Phases.{is_allowed_at_first, is_allowed_during_exchange, is_general, is_spare}
-use Rattle.ssh_model.specs.Sessions.TurnClaims.{HasSpelling}
+use Rattle.ssh_model.specs.Protocol.Side.{Side, Side.Client, Side.Server}
+use Rattle.ssh_model.specs.Protocol.Wire.MacOnly.{is_text}
+use Rattle.ssh_model.specs.Protocol.Wire.Message.{Msg, Msg.Disconnect, Msg.KexInit, Msg.ServiceAccept, Msg.Unimplemented, IsPayload, Proposal, message_number}
+use Rattle.ssh_model.specs.Protocol.Wire.Sealing.{Crypto}
+use Rattle.ssh_model.specs.Protocol.KeyExchange.Choice.{Chosen}
+use Rattle.ssh_model.specs.Protocol.KeyExchange.Exchanges.{none_chosen}
+use Rattle.ssh_model.specs.Protocol.Sessions.Items.{Fact.Disconnected, Fact.Ignored, Item, Item.Died, Item.Told, Item.Took, Item.TookGuess, Spelled, Spelled.SpelledBy}
+use Rattle.ssh_model.specs.Protocol.Sessions.Parties.{Agreement, Parties, agreement_of, is_required, offer_of}
+use Rattle.ssh_model.specs.Protocol.Sessions.Phases as model
+use Rattle.ssh_model.specs.Protocol.Sessions.Phases.{is_allowed_at_first, is_allowed_during_exchange, is_general, is_spare}
+use Rattle.ssh_model.specs.Protocol.Sessions.TurnClaims.{HasSpelling}
 use Rattle.ssh_model.specs.Laws.Written.{service_accept_spelled, unimplemented_spelled}
-use Rattle.ssh_model.specs.Sessions.Refusals.{Refusal, Check.RefusedWhere, Refusal.NoService, Refusal.NumberSpent, Refusal.Unexpected, first_refusal}
-use Rattle.ssh_model.specs.Sessions.Turns.{AreSpelled, IsSpelled, number_of}
-use Rattle.ssh_model.specs.TransportLayer.Kept.{Answered, Takes, Transport, after_guess, after_own_kexinit, after_sent, after_taken, is_between, message_checks, sends, takes, takes_announced, takes_in, takes_service}
-use Rattle.ssh_model.specs.TransportLayer.Directions.{Direction, renewed}
-use Rattle.ssh_model.specs.TransportLayer.Summary.{IsAwaited, IsTransportMessage, SumsUp, answer_items, items_sent}
-use Rattle.ssh_model.specs.TransportLayer.Turns as turns
-use Rattle.ssh_model.specs.TransportLayer.Turns.{IsRefused, PutsPackets, Reads, SaysWhy, Turned, refusal_items}
+use Rattle.ssh_model.specs.Protocol.Sessions.Refusals.{Refusal, Check.RefusedWhere, Refusal.NoService, Refusal.NumberSpent, Refusal.Unexpected, first_refusal}
+use Rattle.ssh_model.specs.Protocol.Sessions.Turns.{AreSpelled, IsSpelled, number_of}
+use Rattle.ssh_model.specs.State.TransportLayer.Kept.{Answered, Takes, Transport, after_guess, after_own_kexinit, after_sent, after_taken, is_between, message_checks, sends, takes, takes_announced, takes_in, takes_service}
+use Rattle.ssh_model.specs.State.TransportLayer.Directions.{Direction, renewed}
+use Rattle.ssh_model.specs.State.TransportLayer.Summary.{IsAwaited, IsTransportMessage, SumsUp, answer_items, items_sent}
+use Rattle.ssh_model.specs.State.TransportLayer.Turns as turns
+use Rattle.ssh_model.specs.State.TransportLayer.Turns.{IsRefused, PutsPackets, Reads, SaysWhy, Turned, refusal_items}
 use Rattle.ssh_types.specs.Refusals.{refusal_of}
 use Rattle.ssh_types.specs.declared.refusal.Refusal as types
 use Rattle.ssh_transport_machine.specs.Judging.{IsAcceptJudged, IsRequestJudged, MessageJudged, PayloadJudged}

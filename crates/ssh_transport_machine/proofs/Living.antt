@@ -1,17 +1,17 @@
 -- What holds of a machine that is not over goes on holding.
 use Rattle.std.proofs.Common.{◌≡◌, ℕ, ◌+◌, ◌-◌, ◌^◌, ◌≤◌, List, refl, ap, sym, ◌∙◌, subst, arith, Bool, true, false, Option, Some, None, is_some, nat_lt, not, ◌&&◌, ◌<◌}
 use Rattle.std.proofs.lemmas.Bool.{false≢true}
-use Rattle.ssh_model.specs.Side.{Side}
-use Rattle.ssh_model.specs.Wire.Message.{Msg}
-use Rattle.ssh_model.specs.Wire.Sealing.{Crypto}
-use Rattle.ssh_model.specs.KeyExchange.Exchanges.{Material}
-use Rattle.ssh_model.specs.Sessions.Items.{Ask}
-use Rattle.ssh_model.specs.Sessions.Parties.{Settings}
-use Rattle.ssh_model.specs.Sessions.Phases as model
-use Rattle.ssh_model.specs.TransportLayer.Directions.{Direction}
-use Rattle.ssh_model.specs.TransportLayer.Kept as kept
-use Rattle.ssh_model.specs.TransportLayer.Kept.{Asks, Transport, after_fed, after_own_kexinit, after_sent, can_be_fed}
-use Rattle.ssh_model.specs.TransportLayer.Summary.{bit, is_keying}
+use Rattle.ssh_model.specs.Protocol.Side.{Side}
+use Rattle.ssh_model.specs.Protocol.Wire.Message.{Msg}
+use Rattle.ssh_model.specs.Protocol.Wire.Sealing.{Crypto}
+use Rattle.ssh_model.specs.Protocol.KeyExchange.Exchanges.{Material}
+use Rattle.ssh_model.specs.Protocol.Sessions.Items.{Ask}
+use Rattle.ssh_model.specs.Protocol.Sessions.Parties.{Settings}
+use Rattle.ssh_model.specs.Protocol.Sessions.Phases as model
+use Rattle.ssh_model.specs.State.TransportLayer.Directions.{Direction}
+use Rattle.ssh_model.specs.State.TransportLayer.Kept as kept
+use Rattle.ssh_model.specs.State.TransportLayer.Kept.{Asks, Transport, after_fed, after_own_kexinit, after_sent, can_be_fed}
+use Rattle.ssh_model.specs.State.TransportLayer.Summary.{bit, is_keying}
 use Rattle.ssh_transport_base.specs.Directions.{Receiver, Receives}
 use Rattle.ssh_transport_base.specs.declared.packets.step.PacketStep.{PacketStep}
 use Rattle.ssh_transport_base.specs.declared.packets.step.PacketStep.TheVariants as step

@@ -1,9 +1,9 @@
 -- NEWKEYS is awaited where it is taken.
 use Rattle.std.proofs.Common.{◌≡◌, ℕ, List, ◌++◌, ap, ◌∙◌, subst, true, false}
-use Rattle.ssh_model.specs.Wire.Message.{Msg, Msg.NewKeys, IsPayload}
-use Rattle.ssh_model.specs.Sessions.Phases as model
-use Rattle.ssh_model.specs.Sessions.Turns.{number_of}
-use Rattle.ssh_model.specs.TransportLayer.Kept.{Transport, takes_in}
+use Rattle.ssh_model.specs.Protocol.Wire.Message.{Msg, Msg.NewKeys, IsPayload}
+use Rattle.ssh_model.specs.Protocol.Sessions.Phases as model
+use Rattle.ssh_model.specs.Protocol.Sessions.Turns.{number_of}
+use Rattle.ssh_model.specs.State.TransportLayer.Kept.{Transport, takes_in}
 use Rattle.ssh_transport_base.specs.Directions.{newkeys}
 use Rattle.ssh_transport_machine.specs.Judging.{MessageJudged, PayloadJudged}
 use Rattle.ssh_transport_machine.specs.Judging as judging

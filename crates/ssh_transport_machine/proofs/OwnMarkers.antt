@@ -2,11 +2,11 @@
 use Rattle.std.proofs.Common.{◌≡◌, ℕ, suc, List, [], ◌∷◌, ◌++◌, inl, inr, refl, sym, ◌∙◌, subst, arith, Bool, true, false, cond, Some, is_some}
 use Rattle.std.specs.Prelude.{codes}
 use Rattle.std.specs.List.{Contains, find}
-use Rattle.ssh_model.specs.Side.{Side, Side.Client, Side.Server}
-use Rattle.ssh_model.specs.Wire.MacOnly.{is_text}
-use Rattle.ssh_model.specs.KeyExchange.Exchanges.{has_marker}
-use Rattle.ssh_model.specs.Sessions.Parties.{Settings, Strictness, Strictness.Require, Strictness.Offer, Strictness.Off, extension_marker_of, first_markers, is_offered, marker_of}
-use Rattle.ssh_model.specs.TransportLayer.Kept.{first_kex}
+use Rattle.ssh_model.specs.Protocol.Side.{Side, Side.Client, Side.Server}
+use Rattle.ssh_model.specs.Protocol.Wire.MacOnly.{is_text}
+use Rattle.ssh_model.specs.Protocol.KeyExchange.Exchanges.{has_marker}
+use Rattle.ssh_model.specs.Protocol.Sessions.Parties.{Settings, Strictness, Strictness.Require, Strictness.Offer, Strictness.Off, extension_marker_of, first_markers, is_offered, marker_of}
+use Rattle.ssh_model.specs.State.TransportLayer.Kept.{first_kex}
 use Rattle.ssh_transport_base.specs.Config.{IsKexMethod}
 
 AreMethods : List (List ℕ) → Type 0

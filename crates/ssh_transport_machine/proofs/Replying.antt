@@ -1,23 +1,23 @@
 -- What the rows of a machine do, from what its calls do.
 use Rattle.std.proofs.Common.{◌≡◌, ℕ, ◌+◌, ◌^◌, ◌<◌, ◌≤◌, List, [], ◌∷◌, refl, ap, subst, ◌∙◌, arith, Bool, true, false, not, ◌&&◌, ◌||◌, ◌==◌, ◌-◌, Option, Some, None, is_some}
 use Rattle.std.specs.Prelude.{Result, Ok, Err, IfOk, OnErr, codes}
-use Rattle.ssh_model.specs.Side.{Side, Side.Client, Side.Server}
-use Rattle.ssh_model.specs.Wire.Message.{Msg, Msg.KexInit, Msg.ServiceRequest}
-use Rattle.ssh_model.specs.Wire.Sealing.{Crypto}
-use Rattle.ssh_model.specs.KeyExchange.Exchanges.{Material}
-use Rattle.ssh_model.specs.Sessions.Items.{Ask.AskRekey, Ask.AskService}
-use Rattle.ssh_model.specs.Sessions.Parties.{offer_of}
-use Rattle.ssh_model.specs.Sessions.Phases as model
-use Rattle.ssh_model.specs.Sessions.Phases.{is_client, is_normal}
-use Rattle.ssh_model.specs.Sessions.Refusals as refusals
-use Rattle.ssh_model.specs.Sessions.Refusals.{Check.RefusedWhere, first_refusal}
-use Rattle.ssh_model.specs.TransportLayer.Directions.{Direction, renewed}
-use Rattle.ssh_model.specs.Sessions.TurnClaims.{HasSpelling}
+use Rattle.ssh_model.specs.Protocol.Side.{Side, Side.Client, Side.Server}
+use Rattle.ssh_model.specs.Protocol.Wire.Message.{Msg, Msg.KexInit, Msg.ServiceRequest}
+use Rattle.ssh_model.specs.Protocol.Wire.Sealing.{Crypto}
+use Rattle.ssh_model.specs.Protocol.KeyExchange.Exchanges.{Material}
+use Rattle.ssh_model.specs.Protocol.Sessions.Items.{Ask.AskRekey, Ask.AskService}
+use Rattle.ssh_model.specs.Protocol.Sessions.Parties.{offer_of}
+use Rattle.ssh_model.specs.Protocol.Sessions.Phases as model
+use Rattle.ssh_model.specs.Protocol.Sessions.Phases.{is_client, is_normal}
+use Rattle.ssh_model.specs.Protocol.Sessions.Refusals as refusals
+use Rattle.ssh_model.specs.Protocol.Sessions.Refusals.{Check.RefusedWhere, first_refusal}
+use Rattle.ssh_model.specs.State.TransportLayer.Directions.{Direction, renewed}
+use Rattle.ssh_model.specs.Protocol.Sessions.TurnClaims.{HasSpelling}
 use Rattle.ssh_model.specs.Laws.Written.{service_request_spelled}
-use Rattle.ssh_model.specs.TransportLayer.Kept as kept
-use Rattle.ssh_model.specs.TransportLayer.Kept.{Transport, after_sent, message_ask_checks, offer_checks, takes, takes_in}
-use Rattle.ssh_model.specs.TransportLayer.Summary.{bit, is_keying}
-use Rattle.ssh_model.specs.Wire.Message.{Proposal}
+use Rattle.ssh_model.specs.State.TransportLayer.Kept as kept
+use Rattle.ssh_model.specs.State.TransportLayer.Kept.{Transport, after_sent, message_ask_checks, offer_checks, takes, takes_in}
+use Rattle.ssh_model.specs.State.TransportLayer.Summary.{bit, is_keying}
+use Rattle.ssh_model.specs.Protocol.Wire.Message.{Proposal}
 use Rattle.ssh_transport_machine.specs.Asking.{AskDone, AskLacks, OfferDone, OfferLacks}
 use Rattle.ssh_transport_machine.specs.Judging.{MessageJudged, PayloadJudged}
 use Rattle.ssh_transport_machine.specs.Judging as judging

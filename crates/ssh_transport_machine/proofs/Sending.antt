@@ -2,17 +2,17 @@
 use Rattle.std.proofs.Common.{◌≡◌, ℕ, zero, suc, length, map, take, append_assoc, List, [], ◌∷◌, ◌++◌, refl, ap, sym, ◌∙◌, append-nil, subst, arith, true, false}
 use Rattle.std.proofs.lemmas.List.{length-map}
 use Rattle.std.specs.Prelude.{Result, Ok, Err, OnOk, Some, None, ◌^◌}
-use Rattle.ssh_model.specs.Wire.Message.{Msg, Msg.Disconnect, Msg.KexInit, Msg.KexEcdhInit, Msg.NewKeys}
-use Rattle.ssh_model.specs.Wire.Sealing.{Crypto}
-use Rattle.ssh_model.specs.Sessions.Refusals.{Refusal, refusal_name, refusal_reason}
-use Rattle.ssh_model.specs.Sessions.Items.{Spelled, Spelled.SpelledBy}
-use Rattle.ssh_model.specs.Sessions.Turns.{IsSpelled}
-use Rattle.ssh_model.specs.TransportLayer.Directions.{Direction, counted}
-use Rattle.ssh_model.specs.KeyExchange.Exchanges.{Material}
-use Rattle.ssh_model.specs.Sessions.Parties.{offer_of}
-use Rattle.ssh_model.specs.TransportLayer.Kept.{Transport, after_own_kexinit, after_sent}
-use Rattle.ssh_model.specs.TransportLayer.Turns as turns
-use Rattle.ssh_model.specs.TransportLayer.Turns.{PutsPackets, counted_by}
+use Rattle.ssh_model.specs.Protocol.Wire.Message.{Msg, Msg.Disconnect, Msg.KexInit, Msg.KexEcdhInit, Msg.NewKeys}
+use Rattle.ssh_model.specs.Protocol.Wire.Sealing.{Crypto}
+use Rattle.ssh_model.specs.Protocol.Sessions.Refusals.{Refusal, refusal_name, refusal_reason}
+use Rattle.ssh_model.specs.Protocol.Sessions.Items.{Spelled, Spelled.SpelledBy}
+use Rattle.ssh_model.specs.Protocol.Sessions.Turns.{IsSpelled}
+use Rattle.ssh_model.specs.State.TransportLayer.Directions.{Direction, counted}
+use Rattle.ssh_model.specs.Protocol.KeyExchange.Exchanges.{Material}
+use Rattle.ssh_model.specs.Protocol.Sessions.Parties.{offer_of}
+use Rattle.ssh_model.specs.State.TransportLayer.Kept.{Transport, after_own_kexinit, after_sent}
+use Rattle.ssh_model.specs.State.TransportLayer.Turns as turns
+use Rattle.ssh_model.specs.State.TransportLayer.Turns.{PutsPackets, counted_by}
 use Rattle.ssh_transport_base.specs.Directions.{newkeys}
 use Rattle.ssh_transport_machine.specs.Offering.{BothAnswered, OwnSent}
 use Rattle.ssh_transport_machine.specs.State.{State, noted}

@@ -1,8 +1,8 @@
 -- 32 bytes that are not all zero are a shared result.
 use Rattle.std.proofs.Common.{◌≡◌, ℕ, suc, ◌<◌, List, [], ◌∷◌, length, refl, ap, sym, ◌∙◌, arith, Bool, true, false, not, ◌&&◌, cond, eqb-true, Option, Some, None, subst, replicate}
 use Rattle.std.specs.List.{list_all}
-use Rattle.ssh_model.specs.Wire.DataTypes.{AreBytes}
-use Rattle.ssh_model.specs.Sessions.Parties.{is_byte, is_shared, is_zero, only_shared}
+use Rattle.ssh_model.specs.Protocol.Wire.DataTypes.{AreBytes}
+use Rattle.ssh_model.specs.Protocol.Sessions.Parties.{is_byte, is_shared, is_zero, only_shared}
 
 below : (x : ℕ) → x < 256 → is_byte x ≡ true
 below x l = grind (arith, l)

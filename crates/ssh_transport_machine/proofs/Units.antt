@@ -1,21 +1,21 @@
 -- What a machine makes of a line or a packet is what an end of a session does, and so is its opening.
 use Rattle.std.proofs.Common.{◌≡◌, ℕ, ◌<◌, ◌^◌, List, [], ◌∷◌, ◌++◌, refl, ap, sym, ◌∙◌, subst, Bool, true, false, None}
-use Rattle.ssh_model.specs.Side.{Side}
-use Rattle.ssh_model.specs.Wire.Line.{LineUnit, line_end}
-use Rattle.ssh_model.specs.Wire.Message.{Msg.KexInit}
-use Rattle.ssh_model.specs.Wire.Outcome.{Outcome, Outcome.OtherLine, Outcome.VersionLine, Outcome.RefusedLine, Outcome.RefusedPacket}
-use Rattle.ssh_model.specs.Wire.Unit.{IsPacketBegun, IsUnit, PacketUnit}
-use Rattle.ssh_model.specs.Sessions.Events.{PutsOut}
-use Rattle.ssh_model.specs.Sessions.Items.{Item, Item.Fed, Item.Sent, Item.SentLine, Item.TookLine, Item.TookOtherLine, Spelled}
-use Rattle.ssh_model.specs.Sessions.Parties.{Parties, offer, settings_of}
-use Rattle.ssh_model.specs.Sessions.Phases.{has_line, is_client}
-use Rattle.ssh_model.specs.Sessions.Refusals.{Refusal, refusal_reason}
-use Rattle.ssh_model.specs.Sessions.Turns.{stage}
-use Rattle.ssh_model.specs.TransportLayer.Directions.{Direction, counted}
-use Rattle.ssh_model.specs.TransportLayer.Kept.{Transport, after_line, after_other_line, after_taken, new_transport}
-use Rattle.ssh_model.specs.TransportLayer.Summary.{SumsUp}
-use Rattle.ssh_model.specs.TransportLayer.Turns as turns
-use Rattle.ssh_model.specs.TransportLayer.Turns.{SaysWhy, UnitRefused, refusal_items}
+use Rattle.ssh_model.specs.Protocol.Side.{Side}
+use Rattle.ssh_model.specs.Protocol.Wire.Line.{LineUnit, line_end}
+use Rattle.ssh_model.specs.Protocol.Wire.Message.{Msg.KexInit}
+use Rattle.ssh_model.specs.Protocol.Wire.Outcome.{Outcome, Outcome.OtherLine, Outcome.VersionLine, Outcome.RefusedLine, Outcome.RefusedPacket}
+use Rattle.ssh_model.specs.Protocol.Wire.Unit.{IsPacketBegun, IsUnit, PacketUnit}
+use Rattle.ssh_model.specs.Protocol.Sessions.Events.{PutsOut}
+use Rattle.ssh_model.specs.Protocol.Sessions.Items.{Item, Item.Fed, Item.Sent, Item.SentLine, Item.TookLine, Item.TookOtherLine, Spelled}
+use Rattle.ssh_model.specs.Protocol.Sessions.Parties.{Parties, offer, settings_of}
+use Rattle.ssh_model.specs.Protocol.Sessions.Phases.{has_line, is_client}
+use Rattle.ssh_model.specs.Protocol.Sessions.Refusals.{Refusal, refusal_reason}
+use Rattle.ssh_model.specs.Protocol.Sessions.Turns.{stage}
+use Rattle.ssh_model.specs.State.TransportLayer.Directions.{Direction, counted}
+use Rattle.ssh_model.specs.State.TransportLayer.Kept.{Transport, after_line, after_other_line, after_taken, new_transport}
+use Rattle.ssh_model.specs.State.TransportLayer.Summary.{SumsUp}
+use Rattle.ssh_model.specs.State.TransportLayer.Turns as turns
+use Rattle.ssh_model.specs.State.TransportLayer.Turns.{SaysWhy, UnitRefused, refusal_items}
 use Rattle.ssh_packet.specs.Refusals.{line_refusal}
 use Rattle.ssh_packet.specs.declared.refusal.LineRefusal.{LineRefusal}
 use Rattle.ssh_packet.specs.declared.refusal.LineRefusal.TheVariants as line

@@ -1,7 +1,7 @@
 -- What a layer above has an end do.
 use Rattle.std.specs.Prelude.{◌≡◌, ℕ, false, List}
-use Rattle.ssh_model.specs.Wire.Sealing.{Crypto}
-use Rattle.ssh_model.specs.TransportLayer.Kept.{after_sent}
+use Rattle.ssh_model.specs.Protocol.Wire.Sealing.{Crypto}
+use Rattle.ssh_model.specs.State.TransportLayer.Kept.{after_sent}
 use Rattle.ssh_types.specs.Refusals.{refusal_of}
 use Rattle.ssh_types.specs.declared.refusal.Refusal.{Refusal}
 use Rattle.ssh_transport_machine.specs.Asks.{WasDead}

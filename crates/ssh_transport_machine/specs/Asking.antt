@@ -1,14 +1,14 @@
 -- What an end does on an ask of its user.
 use Rattle.std.specs.Prelude.{◌≡◌, ℕ, Option, None, Some, List, [], ◌∷◌, true, false}
-use Rattle.ssh_model.specs.Wire.Message.{Msg, Msg.Disconnect, Msg.KexInit}
-use Rattle.ssh_model.specs.Wire.Sealing.{Crypto}
-use Rattle.ssh_model.specs.KeyExchange.Exchanges.{Material}
-use Rattle.ssh_model.specs.Sessions.Items.{Ask, Ask.AskDisconnect, Spelled.SpelledBy}
-use Rattle.ssh_model.specs.Sessions.Parties.{offer_of}
-use Rattle.ssh_model.specs.Sessions.Refusals as model
-use Rattle.ssh_model.specs.Sessions.TurnClaims.{HasSpelling}
-use Rattle.ssh_model.specs.Sessions.Refusals.{first_refusal}
-use Rattle.ssh_model.specs.TransportLayer.Kept.{Asks, Transport, after_sent, message_ask_checks}
+use Rattle.ssh_model.specs.Protocol.Wire.Message.{Msg, Msg.Disconnect, Msg.KexInit}
+use Rattle.ssh_model.specs.Protocol.Wire.Sealing.{Crypto}
+use Rattle.ssh_model.specs.Protocol.KeyExchange.Exchanges.{Material}
+use Rattle.ssh_model.specs.Protocol.Sessions.Items.{Ask, Ask.AskDisconnect, Spelled.SpelledBy}
+use Rattle.ssh_model.specs.Protocol.Sessions.Parties.{offer_of}
+use Rattle.ssh_model.specs.Protocol.Sessions.Refusals as model
+use Rattle.ssh_model.specs.Protocol.Sessions.TurnClaims.{HasSpelling}
+use Rattle.ssh_model.specs.Protocol.Sessions.Refusals.{first_refusal}
+use Rattle.ssh_model.specs.State.TransportLayer.Kept.{Asks, Transport, after_sent, message_ask_checks}
 use Rattle.ssh_types.specs.AskRefusals.{ask_refusal_of}
 use Rattle.ssh_types.specs.declared.ask_refusal.AskRefusal.{AskRefusal}
 use Rattle.ssh_transport_machine.specs.Offering.{OwnSent}

@@ -1,10 +1,10 @@
 -- What a user asks of an end, or a layer above, and what the end does on it.
 use Rattle.std.specs.Prelude.{◌≡◌, ℕ, ◌≤◌, true, false}
-use Rattle.ssh_model.specs.Wire.Message.{Msg, FitsContext}
-use Rattle.ssh_model.specs.Wire.Sealing.{Crypto}
-use Rattle.ssh_model.specs.Wire.Sizes.{payload_size}
-use Rattle.ssh_model.specs.Sessions.Items.{Ask.AskRekey, Ask.AskService}
-use Rattle.ssh_model.specs.TransportLayer.Kept.{after_sent}
+use Rattle.ssh_model.specs.Protocol.Wire.Message.{Msg, FitsContext}
+use Rattle.ssh_model.specs.Protocol.Wire.Sealing.{Crypto}
+use Rattle.ssh_model.specs.Laws.Sizes.{payload_size}
+use Rattle.ssh_model.specs.Protocol.Sessions.Items.{Ask.AskRekey, Ask.AskService}
+use Rattle.ssh_model.specs.State.TransportLayer.Kept.{after_sent}
 use Rattle.ssh_message.specs.Meaning.{meaning}
 use Rattle.ssh_message.specs.Written.{Fits}
 use Rattle.ssh_message.specs.declared.message.Message.{Message}

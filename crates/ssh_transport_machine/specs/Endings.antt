@@ -1,15 +1,15 @@
 -- What ends an exchange, as a turn of a session.
 use Rattle.std.specs.Prelude.{◌≡◌, ℕ, ◌<◌, true, Some, List, ◌++◌}
-use Rattle.ssh_model.specs.Side.{Side}
-use Rattle.ssh_model.specs.Wire.Message.{Msg}
-use Rattle.ssh_model.specs.Sessions.Items.{Item, Spelled}
-use Rattle.ssh_model.specs.Sessions.Parties.{Parties}
-use Rattle.ssh_model.specs.Sessions.Phases as model
-use Rattle.ssh_model.specs.Sessions.Refusals.{Refusal}
-use Rattle.ssh_model.specs.Sessions.Turns.{number_of}
-use Rattle.ssh_model.specs.TransportLayer.Kept.{Transport, takes}
-use Rattle.ssh_model.specs.TransportLayer.Summary.{items_sent}
-use Rattle.ssh_model.specs.TransportLayer.Turns.{EndedBy, Turned, refusal_items}
+use Rattle.ssh_model.specs.Protocol.Side.{Side}
+use Rattle.ssh_model.specs.Protocol.Wire.Message.{Msg}
+use Rattle.ssh_model.specs.Protocol.Sessions.Items.{Item, Spelled}
+use Rattle.ssh_model.specs.Protocol.Sessions.Parties.{Parties}
+use Rattle.ssh_model.specs.Protocol.Sessions.Phases as model
+use Rattle.ssh_model.specs.Protocol.Sessions.Refusals.{Refusal}
+use Rattle.ssh_model.specs.Protocol.Sessions.Turns.{number_of}
+use Rattle.ssh_model.specs.State.TransportLayer.Kept.{Transport, takes}
+use Rattle.ssh_model.specs.State.TransportLayer.Summary.{items_sent}
+use Rattle.ssh_model.specs.State.TransportLayer.Turns.{EndedBy, Turned, refusal_items}
 use Rattle.ssh_transport_machine.specs.Puts.{Outs, payloads_of}
 
 -- The payload has a number below 50 that may be taken, and is read.

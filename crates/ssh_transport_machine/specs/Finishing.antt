@@ -1,18 +1,18 @@
 -- The end of an exchange: its keys, NEWKEYS, and what is announced after it.
 use Rattle.std.specs.Prelude.{◌≡◌, ℕ, ◌≤◌, Bool, true, false, Option, Some, None, unwrap_or, IsSome, List, [], ◌∷◌}
 use Rattle.std.specs.Prelude.{◌++◌, length, replicate}
-use Rattle.ssh_model.specs.Side.{Side, Side.Client, Side.Server, peer}
-use Rattle.ssh_model.specs.Wire.Message.{Msg, Msg.ExtInfo, Msg.KexInit, Msg.NewKeys, Extension, Proposal, IsPayload}
-use Rattle.ssh_model.specs.Wire.Sealing.{Crypto}
-use Rattle.ssh_model.specs.KeyExchange.Choice.{Chosen, IsChoice, Lists}
-use Rattle.ssh_model.specs.KeyExchange.Exchanges.{encryption_from, mac_from}
-use Rattle.ssh_model.specs.Sessions.Items.{Spelled, Spelled.SpelledBy}
-use Rattle.ssh_model.specs.Sessions.Parties.{lists_of}
-use Rattle.ssh_model.specs.Sessions.Phases as model
-use Rattle.ssh_model.specs.Sessions.Turns.{IsSpelled}
-use Rattle.ssh_model.specs.TransportLayer.Directions.{Direction, counted, renewed}
-use Rattle.ssh_model.specs.TransportLayer.Kept.{Transport, after_sent, has_choice_with, is_announcing, own_offer}
-use Rattle.ssh_model.specs.TransportLayer.Turns.{PutsPackets, counted_by}
+use Rattle.ssh_model.specs.Protocol.Side.{Side, Side.Client, Side.Server, peer}
+use Rattle.ssh_model.specs.Protocol.Wire.Message.{Msg, Msg.ExtInfo, Msg.KexInit, Msg.NewKeys, Extension, Proposal, IsPayload}
+use Rattle.ssh_model.specs.Protocol.Wire.Sealing.{Crypto}
+use Rattle.ssh_model.specs.Protocol.KeyExchange.Choice.{Chosen, IsChoice, Lists}
+use Rattle.ssh_model.specs.Protocol.KeyExchange.Exchanges.{encryption_from, mac_from}
+use Rattle.ssh_model.specs.Protocol.Sessions.Items.{Spelled, Spelled.SpelledBy}
+use Rattle.ssh_model.specs.Protocol.Sessions.Parties.{lists_of}
+use Rattle.ssh_model.specs.Protocol.Sessions.Phases as model
+use Rattle.ssh_model.specs.Protocol.Sessions.Turns.{IsSpelled}
+use Rattle.ssh_model.specs.State.TransportLayer.Directions.{Direction, counted, renewed}
+use Rattle.ssh_model.specs.State.TransportLayer.Kept.{Transport, after_sent, has_choice_with, is_announcing, own_offer}
+use Rattle.ssh_model.specs.State.TransportLayer.Turns.{PutsPackets, counted_by}
 use Rattle.ssh_transport_machine.specs.Hashing.{key_with}
 use Rattle.ssh_transport_machine.specs.Puts.{Outs, payloads_of}
 

@@ -1,10 +1,10 @@
 -- What both ends hash, and the keys that come of it, from what an end keeps.
 use Rattle.std.specs.Prelude.{ℕ, List, unwrap_or}
-use Rattle.ssh_model.specs.Side.{Side, Side.Client, Side.Server}
-use Rattle.ssh_model.specs.Wire.Sealing.{Crypto, Lengths}
-use Rattle.ssh_model.specs.KeyExchange.Exchange.{Inputs, derived}
-use Rattle.ssh_model.specs.KeyExchange.Exchanges.{cipher_letter, iv_letter, mac_letter, no_lengths}
-use Rattle.ssh_model.specs.TransportLayer.Kept.{Transport}
+use Rattle.ssh_model.specs.Protocol.Side.{Side, Side.Client, Side.Server}
+use Rattle.ssh_model.specs.Protocol.Wire.Sealing.{Crypto, Lengths}
+use Rattle.ssh_model.specs.Protocol.KeyExchange.Exchange.{Inputs, derived}
+use Rattle.ssh_model.specs.Protocol.KeyExchange.Exchanges.{cipher_letter, iv_letter, mac_letter, no_lengths}
+use Rattle.ssh_model.specs.State.TransportLayer.Kept.{Transport}
 
 -- with a host key, both points and the shared number
 abbrev pub inputs_in : {K : Type 0} → Side → Transport K → (host_key client_point server_point : List ℕ) → (shared : ℕ) → Inputs

@@ -1,11 +1,11 @@
 -- What an end makes of a payload.
 use Rattle.std.specs.Prelude.{◌≡◌, ℕ, ◌<◌, ◌≤◌, Bool, true, false, List, codes, Some}
-use Rattle.ssh_model.specs.Wire.Message.{Msg, Msg.Disconnect, Msg.Ignore, Msg.Unimplemented, Msg.Debug, Msg.ServiceRequest, Msg.ServiceAccept, Msg.ExtInfo, Msg.KexInit, Msg.NewKeys, Msg.KexEcdhInit, Msg.KexEcdhReply, Msg.Unknown, Extension, Proposal, IsPayload}
-use Rattle.ssh_model.specs.Wire.MacOnly.{is_text}
-use Rattle.ssh_model.specs.Sessions.Refusals.{first_refusal}
-use Rattle.ssh_model.specs.Sessions.Phases as model
-use Rattle.ssh_model.specs.Sessions.Turns.{number_of}
-use Rattle.ssh_model.specs.TransportLayer.Kept.{Transport, offer_checks, takes}
+use Rattle.ssh_model.specs.Protocol.Wire.Message.{Msg, Msg.Disconnect, Msg.Ignore, Msg.Unimplemented, Msg.Debug, Msg.ServiceRequest, Msg.ServiceAccept, Msg.ExtInfo, Msg.KexInit, Msg.NewKeys, Msg.KexEcdhInit, Msg.KexEcdhReply, Msg.Unknown, Extension, Proposal, IsPayload}
+use Rattle.ssh_model.specs.Protocol.Wire.MacOnly.{is_text}
+use Rattle.ssh_model.specs.Protocol.Sessions.Refusals.{first_refusal}
+use Rattle.ssh_model.specs.Protocol.Sessions.Phases as model
+use Rattle.ssh_model.specs.Protocol.Sessions.Turns.{number_of}
+use Rattle.ssh_model.specs.State.TransportLayer.Kept.{Transport, offer_checks, takes}
 use Rattle.ssh_types.specs.Refusals.{refusal_of}
 use Rattle.ssh_types.specs.declared.refusal.Refusal.{Refusal}
 use Rattle.ssh_types.specs.declared.refusal.Refusal.TheVariants as refusal

@@ -1,12 +1,12 @@
 -- What an end makes of its peer's KEXINIT.
 use Rattle.std.specs.Prelude.{◌≡◌, ◌==◌, if◌then◌else◌, Some, None}
-use Rattle.ssh_model.specs.Wire.Message.{Proposal}
-use Rattle.ssh_model.specs.Sessions.Refusals.{first_refusal}
-use Rattle.ssh_model.specs.TransportLayer.Kept.{Transport, becomes_strict, offer_checks, own_offer}
-use Rattle.ssh_model.specs.Side.{peer}
-use Rattle.ssh_model.specs.KeyExchange.Exchanges.{has_marker}
-use Rattle.ssh_model.specs.Sessions.Parties.{extension_marker_of}
-use Rattle.ssh_model.specs.Sessions.Phases.{is_wrong_guess}
+use Rattle.ssh_model.specs.Protocol.Wire.Message.{Proposal}
+use Rattle.ssh_model.specs.Protocol.Sessions.Refusals.{first_refusal}
+use Rattle.ssh_model.specs.State.TransportLayer.Kept.{Transport, becomes_strict, offer_checks, own_offer}
+use Rattle.ssh_model.specs.Protocol.Side.{peer}
+use Rattle.ssh_model.specs.Protocol.KeyExchange.Exchanges.{has_marker}
+use Rattle.ssh_model.specs.Protocol.Sessions.Parties.{extension_marker_of}
+use Rattle.ssh_model.specs.Protocol.Sessions.Phases.{is_wrong_guess}
 use Rattle.ssh_types.specs.Refusals.{refusal_of}
 use Rattle.ssh_transport_machine.specs.declared.machine.kexinit.KexinitFacts.{KexinitFacts}
 use Rattle.ssh_transport_machine.specs.declared.machine.kexinit.KexinitJudged.{KexinitJudged}

@@ -1,8 +1,8 @@
 -- What an end makes of its peer's lines.
 use Rattle.std.specs.Prelude.{◌≡◌, ℕ, ◌+◌, true, List, []}
-use Rattle.ssh_model.specs.Wire.Line.{IsLineBegun, LineUnit}
-use Rattle.ssh_model.specs.Wire.Outcome.{Outcome.OtherLine, Outcome.VersionLine, Outcome.RefusedLine}
-use Rattle.ssh_model.specs.TransportLayer.Kept.{after_line, after_other_line}
+use Rattle.ssh_model.specs.Protocol.Wire.Line.{IsLineBegun, LineUnit}
+use Rattle.ssh_model.specs.Protocol.Wire.Outcome.{Outcome.OtherLine, Outcome.VersionLine, Outcome.RefusedLine}
+use Rattle.ssh_model.specs.State.TransportLayer.Kept.{after_line, after_other_line}
 use Rattle.ssh_packet.specs.Refusals.{line_refusal}
 use Rattle.ssh_packet.specs.declared.refusal.LineRefusal.{LineRefusal}
 use Rattle.ssh_transport_machine.specs.State.{State}

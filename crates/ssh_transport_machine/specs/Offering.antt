@@ -1,11 +1,11 @@
 -- What an end makes of a KEXINIT of its own.
 use Rattle.std.specs.Prelude.{◌≡◌, ℕ, false, List, [], ◌∷◌}
-use Rattle.ssh_model.specs.Wire.Message.{Msg.KexInit, Msg.KexEcdhInit}
-use Rattle.ssh_model.specs.Wire.Sealing.{Crypto}
-use Rattle.ssh_model.specs.KeyExchange.Exchanges.{Material}
-use Rattle.ssh_model.specs.Sessions.Items.{Spelled.SpelledBy}
-use Rattle.ssh_model.specs.Sessions.Parties.{offer_of}
-use Rattle.ssh_model.specs.TransportLayer.Kept.{after_own_kexinit, after_sent}
+use Rattle.ssh_model.specs.Protocol.Wire.Message.{Msg.KexInit, Msg.KexEcdhInit}
+use Rattle.ssh_model.specs.Protocol.Wire.Sealing.{Crypto}
+use Rattle.ssh_model.specs.Protocol.KeyExchange.Exchanges.{Material}
+use Rattle.ssh_model.specs.Protocol.Sessions.Items.{Spelled.SpelledBy}
+use Rattle.ssh_model.specs.Protocol.Sessions.Parties.{offer_of}
+use Rattle.ssh_model.specs.State.TransportLayer.Kept.{after_own_kexinit, after_sent}
 use Rattle.ssh_transport_machine.specs.Puts.{Outs, Puts}
 use Rattle.ssh_transport_machine.specs.State.{State, noted}
 use Rattle.ssh_transport_machine.specs.declared.machine.kexinit.KexinitFacts.{KexinitFacts}

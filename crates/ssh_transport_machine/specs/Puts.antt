@@ -1,12 +1,12 @@
 -- What an end puts out.
 use Rattle.std.specs.Prelude.{◌≡◌, ℕ, ◌<◌, ◌^◌, true, List, [], ◌∷◌, ◌++◌}
-use Rattle.ssh_model.specs.Wire.Message.{Msg}
-use Rattle.ssh_model.specs.Wire.Sealing.{Crypto, IsSealed}
-use Rattle.ssh_model.specs.Sessions.Items.{Spelled, Spelled.SpelledBy}
-use Rattle.ssh_model.specs.Sessions.Refusals.{Refusal}
-use Rattle.ssh_model.specs.TransportLayer.Directions.{Direction}
-use Rattle.ssh_model.specs.TransportLayer.Kept.{Transport}
-use Rattle.ssh_model.specs.TransportLayer.Turns.{PutsPackets, SaysWhy, counted_by}
+use Rattle.ssh_model.specs.Protocol.Wire.Message.{Msg}
+use Rattle.ssh_model.specs.Protocol.Wire.Sealing.{Crypto, IsSealed}
+use Rattle.ssh_model.specs.Protocol.Sessions.Items.{Spelled, Spelled.SpelledBy}
+use Rattle.ssh_model.specs.Protocol.Sessions.Refusals.{Refusal}
+use Rattle.ssh_model.specs.State.TransportLayer.Directions.{Direction}
+use Rattle.ssh_model.specs.State.TransportLayer.Kept.{Transport}
+use Rattle.ssh_model.specs.State.TransportLayer.Turns.{PutsPackets, SaysWhy, counted_by}
 
 -- The bytes put out, and the payloads listed, before a call and after it.
 pub record Outs : Type 0 where

@@ -1,19 +1,19 @@
 -- What a transport makes of a unit, as a turn of a session, besides what a machine does alone.
 use Rattle.std.specs.Prelude.{◌≡◌, ℕ, ◌≤◌, ◌+◌, ◌^◌, Bool, true, false, Some, None, List, [], ◌∷◌, ◌++◌, length}
-use Rattle.ssh_model.specs.Side.{Side}
-use Rattle.ssh_model.specs.Wire.Message.{Msg}
-use Rattle.ssh_model.specs.Wire.Outcome.{Outcome.Opens}
-use Rattle.ssh_model.specs.Wire.Unit.{IsUnit, PacketUnit}
-use Rattle.ssh_model.specs.KeyExchange.Choice.{Chosen}
-use Rattle.ssh_model.specs.Channels.Connection.{AreReplies, owed_replies}
-use Rattle.ssh_model.specs.Sessions.Items.{Item, Item.Died, Item.Refused, Spelled}
-use Rattle.ssh_model.specs.Sessions.Parties.{Parties, agreement_of}
-use Rattle.ssh_model.specs.Sessions.Phases.{Phase.Normal}
-use Rattle.ssh_model.specs.Sessions.Refusals.{Refusal.NumberSpent, first_refusal}
-use Rattle.ssh_model.specs.Sessions.Turns.{AreSpelled, number_of, stage}
-use Rattle.ssh_model.specs.TransportLayer.Kept.{Completes, Transport, after_taken, message_checks}
-use Rattle.ssh_model.specs.TransportLayer.Summary.{IsAwaited, items_sent, parts_of}
-use Rattle.ssh_model.specs.TransportLayer.Turns.{Reads, Turned}
+use Rattle.ssh_model.specs.Protocol.Side.{Side}
+use Rattle.ssh_model.specs.Protocol.Wire.Message.{Msg}
+use Rattle.ssh_model.specs.Protocol.Wire.Outcome.{Outcome.Opens}
+use Rattle.ssh_model.specs.Protocol.Wire.Unit.{IsUnit, PacketUnit}
+use Rattle.ssh_model.specs.Protocol.KeyExchange.Choice.{Chosen}
+use Rattle.ssh_model.specs.Protocol.Channels.Connection.{AreReplies, owed_replies}
+use Rattle.ssh_model.specs.Protocol.Sessions.Items.{Item, Item.Died, Item.Refused, Spelled}
+use Rattle.ssh_model.specs.Protocol.Sessions.Parties.{Parties, agreement_of}
+use Rattle.ssh_model.specs.Protocol.Sessions.Phases.{Phase.Normal}
+use Rattle.ssh_model.specs.Protocol.Sessions.Refusals.{Refusal.NumberSpent, first_refusal}
+use Rattle.ssh_model.specs.Protocol.Sessions.Turns.{AreSpelled, number_of, stage}
+use Rattle.ssh_model.specs.State.TransportLayer.Kept.{Completes, Transport, after_taken, message_checks}
+use Rattle.ssh_model.specs.State.TransportLayer.Summary.{IsAwaited, items_sent, parts_of}
+use Rattle.ssh_model.specs.State.TransportLayer.Turns.{Reads, Turned}
 use Rattle.ssh_transport_machine.specs.Puts.{Outs}
 use Rattle.ssh_transport_machine.specs.Shown.{WouldAnswerPacket}
 use Rattle.ssh_transport_machine.specs.State.{State}

@@ -1,30 +1,30 @@
 -- The turns of a session that those of a machine are, and what each answer of a machine shows of them.
 use Rattle.std.specs.Prelude.{◌≡◌, ℕ, ◌+◌, ◌^◌, ◌<◌, ◌≤◌, Bool, true, false, None, Some, List, [], ◌∷◌, ◌++◌}
 use Rattle.std.specs.Prelude.{length}
-use Rattle.ssh_model.specs.Side.{Side, Side.Server}
-use Rattle.ssh_model.specs.Wire.Message.{Msg, Msg.Debug, Msg.Disconnect, Msg.ExtInfo, Msg.Ignore, Msg.KexInit}
-use Rattle.ssh_model.specs.Wire.Message.{Msg.NewKeys, Msg.ServiceAccept, Msg.ServiceRequest, Msg.Unimplemented}
-use Rattle.ssh_model.specs.Wire.Message.{Msg.Unknown, Extension, IsPayload, Proposal}
-use Rattle.ssh_model.specs.Sessions.Items.{Fact, Fact.Debugged, Fact.Disconnected, Fact.GotExtensions, Fact.Ignored}
-use Rattle.ssh_model.specs.Sessions.Items.{Fact.NotImplemented, Fact.Service, Item, Item.Died, Item.Refused, Item.Told}
-use Rattle.ssh_model.specs.Sessions.Items.{Ask, Ask.AskDisconnect, Item.Asked, Item.Fed, Item.Sent, Item.Took}
-use Rattle.ssh_model.specs.Sessions.Items.{Item.SentLine, Item.TookLine, Item.TookOtherLine}
-use Rattle.ssh_model.specs.Sessions.Items.{Item.TookGuess, Spelled, Spelled.SpelledBy}
-use Rattle.ssh_model.specs.Sessions.Parties.{Parties, agreement_of, offer, offer_of, settings_of}
-use Rattle.ssh_model.specs.Sessions.Events.{PutsOut}
-use Rattle.ssh_model.specs.Sessions.Turns.{AreSpelled, IsSpelled, stage}
-use Rattle.ssh_model.specs.Wire.Outcome.{Outcome, Outcome.OtherLine, Outcome.VersionLine, Outcome.RefusedLine}
-use Rattle.ssh_model.specs.Wire.Outcome.{Outcome.Opens, Outcome.RefusedPacket}
-use Rattle.ssh_model.specs.Wire.Unit.{IsPacketBegun, IsUnit, PacketUnit}
-use Rattle.ssh_model.specs.KeyExchange.Choice.{Chosen}
-use Rattle.ssh_model.specs.Sessions.Phases.{is_client}
-use Rattle.ssh_model.specs.Sessions.Refusals as model
-use Rattle.ssh_model.specs.Sessions.Refusals.{first_refusal, refusal_name, refusal_reason}
-use Rattle.ssh_model.specs.Sessions.TurnClaims.{HasSpelling}
-use Rattle.ssh_model.specs.Wire.Line.{LineUnit}
-use Rattle.ssh_model.specs.TransportLayer.Kept.{Answered, Takes, Transport, after_taken, message_checks}
-use Rattle.ssh_model.specs.TransportLayer.Summary.{IsAwaited, SumsUp, items_sent}
-use Rattle.ssh_model.specs.TransportLayer.Turns.{AskTurned, IsRefused, Reads, Turned, UnitRefused, refusal_items}
+use Rattle.ssh_model.specs.Protocol.Side.{Side, Side.Server}
+use Rattle.ssh_model.specs.Protocol.Wire.Message.{Msg, Msg.Debug, Msg.Disconnect, Msg.ExtInfo, Msg.Ignore, Msg.KexInit}
+use Rattle.ssh_model.specs.Protocol.Wire.Message.{Msg.NewKeys, Msg.ServiceAccept, Msg.ServiceRequest, Msg.Unimplemented}
+use Rattle.ssh_model.specs.Protocol.Wire.Message.{Msg.Unknown, Extension, IsPayload, Proposal}
+use Rattle.ssh_model.specs.Protocol.Sessions.Items.{Fact, Fact.Debugged, Fact.Disconnected, Fact.GotExtensions, Fact.Ignored}
+use Rattle.ssh_model.specs.Protocol.Sessions.Items.{Fact.NotImplemented, Fact.Service, Item, Item.Died, Item.Refused, Item.Told}
+use Rattle.ssh_model.specs.Protocol.Sessions.Items.{Ask, Ask.AskDisconnect, Item.Asked, Item.Fed, Item.Sent, Item.Took}
+use Rattle.ssh_model.specs.Protocol.Sessions.Items.{Item.SentLine, Item.TookLine, Item.TookOtherLine}
+use Rattle.ssh_model.specs.Protocol.Sessions.Items.{Item.TookGuess, Spelled, Spelled.SpelledBy}
+use Rattle.ssh_model.specs.Protocol.Sessions.Parties.{Parties, agreement_of, offer, offer_of, settings_of}
+use Rattle.ssh_model.specs.Protocol.Sessions.Events.{PutsOut}
+use Rattle.ssh_model.specs.Protocol.Sessions.Turns.{AreSpelled, IsSpelled, stage}
+use Rattle.ssh_model.specs.Protocol.Wire.Outcome.{Outcome, Outcome.OtherLine, Outcome.VersionLine, Outcome.RefusedLine}
+use Rattle.ssh_model.specs.Protocol.Wire.Outcome.{Outcome.Opens, Outcome.RefusedPacket}
+use Rattle.ssh_model.specs.Protocol.Wire.Unit.{IsPacketBegun, IsUnit, PacketUnit}
+use Rattle.ssh_model.specs.Protocol.KeyExchange.Choice.{Chosen}
+use Rattle.ssh_model.specs.Protocol.Sessions.Phases.{is_client}
+use Rattle.ssh_model.specs.Protocol.Sessions.Refusals as model
+use Rattle.ssh_model.specs.Protocol.Sessions.Refusals.{first_refusal, refusal_name, refusal_reason}
+use Rattle.ssh_model.specs.Protocol.Sessions.TurnClaims.{HasSpelling}
+use Rattle.ssh_model.specs.Protocol.Wire.Line.{LineUnit}
+use Rattle.ssh_model.specs.State.TransportLayer.Kept.{Answered, Takes, Transport, after_taken, message_checks}
+use Rattle.ssh_model.specs.State.TransportLayer.Summary.{IsAwaited, SumsUp, items_sent}
+use Rattle.ssh_model.specs.State.TransportLayer.Turns.{AskTurned, IsRefused, Reads, Turned, UnitRefused, refusal_items}
 use Rattle.ssh_packet.specs.Refusals.{line_refusal}
 use Rattle.ssh_types.specs.AskRefusals.{ask_refusal_of}
 use Rattle.ssh_types.specs.Refusals.{refusal_of}

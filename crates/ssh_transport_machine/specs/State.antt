@@ -1,12 +1,12 @@
 -- What a machine holds: what a transport keeps, and the unit of its stream that is begun.
 use Rattle.std.specs.Prelude.{◌≡◌, ℕ, ◌≤◌, ◌+◌, ◌-◌, ◌%◌, ◌^◌, Bool, true, false, cond, is_some, Option, Some}
 use Rattle.std.specs.Prelude.{None, List, []}
-use Rattle.ssh_model.specs.KeyExchange.Exchanges as session
-use Rattle.ssh_model.specs.Sessions.Phases as model
-use Rattle.ssh_model.specs.TransportLayer.Directions.{Direction}
-use Rattle.ssh_model.specs.TransportLayer.Kept as kept
-use Rattle.ssh_model.specs.TransportLayer.Kept.{Transport}
-use Rattle.ssh_model.specs.TransportLayer.Summary.{bit, is_keying}
+use Rattle.ssh_model.specs.Protocol.KeyExchange.Exchanges as session
+use Rattle.ssh_model.specs.Protocol.Sessions.Phases as model
+use Rattle.ssh_model.specs.State.TransportLayer.Directions.{Direction}
+use Rattle.ssh_model.specs.State.TransportLayer.Kept as kept
+use Rattle.ssh_model.specs.State.TransportLayer.Kept.{Transport}
+use Rattle.ssh_model.specs.State.TransportLayer.Summary.{bit, is_keying}
 use Rattle.ssh_packet.specs.Lines.{Ended, Ended.WithVersion, LineReading}
 use Rattle.ssh_transport_base.specs.Directions.{Receiver}
 use Rattle.ssh_transport_machine.specs.declared.machine.material.Material.{Material}

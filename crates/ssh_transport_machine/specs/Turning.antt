@@ -1,15 +1,15 @@
 -- What an end does with a payload that it took, once it is judged.
 use Rattle.std.specs.Prelude.{◌≡◌, ℕ, ◌<◌, ◌≤◌, ◌^◌, true, false, IsSome, List, Some, None, codes}
-use Rattle.ssh_model.specs.Side.{Side.Client, Side.Server}
-use Rattle.ssh_model.specs.Wire.Message.{Msg, Msg.KexInit, Msg.ServiceAccept, Msg.Unimplemented}
-use Rattle.ssh_model.specs.Wire.Sealing.{Crypto}
-use Rattle.ssh_model.specs.KeyExchange.Exchanges.{Material}
-use Rattle.ssh_model.specs.Sessions.Parties.{offer_of}
-use Rattle.ssh_model.specs.Sessions.Phases as model
-use Rattle.ssh_model.specs.Sessions.Refusals.{refusal_reason}
-use Rattle.ssh_model.specs.Sessions.TurnClaims.{HasSpelling}
-use Rattle.ssh_model.specs.TransportLayer.Directions.{renewed}
-use Rattle.ssh_model.specs.TransportLayer.Kept.{Transport, after_sent}
+use Rattle.ssh_model.specs.Protocol.Side.{Side.Client, Side.Server}
+use Rattle.ssh_model.specs.Protocol.Wire.Message.{Msg, Msg.KexInit, Msg.ServiceAccept, Msg.Unimplemented}
+use Rattle.ssh_model.specs.Protocol.Wire.Sealing.{Crypto}
+use Rattle.ssh_model.specs.Protocol.KeyExchange.Exchanges.{Material}
+use Rattle.ssh_model.specs.Protocol.Sessions.Parties.{offer_of}
+use Rattle.ssh_model.specs.Protocol.Sessions.Phases as model
+use Rattle.ssh_model.specs.Protocol.Sessions.Refusals.{refusal_reason}
+use Rattle.ssh_model.specs.Protocol.Sessions.TurnClaims.{HasSpelling}
+use Rattle.ssh_model.specs.State.TransportLayer.Directions.{renewed}
+use Rattle.ssh_model.specs.State.TransportLayer.Kept.{Transport, after_sent}
 use Rattle.ssh_types.specs.Refusals.{refusal_of}
 use Rattle.ssh_types.specs.declared.refusal.Refusal.{Refusal}
 use Rattle.ssh_transport_base.specs.Directions.{Receives}

@@ -1,14 +1,14 @@
 //! Laws of what begins and ends an exchange. Facts for proofs, at no cost.
 
 ghost use Rattle.std.specs.Prelude.{◌≡◌, ℕ, Bool, List, Option, Some, false, true};
-ghost use Rattle.ssh_model.specs.Side.{Side};
-ghost use Rattle.ssh_model.specs.Wire.Message.{Msg};
-ghost use Rattle.ssh_model.specs.Wire.Sealing.{Crypto};
-ghost use Rattle.ssh_model.specs.KeyExchange.Exchanges.{Material};
-ghost use Rattle.ssh_model.specs.Sessions.Items.{Ask, Item};
-ghost use Rattle.ssh_model.specs.Sessions.Parties.{Parties, Settings};
-ghost use Rattle.ssh_model.specs.TransportLayer.Kept.{Transport, after_own_kexinit, after_sent};
-ghost use Rattle.ssh_model.specs.TransportLayer.Summary.{SumsUp};
+ghost use Rattle.ssh_model.specs.Protocol.Side.{Side};
+ghost use Rattle.ssh_model.specs.Protocol.Wire.Message.{Msg};
+ghost use Rattle.ssh_model.specs.Protocol.Wire.Sealing.{Crypto};
+ghost use Rattle.ssh_model.specs.Protocol.KeyExchange.Exchanges.{Material};
+ghost use Rattle.ssh_model.specs.Protocol.Sessions.Items.{Ask, Item};
+ghost use Rattle.ssh_model.specs.Protocol.Sessions.Parties.{Parties, Settings};
+ghost use Rattle.ssh_model.specs.State.TransportLayer.Kept.{Transport, after_own_kexinit, after_sent};
+ghost use Rattle.ssh_model.specs.State.TransportLayer.Summary.{SumsUp};
 ghost use Rattle.ssh_transport_machine.specs.Asking.{AskDone};
 ghost use Rattle.ssh_transport_machine.specs.Choices.{IsChoosing};
 ghost use Rattle.ssh_transport_machine.specs.Finishing.{HasChoice, after_announced, forgotten, keyed};

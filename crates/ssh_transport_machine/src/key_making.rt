@@ -1,9 +1,9 @@
 //! The key of a direction.
 
 ghost use Rattle.std.specs.Prelude.{◌≡◌, ◌≤◌, IfOk, IsSome, length};
-ghost use Rattle.ssh_model.specs.Wire.DataTypes.{number};
-ghost use Rattle.ssh_model.specs.KeyExchange.Exchange.{derived};
-ghost use Rattle.ssh_model.specs.KeyExchange.Exchanges.{cipher_letter, iv_letter, mac_letter};
+ghost use Rattle.ssh_model.specs.Protocol.Wire.DataTypes.{number};
+ghost use Rattle.ssh_model.specs.Protocol.KeyExchange.Exchange.{derived};
+ghost use Rattle.ssh_model.specs.Protocol.KeyExchange.Exchanges.{cipher_letter, iv_letter, mac_letter};
 ghost use Rattle.ssh_kex.specs.Values.{letter_of};
 ghost use Rattle.ssh_packet.specs.Sealing.{lengths_of};
 ghost use Rattle.ssh_types.specs.Sides.{side_of};

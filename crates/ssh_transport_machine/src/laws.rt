@@ -2,17 +2,17 @@
 //! where what it keeps sums up the history of that end. Facts for proofs, at no cost.
 
 ghost use Rattle.std.specs.Prelude.{◌≡◌, ◌<◌, ◌+◌, ◌-◌, ◌^◌, Bool, List, Some, ℕ, false, true};
-ghost use Rattle.ssh_model.specs.Side.{Side};
-ghost use Rattle.ssh_model.specs.Wire.Message.{Msg};
-ghost use Rattle.ssh_model.specs.Wire.Sealing.{Crypto};
-ghost use Rattle.ssh_model.specs.Sessions.Items.{Ask, Ask.AskDisconnect, Item};
-ghost use Rattle.ssh_model.specs.Sessions.Parties.{Parties, Settings, settings_of};
-ghost use Rattle.ssh_model.specs.KeyExchange.Exchanges.{Material};
-ghost use Rattle.ssh_model.specs.Sessions.Phases.{Phase.Keying};
-ghost use Rattle.ssh_model.specs.TransportLayer.Directions.{Direction};
-ghost use Rattle.ssh_model.specs.TransportLayer.Kept.{Transport, after_fed, after_own_kexinit, after_sent, after_taken, can_be_fed};
-ghost use Rattle.ssh_model.specs.TransportLayer.Summary.{SumsUp};
-ghost use Rattle.ssh_model.specs.TransportLayer.Turns.{IsTransportAsk};
+ghost use Rattle.ssh_model.specs.Protocol.Side.{Side};
+ghost use Rattle.ssh_model.specs.Protocol.Wire.Message.{Msg};
+ghost use Rattle.ssh_model.specs.Protocol.Wire.Sealing.{Crypto};
+ghost use Rattle.ssh_model.specs.Protocol.Sessions.Items.{Ask, Ask.AskDisconnect, Item};
+ghost use Rattle.ssh_model.specs.Protocol.Sessions.Parties.{Parties, Settings, settings_of};
+ghost use Rattle.ssh_model.specs.Protocol.KeyExchange.Exchanges.{Material};
+ghost use Rattle.ssh_model.specs.Protocol.Sessions.Phases.{Phase.Keying};
+ghost use Rattle.ssh_model.specs.State.TransportLayer.Directions.{Direction};
+ghost use Rattle.ssh_model.specs.State.TransportLayer.Kept.{Transport, after_fed, after_own_kexinit, after_sent, after_taken, can_be_fed};
+ghost use Rattle.ssh_model.specs.State.TransportLayer.Summary.{SumsUp};
+ghost use Rattle.ssh_model.specs.State.TransportLayer.Turns.{IsTransportAsk};
 ghost use Rattle.ssh_transport_machine.specs.Asking.{AskDone, DisconnectDone};
 ghost use Rattle.ssh_transport_machine.specs.LineTurns.{LineTaken};
 ghost use Rattle.ssh_transport_machine.specs.Opening.{IsOpened};

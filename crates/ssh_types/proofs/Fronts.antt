@@ -1,7 +1,7 @@
 -- What stands in front of bytes as a string, and when no string does.
 use Rattle.std.proofs.Common.{◌≡◌, ℕ, ◌<◌, List, ◌++◌, length, refl, sym, ap, ◌∙◌, append_assoc, length-append, arith}
-use Rattle.ssh_model.specs.Wire.DataTypes.{IsUint32, IsString}
-use Rattle.ssh_model.specs.Wire.Reading.{Reads, NoFront}
+use Rattle.ssh_model.specs.Protocol.Wire.DataTypes.{IsUint32, IsString}
+use Rattle.ssh_model.specs.Laws.Reading.{Reads, NoFront}
 use Rattle.ssh_model.specs.Laws.Spellings.{one_uint32}
 
 -- no length, no string

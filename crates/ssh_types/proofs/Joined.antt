@@ -9,11 +9,11 @@ use Rattle.std.proofs.lemmas.List.Quantifiers.{position-Some}
 use Rattle.std.proofs.lemmas.List.Sums.{fails_before_first, count_by-le-length}
 use Rattle.std.proofs.lemmas.List.Splits.{slice_split_none, slice_split_at, length-slice_split, join_with_byte-slice_split}
 use Rattle.std.proofs.lemmas.List.Folds.{list_all-append}
-use Rattle.ssh_model.specs.Wire.DataTypes.{is_comma, is_name, IsString, IsNameText, IsNameList}
-use Rattle.ssh_model.specs.Wire.Reading.{Reads, NoFront, Writes}
+use Rattle.ssh_model.specs.Protocol.Wire.DataTypes.{is_comma, is_name, IsString, IsNameText, IsNameList}
+use Rattle.ssh_model.specs.Laws.Reading.{Reads, NoFront, Writes}
 use Rattle.ssh_types.specs.Names.{Pushes, names_of, are_names}
 use Rattle.ssh_types.specs.Values.{IsBadNames}
-use Rattle.ssh_model.specs.Wire.Sizes.{names_size}
+use Rattle.ssh_model.specs.Laws.Sizes.{names_size}
 use Rattle.ssh_model.specs.Laws.Names.{name_facts, one_more, split_joined, text_length}
 use Rattle.ssh_model.specs.Laws.Spellings.{one_string}
 

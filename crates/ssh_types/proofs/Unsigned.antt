@@ -2,8 +2,8 @@
 use Rattle.std.proofs.Common.{◌≡◌, ℕ, zero, suc, ◌+◌, ◌*◌, ◌^◌, List, [], ◌∷◌, ◌++◌, length, refl, sym, ap, ◌∙◌, arith}
 use Rattle.byteorder.specs.Endian.{big_from}
 use Rattle.byteorder.specs.Numbers.{big_from-cons}
-use Rattle.ssh_model.specs.Wire.DataTypes.{AreBytes, number, IsUnsigned}
-use Rattle.ssh_model.specs.Wire.Reading.{Reads}
+use Rattle.ssh_model.specs.Protocol.Wire.DataTypes.{AreBytes, number, IsUnsigned}
+use Rattle.ssh_model.specs.Laws.Reading.{Reads}
 
 -- what all of the bytes are read as is their number
 number_of_big : (size : ℕ) (bs : List ℕ) → length bs ≡ size → big_from 0 size bs ≡ number bs

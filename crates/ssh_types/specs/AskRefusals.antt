@@ -1,5 +1,5 @@
 -- The refusals of an ask in the words of the model.
-use Rattle.ssh_model.specs.Sessions.Refusals as model
+use Rattle.ssh_model.specs.Protocol.Sessions.Refusals as model
 use Rattle.ssh_types.specs.declared.ask_refusal.AskRefusal.{AskRefusal}
 use Rattle.ssh_types.specs.declared.ask_refusal.AskRefusal.TheVariants.{NotYet, Busy, NoChannel, NoRoom, TooLong, Ended, TableFull, NothingOwed, RekeyDue, TooMuch, WrongSide, NoMaterial}
 

@@ -1,7 +1,7 @@
 -- The names that stand between the commas of a text.
 use Rattle.std.specs.Prelude.{◌≡◌, ℕ, Bool, true, List, [], ◌∷◌, ◌++◌, Result, OnOk}
 use Rattle.std.specs.List.{slice_split, list_all}
-use Rattle.ssh_model.specs.Wire.DataTypes.{is_comma, is_name}
+use Rattle.ssh_model.specs.Protocol.Wire.DataTypes.{is_comma, is_name}
 
 -- the empty text has none
 abbrev pub names_of : List ℕ → List (List ℕ)

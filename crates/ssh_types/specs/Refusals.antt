@@ -1,5 +1,5 @@
 -- The refusals of a peer in the words of the model.
-use Rattle.ssh_model.specs.Sessions.Refusals as model
+use Rattle.ssh_model.specs.Protocol.Sessions.Refusals as model
 use Rattle.ssh_types.specs.declared.refusal.Refusal.{Refusal}
 use Rattle.ssh_types.specs.declared.refusal.Refusal.TheVariants.{BadLine, BadVersion, BadLength, BadPadding, BadTag, BadMessage, Unexpected, NoCommon, NotStrict, BadPoint, BadHost, NoMaterial, NoService, NumberSpent, TooManyTries, UnknownChannel, WindowOverrun, WindowTooLarge, OwedFull}
 

@@ -1,5 +1,5 @@
 -- The two ends in the words of the model.
-use Rattle.ssh_model.specs.Side as model
+use Rattle.ssh_model.specs.Protocol.Side as model
 use Rattle.ssh_types.specs.declared.side.Side.{Side}
 use Rattle.ssh_types.specs.declared.side.Side.TheVariants.{Client, Server}
 

@@ -1,7 +1,7 @@
 -- A value has one spelling.
 use Rattle.std.proofs.Common.{◌≡◌, ℕ, List, ◌++◌, length, refl, sym, ap, subst, ◌∙◌}
-use Rattle.ssh_model.specs.Wire.DataTypes.{IsByte, IsWrittenBoolean, IsUnsigned, IsUint32, IsUint64, IsString, IsMpint, IsNameList}
-use Rattle.ssh_model.specs.Wire.Reading.{OneSpelling}
+use Rattle.ssh_model.specs.Protocol.Wire.DataTypes.{IsByte, IsWrittenBoolean, IsUnsigned, IsUint32, IsUint64, IsString, IsMpint, IsNameList}
+use Rattle.ssh_model.specs.Laws.Reading.{OneSpelling}
 use Rattle.ssh_types.specs.WholeNumbers.{one_list, one_shortest}
 
 pub byte_spelling : OneSpelling IsByte

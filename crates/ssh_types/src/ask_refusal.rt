@@ -45,7 +45,7 @@ pub enum AskRefusal {
 
 impl AskRefusal {
     ghost use Rattle.std.specs.Prelude.{◌≡◌};
-    ghost use Rattle.ssh_model.specs.Sessions.Refusals.{ask_refusal_name, ask_refusal_number};
+    ghost use Rattle.ssh_model.specs.Protocol.Sessions.Refusals.{ask_refusal_name, ask_refusal_number};
     ghost use Rattle.ssh_types.specs.AskRefusals.{ask_refusal_of};
 
     /// The number of the refusal, 1 to 12.

@@ -1,5 +1,5 @@
 ghost use Rattle.std.specs.Prelude.{IsTrue};
-ghost use Rattle.ssh_model.specs.Wire.DataTypes.{is_name as passes_name};
+ghost use Rattle.ssh_model.specs.Protocol.Wire.DataTypes.{is_name as passes_name};
 
 use crate::name_bytes::is_name;
 

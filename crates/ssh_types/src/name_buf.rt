@@ -1,5 +1,5 @@
 ghost use Rattle.std.specs.Prelude.{IsTrue, ◌≤◌, take};
-ghost use Rattle.ssh_model.specs.Wire.DataTypes.{is_name as passes_name};
+ghost use Rattle.ssh_model.specs.Protocol.Wire.DataTypes.{is_name as passes_name};
 
 use crate::name::Name;
 
@@ -9,7 +9,7 @@ pub const MOST_NAME_BYTES: usize = 64;
 /// A name that owns its bytes, without an allocation: what was chosen of a message outlives the message.
 #[derive(Clone, Copy, Debug)]
 pub struct NameBuf {
-    // The bytes of the name, and behind them zeros.
+    // The bytes of the name, and after them zeros.
     bytes: [u8; MOST_NAME_BYTES],
     len: usize,
     ghost fits: { len ≤ 64 },

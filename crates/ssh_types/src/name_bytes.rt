@@ -2,7 +2,7 @@
 
 ghost use Rattle.std.specs.Prelude.{◌≡◌, ◌==◌, ◌≤◌, ◌++◌, [], ◌∷◌, IfSome, IfNone, IsTrue, OnErr, OnOk, count_by, length};
 ghost use Rattle.std.specs.List.{list_all, position, slice_split};
-ghost use Rattle.ssh_model.specs.Wire.DataTypes.{is_comma, is_name as passes_name, is_name_byte};
+ghost use Rattle.ssh_model.specs.Protocol.Wire.DataTypes.{is_comma, is_name as passes_name, is_name_byte};
 ghost use Rattle.ssh_types.specs.Names.{Pushes, are_names as passes_names};
 
 use std::alloc::AllocError;
@@ -58,7 +58,7 @@ fn first_comma(text: &[u8]) -> Option<usize>
     text.iter().position(|c| *c == b',')
 }
 
-// Puts a name behind the names of a text.
+// Puts a name after the names of a text.
 pub(crate) fn push_name(text: &mut Vec<u8>, name: &[u8]) -> Result<(), AllocError>
     requires names { IsTrue (passes_names text.old.items) }
     requires name { IsTrue (passes_name name.now) }
@@ -82,7 +82,7 @@ fn push_first(text: &mut Vec<u8>, name: &[u8]) -> Result<(), AllocError>
     put(text, name)
 }
 
-// Puts bytes behind a text.
+// Puts bytes after a text.
 fn put(text: &mut Vec<u8>, bytes: &[u8]) -> Result<(), AllocError>
     ensures put { OnOk result (text.new.items ≡ text.old.items ++ bytes.now) }
     ensures kept { OnErr result (text.new.items ≡ text.old.items) }
@@ -90,7 +90,7 @@ fn put(text: &mut Vec<u8>, bytes: &[u8]) -> Result<(), AllocError>
     text.extend_from_slice(bytes)
 }
 
-// Puts a comma and a name behind a text.
+// Puts a comma and a name after a text.
 #[tactic(auto, using(crate::proofs::Joined::pushes_more))]
 fn push_behind(text: &mut Vec<u8>, name: &[u8]) -> Result<(), AllocError>
     requires some { 1 ≤ length text.old.items }
@@ -102,7 +102,7 @@ fn push_behind(text: &mut Vec<u8>, name: &[u8]) -> Result<(), AllocError>
     put_behind(text, name)
 }
 
-// Puts a comma and bytes behind a text.
+// Puts a comma and bytes after a text.
 fn put_behind(text: &mut Vec<u8>, bytes: &[u8]) -> Result<(), AllocError>
     ensures put { OnOk result (text.new.items ≡ text.old.items ++ (44 ∷ bytes.now)) }
     ensures kept { OnErr result (text.new.items ≡ text.old.items) }

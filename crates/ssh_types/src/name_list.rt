@@ -21,7 +21,7 @@ impl<'a> NameList<'a> {
     ghost use Rattle.std.specs.Prelude.{◌≡◌, ◌↔◌, ℕ, ◌<◌, ◌^◌, length, List, [], ◌∷◌, IfSome, IfNone, is_some};
     ghost use Rattle.std.specs.List.{slice_get, Contains};
     ghost use Rattle.std.specs.Option.{option_map};
-    ghost use Rattle.ssh_model.specs.Wire.DataTypes.{IsNameText};
+    ghost use Rattle.ssh_model.specs.Protocol.Wire.DataTypes.{IsNameText};
     ghost use Rattle.ssh_types.specs.Values.{name_text, names, names_text, names_left};
 
     /// The list that the text is, or `None` where the text isn't empty and a part of it between commas is no name.

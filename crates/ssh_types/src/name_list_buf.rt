@@ -39,7 +39,7 @@ impl NameListBuf {
         })
     }
 
-    /// Puts a name behind those that are there.
+    /// Puts a name after those that are there.
     ///
     /// # Errors
     ///

@@ -1,7 +1,7 @@
 ghost use Rattle.std.specs.Prelude.{◌≡◌, ◌<◌, ◌≤◌, ◌+◌, ◌^◌, ◌++◌, List, ℕ, length, OnOk, OnErr, vec_capacity};
-ghost use Rattle.ssh_model.specs.Wire.DataTypes.{IsByte, IsWrittenBoolean, IsUint32, IsUint64, IsString, IsMpint, IsNameList};
-ghost use Rattle.ssh_model.specs.Wire.Reading.{Writes, Extends};
-ghost use Rattle.ssh_model.specs.Wire.Sizes.{names_size};
+ghost use Rattle.ssh_model.specs.Protocol.Wire.DataTypes.{IsByte, IsWrittenBoolean, IsUint32, IsUint64, IsString, IsMpint, IsNameList};
+ghost use Rattle.ssh_model.specs.Laws.Reading.{Writes, Extends};
+ghost use Rattle.ssh_model.specs.Laws.Sizes.{names_size};
 ghost use Rattle.ssh_types.specs.Values.{value_of, bytes_of, names, names_text};
 
 use crate::laws::are_bytes;

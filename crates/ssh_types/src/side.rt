@@ -1,5 +1,5 @@
 ghost use Rattle.std.specs.Prelude.{◌≡◌};
-ghost use Rattle.ssh_model.specs.Side.{peer as peer_of};
+ghost use Rattle.ssh_model.specs.Protocol.Side.{peer as peer_of};
 
 /// One of the two ends of a connection (RFC 4253 section 1).
 #[derive(Clone, Copy, Debug, PartialEq, Eq)]

@@ -28,8 +28,8 @@ pub struct Case {
 }
 
 impl Model for Case {
-    ghost use Rattle.ssh_model.specs.Wire.Packet.{with_length};
-    ghost use Rattle.ssh_model.specs.Wire.Sealing.{IsBegun};
+    ghost use Rattle.ssh_model.specs.Protocol.Wire.Packet.{with_length};
+    ghost use Rattle.ssh_model.specs.Protocol.Wire.Sealing.{IsBegun};
     ghost use Rattle.ssh_packet.specs.Reading.{Reading};
 
     ghost Value = { Reading };

@@ -3,9 +3,9 @@
 ghost use Rattle.std.specs.Prelude.{◌≡◌, ◌≤◌, Some, None, IfOk, IfErr, OnOk, OnErr, true, false};
 ghost use Rattle.ssh_message.specs.Meaning.{meaning};
 ghost use Rattle.ssh_message.specs.Written.{Fits};
-ghost use Rattle.ssh_model.specs.Wire.Sizes.{payload_size};
-ghost use Rattle.ssh_model.specs.Sessions.Refusals.{first_refusal};
-ghost use Rattle.ssh_model.specs.Channels.Kept.{Sends, send_checks};
+ghost use Rattle.ssh_model.specs.Laws.Sizes.{payload_size};
+ghost use Rattle.ssh_model.specs.Protocol.Sessions.Refusals.{first_refusal};
+ghost use Rattle.ssh_model.specs.State.Channels.Kept.{Sends, send_checks};
 ghost use Rattle.ssh_channels.specs.Rows.{IsAskError, is_busy};
 ghost use Rattle.ssh_channels.specs.Sessions.{AsksInSession};
 ghost use Rattle.ssh_channels.specs.Values.{ask_of, sent_of};

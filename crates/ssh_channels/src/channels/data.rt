@@ -5,12 +5,12 @@ ghost use Rattle.ssh_types.specs.AskRefusals.{ask_refusal_of};
 ghost use Rattle.ssh_types.specs.Refusals.{refusal_of};
 ghost use Rattle.ssh_message.specs.Meaning.{meaning};
 ghost use Rattle.ssh_message.specs.Written.{Fits};
-ghost use Rattle.ssh_model.specs.Wire.Message as Msg;
-ghost use Rattle.ssh_model.specs.Wire.Sizes.{payload_size};
-ghost use Rattle.ssh_model.specs.Sessions.Items as Ask;
-ghost use Rattle.ssh_model.specs.Sessions.Refusals.{first_refusal};
-ghost use Rattle.ssh_model.specs.Channels.Places.{at};
-ghost use Rattle.ssh_model.specs.Channels.Kept.{Sends, Takes, data_checks, send_checks, take_checks};
+ghost use Rattle.ssh_model.specs.Protocol.Wire.Message as Msg;
+ghost use Rattle.ssh_model.specs.Laws.Sizes.{payload_size};
+ghost use Rattle.ssh_model.specs.Protocol.Sessions.Items as Ask;
+ghost use Rattle.ssh_model.specs.Protocol.Sessions.Refusals.{first_refusal};
+ghost use Rattle.ssh_model.specs.State.Channels.Places.{at};
+ghost use Rattle.ssh_model.specs.State.Channels.Kept.{Sends, Takes, data_checks, send_checks, take_checks};
 ghost use Rattle.ssh_channels.specs.Rows.{data_message};
 ghost use Rattle.ssh_channels.specs.Values.{sent_of, taken_of};
 

@@ -1,8 +1,8 @@
 //! What is shown of the channels.
 
 ghost use Rattle.std.specs.Prelude.{length, ◌≡◌, option_map};
-ghost use Rattle.ssh_model.specs.Channels.Places.{at, shown_room, shown_state};
-ghost use Rattle.ssh_model.specs.Channels.Kept.{used};
+ghost use Rattle.ssh_model.specs.State.Channels.Places.{at, shown_room, shown_state};
+ghost use Rattle.ssh_model.specs.State.Channels.Kept.{used};
 ghost use Rattle.ssh_channels.specs.Sessions.{IsCountInSession, IsRoomInSession, IsStateInSession};
 ghost use Rattle.ssh_channels.specs.Values.{state_of};
 

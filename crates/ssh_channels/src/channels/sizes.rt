@@ -1,9 +1,9 @@
 //! The sizes of what is sent.
 
 ghost use Rattle.std.specs.Prelude.{◌≡◌, ◌+◌, ◌≤◌, length};
-ghost use Rattle.ssh_model.specs.Channels.Connection.{is_max_packet};
-ghost use Rattle.ssh_model.specs.Sessions.Sizes.{string_size};
-ghost use Rattle.ssh_model.specs.Sessions.Sizes as model;
+ghost use Rattle.ssh_model.specs.Protocol.Channels.Connection.{is_max_packet};
+ghost use Rattle.ssh_model.specs.Protocol.Sessions.Sizes.{string_size};
+ghost use Rattle.ssh_model.specs.Protocol.Sessions.Sizes as model;
 
 // The most bytes of a payload.
 const LONGEST_PAYLOAD: usize = 34_000;

@@ -2,8 +2,8 @@
 
 ghost use Rattle.std.specs.Prelude.{◌≡◌, Some, None, IfOk, IfErr, OnOk, OnErr};
 ghost use Rattle.ssh_message.specs.Meaning.{meaning};
-ghost use Rattle.ssh_model.specs.Sessions.Refusals.{first_refusal};
-ghost use Rattle.ssh_model.specs.Channels.Kept.{Takes};
+ghost use Rattle.ssh_model.specs.Protocol.Sessions.Refusals.{first_refusal};
+ghost use Rattle.ssh_model.specs.State.Channels.Kept.{Takes};
 ghost use Rattle.ssh_channels.specs.Rows.{IsTakeError, message_checks};
 ghost use Rattle.ssh_channels.specs.Sessions.{TakesInSession};
 ghost use Rattle.ssh_channels.specs.Values.{taken_of};

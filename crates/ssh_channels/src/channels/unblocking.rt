@@ -1,7 +1,7 @@
 //! The replies that were owed.
 
 ghost use Rattle.std.specs.Prelude.{◌≡◌, ◌∷◌, [], option_map, IfSome, IfNone};
-ghost use Rattle.ssh_model.specs.Channels.Kept.{Unblocks};
+ghost use Rattle.ssh_model.specs.State.Channels.Kept.{Unblocks};
 ghost use Rattle.ssh_channels.specs.Values.{reply_of};
 ghost use Rattle.ssh_channels.specs.Sessions.{UnblocksInSession};
 

@@ -1,7 +1,7 @@
 //! What a client does on an ask of its user.
 
 ghost use Rattle.std.specs.Prelude.{◌≡◌, IfErr, OnErr, map, false};
-ghost use Rattle.ssh_model.specs.Side.{Side};
+ghost use Rattle.ssh_model.specs.Protocol.Side.{Side};
 ghost use Rattle.ssh_transport_machine.specs.Standing.{Stands};
 ghost use Rattle.ssh_end.specs.Asking.{ClientInSession, ClientRow, Fails, KeepsLayers, ask_of};
 ghost use Rattle.ssh_end.specs.Reading.{SameReading};

@@ -1,9 +1,9 @@
 //! Asks for a message of the connection.
 
 ghost use Rattle.std.specs.Prelude.{◌≡◌, ◌≤◌, IfErr, IfOk, OnErr, map, true, false};
-ghost use Rattle.ssh_model.specs.Side.{Side};
-ghost use Rattle.ssh_model.specs.Wire.Message.{FitsContext};
-ghost use Rattle.ssh_model.specs.Wire.Sizes.{payload_size};
+ghost use Rattle.ssh_model.specs.Protocol.Side.{Side};
+ghost use Rattle.ssh_model.specs.Protocol.Wire.Message.{FitsContext};
+ghost use Rattle.ssh_model.specs.Laws.Sizes.{payload_size};
 ghost use Rattle.ssh_message.specs.Meaning.{meaning};
 ghost use Rattle.ssh_message.specs.Written.{Fits};
 ghost use Rattle.ssh_channels.specs.Values.{ask_of, sent_of};

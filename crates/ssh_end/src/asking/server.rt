@@ -1,7 +1,7 @@
 //! What a server does on an ask of its user.
 
 ghost use Rattle.std.specs.Prelude.{◌≡◌, IfErr, OnErr, cond, map, false};
-ghost use Rattle.ssh_model.specs.Side.{Side, Side.Server};
+ghost use Rattle.ssh_model.specs.Protocol.Side.{Side, Side.Server};
 ghost use Rattle.ssh_transport_machine.specs.Standing.{Stands};
 ghost use Rattle.ssh_types.specs.declared.ask_refusal.AskRefusal.TheVariants.{WrongSide};
 ghost use Rattle.ssh_end.specs.Asking.{EndRow, Fails, InSession, KeepsLayers, ask_of};

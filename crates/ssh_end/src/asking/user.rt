@@ -1,8 +1,8 @@
 //! Asks for a request of a user, at a client.
 
 ghost use Rattle.std.specs.Prelude.{◌≡◌, IfErr, IfOk, OnErr, List, Some, map, true, ℕ, false};
-ghost use Rattle.ssh_model.specs.Side.{Side};
-ghost use Rattle.ssh_model.specs.Wire.Message.{FitsContext};
+ghost use Rattle.ssh_model.specs.Protocol.Side.{Side};
+ghost use Rattle.ssh_model.specs.Protocol.Wire.Message.{FitsContext};
 ghost use Rattle.ssh_auth.specs.Asking.{ask_of};
 ghost use Rattle.ssh_transport_machine.specs.Standing.{Stands};
 ghost use Rattle.ssh_end.specs.Asking.{Fails, GivenFails, KeepsLayers, RequestSent, UserRow};

@@ -1,19 +1,19 @@
 -- What the layers above a client's transport make of a payload is what an end makes of it.
 use Rattle.std.proofs.Common.{◌≡◌, ℕ, ◌≤◌, ◌<◌, ◌^◌, List, [], ◌∷◌, refl, sym, subst, None}
-use Rattle.ssh_model.specs.Wire.Message.{Msg, Msg.Unimplemented}
-use Rattle.ssh_model.specs.Authentication.Kept as kept
-use Rattle.ssh_model.specs.Authentication.Summary.{items_of}
-use Rattle.ssh_model.specs.Channels.Kept.{Channels}
-use Rattle.ssh_model.specs.Channels.Summary.{told}
-use Rattle.ssh_model.specs.Sessions.Items.{Item.Sent}
-use Rattle.ssh_model.specs.Sessions.Parties.{Parties}
-use Rattle.ssh_model.specs.Sessions.Phases.{Phase.Normal}
-use Rattle.ssh_model.specs.Sessions.Refusals.{Refusal}
-use Rattle.ssh_model.specs.Sessions.Turns.{number_of}
-use Rattle.ssh_model.specs.TransportLayer.Kept.{Transport}
-use Rattle.ssh_model.specs.End.Payloads as above
-use Rattle.ssh_model.specs.End.Payloads.{AnswersAbove, ReadsAbove, RefusesAbove, reply_items}
-use Rattle.ssh_model.specs.End.State.{Authentication.OfClient}
+use Rattle.ssh_model.specs.Protocol.Wire.Message.{Msg, Msg.Unimplemented}
+use Rattle.ssh_model.specs.State.Authentication.Kept as kept
+use Rattle.ssh_model.specs.State.Authentication.Summary.{items_of}
+use Rattle.ssh_model.specs.State.Channels.Kept.{Channels}
+use Rattle.ssh_model.specs.State.Channels.Summary.{told}
+use Rattle.ssh_model.specs.Protocol.Sessions.Items.{Item.Sent}
+use Rattle.ssh_model.specs.Protocol.Sessions.Parties.{Parties}
+use Rattle.ssh_model.specs.Protocol.Sessions.Phases.{Phase.Normal}
+use Rattle.ssh_model.specs.Protocol.Sessions.Refusals.{Refusal}
+use Rattle.ssh_model.specs.Protocol.Sessions.Turns.{number_of}
+use Rattle.ssh_model.specs.State.TransportLayer.Kept.{Transport}
+use Rattle.ssh_model.specs.State.End.Payloads as above
+use Rattle.ssh_model.specs.State.End.Payloads.{AnswersAbove, ReadsAbove, RefusesAbove, reply_items}
+use Rattle.ssh_model.specs.State.End.State.{Authentication.OfClient}
 use Rattle.ssh_auth.specs.Asking.{client_answered}
 use Rattle.ssh_channels.specs.Values.{taken_of}
 use Rattle.ssh_layers.specs.ClientLayers as layers

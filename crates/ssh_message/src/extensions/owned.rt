@@ -9,7 +9,7 @@ use std::alloc::{AllocError, Global};
 #[derive(Drop)]
 pub struct ExtensionsBuf {
     count: u32,
-    // Names and values, as an EXT_INFO has them behind their count.
+    // Names and values, as an EXT_INFO has them after their count.
     bytes: Vec<u8>,
     ghost checked: { IsTrue (passes_extensions count bytes.items) },
 }

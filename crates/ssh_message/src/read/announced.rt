@@ -1,7 +1,7 @@
 // The extensions of an EXT_INFO (RFC 8308 section 2.3).
 
 ghost use Rattle.std.specs.Prelude.{List};
-ghost use Rattle.ssh_model.specs.Wire.Message.{Extension as announced};
+ghost use Rattle.ssh_model.specs.Protocol.Wire.Message.{Extension as announced};
 ghost use Rattle.ssh_message.specs.Announced.{extensions_of, IsAnnounced};
 
 use crate::extensions::Extensions;

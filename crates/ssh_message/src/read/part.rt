@@ -2,9 +2,9 @@
 // is its first value and then its second, up to the end.
 
 ghost use Rattle.std.specs.Prelude.{◌≡◌, List, ℕ, Bool, length, IfOk, IfErr};
-ghost use Rattle.ssh_model.specs.Wire.DataTypes.{IsBoolean, IsUint32, IsString, IsNameList};
-ghost use Rattle.ssh_model.specs.Wire.Reading.{Reads, NoFront, OneForm};
-ghost use Rattle.ssh_model.specs.Wire.Message.{IsCookie, IsRest};
+ghost use Rattle.ssh_model.specs.Protocol.Wire.DataTypes.{IsBoolean, IsUint32, IsString, IsNameList};
+ghost use Rattle.ssh_model.specs.Laws.Reading.{Reads, NoFront, OneForm};
+ghost use Rattle.ssh_model.specs.Protocol.Wire.Message.{IsCookie, IsRest};
 ghost use Rattle.ssh_types.specs.Values.{names, names_text};
 ghost use Rattle.ssh_message.specs.Meaning.{IsZero};
 ghost use Rattle.ssh_message.specs.Parts.{Both, IsNothing, NoWhole, one_zero};

@@ -1,10 +1,10 @@
 // The messages of authentication (RFC 4252).
 
 ghost use Rattle.std.specs.Prelude.{◌≡◌, OnOk, OnErr, ◌<◌, ◌+◌, length, vec_capacity};
-ghost use Rattle.ssh_model.specs.Wire.Sizes.{payload_size};
-ghost use Rattle.ssh_model.specs.Wire.DataTypes.{IsWrittenBoolean};
-ghost use Rattle.ssh_model.specs.Wire.Reading.{Writes};
-ghost use Rattle.ssh_model.specs.Wire.Message.{IsRow, UserauthRequest, UserauthFailure, UserauthSuccess, UserauthBanner, UserauthPkOk};
+ghost use Rattle.ssh_model.specs.Laws.Sizes.{payload_size};
+ghost use Rattle.ssh_model.specs.Protocol.Wire.DataTypes.{IsWrittenBoolean};
+ghost use Rattle.ssh_model.specs.Laws.Reading.{Writes};
+ghost use Rattle.ssh_model.specs.Protocol.Wire.Message.{IsRow, UserauthRequest, UserauthFailure, UserauthSuccess, UserauthBanner, UserauthPkOk};
 ghost use Rattle.ssh_types.specs.Values.{names, names_text};
 ghost use Rattle.ssh_message.specs.Meaning.{method_meaning};
 ghost use Rattle.ssh_message.specs.Written.{IsShort, MethodFits};

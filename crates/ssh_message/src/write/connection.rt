@@ -1,10 +1,10 @@
 // The messages of channels (RFC 4254).
 
 ghost use Rattle.std.specs.Prelude.{◌≡◌, OnOk, OnErr, ◌<◌, ◌+◌, length, vec_capacity};
-ghost use Rattle.ssh_model.specs.Wire.Sizes.{payload_size};
-ghost use Rattle.ssh_model.specs.Wire.DataTypes.{IsWrittenBoolean};
-ghost use Rattle.ssh_model.specs.Wire.Reading.{Writes};
-ghost use Rattle.ssh_model.specs.Wire.Message.{IsRow, GlobalRequest, RequestSuccess, RequestFailure, ChannelOpen, ChannelOpenConfirmation, ChannelOpenFailure, ChannelWindowAdjust, ChannelData, ChannelExtendedData, ChannelEof, ChannelClose, ChannelRequest, ChannelSuccess, ChannelFailure};
+ghost use Rattle.ssh_model.specs.Laws.Sizes.{payload_size};
+ghost use Rattle.ssh_model.specs.Protocol.Wire.DataTypes.{IsWrittenBoolean};
+ghost use Rattle.ssh_model.specs.Laws.Reading.{Writes};
+ghost use Rattle.ssh_model.specs.Protocol.Wire.Message.{IsRow, GlobalRequest, RequestSuccess, RequestFailure, ChannelOpen, ChannelOpenConfirmation, ChannelOpenFailure, ChannelWindowAdjust, ChannelData, ChannelExtendedData, ChannelEof, ChannelClose, ChannelRequest, ChannelSuccess, ChannelFailure};
 ghost use Rattle.ssh_message.specs.Written.{IsShort};
 
 use crate::write::field::Field;

@@ -1,8 +1,8 @@
 // A field of a message, and how it is written (RFC 4251 section 5).
 
 ghost use Rattle.std.specs.Prelude.{◌≡◌, ◌<◌, ◌≤◌, ◌+◌, length, vec_capacity, OnOk, OnErr};
-ghost use Rattle.ssh_model.specs.Wire.Message.{IsCookie};
-ghost use Rattle.ssh_model.specs.Wire.Reading.{Writes};
+ghost use Rattle.ssh_model.specs.Protocol.Wire.Message.{IsCookie};
+ghost use Rattle.ssh_model.specs.Laws.Reading.{Writes};
 ghost use Rattle.ssh_message.specs.Fields.{field_size, FieldFits, IsField};
 
 use ssh_types::{NameList, Put};

@@ -1,10 +1,10 @@
 // The requests for authentication, one function a method (RFC 4252 sections 5.2, 7 and 8).
 
 ghost use Rattle.std.specs.Prelude.{◌≡◌, Some, None, OnOk, OnErr, ◌<◌, ◌+◌, length, vec_capacity};
-ghost use Rattle.ssh_model.specs.Wire.Sizes.{payload_size};
-ghost use Rattle.ssh_model.specs.Wire.DataTypes.{IsWrittenBoolean};
-ghost use Rattle.ssh_model.specs.Wire.Reading.{Writes};
-ghost use Rattle.ssh_model.specs.Wire.Message.{IsRow, IsOther, UserauthRequest, NoMethod, Password, Publickey, Other};
+ghost use Rattle.ssh_model.specs.Laws.Sizes.{payload_size};
+ghost use Rattle.ssh_model.specs.Protocol.Wire.DataTypes.{IsWrittenBoolean};
+ghost use Rattle.ssh_model.specs.Laws.Reading.{Writes};
+ghost use Rattle.ssh_model.specs.Protocol.Wire.Message.{IsRow, IsOther, UserauthRequest, NoMethod, Password, Publickey, Other};
 ghost use Rattle.ssh_message.specs.Written.{IsShort};
 
 use crate::write::field::Field;

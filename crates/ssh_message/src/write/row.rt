@@ -1,7 +1,7 @@
 // The payload of a message: its number, its fields, and what follows them.
 
 ghost use Rattle.std.specs.Prelude.{◌≡◌, ◌<◌, ◌+◌, length, vec_capacity, OnOk, OnErr};
-ghost use Rattle.ssh_model.specs.Wire.Reading.{Writes};
+ghost use Rattle.ssh_model.specs.Laws.Reading.{Writes};
 ghost use Rattle.ssh_message.specs.Fields.{row_size, AreFit, IsRowOf};
 ghost use Rattle.ssh_message.specs.Written.{Grown};
 

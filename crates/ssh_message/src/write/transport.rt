@@ -1,10 +1,10 @@
 // The messages of the transport (RFC 4253).
 
 ghost use Rattle.std.specs.Prelude.{◌≡◌, [], ◌∷◌, ◌++◌, OnOk, OnErr, ◌<◌, ◌+◌, length, vec_capacity};
-ghost use Rattle.ssh_model.specs.Wire.Sizes.{payload_size};
-ghost use Rattle.ssh_model.specs.Wire.DataTypes.{IsWrittenBoolean};
-ghost use Rattle.ssh_model.specs.Wire.Reading.{Writes};
-ghost use Rattle.ssh_model.specs.Wire.Message.{IsRow, Disconnect, Ignore, Unimplemented, Debug, ServiceRequest, ServiceAccept, ExtInfo, NewKeys, Unknown};
+ghost use Rattle.ssh_model.specs.Laws.Sizes.{payload_size};
+ghost use Rattle.ssh_model.specs.Protocol.Wire.DataTypes.{IsWrittenBoolean};
+ghost use Rattle.ssh_model.specs.Laws.Reading.{Writes};
+ghost use Rattle.ssh_model.specs.Protocol.Wire.Message.{IsRow, Disconnect, Ignore, Unimplemented, Debug, ServiceRequest, ServiceAccept, ExtInfo, NewKeys, Unknown};
 ghost use Rattle.ssh_message.specs.Announced.{extensions_of};
 ghost use Rattle.ssh_message.specs.Written.{IsShort};
 

@@ -1,13 +1,13 @@
 -- What may be taken before there is a key: the exchange and 1 to 4, whose numbers are all known.
 use Rattle.std.proofs.Common.{◌≡◌, ℕ, zero, suc, ◌<◌, ◌⊎◌, inl, inr, refl, ap, sym, ◌∙◌, arith, List, nat_le, Bool, true, false, ◌||◌, ◌==◌, eqb-true}
 use Rattle.std.proofs.lemmas.Bool.{leb-true}
-use Rattle.ssh_model.specs.Side.{Side, Side.Client, Side.Server}
-use Rattle.ssh_model.specs.Wire.Message.{is_unknown}
-use Rattle.ssh_model.specs.Sessions.Items.{Item, took}
-use Rattle.ssh_model.specs.Sessions.Epochs.{epoch}
-use Rattle.ssh_model.specs.KeyExchange.Exchanges.{is_strict}
-use Rattle.ssh_model.specs.Sessions.Phases.{Phase, Phase.Start, Phase.Guessed, Phase.Exchanging, Phase.Keying, Phase.Normal, awaited, is_general, is_allowed_at_first, is_allowed_during_exchange, may_take_in}
-use Rattle.ssh_model.specs.Sessions.AnyPeer.{is_allowed_in_clear}
+use Rattle.ssh_model.specs.Protocol.Side.{Side, Side.Client, Side.Server}
+use Rattle.ssh_model.specs.Protocol.Wire.Message.{is_unknown}
+use Rattle.ssh_model.specs.Protocol.Sessions.Items.{Item, took}
+use Rattle.ssh_model.specs.Protocol.Sessions.Epochs.{epoch}
+use Rattle.ssh_model.specs.Protocol.KeyExchange.Exchanges.{is_strict}
+use Rattle.ssh_model.specs.Protocol.Sessions.Phases.{Phase, Phase.Start, Phase.Guessed, Phase.Exchanging, Phase.Keying, Phase.Normal, awaited, is_general, is_allowed_at_first, is_allowed_during_exchange, may_take_in}
+use Rattle.ssh_model.specs.Protocol.Sessions.AnyPeer.{is_allowed_in_clear}
 use Rattle.ssh_model.proofs.Wire.Payloads.{not_both}
 use Rattle.ssh_model.proofs.Sessions.Stages.{or_split, and_right}
 

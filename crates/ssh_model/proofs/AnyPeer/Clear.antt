@@ -2,16 +2,16 @@
 -- own, whoever the peer is.
 use Rattle.std.proofs.Common.{sym, Bool, List, [], arith, eqb-true, inl, inr, length, nat_le, refl, subst, suc, true, zero, ℕ, ◌&&◌, ◌<◌, ◌==◌, ◌||◌, ◌∷◌, ◌≡◌, ◌≤◌, ◌⊎◌}
 use Rattle.std.proofs.lemmas.Bool.{leb-true}
-use Rattle.ssh_model.specs.Side.{Side, Side.Client, Side.Server}
-use Rattle.ssh_model.specs.Wire.Message.{Msg, Msg.KexInit, Msg.NewKeys, Msg.KexEcdhInit, Msg.KexEcdhReply, Msg.Unimplemented, Msg.UserauthSuccess, message_number}
-use Rattle.ssh_model.specs.Sessions.Parties.{Parties, AreLawful}
-use Rattle.ssh_model.specs.Sessions.Items.{Item, Item.Sent, Item.Took, Item.TookGuess, sent, took, messages_sent}
-use Rattle.ssh_model.specs.Sessions.Epochs.{epoch}
-use Rattle.ssh_model.specs.KeyExchange.Exchanges.{offers}
-use Rattle.ssh_model.specs.Sessions.Phases.{Phase, Phase.Guessed, phase, blocked, awaited, is_general, may_take_in}
-use Rattle.ssh_model.specs.Sessions.Turns.{EndRun, number_of}
-use Rattle.ssh_model.specs.Sessions.TurnClaims.{KeepsToExchange, is_sent_while_blocked}
-use Rattle.ssh_model.specs.Sessions.AnyPeer.{TakesOnlyAllowed, is_allowed_in_clear, is_service_number, HasServiceMessage, VerifiesEach, VerifiesHosts, EachIncludesOwn}
+use Rattle.ssh_model.specs.Protocol.Side.{Side, Side.Client, Side.Server}
+use Rattle.ssh_model.specs.Protocol.Wire.Message.{Msg, Msg.KexInit, Msg.NewKeys, Msg.KexEcdhInit, Msg.KexEcdhReply, Msg.Unimplemented, Msg.UserauthSuccess, message_number}
+use Rattle.ssh_model.specs.Protocol.Sessions.Parties.{Parties, AreLawful}
+use Rattle.ssh_model.specs.Protocol.Sessions.Items.{Item, Item.Sent, Item.Took, Item.TookGuess, sent, took, messages_sent}
+use Rattle.ssh_model.specs.Protocol.Sessions.Epochs.{epoch}
+use Rattle.ssh_model.specs.Protocol.KeyExchange.Exchanges.{offers}
+use Rattle.ssh_model.specs.Protocol.Sessions.Phases.{Phase, Phase.Guessed, phase, blocked, awaited, is_general, may_take_in}
+use Rattle.ssh_model.specs.Protocol.Sessions.Turns.{EndRun, number_of}
+use Rattle.ssh_model.specs.Protocol.Sessions.TurnClaims.{KeepsToExchange, is_sent_while_blocked}
+use Rattle.ssh_model.specs.Protocol.Sessions.AnyPeer.{TakesOnlyAllowed, is_allowed_in_clear, is_service_number, HasServiceMessage, VerifiesEach, VerifiesHosts, EachIncludesOwn}
 use Rattle.ssh_model.proofs.Sessions.Stages.{or_split, and_left, and_right}
 use Rattle.ssh_model.proofs.Sessions.EndAnswers.{may_be}
 use Rattle.ssh_model.proofs.Sessions.EndTurns.{end_keeps}

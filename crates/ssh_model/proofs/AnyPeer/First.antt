@@ -1,16 +1,16 @@
 -- With strict key exchange the first exchange is only the exchange, whoever the peer is.
 use Rattle.std.proofs.Common.{◌≡◌, ℕ, zero, suc, ◌<◌, List, [], ◌∷◌, ◌++◌, length, reverse, ◌⊎◌, inl, inr, refl, ap, sym, ◌∙◌, subst, arith, cond, not, nat_lt, Bool, true, false, ◌&&◌, ◌||◌, ◌==◌, eq-eqb, ne_eqb, Option, Some, None}
 use Rattle.std.proofs.lemmas.Bool.{lt-ltb}
-use Rattle.ssh_model.specs.Side.{Side, Side.Client, Side.Server, peer}
-use Rattle.ssh_model.specs.Wire.Message.{Msg, Msg.Disconnect, Msg.KexInit, Msg.NewKeys, Msg.KexEcdhInit, Msg.KexEcdhReply, Msg.Unknown, Proposal, FitsContext, is_unknown, message_number}
-use Rattle.ssh_model.specs.Sessions.Parties.{Parties, AreLawful, Strictness, Strictness.Require, Strictness.Offer as Offered, Strictness.Off, is_required, is_offered, settings_of, marker_of}
-use Rattle.ssh_model.specs.Sessions.Items.{Item, Item.Sent, Item.Took, Item.TookGuess, took, messages_sent, messages_taken, has_died, Payload}
-use Rattle.ssh_model.specs.Sessions.Epochs.{epoch}
-use Rattle.ssh_model.specs.KeyExchange.Exchanges.{Offer, nth, no_offer, offers, first_sent, first_taken, is_strict, has_marker}
-use Rattle.ssh_model.specs.Sessions.Phases.{Phase, Phase.Start, Phase.Guessed, Phase.Exchanging, Phase.Keying, Phase.Normal, phase, awaited, is_allowed_during_exchange, is_wrong_guess, own_names, may_take_in, probing}
-use Rattle.ssh_model.specs.Sessions.Transport.{is_marked, comes_too_late}
-use Rattle.ssh_model.specs.Sessions.Turns.{EndRun, answer_checks}
-use Rattle.ssh_model.specs.Sessions.AnyPeer.{until_newkeys, taken_in_first_exchange, unread, Follows, Follows.so_far as so_far_along, Follows.leaves as leaves_behind, TakesOnlyExchange, RequiresStrict}
+use Rattle.ssh_model.specs.Protocol.Side.{Side, Side.Client, Side.Server, peer}
+use Rattle.ssh_model.specs.Protocol.Wire.Message.{Msg, Msg.Disconnect, Msg.KexInit, Msg.NewKeys, Msg.KexEcdhInit, Msg.KexEcdhReply, Msg.Unknown, Proposal, FitsContext, is_unknown, message_number}
+use Rattle.ssh_model.specs.Protocol.Sessions.Parties.{Parties, AreLawful, Strictness, Strictness.Require, Strictness.Offer as Offered, Strictness.Off, is_required, is_offered, settings_of, marker_of}
+use Rattle.ssh_model.specs.Protocol.Sessions.Items.{Item, Item.Sent, Item.Took, Item.TookGuess, took, messages_sent, messages_taken, has_died, Payload}
+use Rattle.ssh_model.specs.Protocol.Sessions.Epochs.{epoch}
+use Rattle.ssh_model.specs.Protocol.KeyExchange.Exchanges.{Offer, nth, no_offer, offers, first_sent, first_taken, is_strict, has_marker}
+use Rattle.ssh_model.specs.Protocol.Sessions.Phases.{Phase, Phase.Start, Phase.Guessed, Phase.Exchanging, Phase.Keying, Phase.Normal, phase, awaited, is_allowed_during_exchange, is_wrong_guess, own_names, may_take_in, probing}
+use Rattle.ssh_model.specs.Protocol.Sessions.Transport.{is_marked, comes_too_late}
+use Rattle.ssh_model.specs.Protocol.Sessions.Turns.{EndRun, answer_checks}
+use Rattle.ssh_model.specs.Protocol.Sessions.AnyPeer.{until_newkeys, taken_in_first_exchange, unread, Follows, Follows.so_far as so_far_along, Follows.leaves as leaves_behind, TakesOnlyExchange, RequiresStrict}
 use Rattle.ssh_model.specs.Laws.Checks.{all_passed}
 use Rattle.ssh_model.proofs.Wire.Payloads.{not_both}
 use Rattle.ssh_model.proofs.Sessions.EndKeeps.{Heard}
@@ -71,7 +71,7 @@ is_awaited : (side : Side) (n : ℕ) → IsNone n → (n == awaited side) ≡ fa
 is_awaited Client n a = a.answer
 is_awaited Server n a = a.init
 
--- what is allowed in a strict first exchange beside what is awaited
+-- what is allowed in a strict first exchange besides what is awaited
 allowed_one : (s : Bool) (e n : ℕ) → s ≡ true → e ≡ 0 → is_allowed_during_exchange s e n ≡ true → (n == 1) ≡ true
 allowed_one true zero n f z a = a
 allowed_one false zero n f z a = absurd (cc f)

@@ -1,10 +1,10 @@
 -- What an end keeps to, whoever its peer is: all of it.
 use Rattle.std.proofs.Common.{List}
-use Rattle.ssh_model.specs.Side.{Side, Side.Client, Side.Server}
-use Rattle.ssh_model.specs.Sessions.Parties.{Parties, AreLawful}
-use Rattle.ssh_model.specs.Sessions.Items.{Item}
-use Rattle.ssh_model.specs.Sessions.Turns.{EndRun}
-use Rattle.ssh_model.specs.Sessions.AnyPeer.{KeepsItsRole, IsGuarded}
+use Rattle.ssh_model.specs.Protocol.Side.{Side, Side.Client, Side.Server}
+use Rattle.ssh_model.specs.Protocol.Sessions.Parties.{Parties, AreLawful}
+use Rattle.ssh_model.specs.Protocol.Sessions.Items.{Item}
+use Rattle.ssh_model.specs.Protocol.Sessions.Turns.{EndRun}
+use Rattle.ssh_model.specs.Protocol.Sessions.AnyPeer.{KeepsItsRole, IsGuarded}
 use Rattle.ssh_model.proofs.Sessions.TurnLaws.{end_numbers}
 use Rattle.ssh_model.proofs.Sessions.Blocked.{keeps_to_exchange}
 use Rattle.ssh_model.proofs.Channels.Run.{end_windows}

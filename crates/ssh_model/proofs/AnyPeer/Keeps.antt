@@ -1,15 +1,15 @@
 -- What is known of each item that an end did, whoever its peer is, and of its history between two turns.
 use Rattle.std.proofs.Common.{◌≡◌, ℕ, suc, ◌<◌, ◌≤◌, List, [], ◌∷◌, ◌++◌, length, inr, refl, ap, sym, ◌∙◌, arith, subst, cond, ◌==◌, eq-eqb, eqb-true, Bool, true, false, Option, None}
-use Rattle.ssh_model.specs.Side.{Side, Side.Client, Side.Server}
-use Rattle.ssh_model.specs.Wire.Message.{Msg, Msg.Unimplemented, Msg.Disconnect, Msg.KexInit, Msg.NewKeys, Msg.KexEcdhInit, Msg.KexEcdhReply, Msg.UserauthRequest, Msg.UserauthSuccess, Method, Proposal}
-use Rattle.ssh_model.specs.Sessions.Parties.{Parties, settings_of, offer, point_by}
-use Rattle.ssh_model.specs.Sessions.Items.{Fact, Fact.Accepted, Item, Item.Fed, Item.SentLine, Item.Sent, Item.Took, Item.TookGuess, Item.Told, Item.Died, has_died, sent, took, messages_sent, messages_taken}
-use Rattle.ssh_model.specs.Sessions.Epochs.{epoch}
-use Rattle.ssh_model.specs.KeyExchange.Exchanges.{nth, no_material, no_offer, fed, offers, points, replies, sent_line}
-use Rattle.ssh_model.specs.Sessions.Phases.{Phase, Phase.Guessed, Phase.Exchanging, Phase.Keying, phase, may_take, sent_success, blocked}
-use Rattle.ssh_model.specs.Authentication.Requests.{is_accepted}
-use Rattle.ssh_model.specs.Sessions.Turns.{IsSpelled, Welcomes, EndRun, number_of}
-use Rattle.ssh_model.specs.Sessions.AnyPeer.{IsVerified, IncludesOwn}
+use Rattle.ssh_model.specs.Protocol.Side.{Side, Side.Client, Side.Server}
+use Rattle.ssh_model.specs.Protocol.Wire.Message.{Msg, Msg.Unimplemented, Msg.Disconnect, Msg.KexInit, Msg.NewKeys, Msg.KexEcdhInit, Msg.KexEcdhReply, Msg.UserauthRequest, Msg.UserauthSuccess, Method, Proposal}
+use Rattle.ssh_model.specs.Protocol.Sessions.Parties.{Parties, settings_of, offer, point_by}
+use Rattle.ssh_model.specs.Protocol.Sessions.Items.{Fact, Fact.Accepted, Item, Item.Fed, Item.SentLine, Item.Sent, Item.Took, Item.TookGuess, Item.Told, Item.Died, has_died, sent, took, messages_sent, messages_taken}
+use Rattle.ssh_model.specs.Protocol.Sessions.Epochs.{epoch}
+use Rattle.ssh_model.specs.Protocol.KeyExchange.Exchanges.{nth, no_material, no_offer, fed, offers, points, replies, sent_line}
+use Rattle.ssh_model.specs.Protocol.Sessions.Phases.{Phase, Phase.Guessed, Phase.Exchanging, Phase.Keying, phase, may_take, sent_success, blocked}
+use Rattle.ssh_model.specs.Protocol.Authentication.Requests.{is_accepted}
+use Rattle.ssh_model.specs.Protocol.Sessions.Turns.{IsSpelled, Welcomes, EndRun, number_of}
+use Rattle.ssh_model.specs.Protocol.Sessions.AnyPeer.{IsVerified, IncludesOwn}
 use Rattle.ssh_model.proofs.Sessions.Older.{older_self, nth_same}
 
 -- ---- of an item, after the history

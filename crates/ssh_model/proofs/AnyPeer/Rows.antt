@@ -1,23 +1,23 @@
 -- What is known of an end's items and history is kept by each of its turns, whoever its peer is.
 use Rattle.std.proofs.Common.{not, ◌≡◌, ℕ, zero, suc, ◌+◌, ◌<◌, List, [], ◌∷◌, ◌++◌, length, refl, ap, sym, ◌∙◌, arith, subst, append_assoc, cond, ◌==◌, eq-eqb, ne_eqb, Bool, true, false, ◌||◌, Option, None}
 use Rattle.std.proofs.lemmas.Bool.{leb-true, ltb-true}
-use Rattle.ssh_model.specs.Side.{Side, Side.Client, Side.Server}
-use Rattle.ssh_model.specs.Wire.Message.{Msg, Msg.KexInit, Msg.NewKeys, Msg.KexEcdhInit, Msg.KexEcdhReply, Proposal}
-use Rattle.ssh_model.specs.Sessions.Parties.{Parties, AreLawful, offer, point_by}
-use Rattle.ssh_model.specs.Sessions.Refusals.{first_refusal, Refusal, Refusal.BadMessage, Refusal.Unexpected}
-use Rattle.ssh_model.specs.Sessions.Items.{Ask, Ask.AskRekey, Fact.Disconnected, Item, Item.Asked, Item.Sent, Item.Took, Item.TookGuess, sent, took, messages_sent, messages_taken, has_died}
-use Rattle.ssh_model.specs.Sessions.Epochs.{epoch}
-use Rattle.ssh_model.specs.KeyExchange.Exchanges.{nth, no_material, no_reply, fed, offers, points, replies}
-use Rattle.ssh_model.specs.Sessions.Phases.{is_normal, Phase, Phase.Start, Phase.Guessed, Phase.Exchanging, Phase.Keying, Phase.Normal, phase, blocked, may_take_in, is_allowed_during_exchange, is_allowed_at_first, is_wrong_guess, own_names, has_material}
-use Rattle.ssh_model.specs.Channels.Message.{Message, Message.OpenFailure, Message.Close}
-use Rattle.ssh_model.specs.Channels.History as channel
-use Rattle.ssh_model.specs.Sessions.Transport.{TransportAnswer, TransportAnswer.disconnect, TransportAnswer.ignore, TransportAnswer.unimplemented, TransportAnswer.debug, TransportAnswer.unknown, TransportAnswer.service_request, TransportAnswer.service_accept, TransportAnswer.extensions, IsAnnounced, TransportAnswer.kexinit_at_server, TransportAnswer.kexinit_at_client, TransportAnswer.answered_at_server, TransportAnswer.answered_at_client, CompletingAnswer.init, CompletingAnswer.reply, TransportAnswer.newkeys, next_cookie, point_now, is_trusted, CompletingAnswer, TransportAsk.service, TransportAsk.rekey, TransportAsk.disconnect as disconnects}
-use Rattle.ssh_model.specs.Authentication.Rows.{AuthenticationAnswer.request_too_late, AuthenticationAnswer.request_accepted, AuthenticationAnswer.request_probed, AuthenticationAnswer.request_failed, AuthenticationAnswer.failure, AuthenticationAnswer.success, AuthenticationAnswer.banner, AuthenticationAnswer.key_ok, AuthenticationAnswer, AuthenticationAsk.none, AuthenticationAsk.password, AuthenticationAsk.probe, AuthenticationAsk.sign}
-use Rattle.ssh_model.specs.Channels.Connection.{AreReplies, AreReplies.none as no_reply_due, AreReplies.reply as one_reply, reply_message, ConnectionAnswer, ConnectionAnswer.global, ConnectionAnswer.global_success, ConnectionAnswer.global_failure, ConnectionAnswer.opened, ConnectionAnswer.not_opened, ConnectionAnswer.confirmation, ConnectionAnswer.failure as open_failure, ConnectionAnswer.adjust, ConnectionAnswer.got_data, ConnectionAnswer.got_extended, ConnectionAnswer.eof, ConnectionAnswer.close, ConnectionAnswer.request, ConnectionAnswer.success as request_success, ConnectionAnswer.no_success, ConnectionAsk.opens, ConnectionAsk.confirm, ConnectionAsk.refuse, ConnectionAsk.sends, ConnectionAsk.sends_extended, ConnectionAsk.adjust as asks_adjust, ConnectionAsk.eof as asks_eof, ConnectionAsk.close as asks_close, ConnectionAsk.request as asks_request, ConnectionAsk.reply_yes, ConnectionAsk.reply_no, ConnectionAsk.global as asks_global, ConnectionAsk.global_yes, ConnectionAsk.global_no}
-use Rattle.ssh_model.specs.Sessions.Turns.{IsSpelled, AreSpelled, Refuses, Refuses.silently, Refuses.spent, Refuses.said, answer_checks, Answer, Answer.of_transport, Answer.of_completion, Answer.of_authentication, Answer.of_connection, OnAsk.of_authentication as asks_authentication, OnPayload, OnPayload.takes, OnPayload.skips, OnPayload.unexpected, OnPayload.bad_message, OnPayload.refuses, OnPayload.spends, OnOutcome, OnOutcome.other_line, OnOutcome.version_line, OnOutcome.refused_line, OnOutcome.opened as opened_packet, OnOutcome.refused_packet, ask_checks, OnAsk, OnAsk.of_transport as asks_transport, OnAsk.of_connection as asks_connection, FeedsTurn, AsksTurn, AsksTurn.refuses as refuses_ask, AsksTurn.spends as spends_ask, OnUnit, Turn, Turn.asks, Turn.reads as reads_unit, IsOpening, EndRun}
-use Rattle.ssh_model.specs.Wire.Outcome.{Outcome}
+use Rattle.ssh_model.specs.Protocol.Side.{Side, Side.Client, Side.Server}
+use Rattle.ssh_model.specs.Protocol.Wire.Message.{Msg, Msg.KexInit, Msg.NewKeys, Msg.KexEcdhInit, Msg.KexEcdhReply, Proposal}
+use Rattle.ssh_model.specs.Protocol.Sessions.Parties.{Parties, AreLawful, offer, point_by}
+use Rattle.ssh_model.specs.Protocol.Sessions.Refusals.{first_refusal, Refusal, Refusal.BadMessage, Refusal.Unexpected}
+use Rattle.ssh_model.specs.Protocol.Sessions.Items.{Ask, Ask.AskRekey, Fact.Disconnected, Item, Item.Asked, Item.Sent, Item.Took, Item.TookGuess, sent, took, messages_sent, messages_taken, has_died}
+use Rattle.ssh_model.specs.Protocol.Sessions.Epochs.{epoch}
+use Rattle.ssh_model.specs.Protocol.KeyExchange.Exchanges.{nth, no_material, no_reply, fed, offers, points, replies}
+use Rattle.ssh_model.specs.Protocol.Sessions.Phases.{is_normal, Phase, Phase.Start, Phase.Guessed, Phase.Exchanging, Phase.Keying, Phase.Normal, phase, blocked, may_take_in, is_allowed_during_exchange, is_allowed_at_first, is_wrong_guess, own_names, has_material}
+use Rattle.ssh_model.specs.Protocol.Channels.Message.{Message, Message.OpenFailure, Message.Close}
+use Rattle.ssh_model.specs.Protocol.Channels.History as channel
+use Rattle.ssh_model.specs.Protocol.Sessions.Transport.{TransportAnswer, TransportAnswer.disconnect, TransportAnswer.ignore, TransportAnswer.unimplemented, TransportAnswer.debug, TransportAnswer.unknown, TransportAnswer.service_request, TransportAnswer.service_accept, TransportAnswer.extensions, IsAnnounced, TransportAnswer.kexinit_at_server, TransportAnswer.kexinit_at_client, TransportAnswer.answered_at_server, TransportAnswer.answered_at_client, CompletingAnswer.init, CompletingAnswer.reply, TransportAnswer.newkeys, next_cookie, point_now, is_trusted, CompletingAnswer, TransportAsk.service, TransportAsk.rekey, TransportAsk.disconnect as disconnects}
+use Rattle.ssh_model.specs.Protocol.Authentication.Rows.{AuthenticationAnswer.request_too_late, AuthenticationAnswer.request_accepted, AuthenticationAnswer.request_probed, AuthenticationAnswer.request_failed, AuthenticationAnswer.failure, AuthenticationAnswer.success, AuthenticationAnswer.banner, AuthenticationAnswer.key_ok, AuthenticationAnswer, AuthenticationAsk.none, AuthenticationAsk.password, AuthenticationAsk.probe, AuthenticationAsk.sign}
+use Rattle.ssh_model.specs.Protocol.Channels.Connection.{AreReplies, AreReplies.none as no_reply_due, AreReplies.reply as one_reply, reply_message, ConnectionAnswer, ConnectionAnswer.global, ConnectionAnswer.global_success, ConnectionAnswer.global_failure, ConnectionAnswer.opened, ConnectionAnswer.not_opened, ConnectionAnswer.confirmation, ConnectionAnswer.failure as open_failure, ConnectionAnswer.adjust, ConnectionAnswer.got_data, ConnectionAnswer.got_extended, ConnectionAnswer.eof, ConnectionAnswer.close, ConnectionAnswer.request, ConnectionAnswer.success as request_success, ConnectionAnswer.no_success, ConnectionAsk.opens, ConnectionAsk.confirm, ConnectionAsk.refuse, ConnectionAsk.sends, ConnectionAsk.sends_extended, ConnectionAsk.adjust as asks_adjust, ConnectionAsk.eof as asks_eof, ConnectionAsk.close as asks_close, ConnectionAsk.request as asks_request, ConnectionAsk.reply_yes, ConnectionAsk.reply_no, ConnectionAsk.global as asks_global, ConnectionAsk.global_yes, ConnectionAsk.global_no}
+use Rattle.ssh_model.specs.Protocol.Sessions.Turns.{IsSpelled, AreSpelled, Refuses, Refuses.silently, Refuses.spent, Refuses.said, answer_checks, Answer, Answer.of_transport, Answer.of_completion, Answer.of_authentication, Answer.of_connection, OnAsk.of_authentication as asks_authentication, OnPayload, OnPayload.takes, OnPayload.skips, OnPayload.unexpected, OnPayload.bad_message, OnPayload.refuses, OnPayload.spends, OnOutcome, OnOutcome.other_line, OnOutcome.version_line, OnOutcome.refused_line, OnOutcome.opened as opened_packet, OnOutcome.refused_packet, ask_checks, OnAsk, OnAsk.of_transport as asks_transport, OnAsk.of_connection as asks_connection, FeedsTurn, AsksTurn, AsksTurn.refuses as refuses_ask, AsksTurn.spends as spends_ask, OnUnit, Turn, Turn.asks, Turn.reads as reads_unit, IsOpening, EndRun}
+use Rattle.ssh_model.specs.Protocol.Wire.Outcome.{Outcome}
 use Rattle.ssh_model.specs.Laws.Checks.{all_passed}
-use Rattle.ssh_model.specs.Sessions.AnyPeer.{IsVerified, IncludesOwn}
+use Rattle.ssh_model.specs.Protocol.Sessions.AnyPeer.{IsVerified, IncludesOwn}
 use Rattle.ssh_model.proofs.Sessions.EndKeeps.{End}
 use Rattle.ssh_model.proofs.Sessions.EndAnswers.{may_be, has_kept}
 use Rattle.ssh_model.proofs.Sessions.EndTurns.{end_keeps}
@@ -117,7 +117,7 @@ module _ {K : Type 0} (p : Parties K) where
       let n = points_at_20 (phase p Client h) _ h _ _ r (v.counted refl).pointed in
       n ∙ sym (level_at_20 (phase p Client h) _ Client h _ _ _ r x.in_step)
 
-  -- how many they are behind it
+  -- how many they are after it
   points_behind : (h : List Item) (theirs : Proposal) (b : List ℕ) → TookAt p Client h (KexInit theirs) b → Known p Client h
       → PointsIn (cond (is_wrong_guess theirs (own_names p Client)) Guessed Exchanging) (suc (length (points (messages_sent h)))) (epoch (took h))
   points_behind h theirs b w v =

@@ -1,15 +1,15 @@
 -- What an end says before it has a key is the exchange and nothing else, whoever its peer is.
 use Rattle.std.proofs.Common.{◌≡◌, ℕ, zero, suc, ◌<◌, List, [], ◌∷◌, ◌++◌, length, reverse, ◌⊎◌, inl, inr, refl, ap, sym, ◌∙◌, subst, arith, true, false, ◌||◌, ◌==◌, eqb-true}
-use Rattle.ssh_model.specs.Side.{Side, Side.Client, Side.Server, peer}
-use Rattle.ssh_model.specs.Wire.Message.{Msg.Disconnect, Msg.Unimplemented, Msg.KexInit, Msg.NewKeys, Msg.KexEcdhInit, Msg.KexEcdhReply, Msg.UserauthSuccess, Msg.Unknown, is_unknown, message_number}
-use Rattle.ssh_model.specs.Sessions.Parties.{Parties, AreLawful}
-use Rattle.ssh_model.specs.Sessions.Items.{Item, Item.Sent, Item.Took, sent, messages_sent}
-use Rattle.ssh_model.specs.Sessions.Epochs.{epoch}
-use Rattle.ssh_model.specs.KeyExchange.Exchanges.{offers, points, replies}
-use Rattle.ssh_model.specs.Sessions.Phases.{awaited}
-use Rattle.ssh_model.specs.Sessions.Turns.{EndRun}
-use Rattle.ssh_model.specs.Sessions.TurnClaims.{KeepsToExchange, is_sent_while_blocked}
-use Rattle.ssh_model.specs.Sessions.AnyPeer.{until_newkeys, sent_in_first_exchange, exchange_sent, SendsOnlyExchange}
+use Rattle.ssh_model.specs.Protocol.Side.{Side, Side.Client, Side.Server, peer}
+use Rattle.ssh_model.specs.Protocol.Wire.Message.{Msg.Disconnect, Msg.Unimplemented, Msg.KexInit, Msg.NewKeys, Msg.KexEcdhInit, Msg.KexEcdhReply, Msg.UserauthSuccess, Msg.Unknown, is_unknown, message_number}
+use Rattle.ssh_model.specs.Protocol.Sessions.Parties.{Parties, AreLawful}
+use Rattle.ssh_model.specs.Protocol.Sessions.Items.{Item, Item.Sent, Item.Took, sent, messages_sent}
+use Rattle.ssh_model.specs.Protocol.Sessions.Epochs.{epoch}
+use Rattle.ssh_model.specs.Protocol.KeyExchange.Exchanges.{offers, points, replies}
+use Rattle.ssh_model.specs.Protocol.Sessions.Phases.{awaited}
+use Rattle.ssh_model.specs.Protocol.Sessions.Turns.{EndRun}
+use Rattle.ssh_model.specs.Protocol.Sessions.TurnClaims.{KeepsToExchange, is_sent_while_blocked}
+use Rattle.ssh_model.specs.Protocol.Sessions.AnyPeer.{until_newkeys, sent_in_first_exchange, exchange_sent, SendsOnlyExchange}
 use Rattle.ssh_model.proofs.Wire.Payloads.{not_both}
 use Rattle.ssh_model.proofs.Sessions.Stages.{or_split}
 use Rattle.ssh_model.proofs.Sessions.Sound.{AllFormed}

@@ -1,18 +1,18 @@
 -- A server requires authentication, whoever its peer is.
 use Rattle.std.proofs.Common.{◌≤◌, List, None, Option, Some, [], ap, arith, false, inl, inr, length, nat_le, refl, subst, sym, true, ℕ, ◌&&◌, ◌<◌, ◌∙◌, ◌∷◌, ◌≡◌, ◌⊎◌}
 use Rattle.std.specs.Prelude.{codes}
-use Rattle.ssh_model.specs.Side.{Side.Server}
-use Rattle.ssh_model.specs.Lists.{IsIn, IsOlder}
-use Rattle.ssh_model.specs.Wire.Message.{Msg, message_number, Msg.UserauthRequest, Msg.UserauthSuccess, Method, Method.NoMethod, Method.Password, Method.Publickey, Method.Other}
-use Rattle.ssh_model.specs.Sessions.Parties.{Parties, AreLawful}
-use Rattle.ssh_model.specs.Sessions.Items.{Fact.Accepted, Item, Item.Sent, Item.Took, Item.Told, took}
-use Rattle.ssh_model.specs.Sessions.Epochs.{epoch}
-use Rattle.ssh_model.specs.Sessions.Phases.{sent_success}
-use Rattle.ssh_model.specs.KeyExchange.Exchanges.{exchanges, no_exchange, session_id}
-use Rattle.ssh_model.specs.KeyExchange.Exchange.{exchange_hash}
-use Rattle.ssh_model.specs.Authentication.Requests.{is_accepted, is_right, is_known_key, is_for_connection, is_configured, judge_of, signed_text}
-use Rattle.ssh_model.specs.Sessions.Turns.{EndRun}
-use Rattle.ssh_model.specs.Sessions.AnyPeer.{Authenticates, AcceptedRequest, RequiresAuthentication}
+use Rattle.ssh_model.specs.Protocol.Side.{Side.Server}
+use Rattle.ssh_model.specs.Protocol.Lists.{IsIn, IsOlder}
+use Rattle.ssh_model.specs.Protocol.Wire.Message.{Msg, message_number, Msg.UserauthRequest, Msg.UserauthSuccess, Method, Method.NoMethod, Method.Password, Method.Publickey, Method.Other}
+use Rattle.ssh_model.specs.Protocol.Sessions.Parties.{Parties, AreLawful}
+use Rattle.ssh_model.specs.Protocol.Sessions.Items.{Fact.Accepted, Item, Item.Sent, Item.Took, Item.Told, took}
+use Rattle.ssh_model.specs.Protocol.Sessions.Epochs.{epoch}
+use Rattle.ssh_model.specs.Protocol.Sessions.Phases.{sent_success}
+use Rattle.ssh_model.specs.Protocol.KeyExchange.Exchanges.{exchanges, no_exchange, session_id}
+use Rattle.ssh_model.specs.Protocol.KeyExchange.Exchange.{exchange_hash}
+use Rattle.ssh_model.specs.Protocol.Authentication.Requests.{is_accepted, is_right, is_known_key, is_for_connection, is_configured, judge_of, signed_text}
+use Rattle.ssh_model.specs.Protocol.Sessions.Turns.{EndRun}
+use Rattle.ssh_model.specs.Protocol.Sessions.AnyPeer.{Authenticates, AcceptedRequest, RequiresAuthentication}
 use Rattle.ssh_model.proofs.Wire.Payloads.{not_both}
 use Rattle.ssh_model.proofs.Sessions.Older.{older_self, nth_same}
 use Rattle.ssh_model.proofs.Sessions.Rules.{Rules, rules_older, exchanges_older, exchanges_length, took_behind}

@@ -1,13 +1,13 @@
 -- Which numbers from 50 to 79 an end takes, by what its layer of authentication keeps.
 use Rattle.std.proofs.Common.{◌≡◌, ℕ, ◌<◌, ◌≤◌, List, refl, ap, sym, ◌∙◌, arith, Bool, true, false, not, ◌&&◌, ◌||◌, ◌==◌, eqb-true, nat_le, is_some}
 use Rattle.std.proofs.lemmas.Bool.{lt-leb}
-use Rattle.ssh_model.specs.Side.{Side, Side.Client, Side.Server}
-use Rattle.ssh_model.specs.Sessions.Parties.{Parties, is_required, settings_of}
-use Rattle.ssh_model.specs.Sessions.Items.{Item}
-use Rattle.ssh_model.specs.Sessions.Phases.{Phase, Phase.Normal, phase, may_take, may_take_in, may_take_normally, may_take_extensions, is_general, is_connection, is_spare, authenticated, took_service_request, sent_service_accept, sent_service_request, took_service_accept, took_success, outstanding, probing}
-use Rattle.ssh_model.specs.Authentication.Kept as kept
-use Rattle.ssh_model.specs.Authentication.Kept.{server_takes, client_takes, is_outstanding, is_key_probe}
-use Rattle.ssh_model.specs.Authentication.Summary.{ServerSumsUp, ClientSumsUp}
+use Rattle.ssh_model.specs.Protocol.Side.{Side, Side.Client, Side.Server}
+use Rattle.ssh_model.specs.Protocol.Sessions.Parties.{Parties, is_required, settings_of}
+use Rattle.ssh_model.specs.Protocol.Sessions.Items.{Item}
+use Rattle.ssh_model.specs.Protocol.Sessions.Phases.{Phase, Phase.Normal, phase, may_take, may_take_in, may_take_normally, may_take_extensions, is_general, is_connection, is_spare, authenticated, took_service_request, sent_service_accept, sent_service_request, took_service_accept, took_success, outstanding, probing}
+use Rattle.ssh_model.specs.State.Authentication.Kept as kept
+use Rattle.ssh_model.specs.State.Authentication.Kept.{server_takes, client_takes, is_outstanding, is_key_probe}
+use Rattle.ssh_model.specs.State.Authentication.Summary.{ServerSumsUp, ClientSumsUp}
 use Rattle.ssh_model.proofs.Authentication.Rows.{requested_is, probing_is}
 
 not_number : (n k : ℕ) → (n ≡ k → ⊥) → (n == k) ≡ false

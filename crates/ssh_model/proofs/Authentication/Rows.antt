@@ -1,18 +1,18 @@
 -- Each row over what a layer of authentication keeps is one of a session.
 use Rattle.std.proofs.Common.{◌≡◌, ℕ, ◌+◌, List, [], ◌∷◌, refl, ap, sym, ◌∙◌, arith, is_some, Option, Some, None}
-use Rattle.ssh_model.specs.Side.{Side.Client, Side.Server}
-use Rattle.ssh_model.specs.Wire.Message.{Msg, Msg.ServiceAccept, Msg.UserauthRequest, Msg.UserauthFailure, Msg.UserauthSuccess, Msg.UserauthPkOk, Method, Method.NoMethod, Method.Password, Method.Publickey}
-use Rattle.ssh_model.specs.Sessions.Refusals.{first_refusal}
-use Rattle.ssh_model.specs.Sessions.Parties.{Parties, user_signature_by}
-use Rattle.ssh_model.specs.Sessions.Items.{Ask, Ask.AskNone, Ask.AskPassword, Ask.AskProbe, Ask.AskSign, Item, Item.Sent, Item.Took}
-use Rattle.ssh_model.specs.Sessions.Phases.{probing, outstanding, is_probe}
-use Rattle.ssh_model.specs.KeyExchange.Exchanges.{exchanges, session_id}
-use Rattle.ssh_model.specs.Authentication.Requests.{judge_of}
-use Rattle.ssh_model.specs.Authentication.Rows.{AuthenticationAnswer, AuthenticationAnswer.request_too_late, AuthenticationAnswer.request_accepted, AuthenticationAnswer.request_probed, AuthenticationAnswer.request_failed, authentication_checks, authentication_ask_checks}
-use Rattle.ssh_model.specs.Authentication.Rows as row
-use Rattle.ssh_model.specs.Authentication.Kept as kept
-use Rattle.ssh_model.specs.Authentication.Kept.{Answered, new_server, new_client, opened_server, opened_client, server_checks, ServerTakes, ServerTakes.too_late, ServerTakes.accepted, ServerTakes.probed, ServerTakes.failed, ClientTakes, ClientTakes.failure, ClientTakes.success, ClientTakes.banner, ClientTakes.key_ok, client_checks, ClientSends, ClientSends.none, ClientSends.password, ClientSends.probe, ClientSends.sign, is_outstanding, is_key_probe}
-use Rattle.ssh_model.specs.Authentication.Summary.{ServerSumsUp, ClientSumsUp, outstanding_of, ServerAccepts, ClientAccepts, ClientAllows, LeavesServer, LeavesClient}
+use Rattle.ssh_model.specs.Protocol.Side.{Side.Client, Side.Server}
+use Rattle.ssh_model.specs.Protocol.Wire.Message.{Msg, Msg.ServiceAccept, Msg.UserauthRequest, Msg.UserauthFailure, Msg.UserauthSuccess, Msg.UserauthPkOk, Method, Method.NoMethod, Method.Password, Method.Publickey}
+use Rattle.ssh_model.specs.Protocol.Sessions.Refusals.{first_refusal}
+use Rattle.ssh_model.specs.Protocol.Sessions.Parties.{Parties, user_signature_by}
+use Rattle.ssh_model.specs.Protocol.Sessions.Items.{Ask, Ask.AskNone, Ask.AskPassword, Ask.AskProbe, Ask.AskSign, Item, Item.Sent, Item.Took}
+use Rattle.ssh_model.specs.Protocol.Sessions.Phases.{probing, outstanding, is_probe}
+use Rattle.ssh_model.specs.Protocol.KeyExchange.Exchanges.{exchanges, session_id}
+use Rattle.ssh_model.specs.Protocol.Authentication.Requests.{judge_of}
+use Rattle.ssh_model.specs.Protocol.Authentication.Rows.{AuthenticationAnswer, AuthenticationAnswer.request_too_late, AuthenticationAnswer.request_accepted, AuthenticationAnswer.request_probed, AuthenticationAnswer.request_failed, authentication_checks, authentication_ask_checks}
+use Rattle.ssh_model.specs.Protocol.Authentication.Rows as row
+use Rattle.ssh_model.specs.State.Authentication.Kept as kept
+use Rattle.ssh_model.specs.State.Authentication.Kept.{Answered, new_server, new_client, opened_server, opened_client, server_checks, ServerTakes, ServerTakes.too_late, ServerTakes.accepted, ServerTakes.probed, ServerTakes.failed, ClientTakes, ClientTakes.failure, ClientTakes.success, ClientTakes.banner, ClientTakes.key_ok, client_checks, ClientSends, ClientSends.none, ClientSends.password, ClientSends.probe, ClientSends.sign, is_outstanding, is_key_probe}
+use Rattle.ssh_model.specs.State.Authentication.Summary.{ServerSumsUp, ClientSumsUp, outstanding_of, ServerAccepts, ClientAccepts, ClientAllows, LeavesServer, LeavesClient}
 
 -- ---- an end that did nothing yet
 

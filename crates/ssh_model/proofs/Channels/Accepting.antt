@@ -1,22 +1,22 @@
 -- Each message taken, over what is kept, is one that a session takes.
 use Rattle.std.proofs.Common.{◌≡◌, ℕ, ◌+◌, ◌-◌, List, [], ◌∷◌, ◌++◌, length, refl, ap, sym, ◌∙◌, arith, subst, Option, None, Some, ltb, ltb-false, not, ◌&&◌, Bool, true, false}
-use Rattle.ssh_model.specs.Side.{Side}
-use Rattle.ssh_model.specs.Wire.Message.{Msg, Msg.GlobalRequest, Msg.RequestSuccess, Msg.RequestFailure, Msg.ChannelOpen, Msg.ChannelOpenConfirmation, Msg.ChannelOpenFailure, Msg.ChannelWindowAdjust, Msg.ChannelData, Msg.ChannelExtendedData, Msg.ChannelEof, Msg.ChannelRequest, Msg.ChannelSuccess, Msg.ChannelFailure}
-use Rattle.ssh_model.specs.Sessions.Refusals.{first_refusal}
-use Rattle.ssh_model.specs.Sessions.Items as session
-use Rattle.ssh_model.specs.Sessions.Items.{Fact, Fact.Global, Fact.GlobalDone, Fact.Opened, Fact.Confirmed, Fact.OpenFailed, Fact.GotData, Fact.Adjusted, Fact.Ended, Fact.Closed, Fact.Requested, Fact.RequestDone, Item, Item.Told}
-use Rattle.ssh_model.specs.Channels.Message.{Message}
-use Rattle.ssh_model.specs.Channels.Notes.{Note}
-use Rattle.ssh_model.specs.Channels.Numbers.{is_held, is_confirmed, is_offered, receive_window, max_packet_here}
-use Rattle.ssh_model.specs.Channels.Rules.{EndRun}
-use Rattle.ssh_model.specs.Channels.Rows as row
-use Rattle.ssh_model.specs.Channels.History as channel
-use Rattle.ssh_model.specs.Channels.History.{is_owed}
-use Rattle.ssh_model.specs.Channels.Places.{Place, place_at, place_of, place, AreOwed, at}
-use Rattle.ssh_model.specs.Channels.Connection.{connection_checks, notes, owed_replies, channel_items, globals_here, globals_there, is_full, reply_message, AreReplies, AreReplies.none, AreReplies.reply, ConnectionAnswer, ConnectionAnswer.global, ConnectionAnswer.global_success, ConnectionAnswer.global_failure, ConnectionAnswer.opened, ConnectionAnswer.not_opened, ConnectionAnswer.adjust, ConnectionAnswer.got_data, ConnectionAnswer.got_extended, ConnectionAnswer.no_success}
-use Rattle.ssh_model.specs.Channels.Connection as connection
-use Rattle.ssh_model.specs.Channels.Kept.{Channels, tells, Takes.adjust, Takes.got_data, Takes.got_extended, Takes.no_success, IsUnused, put, change, waiting_place, count_where}
-use Rattle.ssh_model.specs.Channels.Summary.{SumsUp, Accepts}
+use Rattle.ssh_model.specs.Protocol.Side.{Side}
+use Rattle.ssh_model.specs.Protocol.Wire.Message.{Msg, Msg.GlobalRequest, Msg.RequestSuccess, Msg.RequestFailure, Msg.ChannelOpen, Msg.ChannelOpenConfirmation, Msg.ChannelOpenFailure, Msg.ChannelWindowAdjust, Msg.ChannelData, Msg.ChannelExtendedData, Msg.ChannelEof, Msg.ChannelRequest, Msg.ChannelSuccess, Msg.ChannelFailure}
+use Rattle.ssh_model.specs.Protocol.Sessions.Refusals.{first_refusal}
+use Rattle.ssh_model.specs.Protocol.Sessions.Items as session
+use Rattle.ssh_model.specs.Protocol.Sessions.Items.{Fact, Fact.Global, Fact.GlobalDone, Fact.Opened, Fact.Confirmed, Fact.OpenFailed, Fact.GotData, Fact.Adjusted, Fact.Ended, Fact.Closed, Fact.Requested, Fact.RequestDone, Item, Item.Told}
+use Rattle.ssh_model.specs.Protocol.Channels.Message.{Message}
+use Rattle.ssh_model.specs.Protocol.Channels.Notes.{Note}
+use Rattle.ssh_model.specs.Protocol.Channels.Numbers.{is_held, is_confirmed, is_offered, receive_window, max_packet_here}
+use Rattle.ssh_model.specs.Protocol.Channels.Rules.{EndRun}
+use Rattle.ssh_model.specs.Protocol.Channels.Rows as row
+use Rattle.ssh_model.specs.Protocol.Channels.History as channel
+use Rattle.ssh_model.specs.Protocol.Channels.History.{is_owed}
+use Rattle.ssh_model.specs.State.Channels.Places.{Place, place_at, place_of, place, AreOwed, at}
+use Rattle.ssh_model.specs.Protocol.Channels.Connection.{connection_checks, notes, owed_replies, channel_items, globals_here, globals_there, is_full, reply_message, AreReplies, AreReplies.none, AreReplies.reply, ConnectionAnswer, ConnectionAnswer.global, ConnectionAnswer.global_success, ConnectionAnswer.global_failure, ConnectionAnswer.opened, ConnectionAnswer.not_opened, ConnectionAnswer.adjust, ConnectionAnswer.got_data, ConnectionAnswer.got_extended, ConnectionAnswer.no_success}
+use Rattle.ssh_model.specs.Protocol.Channels.Connection as connection
+use Rattle.ssh_model.specs.State.Channels.Kept.{Channels, tells, Takes.adjust, Takes.got_data, Takes.got_extended, Takes.no_success, IsUnused, put, change, waiting_place, count_where}
+use Rattle.ssh_model.specs.State.Channels.Summary.{SumsUp, Accepts}
 use Rattle.ssh_model.proofs.Channels.State.{and_is}
 use Rattle.ssh_model.proofs.Channels.Steps.{Steps}
 use Rattle.ssh_model.specs.Laws.Checks.{all_passed}

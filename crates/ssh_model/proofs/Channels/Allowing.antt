@@ -1,21 +1,21 @@
 -- Each ask on a channel, over what is kept, sends what a session sends.
 use Rattle.std.proofs.Common.{◌≡◌, ℕ, ◌+◌, ◌-◌, ◌≤◌, List, [], ◌∷◌, length, refl, ap, sym, ◌∙◌, arith, subst, None, Some, ltb, ltb-false, cond, Bool, true, false}
-use Rattle.ssh_model.specs.Side.{Side}
-use Rattle.ssh_model.specs.Wire.Message.{Msg, Msg.GlobalRequest, Msg.RequestSuccess, Msg.RequestFailure, Msg.ChannelOpen, Msg.ChannelOpenConfirmation, Msg.ChannelOpenFailure, Msg.ChannelWindowAdjust, Msg.ChannelData, Msg.ChannelExtendedData, Msg.ChannelEof, Msg.ChannelClose, Msg.ChannelRequest, Msg.ChannelSuccess, Msg.ChannelFailure}
-use Rattle.ssh_model.specs.Sessions.Refusals.{first_refusal}
-use Rattle.ssh_model.specs.Sessions.Items as session
-use Rattle.ssh_model.specs.Sessions.Items.{Ask, Ask.AskOpen, Ask.AskConfirm, Ask.AskRefuse, Ask.AskData, Ask.AskAdjust, Ask.AskEof, Ask.AskClose, Ask.AskRequest, Ask.AskReply, Ask.AskGlobal, Ask.AskGlobalReply, Fact.Opening, Item, Item.Told, Item.Asked}
-use Rattle.ssh_model.specs.Sessions.Phases.{blocked}
-use Rattle.ssh_model.specs.Channels.Message.{Message.Close}
-use Rattle.ssh_model.specs.Channels.Notes.{Note, Note.Said, channel_at}
-use Rattle.ssh_model.specs.Channels.Numbers.{is_held, is_confirmed, is_waiting, peer_number, max_packet_there, largest_window}
-use Rattle.ssh_model.specs.Channels.Rows as row
-use Rattle.ssh_model.specs.Channels.History as channel
-use Rattle.ssh_model.specs.Channels.Places.{Place, place_at, place_of, at}
-use Rattle.ssh_model.specs.Channels.Connection.{channel_ask_checks, notes, owed_replies, globals_here, globals_there, ConnectionAsk, ConnectionAsk.opens, ConnectionAsk.confirm, ConnectionAsk.refuse, ConnectionAsk.sends, ConnectionAsk.sends_extended, ConnectionAsk.reply_yes, ConnectionAsk.reply_no, ConnectionAsk.global_yes, ConnectionAsk.global_no}
-use Rattle.ssh_model.specs.Channels.Connection as connection
-use Rattle.ssh_model.specs.Channels.Kept.{Channels, Sent, sends_on, sends_globally, Sends, Sends.opens, Sends.gives_data, Sends.gives_extended, Sends.reply_yes, Sends.reply_no, Sends.global_yes, Sends.global_no, send_checks, IsUnused, peer_of, put, change, opening_place, count_where}
-use Rattle.ssh_model.specs.Channels.Summary.{SumsUp, Allows}
+use Rattle.ssh_model.specs.Protocol.Side.{Side}
+use Rattle.ssh_model.specs.Protocol.Wire.Message.{Msg, Msg.GlobalRequest, Msg.RequestSuccess, Msg.RequestFailure, Msg.ChannelOpen, Msg.ChannelOpenConfirmation, Msg.ChannelOpenFailure, Msg.ChannelWindowAdjust, Msg.ChannelData, Msg.ChannelExtendedData, Msg.ChannelEof, Msg.ChannelClose, Msg.ChannelRequest, Msg.ChannelSuccess, Msg.ChannelFailure}
+use Rattle.ssh_model.specs.Protocol.Sessions.Refusals.{first_refusal}
+use Rattle.ssh_model.specs.Protocol.Sessions.Items as session
+use Rattle.ssh_model.specs.Protocol.Sessions.Items.{Ask, Ask.AskOpen, Ask.AskConfirm, Ask.AskRefuse, Ask.AskData, Ask.AskAdjust, Ask.AskEof, Ask.AskClose, Ask.AskRequest, Ask.AskReply, Ask.AskGlobal, Ask.AskGlobalReply, Fact.Opening, Item, Item.Told, Item.Asked}
+use Rattle.ssh_model.specs.Protocol.Sessions.Phases.{blocked}
+use Rattle.ssh_model.specs.Protocol.Channels.Message.{Message.Close}
+use Rattle.ssh_model.specs.Protocol.Channels.Notes.{Note, Note.Said, channel_at}
+use Rattle.ssh_model.specs.Protocol.Channels.Numbers.{is_held, is_confirmed, is_waiting, peer_number, max_packet_there, largest_window}
+use Rattle.ssh_model.specs.Protocol.Channels.Rows as row
+use Rattle.ssh_model.specs.Protocol.Channels.History as channel
+use Rattle.ssh_model.specs.State.Channels.Places.{Place, place_at, place_of, at}
+use Rattle.ssh_model.specs.Protocol.Channels.Connection.{channel_ask_checks, notes, owed_replies, globals_here, globals_there, ConnectionAsk, ConnectionAsk.opens, ConnectionAsk.confirm, ConnectionAsk.refuse, ConnectionAsk.sends, ConnectionAsk.sends_extended, ConnectionAsk.reply_yes, ConnectionAsk.reply_no, ConnectionAsk.global_yes, ConnectionAsk.global_no}
+use Rattle.ssh_model.specs.Protocol.Channels.Connection as connection
+use Rattle.ssh_model.specs.State.Channels.Kept.{Channels, Sent, sends_on, sends_globally, Sends, Sends.opens, Sends.gives_data, Sends.gives_extended, Sends.reply_yes, Sends.reply_no, Sends.global_yes, Sends.global_no, send_checks, IsUnused, peer_of, put, change, opening_place, count_where}
+use Rattle.ssh_model.specs.State.Channels.Summary.{SumsUp, Allows}
 use Rattle.ssh_model.specs.Laws.Checks.{all_passed}
 use Rattle.ssh_model.proofs.Sessions.Stages.{or_false, not_false}
 use Rattle.ssh_model.proofs.Channels.State.{and_is}

@@ -1,18 +1,18 @@
 -- What is kept of channels is refused for what their history is.
 use Rattle.std.proofs.Common.{◌≡◌, ℕ, ◌+◌, List, [], ◌∷◌, length, refl, ap, sym, ◌∙◌, Option, None, Some, is_some, nat_lt, cond, not, ◌&&◌, ◌||◌, Bool, true, false, ◌==◌}
-use Rattle.ssh_model.specs.Side.{Side}
-use Rattle.ssh_model.specs.Wire.Message.{Msg, Msg.GlobalRequest, Msg.RequestSuccess, Msg.RequestFailure, Msg.ChannelOpen, Msg.ChannelOpenConfirmation, Msg.ChannelOpenFailure, Msg.ChannelWindowAdjust, Msg.ChannelData, Msg.ChannelExtendedData, Msg.ChannelEof, Msg.ChannelClose, Msg.ChannelRequest, Msg.ChannelSuccess, Msg.ChannelFailure}
-use Rattle.ssh_model.specs.Sessions.Refusals.{Check, Check.RefusedWhere, first_refusal, Refusal, Refusal.Unexpected, Refusal.UnknownChannel, Refusal.WindowOverrun, Refusal.WindowTooLarge, Refusal.OwedFull, AskRefusal, AskRefusal.Busy, AskRefusal.NoChannel, AskRefusal.NoRoom, AskRefusal.TooLong, AskRefusal.NothingOwed, AskRefusal.RekeyDue, AskRefusal.TooMuch}
-use Rattle.ssh_model.specs.Sessions.Items.{Ask, Ask.AskOpen, Ask.AskConfirm, Ask.AskRefuse, Ask.AskData, Ask.AskAdjust, Ask.AskEof, Ask.AskClose, Ask.AskRequest, Ask.AskReply, Ask.AskGlobal, Ask.AskGlobalReply, Item}
-use Rattle.ssh_model.specs.Sessions.Phases.{blocked}
-use Rattle.ssh_model.specs.Channels.Message.{Message.WindowAdjust, Message.Data}
-use Rattle.ssh_model.specs.Channels.Numbers.{is_held, is_confirmed, is_offered, is_waiting, has_ended, has_closed, peer_ended, send_window, receive_window, max_packet_there, waiting_here, waiting_there, largest_window, is_window_overrun, is_window_too_large}
-use Rattle.ssh_model.specs.Channels.History as channel
-use Rattle.ssh_model.specs.Channels.History.{is_owed}
-use Rattle.ssh_model.specs.Channels.Places.{place_at, place_of, at, is_at, is_open, is_opening, is_waiting_place}
-use Rattle.ssh_model.specs.Channels.Connection.{connection_checks, channel_ask_checks, notes, owed_replies, channel_items, is_limit_reached, is_owed_limit_reached}
-use Rattle.ssh_model.specs.Channels.Kept.{Channels, is_queue_full, has_said_close, is_ended, take_checks, send_checks, data_checks, opening_checks, reply_checks}
-use Rattle.ssh_model.specs.Channels.Summary.{SumsUp}
+use Rattle.ssh_model.specs.Protocol.Side.{Side}
+use Rattle.ssh_model.specs.Protocol.Wire.Message.{Msg, Msg.GlobalRequest, Msg.RequestSuccess, Msg.RequestFailure, Msg.ChannelOpen, Msg.ChannelOpenConfirmation, Msg.ChannelOpenFailure, Msg.ChannelWindowAdjust, Msg.ChannelData, Msg.ChannelExtendedData, Msg.ChannelEof, Msg.ChannelClose, Msg.ChannelRequest, Msg.ChannelSuccess, Msg.ChannelFailure}
+use Rattle.ssh_model.specs.Protocol.Sessions.Refusals.{Check, Check.RefusedWhere, first_refusal, Refusal, Refusal.Unexpected, Refusal.UnknownChannel, Refusal.WindowOverrun, Refusal.WindowTooLarge, Refusal.OwedFull, AskRefusal, AskRefusal.Busy, AskRefusal.NoChannel, AskRefusal.NoRoom, AskRefusal.TooLong, AskRefusal.NothingOwed, AskRefusal.RekeyDue, AskRefusal.TooMuch}
+use Rattle.ssh_model.specs.Protocol.Sessions.Items.{Ask, Ask.AskOpen, Ask.AskConfirm, Ask.AskRefuse, Ask.AskData, Ask.AskAdjust, Ask.AskEof, Ask.AskClose, Ask.AskRequest, Ask.AskReply, Ask.AskGlobal, Ask.AskGlobalReply, Item}
+use Rattle.ssh_model.specs.Protocol.Sessions.Phases.{blocked}
+use Rattle.ssh_model.specs.Protocol.Channels.Message.{Message.WindowAdjust, Message.Data}
+use Rattle.ssh_model.specs.Protocol.Channels.Numbers.{is_held, is_confirmed, is_offered, is_waiting, has_ended, has_closed, peer_ended, send_window, receive_window, max_packet_there, waiting_here, waiting_there, largest_window, is_window_overrun, is_window_too_large}
+use Rattle.ssh_model.specs.Protocol.Channels.History as channel
+use Rattle.ssh_model.specs.Protocol.Channels.History.{is_owed}
+use Rattle.ssh_model.specs.State.Channels.Places.{place_at, place_of, at, is_at, is_open, is_opening, is_waiting_place}
+use Rattle.ssh_model.specs.Protocol.Channels.Connection.{connection_checks, channel_ask_checks, notes, owed_replies, channel_items, is_limit_reached, is_owed_limit_reached}
+use Rattle.ssh_model.specs.State.Channels.Kept.{Channels, is_queue_full, has_said_close, is_ended, take_checks, send_checks, data_checks, opening_checks, reply_checks}
+use Rattle.ssh_model.specs.State.Channels.Summary.{SumsUp}
 use Rattle.ssh_model.proofs.Sessions.Stages.{not_false}
 use Rattle.ssh_model.proofs.Channels.View.{blocked_same}
 use Rattle.ssh_model.proofs.Channels.PlaceQueue.{place_none}
@@ -174,7 +174,7 @@ module _ (s : Side) (h : List Item) (c : Channels) (has : SumsUp s h (owed_repli
       confirmed_first x (RefusedWhere (has_ended x (notes s h)) AskRefusal.Ended ∷ []) (RefusedWhere (is_at is_ended (at c.places x)) AskRefusal.Ended ∷ [])
       (λ e. rw (open_place s h (owed_replies s h) c has x e, own_end s h (owed_replies s h) c has x) refl)
 
-  -- with other checks behind, which do not look at the channel
+  -- with other checks after, which do not look at the channel
   close_ask : (x : ℕ) (f : Option AskRefusal)
       → cond (not (is_confirmed x (notes s h))) (Some NoChannel) (cond (has_closed x (notes s h)) (Some AskRefusal.Ended) f)
       ≡ cond (not (is_at is_open (at c.places x))) (Some NoChannel) (cond (has_said_close (at c.places x)) (Some AskRefusal.Ended) f)

@@ -2,11 +2,11 @@
 use Rattle.std.proofs.Common.{◌≡◌, ℕ, zero, suc, ◌+◌, ◌<◌, ◌≤◌, List, ◌∷◌, length, refl, ap, sym, ◌∙◌, arith, cond, not, ◌&&◌, ◌||◌, Bool, true, false, Option, is_some, count_by, nat_lt, nat_le, lt-ltb, ltb-true, ltb-false}
 use Rattle.std.proofs.lemmas.Bool.{le-leb, lt-leb}
 use Rattle.std.proofs.lemmas.List.Recursion.{is_count_by}
-use Rattle.ssh_model.specs.Side.{Side}
-use Rattle.ssh_model.specs.Channels.Notes.{Note}
-use Rattle.ssh_model.specs.Channels.Numbers.{is_held}
-use Rattle.ssh_model.specs.Channels.History.{Item, noted, owed, is_owed, is_free, some_free, has_place}
-use Rattle.ssh_model.specs.Channels.Places.{Place, place, in_use, count_below, count, at}
+use Rattle.ssh_model.specs.Protocol.Side.{Side}
+use Rattle.ssh_model.specs.Protocol.Channels.Notes.{Note}
+use Rattle.ssh_model.specs.Protocol.Channels.Numbers.{is_held}
+use Rattle.ssh_model.specs.Protocol.Channels.History.{Item, noted, owed, is_owed, is_free, some_free, has_place}
+use Rattle.ssh_model.specs.State.Channels.Places.{Place, place, in_use, count_below, count, at}
 use Rattle.ssh_model.proofs.Channels.PlaceQueue.{place_held, place_owed, place_none}
 
 pub below_same : (p q : ℕ → Bool) (k : ℕ) → ((x : ℕ) → p x ≡ q x) → count_below p k ≡ count_below q k

@@ -1,17 +1,17 @@
 -- An end without channels, items of other layers, and what is shown.
 use Rattle.std.proofs.Common.{◌≡◌, ℕ, zero, suc, List, [], ◌∷◌, replicate, refl, ap, sym, ◌∙◌, subst, Option, None}
 use lib.ListN.{length-replicate}
-use Rattle.ssh_model.specs.Side.{Side}
-use Rattle.ssh_model.specs.Wire.Message.{Msg.NewKeys, Msg.GlobalRequest, Msg.RequestSuccess, Msg.RequestFailure, Msg.ChannelOpen, Msg.ChannelOpenConfirmation, Msg.ChannelOpenFailure, Msg.ChannelWindowAdjust, Msg.ChannelData, Msg.ChannelExtendedData, Msg.ChannelEof, Msg.ChannelClose, Msg.ChannelRequest, Msg.ChannelSuccess, Msg.ChannelFailure}
-use Rattle.ssh_model.specs.Sessions.Items.{Item, Item.Sent, Item.Took}
-use Rattle.ssh_model.specs.Channels.Notes.{Note}
-use Rattle.ssh_model.specs.Channels.Rules.{EndRun, EndRun.start}
-use Rattle.ssh_model.specs.Channels.History as channel
-use Rattle.ssh_model.specs.Channels.History.{is_owed}
-use Rattle.ssh_model.specs.Channels.Places.{Place, place, AreOwed, channel_state, room, count, at, shown_state, shown_room}
-use Rattle.ssh_model.specs.Channels.Connection.{notes, owed_replies, globals_here, globals_there}
-use Rattle.ssh_model.specs.Channels.Kept.{Channels, no_channels, used}
-use Rattle.ssh_model.specs.Channels.Summary.{LeavesChannels, IsNoNewkeys, SumsUp}
+use Rattle.ssh_model.specs.Protocol.Side.{Side}
+use Rattle.ssh_model.specs.Protocol.Wire.Message.{Msg.NewKeys, Msg.GlobalRequest, Msg.RequestSuccess, Msg.RequestFailure, Msg.ChannelOpen, Msg.ChannelOpenConfirmation, Msg.ChannelOpenFailure, Msg.ChannelWindowAdjust, Msg.ChannelData, Msg.ChannelExtendedData, Msg.ChannelEof, Msg.ChannelClose, Msg.ChannelRequest, Msg.ChannelSuccess, Msg.ChannelFailure}
+use Rattle.ssh_model.specs.Protocol.Sessions.Items.{Item, Item.Sent, Item.Took}
+use Rattle.ssh_model.specs.Protocol.Channels.Notes.{Note}
+use Rattle.ssh_model.specs.Protocol.Channels.Rules.{EndRun, EndRun.start}
+use Rattle.ssh_model.specs.Protocol.Channels.History as channel
+use Rattle.ssh_model.specs.Protocol.Channels.History.{is_owed}
+use Rattle.ssh_model.specs.State.Channels.Places.{Place, place, AreOwed, channel_state, room, count, at, shown_state, shown_room}
+use Rattle.ssh_model.specs.Protocol.Channels.Connection.{notes, owed_replies, globals_here, globals_there}
+use Rattle.ssh_model.specs.State.Channels.Kept.{Channels, no_channels, used}
+use Rattle.ssh_model.specs.State.Channels.Summary.{LeavesChannels, IsNoNewkeys, SumsUp}
 use Rattle.ssh_model.proofs.Channels.PlaceQueue.{place_none, room_is, state_is}
 use Rattle.ssh_model.proofs.Channels.Summing.{count_is}
 
@@ -82,7 +82,7 @@ kept_elsewhere s h o c (Took x (ChannelSuccess t) payload) l has = elim l [ ]
 kept_elsewhere s h o c (Took x (ChannelFailure t) payload) l has = elim l [ ]
 kept_elsewhere s h o c i l has = same_sums s h (i ∷ h) o c has refl refl refl
 
--- owed replies too are kept by them, but for those that NEWKEYS brings
+-- owed replies too are kept by them, except for those that NEWKEYS brings
 pub owed_elsewhere : (s : Side) (h : List Item) (i : Item) → LeavesChannels i → IsNoNewkeys i → owed_replies s (i ∷ h) ≡ owed_replies s h
 owed_elsewhere s h (Sent x (GlobalRequest name want rest) payload) l n = elim l [ ]
 owed_elsewhere s h (Sent x (RequestSuccess rest) payload) l n = elim l [ ]

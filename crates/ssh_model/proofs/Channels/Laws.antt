@@ -1,12 +1,12 @@
 -- Laws of the definitions by themselves.
 use Rattle.std.proofs.Common.{◌≡◌, ℕ, ◌-◌, ◌<◌, List, ◌∷◌, length, ◌⊎◌, inl, inr, refl, ap, ◌∙◌, arith, zero, suc, Bool, true, false, not, ◌&&◌, ◌||◌, nat_lt, eqb, eqb-true, eq-eqb, Option}
 use Rattle.std.proofs.lemmas.Bool.{ltb-true}
-use Rattle.ssh_model.specs.Side.{Side}
-use Rattle.ssh_model.specs.Channels.Message.{Message, Message.Data, Message.Request, Message.Reply, Channel, Stage, Stage.Closed, Stage.Failed, stage, over_at, over, window, spent}
-use Rattle.ssh_model.specs.Channels.Notes.{Note, Note.Said, Note.Took, said, took, said_all, took_all, channel_at, At, Free}
-use Rattle.ssh_model.specs.Channels.Numbers.{is_held, has_closed, send_window, receive_window, waiting_here, waiting_there}
-use Rattle.ssh_model.specs.Channels.Rules.{EndRun}
-use Rattle.ssh_model.specs.Channels.History.{Item, noted, owed, is_owed, is_free, some_free, has_place}
+use Rattle.ssh_model.specs.Protocol.Side.{Side}
+use Rattle.ssh_model.specs.Protocol.Channels.Message.{Message, Message.Data, Message.Request, Message.Reply, Channel, Stage, Stage.Closed, Stage.Failed, stage, over_at, over, window, spent}
+use Rattle.ssh_model.specs.Protocol.Channels.Notes.{Note, Note.Said, Note.Took, said, took, said_all, took_all, channel_at, At, Free}
+use Rattle.ssh_model.specs.Protocol.Channels.Numbers.{is_held, has_closed, send_window, receive_window, waiting_here, waiting_there}
+use Rattle.ssh_model.specs.Protocol.Channels.Rules.{EndRun}
+use Rattle.ssh_model.specs.Protocol.Channels.History.{Item, noted, owed, is_owed, is_free, some_free, has_place}
 use Rattle.ssh_model.proofs.Channels.Lines.{same_self, on_hit}
 use Rattle.ssh_model.proofs.Channels.State.{at_held, free_number}
 use Rattle.ssh_model.proofs.Channels.End.{local}

@@ -1,14 +1,14 @@
 -- The claims of whole runs of two ends.
 use Rattle.std.proofs.Common.{◌≡◌, ℕ, List, [], ◌∷◌, ◌++◌, reverse, inr, refl, ap, sym, ◌∙◌, subst, cond, Bool, true, false, Option, Some, None}
-use Rattle.ssh_model.specs.Side.{Side, Side.Client, Side.Server, peer, part, done_by}
-use Rattle.ssh_model.specs.Lists.{IsOlder}
-use Rattle.ssh_model.specs.Channels.Message.{Message, Message.Open, Message.OpenFailure, Message.Data, Message.Close, Channel, same, data_of}
-use Rattle.ssh_model.specs.Channels.Notes.{Line, Line.On, Note, Note.Said, Note.Took, said_all, took_all, on, said, took, channel_at}
-use Rattle.ssh_model.specs.Channels.Numbers.{has_closed, peer_number}
-use Rattle.ssh_model.specs.Channels.Rules.{next_own, next_theirs, Next, Run, Run.start, Run.swap, Run.opening, Run.saying, Run.take_open, Run.refuse_open, Run.take}
-use Rattle.ssh_model.specs.Channels.History.{Item, Item.Sent, Item.Received, Item.KexinitSent, Item.NewkeysSent, sent, received, noted, owed}
-use Rattle.ssh_model.specs.Channels.Rows.{Turn, Done, PairRun, PairRun.begins, PairRun.then_turn, Ordered}
-use Rattle.ssh_model.specs.Channels.Claims.{WindowsKept, NotRefused, data_sent, data_received, DataInOrder}
+use Rattle.ssh_model.specs.Protocol.Side.{Side, Side.Client, Side.Server, peer, part, done_by}
+use Rattle.ssh_model.specs.Protocol.Lists.{IsOlder}
+use Rattle.ssh_model.specs.Protocol.Channels.Message.{Message, Message.Open, Message.OpenFailure, Message.Data, Message.Close, Channel, same, data_of}
+use Rattle.ssh_model.specs.Protocol.Channels.Notes.{Line, Line.On, Note, Note.Said, Note.Took, said_all, took_all, on, said, took, channel_at}
+use Rattle.ssh_model.specs.Protocol.Channels.Numbers.{has_closed, peer_number}
+use Rattle.ssh_model.specs.Protocol.Channels.Rules.{next_own, next_theirs, Next, Run, Run.start, Run.swap, Run.opening, Run.saying, Run.take_open, Run.refuse_open, Run.take}
+use Rattle.ssh_model.specs.Protocol.Channels.History.{Item, Item.Sent, Item.Received, Item.KexinitSent, Item.NewkeysSent, sent, received, noted, owed}
+use Rattle.ssh_model.specs.Protocol.Channels.Rows.{Turn, Done, PairRun, PairRun.begins, PairRun.then_turn, Ordered}
+use Rattle.ssh_model.specs.Protocol.Channels.Claims.{WindowsKept, NotRefused, data_sent, data_received, DataInOrder}
 use Rattle.ssh_model.proofs.Channels.Whole.{both, within_holds, data_begins, welcome}
 use Rattle.ssh_model.proofs.Channels.End.{part_own, part_other}
 use Rattle.ssh_model.proofs.Channels.Taken.{Can}

@@ -1,12 +1,12 @@
 -- A channel on which data were taken has a partner.
 use Rattle.std.proofs.Common.{◌≡◌, ℕ, List, [], ◌∷◌, ◌⊎◌, inl, inr, refl, sym, ◌∙◌, subst, Bool, true, false, Option}
-use Rattle.ssh_model.specs.Side.{Side, Side.Client, Side.Server, peer, part}
-use Rattle.ssh_model.specs.Lists.{IsIn}
-use Rattle.ssh_model.specs.Channels.Message.{Message, Message.Open, Message.OpenConfirmation, Message.OpenFailure, Message.Data, Message.Eof, Message.Close, Channel, Channel.Opened, mine, is_open, Stage, Stage.Quiet, Stage.Speaking, stage, talked, begun, MayFollow, data_of}
-use Rattle.ssh_model.specs.Channels.Notes.{Note, said_all, took_all, said, took, OpenedAt}
-use Rattle.ssh_model.specs.Channels.Rows.{Done, PairRun, Ordered}
-use Rattle.ssh_model.specs.Channels.Claims.{SharesOpen, Partnered, data_received}
-use Rattle.ssh_model.specs.Channels.History.{noted}
+use Rattle.ssh_model.specs.Protocol.Side.{Side, Side.Client, Side.Server, peer, part}
+use Rattle.ssh_model.specs.Protocol.Lists.{IsIn}
+use Rattle.ssh_model.specs.Protocol.Channels.Message.{Message, Message.Open, Message.OpenConfirmation, Message.OpenFailure, Message.Data, Message.Eof, Message.Close, Channel, Channel.Opened, mine, is_open, Stage, Stage.Quiet, Stage.Speaking, stage, talked, begun, MayFollow, data_of}
+use Rattle.ssh_model.specs.Protocol.Channels.Notes.{Note, said_all, took_all, said, took, OpenedAt}
+use Rattle.ssh_model.specs.Protocol.Channels.Rows.{Done, PairRun, Ordered}
+use Rattle.ssh_model.specs.Protocol.Channels.Claims.{SharesOpen, Partnered, data_received}
+use Rattle.ssh_model.specs.Protocol.Channels.History.{noted}
 use Rattle.ssh_model.proofs.Channels.Lists.{Kept, more, more_older, grown, grown_once}
 use Rattle.ssh_model.proofs.Channels.Lines.{on_older, mine_twice}
 use Rattle.ssh_model.proofs.Channels.Whole.{Both, both, in_older}

@@ -1,13 +1,13 @@
 -- Opening a channel: what each message of it changes of what an end keeps.
 use Rattle.std.proofs.Common.{◌≡◌, ℕ, ◌+◌, ◌-◌, ◌≤◌, List, [], ◌∷◌, ◌⊎◌, inl, inr, refl, ap, sym, ◌∙◌, arith, subst, cond, not, ◌&&◌, Bool, true, false, ◌==◌, eq-eqb}
-use Rattle.ssh_model.specs.Side.{Side, peer}
-use Rattle.ssh_model.specs.Channels.Message.{window, spent, Message, Message.Open, Message.OpenConfirmation, Message.OpenFailure, Message.WindowAdjust, Message.Data, Message.Eof, Message.Close, Message.Request, Message.Reply, Channel, same, mine, Stage, Stage.Quiet, Stage.Speaking, Stage.Ended, Stage.Closed, Stage.Failed, stage, talked, begun, over_at, MayFollow}
-use Rattle.ssh_model.specs.Channels.Notes.{Note, Note.Said, Note.Took, said_all, took_all, said, took, opens, OpenedAt, channel_at}
-use Rattle.ssh_model.specs.Channels.Numbers.{said_at, took_at, is_empty, has_open, is_held, is_offered, is_waiting, largest_window, peer_number}
-use Rattle.ssh_model.specs.Channels.Rules.{EndRun, EndRun.start, EndRun.opening, EndRun.saying, EndRun.take_open, EndRun.refuse_open, EndRun.take, next_own, next_theirs}
-use Rattle.ssh_model.specs.Channels.Rows as row
-use Rattle.ssh_model.specs.Channels.Places.{Place, place_of, place_at, is_opening, is_waiting_place}
-use Rattle.ssh_model.specs.Channels.Kept.{waiting_place, opening_place}
+use Rattle.ssh_model.specs.Protocol.Side.{Side, peer}
+use Rattle.ssh_model.specs.Protocol.Channels.Message.{window, spent, Message, Message.Open, Message.OpenConfirmation, Message.OpenFailure, Message.WindowAdjust, Message.Data, Message.Eof, Message.Close, Message.Request, Message.Reply, Channel, same, mine, Stage, Stage.Quiet, Stage.Speaking, Stage.Ended, Stage.Closed, Stage.Failed, stage, talked, begun, over_at, MayFollow}
+use Rattle.ssh_model.specs.Protocol.Channels.Notes.{Note, Note.Said, Note.Took, said_all, took_all, said, took, opens, OpenedAt, channel_at}
+use Rattle.ssh_model.specs.Protocol.Channels.Numbers.{said_at, took_at, is_empty, has_open, is_held, is_offered, is_waiting, largest_window, peer_number}
+use Rattle.ssh_model.specs.Protocol.Channels.Rules.{EndRun, EndRun.start, EndRun.opening, EndRun.saying, EndRun.take_open, EndRun.refuse_open, EndRun.take, next_own, next_theirs}
+use Rattle.ssh_model.specs.Protocol.Channels.Rows as row
+use Rattle.ssh_model.specs.State.Channels.Places.{Place, place_of, place_at, is_opening, is_waiting_place}
+use Rattle.ssh_model.specs.State.Channels.Kept.{waiting_place, opening_place}
 use Rattle.ssh_model.proofs.Channels.Lines.{same_true, same_self, on_hit, mine_own, mine_peer, opened_said, opened_took, Unused, unused_said, unused_took}
 use Rattle.ssh_model.proofs.Channels.Lists.{Kept, grown_once}
 use Rattle.ssh_model.proofs.Channels.State.{held_at, not_true, offered_is, waits_is}

@@ -1,22 +1,22 @@
 -- Each message taken that makes a reply due, over what is kept, is one that a session takes; and so is every message.
 use Rattle.std.proofs.Common.{◌≡◌, ℕ, List, [], ◌∷◌, ◌++◌, refl, ap, sym, ◌∙◌, subst, Option, None, Some, option_map, slice_set, length-set, cond, Bool, true, false}
-use Rattle.ssh_model.specs.Side.{Side}
-use Rattle.ssh_model.specs.Wire.Message.{Msg, Msg.ChannelOpen, Msg.ChannelOpenFailure, Msg.ChannelClose}
-use Rattle.ssh_model.specs.Sessions.Refusals.{first_refusal}
-use Rattle.ssh_model.specs.Sessions.Items as session
-use Rattle.ssh_model.specs.Sessions.Items.{Fact.Closed, Item, Item.Told}
-use Rattle.ssh_model.specs.Sessions.Phases.{blocked}
-use Rattle.ssh_model.specs.Channels.Message.{Message.Open, Message.OpenFailure, Message.Close, closed, stage}
-use Rattle.ssh_model.specs.Channels.Notes.{Note, Note.Said, Note.Took, channel_at}
-use Rattle.ssh_model.specs.Channels.Numbers.{took_at, is_held, is_confirmed, has_closed, peer_number}
-use Rattle.ssh_model.specs.Channels.Rules.{EndRun, EndRun.refuse_open}
-use Rattle.ssh_model.specs.Channels.History as channel
-use Rattle.ssh_model.specs.Channels.History.{is_owed}
-use Rattle.ssh_model.specs.Channels.Places.{Place, place_at, place_of, place, AreOwed, at}
-use Rattle.ssh_model.specs.Channels.Connection.{connection_checks, notes, owed_replies, channel_items, is_full, AreReplies, AreReplies.none, ConnectionAnswer, ConnectionAnswer.not_opened}
-use Rattle.ssh_model.specs.Channels.Connection as connection
-use Rattle.ssh_model.specs.Channels.Kept.{DueReply.RefusesOpen, DueReply.AnswersClose, Channels, Taken, Takes, Takes.global_request, Takes.request_success, Takes.request_failure, Takes.open_taken, Takes.open_refused, Takes.confirmation, Takes.failure, Takes.adjust, Takes.got_data, Takes.got_extended, Takes.eof, Takes.close, Takes.request, Takes.success, Takes.no_success, take_checks, has_said_close, peer_of, put, owe, sent_at_once, owed_where, close_reply, close_taken, is_table_full}
-use Rattle.ssh_model.specs.Channels.Summary.{SumsUp, Accepts}
+use Rattle.ssh_model.specs.Protocol.Side.{Side}
+use Rattle.ssh_model.specs.Protocol.Wire.Message.{Msg, Msg.ChannelOpen, Msg.ChannelOpenFailure, Msg.ChannelClose}
+use Rattle.ssh_model.specs.Protocol.Sessions.Refusals.{first_refusal}
+use Rattle.ssh_model.specs.Protocol.Sessions.Items as session
+use Rattle.ssh_model.specs.Protocol.Sessions.Items.{Fact.Closed, Item, Item.Told}
+use Rattle.ssh_model.specs.Protocol.Sessions.Phases.{blocked}
+use Rattle.ssh_model.specs.Protocol.Channels.Message.{Message.Open, Message.OpenFailure, Message.Close, closed, stage}
+use Rattle.ssh_model.specs.Protocol.Channels.Notes.{Note, Note.Said, Note.Took, channel_at}
+use Rattle.ssh_model.specs.Protocol.Channels.Numbers.{took_at, is_held, is_confirmed, has_closed, peer_number}
+use Rattle.ssh_model.specs.Protocol.Channels.Rules.{EndRun, EndRun.refuse_open}
+use Rattle.ssh_model.specs.Protocol.Channels.History as channel
+use Rattle.ssh_model.specs.Protocol.Channels.History.{is_owed}
+use Rattle.ssh_model.specs.State.Channels.Places.{Place, place_at, place_of, place, AreOwed, at}
+use Rattle.ssh_model.specs.Protocol.Channels.Connection.{connection_checks, notes, owed_replies, channel_items, is_full, AreReplies, AreReplies.none, ConnectionAnswer, ConnectionAnswer.not_opened}
+use Rattle.ssh_model.specs.Protocol.Channels.Connection as connection
+use Rattle.ssh_model.specs.State.Channels.Kept.{DueReply.RefusesOpen, DueReply.AnswersClose, Channels, Taken, Takes, Takes.global_request, Takes.request_success, Takes.request_failure, Takes.open_taken, Takes.open_refused, Takes.confirmation, Takes.failure, Takes.adjust, Takes.got_data, Takes.got_extended, Takes.eof, Takes.close, Takes.request, Takes.success, Takes.no_success, take_checks, has_said_close, peer_of, put, owe, sent_at_once, owed_where, close_reply, close_taken, is_table_full}
+use Rattle.ssh_model.specs.State.Channels.Summary.{SumsUp, Accepts}
 use Rattle.ssh_model.specs.Laws.Checks.{all_passed}
 use Rattle.ssh_model.proofs.Sessions.Stages.{not_false}
 use Rattle.ssh_model.proofs.Channels.PlaceRows.{close_taken_last, close_answered}

@@ -1,18 +1,18 @@
 -- Whole runs as their channels see them: windows, no refusal between the two ends, and data in order.
 use Rattle.std.proofs.Common.{◌≡◌, ℕ, List, [], ◌∷◌, ◌++◌, ◌⊎◌, inl, inr, refl, ap, sym, ◌∙◌, subst, append_assoc, append-nil, Option, Some, None}
-use Rattle.ssh_model.specs.Side.{Side, Side.Client, Side.Server, peer, DoneBy.By, done_by, part}
-use Rattle.ssh_model.specs.Lists.{IsOlder}
-use Rattle.ssh_model.specs.Wire.Message.{Msg.NewKeys, Msg.KexInit}
-use Rattle.ssh_model.specs.Sessions.Parties.{Parties, AreLawful, BothOffer}
-use Rattle.ssh_model.specs.Sessions.Items.{Item, Item.Sent, Item.Took, Done}
-use Rattle.ssh_model.specs.Channels.Message.{Message}
-use Rattle.ssh_model.specs.Channels.History as channel
-use Rattle.ssh_model.specs.Channels.Rows as row
-use Rattle.ssh_model.specs.Channels.Claims as safe
-use Rattle.ssh_model.specs.Channels.Connection.{on_channel, sent_on, received_on, channel_items}
-use Rattle.ssh_model.specs.Sessions.Honest.{IsHonest}
-use Rattle.ssh_model.specs.Sessions.Claims.{Windows, WindowsAt}
-use Rattle.ssh_model.specs.Sessions.Turns.{EndRun, EndRun.start, EndRun.then_turn, Run, Run.start, Run.then_turn, IsOpening}
+use Rattle.ssh_model.specs.Protocol.Side.{Side, Side.Client, Side.Server, peer, DoneBy.By, done_by, part}
+use Rattle.ssh_model.specs.Protocol.Lists.{IsOlder}
+use Rattle.ssh_model.specs.Protocol.Wire.Message.{Msg.NewKeys, Msg.KexInit}
+use Rattle.ssh_model.specs.Protocol.Sessions.Parties.{Parties, AreLawful, BothOffer}
+use Rattle.ssh_model.specs.Protocol.Sessions.Items.{Item, Item.Sent, Item.Took, Done}
+use Rattle.ssh_model.specs.Protocol.Channels.Message.{Message}
+use Rattle.ssh_model.specs.Protocol.Channels.History as channel
+use Rattle.ssh_model.specs.Protocol.Channels.Rows as row
+use Rattle.ssh_model.specs.Protocol.Channels.Claims as safe
+use Rattle.ssh_model.specs.Protocol.Channels.Connection.{on_channel, sent_on, received_on, channel_items}
+use Rattle.ssh_model.specs.Protocol.Sessions.Honest.{IsHonest}
+use Rattle.ssh_model.specs.Protocol.Sessions.Claims.{Windows, WindowsAt}
+use Rattle.ssh_model.specs.Protocol.Sessions.Turns.{EndRun, EndRun.start, EndRun.then_turn, Run, Run.start, Run.then_turn, IsOpening}
 use Rattle.ssh_model.proofs.Sessions.Whole.{Given, given, given_tail, kept, ends}
 use Rattle.ssh_model.proofs.Sessions.EndRuns.{end_run}
 use Rattle.ssh_model.proofs.Sessions.EndTurns.{end_keeps}

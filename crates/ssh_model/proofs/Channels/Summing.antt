@@ -2,20 +2,20 @@
 use Rattle.std.proofs.Common.{◌≡◌, ℕ, suc, ◌<◌, List, [], ◌∷◌, ◌++◌, length, map, refl, ap, sym, ◌∙◌, arith, subst, Option, None, Some, is_some, option_map, nat_le, reverse, slice_set, get_or-set_same, get_or-set_other, length-set, lt-ltb, zero, cond, ◌&&◌, ◌||◌, Bool, true, false, ◌==◌, eqb-true}
 use Rattle.std.proofs.lemmas.List.{length-reverse, reverse-append, map-append}
 use lib.ListN.{length-map}
-use Rattle.ssh_model.specs.Side.{Side}
-use Rattle.ssh_model.specs.Sessions.Refusals.{Check, Check.RefusedWhere, first_refusal}
-use Rattle.ssh_model.specs.Sessions.Items.{Item}
-use Rattle.ssh_model.specs.Sessions.Phases.{blocked}
-use Rattle.ssh_model.specs.Channels.Message.{begun, has_eof, stage, closed}
-use Rattle.ssh_model.specs.Channels.Notes.{Note, channel_at}
-use Rattle.ssh_model.specs.Channels.Numbers.{said_at, took_at, is_held, is_confirmed, is_offered, is_waiting, has_ended, has_closed, peer_ended}
-use Rattle.ssh_model.specs.Channels.Rules.{EndRun}
-use Rattle.ssh_model.specs.Channels.History as channel
-use Rattle.ssh_model.specs.Channels.History.{is_owed, is_free}
-use Rattle.ssh_model.specs.Channels.Places.{Place, place_at, place, in_use, AreOwed, at, is_at, is_open, is_opening, is_waiting_place, count_below, count}
-use Rattle.ssh_model.specs.Channels.Connection.{notes, owed_replies, channel_items, is_full, is_limit_reached, is_owed_limit_reached, globals_here, globals_there}
-use Rattle.ssh_model.specs.Channels.Kept.{DueReply, Channels, put, change, used, is_table_full, is_queue_full, IsUnused}
-use Rattle.ssh_model.specs.Channels.Summary.{reply_item, pending, SumsUp}
+use Rattle.ssh_model.specs.Protocol.Side.{Side}
+use Rattle.ssh_model.specs.Protocol.Sessions.Refusals.{Check, Check.RefusedWhere, first_refusal}
+use Rattle.ssh_model.specs.Protocol.Sessions.Items.{Item}
+use Rattle.ssh_model.specs.Protocol.Sessions.Phases.{blocked}
+use Rattle.ssh_model.specs.Protocol.Channels.Message.{begun, has_eof, stage, closed}
+use Rattle.ssh_model.specs.Protocol.Channels.Notes.{Note, channel_at}
+use Rattle.ssh_model.specs.Protocol.Channels.Numbers.{said_at, took_at, is_held, is_confirmed, is_offered, is_waiting, has_ended, has_closed, peer_ended}
+use Rattle.ssh_model.specs.Protocol.Channels.Rules.{EndRun}
+use Rattle.ssh_model.specs.Protocol.Channels.History as channel
+use Rattle.ssh_model.specs.Protocol.Channels.History.{is_owed, is_free}
+use Rattle.ssh_model.specs.State.Channels.Places.{Place, place_at, place, in_use, AreOwed, at, is_at, is_open, is_opening, is_waiting_place, count_below, count}
+use Rattle.ssh_model.specs.Protocol.Channels.Connection.{notes, owed_replies, channel_items, is_full, is_limit_reached, is_owed_limit_reached, globals_here, globals_there}
+use Rattle.ssh_model.specs.State.Channels.Kept.{DueReply, Channels, put, change, used, is_table_full, is_queue_full, IsUnused}
+use Rattle.ssh_model.specs.State.Channels.Summary.{reply_item, pending, SumsUp}
 use Rattle.ssh_model.proofs.Channels.View.{blocked_same}
 use Rattle.ssh_model.proofs.Channels.State.{and_is, not_is}
 use Rattle.ssh_model.proofs.Channels.End.{local}

@@ -1,12 +1,12 @@
 -- A turn of an end: what its notes and what it owes become.
 use Rattle.std.proofs.Common.{◌≡◌, ℕ, List, [], ◌∷◌, ◌++◌, map, refl, ap, sym, ◌∙◌, subst, cond, not, nat_lt, Bool, true, false, append_assoc, Option, Some, None}
-use Rattle.ssh_model.specs.Side.{Side}
-use Rattle.ssh_model.specs.Channels.Message.{Message, Message.Open, Message.Close, stage}
-use Rattle.ssh_model.specs.Channels.Notes.{payload, Note, Note.Said, said, said_all, took_all, channel_at, Free}
-use Rattle.ssh_model.specs.Channels.Numbers.{is_held, has_closed, peer_number}
-use Rattle.ssh_model.specs.Channels.Rules.{Says}
-use Rattle.ssh_model.specs.Channels.History.{Item, Item.Sent, Item.Received, Item.NewkeysSent, sent, received, blocked, due, note_sent, note_received, noted, owed, is_owed, is_free, at_once}
-use Rattle.ssh_model.specs.Channels.Rows.{Turn, Turn.opens, Turn.asks, Turn.takes_open, Turn.refuses_open, Turn.takes, Turn.rekeys, Turn.completes}
+use Rattle.ssh_model.specs.Protocol.Side.{Side}
+use Rattle.ssh_model.specs.Protocol.Channels.Message.{Message, Message.Open, Message.Close, stage}
+use Rattle.ssh_model.specs.Protocol.Channels.Notes.{payload, Note, Note.Said, said, said_all, took_all, channel_at, Free}
+use Rattle.ssh_model.specs.Protocol.Channels.Numbers.{is_held, has_closed, peer_number}
+use Rattle.ssh_model.specs.Protocol.Channels.Rules.{Says}
+use Rattle.ssh_model.specs.Protocol.Channels.History.{Item, Item.Sent, Item.Received, Item.NewkeysSent, sent, received, blocked, due, note_sent, note_received, noted, owed, is_owed, is_free, at_once}
+use Rattle.ssh_model.specs.Protocol.Channels.Rows.{Turn, Turn.opens, Turn.asks, Turn.takes_open, Turn.refuses_open, Turn.takes, Turn.rekeys, Turn.completes}
 use Rattle.ssh_model.proofs.Channels.State.{and_is, not_is, free_number}
 use Rattle.ssh_model.proofs.Channels.Replies.{AllDue, drop, owed_drop, received_drop, sent_append, due_append, not_closed}
 use Rattle.ssh_model.proofs.Channels.Taken.{Can, StepOf, Got, got, got_open, got_refused}

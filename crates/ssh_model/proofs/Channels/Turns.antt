@@ -1,20 +1,20 @@
 -- Each turn of an end is a turn on its channels, or none.
 use Rattle.std.proofs.Common.{◌≡◌, ℕ, ◌≤◌, List, [], ◌∷◌, ◌++◌, length, refl, ap, sym, ◌∙◌, subst, Bool, true, false, cond, ltb, ltb-false, Option, Some, None}
-use Rattle.ssh_model.specs.Side.{Side}
-use Rattle.ssh_model.specs.Wire.Message.{Msg, Msg.ChannelOpen, Msg.ChannelOpenConfirmation, Msg.ChannelOpenFailure, Msg.ChannelWindowAdjust, Msg.ChannelData, Msg.ChannelExtendedData, Msg.ChannelEof, Msg.ChannelClose, Msg.ChannelRequest, Msg.ChannelSuccess, Msg.ChannelFailure}
-use Rattle.ssh_model.specs.Sessions.Refusals.{first_refusal}
-use Rattle.ssh_model.specs.Sessions.Parties.{Parties}
-use Rattle.ssh_model.specs.Sessions.Items.{Item, Item.Took}
-use Rattle.ssh_model.specs.Sessions.Phases.{blocked}
-use Rattle.ssh_model.specs.Channels.Message.{Message, Message.Open, Message.OpenFailure, Message.Close}
-use Rattle.ssh_model.specs.Channels.Notes.{Note}
-use Rattle.ssh_model.specs.Channels.Numbers.{has_closed, receive_window, max_packet_here, peer_number}
-use Rattle.ssh_model.specs.Channels.History as channel
-use Rattle.ssh_model.specs.Channels.History.{at_once, due, noted, owed}
-use Rattle.ssh_model.specs.Channels.Rows as row
-use Rattle.ssh_model.specs.Channels.Connection.{channel_items, notes, AreDue, ConnectionAnswer, ConnectionAnswer.global, ConnectionAnswer.global_success, ConnectionAnswer.global_failure, ConnectionAnswer.opened, ConnectionAnswer.not_opened, ConnectionAnswer.confirmation, ConnectionAnswer.failure, ConnectionAnswer.adjust, ConnectionAnswer.got_data, ConnectionAnswer.got_extended, ConnectionAnswer.eof, ConnectionAnswer.close, ConnectionAnswer.request, ConnectionAnswer.success, ConnectionAnswer.no_success, ConnectionAsk.adjust, ConnectionAsk.eof, ConnectionAsk.close, ConnectionAsk.request, ConnectionAsk.global}
-use Rattle.ssh_model.specs.Authentication.Rows.{AuthenticationAnswer.failure, AuthenticationAnswer.success}
-use Rattle.ssh_model.specs.Sessions.Turns.{answer_checks}
+use Rattle.ssh_model.specs.Protocol.Side.{Side}
+use Rattle.ssh_model.specs.Protocol.Wire.Message.{Msg, Msg.ChannelOpen, Msg.ChannelOpenConfirmation, Msg.ChannelOpenFailure, Msg.ChannelWindowAdjust, Msg.ChannelData, Msg.ChannelExtendedData, Msg.ChannelEof, Msg.ChannelClose, Msg.ChannelRequest, Msg.ChannelSuccess, Msg.ChannelFailure}
+use Rattle.ssh_model.specs.Protocol.Sessions.Refusals.{first_refusal}
+use Rattle.ssh_model.specs.Protocol.Sessions.Parties.{Parties}
+use Rattle.ssh_model.specs.Protocol.Sessions.Items.{Item, Item.Took}
+use Rattle.ssh_model.specs.Protocol.Sessions.Phases.{blocked}
+use Rattle.ssh_model.specs.Protocol.Channels.Message.{Message, Message.Open, Message.OpenFailure, Message.Close}
+use Rattle.ssh_model.specs.Protocol.Channels.Notes.{Note}
+use Rattle.ssh_model.specs.Protocol.Channels.Numbers.{has_closed, receive_window, max_packet_here, peer_number}
+use Rattle.ssh_model.specs.Protocol.Channels.History as channel
+use Rattle.ssh_model.specs.Protocol.Channels.History.{at_once, due, noted, owed}
+use Rattle.ssh_model.specs.Protocol.Channels.Rows as row
+use Rattle.ssh_model.specs.Protocol.Channels.Connection.{channel_items, notes, AreDue, ConnectionAnswer, ConnectionAnswer.global, ConnectionAnswer.global_success, ConnectionAnswer.global_failure, ConnectionAnswer.opened, ConnectionAnswer.not_opened, ConnectionAnswer.confirmation, ConnectionAnswer.failure, ConnectionAnswer.adjust, ConnectionAnswer.got_data, ConnectionAnswer.got_extended, ConnectionAnswer.eof, ConnectionAnswer.close, ConnectionAnswer.request, ConnectionAnswer.success, ConnectionAnswer.no_success, ConnectionAsk.adjust, ConnectionAsk.eof, ConnectionAsk.close, ConnectionAsk.request, ConnectionAsk.global}
+use Rattle.ssh_model.specs.Protocol.Authentication.Rows.{AuthenticationAnswer.failure, AuthenticationAnswer.success}
+use Rattle.ssh_model.specs.Protocol.Sessions.Turns.{answer_checks}
 use Rattle.ssh_model.specs.Laws.Checks.{all_passed}
 use Rattle.ssh_model.proofs.Sessions.Stages.{or_false, not_false}
 use Rattle.ssh_model.proofs.Channels.View.{items_behind, blocked_same, AreDueReplies, replies_seen}

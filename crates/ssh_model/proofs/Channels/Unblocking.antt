@@ -1,18 +1,18 @@
 -- An owed reply that is given is sent in a session, and what is kept then sums up the history with it.
 use Rattle.std.proofs.Common.{◌≡◌, ℕ, List, [], ◌∷◌, ◌++◌, map, refl, ap, sym, ◌∙◌, subst, None, Some, slice_set, cond, Bool, true, false, ◌==◌, eqb-true, length-set}
 use Rattle.std.proofs.lemmas.List.{reverse-append}
-use Rattle.ssh_model.specs.Side.{Side}
-use Rattle.ssh_model.specs.Sessions.Items as session
-use Rattle.ssh_model.specs.Sessions.Items.{Item}
-use Rattle.ssh_model.specs.Channels.Message.{Message.OpenFailure, Message.Close}
-use Rattle.ssh_model.specs.Channels.Notes.{Note, Note.Said, channel_at}
-use Rattle.ssh_model.specs.Channels.Rules.{EndRun}
-use Rattle.ssh_model.specs.Channels.History as channel
-use Rattle.ssh_model.specs.Channels.History.{is_owed}
-use Rattle.ssh_model.specs.Channels.Places.{IsOver, AreOwed, place_at, place, at}
-use Rattle.ssh_model.specs.Channels.Connection.{notes, AreReplies.reply}
-use Rattle.ssh_model.specs.Channels.Kept.{DueReply, DueReply.RefusesOpen, DueReply.AnswersClose, Channels, Unblocks, Unblocks.oldest, Unblocks.nothing, put, freed_by}
-use Rattle.ssh_model.specs.Channels.Summary.{reply_item, reply_sent, pending, SumsUp, SendsOwed}
+use Rattle.ssh_model.specs.Protocol.Side.{Side}
+use Rattle.ssh_model.specs.Protocol.Sessions.Items as session
+use Rattle.ssh_model.specs.Protocol.Sessions.Items.{Item}
+use Rattle.ssh_model.specs.Protocol.Channels.Message.{Message.OpenFailure, Message.Close}
+use Rattle.ssh_model.specs.Protocol.Channels.Notes.{Note, Note.Said, channel_at}
+use Rattle.ssh_model.specs.Protocol.Channels.Rules.{EndRun}
+use Rattle.ssh_model.specs.Protocol.Channels.History as channel
+use Rattle.ssh_model.specs.Protocol.Channels.History.{is_owed}
+use Rattle.ssh_model.specs.State.Channels.Places.{IsOver, AreOwed, place_at, place, at}
+use Rattle.ssh_model.specs.Protocol.Channels.Connection.{notes, AreReplies.reply}
+use Rattle.ssh_model.specs.State.Channels.Kept.{DueReply, DueReply.RefusesOpen, DueReply.AnswersClose, Channels, Unblocks, Unblocks.oldest, Unblocks.nothing, put, freed_by}
+use Rattle.ssh_model.specs.State.Channels.Summary.{reply_item, reply_sent, pending, SumsUp, SendsOwed}
 use Rattle.ssh_model.proofs.Channels.PlaceQueue.{apart_number, same_number, place_owed, place_none, unowed_same}
 use Rattle.ssh_model.proofs.Channels.Summing.{within, written}
 

@@ -1,12 +1,12 @@
 -- A session as its channels see it: each turn of an end is a turn on its channels, or none.
 use Rattle.std.proofs.Common.{◌≡◌, ℕ, List, [], ◌∷◌, ◌++◌, refl, ap, ◌∙◌, Option, Some, None}
-use Rattle.ssh_model.specs.Wire.Message.{Msg.NewKeys, Msg.KexInit}
-use Rattle.ssh_model.specs.Sessions.Items.{Item, Item.Sent, Item.Took}
-use Rattle.ssh_model.specs.Sessions.Phases.{blocked}
-use Rattle.ssh_model.specs.Channels.Message.{Message, Message.OpenFailure, Message.Close}
-use Rattle.ssh_model.specs.Channels.History as channel
-use Rattle.ssh_model.specs.Channels.History.{at_once, due, noted, owed}
-use Rattle.ssh_model.specs.Channels.Connection.{on_channel, sent_on, received_on, channel_items, AreReplies, AreReplies.none, AreReplies.reply}
+use Rattle.ssh_model.specs.Protocol.Wire.Message.{Msg.NewKeys, Msg.KexInit}
+use Rattle.ssh_model.specs.Protocol.Sessions.Items.{Item, Item.Sent, Item.Took}
+use Rattle.ssh_model.specs.Protocol.Sessions.Phases.{blocked}
+use Rattle.ssh_model.specs.Protocol.Channels.Message.{Message, Message.OpenFailure, Message.Close}
+use Rattle.ssh_model.specs.Protocol.Channels.History as channel
+use Rattle.ssh_model.specs.Protocol.Channels.History.{at_once, due, noted, owed}
+use Rattle.ssh_model.specs.Protocol.Channels.Connection.{on_channel, sent_on, received_on, channel_items, AreReplies, AreReplies.none, AreReplies.reply}
 
 -- ---- lists of items
 

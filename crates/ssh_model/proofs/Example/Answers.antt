@@ -1,23 +1,23 @@
 -- What the toy ends answer to messages of the transport and of authentication.
 use Rattle.std.specs.Prelude.{◌≡◌, ◌∷◌, true, false, [], Some, None, codes, take, refl}
-use Rattle.ssh_model.specs.Side.{Side, Side.Client, Side.Server}
+use Rattle.ssh_model.specs.Protocol.Side.{Side, Side.Client, Side.Server}
 use Rattle.ssh_model.specs.Example.Histories.{says, hears, says_on, offer_of, lined, offered, first_reply, completed, keyed, userauth, connection, asking, served, right_request, wrong_request, probe, right_signature, requesting, probing_client, admitted, fed_again, rekeying, closed_by_peer, guessing}
 use Rattle.ssh_model.specs.Example.Toys.{toy_key, toy, secret}
-use Rattle.ssh_model.specs.Wire.Message.{Msg.Disconnect, Msg.Ignore, Msg.Unimplemented, Msg.Debug, Msg.ServiceRequest, Msg.ServiceAccept, Msg.KexInit, Msg.NewKeys, Msg.KexEcdhInit, Msg.KexEcdhReply, Msg.UserauthRequest, Msg.UserauthFailure, Msg.UserauthSuccess, Msg.UserauthBanner, Msg.UserauthPkOk, Msg.ChannelClose, Msg.Unknown}
-use Rattle.ssh_model.specs.Sessions.Items.{Fact.Completed, Fact.Service, Fact.Accepted, Fact.Authenticated, Fact.Failed, Fact.Banner, Fact.KeyOk, Fact.Ignored, Fact.Debugged, Fact.NotImplemented, Fact.Disconnected, Item.TookGuess, Item.Told, Item.Died}
-use Rattle.ssh_model.specs.Sessions.Transport.{hash_to_sign, reply_now}
-use Rattle.ssh_model.specs.Sessions.Turns.{Answer}
-use Rattle.ssh_model.specs.KeyExchange.Choice.{methods}
+use Rattle.ssh_model.specs.Protocol.Wire.Message.{Msg.Disconnect, Msg.Ignore, Msg.Unimplemented, Msg.Debug, Msg.ServiceRequest, Msg.ServiceAccept, Msg.KexInit, Msg.NewKeys, Msg.KexEcdhInit, Msg.KexEcdhReply, Msg.UserauthRequest, Msg.UserauthFailure, Msg.UserauthSuccess, Msg.UserauthBanner, Msg.UserauthPkOk, Msg.ChannelClose, Msg.Unknown}
+use Rattle.ssh_model.specs.Protocol.Sessions.Items.{Fact.Completed, Fact.Service, Fact.Accepted, Fact.Authenticated, Fact.Failed, Fact.Banner, Fact.KeyOk, Fact.Ignored, Fact.Debugged, Fact.NotImplemented, Fact.Disconnected, Item.TookGuess, Item.Told, Item.Died}
+use Rattle.ssh_model.specs.Protocol.Sessions.Transport.{hash_to_sign, reply_now}
+use Rattle.ssh_model.specs.Protocol.Sessions.Turns.{Answer}
+use Rattle.ssh_model.specs.Protocol.KeyExchange.Choice.{methods}
 use Rattle.std.proofs.lemmas.Cmp.{nat_list_eq_equiv}
 use Rattle.sha2.specs.Sha256.{sha256}
-use Rattle.ssh_model.specs.Channels.Message.{Message.Close}
-use Rattle.ssh_model.specs.Wire.Message.{Method.Password, Method.Publickey}
-use Rattle.ssh_model.specs.KeyExchange.Exchanges.{exchanges, session_id}
-use Rattle.ssh_model.specs.Authentication.Requests.{is_accepted, signed_text}
-use Rattle.ssh_model.specs.Sessions.Transport.{TransportAnswer.disconnect, TransportAnswer.ignore, TransportAnswer.unimplemented, TransportAnswer.debug, TransportAnswer.unknown, TransportAnswer.service_request, TransportAnswer.service_accept, IsAnnounced.nothing, TransportAnswer.kexinit_at_server, TransportAnswer.kexinit_at_client, TransportAnswer.answered_at_server, TransportAnswer.answered_at_client, CompletingAnswer.init, CompletingAnswer.reply, TransportAnswer.newkeys}
-use Rattle.ssh_model.specs.Authentication.Rows.{AuthenticationAnswer.request_too_late, AuthenticationAnswer.request_accepted, AuthenticationAnswer.request_probed, AuthenticationAnswer.request_failed, AuthenticationAnswer.failure, AuthenticationAnswer.success, AuthenticationAnswer.banner, AuthenticationAnswer.key_ok}
-use Rattle.ssh_model.specs.Channels.Connection.{AreReplies.none, AreReplies.reply as owed_reply}
-use Rattle.ssh_model.specs.Sessions.Turns.{Answer.of_transport, Answer.of_completion, Answer.of_authentication}
+use Rattle.ssh_model.specs.Protocol.Channels.Message.{Message.Close}
+use Rattle.ssh_model.specs.Protocol.Wire.Message.{Method.Password, Method.Publickey}
+use Rattle.ssh_model.specs.Protocol.KeyExchange.Exchanges.{exchanges, session_id}
+use Rattle.ssh_model.specs.Protocol.Authentication.Requests.{is_accepted, signed_text}
+use Rattle.ssh_model.specs.Protocol.Sessions.Transport.{TransportAnswer.disconnect, TransportAnswer.ignore, TransportAnswer.unimplemented, TransportAnswer.debug, TransportAnswer.unknown, TransportAnswer.service_request, TransportAnswer.service_accept, IsAnnounced.nothing, TransportAnswer.kexinit_at_server, TransportAnswer.kexinit_at_client, TransportAnswer.answered_at_server, TransportAnswer.answered_at_client, CompletingAnswer.init, CompletingAnswer.reply, TransportAnswer.newkeys}
+use Rattle.ssh_model.specs.Protocol.Authentication.Rows.{AuthenticationAnswer.request_too_late, AuthenticationAnswer.request_accepted, AuthenticationAnswer.request_probed, AuthenticationAnswer.request_failed, AuthenticationAnswer.failure, AuthenticationAnswer.success, AuthenticationAnswer.banner, AuthenticationAnswer.key_ok}
+use Rattle.ssh_model.specs.Protocol.Channels.Connection.{AreReplies.none, AreReplies.reply as owed_reply}
+use Rattle.ssh_model.specs.Protocol.Sessions.Turns.{Answer.of_transport, Answer.of_completion, Answer.of_authentication}
 
 signature_is_accepted : is_accepted toy (served Server) (codes "u") connection (Publickey (codes "toy") (codes "k") (Some right_signature)) ≡ true
 unfolding methods

@@ -2,15 +2,15 @@
 use Rattle.std.proofs.Common.{get_or, ap, false, ◌≡◌, ℕ, List, [], ◌∷◌, ◌++◌, reverse, inl, inr, refl, arith, subst, true, Option, Some, None}
 use Rattle.std.proofs.lemmas.Bool.{leb-true}
 use Rattle.std.specs.Prelude.{codes}
-use Rattle.ssh_model.specs.Side.{Side, Side.Client, Side.Server, part}
-use Rattle.ssh_model.specs.Lists.{IsOlder}
-use Rattle.ssh_model.specs.Wire.Message.{Msg.Ignore, Msg.KexInit, Msg.NewKeys, Msg.KexEcdhInit, Msg.ExtInfo, Msg.UserauthRequest, Msg.UserauthSuccess, Method, Method.NoMethod, Method.Password}
-use Rattle.ssh_model.specs.KeyExchange.Choice.{methods}
-use Rattle.ssh_model.specs.KeyExchange.Exchanges.{is_strict}
-use Rattle.ssh_model.specs.Sessions.Items.{Item, Item.Sent, Item.Took, took}
-use Rattle.ssh_model.specs.Sessions.Claims.{HasConnection}
-use Rattle.ssh_model.specs.Sessions.Turns.{EndRun}
-use Rattle.ssh_model.specs.Sessions.AnyPeer.{SendsOnlyExchange, sent_in_first_exchange, AcceptedRequest, RequiresAuthentication, VerifiesHosts, EachIncludesOwn, RequiresStrict, TakesOnlyAllowed, Follows, Follows.so_far, Follows.leaves, TakesOnlyExchange, IsFresh, UsesNoNonceTwice, taken_in_first_exchange}
+use Rattle.ssh_model.specs.Protocol.Side.{Side, Side.Client, Side.Server, part}
+use Rattle.ssh_model.specs.Protocol.Lists.{IsOlder}
+use Rattle.ssh_model.specs.Protocol.Wire.Message.{Msg.Ignore, Msg.KexInit, Msg.NewKeys, Msg.KexEcdhInit, Msg.ExtInfo, Msg.UserauthRequest, Msg.UserauthSuccess, Method, Method.NoMethod, Method.Password}
+use Rattle.ssh_model.specs.Protocol.KeyExchange.Choice.{methods}
+use Rattle.ssh_model.specs.Protocol.KeyExchange.Exchanges.{is_strict}
+use Rattle.ssh_model.specs.Protocol.Sessions.Items.{Item, Item.Sent, Item.Took, took}
+use Rattle.ssh_model.specs.Protocol.Sessions.Claims.{HasConnection}
+use Rattle.ssh_model.specs.Protocol.Sessions.Turns.{EndRun}
+use Rattle.ssh_model.specs.Protocol.Sessions.AnyPeer.{SendsOnlyExchange, sent_in_first_exchange, AcceptedRequest, RequiresAuthentication, VerifiesHosts, EachIncludesOwn, RequiresStrict, TakesOnlyAllowed, Follows, Follows.so_far, Follows.leaves, TakesOnlyExchange, IsFresh, UsesNoNonceTwice, taken_in_first_exchange}
 use Rattle.ssh_model.specs.Example.Toys.{toy, secret}
 use Rattle.ssh_model.specs.Example.Histories.{connection, right_request, says, hears, keyed, lined, offered, offer_of, open_message}
 use Rattle.ssh_model.specs.Example.Run.{payload_of, takes, takes_on, session, d12}

@@ -1,11 +1,11 @@
 -- What the toy server accepts.
 use Rattle.std.specs.Prelude.{◌≡◌, ◌∷◌, true, false, [], Some, None, codes, replicate, refl}
-use Rattle.ssh_model.specs.Side.{Side.Server}
+use Rattle.ssh_model.specs.Protocol.Side.{Side.Server}
 use Rattle.ssh_model.specs.Example.Histories.{userauth, connection, served, with_methods, friendly}
 use Rattle.ssh_model.specs.Example.Toys.{toy}
-use Rattle.ssh_model.specs.Wire.Message.{Method.NoMethod, Method.Password, Method.Publickey}
-use Rattle.ssh_model.specs.Authentication.Requests.{judge_of, is_known_key, signed_text, is_accepted, is_good_probe}
-use Rattle.ssh_model.specs.KeyExchange.Exchange.{string_of}
+use Rattle.ssh_model.specs.Protocol.Wire.Message.{Method.NoMethod, Method.Password, Method.Publickey}
+use Rattle.ssh_model.specs.Protocol.Authentication.Requests.{judge_of, is_known_key, signed_text, is_accepted, is_good_probe}
+use Rattle.ssh_model.specs.Protocol.KeyExchange.Exchange.{string_of}
 
 pub accepted_password_row : is_accepted toy (served Server) (codes "u") connection (Password (codes "p") None) ≡ true
 unfolding string_of

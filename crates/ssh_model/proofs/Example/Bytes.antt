@@ -5,17 +5,17 @@ use Rattle.std.specs.List.{list_all, join_with_byte}
 use Rattle.std.specs.Int.{w32, to_be_bytes}
 use Rattle.std.proofs.lemmas.Bool.{le-leb, eq-eqb}
 use Rattle.std.proofs.lemmas.List.{length-replicate}
-use Rattle.ssh_model.specs.Wire.DataTypes.{AreBytes, IsByte, IsWrittenBoolean, IsUint32, IsString, IsNameList, is_name}
-use Rattle.ssh_model.specs.Wire.Message.{◌▸◌}
-use Rattle.ssh_model.specs.Wire.Packet.{IsPacket, is_size, with_length}
-use Rattle.ssh_model.specs.Wire.Sealing.{Crypto, IsSealing, IsWire, is_wire_size, sealed_under}
-use Rattle.ssh_model.specs.Wire.MacOnly.{mac_only, tag_of}
-use Rattle.ssh_model.specs.KeyExchange.Exchange.{string_of}
-use Rattle.ssh_model.specs.Wire.Outcome.{Outcome.Opens}
-use Rattle.ssh_model.specs.Wire.Unit.{PacketUnit, PacketUnit.opens, HasNumber}
+use Rattle.ssh_model.specs.Protocol.Wire.DataTypes.{AreBytes, IsByte, IsWrittenBoolean, IsUint32, IsString, IsNameList, is_name}
+use Rattle.ssh_model.specs.Protocol.Wire.Message.{◌▸◌}
+use Rattle.ssh_model.specs.Protocol.Wire.Packet.{IsPacket, is_size, with_length}
+use Rattle.ssh_model.specs.Protocol.Wire.Sealing.{Crypto, IsSealing, IsWire, is_wire_size, sealed_under}
+use Rattle.ssh_model.specs.Protocol.Wire.MacOnly.{mac_only, tag_of}
+use Rattle.ssh_model.specs.Protocol.KeyExchange.Exchange.{string_of}
+use Rattle.ssh_model.specs.Protocol.Wire.Outcome.{Outcome.Opens}
+use Rattle.ssh_model.specs.Protocol.Wire.Unit.{PacketUnit, PacketUnit.opens, HasNumber}
 use Rattle.ssh_model.specs.Example.Run.{uint32_of, boolean_of, names_of}
 use Rattle.ssh_model.proofs.KeyExchange.Texts.{is_string}
-use Rattle.ssh_model.specs.Wire.MacOnlyLaws.{append_bytes, hash_bytes, word_bytes, mac_only_laws}
+use Rattle.ssh_model.specs.Laws.MacOnly.{append_bytes, hash_bytes, word_bytes, mac_only_laws}
 use Rattle.ssh_model.proofs.Wire.Sealed.{wire_size}
 
 -- ---- fields

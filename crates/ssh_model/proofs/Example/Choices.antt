@@ -1,13 +1,13 @@
 -- What is chosen, and which guess is wrong.
 use Rattle.std.specs.Prelude.{◌≡◌, ◌∷◌, ◌++◌, true, false, [], Some, None, codes, refl}
-use Rattle.ssh_model.specs.Side.{Side, Side.Client, Side.Server}
+use Rattle.ssh_model.specs.Protocol.Side.{Side, Side.Client, Side.Server}
 use Rattle.ssh_model.specs.Example.Histories.{says, hears, offer_of}
 use Rattle.ssh_model.specs.Example.Toys.{toy}
-use Rattle.ssh_model.specs.Wire.Message.{Msg.KexInit}
-use Rattle.ssh_model.specs.Sessions.Parties.{marker_of, lists_of}
-use Rattle.ssh_model.specs.KeyExchange.Exchanges.{first_common, common, choice}
-use Rattle.ssh_model.specs.Sessions.Phases.{is_wrong_guess, own_names}
-use Rattle.ssh_model.specs.KeyExchange.Choice.{client_marker, server_marker, Kind.Kex, methods}
+use Rattle.ssh_model.specs.Protocol.Wire.Message.{Msg.KexInit}
+use Rattle.ssh_model.specs.Protocol.Sessions.Parties.{marker_of, lists_of}
+use Rattle.ssh_model.specs.Protocol.KeyExchange.Exchanges.{first_common, common, choice}
+use Rattle.ssh_model.specs.Protocol.Sessions.Phases.{is_wrong_guess, own_names}
+use Rattle.ssh_model.specs.Protocol.KeyExchange.Choice.{client_marker, server_marker, Kind.Kex, methods}
 
 pub first_of_client_row : first_common (codes "a" ∷ codes "b" ∷ codes "c" ∷ []) (codes "c" ∷ codes "b" ∷ []) ≡ Some (codes "b")
 unfolding methods

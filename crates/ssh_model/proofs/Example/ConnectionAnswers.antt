@@ -1,20 +1,20 @@
 -- What the toy ends answer to messages of the connection.
 use Rattle.std.specs.Prelude.{◌≡◌, ◌∷◌, Bool, true, false, List, [], Some, None, codes, refl}
-use Rattle.ssh_model.specs.Side.{Side.Client, Side.Server}
+use Rattle.ssh_model.specs.Protocol.Side.{Side.Client, Side.Server}
 use Rattle.ssh_model.specs.Example.Histories.{says, says_on, offer_of, admitted, open_message, confirm_message, channel_opened, channel_confirmed}
 use Rattle.ssh_model.specs.Example.Toys.{toy}
-use Rattle.ssh_model.specs.Wire.Message.{Msg.KexInit, Msg.GlobalRequest, Msg.RequestSuccess, Msg.RequestFailure, Msg.ChannelOpenFailure, Msg.ChannelWindowAdjust, Msg.ChannelData, Msg.ChannelExtendedData, Msg.ChannelEof, Msg.ChannelClose, Msg.ChannelRequest, Msg.ChannelSuccess, Msg.ChannelFailure}
-use Rattle.ssh_model.specs.Sessions.Items.{Item, Fact.Global, Fact.GlobalDone, Fact.Opened, Fact.Confirmed, Fact.OpenFailed, Fact.GotData, Fact.Adjusted, Fact.Ended, Fact.Closed, Fact.Requested, Fact.RequestDone, Item.Told}
-use Rattle.ssh_model.specs.Sessions.Phases.{blocked}
-use Rattle.ssh_model.specs.Channels.Connection.{is_full}
-use Rattle.ssh_model.specs.Sessions.Turns.{Answer}
-use Rattle.ssh_model.specs.KeyExchange.Choice.{methods}
-use Rattle.ssh_model.specs.Channels.Numbers.{largest_window}
-use Rattle.ssh_model.specs.Channels.History.{has_place, some_free}
-use Rattle.ssh_model.specs.Channels.Message.{Message.Open, Message.OpenFailure, Message.Close}
-use Rattle.ssh_model.specs.Channels.History.{due, at_once}
-use Rattle.ssh_model.specs.Channels.Connection.{AreReplies, AreReplies.none, AreReplies.reply as due_reply, ConnectionAnswer.global, ConnectionAnswer.global_success, ConnectionAnswer.global_failure, ConnectionAnswer.opened as opens_at, ConnectionAnswer.not_opened, ConnectionAnswer.confirmation, ConnectionAnswer.failure, ConnectionAnswer.adjust, ConnectionAnswer.got_data, ConnectionAnswer.got_extended, ConnectionAnswer.eof, ConnectionAnswer.close, ConnectionAnswer.request, ConnectionAnswer.success, ConnectionAnswer.no_success}
-use Rattle.ssh_model.specs.Sessions.Turns.{Answer.of_connection}
+use Rattle.ssh_model.specs.Protocol.Wire.Message.{Msg.KexInit, Msg.GlobalRequest, Msg.RequestSuccess, Msg.RequestFailure, Msg.ChannelOpenFailure, Msg.ChannelWindowAdjust, Msg.ChannelData, Msg.ChannelExtendedData, Msg.ChannelEof, Msg.ChannelClose, Msg.ChannelRequest, Msg.ChannelSuccess, Msg.ChannelFailure}
+use Rattle.ssh_model.specs.Protocol.Sessions.Items.{Item, Fact.Global, Fact.GlobalDone, Fact.Opened, Fact.Confirmed, Fact.OpenFailed, Fact.GotData, Fact.Adjusted, Fact.Ended, Fact.Closed, Fact.Requested, Fact.RequestDone, Item.Told}
+use Rattle.ssh_model.specs.Protocol.Sessions.Phases.{blocked}
+use Rattle.ssh_model.specs.Protocol.Channels.Connection.{is_full}
+use Rattle.ssh_model.specs.Protocol.Sessions.Turns.{Answer}
+use Rattle.ssh_model.specs.Protocol.KeyExchange.Choice.{methods}
+use Rattle.ssh_model.specs.Protocol.Channels.Numbers.{largest_window}
+use Rattle.ssh_model.specs.Protocol.Channels.History.{has_place, some_free}
+use Rattle.ssh_model.specs.Protocol.Channels.Message.{Message.Open, Message.OpenFailure, Message.Close}
+use Rattle.ssh_model.specs.Protocol.Channels.History.{due, at_once}
+use Rattle.ssh_model.specs.Protocol.Channels.Connection.{AreReplies, AreReplies.none, AreReplies.reply as due_reply, ConnectionAnswer.global, ConnectionAnswer.global_success, ConnectionAnswer.global_failure, ConnectionAnswer.opened as opens_at, ConnectionAnswer.not_opened, ConnectionAnswer.confirmation, ConnectionAnswer.failure, ConnectionAnswer.adjust, ConnectionAnswer.got_data, ConnectionAnswer.got_extended, ConnectionAnswer.eof, ConnectionAnswer.close, ConnectionAnswer.request, ConnectionAnswer.success, ConnectionAnswer.no_success}
+use Rattle.ssh_model.specs.Protocol.Sessions.Turns.{Answer.of_connection}
 
 -- a refusal for want of a place is sent at once, or owed
 due_now : (b : Bool) → b ≡ false → AreReplies (at_once b (due None (Open 3 10 8) [])) (says (ChannelOpenFailure 3 4 [] []) ∷ [])

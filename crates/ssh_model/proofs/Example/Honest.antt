@@ -2,15 +2,15 @@
 use Rattle.std.proofs.Common.{◌≡◌, ℕ, List, [], ◌∷◌, ◌⊎◌, inl, inr, refl, ap, sym, ◌∙◌, arith, get_or}
 use Rattle.std.specs.Prelude.{length, codes, false, None}
 use Rattle.sha2.specs.Sha256.{sha256, digest_bytes, hash_after, compress, rounds, schedule, first_words}
-use Rattle.ssh_model.specs.Side.{Side, Side.Client, Side.Server, part}
-use Rattle.ssh_model.specs.Lists.{IsIn}
-use Rattle.ssh_model.specs.Wire.Message.{Method.Password}
-use Rattle.ssh_model.specs.KeyExchange.Choice.{methods}
-use Rattle.ssh_model.specs.KeyExchange.Exchange.{Inputs, string_of, mpint_body, digits, exchange_text, exchange_hash}
-use Rattle.ssh_model.specs.Sessions.Items.{Fact.GotData, Item.Told, has_died}
-use Rattle.ssh_model.specs.KeyExchange.Exchanges.{nth, no_exchange, exchanges}
-use Rattle.ssh_model.specs.Sessions.Honest.{AreDistinct, TagsHold, SignaturesHold, IsCompleted, cookies, IsHonest}
-use Rattle.ssh_model.specs.Sessions.Claims.{TookUnder, HasAccepted}
+use Rattle.ssh_model.specs.Protocol.Side.{Side, Side.Client, Side.Server, part}
+use Rattle.ssh_model.specs.Protocol.Lists.{IsIn}
+use Rattle.ssh_model.specs.Protocol.Wire.Message.{Method.Password}
+use Rattle.ssh_model.specs.Protocol.KeyExchange.Choice.{methods}
+use Rattle.ssh_model.specs.Protocol.KeyExchange.Exchange.{Inputs, string_of, mpint_body, digits, exchange_text, exchange_hash}
+use Rattle.ssh_model.specs.Protocol.Sessions.Items.{Fact.GotData, Item.Told, has_died}
+use Rattle.ssh_model.specs.Protocol.KeyExchange.Exchanges.{nth, no_exchange, exchanges}
+use Rattle.ssh_model.specs.Protocol.Sessions.Honest.{AreDistinct, TagsHold, SignaturesHold, IsCompleted, cookies, IsHonest}
+use Rattle.ssh_model.specs.Protocol.Sessions.Claims.{TookUnder, HasAccepted}
 use Rattle.ssh_model.specs.Example.Toys.{toy, cookie}
 use Rattle.ssh_model.specs.Example.Histories.{connection}
 use Rattle.ssh_model.specs.Example.Run.{session}

@@ -6,19 +6,19 @@ use Rattle.std.proofs.lemmas.Bool.{leb-true, and_parts}
 use Rattle.std.proofs.lemmas.List.{take_all}
 use Rattle.sha2.specs.Sha256.{sha256}
 use Rattle.sha2.proofs.Facts256.{length-sha256}
-use Rattle.ssh_model.specs.Side.{Side, Side.Client, Side.Server}
-use Rattle.ssh_model.specs.Wire.DataTypes.{AreBytes}
-use Rattle.ssh_model.specs.Wire.Message.{Msg, Msg.Ignore, Msg.NewKeys, Msg.KexEcdhInit, Msg.KexEcdhReply, Msg.ServiceRequest, Msg.ServiceAccept, Msg.UserauthSuccess, Msg.ChannelClose, ◌▸◌, IsCookie, FitsContext, IsWrittenPayload}
-use Rattle.ssh_model.specs.KeyExchange.Exchange.{string_of}
-use Rattle.ssh_model.specs.Sessions.Turns.{IsSpelled}
+use Rattle.ssh_model.specs.Protocol.Side.{Side, Side.Client, Side.Server}
+use Rattle.ssh_model.specs.Protocol.Wire.DataTypes.{AreBytes}
+use Rattle.ssh_model.specs.Protocol.Wire.Message.{Msg, Msg.Ignore, Msg.NewKeys, Msg.KexEcdhInit, Msg.KexEcdhReply, Msg.ServiceRequest, Msg.ServiceAccept, Msg.UserauthSuccess, Msg.ChannelClose, ◌▸◌, IsCookie, FitsContext, IsWrittenPayload}
+use Rattle.ssh_model.specs.Protocol.KeyExchange.Exchange.{string_of}
+use Rattle.ssh_model.specs.Protocol.Sessions.Turns.{IsSpelled}
 use Rattle.ssh_model.specs.Example.Toys.{plain, toy_key, secret}
 use Rattle.ssh_model.specs.Example.Histories.{offer_of, offer_by, userauth, connection, right_request, open_message, confirm_message}
 use Rattle.ssh_model.specs.Example.Run.{payload_of, offer_message, offer_message_by, data_message}
 use Rattle.ssh_model.specs.Example.PlainRun.{farewell}
-use Rattle.ssh_model.specs.Sessions.Parties.{is_byte}
+use Rattle.ssh_model.specs.Protocol.Sessions.Parties.{is_byte}
 use Rattle.ssh_model.proofs.Sessions.Parts.{are_bytes}
 use Rattle.ssh_model.proofs.Example.Bytes.{byte_then, string_then, truth_then, word_then, names_then, string_bytes, string_size}
-use Rattle.ssh_model.specs.Wire.MacOnlyLaws.{append_bytes, hash_bytes}
+use Rattle.ssh_model.specs.Laws.MacOnly.{append_bytes, hash_bytes}
 
 -- The message has a payload that fits into a packet.
 pub record IsGood (m : Msg) : Type 0 where

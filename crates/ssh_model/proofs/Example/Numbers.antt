@@ -1,14 +1,14 @@
 -- Epochs, numbers and keys of the toy ends.
 use Rattle.std.specs.Prelude.{◌≡◌, ℕ, List, ◌∷◌, ◌++◌, true, [], Some, None, codes, refl}
-use Rattle.ssh_model.specs.Side.{Side, Side.Client, Side.Server, peer}
+use Rattle.ssh_model.specs.Protocol.Side.{Side, Side.Client, Side.Server, peer}
 use Rattle.ssh_model.specs.Example.Histories.{hears, lined, offered, completed, keyed, admitted, offered_again, completed_again, guessing, plain_crypto, first_inputs, mac_key}
 use Rattle.ssh_model.specs.Example.Toys.{toy, secret}
-use Rattle.ssh_model.specs.Wire.Message.{Msg.KexInit}
-use Rattle.ssh_model.specs.KeyExchange.Exchange.{Inputs, exchange_hash, derived}
-use Rattle.ssh_model.specs.Sessions.Items.{sent, took, Item.TookGuess}
-use Rattle.ssh_model.specs.Sessions.Epochs.{epoch}
-use Rattle.ssh_model.specs.KeyExchange.Exchanges.{sending_number, taking_number, exchange, choice, iv_letter, cipher_letter, mac_letter, key_of, sending_key, taking_key}
-use Rattle.ssh_model.specs.KeyExchange.Choice.{methods}
+use Rattle.ssh_model.specs.Protocol.Wire.Message.{Msg.KexInit}
+use Rattle.ssh_model.specs.Protocol.KeyExchange.Exchange.{Inputs, exchange_hash, derived}
+use Rattle.ssh_model.specs.Protocol.Sessions.Items.{sent, took, Item.TookGuess}
+use Rattle.ssh_model.specs.Protocol.Sessions.Epochs.{epoch}
+use Rattle.ssh_model.specs.Protocol.KeyExchange.Exchanges.{sending_number, taking_number, exchange, choice, iv_letter, cipher_letter, mac_letter, key_of, sending_key, taking_key}
+use Rattle.ssh_model.specs.Protocol.KeyExchange.Choice.{methods}
 
 pub number_before_newkeys_row : sending_number Client (offered Client) ≡ 2
 unfolding methods

@@ -1,11 +1,11 @@
 -- The toy parts keep what is promised of parts, and the toy settings are good.
 use Rattle.std.proofs.Common.{◌≡◌, ℕ, Bool, true, false, List, length, refl, arith}
-use Rattle.ssh_model.specs.Side.{Side, Side.Client, Side.Server}
-use Rattle.ssh_model.specs.Wire.Message.{Msg.KexInit, Msg.UserauthFailure, Msg.ExtInfo}
-use Rattle.ssh_model.specs.Sessions.Parties.{AreLawful, offer, settings_of}
-use Rattle.ssh_model.specs.Sessions.TurnClaims.{AreGood, HasSpelling}
+use Rattle.ssh_model.specs.Protocol.Side.{Side, Side.Client, Side.Server}
+use Rattle.ssh_model.specs.Protocol.Wire.Message.{Msg.KexInit, Msg.UserauthFailure, Msg.ExtInfo}
+use Rattle.ssh_model.specs.Protocol.Sessions.Parties.{AreLawful, offer, settings_of}
+use Rattle.ssh_model.specs.Protocol.Sessions.TurnClaims.{AreGood, HasSpelling}
 use Rattle.ssh_model.specs.Example.Toys.{toy}
-use Rattle.ssh_model.specs.Wire.MacOnlyLaws.{mac_only_laws}
+use Rattle.ssh_model.specs.Laws.MacOnly.{mac_only_laws}
 use Rattle.ssh_model.specs.Laws.Written.{spelled, byte, cookie, ended, names, truth, uint32}
 
 pub toy_is_lawful : AreLawful toy

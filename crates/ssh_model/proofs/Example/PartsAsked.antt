@@ -1,12 +1,12 @@
 -- Which part the toy ends ask, under which name.
 use Rattle.std.specs.Prelude.{◌≡◌, ◌++◌, true, false, [], Some, codes, replicate}
-use Rattle.ssh_model.specs.Side.{Side.Client, Side.Server}
-use Rattle.ssh_model.specs.KeyExchange.Exchanges.{sending_key, taking_key}
-use Rattle.ssh_model.specs.Sessions.Transport.{host_key_now, is_trusted, point_now}
+use Rattle.ssh_model.specs.Protocol.Side.{Side.Client, Side.Server}
+use Rattle.ssh_model.specs.Protocol.KeyExchange.Exchanges.{sending_key, taking_key}
+use Rattle.ssh_model.specs.Protocol.Sessions.Transport.{host_key_now, is_trusted, point_now}
 use Rattle.ssh_model.specs.Example.Toys.{naming_toys, own_points, secret, two_host_keys}
 use Rattle.ssh_model.specs.Example.Histories.{offered, offered_by, keyed_naming}
 use Rattle.std.specs.Prelude.{refl}
-use Rattle.ssh_model.specs.KeyExchange.Choice.{methods}
+use Rattle.ssh_model.specs.Protocol.KeyExchange.Choice.{methods}
 
 pub client_sends_row : sending_key naming_toys Client (keyed_naming Client) ≡ Some (codes "a" ++ codes "c")
 unfolding methods

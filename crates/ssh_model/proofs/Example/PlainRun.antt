@@ -1,7 +1,7 @@
 -- The toy session without strict key exchange is an honest run, and what the client took is no prefix of what was sent.
 use Rattle.std.proofs.Common.{◌≡◌, ℕ, ◌<◌, true, List, [], ◌∷◌, inl, inr, refl, sym, ◌∙◌, arith, None, ap}
 use Rattle.std.specs.Prelude.{codes}
-use Rattle.ssh_model.specs.Side.{Side, Side.Client, Side.Server, part}
+use Rattle.ssh_model.specs.Protocol.Side.{Side, Side.Client, Side.Server, part}
 use Rattle.ssh_model.specs.Example.Toys.{plain, toy_key, cookie, secret}
 use Rattle.ssh_model.specs.Example.PlainRun.{farewell, plain_reply, plain_session, plain0, plain1, plain2, plain3, plain4, plain5, plain6, plain7, plain8, plain9, plain10, plain11, plain12}
 use Rattle.ssh_model.specs.Example.Run.{payload_of, sends, takes, offer_message_by, start_by}
@@ -9,22 +9,22 @@ use Rattle.ssh_model.proofs.Example.Messages.{IsGood, good_farewell, good_ignore
 use Rattle.ssh_model.proofs.Example.Run.{material, signs_itself}
 use Rattle.ssh_model.proofs.Example.Turns.{takes_message, takes_line}
 use Rattle.std.specs.Prelude.{take}
-use Rattle.ssh_model.specs.Wire.Message.{Msg.Ignore, Msg.NewKeys, Msg.KexEcdhInit, Msg.ServiceRequest, Msg.ServiceAccept}
-use Rattle.ssh_model.specs.KeyExchange.Choice.{methods}
-use Rattle.ssh_model.specs.KeyExchange.Exchange.{Inputs, exchange_text}
-use Rattle.ssh_model.specs.Sessions.Refusals.{first_refusal}
-use Rattle.ssh_model.specs.Sessions.Parties.{AreLawful}
-use Rattle.ssh_model.specs.Sessions.Items.{Ask.AskService, Ask.AskDisconnect, Fact.Completed, Fact.Ignored, Fact.Disconnected, Item.Told, Item.Died}
-use Rattle.ssh_model.specs.KeyExchange.Exchanges.{nth, no_exchange, exchange, exchanges}
-use Rattle.ssh_model.specs.Channels.Numbers.{largest_window}
-use Rattle.ssh_model.specs.Channels.History.{has_place, some_free}
-use Rattle.ssh_model.specs.Sessions.Transport.{hash_to_sign, TransportAnswer.disconnect, TransportAnswer.ignore, TransportAnswer.service_request, IsAnnounced.nothing, TransportAnswer.kexinit_at_server, TransportAnswer.kexinit_at_client, CompletingAnswer.init, CompletingAnswer.reply as answers_reply, TransportAnswer.newkeys, TransportAsk.service, TransportAsk.disconnect as asked_to_disconnect}
-use Rattle.ssh_model.specs.Channels.Connection.{AreReplies.none as no_replies}
-use Rattle.ssh_model.specs.Sessions.Turns.{answer_checks, Answer.of_transport, Answer.of_completion, OnAsk.of_transport as asks_transport, AsksTurn.answers, Turn.asks as asking_turn, Run, Run.start, Run.then_turn}
-use Rattle.ssh_model.specs.Sessions.Honest.{AreDistinct, TagsHold, SignaturesHold, IsCompleted, cookies, IsHonest}
-use Rattle.ssh_model.specs.Sessions.Claims.{Beginning}
+use Rattle.ssh_model.specs.Protocol.Wire.Message.{Msg.Ignore, Msg.NewKeys, Msg.KexEcdhInit, Msg.ServiceRequest, Msg.ServiceAccept}
+use Rattle.ssh_model.specs.Protocol.KeyExchange.Choice.{methods}
+use Rattle.ssh_model.specs.Protocol.KeyExchange.Exchange.{Inputs, exchange_text}
+use Rattle.ssh_model.specs.Protocol.Sessions.Refusals.{first_refusal}
+use Rattle.ssh_model.specs.Protocol.Sessions.Parties.{AreLawful}
+use Rattle.ssh_model.specs.Protocol.Sessions.Items.{Ask.AskService, Ask.AskDisconnect, Fact.Completed, Fact.Ignored, Fact.Disconnected, Item.Told, Item.Died}
+use Rattle.ssh_model.specs.Protocol.KeyExchange.Exchanges.{nth, no_exchange, exchange, exchanges}
+use Rattle.ssh_model.specs.Protocol.Channels.Numbers.{largest_window}
+use Rattle.ssh_model.specs.Protocol.Channels.History.{has_place, some_free}
+use Rattle.ssh_model.specs.Protocol.Sessions.Transport.{hash_to_sign, TransportAnswer.disconnect, TransportAnswer.ignore, TransportAnswer.service_request, IsAnnounced.nothing, TransportAnswer.kexinit_at_server, TransportAnswer.kexinit_at_client, CompletingAnswer.init, CompletingAnswer.reply as answers_reply, TransportAnswer.newkeys, TransportAsk.service, TransportAsk.disconnect as asked_to_disconnect}
+use Rattle.ssh_model.specs.Protocol.Channels.Connection.{AreReplies.none as no_replies}
+use Rattle.ssh_model.specs.Protocol.Sessions.Turns.{answer_checks, Answer.of_transport, Answer.of_completion, OnAsk.of_transport as asks_transport, AsksTurn.answers, Turn.asks as asking_turn, Run, Run.start, Run.then_turn}
+use Rattle.ssh_model.specs.Protocol.Sessions.Honest.{AreDistinct, TagsHold, SignaturesHold, IsCompleted, cookies, IsHonest}
+use Rattle.ssh_model.specs.Protocol.Sessions.Claims.{Beginning}
 use Rattle.ssh_model.specs.Example.Histories.{offer_by, userauth}
-use Rattle.ssh_model.specs.Wire.MacOnlyLaws.{mac_only_laws}
+use Rattle.ssh_model.specs.Laws.MacOnly.{mac_only_laws}
 
 pub plain_is_lawful : AreLawful plain
 plain_is_lawful = record { sealing = mac_only_laws; client_line = omega arith; server_line = omega arith }

@@ -1,7 +1,7 @@
 -- The numbers, names and reason codes of refusals.
 use Rattle.std.specs.Prelude.{◌≡◌, ◌∷◌, [], Some, None, codes, map, refl}
 use Rattle.ssh_model.specs.Example.Toys.{every_refusal, every_ask_refusal, from_to}
-use Rattle.ssh_model.specs.Sessions.Refusals.{refusal_number, refusal_name, refusal_reason, ask_refusal_number, ask_refusal_name}
+use Rattle.ssh_model.specs.Protocol.Sessions.Refusals.{refusal_number, refusal_name, refusal_reason, ask_refusal_number, ask_refusal_name}
 
 pub numbers_row : map refusal_number every_refusal ≡ from_to 1 19
 numbers_row = refl

@@ -1,23 +1,23 @@
 -- What the toy ends refuse a message for.
 use Rattle.std.specs.Prelude.{◌≡◌, ◌∷◌, true, false, [], Some, None, codes, replicate, refl}
-use Rattle.ssh_model.specs.Side.{Side, Side.Client, Side.Server, peer}
+use Rattle.ssh_model.specs.Protocol.Side.{Side, Side.Client, Side.Server, peer}
 use Rattle.ssh_model.specs.Example.Histories.{refusal, says, offer_of, lined, offered, first_reply, keyed, userauth, connection, asking, right_request, wrong_request, probe, failed, admitted, fed_again, rekeying}
 use Rattle.ssh_model.specs.Example.Toys.{toy_key, toy, secret}
-use Rattle.ssh_model.specs.Wire.Message.{Method.NoMethod, Method.Password, Method.Publickey, Method.Other, Msg.Ignore, Msg.ServiceRequest, Msg.ServiceAccept, Msg.KexInit, Msg.KexEcdhInit, Msg.KexEcdhReply, Msg.UserauthRequest, Msg.UserauthSuccess, Msg.Unknown}
-use Rattle.ssh_model.specs.Sessions.Transport.{hash_to_sign}
-use Rattle.ssh_model.specs.KeyExchange.Choice.{client_marker, server_marker, methods}
-use Rattle.ssh_model.specs.Channels.Numbers.{largest_window}
-use Rattle.ssh_model.specs.Channels.History.{has_place, some_free}
+use Rattle.ssh_model.specs.Protocol.Wire.Message.{Method.NoMethod, Method.Password, Method.Publickey, Method.Other, Msg.Ignore, Msg.ServiceRequest, Msg.ServiceAccept, Msg.KexInit, Msg.KexEcdhInit, Msg.KexEcdhReply, Msg.UserauthRequest, Msg.UserauthSuccess, Msg.Unknown}
+use Rattle.ssh_model.specs.Protocol.Sessions.Transport.{hash_to_sign}
+use Rattle.ssh_model.specs.Protocol.KeyExchange.Choice.{client_marker, server_marker, methods}
+use Rattle.ssh_model.specs.Protocol.Channels.Numbers.{largest_window}
+use Rattle.ssh_model.specs.Protocol.Channels.History.{has_place, some_free}
 use Rattle.sha2.specs.Sha256.{sha256, digest_bytes, hash_after, compress, rounds, schedule, first_words}
 use Rattle.ssh_model.specs.Example.Histories.{hears}
 use Rattle.std.proofs.Common.{ℕ, List, take, arith}
 use Rattle.std.proofs.lemmas.Cmp.{nat_list_eq_equiv}
 use Rattle.std.proofs.lemmas.List.{take_all}
 use Rattle.sha2.proofs.Facts256.{length-sha256}
-use Rattle.ssh_model.specs.Wire.MacOnly.{is_text}
-use Rattle.ssh_model.specs.KeyExchange.Exchange.{exchange_text, string_of, mpint_body, digits}
-use Rattle.ssh_model.specs.KeyExchange.Exchanges.{exchange}
-use Rattle.ssh_model.specs.Sessions.Refusals.{Refusal, Refusal.Unexpected, Refusal.NoCommon, Refusal.NotStrict, Refusal.BadPoint, Refusal.BadHost, Refusal.NoService, Refusal.TooManyTries}
+use Rattle.ssh_model.specs.Protocol.Wire.MacOnly.{is_text}
+use Rattle.ssh_model.specs.Protocol.KeyExchange.Exchange.{exchange_text, string_of, mpint_body, digits}
+use Rattle.ssh_model.specs.Protocol.KeyExchange.Exchanges.{exchange}
+use Rattle.ssh_model.specs.Protocol.Sessions.Refusals.{Refusal, Refusal.Unexpected, Refusal.NoCommon, Refusal.NotStrict, Refusal.BadPoint, Refusal.BadHost, Refusal.NoService, Refusal.TooManyTries}
 
 -- A signature of a hash is the hash.
 signs_itself : (text : List ℕ) → is_text (take 4096 (sha256 text)) (sha256 text) ≡ true

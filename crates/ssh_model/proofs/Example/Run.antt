@@ -5,21 +5,21 @@ use Rattle.std.proofs.lemmas.Cmp.{nat_list_eq_equiv}
 use Rattle.std.proofs.lemmas.List.{take_all}
 use Rattle.sha2.specs.Sha256.{sha256}
 use Rattle.sha2.proofs.Facts256.{length-sha256}
-use Rattle.ssh_model.specs.Side.{Side.Client, Side.Server, part}
-use Rattle.ssh_model.specs.Wire.Message.{Msg.NewKeys, Msg.KexEcdhInit, Msg.ServiceRequest, Msg.ServiceAccept, Msg.UserauthSuccess, Msg.ChannelClose, Method.Password}
-use Rattle.ssh_model.specs.Wire.MacOnly.{is_text}
-use Rattle.ssh_model.specs.KeyExchange.Choice.{methods}
-use Rattle.ssh_model.specs.KeyExchange.Exchange.{exchange_text}
-use Rattle.ssh_model.specs.Sessions.Refusals.{first_refusal}
-use Rattle.ssh_model.specs.Sessions.Items.{Ask.AskService, Ask.AskPassword, Ask.AskRekey, Ask.AskOpen, Ask.AskConfirm, Ask.AskData, Ask.AskClose, Fact.Completed, Fact.Service, Fact.Accepted, Fact.Authenticated, Fact.Opened, Fact.Confirmed, Fact.GotData, Fact.Closed, Item.Told}
-use Rattle.ssh_model.specs.KeyExchange.Exchanges.{exchange}
-use Rattle.ssh_model.specs.Channels.Message.{Message.Close}
-use Rattle.ssh_model.specs.Channels.Numbers.{largest_window}
-use Rattle.ssh_model.specs.Channels.History.{has_place, some_free}
-use Rattle.ssh_model.specs.Sessions.Transport.{hash_to_sign, TransportAnswer.service_request, IsAnnounced.nothing, TransportAnswer.service_accept, TransportAnswer.kexinit_at_server, TransportAnswer.kexinit_at_client, TransportAnswer.answered_at_server, CompletingAnswer.init, CompletingAnswer.reply as answers_reply, TransportAnswer.newkeys, TransportAsk.service, TransportAsk.rekey}
-use Rattle.ssh_model.specs.Authentication.Rows.{AuthenticationAnswer.request_accepted, AuthenticationAnswer.success, AuthenticationAsk.password}
-use Rattle.ssh_model.specs.Channels.Connection.{AreReplies.none as no_replies, AreReplies.reply as one_reply, ConnectionAnswer.opened as opened_at, ConnectionAnswer.confirmation, ConnectionAnswer.got_data, ConnectionAnswer.close, ConnectionAsk.opens, ConnectionAsk.confirm, ConnectionAsk.sends as gives_data, ConnectionAsk.close as says_close}
-use Rattle.ssh_model.specs.Sessions.Turns.{answer_checks, Answer.of_transport, Answer.of_completion, Answer.of_authentication, Answer.of_connection, OnAsk.of_transport as asks_transport, OnAsk.of_authentication as asks_authentication, OnAsk.of_connection as asks_connection, FeedsTurn.feeds as fed_now, AsksTurn.answers, Turn.feeds as feeding_turn, Turn.asks as asking_turn, IsMaterial, Run, Run.start, Run.then_turn}
+use Rattle.ssh_model.specs.Protocol.Side.{Side.Client, Side.Server, part}
+use Rattle.ssh_model.specs.Protocol.Wire.Message.{Msg.NewKeys, Msg.KexEcdhInit, Msg.ServiceRequest, Msg.ServiceAccept, Msg.UserauthSuccess, Msg.ChannelClose, Method.Password}
+use Rattle.ssh_model.specs.Protocol.Wire.MacOnly.{is_text}
+use Rattle.ssh_model.specs.Protocol.KeyExchange.Choice.{methods}
+use Rattle.ssh_model.specs.Protocol.KeyExchange.Exchange.{exchange_text}
+use Rattle.ssh_model.specs.Protocol.Sessions.Refusals.{first_refusal}
+use Rattle.ssh_model.specs.Protocol.Sessions.Items.{Ask.AskService, Ask.AskPassword, Ask.AskRekey, Ask.AskOpen, Ask.AskConfirm, Ask.AskData, Ask.AskClose, Fact.Completed, Fact.Service, Fact.Accepted, Fact.Authenticated, Fact.Opened, Fact.Confirmed, Fact.GotData, Fact.Closed, Item.Told}
+use Rattle.ssh_model.specs.Protocol.KeyExchange.Exchanges.{exchange}
+use Rattle.ssh_model.specs.Protocol.Channels.Message.{Message.Close}
+use Rattle.ssh_model.specs.Protocol.Channels.Numbers.{largest_window}
+use Rattle.ssh_model.specs.Protocol.Channels.History.{has_place, some_free}
+use Rattle.ssh_model.specs.Protocol.Sessions.Transport.{hash_to_sign, TransportAnswer.service_request, IsAnnounced.nothing, TransportAnswer.service_accept, TransportAnswer.kexinit_at_server, TransportAnswer.kexinit_at_client, TransportAnswer.answered_at_server, CompletingAnswer.init, CompletingAnswer.reply as answers_reply, TransportAnswer.newkeys, TransportAsk.service, TransportAsk.rekey}
+use Rattle.ssh_model.specs.Protocol.Authentication.Rows.{AuthenticationAnswer.request_accepted, AuthenticationAnswer.success, AuthenticationAsk.password}
+use Rattle.ssh_model.specs.Protocol.Channels.Connection.{AreReplies.none as no_replies, AreReplies.reply as one_reply, ConnectionAnswer.opened as opened_at, ConnectionAnswer.confirmation, ConnectionAnswer.got_data, ConnectionAnswer.close, ConnectionAsk.opens, ConnectionAsk.confirm, ConnectionAsk.sends as gives_data, ConnectionAsk.close as says_close}
+use Rattle.ssh_model.specs.Protocol.Sessions.Turns.{answer_checks, Answer.of_transport, Answer.of_completion, Answer.of_authentication, Answer.of_connection, OnAsk.of_transport as asks_transport, OnAsk.of_authentication as asks_authentication, OnAsk.of_connection as asks_connection, FeedsTurn.feeds as fed_now, AsksTurn.answers, Turn.feeds as feeding_turn, Turn.asks as asking_turn, IsMaterial, Run, Run.start, Run.then_turn}
 use Rattle.ssh_model.specs.Example.Toys.{toy, toy_key, cookie, secret}
 use Rattle.ssh_model.specs.Example.Histories.{userauth, connection, right_request, open_message, confirm_message, offer_of}
 use Rattle.ssh_model.specs.Example.Run.{payload_of, sends, takes, sends_on, offer_message, start_of, data_message, first_reply_message, second_reply_message, session, d0, d1, d2, d3, d4, d5, d6, d7, d8, d9, d10, d11, d12, d13, d14, d15, d16, d17, d18, d19, d20, d21, d22, d23, d24, d25, d26, d27, d28, d29, d30, d31, d32}

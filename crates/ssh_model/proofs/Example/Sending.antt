@@ -1,18 +1,18 @@
 -- What the toy ends send on asks.
 use Rattle.std.specs.Prelude.{◌∷◌, true, false, [], Some, None, codes, take, refl}
-use Rattle.ssh_model.specs.Side.{Side, Side.Client, Side.Server}
+use Rattle.ssh_model.specs.Protocol.Side.{Side, Side.Client, Side.Server}
 use Rattle.ssh_model.specs.Example.Histories.{says, says_on, offer_of, opened, keyed, userauth, connection, served, right_request, probe, right_signature, admitted, fed_again, open_message, confirm_message, channel_opened, channel_confirmed}
 use Rattle.ssh_model.specs.Example.Toys.{toy}
-use Rattle.ssh_model.specs.Wire.Message.{Method.NoMethod, Method.Publickey, Msg.Disconnect, Msg.ServiceRequest, Msg.KexInit, Msg.UserauthRequest, Msg.GlobalRequest, Msg.RequestSuccess, Msg.RequestFailure, Msg.ChannelOpenFailure, Msg.ChannelWindowAdjust, Msg.ChannelData, Msg.ChannelExtendedData, Msg.ChannelEof, Msg.ChannelClose, Msg.ChannelRequest, Msg.ChannelSuccess, Msg.ChannelFailure}
-use Rattle.ssh_model.specs.Sessions.Items.{Ask.AskService, Ask.AskNone, Ask.AskPassword, Ask.AskProbe, Ask.AskSign, Ask.AskRekey, Ask.AskOpen, Ask.AskConfirm, Ask.AskRefuse, Ask.AskData, Ask.AskAdjust, Ask.AskEof, Ask.AskClose, Ask.AskRequest, Ask.AskReply, Ask.AskGlobal, Ask.AskGlobalReply, Ask.AskDisconnect, Fact.Opening, Item.Told, Item.Died}
-use Rattle.ssh_model.specs.Sessions.Turns.{OnAsk}
-use Rattle.ssh_model.specs.KeyExchange.Choice.{methods}
-use Rattle.ssh_model.specs.Channels.Numbers.{largest_window}
-use Rattle.ssh_model.specs.Channels.History.{has_place, some_free}
-use Rattle.ssh_model.specs.Sessions.Transport.{TransportAsk.service, TransportAsk.rekey, TransportAsk.disconnect}
-use Rattle.ssh_model.specs.Authentication.Rows.{AuthenticationAsk.none, AuthenticationAsk.password, AuthenticationAsk.probe as probes, AuthenticationAsk.sign}
-use Rattle.ssh_model.specs.Channels.Connection.{ConnectionAsk.opens, ConnectionAsk.confirm, ConnectionAsk.refuse, ConnectionAsk.sends, ConnectionAsk.sends_extended, ConnectionAsk.adjust, ConnectionAsk.eof, ConnectionAsk.close, ConnectionAsk.request, ConnectionAsk.reply_yes, ConnectionAsk.reply_no, ConnectionAsk.global, ConnectionAsk.global_yes, ConnectionAsk.global_no}
-use Rattle.ssh_model.specs.Sessions.Turns.{OnAsk, OnAsk.of_transport, OnAsk.of_authentication, OnAsk.of_connection}
+use Rattle.ssh_model.specs.Protocol.Wire.Message.{Method.NoMethod, Method.Publickey, Msg.Disconnect, Msg.ServiceRequest, Msg.KexInit, Msg.UserauthRequest, Msg.GlobalRequest, Msg.RequestSuccess, Msg.RequestFailure, Msg.ChannelOpenFailure, Msg.ChannelWindowAdjust, Msg.ChannelData, Msg.ChannelExtendedData, Msg.ChannelEof, Msg.ChannelClose, Msg.ChannelRequest, Msg.ChannelSuccess, Msg.ChannelFailure}
+use Rattle.ssh_model.specs.Protocol.Sessions.Items.{Ask.AskService, Ask.AskNone, Ask.AskPassword, Ask.AskProbe, Ask.AskSign, Ask.AskRekey, Ask.AskOpen, Ask.AskConfirm, Ask.AskRefuse, Ask.AskData, Ask.AskAdjust, Ask.AskEof, Ask.AskClose, Ask.AskRequest, Ask.AskReply, Ask.AskGlobal, Ask.AskGlobalReply, Ask.AskDisconnect, Fact.Opening, Item.Told, Item.Died}
+use Rattle.ssh_model.specs.Protocol.Sessions.Turns.{OnAsk}
+use Rattle.ssh_model.specs.Protocol.KeyExchange.Choice.{methods}
+use Rattle.ssh_model.specs.Protocol.Channels.Numbers.{largest_window}
+use Rattle.ssh_model.specs.Protocol.Channels.History.{has_place, some_free}
+use Rattle.ssh_model.specs.Protocol.Sessions.Transport.{TransportAsk.service, TransportAsk.rekey, TransportAsk.disconnect}
+use Rattle.ssh_model.specs.Protocol.Authentication.Rows.{AuthenticationAsk.none, AuthenticationAsk.password, AuthenticationAsk.probe as probes, AuthenticationAsk.sign}
+use Rattle.ssh_model.specs.Protocol.Channels.Connection.{ConnectionAsk.opens, ConnectionAsk.confirm, ConnectionAsk.refuse, ConnectionAsk.sends, ConnectionAsk.sends_extended, ConnectionAsk.adjust, ConnectionAsk.eof, ConnectionAsk.close, ConnectionAsk.request, ConnectionAsk.reply_yes, ConnectionAsk.reply_no, ConnectionAsk.global, ConnectionAsk.global_yes, ConnectionAsk.global_no}
+use Rattle.ssh_model.specs.Protocol.Sessions.Turns.{OnAsk, OnAsk.of_transport, OnAsk.of_authentication, OnAsk.of_connection}
 
 pub service_sent_row : OnAsk toy Client (keyed Client) AskService (says (ServiceRequest userauth) ∷ [])
 unfolding methods largest_window has_place some_free

@@ -1,23 +1,23 @@
 -- What the toy ends do with and without strict key exchange, and with extensions.
 use Rattle.std.specs.Prelude.{◌≡◌, ◌-◌, ◌^◌, ◌∷◌, ◌++◌, true, false, List, [], Some, None, codes, length}
-use Rattle.ssh_model.specs.Side.{Side, Side.Client, Side.Server, peer}
-use Rattle.ssh_model.specs.Wire.Message.{Msg.Ignore, Msg.Unimplemented, Msg.ExtInfo, Msg.KexInit, Msg.NewKeys, Msg.KexEcdhInit, Msg.Unknown}
-use Rattle.ssh_model.specs.KeyExchange.Choice.{Kind.Kex, client_marker, server_marker, client_extension_marker, server_extension_marker}
-use Rattle.ssh_model.specs.KeyExchange.Exchanges.{common, sending_number, taking_number}
-use Rattle.ssh_model.specs.Sessions.Parties.{Strictness.Offer, Strictness.Off, lists_of}
-use Rattle.ssh_model.specs.Sessions.Refusals.{Refusal.Unexpected, Refusal.NoCommon, Refusal.NotStrict}
-use Rattle.ssh_model.specs.Sessions.Items.{Payload, took, Fact.Completed, Fact.GotExtensions, Item.TookGuess, Item.Told}
-use Rattle.ssh_model.specs.Sessions.Epochs.{count, wire_number}
-use Rattle.ssh_model.specs.Sessions.Phases.{is_wrong_guess, may_take}
-use Rattle.ssh_model.specs.Sessions.Transport.{reply_now}
-use Rattle.ssh_model.specs.Sessions.Turns.{Answer}
+use Rattle.ssh_model.specs.Protocol.Side.{Side, Side.Client, Side.Server, peer}
+use Rattle.ssh_model.specs.Protocol.Wire.Message.{Msg.Ignore, Msg.Unimplemented, Msg.ExtInfo, Msg.KexInit, Msg.NewKeys, Msg.KexEcdhInit, Msg.Unknown}
+use Rattle.ssh_model.specs.Protocol.KeyExchange.Choice.{Kind.Kex, client_marker, server_marker, client_extension_marker, server_extension_marker}
+use Rattle.ssh_model.specs.Protocol.KeyExchange.Exchanges.{common, sending_number, taking_number}
+use Rattle.ssh_model.specs.Protocol.Sessions.Parties.{Strictness.Offer, Strictness.Off, lists_of}
+use Rattle.ssh_model.specs.Protocol.Sessions.Refusals.{Refusal.Unexpected, Refusal.NoCommon, Refusal.NotStrict}
+use Rattle.ssh_model.specs.Protocol.Sessions.Items.{Payload, took, Fact.Completed, Fact.GotExtensions, Item.TookGuess, Item.Told}
+use Rattle.ssh_model.specs.Protocol.Sessions.Epochs.{count, wire_number}
+use Rattle.ssh_model.specs.Protocol.Sessions.Phases.{is_wrong_guess, may_take}
+use Rattle.ssh_model.specs.Protocol.Sessions.Transport.{reply_now}
+use Rattle.ssh_model.specs.Protocol.Sessions.Turns.{Answer}
 use Rattle.ssh_model.specs.Example.Toys.{announcing, from_to, plain, plain_announcing, secret, toy, toy_extensions, toys_announcing, toys_with}
 use Rattle.ssh_model.specs.Example.Histories.{completed_by, first_reply_by, guessing_by, hears, keyed_by, lined_by, offer_by, offered_by, refusal_by, says, taken_by}
 use Rattle.std.specs.Prelude.{refl}
-use Rattle.ssh_model.specs.KeyExchange.Choice.{methods}
-use Rattle.ssh_model.specs.Sessions.Transport.{IsAnnounced.extensions as announced, IsAnnounced.nothing, TransportAnswer.extensions, CompletingAnswer.init, CompletingAnswer.reply, TransportAnswer.unknown}
-use Rattle.ssh_model.specs.Channels.Connection.{AreReplies.none}
-use Rattle.ssh_model.specs.Sessions.Turns.{Answer.of_transport, Answer.of_completion}
+use Rattle.ssh_model.specs.Protocol.KeyExchange.Choice.{methods}
+use Rattle.ssh_model.specs.Protocol.Sessions.Transport.{IsAnnounced.extensions as announced, IsAnnounced.nothing, TransportAnswer.extensions, CompletingAnswer.init, CompletingAnswer.reply, TransportAnswer.unknown}
+use Rattle.ssh_model.specs.Protocol.Channels.Connection.{AreReplies.none}
+use Rattle.ssh_model.specs.Protocol.Sessions.Turns.{Answer.of_transport, Answer.of_completion}
 
 pub at_first_where_offered_row : (side : Side) → taken_by (toys_with Offer Offer) side (lined_by (toys_with Offer Offer) side) ≡ from_to 1 4 ++ 20 ∷ []
 unfolding methods

@@ -1,11 +1,11 @@
 -- Which messages the toy ends may take next, of all numbers.
 use Rattle.std.specs.Prelude.{◌≡◌, ◌∷◌, ◌++◌, true, false, [], refl}
-use Rattle.ssh_model.specs.Side.{Side, Side.Client, Side.Server}
+use Rattle.ssh_model.specs.Protocol.Side.{Side, Side.Client, Side.Server}
 use Rattle.ssh_model.specs.Example.Histories.{taken, hears, offer_of, lined, offered, completed, keyed, asking, served, requesting, probing_client, admitted, rekeying, offered_again, completed_again, guessing}
 use Rattle.ssh_model.specs.Example.Toys.{from_to}
-use Rattle.ssh_model.specs.Wire.Message.{Msg.KexInit}
-use Rattle.ssh_model.specs.Sessions.Items.{Item.TookGuess}
-use Rattle.ssh_model.specs.KeyExchange.Choice.{methods}
+use Rattle.ssh_model.specs.Protocol.Wire.Message.{Msg.KexInit}
+use Rattle.ssh_model.specs.Protocol.Sessions.Items.{Item.TookGuess}
+use Rattle.ssh_model.specs.Protocol.KeyExchange.Choice.{methods}
 
 pub at_first_row : (side : Side) → taken side (lined side) ≡ 1 ∷ 20 ∷ []
 unfolding methods

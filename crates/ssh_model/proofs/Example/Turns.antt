@@ -1,20 +1,20 @@
 -- The turns of the toy ends, out of what they take and are asked.
 use Rattle.std.proofs.Common.{◌≡◌, ℕ, Bool, true, false, List, [], ◌∷◌, ◌++◌, refl, sym, ap, ◌∙◌, arith, inl, Option, None}
 use Rattle.std.specs.Prelude.{codes}
-use Rattle.ssh_model.specs.Side.{Side, Side.Client, Side.Server}
-use Rattle.ssh_model.specs.Wire.Message.{Msg, FitsContext, IsPayload}
-use Rattle.ssh_model.specs.Sessions.Refusals.{first_refusal}
-use Rattle.ssh_model.specs.Sessions.Items.{Item, Item.TookLine, Item.Took, has_died, took}
-use Rattle.ssh_model.specs.Sessions.Epochs.{count}
-use Rattle.ssh_model.specs.KeyExchange.Exchanges.{taking_key, taking_number}
-use Rattle.ssh_model.specs.Sessions.Phases.{Phase, Phase.Guessed, phase, has_line, other_lines, is_client, probing, may_take}
-use Rattle.ssh_model.specs.Wire.Line.{line_end, LineUnit, LineUnit.line, LineIs.version}
-use Rattle.ssh_model.specs.Wire.Outcome.{Outcome, Outcome.VersionLine, Outcome.Opens}
-use Rattle.ssh_model.specs.Wire.Unit.{Stage, IsUnit, HasNumber}
-use Rattle.ssh_model.specs.Sessions.Turns.{AreSpelled, AreNumbered, answer_checks, Answer, OnPayload.takes as on_payload, stage, stage_after, OnOutcome.version_line, OnOutcome.opened, OnUnit.reads, Turn, Turn.reads, number_of, OnUnit}
-use Rattle.ssh_model.specs.Sessions.Parties.{Parties}
-use Rattle.ssh_model.specs.Wire.Sealing.{Crypto}
-use Rattle.ssh_model.specs.Wire.MacOnly.{mac_only}
+use Rattle.ssh_model.specs.Protocol.Side.{Side, Side.Client, Side.Server}
+use Rattle.ssh_model.specs.Protocol.Wire.Message.{Msg, FitsContext, IsPayload}
+use Rattle.ssh_model.specs.Protocol.Sessions.Refusals.{first_refusal}
+use Rattle.ssh_model.specs.Protocol.Sessions.Items.{Item, Item.TookLine, Item.Took, has_died, took}
+use Rattle.ssh_model.specs.Protocol.Sessions.Epochs.{count}
+use Rattle.ssh_model.specs.Protocol.KeyExchange.Exchanges.{taking_key, taking_number}
+use Rattle.ssh_model.specs.Protocol.Sessions.Phases.{Phase, Phase.Guessed, phase, has_line, other_lines, is_client, probing, may_take}
+use Rattle.ssh_model.specs.Protocol.Wire.Line.{line_end, LineUnit, LineUnit.line, LineIs.version}
+use Rattle.ssh_model.specs.Protocol.Wire.Outcome.{Outcome, Outcome.VersionLine, Outcome.Opens}
+use Rattle.ssh_model.specs.Protocol.Wire.Unit.{Stage, IsUnit, HasNumber}
+use Rattle.ssh_model.specs.Protocol.Sessions.Turns.{AreSpelled, AreNumbered, answer_checks, Answer, OnPayload.takes as on_payload, stage, stage_after, OnOutcome.version_line, OnOutcome.opened, OnUnit.reads, Turn, Turn.reads, number_of, OnUnit}
+use Rattle.ssh_model.specs.Protocol.Sessions.Parties.{Parties}
+use Rattle.ssh_model.specs.Protocol.Wire.Sealing.{Crypto}
+use Rattle.ssh_model.specs.Protocol.Wire.MacOnly.{mac_only}
 use Rattle.ssh_model.specs.Example.Histories.{line_of}
 use Rattle.ssh_model.specs.Example.Run.{payload_of}
 use Rattle.ssh_model.proofs.Wire.Payloads.{written_is_read}

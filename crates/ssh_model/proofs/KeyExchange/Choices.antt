@@ -1,16 +1,16 @@
 -- Ends that agree on the inputs of an exchange agree on its algorithms.
 use Rattle.std.proofs.Common.{◌≡◌, ℕ, suc, ◌<◌, List, [], ◌∷◌, length, inl, inr, refl, ap, sym, ◌∙◌, arith, subst, Bool, true, false, cond, ◌==◌, eq-eqb}
-use Rattle.ssh_model.specs.Side.{Side, Side.Client, Side.Server, part}
-use Rattle.ssh_model.specs.Wire.Message.{Msg.NewKeys}
-use Rattle.ssh_model.specs.KeyExchange.Choice.{Chosen}
-use Rattle.ssh_model.specs.KeyExchange.Exchange.{Inputs}
-use Rattle.ssh_model.specs.Sessions.Parties.{Parties, AreLawful, BothOffer, lists_of}
-use Rattle.ssh_model.specs.Sessions.Items.{Item, Item.Sent, Done, sent, messages_sent, messages_taken}
-use Rattle.ssh_model.specs.Sessions.Epochs.{epoch}
-use Rattle.ssh_model.specs.KeyExchange.Exchanges.{Offer, nth, no_offer, offers, no_exchange, none_chosen, exchange, exchanges, choice, choices, chosen}
-use Rattle.ssh_model.specs.Sessions.Honest.{IsHonest}
-use Rattle.ssh_model.specs.Sessions.Claims.{Agrees, Agreement}
-use Rattle.ssh_model.specs.Sessions.Turns.{Run}
+use Rattle.ssh_model.specs.Protocol.Side.{Side, Side.Client, Side.Server, part}
+use Rattle.ssh_model.specs.Protocol.Wire.Message.{Msg.NewKeys}
+use Rattle.ssh_model.specs.Protocol.KeyExchange.Choice.{Chosen}
+use Rattle.ssh_model.specs.Protocol.KeyExchange.Exchange.{Inputs}
+use Rattle.ssh_model.specs.Protocol.Sessions.Parties.{Parties, AreLawful, BothOffer, lists_of}
+use Rattle.ssh_model.specs.Protocol.Sessions.Items.{Item, Item.Sent, Done, sent, messages_sent, messages_taken}
+use Rattle.ssh_model.specs.Protocol.Sessions.Epochs.{epoch}
+use Rattle.ssh_model.specs.Protocol.KeyExchange.Exchanges.{Offer, nth, no_offer, offers, no_exchange, none_chosen, exchange, exchanges, choice, choices, chosen}
+use Rattle.ssh_model.specs.Protocol.Sessions.Honest.{IsHonest}
+use Rattle.ssh_model.specs.Protocol.Sessions.Claims.{Agrees, Agreement}
+use Rattle.ssh_model.specs.Protocol.Sessions.Turns.{Run}
 use Rattle.ssh_model.proofs.Sessions.Ends.{older_length}
 use Rattle.ssh_model.proofs.Sessions.Older.{nth_same}
 use Rattle.ssh_model.proofs.KeyExchange.Offers.{IsReal, nth_real, sent_read, taken_read, same_offer}

@@ -2,12 +2,12 @@
 use Rattle.std.proofs.Common.{Option, ◌≡◌, ℕ, zero, suc, List, [], ◌∷◌, ◌⊎◌, inl, inr, refl, ap, sym, subst, arith, Bool, true, false, cond, nat_eq, eqb-true, Some, None, is_some, not, ◌&&◌, ◌++◌, ◌∙◌}
 use Rattle.std.specs.List.{Contains, find}
 use Rattle.std.specs.Cmp.Lexicographic.{pointwise}
-use Rattle.ssh_model.specs.Wire.MacOnly.{is_text}
-use Rattle.ssh_model.specs.Wire.Message.{Proposal}
-use Rattle.ssh_model.specs.KeyExchange.Choice.{IsFirstCommon, HasNoCommon, IsRightGuess, Kind, Lists, Chosen, IsChoice, IsChosen, offered, Kind.CompSc, Kind.Kex, Kind.CompCs, Kind.HostKey, Kind.EncCs, Kind.MacSc, Kind.EncSc, Kind.MacCs}
-use Rattle.ssh_model.specs.Sessions.Parties.{lists_of}
-use Rattle.ssh_model.specs.Sessions.Phases.{is_same, is_wrong_guess}
-use Rattle.ssh_model.specs.KeyExchange.Exchanges.{first_common, name_of, common, has_choice, chosen}
+use Rattle.ssh_model.specs.Protocol.Wire.MacOnly.{is_text}
+use Rattle.ssh_model.specs.Protocol.Wire.Message.{Proposal}
+use Rattle.ssh_model.specs.Protocol.KeyExchange.Choice.{IsFirstCommon, HasNoCommon, IsRightGuess, Kind, Lists, Chosen, IsChoice, IsChosen, offered, Kind.CompSc, Kind.Kex, Kind.CompCs, Kind.HostKey, Kind.EncCs, Kind.MacSc, Kind.EncSc, Kind.MacCs}
+use Rattle.ssh_model.specs.Protocol.Sessions.Parties.{lists_of}
+use Rattle.ssh_model.specs.Protocol.Sessions.Phases.{is_same, is_wrong_guess}
+use Rattle.ssh_model.specs.Protocol.KeyExchange.Exchanges.{first_common, name_of, common, has_choice, chosen}
 use Rattle.ssh_model.proofs.Sessions.Stages.{and_left, and_right, not_false, second_false}
 
 pub text_same : (a b : List ℕ) → is_text a b ≡ true → a ≡ b

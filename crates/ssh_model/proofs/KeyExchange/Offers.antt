@@ -1,9 +1,9 @@
 -- A KEXINIT that was sent or taken is told by its payload.
 use Rattle.std.proofs.Common.{◌≡◌, ℕ, List, [], ◌∷◌, length, ◌⊎◌, inl, inr, ap, sym, ◌∙◌, refl, subst, Bool, true, false, cond, ◌==◌}
-use Rattle.ssh_model.specs.Wire.Message.{Msg.KexInit, Msg.UserauthSuccess, IsPayload, Proposal}
-use Rattle.ssh_model.specs.Sessions.Parties.{Parties}
-use Rattle.ssh_model.specs.Sessions.Items.{Item, Item.Sent, Item.Took, Spelled, Spelled.SpelledBy, messages_sent, messages_taken}
-use Rattle.ssh_model.specs.KeyExchange.Exchanges.{Offer, nth, no_offer, offers}
+use Rattle.ssh_model.specs.Protocol.Wire.Message.{Msg.KexInit, Msg.UserauthSuccess, IsPayload, Proposal}
+use Rattle.ssh_model.specs.Protocol.Sessions.Parties.{Parties}
+use Rattle.ssh_model.specs.Protocol.Sessions.Items.{Item, Item.Sent, Item.Took, Spelled, Spelled.SpelledBy, messages_sent, messages_taken}
+use Rattle.ssh_model.specs.Protocol.KeyExchange.Exchanges.{Offer, nth, no_offer, offers}
 use Rattle.ssh_model.proofs.Wire.Payloads.{tag}
 use Rattle.ssh_model.proofs.Wire.OneMessage.{same_message}
 use Rattle.ssh_model.proofs.Sessions.Spelling.{spelled_is_read}

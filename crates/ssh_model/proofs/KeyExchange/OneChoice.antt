@@ -1,9 +1,9 @@
 -- Markers in a list, and lists of which no name is common.
 use Rattle.std.proofs.Common.{Option, ◌≡◌, ◌↔◌, ℕ, suc, List, [], ◌∷◌, ◌++◌, ◌⊎◌, inl, inr, refl, ap, sym, subst, arith, Bool, true, false, cond, Some, None, is_some, ◌&&◌, if◌then◌else◌, IsTrue}
 use Rattle.std.specs.List.{Contains, find}
-use Rattle.ssh_model.specs.Wire.MacOnly.{is_text}
-use Rattle.ssh_model.specs.KeyExchange.Choice.{HasNoCommon, IsFirstWithout, Kind, Kind.Kex, Kind.HostKey, Kind.EncCs, Kind.EncSc, Kind.MacCs, Kind.MacSc, Kind.CompCs, Kind.CompSc, Lists, is_method, methods}
-use Rattle.ssh_model.specs.KeyExchange.Exchanges.{common, first_common, has_choice, has_marker}
+use Rattle.ssh_model.specs.Protocol.Wire.MacOnly.{is_text}
+use Rattle.ssh_model.specs.Protocol.KeyExchange.Choice.{HasNoCommon, IsFirstWithout, Kind, Kind.Kex, Kind.HostKey, Kind.EncCs, Kind.EncSc, Kind.MacCs, Kind.MacSc, Kind.CompCs, Kind.CompSc, Lists, is_method, methods}
+use Rattle.ssh_model.specs.Protocol.KeyExchange.Exchanges.{common, first_common, has_choice, has_marker}
 use Rattle.ssh_model.proofs.KeyExchange.Firsts.{first_is, head_in, in_cases, tail_in, text_same, text_self}
 
 -- ---- a name in a list
@@ -37,7 +37,7 @@ marker_in marker (name ∷ names) e = go (is_text name marker) refl e (marker_in
 pub marker_there : (marker : List ℕ) (names : List (List ℕ)) → IsTrue (has_marker marker names) ↔ Contains names marker
 marker_there marker names = (marker_in marker names, marker_found marker names)
 
--- A marker behind other names is no method, so it chooses nothing.
+-- A marker after other names is no method, so it chooses nothing.
 pub marker_chooses_nothing : (names : List (List ℕ)) (marker : List ℕ) → is_method marker ≡ false → methods (names ++ marker ∷ []) ≡ methods names
 unfolding methods
 marker_chooses_nothing [] marker out = ap (λ (t : Bool). if t then marker ∷ [] else []) out

@@ -3,9 +3,9 @@ use Rattle.std.proofs.Common.{◌≡◌, ℕ, zero, suc, ◌+◌, ◌*◌, ◌/�
 use Rattle.std.specs.Int.{w32, to_be_bytes}
 use Rattle.std.proofs.lemmas.Bool.{cases_Bool, cases_lt, cond-true, cond-false, lt-ltb}
 use Rattle.std.proofs.Math.Nat.{pow-suc, mul-le-mul_right}
-use Rattle.ssh_model.specs.Wire.DataTypes.{AreBytes, number, IsString}
-use Rattle.ssh_model.specs.Wire.Message.{◌▸◌, IsEnd}
-use Rattle.ssh_model.specs.KeyExchange.Exchange.{Inputs, Fits, string_of, digits, positive, mpint_body, mpint_of, exchange_text}
+use Rattle.ssh_model.specs.Protocol.Wire.DataTypes.{AreBytes, number, IsString}
+use Rattle.ssh_model.specs.Protocol.Wire.Message.{◌▸◌, IsEnd}
+use Rattle.ssh_model.specs.Protocol.KeyExchange.Exchange.{Inputs, Fits, string_of, digits, positive, mpint_body, mpint_of, exchange_text}
 use Rattle.ssh_model.proofs.Wire.Fields.{◌▹◌, string, end}
 
 -- ---- strings
@@ -36,7 +36,7 @@ is_string text small =
 
 -- ---- the bytes of a number
 
--- a byte behind makes the number 256 times as large
+-- a byte after makes the number 256 times as large
 number_behind : (bs : List ℕ) (b : ℕ) → number (bs ++ b ∷ []) ≡ number bs * 256 + b
 number_behind [] b = omega arith
 number_behind (c ∷ bs) b =

@@ -1,19 +1,19 @@
--- What an end answers is fixed by its history, the message and the number of the channel, but for the payloads.
+-- What an end answers is fixed by its history, the message and the number of the channel, except for the payloads.
 use Rattle.std.proofs.Common.{◌≡◌, ℕ, suc, Bool, true, false, not, ◌&&◌, List, [], ◌∷◌, ◌++◌, map, refl, ap, sym, ◌∙◌, Option, Some, None}
 use Rattle.std.specs.Prelude.{unwrap_or}
 use Rattle.std.proofs.lemmas.List.{map-append}
-use Rattle.ssh_model.specs.Side.{Side}
-use Rattle.ssh_model.specs.Wire.Message.{Msg, Msg.NewKeys}
-use Rattle.ssh_model.specs.Sessions.Parties.{Parties}
-use Rattle.ssh_model.specs.Sessions.Items.{Fact.Completed, Fact.Closed, Fact.Opened, Item, Item.Sent, Item.Told, sent}
-use Rattle.ssh_model.specs.Channels.History as channel
-use Rattle.ssh_model.specs.Sessions.Epochs.{epoch}
-use Rattle.ssh_model.specs.Sessions.Transport.{reply_now, TransportAnswer, TransportAnswer.disconnect, TransportAnswer.ignore, TransportAnswer.unimplemented, TransportAnswer.debug, TransportAnswer.unknown, TransportAnswer.service_request, TransportAnswer.service_accept, TransportAnswer.extensions, IsAnnounced, IsAnnounced.extensions as announced, IsAnnounced.nothing as unannounced, TransportAnswer.kexinit_at_server, TransportAnswer.kexinit_at_client, TransportAnswer.answered_at_server, TransportAnswer.answered_at_client, CompletingAnswer.init, CompletingAnswer.reply, TransportAnswer.newkeys, CompletingAnswer}
-use Rattle.ssh_model.specs.Authentication.Rows.{AuthenticationAnswer.request_too_late, AuthenticationAnswer.request_accepted, AuthenticationAnswer.request_probed, AuthenticationAnswer.request_failed, AuthenticationAnswer.failure, AuthenticationAnswer.success, AuthenticationAnswer.banner, AuthenticationAnswer.key_ok, AuthenticationAnswer}
-use Rattle.ssh_model.specs.Channels.Connection.{reply_message, AreReplies, AreReplies.none, AreReplies.reply as one_reply, ConnectionAnswer, ConnectionAnswer.global, ConnectionAnswer.global_success, ConnectionAnswer.global_failure, ConnectionAnswer.opened, ConnectionAnswer.not_opened, ConnectionAnswer.confirmation, ConnectionAnswer.failure as open_failed, ConnectionAnswer.adjust, ConnectionAnswer.got_data, ConnectionAnswer.got_extended, ConnectionAnswer.eof, ConnectionAnswer.close, ConnectionAnswer.request, ConnectionAnswer.success as replied, ConnectionAnswer.no_success}
-use Rattle.ssh_model.specs.Sessions.Turns.{Answer, Answer.of_transport, Answer.of_completion, Answer.of_authentication, Answer.of_connection}
+use Rattle.ssh_model.specs.Protocol.Side.{Side}
+use Rattle.ssh_model.specs.Protocol.Wire.Message.{Msg, Msg.NewKeys}
+use Rattle.ssh_model.specs.Protocol.Sessions.Parties.{Parties}
+use Rattle.ssh_model.specs.Protocol.Sessions.Items.{Fact.Completed, Fact.Closed, Fact.Opened, Item, Item.Sent, Item.Told, sent}
+use Rattle.ssh_model.specs.Protocol.Channels.History as channel
+use Rattle.ssh_model.specs.Protocol.Sessions.Epochs.{epoch}
+use Rattle.ssh_model.specs.Protocol.Sessions.Transport.{reply_now, TransportAnswer, TransportAnswer.disconnect, TransportAnswer.ignore, TransportAnswer.unimplemented, TransportAnswer.debug, TransportAnswer.unknown, TransportAnswer.service_request, TransportAnswer.service_accept, TransportAnswer.extensions, IsAnnounced, IsAnnounced.extensions as announced, IsAnnounced.nothing as unannounced, TransportAnswer.kexinit_at_server, TransportAnswer.kexinit_at_client, TransportAnswer.answered_at_server, TransportAnswer.answered_at_client, CompletingAnswer.init, CompletingAnswer.reply, TransportAnswer.newkeys, CompletingAnswer}
+use Rattle.ssh_model.specs.Protocol.Authentication.Rows.{AuthenticationAnswer.request_too_late, AuthenticationAnswer.request_accepted, AuthenticationAnswer.request_probed, AuthenticationAnswer.request_failed, AuthenticationAnswer.failure, AuthenticationAnswer.success, AuthenticationAnswer.banner, AuthenticationAnswer.key_ok, AuthenticationAnswer}
+use Rattle.ssh_model.specs.Protocol.Channels.Connection.{reply_message, AreReplies, AreReplies.none, AreReplies.reply as one_reply, ConnectionAnswer, ConnectionAnswer.global, ConnectionAnswer.global_success, ConnectionAnswer.global_failure, ConnectionAnswer.opened, ConnectionAnswer.not_opened, ConnectionAnswer.confirmation, ConnectionAnswer.failure as open_failed, ConnectionAnswer.adjust, ConnectionAnswer.got_data, ConnectionAnswer.got_extended, ConnectionAnswer.eof, ConnectionAnswer.close, ConnectionAnswer.request, ConnectionAnswer.success as replied, ConnectionAnswer.no_success}
+use Rattle.ssh_model.specs.Protocol.Sessions.Turns.{Answer, Answer.of_transport, Answer.of_completion, Answer.of_authentication, Answer.of_connection}
 use Rattle.ssh_model.proofs.Sessions.Kinds.{plain_completing, plain_authenticating, plain_connecting, completing_authenticating, completing_connecting, authenticating_connecting}
-use Rattle.ssh_model.specs.Sessions.TurnClaims.{shown}
+use Rattle.ssh_model.specs.Protocol.Sessions.TurnClaims.{shown}
 
 apart : {A : Type 0} (b : Bool) → b ≡ true → b ≡ false → A
 apart true e f = absurd (let g : true ≡ false = f in cc g)

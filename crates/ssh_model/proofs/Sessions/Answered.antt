@@ -2,16 +2,16 @@
 use Rattle.std.proofs.Common.{◌≡◌, ℕ, zero, suc, ◌<◌, ◌≤◌, ◌^◌, Bool, true, false, cond, nat_lt, nat_le, ◌==◌, ◌||◌, ◌&&◌, List, [], ◌∷◌, ◌++◌, length, take, ◌⊎◌, inl, inr, refl, sym, subst, arith, Option, None, Some, eq-eqb, lt-ltb}
 use Rattle.std.specs.Prelude.{codes}
 use Rattle.std.proofs.lemmas.Bool.{leb-true, ltb-true}
-use Rattle.ssh_model.specs.Side.{Side, Side.Client, Side.Server}
-use Rattle.ssh_model.specs.Wire.MacOnly.{is_text}
-use Rattle.ssh_model.specs.Wire.Outcome.{Outcome, Outcome.OtherLine, Outcome.VersionLine, Outcome.RefusedLine, Outcome.Opens, Outcome.RefusedPacket}
-use Rattle.ssh_model.specs.Wire.Line.{LineUnit.line}
-use Rattle.ssh_model.specs.Wire.Unit.{IsUnit, PacketUnit.opens}
-use Rattle.ssh_model.specs.Channels.History as channel
-use Rattle.ssh_model.specs.Channels.History.{at_once, due, is_free, has_place, some_free}
-use Rattle.ssh_model.specs.Channels.Message.{Message.Open, Message.OpenFailure, Message.Close}
-use Rattle.ssh_model.specs.Channels.Connection.{AreReplies, AreReplies.none as none_owed, AreReplies.reply as one_owed, channel_items, is_full, notes, owed_replies, ConnectionAnswer, ConnectionAnswer.global, ConnectionAnswer.global_success, ConnectionAnswer.global_failure, ConnectionAnswer.opened as opened_at, ConnectionAnswer.not_opened, ConnectionAnswer.confirmation, ConnectionAnswer.failure as channel_failure, ConnectionAnswer.adjust, ConnectionAnswer.got_data, ConnectionAnswer.got_extended, ConnectionAnswer.eof, ConnectionAnswer.close, ConnectionAnswer.request, ConnectionAnswer.success as channel_success, ConnectionAnswer.no_success}
-use Rattle.ssh_model.specs.Sessions.TurnClaims.{AreGood, HasNumbers}
+use Rattle.ssh_model.specs.Protocol.Side.{Side, Side.Client, Side.Server}
+use Rattle.ssh_model.specs.Protocol.Wire.MacOnly.{is_text}
+use Rattle.ssh_model.specs.Protocol.Wire.Outcome.{Outcome, Outcome.OtherLine, Outcome.VersionLine, Outcome.RefusedLine, Outcome.Opens, Outcome.RefusedPacket}
+use Rattle.ssh_model.specs.Protocol.Wire.Line.{LineUnit.line}
+use Rattle.ssh_model.specs.Protocol.Wire.Unit.{IsUnit, PacketUnit.opens}
+use Rattle.ssh_model.specs.Protocol.Channels.History as channel
+use Rattle.ssh_model.specs.Protocol.Channels.History.{at_once, due, is_free, has_place, some_free}
+use Rattle.ssh_model.specs.Protocol.Channels.Message.{Message.Open, Message.OpenFailure, Message.Close}
+use Rattle.ssh_model.specs.Protocol.Channels.Connection.{AreReplies, AreReplies.none as none_owed, AreReplies.reply as one_owed, channel_items, is_full, notes, owed_replies, ConnectionAnswer, ConnectionAnswer.global, ConnectionAnswer.global_success, ConnectionAnswer.global_failure, ConnectionAnswer.opened as opened_at, ConnectionAnswer.not_opened, ConnectionAnswer.confirmation, ConnectionAnswer.failure as channel_failure, ConnectionAnswer.adjust, ConnectionAnswer.got_data, ConnectionAnswer.got_extended, ConnectionAnswer.eof, ConnectionAnswer.close, ConnectionAnswer.request, ConnectionAnswer.success as channel_success, ConnectionAnswer.no_success}
+use Rattle.ssh_model.specs.Protocol.Sessions.TurnClaims.{AreGood, HasNumbers}
 use Rattle.ssh_model.proofs.KeyExchange.Firsts.{text_same}
 use Rattle.ssh_model.proofs.Wire.Decided.{payload_decided}
 use Rattle.ssh_model.specs.Laws.Farewells.{reason_spelled}
@@ -22,21 +22,21 @@ use Rattle.ssh_model.proofs.Sessions.Serving.{Serves, AllMaterial, normal_at_5, 
 use Rattle.ssh_model.proofs.Sessions.EndAnswers.{has_kept, may_be}
 use Rattle.ssh_model.proofs.Sessions.EndKeeps.{End}
 use Rattle.ssh_model.proofs.Sessions.PeerNumbers.{RepliesFit, owed_replies_fit, due_replies_fit}
-use Rattle.ssh_model.specs.Sessions.Epochs.{count, epoch}
-use Rattle.ssh_model.specs.KeyExchange.Exchanges.{offers, fed, nth, no_material, choice, taking_number, is_strict}
-use Rattle.ssh_model.specs.Sessions.Refusals.{Refusal, Refusal.BadMessage, Refusal.NumberSpent, Refusal.Unexpected, refusal_name, refusal_reason, first_refusal}
-use Rattle.ssh_model.specs.Sessions.Items.{Item.Refused, Item.Sent, messages_sent, Item, sent, Item.Died, Item.Fed, Fact.Completed, Fact.Ignored, Item.Told, Item.Took, Item.TookGuess, Item.TookLine, Item.TookOtherLine, took}
+use Rattle.ssh_model.specs.Protocol.Sessions.Epochs.{count, epoch}
+use Rattle.ssh_model.specs.Protocol.KeyExchange.Exchanges.{offers, fed, nth, no_material, choice, taking_number, is_strict}
+use Rattle.ssh_model.specs.Protocol.Sessions.Refusals.{Refusal, Refusal.BadMessage, Refusal.NumberSpent, Refusal.Unexpected, refusal_name, refusal_reason, first_refusal}
+use Rattle.ssh_model.specs.Protocol.Sessions.Items.{Item.Refused, Item.Sent, messages_sent, Item, sent, Item.Died, Item.Fed, Fact.Completed, Fact.Ignored, Item.Told, Item.Took, Item.TookGuess, Item.TookLine, Item.TookOtherLine, took}
 use Rattle.ssh_model.proofs.Sessions.Sound.{AllFormed}
 use Rattle.ssh_model.specs.Laws.Checks.{all_passed}
 use Rattle.ssh_model.proofs.Sessions.Stages.{and_left, and_right, not_false, normal_above}
-use Rattle.ssh_model.specs.Sessions.Phases.{has_material, Phase, Phase.Start, Phase.Guessed, Phase.Exchanging, Phase.Keying, Phase.Normal, phase, has_line, blocked, probing, sent_success, may_take, may_take_in, may_take_normally, is_allowed_during_exchange}
-use Rattle.ssh_model.specs.Sessions.Turns.{AreNumbered, AreSpelled, Refuses, Refuses.silently, Refuses.spent, Refuses.said, Answer, Answer.of_transport, Answer.of_completion, Answer.of_authentication, Answer.of_connection, Welcomes, answer_checks, number_of, OnPayload, OnPayload.takes, OnPayload.skips, OnPayload.unexpected, OnPayload.bad_message, OnOutcome, OnOutcome.other_line, OnOutcome.version_line, OnOutcome.refused_line, OnOutcome.opened, OnOutcome.refused_packet, stage, stage_after, EndRun}
-use Rattle.ssh_model.specs.Wire.Message.{Msg.ChannelOpenFailure, Msg.ChannelClose, Msg.Unknown, Msg.Disconnect, Msg.NewKeys, Msg, Proposal, Method, Method.NoMethod, Method.Password, Method.Publickey, Method.Other, IsPayload, message_number, Msg.Ignore, Msg.Unimplemented, Msg.Debug, Msg.ServiceRequest, Msg.ServiceAccept, Msg.ExtInfo, Msg.KexInit, Msg.KexEcdhInit, Msg.KexEcdhReply, Msg.UserauthRequest, Msg.UserauthFailure, Msg.UserauthSuccess, Msg.UserauthBanner, Msg.UserauthPkOk, Msg.GlobalRequest, Msg.RequestSuccess, Msg.RequestFailure, Msg.ChannelOpen, Msg.ChannelOpenConfirmation, Msg.ChannelWindowAdjust, Msg.ChannelData, Msg.ChannelExtendedData, Msg.ChannelEof, Msg.ChannelRequest, Msg.ChannelSuccess, Msg.ChannelFailure}
-use Rattle.ssh_model.specs.Sessions.Transport.{next_cookie, IsAnnounced, IsAnnounced.extensions as announces_some, IsAnnounced.nothing as announces_none, announces, TransportAnswer, TransportAnswer.disconnect, TransportAnswer.ignore, TransportAnswer.unimplemented, TransportAnswer.debug, TransportAnswer.unknown, TransportAnswer.extensions, TransportAnswer.service_request, TransportAnswer.service_accept, TransportAnswer.kexinit_at_server, TransportAnswer.kexinit_at_client, TransportAnswer.answered_at_server, TransportAnswer.answered_at_client, TransportAnswer.newkeys, CompletingAnswer.init, CompletingAnswer.reply as answers_reply, host_key_now, point_now, hash_to_sign, reply_now}
+use Rattle.ssh_model.specs.Protocol.Sessions.Phases.{has_material, Phase, Phase.Start, Phase.Guessed, Phase.Exchanging, Phase.Keying, Phase.Normal, phase, has_line, blocked, probing, sent_success, may_take, may_take_in, may_take_normally, is_allowed_during_exchange}
+use Rattle.ssh_model.specs.Protocol.Sessions.Turns.{AreNumbered, AreSpelled, Refuses, Refuses.silently, Refuses.spent, Refuses.said, Answer, Answer.of_transport, Answer.of_completion, Answer.of_authentication, Answer.of_connection, Welcomes, answer_checks, number_of, OnPayload, OnPayload.takes, OnPayload.skips, OnPayload.unexpected, OnPayload.bad_message, OnOutcome, OnOutcome.other_line, OnOutcome.version_line, OnOutcome.refused_line, OnOutcome.opened, OnOutcome.refused_packet, stage, stage_after, EndRun}
+use Rattle.ssh_model.specs.Protocol.Wire.Message.{Msg.ChannelOpenFailure, Msg.ChannelClose, Msg.Unknown, Msg.Disconnect, Msg.NewKeys, Msg, Proposal, Method, Method.NoMethod, Method.Password, Method.Publickey, Method.Other, IsPayload, message_number, Msg.Ignore, Msg.Unimplemented, Msg.Debug, Msg.ServiceRequest, Msg.ServiceAccept, Msg.ExtInfo, Msg.KexInit, Msg.KexEcdhInit, Msg.KexEcdhReply, Msg.UserauthRequest, Msg.UserauthFailure, Msg.UserauthSuccess, Msg.UserauthBanner, Msg.UserauthPkOk, Msg.GlobalRequest, Msg.RequestSuccess, Msg.RequestFailure, Msg.ChannelOpen, Msg.ChannelOpenConfirmation, Msg.ChannelWindowAdjust, Msg.ChannelData, Msg.ChannelExtendedData, Msg.ChannelEof, Msg.ChannelRequest, Msg.ChannelSuccess, Msg.ChannelFailure}
+use Rattle.ssh_model.specs.Protocol.Sessions.Transport.{next_cookie, IsAnnounced, IsAnnounced.extensions as announces_some, IsAnnounced.nothing as announces_none, announces, TransportAnswer, TransportAnswer.disconnect, TransportAnswer.ignore, TransportAnswer.unimplemented, TransportAnswer.debug, TransportAnswer.unknown, TransportAnswer.extensions, TransportAnswer.service_request, TransportAnswer.service_accept, TransportAnswer.kexinit_at_server, TransportAnswer.kexinit_at_client, TransportAnswer.answered_at_server, TransportAnswer.answered_at_client, TransportAnswer.newkeys, CompletingAnswer.init, CompletingAnswer.reply as answers_reply, host_key_now, point_now, hash_to_sign, reply_now}
 use Rattle.std.proofs.lemmas.List.{length-take}
-use Rattle.ssh_model.specs.Sessions.Parties.{Parties, AreLawful, settings_of, host_signature_by}
-use Rattle.ssh_model.specs.Authentication.Rows.{AuthenticationAnswer, AuthenticationAnswer.request_too_late, AuthenticationAnswer.request_accepted, AuthenticationAnswer.request_probed, AuthenticationAnswer.request_failed, AuthenticationAnswer.failure, AuthenticationAnswer.success, AuthenticationAnswer.banner, AuthenticationAnswer.key_ok}
-use Rattle.ssh_model.specs.Authentication.Requests.{is_accepted, is_good_probe, is_failing, is_known_key, judge_of}
+use Rattle.ssh_model.specs.Protocol.Sessions.Parties.{Parties, AreLawful, settings_of, host_signature_by}
+use Rattle.ssh_model.specs.Protocol.Authentication.Rows.{AuthenticationAnswer, AuthenticationAnswer.request_too_late, AuthenticationAnswer.request_accepted, AuthenticationAnswer.request_probed, AuthenticationAnswer.request_failed, AuthenticationAnswer.failure, AuthenticationAnswer.success, AuthenticationAnswer.banner, AuthenticationAnswer.key_ok}
+use Rattle.ssh_model.specs.Protocol.Authentication.Requests.{is_accepted, is_good_probe, is_failing, is_known_key, judge_of}
 use Rattle.ssh_model.proofs.Sessions.EndTurns.{end_keeps}
 use Rattle.ssh_model.proofs.Sessions.SoundTurns.{end_sound}
 use Rattle.ssh_model.proofs.Sessions.TurnLaws.{end_numbers}

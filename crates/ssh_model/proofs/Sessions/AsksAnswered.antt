@@ -2,20 +2,20 @@
 use Rattle.std.proofs.Common.{◌≡◌, ℕ, ◌<◌, ◌+◌, ◌^◌, true, false, not, nat_lt, nat_le, List, [], ◌∷◌, ◌++◌, length, ◌⊎◌, inl, inr, refl, arith, Option, None, Some}
 use Rattle.std.specs.Prelude.{codes}
 use Rattle.std.proofs.lemmas.Bool.{leb-true, ltb-true, ltb-false}
-use Rattle.ssh_model.specs.Side.{Side}
-use Rattle.ssh_model.specs.Channels.History as channel
-use Rattle.ssh_model.specs.Channels.History.{is_free, has_place}
-use Rattle.ssh_model.specs.Channels.Numbers.{largest_window, peer_number, receive_window}
-use Rattle.ssh_model.specs.Channels.Connection.{channel_items, notes, is_max_packet, ConnectionAsk, ConnectionAsk.opens as asks_opens, ConnectionAsk.confirm as asks_confirm, ConnectionAsk.refuse as asks_refuse, ConnectionAsk.sends as asks_data, ConnectionAsk.sends_extended as asks_extended, ConnectionAsk.adjust as asks_adjust, ConnectionAsk.eof as asks_eof, ConnectionAsk.close as asks_close, ConnectionAsk.request as asks_request, ConnectionAsk.reply_yes as asks_yes, ConnectionAsk.reply_no as asks_no, ConnectionAsk.global as asks_global, ConnectionAsk.global_yes as asks_global_yes, ConnectionAsk.global_no as asks_global_no}
-use Rattle.ssh_model.specs.Authentication.Rows.{AuthenticationAsk, AuthenticationAsk.none as asks_none, AuthenticationAsk.password as asks_password, AuthenticationAsk.probe as asks_probe, AuthenticationAsk.sign as asks_sign, password_size, probe_size, sign_size, user_signature_now}
-use Rattle.ssh_model.specs.Sessions.Sizes.{string_size, request_size}
-use Rattle.ssh_model.specs.Sessions.Transport.{TransportAsk, TransportAsk.service as asks_service, TransportAsk.rekey as asks_rekey, TransportAsk.disconnect as asks_disconnect, next_cookie}
-use Rattle.ssh_model.specs.Sessions.Parties.{Parties, AreLawful}
-use Rattle.ssh_model.specs.Sessions.Phases.{has_material}
-use Rattle.ssh_model.specs.Sessions.Refusals.{AskRefusal, Refusal.NumberSpent, first_refusal}
-use Rattle.ssh_model.specs.Sessions.Items.{Ask, Ask.AskService, Ask.AskNone, Ask.AskPassword, Ask.AskProbe, Ask.AskSign, Ask.AskRekey, Ask.AskOpen, Ask.AskConfirm, Ask.AskRefuse, Ask.AskData, Ask.AskAdjust, Ask.AskEof, Ask.AskClose, Ask.AskRequest, Ask.AskReply, Ask.AskGlobal, Ask.AskGlobalReply, Ask.AskDisconnect, Item, Item.Asked, Item.AskRefused, Item.Refused, Item.Died, has_died}
-use Rattle.ssh_model.specs.Sessions.Turns.{AreNumbered, AreSpelled, ask_checks, OnAsk, OnAsk.of_transport, OnAsk.of_authentication, OnAsk.of_connection, AsksTurn, AsksTurn.answers, EndRun}
-use Rattle.ssh_model.specs.Sessions.TurnClaims.{AreGood, HasUint32s}
+use Rattle.ssh_model.specs.Protocol.Side.{Side}
+use Rattle.ssh_model.specs.Protocol.Channels.History as channel
+use Rattle.ssh_model.specs.Protocol.Channels.History.{is_free, has_place}
+use Rattle.ssh_model.specs.Protocol.Channels.Numbers.{largest_window, peer_number, receive_window}
+use Rattle.ssh_model.specs.Protocol.Channels.Connection.{channel_items, notes, is_max_packet, ConnectionAsk, ConnectionAsk.opens as asks_opens, ConnectionAsk.confirm as asks_confirm, ConnectionAsk.refuse as asks_refuse, ConnectionAsk.sends as asks_data, ConnectionAsk.sends_extended as asks_extended, ConnectionAsk.adjust as asks_adjust, ConnectionAsk.eof as asks_eof, ConnectionAsk.close as asks_close, ConnectionAsk.request as asks_request, ConnectionAsk.reply_yes as asks_yes, ConnectionAsk.reply_no as asks_no, ConnectionAsk.global as asks_global, ConnectionAsk.global_yes as asks_global_yes, ConnectionAsk.global_no as asks_global_no}
+use Rattle.ssh_model.specs.Protocol.Authentication.Rows.{AuthenticationAsk, AuthenticationAsk.none as asks_none, AuthenticationAsk.password as asks_password, AuthenticationAsk.probe as asks_probe, AuthenticationAsk.sign as asks_sign, password_size, probe_size, sign_size, user_signature_now}
+use Rattle.ssh_model.specs.Protocol.Sessions.Sizes.{string_size, request_size}
+use Rattle.ssh_model.specs.Protocol.Sessions.Transport.{TransportAsk, TransportAsk.service as asks_service, TransportAsk.rekey as asks_rekey, TransportAsk.disconnect as asks_disconnect, next_cookie}
+use Rattle.ssh_model.specs.Protocol.Sessions.Parties.{Parties, AreLawful}
+use Rattle.ssh_model.specs.Protocol.Sessions.Phases.{has_material}
+use Rattle.ssh_model.specs.Protocol.Sessions.Refusals.{AskRefusal, Refusal.NumberSpent, first_refusal}
+use Rattle.ssh_model.specs.Protocol.Sessions.Items.{Ask, Ask.AskService, Ask.AskNone, Ask.AskPassword, Ask.AskProbe, Ask.AskSign, Ask.AskRekey, Ask.AskOpen, Ask.AskConfirm, Ask.AskRefuse, Ask.AskData, Ask.AskAdjust, Ask.AskEof, Ask.AskClose, Ask.AskRequest, Ask.AskReply, Ask.AskGlobal, Ask.AskGlobalReply, Ask.AskDisconnect, Item, Item.Asked, Item.AskRefused, Item.Refused, Item.Died, has_died}
+use Rattle.ssh_model.specs.Protocol.Sessions.Turns.{AreNumbered, AreSpelled, ask_checks, OnAsk, OnAsk.of_transport, OnAsk.of_authentication, OnAsk.of_connection, AsksTurn, AsksTurn.answers, EndRun}
+use Rattle.ssh_model.specs.Protocol.Sessions.TurnClaims.{AreGood, HasUint32s}
 use Rattle.ssh_model.specs.Laws.Written.{disconnect_spelled, service_request_spelled, no_method_spelled, password_spelled, probe_spelled, sign_spelled, open_spelled, confirmation_spelled, open_failure_spelled, data_message_spelled, extended_data_spelled, adjust_spelled, eof_spelled, close_spelled, request_spelled, channel_success_spelled, channel_failure_spelled, global_request_spelled, request_success_spelled, request_failure_spelled}
 use Rattle.ssh_model.proofs.Sessions.Answered.{Stands, stands, kept_cookie, numbered, place_found, short}
 use Rattle.ssh_model.proofs.Sessions.Deaths.{two_or_more}

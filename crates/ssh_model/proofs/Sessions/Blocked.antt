@@ -1,31 +1,31 @@
 -- What a blocked end sends: between its KEXINIT and its NEWKEYS nothing but messages of the exchange, UNIMPLEMENTED and
 -- DISCONNECT.
 use Rattle.std.proofs.Common.{◌≡◌, ℕ, ◌<◌, ◌≤◌, List, [], ◌∷◌, ◌++◌, ◌⊎◌, inl, inr, refl, sym, ◌∙◌, ap, subst, append_assoc, arith, Bool, true, false, is_some, ◌||◌, Option, None, cond, length}
-use Rattle.ssh_model.specs.Side.{Side, Side.Client, Side.Server}
-use Rattle.ssh_model.specs.Sessions.TurnClaims.{KeepsToExchange, is_sent_while_blocked}
+use Rattle.ssh_model.specs.Protocol.Side.{Side, Side.Client, Side.Server}
+use Rattle.ssh_model.specs.Protocol.Sessions.TurnClaims.{KeepsToExchange, is_sent_while_blocked}
 use Rattle.ssh_model.proofs.Sessions.EndKeeps.{End}
 use Rattle.ssh_model.proofs.Sessions.EndAnswers.{may_be}
 use Rattle.ssh_model.proofs.Sessions.EndTurns.{end_keeps}
 use Rattle.ssh_model.specs.Laws.Checks.{AllPassed, all_passed}
 use Rattle.ssh_model.proofs.Sessions.Stages.{or_false, not_false, ahead_at_21}
-use Rattle.ssh_model.specs.Sessions.Parties.{Parties}
-use Rattle.ssh_model.specs.Sessions.Phases.{authenticated, blocked, may_take_in, may_take_normally, took_service_accept, Phase.Normal, outstanding, sent_service_accept, sent_service_request, sent_success, took_service_request, took_success, phase, Phase.Guessed, Phase.Exchanging, is_wrong_guess, may_take, own_names}
-use Rattle.ssh_model.specs.Wire.Message.{Msg, Msg.KexInit, Msg.KexEcdhInit, Msg.ServiceRequest, Msg.KexEcdhReply, Msg.ServiceAccept, message_number, Msg.UserauthFailure, Msg.UserauthRequest, Msg.UserauthPkOk, Msg.NewKeys, Msg.UserauthSuccess, Msg.Disconnect}
-use Rattle.ssh_model.specs.Sessions.Items.{Item, Item.Sent, Item.TookGuess, Item.Asked, Item.Took, Item.AskRefused, Item.Told, took, Item.Refused, Item.TookOtherLine, Item.TookLine, Item.SentLine, Item.Fed, Item.Died}
-use Rattle.ssh_model.specs.Sessions.Epochs.{epoch}
+use Rattle.ssh_model.specs.Protocol.Sessions.Parties.{Parties}
+use Rattle.ssh_model.specs.Protocol.Sessions.Phases.{authenticated, blocked, may_take_in, may_take_normally, took_service_accept, Phase.Normal, outstanding, sent_service_accept, sent_service_request, sent_success, took_service_request, took_success, phase, Phase.Guessed, Phase.Exchanging, is_wrong_guess, may_take, own_names}
+use Rattle.ssh_model.specs.Protocol.Wire.Message.{Msg, Msg.KexInit, Msg.KexEcdhInit, Msg.ServiceRequest, Msg.KexEcdhReply, Msg.ServiceAccept, message_number, Msg.UserauthFailure, Msg.UserauthRequest, Msg.UserauthPkOk, Msg.NewKeys, Msg.UserauthSuccess, Msg.Disconnect}
+use Rattle.ssh_model.specs.Protocol.Sessions.Items.{Item, Item.Sent, Item.TookGuess, Item.Asked, Item.Took, Item.AskRefused, Item.Told, took, Item.Refused, Item.TookOtherLine, Item.TookLine, Item.SentLine, Item.Fed, Item.Died}
+use Rattle.ssh_model.specs.Protocol.Sessions.Epochs.{epoch}
 use Rattle.std.specs.Prelude.{codes}
-use Rattle.ssh_model.specs.Sessions.Parties.{AreLawful, settings_of, is_required, offer}
-use Rattle.ssh_model.specs.Sessions.Items.{Fact, Fact.Service, Ask, Ask.AskService, Ask.AskRekey}
-use Rattle.ssh_model.specs.Sessions.Refusals.{Refusal, first_refusal, refusal_name}
-use Rattle.ssh_model.specs.Channels.History as channel
-use Rattle.ssh_model.specs.Channels.History.{at_once, due}
-use Rattle.ssh_model.specs.Channels.Message.{Message, Message.Open, Message.OpenFailure, Message.Close}
-use Rattle.ssh_model.specs.Channels.Connection.{AreDue, AreReplies, AreReplies.none as none_owed, AreReplies.reply as one_owed, reply_message, notes, ConnectionAnswer, ConnectionAnswer.global, ConnectionAnswer.global_success, ConnectionAnswer.global_failure, ConnectionAnswer.opened, ConnectionAnswer.not_opened, ConnectionAnswer.confirmation, ConnectionAnswer.failure as channel_failure, ConnectionAnswer.adjust, ConnectionAnswer.got_data, ConnectionAnswer.got_extended, ConnectionAnswer.eof, ConnectionAnswer.close, ConnectionAnswer.request, ConnectionAnswer.success as channel_success, ConnectionAnswer.no_success, ConnectionAsk.opens, ConnectionAsk.confirm, ConnectionAsk.refuse, ConnectionAsk.sends, ConnectionAsk.sends_extended, ConnectionAsk.adjust as asks_adjust, ConnectionAsk.eof as asks_eof, ConnectionAsk.close as asks_close, ConnectionAsk.request as asks_request, ConnectionAsk.reply_yes, ConnectionAsk.reply_no, ConnectionAsk.global as asks_global, ConnectionAsk.global_yes, ConnectionAsk.global_no}
-use Rattle.ssh_model.specs.Sessions.Transport.{IsAnnounced, TransportAnswer, TransportAnswer.disconnect, TransportAnswer.ignore, TransportAnswer.unimplemented, TransportAnswer.debug, TransportAnswer.unknown, TransportAnswer.extensions, TransportAnswer.service_request, TransportAnswer.service_accept, TransportAnswer.kexinit_at_server, TransportAnswer.kexinit_at_client, TransportAnswer.answered_at_server, TransportAnswer.answered_at_client, CompletingAnswer.init, CompletingAnswer.reply as answers_reply, TransportAnswer.newkeys, TransportAsk.service, TransportAsk.rekey, TransportAsk.disconnect as asked_to_disconnect, reply_now, next_cookie, CompletingAnswer}
-use Rattle.ssh_model.specs.Authentication.Rows.{AuthenticationAnswer.request_too_late, AuthenticationAnswer.request_accepted, AuthenticationAnswer.request_probed, AuthenticationAnswer.request_failed, AuthenticationAnswer.failure, AuthenticationAnswer.success, AuthenticationAnswer.banner, AuthenticationAnswer.key_ok, AuthenticationAsk.none, AuthenticationAsk.password, AuthenticationAsk.probe, AuthenticationAsk.sign, checks_of_request, AuthenticationAnswer}
-use Rattle.ssh_model.specs.Sessions.Turns.{ask_checks, Refuses, Refuses.silently, Refuses.spent, Refuses.said, Welcomes, Answer.of_transport, Answer.of_completion, Answer.of_authentication, Answer.of_connection, OnAsk, OnAsk.of_transport as asks_transport, OnAsk.of_authentication as asks_authentication, OnAsk.of_connection as of_channels, OnPayload, OnPayload.takes, OnPayload.skips, OnPayload.unexpected, OnPayload.bad_message, OnOutcome, OnOutcome.other_line, OnOutcome.version_line, OnOutcome.refused_line, OnOutcome.refused_packet, OnUnit, FeedsTurn, AsksTurn, Turn, Turn.asks, IsOpening, EndRun}
-use Rattle.ssh_model.specs.Wire.Outcome.{Outcome}
-use Rattle.ssh_model.specs.Wire.Message.{message_number, Proposal, Method}
+use Rattle.ssh_model.specs.Protocol.Sessions.Parties.{AreLawful, settings_of, is_required, offer}
+use Rattle.ssh_model.specs.Protocol.Sessions.Items.{Fact, Fact.Service, Ask, Ask.AskService, Ask.AskRekey}
+use Rattle.ssh_model.specs.Protocol.Sessions.Refusals.{Refusal, first_refusal, refusal_name}
+use Rattle.ssh_model.specs.Protocol.Channels.History as channel
+use Rattle.ssh_model.specs.Protocol.Channels.History.{at_once, due}
+use Rattle.ssh_model.specs.Protocol.Channels.Message.{Message, Message.Open, Message.OpenFailure, Message.Close}
+use Rattle.ssh_model.specs.Protocol.Channels.Connection.{AreDue, AreReplies, AreReplies.none as none_owed, AreReplies.reply as one_owed, reply_message, notes, ConnectionAnswer, ConnectionAnswer.global, ConnectionAnswer.global_success, ConnectionAnswer.global_failure, ConnectionAnswer.opened, ConnectionAnswer.not_opened, ConnectionAnswer.confirmation, ConnectionAnswer.failure as channel_failure, ConnectionAnswer.adjust, ConnectionAnswer.got_data, ConnectionAnswer.got_extended, ConnectionAnswer.eof, ConnectionAnswer.close, ConnectionAnswer.request, ConnectionAnswer.success as channel_success, ConnectionAnswer.no_success, ConnectionAsk.opens, ConnectionAsk.confirm, ConnectionAsk.refuse, ConnectionAsk.sends, ConnectionAsk.sends_extended, ConnectionAsk.adjust as asks_adjust, ConnectionAsk.eof as asks_eof, ConnectionAsk.close as asks_close, ConnectionAsk.request as asks_request, ConnectionAsk.reply_yes, ConnectionAsk.reply_no, ConnectionAsk.global as asks_global, ConnectionAsk.global_yes, ConnectionAsk.global_no}
+use Rattle.ssh_model.specs.Protocol.Sessions.Transport.{IsAnnounced, TransportAnswer, TransportAnswer.disconnect, TransportAnswer.ignore, TransportAnswer.unimplemented, TransportAnswer.debug, TransportAnswer.unknown, TransportAnswer.extensions, TransportAnswer.service_request, TransportAnswer.service_accept, TransportAnswer.kexinit_at_server, TransportAnswer.kexinit_at_client, TransportAnswer.answered_at_server, TransportAnswer.answered_at_client, CompletingAnswer.init, CompletingAnswer.reply as answers_reply, TransportAnswer.newkeys, TransportAsk.service, TransportAsk.rekey, TransportAsk.disconnect as asked_to_disconnect, reply_now, next_cookie, CompletingAnswer}
+use Rattle.ssh_model.specs.Protocol.Authentication.Rows.{AuthenticationAnswer.request_too_late, AuthenticationAnswer.request_accepted, AuthenticationAnswer.request_probed, AuthenticationAnswer.request_failed, AuthenticationAnswer.failure, AuthenticationAnswer.success, AuthenticationAnswer.banner, AuthenticationAnswer.key_ok, AuthenticationAsk.none, AuthenticationAsk.password, AuthenticationAsk.probe, AuthenticationAsk.sign, checks_of_request, AuthenticationAnswer}
+use Rattle.ssh_model.specs.Protocol.Sessions.Turns.{ask_checks, Refuses, Refuses.silently, Refuses.spent, Refuses.said, Welcomes, Answer.of_transport, Answer.of_completion, Answer.of_authentication, Answer.of_connection, OnAsk, OnAsk.of_transport as asks_transport, OnAsk.of_authentication as asks_authentication, OnAsk.of_connection as of_channels, OnPayload, OnPayload.takes, OnPayload.skips, OnPayload.unexpected, OnPayload.bad_message, OnOutcome, OnOutcome.other_line, OnOutcome.version_line, OnOutcome.refused_line, OnOutcome.refused_packet, OnUnit, FeedsTurn, AsksTurn, Turn, Turn.asks, IsOpening, EndRun}
+use Rattle.ssh_model.specs.Protocol.Wire.Outcome.{Outcome}
+use Rattle.ssh_model.specs.Protocol.Wire.Message.{message_number, Proposal, Method}
 use Rattle.ssh_model.proofs.Sessions.Stages.{normal_above}
 use Rattle.ssh_model.proofs.Sessions.Serving.{is_in, is_in_is, Serves, first_or, second_or, third_or, without_second, left_or, right_or, both_ways, normal_at_5, normal_at_6, new_request_at_5, asked_at_6, accepted_at_50, outstanding_at_52, authenticated_at_20}
 

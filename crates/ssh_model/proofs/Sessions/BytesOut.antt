@@ -1,12 +1,12 @@
 -- What the bytes that an end put out end with.
 use Rattle.std.proofs.Common.{ℕ, List, ◌∷◌, refl, Option}
-use Rattle.ssh_model.specs.Side.{Side}
-use Rattle.ssh_model.specs.Wire.Message.{Msg}
-use Rattle.ssh_model.specs.Wire.Sealing.{IsSealing}
-use Rattle.ssh_model.specs.Sessions.Parties.{Parties}
-use Rattle.ssh_model.specs.Sessions.Items.{Item, Item.SentLine, Item.Sent}
-use Rattle.ssh_model.specs.Sessions.Events.{PutsOut, PutsOut.version, PutsOut.packet, PutsOut.other}
-use Rattle.ssh_model.specs.Sessions.TurnClaims.{EndsWithLine, EndsWithPacket}
+use Rattle.ssh_model.specs.Protocol.Side.{Side}
+use Rattle.ssh_model.specs.Protocol.Wire.Message.{Msg}
+use Rattle.ssh_model.specs.Protocol.Wire.Sealing.{IsSealing}
+use Rattle.ssh_model.specs.Protocol.Sessions.Parties.{Parties}
+use Rattle.ssh_model.specs.Protocol.Sessions.Items.{Item, Item.SentLine, Item.Sent}
+use Rattle.ssh_model.specs.Protocol.Sessions.Events.{PutsOut, PutsOut.version, PutsOut.packet, PutsOut.other}
+use Rattle.ssh_model.specs.Protocol.Sessions.TurnClaims.{EndsWithLine, EndsWithPacket}
 use Rattle.ssh_model.proofs.Wire.Sealed.{sealed_unit}
 
 module _ {K : Type 0} (p : Parties K) where

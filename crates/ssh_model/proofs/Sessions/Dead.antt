@@ -1,11 +1,11 @@
 -- A dead end does nothing, and keeps no bytes.
 use Rattle.std.proofs.Common.{◌≡◌, ℕ, Bool, true, false, cond, List, [], ◌++◌, refl, ap, sym, ◌∙◌}
-use Rattle.ssh_model.specs.Side.{Side, Side.Client, Side.Server, peer, part}
-use Rattle.ssh_model.specs.Wire.Delivery.{Delivered, Delivered.dead, Delivered.waits, Delivered.takes}
-use Rattle.ssh_model.specs.Sessions.Parties.{Parties}
-use Rattle.ssh_model.specs.Sessions.Items.{Ask, Item, Done, has_died}
-use Rattle.ssh_model.specs.Sessions.Turns.{FeedsTurn, FeedsTurn.feeds, FeedsTurn.answers_false, AsksTurn, AsksTurn.refuses, AsksTurn.answers, AsksTurn.spends, AsksTurn.dies, AsksTurn.is_dead, Turn, Turn.feeds as feeding, Turn.asks as asking, Turn.reads as reading_turn, can_feed}
-use Rattle.ssh_model.specs.Sessions.Events.{Event, OnEvent, OnEvent.asks, OnEvent.feeds, OnEvent.delivers, Plays, Plays.ends, Plays.goes, World, IsFirst, rest_of, kept_rest, reading_of}
+use Rattle.ssh_model.specs.Protocol.Side.{Side, Side.Client, Side.Server, peer, part}
+use Rattle.ssh_model.specs.Protocol.Wire.Delivery.{Delivered, Delivered.dead, Delivered.waits, Delivered.takes}
+use Rattle.ssh_model.specs.Protocol.Sessions.Parties.{Parties}
+use Rattle.ssh_model.specs.Protocol.Sessions.Items.{Ask, Item, Done, has_died}
+use Rattle.ssh_model.specs.Protocol.Sessions.Turns.{FeedsTurn, FeedsTurn.feeds, FeedsTurn.answers_false, AsksTurn, AsksTurn.refuses, AsksTurn.answers, AsksTurn.spends, AsksTurn.dies, AsksTurn.is_dead, Turn, Turn.feeds as feeding, Turn.asks as asking, Turn.reads as reading_turn, can_feed}
+use Rattle.ssh_model.specs.Protocol.Sessions.Events.{Event, OnEvent, OnEvent.asks, OnEvent.feeds, OnEvent.delivers, Plays, Plays.ends, Plays.goes, World, IsFirst, rest_of, kept_rest, reading_of}
 use Rattle.ssh_model.proofs.Sessions.EndRuns.{part_own, part_other}
 
 alive_dead : {A : Type 0} {b : Bool} → b ≡ false → b ≡ true → A

@@ -1,19 +1,19 @@
 -- When an end dies, and what it says of it.
 use Rattle.std.proofs.Common.{◌≡◌, ℕ, ◌<◌, ◌^◌, ◌-◌, Bool, true, false, not, ◌&&◌, nat_lt, List, [], ◌∷◌, ◌++◌, length, map, refl, ap, arith, Option, Some, None, lt-ltb}
-use Rattle.ssh_model.specs.Side.{Side}
-use Rattle.ssh_model.specs.Wire.Message.{Msg.Disconnect}
-use Rattle.ssh_model.specs.Sessions.Parties.{Parties}
-use Rattle.ssh_model.specs.Sessions.Refusals.{Refusal, Refusal.NumberSpent, first_refusal, refusal_name, refusal_reason}
-use Rattle.ssh_model.specs.Sessions.Items.{Ask, Item, Item.Asked, Item.Sent, Item.Took, Item.Refused, Item.Died, has_died, sent}
-use Rattle.ssh_model.specs.Sessions.Epochs.{count}
-use Rattle.ssh_model.specs.KeyExchange.Exchanges.{fed}
-use Rattle.ssh_model.specs.Sessions.Phases.{has_material}
-use Rattle.ssh_model.specs.Wire.Outcome.{Outcome}
-use Rattle.ssh_model.specs.Sessions.Transport.{TransportAsk.service, TransportAsk.rekey, TransportAsk.disconnect}
-use Rattle.ssh_model.specs.Authentication.Rows.{AuthenticationAsk.none, AuthenticationAsk.password, AuthenticationAsk.probe, AuthenticationAsk.sign}
-use Rattle.ssh_model.specs.Channels.Connection.{ConnectionAsk.opens, ConnectionAsk.confirm, ConnectionAsk.refuse, ConnectionAsk.sends, ConnectionAsk.sends_extended, ConnectionAsk.adjust, ConnectionAsk.eof, ConnectionAsk.close, ConnectionAsk.request, ConnectionAsk.reply_yes, ConnectionAsk.reply_no, ConnectionAsk.global, ConnectionAsk.global_yes, ConnectionAsk.global_no}
-use Rattle.ssh_model.specs.Sessions.Turns.{AreNumbered, Refuses, Refuses.silently, Refuses.spent, Refuses.said, OnPayload, OnPayload.takes, OnPayload.skips, OnPayload.unexpected, OnPayload.bad_message, OnOutcome, OnOutcome.other_line, OnOutcome.version_line, OnOutcome.refused_line, OnOutcome.opened, OnOutcome.refused_packet, OnUnit, OnUnit.reads, ask_checks, OnAsk, OnAsk.of_transport, OnAsk.of_authentication, OnAsk.of_connection, AsksTurn, AsksTurn.answers, AsksTurn.is_dead, can_feed}
-use Rattle.ssh_model.specs.Sessions.TurnClaims.{DiesAt, shown}
+use Rattle.ssh_model.specs.Protocol.Side.{Side}
+use Rattle.ssh_model.specs.Protocol.Wire.Message.{Msg.Disconnect}
+use Rattle.ssh_model.specs.Protocol.Sessions.Parties.{Parties}
+use Rattle.ssh_model.specs.Protocol.Sessions.Refusals.{Refusal, Refusal.NumberSpent, first_refusal, refusal_name, refusal_reason}
+use Rattle.ssh_model.specs.Protocol.Sessions.Items.{Ask, Item, Item.Asked, Item.Sent, Item.Took, Item.Refused, Item.Died, has_died, sent}
+use Rattle.ssh_model.specs.Protocol.Sessions.Epochs.{count}
+use Rattle.ssh_model.specs.Protocol.KeyExchange.Exchanges.{fed}
+use Rattle.ssh_model.specs.Protocol.Sessions.Phases.{has_material}
+use Rattle.ssh_model.specs.Protocol.Wire.Outcome.{Outcome}
+use Rattle.ssh_model.specs.Protocol.Sessions.Transport.{TransportAsk.service, TransportAsk.rekey, TransportAsk.disconnect}
+use Rattle.ssh_model.specs.Protocol.Authentication.Rows.{AuthenticationAsk.none, AuthenticationAsk.password, AuthenticationAsk.probe, AuthenticationAsk.sign}
+use Rattle.ssh_model.specs.Protocol.Channels.Connection.{ConnectionAsk.opens, ConnectionAsk.confirm, ConnectionAsk.refuse, ConnectionAsk.sends, ConnectionAsk.sends_extended, ConnectionAsk.adjust, ConnectionAsk.eof, ConnectionAsk.close, ConnectionAsk.request, ConnectionAsk.reply_yes, ConnectionAsk.reply_no, ConnectionAsk.global, ConnectionAsk.global_yes, ConnectionAsk.global_no}
+use Rattle.ssh_model.specs.Protocol.Sessions.Turns.{AreNumbered, Refuses, Refuses.silently, Refuses.spent, Refuses.said, OnPayload, OnPayload.takes, OnPayload.skips, OnPayload.unexpected, OnPayload.bad_message, OnOutcome, OnOutcome.other_line, OnOutcome.version_line, OnOutcome.refused_line, OnOutcome.opened, OnOutcome.refused_packet, OnUnit, OnUnit.reads, ask_checks, OnAsk, OnAsk.of_transport, OnAsk.of_authentication, OnAsk.of_connection, AsksTurn, AsksTurn.answers, AsksTurn.is_dead, can_feed}
+use Rattle.ssh_model.specs.Protocol.Sessions.TurnClaims.{DiesAt, shown}
 
 -- ---- a death alone
 

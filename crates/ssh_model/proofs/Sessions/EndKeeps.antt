@@ -1,16 +1,16 @@
 -- What holds of one end between its turns, and that most items keep it.
 use Rattle.std.proofs.Common.{◌≡◌, ℕ, suc, ◌+◌, ◌<◌, ◌≤◌, ◌^◌, List, [], ◌∷◌, ◌++◌, length, map, inr, arith, Bool, true, false, Option}
-use Rattle.ssh_model.specs.Side.{Side, Side.Client, Side.Server}
-use Rattle.ssh_model.specs.Lists.{IsOlder}
-use Rattle.ssh_model.specs.Wire.Message.{Msg, Msg.KexInit, Msg.NewKeys, Msg.KexEcdhInit, Msg.KexEcdhReply, IsPayload}
-use Rattle.ssh_model.specs.KeyExchange.Exchange.{Fits}
-use Rattle.ssh_model.specs.Sessions.Parties.{Parties}
-use Rattle.ssh_model.specs.Sessions.Items.{Item, Item.Fed, Item.Asked, Item.AskRefused, Item.TookLine, Item.TookOtherLine, Item.Sent, Item.Took, Item.Told, Item.Refused, Item.Died, sent, took, Spelled, messages_sent, messages_taken}
-use Rattle.ssh_model.specs.Sessions.Epochs.{epoch}
-use Rattle.ssh_model.specs.KeyExchange.Exchanges.{nth, exchange, exchanges, no_offer, no_reply, no_material, fed, offers, points, replies, sent_line, took_line}
-use Rattle.ssh_model.specs.Sessions.Phases.{Phase, Phase.Start, Phase.Guessed, Phase.Exchanging, Phase.Keying, Phase.Normal, phase, blocked}
-use Rattle.ssh_model.specs.Sessions.Honest.{cookies, signed}
-use Rattle.ssh_model.specs.Sessions.Turns.{IsSpelled, AreSpelled}
+use Rattle.ssh_model.specs.Protocol.Side.{Side, Side.Client, Side.Server}
+use Rattle.ssh_model.specs.Protocol.Lists.{IsOlder}
+use Rattle.ssh_model.specs.Protocol.Wire.Message.{Msg, Msg.KexInit, Msg.NewKeys, Msg.KexEcdhInit, Msg.KexEcdhReply, IsPayload}
+use Rattle.ssh_model.specs.Protocol.KeyExchange.Exchange.{Fits}
+use Rattle.ssh_model.specs.Protocol.Sessions.Parties.{Parties}
+use Rattle.ssh_model.specs.Protocol.Sessions.Items.{Item, Item.Fed, Item.Asked, Item.AskRefused, Item.TookLine, Item.TookOtherLine, Item.Sent, Item.Took, Item.Told, Item.Refused, Item.Died, sent, took, Spelled, messages_sent, messages_taken}
+use Rattle.ssh_model.specs.Protocol.Sessions.Epochs.{epoch}
+use Rattle.ssh_model.specs.Protocol.KeyExchange.Exchanges.{nth, exchange, exchanges, no_offer, no_reply, no_material, fed, offers, points, replies, sent_line, took_line}
+use Rattle.ssh_model.specs.Protocol.Sessions.Phases.{Phase, Phase.Start, Phase.Guessed, Phase.Exchanging, Phase.Keying, Phase.Normal, phase, blocked}
+use Rattle.ssh_model.specs.Protocol.Sessions.Honest.{cookies, signed}
+use Rattle.ssh_model.specs.Protocol.Sessions.Turns.{IsSpelled, AreSpelled}
 use Rattle.ssh_model.proofs.Sessions.Older.{IsNth, nth_older, nth_map, nth_is}
 use Rattle.ssh_model.proofs.Sessions.Parts.{shared_fits}
 use Rattle.ssh_model.proofs.Sessions.Rules.{Rules, cookie_of, own_cookie}

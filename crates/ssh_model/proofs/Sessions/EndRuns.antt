@@ -1,9 +1,9 @@
 -- Each end of a run of two makes a run of its own.
 use Rattle.std.proofs.Common.{◌≡◌, List, [], ◌∷◌, ◌++◌, refl, ap, ◌∙◌, append-nil}
-use Rattle.ssh_model.specs.Side.{Side, Side.Client, Side.Server, peer, done_by, part}
-use Rattle.ssh_model.specs.Sessions.Parties.{Parties}
-use Rattle.ssh_model.specs.Sessions.Items.{Item, Done}
-use Rattle.ssh_model.specs.Sessions.Turns.{EndRun, EndRun.start as opens, EndRun.then_turn as goes, Run, Run.start, Run.then_turn}
+use Rattle.ssh_model.specs.Protocol.Side.{Side, Side.Client, Side.Server, peer, done_by, part}
+use Rattle.ssh_model.specs.Protocol.Sessions.Parties.{Parties}
+use Rattle.ssh_model.specs.Protocol.Sessions.Items.{Item, Done}
+use Rattle.ssh_model.specs.Protocol.Sessions.Turns.{EndRun, EndRun.start as opens, EndRun.then_turn as goes, Run, Run.start, Run.then_turn}
 
 pub part_own : (side : Side) (items : List Item) (run : List Done) → part side (done_by side items ++ run) ≡ items ++ part side run
 part_own side [] run = refl

@@ -1,21 +1,21 @@
 -- Each turn of an end keeps what holds of it between its turns, and its opening begins with it.
 use Rattle.std.proofs.Common.{◌≡◌, ℕ, ◌+◌, ◌<◌, ◌≤◌, ◌^◌, List, [], ◌∷◌, ◌++◌, length, inl, refl, ap, sym, ◌∙◌, arith, subst, append_assoc, length-append, Bool, true, false, not, nat_le, max, ◌%◌, ◌&&◌, ◌==◌, Option, None}
-use Rattle.ssh_model.specs.Side.{Side, Side.Client, Side.Server}
-use Rattle.ssh_model.specs.Wire.Message.{Msg, Msg.KexInit}
+use Rattle.ssh_model.specs.Protocol.Side.{Side, Side.Client, Side.Server}
+use Rattle.ssh_model.specs.Protocol.Wire.Message.{Msg, Msg.KexInit}
 use Rattle.std.proofs.lemmas.Bool.{leb-true}
-use Rattle.ssh_model.specs.Wire.Packet.{Blocks, IsPacket, counted, least_size}
-use Rattle.ssh_model.specs.Wire.Sealing.{IsWire}
-use Rattle.ssh_model.specs.Sessions.Parties.{Parties, AreLawful, settings_of, offer, is_required}
-use Rattle.ssh_model.specs.Sessions.Items.{Ask, Ask.AskRekey, Item, Item.Asked, Item.Sent, Item.Took, Item.TookGuess}
-use Rattle.ssh_model.specs.Sessions.Phases.{Phase.Guessed, phase, blocked, has_material, may_take, may_take_in, is_normal}
-use Rattle.ssh_model.specs.Wire.Outcome.{Outcome, Outcome.VersionLine, Outcome.Opens}
-use Rattle.ssh_model.specs.Wire.Line.{line_end, LineUnit.line, LineIs.version}
-use Rattle.ssh_model.specs.Wire.Unit.{Stage, Stage.Lines, Stage.Packets, IsUnit, PacketUnit.opens}
-use Rattle.ssh_model.specs.Sessions.Transport.{TransportAsk.service, TransportAsk.rekey, TransportAsk.disconnect, next_cookie}
-use Rattle.ssh_model.specs.Authentication.Rows.{AuthenticationAsk.none, AuthenticationAsk.password, AuthenticationAsk.probe, AuthenticationAsk.sign}
-use Rattle.ssh_model.specs.Channels.Connection.{ConnectionAsk.opens, ConnectionAsk.confirm, ConnectionAsk.refuse, ConnectionAsk.sends, ConnectionAsk.sends_extended, ConnectionAsk.adjust, ConnectionAsk.eof, ConnectionAsk.close, ConnectionAsk.request, ConnectionAsk.reply_yes, ConnectionAsk.reply_no, ConnectionAsk.global, ConnectionAsk.global_yes, ConnectionAsk.global_no}
-use Rattle.ssh_model.specs.Sessions.Refusals.{first_refusal, Refusal, Refusal.BadMessage, Refusal.Unexpected}
-use Rattle.ssh_model.specs.Sessions.Turns.{IsSpelled, AreSpelled, Refuses, Refuses.silently, Refuses.spent, Refuses.said, Welcomes, number_of, Answer, Answer.of_transport, Answer.of_completion, Answer.of_authentication, Answer.of_connection, OnAsk.of_authentication, OnPayload, OnPayload.takes, OnPayload.skips, OnPayload.unexpected, OnPayload.bad_message, OnPayload.refuses, OnPayload.spends, OnOutcome, OnOutcome.other_line, OnOutcome.version_line, OnOutcome.refused_line, OnOutcome.opened, OnOutcome.refused_packet, stage, ask_checks, OnAsk, OnAsk.of_transport, OnAsk.of_connection, FeedsTurn, AsksTurn, AsksTurn.refuses, AsksTurn.spends, OnUnit, OnUnit.reads, Turn, Turn.asks, Turn.reads, IsOpening, EndRun}
+use Rattle.ssh_model.specs.Protocol.Wire.Packet.{Blocks, IsPacket, counted, least_size}
+use Rattle.ssh_model.specs.Protocol.Wire.Sealing.{IsWire}
+use Rattle.ssh_model.specs.Protocol.Sessions.Parties.{Parties, AreLawful, settings_of, offer, is_required}
+use Rattle.ssh_model.specs.Protocol.Sessions.Items.{Ask, Ask.AskRekey, Item, Item.Asked, Item.Sent, Item.Took, Item.TookGuess}
+use Rattle.ssh_model.specs.Protocol.Sessions.Phases.{Phase.Guessed, phase, blocked, has_material, may_take, may_take_in, is_normal}
+use Rattle.ssh_model.specs.Protocol.Wire.Outcome.{Outcome, Outcome.VersionLine, Outcome.Opens}
+use Rattle.ssh_model.specs.Protocol.Wire.Line.{line_end, LineUnit.line, LineIs.version}
+use Rattle.ssh_model.specs.Protocol.Wire.Unit.{Stage, Stage.Lines, Stage.Packets, IsUnit, PacketUnit.opens}
+use Rattle.ssh_model.specs.Protocol.Sessions.Transport.{TransportAsk.service, TransportAsk.rekey, TransportAsk.disconnect, next_cookie}
+use Rattle.ssh_model.specs.Protocol.Authentication.Rows.{AuthenticationAsk.none, AuthenticationAsk.password, AuthenticationAsk.probe, AuthenticationAsk.sign}
+use Rattle.ssh_model.specs.Protocol.Channels.Connection.{ConnectionAsk.opens, ConnectionAsk.confirm, ConnectionAsk.refuse, ConnectionAsk.sends, ConnectionAsk.sends_extended, ConnectionAsk.adjust, ConnectionAsk.eof, ConnectionAsk.close, ConnectionAsk.request, ConnectionAsk.reply_yes, ConnectionAsk.reply_no, ConnectionAsk.global, ConnectionAsk.global_yes, ConnectionAsk.global_no}
+use Rattle.ssh_model.specs.Protocol.Sessions.Refusals.{first_refusal, Refusal, Refusal.BadMessage, Refusal.Unexpected}
+use Rattle.ssh_model.specs.Protocol.Sessions.Turns.{IsSpelled, AreSpelled, Refuses, Refuses.silently, Refuses.spent, Refuses.said, Welcomes, number_of, Answer, Answer.of_transport, Answer.of_completion, Answer.of_authentication, Answer.of_connection, OnAsk.of_authentication, OnPayload, OnPayload.takes, OnPayload.skips, OnPayload.unexpected, OnPayload.bad_message, OnPayload.refuses, OnPayload.spends, OnOutcome, OnOutcome.other_line, OnOutcome.version_line, OnOutcome.refused_line, OnOutcome.opened, OnOutcome.refused_packet, stage, ask_checks, OnAsk, OnAsk.of_transport, OnAsk.of_connection, FeedsTurn, AsksTurn, AsksTurn.refuses, AsksTurn.spends, OnUnit, OnUnit.reads, Turn, Turn.asks, Turn.reads, IsOpening, EndRun}
 use Rattle.ssh_model.proofs.Sessions.Spelling.{other_tagged, sent_other_tag, spelled_cookie, sent_fits}
 use Rattle.ssh_model.proofs.Sessions.EndKeeps.{End, ArePlain, add_quiet, add_fed, add_line, add_plain}
 use Rattle.ssh_model.proofs.Sessions.EndAnswers.{replies_plain, uses_next, transport_keeps, completion_keeps, authentication_keeps, connection_keeps}

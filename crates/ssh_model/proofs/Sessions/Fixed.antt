@@ -1,21 +1,21 @@
--- What an end does with a unit, an ask and a feed is fixed by its history, but for what is left free.
+-- What an end does with a unit, an ask and a feed is fixed by its history, except for what is left free.
 use Rattle.std.proofs.Common.{◌≡◌, ℕ, suc, ◌<◌, ◌^◌, Bool, true, false, not, List, [], ◌∷◌, ◌++◌, inl, inr, map, refl, ap, sym, ◌∙◌, subst, arith, Option, Some, None}
 use Rattle.std.specs.Prelude.{unwrap_or}
 use Rattle.std.proofs.lemmas.List.{map-append}
-use Rattle.ssh_model.specs.Side.{Side}
-use Rattle.ssh_model.specs.Wire.Message.{Msg, Msg.NewKeys, Msg.ChannelOpen, Msg.Disconnect, IsPayload}
-use Rattle.ssh_model.specs.Wire.Outcome.{Outcome}
-use Rattle.ssh_model.specs.Sessions.Refusals.{Refusal, AskRefusal, refusal_name, first_refusal}
-use Rattle.ssh_model.specs.Sessions.Parties.{Parties, AreLawful}
-use Rattle.ssh_model.specs.Sessions.Items.{Ask, Fact.Opening, Fact.Opened, Item, Item.Asked, Item.AskRefused, Item.Sent, Item.Took, Item.Told, Item.Refused, Item.Died, sent}
-use Rattle.ssh_model.specs.Sessions.Epochs.{count}
-use Rattle.ssh_model.specs.Sessions.Phases.{probing}
-use Rattle.ssh_model.specs.Sessions.Transport.{TransportAsk, TransportAsk.service, TransportAsk.rekey, TransportAsk.disconnect}
+use Rattle.ssh_model.specs.Protocol.Side.{Side}
+use Rattle.ssh_model.specs.Protocol.Wire.Message.{Msg, Msg.NewKeys, Msg.ChannelOpen, Msg.Disconnect, IsPayload}
+use Rattle.ssh_model.specs.Protocol.Wire.Outcome.{Outcome}
+use Rattle.ssh_model.specs.Protocol.Sessions.Refusals.{Refusal, AskRefusal, refusal_name, first_refusal}
+use Rattle.ssh_model.specs.Protocol.Sessions.Parties.{Parties, AreLawful}
+use Rattle.ssh_model.specs.Protocol.Sessions.Items.{Ask, Fact.Opening, Fact.Opened, Item, Item.Asked, Item.AskRefused, Item.Sent, Item.Took, Item.Told, Item.Refused, Item.Died, sent}
+use Rattle.ssh_model.specs.Protocol.Sessions.Epochs.{count}
+use Rattle.ssh_model.specs.Protocol.Sessions.Phases.{probing}
+use Rattle.ssh_model.specs.Protocol.Sessions.Transport.{TransportAsk, TransportAsk.service, TransportAsk.rekey, TransportAsk.disconnect}
 use Rattle.ssh_model.proofs.Sessions.Kinds.{plain_completing, plain_authenticating, plain_connecting, completing_authenticating, completing_connecting, authenticating_connecting, plain_or_authentication, plain_or_connection, authentication_or_connection}
-use Rattle.ssh_model.specs.Authentication.Rows.{AuthenticationAsk.none, AuthenticationAsk.password, AuthenticationAsk.probe, AuthenticationAsk.sign, AuthenticationAsk}
-use Rattle.ssh_model.specs.Channels.Connection.{ConnectionAnswer, ConnectionAnswer.global, ConnectionAnswer.global_success, ConnectionAnswer.global_failure, ConnectionAnswer.opened, ConnectionAnswer.not_opened, ConnectionAnswer.confirmation, ConnectionAnswer.failure, ConnectionAnswer.adjust, ConnectionAnswer.got_data, ConnectionAnswer.got_extended, ConnectionAnswer.eof, ConnectionAnswer.close, ConnectionAnswer.request, ConnectionAnswer.success, ConnectionAnswer.no_success, ConnectionAsk, ConnectionAsk.opens, ConnectionAsk.confirm, ConnectionAsk.refuse, ConnectionAsk.sends, ConnectionAsk.sends_extended, ConnectionAsk.adjust as adjusts, ConnectionAsk.eof as ends, ConnectionAsk.close as closes, ConnectionAsk.request as requests, ConnectionAsk.reply_yes, ConnectionAsk.reply_no, ConnectionAsk.global as asks_all, ConnectionAsk.global_yes, ConnectionAsk.global_no, channel_items}
-use Rattle.ssh_model.specs.Sessions.Turns.{AreNumbered, Refuses, Refuses.silently, Refuses.spent, Refuses.said, Answer, Answer.of_transport, Answer.of_completion, Answer.of_authentication, Answer.of_connection, Welcomes, answer_checks, OnPayload, OnPayload.takes, OnPayload.skips, OnPayload.unexpected, OnPayload.bad_message, OnPayload.refuses, OnPayload.spends, OnOutcome, OnOutcome.other_line, OnOutcome.version_line, OnOutcome.refused_line, OnOutcome.opened as is_opened, OnOutcome.refused_packet, OnUnit, OnUnit.reads, OnUnit.dies, stage, OnAsk, OnAsk.of_transport as ask_of_transport, OnAsk.of_authentication as ask_of_authentication, OnAsk.of_connection as ask_of_connection, AsksTurn, AsksTurn.refuses as ask_refused, AsksTurn.answers, AsksTurn.spends as ask_spends, AsksTurn.dies as ask_dies, AsksTurn.is_dead, FeedsTurn, FeedsTurn.feeds, FeedsTurn.answers_false}
-use Rattle.ssh_model.specs.Sessions.TurnClaims.{shown, fixed_part, AreAlike}
+use Rattle.ssh_model.specs.Protocol.Authentication.Rows.{AuthenticationAsk.none, AuthenticationAsk.password, AuthenticationAsk.probe, AuthenticationAsk.sign, AuthenticationAsk}
+use Rattle.ssh_model.specs.Protocol.Channels.Connection.{ConnectionAnswer, ConnectionAnswer.global, ConnectionAnswer.global_success, ConnectionAnswer.global_failure, ConnectionAnswer.opened, ConnectionAnswer.not_opened, ConnectionAnswer.confirmation, ConnectionAnswer.failure, ConnectionAnswer.adjust, ConnectionAnswer.got_data, ConnectionAnswer.got_extended, ConnectionAnswer.eof, ConnectionAnswer.close, ConnectionAnswer.request, ConnectionAnswer.success, ConnectionAnswer.no_success, ConnectionAsk, ConnectionAsk.opens, ConnectionAsk.confirm, ConnectionAsk.refuse, ConnectionAsk.sends, ConnectionAsk.sends_extended, ConnectionAsk.adjust as adjusts, ConnectionAsk.eof as ends, ConnectionAsk.close as closes, ConnectionAsk.request as requests, ConnectionAsk.reply_yes, ConnectionAsk.reply_no, ConnectionAsk.global as asks_all, ConnectionAsk.global_yes, ConnectionAsk.global_no, channel_items}
+use Rattle.ssh_model.specs.Protocol.Sessions.Turns.{AreNumbered, Refuses, Refuses.silently, Refuses.spent, Refuses.said, Answer, Answer.of_transport, Answer.of_completion, Answer.of_authentication, Answer.of_connection, Welcomes, answer_checks, OnPayload, OnPayload.takes, OnPayload.skips, OnPayload.unexpected, OnPayload.bad_message, OnPayload.refuses, OnPayload.spends, OnOutcome, OnOutcome.other_line, OnOutcome.version_line, OnOutcome.refused_line, OnOutcome.opened as is_opened, OnOutcome.refused_packet, OnUnit, OnUnit.reads, OnUnit.dies, stage, OnAsk, OnAsk.of_transport as ask_of_transport, OnAsk.of_authentication as ask_of_authentication, OnAsk.of_connection as ask_of_connection, AsksTurn, AsksTurn.refuses as ask_refused, AsksTurn.answers, AsksTurn.spends as ask_spends, AsksTurn.dies as ask_dies, AsksTurn.is_dead, FeedsTurn, FeedsTurn.feeds, FeedsTurn.answers_false}
+use Rattle.ssh_model.specs.Protocol.Sessions.TurnClaims.{shown, fixed_part, AreAlike}
 use Rattle.ssh_model.proofs.Wire.OneMessage.{same_message}
 use Rattle.ssh_model.proofs.Wire.Units.{unit_outcome}
 use Rattle.ssh_model.proofs.Channels.Laws.{full_is}
@@ -136,7 +136,7 @@ not_true : (b : Bool) → not b ≡ true → b ≡ false
 not_true true e = absurd (cc e)
 not_true false e = refl
 
--- a message has one channel, but for an OPEN that gets a number
+-- a message has one channel, except for an OPEN that gets a number
 data Channels (side : Side) (h : List Item) (m : Msg) (c d : Option ℕ) (items others : List Item) : Type 0 where
   one : c ≡ d → Channels side h m c d items others
   two : (x y : ℕ) (k : List ℕ) (s w d_max : ℕ) (r : List ℕ) → m ≡ ChannelOpen k s w d_max r → c ≡ Some x → d ≡ Some y
@@ -176,7 +176,7 @@ module _ {K : Type 0} (p : Parties K) (side : Side) (h : List Item) where
       record { answers = of_shown items others (same_answer p side h d m items others (of_connection a') (of_connection e)); message = ap (λ (x : Option ℕ). fixed_part (Took x m b)) f }
   connection_alike c d m b items others a e (two x y k s w n r f g i j l) = rw (f, g, i, j, l) (opened_alike x y k s w n r b)
 
-  -- answers beside no channel
+  -- answers with no channel
   plain_alike : (m : Msg) (b : List ℕ) (items others : List Item) → Answer p side h None m items → Answer p side h None m others → Alike None None m b items others
   plain_alike m b items others a e = record { answers = of_shown items others (same_answer p side h None m items others a e); message = refl }
 

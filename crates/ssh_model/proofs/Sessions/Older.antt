@@ -1,9 +1,9 @@
 -- Older parts of a list that grows at its head, and the places in it.
 use Rattle.std.proofs.Common.{◌≡◌, ℕ, suc, ◌<◌, List, [], ◌∷◌, ◌++◌, length, reverse, map, ◌⊎◌, inl, inr, refl, ap, sym, ◌∙◌, subst, arith, append_assoc, append-nil, cond, ◌==◌, eq-eqb, eqb-true, ne_eqb, Bool, true, false}
 use Rattle.std.proofs.lemmas.List.{reverse-append}
-use Rattle.ssh_model.specs.Lists.{IsOlder, IsIn}
-use Rattle.ssh_model.specs.KeyExchange.Exchanges.{nth}
-use Rattle.ssh_model.specs.Sessions.Honest.{AreDistinct}
+use Rattle.ssh_model.specs.Protocol.Lists.{IsOlder, IsIn}
+use Rattle.ssh_model.specs.Protocol.KeyExchange.Exchanges.{nth}
+use Rattle.ssh_model.specs.Protocol.Sessions.Honest.{AreDistinct}
 use Rattle.ssh_model.proofs.Sessions.Ends.{older_length, older_same}
 
 -- n older ones lie below this x

@@ -1,24 +1,24 @@
 -- A channel on which data were taken has a partner: the same OPEN, whole, at the same place.
 use Rattle.std.proofs.Common.{◌≡◌, ℕ, zero, suc, ◌<◌, ◌≤◌, List, [], ◌∷◌, ◌++◌, ◌⊎◌, inl, inr, refl, ap, sym, ◌∙◌, arith, subst, reverse, append_assoc, cond, Bool, true, false, map, Option, Some, None}
 use Rattle.std.proofs.lemmas.Bool.{leb-true}
-use Rattle.ssh_model.specs.Side.{Side, Side.Client, Side.Server, peer, part}
-use Rattle.ssh_model.specs.Lists.{IsOlder}
-use Rattle.ssh_model.specs.Wire.Message.{Msg.NewKeys, Msg.KexInit, Msg.ChannelOpen, Msg.ChannelClose, IsPayload}
-use Rattle.ssh_model.specs.Sessions.Parties.{Parties, AreLawful, BothOffer}
-use Rattle.ssh_model.specs.Sessions.Items.{Item, Item.Sent, Item.Took, Item.TookGuess, Payload, Payload.NewkeysOf, Payload.OtherOf, bytes_of, Done, sent, took}
-use Rattle.ssh_model.specs.Sessions.Epochs.{epoch, after_first, from_epoch}
-use Rattle.ssh_model.specs.Sessions.Honest.{IsHonest}
-use Rattle.ssh_model.specs.Sessions.Claims.{WholeOpen, OpensNext, SentOpen, TookOpen, HasPartner, after_newkeys}
-use Rattle.ssh_model.specs.Sessions.Turns.{Run}
-use Rattle.ssh_model.specs.Channels.Message.{Message, Message.Open, Message.Close, Channel, Channel.Opened, mine}
-use Rattle.ssh_model.specs.Channels.Notes.{Note, Note.Said, Note.Took, said_all, took_all, opens, channel_at, OpenedAt}
-use Rattle.ssh_model.specs.Channels.Numbers.{has_closed, peer_number}
-use Rattle.ssh_model.specs.Channels.Rules.{next_own, next_theirs}
-use Rattle.ssh_model.specs.Channels.History as channel
-use Rattle.ssh_model.specs.Channels.History.{noted}
-use Rattle.ssh_model.specs.Channels.Rows as row
-use Rattle.ssh_model.specs.Channels.Claims as claim
-use Rattle.ssh_model.specs.Channels.Connection.{on_channel, received_on, channel_items, notes}
+use Rattle.ssh_model.specs.Protocol.Side.{Side, Side.Client, Side.Server, peer, part}
+use Rattle.ssh_model.specs.Protocol.Lists.{IsOlder}
+use Rattle.ssh_model.specs.Protocol.Wire.Message.{Msg.NewKeys, Msg.KexInit, Msg.ChannelOpen, Msg.ChannelClose, IsPayload}
+use Rattle.ssh_model.specs.Protocol.Sessions.Parties.{Parties, AreLawful, BothOffer}
+use Rattle.ssh_model.specs.Protocol.Sessions.Items.{Item, Item.Sent, Item.Took, Item.TookGuess, Payload, Payload.NewkeysOf, Payload.OtherOf, bytes_of, Done, sent, took}
+use Rattle.ssh_model.specs.Protocol.Sessions.Epochs.{epoch, after_first, from_epoch}
+use Rattle.ssh_model.specs.Protocol.Sessions.Honest.{IsHonest}
+use Rattle.ssh_model.specs.Protocol.Sessions.Claims.{WholeOpen, OpensNext, SentOpen, TookOpen, HasPartner, after_newkeys}
+use Rattle.ssh_model.specs.Protocol.Sessions.Turns.{Run}
+use Rattle.ssh_model.specs.Protocol.Channels.Message.{Message, Message.Open, Message.Close, Channel, Channel.Opened, mine}
+use Rattle.ssh_model.specs.Protocol.Channels.Notes.{Note, Note.Said, Note.Took, said_all, took_all, opens, channel_at, OpenedAt}
+use Rattle.ssh_model.specs.Protocol.Channels.Numbers.{has_closed, peer_number}
+use Rattle.ssh_model.specs.Protocol.Channels.Rules.{next_own, next_theirs}
+use Rattle.ssh_model.specs.Protocol.Channels.History as channel
+use Rattle.ssh_model.specs.Protocol.Channels.History.{noted}
+use Rattle.ssh_model.specs.Protocol.Channels.Rows as row
+use Rattle.ssh_model.specs.Protocol.Channels.Claims as claim
+use Rattle.ssh_model.specs.Protocol.Channels.Connection.{on_channel, received_on, channel_items, notes}
 use Rattle.ssh_model.proofs.Wire.OneMessage.{same_message}
 use Rattle.ssh_model.proofs.Sessions.Older.{older_trans, older_self}
 use Rattle.ssh_model.proofs.Sessions.Whole.{Given, given, kept}

@@ -3,11 +3,11 @@ use Rattle.std.proofs.Common.{◌≡◌, ℕ, ◌<◌, ◌^◌, Bool, true, fals
 use Rattle.std.specs.Prelude.{unwrap_or}
 use Rattle.std.specs.List.{list_all}
 use Rattle.std.proofs.lemmas.Bool.{and_parts, eqb-true, ltb-true}
-use Rattle.ssh_model.specs.Side.{Side}
-use Rattle.ssh_model.specs.Wire.DataTypes.{AreBytes, number}
-use Rattle.ssh_model.specs.KeyExchange.Exchange.{mpint_body}
-use Rattle.ssh_model.specs.KeyExchange.Exchanges.{shared_number}
-use Rattle.ssh_model.specs.Sessions.Parties.{Parties, is_byte, is_zero, is_shared, only_shared, agreement_of}
+use Rattle.ssh_model.specs.Protocol.Side.{Side}
+use Rattle.ssh_model.specs.Protocol.Wire.DataTypes.{AreBytes, number}
+use Rattle.ssh_model.specs.Protocol.KeyExchange.Exchange.{mpint_body}
+use Rattle.ssh_model.specs.Protocol.KeyExchange.Exchanges.{shared_number}
+use Rattle.ssh_model.specs.Protocol.Sessions.Parties.{Parties, is_byte, is_zero, is_shared, only_shared, agreement_of}
 use Rattle.ssh_model.proofs.KeyExchange.Texts.{body_length, body_of_32}
 
 pub are_bytes : (bytes : List ℕ) → list_all is_byte bytes ≡ true → AreBytes bytes

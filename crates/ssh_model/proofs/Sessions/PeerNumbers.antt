@@ -1,15 +1,15 @@
 -- The numbers that an end keeps of its peer, and those of the replies that it owes, are uint32s.
 use Rattle.std.proofs.Common.{ℕ, ◌<◌, ◌^◌, Bool, true, false, cond, List, [], ◌∷◌, ◌++◌, arith, Option, None, Some}
-use Rattle.ssh_model.specs.Side.{Side}
-use Rattle.ssh_model.specs.Wire.Message.{Msg, Msg.KexInit, Msg.NewKeys, Msg.ChannelOpen, Msg.ChannelOpenConfirmation, IsPayload, Msg.ChannelOpenFailure, Msg.ChannelWindowAdjust, Msg.ChannelData, Msg.ChannelExtendedData, Msg.ChannelEof, Msg.ChannelClose, Msg.ChannelRequest, Msg.ChannelSuccess, Msg.ChannelFailure}
-use Rattle.ssh_model.specs.Sessions.Parties.{Parties}
-use Rattle.ssh_model.specs.Sessions.Items.{Item, Item.Sent, Item.Took}
-use Rattle.ssh_model.specs.Channels.Message.{Channel, Message, Message.Open, Message.OpenConfirmation, Message.OpenFailure, Message.Close, same, sender}
-use Rattle.ssh_model.specs.Channels.Notes.{Line, Line.On, Note, channel_at, on, took_all}
-use Rattle.ssh_model.specs.Channels.Numbers.{has_closed, peer_number}
-use Rattle.ssh_model.specs.Channels.History as channel
-use Rattle.ssh_model.specs.Channels.History.{due, note_sent, note_received, noted, owed}
-use Rattle.ssh_model.specs.Channels.Connection.{on_channel, sent_on, received_on, channel_items, notes, owed_replies}
+use Rattle.ssh_model.specs.Protocol.Side.{Side}
+use Rattle.ssh_model.specs.Protocol.Wire.Message.{Msg, Msg.KexInit, Msg.NewKeys, Msg.ChannelOpen, Msg.ChannelOpenConfirmation, IsPayload, Msg.ChannelOpenFailure, Msg.ChannelWindowAdjust, Msg.ChannelData, Msg.ChannelExtendedData, Msg.ChannelEof, Msg.ChannelClose, Msg.ChannelRequest, Msg.ChannelSuccess, Msg.ChannelFailure}
+use Rattle.ssh_model.specs.Protocol.Sessions.Parties.{Parties}
+use Rattle.ssh_model.specs.Protocol.Sessions.Items.{Item, Item.Sent, Item.Took}
+use Rattle.ssh_model.specs.Protocol.Channels.Message.{Channel, Message, Message.Open, Message.OpenConfirmation, Message.OpenFailure, Message.Close, same, sender}
+use Rattle.ssh_model.specs.Protocol.Channels.Notes.{Line, Line.On, Note, channel_at, on, took_all}
+use Rattle.ssh_model.specs.Protocol.Channels.Numbers.{has_closed, peer_number}
+use Rattle.ssh_model.specs.Protocol.Channels.History as channel
+use Rattle.ssh_model.specs.Protocol.Channels.History.{due, note_sent, note_received, noted, owed}
+use Rattle.ssh_model.specs.Protocol.Channels.Connection.{on_channel, sent_on, received_on, channel_items, notes, owed_replies}
 use Rattle.ssh_model.specs.Laws.Senders.{open_sender_below, uint32_below}
 use Rattle.ssh_model.proofs.Sessions.Sound.{AllFormed}
 

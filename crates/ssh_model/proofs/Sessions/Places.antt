@@ -1,8 +1,8 @@
 -- Epoch and count tell the place of a payload among those of a direction.
 use Rattle.std.proofs.Common.{◌≡◌, ℕ, zero, suc, ◌<◌, List, [], ◌∷◌, ◌⊎◌, inl, inr, refl, ap, sym, ◌∙◌, arith, subst}
-use Rattle.ssh_model.specs.Lists.{IsOlder}
-use Rattle.ssh_model.specs.Sessions.Items.{Payload, Payload.NewkeysOf, Payload.OtherOf}
-use Rattle.ssh_model.specs.Sessions.Epochs.{epoch, count, after_first, from_epoch}
+use Rattle.ssh_model.specs.Protocol.Lists.{IsOlder}
+use Rattle.ssh_model.specs.Protocol.Sessions.Items.{Payload, Payload.NewkeysOf, Payload.OtherOf}
+use Rattle.ssh_model.specs.Protocol.Sessions.Epochs.{epoch, count, after_first, from_epoch}
 use Rattle.ssh_model.proofs.Sessions.Older.{older_self}
 
 -- a is placed before b

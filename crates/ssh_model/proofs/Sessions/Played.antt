@@ -1,14 +1,14 @@
 -- Events give runs, a beginning of an honest run is honest, and the cutting of a stream into pieces does not matter.
 use Rattle.std.proofs.Common.{ℕ, List, [], ◌∷◌, ◌++◌, sym, subst, ◌↔◌}
-use Rattle.ssh_model.specs.Side.{Side, Side.Client, Side.Server, DoneBy.By, part}
-use Rattle.ssh_model.specs.Wire.Message.{Msg.NewKeys}
-use Rattle.ssh_model.specs.Wire.Sealing.{IsSealing}
-use Rattle.ssh_model.specs.Sessions.Parties.{Parties}
-use Rattle.ssh_model.specs.Sessions.Items.{Item, Item.Sent, Done, has_died}
-use Rattle.ssh_model.specs.Wire.Delivery.{Delivered, Delivered.dead, Delivered.waits, Delivered.takes, InPieces}
-use Rattle.ssh_model.specs.Sessions.Turns.{Turn.feeds, Turn.asks, Run, Run.start, Run.then_turn, stage, Turn}
-use Rattle.ssh_model.specs.Sessions.Events.{Event, IsFirst, Uses, reading_of, World, OnEvent, OnEvent.asks, OnEvent.feeds, OnEvent.delivers, Plays, Plays.ends, Plays.goes}
-use Rattle.ssh_model.specs.Sessions.Honest.{SignaturesHold, IsHonest}
+use Rattle.ssh_model.specs.Protocol.Side.{Side, Side.Client, Side.Server, DoneBy.By, part}
+use Rattle.ssh_model.specs.Protocol.Wire.Message.{Msg.NewKeys}
+use Rattle.ssh_model.specs.Protocol.Wire.Sealing.{IsSealing}
+use Rattle.ssh_model.specs.Protocol.Sessions.Parties.{Parties}
+use Rattle.ssh_model.specs.Protocol.Sessions.Items.{Item, Item.Sent, Done, has_died}
+use Rattle.ssh_model.specs.Protocol.Wire.Delivery.{Delivered, Delivered.dead, Delivered.waits, Delivered.takes, InPieces}
+use Rattle.ssh_model.specs.Protocol.Sessions.Turns.{Turn.feeds, Turn.asks, Run, Run.start, Run.then_turn, stage, Turn}
+use Rattle.ssh_model.specs.Protocol.Sessions.Events.{Event, IsFirst, Uses, reading_of, World, OnEvent, OnEvent.asks, OnEvent.feeds, OnEvent.delivers, Plays, Plays.ends, Plays.goes}
+use Rattle.ssh_model.specs.Protocol.Sessions.Honest.{SignaturesHold, IsHonest}
 use Rattle.ssh_model.proofs.Sessions.Whole.{fresh_tail, completed_grows, tags_tail}
 use Rattle.ssh_model.proofs.Wire.Units.{reading_pieces}
 

@@ -1,15 +1,15 @@
 -- What each end keeps to, and what is known of its exchanges.
 use Rattle.std.proofs.Common.{◌≡◌, ℕ, suc, ◌<◌, ◌≤◌, List, [], ◌∷◌, length, map, take, drop, inl, inr, refl, ap, sym, ◌∙◌, arith, subst, Option, true, cond, ◌==◌}
 use Rattle.std.proofs.lemmas.List.{length-map}
-use Rattle.ssh_model.specs.Side.{Side, Side.Client, Side.Server}
-use Rattle.ssh_model.specs.Lists.{IsOlder, IsIn}
-use Rattle.ssh_model.specs.Wire.Message.{Msg.KexInit, Msg.NewKeys, Proposal}
-use Rattle.ssh_model.specs.KeyExchange.Exchange.{Inputs, Fits}
-use Rattle.ssh_model.specs.Sessions.Parties.{Parties, offer}
-use Rattle.ssh_model.specs.Sessions.Items.{Payload, Payload.NewkeysOf, Payload.OtherOf, Item, Item.Fed, Item.Sent, Item.Took, Item.TookGuess, sent, took, messages_sent, messages_taken}
-use Rattle.ssh_model.specs.Sessions.Epochs.{epoch, count}
-use Rattle.ssh_model.specs.KeyExchange.Exchanges.{KeyName, offers, exchange, exchanges, sending_name, sending_number}
-use Rattle.ssh_model.specs.Sessions.Honest.{AreDistinct, SentUnder, cookies}
+use Rattle.ssh_model.specs.Protocol.Side.{Side, Side.Client, Side.Server}
+use Rattle.ssh_model.specs.Protocol.Lists.{IsOlder, IsIn}
+use Rattle.ssh_model.specs.Protocol.Wire.Message.{Msg.KexInit, Msg.NewKeys, Proposal}
+use Rattle.ssh_model.specs.Protocol.KeyExchange.Exchange.{Inputs, Fits}
+use Rattle.ssh_model.specs.Protocol.Sessions.Parties.{Parties, offer}
+use Rattle.ssh_model.specs.Protocol.Sessions.Items.{Payload, Payload.NewkeysOf, Payload.OtherOf, Item, Item.Fed, Item.Sent, Item.Took, Item.TookGuess, sent, took, messages_sent, messages_taken}
+use Rattle.ssh_model.specs.Protocol.Sessions.Epochs.{epoch, count}
+use Rattle.ssh_model.specs.Protocol.KeyExchange.Exchanges.{KeyName, offers, exchange, exchanges, sending_name, sending_number}
+use Rattle.ssh_model.specs.Protocol.Sessions.Honest.{AreDistinct, SentUnder, cookies}
 use Rattle.ssh_model.proofs.Sessions.Older.{IsNth, older_self, older_trans, next_after, distinct_older, distinct_map}
 
 -- a payload, by its first byte

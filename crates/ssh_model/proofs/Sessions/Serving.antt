@@ -1,14 +1,14 @@
 -- How service and authentication follow on one another, and what lets their messages be taken.
 use Rattle.std.proofs.Common.{◌≡◌, ℕ, zero, suc, ◌<◌, List, [], ◌∷◌, ◌⊎◌, inl, inr, refl, Bool, true, false, is_some, ◌||◌, ◌==◌, length}
-use Rattle.ssh_model.specs.Side.{Side, Side.Client, Side.Server}
-use Rattle.ssh_model.specs.Sessions.TurnClaims.{KeepsToExchange}
+use Rattle.ssh_model.specs.Protocol.Side.{Side, Side.Client, Side.Server}
+use Rattle.ssh_model.specs.Protocol.Sessions.TurnClaims.{KeepsToExchange}
 use Rattle.ssh_model.proofs.Sessions.EndKeeps.{InStep}
 use Rattle.ssh_model.proofs.Sessions.Stages.{or_split}
-use Rattle.ssh_model.specs.Sessions.Parties.{Parties}
-use Rattle.ssh_model.specs.Sessions.Phases.{Phase, awaited, is_allowed_during_exchange, authenticated, blocked, may_take_in, may_take_normally, took_service_accept, Phase.Normal, outstanding, sent_service_accept, sent_service_request, sent_success, took_service_request, took_success, phase, Phase.Guessed, Phase.Start, Phase.Exchanging, Phase.Keying}
-use Rattle.ssh_model.specs.Sessions.Items.{Item, took, Item.Fed}
-use Rattle.ssh_model.specs.KeyExchange.Exchanges.{is_strict}
-use Rattle.ssh_model.specs.Sessions.Epochs.{epoch}
+use Rattle.ssh_model.specs.Protocol.Sessions.Parties.{Parties}
+use Rattle.ssh_model.specs.Protocol.Sessions.Phases.{Phase, awaited, is_allowed_during_exchange, authenticated, blocked, may_take_in, may_take_normally, took_service_accept, Phase.Normal, outstanding, sent_service_accept, sent_service_request, sent_success, took_service_request, took_success, phase, Phase.Guessed, Phase.Start, Phase.Exchanging, Phase.Keying}
+use Rattle.ssh_model.specs.Protocol.Sessions.Items.{Item, took, Item.Fed}
+use Rattle.ssh_model.specs.Protocol.KeyExchange.Exchanges.{is_strict}
+use Rattle.ssh_model.specs.Protocol.Sessions.Epochs.{epoch}
 
 -- whether the end is authenticated, by whether it sent SUCCESS and took it
 abbrev pub is_in : Side → (sent taken : Bool) → Bool

@@ -1,16 +1,16 @@
 -- What an end sends and takes spells its messages, and those of the connection come after its authentication.
 use Rattle.std.proofs.Common.{◌≡◌, ℕ, suc, ◌<◌, ◌≤◌, List, [], ◌∷◌, ◌⊎◌, inl, inr, ⊎_elim, refl, ap, sym, ◌∙◌, arith, subst, Bool, true, false, Option}
 use Rattle.std.proofs.lemmas.Bool.{leb-true}
-use Rattle.ssh_model.specs.Side.{Side, Side.Client, Side.Server, DoneBy.By, part}
-use Rattle.ssh_model.specs.Wire.Message.{Msg, Msg.NewKeys, Msg.UserauthRequest, Msg.UserauthSuccess, Msg.Unknown, Msg.GlobalRequest, Msg.RequestSuccess, Msg.RequestFailure, Msg.ChannelOpen, Msg.ChannelOpenConfirmation, Msg.ChannelOpenFailure, Msg.ChannelWindowAdjust, Msg.ChannelData, Msg.ChannelExtendedData, Msg.ChannelEof, Msg.ChannelClose, Msg.ChannelRequest, Msg.ChannelSuccess, Msg.ChannelFailure, IsPayload, message_number}
-use Rattle.ssh_model.specs.Lists.{IsOlder}
-use Rattle.ssh_model.specs.Sessions.Parties.{Parties}
-use Rattle.ssh_model.specs.Authentication.Requests.{is_accepted}
-use Rattle.ssh_model.specs.Sessions.Items.{Payload, Payload.NewkeysOf, Payload.OtherOf, bytes_of, Item, Item.Sent, Item.Took, Item.TookGuess, Done, sent, took}
-use Rattle.ssh_model.specs.Sessions.Epochs.{epoch}
-use Rattle.ssh_model.specs.Sessions.Phases.{authenticated, sent_success}
-use Rattle.ssh_model.specs.Sessions.Claims.{HasConnection}
-use Rattle.ssh_model.specs.Sessions.Turns.{IsSpelled, number_of}
+use Rattle.ssh_model.specs.Protocol.Side.{Side, Side.Client, Side.Server, DoneBy.By, part}
+use Rattle.ssh_model.specs.Protocol.Wire.Message.{Msg, Msg.NewKeys, Msg.UserauthRequest, Msg.UserauthSuccess, Msg.Unknown, Msg.GlobalRequest, Msg.RequestSuccess, Msg.RequestFailure, Msg.ChannelOpen, Msg.ChannelOpenConfirmation, Msg.ChannelOpenFailure, Msg.ChannelWindowAdjust, Msg.ChannelData, Msg.ChannelExtendedData, Msg.ChannelEof, Msg.ChannelClose, Msg.ChannelRequest, Msg.ChannelSuccess, Msg.ChannelFailure, IsPayload, message_number}
+use Rattle.ssh_model.specs.Protocol.Lists.{IsOlder}
+use Rattle.ssh_model.specs.Protocol.Sessions.Parties.{Parties}
+use Rattle.ssh_model.specs.Protocol.Authentication.Requests.{is_accepted}
+use Rattle.ssh_model.specs.Protocol.Sessions.Items.{Payload, Payload.NewkeysOf, Payload.OtherOf, bytes_of, Item, Item.Sent, Item.Took, Item.TookGuess, Done, sent, took}
+use Rattle.ssh_model.specs.Protocol.Sessions.Epochs.{epoch}
+use Rattle.ssh_model.specs.Protocol.Sessions.Phases.{authenticated, sent_success}
+use Rattle.ssh_model.specs.Protocol.Sessions.Claims.{HasConnection}
+use Rattle.ssh_model.specs.Protocol.Sessions.Turns.{IsSpelled, number_of}
 use Rattle.ssh_model.proofs.Wire.Payloads.{written_tag, tag}
 
 -- ---- items that spell their messages

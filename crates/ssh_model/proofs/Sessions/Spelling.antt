@@ -1,11 +1,11 @@
 -- What the payloads of messages tell of them: their tags, their cookies, and that their texts fit.
 use Rattle.std.proofs.Common.{◌≡◌, ◌≢◌, ℕ, ◌<◌, ◌≤◌, ◌^◌, List, [], ◌∷◌, ◌++◌, length, take, refl, ap, sym, ◌∙◌, arith, subst, Bool, true, false, cond, ◌==◌, eqb-true}
 use Rattle.std.proofs.Math.Seq.{take-append_seam}
-use Rattle.ssh_model.specs.Wire.DataTypes.{IsBoolean, IsWrittenBoolean}
-use Rattle.ssh_model.specs.Wire.Message.{Msg, Msg.KexInit, Msg.NewKeys, Msg.KexEcdhInit, Msg.KexEcdhReply, Proposal, IsPayload}
-use Rattle.ssh_model.specs.Sessions.Items.{Payload.NewkeysOf, Payload.OtherOf, Spelled, Spelled.SpelledBy}
-use Rattle.ssh_model.specs.KeyExchange.Exchanges.{Reply, nth, no_offer, no_reply, offers, points, replies}
-use Rattle.ssh_model.specs.Sessions.Turns.{IsSpelled}
+use Rattle.ssh_model.specs.Protocol.Wire.DataTypes.{IsBoolean, IsWrittenBoolean}
+use Rattle.ssh_model.specs.Protocol.Wire.Message.{Msg, Msg.KexInit, Msg.NewKeys, Msg.KexEcdhInit, Msg.KexEcdhReply, Proposal, IsPayload}
+use Rattle.ssh_model.specs.Protocol.Sessions.Items.{Payload.NewkeysOf, Payload.OtherOf, Spelled, Spelled.SpelledBy}
+use Rattle.ssh_model.specs.Protocol.KeyExchange.Exchanges.{Reply, nth, no_offer, no_reply, offers, points, replies}
+use Rattle.ssh_model.specs.Protocol.Sessions.Turns.{IsSpelled}
 use Rattle.ssh_model.proofs.Wire.Payloads.{row_not_21, row_21, written_is_read}
 use Rattle.ssh_model.proofs.KeyExchange.Texts.{string_fits}
 use Rattle.ssh_model.proofs.Sessions.Rules.{tagged, cookie_of}

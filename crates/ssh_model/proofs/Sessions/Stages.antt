@@ -1,15 +1,15 @@
 -- Which phases let the messages of an exchange be taken, and the numbers of authentication and of the connection.
 use Rattle.std.proofs.Common.{◌≡◌, ℕ, zero, suc, ◌<◌, ◌≤◌, List, ◌⊎◌, inl, inr, refl, arith, Bool, true, false, not, nat_le, nat_lt, is_some, eqb-true, ◌||◌, ◌&&◌, ◌==◌}
-use Rattle.ssh_model.specs.Side.{Side, Side.Client, Side.Server}
-use Rattle.ssh_model.specs.Sessions.Items.{Item, took}
+use Rattle.ssh_model.specs.Protocol.Side.{Side, Side.Client, Side.Server}
+use Rattle.ssh_model.specs.Protocol.Sessions.Items.{Item, took}
 use Rattle.std.proofs.lemmas.Bool.{leb-true, ltb-true}
-use Rattle.ssh_model.specs.Wire.Message.{is_known}
-use Rattle.ssh_model.specs.Sessions.Epochs.{epoch}
-use Rattle.ssh_model.specs.KeyExchange.Exchanges.{is_strict}
-use Rattle.ssh_model.specs.Sessions.Phases.{Phase, Phase.Start, Phase.Guessed, Phase.Exchanging, Phase.Keying, Phase.Normal, is_general, is_allowed_at_first, is_allowed_during_exchange, may_take_extensions, awaited, may_take_in, may_take_normally, may_take_service, is_normal, is_connection, is_spare, authenticated, outstanding, probing, sent_service_request, took_service_request, sent_service_accept, took_service_accept, took_success}
+use Rattle.ssh_model.specs.Protocol.Wire.Message.{is_known}
+use Rattle.ssh_model.specs.Protocol.Sessions.Epochs.{epoch}
+use Rattle.ssh_model.specs.Protocol.KeyExchange.Exchanges.{is_strict}
+use Rattle.ssh_model.specs.Protocol.Sessions.Phases.{Phase, Phase.Start, Phase.Guessed, Phase.Exchanging, Phase.Keying, Phase.Normal, is_general, is_allowed_at_first, is_allowed_during_exchange, may_take_extensions, awaited, may_take_in, may_take_normally, may_take_service, is_normal, is_connection, is_spare, authenticated, outstanding, probing, sent_service_request, took_service_request, sent_service_accept, took_service_accept, took_success}
 use Rattle.ssh_model.proofs.Sessions.EndKeeps.{InStep, Heard}
 
--- beside what is awaited no message of an exchange is taken
+-- besides what is awaited no message of an exchange is taken
 allowed_20 : (s : Bool) (e : ℕ) → is_allowed_during_exchange s e 20 ≡ true → ⊥
 allowed_20 true zero e = cc e
 allowed_20 false zero e = cc e

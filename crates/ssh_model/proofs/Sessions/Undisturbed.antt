@@ -1,26 +1,26 @@
 -- Neither end refuses the other for its channels.
 use Rattle.std.proofs.Common.{◌≡◌, ℕ, zero, suc, ◌<◌, ◌≤◌, List, [], ◌∷◌, ◌++◌, reverse, refl, sym, arith, subst, append-nil, Bool, true, false, ◌&&◌, Option, Some}
-use Rattle.ssh_model.specs.Side.{Side, Side.Client, Side.Server, peer, done_by, part}
-use Rattle.ssh_model.specs.Lists.{IsOlder}
-use Rattle.ssh_model.specs.Wire.Message.{Msg, Msg.NewKeys, Msg.KexInit, Msg.KexEcdhInit, Msg.KexEcdhReply, Msg.ServiceRequest, Msg.ServiceAccept, Msg.UserauthRequest, Msg.GlobalRequest, Msg.RequestSuccess, Msg.RequestFailure, Msg.ChannelOpen, Msg.ChannelOpenConfirmation, Msg.ChannelOpenFailure, Msg.ChannelWindowAdjust, Msg.ChannelData, Msg.ChannelExtendedData, Msg.ChannelEof, Msg.ChannelClose, Msg.ChannelRequest, Msg.ChannelSuccess, Msg.ChannelFailure, IsPayload, message_number}
-use Rattle.ssh_model.specs.Sessions.Refusals.{Check, Check.RefusedWhere, first_refusal, Refusal, Refusal.BadMessage, Refusal.Unexpected}
-use Rattle.ssh_model.specs.Sessions.Parties.{Parties, BothOffer, AreLawful}
-use Rattle.ssh_model.specs.Sessions.Items.{Ask, Item, Item.Refused, Payload.OtherOf, Done, sent, took}
-use Rattle.ssh_model.specs.Sessions.Epochs.{epoch, after_first, from_epoch}
-use Rattle.ssh_model.specs.Channels.Message.{Message}
-use Rattle.ssh_model.specs.Channels.History as channel
-use Rattle.ssh_model.specs.Channels.Rows as row
-use Rattle.ssh_model.specs.Channels.Claims as safe
-use Rattle.ssh_model.specs.Channels.Connection.{on_channel, channel_items, notes, AreReplies, AreReplies.none, AreReplies.reply, ConnectionAnswer, ConnectionAnswer.not_opened, ConnectionAnswer.close, ConnectionAsk, ConnectionAsk.opens}
-use Rattle.ssh_model.specs.Sessions.Transport.{IsAnnounced.extensions as announced, IsAnnounced.nothing as unannounced, TransportAnswer, CompletingAnswer.init, CompletingAnswer.reply, TransportAsk, TransportAsk.service, CompletingAnswer, TransportAnswer.disconnect}
-use Rattle.ssh_model.specs.Authentication.Rows.{AuthenticationAnswer, AuthenticationAnswer.success, AuthenticationAsk, AuthenticationAsk.none as asks_none}
-use Rattle.ssh_model.specs.Sessions.Phases.{phase, may_take}
-use Rattle.ssh_model.specs.Sessions.Honest.{IsHonest, TagsHold, WasSent}
-use Rattle.ssh_model.specs.Sessions.Claims.{IsOtherRefusal, NoneRefused, Undisturbed}
-use Rattle.ssh_model.specs.Wire.Outcome.{Outcome.RefusedLine, Outcome.RefusedPacket}
-use Rattle.ssh_model.specs.Wire.Line.{LineUnit, LineIs}
-use Rattle.ssh_model.specs.Wire.Unit.{Stage, Stage.Lines, Stage.Packets, IsUnit, PacketUnit}
-use Rattle.ssh_model.specs.Sessions.Turns.{Refuses, Refuses.silently, Refuses.spent, Refuses.said, answer_checks, number_of, Answer.of_transport, Answer.of_completion, Answer.of_authentication as answered_by_authentication, Answer.of_connection, OnAsk.of_authentication as asked_of_authentication, OnPayload, OnPayload.takes, OnPayload.skips, OnPayload.unexpected, OnPayload.bad_message, OnPayload.refuses, OnPayload.spends, OnOutcome.other_line, OnOutcome.version_line, OnOutcome.refused_line, OnOutcome.opened, OnOutcome.refused_packet, OnAsk.of_transport, OnAsk.of_connection, stage, FeedsTurn, AsksTurn, AsksTurn.refuses, AsksTurn.spends, OnUnit.reads, Turn, Turn.asks, Turn.reads, Run, Run.start, Run.then_turn, IsOpening, OnUnit}
+use Rattle.ssh_model.specs.Protocol.Side.{Side, Side.Client, Side.Server, peer, done_by, part}
+use Rattle.ssh_model.specs.Protocol.Lists.{IsOlder}
+use Rattle.ssh_model.specs.Protocol.Wire.Message.{Msg, Msg.NewKeys, Msg.KexInit, Msg.KexEcdhInit, Msg.KexEcdhReply, Msg.ServiceRequest, Msg.ServiceAccept, Msg.UserauthRequest, Msg.GlobalRequest, Msg.RequestSuccess, Msg.RequestFailure, Msg.ChannelOpen, Msg.ChannelOpenConfirmation, Msg.ChannelOpenFailure, Msg.ChannelWindowAdjust, Msg.ChannelData, Msg.ChannelExtendedData, Msg.ChannelEof, Msg.ChannelClose, Msg.ChannelRequest, Msg.ChannelSuccess, Msg.ChannelFailure, IsPayload, message_number}
+use Rattle.ssh_model.specs.Protocol.Sessions.Refusals.{Check, Check.RefusedWhere, first_refusal, Refusal, Refusal.BadMessage, Refusal.Unexpected}
+use Rattle.ssh_model.specs.Protocol.Sessions.Parties.{Parties, BothOffer, AreLawful}
+use Rattle.ssh_model.specs.Protocol.Sessions.Items.{Ask, Item, Item.Refused, Payload.OtherOf, Done, sent, took}
+use Rattle.ssh_model.specs.Protocol.Sessions.Epochs.{epoch, after_first, from_epoch}
+use Rattle.ssh_model.specs.Protocol.Channels.Message.{Message}
+use Rattle.ssh_model.specs.Protocol.Channels.History as channel
+use Rattle.ssh_model.specs.Protocol.Channels.Rows as row
+use Rattle.ssh_model.specs.Protocol.Channels.Claims as safe
+use Rattle.ssh_model.specs.Protocol.Channels.Connection.{on_channel, channel_items, notes, AreReplies, AreReplies.none, AreReplies.reply, ConnectionAnswer, ConnectionAnswer.not_opened, ConnectionAnswer.close, ConnectionAsk, ConnectionAsk.opens}
+use Rattle.ssh_model.specs.Protocol.Sessions.Transport.{IsAnnounced.extensions as announced, IsAnnounced.nothing as unannounced, TransportAnswer, CompletingAnswer.init, CompletingAnswer.reply, TransportAsk, TransportAsk.service, CompletingAnswer, TransportAnswer.disconnect}
+use Rattle.ssh_model.specs.Protocol.Authentication.Rows.{AuthenticationAnswer, AuthenticationAnswer.success, AuthenticationAsk, AuthenticationAsk.none as asks_none}
+use Rattle.ssh_model.specs.Protocol.Sessions.Phases.{phase, may_take}
+use Rattle.ssh_model.specs.Protocol.Sessions.Honest.{IsHonest, TagsHold, WasSent}
+use Rattle.ssh_model.specs.Protocol.Sessions.Claims.{IsOtherRefusal, NoneRefused, Undisturbed}
+use Rattle.ssh_model.specs.Protocol.Wire.Outcome.{Outcome.RefusedLine, Outcome.RefusedPacket}
+use Rattle.ssh_model.specs.Protocol.Wire.Line.{LineUnit, LineIs}
+use Rattle.ssh_model.specs.Protocol.Wire.Unit.{Stage, Stage.Lines, Stage.Packets, IsUnit, PacketUnit}
+use Rattle.ssh_model.specs.Protocol.Sessions.Turns.{Refuses, Refuses.silently, Refuses.spent, Refuses.said, answer_checks, number_of, Answer.of_transport, Answer.of_completion, Answer.of_authentication as answered_by_authentication, Answer.of_connection, OnAsk.of_authentication as asked_of_authentication, OnPayload, OnPayload.takes, OnPayload.skips, OnPayload.unexpected, OnPayload.bad_message, OnPayload.refuses, OnPayload.spends, OnOutcome.other_line, OnOutcome.version_line, OnOutcome.refused_line, OnOutcome.opened, OnOutcome.refused_packet, OnAsk.of_transport, OnAsk.of_connection, stage, FeedsTurn, AsksTurn, AsksTurn.refuses, AsksTurn.spends, OnUnit.reads, Turn, Turn.asks, Turn.reads, Run, Run.start, Run.then_turn, IsOpening, OnUnit}
 use Rattle.ssh_model.proofs.Sessions.Stages.{and_left, normal_above}
 use Rattle.ssh_model.proofs.Sessions.Rules.{tagged}
 use Rattle.ssh_model.proofs.Sessions.Spelling.{IsOtherMessage, taken_other_tag}

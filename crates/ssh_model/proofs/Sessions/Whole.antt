@@ -1,16 +1,16 @@
 -- The invariant over whole runs, and the agreement and the beginning that follow from it.
 use Rattle.std.proofs.Common.{◌≡◌, ℕ, suc, ◌<◌, List, [], ◌∷◌, ◌++◌, ◌⊎◌, inl, inr, refl, sym, arith, subst, append-nil, Some}
-use Rattle.ssh_model.specs.Side.{Side, Side.Client, Side.Server, DoneBy.By, done_by, part}
-use Rattle.ssh_model.specs.Lists.{IsOlder, IsIn}
-use Rattle.ssh_model.specs.Wire.Message.{Msg.NewKeys}
-use Rattle.ssh_model.specs.KeyExchange.Exchange.{Inputs, Fits, exchange_hash}
-use Rattle.ssh_model.specs.Sessions.Parties.{Parties, AreLawful, BothOffer}
-use Rattle.ssh_model.specs.Sessions.Items.{Item, Item.Fed, Item.Sent, Item.Took, Item.TookGuess, Item.Refused, Payload, Payload.NewkeysOf, Payload.OtherOf, bytes_of, Done, sent, took}
-use Rattle.ssh_model.specs.Sessions.Epochs.{epoch, count, after_first}
-use Rattle.ssh_model.specs.KeyExchange.Exchanges.{exchange, exchanges}
-use Rattle.ssh_model.specs.Sessions.Honest.{AreDistinct, TagsHold, SignaturesHold, HasHash, IsCompleted, IsHonest, cookies, signed}
-use Rattle.ssh_model.specs.Sessions.Claims.{TookUnder, Beginning}
-use Rattle.ssh_model.specs.Sessions.Turns.{Run, Run.start, Run.then_turn}
+use Rattle.ssh_model.specs.Protocol.Side.{Side, Side.Client, Side.Server, DoneBy.By, done_by, part}
+use Rattle.ssh_model.specs.Protocol.Lists.{IsOlder, IsIn}
+use Rattle.ssh_model.specs.Protocol.Wire.Message.{Msg.NewKeys}
+use Rattle.ssh_model.specs.Protocol.KeyExchange.Exchange.{Inputs, Fits, exchange_hash}
+use Rattle.ssh_model.specs.Protocol.Sessions.Parties.{Parties, AreLawful, BothOffer}
+use Rattle.ssh_model.specs.Protocol.Sessions.Items.{Item, Item.Fed, Item.Sent, Item.Took, Item.TookGuess, Item.Refused, Payload, Payload.NewkeysOf, Payload.OtherOf, bytes_of, Done, sent, took}
+use Rattle.ssh_model.specs.Protocol.Sessions.Epochs.{epoch, count, after_first}
+use Rattle.ssh_model.specs.Protocol.KeyExchange.Exchanges.{exchange, exchanges}
+use Rattle.ssh_model.specs.Protocol.Sessions.Honest.{AreDistinct, TagsHold, SignaturesHold, HasHash, IsCompleted, IsHonest, cookies, signed}
+use Rattle.ssh_model.specs.Protocol.Sessions.Claims.{TookUnder, Beginning}
+use Rattle.ssh_model.specs.Protocol.Sessions.Turns.{Run, Run.start, Run.then_turn}
 use Rattle.ssh_model.proofs.Sessions.Older.{in_older, reverse_older, map_older}
 use Rattle.ssh_model.proofs.KeyExchange.Texts.{equal_inputs}
 use Rattle.ssh_model.proofs.Sessions.Rules.{Rules, tagged, exchanges_grow, exchanges_fit}

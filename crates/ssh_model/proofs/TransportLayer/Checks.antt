@@ -1,21 +1,21 @@
 -- What a transport refuses, by what it keeps, is what a session refuses.
 use Rattle.std.proofs.Common.{◌≡◌, ℕ, List, [], ◌∷◌, ◌++◌, length, refl, ap, sym, ◌∙◌, Bool, true, false, not, cond, ◌&&◌, ◌||◌, ◌==◌, eqb-true, is_some, Some, None, Option}
 use Rattle.std.specs.Prelude.{nat_lt, ◌-◌, ◌^◌}
-use Rattle.ssh_model.specs.Side.{Side, Side.Client, Side.Server}
-use Rattle.ssh_model.specs.Wire.Message.{Msg, Msg.Disconnect, Msg.Ignore, Msg.Unimplemented, Msg.Debug, Msg.ServiceRequest, Msg.ServiceAccept, Msg.ExtInfo, Msg.KexInit, Msg.NewKeys, Msg.KexEcdhInit, Msg.KexEcdhReply, Msg.Unknown, Proposal}
-use Rattle.ssh_model.specs.KeyExchange.Choice.{Chosen}
-use Rattle.ssh_model.specs.KeyExchange.Exchange.{exchange_hash}
-use Rattle.ssh_model.specs.KeyExchange.Exchanges.{Material, nth, no_material, fed, offers, has_marker, first_sent}
-use Rattle.ssh_model.specs.Sessions.Refusals.{Check, Check.RefusedWhere, first_refusal, Refusal, Refusal.Unexpected, Refusal.NoCommon, Refusal.NotStrict, Refusal.BadPoint, Refusal.BadHost, AskRefusal, AskRefusal.NotYet, AskRefusal.Busy, AskRefusal.WrongSide}
-use Rattle.ssh_model.specs.Sessions.Parties.{Parties, is_required, settings_of, agreement_of, marker_of, lists_of, shared_by}
-use Rattle.ssh_model.specs.Sessions.Items.{Ask, Ask.AskService, Ask.AskRekey, Ask.AskDisconnect, Item, took, messages_sent}
-use Rattle.ssh_model.specs.Sessions.Epochs.{epoch, count}
-use Rattle.ssh_model.specs.Sessions.Phases.{Phase.Exchanging, phase, has_material, is_client, is_normal, sent_service_request}
-use Rattle.ssh_model.specs.Sessions.Transport.{can_choose, comes_too_late, is_marked, kexinit_checks, transport_checks, transport_ask_checks}
-use Rattle.ssh_model.specs.Sessions.Turns.{answer_checks, can_feed}
-use Rattle.ssh_model.specs.TransportLayer.Kept.{Transport, offer_checks, becomes_strict, first_kex, has_choice_with, own_offer, message_checks, message_ask_checks, IsChosen, can_be_fed}
-use Rattle.ssh_model.specs.TransportLayer.Summary.{Live, SumsUp, IsAwaited, IsTransportMessage, is_agreeing}
-use Rattle.ssh_model.specs.TransportLayer.View.{view, service_requested}
+use Rattle.ssh_model.specs.Protocol.Side.{Side, Side.Client, Side.Server}
+use Rattle.ssh_model.specs.Protocol.Wire.Message.{Msg, Msg.Disconnect, Msg.Ignore, Msg.Unimplemented, Msg.Debug, Msg.ServiceRequest, Msg.ServiceAccept, Msg.ExtInfo, Msg.KexInit, Msg.NewKeys, Msg.KexEcdhInit, Msg.KexEcdhReply, Msg.Unknown, Proposal}
+use Rattle.ssh_model.specs.Protocol.KeyExchange.Choice.{Chosen}
+use Rattle.ssh_model.specs.Protocol.KeyExchange.Exchange.{exchange_hash}
+use Rattle.ssh_model.specs.Protocol.KeyExchange.Exchanges.{Material, nth, no_material, fed, offers, has_marker, first_sent}
+use Rattle.ssh_model.specs.Protocol.Sessions.Refusals.{Check, Check.RefusedWhere, first_refusal, Refusal, Refusal.Unexpected, Refusal.NoCommon, Refusal.NotStrict, Refusal.BadPoint, Refusal.BadHost, AskRefusal, AskRefusal.NotYet, AskRefusal.Busy, AskRefusal.WrongSide}
+use Rattle.ssh_model.specs.Protocol.Sessions.Parties.{Parties, is_required, settings_of, agreement_of, marker_of, lists_of, shared_by}
+use Rattle.ssh_model.specs.Protocol.Sessions.Items.{Ask, Ask.AskService, Ask.AskRekey, Ask.AskDisconnect, Item, took, messages_sent}
+use Rattle.ssh_model.specs.Protocol.Sessions.Epochs.{epoch, count}
+use Rattle.ssh_model.specs.Protocol.Sessions.Phases.{Phase.Exchanging, phase, has_material, is_client, is_normal, sent_service_request}
+use Rattle.ssh_model.specs.Protocol.Sessions.Transport.{can_choose, comes_too_late, is_marked, kexinit_checks, transport_checks, transport_ask_checks}
+use Rattle.ssh_model.specs.Protocol.Sessions.Turns.{answer_checks, can_feed}
+use Rattle.ssh_model.specs.State.TransportLayer.Kept.{Transport, offer_checks, becomes_strict, first_kex, has_choice_with, own_offer, message_checks, message_ask_checks, IsChosen, can_be_fed}
+use Rattle.ssh_model.specs.State.TransportLayer.Summary.{Live, SumsUp, IsAwaited, IsTransportMessage, is_agreeing}
+use Rattle.ssh_model.specs.State.TransportLayer.View.{view, service_requested}
 use Rattle.ssh_model.proofs.TransportLayer.Steps.{all_counted}
 use Rattle.ssh_model.proofs.TransportLayer.Underway.{choice_is, client_exchange}
 

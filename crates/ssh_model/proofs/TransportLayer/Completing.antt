@@ -1,19 +1,19 @@
 -- What is kept goes on summing up a view with the NEWKEYS of an exchange.
 use Rattle.std.proofs.Common.{◌≡◌, ℕ, zero, suc, ◌≤◌, List, ◌∷◌, length, refl, ap, sym, ◌∙◌, subst, arith, true, false, Some, None, Option}
 use Rattle.std.specs.Prelude.{unwrap_or}
-use Rattle.ssh_model.specs.Side.{Side, Side.Client, Side.Server, peer}
-use Rattle.ssh_model.specs.Wire.Sealing.{Crypto}
-use Rattle.ssh_model.specs.KeyExchange.Choice.{Chosen}
-use Rattle.ssh_model.specs.KeyExchange.Exchange.{Inputs, exchange_hash}
-use Rattle.ssh_model.specs.KeyExchange.Exchanges.{Reply, nth, no_exchange, none_chosen, session_id, key_of}
-use Rattle.ssh_model.specs.Sessions.Parties.{Parties}
-use Rattle.ssh_model.specs.Sessions.Items.{Payload.NewkeysOf}
-use Rattle.ssh_model.specs.Sessions.Epochs.{epoch}
-use Rattle.ssh_model.specs.Sessions.Phases.{Phase, Phase.Keying, Phase.Normal, Phase.Exchanging}
-use Rattle.ssh_model.specs.TransportLayer.Directions.{counted, renewed}
-use Rattle.ssh_model.specs.TransportLayer.Kept.{Transport, after_completion, session_with}
-use Rattle.ssh_model.specs.TransportLayer.Summary.{Live, PointsSumUp, bit, is_agreeing, is_keying, session_after}
-use Rattle.ssh_model.specs.TransportLayer.View.{View, key_from}
+use Rattle.ssh_model.specs.Protocol.Side.{Side, Side.Client, Side.Server, peer}
+use Rattle.ssh_model.specs.Protocol.Wire.Sealing.{Crypto}
+use Rattle.ssh_model.specs.Protocol.KeyExchange.Choice.{Chosen}
+use Rattle.ssh_model.specs.Protocol.KeyExchange.Exchange.{Inputs, exchange_hash}
+use Rattle.ssh_model.specs.Protocol.KeyExchange.Exchanges.{Reply, nth, no_exchange, none_chosen, session_id, key_of}
+use Rattle.ssh_model.specs.Protocol.Sessions.Parties.{Parties}
+use Rattle.ssh_model.specs.Protocol.Sessions.Items.{Payload.NewkeysOf}
+use Rattle.ssh_model.specs.Protocol.Sessions.Epochs.{epoch}
+use Rattle.ssh_model.specs.Protocol.Sessions.Phases.{Phase, Phase.Keying, Phase.Normal, Phase.Exchanging}
+use Rattle.ssh_model.specs.State.TransportLayer.Directions.{counted, renewed}
+use Rattle.ssh_model.specs.State.TransportLayer.Kept.{Transport, after_completion, session_with}
+use Rattle.ssh_model.specs.State.TransportLayer.Summary.{Live, PointsSumUp, bit, is_agreeing, is_keying, session_after}
+use Rattle.ssh_model.specs.State.TransportLayer.View.{View, key_from}
 use Rattle.ssh_model.proofs.TransportLayer.Steps.{newkeys_summed}
 use Rattle.ssh_model.proofs.TransportLayer.Underway.{nth_new, nth_old}
 

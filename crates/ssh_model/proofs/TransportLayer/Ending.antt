@@ -1,24 +1,24 @@
 -- The turn in which a transport ends an exchange, and what it does with an ask, are those of a session.
 use Rattle.std.proofs.Common.{◌≡◌, ℕ, ◌+◌, ◌^◌, ◌<◌, ◌≤◌, List, [], ◌∷◌, ◌++◌, length, refl, ap, sym, ◌∙◌, subst, arith, true, false, Some, None, append-nil, append_assoc}
-use Rattle.ssh_model.specs.Side.{Side}
-use Rattle.ssh_model.specs.Wire.Message.{Msg, Msg.Disconnect, Msg.NewKeys}
-use Rattle.ssh_model.specs.KeyExchange.Choice.{Chosen}
-use Rattle.ssh_model.specs.KeyExchange.Exchanges.{offers}
-use Rattle.ssh_model.specs.Sessions.Refusals.{AskRefusal, Refusal.NumberSpent, first_refusal}
-use Rattle.ssh_model.specs.Sessions.Parties.{Parties, agreement_of}
-use Rattle.ssh_model.specs.Sessions.Items.{Ask, Ask.AskService, Ask.AskRekey, Ask.AskDisconnect, Fact.Completed, Item, Item.Sent, Item.Took, Item.Told, Item.Asked, Item.AskRefused, Item.Refused, Item.Died, Spelled, Spelled.SpelledBy, sent, messages_sent}
-use Rattle.ssh_model.specs.Sessions.Epochs.{count}
-use Rattle.ssh_model.specs.Sessions.Events.{PutsOut, PutsOut.other as put_other}
-use Rattle.ssh_model.specs.Sessions.Transport as row
-use Rattle.ssh_model.specs.Sessions.Transport.{transport_ask_checks}
-use Rattle.ssh_model.specs.Sessions.Turns as session
-use Rattle.ssh_model.specs.Sessions.Turns.{AreNumbered, AreSpelled, AsksTurn, IsSpelled, OnPayload, ask_checks}
-use Rattle.ssh_model.specs.Channels.Connection.{AreReplies, owed_replies}
-use Rattle.ssh_model.specs.TransportLayer.Kept.{Asks, Completes, Transport, message_ask_checks, message_checks}
-use Rattle.ssh_model.specs.TransportLayer.Kept as kept
-use Rattle.ssh_model.specs.TransportLayer.Summary.{IsAwaited, SumsUp, items_sent, parts_of}
-use Rattle.ssh_model.specs.TransportLayer.Turns as turns
-use Rattle.ssh_model.specs.TransportLayer.Turns.{AskTurned, EndedBy, IsTransportAsk, PutOut, PutsPackets, Reads, Turned, counted_by}
+use Rattle.ssh_model.specs.Protocol.Side.{Side}
+use Rattle.ssh_model.specs.Protocol.Wire.Message.{Msg, Msg.Disconnect, Msg.NewKeys}
+use Rattle.ssh_model.specs.Protocol.KeyExchange.Choice.{Chosen}
+use Rattle.ssh_model.specs.Protocol.KeyExchange.Exchanges.{offers}
+use Rattle.ssh_model.specs.Protocol.Sessions.Refusals.{AskRefusal, Refusal.NumberSpent, first_refusal}
+use Rattle.ssh_model.specs.Protocol.Sessions.Parties.{Parties, agreement_of}
+use Rattle.ssh_model.specs.Protocol.Sessions.Items.{Ask, Ask.AskService, Ask.AskRekey, Ask.AskDisconnect, Fact.Completed, Item, Item.Sent, Item.Took, Item.Told, Item.Asked, Item.AskRefused, Item.Refused, Item.Died, Spelled, Spelled.SpelledBy, sent, messages_sent}
+use Rattle.ssh_model.specs.Protocol.Sessions.Epochs.{count}
+use Rattle.ssh_model.specs.Protocol.Sessions.Events.{PutsOut, PutsOut.other as put_other}
+use Rattle.ssh_model.specs.Protocol.Sessions.Transport as row
+use Rattle.ssh_model.specs.Protocol.Sessions.Transport.{transport_ask_checks}
+use Rattle.ssh_model.specs.Protocol.Sessions.Turns as session
+use Rattle.ssh_model.specs.Protocol.Sessions.Turns.{AreNumbered, AreSpelled, AsksTurn, IsSpelled, OnPayload, ask_checks}
+use Rattle.ssh_model.specs.Protocol.Channels.Connection.{AreReplies, owed_replies}
+use Rattle.ssh_model.specs.State.TransportLayer.Kept.{Asks, Completes, Transport, message_ask_checks, message_checks}
+use Rattle.ssh_model.specs.State.TransportLayer.Kept as kept
+use Rattle.ssh_model.specs.State.TransportLayer.Summary.{IsAwaited, SumsUp, items_sent, parts_of}
+use Rattle.ssh_model.specs.State.TransportLayer.Turns as turns
+use Rattle.ssh_model.specs.State.TransportLayer.Turns.{AskTurned, EndedBy, IsTransportAsk, PutOut, PutsPackets, Reads, Turned, counted_by}
 use Rattle.ssh_model.proofs.TransportLayer.Checks.{asks_same, none_more}
 use Rattle.ssh_model.proofs.TransportLayer.Items as items
 use Rattle.ssh_model.proofs.TransportLayer.Packets.{AreOther, Stands, last_out, packets_out, stands_by, stands_live, stands_taken}

@@ -1,14 +1,14 @@
 -- What is kept goes on summing up a history with each item that is no row of its own.
 use Rattle.std.proofs.Common.{◌≡◌, ℕ, suc, List, [], ◌∷◌, refl, sym, ◌∙◌, subst, arith, Bool, true, false, ◌&&◌, Option, None}
-use Rattle.ssh_model.specs.Side.{Side, Side.Client, Side.Server}
-use Rattle.ssh_model.specs.Wire.Message.{Msg, Msg.KexInit, Msg.UserauthSuccess}
-use Rattle.ssh_model.specs.Sessions.Parties.{Parties, offer, settings_of}
-use Rattle.ssh_model.specs.Sessions.Items.{Item, Item.Sent, Item.Took, Item.TookLine, Item.TookOtherLine, Item.Fed, Item.SentLine, Payload.OtherOf}
-use Rattle.ssh_model.specs.Sessions.Phases.{Phase.Start, has_line}
-use Rattle.ssh_model.specs.TransportLayer.Directions.{new_direction}
-use Rattle.ssh_model.specs.TransportLayer.Kept.{Transport, new_transport, after_sent, after_taken, after_other_line, after_line, after_success}
-use Rattle.ssh_model.specs.TransportLayer.Summary.{Live, SumsUp, IsPlain, LeavesTransport, PointsSumUp}
-use Rattle.ssh_model.specs.TransportLayer.View.{View, view}
+use Rattle.ssh_model.specs.Protocol.Side.{Side, Side.Client, Side.Server}
+use Rattle.ssh_model.specs.Protocol.Wire.Message.{Msg, Msg.KexInit, Msg.UserauthSuccess}
+use Rattle.ssh_model.specs.Protocol.Sessions.Parties.{Parties, offer, settings_of}
+use Rattle.ssh_model.specs.Protocol.Sessions.Items.{Item, Item.Sent, Item.Took, Item.TookLine, Item.TookOtherLine, Item.Fed, Item.SentLine, Payload.OtherOf}
+use Rattle.ssh_model.specs.Protocol.Sessions.Phases.{Phase.Start, has_line}
+use Rattle.ssh_model.specs.State.TransportLayer.Directions.{new_direction}
+use Rattle.ssh_model.specs.State.TransportLayer.Kept.{Transport, new_transport, after_sent, after_taken, after_other_line, after_line, after_success}
+use Rattle.ssh_model.specs.State.TransportLayer.Summary.{Live, SumsUp, IsPlain, LeavesTransport, PointsSumUp}
+use Rattle.ssh_model.specs.State.TransportLayer.View.{View, view}
 use Rattle.ssh_model.proofs.TransportLayer.Views as views
 use Rattle.ssh_model.proofs.TransportLayer.Steps as steps
 

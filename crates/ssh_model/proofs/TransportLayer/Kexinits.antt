@@ -1,17 +1,17 @@
 -- What is kept goes on summing up a view with KEXINITs, and with what an end is fed for them.
 use Rattle.std.proofs.Common.{◌≡◌, ℕ, suc, ◌<◌, ◌≤◌, List, ◌∷◌, length, refl, ap, sym, ◌∙◌, subst, arith, Bool, true, false, cond, ◌==◌, ◌&&◌, eqb-true, Some, None, if◌then◌else◌}
 use Rattle.std.specs.Prelude.{nat_lt}
-use Rattle.ssh_model.specs.Side.{Side, Side.Client, Side.Server, peer}
-use Rattle.ssh_model.specs.Wire.Message.{Msg.KexInit, Proposal, IsPayload}
-use Rattle.ssh_model.specs.KeyExchange.Exchanges.{Material, Offer, Reply, nth, no_material, no_offer, has_marker}
-use Rattle.ssh_model.specs.Sessions.Parties.{Parties, settings_of, offer_of, marker_of, extension_marker_of}
-use Rattle.ssh_model.specs.Sessions.Items.{Payload.OtherOf}
-use Rattle.ssh_model.specs.Sessions.Epochs.{epoch}
-use Rattle.ssh_model.specs.Sessions.Phases.{Phase, Phase.Start, Phase.Guessed, Phase.Exchanging, Phase.Keying, Phase.Normal, is_wrong_guess}
-use Rattle.ssh_model.specs.TransportLayer.Directions.{SumsUp}
-use Rattle.ssh_model.specs.TransportLayer.Kept.{Transport, after_kexinit, after_own_kexinit, after_guess, after_fed, becomes_strict, first_kex, is_between, own_offer}
-use Rattle.ssh_model.specs.TransportLayer.Summary.{Live, PointsSumUp, bit, is_agreeing, is_keying, is_start, kept_after}
-use Rattle.ssh_model.specs.TransportLayer.View.{View}
+use Rattle.ssh_model.specs.Protocol.Side.{Side, Side.Client, Side.Server, peer}
+use Rattle.ssh_model.specs.Protocol.Wire.Message.{Msg.KexInit, Proposal, IsPayload}
+use Rattle.ssh_model.specs.Protocol.KeyExchange.Exchanges.{Material, Offer, Reply, nth, no_material, no_offer, has_marker}
+use Rattle.ssh_model.specs.Protocol.Sessions.Parties.{Parties, settings_of, offer_of, marker_of, extension_marker_of}
+use Rattle.ssh_model.specs.Protocol.Sessions.Items.{Payload.OtherOf}
+use Rattle.ssh_model.specs.Protocol.Sessions.Epochs.{epoch}
+use Rattle.ssh_model.specs.Protocol.Sessions.Phases.{Phase, Phase.Start, Phase.Guessed, Phase.Exchanging, Phase.Keying, Phase.Normal, is_wrong_guess}
+use Rattle.ssh_model.specs.State.TransportLayer.Directions.{SumsUp}
+use Rattle.ssh_model.specs.State.TransportLayer.Kept.{Transport, after_kexinit, after_own_kexinit, after_guess, after_fed, becomes_strict, first_kex, is_between, own_offer}
+use Rattle.ssh_model.specs.State.TransportLayer.Summary.{Live, PointsSumUp, bit, is_agreeing, is_keying, is_start, kept_after}
+use Rattle.ssh_model.specs.State.TransportLayer.View.{View}
 use Rattle.ssh_model.proofs.TransportLayer.Steps.{either_way, other_summed}
 use Rattle.ssh_model.proofs.TransportLayer.Underway.{nth_new, nth_old}
 

@@ -1,15 +1,15 @@
 -- Which numbers below 50 an end takes, by what its transport keeps.
 use Rattle.std.proofs.Common.{◌≡◌, ℕ, zero, suc, ◌<◌, ◌≤◌, List, refl, ap, sym, ◌∙◌, arith, Bool, true, false, not, ◌&&◌, ◌||◌, ◌==◌, eqb-true, nat_le, nat_lt, is_some}
 use Rattle.std.proofs.lemmas.Bool.{lt-leb}
-use Rattle.ssh_model.specs.Side.{Side, Side.Client, Side.Server, peer}
-use Rattle.ssh_model.specs.KeyExchange.Exchanges.{has_marker, first_taken, is_strict}
-use Rattle.ssh_model.specs.Sessions.Parties.{Parties, Settings, is_required, settings_of, marker_of, extension_marker_of}
-use Rattle.ssh_model.specs.Sessions.Items.{Item, took}
-use Rattle.ssh_model.specs.Sessions.Epochs.{epoch, count}
-use Rattle.ssh_model.specs.Sessions.Phases.{Phase, Phase.Start, Phase.Guessed, Phase.Exchanging, Phase.Keying, Phase.Normal, phase, may_take, may_take_in, may_take_service, may_take_extensions, is_allowed_at_first, is_allowed_during_exchange, awaited, is_general, is_normal, is_connection, is_spare, authenticated, sent_service_request, took_service_accept, took_success, outstanding}
-use Rattle.ssh_model.specs.TransportLayer.Kept.{Transport, takes, takes_in, takes_service, takes_announced, first_kex}
-use Rattle.ssh_model.specs.TransportLayer.Summary.{Live, SumsUp}
-use Rattle.ssh_model.specs.TransportLayer.View.{view, service_requested}
+use Rattle.ssh_model.specs.Protocol.Side.{Side, Side.Client, Side.Server, peer}
+use Rattle.ssh_model.specs.Protocol.KeyExchange.Exchanges.{has_marker, first_taken, is_strict}
+use Rattle.ssh_model.specs.Protocol.Sessions.Parties.{Parties, Settings, is_required, settings_of, marker_of, extension_marker_of}
+use Rattle.ssh_model.specs.Protocol.Sessions.Items.{Item, took}
+use Rattle.ssh_model.specs.Protocol.Sessions.Epochs.{epoch, count}
+use Rattle.ssh_model.specs.Protocol.Sessions.Phases.{Phase, Phase.Start, Phase.Guessed, Phase.Exchanging, Phase.Keying, Phase.Normal, phase, may_take, may_take_in, may_take_service, may_take_extensions, is_allowed_at_first, is_allowed_during_exchange, awaited, is_general, is_normal, is_connection, is_spare, authenticated, sent_service_request, took_service_accept, took_success, outstanding}
+use Rattle.ssh_model.specs.State.TransportLayer.Kept.{Transport, takes, takes_in, takes_service, takes_announced, first_kex}
+use Rattle.ssh_model.specs.State.TransportLayer.Summary.{Live, SumsUp}
+use Rattle.ssh_model.specs.State.TransportLayer.View.{view, service_requested}
 
 pub not_number : (n k : ℕ) → (n ≡ k → ⊥) → (n == k) ≡ false
 not_number n k d = go (n == k) refl

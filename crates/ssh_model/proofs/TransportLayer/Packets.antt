@@ -1,21 +1,21 @@
 -- What is put out by what a transport keeps is what a session puts out.
 use Rattle.std.proofs.Common.{◌≡◌, ℕ, ◌^◌, ◌<◌, ◌≤◌, List, [], ◌∷◌, ◌++◌, length, refl, ap, sym, ◌∙◌, subst, arith, Bool, true, ◌&&◌, None, Option, append-nil, append_assoc}
-use Rattle.ssh_model.specs.Side.{Side, peer}
-use Rattle.ssh_model.specs.Wire.Message.{Msg, Msg.KexInit, Msg.NewKeys, Proposal}
-use Rattle.ssh_model.specs.Wire.Sealing.{IsSealed}
-use Rattle.ssh_model.specs.KeyExchange.Exchanges.{Offer, no_offer, offers, exchanges, choices, first_sent, first_taken, has_marker, is_strict, sending_key, sending_number}
-use Rattle.ssh_model.specs.Sessions.Parties.{Parties, marker_of}
-use Rattle.ssh_model.specs.Sessions.Items.{Item, Item.Sent, Item.Took, Payload, Payload.OtherOf, Spelled, Spelled.SpelledBy, sent, messages_sent}
-use Rattle.ssh_model.specs.Sessions.Epochs.{epoch}
-use Rattle.ssh_model.specs.Sessions.Events.{PutsOut, PutsOut.packet as put_packet}
-use Rattle.ssh_model.specs.Sessions.Phases.{phase}
-use Rattle.ssh_model.specs.Sessions.Turns.{IsSpelled}
-use Rattle.ssh_model.specs.TransportLayer.Directions.{Direction, SumsUp, counted}
-use Rattle.ssh_model.specs.TransportLayer.Kept.{Transport, is_between}
-use Rattle.ssh_model.specs.TransportLayer.Summary.{Live, items_sent}
-use Rattle.ssh_model.specs.TransportLayer.Turns.{PutsPackets, PutOut, counted_by}
-use Rattle.ssh_model.specs.TransportLayer.Turns as turns
-use Rattle.ssh_model.specs.TransportLayer.View.{view, key_from}
+use Rattle.ssh_model.specs.Protocol.Side.{Side, peer}
+use Rattle.ssh_model.specs.Protocol.Wire.Message.{Msg, Msg.KexInit, Msg.NewKeys, Proposal}
+use Rattle.ssh_model.specs.Protocol.Wire.Sealing.{IsSealed}
+use Rattle.ssh_model.specs.Protocol.KeyExchange.Exchanges.{Offer, no_offer, offers, exchanges, choices, first_sent, first_taken, has_marker, is_strict, sending_key, sending_number}
+use Rattle.ssh_model.specs.Protocol.Sessions.Parties.{Parties, marker_of}
+use Rattle.ssh_model.specs.Protocol.Sessions.Items.{Item, Item.Sent, Item.Took, Payload, Payload.OtherOf, Spelled, Spelled.SpelledBy, sent, messages_sent}
+use Rattle.ssh_model.specs.Protocol.Sessions.Epochs.{epoch}
+use Rattle.ssh_model.specs.Protocol.Sessions.Events.{PutsOut, PutsOut.packet as put_packet}
+use Rattle.ssh_model.specs.Protocol.Sessions.Phases.{phase}
+use Rattle.ssh_model.specs.Protocol.Sessions.Turns.{IsSpelled}
+use Rattle.ssh_model.specs.State.TransportLayer.Directions.{Direction, SumsUp, counted}
+use Rattle.ssh_model.specs.State.TransportLayer.Kept.{Transport, is_between}
+use Rattle.ssh_model.specs.State.TransportLayer.Summary.{Live, items_sent}
+use Rattle.ssh_model.specs.State.TransportLayer.Turns.{PutsPackets, PutOut, counted_by}
+use Rattle.ssh_model.specs.State.TransportLayer.Turns as turns
+use Rattle.ssh_model.specs.State.TransportLayer.View.{view, key_from}
 use Rattle.ssh_model.proofs.TransportLayer.Kexinits as kexinits
 use Rattle.ssh_model.proofs.TransportLayer.Numbers.{strict_same}
 use Rattle.ssh_model.proofs.TransportLayer.Rows.{number_by}

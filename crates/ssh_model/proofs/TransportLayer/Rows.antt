@@ -2,22 +2,22 @@
 use Rattle.std.proofs.Common.{◌≡◌, ℕ, suc, ◌+◌, ◌%◌, ◌^◌, ◌<◌, List, [], ◌∷◌, ◌++◌, length, refl, ap, sym, ◌∙◌, subst, arith, Bool, true, false, ◌&&◌, ◌==◌, cond, Some, None}
 use Rattle.std.specs.Prelude.{nat_lt, take}
 use Rattle.std.proofs.Math.Nat.{mod-mod}
-use Rattle.ssh_model.specs.Side.{Side, Side.Client, Side.Server}
-use Rattle.ssh_model.specs.Wire.Message.{Msg, Msg.Ignore, Msg.Unimplemented, Msg.Debug, Msg.ServiceRequest, Msg.ServiceAccept, Msg.ExtInfo, Msg.KexInit, Msg.NewKeys, Msg.KexEcdhInit, Msg.KexEcdhReply, Msg.Unknown, Proposal, IsPayload}
-use Rattle.ssh_model.specs.KeyExchange.Choice.{Chosen}
-use Rattle.ssh_model.specs.KeyExchange.Exchange.{Inputs, exchange_hash}
-use Rattle.ssh_model.specs.KeyExchange.Exchanges.{Material, Reply, nth, no_material, fed, points, replies, choice, exchange, taking_number}
-use Rattle.ssh_model.specs.Sessions.Parties.{Parties, Settings, agreement_of, settings_of, offer, offer_of, point_by}
-use Rattle.ssh_model.specs.Sessions.Items.{Ask, Ask.AskService, Ask.AskRekey, Fact.Completed, Fact.Service, Item, Item.Sent, Item.Took, Item.TookGuess, Item.Told, Item.Asked, Item.Fed, Payload, Payload.NewkeysOf, Spelled, Payload.OtherOf, Spelled.SpelledBy, sent, took, messages_sent, messages_taken}
-use Rattle.ssh_model.specs.Sessions.Epochs.{epoch, count, wire_number}
-use Rattle.ssh_model.specs.Sessions.Phases.{Phase.Guessed, Phase.Exchanging, Phase.Keying, Phase.Normal, phase, blocked, is_wrong_guess}
-use Rattle.ssh_model.specs.Sessions.Transport.{TransportAnswer, CompletingAnswer, TransportAsk, IsAnnounced, announces, next_cookie, secret_now, reply_now, host_key_now, point_now}
-use Rattle.ssh_model.specs.Sessions.Transport as row
-use Rattle.ssh_model.specs.TransportLayer.Directions.{SumsUp as DirectionSumsUp, Direction, counted, renewed}
-use Rattle.ssh_model.specs.TransportLayer.Kept.{Answered, Announces, Asks, Completes, IsChosen, Takes, Transport, after_completion, after_fed, after_guess, after_kexinit, after_own_kexinit, after_sent, after_taken, inputs_with, is_announcing, is_between, own_offer, own_point, server_inputs, server_reply, tells, sends}
-use Rattle.ssh_model.specs.TransportLayer.Kept as kept
-use Rattle.ssh_model.specs.TransportLayer.Summary.{Accepts, Allows, Ends, Live, SumsUp, ClientPoints, items_sent, bit, is_agreeing, parts_of}
-use Rattle.ssh_model.specs.TransportLayer.View.{View, view}
+use Rattle.ssh_model.specs.Protocol.Side.{Side, Side.Client, Side.Server}
+use Rattle.ssh_model.specs.Protocol.Wire.Message.{Msg, Msg.Ignore, Msg.Unimplemented, Msg.Debug, Msg.ServiceRequest, Msg.ServiceAccept, Msg.ExtInfo, Msg.KexInit, Msg.NewKeys, Msg.KexEcdhInit, Msg.KexEcdhReply, Msg.Unknown, Proposal, IsPayload}
+use Rattle.ssh_model.specs.Protocol.KeyExchange.Choice.{Chosen}
+use Rattle.ssh_model.specs.Protocol.KeyExchange.Exchange.{Inputs, exchange_hash}
+use Rattle.ssh_model.specs.Protocol.KeyExchange.Exchanges.{Material, Reply, nth, no_material, fed, points, replies, choice, exchange, taking_number}
+use Rattle.ssh_model.specs.Protocol.Sessions.Parties.{Parties, Settings, agreement_of, settings_of, offer, offer_of, point_by}
+use Rattle.ssh_model.specs.Protocol.Sessions.Items.{Ask, Ask.AskService, Ask.AskRekey, Fact.Completed, Fact.Service, Item, Item.Sent, Item.Took, Item.TookGuess, Item.Told, Item.Asked, Item.Fed, Payload, Payload.NewkeysOf, Spelled, Payload.OtherOf, Spelled.SpelledBy, sent, took, messages_sent, messages_taken}
+use Rattle.ssh_model.specs.Protocol.Sessions.Epochs.{epoch, count, wire_number}
+use Rattle.ssh_model.specs.Protocol.Sessions.Phases.{Phase.Guessed, Phase.Exchanging, Phase.Keying, Phase.Normal, phase, blocked, is_wrong_guess}
+use Rattle.ssh_model.specs.Protocol.Sessions.Transport.{TransportAnswer, CompletingAnswer, TransportAsk, IsAnnounced, announces, next_cookie, secret_now, reply_now, host_key_now, point_now}
+use Rattle.ssh_model.specs.Protocol.Sessions.Transport as row
+use Rattle.ssh_model.specs.State.TransportLayer.Directions.{SumsUp as DirectionSumsUp, Direction, counted, renewed}
+use Rattle.ssh_model.specs.State.TransportLayer.Kept.{Answered, Announces, Asks, Completes, IsChosen, Takes, Transport, after_completion, after_fed, after_guess, after_kexinit, after_own_kexinit, after_sent, after_taken, inputs_with, is_announcing, is_between, own_offer, own_point, server_inputs, server_reply, tells, sends}
+use Rattle.ssh_model.specs.State.TransportLayer.Kept as kept
+use Rattle.ssh_model.specs.State.TransportLayer.Summary.{Accepts, Allows, Ends, Live, SumsUp, ClientPoints, items_sent, bit, is_agreeing, parts_of}
+use Rattle.ssh_model.specs.State.TransportLayer.View.{View, view}
 use Rattle.ssh_model.proofs.TransportLayer.Completing.{completed_live, newkeys_live}
 use Rattle.ssh_model.proofs.TransportLayer.Items as items
 use Rattle.ssh_model.proofs.TransportLayer.Kexinits.{agreeing_then, fed_live, free_count, guess_live, kept_is, kexinit_live, not_agreeing, own_kexinit_live}

@@ -1,13 +1,13 @@
 -- The secret of an exchange that is over matters no more.
 use Rattle.std.proofs.Common.{◌≡◌, ℕ, List, true, false}
-use Rattle.ssh_model.specs.Side.{Side, Side.Client, Side.Server}
-use Rattle.ssh_model.specs.KeyExchange.Exchanges.{Reply}
-use Rattle.ssh_model.specs.Sessions.Parties.{Parties}
-use Rattle.ssh_model.specs.Sessions.Items.{Item}
-use Rattle.ssh_model.specs.Sessions.Phases.{Phase}
-use Rattle.ssh_model.specs.TransportLayer.Kept.{Transport, after_wiping}
-use Rattle.ssh_model.specs.TransportLayer.Summary.{Live, SumsUp, PointsSumUp, is_agreeing}
-use Rattle.ssh_model.specs.TransportLayer.View.{View, view}
+use Rattle.ssh_model.specs.Protocol.Side.{Side, Side.Client, Side.Server}
+use Rattle.ssh_model.specs.Protocol.KeyExchange.Exchanges.{Reply}
+use Rattle.ssh_model.specs.Protocol.Sessions.Parties.{Parties}
+use Rattle.ssh_model.specs.Protocol.Sessions.Items.{Item}
+use Rattle.ssh_model.specs.Protocol.Sessions.Phases.{Phase}
+use Rattle.ssh_model.specs.State.TransportLayer.Kept.{Transport, after_wiping}
+use Rattle.ssh_model.specs.State.TransportLayer.Summary.{Live, SumsUp, PointsSumUp, is_agreeing}
+use Rattle.ssh_model.specs.State.TransportLayer.View.{View, view}
 
 module _ {K : Type 0} (p : Parties K) where
   points_same : (side : Side) (gone : ℕ) (phase : Phase) (own theirs : List (List ℕ)) (ours replies : List Reply) (one other : List ℕ) → (is_agreeing phase ≡ true → ⊥) → PointsSumUp p side gone phase own theirs ours replies one → PointsSumUp p side gone phase own theirs ours replies other

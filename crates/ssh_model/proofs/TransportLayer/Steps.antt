@@ -1,14 +1,14 @@
 -- What is kept goes on summing up a view with each item that is no row of its own.
 use Rattle.std.proofs.Common.{◌≡◌, ℕ, suc, ◌+◌, ◌%◌, ◌^◌, List, [], ◌∷◌, length, refl, ap, sym, ◌∙◌, arith, Bool, true, false}
 use Rattle.std.proofs.Math.Nat.{mod-mod}
-use Rattle.ssh_model.specs.Side.{Side}
-use Rattle.ssh_model.specs.Sessions.Parties.{Parties}
-use Rattle.ssh_model.specs.Sessions.Items.{Payload, Payload.OtherOf, Payload.NewkeysOf}
-use Rattle.ssh_model.specs.Sessions.Epochs.{count, epoch, wire_number}
-use Rattle.ssh_model.specs.TransportLayer.Directions.{Direction, SumsUp, counted, renewed, new_direction}
-use Rattle.ssh_model.specs.TransportLayer.Kept.{Transport, after_sent, after_taken, after_other_line, after_line}
-use Rattle.ssh_model.specs.TransportLayer.Summary.{Live}
-use Rattle.ssh_model.specs.TransportLayer.View.{View}
+use Rattle.ssh_model.specs.Protocol.Side.{Side}
+use Rattle.ssh_model.specs.Protocol.Sessions.Parties.{Parties}
+use Rattle.ssh_model.specs.Protocol.Sessions.Items.{Payload, Payload.OtherOf, Payload.NewkeysOf}
+use Rattle.ssh_model.specs.Protocol.Sessions.Epochs.{count, epoch, wire_number}
+use Rattle.ssh_model.specs.State.TransportLayer.Directions.{Direction, SumsUp, counted, renewed, new_direction}
+use Rattle.ssh_model.specs.State.TransportLayer.Kept.{Transport, after_sent, after_taken, after_other_line, after_line}
+use Rattle.ssh_model.specs.State.TransportLayer.Summary.{Live}
+use Rattle.ssh_model.specs.State.TransportLayer.View.{View}
 
 -- ---- directions
 

@@ -1,23 +1,23 @@
 -- What a transport does with a payload, by what it keeps, is a turn of a session.
 use Rattle.std.proofs.Common.{◌≡◌, ℕ, suc, ◌+◌, ◌^◌, ◌<◌, ◌≤◌, List, [], ◌∷◌, ◌++◌, length, refl, ap, sym, ◌∙◌, subst, arith, Bool, true, false, not, ◌==◌, if◌then◌else◌, IsTrue, Some, None, Option, append-nil, append_assoc}
-use Rattle.ssh_model.specs.Side.{Side}
-use Rattle.ssh_model.specs.Wire.Message.{Msg, Msg.Disconnect, Msg.NewKeys, Msg.UserauthPkOk, Msg.Unknown, IsPayload, FitsContext, is_known, message_number}
-use Rattle.ssh_model.specs.KeyExchange.Choice.{Chosen}
-use Rattle.ssh_model.specs.KeyExchange.Exchanges.{offers}
-use Rattle.ssh_model.specs.Sessions.Refusals.{Refusal, Refusal.NumberSpent, first_refusal, refusal_name}
-use Rattle.ssh_model.specs.Sessions.Parties.{Parties, agreement_of}
-use Rattle.ssh_model.specs.Sessions.Items.{Fact, Fact.Disconnected, Fact.Ignored, Item, Item.Sent, Item.Took, Item.TookGuess, Item.Told, Item.Refused, Item.Died, Spelled, Spelled.SpelledBy, sent, messages_sent}
-use Rattle.ssh_model.specs.Sessions.Epochs.{count}
-use Rattle.ssh_model.specs.Sessions.Events.{PutsOut, PutsOut.other as put_other}
-use Rattle.ssh_model.specs.Sessions.Phases.{Phase.Guessed, is_normal, probing}
-use Rattle.ssh_model.specs.Sessions.Transport as row
-use Rattle.ssh_model.specs.Sessions.Turns as session
-use Rattle.ssh_model.specs.Sessions.Turns.{AreNumbered, AreSpelled, IsSpelled, OnPayload, Welcomes, answer_checks, number_of}
-use Rattle.ssh_model.specs.TransportLayer.Kept.{Answered, Completes, Takes, Transport, is_between, message_checks, takes}
-use Rattle.ssh_model.specs.TransportLayer.Kept as kept
-use Rattle.ssh_model.specs.TransportLayer.Summary.{IsAwaited, SumsUp, answer_items, items_sent, told_over}
-use Rattle.ssh_model.specs.TransportLayer.Turns as turns
-use Rattle.ssh_model.specs.TransportLayer.Turns.{EndedBy, IsRefused, PutOut, PutsPackets, Reads, SaysWhy, Turned, UnitRefused, counted_by, refusal_items}
+use Rattle.ssh_model.specs.Protocol.Side.{Side}
+use Rattle.ssh_model.specs.Protocol.Wire.Message.{Msg, Msg.Disconnect, Msg.NewKeys, Msg.UserauthPkOk, Msg.Unknown, IsPayload, FitsContext, is_known, message_number}
+use Rattle.ssh_model.specs.Protocol.KeyExchange.Choice.{Chosen}
+use Rattle.ssh_model.specs.Protocol.KeyExchange.Exchanges.{offers}
+use Rattle.ssh_model.specs.Protocol.Sessions.Refusals.{Refusal, Refusal.NumberSpent, first_refusal, refusal_name}
+use Rattle.ssh_model.specs.Protocol.Sessions.Parties.{Parties, agreement_of}
+use Rattle.ssh_model.specs.Protocol.Sessions.Items.{Fact, Fact.Disconnected, Fact.Ignored, Item, Item.Sent, Item.Took, Item.TookGuess, Item.Told, Item.Refused, Item.Died, Spelled, Spelled.SpelledBy, sent, messages_sent}
+use Rattle.ssh_model.specs.Protocol.Sessions.Epochs.{count}
+use Rattle.ssh_model.specs.Protocol.Sessions.Events.{PutsOut, PutsOut.other as put_other}
+use Rattle.ssh_model.specs.Protocol.Sessions.Phases.{Phase.Guessed, is_normal, probing}
+use Rattle.ssh_model.specs.Protocol.Sessions.Transport as row
+use Rattle.ssh_model.specs.Protocol.Sessions.Turns as session
+use Rattle.ssh_model.specs.Protocol.Sessions.Turns.{AreNumbered, AreSpelled, IsSpelled, OnPayload, Welcomes, answer_checks, number_of}
+use Rattle.ssh_model.specs.State.TransportLayer.Kept.{Answered, Completes, Takes, Transport, is_between, message_checks, takes}
+use Rattle.ssh_model.specs.State.TransportLayer.Kept as kept
+use Rattle.ssh_model.specs.State.TransportLayer.Summary.{IsAwaited, SumsUp, answer_items, items_sent, told_over}
+use Rattle.ssh_model.specs.State.TransportLayer.Turns as turns
+use Rattle.ssh_model.specs.State.TransportLayer.Turns.{EndedBy, IsRefused, PutOut, PutsPackets, Reads, SaysWhy, Turned, UnitRefused, counted_by, refusal_items}
 use Rattle.ssh_model.proofs.TransportLayer.Checks.{messages_same}
 use Rattle.ssh_model.proofs.TransportLayer.Items as items
 use Rattle.ssh_model.proofs.TransportLayer.Numbers.{above_in_exchange, not_number, numbers_are}

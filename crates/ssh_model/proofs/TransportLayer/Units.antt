@@ -1,19 +1,19 @@
 -- The units of the stream of an end, by what its transport keeps.
 use Rattle.std.proofs.Common.{◌≡◌, ℕ, ◌^◌, ◌<◌, List, ap, sym, ◌∙◌, subst, true, false, Option}
-use Rattle.ssh_model.specs.Side.{Side}
-use Rattle.ssh_model.specs.Wire.Sealing.{Crypto}
-use Rattle.ssh_model.specs.Wire.Line.{LineUnit}
-use Rattle.ssh_model.specs.Wire.Outcome.{Outcome}
-use Rattle.ssh_model.specs.Wire.Unit.{IsUnit, PacketUnit, Stage}
-use Rattle.ssh_model.specs.Wire.Unit as unit
-use Rattle.ssh_model.specs.KeyExchange.Exchanges.{taking_key, taking_number}
-use Rattle.ssh_model.specs.Sessions.Parties.{Parties}
-use Rattle.ssh_model.specs.Sessions.Items.{Item, took}
-use Rattle.ssh_model.specs.Sessions.Epochs.{count, epoch}
-use Rattle.ssh_model.specs.Sessions.Phases.{is_client, has_line, other_lines}
-use Rattle.ssh_model.specs.Sessions.Turns.{stage, stage_after}
-use Rattle.ssh_model.specs.TransportLayer.Kept.{Transport}
-use Rattle.ssh_model.specs.TransportLayer.Summary.{SumsUp}
+use Rattle.ssh_model.specs.Protocol.Side.{Side}
+use Rattle.ssh_model.specs.Protocol.Wire.Sealing.{Crypto}
+use Rattle.ssh_model.specs.Protocol.Wire.Line.{LineUnit}
+use Rattle.ssh_model.specs.Protocol.Wire.Outcome.{Outcome}
+use Rattle.ssh_model.specs.Protocol.Wire.Unit.{IsUnit, PacketUnit, Stage}
+use Rattle.ssh_model.specs.Protocol.Wire.Unit as unit
+use Rattle.ssh_model.specs.Protocol.KeyExchange.Exchanges.{taking_key, taking_number}
+use Rattle.ssh_model.specs.Protocol.Sessions.Parties.{Parties}
+use Rattle.ssh_model.specs.Protocol.Sessions.Items.{Item, took}
+use Rattle.ssh_model.specs.Protocol.Sessions.Epochs.{count, epoch}
+use Rattle.ssh_model.specs.Protocol.Sessions.Phases.{is_client, has_line, other_lines}
+use Rattle.ssh_model.specs.Protocol.Sessions.Turns.{stage, stage_after}
+use Rattle.ssh_model.specs.State.TransportLayer.Kept.{Transport}
+use Rattle.ssh_model.specs.State.TransportLayer.Summary.{SumsUp}
 use Rattle.ssh_model.proofs.TransportLayer.Rows.{taking_number_is}
 use Rattle.ssh_model.proofs.TransportLayer.Views.{key_same}
 

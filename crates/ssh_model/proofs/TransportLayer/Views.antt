@@ -1,12 +1,12 @@
 -- What each item makes of the view of a history.
 use Rattle.std.proofs.Common.{◌≡◌, ℕ, zero, suc, List, ◌∷◌, refl, Option}
-use Rattle.ssh_model.specs.Side.{Side, Side.Client, Side.Server}
-use Rattle.ssh_model.specs.Wire.Message.{Msg, Msg.KexInit, Msg.NewKeys, Msg.KexEcdhInit, Msg.KexEcdhReply, Msg.ServiceRequest, Msg.ServiceAccept, Msg.UserauthSuccess}
-use Rattle.ssh_model.specs.KeyExchange.Exchanges.{choice, choices, exchange, exchanges, key_in}
-use Rattle.ssh_model.specs.Sessions.Parties.{Parties}
-use Rattle.ssh_model.specs.Sessions.Items.{Item, Item.Sent, Item.Took, Item.Told, Item.Asked, Item.AskRefused, Payload.OtherOf, has_died}
-use Rattle.ssh_model.specs.TransportLayer.Summary.{IsPlain, LeavesTransport}
-use Rattle.ssh_model.specs.TransportLayer.View.{view, exchange_in, choice_in, key_from}
+use Rattle.ssh_model.specs.Protocol.Side.{Side, Side.Client, Side.Server}
+use Rattle.ssh_model.specs.Protocol.Wire.Message.{Msg, Msg.KexInit, Msg.NewKeys, Msg.KexEcdhInit, Msg.KexEcdhReply, Msg.ServiceRequest, Msg.ServiceAccept, Msg.UserauthSuccess}
+use Rattle.ssh_model.specs.Protocol.KeyExchange.Exchanges.{choice, choices, exchange, exchanges, key_in}
+use Rattle.ssh_model.specs.Protocol.Sessions.Parties.{Parties}
+use Rattle.ssh_model.specs.Protocol.Sessions.Items.{Item, Item.Sent, Item.Took, Item.Told, Item.Asked, Item.AskRefused, Payload.OtherOf, has_died}
+use Rattle.ssh_model.specs.State.TransportLayer.Summary.{IsPlain, LeavesTransport}
+use Rattle.ssh_model.specs.State.TransportLayer.View.{view, exchange_in, choice_in, key_from}
 
 module _ {K : Type 0} (p : Parties K) where
   pub plain_sent : (side : Side) (h : List Item) (c : Option ℕ) (m : Msg) (b : List ℕ) → IsPlain m → view p side (Sent c m b ∷ h) ≡ record (view p side h) { sent = OtherOf b ∷ (view p side h).sent }

@@ -1,27 +1,27 @@
 -- What an end takes and refuses of payloads from 50 on, by what it keeps, is what a session takes and refuses.
 use Rattle.std.proofs.Common.{◌≡◌, ℕ, zero, suc, ◌<◌, ◌≤◌, List, [], ◌∷◌, ◌++◌, refl, ap, sym, ◌∙◌, subst, arith, cond, Bool, true, false, not, ◌&&◌, ◌||◌, ◌==◌, eqb-true, nat_le, is_some, Option, Some, None, nat_lt, unwrap_or}
 use Rattle.std.proofs.lemmas.Bool.{lt-leb, le-leb, le-ltb, ltb-true, ltb-false}
-use Rattle.ssh_model.specs.Side.{Side, Side.Client, Side.Server}
-use Rattle.ssh_model.specs.Wire.Message.{Msg, Msg.ServiceRequest, Msg.ServiceAccept, Msg.KexInit, Msg.KexEcdhInit, Msg.KexEcdhReply, Msg.UserauthRequest, IsPayload, message_number}
-use Rattle.ssh_model.specs.KeyExchange.Exchanges.{exchanges, session_id}
-use Rattle.ssh_model.specs.Sessions.Refusals.{Check, Check.RefusedWhere, Refusal, first_refusal}
-use Rattle.ssh_model.specs.Sessions.Parties.{AreLawful, Parties, is_required, settings_of}
-use Rattle.ssh_model.specs.Sessions.Items.{Item, sent, took}
-use Rattle.ssh_model.specs.Sessions.Epochs.{epoch}
-use Rattle.ssh_model.specs.Sessions.Phases.{Phase, Phase.Guessed, Phase.Normal, phase, may_take, may_take_in, may_take_normally, may_take_service, authenticated, probing, is_probe, outstanding, sent_service_request, took_service_accept, took_success, is_connection, is_spare, is_general, may_take_extensions}
-use Rattle.ssh_model.specs.Sessions.Transport.{transport_checks}
-use Rattle.ssh_model.specs.Sessions.Turns.{EndRun, Welcomes, answer_checks, number_of}
-use Rattle.ssh_model.specs.Authentication.Rows.{authentication_checks}
-use Rattle.ssh_model.specs.Authentication.Kept.{client_takes}
-use Rattle.ssh_model.specs.Authentication.Kept as kept
-use Rattle.ssh_model.specs.Channels.Connection.{connection_checks}
-use Rattle.ssh_model.specs.Channels.Kept.{Channels, take_checks}
-use Rattle.ssh_model.specs.TransportLayer.Kept.{Transport}
-use Rattle.ssh_model.specs.TransportLayer.Summary.{Live, session_after}
-use Rattle.ssh_model.specs.TransportLayer.View.{view}
-use Rattle.ssh_model.specs.End.State.{Authentication, Authentication.OfServer, Authentication.OfClient, EndState, above_checks, authentication_refuses, probes, session_of, takes_above, takes_authentication}
-use Rattle.ssh_model.specs.End.Summary.{AuthenticationSumsUp, EndSumsUp}
-use Rattle.ssh_model.specs.End.Payloads.{ReadsAbove}
+use Rattle.ssh_model.specs.Protocol.Side.{Side, Side.Client, Side.Server}
+use Rattle.ssh_model.specs.Protocol.Wire.Message.{Msg, Msg.ServiceRequest, Msg.ServiceAccept, Msg.KexInit, Msg.KexEcdhInit, Msg.KexEcdhReply, Msg.UserauthRequest, IsPayload, message_number}
+use Rattle.ssh_model.specs.Protocol.KeyExchange.Exchanges.{exchanges, session_id}
+use Rattle.ssh_model.specs.Protocol.Sessions.Refusals.{Check, Check.RefusedWhere, Refusal, first_refusal}
+use Rattle.ssh_model.specs.Protocol.Sessions.Parties.{AreLawful, Parties, is_required, settings_of}
+use Rattle.ssh_model.specs.Protocol.Sessions.Items.{Item, sent, took}
+use Rattle.ssh_model.specs.Protocol.Sessions.Epochs.{epoch}
+use Rattle.ssh_model.specs.Protocol.Sessions.Phases.{Phase, Phase.Guessed, Phase.Normal, phase, may_take, may_take_in, may_take_normally, may_take_service, authenticated, probing, is_probe, outstanding, sent_service_request, took_service_accept, took_success, is_connection, is_spare, is_general, may_take_extensions}
+use Rattle.ssh_model.specs.Protocol.Sessions.Transport.{transport_checks}
+use Rattle.ssh_model.specs.Protocol.Sessions.Turns.{EndRun, Welcomes, answer_checks, number_of}
+use Rattle.ssh_model.specs.Protocol.Authentication.Rows.{authentication_checks}
+use Rattle.ssh_model.specs.State.Authentication.Kept.{client_takes}
+use Rattle.ssh_model.specs.State.Authentication.Kept as kept
+use Rattle.ssh_model.specs.Protocol.Channels.Connection.{connection_checks}
+use Rattle.ssh_model.specs.State.Channels.Kept.{Channels, take_checks}
+use Rattle.ssh_model.specs.State.TransportLayer.Kept.{Transport}
+use Rattle.ssh_model.specs.State.TransportLayer.Summary.{Live, session_after}
+use Rattle.ssh_model.specs.State.TransportLayer.View.{view}
+use Rattle.ssh_model.specs.State.End.State.{Authentication, Authentication.OfServer, Authentication.OfClient, EndState, above_checks, authentication_refuses, probes, session_of, takes_above, takes_authentication}
+use Rattle.ssh_model.specs.State.End.Summary.{AuthenticationSumsUp, EndSumsUp}
+use Rattle.ssh_model.specs.State.End.Payloads.{ReadsAbove}
 use Rattle.ssh_model.proofs.Authentication.Numbers.{server_number, client_number}
 use Rattle.ssh_model.proofs.Authentication.Rows.{server_refused, probing_is}
 use Rattle.ssh_model.proofs.Channels.Checking.{checked}

@@ -2,29 +2,29 @@
 use Rattle.std.proofs.Common.{◌≡◌, ℕ, ◌<◌, ◌^◌, List, [], ◌∷◌, ◌++◌, sym, ◌∙◌, subst, Bool, false, Option, Some, None, not, ◌&&◌, nat_le, ◌≤◌, length, true, arith, refl}
 use Rattle.std.proofs.lemmas.Bool.{leb-false}
 use Rattle.std.proofs.lemmas.List.{length-append}
-use Rattle.ssh_model.specs.Side.{Side, Side.Client, Side.Server}
-use Rattle.ssh_model.specs.Wire.Message.{Msg, Msg.ServiceRequest, Msg.ServiceAccept, Msg.KexInit, Msg.NewKeys, Msg.KexEcdhInit, Msg.KexEcdhReply, Msg.UserauthRequest, Msg.UserauthFailure, Msg.UserauthSuccess, Msg.UserauthPkOk, Msg.Unimplemented, Msg.Unknown, Msg.GlobalRequest, Msg.RequestSuccess, Msg.RequestFailure, Msg.ChannelOpen, Msg.ChannelOpenConfirmation, Msg.ChannelOpenFailure, Msg.ChannelWindowAdjust, Msg.ChannelData, Msg.ChannelExtendedData, Msg.ChannelEof, Msg.ChannelClose, Msg.ChannelRequest, Msg.ChannelSuccess, Msg.ChannelFailure}
-use Rattle.ssh_model.specs.KeyExchange.Exchanges.{exchanges, session_id}
-use Rattle.ssh_model.specs.Sessions.Refusals.{Check, Check.RefusedWhere, Refusal.OwedFull, first_refusal, Refusal.UnknownChannel}
-use Rattle.ssh_model.specs.Sessions.Parties.{Parties}
-use Rattle.ssh_model.specs.Sessions.Items.{Fact, Item, Item.Sent, Item.Took, Item.Told}
-use Rattle.ssh_model.specs.Sessions.Transport as transport_row
-use Rattle.ssh_model.specs.Sessions.Turns.{Answer, Answer.of_transport, Answer.of_authentication, Answer.of_connection}
-use Rattle.ssh_model.specs.Authentication.Requests.{judge_of}
-use Rattle.ssh_model.specs.Authentication.Kept as kept
-use Rattle.ssh_model.specs.Authentication.Kept.{ServerTakes, ClientTakes}
-use Rattle.ssh_model.specs.Authentication.Summary.{ServerAccepts, items_of}
-use Rattle.ssh_model.specs.Channels.Message.{Message.OpenFailure, Message.Close}
-use Rattle.ssh_model.specs.Channels.Connection.{AreReplies, owed_replies}
-use Rattle.ssh_model.specs.Channels.Connection as connection
-use Rattle.ssh_model.specs.Channels.Kept.{Channels, DueReply, DueReply.RefusesOpen, DueReply.AnswersClose, Taken, take_checks, close_taken, has_said_close, is_queue_full, is_table_full, owed_where, peer_of}
-use Rattle.ssh_model.specs.Channels.Kept as channels
-use Rattle.ssh_model.specs.Channels.Places.{at, is_at, is_open}
-use Rattle.ssh_model.specs.Channels.Summary.{replied, told}
-use Rattle.ssh_model.specs.End.State.{Authentication, Authentication.OfServer, Authentication.OfClient, EndState, above_checks, authentication_refuses, session_of}
-use Rattle.ssh_model.specs.End.Summary.{AuthenticationSumsUp, AboveSumsUp, EndSumsUp, ServerKeeps}
-use Rattle.ssh_model.specs.End.Payloads.{AnswersAbove, ReadsAbove, reply_items}
-use Rattle.ssh_model.specs.End.Payloads as end
+use Rattle.ssh_model.specs.Protocol.Side.{Side, Side.Client, Side.Server}
+use Rattle.ssh_model.specs.Protocol.Wire.Message.{Msg, Msg.ServiceRequest, Msg.ServiceAccept, Msg.KexInit, Msg.NewKeys, Msg.KexEcdhInit, Msg.KexEcdhReply, Msg.UserauthRequest, Msg.UserauthFailure, Msg.UserauthSuccess, Msg.UserauthPkOk, Msg.Unimplemented, Msg.Unknown, Msg.GlobalRequest, Msg.RequestSuccess, Msg.RequestFailure, Msg.ChannelOpen, Msg.ChannelOpenConfirmation, Msg.ChannelOpenFailure, Msg.ChannelWindowAdjust, Msg.ChannelData, Msg.ChannelExtendedData, Msg.ChannelEof, Msg.ChannelClose, Msg.ChannelRequest, Msg.ChannelSuccess, Msg.ChannelFailure}
+use Rattle.ssh_model.specs.Protocol.KeyExchange.Exchanges.{exchanges, session_id}
+use Rattle.ssh_model.specs.Protocol.Sessions.Refusals.{Check, Check.RefusedWhere, Refusal.OwedFull, first_refusal, Refusal.UnknownChannel}
+use Rattle.ssh_model.specs.Protocol.Sessions.Parties.{Parties}
+use Rattle.ssh_model.specs.Protocol.Sessions.Items.{Fact, Item, Item.Sent, Item.Took, Item.Told}
+use Rattle.ssh_model.specs.Protocol.Sessions.Transport as transport_row
+use Rattle.ssh_model.specs.Protocol.Sessions.Turns.{Answer, Answer.of_transport, Answer.of_authentication, Answer.of_connection}
+use Rattle.ssh_model.specs.Protocol.Authentication.Requests.{judge_of}
+use Rattle.ssh_model.specs.State.Authentication.Kept as kept
+use Rattle.ssh_model.specs.State.Authentication.Kept.{ServerTakes, ClientTakes}
+use Rattle.ssh_model.specs.State.Authentication.Summary.{ServerAccepts, items_of}
+use Rattle.ssh_model.specs.Protocol.Channels.Message.{Message.OpenFailure, Message.Close}
+use Rattle.ssh_model.specs.Protocol.Channels.Connection.{AreReplies, owed_replies}
+use Rattle.ssh_model.specs.Protocol.Channels.Connection as connection
+use Rattle.ssh_model.specs.State.Channels.Kept.{Channels, DueReply, DueReply.RefusesOpen, DueReply.AnswersClose, Taken, take_checks, close_taken, has_said_close, is_queue_full, is_table_full, owed_where, peer_of}
+use Rattle.ssh_model.specs.State.Channels.Kept as channels
+use Rattle.ssh_model.specs.State.Channels.Places.{at, is_at, is_open}
+use Rattle.ssh_model.specs.State.Channels.Summary.{replied, told}
+use Rattle.ssh_model.specs.State.End.State.{Authentication, Authentication.OfServer, Authentication.OfClient, EndState, above_checks, authentication_refuses, session_of}
+use Rattle.ssh_model.specs.State.End.Summary.{AuthenticationSumsUp, AboveSumsUp, EndSumsUp, ServerKeeps}
+use Rattle.ssh_model.specs.State.End.Payloads.{AnswersAbove, ReadsAbove, reply_items}
+use Rattle.ssh_model.specs.State.End.Payloads as end
 use Rattle.ssh_model.proofs.Authentication.Rows.{server_accepted, client_accepted}
 use Rattle.ssh_model.proofs.Channels.Replying.{accepted}
 use Rattle.ssh_model.proofs.WholeEnd.Above.{either, first_behind, session_now}

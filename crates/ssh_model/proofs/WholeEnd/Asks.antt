@@ -1,36 +1,36 @@
 -- What an end makes of an ask, by what it keeps, is a turn of a session.
 use Rattle.std.proofs.Common.{◌≡◌, ℕ, zero, suc, ◌^◌, ◌<◌, List, [], ◌∷◌, ◌++◌, length, refl, ap, sym, ◌∙◌, subst, arith, cond, Bool, true, false, not, nat_le, Option, Some, None, append-nil, append_assoc, ◌≤◌}
-use Rattle.ssh_model.specs.Side.{Side, Side.Client, Side.Server}
-use Rattle.ssh_model.specs.Wire.Message.{Msg, Msg.ServiceRequest, Msg.KexInit, Msg.KexEcdhInit, Msg.KexEcdhReply, Msg.NewKeys, Msg.UserauthRequest, Msg.UserauthSuccess, Msg.ServiceAccept, Msg.UserauthFailure, Msg.Disconnect}
-use Rattle.ssh_model.specs.KeyExchange.Exchange.{Inputs}
-use Rattle.ssh_model.specs.KeyExchange.Exchanges.{exchanges, session_id}
-use Rattle.ssh_model.specs.Sessions.Refusals.{AskRefusal, AskRefusal.NotYet, Check, Refusal.NumberSpent, first_refusal}
-use Rattle.ssh_model.specs.Sessions.Parties.{Parties, settings_of, user_signature_by}
-use Rattle.ssh_model.specs.Sessions.Items.{Ask, Ask.AskNone, Ask.AskPassword, Ask.AskProbe, Ask.AskSign, Ask.AskOpen, Ask.AskConfirm, Ask.AskRefuse, Ask.AskData, Ask.AskAdjust, Ask.AskEof, Ask.AskClose, Ask.AskRequest, Ask.AskReply, Ask.AskGlobal, Ask.AskGlobalReply, Ask.AskDisconnect, Fact, Item, Item.Sent, Item.Told, Item.Asked, Item.AskRefused, Item.Refused, Item.Died, sent, messages_sent, has_died}
-use Rattle.ssh_model.specs.Sessions.Epochs.{count, epoch}
-use Rattle.ssh_model.specs.Sessions.Events.{PutsOut, PutsOut.other as put_other}
-use Rattle.ssh_model.specs.Sessions.Phases.{authenticated, blocked}
-use Rattle.ssh_model.specs.Sessions.Turns as turn
-use Rattle.ssh_model.specs.Sessions.Turns.{AreNumbered, AreSpelled, AsksTurn, IsSpelled, OnAsk, ask_checks}
-use Rattle.ssh_model.specs.Sessions.Transport.{transport_ask_checks}
-use Rattle.ssh_model.specs.Sessions.Transport as transport_row
-use Rattle.ssh_model.specs.Authentication.Rows.{authentication_ask_checks}
-use Rattle.ssh_model.specs.Authentication.Kept as kept
-use Rattle.ssh_model.specs.Authentication.Kept.{ClientSends}
-use Rattle.ssh_model.specs.Authentication.Summary.{LeavesServer, LeavesClient}
-use Rattle.ssh_model.specs.Channels.Connection.{after_authentication, channel_ask_checks, connection_ask_checks, is_rekey_due}
-use Rattle.ssh_model.specs.Channels.Kept as channels
-use Rattle.ssh_model.specs.Channels.Kept.{Channels, Sends, send_checks}
-use Rattle.ssh_model.specs.Channels.Summary.{told}
-use Rattle.ssh_model.specs.TransportLayer.Kept.{Asks, Transport, message_ask_checks}
-use Rattle.ssh_model.specs.TransportLayer.Kept as transport
-use Rattle.ssh_model.specs.TransportLayer.Summary.{Live, session_after}
-use Rattle.ssh_model.specs.TransportLayer.Turns.{AskTurned, PutsPackets}
-use Rattle.ssh_model.specs.TransportLayer.View.{view}
-use Rattle.ssh_model.specs.End.State.{Authentication, Authentication.OfServer, Authentication.OfClient, EndState, after_items, is_due}
-use Rattle.ssh_model.specs.End.Summary.{AuthenticationSumsUp, AboveSumsUp, EndSumsUp, EndTurned}
-use Rattle.ssh_model.specs.End.Asks.{AsksAbove, TakesAsk, authentication_asks, end_ask_checks}
-use Rattle.ssh_model.specs.End.Asks as end
+use Rattle.ssh_model.specs.Protocol.Side.{Side, Side.Client, Side.Server}
+use Rattle.ssh_model.specs.Protocol.Wire.Message.{Msg, Msg.ServiceRequest, Msg.KexInit, Msg.KexEcdhInit, Msg.KexEcdhReply, Msg.NewKeys, Msg.UserauthRequest, Msg.UserauthSuccess, Msg.ServiceAccept, Msg.UserauthFailure, Msg.Disconnect}
+use Rattle.ssh_model.specs.Protocol.KeyExchange.Exchange.{Inputs}
+use Rattle.ssh_model.specs.Protocol.KeyExchange.Exchanges.{exchanges, session_id}
+use Rattle.ssh_model.specs.Protocol.Sessions.Refusals.{AskRefusal, AskRefusal.NotYet, Check, Refusal.NumberSpent, first_refusal}
+use Rattle.ssh_model.specs.Protocol.Sessions.Parties.{Parties, settings_of, user_signature_by}
+use Rattle.ssh_model.specs.Protocol.Sessions.Items.{Ask, Ask.AskNone, Ask.AskPassword, Ask.AskProbe, Ask.AskSign, Ask.AskOpen, Ask.AskConfirm, Ask.AskRefuse, Ask.AskData, Ask.AskAdjust, Ask.AskEof, Ask.AskClose, Ask.AskRequest, Ask.AskReply, Ask.AskGlobal, Ask.AskGlobalReply, Ask.AskDisconnect, Fact, Item, Item.Sent, Item.Told, Item.Asked, Item.AskRefused, Item.Refused, Item.Died, sent, messages_sent, has_died}
+use Rattle.ssh_model.specs.Protocol.Sessions.Epochs.{count, epoch}
+use Rattle.ssh_model.specs.Protocol.Sessions.Events.{PutsOut, PutsOut.other as put_other}
+use Rattle.ssh_model.specs.Protocol.Sessions.Phases.{authenticated, blocked}
+use Rattle.ssh_model.specs.Protocol.Sessions.Turns as turn
+use Rattle.ssh_model.specs.Protocol.Sessions.Turns.{AreNumbered, AreSpelled, AsksTurn, IsSpelled, OnAsk, ask_checks}
+use Rattle.ssh_model.specs.Protocol.Sessions.Transport.{transport_ask_checks}
+use Rattle.ssh_model.specs.Protocol.Sessions.Transport as transport_row
+use Rattle.ssh_model.specs.Protocol.Authentication.Rows.{authentication_ask_checks}
+use Rattle.ssh_model.specs.State.Authentication.Kept as kept
+use Rattle.ssh_model.specs.State.Authentication.Kept.{ClientSends}
+use Rattle.ssh_model.specs.State.Authentication.Summary.{LeavesServer, LeavesClient}
+use Rattle.ssh_model.specs.Protocol.Channels.Connection.{after_authentication, channel_ask_checks, connection_ask_checks, is_rekey_due}
+use Rattle.ssh_model.specs.State.Channels.Kept as channels
+use Rattle.ssh_model.specs.State.Channels.Kept.{Channels, Sends, send_checks}
+use Rattle.ssh_model.specs.State.Channels.Summary.{told}
+use Rattle.ssh_model.specs.State.TransportLayer.Kept.{Asks, Transport, message_ask_checks}
+use Rattle.ssh_model.specs.State.TransportLayer.Kept as transport
+use Rattle.ssh_model.specs.State.TransportLayer.Summary.{Live, session_after}
+use Rattle.ssh_model.specs.State.TransportLayer.Turns.{AskTurned, PutsPackets}
+use Rattle.ssh_model.specs.State.TransportLayer.View.{view}
+use Rattle.ssh_model.specs.State.End.State.{Authentication, Authentication.OfServer, Authentication.OfClient, EndState, after_items, is_due}
+use Rattle.ssh_model.specs.State.End.Summary.{AuthenticationSumsUp, AboveSumsUp, EndSumsUp, EndTurned}
+use Rattle.ssh_model.specs.State.End.Asks.{AsksAbove, TakesAsk, authentication_asks, end_ask_checks}
+use Rattle.ssh_model.specs.State.End.Asks as end
 use Rattle.ssh_model.proofs.Authentication.Rows.{client_refused, client_allowed}
 use Rattle.ssh_model.proofs.Channels.Allowing.{allowed}
 use Rattle.ssh_model.proofs.Channels.Checking.{ask_checked}

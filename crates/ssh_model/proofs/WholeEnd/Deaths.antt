@@ -1,25 +1,25 @@
 -- Where memory fails an end dies as in a session.
 use Rattle.std.proofs.Common.{◌≡◌, ℕ, suc, ◌+◌, ◌^◌, ◌≤◌, List, [], ◌∷◌, ◌++◌, length, refl, ap, arith, false, Option, Some, None}
-use Rattle.ssh_model.specs.Side.{Side}
-use Rattle.ssh_model.specs.Wire.Message.{Msg}
-use Rattle.ssh_model.specs.KeyExchange.Choice.{Chosen}
-use Rattle.ssh_model.specs.Sessions.Refusals.{Refusal}
-use Rattle.ssh_model.specs.Sessions.Parties.{Parties, agreement_of}
-use Rattle.ssh_model.specs.Sessions.Items.{Fact, Fact.Completed, Item, Item.Took, Item.Told, Spelled, Spelled.SpelledBy, sent, messages_sent}
-use Rattle.ssh_model.specs.Sessions.Epochs.{count}
-use Rattle.ssh_model.specs.Sessions.Turns as session
-use Rattle.ssh_model.specs.Sessions.Turns.{AreNumbered, AreSpelled, OnPayload, Refuses}
-use Rattle.ssh_model.specs.Channels.Connection.{owed_replies}
-use Rattle.ssh_model.specs.Channels.Kept.{Channels}
-use Rattle.ssh_model.specs.TransportLayer.Kept.{Answered, Completes, Takes, Transport}
-use Rattle.ssh_model.specs.TransportLayer.Kept as kept
-use Rattle.ssh_model.specs.TransportLayer.Summary.{Live, answer_items, items_sent, parts_of, told_over}
-use Rattle.ssh_model.specs.TransportLayer.View.{view}
-use Rattle.ssh_model.specs.End.State.{EndState}
-use Rattle.ssh_model.specs.End.Summary.{EndSumsUp}
-use Rattle.ssh_model.specs.End.Payloads.{Admits, GivesOwed}
-use Rattle.ssh_model.specs.End.Deaths.{CanSay, WouldTake, said_items}
-use Rattle.ssh_model.specs.End.Deaths as end
+use Rattle.ssh_model.specs.Protocol.Side.{Side}
+use Rattle.ssh_model.specs.Protocol.Wire.Message.{Msg}
+use Rattle.ssh_model.specs.Protocol.KeyExchange.Choice.{Chosen}
+use Rattle.ssh_model.specs.Protocol.Sessions.Refusals.{Refusal}
+use Rattle.ssh_model.specs.Protocol.Sessions.Parties.{Parties, agreement_of}
+use Rattle.ssh_model.specs.Protocol.Sessions.Items.{Fact, Fact.Completed, Item, Item.Took, Item.Told, Spelled, Spelled.SpelledBy, sent, messages_sent}
+use Rattle.ssh_model.specs.Protocol.Sessions.Epochs.{count}
+use Rattle.ssh_model.specs.Protocol.Sessions.Turns as session
+use Rattle.ssh_model.specs.Protocol.Sessions.Turns.{AreNumbered, AreSpelled, OnPayload, Refuses}
+use Rattle.ssh_model.specs.Protocol.Channels.Connection.{owed_replies}
+use Rattle.ssh_model.specs.State.Channels.Kept.{Channels}
+use Rattle.ssh_model.specs.State.TransportLayer.Kept.{Answered, Completes, Takes, Transport}
+use Rattle.ssh_model.specs.State.TransportLayer.Kept as kept
+use Rattle.ssh_model.specs.State.TransportLayer.Summary.{Live, answer_items, items_sent, parts_of, told_over}
+use Rattle.ssh_model.specs.State.TransportLayer.View.{view}
+use Rattle.ssh_model.specs.State.End.State.{EndState}
+use Rattle.ssh_model.specs.State.End.Summary.{EndSumsUp}
+use Rattle.ssh_model.specs.State.End.Payloads.{Admits, GivesOwed}
+use Rattle.ssh_model.specs.State.End.Deaths.{CanSay, WouldTake, said_items}
+use Rattle.ssh_model.specs.State.End.Deaths as end
 use Rattle.ssh_model.proofs.TransportLayer.Ending.{both_numbered, both_spelled}
 use Rattle.ssh_model.proofs.TransportLayer.Packets.{AreOther, stands_live, stands_taken}
 use Rattle.ssh_model.proofs.TransportLayer.Rows.{accepted, ends_row}

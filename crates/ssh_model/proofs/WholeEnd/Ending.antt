@@ -1,26 +1,26 @@
 -- The turn in which an end completes an exchange, with the replies that it owed; and all turns of a payload.
 use Rattle.std.proofs.Common.{◌≡◌, ℕ, ◌+◌, List, [], ◌∷◌, ◌++◌, refl, ap, sym, ◌∙◌, subst, true, false, None, append_assoc, ◌≤◌, length}
 use Rattle.std.proofs.lemmas.Bool.{leb-true}
-use Rattle.ssh_model.specs.Side.{Side}
-use Rattle.ssh_model.specs.Wire.Message.{Msg}
-use Rattle.ssh_model.specs.KeyExchange.Choice.{Chosen}
-use Rattle.ssh_model.specs.Sessions.Parties.{Parties, agreement_of}
-use Rattle.ssh_model.specs.Sessions.Items.{Fact.Completed, Fact.Ignored, Item, Item.Took, Item.TookGuess, Item.Told, Spelled, messages_sent}
-use Rattle.ssh_model.specs.Sessions.Events.{PutsOut, PutsOut.other as put_other}
-use Rattle.ssh_model.specs.Sessions.Turns.{OnPayload}
-use Rattle.ssh_model.specs.Channels.Connection.{AreReplies, owed_replies}
-use Rattle.ssh_model.specs.Channels.History as channel
-use Rattle.ssh_model.specs.Channels.Kept.{Channels, DueReply}
-use Rattle.ssh_model.specs.Channels.Summary.{pending}
-use Rattle.ssh_model.specs.Channels.Summary as channels
-use Rattle.ssh_model.specs.TransportLayer.Kept.{Completes, Transport}
-use Rattle.ssh_model.specs.TransportLayer.Kept as kept
-use Rattle.ssh_model.specs.TransportLayer.Summary.{items_sent, parts_of}
-use Rattle.ssh_model.specs.TransportLayer.Turns.{PutsPackets, EndedBy}
-use Rattle.ssh_model.specs.End.State.{EndState, after_items}
-use Rattle.ssh_model.specs.End.Summary.{AboveSumsUp, EndSumsUp, EndTurned}
-use Rattle.ssh_model.specs.End.Payloads.{Admits, GivesOwed, TakesPayload}
-use Rattle.ssh_model.specs.End.Payloads as end
+use Rattle.ssh_model.specs.Protocol.Side.{Side}
+use Rattle.ssh_model.specs.Protocol.Wire.Message.{Msg}
+use Rattle.ssh_model.specs.Protocol.KeyExchange.Choice.{Chosen}
+use Rattle.ssh_model.specs.Protocol.Sessions.Parties.{Parties, agreement_of}
+use Rattle.ssh_model.specs.Protocol.Sessions.Items.{Fact.Completed, Fact.Ignored, Item, Item.Took, Item.TookGuess, Item.Told, Spelled, messages_sent}
+use Rattle.ssh_model.specs.Protocol.Sessions.Events.{PutsOut, PutsOut.other as put_other}
+use Rattle.ssh_model.specs.Protocol.Sessions.Turns.{OnPayload}
+use Rattle.ssh_model.specs.Protocol.Channels.Connection.{AreReplies, owed_replies}
+use Rattle.ssh_model.specs.Protocol.Channels.History as channel
+use Rattle.ssh_model.specs.State.Channels.Kept.{Channels, DueReply}
+use Rattle.ssh_model.specs.State.Channels.Summary.{pending}
+use Rattle.ssh_model.specs.State.Channels.Summary as channels
+use Rattle.ssh_model.specs.State.TransportLayer.Kept.{Completes, Transport}
+use Rattle.ssh_model.specs.State.TransportLayer.Kept as kept
+use Rattle.ssh_model.specs.State.TransportLayer.Summary.{items_sent, parts_of}
+use Rattle.ssh_model.specs.State.TransportLayer.Turns.{PutsPackets, EndedBy}
+use Rattle.ssh_model.specs.State.End.State.{EndState, after_items}
+use Rattle.ssh_model.specs.State.End.Summary.{AboveSumsUp, EndSumsUp, EndTurned}
+use Rattle.ssh_model.specs.State.End.Payloads.{Admits, GivesOwed, TakesPayload}
+use Rattle.ssh_model.specs.State.End.Payloads as end
 use Rattle.ssh_model.proofs.Channels.Elsewhere.{kept_elsewhere}
 use Rattle.ssh_model.proofs.TransportLayer.Ending.{both_out, closed, end_spent, ended_by}
 use Rattle.ssh_model.proofs.TransportLayer.Items as items_of_layers
@@ -44,7 +44,7 @@ all_given side g waiting a items new v e =
     subst (λ (l : List channel.Item). AreReplies l items) (sym (v.split ∙ ap (λ (l : List channel.Item). l ++ v.older) none)) v.replies
 
 module _ {K : Type 0} (p : Parties K) (side : Side) (h : List Item) (e : EndState K) (sums : EndSumsUp p side h e) (alive : e.transport.dead ≡ false) where
-  -- The replies that were owed come behind what the transport sends, and then what is told.
+  -- The replies that were owed come after what the transport sends, and then what is told.
   pub close_turned : (m : Msg) (payload : List ℕ) (position : ℕ) (items : List Item) (more later : List ℕ) (transport : Transport K) (owed : List Item) (n : Channels) → EndedBy p side h m payload position items more transport → transport.dead ≡ false →
       Behind side (items ++ (Took None m payload ∷ h)) (owed_replies side h) e.authentication e.channels → GivesOwed e.channels owed n → n.owed ≡ [] → PutsPackets p.crypto transport.sending (messages_sent owed) later →
       EndTurned p side h (OnPayload p side h payload) ((Told (Completed position) ∷ (owed ++ items)) ++ Took None m payload ∷ []) (more ++ later) (record e { transport = after_items side owed transport; channels = n })

@@ -1,21 +1,21 @@
 -- What the layers above the transport keep goes on summing up a history with items that they leave.
 use Rattle.std.proofs.Common.{◌≡◌, ℕ, List, [], ◌∷◌, ◌++◌, refl, sym, ◌∙◌, subst, Option}
-use Rattle.ssh_model.specs.Side.{Side, Side.Client, Side.Server}
-use Rattle.ssh_model.specs.Wire.Message.{Msg, Msg.UserauthRequest, Msg.UserauthFailure, Msg.UserauthSuccess, Msg.UserauthPkOk}
-use Rattle.ssh_model.specs.Sessions.Parties.{Parties}
-use Rattle.ssh_model.specs.Sessions.Items.{Item, Item.Sent, Item.Took, Item.Told}
-use Rattle.ssh_model.specs.Sessions.Phases.{outstanding}
-use Rattle.ssh_model.specs.Authentication.Summary.{LeavesServer, LeavesClient}
-use Rattle.ssh_model.specs.Channels.Connection.{owed_replies}
-use Rattle.ssh_model.specs.Channels.History as channel
-use Rattle.ssh_model.specs.Channels.Kept.{Channels}
-use Rattle.ssh_model.specs.Channels.Summary.{LeavesChannels, IsNoNewkeys}
-use Rattle.ssh_model.specs.Channels.Summary as channels
-use Rattle.ssh_model.specs.TransportLayer.Kept.{Transport}
-use Rattle.ssh_model.specs.TransportLayer.Summary.{IsPlain}
-use Rattle.ssh_model.specs.TransportLayer.Summary as transport
-use Rattle.ssh_model.specs.End.State.{Authentication, Authentication.OfServer, Authentication.OfClient, after_above, after_item, after_items}
-use Rattle.ssh_model.specs.End.Summary.{AuthenticationSumsUp, AboveSumsUp}
+use Rattle.ssh_model.specs.Protocol.Side.{Side, Side.Client, Side.Server}
+use Rattle.ssh_model.specs.Protocol.Wire.Message.{Msg, Msg.UserauthRequest, Msg.UserauthFailure, Msg.UserauthSuccess, Msg.UserauthPkOk}
+use Rattle.ssh_model.specs.Protocol.Sessions.Parties.{Parties}
+use Rattle.ssh_model.specs.Protocol.Sessions.Items.{Item, Item.Sent, Item.Took, Item.Told}
+use Rattle.ssh_model.specs.Protocol.Sessions.Phases.{outstanding}
+use Rattle.ssh_model.specs.State.Authentication.Summary.{LeavesServer, LeavesClient}
+use Rattle.ssh_model.specs.Protocol.Channels.Connection.{owed_replies}
+use Rattle.ssh_model.specs.Protocol.Channels.History as channel
+use Rattle.ssh_model.specs.State.Channels.Kept.{Channels}
+use Rattle.ssh_model.specs.State.Channels.Summary.{LeavesChannels, IsNoNewkeys}
+use Rattle.ssh_model.specs.State.Channels.Summary as channels
+use Rattle.ssh_model.specs.State.TransportLayer.Kept.{Transport}
+use Rattle.ssh_model.specs.State.TransportLayer.Summary.{IsPlain}
+use Rattle.ssh_model.specs.State.TransportLayer.Summary as transport
+use Rattle.ssh_model.specs.State.End.State.{Authentication, Authentication.OfServer, Authentication.OfClient, after_above, after_item, after_items}
+use Rattle.ssh_model.specs.State.End.Summary.{AuthenticationSumsUp, AboveSumsUp}
 use Rattle.ssh_model.proofs.Authentication.Rows.{server_kept, client_kept}
 use Rattle.ssh_model.proofs.Channels.Elsewhere.{kept_elsewhere, owed_elsewhere}
 use Rattle.ssh_model.proofs.TransportLayer.Items as items

@@ -1,14 +1,14 @@
 -- The laws of an end.
 use Rattle.std.proofs.Common.{◌≡◌, ℕ, List, ◌++◌, refl, sym, ◌∙◌, subst, Bool, true, false, append-nil}
-use Rattle.ssh_model.specs.Side.{Side}
-use Rattle.ssh_model.specs.Sessions.Parties.{Parties}
-use Rattle.ssh_model.specs.Sessions.Items.{Ask, Item}
-use Rattle.ssh_model.specs.Sessions.Events.{PutsOut}
-use Rattle.ssh_model.specs.Sessions.Turns.{AsksTurn, AsksTurn.is_dead, EndRun, EndRun.then_turn, FeedsTurn, OnUnit, Turn.asks, Turn.feeds, Turn.reads}
-use Rattle.ssh_model.specs.End.State.{EndState}
-use Rattle.ssh_model.specs.End.Summary.{EndSumsUp, EndTurned}
-use Rattle.ssh_model.specs.End.Asks.{TakesAsk}
-use Rattle.ssh_model.specs.End.Asks as end
+use Rattle.ssh_model.specs.Protocol.Side.{Side}
+use Rattle.ssh_model.specs.Protocol.Sessions.Parties.{Parties}
+use Rattle.ssh_model.specs.Protocol.Sessions.Items.{Ask, Item}
+use Rattle.ssh_model.specs.Protocol.Sessions.Events.{PutsOut}
+use Rattle.ssh_model.specs.Protocol.Sessions.Turns.{AsksTurn, AsksTurn.is_dead, EndRun, EndRun.then_turn, FeedsTurn, OnUnit, Turn.asks, Turn.feeds, Turn.reads}
+use Rattle.ssh_model.specs.State.End.State.{EndState}
+use Rattle.ssh_model.specs.State.End.Summary.{EndSumsUp, EndTurned}
+use Rattle.ssh_model.specs.State.End.Asks.{TakesAsk}
+use Rattle.ssh_model.specs.State.End.Asks as end
 use Rattle.ssh_model.proofs.WholeEnd.Asks.{ask_turned}
 
 module _ {K : Type 0} (p : Parties K) (side : Side) (h : List Item) (e : EndState K) (sums : EndSumsUp p side h e) where

@@ -1,28 +1,28 @@
--- The replies that were owed, sent behind NEWKEYS.
+-- The replies that were owed, sent after NEWKEYS.
 use Rattle.std.proofs.Common.{◌≡◌, ℕ, List, [], ◌∷◌, ◌++◌, refl, ap, sym, ◌∙◌, subst, Option, Some, None, append-nil, append_assoc, ◌<◌, ◌^◌, ◌+◌, length, arith, map}
-use Rattle.ssh_model.specs.Side.{Side, Side.Client, Side.Server}
-use Rattle.ssh_model.specs.Wire.Message.{Msg, Msg.NewKeys, Msg.KexInit, Msg.ChannelOpenFailure, Msg.ChannelClose}
-use Rattle.ssh_model.specs.Sessions.Items.{Item, Item.Sent, Item.Told, messages_sent}
-use Rattle.ssh_model.specs.Channels.Connection.{AreReplies, owed_replies}
-use Rattle.ssh_model.specs.Channels.Connection as connection
-use Rattle.ssh_model.specs.Channels.History as channel
-use Rattle.ssh_model.specs.Channels.Kept.{Channels, DueReply, DueReply.RefusesOpen, DueReply.AnswersClose, freed_by, put}
-use Rattle.ssh_model.specs.Channels.Summary.{pending, reply_item, reply_channel, reply_sent}
-use Rattle.ssh_model.specs.Channels.Kept as channels_row
-use Rattle.ssh_model.specs.Channels.Summary as channels
-use Rattle.ssh_model.specs.End.State.{Authentication}
-use Rattle.ssh_model.specs.End.Summary.{AuthenticationSumsUp}
-use Rattle.ssh_model.specs.End.Payloads.{GivesOwed}
-use Rattle.ssh_model.specs.End.Payloads as end
+use Rattle.ssh_model.specs.Protocol.Side.{Side, Side.Client, Side.Server}
+use Rattle.ssh_model.specs.Protocol.Wire.Message.{Msg, Msg.NewKeys, Msg.KexInit, Msg.ChannelOpenFailure, Msg.ChannelClose}
+use Rattle.ssh_model.specs.Protocol.Sessions.Items.{Item, Item.Sent, Item.Told, messages_sent}
+use Rattle.ssh_model.specs.Protocol.Channels.Connection.{AreReplies, owed_replies}
+use Rattle.ssh_model.specs.Protocol.Channels.Connection as connection
+use Rattle.ssh_model.specs.Protocol.Channels.History as channel
+use Rattle.ssh_model.specs.State.Channels.Kept.{Channels, DueReply, DueReply.RefusesOpen, DueReply.AnswersClose, freed_by, put}
+use Rattle.ssh_model.specs.State.Channels.Summary.{pending, reply_item, reply_channel, reply_sent}
+use Rattle.ssh_model.specs.State.Channels.Kept as channels_row
+use Rattle.ssh_model.specs.State.Channels.Summary as channels
+use Rattle.ssh_model.specs.State.End.State.{Authentication}
+use Rattle.ssh_model.specs.State.End.Summary.{AuthenticationSumsUp}
+use Rattle.ssh_model.specs.State.End.Payloads.{GivesOwed}
+use Rattle.ssh_model.specs.State.End.Payloads as end
 use Rattle.ssh_model.proofs.Channels.Unblocking.{unblocked}
 use Rattle.ssh_model.proofs.WholeEnd.Kept.{AreUpper, authentication_kept}
 use Rattle.ssh_model.proofs.WholeEnd.Out.{AreAnswers}
 use Rattle.std.proofs.lemmas.Bool.{leb-true}
 use Rattle.std.proofs.lemmas.List.{reverse-append}
-use Rattle.ssh_model.specs.Sessions.Turns.{AreSpelled, EndRun}
-use Rattle.ssh_model.specs.Sessions.Parties.{Parties, AreLawful}
-use Rattle.ssh_model.specs.Channels.Message.{Message.OpenFailure, Message.Close}
-use Rattle.ssh_model.specs.End.Deaths.{CanSettle}
+use Rattle.ssh_model.specs.Protocol.Sessions.Turns.{AreSpelled, EndRun}
+use Rattle.ssh_model.specs.Protocol.Sessions.Parties.{Parties, AreLawful}
+use Rattle.ssh_model.specs.Protocol.Channels.Message.{Message.OpenFailure, Message.Close}
+use Rattle.ssh_model.specs.State.End.Deaths.{CanSettle}
 use Rattle.ssh_model.proofs.Sessions.PeerNumbers.{RepliesFit, owed_replies_fit}
 use Rattle.ssh_model.proofs.Sessions.SoundTurns.{end_sound}
 use Rattle.ssh_model.specs.Laws.Written.{open_failure_spelled, close_spelled}
@@ -77,7 +77,7 @@ given side g waiting a before has left items new (end.GivesOwed.reply {items = l
       authentication = reply_left side (l ++ g) a r b v.authentication;
     }
 
--- ---- behind NEWKEYS nothing is owed
+-- ---- after NEWKEYS nothing is owed
 
 sent_none : (side : Side) (c : Option ℕ) (m : Msg) (b : List ℕ) (g : List Item) → owed_replies side g ≡ [] → owed_replies side (Sent c m b ∷ g) ≡ []
 sent_none side c NewKeys b g e = refl

@@ -1,15 +1,15 @@
 -- What one end of two makes of an event, and the run of both.
 use Rattle.std.proofs.Common.{◌≡◌, ℕ, List, [], ◌∷◌, ◌++◌, refl, sym, subst}
-use Rattle.ssh_model.specs.Side.{Side, Side.Client, Side.Server, peer, done_by, part}
-use Rattle.ssh_model.specs.Wire.Delivery.{Delivered}
-use Rattle.ssh_model.specs.Sessions.Parties.{Parties}
-use Rattle.ssh_model.specs.Sessions.Items.{Ask, Item, Done}
-use Rattle.ssh_model.specs.Sessions.Turns.{AsksTurn, FeedsTurn, Run.start}
-use Rattle.ssh_model.specs.Sessions.Events.{Event, Event.Asks, Event.Feeds, Event.Delivers, OnEvent, OnEvent.asks, OnEvent.feeds, OnEvent.delivers, Plays, Plays.ends as no_more, Plays.goes, World, kept_rest, next_world, reading_of, rest_of}
-use Rattle.ssh_model.specs.End.State.{EndState}
-use Rattle.ssh_model.specs.End.Summary.{EndSumsUp, EndTurned, HasOpened}
-use Rattle.ssh_model.specs.End.Reading.{DeliversTo}
-use Rattle.ssh_model.specs.End.Pair.{PairState, PairSumsUp, PairTurned, PairOpened, state_of, with_state}
+use Rattle.ssh_model.specs.Protocol.Side.{Side, Side.Client, Side.Server, peer, done_by, part}
+use Rattle.ssh_model.specs.Protocol.Wire.Delivery.{Delivered}
+use Rattle.ssh_model.specs.Protocol.Sessions.Parties.{Parties}
+use Rattle.ssh_model.specs.Protocol.Sessions.Items.{Ask, Item, Done}
+use Rattle.ssh_model.specs.Protocol.Sessions.Turns.{AsksTurn, FeedsTurn, Run.start}
+use Rattle.ssh_model.specs.Protocol.Sessions.Events.{Event, Event.Asks, Event.Feeds, Event.Delivers, OnEvent, OnEvent.asks, OnEvent.feeds, OnEvent.delivers, Plays, Plays.ends as no_more, Plays.goes, World, kept_rest, next_world, reading_of, rest_of}
+use Rattle.ssh_model.specs.State.End.State.{EndState}
+use Rattle.ssh_model.specs.State.End.Summary.{EndSumsUp, EndTurned, HasOpened}
+use Rattle.ssh_model.specs.State.End.Reading.{DeliversTo}
+use Rattle.ssh_model.specs.State.End.Pair.{PairState, PairSumsUp, PairTurned, PairOpened, state_of, with_state}
 use Rattle.ssh_model.proofs.Sessions.EndRuns.{opened_client, opened_server, part_own, part_other}
 use Rattle.ssh_model.proofs.Sessions.Played.{plays_run}
 

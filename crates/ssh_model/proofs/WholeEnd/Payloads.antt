@@ -1,29 +1,29 @@
 -- What an end makes of a payload, by what it keeps, is a turn of a session.
 use Rattle.std.proofs.Common.{◌≡◌, ℕ, ◌^◌, ◌≤◌, List, [], ◌∷◌, ◌++◌, length, refl, sym, ◌∙◌, subst, Bool, true, false, Option, Some, None, append-nil, append_assoc}
-use Rattle.ssh_model.specs.Side.{Side, Side.Client, Side.Server}
-use Rattle.ssh_model.specs.Wire.Message.{Msg, Msg.ServiceRequest, Msg.ServiceAccept, Msg.NewKeys, Msg.KexInit, Msg.KexEcdhInit, Msg.KexEcdhReply, Msg.ExtInfo, Msg.Ignore, Msg.Debug, Msg.Unimplemented, Msg.Unknown, IsPayload}
-use Rattle.ssh_model.specs.KeyExchange.Choice.{Chosen}
-use Rattle.ssh_model.specs.Sessions.Refusals.{Refusal, Refusal.NumberSpent, first_refusal}
-use Rattle.ssh_model.specs.Sessions.Parties.{Agreement, Parties}
-use Rattle.ssh_model.specs.Sessions.Items.{Fact.Service, Item, Item.Sent, Item.Took, Item.Told, Item.Refused, Item.Died, Spelled, messages_sent, has_died}
-use Rattle.ssh_model.specs.Sessions.Events.{PutsOut, PutsOut.other as put_other}
-use Rattle.ssh_model.specs.Sessions.Turns as session
-use Rattle.ssh_model.specs.Sessions.Turns.{AreNumbered, AreSpelled, OnPayload, number_of}
-use Rattle.ssh_model.specs.Channels.Connection.{owed_replies}
-use Rattle.ssh_model.specs.Channels.History as channel
-use Rattle.ssh_model.specs.Channels.Kept.{Channels}
-use Rattle.ssh_model.specs.Authentication.Summary.{LeavesServer, LeavesClient}
-use Rattle.ssh_model.specs.Wire.Sealing.{Crypto}
-use Rattle.ssh_model.specs.Channels.Summary.{pending, LeavesChannels, IsNoNewkeys}
-use Rattle.ssh_model.specs.Channels.Summary as channels
-use Rattle.ssh_model.specs.TransportLayer.Kept.{Answered, Completes, Takes, Transport}
-use Rattle.ssh_model.specs.TransportLayer.Kept as kept
-use Rattle.ssh_model.specs.TransportLayer.Summary.{answer_items, items_sent}
-use Rattle.ssh_model.specs.TransportLayer.Turns.{PutsPackets, SaysWhy, Turned, refusal_items}
-use Rattle.ssh_model.specs.End.State.{Authentication, Authentication.OfServer, Authentication.OfClient, EndState, above_checks, after_above, after_items, after_service}
-use Rattle.ssh_model.specs.End.Summary.{AuthenticationSumsUp, AboveSumsUp, EndSumsUp, EndTurned}
-use Rattle.ssh_model.specs.End.Payloads.{Admits, AnswersAbove, GivesOwed, ReadsAbove, RefusesAbove, TakesPayload}
-use Rattle.ssh_model.specs.End.Payloads as end
+use Rattle.ssh_model.specs.Protocol.Side.{Side, Side.Client, Side.Server}
+use Rattle.ssh_model.specs.Protocol.Wire.Message.{Msg, Msg.ServiceRequest, Msg.ServiceAccept, Msg.NewKeys, Msg.KexInit, Msg.KexEcdhInit, Msg.KexEcdhReply, Msg.ExtInfo, Msg.Ignore, Msg.Debug, Msg.Unimplemented, Msg.Unknown, IsPayload}
+use Rattle.ssh_model.specs.Protocol.KeyExchange.Choice.{Chosen}
+use Rattle.ssh_model.specs.Protocol.Sessions.Refusals.{Refusal, Refusal.NumberSpent, first_refusal}
+use Rattle.ssh_model.specs.Protocol.Sessions.Parties.{Agreement, Parties}
+use Rattle.ssh_model.specs.Protocol.Sessions.Items.{Fact.Service, Item, Item.Sent, Item.Took, Item.Told, Item.Refused, Item.Died, Spelled, messages_sent, has_died}
+use Rattle.ssh_model.specs.Protocol.Sessions.Events.{PutsOut, PutsOut.other as put_other}
+use Rattle.ssh_model.specs.Protocol.Sessions.Turns as session
+use Rattle.ssh_model.specs.Protocol.Sessions.Turns.{AreNumbered, AreSpelled, OnPayload, number_of}
+use Rattle.ssh_model.specs.Protocol.Channels.Connection.{owed_replies}
+use Rattle.ssh_model.specs.Protocol.Channels.History as channel
+use Rattle.ssh_model.specs.State.Channels.Kept.{Channels}
+use Rattle.ssh_model.specs.State.Authentication.Summary.{LeavesServer, LeavesClient}
+use Rattle.ssh_model.specs.Protocol.Wire.Sealing.{Crypto}
+use Rattle.ssh_model.specs.State.Channels.Summary.{pending, LeavesChannels, IsNoNewkeys}
+use Rattle.ssh_model.specs.State.Channels.Summary as channels
+use Rattle.ssh_model.specs.State.TransportLayer.Kept.{Answered, Completes, Takes, Transport}
+use Rattle.ssh_model.specs.State.TransportLayer.Kept as kept
+use Rattle.ssh_model.specs.State.TransportLayer.Summary.{answer_items, items_sent}
+use Rattle.ssh_model.specs.State.TransportLayer.Turns.{PutsPackets, SaysWhy, Turned, refusal_items}
+use Rattle.ssh_model.specs.State.End.State.{Authentication, Authentication.OfServer, Authentication.OfClient, EndState, above_checks, after_above, after_items, after_service}
+use Rattle.ssh_model.specs.State.End.Summary.{AuthenticationSumsUp, AboveSumsUp, EndSumsUp, EndTurned}
+use Rattle.ssh_model.specs.State.End.Payloads.{Admits, AnswersAbove, GivesOwed, ReadsAbove, RefusesAbove, TakesPayload}
+use Rattle.ssh_model.specs.State.End.Payloads as end
 use Rattle.ssh_model.proofs.Authentication.Rows.{server_kept, client_kept, server_opened, client_opened}
 use Rattle.ssh_model.proofs.Channels.Elsewhere.{kept_elsewhere}
 use Rattle.ssh_model.proofs.TransportLayer.Packets.{stands_live, stands_taken}
@@ -144,7 +144,7 @@ rows_above agreement side h s a n payload m answered new is has (kept.Takes.newk
 
 -- ---- the end of an exchange
 
--- What the layers above keep right behind NEWKEYS and what is announced: nothing is owed by the history, and what was owed
+-- What the layers above keep right after NEWKEYS and what is announced: nothing is owed by the history, and what was owed
 -- before still waits.
 pub record Behind (side : Side) (g : List Item) (waiting : List channel.Item) (a : Authentication) (n : Channels) : Type 0 where
   pub authentication : AuthenticationSumsUp side g a

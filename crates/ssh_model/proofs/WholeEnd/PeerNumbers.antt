@@ -1,17 +1,17 @@
 -- The number that the peer gave a channel, as an end keeps it, is a uint32.
 use Rattle.std.proofs.Common.{ℕ, ◌<◌, ◌^◌, Bool, true, false, cond, List, arith, sym, subst, Option, Some, None}
-use Rattle.ssh_model.specs.Side.{Side}
-use Rattle.ssh_model.specs.Sessions.Items.{Item}
-use Rattle.ssh_model.specs.Sessions.Parties.{AreLawful, Parties}
-use Rattle.ssh_model.specs.Sessions.Turns.{EndRun}
-use Rattle.ssh_model.specs.Channels.Connection.{notes, owed_replies}
-use Rattle.ssh_model.specs.Channels.History as channel
-use Rattle.ssh_model.specs.Channels.History.{is_owed}
-use Rattle.ssh_model.specs.Channels.Kept.{Channels, peer_of}
-use Rattle.ssh_model.specs.Channels.Notes.{Note}
-use Rattle.ssh_model.specs.Channels.Numbers.{is_held, peer_number}
-use Rattle.ssh_model.specs.Channels.Places.{Place, at, place, place_at, place_of}
-use Rattle.ssh_model.specs.Channels.Summary.{SumsUp}
+use Rattle.ssh_model.specs.Protocol.Side.{Side}
+use Rattle.ssh_model.specs.Protocol.Sessions.Items.{Item}
+use Rattle.ssh_model.specs.Protocol.Sessions.Parties.{AreLawful, Parties}
+use Rattle.ssh_model.specs.Protocol.Sessions.Turns.{EndRun}
+use Rattle.ssh_model.specs.Protocol.Channels.Connection.{notes, owed_replies}
+use Rattle.ssh_model.specs.Protocol.Channels.History as channel
+use Rattle.ssh_model.specs.Protocol.Channels.History.{is_owed}
+use Rattle.ssh_model.specs.State.Channels.Kept.{Channels, peer_of}
+use Rattle.ssh_model.specs.Protocol.Channels.Notes.{Note}
+use Rattle.ssh_model.specs.Protocol.Channels.Numbers.{is_held, peer_number}
+use Rattle.ssh_model.specs.State.Channels.Places.{Place, at, place, place_at, place_of}
+use Rattle.ssh_model.specs.State.Channels.Summary.{SumsUp}
 use Rattle.ssh_model.proofs.Sessions.PeerNumbers.{peer_number_below}
 use Rattle.ssh_model.proofs.Sessions.SoundTurns.{end_sound}
 

@@ -1,25 +1,25 @@
 -- The bytes that come to one end: in any pieces, and in a run of two.
 use Rattle.std.proofs.Common.{◌≡◌, ℕ, List, ◌++◌, refl, ap, sym, ◌∙◌, subst, true, false, ◌↔◌, []}
-use Rattle.ssh_model.specs.Side.{Side, part, done_by}
-use Rattle.ssh_model.specs.Wire.Sealing.{IsSealing}
-use Rattle.ssh_model.specs.Wire.Line.{IsLineBegun}
-use Rattle.ssh_model.specs.Wire.Delivery.{Delivered, Delivered.dead, Delivered.waits, Delivered.takes, InPieces, Waits}
-use Rattle.ssh_model.specs.Wire.Unit.{IsPacketBegun, IsUnit, IsUnitBegun, Stage}
-use Rattle.ssh_model.specs.KeyExchange.Exchanges.{taking_key}
-use Rattle.ssh_model.specs.Sessions.Parties.{Parties}
-use Rattle.ssh_model.specs.Sessions.Items.{Item, Done, has_died, took}
-use Rattle.ssh_model.specs.Sessions.Epochs.{count, epoch}
-use Rattle.ssh_model.specs.Sessions.Turns.{EndRun, EndRun.then_turn, OnUnit, Turn.reads, stage, stage_after}
-use Rattle.ssh_model.specs.Sessions.Events.{reading_of}
-use Rattle.ssh_model.specs.TransportLayer.Kept.{Transport}
-use Rattle.ssh_model.specs.TransportLayer.Summary.{SumsUp}
-use Rattle.ssh_model.specs.End.Reading.{EndUses, DeliversTo, end_reading}
+use Rattle.ssh_model.specs.Protocol.Side.{Side, part, done_by}
+use Rattle.ssh_model.specs.Protocol.Wire.Sealing.{IsSealing}
+use Rattle.ssh_model.specs.Protocol.Wire.Line.{IsLineBegun}
+use Rattle.ssh_model.specs.Protocol.Wire.Delivery.{Delivered, Delivered.dead, Delivered.waits, Delivered.takes, InPieces, Waits}
+use Rattle.ssh_model.specs.Protocol.Wire.Unit.{IsPacketBegun, IsUnit, IsUnitBegun, Stage}
+use Rattle.ssh_model.specs.Protocol.KeyExchange.Exchanges.{taking_key}
+use Rattle.ssh_model.specs.Protocol.Sessions.Parties.{Parties}
+use Rattle.ssh_model.specs.Protocol.Sessions.Items.{Item, Done, has_died, took}
+use Rattle.ssh_model.specs.Protocol.Sessions.Epochs.{count, epoch}
+use Rattle.ssh_model.specs.Protocol.Sessions.Turns.{EndRun, EndRun.then_turn, OnUnit, Turn.reads, stage, stage_after}
+use Rattle.ssh_model.specs.Protocol.Sessions.Events.{reading_of}
+use Rattle.ssh_model.specs.State.TransportLayer.Kept.{Transport}
+use Rattle.ssh_model.specs.State.TransportLayer.Summary.{SumsUp}
+use Rattle.ssh_model.specs.State.End.Reading.{EndUses, DeliversTo, end_reading}
 use Rattle.ssh_model.proofs.Sessions.EndRuns.{part_own, part_other}
 use Rattle.ssh_model.proofs.TransportLayer.Views.{key_same}
 use Rattle.ssh_model.proofs.Wire.Units.{reading_pieces, reading_waits}
-use Rattle.ssh_model.specs.Wire.Outcome.{Outcome}
-use Rattle.ssh_model.specs.End.State.{EndState}
-use Rattle.ssh_model.specs.End.Summary.{EndSumsUp, EndTurned}
+use Rattle.ssh_model.specs.Protocol.Wire.Outcome.{Outcome}
+use Rattle.ssh_model.specs.State.End.State.{EndState}
+use Rattle.ssh_model.specs.State.End.Summary.{EndSumsUp, EndTurned}
 
 module _ {K : Type 0} (p : Parties K) (side : Side) where
   pub end_pieces : IsSealing p.crypto → (history last : List Item) (one two rest : List ℕ) → Delivered (end_reading p side) history (one ++ two) last rest ↔ InPieces (end_reading p side) history one two last rest

@@ -2,25 +2,25 @@
 use Rattle.std.proofs.Common.{◌≡◌, ℕ, ◌^◌, List, [], ◌∷◌, ◌++◌, refl, sym, ◌∙◌, subst, Bool, true, false, not, ◌&&◌, is_some, Option, Some, None, append-nil, nat_lt}
 use Rattle.std.specs.Prelude.{◌-◌}
 use Rattle.std.proofs.lemmas.Bool.{leb-true}
-use Rattle.ssh_model.specs.Side.{Side, Side.Client, Side.Server}
-use Rattle.ssh_model.specs.Wire.Message.{Msg.KexInit}
-use Rattle.ssh_model.specs.Wire.Line.{line_end}
-use Rattle.ssh_model.specs.Wire.Sealing.{IsSealed}
-use Rattle.ssh_model.specs.Wire.Outcome.{Outcome.OtherLine, Outcome.VersionLine, Outcome.RefusedLine, Outcome.Opens, Outcome.RefusedPacket}
-use Rattle.ssh_model.specs.KeyExchange.Exchanges.{Material}
-use Rattle.ssh_model.specs.Sessions.Parties.{Parties, offer, settings_of}
-use Rattle.ssh_model.specs.Sessions.Items.{Item, Item.Fed, Item.SentLine, Item.Sent, Item.TookLine, Item.TookOtherLine, Item.Died, Spelled.SpelledBy}
-use Rattle.ssh_model.specs.Sessions.Events.{PutsOut, PutsOut.other as put_other, PutsOut.packet as put_packet, PutsOut.version as put_version, PutsOut.nothing as put_nothing}
-use Rattle.ssh_model.specs.Sessions.Turns as session
-use Rattle.ssh_model.specs.Sessions.Turns.{FeedsTurn, FeedsTurn.feeds, FeedsTurn.answers_false, IsMaterial, IsOpening, OnUnit, can_feed}
-use Rattle.ssh_model.specs.Channels.Kept.{no_channels}
-use Rattle.ssh_model.specs.TransportLayer.Directions.{new_direction}
-use Rattle.ssh_model.specs.TransportLayer.Turns as turns
-use Rattle.ssh_model.specs.TransportLayer.Turns.{PutsPackets, SaysWhy, refusal_items}
-use Rattle.ssh_model.specs.End.State.{EndState, new_authentication, new_end}
-use Rattle.ssh_model.specs.End.Summary.{AboveSumsUp, EndSumsUp, EndTurned, HasOpened}
-use Rattle.ssh_model.specs.End.Units.{TakesUnit, TakesPair}
-use Rattle.ssh_model.specs.End.Units as end
+use Rattle.ssh_model.specs.Protocol.Side.{Side, Side.Client, Side.Server}
+use Rattle.ssh_model.specs.Protocol.Wire.Message.{Msg.KexInit}
+use Rattle.ssh_model.specs.Protocol.Wire.Line.{line_end}
+use Rattle.ssh_model.specs.Protocol.Wire.Sealing.{IsSealed}
+use Rattle.ssh_model.specs.Protocol.Wire.Outcome.{Outcome.OtherLine, Outcome.VersionLine, Outcome.RefusedLine, Outcome.Opens, Outcome.RefusedPacket}
+use Rattle.ssh_model.specs.Protocol.KeyExchange.Exchanges.{Material}
+use Rattle.ssh_model.specs.Protocol.Sessions.Parties.{Parties, offer, settings_of}
+use Rattle.ssh_model.specs.Protocol.Sessions.Items.{Item, Item.Fed, Item.SentLine, Item.Sent, Item.TookLine, Item.TookOtherLine, Item.Died, Spelled.SpelledBy}
+use Rattle.ssh_model.specs.Protocol.Sessions.Events.{PutsOut, PutsOut.other as put_other, PutsOut.packet as put_packet, PutsOut.version as put_version, PutsOut.nothing as put_nothing}
+use Rattle.ssh_model.specs.Protocol.Sessions.Turns as session
+use Rattle.ssh_model.specs.Protocol.Sessions.Turns.{FeedsTurn, FeedsTurn.feeds, FeedsTurn.answers_false, IsMaterial, IsOpening, OnUnit, can_feed}
+use Rattle.ssh_model.specs.State.Channels.Kept.{no_channels}
+use Rattle.ssh_model.specs.State.TransportLayer.Directions.{new_direction}
+use Rattle.ssh_model.specs.State.TransportLayer.Turns as turns
+use Rattle.ssh_model.specs.State.TransportLayer.Turns.{PutsPackets, SaysWhy, refusal_items}
+use Rattle.ssh_model.specs.State.End.State.{EndState, new_authentication, new_end}
+use Rattle.ssh_model.specs.State.End.Summary.{AboveSumsUp, EndSumsUp, EndTurned, HasOpened}
+use Rattle.ssh_model.specs.State.End.Units.{TakesUnit, TakesPair}
+use Rattle.ssh_model.specs.State.End.Units as end
 use Rattle.ssh_model.proofs.Authentication.Rows.{server_starts, client_starts}
 use Rattle.ssh_model.proofs.Channels.Elsewhere.{starts}
 use Rattle.ssh_model.proofs.TransportLayer.Checks.{feeds_same}

@@ -1,8 +1,8 @@
 -- Whether a payload is a message, and which: it is found or there is none.
 use Rattle.std.proofs.Common.{◌≡◌, ℕ, Bool, true, false, List, [], ◌∷◌, ◌++◌, length, ◌⊎◌, inl, inr, refl, ap, ◌∙◌, subst, arith, length-append}
 use Rattle.std.specs.Prelude.{IsTrue}
-use Rattle.ssh_model.specs.Wire.DataTypes.{IsBoolean, number}
-use Rattle.ssh_model.specs.Wire.Message.{IsRow, IsPayload, Method, Extension, Proposal, is_unknown, Msg, Msg.Disconnect, Msg.Ignore, Msg.Unimplemented, Msg.Debug, Msg.ServiceRequest, Msg.ServiceAccept, Msg.NewKeys, Msg.KexEcdhInit, Msg.KexEcdhReply, Msg.UserauthFailure, Msg.UserauthSuccess, Msg.UserauthBanner, Msg.GlobalRequest, Msg.RequestSuccess, Msg.RequestFailure, Msg.ChannelOpen, Msg.ChannelOpenConfirmation, Msg.ChannelOpenFailure, Msg.ChannelWindowAdjust, Msg.ChannelData, Msg.ChannelExtendedData, Msg.ChannelEof, Msg.ChannelClose, Msg.ChannelRequest, Msg.ChannelSuccess, Msg.ChannelFailure, Msg.ExtInfo, Msg.KexInit, Msg.UserauthRequest, Msg.UserauthPkOk, Msg.Unknown}
+use Rattle.ssh_model.specs.Protocol.Wire.DataTypes.{IsBoolean, number}
+use Rattle.ssh_model.specs.Protocol.Wire.Message.{IsRow, IsPayload, Method, Extension, Proposal, is_unknown, Msg, Msg.Disconnect, Msg.Ignore, Msg.Unimplemented, Msg.Debug, Msg.ServiceRequest, Msg.ServiceAccept, Msg.NewKeys, Msg.KexEcdhInit, Msg.KexEcdhReply, Msg.UserauthFailure, Msg.UserauthSuccess, Msg.UserauthBanner, Msg.GlobalRequest, Msg.RequestSuccess, Msg.RequestFailure, Msg.ChannelOpen, Msg.ChannelOpenConfirmation, Msg.ChannelOpenFailure, Msg.ChannelWindowAdjust, Msg.ChannelData, Msg.ChannelExtendedData, Msg.ChannelEof, Msg.ChannelClose, Msg.ChannelRequest, Msg.ChannelSuccess, Msg.ChannelFailure, Msg.ExtInfo, Msg.KexInit, Msg.UserauthRequest, Msg.UserauthPkOk, Msg.Unknown}
 use Rattle.ssh_model.proofs.Wire.FieldsDecided.{Whole, Decided, Decides, then, fixed, ended, rest_of, eq_number, by_truth, byte, boolean, uint32, string, names, cookie, step, method, extensions}
 
 -- ---- the rows

@@ -1,7 +1,7 @@
 -- Fields, one after the other, that two rows find in the same bytes.
 use Rattle.std.proofs.Common.{◌≡◌, ℕ, Bool, List, ◌++◌, sym, subst, ◌∙◌}
-use Rattle.ssh_model.specs.Wire.DataTypes.{IsByte, IsBoolean, IsUint32, IsString, IsNameList}
-use Rattle.ssh_model.specs.Wire.Message.{◌▸◌, IsEnd, IsRest, IsCookie, IsOtherName}
+use Rattle.ssh_model.specs.Protocol.Wire.DataTypes.{IsByte, IsBoolean, IsUint32, IsString, IsNameList}
+use Rattle.ssh_model.specs.Protocol.Wire.Message.{◌▸◌, IsEnd, IsRest, IsCookie, IsOtherName}
 use Rattle.ssh_model.specs.Laws.Spellings.{one_byte, one_boolean, one_uint32, one_string, one_name_list, one_cookie}
 
 -- Where the same bytes begin with P and with Q, both are the same bytes and say the same.

@@ -4,13 +4,13 @@ use Rattle.std.specs.Prelude.{codes, drop}
 use Rattle.std.specs.List.{list_all, slice_split}
 use Rattle.std.proofs.lemmas.Bool.{le-leb, leb-true}
 use Rattle.std.proofs.lemmas.List.Splits.{join_with_byte-slice_split}
-use Rattle.ssh_model.specs.Wire.DataTypes.{AreBytes, IsByte, IsBoolean, IsUint32, IsString, IsNameList, IsNameText, is_comma, is_name, number}
-use Rattle.ssh_model.specs.Wire.Message.{◌▸◌, IsEnd, IsRest, IsCookie, IsOtherName, IsMethod, IsExtensions, Method, Method.NoMethod, Method.Password, Method.Publickey, Method.Other, Extension}
-use Rattle.ssh_model.specs.Wire.Reading.{OneForm}
-use Rattle.ssh_model.specs.Wire.MacOnly.{is_text}
+use Rattle.ssh_model.specs.Protocol.Wire.DataTypes.{AreBytes, IsByte, IsBoolean, IsUint32, IsString, IsNameList, IsNameText, is_comma, is_name, number}
+use Rattle.ssh_model.specs.Protocol.Wire.Message.{◌▸◌, IsEnd, IsRest, IsCookie, IsOtherName, IsMethod, IsExtensions, Method, Method.NoMethod, Method.Password, Method.Publickey, Method.Other, Extension}
+use Rattle.ssh_model.specs.Laws.Reading.{OneForm}
+use Rattle.ssh_model.specs.Protocol.Wire.MacOnly.{is_text}
 use Rattle.ssh_model.specs.Laws.Names.{split_joined}
 use Rattle.ssh_model.specs.Laws.Spellings.{same_front, one_byte, one_boolean, one_uint32, one_string, one_name_list, one_cookie}
-use Rattle.ssh_model.specs.Sessions.Parties.{is_byte}
+use Rattle.ssh_model.specs.Protocol.Sessions.Parties.{is_byte}
 use Rattle.ssh_model.proofs.Sessions.Parts.{are_bytes}
 use Rattle.ssh_model.proofs.KeyExchange.Firsts.{text_same, text_self}
 

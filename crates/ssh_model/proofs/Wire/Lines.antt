@@ -1,7 +1,7 @@
 -- The units of a stream before the version line: where they end, and what they are.
 use Rattle.std.proofs.Common.{◌≡◌, ℕ, ◌+◌, ◌<◌, Bool, true, false, List, [], ◌∷◌, ◌++◌, length, ◌⊎◌, inl, inr, refl, ap, sym, subst, ◌∙◌, arith, append_assoc, append-nil, length-append}
-use Rattle.ssh_model.specs.Wire.Outcome.{Outcome}
-use Rattle.ssh_model.specs.Wire.Line.{is_text_byte, IsText, line_end, IsLineBegun, IsLineBegun.in_text, IsLineBegun.at_line_end, LineUnit, LineUnit.line, LineUnit.zero_byte, LineUnit.lf_without_cr, LineUnit.cr_without_lf, LineUnit.too_long}
+use Rattle.ssh_model.specs.Protocol.Wire.Outcome.{Outcome}
+use Rattle.ssh_model.specs.Protocol.Wire.Line.{is_text_byte, IsText, line_end, IsLineBegun, IsLineBegun.in_text, IsLineBegun.at_line_end, LineUnit, LineUnit.line, LineUnit.zero_byte, LineUnit.lf_without_cr, LineUnit.cr_without_lf, LineUnit.too_long}
 use Rattle.ssh_model.proofs.Wire.Lists.{cut, same_last, no_more, all_front, all_there}
 
 -- ---- the beginning of a line
@@ -34,7 +34,7 @@ begun_less u v b e (at_line_end text t parts short) = go (cut u v text (13 ∷ [
         let one : u ++ [] ≡ text ++ 13 ∷ [] = ap (λ (l : List ℕ). u ++ l) (sym (no_more v rest)) ∙ e ∙ parts in
         at_line_end text t (sym (append-nil u) ∙ one) room
 
--- a text with another byte behind it is not begun, and nothing with CR and a byte behind it
+-- a text with another byte after it is not begun, and nothing with CR and a byte after it
 text_over : (text bytes : List ℕ) (b : ℕ) → is_text_byte b ≡ false → (b ≡ 13 → ⊥) → bytes ≡ text ++ b ∷ [] → IsLineBegun bytes → ⊥
 text_over text bytes b bad other parts (in_text t short) = not_text text b bad (subst (λ (l : List ℕ). IsText l) parts t)
 text_over text bytes b bad other parts (at_line_end t i p short) = other (same_last text t b 13 (sym parts ∙ p)).1

@@ -16,7 +16,7 @@ cut (a ∷ u) v (b ∷ p) q e =
     go h (inl r) = inl (r.0, cc (h, r.1), r.2)
     go h (inr r) = inr (r.0, r.1, cc (h, r.2))
 
--- lists with one more byte behind them
+-- lists with one more byte after them
 pub same_last : (xs ys : List ℕ) (a b : ℕ) → xs ++ a ∷ [] ≡ ys ++ b ∷ [] → (xs ≡ ys) × (a ≡ b)
 same_last [] [] a b e = (refl, cc e)
 same_last [] (y ∷ ys) a b e = absurd (omega (arith, ap length e, length-append ys (b ∷ [])))

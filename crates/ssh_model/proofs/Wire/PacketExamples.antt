@@ -3,13 +3,13 @@ use Rattle.std.proofs.Common.{◌≡◌, ℕ, ◌<◌, ◌≤◌, true, ltb, Lis
 use Rattle.std.proofs.lemmas.Bool.{ltb-true}
 use Rattle.std.specs.Prelude.{replicate}
 use Rattle.std.specs.List.{list_all}
-use Rattle.ssh_model.specs.Wire.DataTypes.{AreBytes, IsUint32, number as number_of}
-use Rattle.ssh_model.specs.Wire.Packet.{Blocks, IsPacket, with_length, without_length}
-use Rattle.ssh_model.specs.Wire.Sealing.{Crypto, IsBadLength, IsWhole, IsBegun.has_length}
-use Rattle.ssh_model.specs.Wire.Outcome.{Outcome.Opens, Outcome.RefusedPacket}
-use Rattle.ssh_model.specs.Wire.Unit.{PacketUnit, PacketUnit.opens, PacketUnit.bad_length, PacketUnit.spent, PacketUnit.bad_padding, IsPacketBegun}
+use Rattle.ssh_model.specs.Protocol.Wire.DataTypes.{AreBytes, IsUint32, number as number_of}
+use Rattle.ssh_model.specs.Protocol.Wire.Packet.{Blocks, IsPacket, with_length, without_length}
+use Rattle.ssh_model.specs.Protocol.Wire.Sealing.{Crypto, IsBadLength, IsWhole, IsBegun.has_length}
+use Rattle.ssh_model.specs.Protocol.Wire.Outcome.{Outcome.Opens, Outcome.RefusedPacket}
+use Rattle.ssh_model.specs.Protocol.Wire.Unit.{PacketUnit, PacketUnit.opens, PacketUnit.bad_length, PacketUnit.spent, PacketUnit.bad_padding, IsPacketBegun}
 use Rattle.ssh_model.proofs.Wire.Lists.{both}
-use Rattle.ssh_model.specs.Sessions.Refusals.{Refusal.BadLength, Refusal.BadPadding, Refusal.NumberSpent}
+use Rattle.ssh_model.specs.Protocol.Sessions.Refusals.{Refusal.BadLength, Refusal.BadPadding, Refusal.NumberSpent}
 use Rattle.ssh_model.specs.Laws.Spellings.{same_front}
 
 bytes : (bs : List ℕ) → list_all (λ b. ltb b 256) bs ≡ true → AreBytes bs
@@ -90,7 +90,7 @@ module _ {K : Type 0} (c : Crypto K) where
   short_padding_row =
       bad_padding (omega arith, omega arith) (bytes (0 ∷ 0 ∷ 0 ∷ 12 ∷ 3 ∷ replicate 11 0) refl) (record { whole = twelve_whole 3; good = refl; none = λ payload p. omega (arith, (padding_is (with_length 8) 0 12 3 (replicate 11 0) payload p).0) })
 
--- ---- behind packet_length
+-- ---- after packet_length
 
 eight : IsUint32 8 (0 ∷ 0 ∷ 0 ∷ 8 ∷ [])
 eight = uint32 8 (0 ∷ 0 ∷ 0 ∷ 8 ∷ []) refl refl refl

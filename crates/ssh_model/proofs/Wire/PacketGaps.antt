@@ -2,12 +2,12 @@
 use Rattle.std.proofs.Common.{◌≡◌, ℕ, ◌+◌, ◌-◌, ◌^◌, ◌<◌, ◌≤◌, true, false, leb, List, [], ◌∷◌, ◌++◌, length, take, drop, ◌⊎◌, inl, inr, refl, ap, sym, subst, ◌∙◌, arith, append_assoc, append-nil, length-append, length-drop, Option, Some, None}
 use Rattle.std.proofs.lemmas.Bool.{cases_lt, cases_Bool, le-leb}
 use Rattle.std.proofs.lemmas.List.{take-append-drop, length-take-le}
-use Rattle.ssh_model.specs.Wire.DataTypes.{AreBytes, IsUint32, number as number_of}
-use Rattle.ssh_model.specs.Wire.Packet.{Blocks, IsBody, IsPacket, is_size}
-use Rattle.ssh_model.specs.Wire.Sealing.{Crypto, IsSealing, IsBegun.no_length, IsBegun.has_length, HasSize, IsWhole, Opened, is_wire_size, blocks_under, tag_under, opened_under}
-use Rattle.ssh_model.specs.Wire.Outcome.{Outcome, Outcome.Opens, Outcome.RefusedPacket, HasUnit}
-use Rattle.ssh_model.specs.Wire.Unit.{PacketUnit, PacketUnit.opens, PacketUnit.bad_length, PacketUnit.spent, PacketUnit.bad_tag, PacketUnit.bad_padding, IsPacketBegun, HasNumber, IsPlace}
-use Rattle.ssh_model.specs.Sessions.Refusals.{Refusal.BadLength, Refusal.BadPadding, Refusal.BadTag, Refusal.NumberSpent}
+use Rattle.ssh_model.specs.Protocol.Wire.DataTypes.{AreBytes, IsUint32, number as number_of}
+use Rattle.ssh_model.specs.Protocol.Wire.Packet.{Blocks, IsBody, IsPacket, is_size}
+use Rattle.ssh_model.specs.Protocol.Wire.Sealing.{Crypto, IsSealing, IsBegun.no_length, IsBegun.has_length, HasSize, IsWhole, Opened, is_wire_size, blocks_under, tag_under, opened_under}
+use Rattle.ssh_model.specs.Protocol.Wire.Outcome.{Outcome, Outcome.Opens, Outcome.RefusedPacket, HasUnit}
+use Rattle.ssh_model.specs.Protocol.Wire.Unit.{PacketUnit, PacketUnit.opens, PacketUnit.bad_length, PacketUnit.spent, PacketUnit.bad_tag, PacketUnit.bad_padding, IsPacketBegun, HasNumber, IsPlace}
+use Rattle.ssh_model.specs.Protocol.Sessions.Refusals.{Refusal.BadLength, Refusal.BadPadding, Refusal.BadTag, Refusal.NumberSpent}
 use Rattle.ssh_model.specs.Laws.Spellings.{same_front}
 
 -- ---- what a whole packet opens to

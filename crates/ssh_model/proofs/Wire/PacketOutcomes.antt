@@ -1,10 +1,10 @@
 -- A unit of a stream of packets has one outcome.
 use Rattle.std.proofs.Common.{◌≡◌, ℕ, ◌+◌, ◌^◌, ◌<◌, true, false, List, [], ◌∷◌, ◌++◌, length, refl, ap, sym, subst, ◌∙◌, arith, append-nil, length-append, Option}
-use Rattle.ssh_model.specs.Wire.DataTypes.{number as number_of}
-use Rattle.ssh_model.specs.Wire.Packet.{Blocks, IsBody, IsPacket, is_size}
-use Rattle.ssh_model.specs.Wire.Sealing.{Crypto, IsSealing, IsBadLength, HasSize, blocks_under, tag_under, opened_under}
-use Rattle.ssh_model.specs.Wire.Outcome.{Outcome, Outcome.Opens}
-use Rattle.ssh_model.specs.Wire.Unit.{PacketUnit, PacketUnit.opens, PacketUnit.bad_length, PacketUnit.spent, PacketUnit.bad_tag, PacketUnit.bad_padding}
+use Rattle.ssh_model.specs.Protocol.Wire.DataTypes.{number as number_of}
+use Rattle.ssh_model.specs.Protocol.Wire.Packet.{Blocks, IsBody, IsPacket, is_size}
+use Rattle.ssh_model.specs.Protocol.Wire.Sealing.{Crypto, IsSealing, IsBadLength, HasSize, blocks_under, tag_under, opened_under}
+use Rattle.ssh_model.specs.Protocol.Wire.Outcome.{Outcome, Outcome.Opens}
+use Rattle.ssh_model.specs.Protocol.Wire.Unit.{PacketUnit, PacketUnit.opens, PacketUnit.bad_length, PacketUnit.spent, PacketUnit.bad_tag, PacketUnit.bad_padding}
 use Rattle.ssh_model.specs.Laws.Spellings.{same_front}
 use Rattle.ssh_model.proofs.Wire.Packets.{wire_whole}
 

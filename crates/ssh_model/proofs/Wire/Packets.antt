@@ -2,11 +2,11 @@
 use Rattle.std.proofs.Common.{◌≡◌, ℕ, ◌+◌, ◌^◌, ◌<◌, ◌≤◌, true, false, cond, ltb, List, [], ◌++◌, length, take, drop, refl, ap, sym, subst, ◌∙◌, arith, append_assoc, append-nil, length-append, Option, Some, None}
 use Rattle.std.proofs.lemmas.Bool.{cond-true, lt-ltb, le-ltb}
 use Rattle.std.proofs.lemmas.List.{take-append-drop, length-take}
-use Rattle.ssh_model.specs.Wire.DataTypes.{AreBytes, IsUint32, number as number_of}
-use Rattle.ssh_model.specs.Wire.Packet.{Blocks, is_size}
-use Rattle.ssh_model.specs.Wire.Sealing.{Crypto, IsSealing, IsWire, IsBadLength, IsBegun, IsBegun.no_length, IsBegun.has_length, HasSize, IsWhole, blocks_under, tag_under, opened_under}
-use Rattle.ssh_model.specs.Wire.Outcome.{Outcome}
-use Rattle.ssh_model.specs.Wire.Unit.{PacketUnit, PacketUnit.opens, PacketUnit.bad_length, PacketUnit.spent, PacketUnit.bad_tag, PacketUnit.bad_padding, IsPacketBegun}
+use Rattle.ssh_model.specs.Protocol.Wire.DataTypes.{AreBytes, IsUint32, number as number_of}
+use Rattle.ssh_model.specs.Protocol.Wire.Packet.{Blocks, is_size}
+use Rattle.ssh_model.specs.Protocol.Wire.Sealing.{Crypto, IsSealing, IsWire, IsBadLength, IsBegun, IsBegun.no_length, IsBegun.has_length, HasSize, IsWhole, blocks_under, tag_under, opened_under}
+use Rattle.ssh_model.specs.Protocol.Wire.Outcome.{Outcome}
+use Rattle.ssh_model.specs.Protocol.Wire.Unit.{PacketUnit, PacketUnit.opens, PacketUnit.bad_length, PacketUnit.spent, PacketUnit.bad_tag, PacketUnit.bad_padding, IsPacketBegun}
 use Rattle.ssh_model.proofs.Wire.Lists.{no_more}
 use Rattle.ssh_model.specs.Laws.Spellings.{same_front}
 

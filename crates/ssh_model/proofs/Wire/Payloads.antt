@@ -1,9 +1,9 @@
 -- What the first byte of a payload says, and that what is written is read.
 use Rattle.std.proofs.Common.{◌≡◌, ◌≢◌, ℕ, Bool, true, false, eqb, List, [], ◌∷◌, ◌++◌, Some, None, refl, sym, ap, ◌∙◌}
 use Rattle.std.proofs.lemmas.Bool.{eq-eqb}
-use Rattle.ssh_model.specs.Wire.DataTypes.{IsBoolean, IsWrittenBoolean}
-use Rattle.ssh_model.specs.Wire.Message.{Method, Method.Password, Method.Publickey, Msg, Msg.Debug, Msg.KexInit, Msg.NewKeys, Msg.UserauthRequest, Msg.UserauthFailure, Msg.GlobalRequest, Msg.ChannelRequest, Msg.Unknown, ◌▸◌, IsRow, IsMethod, IsPayload, IsWrittenPayload, FitsContext, is_unknown, message_number}
-use Rattle.ssh_model.specs.Sessions.Turns.{number_of}
+use Rattle.ssh_model.specs.Protocol.Wire.DataTypes.{IsBoolean, IsWrittenBoolean}
+use Rattle.ssh_model.specs.Protocol.Wire.Message.{Method, Method.Password, Method.Publickey, Msg, Msg.Debug, Msg.KexInit, Msg.NewKeys, Msg.UserauthRequest, Msg.UserauthFailure, Msg.GlobalRequest, Msg.ChannelRequest, Msg.Unknown, ◌▸◌, IsRow, IsMethod, IsPayload, IsWrittenPayload, FitsContext, is_unknown, message_number}
+use Rattle.ssh_model.specs.Protocol.Sessions.Turns.{number_of}
 
 -- ---- the first byte
 
@@ -65,7 +65,7 @@ on f g bytes t = record { front = t.front; back = t.back; first = f t.front t.fi
 past : {P Q Q2 : List ℕ → Type 0} → ((b : List ℕ) → Q b → Q2 b) → (bytes : List ℕ) → (P ▸ Q) bytes → (P ▸ Q2) bytes
 past g = on (λ b p. p) g
 
--- this field is a boolean, and those behind it stay
+-- this field is a boolean, and those after it stay
 flag : {t : Bool} {Q : List ℕ → Type 0} (bytes : List ℕ) → (IsWrittenBoolean t ▸ Q) bytes → (IsBoolean t ▸ Q) bytes
 flag {t = false} = on (λ b e. (0, e, refl)) (λ b q. q)
 flag {t = true} = on (λ b e. (1, e, refl)) (λ b q. q)

@@ -2,11 +2,11 @@
 use Rattle.std.proofs.Common.{◌≡◌, ℕ, ◌+◌, ◌-◌, ◌<◌, ◌^◌, true, List, length, refl, sym, subst, Option, Some, None, arith}
 use Rattle.std.specs.Prelude.{nat_le}
 use Rattle.std.proofs.lemmas.Bool.{le-leb}
-use Rattle.ssh_model.specs.Wire.DataTypes.{AreBytes}
-use Rattle.ssh_model.specs.Wire.Packet.{Blocks, IsPacket, is_size, with_length}
-use Rattle.ssh_model.specs.Wire.Sealing.{Crypto, IsSealing, IsSealed, IsWire, is_wire_size}
-use Rattle.ssh_model.specs.Wire.Outcome.{Outcome.Opens}
-use Rattle.ssh_model.specs.Wire.Unit.{PacketUnit, PacketUnit.opens, HasNumber}
+use Rattle.ssh_model.specs.Protocol.Wire.DataTypes.{AreBytes}
+use Rattle.ssh_model.specs.Protocol.Wire.Packet.{Blocks, IsPacket, is_size, with_length}
+use Rattle.ssh_model.specs.Protocol.Wire.Sealing.{Crypto, IsSealing, IsSealed, IsWire, is_wire_size}
+use Rattle.ssh_model.specs.Protocol.Wire.Outcome.{Outcome.Opens}
+use Rattle.ssh_model.specs.Protocol.Wire.Unit.{PacketUnit, PacketUnit.opens, HasNumber}
 
 -- a packet's size with its tag
 pub wire_size : (blocks : Blocks) (tag size : ℕ) → is_size blocks tag size ≡ true → is_wire_size blocks tag (size + tag) ≡ true

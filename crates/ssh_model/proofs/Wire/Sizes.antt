@@ -1,8 +1,8 @@
 -- A payload, as it is written, has the size of its message.
 use Rattle.std.proofs.Common.{◌≡◌, ℕ, ◌+◌, Bool, true, false, List, [], ◌∷◌, length, Some, None, codes, ap, ◌∙◌, length-append, arith}
-use Rattle.ssh_model.specs.Wire.DataTypes.{IsByte, IsWrittenBoolean, IsUint32, IsString, IsNameList}
-use Rattle.ssh_model.specs.Wire.Message.{Msg, Msg.Disconnect, Msg.Ignore, Msg.Unimplemented, Msg.Debug, Msg.ServiceRequest, Msg.ServiceAccept, Msg.ExtInfo, Msg.KexInit, Msg.NewKeys, Msg.KexEcdhInit, Msg.KexEcdhReply, Msg.UserauthRequest, Msg.UserauthFailure, Msg.UserauthSuccess, Msg.UserauthBanner, Msg.UserauthPkOk, Msg.GlobalRequest, Msg.RequestSuccess, Msg.RequestFailure, Msg.ChannelOpen, Msg.ChannelOpenConfirmation, Msg.ChannelOpenFailure, Msg.ChannelWindowAdjust, Msg.ChannelData, Msg.ChannelExtendedData, Msg.ChannelEof, Msg.ChannelClose, Msg.ChannelRequest, Msg.ChannelSuccess, Msg.ChannelFailure, Msg.Unknown, Method, Method.NoMethod, Method.Password, Method.Publickey, Method.Other, Extension, IsExtensions, Proposal, Then, IsCookie, IsOtherName, IsMethod, IsProposal, IsWrittenPayload}
-use Rattle.ssh_model.specs.Wire.Sizes.{text_size, names_size, method_size, extensions_size, proposal_size, HasPayloadSize}
+use Rattle.ssh_model.specs.Protocol.Wire.DataTypes.{IsByte, IsWrittenBoolean, IsUint32, IsString, IsNameList}
+use Rattle.ssh_model.specs.Protocol.Wire.Message.{Msg, Msg.Disconnect, Msg.Ignore, Msg.Unimplemented, Msg.Debug, Msg.ServiceRequest, Msg.ServiceAccept, Msg.ExtInfo, Msg.KexInit, Msg.NewKeys, Msg.KexEcdhInit, Msg.KexEcdhReply, Msg.UserauthRequest, Msg.UserauthFailure, Msg.UserauthSuccess, Msg.UserauthBanner, Msg.UserauthPkOk, Msg.GlobalRequest, Msg.RequestSuccess, Msg.RequestFailure, Msg.ChannelOpen, Msg.ChannelOpenConfirmation, Msg.ChannelOpenFailure, Msg.ChannelWindowAdjust, Msg.ChannelData, Msg.ChannelExtendedData, Msg.ChannelEof, Msg.ChannelClose, Msg.ChannelRequest, Msg.ChannelSuccess, Msg.ChannelFailure, Msg.Unknown, Method, Method.NoMethod, Method.Password, Method.Publickey, Method.Other, Extension, IsExtensions, Proposal, Then, IsCookie, IsOtherName, IsMethod, IsProposal, IsWrittenPayload}
+use Rattle.ssh_model.specs.Laws.Sizes.{text_size, names_size, method_size, extensions_size, proposal_size, HasPayloadSize}
 
 -- What meets P has so many bytes.
 pub record Sized (P : List ℕ → Type 0) (n : ℕ) : Type 0 where

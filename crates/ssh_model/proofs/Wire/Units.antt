@@ -1,11 +1,11 @@
 -- The units of a stream of lines and packets.
 use Rattle.std.proofs.Common.{◌≡◌, ℕ, Bool, true, false, List, [], ◌++◌, ◌↔◌, ◌⊎◌, inl, inr, sym, ◌∙◌}
-use Rattle.ssh_model.specs.Wire.DataTypes.{AreBytes}
-use Rattle.ssh_model.specs.Wire.Line.{IsLineBegun, LineUnit}
-use Rattle.ssh_model.specs.Wire.Sealing.{Crypto, IsSealing}
-use Rattle.ssh_model.specs.Wire.Outcome.{Outcome, HasUnit}
-use Rattle.ssh_model.specs.Wire.Delivery.{IsAlone, IsStill, Waits, Delivered, InPieces}
-use Rattle.ssh_model.specs.Wire.Unit.{Stage, Stage.Lines, Stage.Packets, IsStage, PacketUnit, IsPacketBegun, IsUnit, IsUnitBegun, reading}
+use Rattle.ssh_model.specs.Protocol.Wire.DataTypes.{AreBytes}
+use Rattle.ssh_model.specs.Protocol.Wire.Line.{IsLineBegun, LineUnit}
+use Rattle.ssh_model.specs.Protocol.Wire.Sealing.{Crypto, IsSealing}
+use Rattle.ssh_model.specs.Protocol.Wire.Outcome.{Outcome, HasUnit}
+use Rattle.ssh_model.specs.Protocol.Wire.Delivery.{IsAlone, IsStill, Waits, Delivered, InPieces}
+use Rattle.ssh_model.specs.Protocol.Wire.Unit.{Stage, Stage.Lines, Stage.Packets, IsStage, PacketUnit, IsPacketBegun, IsUnit, IsUnitBegun, reading}
 use Rattle.ssh_model.proofs.Wire.Lines.{line_alone, line_some, line_begun}
 use Rattle.ssh_model.proofs.Wire.LineOutcomes.{line_outcome}
 use Rattle.ssh_model.proofs.Wire.LineGaps.{line_found}

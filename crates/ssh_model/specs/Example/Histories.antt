@@ -2,29 +2,29 @@
 use Rattle.std.specs.Prelude.{ℕ, Bool, true, false, Option, Some, None, List, [], ◌∷◌, ◌++◌, take, replicate, codes}
 use Rattle.std.specs.List.{filter}
 use Rattle.sha2.specs.Sha256.{sha256}
-use Rattle.ssh_model.specs.Side.{Side, Side.Client, Side.Server, peer}
-use Rattle.ssh_model.specs.Wire.Message.{Msg, Msg.KexInit, Msg.NewKeys, Msg.KexEcdhInit, Msg.KexEcdhReply}
-use Rattle.ssh_model.specs.Wire.Message.{Msg.ServiceRequest, Msg.ServiceAccept, Msg.UserauthRequest}
-use Rattle.ssh_model.specs.Wire.Message.{Msg.UserauthFailure, Msg.UserauthSuccess, Msg.ChannelOpen}
-use Rattle.ssh_model.specs.Wire.Message.{Msg.ChannelOpenConfirmation, Msg.ChannelData, Msg.ChannelEof, Msg.ChannelClose}
-use Rattle.ssh_model.specs.Wire.Message.{Msg.ChannelRequest, Method.Password, Method.Publickey, Proposal}
-use Rattle.ssh_model.specs.Sessions.Refusals.{Refusal, AskRefusal, first_refusal}
-use Rattle.ssh_model.specs.Sessions.Parties.{Parties, settings_of, offer}
-use Rattle.ssh_model.specs.Sessions.Items.{Ask, Ask.AskService, Ask.AskNone, Ask.AskPassword, Ask.AskProbe, Ask.AskSign}
-use Rattle.ssh_model.specs.Sessions.Items.{Ask.AskOpen, Ask.AskConfirm, Ask.AskRefuse, Ask.AskData, Ask.AskAdjust}
-use Rattle.ssh_model.specs.Sessions.Items.{Ask.AskEof, Ask.AskClose, Ask.AskRequest, Ask.AskReply, Ask.AskGlobal}
-use Rattle.ssh_model.specs.Sessions.Items.{Ask.AskGlobalReply, Fact.Completed, Fact.Service, Fact.Accepted}
-use Rattle.ssh_model.specs.Sessions.Items.{Fact.Authenticated, Fact.Opening, Fact.Opened, Fact.Confirmed, Fact.Closed}
-use Rattle.ssh_model.specs.Sessions.Items.{Item, Item.Fed, Item.Asked, Item.SentLine, Item.TookLine, Item.Sent}
-use Rattle.ssh_model.specs.Sessions.Items.{Item.Took, Item.Told}
-use Rattle.ssh_model.specs.Wire.MacOnly.{key_block, mac_only}
-use Rattle.ssh_model.specs.Wire.Sealing.{Crypto}
-use Rattle.ssh_model.specs.KeyExchange.Exchange.{Inputs, exchange_hash, derived}
-use Rattle.ssh_model.specs.KeyExchange.Exchanges.{exchange, exchanges, session_id, mac_letter}
-use Rattle.ssh_model.specs.Sessions.Phases.{may_take}
-use Rattle.ssh_model.specs.Authentication.Requests.{signed_text}
-use Rattle.ssh_model.specs.Sessions.Transport.{hash_to_sign}
-use Rattle.ssh_model.specs.Sessions.Turns.{answer_checks, ask_checks}
+use Rattle.ssh_model.specs.Protocol.Side.{Side, Side.Client, Side.Server, peer}
+use Rattle.ssh_model.specs.Protocol.Wire.Message.{Msg, Msg.KexInit, Msg.NewKeys, Msg.KexEcdhInit, Msg.KexEcdhReply}
+use Rattle.ssh_model.specs.Protocol.Wire.Message.{Msg.ServiceRequest, Msg.ServiceAccept, Msg.UserauthRequest}
+use Rattle.ssh_model.specs.Protocol.Wire.Message.{Msg.UserauthFailure, Msg.UserauthSuccess, Msg.ChannelOpen}
+use Rattle.ssh_model.specs.Protocol.Wire.Message.{Msg.ChannelOpenConfirmation, Msg.ChannelData, Msg.ChannelEof, Msg.ChannelClose}
+use Rattle.ssh_model.specs.Protocol.Wire.Message.{Msg.ChannelRequest, Method.Password, Method.Publickey, Proposal}
+use Rattle.ssh_model.specs.Protocol.Sessions.Refusals.{Refusal, AskRefusal, first_refusal}
+use Rattle.ssh_model.specs.Protocol.Sessions.Parties.{Parties, settings_of, offer}
+use Rattle.ssh_model.specs.Protocol.Sessions.Items.{Ask, Ask.AskService, Ask.AskNone, Ask.AskPassword, Ask.AskProbe, Ask.AskSign}
+use Rattle.ssh_model.specs.Protocol.Sessions.Items.{Ask.AskOpen, Ask.AskConfirm, Ask.AskRefuse, Ask.AskData, Ask.AskAdjust}
+use Rattle.ssh_model.specs.Protocol.Sessions.Items.{Ask.AskEof, Ask.AskClose, Ask.AskRequest, Ask.AskReply, Ask.AskGlobal}
+use Rattle.ssh_model.specs.Protocol.Sessions.Items.{Ask.AskGlobalReply, Fact.Completed, Fact.Service, Fact.Accepted}
+use Rattle.ssh_model.specs.Protocol.Sessions.Items.{Fact.Authenticated, Fact.Opening, Fact.Opened, Fact.Confirmed, Fact.Closed}
+use Rattle.ssh_model.specs.Protocol.Sessions.Items.{Item, Item.Fed, Item.Asked, Item.SentLine, Item.TookLine, Item.Sent}
+use Rattle.ssh_model.specs.Protocol.Sessions.Items.{Item.Took, Item.Told}
+use Rattle.ssh_model.specs.Protocol.Wire.MacOnly.{key_block, mac_only}
+use Rattle.ssh_model.specs.Protocol.Wire.Sealing.{Crypto}
+use Rattle.ssh_model.specs.Protocol.KeyExchange.Exchange.{Inputs, exchange_hash, derived}
+use Rattle.ssh_model.specs.Protocol.KeyExchange.Exchanges.{exchange, exchanges, session_id, mac_letter}
+use Rattle.ssh_model.specs.Protocol.Sessions.Phases.{may_take}
+use Rattle.ssh_model.specs.Protocol.Authentication.Requests.{signed_text}
+use Rattle.ssh_model.specs.Protocol.Sessions.Transport.{hash_to_sign}
+use Rattle.ssh_model.specs.Protocol.Sessions.Turns.{answer_checks, ask_checks}
 use Rattle.ssh_model.specs.Example.Toys.{toy_settings, naming_toys, toy, toy_key, cookie, secret, from_to}
 
 -- ---- what is asked of the definitions
@@ -152,6 +152,7 @@ keyed side = keyed_by toy side
 
 -- ---- authentication
 
+-- the service of authentication
 abbrev pub userauth : List ℕ
 userauth = codes "ssh-userauth"
 
@@ -245,7 +246,7 @@ abbrev pub channel_confirmed : Side → List Item
 channel_confirmed Client = Told (Confirmed 3 20 16 []) ∷ hears_on 3 confirm_message ∷ channel_opened Client
 channel_confirmed Server = says_on 5 confirm_message ∷ channel_opened Server
 
--- data for the client that fill its window but for 2 bytes
+-- data for the client that fill its window except for 2 bytes
 abbrev pub heard_data : Item
 heard_data = hears_on 3 (ChannelData 3 (replicate 8 0))
 
@@ -275,7 +276,7 @@ guessing_by p side first =
 abbrev pub guessing : Side → (first : Bool) → Proposal
 guessing side first = guessing_by toy side first
 
--- data of the client that fill the window of the server but for 4 bytes
+-- data of the client that fill the window of the server except for 4 bytes
 abbrev pub said_data : Item
 said_data = says_on 3 (ChannelData 5 (replicate 16 0))
 

@@ -2,16 +2,17 @@
 -- an IGNORE that nobody sent comes to the client before there are keys, and makes up in its count for the packet that
 -- is lost.
 use Rattle.std.specs.Prelude.{true, List, [], ◌∷◌, ◌++◌, codes}
-use Rattle.ssh_model.specs.Side.{Side.Client, Side.Server, part, done_by}
-use Rattle.ssh_model.specs.Wire.Message.{Msg, Msg.Disconnect, Msg.Ignore, Msg.NewKeys, Msg.KexEcdhInit}
-use Rattle.ssh_model.specs.Wire.Message.{Msg.ServiceRequest, Msg.ServiceAccept}
-use Rattle.ssh_model.specs.Sessions.Items.{Ask.AskService, Ask.AskDisconnect, Fact.Completed, Fact.Ignored}
-use Rattle.ssh_model.specs.Sessions.Items.{Fact.Disconnected, Item.Asked, Item.TookLine, Item.Told, Item.Died, Done}
-use Rattle.ssh_model.specs.Sessions.Transport.{reply_now}
+use Rattle.ssh_model.specs.Protocol.Side.{Side.Client, Side.Server, part, done_by}
+use Rattle.ssh_model.specs.Protocol.Wire.Message.{Msg, Msg.Disconnect, Msg.Ignore, Msg.NewKeys, Msg.KexEcdhInit}
+use Rattle.ssh_model.specs.Protocol.Wire.Message.{Msg.ServiceRequest, Msg.ServiceAccept}
+use Rattle.ssh_model.specs.Protocol.Sessions.Items.{Ask.AskService, Ask.AskDisconnect, Fact.Completed, Fact.Ignored}
+use Rattle.ssh_model.specs.Protocol.Sessions.Items.{Fact.Disconnected, Item.Asked, Item.TookLine, Item.Told, Item.Died, Done}
+use Rattle.ssh_model.specs.Protocol.Sessions.Transport.{reply_now}
 use Rattle.ssh_model.specs.Example.Toys.{plain, secret}
 use Rattle.ssh_model.specs.Example.Histories.{line_of, userauth}
 use Rattle.ssh_model.specs.Example.Run.{sends, takes, offer_message_by, start_by}
 
+-- turns of the run, each over those before it
 abbrev pub plain0 : List Done
 plain0 = done_by Server (start_by plain Server) ++ done_by Client (start_by plain Client)
 

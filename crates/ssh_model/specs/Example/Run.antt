@@ -3,19 +3,19 @@
 use Rattle.std.specs.Prelude.{ℕ, Bool, true, false, Some, None, List, [], ◌∷◌, ◌++◌, if◌then◌else◌, codes}
 use Rattle.std.specs.List.{join_with_byte}
 use Rattle.std.specs.Int.{w32, to_be_bytes}
-use Rattle.ssh_model.specs.Side.{Side, Side.Client, Side.Server, part, done_by}
-use Rattle.ssh_model.specs.Wire.Message.{Msg, Msg.Disconnect, Msg.Ignore, Msg.KexInit, Msg.NewKeys, Msg.KexEcdhInit}
-use Rattle.ssh_model.specs.Wire.Message.{Msg.KexEcdhReply, Msg.ServiceRequest, Msg.ServiceAccept, Msg.UserauthRequest}
-use Rattle.ssh_model.specs.Wire.Message.{Msg.UserauthSuccess, Msg.ChannelOpen, Msg.ChannelOpenConfirmation}
-use Rattle.ssh_model.specs.Wire.Message.{Msg.ChannelData, Msg.ChannelClose, Method.Password}
-use Rattle.ssh_model.specs.KeyExchange.Exchange.{string_of}
-use Rattle.ssh_model.specs.Sessions.Items.{Ask.AskService, Ask.AskPassword, Ask.AskRekey, Ask.AskOpen, Ask.AskConfirm}
-use Rattle.ssh_model.specs.Sessions.Items.{Ask.AskData, Ask.AskClose, Fact.Completed, Fact.Service, Fact.Accepted}
-use Rattle.ssh_model.specs.Sessions.Items.{Fact.Authenticated, Fact.Opening, Fact.Opened, Fact.Confirmed, Fact.GotData}
-use Rattle.ssh_model.specs.Sessions.Items.{Fact.Closed, Item, Item.Asked, Item.SentLine, Item.TookLine, Item.Sent}
-use Rattle.ssh_model.specs.Sessions.Items.{Item.Took, Item.Told, Done}
-use Rattle.ssh_model.specs.Sessions.Parties.{Parties}
-use Rattle.ssh_model.specs.Sessions.Transport.{reply_now}
+use Rattle.ssh_model.specs.Protocol.Side.{Side, Side.Client, Side.Server, part, done_by}
+use Rattle.ssh_model.specs.Protocol.Wire.Message.{Msg, Msg.Disconnect, Msg.Ignore, Msg.KexInit, Msg.NewKeys, Msg.KexEcdhInit}
+use Rattle.ssh_model.specs.Protocol.Wire.Message.{Msg.KexEcdhReply, Msg.ServiceRequest, Msg.ServiceAccept, Msg.UserauthRequest}
+use Rattle.ssh_model.specs.Protocol.Wire.Message.{Msg.UserauthSuccess, Msg.ChannelOpen, Msg.ChannelOpenConfirmation}
+use Rattle.ssh_model.specs.Protocol.Wire.Message.{Msg.ChannelData, Msg.ChannelClose, Method.Password}
+use Rattle.ssh_model.specs.Protocol.KeyExchange.Exchange.{string_of}
+use Rattle.ssh_model.specs.Protocol.Sessions.Items.{Ask.AskService, Ask.AskPassword, Ask.AskRekey, Ask.AskOpen, Ask.AskConfirm}
+use Rattle.ssh_model.specs.Protocol.Sessions.Items.{Ask.AskData, Ask.AskClose, Fact.Completed, Fact.Service, Fact.Accepted}
+use Rattle.ssh_model.specs.Protocol.Sessions.Items.{Fact.Authenticated, Fact.Opening, Fact.Opened, Fact.Confirmed, Fact.GotData}
+use Rattle.ssh_model.specs.Protocol.Sessions.Items.{Fact.Closed, Item, Item.Asked, Item.SentLine, Item.TookLine, Item.Sent}
+use Rattle.ssh_model.specs.Protocol.Sessions.Items.{Item.Took, Item.Told, Done}
+use Rattle.ssh_model.specs.Protocol.Sessions.Parties.{Parties}
+use Rattle.ssh_model.specs.Protocol.Sessions.Transport.{reply_now}
 use Rattle.ssh_model.specs.Example.Toys.{toy, secret}
 use Rattle.ssh_model.specs.Example.Histories.{line_of, feeding, offer_by, userauth, right_request, open_message}
 use Rattle.ssh_model.specs.Example.Histories.{confirm_message}
@@ -107,6 +107,7 @@ start_of side = start_by toy side
 abbrev pub data_message : Msg
 data_message = ChannelData 5 (codes "hi")
 
+-- turns of the run, each over those before it
 abbrev pub d0 : List Done
 d0 = done_by Server (start_of Server) ++ done_by Client (start_of Client)
 

@@ -2,20 +2,20 @@
 use Rattle.std.specs.Prelude.{ℕ, zero, suc, Bool, true, false, ◌+◌, ◌-◌, ◌&&◌, bit_xor, Some, List, [], ◌∷◌, ◌++◌}
 use Rattle.std.specs.Prelude.{replicate, codes}
 use Rattle.sha2.specs.Sha256.{sha256}
-use Rattle.ssh_model.specs.Wire.Message.{Extension}
-use Rattle.ssh_model.specs.Wire.MacOnly.{is_text, mac_only}
-use Rattle.ssh_model.specs.Sessions.Parties.{Strictness, Strictness.Require, Strictness.Off, Settings, Agreement}
-use Rattle.ssh_model.specs.Sessions.Parties.{Parties}
-use Rattle.ssh_model.specs.Sessions.Refusals.{Refusal, Refusal.BadLine, Refusal.BadVersion, Refusal.BadLength}
-use Rattle.ssh_model.specs.Sessions.Refusals.{Refusal.BadPadding, Refusal.BadTag, Refusal.BadMessage}
-use Rattle.ssh_model.specs.Sessions.Refusals.{Refusal.Unexpected, Refusal.NoCommon, Refusal.NotStrict, Refusal.BadPoint}
-use Rattle.ssh_model.specs.Sessions.Refusals.{Refusal.BadHost, Refusal.NoService, Refusal.NumberSpent}
-use Rattle.ssh_model.specs.Sessions.Refusals.{Refusal.TooManyTries, Refusal.UnknownChannel, Refusal.WindowOverrun}
-use Rattle.ssh_model.specs.Sessions.Refusals.{Refusal.WindowTooLarge, Refusal.OwedFull, AskRefusal, AskRefusal.NotYet}
-use Rattle.ssh_model.specs.Sessions.Refusals.{AskRefusal.Busy, AskRefusal.NoChannel, AskRefusal.NoRoom}
-use Rattle.ssh_model.specs.Sessions.Refusals.{AskRefusal.TooLong, AskRefusal.Ended, AskRefusal.TableFull}
-use Rattle.ssh_model.specs.Sessions.Refusals.{AskRefusal.NothingOwed, AskRefusal.RekeyDue, AskRefusal.TooMuch}
-use Rattle.ssh_model.specs.Sessions.Refusals.{AskRefusal.WrongSide}
+use Rattle.ssh_model.specs.Protocol.Wire.Message.{Extension}
+use Rattle.ssh_model.specs.Protocol.Wire.MacOnly.{is_text, mac_only}
+use Rattle.ssh_model.specs.Protocol.Sessions.Parties.{Strictness, Strictness.Require, Strictness.Off, Settings, Agreement}
+use Rattle.ssh_model.specs.Protocol.Sessions.Parties.{Parties}
+use Rattle.ssh_model.specs.Protocol.Sessions.Refusals.{Refusal, Refusal.BadLine, Refusal.BadVersion, Refusal.BadLength}
+use Rattle.ssh_model.specs.Protocol.Sessions.Refusals.{Refusal.BadPadding, Refusal.BadTag, Refusal.BadMessage}
+use Rattle.ssh_model.specs.Protocol.Sessions.Refusals.{Refusal.Unexpected, Refusal.NoCommon, Refusal.NotStrict, Refusal.BadPoint}
+use Rattle.ssh_model.specs.Protocol.Sessions.Refusals.{Refusal.BadHost, Refusal.NoService, Refusal.NumberSpent}
+use Rattle.ssh_model.specs.Protocol.Sessions.Refusals.{Refusal.TooManyTries, Refusal.UnknownChannel, Refusal.WindowOverrun}
+use Rattle.ssh_model.specs.Protocol.Sessions.Refusals.{Refusal.WindowTooLarge, Refusal.OwedFull, AskRefusal, AskRefusal.NotYet}
+use Rattle.ssh_model.specs.Protocol.Sessions.Refusals.{AskRefusal.Busy, AskRefusal.NoChannel, AskRefusal.NoRoom}
+use Rattle.ssh_model.specs.Protocol.Sessions.Refusals.{AskRefusal.TooLong, AskRefusal.Ended, AskRefusal.TableFull}
+use Rattle.ssh_model.specs.Protocol.Sessions.Refusals.{AskRefusal.NothingOwed, AskRefusal.RekeyDue, AskRefusal.TooMuch}
+use Rattle.ssh_model.specs.Protocol.Sessions.Refusals.{AskRefusal.WrongSide}
 
 -- ---- the parts
 

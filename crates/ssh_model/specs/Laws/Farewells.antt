@@ -3,17 +3,17 @@
 use Rattle.std.proofs.Common.{◌≡◌, ℕ, ◌≤◌, length, List, [], Option, Some, None, refl, arith}
 use Rattle.std.proofs.lemmas.Bool.{false≢true, ltb-false}
 use Rattle.std.specs.Prelude.{IsSome}
-use Rattle.ssh_model.specs.Wire.Message.{Msg.Disconnect}
-use Rattle.ssh_model.specs.Sessions.Items.{Ask.AskDisconnect}
-use Rattle.ssh_model.specs.Sessions.Refusals.{Refusal, Refusal.BadLine, Refusal.BadVersion, Refusal.BadLength}
-use Rattle.ssh_model.specs.Sessions.Refusals.{Refusal.BadPadding, Refusal.BadTag, Refusal.BadMessage, Refusal.Unexpected}
-use Rattle.ssh_model.specs.Sessions.Refusals.{Refusal.NoCommon, Refusal.NotStrict, Refusal.BadPoint, Refusal.BadHost}
-use Rattle.ssh_model.specs.Sessions.Refusals.{Refusal.NoMaterial, Refusal.NoService, Refusal.NumberSpent}
-use Rattle.ssh_model.specs.Sessions.Refusals.{Refusal.TooManyTries, Refusal.UnknownChannel, Refusal.WindowOverrun}
-use Rattle.ssh_model.specs.Sessions.Refusals.{Refusal.WindowTooLarge, Refusal.OwedFull}
-use Rattle.ssh_model.specs.Sessions.Refusals.{first_refusal, refusal_name, refusal_reason}
-use Rattle.ssh_model.specs.Sessions.TurnClaims.{HasSpelling}
-use Rattle.ssh_model.specs.TransportLayer.Kept.{Transport, message_ask_checks}
+use Rattle.ssh_model.specs.Protocol.Wire.Message.{Msg.Disconnect}
+use Rattle.ssh_model.specs.Protocol.Sessions.Items.{Ask.AskDisconnect}
+use Rattle.ssh_model.specs.Protocol.Sessions.Refusals.{Refusal, Refusal.BadLine, Refusal.BadVersion, Refusal.BadLength}
+use Rattle.ssh_model.specs.Protocol.Sessions.Refusals.{Refusal.BadPadding, Refusal.BadTag, Refusal.BadMessage, Refusal.Unexpected}
+use Rattle.ssh_model.specs.Protocol.Sessions.Refusals.{Refusal.NoCommon, Refusal.NotStrict, Refusal.BadPoint, Refusal.BadHost}
+use Rattle.ssh_model.specs.Protocol.Sessions.Refusals.{Refusal.NoMaterial, Refusal.NoService, Refusal.NumberSpent}
+use Rattle.ssh_model.specs.Protocol.Sessions.Refusals.{Refusal.TooManyTries, Refusal.UnknownChannel, Refusal.WindowOverrun}
+use Rattle.ssh_model.specs.Protocol.Sessions.Refusals.{Refusal.WindowTooLarge, Refusal.OwedFull}
+use Rattle.ssh_model.specs.Protocol.Sessions.Refusals.{first_refusal, refusal_name, refusal_reason}
+use Rattle.ssh_model.specs.Protocol.Sessions.TurnClaims.{HasSpelling}
+use Rattle.ssh_model.specs.State.TransportLayer.Kept.{Transport, message_ask_checks}
 use Rattle.ssh_model.specs.Laws.Checks.{all_passed}
 use Rattle.ssh_model.specs.Laws.Written.{disconnect_spelled}
 
@@ -74,6 +74,7 @@ pub record Farewell (why : Refusal) : Type 0 where
   pub reason_is : refusal_reason why ≡ Some reason
   pub spelling : HasSpelling (Disconnect reason (refusal_name why) [])
 
+-- Each refusal with a reason code has one.
 pub farewell_of : (why : Refusal) → IsSome (refusal_reason why) → Farewell why
 farewell_of why some = go (refusal_reason why) refl some
   where

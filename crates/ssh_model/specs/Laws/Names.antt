@@ -6,7 +6,7 @@ use Rattle.std.specs.List.{join_with_byte, slice_split, list_all, All, count_by}
 use Rattle.std.proofs.lemmas.Bool.{and_parts, leb-true, cases_Bool, cond-true}
 use Rattle.std.proofs.lemmas.List.Sums.{AllPass-from_list_all}
 use Rattle.std.proofs.lemmas.List.Splits.{slice_split_none, slice_split_at}
-use Rattle.ssh_model.specs.Wire.DataTypes.{is_comma, is_name_byte, is_name, IsNameText}
+use Rattle.ssh_model.specs.Protocol.Wire.DataTypes.{is_comma, is_name_byte, is_name, IsNameText}
 
 no_comma : (c : ℕ) → is_name_byte c ≡ true → is_comma c ≡ false
 no_comma c h =
@@ -22,6 +22,7 @@ pub record NameFacts (name : List ℕ) : Type 0 where
   pub most : length name ≤ 64
   pub plain : All (λ c. is_comma c ≡ false) name
 
+-- What is a name has them.
 pub name_facts : (name : List ℕ) → is_name name ≡ true → NameFacts name
 name_facts name h =
     let p = and_parts ((leb 1 (length name) && leb (length name) 64)
@@ -77,13 +78,14 @@ joined_length (name ∷ next ∷ names) h =
     joined_length (next ∷ names) p.1 in
     omega (arith, length-append name (44 ∷ join_with_byte 44 (next ∷ names)))
 
+-- A text of names has at most 65 bytes for each name.
 pub text_length : (names : List (List ℕ)) (text : List ℕ) → IsNameText names text → length text ≤ 65 * length names
 text_length names text t =
     let joined : length (join_with_byte 44 names) ≤ 65 * length names = joined_length names t.all in
     let same : length text ≡ length (join_with_byte 44 names) = ap (λ (l : List ℕ). length l) t.joined in
     omega arith
 
--- one name more stands behind a comma
+-- one name more stands after a comma
 pub one_more : (first : List ℕ) (names : List (List ℕ)) (name : List ℕ) →
     join_with_byte 44 (first ∷ (names ++ name ∷ [])) ≡ join_with_byte 44 (first ∷ names) ++ (44 ∷ name)
 one_more first [] name = refl

@@ -2,6 +2,7 @@
 use Rattle.std.proofs.Common.{◌≡◌, suc, ◌+◌, ◌<◌, List, [], ◌∷◌, length, cond, Contains, count_by, is_some, Option, None, Some, refl, arith}
 use Rattle.std.proofs.lemmas.List.Sums.{sum_by-cons}
 
+-- Some number has nothing where fewer are in use than there are.
 pub some_unused : {A : Type 0} (l : List (Option A)) → count_by is_some l < length l → Contains l None
 some_unused [] h = absurd (omega (arith, h))
 some_unused (None ∷ l) h = (0, omega arith, refl)

@@ -1,9 +1,9 @@
 -- What spells a value begins with nothing that spells another.
 use Rattle.std.proofs.Common.{◌≡◌, ℕ, ltb, List, [], ◌∷◌, ◌++◌, length, refl, sym, ap, subst, ◌∙◌, append_assoc, arith}
-use Rattle.ssh_model.specs.Wire.DataTypes.{IsByte, IsBoolean, IsUnsigned, IsUint32, IsUint64, IsString, IsNameText}
-use Rattle.ssh_model.specs.Wire.DataTypes.{IsNameList}
-use Rattle.ssh_model.specs.Wire.Reading.{OneForm}
-use Rattle.ssh_model.specs.Wire.Message.{IsCookie}
+use Rattle.ssh_model.specs.Protocol.Wire.DataTypes.{IsByte, IsBoolean, IsUnsigned, IsUint32, IsUint64, IsString, IsNameText}
+use Rattle.ssh_model.specs.Protocol.Wire.DataTypes.{IsNameList}
+use Rattle.ssh_model.specs.Laws.Reading.{OneForm}
+use Rattle.ssh_model.specs.Protocol.Wire.Message.{IsCookie}
 use Rattle.ssh_model.specs.Laws.Names.{one_text}
 
 -- prefixes of one length are one
@@ -17,6 +17,7 @@ same_front (c ∷ a) (d ∷ b) x y l e =
     let r = same_front a b x y (omega arith) rest in
     (λ i. head i ∷ r.0 i, r.1)
 
+-- Each data type has one form: what spells one value begins with nothing that spells another.
 pub one_byte : OneForm IsByte
 one_byte m n a b x y p q e =
     let s = same_front a b x y (omega (arith, ap length p, ap length q)) e in

@@ -3,23 +3,27 @@ use Rattle.std.proofs.Common.{◌≡◌, ℕ, ◌<◌, ◌≤◌, ◌+◌, ◌^�
 use Rattle.std.specs.Prelude.{if◌then◌else◌, codes}
 use Rattle.std.specs.List.{list_all, join_with_byte}
 use Rattle.std.specs.Int.{w32, to_be_bytes}
-use Rattle.ssh_model.specs.Wire.DataTypes.{IsByte, IsWrittenBoolean, IsUint32, IsString, IsNameList, is_name}
-use Rattle.ssh_model.specs.Wire.Message.{◌▸◌, IsEnd, IsRest, IsAny, IsCookie, Msg, Msg.ChannelClose, Msg.ChannelData, Msg.ChannelEof, Msg.ChannelExtendedData, Msg.ChannelFailure, Msg.ChannelOpen, Msg.ChannelOpenConfirmation, Msg.ChannelOpenFailure, Msg.ChannelRequest, Msg.ChannelSuccess, Msg.ChannelWindowAdjust, Msg.Disconnect, Msg.GlobalRequest, Msg.KexEcdhInit, Msg.KexEcdhReply, Msg.NewKeys, Msg.RequestFailure, Msg.RequestSuccess, Msg.ServiceAccept, Msg.ServiceRequest, Msg.Unimplemented, Msg.Unknown, Msg.UserauthPkOk, Msg.UserauthRequest, Msg.UserauthSuccess, Method.NoMethod, Method.Password, Method.Publickey, FitsContext, IsWrittenPayload}
-use Rattle.ssh_model.specs.Sessions.TurnClaims.{HasSpelling}
+use Rattle.ssh_model.specs.Protocol.Wire.DataTypes.{IsByte, IsWrittenBoolean, IsUint32, IsString, IsNameList, is_name}
+use Rattle.ssh_model.specs.Protocol.Wire.Message.{◌▸◌, IsEnd, IsRest, IsAny, IsCookie, Msg, Msg.ChannelClose, Msg.ChannelData, Msg.ChannelEof, Msg.ChannelExtendedData, Msg.ChannelFailure, Msg.ChannelOpen, Msg.ChannelOpenConfirmation, Msg.ChannelOpenFailure, Msg.ChannelRequest, Msg.ChannelSuccess, Msg.ChannelWindowAdjust, Msg.Disconnect, Msg.GlobalRequest, Msg.KexEcdhInit, Msg.KexEcdhReply, Msg.NewKeys, Msg.RequestFailure, Msg.RequestSuccess, Msg.ServiceAccept, Msg.ServiceRequest, Msg.Unimplemented, Msg.Unknown, Msg.UserauthPkOk, Msg.UserauthRequest, Msg.UserauthSuccess, Method.NoMethod, Method.Password, Method.Publickey, FitsContext, IsWrittenPayload}
+use Rattle.ssh_model.specs.Protocol.Sessions.TurnClaims.{HasSpelling}
 
 -- ---- bytes of a known count
 
+-- bytes that spell something, of a known count
 pub record Made (Spells : List ℕ → Type 0) (count : ℕ) : Type 0 where
   pub bytes : List ℕ
   pub spells : Spells bytes
   pub size : length bytes ≡ count
 
+-- nothing, where a payload ends
 pub ended : Made IsEnd 0
 ended = record { bytes = []; spells = refl; size = refl }
 
+-- anything, after what is known
 pub any : Made IsAny 0
 any = record { bytes = []; spells = tt; size = refl }
 
+-- given bytes, after what is known
 pub rest : (l : List ℕ) → Made (IsRest l) (length l)
 rest l = record { bytes = l; spells = refl; size = refl }
 
@@ -65,11 +69,13 @@ module _ {G : List ℕ → Type 0} {k : ℕ} where
         size = omega (arith, more.size, length-append (front ++ text) more.bytes, length-append front text);
       }
 
+-- A message of at most 34,000 bytes that its context allows has a spelling.
 pub spelled : (m : Msg) (k : ℕ) → Made (IsWrittenPayload m) k → FitsContext true m → k ≤ 34000 → HasSpelling m
 spelled m k made fits n = record { payload = made.bytes; spells = record { context = fits; row = made.spells; size = omega (arith, made.size, n) } }
 
 -- ---- messages
 
+-- Each message has a spelling, where its parts have theirs.
 pub disconnect_spelled : (reason : ℕ) (text : List ℕ) → reason < 2 ^ 32 → length text ≤ 1024 → HasSpelling (Disconnect reason text [])
 disconnect_spelled reason text a b = spelled (Disconnect reason text []) _ (byte 1 (uint32 reason a (string text (omega (arith, b)) (string [] (omega arith) ended)))) tt (omega (arith, b))
 

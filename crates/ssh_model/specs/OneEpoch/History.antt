@@ -1,9 +1,9 @@
 -- What the two ends of one sealed epoch did, in one list of items with their sides. The newest item comes first, so
 -- that "earlier" is the tail.
 use Rattle.std.specs.Prelude.{◌≡◌, ℕ, List, [], ◌∷◌, length, reverse, ◌⊎◌, Bool, true, false}
-use Rattle.ssh_model.specs.Sessions.Refusals.{AskRefusal, Refusal}
-use Rattle.ssh_model.specs.Side.{DoneBy, DoneBy.By, Side, part, peer}
-use Rattle.ssh_model.specs.Lists.{Begins}
+use Rattle.ssh_model.specs.Protocol.Sessions.Refusals.{AskRefusal, Refusal}
+use Rattle.ssh_model.specs.Protocol.Side.{DoneBy, DoneBy.By, Side, part, peer}
+use Rattle.ssh_model.specs.Protocol.Lists.{Begins}
 
 -- What one end did. A payload is its bytes: of messages one epoch says nothing.
 pub data Item : Type 0 where

@@ -1,10 +1,10 @@
 -- Two ends in one sealed epoch: each direction under one key, both numbers from zero.
 use Rattle.std.specs.Prelude.{◌≡◌, ◌≤◌, ◌<◌, ◌^◌, ℕ, List, [], ◌∷◌, ◌++◌, length, false, true, Some}
-use Rattle.ssh_model.specs.Wire.Sealing.{Crypto, IsSealed}
-use Rattle.ssh_model.specs.Wire.Outcome.{Outcome.Opens, Outcome.RefusedPacket}
-use Rattle.ssh_model.specs.Wire.Unit.{IsPacketBegun, PacketUnit}
-use Rattle.ssh_model.specs.Sessions.Refusals.{AskRefusal.TooLong, Refusal, Refusal.NumberSpent}
-use Rattle.ssh_model.specs.Side.{Side, Side.Client, Side.Server, peer, done_by, part}
+use Rattle.ssh_model.specs.Protocol.Wire.Sealing.{Crypto, IsSealed}
+use Rattle.ssh_model.specs.Protocol.Wire.Outcome.{Outcome.Opens, Outcome.RefusedPacket}
+use Rattle.ssh_model.specs.Protocol.Wire.Unit.{IsPacketBegun, PacketUnit}
+use Rattle.ssh_model.specs.Protocol.Sessions.Refusals.{AskRefusal.TooLong, Refusal, Refusal.NumberSpent}
+use Rattle.ssh_model.specs.Protocol.Side.{Side, Side.Client, Side.Server, peer, done_by, part}
 use Rattle.ssh_model.specs.OneEpoch.History.{Item, Item.Asked, Item.AskRefused, Item.Sent, Item.Took, Item.Refused}
 use Rattle.ssh_model.specs.OneEpoch.History.{Item.Died, Done, sent, took, has_died}
 

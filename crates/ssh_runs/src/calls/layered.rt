@@ -1,7 +1,7 @@
 //! Calls of the layers above a transport, which are as before where memory is refused.
 
 ghost use Rattle.std.specs.Prelude.{◌≡◌, ◌≤◌, true};
-ghost use Rattle.ssh_model.specs.Sessions.Turns.{number_of};
+ghost use Rattle.ssh_model.specs.Protocol.Sessions.Turns.{number_of};
 
 use super::changing::{OPEN, SESSION, SIGN, SIGNED};
 use super::outcome::{Outcome, came};

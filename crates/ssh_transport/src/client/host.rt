@@ -2,11 +2,11 @@
 
 ghost use Rattle.std.specs.Prelude.{◌≡◌, ◌≤◌, IfOk, OnErr, Some, false, length, true};
 ghost use Rattle.std.specs.Option.{option_map};
-ghost use Rattle.ssh_model.specs.Side as model;
-ghost use Rattle.ssh_model.specs.Wire.Message.{IsPayload, KexEcdhReply};
-ghost use Rattle.ssh_model.specs.TransportLayer.Kept.{shared_with};
+ghost use Rattle.ssh_model.specs.Protocol.Side as model;
+ghost use Rattle.ssh_model.specs.Protocol.Wire.Message.{IsPayload, KexEcdhReply};
+ghost use Rattle.ssh_model.specs.State.TransportLayer.Kept.{shared_with};
 ghost use Rattle.ssh_message.specs.Meaning.{meaning};
-ghost use Rattle.ssh_model.specs.Wire.DataTypes.{number};
+ghost use Rattle.ssh_model.specs.Protocol.Wire.DataTypes.{number};
 ghost use Rattle.ssh_kex.specs.Values.{chosen_of, owned_chosen};
 ghost use Rattle.ssh_transport_machine.specs.Finishing.{AreKeys, AreKnown, HasChoice, IsAnnouncement};
 ghost use Rattle.ssh_transport_machine.specs.Turning.{HasRoom};

@@ -1,17 +1,17 @@
 //! Laws of what a client makes of a server's KEXINIT and of its reply: turns of a session. Facts for proofs, at no cost.
 
 ghost use Rattle.std.specs.Prelude.{◌≡◌, ◌+◌, List, [], ◌∷◌, ℕ, Some, false, true};
-ghost use Rattle.ssh_model.specs.Side.{Side.Client};
-ghost use Rattle.ssh_model.specs.KeyExchange.Choice.{Chosen};
-ghost use Rattle.ssh_model.specs.Channels.Connection.{AreReplies, owed_replies};
-ghost use Rattle.ssh_model.specs.Sessions.Items.{Item, Item.Died, Item.Refused};
-ghost use Rattle.ssh_model.specs.Sessions.Parties.{Agreement, Parties, agreement_of};
-ghost use Rattle.ssh_model.specs.Sessions.Refusals.{Refusal.BadHost, Refusal.BadPoint, Refusal.NumberSpent};
-ghost use Rattle.ssh_model.specs.Sessions.Turns.{AreSpelled};
-ghost use Rattle.ssh_model.specs.TransportLayer.Kept.{Transport, after_taken};
-ghost use Rattle.ssh_model.specs.TransportLayer.Summary.{SumsUp};
-ghost use Rattle.ssh_model.specs.TransportLayer.Turns.{Turned};
-ghost use Rattle.ssh_model.specs.Wire.Sealing.{Crypto};
+ghost use Rattle.ssh_model.specs.Protocol.Side.{Side.Client};
+ghost use Rattle.ssh_model.specs.Protocol.KeyExchange.Choice.{Chosen};
+ghost use Rattle.ssh_model.specs.Protocol.Channels.Connection.{AreReplies, owed_replies};
+ghost use Rattle.ssh_model.specs.Protocol.Sessions.Items.{Item, Item.Died, Item.Refused};
+ghost use Rattle.ssh_model.specs.Protocol.Sessions.Parties.{Agreement, Parties, agreement_of};
+ghost use Rattle.ssh_model.specs.Protocol.Sessions.Refusals.{Refusal.BadHost, Refusal.BadPoint, Refusal.NumberSpent};
+ghost use Rattle.ssh_model.specs.Protocol.Sessions.Turns.{AreSpelled};
+ghost use Rattle.ssh_model.specs.State.TransportLayer.Kept.{Transport, after_taken};
+ghost use Rattle.ssh_model.specs.State.TransportLayer.Summary.{SumsUp};
+ghost use Rattle.ssh_model.specs.State.TransportLayer.Turns.{Turned};
+ghost use Rattle.ssh_model.specs.Protocol.Wire.Sealing.{Crypto};
 ghost use Rattle.ssh_transport_machine.specs.Choices.{IsChoosing};
 ghost use Rattle.ssh_transport_machine.specs.Endings.{ExchangeEnds, IsRead, PayloadRefused};
 ghost use Rattle.ssh_transport_machine.specs.Puts.{Outs};

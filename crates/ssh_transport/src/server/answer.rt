@@ -2,11 +2,11 @@
 
 ghost use Rattle.std.specs.Prelude.{◌≡◌, ◌+◌, ◌≤◌, ◌^◌, IfOk, OnErr, Some, length, take};
 ghost use Rattle.std.specs.Option.{option_map};
-ghost use Rattle.ssh_model.specs.Side as model;
-ghost use Rattle.ssh_model.specs.Wire.Message.{KexEcdhReply};
-ghost use Rattle.ssh_model.specs.Wire.Sizes.{payload_size};
-ghost use Rattle.ssh_model.specs.Sessions.Turns.{IsSpelled};
-ghost use Rattle.ssh_model.specs.TransportLayer.Kept.{IsChosen, shared_with};
+ghost use Rattle.ssh_model.specs.Protocol.Side as model;
+ghost use Rattle.ssh_model.specs.Protocol.Wire.Message.{KexEcdhReply};
+ghost use Rattle.ssh_model.specs.Laws.Sizes.{payload_size};
+ghost use Rattle.ssh_model.specs.Protocol.Sessions.Turns.{IsSpelled};
+ghost use Rattle.ssh_model.specs.State.TransportLayer.Kept.{IsChosen, shared_with};
 ghost use Rattle.ssh_kex.specs.Values.{chosen_of, owned_chosen};
 ghost use Rattle.ssh_transport_machine.specs.Finishing.{AreKnown, HasChoice};
 ghost use Rattle.ssh_transport.specs.OfServer.Answers.{AnswerDue, IsAnswer, IsSigned, IsSpelling};

@@ -3,8 +3,8 @@
 ghost use Rattle.std.specs.Prelude.{◌≡◌, List, ℕ, map, OnOk, IfErr};
 ghost use Rattle.std.specs.List.{list_all, list_any};
 ghost use Rattle.std.specs.Option.{option_copied};
-ghost use Rattle.ssh_model.specs.Wire.DataTypes.{is_name as passes_name};
-ghost use Rattle.ssh_model.specs.Wire.Line.{is_text_byte, is_version_byte};
+ghost use Rattle.ssh_model.specs.Protocol.Wire.DataTypes.{is_name as passes_name};
+ghost use Rattle.ssh_model.specs.Protocol.Wire.Line.{is_text_byte, is_version_byte};
 ghost use Rattle.ssh_transport_base.specs.Checks.{are_comments as pass_comments, are_distinct as pass_distinct, fits_line as passes_fit, has_line as passes_line, is_epoch_limit as passes_epoch_limit, is_kex_method as passes_kex_method, is_software as passes_software, is_tries as passes_tries, is_user_method as passes_user_method, knows as passes_pair, knows_each as passes_each, knows_pairs as pass_pairs};
 ghost use Rattle.ssh_transport_base.specs.Checks.{each_fault as fault_of_each, extension_fault as fault_of_extensions, number_fault as fault_of_number, lists_fault as fault_of_lists, name_fault as fault_of_names, pair_fault as fault_of_pairs, texts_fault as fault_of_texts, told_unless as told};
 ghost use Rattle.ssh_message.specs.Announced.{extension_of};

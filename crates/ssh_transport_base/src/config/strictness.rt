@@ -14,7 +14,7 @@ pub enum Strictness {
 
 impl Strictness {
     ghost use Rattle.std.specs.Prelude.{◌≡◌};
-    ghost use Rattle.ssh_model.specs.Sessions.Parties as model;
+    ghost use Rattle.ssh_model.specs.Protocol.Sessions.Parties as model;
     ghost use Rattle.ssh_transport_base.specs.Values.{strictness_of};
 
     /// Tests whether the end's first KEXINIT has the marker of strict key exchange.

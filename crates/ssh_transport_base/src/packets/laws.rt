@@ -1,6 +1,6 @@
 ghost use Rattle.std.specs.Prelude.{◌≡◌, Bool, List, [], ◌∷◌, ℕ};
-ghost use Rattle.ssh_model.specs.Sessions.Epochs.{epoch};
-ghost use Rattle.ssh_model.specs.Sessions.Items.{Payload, Payload.NewkeysOf, Payload.OtherOf};
+ghost use Rattle.ssh_model.specs.Protocol.Sessions.Epochs.{epoch};
+ghost use Rattle.ssh_model.specs.Protocol.Sessions.Items.{Payload, Payload.NewkeysOf, Payload.OtherOf};
 ghost use Rattle.ssh_transport_base.specs.Directions.{Direction, SumsUp, counted, new_direction, renewed};
 
 /// A direction sums up the payloads that went through it, the newest first: its number is that of the next packet (RFC 4253

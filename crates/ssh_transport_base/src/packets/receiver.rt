@@ -1,6 +1,6 @@
 ghost use Rattle.std.specs.Prelude.{◌≡◌, ◌<◌, ◌≤◌, ◌+◌, ◌-◌, ◌%◌, ◌++◌, ◌^◌, IfOk, IfSome, List, [], None, length, take};
-ghost use Rattle.ssh_model.specs.Wire.DataTypes.{AreBytes};
-ghost use Rattle.ssh_model.specs.Wire.Unit.{IsPacketBegun};
+ghost use Rattle.ssh_model.specs.Protocol.Wire.DataTypes.{AreBytes};
+ghost use Rattle.ssh_model.specs.Protocol.Wire.Unit.{IsPacketBegun};
 ghost use Rattle.ssh_transport_base.specs.Directions.{Receives, new_direction, new_receiver, newkeys, next_number, renewed, sealed_direction};
 
 use crate::packets::step::PacketStep;

@@ -1,6 +1,6 @@
 ghost use Rattle.std.specs.Prelude.{◌≡◌, ◌<◌, ◌≤◌, ◌+◌, ◌-◌, ◌^◌, IsTrue, false, OnErr, OnOk, length, vec_capacity};
-ghost use Rattle.ssh_model.specs.Wire.Reading.{Writes};
-ghost use Rattle.ssh_model.specs.Wire.Sealing.{IsSealed, blocks_under, tag_under};
+ghost use Rattle.ssh_model.specs.Laws.Reading.{Writes};
+ghost use Rattle.ssh_model.specs.Protocol.Wire.Sealing.{IsSealed, blocks_under, tag_under};
 ghost use Rattle.ssh_packet.specs.Writing.{Pads, packet_size};
 ghost use Rattle.ssh_transport_base.specs.Directions.{counted, new_direction, newkeys, next_number, renewed, sealed_direction};
 

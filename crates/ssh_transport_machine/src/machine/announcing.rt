@@ -2,10 +2,10 @@
 
 ghost use Rattle.std.specs.Prelude.{◌≡◌, ◌≤◌, IfOk, Bool, length, nat_lt};
 ghost use Rattle.std.specs.Option.{option_map};
-ghost use Rattle.ssh_model.specs.Wire.Message.{ExtInfo};
-ghost use Rattle.ssh_model.specs.Wire.Sizes.{payload_size};
-ghost use Rattle.ssh_model.specs.Sessions.Turns.{IsSpelled};
-ghost use Rattle.ssh_model.specs.TransportLayer.Kept.{is_announcing};
+ghost use Rattle.ssh_model.specs.Protocol.Wire.Message.{ExtInfo};
+ghost use Rattle.ssh_model.specs.Laws.Sizes.{payload_size};
+ghost use Rattle.ssh_model.specs.Protocol.Sessions.Turns.{IsSpelled};
+ghost use Rattle.ssh_model.specs.State.TransportLayer.Kept.{is_announcing};
 ghost use Rattle.ssh_message.specs.Announced.{extensions_of};
 ghost use Rattle.ssh_transport_base.specs.Meaning.{settings_of};
 ghost use Rattle.ssh_transport_machine.specs.Finishing.{HasAnnouncement, IsAnnouncement};

@@ -1,11 +1,11 @@
 //! What an end does on an ask of its user: for the service of authentication, for an exchange of keys, or to disconnect.
 
 ghost use Rattle.std.specs.Prelude.{◌≡◌, ◌≤◌, IfOk, OnErr, None, codes, length, map, true};
-ghost use Rattle.ssh_model.specs.Side.{Client};
-ghost use Rattle.ssh_model.specs.Wire.Message.{ServiceRequest};
-ghost use Rattle.ssh_model.specs.Sessions.Items.{AskDisconnect, AskRekey, AskService};
-ghost use Rattle.ssh_model.specs.Sessions.Refusals.{first_refusal};
-ghost use Rattle.ssh_model.specs.TransportLayer.Kept.{after_sent, message_ask_checks};
+ghost use Rattle.ssh_model.specs.Protocol.Side.{Client};
+ghost use Rattle.ssh_model.specs.Protocol.Wire.Message.{ServiceRequest};
+ghost use Rattle.ssh_model.specs.Protocol.Sessions.Items.{AskDisconnect, AskRekey, AskService};
+ghost use Rattle.ssh_model.specs.Protocol.Sessions.Refusals.{first_refusal};
+ghost use Rattle.ssh_model.specs.State.TransportLayer.Kept.{after_sent, message_ask_checks};
 ghost use Rattle.ssh_transport_machine.specs.Asking.{AskDone, AskLacks, DisconnectDone, DisconnectLacks, OfferDone, OfferLacks, refusal_with};
 ghost use Rattle.ssh_transport_machine.specs.Turning.{Answers, HasRoom};
 

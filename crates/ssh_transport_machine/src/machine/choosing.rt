@@ -1,11 +1,11 @@
 //! What is chosen in the exchange under way (RFC 4253 section 7.1).
 
 ghost use Rattle.std.specs.Prelude.{◌≡◌, false, true};
-ghost use Rattle.ssh_model.specs.Wire.Message.{KexInit, Msg};
-ghost use Rattle.ssh_model.specs.KeyExchange.Choice.{IsChoice, Lists};
-ghost use Rattle.ssh_model.specs.KeyExchange.Exchanges.{chosen as computed_choice, has_choice};
-ghost use Rattle.ssh_model.specs.Sessions.Parties.{lists_of as lists_offered};
-ghost use Rattle.ssh_model.specs.TransportLayer.Kept.{IsChosen, choice_with, has_choice_with, own_offer};
+ghost use Rattle.ssh_model.specs.Protocol.Wire.Message.{KexInit, Msg};
+ghost use Rattle.ssh_model.specs.Protocol.KeyExchange.Choice.{IsChoice, Lists};
+ghost use Rattle.ssh_model.specs.Protocol.KeyExchange.Exchanges.{chosen as computed_choice, has_choice};
+ghost use Rattle.ssh_model.specs.Protocol.Sessions.Parties.{lists_of as lists_offered};
+ghost use Rattle.ssh_model.specs.State.TransportLayer.Kept.{IsChosen, choice_with, has_choice_with, own_offer};
 ghost use Rattle.ssh_message.specs.Meaning.{meaning, proposal_meaning};
 ghost use Rattle.ssh_kex.specs.Values.{chosen_of, lists_of};
 ghost use Rattle.ssh_transport_base.specs.Config.{AreGood};

@@ -1,9 +1,9 @@
 //! The end of an exchange: NEWKEYS of both directions (RFC 4253 section 7.3).
 
 ghost use Rattle.std.specs.Prelude.{◌≡◌, ◌<◌, ◌-◌, ◌^◌, None, OnOk, OnErr, Some, false, map, true};
-ghost use Rattle.ssh_model.specs.Sessions.Phases as model;
-ghost use Rattle.ssh_model.specs.Wire.Message.{NewKeys};
-ghost use Rattle.ssh_model.specs.TransportLayer.Directions.{counted, renewed};
+ghost use Rattle.ssh_model.specs.Protocol.Sessions.Phases as model;
+ghost use Rattle.ssh_model.specs.Protocol.Wire.Message.{NewKeys};
+ghost use Rattle.ssh_model.specs.State.TransportLayer.Directions.{counted, renewed};
 ghost use Rattle.ssh_transport_base.specs.Directions.{newkeys};
 ghost use Rattle.ssh_transport_machine.specs.Puts.{PutsPayload, Sends};
 

@@ -2,12 +2,12 @@
 
 ghost use Rattle.std.specs.Prelude.{◌≡◌, ◌<◌, ◌≤◌, ◌+◌, ◌-◌, ◌^◌, ◌∷◌, [], None, Some, IfOk, OnOk, OnErr, length, map, replicate, true, false};
 ghost use Rattle.std.specs.Option.{option_map};
-ghost use Rattle.ssh_model.specs.Sessions.Items.{SpelledBy};
-ghost use Rattle.ssh_model.specs.Sessions.Turns.{IsSpelled};
-ghost use Rattle.ssh_model.specs.Side.{peer};
-ghost use Rattle.ssh_model.specs.Wire.DataTypes.{number};
-ghost use Rattle.ssh_model.specs.Wire.Message.{Msg, NewKeys};
-ghost use Rattle.ssh_model.specs.TransportLayer.Kept.{after_sent};
+ghost use Rattle.ssh_model.specs.Protocol.Sessions.Items.{SpelledBy};
+ghost use Rattle.ssh_model.specs.Protocol.Sessions.Turns.{IsSpelled};
+ghost use Rattle.ssh_model.specs.Protocol.Side.{peer};
+ghost use Rattle.ssh_model.specs.Protocol.Wire.DataTypes.{number};
+ghost use Rattle.ssh_model.specs.Protocol.Wire.Message.{Msg, NewKeys};
+ghost use Rattle.ssh_model.specs.State.TransportLayer.Kept.{after_sent};
 ghost use Rattle.ssh_kex.specs.Values.{chosen_of};
 ghost use Rattle.ssh_types.specs.Sides.{side_of};
 ghost use Rattle.ssh_transport_machine.specs.Finishing.{AreKeys, AreKnown, Finishes, IsAnnouncement, IsDue, after_announced, announced_by, forgotten, key_by, keyed, session_by};

@@ -1,8 +1,8 @@
 //! The exchange hash of an end.
 
 ghost use Rattle.std.specs.Prelude.{◌≡◌, ◌≤◌, length};
-ghost use Rattle.ssh_model.specs.Wire.DataTypes.{number};
-ghost use Rattle.ssh_model.specs.KeyExchange.Exchange.{Fits, exchange_hash as hash_of};
+ghost use Rattle.ssh_model.specs.Protocol.Wire.DataTypes.{number};
+ghost use Rattle.ssh_model.specs.Protocol.KeyExchange.Exchange.{Fits, exchange_hash as hash_of};
 ghost use Rattle.ssh_kex.specs.Values.{inputs_of};
 ghost use Rattle.ssh_transport_machine.specs.Hashing.{inputs_in};
 

@@ -1,12 +1,12 @@
 //! What an end makes of a payload that it took, before it acts.
 
 ghost use Rattle.std.specs.Prelude.{◌≡◌, ◌<◌, ◌≤◌, true, false, codes};
-ghost use Rattle.ssh_model.specs.Wire.Message.{KexInit, message_number};
-ghost use Rattle.ssh_model.specs.Wire.MacOnly.{is_text};
+ghost use Rattle.ssh_model.specs.Protocol.Wire.Message.{KexInit, message_number};
+ghost use Rattle.ssh_model.specs.Protocol.Wire.MacOnly.{is_text};
 ghost use Rattle.ssh_message.specs.Meaning.{meaning, proposal_meaning};
-ghost use Rattle.ssh_model.specs.Sessions.Phases as model;
-ghost use Rattle.ssh_model.specs.Sessions.Turns.{number_of};
-ghost use Rattle.ssh_model.specs.TransportLayer.Kept as kept;
+ghost use Rattle.ssh_model.specs.Protocol.Sessions.Phases as model;
+ghost use Rattle.ssh_model.specs.Protocol.Sessions.Turns.{number_of};
+ghost use Rattle.ssh_model.specs.State.TransportLayer.Kept as kept;
 ghost use Rattle.ssh_transport_machine.specs.Judging.{IsAcceptJudged, IsRequestJudged, MessageJudged, PayloadJudged};
 ghost use Rattle.ssh_transport_machine.specs.State.{before_taken};
 

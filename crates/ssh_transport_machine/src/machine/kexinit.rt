@@ -1,15 +1,15 @@
 //! What an end makes of its peer's KEXINIT (RFC 4253 section 7.1).
 
 ghost use Rattle.std.specs.Prelude.{◌≡◌, ◌≤◌, ◌-◌, ◌==◌, ◌&&◌, not, nat_lt, is_some, cond, if◌then◌else◌};
-ghost use Rattle.ssh_model.specs.Wire.Message.{Proposal as ModelProposal};
-ghost use Rattle.ssh_model.specs.KeyExchange.Exchanges as model;
-ghost use Rattle.ssh_model.specs.KeyExchange.Exchanges.{has_marker};
-ghost use Rattle.ssh_model.specs.Sessions.Parties.{extension_marker_of, is_required, lists_of as lists_offered, marker_of};
-ghost use Rattle.ssh_model.specs.Sessions.Phases as model_phase;
-ghost use Rattle.ssh_model.specs.Sessions.Phases.{is_wrong_guess};
-ghost use Rattle.ssh_model.specs.Side as session;
-ghost use Rattle.ssh_model.specs.Side.{peer};
-ghost use Rattle.ssh_model.specs.TransportLayer.Kept.{becomes_strict, first_kex, has_choice_with, own_offer};
+ghost use Rattle.ssh_model.specs.Protocol.Wire.Message.{Proposal as ModelProposal};
+ghost use Rattle.ssh_model.specs.Protocol.KeyExchange.Exchanges as model;
+ghost use Rattle.ssh_model.specs.Protocol.KeyExchange.Exchanges.{has_marker};
+ghost use Rattle.ssh_model.specs.Protocol.Sessions.Parties.{extension_marker_of, is_required, lists_of as lists_offered, marker_of};
+ghost use Rattle.ssh_model.specs.Protocol.Sessions.Phases as model_phase;
+ghost use Rattle.ssh_model.specs.Protocol.Sessions.Phases.{is_wrong_guess};
+ghost use Rattle.ssh_model.specs.Protocol.Side as session;
+ghost use Rattle.ssh_model.specs.Protocol.Side.{peer};
+ghost use Rattle.ssh_model.specs.State.TransportLayer.Kept.{becomes_strict, first_kex, has_choice_with, own_offer};
 ghost use Rattle.ssh_message.specs.Meaning.{proposal_meaning};
 ghost use Rattle.ssh_types.specs.Sides.{side_of};
 ghost use Rattle.ssh_types.specs.Values.{names};

@@ -1,8 +1,8 @@
 //! A new end: its version line, and its first KEXINIT (RFC 4253 sections 4.2 and 7.1).
 
 ghost use Rattle.std.specs.Prelude.{◌≡◌, ◌<◌, ◌++◌, ◌^◌, IfOk, OnErr, OnOk, map};
-ghost use Rattle.ssh_model.specs.Sessions.Phases.{is_client};
-ghost use Rattle.ssh_model.specs.Wire.Line.{line_end};
+ghost use Rattle.ssh_model.specs.Protocol.Sessions.Phases.{is_client};
+ghost use Rattle.ssh_model.specs.Protocol.Wire.Line.{line_end};
 ghost use Rattle.ssh_types.specs.Sides.{side_of};
 ghost use Rattle.ssh_transport_base.specs.Meaning.{settings_of};
 ghost use Rattle.ssh_transport_machine.specs.Opening.{IsBegun, IsOpened, unopened};

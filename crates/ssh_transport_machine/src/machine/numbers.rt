@@ -1,13 +1,13 @@
 //! Which payloads an end may take, by their numbers.
 
 ghost use Rattle.std.specs.Prelude.{◌≡◌, ◌≤◌, ◌-◌, ◌||◌, ◌&&◌, ◌==◌, not, nat_lt, Bool};
-ghost use Rattle.ssh_model.specs.KeyExchange.Exchanges.{has_marker};
-ghost use Rattle.ssh_model.specs.Sessions.Parties.{extension_marker_of, is_offered as is_offering, marker_of};
-ghost use Rattle.ssh_model.specs.Sessions.Phases as model;
-ghost use Rattle.ssh_model.specs.Sessions.Turns.{number_of};
-ghost use Rattle.ssh_model.specs.Wire.Message as messages;
-ghost use Rattle.ssh_model.specs.TransportLayer.Kept as kept;
-ghost use Rattle.ssh_model.specs.TransportLayer.Kept.{first_kex, takes_announced, takes_service};
+ghost use Rattle.ssh_model.specs.Protocol.KeyExchange.Exchanges.{has_marker};
+ghost use Rattle.ssh_model.specs.Protocol.Sessions.Parties.{extension_marker_of, is_offered as is_offering, marker_of};
+ghost use Rattle.ssh_model.specs.Protocol.Sessions.Phases as model;
+ghost use Rattle.ssh_model.specs.Protocol.Sessions.Turns.{number_of};
+ghost use Rattle.ssh_model.specs.Protocol.Wire.Message as messages;
+ghost use Rattle.ssh_model.specs.State.TransportLayer.Kept as kept;
+ghost use Rattle.ssh_model.specs.State.TransportLayer.Kept.{first_kex, takes_announced, takes_service};
 ghost use Rattle.ssh_types.specs.Sides.{side_of};
 ghost use Rattle.ssh_transport_base.specs.Meaning.{settings_of};
 ghost use Rattle.ssh_transport_machine.specs.State.{before_taken};

@@ -1,11 +1,11 @@
 //! The KEXINIT that an end sends, and what it sends with it.
 
 ghost use Rattle.std.specs.Prelude.{◌≡◌, ◌<◌, ◌≤◌, ◌^◌, Bool, IfOk, OnOk, OnErr, false, length, map, true};
-ghost use Rattle.ssh_model.specs.Wire.Message.{KexInit};
-ghost use Rattle.ssh_model.specs.KeyExchange.Exchanges as session;
-ghost use Rattle.ssh_model.specs.Sessions.Parties.{offer_of};
-ghost use Rattle.ssh_model.specs.Sessions.Turns.{IsSpelled};
-ghost use Rattle.ssh_model.specs.TransportLayer.Kept.{after_fed, can_be_fed};
+ghost use Rattle.ssh_model.specs.Protocol.Wire.Message.{KexInit};
+ghost use Rattle.ssh_model.specs.Protocol.KeyExchange.Exchanges as session;
+ghost use Rattle.ssh_model.specs.Protocol.Sessions.Parties.{offer_of};
+ghost use Rattle.ssh_model.specs.Protocol.Sessions.Turns.{IsSpelled};
+ghost use Rattle.ssh_model.specs.State.TransportLayer.Kept.{after_fed, can_be_fed};
 ghost use Rattle.ssh_transport_machine.specs.Offering.{OwnSent};
 
 use crate::machine::Machine;

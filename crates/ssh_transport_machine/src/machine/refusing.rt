@@ -1,7 +1,7 @@
 //! Refusals of the peer.
 
 ghost use Rattle.std.specs.Prelude.{◌≡◌, ◌<◌, ◌≤◌, ◌^◌, IsTrue, OnOk, OnErr, false, length, map, true};
-ghost use Rattle.ssh_model.specs.Sessions.Refusals.{refusal_name};
+ghost use Rattle.ssh_model.specs.Protocol.Sessions.Refusals.{refusal_name};
 ghost use Rattle.ssh_types.specs.Refusals.{refusal_of};
 ghost use Rattle.ssh_transport_machine.specs.Puts.{Refuses};
 ghost use Rattle.ssh_transport_machine.specs.State.{dead_state};

@@ -1,9 +1,9 @@
 //! Messages that an end sends where a number is left for them.
 
 ghost use Rattle.std.specs.Prelude.{◌≡◌, ◌≤◌, IfOk, OnErr, codes, length, map, true};
-ghost use Rattle.ssh_model.specs.Wire.Message.{FitsContext, ServiceAccept, Unimplemented};
-ghost use Rattle.ssh_model.specs.Wire.Sizes.{payload_size};
-ghost use Rattle.ssh_model.specs.TransportLayer.Kept.{after_sent};
+ghost use Rattle.ssh_model.specs.Protocol.Wire.Message.{FitsContext, ServiceAccept, Unimplemented};
+ghost use Rattle.ssh_model.specs.Laws.Sizes.{payload_size};
+ghost use Rattle.ssh_model.specs.State.TransportLayer.Kept.{after_sent};
 ghost use Rattle.ssh_message.specs.Meaning.{meaning};
 ghost use Rattle.ssh_message.specs.Written.{Fits};
 ghost use Rattle.ssh_transport_machine.specs.State.{dead_state, last_number};

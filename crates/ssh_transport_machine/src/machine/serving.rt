@@ -1,10 +1,10 @@
 //! What a server does with a client's KEXINIT.
 
 ghost use Rattle.std.specs.Prelude.{◌≡◌, IfOk, None, OnErr, false, length, map, true};
-ghost use Rattle.ssh_model.specs.Wire.Message.{KexInit};
-ghost use Rattle.ssh_model.specs.Side.{Server};
-ghost use Rattle.ssh_model.specs.Sessions.Parties.{offer_of};
-ghost use Rattle.ssh_model.specs.Sessions.TurnClaims.{HasSpelling};
+ghost use Rattle.ssh_model.specs.Protocol.Wire.Message.{KexInit};
+ghost use Rattle.ssh_model.specs.Protocol.Side.{Server};
+ghost use Rattle.ssh_model.specs.Protocol.Sessions.Parties.{offer_of};
+ghost use Rattle.ssh_model.specs.Protocol.Sessions.TurnClaims.{HasSpelling};
 ghost use Rattle.ssh_transport_machine.specs.Turning.{Does, KexinitDone, KexinitLacks};
 ghost use Rattle.ssh_transport_machine.specs.declared.machine.judging.Judged.TheVariants as judgement;
 

@@ -1,7 +1,7 @@
 //! What an end shares with its peer's point (RFC 8731 section 3).
 
 ghost use Rattle.std.specs.Prelude.{◌≡◌, ◌==◌, if◌then◌else◌, IfSome, None, length};
-ghost use Rattle.ssh_model.specs.TransportLayer.Kept.{shared_with};
+ghost use Rattle.ssh_model.specs.State.TransportLayer.Kept.{shared_with};
 
 use crate::machine::Machine;
 use crate::machine::hashing::has_32_bytes;

@@ -1,6 +1,6 @@
 use Rattle.std.proofs.Common.{List, ℕ, ◌++◌, ap, ◌∙◌}
 use Rattle.std.specs.Prelude.{codes}
-use Rattle.ssh_model.specs.Authentication.Requests.{signed_text}
+use Rattle.ssh_model.specs.Protocol.Authentication.Requests.{signed_text}
 use Rattle.ssh_auth.proofs.signed_text.request_text.Goals as goal
 
 pub returns : goal.returns

@@ -1,5 +1,5 @@
 use Rattle.std.proofs.Common.{◌<◌, ℕ, IsSome}
-use Rattle.ssh_model.specs.Channels.Places.{at}
+use Rattle.ssh_model.specs.State.Channels.Places.{at}
 use Rattle.ssh_channels.proofs.table.lowest_free.Given as goal
 
 abbrev pub invariant-loop-number : goal.invariant-loop-number

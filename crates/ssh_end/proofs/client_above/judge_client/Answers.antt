@@ -1,5 +1,5 @@
 use Rattle.std.proofs.Common.{ℕ, List, ap, ◌∙◌, subst, Option, IsSome}
-use Rattle.ssh_model.specs.Wire.Message.{Msg}
+use Rattle.ssh_model.specs.Protocol.Wire.Message.{Msg}
 use Rattle.ssh_message.specs.Meaning.{meaning}
 use Rattle.ssh_end.proofs.Judging.{both_on_err}
 use Rattle.ssh_layers.specs.Layer.{Beneath}

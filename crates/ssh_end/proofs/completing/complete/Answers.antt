@@ -1,6 +1,6 @@
 use Rattle.std.proofs.Common.{◌≡◌, ◌++◌, List, [], ◌∷◌, ap, append-nil, length, map, refl, sym, ◌∙◌}
-use Rattle.ssh_model.specs.End.Payloads.{GivesOwed}
-use Rattle.ssh_model.specs.TransportLayer.Turns.{PutsPackets}
+use Rattle.ssh_model.specs.State.End.Payloads.{GivesOwed}
+use Rattle.ssh_model.specs.State.TransportLayer.Turns.{PutsPackets}
 use Rattle.ssh_end.specs.Completing.{Completing}
 use Rattle.ssh_end.specs.Beside.{channels_behind}
 use Rattle.ssh_end.proofs.Owing.{all_behind}

@@ -1,6 +1,6 @@
 use Rattle.std.proofs.Common.{◌≡◌, ◌+◌, ◌≤◌, ◌^◌, ◌++◌, false, length, map}
-use Rattle.ssh_model.specs.Channels.Summary.{reply_channel}
-use Rattle.ssh_model.specs.Side.{Side}
+use Rattle.ssh_model.specs.State.Channels.Summary.{reply_channel}
+use Rattle.ssh_model.specs.Protocol.Side.{Side}
 use Rattle.ssh_transport_machine.specs.Standing.{Stands}
 use Rattle.ssh_end.specs.Owed.{Extends}
 use Rattle.ssh_end.proofs.Owing.{Giving}

@@ -1,4 +1,4 @@
-use Rattle.ssh_model.specs.KeyExchange.Choice.{methods}
+use Rattle.ssh_model.specs.Protocol.KeyExchange.Choice.{methods}
 use Rattle.ssh_types.specs.Values.{name_text, names, names_left}
 use Rattle.ssh_kex.proofs.Commons.{found_method, goes_on_methods, has_common}
 use Rattle.ssh_kex.proofs.common.first_common_method.Goals as goal

@@ -1,4 +1,4 @@
-use Rattle.ssh_model.specs.KeyExchange.Choice.{methods}
+use Rattle.ssh_model.specs.Protocol.KeyExchange.Choice.{methods}
 use Rattle.ssh_types.specs.Values.{names, names_left}
 use Rattle.ssh_kex.proofs.Commons.{Skipped}
 use Rattle.ssh_kex.proofs.common.first_common_method.Given as goal

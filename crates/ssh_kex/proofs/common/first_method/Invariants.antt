@@ -1,5 +1,5 @@
 use Rattle.std.proofs.Common.{◌≡◌}
-use Rattle.ssh_model.specs.KeyExchange.Choice.{methods}
+use Rattle.ssh_model.specs.Protocol.KeyExchange.Choice.{methods}
 use Rattle.ssh_types.specs.Values.{names, names_left}
 use Rattle.ssh_kex.proofs.common.first_method.Given as goal
 

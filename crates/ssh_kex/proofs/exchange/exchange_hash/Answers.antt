@@ -1,7 +1,7 @@
 use Rattle.std.proofs.Common.{ap, ◌∙◌}
 use Rattle.sha2.specs.Sha256.{sha256}
-use Rattle.ssh_model.specs.KeyExchange.Exchange.{string_of, mpint_of}
-use Rattle.ssh_model.specs.Wire.DataTypes.{number}
+use Rattle.ssh_model.specs.Protocol.KeyExchange.Exchange.{string_of, mpint_of}
+use Rattle.ssh_model.specs.Protocol.Wire.DataTypes.{number}
 use Rattle.ssh_kex.proofs.Strings.{eight_pieces}
 use Rattle.ssh_kex.proofs.exchange.exchange_hash.Goals as goal
 

@@ -1,6 +1,6 @@
 use Rattle.std.proofs.Common.{◌≡◌, ◌∷◌, ℕ, length, take, subst, refl, rules, arith}
-use Rattle.ssh_model.specs.Wire.DataTypes.{number}
-use Rattle.ssh_model.specs.KeyExchange.Exchange.{blocks, key_front}
+use Rattle.ssh_model.specs.Protocol.Wire.DataTypes.{number}
+use Rattle.ssh_model.specs.Protocol.KeyExchange.Exchange.{blocks, key_front}
 use Rattle.ssh_kex.specs.Values.{letter_of}
 use Rattle.ssh_kex.proofs.Blocks.{filled_up}
 use Rattle.ssh_kex.proofs.keys.derive.Goals as goal

@@ -1,6 +1,6 @@
 use Rattle.std.proofs.Common.{◌≤◌, ◌-◌, ◌∷◌, length}
-use Rattle.ssh_model.specs.Wire.DataTypes.{number}
-use Rattle.ssh_model.specs.KeyExchange.Exchange.{key_front}
+use Rattle.ssh_model.specs.Protocol.Wire.DataTypes.{number}
+use Rattle.ssh_model.specs.Protocol.KeyExchange.Exchange.{key_front}
 use Rattle.ssh_kex.specs.Values.{letter_of}
 use Rattle.ssh_kex.proofs.Blocks.{Filled}
 use Rattle.ssh_kex.proofs.keys.derive.Given as goal

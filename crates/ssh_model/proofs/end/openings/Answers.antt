@@ -1,5 +1,5 @@
 use Rattle.ssh_model.proofs.WholeEnd.Units.{end_opened}
-use Rattle.ssh_model.specs.Sessions.Turns.{EndRun.start}
+use Rattle.ssh_model.specs.Protocol.Sessions.Turns.{EndRun.start}
 use Rattle.ssh_model.proofs.end.openings.Goals as goal
 
 pub returns : goal.returns

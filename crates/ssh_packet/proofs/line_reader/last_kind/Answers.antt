@@ -1,5 +1,5 @@
 use Rattle.std.proofs.Common.{ℕ, [], ◌∷◌, ◌++◌, sym, subst, refl}
-use Rattle.ssh_model.specs.Wire.Line.{LineUnit.cr_without_lf}
+use Rattle.ssh_model.specs.Protocol.Wire.Line.{LineUnit.cr_without_lf}
 use Rattle.ssh_packet.specs.LineSteps.{EndsSo}
 use Rattle.ssh_packet.proofs.LineUnits.{complete_kind}
 use Rattle.ssh_packet.proofs.line_reader.last_kind.Goals as goal

@@ -1,6 +1,6 @@
 use Rattle.std.proofs.Common.{List, ℕ, sym, subst, ◌∙◌}
-use Rattle.ssh_model.specs.Wire.DataTypes.{IsUint32}
-use Rattle.ssh_model.specs.Wire.Reading.{NoFront, Reads}
+use Rattle.ssh_model.specs.Protocol.Wire.DataTypes.{IsUint32}
+use Rattle.ssh_model.specs.Laws.Reading.{NoFront, Reads}
 use Rattle.ssh_packet.proofs.Fields.{some_field, bad_length, no_size, no_size_short}
 use Rattle.ssh_packet.proofs.reader.size_of.Goals as goal
 

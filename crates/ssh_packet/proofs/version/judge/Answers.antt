@@ -2,7 +2,7 @@ use Rattle.std.proofs.Common.{ℕ, List, ◌+◌, Some, None, subst}
 use Rattle.std.proofs.lemmas.List.{take_rest}
 use Rattle.std.proofs.lemmas.Bool.Decides.{Decides-eqb}
 use Rattle.std.proofs.lemmas.Slice.Eq.{strip_prefix_is}
-use Rattle.ssh_model.specs.Wire.Line.{opening, LineIs.no_minus}
+use Rattle.ssh_model.specs.Protocol.Wire.Line.{opening, LineIs.no_minus}
 use Rattle.ssh_packet.specs.LineKinds.{HasSoftware}
 use Rattle.ssh_packet.proofs.Softwares.{minus_cases}
 use Rattle.ssh_packet.proofs.VersionLines.{IsSplit, Tells, not_accepted, not_software, is_version}

@@ -1,4 +1,4 @@
-use Rattle.ssh_model.specs.Wire.Line.{LineIs.other, LineIs.other_from_client, LineIs.too_many_others}
+use Rattle.ssh_model.specs.Protocol.Wire.Line.{LineIs.other, LineIs.other_from_client, LineIs.too_many_others}
 use Rattle.ssh_packet.proofs.version.other_line.Goals as goal
 use Rattle.ssh_packet.proofs.version.other_line.Goals.{else-from_server-via-then-from_server+else-others-lt-MOST_OTHERS, else-from_server-via-else-from_server}
 

@@ -1,9 +1,9 @@
 use Rattle.std.proofs.Common.{◌+◌, ◌≤◌, ◌∙◌, List, ℕ, length, drop, ap, sym, subst}
 use Rattle.std.specs.Option.{option_copied}
-use Rattle.ssh_model.specs.Wire.DataTypes.{AreBytes}
-use Rattle.ssh_model.specs.Wire.Reading.{Writes}
-use Rattle.ssh_model.specs.Wire.Packet.{Blocks}
-use Rattle.ssh_model.specs.Wire.Sealing.{blocks_under}
+use Rattle.ssh_model.specs.Protocol.Wire.DataTypes.{AreBytes}
+use Rattle.ssh_model.specs.Laws.Reading.{Writes}
+use Rattle.ssh_model.specs.Protocol.Wire.Packet.{Blocks}
+use Rattle.ssh_model.specs.Protocol.Wire.Sealing.{blocks_under}
 use Rattle.ssh_packet.specs.Writing.{HasParts, padding_for}
 use Rattle.ssh_packet.proofs.Writing.{Written, padded_written, sealed_written}
 use Rattle.ssh_packet.proofs.writer.write_packet.Goals as goal

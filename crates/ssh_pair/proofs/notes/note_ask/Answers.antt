@@ -1,6 +1,6 @@
 use Rattle.std.proofs.Common.{sym, subst}
 use Rattle.ssh_types.specs.Sides.{side_of}
-use Rattle.ssh_model.specs.Sessions.Items as session
+use Rattle.ssh_model.specs.Protocol.Sessions.Items as session
 use Rattle.ssh_end.specs.Asking.{ask_of}
 use Rattle.ssh_end.specs.Turn.{channels_in, payloads_in}
 use Rattle.ssh_pair.specs.Noting.{AddsAsk}

@@ -1,6 +1,6 @@
 use Rattle.std.proofs.Common.{List, ℕ, [], ◌∷◌, arith, subst}
-use Rattle.ssh_model.specs.Wire.Message.{Msg}
-use Rattle.ssh_model.specs.Sessions.Items.{Item}
+use Rattle.ssh_model.specs.Protocol.Wire.Message.{Msg}
+use Rattle.ssh_model.specs.Protocol.Sessions.Items.{Item}
 use Rattle.ssh_end.specs.Turn.{channels_in}
 use Rattle.ssh_pair.specs.Noting.{Adds}
 use Rattle.ssh_types.specs.Sides.{side_of}

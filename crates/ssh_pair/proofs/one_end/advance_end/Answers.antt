@@ -1,7 +1,7 @@
 use Rattle.std.proofs.Common.{ℕ, List, [], ◌∷◌, ◌++◌, take, ◌∙◌, sym, subst}
 use Rattle.std.proofs.Math.Seq.{take-length}
-use Rattle.ssh_model.specs.Sessions.Items.{Item.Died}
-use Rattle.ssh_model.specs.Side.{part}
+use Rattle.ssh_model.specs.Protocol.Sessions.Items.{Item.Died}
+use Rattle.ssh_model.specs.Protocol.Side.{part}
 use Rattle.ssh_types.specs.Sides.{side_of}
 use Rattle.ssh_transport_machine.specs.State.{begun_of}
 use Rattle.ssh_pair.specs.Playing.{Advanced}

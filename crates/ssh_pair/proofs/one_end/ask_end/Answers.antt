@@ -1,6 +1,6 @@
 use Rattle.std.proofs.Common.{◌≡◌, false, sym, ◌∙◌, subst}
 use Rattle.std.specs.Prelude.{OnErr}
-use Rattle.ssh_model.specs.Side.{part}
+use Rattle.ssh_model.specs.Protocol.Side.{part}
 use Rattle.ssh_types.specs.Sides.{side_of}
 use Rattle.ssh_end.specs.Asking.{ask_of}
 use Rattle.ssh_pair.specs.Standing.{standing_of}

@@ -1,6 +1,6 @@
 use Rattle.std.proofs.Common.{◌≡◌, ◌+◌, List, ℕ, drop, take, ◌++◌, arith, refl, sym, ap, ◌∙◌, subst}
 use Rattle.std.proofs.Common.{take-add, take-append-drop}
-use Rattle.ssh_model.specs.Side.{done_by}
+use Rattle.ssh_model.specs.Protocol.Side.{done_by}
 use Rattle.ssh_types.specs.Sides.{side_of}
 use Rattle.ssh_pair.specs.Playing.{Advanced}
 use Rattle.ssh_pair.specs.Standing.{EndStands, kept_bytes, standing_of}

@@ -1,6 +1,6 @@
 use Rattle.std.proofs.Common.{ap, sym, ◌∙◌, subst, [], ◌∷◌}
-use Rattle.ssh_model.specs.Sessions.Items.{Item.SentLine}
-use Rattle.ssh_model.specs.Side.{Side.Server}
+use Rattle.ssh_model.specs.Protocol.Sessions.Items.{Item.SentLine}
+use Rattle.ssh_model.specs.Protocol.Side.{Side.Server}
 use Rattle.ssh_transport_base.specs.Meaning as config
 use Rattle.ssh_pair.specs.Noting.{Adds}
 use Rattle.ssh_pair.specs.Playing.{OpensAs}

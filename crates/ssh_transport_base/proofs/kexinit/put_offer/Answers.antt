@@ -1,7 +1,7 @@
 use Rattle.std.proofs.Common.{OnOk, subst}
-use Rattle.ssh_model.specs.Wire.Message as model
-use Rattle.ssh_model.specs.Wire.Message.{IsWrittenPayload, KexInit}
-use Rattle.ssh_model.specs.Wire.Reading.{Writes}
+use Rattle.ssh_model.specs.Protocol.Wire.Message as model
+use Rattle.ssh_model.specs.Protocol.Wire.Message.{IsWrittenPayload, KexInit}
+use Rattle.ssh_model.specs.Laws.Reading.{Writes}
 use Rattle.ssh_types.specs.Values.{names}
 use Rattle.ssh_transport_base.specs.Meaning.{settings_of}
 use Rattle.ssh_transport_base.proofs.Offers.{short_put}

@@ -1,7 +1,7 @@
 use Rattle.std.proofs.Common.{rules}
 use Rattle.std.proofs.lemmas.Iterator.Search.{all_from_yields_List}
 use Rattle.std.proofs.lemmas.Iterator.Splits.{YieldsList-from_slice_split}
-use Rattle.ssh_model.specs.Wire.DataTypes.{is_comma, is_name}
+use Rattle.ssh_model.specs.Protocol.Wire.DataTypes.{is_comma, is_name}
 use Rattle.ssh_types.proofs.name_bytes.all_names.Goals as goal
 
 pub returns : goal.returns

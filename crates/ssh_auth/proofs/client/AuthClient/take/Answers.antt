@@ -1,6 +1,6 @@
 use Rattle.std.proofs.Common.{ap, true}
-use Rattle.ssh_model.specs.Authentication.Kept as kept
-use Rattle.ssh_model.specs.Authentication.Kept.{Client}
+use Rattle.ssh_model.specs.State.Authentication.Kept as kept
+use Rattle.ssh_model.specs.State.Authentication.Kept.{Client}
 use Rattle.ssh_auth.proofs.Clients.{banner_row, success_row, taken}
 use Rattle.ssh_auth.proofs.client.AuthClient.take.Goals as goal
 

@@ -1,5 +1,5 @@
 use Rattle.std.proofs.Common.{refl}
-use Rattle.ssh_model.specs.Channels.Kept.{DueReply.AnswersClose, DueReply.RefusesOpen}
+use Rattle.ssh_model.specs.State.Channels.Kept.{DueReply.AnswersClose, DueReply.RefusesOpen}
 use Rattle.ssh_channels.proofs.Unblocking.{given}
 use Rattle.ssh_channels.proofs.channels.Channels.give_owed.Goals as goal
 

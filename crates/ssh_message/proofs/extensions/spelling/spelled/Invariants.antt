@@ -1,5 +1,5 @@
 use Rattle.std.proofs.Common.{map, take}
-use Rattle.ssh_model.specs.Wire.Message.{IsExtensions}
+use Rattle.ssh_model.specs.Protocol.Wire.Message.{IsExtensions}
 use Rattle.ssh_message.specs.Announced.{extension_of}
 use Rattle.ssh_message.proofs.extensions.spelling.spelled.Given as goal
 

@@ -1,6 +1,6 @@
 use Rattle.std.proofs.Common.{◌≡◌, ◌+◌, ◌≤◌, [], take, length}
 use Rattle.std.specs.Prelude.{vec_capacity}
-use Rattle.ssh_model.specs.Wire.Reading.{Writes}
+use Rattle.ssh_model.specs.Laws.Reading.{Writes}
 use Rattle.ssh_message.specs.Fields.{all_sizes, IsRowOf}
 use Rattle.ssh_message.proofs.write.row.put_parts.Given as goal
 

@@ -1,6 +1,6 @@
 use Rattle.std.proofs.Common.{◌≡◌, ◌∙◌, take, sym, ap, true, false, arith, subst}
 use Rattle.std.specs.Option.{option_copied}
-use Rattle.ssh_model.specs.Wire.DataTypes.{AreBytes}
+use Rattle.ssh_model.specs.Protocol.Wire.DataTypes.{AreBytes}
 use Rattle.ssh_packet.specs.Reading.{Reading}
 use Rattle.ssh_packet.proofs.Opening.{IsJudged, judged_packet, judged_padding}
 use Rattle.ssh_packet.proofs.reader.PacketReader.judge.Goals as goal

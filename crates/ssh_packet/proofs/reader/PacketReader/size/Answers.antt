@@ -1,6 +1,6 @@
 use Rattle.std.proofs.Common.{ℕ, List, take, ap, ◌∙◌, subst}
 use Rattle.std.specs.Prelude.{IfNone}
-use Rattle.ssh_model.specs.Wire.Sealing.{HasSize}
+use Rattle.ssh_model.specs.Protocol.Wire.Sealing.{HasSize}
 use Rattle.ssh_packet.specs.Reading.{Reading}
 use Rattle.ssh_packet.proofs.reader.PacketReader.size.Goals as goal
 

@@ -1,7 +1,7 @@
 use Rattle.std.proofs.Common.{ℕ, List, sym, ap, subst}
 use Rattle.std.specs.Option.{option_copied}
-use Rattle.ssh_model.specs.Wire.Packet.{Blocks}
-use Rattle.ssh_model.specs.Wire.Sealing.{IsBegun, blocks_under, tag_under}
+use Rattle.ssh_model.specs.Protocol.Wire.Packet.{Blocks}
+use Rattle.ssh_model.specs.Protocol.Wire.Sealing.{IsBegun, blocks_under, tag_under}
 use Rattle.ssh_packet.specs.Reading.{Reading}
 use Rattle.ssh_packet.proofs.reader.PacketReader.take.Goals as goal
 

@@ -1,6 +1,6 @@
 use Rattle.std.proofs.Common.{sym, subst}
-use Rattle.ssh_model.specs.Side.{Side.Client, Side.Server}
-use Rattle.ssh_model.specs.Sessions.Events.{Event.Asks}
+use Rattle.ssh_model.specs.Protocol.Side.{Side.Client, Side.Server}
+use Rattle.ssh_model.specs.Protocol.Sessions.Events.{Event.Asks}
 use Rattle.ssh_types.specs.Sides.{side_of}
 use Rattle.ssh_end.specs.Asking.{ask_of}
 use Rattle.ssh_pair.specs.Playing.{GoesOn, output_in}

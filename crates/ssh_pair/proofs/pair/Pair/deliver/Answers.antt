@@ -1,6 +1,6 @@
 use Rattle.std.proofs.Common.{refl, sym, subst}
-use Rattle.ssh_model.specs.Side.{Side.Client, Side.Server, part}
-use Rattle.ssh_model.specs.Sessions.Events.{Event.Delivers}
+use Rattle.ssh_model.specs.Protocol.Side.{Side.Client, Side.Server, part}
+use Rattle.ssh_model.specs.Protocol.Sessions.Events.{Event.Delivers}
 use Rattle.ssh_types.specs.Sides.{side_of}
 use Rattle.ssh_pair.specs.Playing.{GoesOn, output_in}
 use Rattle.ssh_pair.specs.Standing.{both}

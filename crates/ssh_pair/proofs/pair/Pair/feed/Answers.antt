@@ -1,5 +1,5 @@
 use Rattle.std.proofs.Common.{sym, subst}
-use Rattle.ssh_model.specs.Side.{Side.Client, Side.Server, part}
+use Rattle.ssh_model.specs.Protocol.Side.{Side.Client, Side.Server, part}
 use Rattle.ssh_types.specs.Sides.{side_of}
 use Rattle.ssh_pair.specs.Playing.{PairFeeds}
 use Rattle.ssh_pair.specs.Standing.{both}

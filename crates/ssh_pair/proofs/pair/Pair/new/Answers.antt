@@ -1,7 +1,7 @@
 use Rattle.std.proofs.Common.{◌≤◌, [], length, sym, subst}
-use Rattle.ssh_model.specs.Side.{Side.Client, Side.Server}
-use Rattle.ssh_model.specs.Wire.Sealing.{IsSealing}
-use Rattle.ssh_model.specs.Sessions.Parties.{AreLawful, Settings}
+use Rattle.ssh_model.specs.Protocol.Side.{Side.Client, Side.Server}
+use Rattle.ssh_model.specs.Protocol.Wire.Sealing.{IsSealing}
+use Rattle.ssh_model.specs.Protocol.Sessions.Parties.{AreLawful, Settings}
 use Rattle.ssh_pair.specs.Playing.{Opens}
 use Rattle.ssh_pair.specs.Standing.{standing_of}
 use Rattle.ssh_end.specs.contracts.client_role.ClientRoleEndRole.TheImpl as client

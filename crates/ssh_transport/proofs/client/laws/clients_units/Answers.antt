@@ -1,7 +1,7 @@
 use Rattle.std.proofs.Common.{arith, refl}
-use Rattle.ssh_model.specs.Sessions.Parties.{Agreement, agreement_of}
-use Rattle.ssh_model.specs.Sessions.Refusals.{Refusal.BadHost, Refusal.BadPoint, refusal_name}
-use Rattle.ssh_model.specs.Side.{Side.Client}
+use Rattle.ssh_model.specs.Protocol.Sessions.Parties.{Agreement, agreement_of}
+use Rattle.ssh_model.specs.Protocol.Sessions.Refusals.{Refusal.BadHost, Refusal.BadPoint, refusal_name}
+use Rattle.ssh_model.specs.Protocol.Side.{Side.Client}
 use Rattle.ssh_transport.specs.OfClient.Replies.{Trusts}
 use Rattle.ssh_transport.proofs.OfClient.Lifting.{client_lifts}
 use Rattle.ssh_transport.proofs.Units.{turned, would_die}

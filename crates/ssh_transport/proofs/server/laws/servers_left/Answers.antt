@@ -1,7 +1,7 @@
 use Rattle.std.proofs.Common.{arith}
-use Rattle.ssh_model.specs.Sessions.Refusals.{Refusal.BadPoint, refusal_name}
-use Rattle.ssh_model.specs.Side.{Side.Server}
-use Rattle.ssh_model.specs.TransportLayer.Kept.{ExchangeParts}
+use Rattle.ssh_model.specs.Protocol.Sessions.Refusals.{Refusal.BadPoint, refusal_name}
+use Rattle.ssh_model.specs.Protocol.Side.{Side.Server}
+use Rattle.ssh_model.specs.State.TransportLayer.Kept.{ExchangeParts}
 use Rattle.ssh_transport.proofs.Leaving.{completed, due, up}
 use Rattle.ssh_transport.proofs.OfServer.Lifting.{server_lifts}
 use Rattle.ssh_transport.proofs.server.laws.servers_left.Goals as goal

@@ -1,8 +1,8 @@
 use Rattle.std.proofs.Common.{arith, refl}
-use Rattle.ssh_model.specs.Sessions.Refusals.{Refusal.BadPoint, refusal_name}
-use Rattle.ssh_model.specs.Side.{Side.Server}
-use Rattle.ssh_model.specs.TransportLayer.Kept.{ExchangeParts}
-use Rattle.ssh_model.specs.TransportLayer.Summary.{parts_of}
+use Rattle.ssh_model.specs.Protocol.Sessions.Refusals.{Refusal.BadPoint, refusal_name}
+use Rattle.ssh_model.specs.Protocol.Side.{Side.Server}
+use Rattle.ssh_model.specs.State.TransportLayer.Kept.{ExchangeParts}
+use Rattle.ssh_model.specs.State.TransportLayer.Summary.{parts_of}
 use Rattle.ssh_transport.proofs.OfServer.Lifting.{server_lifts}
 use Rattle.ssh_transport.proofs.Units.{turned, would_die}
 use Rattle.ssh_transport.proofs.server.laws.servers_units.Goals as goal

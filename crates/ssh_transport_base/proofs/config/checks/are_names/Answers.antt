@@ -3,7 +3,7 @@ use Rattle.std.proofs.Common.{◌∙◌, sym, rules}
 use Rattle.std.proofs.lemmas.Iterator.{YieldsList-from_slice}
 use Rattle.std.proofs.lemmas.Iterator.Search.{all_from_yields_List}
 use Rattle.std.proofs.lemmas.List.Folds.{list_all-map}
-use Rattle.ssh_model.specs.Wire.DataTypes.{is_name}
+use Rattle.ssh_model.specs.Protocol.Wire.DataTypes.{is_name}
 use Rattle.ssh_transport_base.proofs.config.checks.are_names.Goals as goal
 
 pub returns : goal.returns

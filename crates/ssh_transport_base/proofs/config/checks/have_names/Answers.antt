@@ -2,7 +2,7 @@ use borrow.Author.Tests.{tests}
 use Rattle.std.proofs.Common.{◌∙◌, rules}
 use Rattle.std.proofs.lemmas.Iterator.{YieldsList-from_slice}
 use Rattle.std.proofs.lemmas.Iterator.Search.{all_from_yields_List}
-use Rattle.ssh_model.specs.Wire.DataTypes.{is_name}
+use Rattle.ssh_model.specs.Protocol.Wire.DataTypes.{is_name}
 use Rattle.ssh_transport_base.proofs.Announced.{all_named}
 use Rattle.ssh_transport_base.proofs.config.checks.have_names.Goals as goal
 

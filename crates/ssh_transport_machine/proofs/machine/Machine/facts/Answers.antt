@@ -1,5 +1,5 @@
 use Rattle.std.proofs.Common.{ap, sym}
-use Rattle.ssh_model.specs.TransportLayer.Kept.{own_offer}
+use Rattle.ssh_model.specs.State.TransportLayer.Kept.{own_offer}
 use Rattle.ssh_message.specs.Meaning.{proposal_meaning}
 use Rattle.ssh_types.specs.Values.{names}
 use Rattle.ssh_transport_machine.proofs.machine.Machine.facts.Goals as goal

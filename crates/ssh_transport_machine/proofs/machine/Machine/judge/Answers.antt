@@ -1,5 +1,5 @@
 use Rattle.std.proofs.Common.{◌≡◌, ◌<◌, ℕ, true, false, sym, ◌∙◌, subst}
-use Rattle.ssh_model.specs.TransportLayer.Kept.{takes}
+use Rattle.ssh_model.specs.State.TransportLayer.Kept.{takes}
 use Rattle.ssh_transport_machine.specs.Judging.{PayloadJudged.skipped, PayloadJudged.unexpected}
 use Rattle.ssh_transport_machine.specs.State.{before_taken}
 use Rattle.ssh_transport_machine.proofs.machine.Machine.judge.Goals as goal

@@ -1,9 +1,9 @@
 use Rattle.std.proofs.Common.{ap, sym, ◌∙◌, not, ◌&&◌, ◌==◌, List, ℕ}
-use Rattle.ssh_model.specs.Side.{peer}
-use Rattle.ssh_model.specs.KeyExchange.Choice.{Lists}
-use Rattle.ssh_model.specs.KeyExchange.Exchanges.{has_marker}
-use Rattle.ssh_model.specs.Sessions.Parties.{is_required, lists_of as lists_offered, marker_of}
-use Rattle.ssh_model.specs.TransportLayer.Kept.{has_choice_with, own_offer}
+use Rattle.ssh_model.specs.Protocol.Side.{peer}
+use Rattle.ssh_model.specs.Protocol.KeyExchange.Choice.{Lists}
+use Rattle.ssh_model.specs.Protocol.KeyExchange.Exchanges.{has_marker}
+use Rattle.ssh_model.specs.Protocol.Sessions.Parties.{is_required, lists_of as lists_offered, marker_of}
+use Rattle.ssh_model.specs.State.TransportLayer.Kept.{has_choice_with, own_offer}
 use Rattle.ssh_message.specs.Meaning.{proposal_meaning}
 use Rattle.ssh_types.specs.Values.{names}
 use Rattle.ssh_kex.specs.Values.{lists_of}

@@ -1,5 +1,5 @@
 use Rattle.std.proofs.Common.{ap, ◌∙◌, subst, List, ℕ, false}
-use Rattle.ssh_model.specs.Wire.Message.{IsPayload}
+use Rattle.ssh_model.specs.Protocol.Wire.Message.{IsPayload}
 use Rattle.ssh_message.specs.Meaning.{NoMessage, meaning}
 use Rattle.ssh_transport_machine.specs.Judging.{PayloadJudged.bad_message, PayloadJudged.read}
 use Rattle.ssh_transport_machine.proofs.machine.Machine.judge_read.Goals as goal

@@ -1,5 +1,5 @@
 use Rattle.std.proofs.Common.{◌≡◌, ap, sym, ◌∙◌, subst, List, ℕ, false}
-use Rattle.ssh_model.specs.Wire.Message.{IsPayload, Msg.KexInit}
+use Rattle.ssh_model.specs.Protocol.Wire.Message.{IsPayload, Msg.KexInit}
 use Rattle.ssh_message.specs.Meaning.{NoMessage, proposal_meaning}
 use Rattle.ssh_transport_machine.proofs.Choosing.{choice_of}
 use Rattle.ssh_transport_machine.proofs.machine.Machine.their_proposal.Goals as goal

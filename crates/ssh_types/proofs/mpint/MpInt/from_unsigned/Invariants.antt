@@ -1,5 +1,5 @@
 use Rattle.std.proofs.Common.{◌≡◌, ◌≤◌, length}
-use Rattle.ssh_model.specs.Wire.DataTypes.{number, AreBytes}
+use Rattle.ssh_model.specs.Protocol.Wire.DataTypes.{number, AreBytes}
 use Rattle.ssh_types.proofs.mpint.MpInt.from_unsigned.Given as goal
 
 -- The zeros that were left away count for nothing.

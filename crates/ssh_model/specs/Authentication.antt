@@ -1,4 +1,0 @@
-pub mod Requests
-pub mod Rows
-pub mod Kept
-pub mod Summary

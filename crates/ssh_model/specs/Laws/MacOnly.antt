@@ -1,0 +1,109 @@
+-- The laws of the sealing `none` with `hmac-sha2-256`.
+use Rattle.std.specs.Prelude.{◌≡◌, ℕ, zero, suc, ◌+◌, ◌-◌, ◌≤◌, ◌%◌, ◌&&◌, ◌==◌, max, nat_le, Bool, true, false, List}
+use Rattle.std.specs.Prelude.{[], ◌∷◌, ◌++◌, length, take, drop, Some, None, IfSome, if◌then◌else◌, refl}
+use Rattle.std.proofs.Common.{inl, ap, ◌∙◌, arith, length-append}
+use Rattle.std.proofs.Math.Seq.{take-append_seam, drop-append_seam}
+use Rattle.std.proofs.lemmas.List.{take-append-le, length-take-le, take-take}
+use Rattle.std.proofs.lemmas.Bool.{leb-true, and_parts}
+use Rattle.std.proofs.lemmas.Cmp.{nat_list_eq_equiv}
+use Rattle.std.specs.Int.{w32, to_be_bytes}
+use Rattle.sha2.specs.Sha256.{sha256, digest_bytes}
+use Rattle.sha2.proofs.Facts256.{length-sha256}
+use Rattle.ssh_model.specs.Protocol.Wire.DataTypes.{AreBytes}
+use Rattle.ssh_model.specs.Protocol.Wire.Packet.{Blocks, IsBlock, counted, is_size, least_size, with_length}
+use Rattle.ssh_model.specs.Protocol.Wire.Sealing.{IsSealing, is_wire_size}
+use Rattle.ssh_model.specs.Protocol.Wire.MacOnly.{mac_only, mac_only_lengths, tag_of, is_text, is_mac_only}
+
+-- a packet has at least 12 bytes, whatever the blocks
+size_from : (blocks : Blocks) (tag size : ℕ) → is_size blocks tag size ≡ true → 12 ≤ size
+size_from blocks tag size h =
+    let p = and_parts (counted blocks size % max blocks.size 8 == 0) (nat_le (least_size blocks) size
+    && nat_le (size + tag) 35000) h in
+    let q = and_parts (nat_le (least_size blocks) size) (nat_le (size + tag) 35000) p.1 in
+    let low : least_size blocks ≤ size = leb-true (least_size blocks) size q.0 in
+    let some : 12 ≤ least_size blocks = twelve blocks.counts_length blocks.size in
+    omega (arith, low, some)
+  where
+    twelve : (b : Bool) (n : ℕ) → 12 ≤ (if b then max 16 n else 4 + max 8 n)
+    twelve true n = omega arith
+    twelve false n = omega arith
+
+-- next to its tag
+wire_from : (blocks : Blocks) (tag size : ℕ) → is_wire_size blocks tag size ≡ true → (tag ≤ size) × (12 ≤ size - tag)
+wire_from blocks tag size h =
+    let p = and_parts (nat_le tag size) (is_size blocks tag (size - tag)) h in
+    (leb-true tag size p.0, size_from blocks tag (size - tag) p.1)
+
+tag_length : (key : List ℕ) (number : ℕ) (packet : List ℕ) → length (tag_of key number packet) ≡ 32
+tag_length key number packet = length-sha256 _
+
+-- a packet with its tag, cut before the tag
+before_tag : (packet tag : List ℕ) → length tag ≡ 32 → take (length (packet ++ tag) - 32) (packet ++ tag) ≡ packet
+before_tag packet tag e =
+    let n : length (packet ++ tag) - 32 ≡ length packet = omega (arith, length-append packet tag) in
+    ap (λ (k : ℕ). take k (packet ++ tag)) n ∙ take-append_seam packet tag
+
+from_tag : (packet tag : List ℕ) → length tag ≡ 32 → drop (length (packet ++ tag) - 32) (packet ++ tag) ≡ tag
+from_tag packet tag e =
+    let n : length (packet ++ tag) - 32 ≡ length packet = omega (arith, length-append packet tag) in
+    ap (λ (k : ℕ). drop k (packet ++ tag)) n ∙ drop-append_seam packet tag
+
+same_text : (tag : List ℕ) → is_text tag tag ≡ true
+same_text tag = nat_list_eq_equiv.refl tag
+
+opens : (key : List ℕ) (number : ℕ) (packet : List ℕ) →
+    mac_only.opened key number (mac_only.sealed key number packet) ≡ record { good = true; bytes = packet }
+opens key number packet =
+    let tag : List ℕ = tag_of key number packet in
+    let e = tag_length key number packet in
+    rw (before_tag packet tag e, from_tag packet tag e, same_text tag) refl
+
+lengths_small : (b : Bool) →
+    IfSome (if b then Some mac_only_lengths else None) (λ n. (n.iv ≤ 64) × (n.cipher ≤ 64) × (n.mac ≤ 64))
+lengths_small true = (omega arith, omega arith, omega arith)
+lengths_small false = tt
+
+-- ---- bytes
+
+-- bytes after bytes
+pub append_bytes : (a b : List ℕ) → AreBytes a → AreBytes b → AreBytes (a ++ b)
+append_bytes [] b p q = q
+append_bytes (x ∷ a) b p q = (p.0, append_bytes a b p.1 q)
+
+-- the bytes of a uint32
+pub word_bytes : (n : ℕ) → AreBytes (to_be_bytes w32 n)
+word_bytes n = (omega arith, (omega arith, (omega arith, (omega arith, tt))))
+
+digest_are : (h : List ℕ) (n : ℕ) → AreBytes (digest_bytes h n)
+unfolding digest_bytes
+digest_are h zero = tt
+digest_are h (suc n) = append_bytes (digest_bytes h n) _ (digest_are h n) (word_bytes _)
+
+-- the bytes of a hash
+pub hash_bytes : (text : List ℕ) → AreBytes (sha256 text)
+unfolding sha256
+hash_bytes text = digest_are _ 8
+
+-- the laws do not depend on the blocks
+pub laws_in : (blocks : Blocks) → IsBlock blocks.size → IsSealing (record mac_only { blocks = λ key. blocks })
+laws_in blocks is = record {
+  lengths = λ enc mac. lengths_small (is_mac_only enc mac);
+  blocks = λ key. is;
+  tag = λ key. omega arith;
+  opens = λ key number packet n b s. opens key number packet;
+  sealed_front = λ key number packet n b s.
+      take-append-le 4 packet (tag_of key number packet) (let f = size_from blocks 32 (length packet) s in omega arith);
+  sealed_length = λ key number packet n b s.
+      length-append packet (tag_of key number packet)
+      ∙ ap (λ (k : ℕ). length packet + k) (tag_length key number packet);
+  sealed_bytes = λ key number packet n b s. append_bytes packet (tag_of key number packet) b (hash_bytes _);
+  opened_front = λ key number bytes n b s.
+      take-take 4 (length bytes - 32) bytes (let f = wire_from blocks 32 (length bytes) s in omega arith);
+  opened_length = λ key number bytes n b s.
+      let f = wire_from blocks 32 (length bytes) s in
+      omega (arith, length-take-le (length bytes - 32) bytes (omega arith));
+}
+
+-- It keeps the laws with blocks of 8 bytes.
+pub mac_only_laws : IsSealing mac_only
+mac_only_laws = laws_in (with_length 8) (inl refl)

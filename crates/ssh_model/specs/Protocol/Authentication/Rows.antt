@@ -1,0 +1,114 @@
+-- What an end of a session answers to the messages of authentication (RFC 4252), and to the asks for them. One clause
+-- or constructor is one row.
+use Rattle.std.specs.Prelude.{◌≡◌, ℕ, Bool, true, false, not, ◌+◌, ◌&&◌, nat_le, Some, None, is_some, List, [], ◌∷◌}
+use Rattle.std.specs.Prelude.{codes}
+use Rattle.ssh_model.specs.Protocol.Side.{Side, Side.Client, Side.Server}
+use Rattle.ssh_model.specs.Protocol.Wire.Message.{Msg, Msg.UserauthRequest, Msg.UserauthFailure, Msg.UserauthSuccess}
+use Rattle.ssh_model.specs.Protocol.Wire.Message.{Msg.UserauthBanner, Msg.UserauthPkOk, Method, Method.NoMethod}
+use Rattle.ssh_model.specs.Protocol.Wire.Message.{Method.Password, Method.Publickey}
+use Rattle.ssh_model.specs.Protocol.Sessions.Refusals.{Check, Check.RefusedWhere, Refusal, Refusal.TooManyTries, AskRefusal}
+use Rattle.ssh_model.specs.Protocol.Sessions.Refusals.{AskRefusal.NotYet, AskRefusal.Busy, AskRefusal.TooLong}
+use Rattle.ssh_model.specs.Protocol.Sessions.Refusals.{AskRefusal.WrongSide}
+use Rattle.ssh_model.specs.Protocol.Sessions.Parties.{Parties, user_signature_by}
+use Rattle.ssh_model.specs.Protocol.Sessions.Items.{Ask, Ask.AskNone, Ask.AskPassword, Ask.AskProbe, Ask.AskSign}
+use Rattle.ssh_model.specs.Protocol.Sessions.Items.{Fact.Accepted, Fact.Authenticated, Fact.Failed, Fact.Banner, Fact.KeyOk}
+use Rattle.ssh_model.specs.Protocol.Sessions.Items.{Fact.Ignored, Item, Item.Sent, Item.Told}
+use Rattle.ssh_model.specs.Protocol.Sessions.Sizes.{string_size, request_size, is_too_long}
+use Rattle.ssh_model.specs.Protocol.KeyExchange.Exchanges.{exchanges, session_id}
+use Rattle.ssh_model.specs.Protocol.Sessions.Phases.{is_client, authenticated, failures, outstanding, took_service_accept}
+use Rattle.ssh_model.specs.Protocol.Authentication.Requests.{is_accepted, is_good_probe, is_failing, signed_text}
+
+-- ---- messages
+
+-- what a message of authentication is refused for, in order
+abbrev pub authentication_checks : {K : Type 0} → Parties K → Side → List Item → Msg → List (Check Refusal)
+authentication_checks p side h (UserauthRequest user service method) =
+    RefusedWhere (not (authenticated Server h) && is_failing p h user service method
+    && nat_le p.server.tries (failures h)) TooManyTries ∷ []
+authentication_checks p side h _ = []
+
+-- What the end of this side, with the history h, adds to a message that it took, the newest first. The payloads of what
+-- it sends are any that spell the messages.
+pub data AuthenticationAnswer {K : Type 0} (p : Parties K) : Side → List Item → Msg → List Item → Type 0 where
+  -- RFC 4252 section 5: after SUCCESS further requests are ignored
+  request_too_late : {h : List Item} (user service : List ℕ) (method : Method) → authenticated Server h ≡ true →
+      AuthenticationAnswer p Server h (UserauthRequest user service method) (Told Ignored ∷ [])
+  request_accepted : {h : List Item} (user service : List ℕ) (method : Method) (payload : List ℕ) →
+      authenticated Server h ≡ false →
+      is_accepted p h user service method ≡ true →
+      AuthenticationAnswer p Server h (UserauthRequest user service method)
+      (Told (Accepted user) ∷ Sent None UserauthSuccess payload ∷ [])
+  -- RFC 4252 section 7
+  request_probed : {h : List Item} (user service algorithm key payload : List ℕ) → authenticated Server h ≡ false →
+      is_good_probe p user service (Publickey algorithm key None) ≡ true →
+      AuthenticationAnswer p Server h (UserauthRequest user service (Publickey algorithm key None))
+      (Sent None (UserauthPkOk algorithm key) payload ∷ [])
+  request_failed : {h : List Item} (user service : List ℕ) (method : Method) (payload : List ℕ) →
+      authenticated Server h ≡ false → is_failing p h user service method ≡ true →
+      AuthenticationAnswer p Server h (UserauthRequest user service method)
+      (Sent None (UserauthFailure p.server.methods false) payload ∷ [])
+  failure : {h : List Item} (methods : List (List ℕ)) (partial : Bool) →
+      AuthenticationAnswer p Client h (UserauthFailure methods partial) (Told (Failed methods partial) ∷ [])
+  success : {h : List Item} → AuthenticationAnswer p Client h UserauthSuccess (Told Authenticated ∷ [])
+  banner : {h : List Item} (message language : List ℕ) →
+      AuthenticationAnswer p Client h (UserauthBanner message language) (Told (Banner message) ∷ [])
+  key_ok : {h : List Item} (algorithm key : List ℕ) →
+      AuthenticationAnswer p Client h (UserauthPkOk algorithm key) (Told (KeyOk algorithm key) ∷ [])
+
+-- ---- asks
+
+-- the conditions of a request for authentication of this size, at a client that took SERVICE_ACCEPT or not, has a
+-- request that is not answered or not, and is authenticated or not
+abbrev pub request_checks : (opened outstanding authenticated : Bool) → (size : ℕ) → List (Check AskRefusal)
+request_checks opened outstanding authenticated size =
+    RefusedWhere (not opened) NotYet ∷ RefusedWhere outstanding Busy ∷ RefusedWhere authenticated AskRefusal.Ended
+    ∷ RefusedWhere (is_too_long size) TooLong ∷ []
+
+-- the same at an end of a session: a server makes none
+abbrev pub checks_of_request : Side → List Item → ℕ → List (Check AskRefusal)
+checks_of_request side h size =
+    RefusedWhere (not (is_client side)) WrongSide
+    ∷ request_checks (took_service_accept h) (is_some (outstanding h)) (authenticated side h) size
+
+-- the bytes of a request with a password
+abbrev pub password_size : (user password : List ℕ) → ℕ
+password_size user password = request_size user (codes "password") + 1 + string_size password
+
+-- the bytes of a request that asks whether a key would do
+abbrev pub probe_size : (user algorithm key : List ℕ) → ℕ
+probe_size user algorithm key = request_size user (codes "publickey") + 1 + string_size algorithm + string_size key
+
+-- with room for the longest signature
+abbrev pub sign_size : (user algorithm key : List ℕ) → ℕ
+sign_size user algorithm key = probe_size user algorithm key + 4 + 4096
+
+-- what an ask for authentication is refused for, in order
+abbrev pub authentication_ask_checks : Side → List Item → Ask → List (Check AskRefusal)
+authentication_ask_checks side h (AskNone user) = checks_of_request side h (request_size user (codes "none"))
+authentication_ask_checks side h (AskPassword user password) = checks_of_request side h (password_size user password)
+authentication_ask_checks side h (AskProbe user algorithm key) =
+    checks_of_request side h (probe_size user algorithm key)
+authentication_ask_checks side h (AskSign user algorithm key) = checks_of_request side h (sign_size user algorithm key)
+authentication_ask_checks side h _ = []
+
+-- the signature of a request, by the client's signer, under the session id
+abbrev pub user_signature_now : {K : Type 0} → Parties K → List Item → (user algorithm key : List ℕ) → List ℕ
+user_signature_now p h user algorithm key =
+    user_signature_by p user algorithm key
+    (signed_text (session_id (exchanges p Client h)) user (codes "ssh-connection") algorithm key)
+
+-- what is sent on an ask that is not refused
+pub data AuthenticationAsk {K : Type 0} (p : Parties K) : Side → List Item → Ask → List Item → Type 0 where
+  none : {side : Side} {h : List Item} (user payload : List ℕ) →
+      AuthenticationAsk p side h (AskNone user)
+      (Sent None (UserauthRequest user (codes "ssh-connection") NoMethod) payload ∷ [])
+  password : {side : Side} {h : List Item} (user word payload : List ℕ) →
+      AuthenticationAsk p side h (AskPassword user word)
+      (Sent None (UserauthRequest user (codes "ssh-connection") (Password word None)) payload ∷ [])
+  probe : {side : Side} {h : List Item} (user algorithm key payload : List ℕ) →
+      AuthenticationAsk p side h (AskProbe user algorithm key)
+      (Sent None (UserauthRequest user (codes "ssh-connection") (Publickey algorithm key None)) payload ∷ [])
+  sign : {side : Side} {h : List Item} (user algorithm key payload : List ℕ) →
+      AuthenticationAsk p side h (AskSign user algorithm key)
+      (Sent None (UserauthRequest user (codes "ssh-connection")
+      (Publickey algorithm key (Some (user_signature_now p h user algorithm key)))) payload ∷ [])

@@ -1,0 +1,8 @@
+pub mod History
+pub mod Message
+pub mod Notes
+pub mod Rows
+pub mod Rules
+pub mod Claims
+pub mod Numbers
+pub mod Connection

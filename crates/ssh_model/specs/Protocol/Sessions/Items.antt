@@ -1,0 +1,135 @@
+-- What the two ends of a session did, in one list of items with their sides, the newest first, so that "earlier" is
+-- the tail. What is asked of an end, what it is told, and what it sends and takes are values of their own.
+use Rattle.std.specs.Prelude.{ℕ, Bool, List, [], ◌∷◌, Option, true, false}
+use Rattle.ssh_model.specs.Protocol.Side.{DoneBy}
+use Rattle.ssh_model.specs.Protocol.Wire.Message.{Extension, Msg, Msg.NewKeys}
+use Rattle.ssh_model.specs.Protocol.Sessions.Refusals.{Refusal, AskRefusal}
+
+-- ---- what a user asks of an end. Channels go by the end's own numbers.
+
+-- what a user asks of an end; channels go by the end's own numbers
+pub data Ask : Type 0 where
+  AskService : Ask
+  AskNone : (user : List ℕ) → Ask
+  AskPassword : (user password : List ℕ) → Ask
+  -- whether the key would do
+  AskProbe : (user algorithm key : List ℕ) → Ask
+  AskSign : (user algorithm key : List ℕ) → Ask
+  AskRekey : Ask
+  AskOpen : (kind : List ℕ) (window most : ℕ) (rest : List ℕ) → Ask
+  AskConfirm : (channel window most : ℕ) (rest : List ℕ) → Ask
+  AskRefuse : (channel reason : ℕ) → Ask
+  -- of the type, where it is extended data
+  AskData : (channel : ℕ) (kind : Option ℕ) (body : List ℕ) → Ask
+  AskAdjust : (channel bytes : ℕ) → Ask
+  AskEof : (channel : ℕ) → Ask
+  AskClose : (channel : ℕ) → Ask
+  AskRequest : (channel : ℕ) (name : List ℕ) (want : Bool) (rest : List ℕ) → Ask
+  AskReply : (channel : ℕ) (answer : Bool) → Ask
+  AskGlobal : (name : List ℕ) (want : Bool) (rest : List ℕ) → Ask
+  AskGlobalReply : (answer : Bool) (rest : List ℕ) → Ask
+  AskDisconnect : (description : List ℕ) → Ask
+
+-- ---- what an end tells its user
+
+-- what an end tells its user
+pub data Fact : Type 0 where
+  -- the exchange at this position, from 1, is completed
+  Completed : (position : ℕ) → Fact
+  Service : Fact
+  Accepted : (user : List ℕ) → Fact
+  Authenticated : Fact
+  Failed : (methods : List (List ℕ)) (partial : Bool) → Fact
+  Banner : (message : List ℕ) → Fact
+  KeyOk : (algorithm key : List ℕ) → Fact
+  Ignored : Fact
+  GotExtensions : (extensions : List Extension) → Fact
+  Debugged : (display : Bool) (message : List ℕ) → Fact
+  NotImplemented : (number : ℕ) → Fact
+  Disconnected : (reason : ℕ) (description : List ℕ) → Fact
+  Global : (name : List ℕ) (want : Bool) (rest : List ℕ) → Fact
+  GlobalDone : (answer : Bool) (rest : List ℕ) → Fact
+  Opening : (channel : ℕ) → Fact
+  Opened : (channel : ℕ) (kind : List ℕ) (window most : ℕ) (rest : List ℕ) → Fact
+  Confirmed : (channel window most : ℕ) (rest : List ℕ) → Fact
+  OpenFailed : (channel reason : ℕ) (description : List ℕ) → Fact
+  GotData : (channel : ℕ) (kind : Option ℕ) (body : List ℕ) → Fact
+  Adjusted : (channel bytes : ℕ) → Fact
+  Ended : (channel : ℕ) → Fact
+  Closed : (channel : ℕ) → Fact
+  Requested : (channel : ℕ) (name : List ℕ) (want : Bool) (rest : List ℕ) → Fact
+  RequestDone : (channel : ℕ) (answer : Bool) → Fact
+
+-- ---- what one end did
+
+-- Lines are without CR LF. A message that belongs to a channel names the end's own number of it, and every message
+-- stands with the payload that spells it. The packet after a wrong guess is not read, so it has no message.
+pub data Item : Type 0 where
+  Fed : (cookie secret : List ℕ) → Item
+  Asked : (ask : Ask) → Item
+  AskRefused : (refusal : AskRefusal) → Item
+  SentLine : (line : List ℕ) → Item
+  TookLine : (line : List ℕ) → Item
+  TookOtherLine : (line : List ℕ) → Item
+  Sent : (channel : Option ℕ) (message : Msg) (payload : List ℕ) → Item
+  Took : (channel : Option ℕ) (message : Msg) (payload : List ℕ) → Item
+  TookGuess : (payload : List ℕ) → Item
+  Told : (fact : Fact) → Item
+  -- with the payload of the refused unit, where it was opened
+  Refused : (refusal : Refusal) (payload : Option (List ℕ)) → Item
+  Died : Item
+
+-- an item of one side
+abbrev pub Done : Type 0
+Done = DoneBy Item
+
+-- The end died.
+abbrev pub has_died : List Item → Bool
+has_died [] = false
+has_died (Died ∷ h) = true
+has_died (_ ∷ h) = has_died h
+
+-- ---- the payloads of a direction
+
+-- A payload, NEWKEYS or another: the epochs of a direction are between its NEWKEYS.
+pub data Payload : Type 0 where
+  NewkeysOf : (bytes : List ℕ) → Payload
+  OtherOf : (bytes : List ℕ) → Payload
+
+-- the bytes of a payload
+abbrev pub bytes_of : Payload → List ℕ
+bytes_of (NewkeysOf bytes) = bytes
+bytes_of (OtherOf bytes) = bytes
+
+-- the payloads that an end sent, and those that it took
+abbrev pub sent : List Item → List Payload
+sent [] = []
+sent (Sent channel NewKeys payload ∷ h) = NewkeysOf payload ∷ sent h
+sent (Sent channel message payload ∷ h) = OtherOf payload ∷ sent h
+sent (_ ∷ h) = sent h
+
+-- the payloads that an end took
+abbrev pub took : List Item → List Payload
+took [] = []
+took (Took channel NewKeys payload ∷ h) = NewkeysOf payload ∷ took h
+took (Took channel message payload ∷ h) = OtherOf payload ∷ took h
+took (TookGuess payload ∷ h) = OtherOf payload ∷ took h
+took (_ ∷ h) = took h
+
+-- ---- the messages of a direction
+
+-- a message, with its payload
+pub data Spelled : Type 0 where
+  SpelledBy : (message : Msg) (payload : List ℕ) → Spelled
+
+-- the messages that an end sent, each with its payload
+abbrev pub messages_sent : List Item → List Spelled
+messages_sent [] = []
+messages_sent (Sent channel message payload ∷ h) = SpelledBy message payload ∷ messages_sent h
+messages_sent (_ ∷ h) = messages_sent h
+
+-- the messages that it took
+abbrev pub messages_taken : List Item → List Spelled
+messages_taken [] = []
+messages_taken (Took channel message payload ∷ h) = SpelledBy message payload ∷ messages_taken h
+messages_taken (_ ∷ h) = messages_taken h

@@ -1,0 +1,126 @@
+-- The lines before the first packet (RFC 4253 section 4.2). Rules marked as own are this core's: the standard
+-- leaves them open, or allows more.
+use Rattle.std.specs.Prelude.{◌≡◌, ◌<◌, ◌≤◌, ℕ, Bool, true, false, not, nat_le, ◌==◌, ◌&&◌, ◌⊎◌, IsTrue, List, [], ◌∷◌}
+use Rattle.std.specs.Prelude.{◌++◌, length, codes, Option, Some, None}
+use Rattle.std.specs.List.{list_all}
+use Rattle.ssh_model.specs.Protocol.Sessions.Refusals.{Refusal.BadLine, Refusal.BadVersion}
+use Rattle.ssh_model.specs.Protocol.Wire.Outcome.{Outcome, Outcome.OtherLine, Outcome.VersionLine, Outcome.RefusedLine}
+
+-- ---- lines
+
+-- CR LF
+abbrev pub line_end : List ℕ
+line_end = 13 ∷ 10 ∷ []
+
+-- Own: no line has a byte 0, and CR and LF stand at its end alone.
+abbrev pub is_text_byte : ℕ → Bool
+is_text_byte b = not (b == 0) && (not (b == 10) && not (b == 13))
+
+-- bytes other than 0, LF and CR
+abbrev pub IsText : List ℕ → Type 0
+IsText text = IsTrue (list_all is_text_byte text)
+
+-- The bytes are a line: a text and CR LF, at most 255 bytes. For lines other than version lines the bound is own.
+pub record IsLine (text bytes : List ℕ) : Type 0 where
+  pub is_text : IsText text
+  pub parts : bytes ≡ text ++ line_end
+  pub size : length bytes ≤ 255
+
+-- The bytes are a prefix of a line, and not yet a line.
+pub data IsLineBegun (bytes : List ℕ) : Type 0 where
+  in_text : IsText bytes → length bytes < 255 → IsLineBegun bytes
+  at_line_end : (text : List ℕ) → IsText text → bytes ≡ text ++ 13 ∷ [] → length bytes < 255 → IsLineBegun bytes
+
+-- ---- version lines
+
+-- "SSH-"
+abbrev pub opening : List ℕ
+opening = codes "SSH-"
+
+-- printable US-ASCII without the space, and no minus
+abbrev pub is_version_byte : ℕ → Bool
+is_version_byte b = (nat_le 33 b && nat_le b 126) && not (b == 45)
+
+-- a space and the comments, where there are any
+abbrev pub comment_text : Option (List ℕ) → List ℕ
+comment_text None = []
+comment_text (Some comments) = 32 ∷ comments
+
+-- What stands after the second minus: the software's version and the comments. Own: the version has at least one
+-- character, and the comments are any bytes that a line may have.
+pub record IsSoftware (software : List ℕ) (comments : Option (List ℕ)) (text : List ℕ) : Type 0 where
+  pub some : 1 ≤ length software
+  pub printable : IsTrue (list_all is_version_byte software)
+  pub parts : text ≡ software ++ comment_text comments
+
+-- "SSH-", the version of the protocol, a minus, and what stands after it
+pub record IsVersionText (protoversion software : List ℕ) (comments : Option (List ℕ)) (text : List ℕ) : Type 0 where
+  pub after : List ℕ
+  pub printable : IsTrue (list_all is_version_byte protoversion)
+  pub parts : text ≡ opening ++ protoversion ++ 45 ∷ after
+  pub is_software : IsSoftware software comments after
+
+-- The bytes are a version line of these parts, CR LF included.
+pub record IsVersionLine (protoversion software : List ℕ) (comments : Option (List ℕ)) (bytes : List ℕ) : Type 0 where
+  pub text : List ℕ
+  pub line : IsLine text bytes
+  pub version : IsVersionText protoversion software comments text
+
+-- 2.0, and from a server 1.99, which means the same (RFC 4253 section 5.1). Own: 1.99 from no client.
+abbrev pub IsAccepted : (from_server : Bool) → List ℕ → Type 0
+IsAccepted from_server protoversion =
+    (protoversion ≡ codes "2.0") ⊎ ((from_server ≡ true) × (protoversion ≡ codes "1.99"))
+
+-- ---- other lines
+
+-- The text is not that of a version line, however bad: it doesn't begin with "SSH-".
+abbrev pub IsOther : List ℕ → Type 0
+IsOther text = (rest : List ℕ) → text ≡ opening ++ rest → ⊥
+
+-- own: so many other lines a server may send at most
+abbrev pub most_others : ℕ
+most_others = 64
+
+-- ---- what an end makes of them
+
+-- No minus stands in the bytes.
+abbrev pub HasNoMinus : List ℕ → Type 0
+HasNoMinus bytes = IsTrue (list_all (λ b. not (b == 45)) bytes)
+
+-- The text begins with "SSH-", and what follows has a minus; the version of the protocol stands before the first.
+pub record HasVersion (protoversion after text : List ℕ) : Type 0 where
+  pub parts : text ≡ opening ++ protoversion ++ 45 ∷ after
+  pub first : HasNoMinus protoversion
+
+-- What the text of a complete line is to an end that awaits the version line and took so many other lines. It refuses
+-- a bad line and a version of the protocol that it doesn't accept.
+pub data LineIs (from_server : Bool) (others : ℕ) (text : List ℕ) : Outcome → Type 0 where
+  other : from_server ≡ true → others < most_others → IsOther text → LineIs from_server others text (OtherLine text)
+  other_from_client : from_server ≡ false → IsOther text → LineIs from_server others text (RefusedLine BadLine)
+  too_many_others : from_server ≡ true → most_others ≤ others → IsOther text →
+      LineIs from_server others text (RefusedLine BadLine)
+  no_minus : (rest : List ℕ) → text ≡ opening ++ rest → HasNoMinus rest →
+      LineIs from_server others text (RefusedLine BadLine)
+  bad_version : (protoversion after : List ℕ) → HasVersion protoversion after text →
+      (IsAccepted from_server protoversion → ⊥) → LineIs from_server others text (RefusedLine BadVersion)
+  bad_software : (protoversion after : List ℕ) → HasVersion protoversion after text →
+      IsAccepted from_server protoversion →
+      ((software : List ℕ) (comments : Option (List ℕ)) → IsSoftware software comments after → ⊥) →
+      LineIs from_server others text (RefusedLine BadLine)
+  version : (protoversion software : List ℕ) (comments : Option (List ℕ)) →
+      IsVersionText protoversion software comments text →
+      IsAccepted from_server protoversion → LineIs from_server others text (VersionLine text)
+
+-- The bytes of one unit of the stream before the version line was taken, and what the end makes of them: a complete
+-- line, or the bytes up to the first with which they can't become a line any more.
+pub data LineUnit (from_server : Bool) (others : ℕ) (unit : List ℕ) : Outcome → Type 0 where
+  line : {outcome : Outcome} (text : List ℕ) → IsLine text unit → LineIs from_server others text outcome →
+      LineUnit from_server others unit outcome
+  zero_byte : (text : List ℕ) → IsText text → length text < 255 → unit ≡ text ++ 0 ∷ [] →
+      LineUnit from_server others unit (RefusedLine BadLine)
+  lf_without_cr : (text : List ℕ) → IsText text → length text < 255 → unit ≡ text ++ 10 ∷ [] →
+      LineUnit from_server others unit (RefusedLine BadLine)
+  cr_without_lf : (text : List ℕ) (byte : ℕ) → IsText text → length text < 254 → (byte ≡ 10 → ⊥) →
+      unit ≡ text ++ 13 ∷ byte ∷ [] → LineUnit from_server others unit (RefusedLine BadLine)
+  too_long : (text : List ℕ) (byte : ℕ) → IsText text → length text ≡ 254 → unit ≡ text ++ byte ∷ [] →
+      LineUnit from_server others unit (RefusedLine BadLine)

@@ -1,0 +1,135 @@
+-- Sealing and opening packets (RFC 4253 sections 6 and 6.4), by a supplied sealing.
+use Rattle.std.specs.Prelude.{◌≡◌, ◌≤◌, ◌<◌, ◌+◌, ◌-◌, ◌^◌, ℕ, Bool, true, false, ◌&&◌, nat_le, IsTrue, List, ◌++◌}
+use Rattle.std.specs.Prelude.{length, take, Option, Some, None, IfSome}
+use Rattle.ssh_model.specs.Protocol.Wire.DataTypes.{AreBytes, IsUint32}
+use Rattle.ssh_model.specs.Protocol.Wire.Packet.{Blocks, IsBlock, IsPacket, IsLeastPacket, is_size, with_length}
+
+-- how many bytes of key material a sealing takes
+pub record Lengths : Type 0 where
+  pub iv : ℕ
+  pub cipher : ℕ
+  pub mac : ℕ
+
+-- what opening gives: whether the tag is good, and the packet without its tag
+pub record Opened : Type 0 where
+  pub good : Bool
+  pub bytes : List ℕ
+
+-- What a sealing computes. `sealed` goes from a packet without its tag to the bytes on the wire, and
+-- `opened` back.
+pub record Crypto (K : Type 0) : Type 0 where
+  pub lengths : List ℕ → List ℕ → Option Lengths
+  pub made : List ℕ → List ℕ → List ℕ → List ℕ → List ℕ → K
+  pub blocks : K → Blocks
+  pub tag : K → ℕ
+  pub sealed : K → ℕ → List ℕ → List ℕ
+  pub opened : K → ℕ → List ℕ → Opened
+
+-- ---- in clear, where there is no key yet
+
+-- the blocks that packets fill under a key
+abbrev pub blocks_under : {K : Type 0} → Crypto K → Option K → Blocks
+blocks_under c None = with_length 8
+blocks_under c (Some key) = c.blocks key
+
+-- the bytes of a tag under a key
+abbrev pub tag_under : {K : Type 0} → Crypto K → Option K → ℕ
+tag_under c None = 0
+tag_under c (Some key) = c.tag key
+
+-- what stands on the wire for a packet
+abbrev pub sealed_under : {K : Type 0} → Crypto K → Option K → ℕ → List ℕ → List ℕ
+sealed_under c None number packet = packet
+sealed_under c (Some key) number packet = c.sealed key number packet
+
+-- what opening gives
+abbrev pub opened_under : {K : Type 0} → Crypto K → Option K → ℕ → List ℕ → Opened
+opened_under c None number bytes = record { good = true; bytes = bytes }
+opened_under c (Some key) number bytes = c.opened key number bytes
+
+-- ---- what stands on the wire
+
+-- the sizes of a packet with its tag
+abbrev pub is_wire_size : Blocks → ℕ → ℕ → Bool
+is_wire_size blocks tag size = nat_le tag size && is_size blocks tag (size - tag)
+
+-- The bytes are a packet of the payload when they are opened under the key and the number.
+pub record IsWire {K : Type 0} (c : Crypto K) (key : Option K) (number : ℕ) (payload bytes : List ℕ) : Type 0 where
+  pub size : IsTrue (is_wire_size (blocks_under c key) (tag_under c key) (length bytes))
+  pub good : (opened_under c key number bytes).good ≡ true
+  pub packet : IsPacket (blocks_under c key) (tag_under c key) payload (opened_under c key number bytes).bytes
+
+-- The bytes are what sealing gives for a packet of the payload with the least padding, whatever the padding bytes.
+pub record IsSealed {K : Type 0} (c : Crypto K) (key : Option K) (number : ℕ) (payload bytes : List ℕ) : Type 0 where
+  pub packet : List ℕ
+  pub are_bytes : AreBytes packet
+  pub least : IsLeastPacket (blocks_under c key) (tag_under c key) payload packet
+  pub sealed : bytes ≡ sealed_under c key number packet
+
+-- ---- the laws of a sealing
+
+-- Opening restores what was sealed under the same key and number. Both leave the first four bytes, the length. What is
+-- sealed are bytes again.
+pub record IsSealing {K : Type 0} (c : Crypto K) : Type 0 where
+  pub lengths : (enc mac : List ℕ) → IfSome (c.lengths enc mac) (λ n. (n.iv ≤ 64) × (n.cipher ≤ 64) × (n.mac ≤ 64))
+  pub blocks : (key : K) → IsBlock (c.blocks key).size
+  pub tag : (key : K) → c.tag key ≤ 64
+  pub opens : (key : K) (number : ℕ) (packet : List ℕ) → number < 2 ^ 32 → AreBytes packet →
+      IsTrue (is_size (c.blocks key) (c.tag key) (length packet)) →
+      c.opened key number (c.sealed key number packet) ≡ record { good = true; bytes = packet }
+  pub sealed_front : (key : K) (number : ℕ) (packet : List ℕ) → number < 2 ^ 32 → AreBytes packet →
+      IsTrue (is_size (c.blocks key) (c.tag key) (length packet)) →
+      take 4 (c.sealed key number packet) ≡ take 4 packet
+  pub sealed_length : (key : K) (number : ℕ) (packet : List ℕ) → number < 2 ^ 32 → AreBytes packet →
+      IsTrue (is_size (c.blocks key) (c.tag key) (length packet)) →
+      length (c.sealed key number packet) ≡ length packet + c.tag key
+  pub sealed_bytes : (key : K) (number : ℕ) (packet : List ℕ) → number < 2 ^ 32 → AreBytes packet →
+      IsTrue (is_size (c.blocks key) (c.tag key) (length packet)) →
+      AreBytes (c.sealed key number packet)
+  pub opened_front : (key : K) (number : ℕ) (bytes : List ℕ) → number < 2 ^ 32 → AreBytes bytes →
+      IsTrue (is_wire_size (c.blocks key) (c.tag key) (length bytes)) →
+      take 4 (c.opened key number bytes).bytes ≡ take 4 bytes
+  pub opened_length : (key : K) (number : ℕ) (bytes : List ℕ) → number < 2 ^ 32 → AreBytes bytes →
+      IsTrue (is_wire_size (c.blocks key) (c.tag key) (length bytes)) →
+      length (c.opened key number bytes).bytes + c.tag key ≡ length bytes
+
+-- ---- what the front of a stream shows before a whole packet is taken
+
+-- The bytes are a length field that no packet has: it is refused as soon as its four bytes are there.
+pub record IsBadLength (blocks : Blocks) (tag : ℕ) (bytes : List ℕ) : Type 0 where
+  pub count : ℕ
+  pub field : IsUint32 count bytes
+  pub size : is_size blocks tag (4 + count) ≡ false
+
+-- The bytes begin with a length field that a packet may have, and `size_on_wire` counts the packet's bytes with its
+-- tag.
+pub record HasSize (blocks : Blocks) (tag size_on_wire : ℕ) (bytes : List ℕ) : Type 0 where
+  pub field : List ℕ
+  pub rest : List ℕ
+  pub count : ℕ
+  pub parts : bytes ≡ field ++ rest
+  pub counts : IsUint32 count field
+  pub size : IsTrue (is_size blocks tag (4 + count))
+  pub whole : size_on_wire ≡ 4 + count + tag
+
+-- a whole packet with its tag, by its length field
+pub record IsWhole (blocks : Blocks) (tag : ℕ) (bytes : List ℕ) : Type 0 where
+  pub has : HasSize blocks tag (length bytes) bytes
+
+-- The bytes are a whole packet, and its tag is not the one of this key and number.
+pub record IsBadTag {K : Type 0} (c : Crypto K) (key : Option K) (number : ℕ) (bytes : List ℕ) : Type 0 where
+  pub whole : IsWhole (blocks_under c key) (tag_under c key) bytes
+  pub bad : (opened_under c key number bytes).good ≡ false
+
+-- The tag is good, and the opened bytes are a packet of no payload: its padding is too short, or leaves no payload.
+pub record IsBadPadding {K : Type 0} (c : Crypto K) (key : Option K) (number : ℕ) (bytes : List ℕ) : Type 0 where
+  pub whole : IsWhole (blocks_under c key) (tag_under c key) bytes
+  pub good : (opened_under c key number bytes).good ≡ true
+  pub none : (payload : List ℕ) →
+      IsPacket (blocks_under c key) (tag_under c key) payload (opened_under c key number bytes).bytes → ⊥
+
+-- The bytes are a part of a packet: fewer than four, or fewer than a length field says that a packet may have.
+pub data IsBegun (blocks : Blocks) (tag : ℕ) (bytes : List ℕ) : Type 0 where
+  no_length : length bytes < 4 → IsBegun blocks tag bytes
+  has_length : (size_on_wire : ℕ) → HasSize blocks tag size_on_wire bytes → length bytes < size_on_wire →
+      IsBegun blocks tag bytes

@@ -1,0 +1,69 @@
+-- The units of the byte stream that comes to an end: lines up to the version line, and then packets.
+use Rattle.std.specs.Prelude.{◌≡◌, ◌<◌, ◌≤◌, ◌^◌, ℕ, Bool, true, false, List, length, Option}
+use Rattle.ssh_model.specs.Protocol.Wire.DataTypes.{AreBytes}
+use Rattle.ssh_model.specs.Protocol.Wire.Sealing.{Crypto, IsWire, IsBadLength, IsBadTag, IsBadPadding, IsBegun, HasSize}
+use Rattle.ssh_model.specs.Protocol.Wire.Sealing.{blocks_under, tag_under}
+use Rattle.ssh_model.specs.Protocol.Wire.Outcome.{Outcome, Outcome.Opens, Outcome.RefusedPacket}
+use Rattle.ssh_model.specs.Protocol.Sessions.Refusals.{Refusal.BadLength, Refusal.BadPadding, Refusal.BadTag}
+use Rattle.ssh_model.specs.Protocol.Sessions.Refusals.{Refusal.NumberSpent}
+use Rattle.ssh_model.specs.Protocol.Wire.Line.{LineUnit, IsLineBegun}
+use Rattle.ssh_model.specs.Protocol.Wire.Delivery.{Rules}
+
+-- The next packet has a sequence number of its own, a uint32: fewer than 2^32 were taken under this key.
+abbrev pub HasNumber : (number count : ℕ) → Type 0
+HasNumber number count = (count < 2 ^ 32) × (number < 2 ^ 32)
+
+-- The bytes of one packet with its tag, or of its length field alone, and what an end makes of them whose next packet
+-- has this sequence number, and which took so many under this key. A length field is refused before the numbers that
+-- are spent, those before the tag, and that before the padding.
+pub data PacketUnit {K : Type 0} (c : Crypto K) (key : Option K) (number count : ℕ) (unit : List ℕ) : Outcome →
+    Type 0 where
+  opens : (payload : List ℕ) → HasNumber number count → AreBytes unit → IsWire c key number payload unit →
+      PacketUnit c key number count unit (Opens payload)
+  bad_length : IsBadLength (blocks_under c key) (tag_under c key) unit →
+      PacketUnit c key number count unit (RefusedPacket BadLength)
+  spent : (size : ℕ) → count ≡ 2 ^ 32 → length unit ≡ 4 → HasSize (blocks_under c key) (tag_under c key) size unit →
+      PacketUnit c key number count unit (RefusedPacket NumberSpent)
+  bad_tag : HasNumber number count → AreBytes unit → IsBadTag c key number unit →
+      PacketUnit c key number count unit (RefusedPacket BadTag)
+  bad_padding : HasNumber number count → AreBytes unit → IsBadPadding c key number unit →
+      PacketUnit c key number count unit (RefusedPacket BadPadding)
+
+-- What no unit is yet: a packet begun. Where the numbers are spent, no more of it than a part of its length field.
+pub record IsPacketBegun {K : Type 0} (c : Crypto K) (key : Option K) (count : ℕ) (bytes : List ℕ) : Type 0 where
+  pub begun : IsBegun (blocks_under c key) (tag_under c key) bytes
+  pub unspent : 4 ≤ length bytes → count < 2 ^ 32
+
+-- What an end reads next: lines, having taken so many other lines, or a packet under a key, with its sequence number,
+-- and having taken so many under that key.
+pub data Stage (K : Type 0) : Type 0 where
+  Lines : (from_server : Bool) (others : ℕ) → Stage K
+  Packets : (key : Option K) (number count : ℕ) → Stage K
+
+-- An end never took more packets under one key than there are numbers, and while one is left the next is a uint32.
+abbrev pub IsPlace : (number count : ℕ) → Type 0
+IsPlace number count = (count ≤ 2 ^ 32) × (count < 2 ^ 32 → number < 2 ^ 32)
+
+-- A stage at which an end can be.
+abbrev pub IsStage : {K : Type 0} → Stage K → Type 0
+IsStage (Lines from_server others) = Unit {0}
+IsStage (Packets key number count) = IsPlace number count
+
+-- the bytes of the next unit, and what the end makes of them
+abbrev pub IsUnit : {K : Type 0} → Crypto K → Stage K → List ℕ → Outcome → Type 0
+IsUnit c (Lines from_server others) unit outcome = LineUnit from_server others unit outcome
+IsUnit c (Packets key number count) unit outcome = PacketUnit c key number count unit outcome
+
+-- a prefix of the next unit
+abbrev pub IsUnitBegun : {K : Type 0} → Crypto K → Stage K → List ℕ → Type 0
+IsUnitBegun c (Lines from_server others) bytes = IsLineBegun bytes
+IsUnitBegun c (Packets key number count) bytes = IsPacketBegun c key count bytes
+
+-- The rules of an end whose stage is a function of its history.
+abbrev pub reading : {K History : Type 0} → Crypto K → (stage : History → Stage K) →
+    (after : History → List ℕ → History → Type 0) → (dead : History → Bool) → Rules History
+reading c stage after dead = record {
+  Ends = λ h unit. (dead h ≡ false) × (outcome : Outcome) × IsUnit c (stage h) unit outcome;
+  After = after;
+  Dead = λ h. dead h ≡ true;
+}

@@ -1,0 +1,4 @@
+pub mod TransportLayer
+pub mod Authentication
+pub mod Channels
+pub mod End

@@ -1,0 +1,162 @@
+-- What a layer of authentication keeps, and what each message and each ask makes of it (RFC 4252): no history here. One
+-- clause or constructor is one row.
+use Rattle.std.specs.Prelude.{◌≡◌, ℕ, ◌+◌, Bool, true, false, not, ◌==◌, ◌&&◌, ◌||◌, nat_le, Option, Some, None, List}
+use Rattle.std.specs.Prelude.{[], ◌∷◌, codes}
+use Rattle.ssh_model.specs.Protocol.Wire.Message.{Msg, Msg.UserauthRequest, Msg.UserauthFailure, Msg.UserauthSuccess}
+use Rattle.ssh_model.specs.Protocol.Wire.Message.{Msg.UserauthBanner, Msg.UserauthPkOk, Method, Method.NoMethod}
+use Rattle.ssh_model.specs.Protocol.Wire.Message.{Method.Password, Method.Publickey}
+use Rattle.ssh_model.specs.Protocol.Sessions.Refusals.{Check, Check.RefusedWhere, Refusal, Refusal.TooManyTries, AskRefusal}
+use Rattle.ssh_model.specs.Protocol.Sessions.Items.{Ask, Ask.AskNone, Ask.AskPassword, Ask.AskProbe, Ask.AskSign, Fact}
+use Rattle.ssh_model.specs.Protocol.Sessions.Items.{Fact.Accepted, Fact.Authenticated, Fact.Failed, Fact.Banner, Fact.KeyOk}
+use Rattle.ssh_model.specs.Protocol.Sessions.Items.{Fact.Ignored}
+use Rattle.ssh_model.specs.Protocol.Sessions.Sizes.{request_size}
+use Rattle.ssh_model.specs.Protocol.Sessions.Phases.{is_spare}
+use Rattle.ssh_model.specs.Protocol.Authentication.Requests.{Judge, accepts, approves, fails, signed_text}
+use Rattle.ssh_model.specs.Protocol.Authentication.Rows.{request_checks, password_size, probe_size, sign_size}
+
+-- ---- a server
+
+-- SERVICE_ACCEPT was sent, so many requests failed, and SUCCESS was sent.
+pub record Server : Type 0 where
+  pub opened : Bool
+  pub failures : ℕ
+  pub authenticated : Bool
+
+-- a server before SERVICE_ACCEPT
+abbrev pub new_server : Server
+new_server = record { opened = false; failures = 0; authenticated = false }
+
+-- a server that sent SERVICE_ACCEPT, and nothing more
+abbrev pub opened_server : Server → Server
+opened_server server = record server { opened = true }
+
+-- which numbers from 50 to 79 it takes
+abbrev pub server_takes : Server → ℕ → Bool
+server_takes server number = (number == 50 && server.opened) || is_spare number
+
+-- What is answered to a message: a message that is sent, and a fact that is told.
+pub record Answered : Type 0 where
+  pub message : Option Msg
+  pub fact : Option Fact
+
+-- only a fact is told
+abbrev pub told : Fact → Answered
+told fact = record { message = None; fact = Some fact }
+
+-- only a message is sent
+abbrev pub replied : Msg → Answered
+replied message = record { message = Some message; fact = None }
+
+-- with a judge, so many tries, the methods that it names, and the session id
+abbrev pub server_checks : Judge → (tries : ℕ) → (methods : List (List ℕ)) → (session : List ℕ) → Server → Msg →
+    List (Check Refusal)
+server_checks judge tries methods session server (UserauthRequest user service method) =
+    RefusedWhere (not server.authenticated && fails judge methods session user service method
+    && nat_le tries server.failures) TooManyTries ∷ []
+server_checks judge tries methods session server _ = []
+
+-- What a server makes of a request and answers, by its judge, its tries and the session id: one constructor is one row.
+pub data ServerTakes (judge : Judge) (methods : List (List ℕ)) (session : List ℕ) (server : Server) : Msg → Answered →
+    Server → Type 0 where
+  -- RFC 4252 section 5: after SUCCESS further requests are ignored
+  too_late : (user service : List ℕ) (method : Method) → server.authenticated ≡ true →
+      ServerTakes judge methods session server (UserauthRequest user service method) (told Ignored) server
+  accepted : (user service : List ℕ) (method : Method) → server.authenticated ≡ false →
+      accepts judge methods session user service method ≡ true →
+      ServerTakes judge methods session server (UserauthRequest user service method)
+      (record { message = Some UserauthSuccess; fact = Some (Accepted user) }) (record server { authenticated = true })
+  -- RFC 4252 section 7
+  probed : (user service algorithm key : List ℕ) → server.authenticated ≡ false →
+      approves judge methods user service (Publickey algorithm key None) ≡ true →
+      ServerTakes judge methods session server (UserauthRequest user service (Publickey algorithm key None))
+      (replied (UserauthPkOk algorithm key)) server
+  failed : (user service : List ℕ) (method : Method) → server.authenticated ≡ false →
+      fails judge methods session user service method ≡ true →
+      ServerTakes judge methods session server (UserauthRequest user service method)
+      (replied (UserauthFailure methods false)) (record server { failures = server.failures + 1 })
+
+-- ---- a client
+
+-- whether a request is not answered yet, and whether it asks if a key would do
+pub data Outstanding : Type 0 where
+  Nothing Request Probe : Outstanding
+
+abbrev pub is_outstanding : Outstanding → Bool
+is_outstanding Nothing = false
+is_outstanding _ = true
+
+abbrev pub is_key_probe : Outstanding → Bool
+is_key_probe Probe = true
+is_key_probe _ = false
+
+-- SERVICE_ACCEPT was taken, a request is outstanding, and SUCCESS was taken.
+pub record Client : Type 0 where
+  pub opened : Bool
+  pub outstanding : Outstanding
+  pub authenticated : Bool
+
+-- a client before SERVICE_ACCEPT
+abbrev pub new_client : Client
+new_client = record { opened = false; outstanding = Nothing; authenticated = false }
+
+-- a client that took SERVICE_ACCEPT, and asked nothing yet
+abbrev pub opened_client : Client → Client
+opened_client client = record client { opened = true }
+
+-- which numbers from 50 to 79 it takes
+abbrev pub client_takes : Client → ℕ → Bool
+client_takes client number =
+    ((number == 51 || number == 52) && is_outstanding client.outstanding)
+    || (number == 53 && client.opened && not client.authenticated)
+    || (number == 60 && is_key_probe client.outstanding)
+    || is_spare number
+
+-- What a client makes of a message, and what it tells: one constructor is one row.
+pub data ClientTakes (client : Client) : Msg → Answered → Client → Type 0 where
+  failure : (methods : List (List ℕ)) (partial : Bool) →
+      ClientTakes client (UserauthFailure methods partial) (told (Failed methods partial))
+      (record client { outstanding = Nothing })
+  success : ClientTakes client UserauthSuccess (told Authenticated)
+      (record client { outstanding = Nothing; authenticated = true })
+  banner : (message language : List ℕ) →
+      ClientTakes client (UserauthBanner message language) (told (Banner message)) client
+  key_ok : (algorithm key : List ℕ) →
+      ClientTakes client (UserauthPkOk algorithm key)
+      (told (KeyOk algorithm key)) (record client { outstanding = Nothing })
+
+-- what an ask of the client is refused for
+abbrev pub client_checks : Client → Ask → List (Check AskRefusal)
+client_checks client (AskNone user) =
+    request_checks client.opened (is_outstanding client.outstanding) client.authenticated
+    (request_size user (codes "none"))
+client_checks client (AskPassword user password) =
+    request_checks client.opened (is_outstanding client.outstanding) client.authenticated (password_size user password)
+client_checks client (AskProbe user algorithm key) =
+    request_checks client.opened (is_outstanding client.outstanding) client.authenticated
+    (probe_size user algorithm key)
+client_checks client (AskSign user algorithm key) =
+    request_checks client.opened (is_outstanding client.outstanding) client.authenticated (sign_size user algorithm key)
+client_checks client _ = []
+
+-- the request for the connection that it sends, with a signer of texts, and the session id
+abbrev pub request_by : (user : List ℕ) → Method → Msg
+request_by user method = UserauthRequest user (codes "ssh-connection") method
+
+-- What a client sends for an ask: one constructor is one row.
+pub data ClientSends (signature : (user algorithm key text : List ℕ) → List ℕ) (session : List ℕ)
+    (client : Client) : Ask → Msg → Client → Type 0 where
+  none : (user : List ℕ) →
+      ClientSends signature session client (AskNone user) (request_by user NoMethod)
+      (record client { outstanding = Request })
+  password : (user word : List ℕ) →
+      ClientSends signature session client (AskPassword user word) (request_by user (Password word None))
+      (record client { outstanding = Request })
+  probe : (user algorithm key : List ℕ) →
+      ClientSends signature session client (AskProbe user algorithm key)
+      (request_by user (Publickey algorithm key None)) (record client { outstanding = Probe })
+  sign : (user algorithm key : List ℕ) →
+      ClientSends signature session client (AskSign user algorithm key)
+      (request_by user
+      (Publickey algorithm key
+      (Some (signature user algorithm key (signed_text session user (codes "ssh-connection") algorithm key)))))
+      (record client { outstanding = Request })

@@ -1,0 +1,88 @@
+-- When a layer of authentication sums up a history, and how its rows are rows of a session (own).
+use Rattle.std.specs.Prelude.{◌≡◌, ℕ, Option, Some, None, List, [], ◌∷◌, ◌++◌}
+use Rattle.ssh_model.specs.Protocol.Side.{Side.Client, Side.Server}
+use Rattle.ssh_model.specs.Protocol.Wire.Message.{Msg, Msg.ServiceAccept, Msg.UserauthRequest, Msg.UserauthFailure}
+use Rattle.ssh_model.specs.Protocol.Wire.Message.{Msg.UserauthSuccess, Msg.UserauthPkOk, Method, Method.Publickey}
+use Rattle.ssh_model.specs.Protocol.Sessions.Parties.{Parties}
+use Rattle.ssh_model.specs.Protocol.Sessions.Items.{Ask, Fact, Item, Item.Sent, Item.Took, Item.Told, Item.Asked}
+use Rattle.ssh_model.specs.Protocol.Sessions.Phases.{sent_service_accept, took_service_accept, sent_success, took_success}
+use Rattle.ssh_model.specs.Protocol.Sessions.Phases.{failures, outstanding}
+use Rattle.ssh_model.specs.Protocol.Authentication.Rows.{AuthenticationAnswer, AuthenticationAsk}
+use Rattle.ssh_model.specs.State.Authentication.Kept as kept
+use Rattle.ssh_model.specs.State.Authentication.Kept.{Answered, Outstanding, Outstanding.Nothing, Outstanding.Request}
+use Rattle.ssh_model.specs.State.Authentication.Kept.{Outstanding.Probe}
+
+-- ---- the summaries
+
+-- what a server keeps sums up its history
+pub record ServerSumsUp (history : List Item) (server : kept.Server) : Type 0 where
+  pub opened : server.opened ≡ sent_service_accept history
+  pub failed : server.failures ≡ failures history
+  pub authenticated : server.authenticated ≡ sent_success history
+
+-- of the method of a request that is not answered
+abbrev pub outstanding_of : Option Method → Outstanding
+outstanding_of None = Nothing
+outstanding_of (Some (Publickey algorithm key None)) = Probe
+outstanding_of (Some _) = Request
+
+-- what a client keeps sums up its history
+pub record ClientSumsUp (history : List Item) (client : kept.Client) : Type 0 where
+  pub opened : client.opened ≡ took_service_accept history
+  pub requested : client.outstanding ≡ outstanding_of (outstanding history)
+  pub authenticated : client.authenticated ≡ took_success history
+
+-- ---- rows
+
+-- the items of an answer, with the payload that spells its message
+abbrev pub told_over : Option Fact → List Item → List Item
+told_over None items = items
+told_over (Some fact) items = Told fact ∷ items
+
+-- the item of a message that is sent, with its payload
+abbrev pub sent_with : List ℕ → Option Msg → List Item
+sent_with payload None = []
+sent_with payload (Some message) = Sent None message payload ∷ []
+
+-- all items of an answer
+abbrev pub items_of : List ℕ → Answered → List Item
+items_of payload answered = told_over answered.fact (sent_with payload answered.message)
+
+-- What a server answers is what a session answers, whatever payloads spell the messages, and what is kept sums up the
+-- history with it.
+pub record ServerAccepts {K : Type 0} (p : Parties K) (history : List Item) (message : Msg) (answered : Answered)
+    (server : kept.Server) : Type 0 where
+  pub answer : (payload : List ℕ) → AuthenticationAnswer p Server history message (items_of payload answered)
+  pub sums : (taken payload : List ℕ) →
+      ServerSumsUp (items_of payload answered ++ (Took None message taken ∷ history)) server
+
+-- the same of a client
+pub record ClientAccepts {K : Type 0} (p : Parties K) (history : List Item) (message : Msg) (answered : Answered)
+    (client : kept.Client) : Type 0 where
+  pub answer : (payload : List ℕ) → AuthenticationAnswer p Client history message (items_of payload answered)
+  pub sums : (taken payload : List ℕ) →
+      ClientSumsUp (items_of payload answered ++ (Took None message taken ∷ history)) client
+
+-- What a client sends on an ask is what a session sends, and what is kept sums up the history with it.
+pub record ClientAllows {K : Type 0} (p : Parties K) (history : List Item) (ask : Ask) (message : Msg)
+    (client : kept.Client) : Type 0 where
+  pub row : (payload : List ℕ) → AuthenticationAsk p Client history ask (Sent None message payload ∷ [])
+  pub sums : (payload : List ℕ) → ClientSumsUp (Sent None message payload ∷ Asked ask ∷ history) client
+
+-- ---- items of other layers
+
+-- an item of which a server keeps nothing here: all but SERVICE_ACCEPT, FAILURE and SUCCESS sent
+abbrev pub LeavesServer : Item → Type 0
+LeavesServer (Sent channel (ServiceAccept service) payload) = ⊥
+LeavesServer (Sent channel (UserauthFailure methods partial) payload) = ⊥
+LeavesServer (Sent channel UserauthSuccess payload) = ⊥
+LeavesServer _ = Unit {0}
+
+-- an item of which a client keeps nothing here: all but a request sent, and SERVICE_ACCEPT and the answers taken
+abbrev pub LeavesClient : Item → Type 0
+LeavesClient (Sent channel (UserauthRequest user service how) payload) = ⊥
+LeavesClient (Took channel (ServiceAccept service) payload) = ⊥
+LeavesClient (Took channel (UserauthFailure methods partial) payload) = ⊥
+LeavesClient (Took channel UserauthSuccess payload) = ⊥
+LeavesClient (Took channel (UserauthPkOk algorithm key) payload) = ⊥
+LeavesClient _ = Unit {0}

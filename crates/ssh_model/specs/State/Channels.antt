@@ -1,0 +1,4 @@
+pub mod SinceOpen
+pub mod Places
+pub mod Kept
+pub mod Summary

@@ -1,0 +1,105 @@
+-- What of a history a transport sums up, as values: the history itself goes on with items of which most values know
+-- nothing.
+use Rattle.std.specs.Prelude.{ℕ, zero, suc, Bool, Option, Some, None, List, []}
+use Rattle.ssh_model.specs.Protocol.Side.{Side, Side.Client, Side.Server}
+use Rattle.ssh_model.specs.Protocol.Wire.Sealing.{Crypto}
+use Rattle.ssh_model.specs.Protocol.KeyExchange.Choice.{Chosen}
+use Rattle.ssh_model.specs.Protocol.KeyExchange.Exchange.{Inputs}
+use Rattle.ssh_model.specs.Protocol.KeyExchange.Exchanges.{Material, Offer, Reply, nth, no_material, no_offer, no_reply}
+use Rattle.ssh_model.specs.Protocol.KeyExchange.Exchanges.{no_exchange, none_chosen, fed, sent_line, took_line, offers, points}
+use Rattle.ssh_model.specs.Protocol.KeyExchange.Exchanges.{replies, exchanges, choices, chosen, shared_number, session_id}
+use Rattle.ssh_model.specs.Protocol.KeyExchange.Exchanges.{key_of}
+use Rattle.ssh_model.specs.Protocol.Sessions.Parties.{Parties, lists_of}
+use Rattle.ssh_model.specs.Protocol.Sessions.Items.{Item, Payload, sent, took, messages_sent, messages_taken}
+use Rattle.ssh_model.specs.Protocol.Sessions.Phases.{Phase, phase, blocked, has_line, other_lines, sent_service_request}
+use Rattle.ssh_model.specs.Protocol.Sessions.Phases.{took_service_request, took_service_accept, authenticated}
+
+-- SERVICE_REQUEST was sent by a client, or taken by a server.
+abbrev pub service_requested : Side → List Item → Bool
+service_requested Client h = sent_service_request h
+service_requested Server h = took_service_request h
+
+-- the values of a history that a transport sums up
+pub record View : Type 0 where
+  pub has_line : Bool
+  pub other_lines : ℕ
+  pub took_line : List ℕ
+  pub sent_line : List ℕ
+  pub sent : List Payload
+  pub took : List Payload
+  -- KEXINITs, points and replies of this end and of the peer
+  pub own_offers : List Offer
+  pub their_offers : List Offer
+  pub own_points : List (List ℕ)
+  pub their_points : List (List ℕ)
+  pub own_replies : List Reply
+  pub their_replies : List Reply
+  pub fed : List Material
+  pub phase : Phase
+  pub blocked : Bool
+  pub exchanges : List Inputs
+  pub choices : List Chosen
+  pub requested : Bool
+  pub accepted : Bool
+  pub authenticated : Bool
+
+-- the view of a history
+abbrev pub view : {K : Type 0} → Parties K → Side → List Item → View
+view p side h = record {
+  has_line = has_line h;
+  other_lines = other_lines h;
+  took_line = took_line h;
+  sent_line = sent_line h;
+  sent = sent h;
+  took = took h;
+  own_offers = offers (messages_sent h);
+  their_offers = offers (messages_taken h);
+  own_points = points (messages_sent h);
+  their_points = points (messages_taken h);
+  own_replies = replies (messages_sent h);
+  their_replies = replies (messages_taken h);
+  fed = fed h;
+  phase = phase p side h;
+  blocked = blocked h;
+  exchanges = exchanges p side h;
+  choices = choices side h;
+  requested = service_requested side h;
+  accepted = took_service_accept h;
+  authenticated = authenticated side h;
+}
+
+-- exchange e of a view
+abbrev pub exchange_in : {K : Type 0} → Parties K → Side → ℕ → View → Inputs
+exchange_in p Client e v = record {
+  client_version = v.sent_line;
+  server_version = v.took_line;
+  client_init = (nth no_offer e v.own_offers).payload;
+  server_init = (nth no_offer e v.their_offers).payload;
+  host_key = (nth no_reply e v.their_replies).host_key;
+  client_point = nth [] e v.own_points;
+  server_point = (nth no_reply e v.their_replies).point;
+  shared = shared_number p Client (nth no_material e v.fed).secret (nth no_reply e v.their_replies).point;
+}
+exchange_in p Server e v = record {
+  client_version = v.took_line;
+  server_version = v.sent_line;
+  client_init = (nth no_offer e v.their_offers).payload;
+  server_init = (nth no_offer e v.own_offers).payload;
+  host_key = (nth no_reply e v.own_replies).host_key;
+  client_point = nth [] e v.their_points;
+  server_point = (nth no_reply e v.own_replies).point;
+  shared = shared_number p Server (nth no_material e v.fed).secret (nth [] e v.their_points);
+}
+
+-- what is chosen in exchange e of a view
+abbrev pub choice_in : Side → ℕ → View → Chosen
+choice_in Client e v =
+    chosen (lists_of (nth no_offer e v.own_offers).proposal) (lists_of (nth no_offer e v.their_offers).proposal)
+choice_in Server e v =
+    chosen (lists_of (nth no_offer e v.their_offers).proposal) (lists_of (nth no_offer e v.own_offers).proposal)
+
+-- the key of a direction in epoch e, by the exchanges and choices that were completed
+abbrev pub key_from : {K : Type 0} → Crypto K → (from : Side) → ℕ → List Inputs → List Chosen → Option K
+key_from c from zero xs choices = None
+key_from c from (suc e) xs choices =
+    Some (key_of c from (nth no_exchange e xs) (session_id xs) (nth none_chosen e choices))

@@ -1,0 +1,85 @@
+"""Writes the tables of docs/definitions.md, the definitions of the model with the comments over them; `definitions.py check` compares them.
+
+A table has the public definitions of one file of crates/ssh_model/specs. A comment speaks for the definition below it and for those after that, up to
+the next comment. What stands above the mark in the page is written by hand."""
+
+import re
+import sys
+from pathlib import Path
+
+TOP = Path(__file__).resolve().parent.parent
+SPECS = TOP / "crates/ssh_model/specs"
+PAGE = TOP / "docs/definitions.md"
+MARK = "<!-- below this line: made by tools/definitions.py -->\n"
+DEFINITION = re.compile(r"(?:(?:abbrev|unfoldable) )*pub (?!mod |use )(?:(?:data|record) )?([^ ({:]+)")
+FOLDERS = {
+    "Protocol": "The rules of a session, an honest run, and the claims. Who judges the theorems reads these: [BELIEVED.md](BELIEVED.md).",
+    "State": "What code keeps in place of a history, and when that sums one up. Nothing here has to be believed.",
+    "Laws": "What crates that read, write and send use of the rules, proved. Nothing here has to be believed.",
+    "OneEpoch": "The packets of one direction under one key. Nothing here has to be believed.",
+    "Example": "Two toy ends and short histories of theirs, on which every row of the tables is computed. The toys protect nothing.",
+}
+
+
+def files_below(node):
+    """The files of a node, in the order in which it declares them."""
+    found = []
+    for name in re.findall(r"^pub mod (\w+)$", node.read_text(), re.M):
+        file = (node.parent if node.stem == "Lib" else node.with_suffix("")) / f"{name}.antt"
+        found += files_below(file) if file.read_text().startswith("pub mod ") else [file]
+    return found
+
+
+def rows(lines):
+    """The names of the definitions that each comment speaks for."""
+    found, comment = [([], [])], []
+    for line in lines:
+        if line.startswith("-- "):
+            if not comment:
+                found.append(([], comment))
+            if not line.startswith("-- ----"):
+                comment.append(line[3:])
+            continue
+        if definition := DEFINITION.match(line):
+            found[-1][0].append(definition[1])
+        comment = []
+    return [(names, " ".join(words)) for names, words in found if names]
+
+
+def table(file):
+    lines = file.read_text().split("\n")
+    size = next(at for at, line in enumerate(lines) if not line.startswith("-- "))
+    head = " ".join(line[3:] for line in lines[:size])
+    said = [f"### `{file.relative_to(SPECS).with_suffix('')}`", "", head, "", "| Definition | Says |", "|---|---|"]
+    for names, words in rows(lines[size:]):
+        if not words:
+            sys.exit(f"{file.relative_to(TOP)}: no comment speaks for {', '.join(names)}")
+        said.append(f"| {', '.join(f'`{name}`' for name in names)} | {words.replace('|', chr(92) + '|')} |")
+    return "\n".join(said) + "\n"
+
+
+def tables():
+    said, folder = [], None
+    for file in files_below(SPECS / "Lib.antt"):
+        if file.relative_to(SPECS).parts[0] != folder:
+            folder = file.relative_to(SPECS).parts[0]
+            said.append(f"## `{folder}`\n\n{FOLDERS[folder]}\n")
+        said.append(table(file))
+    return "\n".join(said)
+
+
+def main(words):
+    by_hand, mark, made = PAGE.read_text().partition(MARK)
+    if not mark:
+        sys.exit("docs/definitions.md has no mark")
+    if words == ["check"]:
+        if made != "\n" + tables():
+            print("docs/definitions.md is not what tools/definitions.py writes")
+            return 1
+        return 0
+    PAGE.write_text(by_hand + mark + "\n" + tables())
+    return 0
+
+
+if __name__ == "__main__":
+    sys.exit(main(sys.argv[1:]))
