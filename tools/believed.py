@@ -33,8 +33,8 @@ LAST = """
 - **That a pair stands at a place of a run** (`PairStands`, `crates/ssh_pair/specs/Standing.antt`, and all that it uses). `Pair::new` establishes it and `Pair::play` and
   `Pair::feed` keep it; nothing is assumed of it. If it meant less than it seems to, the claims about what was noted and put out would stand all the same.
 - The specs of all crates between the model and the pair: what a state of their code means is used in proofs alone.
-- In `crates/ssh_model/specs/`, what is not listed above: `Laws/`, `End/`, `TransportLayer/`, and the files `Kept.antt`, `Summary.antt` and `Places.antt`. They say how
-  code keeps to the rules without a history, and examples.
+- In `crates/ssh_model/specs/`, all outside of `Protocol/`: `State/` says how code keeps to the rules without a history, `Laws/` what code uses of them, `OneEpoch/` and
+  `Example/` are examples. `Protocol/` has the files above and no other, and `make quick` fails where that is not so.
 - Lemmas, invariants and answers in `proofs/`.
 """
 
@@ -78,7 +78,7 @@ def page():
     return "".join([
         HEAD,
         "## The rules of a session, an honest run, and what is claimed of two ends\n\n",
-        "The claims are `Sessions/Claims.antt`, an honest run `Sessions/Honest.antt`, what happens to two ends `Sessions/Events.antt`. The others are the rules.\n\n",
+        "In `crates/ssh_model/specs/Protocol/`, the claims are `Sessions/Claims.antt`, an honest run `Sessions/Honest.antt`, what happens to two ends\n`Sessions/Events.antt`. The others are the rules.\n\n",
         table(rules - claims) + "\n" + table(claims),
         "\n## What is claimed of one end against any peer, besides\n\n",
         table(first),
@@ -89,8 +89,19 @@ def page():
     ])
 
 
+def others():
+    """What is wrong with the folder of the rules: a file of it that no claim uses, or a file of the model that a claim uses and that stands elsewhere."""
+    folder = CRATES / "ssh_model/specs/Protocol"
+    inside = {file for file in folder.rglob("*.antt") if not file.read_text().startswith("pub mod ")}
+    used = {file for file in used_by(TWO_ENDS + ANY_PEER) if CRATES / "ssh_model" in file.parents}
+    return [f"{file.relative_to(TOP)}: no claim uses it" for file in sorted(inside - used)] + [f"{file.relative_to(TOP)}: a claim uses it" for file in sorted(used - inside)]
+
+
 def main(words):
     if words == ["check"]:
+        if found := others():
+            print("\n".join(found))
+            return 1
         if PAGE.read_text() != page():
             print("docs/BELIEVED.md is not what tools/believed.py writes")
             return 1

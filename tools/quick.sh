@@ -1,6 +1,6 @@
 #!/bin/sh
-# What can be seen in a few minutes: the layout of the files, that each definition of the model has its line in
-# docs/definitions.md, that no crate cites the proofs of another, that what pages name is there and their commands of ssh_trace print what stands below them,
+# What can be seen in a few minutes: the layout of the files, that docs/definitions.md is made of the comments
+# over the definitions, that no crate cites the proofs of another, that what pages name is there and their commands of ssh_trace print what stands below them,
 # that the program of docs/EMBEDDING.md is in the page as it is and builds from the page alone, the tests, and the programs. Nothing is proved here. As many crates are looked at at once as there
 # are cores, each in a copy of the tree, since the toolchain locks the crates that it reads; a copy that is done with one crate takes
 # the next that no other has. A crate is compiled with checks and run; the interpreter, which would run it a second time, gets one step.
@@ -90,9 +90,9 @@ look_at() (
 )
 
 echo "definitions"
-sh "$top/tools/definitions.sh" || fail "a definition has no line in docs/definitions.md"
+python3 "$top/tools/definitions.py" check || fail "docs/definitions.md is not made of the comments as they are"
 sh "$top/tools/imports.sh" || fail "a crate cites the proofs of another"
-python3 "$top/tools/believed.py" check || fail "docs/BELIEVED.md is not made of the specs as they are"
+python3 "$top/tools/believed.py" check || fail "docs/BELIEVED.md is not made of the specs as they are, or Protocol/ has not just what is believed"
 python3 "$top/tools/embedding.py" check || fail "docs/EMBEDDING.md has not the program as it is"
 python3 "$top/tools/printed.py" names || fail "a page names what is not there"
 python3 "$top/tools/pictures.py" stored || fail "texts of a stored picture overlap"

@@ -51,7 +51,7 @@ def rows():
     least, most = min(counts, key=lambda m: len(counts[m])), max(counts, key=lambda m: len(counts[m]))
     yield f"a message: `{least}`, the least of {len(MESSAGES)} looked at", counts[least]
     yield f"a message: `{most}`, the most", counts[most]
-    yield "a bound: the 1,024 channels of an end", files_with(r"\b1,?024\b", ("crates/ssh_channels/", "crates/ssh_model/specs/Channels", "crates/ssh_model/proofs/Channels", "docs/"))
+    yield "a bound: the 1,024 channels of an end", files_with(r"\b1,?024\b", ("crates/ssh_channels/", "crates/ssh_model/specs/Protocol/Channels", "crates/ssh_model/specs/State/Channels", "crates/ssh_model/proofs/Channels", "docs/"))
     yield "a cipher: `AesGcm`", files_with(r"\b(AesGcm|aes128-gcm)\b")
 
 
