@@ -17,7 +17,8 @@ pub(crate) fn fill(keys: &VectorKeys, nonce: &[u8; 12], n: usize, bytes: &mut [u
     requires keys { AreKeys keys.now }
     requires n { n < 2 ^ 28 }
     requires bytes { length bytes.old ≡ 128 }
-    ensures bytes { (k : KeyParts) → AreKeysOf k.schedule keys.now → (i : ℕ) → i < 128 → slice_index bytes.new i ≡ stream k nonce.now (128 * n + i) }
+    ensures bytes { (k : KeyParts) → AreKeysOf k.schedule keys.now → (i : ℕ) → i < 128 →
+        slice_index bytes.new i ≡ stream k nonce.now (128 * n + i) }
     ensures long { length bytes.new ≡ 128 }
 {
     let blocks = counter_vectors(nonce, 8 * n as u32 + 1);
@@ -27,7 +28,8 @@ pub(crate) fn fill(keys: &VectorKeys, nonce: &[u8; 12], n: usize, bytes: &mut [u
 // The blocks of this nonce with eight counters from this one on, each with its rows one after another.
 fn counter_vectors(nonce: &[u8; 12], first: u32) -> Vectors
     requires { first + 8 ≤ 2 ^ 32 }
-    ensures lanes { (k l : ℕ) → k < 8 → l < 16 → number_of (lane result l) k ≡ slice_index (counter_block nonce.now (first + k)) (lane_of l) }
+    ensures lanes { (k l : ℕ) → k < 8 → l < 16 → number_of (lane result l) k ≡ slice_index (counter_block nonce.now (first + k))
+        (lane_of l) }
     ensures long { AreVectors result }
 {
     Vectors {
@@ -98,7 +100,8 @@ pub(crate) fn add_block(text: &mut [u8], at: usize, bytes: &[u8], from: usize)
     requires at { at < length text.old }
     requires text { length text.old ≤ 2 ^ 32 }
     requires bytes { from + 16 ≤ length bytes.now }
-    ensures here { (i : ℕ) → i < 16 → at + i < length text.old → slice_index text.new (at + i) ≡ bit_xor (slice_index text.old (at + i)) (slice_index bytes.now (from + i)) }
+    ensures here { (i : ℕ) → i < 16 → at + i < length text.old → slice_index text.new (at + i) ≡ bit_xor (slice_index text.old (at + i))
+        (slice_index bytes.now (from + i)) }
     ensures before { (i : ℕ) → i < at → slice_index text.new i ≡ slice_index text.old i }
     ensures after { (i : ℕ) → at + 16 ≤ i → slice_index text.new i ≡ slice_index text.old i }
     ensures long { length text.new ≡ length text.old }
@@ -116,7 +119,8 @@ fn add_bytes(text: &mut [u8], at: usize, bytes: &[u8], from: usize)
     requires at { at < length text.old }
     requires text { length text.old < at + 16 }
     requires bytes { from + 16 ≤ length bytes.now }
-    ensures here { (i : ℕ) → i < 16 → at + i < length text.old → slice_index text.new (at + i) ≡ bit_xor (slice_index text.old (at + i)) (slice_index bytes.now (from + i)) }
+    ensures here { (i : ℕ) → i < 16 → at + i < length text.old → slice_index text.new (at + i) ≡ bit_xor (slice_index text.old (at + i))
+        (slice_index bytes.now (from + i)) }
     ensures before { (i : ℕ) → i < at → slice_index text.new i ≡ slice_index text.old i }
     ensures long { length text.new ≡ length text.old }
 {

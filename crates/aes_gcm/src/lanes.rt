@@ -69,7 +69,8 @@ fn shifted_plane(x: u8x16) -> u8x16
 #[inline(always)]
 pub(crate) fn mixed_columns(a: Vectors) -> Vectors
     requires { AreVectors a }
-    ensures lanes { (l : ℕ) → l < 16 → lane result l ≡ mixed_lane (lane a l) (lane a (moved 4 l)) (lane a (moved 8 l)) (lane a (moved 12 l)) }
+    ensures lanes { (l : ℕ) → l < 16 → lane result l ≡ mixed_lane (lane a l) (lane a (moved 4 l)) (lane a (moved 8 l))
+        (lane a (moved 12 l)) }
     ensures long { AreVectors result }
 {
     let r0 = rotated_one(a.p0);
@@ -104,7 +105,8 @@ pub(crate) fn mixed_columns(a: Vectors) -> Vectors
 fn mixed(doubled: u8x16, behind: u8x16, pair: u8x16) -> u8x16
     requires doubled { length doubled ≡ 16 }
     requires behind { length behind ≡ 16 }
-    ensures lanes { (l : ℕ) → l < 16 → slice_index result l ≡ mixed_number (slice_index doubled l) (slice_index behind l) (slice_index pair (moved 8 l)) }
+    ensures lanes { (l : ℕ) → l < 16 → slice_index result l ≡ mixed_number (slice_index doubled l) (slice_index behind l)
+        (slice_index pair (moved 8 l)) }
     ensures long { length result ≡ 16 }
 {
     doubled ^ behind ^ rotated_two(pair)

@@ -3,7 +3,8 @@
 ghost use Rattle.std.specs.Prelude.{◌≡◌, ◌≢◌, ℕ, ◌≤◌, ◌<◌, ◌+◌, ◌^◌, ◌*◌, ◌/◌, ◌%◌, IfOk, bit_xor, length, slice_index};
 ghost use Rattle.aes_gcm.specs.Ghash.{absorbed_all, blocks, product};
 ghost use Rattle.aes_gcm.specs.Streams.{byte_in, sum_of};
-ghost use Rattle.aes_gcm.specs.Tables.{IsNibbles, IsWord, absorb, bit_column, bytes_of, element_of, first_blocks, nibble, none, part, place, sum_at};
+ghost use Rattle.aes_gcm.specs.Tables.{IsNibbles, IsWord, absorb, bit_column, bytes_of, element_of, first_blocks, nibble, none, part};
+ghost use Rattle.aes_gcm.specs.Tables.{place, sum_at};
 
 use crate::ghash::{Element, absorbed, absorbed_all, block_at, product};
 use crate::streams::{gather, row, store, times};
@@ -64,7 +65,8 @@ fn bit_products(products: &mut [u8], g: usize, key: Element)
     requires g { g < 8 }
     requires key { IsWord key }
     requires products { length products.old ≡ 256 }
-    ensures bytes { (l j : ℕ) → l < 16 → j < 16 → byte_in products.new l j ≡ slice_index (bytes_of (product (element_of (nibble (bit_column g l))) key)) j }
+    ensures bytes { (l j : ℕ) → l < 16 → j < 16 → byte_in products.new l j ≡ slice_index
+        (bytes_of (product (element_of (nibble (bit_column g l))) key)) j }
     ensures long { length products.new ≡ 256 }
 {
     for l in 0..16usize {
@@ -87,7 +89,8 @@ fn put_places(table: &mut [u8], g: usize, bits: &[u8])
     requires g { g < 8 }
     requires table { length table.old ≡ 8192 }
     requires bits { length bits.now ≡ 256 }
-    ensures here { (s l : ℕ) → s < 64 → l < 16 → slice_index table.new (1024 * g + 16 * s + l) ≡ sum_at (λ (b : ℕ). slice_index bits.now (16 * (s % 16) + 4 * (s / 16) + b)) l }
+    ensures here { (s l : ℕ) → s < 64 → l < 16 → slice_index table.new (1024 * g + 16 * s + l) ≡ sum_at
+        (λ (b : ℕ). slice_index bits.now (16 * (s % 16) + 4 * (s / 16) + b)) l }
     ensures before { (i : ℕ) → i < 1024 * g → slice_index table.new i ≡ slice_index table.old i }
     ensures long { length table.new ≡ 8192 }
 {
@@ -104,7 +107,8 @@ fn put_places(table: &mut [u8], g: usize, bits: &[u8])
 // The sums of four numbers that the sixteen nibbles take.
 #[inline(always)]
 fn sums(a: u8, b: u8, c: u8, d: u8) -> u8x16
-    ensures lanes { (l : ℕ) → l < 16 → slice_index result l ≡ bit_xor (bit_xor (part l 0 a) (part l 1 b)) (bit_xor (part l 2 c) (part l 3 d)) }
+    ensures lanes { (l : ℕ) → l < 16 → slice_index result l ≡ bit_xor (bit_xor (part l 0 a) (part l 1 b))
+        (bit_xor (part l 2 c) (part l 3 d)) }
     ensures long { length result ≡ 16 }
 {
     let a = u8x16::splat(a)

@@ -46,7 +46,8 @@ pub(crate) struct VectorKeys {
 pub(crate) fn encrypted_vectors(keys: &VectorKeys, blocks: Vectors) -> Vectors
     requires keys { AreKeys keys.now }
     requires blocks { AreVectors blocks }
-    ensures bytes { (b : ℕ) (k : Schedule) (w : Planes) → b < 5 → SameKeys b k keys.now → SameBytes b w blocks → SameBytes b (transposed (rounds_of k (transposed w))) result }
+    ensures bytes { (b : ℕ) (k : Schedule) (w : Planes) → b < 5 → SameKeys b k keys.now → SameBytes b w blocks →
+        SameBytes b (transposed (rounds_of k (transposed w))) result }
     ensures long { AreVectors result }
 {
     let s0 = start(blocks, keys.k0);

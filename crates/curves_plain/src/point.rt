@@ -112,8 +112,8 @@ fn chosen_point(choice: u64, p: Point, q: Point) -> Point
     }
 }
 
-// The point so many times, a number of 32 bytes with the lowest byte first. Each of 256 steps doubles and adds, and no branch and no place in
-// memory depends on the number.
+// The point so many times, a number of 32 bytes with the lowest byte first. Each of 256 steps doubles and adds, and no branch and no place
+// in memory depends on the number.
 pub(crate) fn multiplied(number: &[u8; 32], p: Point) -> Point
     requires { IsPoint p }
     ensures point { IsPoint result }

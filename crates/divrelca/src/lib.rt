@@ -1,4 +1,5 @@
-//! SSH-2 for a program that embeds one end: all names that it needs, from the crates in which they are proved. This crate adds `default_answer` alone.
+//! SSH-2 for a program that embeds one end: all names that it needs, from the crates in which they are proved. This crate adds
+//! `default_answer` alone.
 //!
 //! A line of crates.txt names it: `echo_server: divrelca anyhow`.
 //!
@@ -21,7 +22,8 @@
 //! let config = Config::new(alloc, &GcmSettings::new(b"echo").settings())?;
 //! ```
 //!
-//! **An end.** It takes the parts, what judges users, and a cookie and a secret of the system's random bytes. It puts its first bytes into `out`:
+//! **An end.** It takes the parts, what judges users, and a cookie and a secret of the system's random bytes. It puts its first bytes into
+//! `out`:
 //!
 //! ```rust
 //! let mut keys = KeySupply::new(&rt);
@@ -47,7 +49,8 @@
 //!
 //! **An ask** goes by `asked`, which answers `Later` while keys are exchanged: keep the task, and ask again after the next `take`.
 //!
-//! The crate `ssh_embedding` is a whole client and a whole server, and docs/EMBEDDING.md has them in full, with tables of all events and refusals.
+//! The crate `ssh_embedding` is a whole client and a whole server, and docs/EMBEDDING.md has them in full, with tables of all events and
+//! refusals.
 #![tactic(auto)]
 
 mod unknown;

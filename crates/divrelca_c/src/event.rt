@@ -1,7 +1,8 @@
 //! What C is told of a turn.
 
 ghost use Rattle.std.specs.Prelude.{◌≡◌, false, []};
-ghost use Rattle.divrelca_c.specs.Events.{data_fields, fact_fields, fields_of, method_name, opened_fields, requested_fields, simple, told_fields, told_or_tried, took_of, tried_fields, turn_fields};
+ghost use Rattle.divrelca_c.specs.Events.{data_fields, fact_fields, fields_of, method_name, opened_fields, requested_fields, simple};
+ghost use Rattle.divrelca_c.specs.Events.{told_fields, told_or_tried, took_of, tried_fields, turn_fields};
 ghost use Rattle.ssh_model.specs.Protocol.Sessions.Refusals.{refusal_name, refusal_number};
 ghost use Rattle.ssh_types.specs.Refusals.{refusal_of};
 
@@ -10,7 +11,8 @@ use ssh_end::{Told, Took, Turn};
 use ssh_message::{Message, Method};
 use ssh_types::Refusal;
 
-/// What was done in the last call of `dv_server_take` or `dv_client_take`. Which fields mean something depends on `kind`; the others are 0, false and no bytes.
+/// What was done in the last call of `dv_server_take` or `dv_client_take`. Which fields mean something depends on `kind`; the others are 0,
+/// false and no bytes.
 #[repr(C)]
 #[derive(Clone, Copy, Drop)]
 pub struct DvEvent<'a> {

@@ -127,7 +127,8 @@ pub extern "C" fn dv_server_written(h: &mut DvServer, count: usize)
 #[unsafe(no_mangle)]
 pub extern "C" fn dv_server_feed(h: &mut DvServer, material: &DvMaterial) -> bool
     ensures fed { result ≡ can_be_fed h.old.value.state.end.machine.kept }
-    ensures kept { result ≡ true → h.new.value.state.end.machine ≡ record h.old.value.state.end.machine { kept = after_fed material.now.cookie material.now.secret h.old.value.state.end.machine.kept } }
+    ensures kept { result ≡ true → h.new.value.state.end.machine ≡ record h.old.value.state.end.machine
+        { kept = after_fed material.now.cookie material.now.secret h.old.value.state.end.machine.kept } }
     ensures unchanged { result ≡ false → h.new.value ≡ h.old.value }
     ensures out { h.new.value.state.out ≡ h.old.value.state.out }
 {

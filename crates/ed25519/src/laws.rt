@@ -10,7 +10,8 @@ ghost use Rattle.ed25519.specs.Point.{base_x, base_y, d};
 #[tactic(auto, using(crate::proofs::Constants::curve_numbers))]
 pub fn curve_numbers()
     ensures d { times d 121666 ≡ minus 0 121665 }
-    ensures curve { minus (times base_y base_y) (times base_x base_x) ≡ plus 1 (times d (times (times base_x base_x) (times base_y base_y))) }
+    ensures curve { minus (times base_y base_y) (times base_x base_x)
+        ≡ plus 1 (times d (times (times base_x base_x) (times base_y base_y))) }
     ensures y { times base_y 5 ≡ 4 }
     ensures x { base_x % 2 ≡ 0 }
     ensures root { times root_of_minus_one root_of_minus_one ≡ minus 0 1 }

@@ -234,8 +234,8 @@ fn chosen_point(choice: u64, p: Point, q: Point) -> Point
     }
 }
 
-// A point whose z is 1 so many times, a number of 32 bytes with the lowest byte first. Each of 256 steps doubles and adds, and no branch and
-// no place in memory depends on the number.
+// A point whose z is 1 so many times, a number of 32 bytes with the lowest byte first. Each of 256 steps doubles and adds, and no branch
+// and no place in memory depends on the number.
 #[tactic(auto, using(crate::proofs::Steps::one_step, crate::proofs::Shared::ready_sum))]
 pub(crate) fn multiplied(number: &[u8; 32], p: Point) -> Point
     requires p { IsPoint p }

@@ -12,9 +12,9 @@ use crate::keys::{hash_of, high_half, low_half};
 use crate::point::{BASE, Point, added, multiplied_openly, negated};
 use crate::scalar::{bytes_of, is_reduced, reduced};
 
-/// Tests whether the signature is that of the message under this public key (section 5.1.7, without the cofactor): the public key is a point
-/// A in its one encoding, the number S of the signature is below the order, and its R is the encoding of S B - k A. Points of small order are
-/// no exception.
+/// Tests whether the signature is that of the message under this public key (section 5.1.7, without the cofactor): the public key is a
+/// point A in its one encoding, the number S of the signature is below the order, and its R is the encoding of S B - k A. Points of small
+/// order are no exception.
 #[tactic(auto, unfolding(crate::specs::Signature::is_signature))]
 pub fn verify(public: &[u8; 32], message: &[u8], signature: &[u8; 64]) -> bool
     ensures { result ≡ is_signature public.now message.now signature.now }

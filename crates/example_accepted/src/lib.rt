@@ -1,8 +1,8 @@
 //! An example: a server's loop whose own contract says that whoever it let in passed its judge, whatever the client sent.
 //!
-//! It shows how a program stands on the contract of one end. `new` gives a place of a run at which the end stands (`StandsAt`); each call takes the end
-//! from there to the next place, where it is guarded (`IsGuarded`). What the program promises follows from what `IsGuarded` says of the place where its loop
-//! ends: the history holds a request that the judge accepts, of the very user whom the end told.
+//! It shows how a program stands on the contract of one end. `new` gives a place of a run at which the end stands (`StandsAt`); each call
+//! takes the end from there to the next place, where it is guarded (`IsGuarded`). What the program promises follows from what `IsGuarded`
+//! says of the place where its loop ends: the history holds a request that the judge accepts, of the very user whom the end told.
 //!
 //! ```rust
 //! let is_in = serve(&mut server, bytes_of_the_client, &mut out)?;
@@ -18,9 +18,9 @@ use ssh_auth::UserJudge;
 use ssh_end::{Fault, ServerEnd, Told, Turn};
 use ssh_transport_base::ServerParts;
 
-/// Takes what a client sent, as far as the server goes on, and answers whether it let a user in by it. Where it did, the history from the place at which
-/// the server stood holds the request of that user, which its judge accepts: for every lawful parties that have this server's parts, and every history after
-/// which it stood.
+/// Takes what a client sent, as far as the server goes on, and answers whether it let a user in by it. Where it did, the history from the
+/// place at which the server stood holds the request of that user, which its judge accepts: for every lawful parties that have this
+/// server's parts, and every history after which it stood.
 ///
 /// # Errors
 ///
@@ -30,7 +30,9 @@ pub fn serve<P: ServerParts, U: UserJudge + Drop>(
     bytes: &[u8],
     out: &mut Vec<u8>,
 ) -> Result<bool, Fault>
-    ensures serves { IfOk result (λ is_in. (p : Parties P.Sealing.Key) (history : List Item) → Serves P.Sealing.crypto P.Agreement.public_of P.Agreement.shared_of P.HostSigner.key_of P.HostSigner.signature_of U.verdicts p history server.old is_in server.new) }
+    ensures serves { IfOk result (λ is_in. (p : Parties P.Sealing.Key) (history : List Item) →
+        Serves P.Sealing.crypto P.Agreement.public_of P.Agreement.shared_of P.HostSigner.key_of P.HostSigner.signature_of U.verdicts p
+        history server.old is_in server.new) }
 {
     let mut is_in = false;
     let mut at = 0;
@@ -54,7 +56,9 @@ fn serve_unit<P: ServerParts, U: UserJudge + Drop>(
     requires alive { server.old.machine.kept.dead ≡ false }
     ensures used { IfOk result (λ r. r.0 ≤ length bytes.now) }
     ensures progress { IfOk result (λ r. 0 < length bytes.now → 0 < r.0) }
-    ensures serves { IfOk result (λ r. (p : Parties P.Sealing.Key) (history : List Item) → Serves P.Sealing.crypto P.Agreement.public_of P.Agreement.shared_of P.HostSigner.key_of P.HostSigner.signature_of U.verdicts p history server.old r.1 server.new) }
+    ensures serves { IfOk result (λ r. (p : Parties P.Sealing.Key) (history : List Item) →
+        Serves P.Sealing.crypto P.Agreement.public_of P.Agreement.shared_of P.HostSigner.key_of P.HostSigner.signature_of U.verdicts p
+        history server.old r.1 server.new) }
 {
     let used = server.advance(bytes, out)?;
     Ok((used, lets_in(&server.turn())))

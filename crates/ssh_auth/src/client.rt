@@ -5,7 +5,8 @@ ghost use Rattle.ssh_model.specs.Protocol.Wire.Message.{message_number};
 ghost use Rattle.ssh_model.specs.Protocol.Sessions.Refusals.{first_refusal};
 ghost use Rattle.ssh_model.specs.Protocol.Sessions.Sizes as sizes;
 ghost use Rattle.ssh_model.specs.Protocol.Authentication.Rows as sizes_of;
-ghost use Rattle.ssh_model.specs.State.Authentication.Kept.{client_checks, client_takes, is_key_probe, is_outstanding as model_outstanding, new_client, opened_client};
+ghost use Rattle.ssh_model.specs.State.Authentication.Kept.{client_checks, client_takes, is_key_probe, is_outstanding as model_outstanding};
+ghost use Rattle.ssh_model.specs.State.Authentication.Kept.{new_client, opened_client};
 ghost use Rattle.ssh_message.specs.Meaning.{meaning};
 ghost use Rattle.ssh_auth.specs.Refusals.{auth_ask_refusal};
 ghost use Rattle.ssh_auth.specs.Asking.{ClientAnswers, ClientAsks, ClientRefuses, ask_of, ask_size};
@@ -158,7 +159,8 @@ impl AuthClient {
         signer: &S,
         ask: &UserAsk<'a>,
     ) -> Result<UserRequest<'a>, AskError>
-        ensures sent { IfOk result (λ request. ClientAsks (S.signature_of signer.now) session.now self.old (ask_of ask.now) request self.new) }
+        ensures sent { IfOk result (λ request. ClientAsks (S.signature_of signer.now) session.now self.old (ask_of ask.now) request
+            self.new) }
         ensures refused { IfErr result (λ error. ClientRefuses self.old (ask_of ask.now) error) }
         ensures kept { OnErr result (self.new ≡ self.old) }
     {
@@ -199,7 +201,8 @@ impl AuthClient {
     fn check(&self, ask: &UserAsk<'_>) -> Result<(), AuthAskRefusal>
         ensures fine { OnOk result (first_refusal (client_checks self.now (ask_of ask.now)) ≡ None) }
         ensures short { OnOk result (ask_size ask.now ≤ 34000) }
-        ensures refused { IfErr result (λ refusal. first_refusal (client_checks self.now (ask_of ask.now)) ≡ Some (auth_ask_refusal refusal)) }
+        ensures refused { IfErr result (λ refusal. first_refusal (client_checks self.now (ask_of ask.now))
+            ≡ Some (auth_ask_refusal refusal)) }
     {
         if !self.opened {
             return Err(AuthAskRefusal::NotYet);

@@ -1,7 +1,8 @@
 // How a request is judged (RFC 4252).
 
 ghost use Rattle.std.specs.Prelude.{◌≡◌, ◌<◌, ◌≤◌, ◌^◌, ◌&&◌, true, IfOk, IsTrue, OnErr, Some, codes, length};
-ghost use Rattle.ssh_model.specs.Protocol.Authentication.Requests.{is_configured as model_configured, is_for_connection, is_known_key as model_known, signed_text};
+ghost use Rattle.ssh_model.specs.Protocol.Authentication.Requests.{is_configured as model_configured, is_for_connection};
+ghost use Rattle.ssh_model.specs.Protocol.Authentication.Requests.{is_known_key as model_known, signed_text};
 ghost use Rattle.ssh_types.specs.Values.{names};
 ghost use Rattle.ssh_message.specs.Meaning.{method_meaning};
 ghost use Rattle.ssh_message.specs.Written.{IsShort};
@@ -32,9 +33,11 @@ pub(crate) fn judge_request<'a, J: UserJudge>(
     method: &Method<'a>,
 ) -> Result<ServerAnswer<'a>, AllocError>
     requires { IsShort user.now }
-    ensures judged { IfOk result (λ answer. IsJudged (J.verdicts judge.now) (names methods.now) session.now user.now service.now (method_meaning method.now) answer) }
+    ensures judged { IfOk result (λ answer. IsJudged (J.verdicts judge.now) (names methods.now) session.now user.now service.now
+        (method_meaning method.now) answer) }
     ensures short { IfOk result (λ answer. IsShortAnswer answer) }
-    ensures memory { OnErr result (NeedsSignature (J.verdicts judge.now) (names methods.now) user.now service.now (method_meaning method.now)) }
+    ensures memory { OnErr result (NeedsSignature (J.verdicts judge.now) (names methods.now) user.now service.now
+        (method_meaning method.now)) }
 {
     if service != CONNECTION {
         return Ok(ServerAnswer::Failed);
@@ -52,9 +55,11 @@ fn judge_method<'a, J: UserJudge>(
     method: &Method<'a>,
 ) -> Result<ServerAnswer<'a>, AllocError>
     requires { IsShort user.now }
-    ensures judged { IfOk result (λ answer. IsJudged (J.verdicts judge.now) (names methods.now) session.now user.now (codes "ssh-connection") (method_meaning method.now) answer) }
+    ensures judged { IfOk result (λ answer. IsJudged (J.verdicts judge.now) (names methods.now) session.now user.now
+        (codes "ssh-connection") (method_meaning method.now) answer) }
     ensures short { IfOk result (λ answer. IsShortAnswer answer) }
-    ensures memory { OnErr result (NeedsSignature (J.verdicts judge.now) (names methods.now) user.now (codes "ssh-connection") (method_meaning method.now)) }
+    ensures memory { OnErr result (NeedsSignature (J.verdicts judge.now) (names methods.now) user.now (codes "ssh-connection")
+        (method_meaning method.now)) }
 {
     let right = match *method {
         Method::None => judge.none(user),
@@ -91,7 +96,8 @@ fn is_password<J: UserJudge>(
     user: &[u8],
     password: &[u8],
 ) -> bool
-    ensures { result ≡ (model_configured (names methods.now) (codes "password") && (J.verdicts judge.now).password_is_right user.now password.now) }
+    ensures { result ≡ (model_configured (names methods.now) (codes "password")
+        && (J.verdicts judge.now).password_is_right user.now password.now) }
 {
     is_configured(methods, PASSWORD) && judge.password(user, password)
 }
@@ -104,7 +110,8 @@ fn is_key<J: UserJudge>(
     algorithm: &[u8],
     key: &[u8],
 ) -> bool
-    ensures known { result ≡ (model_configured (names methods.now) (codes "publickey") && model_known (J.verdicts judge.now) user.now algorithm.now key.now) }
+    ensures known { result ≡ (model_configured (names methods.now) (codes "publickey")
+        && model_known (J.verdicts judge.now) user.now algorithm.now key.now) }
     ensures short { IsTrue result → length algorithm.now ≤ 64 }
     ensures key { IsTrue result → length key.now ≤ 16384 }
 {
@@ -135,7 +142,8 @@ fn is_signed<J: UserJudge>(
     requires user { IsShort user.now }
     requires algorithm { IsShort algorithm.now }
     requires key { IsShort key.now }
-    ensures { IfOk result (λ right. right ≡ (J.verdicts judge.now).signature_is_right algorithm.now key.now (signed_text session.now user.now (codes "ssh-connection") algorithm.now key.now) signature.now) }
+    ensures { IfOk result (λ right. right ≡ (J.verdicts judge.now).signature_is_right algorithm.now key.now
+        (signed_text session.now user.now (codes "ssh-connection") algorithm.now key.now) signature.now) }
 {
     let text = request_text(alloc, session, user, algorithm, key)?;
     Ok(judge.signature(algorithm, key, &text, signature))

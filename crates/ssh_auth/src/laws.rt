@@ -30,9 +30,16 @@ use ssh_model::userauth::{
 /// answer.
 #[tactic(auto, using(crate::proofs::Sessions::server_refused, crate::proofs::Sessions::server_answered))]
 pub fn server_turns<K>()
-    ensures numbers { (number : ℕ) → 50 ≤ number → number < 80 → (p : Parties K) (history : List Item) (judge : Judge) (session : List ℕ) (server : serving.Server) → IsServerOf p history judge session server → phase p Server history ≡ Normal → may_take p Server history number ≡ server_takes server.kept number }
-    ensures refused { (p : Parties K) (history : List Item) (judge : Judge) (session : List ℕ) (server : serving.Server) → IsServerOf p history judge session server → (message : Msg) → first_refusal (authentication_checks p Server history message) ≡ first_refusal (server_checks judge server.tries server.methods session server.kept message) }
-    ensures answered { (p : Parties K) (history : List Item) (judge : Judge) (session : List ℕ) (old : serving.Server) → IsServerOf p history judge session old → (message : Msg) (answer : ServerAnswer) (new : serving.Server) → ServerAnswers judge session old message answer new → ServerTurns p history message old.methods answer new.kept }
+    ensures numbers { (number : ℕ) → 50 ≤ number → number < 80 → (p : Parties K) (history : List Item) (judge : Judge) (session : List ℕ)
+        (server : serving.Server) → IsServerOf p history judge session server → phase p Server history ≡ Normal →
+        may_take p Server history number ≡ server_takes server.kept number }
+    ensures refused { (p : Parties K) (history : List Item) (judge : Judge) (session : List ℕ) (server : serving.Server) →
+        IsServerOf p history judge session server → (message : Msg) →
+        first_refusal (authentication_checks p Server history message)
+        ≡ first_refusal (server_checks judge server.tries server.methods session server.kept message) }
+    ensures answered { (p : Parties K) (history : List Item) (judge : Judge) (session : List ℕ) (old : serving.Server) →
+        IsServerOf p history judge session old → (message : Msg) (answer : ServerAnswer) (new : serving.Server) →
+        ServerAnswers judge session old message answer new → ServerTurns p history message old.methods answer new.kept }
 {
     server_beginnings();
     server_messages::<K>();
@@ -43,9 +50,13 @@ pub fn server_turns<K>()
 /// the message and the fact.
 #[tactic(auto, using(crate::proofs::Sessions::client_told))]
 pub fn client_turns<K>()
-    ensures numbers { (number : ℕ) → 50 ≤ number → number < 80 → (p : Parties K) (history : List Item) (client : kept.Client) → ClientSumsUp history client → phase p Client history ≡ Normal → may_take p Client history number ≡ client_takes client number }
-    ensures probes { (history : List Item) (client : kept.Client) → ClientSumsUp history client → probing history ≡ is_key_probe client.outstanding }
-    ensures answered { (p : Parties K) (history : List Item) (old : kept.Client) → ClientSumsUp history old → (message : Msg) (answer : ClientAnswer) (new : kept.Client) → ClientAnswers old message answer new → ClientTurns p history message answer new }
+    ensures numbers { (number : ℕ) → 50 ≤ number → number < 80 → (p : Parties K) (history : List Item) (client : kept.Client) →
+        ClientSumsUp history client → phase p Client history ≡ Normal → may_take p Client history number ≡ client_takes client number }
+    ensures probes { (history : List Item) (client : kept.Client) → ClientSumsUp history client →
+        probing history ≡ is_key_probe client.outstanding }
+    ensures answered { (p : Parties K) (history : List Item) (old : kept.Client) → ClientSumsUp history old →
+        (message : Msg) (answer : ClientAnswer) (new : kept.Client) → ClientAnswers old message answer new →
+        ClientTurns p history message answer new }
 {
     client_beginnings();
     client_messages::<K>();
@@ -55,8 +66,12 @@ pub fn client_turns<K>()
 /// sends. It then sums up the history with the ask and the request.
 #[tactic(auto, using(crate::proofs::Sessions::client_asked))]
 pub fn client_ask_turns<K>()
-    ensures refused { (history : List Item) (client : kept.Client) → ClientSumsUp history client → (ask : Ask) → first_refusal (authentication_ask_checks Client history ask) ≡ first_refusal (client_checks client ask) }
-    ensures asked { (p : Parties K) (history : List Item) (signature : List ℕ → List ℕ → List ℕ → List ℕ → List ℕ) (session : List ℕ) (old : kept.Client) → p.user_signature ≡ signature → session_id (exchanges p Client history) ≡ session → ClientSumsUp history old → (ask : Ask) (message : Msg) (new : kept.Client) → ClientAsks signature session old ask message new → ClientAllows p history ask message new }
+    ensures refused { (history : List Item) (client : kept.Client) → ClientSumsUp history client → (ask : Ask) →
+        first_refusal (authentication_ask_checks Client history ask) ≡ first_refusal (client_checks client ask) }
+    ensures asked { (p : Parties K) (history : List Item) (signature : List ℕ → List ℕ → List ℕ → List ℕ → List ℕ) (session : List ℕ)
+        (old : kept.Client) → p.user_signature ≡ signature → session_id (exchanges p Client history) ≡ session →
+        ClientSumsUp history old → (ask : Ask) (message : Msg) (new : kept.Client) → ClientAsks signature session old ask message new →
+        ClientAllows p history ask message new }
 {
     client_asks::<K>();
 }

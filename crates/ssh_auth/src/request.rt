@@ -111,7 +111,10 @@ impl<'a> UserRequest<'a> {
         key: &'a [u8],
     ) -> Result<UserRequest<'a>, AllocError>
         requires { payload_size (request_by user.now (Publickey algorithm.now key.now None)) + 4100 ≤ 34000 }
-        ensures { IfOk result (λ request. request ≡ request_by user.now (Publickey algorithm.now key.now (Some (short_signature (S.signature_of signer.now) user.now algorithm.now key.now (signed_text session.now user.now (codes "ssh-connection") algorithm.now key.now))))) }
+        ensures { IfOk result (λ request. request ≡ request_by user.now
+            (Publickey algorithm.now key.now (Some
+            (short_signature (S.signature_of signer.now) user.now algorithm.now key.now
+            (signed_text session.now user.now (codes "ssh-connection") algorithm.now key.now))))) }
     {
         let text = request_text(alloc, session, user, algorithm, key)?;
         let signature = Signature::of(signer, user, algorithm, key, &text);

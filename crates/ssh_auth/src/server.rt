@@ -148,7 +148,8 @@ impl AuthServer {
         message: &Message<'a>,
     ) -> Result<ServerAnswer<'a>, TakeError>
         requires { Fits message.now }
-        ensures answered { IfOk result (λ answer. ServerAnswers (J.verdicts judge.now) session.now self.old (meaning message.now) answer self.new) }
+        ensures answered { IfOk result (λ answer. ServerAnswers (J.verdicts judge.now) session.now self.old (meaning message.now) answer
+            self.new) }
         ensures short { IfOk result (λ answer. IsShortAnswer answer) }
         ensures refused { IfErr result (λ error. ServerRefuses (J.verdicts judge.now) session.now self.old (meaning message.now) error) }
         ensures kept { OnErr result (self.new ≡ self.old) }
@@ -185,9 +186,11 @@ impl AuthServer {
     ) -> Result<ServerAnswer<'a>, TakeError>
         requires short { IsShort user.now }
         requires opened { self.old.kept.opened ≡ true }
-        ensures answered { IfOk result (λ answer. ServerAnswers (J.verdicts judge.now) session.now self.old (model.UserauthRequest user.now service.now (method_meaning method.now)) answer self.new) }
+        ensures answered { IfOk result (λ answer. ServerAnswers (J.verdicts judge.now) session.now self.old
+            (model.UserauthRequest user.now service.now (method_meaning method.now)) answer self.new) }
         ensures short { IfOk result (λ answer. IsShortAnswer answer) }
-        ensures refused { IfErr result (λ error. ServerRefuses (J.verdicts judge.now) session.now self.old (model.UserauthRequest user.now service.now (method_meaning method.now)) error) }
+        ensures refused { IfErr result (λ error. ServerRefuses (J.verdicts judge.now) session.now self.old
+            (model.UserauthRequest user.now service.now (method_meaning method.now)) error) }
         ensures kept { OnErr result (self.new ≡ self.old) }
     {
         if self.is_authenticated() {

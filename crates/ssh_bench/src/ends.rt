@@ -117,8 +117,8 @@ fn told(ends: &ToyEnds) -> usize {
     }
 }
 
-// How many bytes the tag of a CHANNEL_DATA with so many bytes of data covers: its number, and the packet in blocks of 8 with at least 4 bytes
-// of padding (RFC 4253 section 6).
+// How many bytes the tag of a CHANNEL_DATA with so many bytes of data covers: its number, and the packet in blocks of 8 with at least 4
+// bytes of padding (RFC 4253 section 6).
 fn text_of_data(size: usize) -> usize {
     let least = size.saturating_add(5 + 9 + 4);
     least.saturating_add(7) / 8 * 8 + 4

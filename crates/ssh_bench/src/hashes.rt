@@ -13,8 +13,8 @@ const KEY_TEXT: usize = 36 + 32 + 1 + 32;
 // KEX_ECDH_REPLY, and NEWKEYS twice.
 const PACKETS: [usize; 6] = [156, 156, 52, 100, 20, 20];
 
-// The packets of a session after its first exchange, in the same way: SERVICE_REQUEST and SERVICE_ACCEPT, USERAUTH_REQUEST with a signature and
-// USERAUTH_SUCCESS, CHANNEL_OPEN and its confirmation, CHANNEL_DATA of two bytes, and CHANNEL_CLOSE twice.
+// The packets of a session after its first exchange, in the same way: SERVICE_REQUEST and SERVICE_ACCEPT, USERAUTH_REQUEST with a signature
+// and USERAUTH_SUCCESS, CHANNEL_OPEN and its confirmation, CHANNEL_DATA of two bytes, and CHANNEL_CLOSE twice.
 const SESSION: [usize; 9] = [36, 36, 116, 20, 44, 36, 28, 20, 20];
 
 /// The hashes alone.

@@ -1,5 +1,5 @@
-//! Prints ratios of times: packets and real parts to the HMAC-SHA-256 of the same bytes, exchanges of keys, data and sessions to the hashes that
-//! they have to compute, and many channels to one.
+//! Prints ratios of times: packets and real parts to the HMAC-SHA-256 of the same bytes, exchanges of keys, data and sessions to the hashes
+//! that they have to compute, and many channels to one.
 //!
 //! `run ROUNDS` takes each time in so many rounds, of which the fastest counts. Called otherwise, it says so and times nothing.
 #![tactic(auto)]

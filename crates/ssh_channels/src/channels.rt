@@ -47,7 +47,12 @@ impl Model for Channels {
 
     ghost Value = { kept.Channels };
 
-    ghost view = { λ c. record { places = c.table; owed = map reply_of c.owed.items; globals_here = c.globals_here; globals_there = c.globals_there } };
+    ghost view = { λ c. record {
+      places = c.table;
+      owed = map reply_of c.owed.items;
+      globals_here = c.globals_here;
+      globals_there = c.globals_there;
+    } };
 
     ghost invariant = { λ c. 256 ≤ deque_capacity c.owed };
 }

@@ -1,4 +1,5 @@
-ghost use Rattle.std.specs.Prelude.{◌≡◌, ◌<◌, None, Some, IfOk, IfSome, IfNone, ℕ, OnErr, IsSome, Contains, length, replicate, slice_set, count_by, is_some, option_map};
+ghost use Rattle.std.specs.Prelude.{◌≡◌, ◌<◌, None, Some, IfOk, IfSome, IfNone, ℕ, OnErr, IsSome, Contains, length, replicate, slice_set};
+ghost use Rattle.std.specs.Prelude.{count_by, is_some, option_map};
 ghost use Rattle.ssh_model.specs.State.Channels.Places.{at};
 ghost use Rattle.ssh_model.specs.State.Channels.Kept.{used, IsUnused};
 ghost use Rattle.ssh_channels.specs.Entries.{place_of};

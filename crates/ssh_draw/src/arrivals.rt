@@ -90,8 +90,8 @@ impl Drawing {
         Ok(())
     }
 
-    // Shows in a row what came, or did not: an arrow for each unit, or one from the network, and what was done to it. Gives its name: that of its first unit, or
-    // else what the end took it as.
+    // Shows in a row what came, or did not: an arrow for each unit, or one from the network, and what was done to it. Gives its name: that
+    // of its first unit, or else what the end took it as.
     fn show(&mut self, to: Side, reading: &Reading, outcome: Outcome<'_>) -> Result<String> {
         let name = match (self.end(to.peer()).units.get(reading.first), outcome) {
             (Some(unit), _) if reading.first < reading.last => unit.name.clone()?,
@@ -123,7 +123,8 @@ impl Drawing {
         Ok(name)
     }
 
-    // The row of a side to which something comes: none above those in which it was sent. What its peer did not send now has a row of that one too.
+    // The row of a side to which something comes: none above those in which it was sent. What its peer did not send now has a row of that
+    // one too.
     fn row_of(&mut self, to: Side, reading: &Reading) -> usize {
         let last = reading.last.saturating_sub(1);
         let least = match self.end(to.peer()).units.get(last) {
@@ -137,7 +138,8 @@ impl Drawing {
     }
 }
 
-// What came to an end and was not read yet, next to what the other one sent. What did not wait there is from a unit where it is all bytes of that.
+// What came to an end and was not read yet, next to what the other one sent. What did not wait there is from a unit where it is all bytes
+// of that.
 fn reading_of(end: &End, sender: &End) -> Reading {
     let is_foreign = end.waited.is_none();
     let (start, stop) = end.waited.or(end.again).unwrap_or((0, 0));

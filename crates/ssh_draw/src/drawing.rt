@@ -78,7 +78,8 @@ impl Drawing {
         !self.verdict.is_empty()
     }
 
-    /// The run is over: draws it as an SVG, an image 860 pixels wide and at most 1,400 high, for a light or a dark ground. It is called `name`.
+    /// The run is over: draws it as an SVG, an image 860 pixels wide and at most 1,400 high, for a light or a dark ground. It is called
+    /// `name`.
     ///
     /// # Errors
     ///

@@ -82,7 +82,8 @@ impl End {
         })
     }
 
-    /// It sent a unit, whose bytes are put out already. A NEWKEYS begins an epoch below it (RFC 4253 section 7.3), except where the keys were given.
+    /// It sent a unit, whose bytes are put out already. A NEWKEYS begins an epoch below it (RFC 4253 section 7.3), except where the keys
+    /// were given.
     pub(crate) fn send(&mut self, name: &str, row: usize, label: usize) -> Result<()> {
         let start = self.units.last().map_or(0, |unit| unit.end);
         let rest = self.bytes.as_slice().get(start..).unwrap_or(&[]);
@@ -167,7 +168,8 @@ impl End {
     }
 }
 
-// How many bytes the first of these units has: a line with its LF (RFC 4253 section 4.2), a packet with its length and tag (RFC 4253 section 6).
+// How many bytes the first of these units has: a line with its LF (RFC 4253 section 4.2), a packet with its length and tag (RFC 4253
+// section 6).
 fn size_of(bytes: &[u8], is_line: bool, is_sealed: bool) -> usize {
     if is_line {
         let before = bytes.iter().position(|byte| *byte == b'\n');

@@ -1,5 +1,5 @@
-//! Draws a run of two ends as a picture, an SVG: two lifelines and the network between them. Rows go down as the run goes on. Messages are arrows, by number, name
-//! and length, and what came is compared with what was sent, byte by byte.
+//! Draws a run of two ends as a picture, an SVG: two lifelines and the network between them. Rows go down as the run goes on. Messages are
+//! arrows, by number, name and length, and what came is compared with what was sent, byte by byte.
 #![tactic(auto)]
 
 use std::alloc::AllocError;

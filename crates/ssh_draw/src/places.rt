@@ -2,7 +2,8 @@
 
 ghost use Rattle.std.specs.Prelude.{◌≡◌, ℕ, ◌≤◌, ◌<◌, ◌+◌, ◌-◌, ◌*◌, ◌↔◌, IfSome, IsSome, IsTrue, min};
 ghost use Rattle.ssh_types.specs.declared.side.Side.TheVariants.{Client, Server};
-ghost use Rattle.ssh_draw.specs.Places.{EndsAbove, EndsBefore, IsDrawn, IsInside, Stands, edge_of, height_of, is_before, left_of, line_at, place_of, right_of, width_of};
+ghost use Rattle.ssh_draw.specs.Places.{EndsAbove, EndsBefore, IsDrawn, IsInside, Stands, edge_of, height_of, is_before, left_of, line_at};
+ghost use Rattle.ssh_draw.specs.Places.{place_of, right_of, width_of};
 ghost use Rattle.ssh_draw.specs.declared.places.Column.{Column};
 ghost use Rattle.ssh_draw.specs.declared.places.Column.TheVariants.{Inner, Outer};
 
@@ -28,7 +29,8 @@ const GAP: u32 = 90;
 
 const STUB: u32 = 120;
 
-// Above the rows stand the name, the headings, and how many rows are left out. Below are an empty line, who refused what, and what a label is.
+// Above the rows stand the name, the headings, and how many rows are left out. Below are an empty line, who refused what, and what a label
+// is.
 pub(crate) const HEAD: u32 = 3;
 
 const FOOT: u32 = 3;
@@ -61,8 +63,8 @@ pub struct Place {
 }
 
 impl Layout {
-    /// A layout for so many rows, and columns of so many characters. Of more than 60 rows the last 60 are drawn. What else is more than a picture can have is left
-    /// out: an inner column has at most 32 characters, and both columns of a side have 49.
+    /// A layout for so many rows, and columns of so many characters. Of more than 60 rows the last 60 are drawn. What else is more than a
+    /// picture can have is left out: an inner column has at most 32 characters, and both columns of a side have 49.
     pub fn new(count: usize, outer: u32, inner: u32) -> Layout
         ensures rows { result.rows ≡ min count 60 }
         ensures left_out { result.left_out ≡ count - 60 }
@@ -101,7 +103,8 @@ impl Layout {
         }
     }
 
-    /// How far from the top the line of a row begins: that of the rows left out where it is one of them, and below all rows where the run has none such.
+    /// How far from the top the line of a row begins: that of the rows left out where it is one of them, and below all rows where the run
+    /// has none such.
     pub fn top_of(&self, row: usize) -> u32
         ensures drawn { IsDrawn self.now row → result ≡ 100 + 200 * line_at self.now row }
         ensures within { (500 ≤ result) × (result ≤ 12700) }
@@ -113,7 +116,8 @@ impl Layout {
         MARGIN + LINE * (HEAD + below)
     }
 
-    /// Where a text of this line and column stands. Lines are counted from the top, from 0. None where the picture has no such line, or the line no such column.
+    /// Where a text of this line and column stands. Lines are counted from the top, from 0. None where the picture has no such line, or the
+    /// line no such column.
     pub fn place(&self, line: u32, column: Column) -> Option<Place>
         ensures stands { IsSome result ↔ Stands self.now line column }
         ensures place { IfSome result (λ place. place ≡ place_of self.now line column) }
@@ -143,7 +147,8 @@ impl Layout {
         }
     }
 
-    /// How far from the left the edge of the network is on the side of an end: no text of a side reaches into the network, which is 52 pixels wide at least.
+    /// How far from the left the edge of the network is on the side of an end: no text of a side reaches into the network, which is 52
+    /// pixels wide at least.
     pub fn edge(&self, side: Side) -> u32
         ensures client { side ≡ Client → (right_of self.now (Inner Client) ≤ result) × (result ≡ edge_of self.now Client) }
         ensures server { side ≡ Server → (result ≤ left_of self.now (Inner Server)) × (result ≡ edge_of self.now Server) }

@@ -24,8 +24,8 @@ const MOST_SAID: usize = 80;
 const LABELS: &str =
     "A label is a message's number, its name and the length of its payload. What is tinted is sealed.";
 
-// The classes of a picture: `b` the ground, `p` a text, `g` one that says less, `t` a heading, `r` and `h` what has to be seen, `e0` and `e1` what is sent in an
-// odd and an even epoch, `l` a lifeline, `o` that of an end that is over, `a` an arrow.
+// The classes of a picture: `b` the ground, `p` a text, `g` one that says less, `t` a heading, `r` and `h` what has to be seen, `e0` and
+// `e1` what is sent in an odd and an even epoch, `l` a lifeline, `o` that of an end that is over, `a` an arrow.
 const STYLE: &str = "\
 text{font:120px ui-monospace,SFMono-Regular,Menlo,Consolas,\"DejaVu Sans Mono\",\"Liberation Mono\",monospace}.t,.r{font-weight:600}\
 path{fill:none;stroke-width:12.5}.l{stroke-width:20}.h{stroke-width:17.5}.o{stroke-dasharray:10 40}\
@@ -140,7 +140,8 @@ impl Sheet<'_> {
         )
     }
 
-    // The texts above and below the rows: what the picture is called, whose lifelines these are, how many rows are left out, who refused what, and what a label is.
+    // The texts above and below the rows: what the picture is called, whose lifelines these are, how many rows are left out, who refused
+    // what, and what a label is.
     fn write_lines(&mut self, name: &str) -> Result<()> {
         self.write(0, Column::Whole, "t", name)?;
         for side in [Side::Client, Side::Server] {

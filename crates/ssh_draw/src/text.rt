@@ -1,7 +1,8 @@
 //! Texts of a picture: cut to their places, escaped, and written.
 
 ghost use Rattle.std.specs.Prelude.{◌≡◌, ◌≤◌, ◌+◌, ◌++◌, ℕ, List, OnOk, length, string_bytes};
-ghost use Rattle.ssh_draw.specs.Texts.{IsCut, Writes, WritesLabel, anchor_of, class_of, escaped, escaped_char, is_hidden, refusal_of, word_of, x_of};
+ghost use Rattle.ssh_draw.specs.Texts.{IsCut, Writes, WritesLabel, anchor_of, class_of, escaped, escaped_char, is_hidden, refusal_of};
+ghost use Rattle.ssh_draw.specs.Texts.{word_of, x_of};
 
 use crate::Result;
 use crate::layout::Layout;
@@ -36,8 +37,8 @@ fn class_of(is_hot: bool) -> &'static str
     if is_hot { "r" } else { "p" }
 }
 
-/// Writes a text as an element at its place, 14 pixels below its top, escaped, and cut where it is too wide: a character is reckoned as wide as it has bytes.
-/// `class` names how it looks, and is written as it is. Where the picture has no such place nothing is written.
+/// Writes a text as an element at its place, 14 pixels below its top, escaped, and cut where it is too wide: a character is reckoned as
+/// wide as it has bytes. `class` names how it looks, and is written as it is. Where the picture has no such place nothing is written.
 pub(crate) fn write_at(
     out: &mut String,
     layout: &Layout,
@@ -105,7 +106,8 @@ fn anchor_of(column: Column, place: &Place) -> (u32, &'static str)
     }
 }
 
-/// Writes a text so that it stands in an SVG as it is. In place of each character that does not show, or changes the direction of those after it, stands U+FFFD.
+/// Writes a text so that it stands in an SVG as it is. In place of each character that does not show, or changes the direction of those
+/// after it, stands U+FFFD.
 pub(crate) fn push_escaped(out: &mut String, text: &str) -> Result<()>
     ensures { OnOk result (string_bytes out.new ≡ string_bytes out.old ++ escaped text.now) }
 {

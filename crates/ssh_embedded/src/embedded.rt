@@ -1,6 +1,7 @@
 //! An end of either role, with what a program keeps besides it.
 
-ghost use Rattle.std.specs.Prelude.{◌≡◌, ◌<◌, ◌≤◌, ◌++◌, ◌∷◌, cond, IfErr, IfOk, IfSome, IsSome, List, None, OnErr, OnOk, [], drop, false, length, nat_le, true};
+ghost use Rattle.std.specs.Prelude.{◌≡◌, ◌<◌, ◌≤◌, ◌++◌, ◌∷◌, cond, IfErr, IfOk, IfSome, IsSome, List, None, OnErr, OnOk, [], drop, false};
+ghost use Rattle.std.specs.Prelude.{length, nat_le, true};
 ghost use Rattle.std.specs.VecDeque.{deque_len};
 ghost use Rattle.ssh_embedded.specs.Forms.{IsAsked, form_asks};
 ghost use Rattle.ssh_embedded.specs.Queues.{IsMade, asked_by, is_early};
@@ -55,7 +56,8 @@ impl<R: EndRole> Drop for Embedded<R> {
 }
 
 impl<R: EndRole> Embedded<R> {
-    /// What `ssh_end::End::advance` does. What is put out goes after what waits, and the account of the channels' windows follows what is told.
+    /// What `ssh_end::End::advance` does. What is put out goes after what waits, and the account of the channels' windows follows what is
+    /// told.
     ///
     /// # Errors
     ///
@@ -63,10 +65,14 @@ impl<R: EndRole> Embedded<R> {
     pub fn advance(&mut self, bytes: &[u8]) -> Result<usize, Fault>
         ensures used { IfOk result (λ used. used ≤ length bytes.now) }
         ensures progress { IfOk result (λ used. self.old.end.machine.kept.dead ≡ false → 0 < length bytes.now → 0 < used) }
-        ensures advances { IfOk result (λ used. Advances R.EndRole R.Exchange.Role R.Exchange.Sealing.crypto self.old.end bytes.now used self.old.out.items self.new.out.items self.new.end) }
+        ensures advances { IfOk result (λ used. Advances R.EndRole R.Exchange.Role R.Exchange.Sealing.crypto self.old.end bytes.now used
+            self.old.out.items self.new.out.items self.new.end) }
         ensures failed { IfErr result (λ fault. IsFault self.old.end.machine fault self.new.end.machine) }
-        ensures lacks { IfErr result (λ fault. fault ≡ Fault.Memory → EndLacks R.EndRole R.Exchange.Role R.Exchange.Sealing.crypto self.old.end bytes.now) }
-        ensures placed { IfErr result (λ fault. (p : Parties R.Exchange.Sealing.Key) (history : List Item) → StandsAt R.EndRole R.Exchange.Role p history self.old.end → FailedTo R.EndRole R.Exchange.Role p history self.old.end bytes.now fault self.new.end) }
+        ensures lacks { IfErr result (λ fault. fault ≡ Fault.Memory → EndLacks R.EndRole R.Exchange.Role R.Exchange.Sealing.crypto
+            self.old.end bytes.now) }
+        ensures placed { IfErr result (λ fault. (p : Parties R.Exchange.Sealing.Key) (history : List Item) →
+            StandsAt R.EndRole R.Exchange.Role p history self.old.end →
+            FailedTo R.EndRole R.Exchange.Role p history self.old.end bytes.now fault self.new.end) }
         ensures none { OnErr result (self.new.end.step ≡ Step.More) }
         ensures out { OnErr result (self.new.out.items ≡ self.old.out.items) }
         ensures role { self.new.end.role ≡ self.old.end.role }
@@ -82,7 +88,8 @@ impl<R: EndRole> Embedded<R> {
 
     /// What was done in the last `advance`. After `perform`, `send` and `work` it shows that nothing was taken.
     pub fn turn(&self) -> Turn<'_>
-        ensures shows { (items : List Item) → Shows (shown_by self.now.end.step self.now.end.machine) self.now.end.step items → TurnShows result items }
+        ensures shows { (items : List Item) → Shows (shown_by self.now.end.step self.now.end.machine) self.now.end.step items →
+            TurnShows result items }
         ensures more { self.now.end.step ≡ Step.More → TurnShows result [] }
         ensures used { result.used ≡ self.now.end.used }
         ensures sent { payloads_in result.sent ≡ self.now.end.sent }
@@ -91,17 +98,22 @@ impl<R: EndRole> Embedded<R> {
         self.end.turn()
     }
 
-    /// What `ssh_end::End::perform` does. What is put out goes after what waits, and the account of the channels' windows follows what is done.
+    /// What `ssh_end::End::perform` does. What is put out goes after what waits, and the account of the channels' windows follows what is
+    /// done.
     ///
     /// # Errors
     ///
     /// Those of `ssh_end::End::ask`.
     pub fn perform(&mut self, ask: &Ask<'_>) -> Result<AskStep, Fault>
-        ensures asks { R.asks self.old.end.role self.old.end.machine self.old.end.layers (ask_of ask.now) result self.new.end.machine self.new.end.layers (outs_of self.old.out.items self.new.out.items self.new.end.sent) }
+        ensures asks { R.asks self.old.end.role self.old.end.machine self.old.end.layers (ask_of ask.now) result self.new.end.machine
+            self.new.end.layers (outs_of self.old.out.items self.new.out.items self.new.end.sent) }
         ensures reading { self.new.end.machine.kept.dead ≡ false → SameReading self.old.end.machine self.new.end.machine }
         ensures step { self.new.end.step ≡ Step.More }
         ensures channels { IfOk result (λ step. AreAskChannels (ask_of ask.now) step self.new.end.sent self.new.end.channels) }
-        ensures placed { (p : Parties R.Exchange.Sealing.Key) (history : List Item) → StandsAt R.EndRole R.Exchange.Role p history self.old.end → PerformedTo R.EndRole R.Exchange.Role p history self.old.end (ask_of ask.now) result self.old.out.items self.new.out.items self.new.end }
+        ensures placed { (p : Parties R.Exchange.Sealing.Key) (history : List Item) →
+            StandsAt R.EndRole R.Exchange.Role p history self.old.end →
+            PerformedTo R.EndRole R.Exchange.Role p history self.old.end (ask_of ask.now) result self.old.out.items self.new.out.items
+            self.new.end }
         ensures fails { IfErr result (λ fault. Fails self.old.end.machine fault self.new.end.machine) }
         ensures out { OnErr result (self.new.out.items ≡ self.old.out.items) }
         ensures role { self.new.end.role ≡ self.old.end.role }
@@ -121,7 +133,9 @@ impl<R: EndRole> Embedded<R> {
     ///
     /// Those of `AskForm::ask`, and nothing changes. What is answered otherwise is that of `perform`.
     pub fn ask(&mut self, form: &AskForm<'_>) -> Result<Result<AskStep, Fault>, FormFault>
-        ensures asked { IfOk result (λ done. IsAsked (form_asks form.now self.old.key) (λ asked. R.asks self.old.end.role self.old.end.machine self.old.end.layers asked done self.new.end.machine self.new.end.layers (outs_of self.old.out.items self.new.out.items self.new.end.sent))) }
+        ensures asked { IfOk result (λ done. IsAsked (form_asks form.now self.old.key)
+            (λ asked. R.asks self.old.end.role self.old.end.machine self.old.end.layers asked done self.new.end.machine
+            self.new.end.layers (outs_of self.old.out.items self.new.out.items self.new.end.sent))) }
         ensures none { OnErr result (form_asks form.now self.old.key ≡ None) }
         ensures unchanged { OnErr result (self.new ≡ self.old) }
         ensures key { self.new.key ≡ self.old.key }
@@ -150,10 +164,13 @@ impl<R: EndRole> Embedded<R> {
     /// What `ssh_end::End::feed_material` does.
     pub fn feed(&mut self, cookie: [u8; 16], secret: [u8; 32]) -> bool
         ensures fed { result ≡ can_be_fed self.old.end.machine.kept }
-        ensures kept { result ≡ true → self.new.end.machine ≡ record self.old.end.machine { kept = after_fed cookie secret self.old.end.machine.kept } }
+        ensures kept { result ≡ true → self.new.end.machine ≡ record self.old.end.machine
+            { kept = after_fed cookie secret self.old.end.machine.kept } }
         ensures rest { self.new.end ≡ record self.old.end { machine = self.new.end.machine } }
         ensures unchanged { result ≡ false → self.new ≡ self.old }
-        ensures placed { (p : Parties R.Exchange.Sealing.Key) (history : List Item) → StandsAt R.EndRole R.Exchange.Role p history self.old.end → FeedsTo R.EndRole R.Exchange.Role p history cookie secret result self.new.end }
+        ensures placed { (p : Parties R.Exchange.Sealing.Key) (history : List Item) →
+            StandsAt R.EndRole R.Exchange.Role p history self.old.end →
+            FeedsTo R.EndRole R.Exchange.Role p history cookie secret result self.new.end }
         ensures same { self.new ≡ record self.old { end = self.new.end } }
     {
         self.end.feed_material(cookie, secret)
@@ -216,7 +233,8 @@ impl<R: EndRole> Embedded<R> {
         self.waiting.len()
     }
 
-    /// Makes the oldest ask that waits. Where it comes too early (`is_later`) it stays where it is; otherwise it waits no longer. `None` where none waits.
+    /// Makes the oldest ask that waits. Where it comes too early (`is_later`) it stays where it is; otherwise it waits no longer. `None`
+    /// where none waits.
     ///
     /// # Errors
     ///
@@ -224,7 +242,8 @@ impl<R: EndRole> Embedded<R> {
     pub fn work(&mut self, alloc: Global) -> Option<Result<AskStep, Fault>>
         ensures none { result ≡ None → self.old.waiting.items ≡ [] }
         ensures unchanged { result ≡ None → self.new ≡ self.old }
-        ensures waits { IfSome result (λ done. self.new.waiting.items ≡ cond (is_early done) self.old.waiting.items (drop 1 self.old.waiting.items)) }
+        ensures waits { IfSome result (λ done. self.new.waiting.items ≡ cond (is_early done) self.old.waiting.items
+            (drop 1 self.old.waiting.items)) }
         ensures key { self.new.key ≡ self.old.key }
     {
         let mut waiting = replace(&mut self.waiting, VecDeque::new(alloc));
@@ -242,7 +261,9 @@ impl<R: EndRole> Embedded<R> {
 
     // Makes an ask that waits. Only asks are put there.
     fn make(&mut self, waiting: &Waiting) -> Result<AskStep, Fault>
-        ensures made { IsMade (asked_by waiting.now self.old.key) (λ asked. R.asks self.old.end.role self.old.end.machine self.old.end.layers asked result self.new.end.machine self.new.end.layers (outs_of self.old.out.items self.new.out.items self.new.end.sent)) }
+        ensures made { IsMade (asked_by waiting.now self.old.key) (λ asked. R.asks self.old.end.role self.old.end.machine
+            self.old.end.layers asked result self.new.end.machine self.new.end.layers
+            (outs_of self.old.out.items self.new.out.items self.new.end.sent)) }
         ensures key { self.new.key ≡ self.old.key }
         ensures waiting { self.new.waiting ≡ self.old.waiting }
     {

@@ -14,8 +14,8 @@ use ssh_types::AskRefusal;
 use std::alloc::AllocError;
 
 impl<R: EndRole> Embedded<R> {
-    /// Sends as many bytes of data as the peer's window, its largest packet and 32,768 bytes allow, in one packet, and answers how many: the first ones.
-    /// They are extended data where a kind is given (RFC 4254 section 5.2). Where nothing fits, nothing is sent.
+    /// Sends as many bytes of data as the peer's window, its largest packet and 32,768 bytes allow, in one packet, and answers how many:
+    /// the first ones. They are extended data where a kind is given (RFC 4254 section 5.2). Where nothing fits, nothing is sent.
     ///
     /// # Errors
     ///
@@ -45,8 +45,8 @@ impl<R: EndRole> Embedded<R> {
         }
     }
 
-    /// Puts the answer that the peer is owed for what `turn` shows after those that wait, where a program does not know what that is: a channel is refused,
-    /// and a request that wants a reply fails. Where no answer is owed, nothing changes.
+    /// Puts the answer that the peer is owed for what `turn` shows after those that wait, where a program does not know what that is: a
+    /// channel is refused, and a request that wants a reply fails. Where no answer is owed, nothing changes.
     ///
     /// # Errors
     ///
@@ -62,7 +62,8 @@ impl<R: EndRole> Embedded<R> {
         }
     }
 
-    /// So many bytes of data that came on a channel are done with. Once half of its window is, an ask that gives them back is put after those that wait.
+    /// So many bytes of data that came on a channel are done with. Once half of its window is, an ask that gives them back is put after
+    /// those that wait.
     ///
     /// # Errors
     ///

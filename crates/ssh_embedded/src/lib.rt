@@ -1,5 +1,6 @@
-//! Ends of SSH-2 for a program that keeps one by one value: the end with real parts, the bytes that it put out and that are not written yet, the asks that wait
-//! until it can do them, and the account of its channels' windows. `Embedded` is the value of either role; `Server` and `Client` are the two ends.
+//! Ends of SSH-2 for a program that keeps one by one value: the end with real parts, the bytes that it put out and that are not written
+//! yet, the asks that wait until it can do them, and the account of its channels' windows. `Embedded` is the value of either role; `Server`
+//! and `Client` are the two ends.
 //!
 //! ```rust
 //! let mut server = Server::new(alloc, &settings, users, material)?;

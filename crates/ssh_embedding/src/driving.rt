@@ -14,12 +14,13 @@ pub trait Work {
     fn go_on<E: End>(&mut self, end: &mut E, out: &mut Vec<u8>) -> Result<(), Fault>;
 }
 
-/// Lets an end go on until it is over or its peer's stream ends: reads what the peer sends, and writes what goes to the peer, what stands in `out` first.
-/// Answers why the peer was refused, if it was.
+/// Lets an end go on until it is over or its peer's stream ends: reads what the peer sends, and writes what goes to the peer, what stands
+/// in `out` first. Answers why the peer was refused, if it was.
 ///
 /// # Errors
 ///
-/// `input` could not be read, `output` could not be written to, no random bytes were there for the next exchange of keys, or memory was refused.
+/// `input` could not be read, `output` could not be written to, no random bytes were there for the next exchange of keys, or memory was
+/// refused.
 pub fn drive<E: End, W: Work, R: RandomSource + Drop, I: Read, O: Write>(
     end: &mut E,
     keys: &mut KeySupply<R>,

@@ -56,7 +56,8 @@ impl Flow {
         self.sent >= self.waiting.len()
     }
 
-    /// Gives back the window, and sends what can be sent now. The rest waits for room in the peer's window, or for the end of an exchange of keys.
+    /// Gives back the window, and sends what can be sent now. The rest waits for room in the peer's window, or for the end of an exchange
+    /// of keys.
     ///
     /// # Errors
     ///

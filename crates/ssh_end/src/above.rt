@@ -1,6 +1,7 @@
 //! What an end does with a payload from 50 on, once the layers above its transport have judged it.
 
-ghost use Rattle.std.specs.Prelude.{◌≡◌, ◌≤◌, IfOk, IfSome, IsSome, List, OnErr, OnOk, Some, false, map, true, ℕ};
+ghost use Rattle.ssh_transport_machine.specs.Puts.{outs};
+ghost use Rattle.std.specs.Prelude.{◌≡◌, ◌≤◌, IfOk, IfSome, IsSome, List, OnErr, OnOk, Some, false, true, ℕ};
 ghost use Rattle.ssh_message.specs.Meaning.{meaning};
 ghost use Rattle.ssh_message.specs.Written.{Fits};
 ghost use Rattle.ssh_model.specs.Protocol.Wire.Message.{FitsContext};
@@ -55,7 +56,8 @@ pub fn finish_above<S: Sealing, F: Filler + Drop>(
     sent: &mut Vec<Vec<u8>>,
 ) -> Result<Step, AllocError>
     requires can { CanFinish machine.old judgement }
-    ensures finished { IfOk result (λ step. Finished S.crypto machine.old judgement step machine.new (record { before = out.old.items; after = out.new.items; listed = map (λ v. v.items) sent.old.items; relisted = map (λ v. v.items) sent.new.items })) }
+    ensures finished { IfOk result (λ step. Finished S.crypto machine.old judgement step machine.new
+        (outs out.old out.new sent.old sent.new)) }
     ensures whole { IfOk result (λ step. step ≡ Step.More → ⊥) }
     ensures lacks { OnErr result (FinishLacks machine.old judgement) }
     ensures dead { OnErr result (machine.new.kept.dead ≡ true) }
@@ -82,7 +84,8 @@ fn refuse<S: Sealing, F: Filler + Drop>(
     sent: &mut Vec<Vec<u8>>,
 ) -> Result<Step, AllocError>
     requires can { CanFinish machine.old (Judgement.Refused why) }
-    ensures finished { IfOk result (λ step. Finished S.crypto machine.old (Judgement.Refused why) step machine.new (record { before = out.old.items; after = out.new.items; listed = map (λ v. v.items) sent.old.items; relisted = map (λ v. v.items) sent.new.items })) }
+    ensures finished { IfOk result (λ step. Finished S.crypto machine.old (Judgement.Refused why) step machine.new
+        (outs out.old out.new sent.old sent.new)) }
     ensures whole { IfOk result (λ step. step ≡ Step.More → ⊥) }
     ensures lacks { OnErr result (FinishLacks machine.old (Judgement.Refused why)) }
     ensures dead { OnErr result (machine.new.kept.dead ≡ true) }
@@ -105,7 +108,8 @@ fn answer_above<S: Sealing, F: Filler + Drop>(
     sent: &mut Vec<Vec<u8>>,
 ) -> Result<Step, AllocError>
     requires can { CanFinish machine.old (Judgement.Answered above) }
-    ensures finished { IfOk result (λ step. Finished S.crypto machine.old (Judgement.Answered above) step machine.new (record { before = out.old.items; after = out.new.items; listed = map (λ v. v.items) sent.old.items; relisted = map (λ v. v.items) sent.new.items })) }
+    ensures finished { IfOk result (λ step. Finished S.crypto machine.old (Judgement.Answered above) step machine.new
+        (outs out.old out.new sent.old sent.new)) }
     ensures whole { IfOk result (λ step. step ≡ Step.More → ⊥) }
     ensures lacks { OnErr result (FinishLacks machine.old (Judgement.Answered above)) }
     ensures dead { OnErr result (machine.new.kept.dead ≡ true) }
@@ -134,7 +138,8 @@ fn put_reply<S: Sealing, F: Filler + Drop>(
     sent: &mut Vec<Vec<u8>>,
 ) -> Result<(), AllocError>
     requires can { CanReplyWith machine.old (option_map (λ v. v.items) reply) }
-    ensures put { OnOk result (PutsReply S.crypto machine.old (option_map (λ v. v.items) reply) machine.new (record { before = out.old.items; after = out.new.items; listed = map (λ v. v.items) sent.old.items; relisted = map (λ v. v.items) sent.new.items })) }
+    ensures put { OnOk result (PutsReply S.crypto machine.old (option_map (λ v. v.items) reply) machine.new
+        (outs out.old out.new sent.old sent.new)) }
     ensures lacks { OnErr result (IsReply (option_map (λ v. v.items) reply)) }
     ensures room { OnErr result (HasRoom machine.old) }
     ensures dead { OnErr result (machine.new.kept.dead ≡ true) }
@@ -156,7 +161,7 @@ fn put<S: Sealing, F: Filler + Drop>(
     sent: &mut Vec<Vec<u8>>,
 ) -> Result<(), AllocError>
     requires can { CanReply machine.old payload.items }
-    ensures put { OnOk result (IsPut S.crypto machine.old payload.items machine.new (record { before = out.old.items; after = out.new.items; listed = map (λ v. v.items) sent.old.items; relisted = map (λ v. v.items) sent.new.items })) }
+    ensures put { OnOk result (IsPut S.crypto machine.old payload.items machine.new (outs out.old out.new sent.old sent.new)) }
     ensures dead { OnErr result (machine.new.kept.dead ≡ true) }
     ensures out { OnErr result (out.new.items ≡ out.old.items) }
     ensures kept { OnErr result (sent.new.items ≡ sent.old.items) }

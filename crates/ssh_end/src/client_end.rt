@@ -45,14 +45,19 @@ impl<P: ClientParts, U: UserSigner + Drop> End<ClientRole<P, U>> {
         secret: [u8; 32],
         out: &mut Vec<u8>,
     ) -> Result<ClientEnd<P, U>, AllocError>
-        ensures opened { IfOk result (λ end. IsNewClient P.Sealing.crypto (settings_of config) cookie secret end.machine end.layers out.old.items out.new.items end.sent) }
+        ensures opened { IfOk result (λ end. IsNewClient P.Sealing.crypto (settings_of config) cookie secret end.machine end.layers
+            out.old.items out.new.items end.sent) }
         ensures step { IfOk result (λ end. end.step ≡ Step.More) }
         ensures used { IfOk result (λ end. end.used ≡ 0) }
         ensures channels { IfOk result (λ end. end.channels ≡ channels_beside end.sent (None ∷ [])) }
         ensures agreement { IfOk result (λ end. end.role.exchange.agreement ≡ parts.agreement) }
         ensures part { IfOk result (λ end. end.role.exchange.host_trust ≡ parts.host_trust) }
         ensures user { IfOk result (λ end. end.role.user ≡ user) }
-        ensures placed { IfOk result (λ end. MadeOf model.Client (settings_of config) (λ p. IsClient p P.Sealing.crypto (agreement_by P.Agreement.public_of P.Agreement.shared_of end.role.exchange.agreement) (P.HostTrust.judged end.role.exchange.host_trust) (U.signature_of end.role.user)) (λ p. AreClientLayers p end.layers) (record { cookie = cookie; secret = secret }) end.machine (end_of end.machine.kept end.layers) out.old.items out.new.items end.sent) }
+        ensures placed { IfOk result (λ end. MadeOf model.Client (settings_of config)
+            (λ p. IsClient p P.Sealing.crypto (agreement_by P.Agreement.public_of P.Agreement.shared_of end.role.exchange.agreement)
+            (P.HostTrust.judged end.role.exchange.host_trust) (U.signature_of end.role.user)) (λ p. AreClientLayers p end.layers)
+            (record { cookie = cookie; secret = secret }) end.machine (end_of end.machine.kept end.layers) out.old.items out.new.items
+            end.sent) }
         ensures out { OnErr result (out.new.items ≡ out.old.items) }
     {
         openings::<<P::Sealing as Sealing>::Key>();

@@ -48,7 +48,8 @@ impl<P: ClientParts, U: UserSigner + Drop> EndRole for ClientRole<P, U> {
 
     ghost exchange_of = { λ role. role.exchange };
 
-    ghost is_of = { λ role p. IsClient p P.Sealing.crypto (agreement_by P.Agreement.public_of P.Agreement.shared_of role.exchange.agreement) (P.HostTrust.judged role.exchange.host_trust) (U.signature_of role.user) };
+    ghost is_of = { λ role p. IsClient p P.Sealing.crypto (agreement_by P.Agreement.public_of P.Agreement.shared_of
+        role.exchange.agreement) (P.HostTrust.judged role.exchange.host_trust) (U.signature_of role.user) };
 
     ghost are_of = { λ layers p. AreClientLayers p layers };
 
@@ -60,7 +61,8 @@ impl<P: ClientParts, U: UserSigner + Drop> EndRole for ClientRole<P, U> {
 
     ghost lacks = { λ role turn machine layers. GoLacks turn machine layers };
 
-    ghost asks = { λ role old layers asked given new later o. ClientInSession P.Sealing.crypto (U.signature_of role.user) layers.authentication (end_of old.kept layers) asked given (end_of new.kept later) o };
+    ghost asks = { λ role old layers asked given new later o. ClientInSession P.Sealing.crypto (U.signature_of role.user)
+        layers.authentication (end_of old.kept layers) asked given (end_of new.kept later) o };
 
     fn exchange(&self) -> &Client<P> {
         &self.exchange

@@ -1,5 +1,6 @@
 //! What an end does once its transport ended an exchange of keys.
 
+ghost use Rattle.ssh_transport_machine.specs.Puts.{outs};
 ghost use Rattle.std.specs.Prelude.{◌≡◌, ◌≤◌, ◌++◌, IfOk, OnErr, OnOk, false, length, map, true};
 ghost use Rattle.ssh_model.specs.Protocol.Side.{Side};
 ghost use Rattle.ssh_transport_machine.specs.Standing.{Stands};
@@ -29,7 +30,8 @@ pub fn complete<S: Sealing, F: Filler + Drop>(
     numbers: &mut Vec<Option<u32>>,
 ) -> Result<Step, AllocError>
     requires alive { machine.old.kept.dead ≡ false }
-    ensures completing { IfOk result (λ step. Completing S.crypto machine.old channels.old step machine.new channels.new (record { before = out.old.items; after = out.new.items; listed = map (λ v. v.items) sent.old.items; relisted = map (λ v. v.items) sent.new.items })) }
+    ensures completing { IfOk result (λ step. Completing S.crypto machine.old channels.old step machine.new channels.new
+        (outs out.old out.new sent.old sent.new)) }
     ensures numbered { IfOk result (λ step. numbers.new.items ≡ numbers.old.items ++ channels_behind step channels.old.owed) }
     ensures whole { IfOk result (λ step. step ≡ Step.More → ⊥) }
     ensures lacks { OnErr result (1 ≤ length channels.old.owed) }

@@ -35,8 +35,8 @@ use ssh_transport_machine::Machine;
 use ssh_transport_machine::standing::machines_stand;
 use std::marker::Model;
 
-/// An end of SSH-2: its transport (RFC 4253), the authentication of its user (RFC 4252), and channels (RFC 4254). `ServerEnd` and `ClientEnd`
-/// are its names for the two roles.
+/// An end of SSH-2: its transport (RFC 4253), the authentication of its user (RFC 4252), and channels (RFC 4254). `ServerEnd` and
+/// `ClientEnd` are its names for the two roles.
 ///
 /// It has no socket, no clock and no source of random bytes. Bytes of the peer go in by `take`, what its user wants by `ask`; bytes for
 /// the peer are appended to `out`. It holds room for one packet of at most 35,000 bytes and for 1,024 channels from the beginning on.
@@ -62,7 +62,16 @@ impl<R: EndRole> Model for End<R> {
 
     ghost Value = { EndValue R.Exchange.Sealing.Key R R.Layers };
 
-    ghost view = { λ e. record { machine = e.machine; role = e.role; layers = e.layers; step = e.step; used = e.used; sent = map (λ v. v.items) e.sent.items; channels = channels_beside (map (λ v. v.items) e.sent.items) (last_channels e.channel e.numbers.items) } };
+    ghost view = { λ e. record {
+      machine = e.machine;
+      role = e.role;
+      layers = e.layers;
+      step = e.step;
+      used = e.used;
+      sent = map (λ v. v.items) e.sent.items;
+      channels = channels_beside (map (λ v. v.items) e.sent.items)
+          (last_channels e.channel e.numbers.items);
+    } };
 
     ghost invariant = { λ e. Stands (side_of R.Exchange.SIDE) e.machine };
 }
@@ -100,9 +109,13 @@ impl<R: EndRole> End<R> {
     pub fn take<'a>(&'a mut self, bytes: &[u8], out: &mut Vec<u8>) -> Result<Turn<'a>, Fault>
         ensures used { IfOk result (λ turn. turn.used ≤ length bytes.now) }
         ensures progress { IfOk result (λ turn. self.old.machine.kept.dead ≡ false → 0 < length bytes.now → 0 < turn.used) }
-        ensures lacks { IfErr result (λ fault. fault ≡ Fault.Memory → EndLacks R.EndRole R.Exchange.Role R.Exchange.Sealing.crypto self.old bytes.now) }
+        ensures lacks { IfErr result (λ fault. fault ≡ Fault.Memory → EndLacks R.EndRole R.Exchange.Role R.Exchange.Sealing.crypto
+            self.old bytes.now) }
         ensures out { OnErr result (out.new.items ≡ out.old.items) }
-        ensures* done { sem 𝓛 (Rests (the_row R.row R.Exchange.row R.Layers.row R.Exchange.Sealing.row R.Exchange.Filler.row R.Exchange.Sealing.Key.row R.EndRole R.Exchange.Role R.Exchange.Sealing.Sealing R.Exchange.Filler.Filler) self.entry (λ new. EndTakes R.EndRole R.Exchange.Role R.Exchange.Sealing.crypto self.old bytes.now out.old.items out.new.items result new)) }
+        ensures* done { sem 𝓛 (Rests (the_row R.row R.Exchange.row R.Layers.row R.Exchange.Sealing.row R.Exchange.Filler.row
+            R.Exchange.Sealing.Key.row R.EndRole R.Exchange.Role R.Exchange.Sealing.Sealing R.Exchange.Filler.Filler) self.entry
+            (λ new. EndTakes R.EndRole R.Exchange.Role R.Exchange.Sealing.crypto self.old bytes.now out.old.items out.new.items result
+            new)) }
     {
         self.advance(bytes, out)?;
         Ok(self.turn())
@@ -118,15 +131,19 @@ impl<R: EndRole> End<R> {
         ensures used { IfOk result (λ used. used ≤ length bytes.now) }
         ensures progress { IfOk result (λ used. self.old.machine.kept.dead ≡ false → 0 < length bytes.now → 0 < used) }
         ensures more { IfOk result (λ used. self.new.step ≡ Step.More → used ≡ length bytes.now) }
-        ensures advances { IfOk result (λ used. Advances R.EndRole R.Exchange.Role R.Exchange.Sealing.crypto self.old bytes.now used out.old.items out.new.items self.new) }
+        ensures advances { IfOk result (λ used. Advances R.EndRole R.Exchange.Role R.Exchange.Sealing.crypto self.old bytes.now used
+            out.old.items out.new.items self.new) }
         ensures shown { IfOk result (λ used. self.new.used ≡ used) }
         ensures none { OnErr result (self.new.step ≡ Step.More) }
         ensures unused { OnErr result (self.new.used ≡ 0) }
         ensures unsent { OnErr result (self.new.sent ≡ []) }
         ensures failed { IfErr result (λ fault. IsFault self.old.machine fault self.new.machine) }
         ensures dead { IfErr result (λ fault. fault ≡ Fault.Dead → self.new.layers ≡ self.old.layers) }
-        ensures lacks { IfErr result (λ fault. fault ≡ Fault.Memory → EndLacks R.EndRole R.Exchange.Role R.Exchange.Sealing.crypto self.old bytes.now) }
-        ensures placed { IfErr result (λ fault. (p : Parties R.Exchange.Sealing.Key) (history : List Item) → StandsAt R.EndRole R.Exchange.Role p history self.old → FailedTo R.EndRole R.Exchange.Role p history self.old bytes.now fault self.new) }
+        ensures lacks { IfErr result (λ fault. fault ≡ Fault.Memory → EndLacks R.EndRole R.Exchange.Role R.Exchange.Sealing.crypto
+            self.old bytes.now) }
+        ensures placed { IfErr result (λ fault. (p : Parties R.Exchange.Sealing.Key) (history : List Item) →
+            StandsAt R.EndRole R.Exchange.Role p history self.old →
+            FailedTo R.EndRole R.Exchange.Role p history self.old bytes.now fault self.new) }
         ensures out { OnErr result (out.new.items ≡ out.old.items) }
         ensures role { self.new.role ≡ self.old.role }
     {
@@ -151,8 +168,8 @@ impl<R: EndRole> End<R> {
         Ok(used)
     }
 
-    /// What was done in the last call of `advance` or `take`. Its texts are slices of the end's buffer. After `perform` or `ask` it shows the
-    /// payload that was sent.
+    /// What was done in the last call of `advance` or `take`. Its texts are slices of the end's buffer. After `perform` or `ask` it shows
+    /// the payload that was sent.
     pub fn turn(&self) -> Turn<'_>
         ensures shows { (items : List Item) → Shows (shown_by self.now.step self.now.machine) self.now.step items → TurnShows result items }
         ensures more { self.now.step ≡ Step.More → TurnShows result [] }
@@ -194,7 +211,9 @@ impl<R: EndRole> End<R> {
     /// - `Dead`: the end was over before. Nothing is put out.
     pub fn ask<'a>(&'a mut self, ask: &Ask<'_>, out: &mut Vec<u8>) -> Result<Turn<'a>, Fault>
         ensures out { OnErr result (out.new.items ≡ out.old.items) }
-        ensures* done { sem 𝓛 (Rests (the_row R.row R.Exchange.row R.Layers.row R.Exchange.Sealing.row R.Exchange.Filler.row R.Exchange.Sealing.Key.row R.EndRole R.Exchange.Role R.Exchange.Sealing.Sealing R.Exchange.Filler.Filler) self.entry (λ new. EndAsked R.EndRole R.Exchange.Role self.old (ask_of ask.now) out.old.items out.new.items result new)) }
+        ensures* done { sem 𝓛 (Rests (the_row R.row R.Exchange.row R.Layers.row R.Exchange.Sealing.row R.Exchange.Filler.row
+            R.Exchange.Sealing.Key.row R.EndRole R.Exchange.Role R.Exchange.Sealing.Sealing R.Exchange.Filler.Filler) self.entry
+            (λ new. EndAsked R.EndRole R.Exchange.Role self.old (ask_of ask.now) out.old.items out.new.items result new)) }
     {
         let step = self.perform(ask, out)?;
         Ok(asked_turn(step, self.turn().sent))
@@ -206,12 +225,15 @@ impl<R: EndRole> End<R> {
     ///
     /// Those of `ask`.
     pub fn perform(&mut self, ask: &Ask<'_>, out: &mut Vec<u8>) -> Result<AskStep, Fault>
-        ensures asks { R.asks self.old.role self.old.machine self.old.layers (ask_of ask.now) result self.new.machine self.new.layers (outs_of out.old.items out.new.items self.new.sent) }
+        ensures asks { R.asks self.old.role self.old.machine self.old.layers (ask_of ask.now) result self.new.machine self.new.layers
+            (outs_of out.old.items out.new.items self.new.sent) }
         ensures reading { self.new.machine.kept.dead ≡ false → SameReading self.old.machine self.new.machine }
         ensures step { self.new.step ≡ Step.More }
         ensures used { self.new.used ≡ 0 }
         ensures channels { IfOk result (λ step. AreAskChannels (ask_of ask.now) step self.new.sent self.new.channels) }
-        ensures placed { (p : Parties R.Exchange.Sealing.Key) (history : List Item) → StandsAt R.EndRole R.Exchange.Role p history self.old → PerformedTo R.EndRole R.Exchange.Role p history self.old (ask_of ask.now) result out.old.items out.new.items self.new }
+        ensures placed { (p : Parties R.Exchange.Sealing.Key) (history : List Item) →
+            StandsAt R.EndRole R.Exchange.Role p history self.old →
+            PerformedTo R.EndRole R.Exchange.Role p history self.old (ask_of ask.now) result out.old.items out.new.items self.new }
         ensures fails { IfErr result (λ fault. Fails self.old.machine fault self.new.machine) }
         ensures unsent { OnErr result (self.new.sent ≡ []) }
         ensures out { OnErr result (out.new.items ≡ out.old.items) }
@@ -244,7 +266,9 @@ impl<R: EndRole> End<R> {
         ensures layers { self.new.layers ≡ self.old.layers }
         ensures rest { self.new ≡ record self.old { machine = self.new.machine } }
         ensures unchanged { result ≡ false → self.new ≡ self.old }
-        ensures placed { (p : Parties R.Exchange.Sealing.Key) (history : List Item) → StandsAt R.EndRole R.Exchange.Role p history self.old → FeedsTo R.EndRole R.Exchange.Role p history cookie secret result self.new }
+        ensures placed { (p : Parties R.Exchange.Sealing.Key) (history : List Item) →
+            StandsAt R.EndRole R.Exchange.Role p history self.old →
+            FeedsTo R.EndRole R.Exchange.Role p history cookie secret result self.new }
         ensures role { self.new.role ≡ self.old.role }
     {
         feeds::<<<R::Exchange as Role>::Sealing as Sealing>::Key>();

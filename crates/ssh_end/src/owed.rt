@@ -5,7 +5,7 @@ ghost use Rattle.ssh_model.specs.State.Channels.Summary.{reply_channel, reply_se
 ghost use Rattle.ssh_model.specs.Protocol.Side.{Side};
 ghost use Rattle.ssh_model.specs.State.TransportLayer.Kept.{after_sent};
 ghost use Rattle.ssh_channels.specs.Values.{reply_of};
-ghost use Rattle.ssh_transport_machine.specs.Puts.{Sends};
+ghost use Rattle.ssh_transport_machine.specs.Puts.{Sends, outs};
 ghost use Rattle.ssh_transport_machine.specs.Standing.{Stands};
 ghost use Rattle.ssh_transport_machine.specs.State.{dead_state};
 ghost use Rattle.ssh_end.specs.Owed.{Extends, ListsChannels, OwedGiven};
@@ -30,7 +30,8 @@ pub fn give_owed<S: Sealing, F: Filler + Drop>(
 ) -> Result<(), AllocError>
     requires alive { machine.old.kept.dead ≡ false }
     requires room { machine.old.kept.sending.count + length channels.old.owed ≤ 2 ^ 32 }
-    ensures given { OnOk result (OwedGiven S.crypto machine.old.kept channels.old machine.new.kept channels.new (record { before = out.old.items; after = out.new.items; listed = map (λ v. v.items) sent.old.items; relisted = map (λ v. v.items) sent.new.items })) }
+    ensures given { OnOk result (OwedGiven S.crypto machine.old.kept channels.old machine.new.kept channels.new
+        (outs out.old out.new sent.old sent.new)) }
     ensures numbered { OnOk result (ListsChannels channels.old channels.new numbers.old.items numbers.new.items) }
     ensures rest { machine.new ≡ record machine.old { kept = machine.new.kept } }
     ensures dead { OnErr result (machine.new.kept.dead ≡ true) }
@@ -55,7 +56,8 @@ fn give_reply<S: Sealing, F: Filler + Drop>(
     numbers: &mut Vec<Option<u32>>,
 ) -> Result<(), AllocError>
     requires left { machine.old.kept.sending.count < 2 ^ 32 }
-    ensures sends { OnOk result (Sends S.crypto machine.old.kept.sending (reply_sent (reply_of reply)) (record { before = out.old.items; after = out.new.items; listed = map (λ v. v.items) sent.old.items; relisted = map (λ v. v.items) sent.new.items })) }
+    ensures sends { OnOk result (Sends S.crypto machine.old.kept.sending (reply_sent (reply_of reply))
+        (outs out.old out.new sent.old sent.new)) }
     ensures after { OnOk result (machine.new ≡ record machine.old { kept = after_sent machine.old.kept }) }
     ensures numbered { OnOk result (numbers.new.items ≡ numbers.old.items ++ reply_channel (reply_of reply) ∷ []) }
     ensures dead { OnErr result (machine.new ≡ dead_state machine.old) }

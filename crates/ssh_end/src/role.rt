@@ -6,7 +6,7 @@ ghost use Rattle.ssh_model.specs.State.End.State.{Authentication};
 ghost use Rattle.ssh_model.specs.Protocol.Sessions.Items as session;
 ghost use Rattle.ssh_model.specs.Protocol.Sessions.Parties.{Parties};
 ghost use Rattle.ssh_types.specs.Sides.{side_of};
-ghost use Rattle.ssh_transport_machine.specs.Puts.{Outs};
+ghost use Rattle.ssh_transport_machine.specs.Puts.{Outs, outs};
 ghost use Rattle.ssh_transport_machine.specs.Standing.{Stands};
 ghost use Rattle.ssh_transport_machine.specs.State.{State};
 ghost use Rattle.ssh_transport_machine.specs.declared.outcome.TransportTurn.{TransportTurn};
@@ -48,11 +48,13 @@ pub trait EndRole: Drop {
 
     ghost channels_of: { Self.Layers → Channels };
 
-    ghost goes: { Self → TransportTurn → State Self.Exchange.Sealing.Key → Self.Layers → Step → State Self.Exchange.Sealing.Key → Self.Layers → Outs → Type 0 };
+    ghost goes: { Self → TransportTurn → State Self.Exchange.Sealing.Key → Self.Layers → Step → State Self.Exchange.Sealing.Key →
+        Self.Layers → Outs → Type 0 };
 
     ghost lacks: { Self → TransportTurn → State Self.Exchange.Sealing.Key → Self.Layers → Type 0 };
 
-    ghost asks: { Self → State Self.Exchange.Sealing.Key → Self.Layers → session.Ask → Result AskStep Fault → State Self.Exchange.Sealing.Key → Self.Layers → Outs → Type 0 };
+    ghost asks: { Self → State Self.Exchange.Sealing.Key → Self.Layers → session.Ask → Result AskStep Fault →
+        State Self.Exchange.Sealing.Key → Self.Layers → Outs → Type 0 };
 
     /// What it does in an exchange of keys.
     fn exchange(&self) -> &Self::Exchange
@@ -77,8 +79,10 @@ pub trait EndRole: Drop {
         numbers: &mut Vec<Option<u32>>,
     ) -> Result<Step, AllocError>
         requires ready { IsReady machine.old turn }
-        ensures goes { IfOk result (λ step. goes self.now turn machine.old layers.old step machine.new layers.new (record { before = out.old.items; after = out.new.items; listed = map (λ v. v.items) sent.old.items; relisted = map (λ v. v.items) sent.new.items })) }
-        ensures numbered { IfOk result (λ step. numbers.new.items ≡ numbers.old.items ++ channels_behind step (channels_of layers.old).owed) }
+        ensures goes { IfOk result (λ step. goes self.now turn machine.old layers.old step machine.new layers.new
+            (outs out.old out.new sent.old sent.new)) }
+        ensures numbered { IfOk result (λ step. numbers.new.items ≡ numbers.old.items
+            ++ channels_behind step (channels_of layers.old).owed) }
         ensures more { IfOk result (λ step. step ≡ Step.More → turn ≡ TransportTurn.More) }
         ensures lacks { OnErr result (lacks self.now turn machine.old layers.old) }
         ensures dead { OnErr result (machine.new.kept.dead ≡ true) }
@@ -102,7 +106,8 @@ pub trait EndRole: Drop {
         out: &mut Vec<u8>,
         sent: &mut Vec<Vec<u8>>,
     ) -> Result<AskStep, Fault>
-        ensures asks { asks self.now machine.old layers.old (ask_of ask.now) result machine.new layers.new (record { before = out.old.items; after = out.new.items; listed = map (λ v. v.items) sent.old.items; relisted = map (λ v. v.items) sent.new.items }) }
+        ensures asks { asks self.now machine.old layers.old (ask_of ask.now) result machine.new layers.new
+            (outs out.old out.new sent.old sent.new) }
         ensures fails { IfErr result (λ fault. Fails machine.old fault machine.new) }
         ensures reading { machine.new.kept.dead ≡ false → SameReading machine.old machine.new }
         ensures out { OnErr result (out.new.items ≡ out.old.items) }
@@ -111,5 +116,7 @@ pub trait EndRole: Drop {
 
     /// What it does is what an end of its side does in a session whose parts it has. A fact for proofs, at no cost.
     fn lifts()
-        ensures { EndLifts (side_of Self.Exchange.SIDE) Self.Exchange.Sealing.crypto is_of are_of (λ kept layers. state_by authentication_of channels_of kept layers) (λ role. Self.Exchange.does (exchange_of role)) (λ role. Self.Exchange.lacks (exchange_of role)) goes lacks asks };
+        ensures { EndLifts (side_of Self.Exchange.SIDE) Self.Exchange.Sealing.crypto is_of are_of
+            (λ kept layers. state_by authentication_of channels_of kept layers) (λ role. Self.Exchange.does (exchange_of role))
+            (λ role. Self.Exchange.lacks (exchange_of role)) goes lacks asks };
 }

@@ -45,14 +45,19 @@ impl<P: ServerParts, U: UserJudge + Drop> End<ServerRole<P, U>> {
         secret: [u8; 32],
         out: &mut Vec<u8>,
     ) -> Result<ServerEnd<P, U>, AllocError>
-        ensures opened { IfOk result (λ end. IsNewServer P.Sealing.crypto (settings_of config) cookie secret end.machine end.layers out.old.items out.new.items end.sent) }
+        ensures opened { IfOk result (λ end. IsNewServer P.Sealing.crypto (settings_of config) cookie secret end.machine end.layers
+            out.old.items out.new.items end.sent) }
         ensures step { IfOk result (λ end. end.step ≡ Step.More) }
         ensures used { IfOk result (λ end. end.used ≡ 0) }
         ensures channels { IfOk result (λ end. end.channels ≡ channels_beside end.sent (None ∷ [])) }
         ensures agreement { IfOk result (λ end. end.role.exchange.agreement ≡ parts.agreement) }
         ensures part { IfOk result (λ end. end.role.exchange.host_signer ≡ parts.host_signer) }
         ensures user { IfOk result (λ end. end.role.user ≡ user) }
-        ensures placed { IfOk result (λ end. MadeOf model.Server (settings_of config) (λ p. IsServer p P.Sealing.crypto (exchange_parts P.Agreement.public_of P.Agreement.shared_of P.HostSigner.key_of P.HostSigner.signature_of end.role.exchange.agreement end.role.exchange.host_signer) (U.verdicts end.role.user)) (λ p. AreServerLayers p end.layers) (record { cookie = cookie; secret = secret }) end.machine (end_of end.machine.kept end.layers) out.old.items out.new.items end.sent) }
+        ensures placed { IfOk result (λ end. MadeOf model.Server (settings_of config)
+            (λ p. IsServer p P.Sealing.crypto (exchange_parts P.Agreement.public_of P.Agreement.shared_of P.HostSigner.key_of
+            P.HostSigner.signature_of end.role.exchange.agreement end.role.exchange.host_signer) (U.verdicts end.role.user))
+            (λ p. AreServerLayers p end.layers) (record { cookie = cookie; secret = secret }) end.machine
+            (end_of end.machine.kept end.layers) out.old.items out.new.items end.sent) }
         ensures out { OnErr result (out.new.items ≡ out.old.items) }
     {
         openings::<<P::Sealing as Sealing>::Key>();

@@ -47,7 +47,8 @@ impl<P: ServerParts, U: UserJudge + Drop> EndRole for ServerRole<P, U> {
 
     ghost exchange_of = { λ role. role.exchange };
 
-    ghost is_of = { λ role p. IsServer p P.Sealing.crypto (exchange_parts P.Agreement.public_of P.Agreement.shared_of P.HostSigner.key_of P.HostSigner.signature_of role.exchange.agreement role.exchange.host_signer) (U.verdicts role.user) };
+    ghost is_of = { λ role p. IsServer p P.Sealing.crypto (exchange_parts P.Agreement.public_of P.Agreement.shared_of P.HostSigner.key_of
+        P.HostSigner.signature_of role.exchange.agreement role.exchange.host_signer) (U.verdicts role.user) };
 
     ghost are_of = { λ layers p. AreServerLayers p layers };
 

@@ -1,5 +1,6 @@
 //! What a server does with an answer of its transport.
 
+ghost use Rattle.ssh_transport_machine.specs.Puts.{outs};
 ghost use Rattle.std.specs.Prelude.{◌≡◌, ◌<◌, ◌≤◌, ◌++◌, IfErr, IfOk, List, OnErr, [], false, length, map, take, true};
 ghost use Rattle.ssh_model.specs.State.Channels.Kept.{DueReply};
 ghost use Rattle.ssh_model.specs.Protocol.Sessions.Turns.{number_of};
@@ -37,7 +38,8 @@ pub fn go_on<S: Sealing, F: Filler + Drop, J: UserJudge>(
     numbers: &mut Vec<Option<u32>>,
 ) -> Result<Step, AllocError>
     requires ready { IsReady machine.old turn }
-    ensures goes { IfOk result (λ step. Goes S.crypto (J.verdicts judge.now) turn machine.old layers.old step machine.new layers.new (record { before = out.old.items; after = out.new.items; listed = map (λ v. v.items) sent.old.items; relisted = map (λ v. v.items) sent.new.items })) }
+    ensures goes { IfOk result (λ step. Goes S.crypto (J.verdicts judge.now) turn machine.old layers.old step machine.new layers.new
+        (outs out.old out.new sent.old sent.new)) }
     ensures numbered { IfOk result (λ step. numbers.new.items ≡ numbers.old.items ++ channels_behind step layers.old.channels.owed) }
     ensures more { IfOk result (λ step. step ≡ Step.More → turn ≡ TransportTurn.More) }
     ensures lacks { OnErr result (GoLacks (J.verdicts judge.now) turn machine.old layers.old) }
@@ -73,7 +75,8 @@ fn go_up<S: Sealing, F: Filler + Drop, J: UserJudge>(
 ) -> Result<Step, AllocError>
     requires above { 50 ≤ number_of machine.old.receiver.payload }
     requires alive { machine.old.kept.dead ≡ false }
-    ensures goes { IfOk result (λ step. GoesUp S.crypto (J.verdicts judge.now) machine.old layers.old step machine.new layers.new (record { before = out.old.items; after = out.new.items; listed = map (λ v. v.items) sent.old.items; relisted = map (λ v. v.items) sent.new.items })) }
+    ensures goes { IfOk result (λ step. GoesUp S.crypto (J.verdicts judge.now) machine.old layers.old step machine.new layers.new
+        (outs out.old out.new sent.old sent.new)) }
     ensures behind { IfOk result (λ step. (owed : List DueReply) → channels_behind step owed ≡ []) }
     ensures whole { IfOk result (λ step. step ≡ Step.More → ⊥) }
     ensures lacks { OnErr result (UpLacks (J.verdicts judge.now) machine.old layers.old) }

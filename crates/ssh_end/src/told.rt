@@ -18,8 +18,8 @@ use ssh_types::NameList;
 /// What a user is told of a message that was taken. Its texts are slices of the payload.
 #[derive(Clone, Copy, Debug, PartialEq, Eq)]
 pub enum Told<'a> {
-    /// The exchange of keys at this position, from 1, is completed at this end: it sent NEWKEYS, and seals under the new keys from here on. The
-    /// peer's NEWKEYS may still be to come (RFC 4253 section 7.3).
+    /// The exchange of keys at this position, from 1, is completed at this end: it sent NEWKEYS, and seals under the new keys from here on.
+    /// The peer's NEWKEYS may still be to come (RFC 4253 section 7.3).
     Completed {
         position: u32,
     },
@@ -46,8 +46,8 @@ pub enum Told<'a> {
         algorithm: &'a [u8],
         key: &'a [u8],
     },
-    /// The message or the packet means nothing here: IGNORE (RFC 4253 section 11.2), the packet after a wrong guess (section 7), or a request
-    /// after the user was let in (RFC 4252 section 5.1).
+    /// The message or the packet means nothing here: IGNORE (RFC 4253 section 11.2), the packet after a wrong guess (section 7), or a
+    /// request after the user was let in (RFC 4252 section 5.1).
     Ignored,
     /// The extensions that the peer announces (RFC 8308 section 2.3).
     Extensions(Extensions<'a>),

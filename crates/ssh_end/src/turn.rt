@@ -73,8 +73,8 @@ impl<'a> SentPayloads<'a> {
         self.payloads
     }
 
-    /// The end's own number of the channel that the payload at this index belongs to (RFC 4254 section 5). `None` where it belongs to none, or there is
-    /// no such payload. Which channels these are is said where the turn is answered: those of the messages that were sent.
+    /// The end's own number of the channel that the payload at this index belongs to (RFC 4254 section 5). `None` where it belongs to none,
+    /// or there is no such payload. Which channels these are is said where the turn is answered: those of the messages that were sent.
     pub fn channel(&self, index: usize) -> Option<u32>
         ensures { result ≡ slice_index_or (channels_in self.now) index None }
     {

@@ -50,7 +50,10 @@ use ssh_transport_machine::laws::unit_turns as machine_turns;
 ///
 /// It goes on being the server of these parties, and what is begun goes on being a prefix of a line or of a packet.
 pub fn servers_turns<K>()
-    ensures turned { (p : Parties K) (history : List Item) (old : State K) (layers : Layers) → IsServing p history old layers → (bytes : List ℕ) (done : Step) (new : State K) (later : Layers) (o : Outs) → ServerGoes p.crypto (parts_of p Server) (judge_of p) old layers bytes done new later o → ServerTurned p history bytes done new later o }
+    ensures turned { (p : Parties K) (history : List Item) (old : State K) (layers : Layers) → IsServing p history old layers →
+        (bytes : List ℕ) (done : Step) (new : State K) (later : Layers) (o : Outs) →
+        ServerGoes p.crypto (parts_of p Server) (judge_of p) old layers bytes done new later o →
+        ServerTurned p history bytes done new later o }
 {
     facts_told();
     transport_turns::<K>();
@@ -76,7 +79,10 @@ pub fn servers_turns<K>()
 ///
 /// What is begun goes on being a prefix of a line or of a packet.
 pub fn clients_turns<K>()
-    ensures turned { (p : Parties K) (history : List Item) (old : State K) (layers : client.Layers) → IsAsking p history old layers → (bytes : List ℕ) (done : Step) (new : State K) (later : client.Layers) (o : Outs) → ClientGoes p.crypto (agreement_of p Client) p.trusts old layers bytes done new later o → ClientTurned p history bytes done new later o }
+    ensures turned { (p : Parties K) (history : List Item) (old : State K) (layers : client.Layers) → IsAsking p history old layers →
+        (bytes : List ℕ) (done : Step) (new : State K) (later : client.Layers) (o : Outs) →
+        ClientGoes p.crypto (agreement_of p Client) p.trusts old layers bytes done new later o →
+        ClientTurned p history bytes done new later o }
 {
     facts_told();
     transport_turns::<K>();
@@ -96,20 +102,26 @@ pub fn clients_turns<K>()
 /// `advance` and `take` say, by what was done and the replies that were owed before, are the channels that stand in the items of the turn,
 /// one for each message, the oldest first.
 pub fn turns_channels<K>()
-    ensures { (p : Parties K) (side : Side) (history : List Item) (old : EndState K) → EndSumsUp p side history old → old.transport.dead ≡ false → (unit payload : List ℕ) (done : Step) (new : EndState K) (before after : List ℕ) (sent : List (List ℕ)) → (x : UnitTurned p side history unit payload done new (outs_of before after sent)) → channels_by done old.channels.owed sent ≡ channels_sent x.items }
+    ensures { (p : Parties K) (side : Side) (history : List Item) (old : EndState K) → EndSumsUp p side history old →
+        old.transport.dead ≡ false → (unit payload : List ℕ) (done : Step) (new : EndState K) (before after : List ℕ)
+        (sent : List (List ℕ)) → (x : UnitTurned p side history unit payload done new (outs_of before after sent)) →
+        channels_by done old.channels.owed sent ≡ channels_sent x.items }
 {}
 
 /// An end that was just made has begun no line and no packet.
 pub fn new_ends_read<K>()
-    ensures reading { (c : Crypto K) (settings : Settings) (side : Side) (cookie secret : List ℕ) (new : State K) (o : Outs) → IsOpened c settings side cookie secret new o → IsReading c new }
-    ensures begun { (c : Crypto K) (settings : Settings) (side : Side) (cookie secret : List ℕ) (new : State K) (o : Outs) → IsOpened c settings side cookie secret new o → begun_of new ≡ [] }
+    ensures reading { (c : Crypto K) (settings : Settings) (side : Side) (cookie secret : List ℕ) (new : State K) (o : Outs) →
+        IsOpened c settings side cookie secret new o → IsReading c new }
+    ensures begun { (c : Crypto K) (settings : Settings) (side : Side) (cookie secret : List ℕ) (new : State K) (o : Outs) →
+        IsOpened c settings side cookie secret new o → begun_of new ≡ [] }
 {}
 
 /// Where a server's end answers that memory was refused, the server of a session dies. Where what it keeps sums up a history, and it is the
 /// server of lawful parties, what took memory of the bytes of one line or one packet is a turn of a session that dies; but not where the
 /// signature of a request was due to be looked at and all numbers are used, of which a session says that no number is left.
 pub fn servers_deaths<K>()
-    ensures dies { (p : Parties K) (history : List Item) (old : State K) (layers : Layers) → IsServing p history old layers → (bytes : List ℕ) → TurnLacks p.crypto (parts_of p Server) (judge_of p) old layers bytes → ServerDies p history old layers bytes }
+    ensures dies { (p : Parties K) (history : List Item) (old : State K) (layers : Layers) → IsServing p history old layers →
+        (bytes : List ℕ) → TurnLacks p.crypto (parts_of p Server) (judge_of p) old layers bytes → ServerDies p history old layers bytes }
 {
     facts_told();
     transport_turns::<K>();
@@ -128,7 +140,9 @@ pub fn servers_deaths<K>()
 /// Where a client's end answers that memory was refused, the client of a session dies: where what it keeps sums up a history, and it is the
 /// client of lawful parties, what took memory of the bytes of one line or one packet is a turn of a session that dies.
 pub fn clients_deaths<K>()
-    ensures dies { (p : Parties K) (history : List Item) (old : State K) (layers : client.Layers) → IsAsking p history old layers → (bytes : List ℕ) → of_a_client.TurnLacks p.crypto (agreement_of p Client) p.trusts old layers bytes → OnUnit p Client history bytes (Died ∷ []) }
+    ensures dies { (p : Parties K) (history : List Item) (old : State K) (layers : client.Layers) → IsAsking p history old layers →
+        (bytes : List ℕ) → of_a_client.TurnLacks p.crypto (agreement_of p Client) p.trusts old layers bytes →
+        OnUnit p Client history bytes (Died ∷ []) }
 {
     facts_told();
     transport_turns::<K>();

@@ -1,5 +1,6 @@
 //! Lines and packets that an end takes.
 
+ghost use Rattle.ssh_transport_machine.specs.Puts.{outs};
 ghost use Rattle.std.specs.Prelude.{◌≡◌, ◌<◌, ◌≤◌, ◌++◌, IfErr, IfOk, OnErr, false, length, map, take};
 ghost use Rattle.ssh_types.specs.Sides.{side_of};
 ghost use Rattle.ssh_transport_machine.specs.Standing.{Stands};
@@ -35,11 +36,17 @@ pub fn advance<R: EndRole>(
     ensures used { result.0 ≤ length bytes.now }
     ensures progress { machine.old.kept.dead ≡ false → 0 < length bytes.now → 0 < result.0 }
     ensures more { IfOk result.1 (λ step. step ≡ Step.More → result.0 ≡ length bytes.now) }
-    ensures goes { IfOk result.1 (λ step. UnitGoes R.Exchange.Sealing.crypto (side_of R.Exchange.SIDE) (R.Exchange.does (R.exchange_of role.now)) (R.goes role.now) machine.old layers.old (begun_of machine.old ++ take result.0 bytes.now) step machine.new layers.new (record { before = out.old.items; after = out.new.items; listed = map (λ v. v.items) sent.old.items; relisted = map (λ v. v.items) sent.new.items })) }
-    ensures numbered { IfOk result.1 (λ step. numbers.new.items ≡ numbers.old.items ++ channels_behind step (R.channels_of layers.old).owed) }
+    ensures goes { IfOk result.1 (λ step. UnitGoes R.Exchange.Sealing.crypto (side_of R.Exchange.SIDE)
+        (R.Exchange.does (R.exchange_of role.now)) (R.goes role.now) machine.old layers.old
+        (begun_of machine.old ++ take result.0 bytes.now) step machine.new layers.new (outs out.old out.new sent.old sent.new)) }
+    ensures numbered { IfOk result.1 (λ step. numbers.new.items ≡ numbers.old.items ++ channels_behind step
+        (R.channels_of layers.old).owed) }
     ensures failed { IfErr result.1 (λ fault. IsOver machine.old fault machine.new) }
     ensures dead { IfErr result.1 (λ fault. fault ≡ TransportFault.Dead → layers.new ≡ layers.old) }
-    ensures lacks { IfErr result.1 (λ fault. fault ≡ TransportFault.Memory → UnitLacks R.Exchange.Sealing.crypto (side_of R.Exchange.SIDE) (R.Exchange.does (R.exchange_of role.now)) (R.Exchange.lacks (R.exchange_of role.now)) (R.lacks role.now) machine.old layers.old (begun_of machine.old ++ take result.0 bytes.now)) }
+    ensures lacks { IfErr result.1 (λ fault. fault ≡ TransportFault.Memory →
+        UnitLacks R.Exchange.Sealing.crypto (side_of R.Exchange.SIDE) (R.Exchange.does (R.exchange_of role.now))
+        (R.Exchange.lacks (R.exchange_of role.now)) (R.lacks role.now) machine.old layers.old
+        (begun_of machine.old ++ take result.0 bytes.now)) }
     ensures out { OnErr result.1 (out.new.items ≡ out.old.items) }
     ensures kept { OnErr result.1 (map (λ v. v.items) sent.new.items ≡ map (λ v. v.items) sent.old.items) }
     ensures stands { Stands (side_of R.Exchange.SIDE) machine.new }

@@ -1,7 +1,8 @@
 ghost use Rattle.std.specs.Prelude.{◌≡◌, ◌↔◌, ◌&&◌, false, not, is_ok, IsTrue, IfOk, IfErr};
 ghost use Rattle.ssh_model.specs.Protocol.KeyExchange.Exchanges.{chosen as computed_choice, has_choice};
 ghost use Rattle.ssh_model.specs.Protocol.Sessions.Phases.{is_same as are_same};
-ghost use Rattle.ssh_model.specs.Protocol.KeyExchange.Choice.{HasCommon, HasNoCommon, IsChoice, IsFirstCommon, IsFirstWithout, IsRightGuess, Kex, methods};
+ghost use Rattle.ssh_model.specs.Protocol.KeyExchange.Choice.{HasCommon, HasNoCommon, IsChoice, IsFirstCommon, IsFirstWithout};
+ghost use Rattle.ssh_model.specs.Protocol.KeyExchange.Choice.{IsRightGuess, Kex, methods};
 ghost use Rattle.std.specs.List.{slice_get};
 ghost use Rattle.std.specs.Option.{option_map};
 ghost use Rattle.ssh_types.specs.Values.{name_text, names};
@@ -103,7 +104,9 @@ fn algorithm<'a>(
 /// exchange are taken out first.
 pub fn guess_wrong(client: &KexLists<'_>, server: &KexLists<'_>) -> bool
     ensures right { (result ≡ false) ↔ IsRightGuess (lists_of client.now) (lists_of server.now) }
-    ensures computed { result ≡ not (are_same (slice_get (methods (names client.now.kex)) 0) (slice_get (methods (names server.now.kex)) 0) && are_same (slice_get (names client.now.host) 0) (slice_get (names server.now.host) 0)) }
+    ensures computed { result ≡ not (are_same (slice_get (methods (names client.now.kex)) 0)
+        (slice_get (methods (names server.now.kex)) 0) && are_same (slice_get (names client.now.host) 0)
+        (slice_get (names server.now.host) 0)) }
 {
     let same_method = is_same(first_method(&client.kex), first_method(&server.kex));
     let same_host = is_same(client.host.first(), server.host.first());

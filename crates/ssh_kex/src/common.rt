@@ -3,7 +3,9 @@
 ghost use Rattle.std.specs.Prelude.{◌≡◌, ◌↔◌, ◌||◌, IsTrue, IfSome, IfNone};
 ghost use Rattle.std.specs.List.{Contains, slice_get};
 ghost use Rattle.std.specs.Option.{option_map};
-ghost use Rattle.ssh_model.specs.Protocol.KeyExchange.Choice.{client_extension_marker, client_marker, server_extension_marker, server_marker, HasCommon, HasNoCommon, IsFirstCommon, is_method as passes_method, methods};
+ghost use Rattle.ssh_model.specs.Protocol.KeyExchange.Choice.{client_extension_marker, client_marker, server_extension_marker};
+ghost use Rattle.ssh_model.specs.Protocol.KeyExchange.Choice.{server_marker, HasCommon, HasNoCommon, IsFirstCommon};
+ghost use Rattle.ssh_model.specs.Protocol.KeyExchange.Choice.{is_method as passes_method, methods};
 ghost use Rattle.ssh_model.specs.Protocol.Wire.MacOnly.{is_text};
 ghost use Rattle.ssh_types.specs.Values.{name_text, names};
 

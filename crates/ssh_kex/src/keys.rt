@@ -47,7 +47,8 @@ impl Letter {
 
 /// Fills `out` with the key of this letter, as long as `out` is (RFC 4253 section 7.2). It needs no memory.
 ///
-/// `shared` is the shared number K, unsigned, the most significant byte first. `hash` is the hash of this exchange, and `session_id` the hash of the first one.
+/// `shared` is the shared number K, unsigned, the most significant byte first. `hash` is the hash of this exchange, and `session_id` the
+/// hash of the first one.
 #[tactic(auto, using(crate::proofs::Blocks::begun, crate::proofs::Blocks::goes_on, crate::proofs::Blocks::filled_up))]
 pub fn derive(
     shared: &[u8; 32],

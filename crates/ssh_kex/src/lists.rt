@@ -1,6 +1,7 @@
 ghost use Rattle.std.specs.Prelude.{◌≡◌, ◌↔◌, IsTrue};
 ghost use Rattle.std.specs.List.{Contains};
-ghost use Rattle.ssh_model.specs.Protocol.KeyExchange.Choice.{client_extension_marker, client_marker, server_extension_marker, server_marker};
+ghost use Rattle.ssh_model.specs.Protocol.KeyExchange.Choice.{client_extension_marker, client_marker, server_extension_marker};
+ghost use Rattle.ssh_model.specs.Protocol.KeyExchange.Choice.{server_marker};
 ghost use Rattle.ssh_model.specs.Protocol.KeyExchange.Exchanges.{has_marker};
 ghost use Rattle.ssh_model.specs.Protocol.Wire.DataTypes.{is_name};
 ghost use Rattle.ssh_model.specs.Protocol.Sessions.Parties.{extension_marker_of, marker_of};

@@ -22,8 +22,8 @@ const BAR: u8 = b'|';
 // How many bytes a salt leaves of a block of SHA-1, which has 64 (RFC 2104 section 2).
 const AFTER_SALT: usize = 44;
 
-/// Tests whether the names on a line stand for a host. A name is hashed, and then the only one of its line; or it is one of those that commas
-/// part. Of these one has to be like the host's name, and none with `!` before it.
+/// Tests whether the names on a line stand for a host. A name is hashed, and then the only one of its line; or it is one of those that
+/// commas part. Of these one has to be like the host's name, and none with `!` before it.
 ///
 /// # Errors
 ///

@@ -2,7 +2,8 @@
 
 ghost use Rattle.std.specs.Prelude.{◌≡◌};
 ghost use Rattle.std.specs.Option.{option_copied};
-ghost use Rattle.ssh_key_files.specs.KnownHosts.{counts_for, found_after, found_on, host_key_on, is_key, is_mark, kept_on, key_for, key_found, marked, revokes, trusted_key};
+ghost use Rattle.ssh_key_files.specs.KnownHosts.{counts_for, found_after, found_on, host_key_on, is_key, is_mark, kept_on, key_for};
+ghost use Rattle.ssh_key_files.specs.KnownHosts.{key_found, marked, revokes, trusted_key};
 ghost use Rattle.ssh_key_files.specs.Lines.{read_lines};
 ghost use Rattle.ssh_key_files.specs.Keys.{key_in};
 ghost use Rattle.ssh_key_files.specs.Texts.{lines_of, words_in, words_of};

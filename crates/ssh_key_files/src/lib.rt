@@ -1,6 +1,6 @@
-//! Key files of OpenSSH, for keys of ssh-ed25519: private keys, public keys, known_hosts and authorized_keys, and files with a password. Each function
-//! goes from the bytes of a file to what stands in it. A file that is not what it has to be is told by its line and by what was expected there. Which
-//! text gives what is said in `specs/`: KnownHosts and HostNames, UserKeys, Passwords and PrivateKeys.
+//! Key files of OpenSSH, for keys of ssh-ed25519: private keys, public keys, known_hosts and authorized_keys, and files with a password.
+//! Each function goes from the bytes of a file to what stands in it. A file that is not what it has to be is told by its line and by what
+//! was expected there. Which text gives what is said in `specs/`: KnownHosts and HostNames, UserKeys, Passwords and PrivateKeys.
 //!
 //! ```rust
 //! let host = private_key(alloc, &host_key_file)?;

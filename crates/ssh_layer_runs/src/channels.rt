@@ -1,5 +1,6 @@
-//! The channels of one end. `new` makes new ones, `ask` and an ask is what a user asks, `take` and a payload a message of the peer, `owed` gives the oldest reply that a key
-//! exchange held back, and `show` and a number shows a channel. `blocked` before it does it within a key exchange, and `due` where one is due.
+//! The channels of one end. `new` makes new ones, `ask` and an ask is what a user asks, `take` and a payload a message of the peer, `owed`
+//! gives the oldest reply that a key exchange held back, and `show` and a number shows a channel. `blocked` before it does it within a key
+//! exchange, and `due` where one is due.
 
 ghost use Rattle.std.specs.Prelude.{IfSome};
 ghost use Rattle.ssh_message.specs.Written.{Fits};

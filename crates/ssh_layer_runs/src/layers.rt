@@ -1,7 +1,8 @@
-//! The layers above the transports of a server and of a client, authentication and channels in one. `server`, a number and a list makes those of a server that lets so many requests
-//! fail and names these methods, `client` those of a client, and `open` and a letter is for SERVICE_ACCEPT. `s take` and a payload from 50 on is one that the server's layers take, of the packet with the number 9,
-//! and `c take` one of the client's; `s ask` and `c ask` what their users ask; `s owed` and `c owed` give the oldest reply that a key exchange held back. `blocked` before it does it within a key exchange, and
-//! `in` once the user is authenticated. The user `u` has the password `p`.
+//! The layers above the transports of a server and of a client, authentication and channels in one. `server`, a number and a list makes
+//! those of a server that lets so many requests fail and names these methods, `client` those of a client, and `open` and a letter is for
+//! SERVICE_ACCEPT. `s take` and a payload from 50 on is one that the server's layers take, of the packet with the number 9, and `c take`
+//! one of the client's; `s ask` and `c ask` what their users ask; `s owed` and `c owed` give the oldest reply that a key exchange held
+//! back. `blocked` before it does it within a key exchange, and `in` once the user is authenticated. The user `u` has the password `p`.
 
 ghost use Rattle.std.specs.Prelude.{◌≡◌, ◌≤◌, true, IfSome};
 ghost use Rattle.ssh_model.specs.Protocol.Sessions.Turns.{number_of};

@@ -1,6 +1,7 @@
-//! A server and a client of authentication, each by itself. `server`, a number and a list makes a server that lets so many requests fail and names these methods,
-//! `client` a client, `open` and a letter has one open its service. `s take` and a payload is a message that the server takes, `c take` one of the client, `c ask` and an ask what its user asks. `s may`
-//! and a number says whether a message may come. The user `u` has the password `p` and the key of one byte, `aa`; after `lenient` everybody is let in.
+//! A server and a client of authentication, each by itself. `server`, a number and a list makes a server that lets so many requests fail
+//! and names these methods, `client` a client, `open` and a letter has one open its service. `s take` and a payload is a message that the
+//! server takes, `c take` one of the client, `c ask` and an ask what its user asks. `s may` and a number says whether a message may come.
+//! The user `u` has the password `p` and the key of one byte, `aa`; after `lenient` everybody is let in.
 
 ghost use Rattle.std.specs.Prelude.{◌≤◌, true, IfOk, length};
 ghost use Rattle.ssh_types.specs.Values.{names_text};
@@ -33,7 +34,12 @@ const JUDGE: ToyJudge<'static> = ToyJudge {
 struct Lenient;
 
 impl UserJudge for Lenient {
-    ghost verdicts = { λ _. record { admits = λ _. true; password_is_right = λ _ _. true; knows_key = λ _ _ _. true; signature_is_right = λ _ _ _ _. true } };
+    ghost verdicts = { λ _. record {
+      admits = λ _. true;
+      password_is_right = λ _ _. true;
+      knows_key = λ _ _ _. true;
+      signature_is_right = λ _ _ _ _. true;
+    } };
 
     fn none(&self, _user: &[u8]) -> bool {
         true

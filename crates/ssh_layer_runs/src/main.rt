@@ -1,5 +1,6 @@
-//! Layers by themselves, by the lines of files: what a layer is asked and takes, and after it, after `> `, what has to come of it. The channels of one end, and
-//! the authentication of both. For each file it is said how many lines were as they have to be, or which is the first that is not; the exit status is then 1.
+//! Layers by themselves, by the lines of files: what a layer is asked and takes, and after it, after `> `, what has to come of it. The
+//! channels of one end, and the authentication of both. For each file it is said how many lines were as they have to be, or which is the
+//! first that is not; the exit status is then 1.
 #![tactic(auto)]
 
 mod call;

@@ -83,8 +83,8 @@ impl ClientLayers {
         self.authentication.open();
     }
 
-    /// The message that is sent at once for an answer of `take`, where its packet had this sequence number; `None` where nothing is. It fits, and its
-    /// payload has at most 34,000 bytes. It needs no memory.
+    /// The message that is sent at once for an answer of `take`, where its packet had this sequence number; `None` where nothing is. It
+    /// fits, and its payload has at most 34,000 bytes. It needs no memory.
     pub fn message<'a>(&self, answer: &ClientLayerAnswer<'a>, number: u32) -> Option<Message<'a>>
         ensures message { option_map meaning result ≡ message_of answer.now number }
         ensures fits { IfSome result (λ message. Fits message) }
@@ -106,7 +106,11 @@ impl ClientLayers {
 
     /// Tests whether a message of this number from 50 on may come outside an exchange of keys. It needs no memory.
     pub fn may_take(&self, below: &Below<'_>, number: u8) -> bool
-        ensures { result ≡ takes (record { session = below.now.session.now; is_blocked = below.now.blocked; is_authenticated = below.now.authenticated }) self.now number }
+        ensures { result ≡ takes (record {
+          session = below.now.session.now;
+          is_blocked = below.now.blocked;
+          is_authenticated = below.now.authenticated;
+        }) self.now number }
     {
         if number < 80 {
             self.authentication.may_take(number)
@@ -132,9 +136,17 @@ impl ClientLayers {
         payload: &'a [u8],
     ) -> Result<ClientTaken<'a>, LayerFault>
         requires { 50 ≤ number_of payload.now }
-        ensures taken { IfOk result (λ taken. LayersTake (record { session = below.now.session.now; is_blocked = below.now.blocked; is_authenticated = below.now.authenticated }) self.old (meaning taken.message) payload.now taken.answer self.new) }
+        ensures taken { IfOk result (λ taken. LayersTake (record {
+          session = below.now.session.now;
+          is_blocked = below.now.blocked;
+          is_authenticated = below.now.authenticated;
+        }) self.old (meaning taken.message) payload.now taken.answer self.new) }
         ensures fits { IfOk result (λ taken. Fits taken.message) }
-        ensures failed { IfErr result (λ fault. LayersFail (record { session = below.now.session.now; is_blocked = below.now.blocked; is_authenticated = below.now.authenticated }) self.old payload.now fault) }
+        ensures failed { IfErr result (λ fault. LayersFail (record {
+          session = below.now.session.now;
+          is_blocked = below.now.blocked;
+          is_authenticated = below.now.authenticated;
+        }) self.old payload.now fault) }
         ensures kept { OnErr result (self.new ≡ self.old) }
     {
         if !self.may_take(below, number_in(payload)) {
@@ -155,12 +167,24 @@ impl ClientLayers {
     ) -> Result<ClientTaken<'a>, LayerFault>
         requires above { 50 ≤ number_of payload.now }
         requires number { message_number (meaning message) ≡ number_of payload.now }
-        requires takes { takes (record { session = below.now.session.now; is_blocked = below.now.blocked; is_authenticated = below.now.authenticated }) self.old (number_of payload.now) ≡ true }
+        requires takes { takes (record {
+          session = below.now.session.now;
+          is_blocked = below.now.blocked;
+          is_authenticated = below.now.authenticated;
+        }) self.old (number_of payload.now) ≡ true }
         requires read { IsPayload (probes self.old) (meaning message) payload.now }
         requires fits { Fits message }
-        ensures taken { IfOk result (λ taken. LayersTake (record { session = below.now.session.now; is_blocked = below.now.blocked; is_authenticated = below.now.authenticated }) self.old (meaning taken.message) payload.now taken.answer self.new) }
+        ensures taken { IfOk result (λ taken. LayersTake (record {
+          session = below.now.session.now;
+          is_blocked = below.now.blocked;
+          is_authenticated = below.now.authenticated;
+        }) self.old (meaning taken.message) payload.now taken.answer self.new) }
         ensures fits { IfOk result (λ taken. Fits taken.message) }
-        ensures failed { IfErr result (λ fault. LayersFail (record { session = below.now.session.now; is_blocked = below.now.blocked; is_authenticated = below.now.authenticated }) self.old payload.now fault) }
+        ensures failed { IfErr result (λ fault. LayersFail (record {
+          session = below.now.session.now;
+          is_blocked = below.now.blocked;
+          is_authenticated = below.now.authenticated;
+        }) self.old payload.now fault) }
         ensures kept { OnErr result (self.new ≡ self.old) }
     {
         match layer_of(&message) {
@@ -181,13 +205,25 @@ impl ClientLayers {
         message: Message<'a>,
     ) -> Result<ClientTaken<'a>, LayerFault>
         requires number { message_number (meaning message) ≡ number_of payload.now }
-        requires takes { takes (record { session = below.now.session.now; is_blocked = below.now.blocked; is_authenticated = below.now.authenticated }) self.old (number_of payload.now) ≡ true }
+        requires takes { takes (record {
+          session = below.now.session.now;
+          is_blocked = below.now.blocked;
+          is_authenticated = below.now.authenticated;
+        }) self.old (number_of payload.now) ≡ true }
         requires read { IsPayload (probes self.old) (meaning message) payload.now }
         requires fits { Fits message }
         requires here { layer_for (meaning message) ≡ Layer.Authentication }
-        ensures taken { IfOk result (λ taken. LayersTake (record { session = below.now.session.now; is_blocked = below.now.blocked; is_authenticated = below.now.authenticated }) self.old (meaning taken.message) payload.now taken.answer self.new) }
+        ensures taken { IfOk result (λ taken. LayersTake (record {
+          session = below.now.session.now;
+          is_blocked = below.now.blocked;
+          is_authenticated = below.now.authenticated;
+        }) self.old (meaning taken.message) payload.now taken.answer self.new) }
         ensures fits { IfOk result (λ taken. Fits taken.message) }
-        ensures failed { IfErr result (λ fault. LayersFail (record { session = below.now.session.now; is_blocked = below.now.blocked; is_authenticated = below.now.authenticated }) self.old payload.now fault) }
+        ensures failed { IfErr result (λ fault. LayersFail (record {
+          session = below.now.session.now;
+          is_blocked = below.now.blocked;
+          is_authenticated = below.now.authenticated;
+        }) self.old payload.now fault) }
         ensures kept { OnErr result (self.new ≡ self.old) }
     {
         match self.authentication.take(&message) {
@@ -207,13 +243,25 @@ impl ClientLayers {
         message: Message<'a>,
     ) -> Result<ClientTaken<'a>, LayerFault>
         requires number { message_number (meaning message) ≡ number_of payload.now }
-        requires takes { takes (record { session = below.now.session.now; is_blocked = below.now.blocked; is_authenticated = below.now.authenticated }) self.old (number_of payload.now) ≡ true }
+        requires takes { takes (record {
+          session = below.now.session.now;
+          is_blocked = below.now.blocked;
+          is_authenticated = below.now.authenticated;
+        }) self.old (number_of payload.now) ≡ true }
         requires read { IsPayload (probes self.old) (meaning message) payload.now }
         requires fits { Fits message }
         requires here { layer_for (meaning message) ≡ Layer.Channels }
-        ensures taken { IfOk result (λ taken. LayersTake (record { session = below.now.session.now; is_blocked = below.now.blocked; is_authenticated = below.now.authenticated }) self.old (meaning taken.message) payload.now taken.answer self.new) }
+        ensures taken { IfOk result (λ taken. LayersTake (record {
+          session = below.now.session.now;
+          is_blocked = below.now.blocked;
+          is_authenticated = below.now.authenticated;
+        }) self.old (meaning taken.message) payload.now taken.answer self.new) }
         ensures fits { IfOk result (λ taken. Fits taken.message) }
-        ensures failed { IfErr result (λ fault. LayersFail (record { session = below.now.session.now; is_blocked = below.now.blocked; is_authenticated = below.now.authenticated }) self.old payload.now fault) }
+        ensures failed { IfErr result (λ fault. LayersFail (record {
+          session = below.now.session.now;
+          is_blocked = below.now.blocked;
+          is_authenticated = below.now.authenticated;
+        }) self.old payload.now fault) }
         ensures kept { OnErr result (self.new ≡ self.old) }
     {
         match self.channels.take(&message, below.blocked) {

@@ -33,7 +33,8 @@ pub fn ask_channels<'a>(
 ) -> Result<Sent<'a>, AskError>
     ensures refused { IfErr result (λ error. AskFails below.now.authenticated below.now.blocked due channels.old (ask_of ask.now) error) }
     ensures kept { OnErr result (channels.new ≡ channels.old) }
-    ensures passed { OnOk result (first_refusal (after_authentication below.now.authenticated (send_checks below.now.blocked due channels.old (ask_of ask.now))) ≡ None) }
+    ensures passed { OnOk result (first_refusal (after_authentication below.now.authenticated
+        (send_checks below.now.blocked due channels.old (ask_of ask.now))) ≡ None) }
     ensures sent { IfOk result (λ sent. Sends channels.old (ask_of ask.now) (sent_of sent) channels.new) }
     ensures fits { IfOk result (λ sent. Fits sent.message) }
     ensures short { IfOk result (λ sent. payload_size (meaning sent.message) ≤ 34000) }

@@ -19,13 +19,21 @@ ghost use Rattle.ssh_layers.specs.declared.server_layers.ServerLayerAnswer.{Serv
 /// What a server's layers make of a payload outside an exchange is what the server of these parties makes of it, on a transport that keeps
 /// this.
 pub fn servers_layers<K>()
-    ensures taken { (p : Parties K) (s : Transport K) (old : Layers) (payload : List ℕ) → s.phase ≡ Normal → 50 ≤ number_of payload → AreOf p old → (message : Msg) (given : ServerLayerAnswer) (new : Layers) → LayersTake (judge_of p) (beneath s) old message payload given new → Accepts p s old message payload given new }
-    ensures refused { (p : Parties K) (s : Transport K) (old : Layers) (payload : List ℕ) → s.phase ≡ Normal → 50 ≤ number_of payload → AreOf p old → (why : Refusal) → LayersRefuse (judge_of p) (beneath s) old payload why → RefusesAbove p (end_of s old) payload why }
+    ensures taken { (p : Parties K) (s : Transport K) (old : Layers) (payload : List ℕ) → s.phase ≡ Normal → 50 ≤ number_of payload →
+        AreOf p old → (message : Msg) (given : ServerLayerAnswer) (new : Layers) →
+        LayersTake (judge_of p) (beneath s) old message payload given new → Accepts p s old message payload given new }
+    ensures refused { (p : Parties K) (s : Transport K) (old : Layers) (payload : List ℕ) → s.phase ≡ Normal → 50 ≤ number_of payload →
+        AreOf p old → (why : Refusal) → LayersRefuse (judge_of p) (beneath s) old payload why →
+        RefusesAbove p (end_of s old) payload why }
 {}
 
 /// What a client's layers make of a payload outside an exchange is what the client of these parties makes of it, on a transport that keeps
 /// this.
 pub fn clients_layers<K>()
-    ensures taken { (p : Parties K) (s : Transport K) (old : client.Layers) (payload : List ℕ) → s.phase ≡ Normal → 50 ≤ number_of payload → (message : Msg) (given : ClientLayerAnswer) (new : client.Layers) → client.LayersTake (beneath s) old message payload given new → of_client.Accepts p s old message payload given new }
-    ensures refused { (p : Parties K) (s : Transport K) (old : client.Layers) (payload : List ℕ) → s.phase ≡ Normal → 50 ≤ number_of payload → (why : Refusal) → client.LayersRefuse (beneath s) old payload why → RefusesAbove p (of_client.end_of s old) payload why }
+    ensures taken { (p : Parties K) (s : Transport K) (old : client.Layers) (payload : List ℕ) → s.phase ≡ Normal →
+        50 ≤ number_of payload → (message : Msg) (given : ClientLayerAnswer) (new : client.Layers) →
+        client.LayersTake (beneath s) old message payload given new → of_client.Accepts p s old message payload given new }
+    ensures refused { (p : Parties K) (s : Transport K) (old : client.Layers) (payload : List ℕ) → s.phase ≡ Normal →
+        50 ≤ number_of payload → (why : Refusal) → client.LayersRefuse (beneath s) old payload why →
+        RefusesAbove p (of_client.end_of s old) payload why }
 {}

@@ -87,13 +87,16 @@ impl ServerLayers {
 
     /// Is called once SERVICE_ACCEPT was sent (RFC 4253 section 10). It needs no memory.
     pub fn open(&mut self)
-        ensures { self.new ≡ record self.old { authentication = record self.old.authentication { kept = opened_server self.old.authentication.kept } } }
+        ensures { self.new ≡ record self.old {
+          authentication = record self.old.authentication
+              { kept = opened_server self.old.authentication.kept };
+        } }
     {
         self.authentication.open();
     }
 
-    /// The message that is sent at once for an answer of `take`, where its packet had this sequence number; `None` where nothing is. It fits, and its
-    /// payload has at most 34,000 bytes. It needs no memory.
+    /// The message that is sent at once for an answer of `take`, where its packet had this sequence number; `None` where nothing is. It
+    /// fits, and its payload has at most 34,000 bytes. It needs no memory.
     pub fn message<'a>(&'a self, answer: &ServerLayerAnswer<'a>, number: u32) -> Option<Message<'a>>
         requires { IsShort answer.now }
         ensures message { option_map meaning result ≡ message_of self.now answer.now number }
@@ -116,7 +119,11 @@ impl ServerLayers {
 
     /// Tests whether a message of this number from 50 on may come outside an exchange of keys. It needs no memory.
     pub fn may_take(&self, below: &Below<'_>, number: u8) -> bool
-        ensures { result ≡ takes (record { session = below.now.session.now; is_blocked = below.now.blocked; is_authenticated = below.now.authenticated }) self.now number }
+        ensures { result ≡ takes (record {
+          session = below.now.session.now;
+          is_blocked = below.now.blocked;
+          is_authenticated = below.now.authenticated;
+        }) self.now number }
     {
         if number < 80 {
             self.authentication.may_take(number)
@@ -143,10 +150,14 @@ impl ServerLayers {
         payload: &'a [u8],
     ) -> Result<ServerTaken<'a>, LayerFault>
         requires { 50 ≤ number_of payload.now }
-        ensures taken { IfOk result (λ taken. LayersTake (J.verdicts judge.now) (record { session = below.now.session.now; is_blocked = below.now.blocked; is_authenticated = below.now.authenticated }) self.old (meaning taken.message) payload.now taken.answer self.new) }
+        ensures taken { IfOk result (λ taken. LayersTake (J.verdicts judge.now)
+            (record { session = below.now.session.now; is_blocked = below.now.blocked; is_authenticated = below.now.authenticated })
+            self.old (meaning taken.message) payload.now taken.answer self.new) }
         ensures fits { IfOk result (λ taken. Fits taken.message) }
         ensures short { IfOk result (λ taken. IsShort taken.answer) }
-        ensures failed { IfErr result (λ fault. LayersFail (J.verdicts judge.now) (record { session = below.now.session.now; is_blocked = below.now.blocked; is_authenticated = below.now.authenticated }) self.old payload.now fault) }
+        ensures failed { IfErr result (λ fault. LayersFail (J.verdicts judge.now)
+            (record { session = below.now.session.now; is_blocked = below.now.blocked; is_authenticated = below.now.authenticated })
+            self.old payload.now fault) }
         ensures kept { OnErr result (self.new ≡ self.old) }
     {
         if !self.may_take(below, number_in(payload)) {
@@ -168,13 +179,21 @@ impl ServerLayers {
     ) -> Result<ServerTaken<'a>, LayerFault>
         requires above { 50 ≤ number_of payload.now }
         requires number { message_number (meaning message) ≡ number_of payload.now }
-        requires takes { takes (record { session = below.now.session.now; is_blocked = below.now.blocked; is_authenticated = below.now.authenticated }) self.old (number_of payload.now) ≡ true }
+        requires takes { takes (record {
+          session = below.now.session.now;
+          is_blocked = below.now.blocked;
+          is_authenticated = below.now.authenticated;
+        }) self.old (number_of payload.now) ≡ true }
         requires read { IsPayload false (meaning message) payload.now }
         requires fits { Fits message }
-        ensures taken { IfOk result (λ taken. LayersTake (J.verdicts judge.now) (record { session = below.now.session.now; is_blocked = below.now.blocked; is_authenticated = below.now.authenticated }) self.old (meaning taken.message) payload.now taken.answer self.new) }
+        ensures taken { IfOk result (λ taken. LayersTake (J.verdicts judge.now)
+            (record { session = below.now.session.now; is_blocked = below.now.blocked; is_authenticated = below.now.authenticated })
+            self.old (meaning taken.message) payload.now taken.answer self.new) }
         ensures fits { IfOk result (λ taken. Fits taken.message) }
         ensures short { IfOk result (λ taken. IsShort taken.answer) }
-        ensures failed { IfErr result (λ fault. LayersFail (J.verdicts judge.now) (record { session = below.now.session.now; is_blocked = below.now.blocked; is_authenticated = below.now.authenticated }) self.old payload.now fault) }
+        ensures failed { IfErr result (λ fault. LayersFail (J.verdicts judge.now)
+            (record { session = below.now.session.now; is_blocked = below.now.blocked; is_authenticated = below.now.authenticated })
+            self.old payload.now fault) }
         ensures kept { OnErr result (self.new ≡ self.old) }
     {
         match layer_of(&message) {
@@ -196,14 +215,22 @@ impl ServerLayers {
         message: Message<'a>,
     ) -> Result<ServerTaken<'a>, LayerFault>
         requires number { message_number (meaning message) ≡ number_of payload.now }
-        requires takes { takes (record { session = below.now.session.now; is_blocked = below.now.blocked; is_authenticated = below.now.authenticated }) self.old (number_of payload.now) ≡ true }
+        requires takes { takes (record {
+          session = below.now.session.now;
+          is_blocked = below.now.blocked;
+          is_authenticated = below.now.authenticated;
+        }) self.old (number_of payload.now) ≡ true }
         requires read { IsPayload false (meaning message) payload.now }
         requires fits { Fits message }
         requires here { layer_for (meaning message) ≡ Layer.Authentication }
-        ensures taken { IfOk result (λ taken. LayersTake (J.verdicts judge.now) (record { session = below.now.session.now; is_blocked = below.now.blocked; is_authenticated = below.now.authenticated }) self.old (meaning taken.message) payload.now taken.answer self.new) }
+        ensures taken { IfOk result (λ taken. LayersTake (J.verdicts judge.now)
+            (record { session = below.now.session.now; is_blocked = below.now.blocked; is_authenticated = below.now.authenticated })
+            self.old (meaning taken.message) payload.now taken.answer self.new) }
         ensures fits { IfOk result (λ taken. Fits taken.message) }
         ensures short { IfOk result (λ taken. IsShort taken.answer) }
-        ensures failed { IfErr result (λ fault. LayersFail (J.verdicts judge.now) (record { session = below.now.session.now; is_blocked = below.now.blocked; is_authenticated = below.now.authenticated }) self.old payload.now fault) }
+        ensures failed { IfErr result (λ fault. LayersFail (J.verdicts judge.now)
+            (record { session = below.now.session.now; is_blocked = below.now.blocked; is_authenticated = below.now.authenticated })
+            self.old payload.now fault) }
         ensures kept { OnErr result (self.new ≡ self.old) }
     {
         match self.authentication.take(below.session, judge, &message) {
@@ -224,14 +251,22 @@ impl ServerLayers {
         message: Message<'a>,
     ) -> Result<ServerTaken<'a>, LayerFault>
         requires number { message_number (meaning message) ≡ number_of payload.now }
-        requires takes { takes (record { session = below.now.session.now; is_blocked = below.now.blocked; is_authenticated = below.now.authenticated }) self.old (number_of payload.now) ≡ true }
+        requires takes { takes (record {
+          session = below.now.session.now;
+          is_blocked = below.now.blocked;
+          is_authenticated = below.now.authenticated;
+        }) self.old (number_of payload.now) ≡ true }
         requires read { IsPayload false (meaning message) payload.now }
         requires fits { Fits message }
         requires here { layer_for (meaning message) ≡ Layer.Channels }
-        ensures taken { IfOk result (λ taken. LayersTake (J.verdicts judge.now) (record { session = below.now.session.now; is_blocked = below.now.blocked; is_authenticated = below.now.authenticated }) self.old (meaning taken.message) payload.now taken.answer self.new) }
+        ensures taken { IfOk result (λ taken. LayersTake (J.verdicts judge.now)
+            (record { session = below.now.session.now; is_blocked = below.now.blocked; is_authenticated = below.now.authenticated })
+            self.old (meaning taken.message) payload.now taken.answer self.new) }
         ensures fits { IfOk result (λ taken. Fits taken.message) }
         ensures short { IfOk result (λ taken. IsShort taken.answer) }
-        ensures failed { IfErr result (λ fault. LayersFail (J.verdicts judge.now) (record { session = below.now.session.now; is_blocked = below.now.blocked; is_authenticated = below.now.authenticated }) self.old payload.now fault) }
+        ensures failed { IfErr result (λ fault. LayersFail (J.verdicts judge.now)
+            (record { session = below.now.session.now; is_blocked = below.now.blocked; is_authenticated = below.now.authenticated })
+            self.old payload.now fault) }
         ensures kept { OnErr result (self.new ≡ self.old) }
     {
         match self.channels.take(&message, below.blocked) {

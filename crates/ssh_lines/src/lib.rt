@@ -3,7 +3,8 @@
 //! A line is told as it stands, but that
 //!
 //! - `3x ` before it tells it three times, of which the last one counts;
-//! - `*5` in it is five bytes of zeros in hexadecimal digits, `@5` five letters, and `#` the number of times that the line was told before, in the eight digits of a uint32;
+//! - 5` in it is five bytes of zeros in hexadecimal digits, `@5` five letters, and `#` the number of times that the line was told before,
+//! in the eight digits of a uint32;
 //! - the lines from `block NAME` to `end` are told where `do NAME` stands, and not where they stand themselves;
 //! - empty lines, and those that begin with `#`, are for readers.
 //!

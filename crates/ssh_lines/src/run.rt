@@ -17,7 +17,8 @@ pub trait Layer {
     fn said_to(&mut self, line: &str) -> Result<String, Problem>;
 }
 
-/// Tells a layer the lines of a file, and says on `out` how many came out as they have to, or the first that did not, with its place. It answers whether all did.
+/// Tells a layer the lines of a file, and says on `out` how many came out as they have to, or the first that did not, with its place. It
+/// answers whether all did.
 ///
 /// # Errors
 ///

@@ -12,5 +12,6 @@ pub fn one_message()
 /// `decode`, what was written is read as the same message.
 #[tactic(auto, using(crate::proofs::Payloads::written_is_read))]
 pub fn written_is_read()
-    ensures { (probing : Bool) (m : Msg) (payload : List ℕ) → FitsContext probing m → IsWrittenPayload m payload → IsPayload probing m payload }
+    ensures { (probing : Bool) (m : Msg) (payload : List ℕ) → FitsContext probing m → IsWrittenPayload m payload →
+        IsPayload probing m payload }
 {}

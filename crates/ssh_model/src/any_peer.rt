@@ -2,13 +2,17 @@
 
 ghost use Rattle.std.specs.Prelude.{◌≡◌, List, [], ◌∷◌, Some, None, true, false, codes, reverse};
 ghost use Rattle.ssh_model.specs.Protocol.Side.{Side, Side.Client, Side.Server, part};
-ghost use Rattle.ssh_model.specs.Protocol.Wire.Message.{Msg.Ignore, Msg.KexInit, Msg.NewKeys, Msg.KexEcdhInit, Msg.ExtInfo, Msg.UserauthRequest, Msg.UserauthSuccess, Method.NoMethod};
+ghost use Rattle.ssh_model.specs.Protocol.Wire.Message.{Msg.Ignore, Msg.KexInit, Msg.NewKeys, Msg.KexEcdhInit, Msg.ExtInfo};
+ghost use Rattle.ssh_model.specs.Protocol.Wire.Message.{Msg.UserauthRequest, Msg.UserauthSuccess, Method.NoMethod};
 ghost use Rattle.ssh_model.specs.Protocol.Sessions.Parties.{Parties, AreLawful};
 ghost use Rattle.ssh_model.specs.Protocol.Sessions.Items.{Item, took};
 ghost use Rattle.ssh_model.specs.Protocol.Sessions.Turns.{EndRun};
 ghost use Rattle.ssh_model.specs.Protocol.Sessions.Claims.{HasConnection};
 ghost use Rattle.ssh_model.specs.Protocol.KeyExchange.Exchanges.{is_strict};
-ghost use Rattle.ssh_model.specs.Protocol.Sessions.AnyPeer.{IsGuarded, AcceptedRequest, RequiresAuthentication, VerifiesHosts, EachIncludesOwn, TakesOnlyAllowed, TakesOnlyExchange, RequiresStrict, IsFresh, SendsOnlyExchange, UsesNoNonceTwice, taken_in_first_exchange, sent_in_first_exchange};
+ghost use Rattle.ssh_model.specs.Protocol.Sessions.AnyPeer.{IsGuarded, AcceptedRequest, RequiresAuthentication, VerifiesHosts};
+ghost use Rattle.ssh_model.specs.Protocol.Sessions.AnyPeer.{EachIncludesOwn, TakesOnlyAllowed, TakesOnlyExchange, RequiresStrict, IsFresh};
+ghost use Rattle.ssh_model.specs.Protocol.Sessions.AnyPeer.{SendsOnlyExchange, UsesNoNonceTwice, taken_in_first_exchange};
+ghost use Rattle.ssh_model.specs.Protocol.Sessions.AnyPeer.{sent_in_first_exchange};
 ghost use Rattle.ssh_model.specs.Example.Toys.{toy, secret};
 ghost use Rattle.ssh_model.specs.Example.Histories.{connection, says, hears, keyed, lined, offered, offer_of, open_message};
 ghost use Rattle.ssh_model.specs.Example.Run.{takes, takes_on, session};
@@ -44,8 +48,11 @@ pub fn unguarded_examples()
     ensures point_of_another_secret { EachIncludesOwn toy Client (says NewKeys ∷ says (KexEcdhInit (secret 2)) ∷ lined Client) → ⊥ }
     ensures request_in_the_clear { TakesOnlyAllowed Server (hears (UserauthRequest (codes "u") connection NoMethod) ∷ offered Server) → ⊥ }
     ensures extensions_in_the_clear { TakesOnlyAllowed Client (hears (ExtInfo []) ∷ offered Client) → ⊥ }
-    ensures ignore_in_the_exchange { TakesOnlyExchange toy Server (hears (KexEcdhInit (secret 1)) ∷ hears (Ignore []) ∷ offered Server) → ⊥ }
-    ensures request_to_an_unproven_host { SendsOnlyExchange Client (says (UserauthRequest (codes "u") connection NoMethod) ∷ offered Client) → ⊥ }
+    ensures ignore_in_the_exchange { TakesOnlyExchange toy Server (hears (KexEcdhInit (secret 1)) ∷ hears (Ignore []) ∷ offered Server) →
+        ⊥ }
+    ensures request_to_an_unproven_host { SendsOnlyExchange Client (says (UserauthRequest (codes "u") connection NoMethod) ∷ offered
+        Client) → ⊥ }
     ensures kexinit_without_the_marker { RequiresStrict toy Server (hears (KexInit (offer_of Client false)) ∷ lined Server) → ⊥ }
-    ensures number_again { UsesNoNonceTwice toy Client (says (Ignore []) ∷ says NewKeys ∷ says (Ignore []) ∷ says NewKeys ∷ hears (KexInit (offer_of Server true)) ∷ says (KexInit (offer_of Client true)) ∷ []) → ⊥ }
+    ensures number_again { UsesNoNonceTwice toy Client (says (Ignore []) ∷ says NewKeys ∷ says (Ignore []) ∷ says NewKeys ∷ hears
+        (KexInit (offer_of Server true)) ∷ says (KexInit (offer_of Client true)) ∷ []) → ⊥ }
 {}

@@ -2,13 +2,15 @@
 
 ghost use Rattle.std.specs.Prelude.{ℕ, suc, Bool, true, false, List, ◌∷◌, length, Option, ◌≡◌, ◌-◌, ◌⊎◌};
 ghost use Rattle.ssh_model.specs.Protocol.Side.{Side, peer, part};
-ghost use Rattle.ssh_model.specs.Protocol.Channels.Message.{Message, Message.Data, Message.Request, Message.Reply, Channel, Stage.Closed, Stage.Failed, stage, over};
+ghost use Rattle.ssh_model.specs.Protocol.Channels.Message.{Message, Message.Data, Message.Request, Message.Reply, Channel, Stage.Closed};
+ghost use Rattle.ssh_model.specs.Protocol.Channels.Message.{Stage.Failed, stage, over};
 ghost use Rattle.ssh_model.specs.Protocol.Channels.Notes.{Note, Note.Said, Note.Took, channel_at, At, Free};
 ghost use Rattle.ssh_model.specs.Protocol.Channels.Numbers.{is_held, has_closed, send_window, receive_window, waiting_here, waiting_there};
 ghost use Rattle.ssh_model.specs.Protocol.Channels.Rules.{EndRun, Run, Next};
 ghost use Rattle.ssh_model.specs.Protocol.Channels.History.{Item, noted, is_free, has_place};
 ghost use Rattle.ssh_model.specs.Protocol.Channels.Rows.{EndTurns, Done, PairRun, Ordered};
-ghost use Rattle.ssh_model.specs.Protocol.Channels.Claims.{WindowsHere, Within, DataBegins, Welcome, WindowsKept, NotRefused, DataInOrder, Partnered, IsExample};
+ghost use Rattle.ssh_model.specs.Protocol.Channels.Claims.{WindowsHere, Within, DataBegins, Welcome, WindowsKept, NotRefused, DataInOrder};
+ghost use Rattle.ssh_model.specs.Protocol.Channels.Claims.{Partnered, IsExample};
 ghost use Rattle.ssh_model.specs.State.Channels.SinceOpen.{EachSinceOpen};
 
 /// On every channel, at each end, data sent is at most the window taken, data taken is at most the window granted, and
@@ -24,7 +26,8 @@ pub fn data()
 
 /// What comes next is refused neither for its channel nor for its windows.
 pub fn no_refusal()
-    ensures { (side : Side) (notes : List Note) (others : List Note) (message : Message) → Run side notes others → Next message notes others → Welcome message notes }
+    ensures { (side : Side) (notes : List Note) (others : List Note) (message : Message) → Run side notes others →
+        Next message notes others → Welcome message notes }
 {}
 
 /// The same of whole runs of two ends, with replies that are owed over a key exchange: no window is overrun, what comes
@@ -64,23 +67,34 @@ pub fn channels_since_open()
 /// is over after two CLOSEs or an OPEN_FAILURE, and not before. There is a place exactly while some number is free.
 pub fn numbers()
     ensures free { (side : Side) (notes : List Note) (number : ℕ) → EndRun side notes → is_held number notes ≡ false → Free number notes }
-    ensures held { (side : Side) (notes : List Note) (number : ℕ) (channel : Channel) → EndRun side notes → At number channel notes → (is_held number notes ≡ true) × (channel_at number notes ≡ channel) }
-    ensures over { (here : List Message) (there : List Message) → over here there ≡ true → ((stage here ≡ Closed) × (stage there ≡ Closed)) ⊎ ((stage here ≡ Failed) ⊎ (stage there ≡ Failed)) }
-    ensures place { (side : Side) (history : List Item) → has_place side history ≡ true → (number : ℕ) × (is_free side history number ≡ true) }
+    ensures held { (side : Side) (notes : List Note) (number : ℕ) (channel : Channel) → EndRun side notes → At number channel notes →
+        (is_held number notes ≡ true) × (channel_at number notes ≡ channel) }
+    ensures over { (here : List Message) (there : List Message) → over here there ≡ true →
+        ((stage here ≡ Closed) × (stage there ≡ Closed)) ⊎ ((stage here ≡ Failed) ⊎ (stage there ≡ Failed)) }
+    ensures place { (side : Side) (history : List Item) → has_place side history ≡ true →
+        (number : ℕ) × (is_free side history number ≡ true) }
     ensures full { (side : Side) (history : List Item) (number : ℕ) → has_place side history ≡ false → is_free side history number ≡ false }
 {}
 
 /// Data and extended data lower the window left by their length.
 pub fn data_spends_window()
-    ensures taken { (number : ℕ) (to : ℕ) (kind : Option ℕ) (body : List ℕ) (notes : List Note) → receive_window number (Took number (channel_at number notes) (Data to kind body) ∷ notes) ≡ receive_window number notes - length body }
-    ensures said { (number : ℕ) (to : ℕ) (kind : Option ℕ) (body : List ℕ) (notes : List Note) → send_window number (Said number (channel_at number notes) (Data to kind body) ∷ notes) ≡ send_window number notes - length body }
+    ensures taken { (number : ℕ) (to : ℕ) (kind : Option ℕ) (body : List ℕ) (notes : List Note) →
+        receive_window number (Took number (channel_at number notes) (Data to kind body) ∷ notes)
+        ≡ receive_window number notes - length body }
+    ensures said { (number : ℕ) (to : ℕ) (kind : Option ℕ) (body : List ℕ) (notes : List Note) →
+        send_window number (Said number (channel_at number notes) (Data to kind body) ∷ notes) ≡ send_window number notes - length body }
 {}
 
 /// A request that wants a reply waits until it is replied to; one that comes after this end's CLOSE does not wait.
 pub fn waiting_requests()
-    ensures taken { (number : ℕ) (to : ℕ) (notes : List Note) → has_closed number notes ≡ false → waiting_here number (Took number (channel_at number notes) (Request to true) ∷ notes) ≡ suc (waiting_here number notes) }
-    ensures late { (number : ℕ) (to : ℕ) (notes : List Note) → has_closed number notes ≡ true → waiting_here number (Took number (channel_at number notes) (Request to true) ∷ notes) ≡ waiting_here number notes }
-    ensures replied { (number : ℕ) (to : ℕ) (success : Bool) (notes : List Note) → waiting_here number (Said number (channel_at number notes) (Reply to success) ∷ notes) ≡ waiting_here number notes - 1 }
-    ensures said { (number : ℕ) (to : ℕ) (notes : List Note) → waiting_there number (Said number (channel_at number notes) (Request to true) ∷ notes) ≡ suc (waiting_there number notes) }
-    ensures answered { (number : ℕ) (to : ℕ) (success : Bool) (notes : List Note) → waiting_there number (Took number (channel_at number notes) (Reply to success) ∷ notes) ≡ waiting_there number notes - 1 }
+    ensures taken { (number : ℕ) (to : ℕ) (notes : List Note) → has_closed number notes ≡ false →
+        waiting_here number (Took number (channel_at number notes) (Request to true) ∷ notes) ≡ suc (waiting_here number notes) }
+    ensures late { (number : ℕ) (to : ℕ) (notes : List Note) → has_closed number notes ≡ true →
+        waiting_here number (Took number (channel_at number notes) (Request to true) ∷ notes) ≡ waiting_here number notes }
+    ensures replied { (number : ℕ) (to : ℕ) (success : Bool) (notes : List Note) →
+        waiting_here number (Said number (channel_at number notes) (Reply to success) ∷ notes) ≡ waiting_here number notes - 1 }
+    ensures said { (number : ℕ) (to : ℕ) (notes : List Note) → waiting_there number
+        (Said number (channel_at number notes) (Request to true) ∷ notes) ≡ suc (waiting_there number notes) }
+    ensures answered { (number : ℕ) (to : ℕ) (success : Bool) (notes : List Note) →
+        waiting_there number (Took number (channel_at number notes) (Reply to success) ∷ notes) ≡ waiting_there number notes - 1 }
 {}

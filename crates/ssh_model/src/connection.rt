@@ -11,7 +11,8 @@ ghost use Rattle.ssh_model.specs.Protocol.Sessions.Phases.{blocked};
 ghost use Rattle.ssh_model.specs.Protocol.Channels.History as channel;
 ghost use Rattle.ssh_model.specs.State.Channels.Places.{at, shown_state, channel_state, shown_room, room, count};
 ghost use Rattle.ssh_model.specs.Protocol.Channels.Connection.{connection_checks, channel_ask_checks, notes, owed_replies};
-ghost use Rattle.ssh_model.specs.State.Channels.Kept.{Channels, no_channels, used, DueReply, Taken, Takes, take_checks, Unblocks, Sent, Sends, send_checks};
+ghost use Rattle.ssh_model.specs.State.Channels.Kept.{Channels, no_channels, used, DueReply, Taken, Takes, take_checks, Unblocks, Sent};
+ghost use Rattle.ssh_model.specs.State.Channels.Kept.{Sends, send_checks};
 ghost use Rattle.ssh_model.specs.State.Channels.Summary.{SumsUp, Accepts, SendsOwed, Allows, LeavesChannels, IsNoNewkeys};
 
 /// No channels sum up the empty history.
@@ -24,39 +25,60 @@ pub fn no_channels_at_first()
 /// then kept sums up the history with the message and its answer.
 #[tactic(auto, using(crate::proofs::Channels::Checking::checked, crate::proofs::Channels::Replying::accepted))]
 pub fn messages()
-    ensures refused { (side : Side) (history : List Item) (channels : Channels) → SumsUp side history (owed_replies side history) channels → (message : Msg) → first_refusal (connection_checks side history message) ≡ first_refusal (take_checks (blocked history) channels message) }
-    ensures accepted { (side : Side) (history : List Item) (channels : Channels) → SumsUp side history (owed_replies side history) channels → (is_blocked : Bool) → blocked history ≡ is_blocked → (message : Msg) (taken : Taken) (new : Channels) → first_refusal (take_checks is_blocked channels message) ≡ None → Takes is_blocked channels message taken new → Accepts side history message taken new }
+    ensures refused { (side : Side) (history : List Item) (channels : Channels) →
+        SumsUp side history (owed_replies side history) channels → (message : Msg) →
+        first_refusal (connection_checks side history message) ≡ first_refusal (take_checks (blocked history) channels message) }
+    ensures accepted { (side : Side) (history : List Item) (channels : Channels) →
+        SumsUp side history (owed_replies side history) channels → (is_blocked : Bool) → blocked history ≡ is_blocked →
+        (message : Msg) (taken : Taken) (new : Channels) → first_refusal (take_checks is_blocked channels message) ≡ None →
+        Takes is_blocked channels message taken new → Accepts side history message taken new }
 {}
 
 /// What is kept refuses an ask as a session does, after the check that the end is authenticated. Where it does not,
 /// what is sent is what a session sends, and what is then kept sums up the history with it.
 #[tactic(auto, using(crate::proofs::Channels::Checking::ask_checked, crate::proofs::Channels::Allowing::allowed))]
 pub fn asks()
-    ensures refused { (side : Side) (history : List Item) (channels : Channels) → SumsUp side history (owed_replies side history) channels → (is_due : Bool) (ask : Ask) → first_refusal (channel_ask_checks (blocked history) is_due side history ask) ≡ first_refusal (send_checks (blocked history) is_due channels ask) }
-    ensures allowed { (side : Side) (history : List Item) (channels : Channels) → SumsUp side history (owed_replies side history) channels → (is_due : Bool) (is_blocked : Bool) → blocked history ≡ is_blocked → (ask : Ask) (sent : Sent) (new : Channels) → first_refusal (send_checks is_blocked is_due channels ask) ≡ None → Sends channels ask sent new → Allows side history is_due ask sent new }
+    ensures refused { (side : Side) (history : List Item) (channels : Channels) →
+        SumsUp side history (owed_replies side history) channels → (is_due : Bool) (ask : Ask) →
+        first_refusal (channel_ask_checks (blocked history) is_due side history ask)
+        ≡ first_refusal (send_checks (blocked history) is_due channels ask) }
+    ensures allowed { (side : Side) (history : List Item) (channels : Channels) →
+        SumsUp side history (owed_replies side history) channels → (is_due : Bool) (is_blocked : Bool) → blocked history ≡ is_blocked →
+        (ask : Ask) (sent : Sent) (new : Channels) → first_refusal (send_checks is_blocked is_due channels ask) ≡ None →
+        Sends channels ask sent new → Allows side history is_due ask sent new }
 {}
 
 /// Owed replies are given in the order in which they fell due, each once, and nothing is given exactly when none is
 /// owed.
 #[tactic(auto, using(crate::proofs::Channels::Unblocking::unblocked, crate::proofs::Channels::Unblocking::settled_now))]
 pub fn owed_replies_given()
-    ensures given { (side : Side) (history : List Item) (waiting : List channel.Item) (channels : Channels) → SumsUp side history waiting channels → (reply : DueReply) (new : Channels) → Unblocks channels (Some reply) new → SendsOwed side history waiting reply new }
-    ensures none_left { (side : Side) (history : List Item) (waiting : List channel.Item) (channels : Channels) → SumsUp side history waiting channels → (new : Channels) → Unblocks channels None new → (waiting ≡ []) × (new ≡ channels) }
+    ensures given { (side : Side) (history : List Item) (waiting : List channel.Item) (channels : Channels) →
+        SumsUp side history waiting channels → (reply : DueReply) (new : Channels) → Unblocks channels (Some reply) new →
+        SendsOwed side history waiting reply new }
+    ensures none_left { (side : Side) (history : List Item) (waiting : List channel.Item) (channels : Channels) →
+        SumsUp side history waiting channels → (new : Channels) → Unblocks channels None new → (waiting ≡ []) × (new ≡ channels) }
 {}
 
 /// What is kept sums up the history also with an item of another layer. So do the replies that are owed, except for
 /// NEWKEYS: after it none is, and those that waited are sent.
 #[tactic(auto, using(crate::proofs::Channels::Elsewhere::kept_elsewhere, crate::proofs::Channels::Elsewhere::owed_elsewhere))]
 pub fn items_of_other_layers()
-    ensures kept { (side : Side) (history : List Item) (waiting : List channel.Item) (channels : Channels) (item : Item) → LeavesChannels item → SumsUp side history waiting channels → SumsUp side (item ∷ history) waiting channels }
-    ensures owed { (side : Side) (history : List Item) (item : Item) → LeavesChannels item → IsNoNewkeys item → owed_replies side (item ∷ history) ≡ owed_replies side history }
+    ensures kept { (side : Side) (history : List Item) (waiting : List channel.Item) (channels : Channels) (item : Item) →
+        LeavesChannels item → SumsUp side history waiting channels → SumsUp side (item ∷ history) waiting channels }
+    ensures owed { (side : Side) (history : List Item) (item : Item) → LeavesChannels item → IsNoNewkeys item →
+        owed_replies side (item ∷ history) ≡ owed_replies side history }
 {}
 
 /// What is shown of what is kept is what the history tells: the state of each number, the window left for data where a
 /// channel is confirmed, and how many numbers are in use.
 #[tactic(auto, using(crate::proofs::Channels::Elsewhere::state_shown, crate::proofs::Channels::Elsewhere::room_shown, crate::proofs::Channels::Elsewhere::count_shown))]
 pub fn shown()
-    ensures state { (side : Side) (history : List Item) (waiting : List channel.Item) (channels : Channels) → SumsUp side history waiting channels → (number : ℕ) → shown_state (at channels.places number) ≡ channel_state side (notes side history) waiting number }
-    ensures room { (side : Side) (history : List Item) (waiting : List channel.Item) (channels : Channels) → SumsUp side history waiting channels → (number : ℕ) → shown_room (at channels.places number) ≡ room (notes side history) waiting number }
-    ensures count { (side : Side) (history : List Item) (waiting : List channel.Item) (channels : Channels) → SumsUp side history waiting channels → used channels.places ≡ count (notes side history) waiting }
+    ensures state { (side : Side) (history : List Item) (waiting : List channel.Item) (channels : Channels) →
+        SumsUp side history waiting channels → (number : ℕ) →
+        shown_state (at channels.places number) ≡ channel_state side (notes side history) waiting number }
+    ensures room { (side : Side) (history : List Item) (waiting : List channel.Item) (channels : Channels) →
+        SumsUp side history waiting channels → (number : ℕ) →
+        shown_room (at channels.places number) ≡ room (notes side history) waiting number }
+    ensures count { (side : Side) (history : List Item) (waiting : List channel.Item) (channels : Channels) →
+        SumsUp side history waiting channels → used channels.places ≡ count (notes side history) waiting }
 {}

@@ -3,16 +3,48 @@
 ghost use Rattle.std.specs.Prelude.{◌≡◌, ℕ, ◌∷◌, ◌++◌, true, false, List, [], Some, None, codes, replicate, length, take, map};
 ghost use Rattle.ssh_model.specs.Protocol.Side.{Side, Side.Client, Side.Server, peer, part};
 ghost use Rattle.ssh_model.specs.Protocol.Lists.{IsIn};
-ghost use Rattle.ssh_model.specs.Example.Histories.{taken, refusal, ask_refusal, says, hears, says_on, hears_on, offer_of, opened, lined, offered, first_reply, completed, keyed, userauth, connection, asking, served, right_request, wrong_request, probe, right_signature, requesting, probing_client, failed, admitted, fed_again, rekeying, offered_again, completed_again, open_message, confirm_message, channel_opened, channel_confirmed, heard_data, heard_eof, heard_request, closed_by_peer, guessing, said_data, said_request, wide_channel, requests, connection_asks, with_methods, patient, friendly, plain_crypto, first_inputs, mac_key};
+ghost use Rattle.ssh_model.specs.Example.Histories.{taken, refusal, ask_refusal, says, hears, says_on, hears_on, offer_of, opened, lined};
+ghost use Rattle.ssh_model.specs.Example.Histories.{offered, first_reply, completed, keyed, userauth, connection, asking, served};
+ghost use Rattle.ssh_model.specs.Example.Histories.{right_request, wrong_request, probe, right_signature, requesting, probing_client};
+ghost use Rattle.ssh_model.specs.Example.Histories.{failed, admitted, fed_again, rekeying, offered_again, completed_again, open_message};
+ghost use Rattle.ssh_model.specs.Example.Histories.{confirm_message, channel_opened, channel_confirmed, heard_data, heard_eof};
+ghost use Rattle.ssh_model.specs.Example.Histories.{heard_request, closed_by_peer, guessing, said_data, said_request, wide_channel};
+ghost use Rattle.ssh_model.specs.Example.Histories.{requests, connection_asks, with_methods, patient, friendly, plain_crypto, first_inputs};
+ghost use Rattle.ssh_model.specs.Example.Histories.{mac_key};
 ghost use Rattle.ssh_model.specs.Example.Toys.{toy_key, toy, secret, every_refusal, every_ask_refusal, from_to};
 ghost use Rattle.ssh_model.specs.Example.Run.{session};
-ghost use Rattle.ssh_model.specs.Protocol.Wire.Message.{Method.NoMethod, Method.Password, Method.Publickey, Method.Other, Msg.Disconnect, Msg.Ignore, Msg.Unimplemented, Msg.Debug, Msg.ServiceRequest, Msg.ServiceAccept, Msg.KexInit, Msg.NewKeys, Msg.KexEcdhInit, Msg.KexEcdhReply, Msg.UserauthRequest, Msg.UserauthFailure, Msg.UserauthSuccess, Msg.UserauthBanner, Msg.UserauthPkOk, Msg.GlobalRequest, Msg.RequestSuccess, Msg.RequestFailure, Msg.ChannelOpenConfirmation, Msg.ChannelOpenFailure, Msg.ChannelWindowAdjust, Msg.ChannelData, Msg.ChannelExtendedData, Msg.ChannelEof, Msg.ChannelClose, Msg.ChannelRequest, Msg.ChannelSuccess, Msg.ChannelFailure, Msg.Unknown};
-ghost use Rattle.ssh_model.specs.Protocol.Sessions.Refusals.{first_refusal, refusal_number, refusal_name, refusal_reason, ask_refusal_number, ask_refusal_name, Refusal, Refusal.Unexpected, Refusal.NoCommon, Refusal.NotStrict, Refusal.BadPoint, Refusal.BadHost, Refusal.NoService, Refusal.TooManyTries, Refusal.UnknownChannel, Refusal.WindowOverrun, Refusal.WindowTooLarge, Refusal.OwedFull, AskRefusal.NotYet, AskRefusal.Busy, AskRefusal.NoChannel, AskRefusal.NoRoom, AskRefusal.TooLong, AskRefusal.TableFull, AskRefusal.NothingOwed, AskRefusal.RekeyDue, AskRefusal.TooMuch, AskRefusal.WrongSide, AskRefusal};
+ghost use Rattle.ssh_model.specs.Protocol.Wire.Message.{Method.NoMethod, Method.Password, Method.Publickey, Method.Other, Msg.Disconnect};
+ghost use Rattle.ssh_model.specs.Protocol.Wire.Message.{Msg.Ignore, Msg.Unimplemented, Msg.Debug, Msg.ServiceRequest, Msg.ServiceAccept};
+ghost use Rattle.ssh_model.specs.Protocol.Wire.Message.{Msg.KexInit, Msg.NewKeys, Msg.KexEcdhInit, Msg.KexEcdhReply, Msg.UserauthRequest};
+ghost use Rattle.ssh_model.specs.Protocol.Wire.Message.{Msg.UserauthFailure, Msg.UserauthSuccess, Msg.UserauthBanner, Msg.UserauthPkOk};
+ghost use Rattle.ssh_model.specs.Protocol.Wire.Message.{Msg.GlobalRequest, Msg.RequestSuccess, Msg.RequestFailure};
+ghost use Rattle.ssh_model.specs.Protocol.Wire.Message.{Msg.ChannelOpenConfirmation, Msg.ChannelOpenFailure, Msg.ChannelWindowAdjust};
+ghost use Rattle.ssh_model.specs.Protocol.Wire.Message.{Msg.ChannelData, Msg.ChannelExtendedData, Msg.ChannelEof, Msg.ChannelClose};
+ghost use Rattle.ssh_model.specs.Protocol.Wire.Message.{Msg.ChannelRequest, Msg.ChannelSuccess, Msg.ChannelFailure, Msg.Unknown};
+ghost use Rattle.ssh_model.specs.Protocol.Sessions.Refusals.{first_refusal, refusal_number, refusal_name, refusal_reason};
+ghost use Rattle.ssh_model.specs.Protocol.Sessions.Refusals.{ask_refusal_number, ask_refusal_name, Refusal, Refusal.Unexpected};
+ghost use Rattle.ssh_model.specs.Protocol.Sessions.Refusals.{Refusal.NoCommon, Refusal.NotStrict, Refusal.BadPoint, Refusal.BadHost};
+ghost use Rattle.ssh_model.specs.Protocol.Sessions.Refusals.{Refusal.NoService, Refusal.TooManyTries, Refusal.UnknownChannel};
+ghost use Rattle.ssh_model.specs.Protocol.Sessions.Refusals.{Refusal.WindowOverrun, Refusal.WindowTooLarge, Refusal.OwedFull};
+ghost use Rattle.ssh_model.specs.Protocol.Sessions.Refusals.{AskRefusal.NotYet, AskRefusal.Busy, AskRefusal.NoChannel, AskRefusal.NoRoom};
+ghost use Rattle.ssh_model.specs.Protocol.Sessions.Refusals.{AskRefusal.TooLong, AskRefusal.TableFull, AskRefusal.NothingOwed};
+ghost use Rattle.ssh_model.specs.Protocol.Sessions.Refusals.{AskRefusal.RekeyDue, AskRefusal.TooMuch, AskRefusal.WrongSide, AskRefusal};
 ghost use Rattle.ssh_model.specs.Protocol.Sessions.Parties.{AreLawful, marker_of, lists_of};
-ghost use Rattle.ssh_model.specs.Protocol.Sessions.Items.{Item, has_died, sent, took, Ask.AskService, Ask.AskNone, Ask.AskPassword, Ask.AskProbe, Ask.AskSign, Ask.AskRekey, Ask.AskOpen, Ask.AskConfirm, Ask.AskRefuse, Ask.AskData, Ask.AskAdjust, Ask.AskEof, Ask.AskClose, Ask.AskRequest, Ask.AskReply, Ask.AskGlobal, Ask.AskGlobalReply, Ask.AskDisconnect, Fact.Completed, Fact.Service, Fact.Accepted, Fact.Authenticated, Fact.Failed, Fact.Banner, Fact.KeyOk, Fact.Ignored, Fact.Debugged, Fact.NotImplemented, Fact.Disconnected, Fact.Global, Fact.GlobalDone, Fact.Opening, Fact.Opened, Fact.Confirmed, Fact.OpenFailed, Fact.GotData, Fact.Adjusted, Fact.Ended, Fact.Closed, Fact.Requested, Fact.RequestDone, Item.TookGuess, Item.Told, Item.Died};
+ghost use Rattle.ssh_model.specs.Protocol.Sessions.Items.{Item, has_died, sent, took, Ask.AskService, Ask.AskNone, Ask.AskPassword};
+ghost use Rattle.ssh_model.specs.Protocol.Sessions.Items.{Ask.AskProbe, Ask.AskSign, Ask.AskRekey, Ask.AskOpen, Ask.AskConfirm};
+ghost use Rattle.ssh_model.specs.Protocol.Sessions.Items.{Ask.AskRefuse, Ask.AskData, Ask.AskAdjust, Ask.AskEof, Ask.AskClose};
+ghost use Rattle.ssh_model.specs.Protocol.Sessions.Items.{Ask.AskRequest, Ask.AskReply, Ask.AskGlobal, Ask.AskGlobalReply};
+ghost use Rattle.ssh_model.specs.Protocol.Sessions.Items.{Ask.AskDisconnect, Fact.Completed, Fact.Service, Fact.Accepted};
+ghost use Rattle.ssh_model.specs.Protocol.Sessions.Items.{Fact.Authenticated, Fact.Failed, Fact.Banner, Fact.KeyOk, Fact.Ignored};
+ghost use Rattle.ssh_model.specs.Protocol.Sessions.Items.{Fact.Debugged, Fact.NotImplemented, Fact.Disconnected, Fact.Global};
+ghost use Rattle.ssh_model.specs.Protocol.Sessions.Items.{Fact.GlobalDone, Fact.Opening, Fact.Opened, Fact.Confirmed, Fact.OpenFailed};
+ghost use Rattle.ssh_model.specs.Protocol.Sessions.Items.{Fact.GotData, Fact.Adjusted, Fact.Ended, Fact.Closed, Fact.Requested};
+ghost use Rattle.ssh_model.specs.Protocol.Sessions.Items.{Fact.RequestDone, Item.TookGuess, Item.Told, Item.Died};
 ghost use Rattle.ssh_model.specs.Protocol.Sessions.Epochs.{epoch};
 ghost use Rattle.ssh_model.specs.Protocol.KeyExchange.Exchange.{Inputs, exchange_hash, derived};
-ghost use Rattle.ssh_model.specs.Protocol.KeyExchange.Exchanges.{sending_number, taking_number, exchange, exchanges, first_common, common, choice, iv_letter, cipher_letter, mac_letter, key_of, sending_key, taking_key};
+ghost use Rattle.ssh_model.specs.Protocol.KeyExchange.Exchanges.{sending_number, taking_number, exchange, exchanges, first_common, common};
+ghost use Rattle.ssh_model.specs.Protocol.KeyExchange.Exchanges.{choice, iv_letter, cipher_letter, mac_letter, key_of, sending_key};
+ghost use Rattle.ssh_model.specs.Protocol.KeyExchange.Exchanges.{taking_key};
 ghost use Rattle.ssh_model.specs.Protocol.Sessions.Phases.{is_wrong_guess, own_names, blocked, authenticated};
 ghost use Rattle.ssh_model.specs.Protocol.Authentication.Requests.{judge_of, is_known_key, signed_text, is_accepted, is_good_probe};
 ghost use Rattle.ssh_model.specs.Protocol.Sessions.Transport.{hash_to_sign, reply_now};
@@ -50,17 +82,28 @@ pub fn may_take_examples()
     ensures after_first_exchange { (side : Side) → taken side (completed side) ≡ 1 ∷ 21 ∷ [] }
     ensures after_wrong_guess { (side : Side) → taken side (hears (KexInit (guessing side true)) ∷ lined side) ≡ from_to 30 49 }
     ensures after_skipped_packet { taken Server (TookGuess [] ∷ hears (KexInit (guessing Server true)) ∷ lined Server) ≡ 1 ∷ 30 ∷ [] }
-    ensures after_right_guess { taken Server (hears (KexInit (record (offer_of Client true) { follows = true })) ∷ lined Server) ≡ 1 ∷ 30 ∷ [] }
-    ensures by_keyed_server { taken Server (keyed Server) ≡ from_to 0 5 ++ from_to 8 19 ++ from_to 22 29 ++ from_to 32 49 ++ from_to 54 59 ++ from_to 61 79 }
-    ensures by_keyed_client { taken Client (keyed Client) ≡ from_to 0 4 ++ from_to 8 19 ++ from_to 22 29 ++ from_to 32 49 ++ from_to 54 59 ++ from_to 61 79 }
-    ensures by_server_after_service { taken Server (served Server) ≡ from_to 0 4 ++ from_to 8 19 ++ from_to 22 29 ++ from_to 32 50 ++ from_to 54 59 ++ from_to 61 79 }
-    ensures by_client_that_asks_for_service { taken Client asking ≡ from_to 0 4 ++ from_to 6 6 ++ from_to 8 19 ++ from_to 22 29 ++ from_to 32 49 ++ from_to 54 59 ++ from_to 61 79 }
-    ensures by_client_after_service { taken Client (served Client) ≡ from_to 0 4 ++ from_to 8 19 ++ from_to 22 29 ++ from_to 32 49 ++ from_to 53 59 ++ from_to 61 79 }
-    ensures by_client_that_requests { taken Client requesting ≡ from_to 0 4 ++ from_to 8 19 ++ from_to 22 29 ++ from_to 32 49 ++ from_to 51 59 ++ from_to 61 79 }
-    ensures by_client_that_probes { taken Client probing_client ≡ from_to 0 4 ++ from_to 8 19 ++ from_to 22 29 ++ from_to 32 49 ++ from_to 51 79 }
-    ensures by_authenticated_client { taken Client (admitted Client) ≡ from_to 0 4 ++ from_to 8 20 ++ from_to 22 29 ++ from_to 32 49 ++ from_to 54 59 ++ from_to 61 255 }
-    ensures by_authenticated_server { taken Server (admitted Server) ≡ from_to 0 4 ++ from_to 8 20 ++ from_to 22 29 ++ from_to 32 50 ++ from_to 54 59 ++ from_to 61 255 }
-    ensures by_client_that_rekeys { taken Client (rekeying Client) ≡ from_to 0 4 ++ from_to 8 20 ++ from_to 22 29 ++ from_to 32 49 ++ from_to 54 59 ++ from_to 61 255 }
+    ensures after_right_guess { taken Server (hears (KexInit (record (offer_of Client true) { follows = true })) ∷ lined Server) ≡ 1 ∷ 30
+        ∷ [] }
+    ensures by_keyed_server { taken Server (keyed Server) ≡ from_to 0 5 ++ from_to 8 19 ++ from_to 22 29 ++ from_to 32 49 ++ from_to 54 59
+        ++ from_to 61 79 }
+    ensures by_keyed_client { taken Client (keyed Client) ≡ from_to 0 4 ++ from_to 8 19 ++ from_to 22 29 ++ from_to 32 49 ++ from_to 54 59
+        ++ from_to 61 79 }
+    ensures by_server_after_service { taken Server (served Server) ≡ from_to 0 4 ++ from_to 8 19 ++ from_to 22 29 ++ from_to 32 50
+        ++ from_to 54 59 ++ from_to 61 79 }
+    ensures by_client_that_asks_for_service { taken Client asking ≡ from_to 0 4 ++ from_to 6 6 ++ from_to 8 19 ++ from_to 22 29
+        ++ from_to 32 49 ++ from_to 54 59 ++ from_to 61 79 }
+    ensures by_client_after_service { taken Client (served Client) ≡ from_to 0 4 ++ from_to 8 19 ++ from_to 22 29 ++ from_to 32 49
+        ++ from_to 53 59 ++ from_to 61 79 }
+    ensures by_client_that_requests { taken Client requesting ≡ from_to 0 4 ++ from_to 8 19 ++ from_to 22 29 ++ from_to 32 49
+        ++ from_to 51 59 ++ from_to 61 79 }
+    ensures by_client_that_probes { taken Client probing_client ≡ from_to 0 4 ++ from_to 8 19 ++ from_to 22 29 ++ from_to 32 49
+        ++ from_to 51 79 }
+    ensures by_authenticated_client { taken Client (admitted Client) ≡ from_to 0 4 ++ from_to 8 20 ++ from_to 22 29 ++ from_to 32 49
+        ++ from_to 54 59 ++ from_to 61 255 }
+    ensures by_authenticated_server { taken Server (admitted Server) ≡ from_to 0 4 ++ from_to 8 20 ++ from_to 22 29 ++ from_to 32 50
+        ++ from_to 54 59 ++ from_to 61 255 }
+    ensures by_client_that_rekeys { taken Client (rekeying Client) ≡ from_to 0 4 ++ from_to 8 20 ++ from_to 22 29 ++ from_to 32 49
+        ++ from_to 54 59 ++ from_to 61 255 }
     ensures in_later_exchange { taken Client (offered_again Client) ≡ from_to 0 4 ++ from_to 8 19 ++ from_to 22 29 ++ 31 ∷ [] }
     ensures in_later_exchange_of_server { taken Server (offered_again Server) ≡ from_to 0 4 ++ from_to 8 19 ++ from_to 22 30 }
     ensures after_later_exchange { (side : Side) → taken side (completed_again side) ≡ from_to 0 4 ++ from_to 8 19 ++ from_to 21 29 }
@@ -76,30 +119,43 @@ pub fn refusal_examples()
     ensures first_kexinit { (side : Side) → refusal side (lined side) (KexInit (offer_of (peer side) true)) ≡ None }
     ensures no_marker { (side : Side) → refusal side (lined side) (KexInit (offer_of (peer side) false)) ≡ Some NotStrict }
     ensures marker_of_other_role { (side : Side) → refusal side (lined side) (KexInit (offer_of side true)) ≡ Some NotStrict }
-    ensures no_marker_before_no_common { (side : Side) → refusal side (lined side) (KexInit (record (offer_of (peer side) false) { host = [] })) ≡ Some NotStrict }
-    ensures no_common_method { (side : Side) → refusal side (lined side) (KexInit (record (offer_of (peer side) true) { kex = client_marker ∷ server_marker ∷ [] })) ≡ Some NoCommon }
-    ensures no_common_host_key { refusal Client (lined Client) (KexInit (record (offer_of Server true) { host = codes "x" ∷ [] })) ≡ Some NoCommon }
-    ensures no_common_encryption { refusal Client (lined Client) (KexInit (record (offer_of Server true) { enc_cs = codes "x" ∷ [] })) ≡ Some NoCommon }
-    ensures no_common_encryption_back { refusal Client (lined Client) (KexInit (record (offer_of Server true) { enc_sc = codes "x" ∷ [] })) ≡ Some NoCommon }
-    ensures no_common_mac { refusal Client (lined Client) (KexInit (record (offer_of Server true) { mac_cs = codes "x" ∷ [] })) ≡ Some NoCommon }
-    ensures no_common_mac_back { refusal Client (lined Client) (KexInit (record (offer_of Server true) { mac_sc = codes "x" ∷ [] })) ≡ Some NoCommon }
-    ensures no_common_compression { refusal Client (lined Client) (KexInit (record (offer_of Server true) { comp_cs = codes "zlib" ∷ [] })) ≡ Some NoCommon }
-    ensures no_common_compression_back { refusal Client (lined Client) (KexInit (record (offer_of Server true) { comp_sc = codes "zlib" ∷ [] })) ≡ Some NoCommon }
-    ensures other_languages { refusal Client (lined Client) (KexInit (record (offer_of Server true) { lang_cs = codes "x" ∷ []; lang_sc = codes "y" ∷ [] })) ≡ None }
+    ensures no_marker_before_no_common { (side : Side) → refusal side (lined side)
+        (KexInit (record (offer_of (peer side) false) { host = [] })) ≡ Some NotStrict }
+    ensures no_common_method { (side : Side) → refusal side (lined side)
+        (KexInit (record (offer_of (peer side) true) { kex = client_marker ∷ server_marker ∷ [] })) ≡ Some NoCommon }
+    ensures no_common_host_key { refusal Client (lined Client) (KexInit (record (offer_of Server true) { host = codes "x" ∷ [] }))
+        ≡ Some NoCommon }
+    ensures no_common_encryption { refusal Client (lined Client) (KexInit (record (offer_of Server true) { enc_cs = codes "x" ∷ [] }))
+        ≡ Some NoCommon }
+    ensures no_common_encryption_back { refusal Client (lined Client) (KexInit
+        (record (offer_of Server true) { enc_sc = codes "x" ∷ [] })) ≡ Some NoCommon }
+    ensures no_common_mac { refusal Client (lined Client) (KexInit (record (offer_of Server true) { mac_cs = codes "x" ∷ [] }))
+        ≡ Some NoCommon }
+    ensures no_common_mac_back { refusal Client (lined Client) (KexInit (record (offer_of Server true) { mac_sc = codes "x" ∷ [] }))
+        ≡ Some NoCommon }
+    ensures no_common_compression { refusal Client (lined Client) (KexInit
+        (record (offer_of Server true) { comp_cs = codes "zlib" ∷ [] })) ≡ Some NoCommon }
+    ensures no_common_compression_back { refusal Client (lined Client) (KexInit
+        (record (offer_of Server true) { comp_sc = codes "zlib" ∷ [] })) ≡ Some NoCommon }
+    ensures other_languages { refusal Client (lined Client) (KexInit
+        (record (offer_of Server true) { lang_cs = codes "x" ∷ []; lang_sc = codes "y" ∷ [] })) ≡ None }
     ensures later_kexinit { (side : Side) → refusal side (fed_again side) (KexInit (offer_of (peer side) false)) ≡ None }
     ensures later_kexinit_with_marker { (side : Side) → refusal side (fed_again side) (KexInit (offer_of (peer side) true)) ≡ None }
     ensures no_material { (side : Side) → refusal side (admitted side) (KexInit (offer_of (peer side) false)) ≡ Some Refusal.NoMaterial }
-    ensures no_common_before_no_material { (side : Side) → refusal side (admitted side) (KexInit (record (offer_of (peer side) false) { host = [] })) ≡ Some NoCommon }
+    ensures no_common_before_no_material { (side : Side) → refusal side (admitted side)
+        (KexInit (record (offer_of (peer side) false) { host = [] })) ≡ Some NoCommon }
     ensures material_in_use { (side : Side) → refusal side (rekeying side) (KexInit (offer_of (peer side) false)) ≡ None }
     ensures point { refusal Server (offered Server) (KexEcdhInit (secret 1)) ≡ None }
     ensures short_point { refusal Server (offered Server) (KexEcdhInit (replicate 31 1)) ≡ Some BadPoint }
     ensures long_point { refusal Server (offered Server) (KexEcdhInit (replicate 33 1)) ≡ Some BadPoint }
     ensures point_that_shares_nothing { refusal Server (offered Server) (KexEcdhInit (secret 2)) ≡ Some BadPoint }
     ensures reply { refusal Client (offered Client) first_reply ≡ None }
-    ensures signature_of_other_point { refusal Client (offered Client) (KexEcdhReply toy_key (secret 3) (take 4096 (hash_to_sign toy (offered Server) (secret 1)))) ≡ Some BadHost }
+    ensures signature_of_other_point { refusal Client (offered Client) (KexEcdhReply toy_key (secret 3)
+        (take 4096 (hash_to_sign toy (offered Server) (secret 1)))) ≡ Some BadHost }
     ensures bad_point_before_bad_host { refusal Client (offered Client) (KexEcdhReply [] (secret 1) []) ≡ Some BadPoint }
     ensures long_point_of_reply { refusal Client (offered Client) (KexEcdhReply toy_key (replicate 33 2) []) ≡ Some BadPoint }
-    ensures other_host_key { refusal Client (offered Client) (KexEcdhReply (codes "host") (secret 2) (take 4096 (hash_to_sign toy (offered Server) (secret 1)))) ≡ Some BadHost }
+    ensures other_host_key { refusal Client (offered Client) (KexEcdhReply (codes "host") (secret 2)
+        (take 4096 (hash_to_sign toy (offered Server) (secret 1)))) ≡ Some BadHost }
     ensures other_signature { refusal Client (offered Client) (KexEcdhReply toy_key (secret 2) []) ≡ Some BadHost }
     ensures tries_left { refusal Server (failed 1) wrong_request ≡ None }
     ensures no_tries_left { refusal Server (failed 2) wrong_request ≡ Some TooManyTries }
@@ -107,10 +163,14 @@ pub fn refusal_examples()
     ensures good_probe_after_tries { refusal Server (failed 2) (probe (codes "k")) ≡ None }
     ensures bad_probe_after_tries { refusal Server (failed 2) (probe (codes "l")) ≡ Some TooManyTries }
     ensures bare_request_after_tries { refusal Server (failed 2) (UserauthRequest (codes "u") connection NoMethod) ≡ Some TooManyTries }
-    ensures new_password_after_tries { refusal Server (failed 2) (UserauthRequest (codes "u") connection (Password (codes "p") (Some (codes "p")))) ≡ Some TooManyTries }
-    ensures bad_signature_after_tries { refusal Server (failed 2) (UserauthRequest (codes "u") connection (Publickey (codes "toy") (codes "k") (Some []))) ≡ Some TooManyTries }
-    ensures other_method_after_tries { refusal Server (failed 2) (UserauthRequest (codes "u") connection (Other (codes "x") [])) ≡ Some TooManyTries }
-    ensures other_service_after_tries { refusal Server (failed 2) (UserauthRequest (codes "u") userauth (Password (codes "p") None)) ≡ Some TooManyTries }
+    ensures new_password_after_tries { refusal Server (failed 2) (UserauthRequest (codes "u") connection
+        (Password (codes "p") (Some (codes "p")))) ≡ Some TooManyTries }
+    ensures bad_signature_after_tries { refusal Server (failed 2) (UserauthRequest (codes "u") connection
+        (Publickey (codes "toy") (codes "k") (Some []))) ≡ Some TooManyTries }
+    ensures other_method_after_tries { refusal Server (failed 2) (UserauthRequest (codes "u") connection (Other (codes "x") []))
+        ≡ Some TooManyTries }
+    ensures other_service_after_tries { refusal Server (failed 2) (UserauthRequest (codes "u") userauth (Password (codes "p") None))
+        ≡ Some TooManyTries }
     ensures authenticated_after_tries { refusal Server (says UserauthSuccess ∷ failed 2) wrong_request ≡ None }
     ensures free_of_refusal { refusal Client (admitted Client) (Ignore []) ≡ None }
     ensures unknown_number { refusal Client (admitted Client) (Unknown 200) ≡ None }
@@ -118,21 +178,28 @@ pub fn refusal_examples()
 
 /// What an end refuses a message of the connection for, or none.
 pub fn channel_refusal_examples()
-    ensures many_global_requests { refusal Client (replicate 255 (hears (GlobalRequest [] true [])) ++ admitted Client) (GlobalRequest [] true []) ≡ None }
-    ensures too_many_global_requests { refusal Client (replicate 256 (hears (GlobalRequest [] true [])) ++ admitted Client) (GlobalRequest [] true []) ≡ Some OwedFull }
-    ensures global_request_without_reply { refusal Client (replicate 256 (hears (GlobalRequest [] true [])) ++ admitted Client) (GlobalRequest [] false []) ≡ None }
-    ensures replied_global_request { refusal Client (says RequestFailure ∷ replicate 256 (hears (GlobalRequest [] true [])) ++ admitted Client) (GlobalRequest [] true []) ≡ None }
-    ensures reply_to_no_global_request { refusal Client (says (GlobalRequest [] false []) ∷ admitted Client) (RequestSuccess []) ≡ Some Unexpected }
+    ensures many_global_requests { refusal Client (replicate 255 (hears (GlobalRequest [] true [])) ++ admitted Client)
+        (GlobalRequest [] true []) ≡ None }
+    ensures too_many_global_requests { refusal Client (replicate 256 (hears (GlobalRequest [] true [])) ++ admitted Client)
+        (GlobalRequest [] true []) ≡ Some OwedFull }
+    ensures global_request_without_reply { refusal Client (replicate 256 (hears (GlobalRequest [] true [])) ++ admitted Client)
+        (GlobalRequest [] false []) ≡ None }
+    ensures replied_global_request { refusal Client (says RequestFailure ∷ replicate 256 (hears (GlobalRequest [] true [])) ++ admitted
+        Client) (GlobalRequest [] true []) ≡ None }
+    ensures reply_to_no_global_request { refusal Client (says (GlobalRequest [] false []) ∷ admitted Client) (RequestSuccess [])
+        ≡ Some Unexpected }
     ensures failure_of_no_global_request { refusal Client (admitted Client) RequestFailure ≡ Some Unexpected }
     ensures reply_to_global_request { refusal Client (says (GlobalRequest [] true []) ∷ admitted Client) (RequestSuccess []) ≡ None }
     ensures failure_of_global_request { refusal Client (says (GlobalRequest [] true []) ∷ admitted Client) RequestFailure ≡ None }
-    ensures second_reply_to_global_request { refusal Client (hears RequestFailure ∷ says (GlobalRequest [] true []) ∷ admitted Client) RequestFailure ≡ Some Unexpected }
+    ensures second_reply_to_global_request { refusal Client (hears RequestFailure ∷ says (GlobalRequest [] true []) ∷ admitted Client)
+        RequestFailure ≡ Some Unexpected }
     ensures channel_open { refusal Server (admitted Server) open_message ≡ None }
     ensures confirmation { refusal Client (channel_opened Client) confirm_message ≡ None }
     ensures confirmation_of_no_channel { refusal Client (admitted Client) confirm_message ≡ Some UnknownChannel }
     ensures second_confirmation { refusal Client (channel_confirmed Client) confirm_message ≡ Some Unexpected }
     ensures confirmation_while_close_is_owed { refusal Client (closed_by_peer Client) confirm_message ≡ Some Unexpected }
-    ensures confirmation_after_both_closed { refusal Client (hears_on 3 (ChannelClose 3) ∷ says_on 3 (ChannelClose 5) ∷ channel_confirmed Client) confirm_message ≡ Some UnknownChannel }
+    ensures confirmation_after_both_closed { refusal Client (hears_on 3 (ChannelClose 3) ∷ says_on 3 (ChannelClose 5) ∷ channel_confirmed
+        Client) confirm_message ≡ Some UnknownChannel }
     ensures confirmation_by_who_opened { refusal Server (channel_opened Server) (ChannelOpenConfirmation 5 3 10 8 []) ≡ Some Unexpected }
     ensures open_failure { refusal Client (channel_opened Client) (ChannelOpenFailure 3 1 [] []) ≡ None }
     ensures open_failure_of_no_channel { refusal Client (admitted Client) (ChannelOpenFailure 3 1 [] []) ≡ Some UnknownChannel }
@@ -140,7 +207,8 @@ pub fn channel_refusal_examples()
     ensures failure_while_close_is_owed { refusal Client (closed_by_peer Client) (ChannelOpenFailure 3 1 [] []) ≡ Some Unexpected }
     ensures adjust { refusal Client (channel_confirmed Client) (ChannelWindowAdjust 3 4294967275) ≡ None }
     ensures adjust_too_far { refusal Client (channel_confirmed Client) (ChannelWindowAdjust 3 4294967276) ≡ Some WindowTooLarge }
-    ensures adjust_after_data { refusal Client (says_on 3 (ChannelData 5 (codes "x")) ∷ channel_confirmed Client) (ChannelWindowAdjust 3 4294967276) ≡ None }
+    ensures adjust_after_data { refusal Client (says_on 3 (ChannelData 5 (codes "x")) ∷ channel_confirmed Client)
+        (ChannelWindowAdjust 3 4294967276) ≡ None }
     ensures adjust_of_no_channel { refusal Client (channel_opened Client) (ChannelWindowAdjust 3 4294967296) ≡ Some UnknownChannel }
     ensures adjust_after_close { refusal Client (says_on 3 (ChannelClose 5) ∷ channel_confirmed Client) (ChannelWindowAdjust 3 1) ≡ None }
     ensures adjust_after_close_of_peer { refusal Client (closed_by_peer Client) (ChannelWindowAdjust 3 1) ≡ Some UnknownChannel }
@@ -151,30 +219,43 @@ pub fn channel_refusal_examples()
     ensures data_over_size { refusal Client (channel_confirmed Client) (ChannelData 3 (replicate 9 0)) ≡ Some WindowOverrun }
     ensures data_over_window { refusal Client (heard_data ∷ channel_confirmed Client) (ChannelData 3 (replicate 3 0)) ≡ Some WindowOverrun }
     ensures data_within_window { refusal Client (heard_data ∷ channel_confirmed Client) (ChannelData 3 (replicate 2 0)) ≡ None }
-    ensures data_after_adjust { refusal Client (says_on 3 (ChannelWindowAdjust 5 1) ∷ heard_data ∷ channel_confirmed Client) (ChannelData 3 (replicate 3 0)) ≡ None }
+    ensures data_after_adjust { refusal Client (says_on 3 (ChannelWindowAdjust 5 1) ∷ heard_data ∷ channel_confirmed Client)
+        (ChannelData 3 (replicate 3 0)) ≡ None }
     ensures data_after_eof { refusal Client (heard_eof ∷ channel_confirmed Client) (ChannelData 3 []) ≡ Some Unexpected }
-    ensures data_after_eof_over_window { refusal Client (heard_eof ∷ channel_confirmed Client) (ChannelData 3 (replicate 9 0)) ≡ Some Unexpected }
-    ensures data_after_close { refusal Client (says_on 3 (ChannelClose 5) ∷ channel_confirmed Client) (ChannelData 3 (replicate 8 0)) ≡ None }
+    ensures data_after_eof_over_window { refusal Client (heard_eof ∷ channel_confirmed Client) (ChannelData 3 (replicate 9 0))
+        ≡ Some Unexpected }
+    ensures data_after_close { refusal Client (says_on 3 (ChannelClose 5) ∷ channel_confirmed Client) (ChannelData 3 (replicate 8 0))
+        ≡ None }
     ensures data_after_close_of_peer { refusal Client (closed_by_peer Client) (ChannelData 3 []) ≡ Some UnknownChannel }
     ensures extended_data { refusal Client (channel_confirmed Client) (ChannelExtendedData 3 1 (replicate 8 0)) ≡ None }
-    ensures extended_data_over_size { refusal Client (channel_confirmed Client) (ChannelExtendedData 3 1 (replicate 9 0)) ≡ Some WindowOverrun }
-    ensures extended_data_over_window { refusal Client (heard_data ∷ channel_confirmed Client) (ChannelExtendedData 3 1 (replicate 3 0)) ≡ Some WindowOverrun }
-    ensures extended_data_after_eof { refusal Client (heard_eof ∷ channel_confirmed Client) (ChannelExtendedData 3 1 (replicate 9 0)) ≡ Some Unexpected }
+    ensures extended_data_over_size { refusal Client (channel_confirmed Client) (ChannelExtendedData 3 1 (replicate 9 0))
+        ≡ Some WindowOverrun }
+    ensures extended_data_over_window { refusal Client (heard_data ∷ channel_confirmed Client) (ChannelExtendedData 3 1 (replicate 3 0))
+        ≡ Some WindowOverrun }
+    ensures extended_data_after_eof { refusal Client (heard_eof ∷ channel_confirmed Client) (ChannelExtendedData 3 1 (replicate 9 0))
+        ≡ Some Unexpected }
     ensures extended_data_of_no_channel { refusal Client (channel_confirmed Client) (ChannelExtendedData 5 1 []) ≡ Some UnknownChannel }
     ensures eof { refusal Client (channel_confirmed Client) (ChannelEof 3) ≡ None }
     ensures second_eof { refusal Client (heard_eof ∷ channel_confirmed Client) (ChannelEof 3) ≡ Some Unexpected }
     ensures eof_of_no_channel { refusal Client (channel_opened Client) (ChannelEof 3) ≡ Some UnknownChannel }
     ensures close { refusal Client (heard_eof ∷ channel_confirmed Client) (ChannelClose 3) ≡ None }
     ensures close_of_no_channel { refusal Client (channel_opened Client) (ChannelClose 3) ≡ Some UnknownChannel }
-    ensures second_close { refusal Client (hears_on 3 (ChannelClose 3) ∷ says_on 3 (ChannelClose 5) ∷ channel_confirmed Client) (ChannelClose 3) ≡ Some UnknownChannel }
+    ensures second_close { refusal Client (hears_on 3 (ChannelClose 3) ∷ says_on 3 (ChannelClose 5) ∷ channel_confirmed Client)
+        (ChannelClose 3) ≡ Some UnknownChannel }
     ensures many_requests { refusal Client (replicate 255 heard_request ++ channel_confirmed Client) (ChannelRequest 3 [] true []) ≡ None }
-    ensures too_many_requests { refusal Client (replicate 256 heard_request ++ channel_confirmed Client) (ChannelRequest 3 [] true []) ≡ Some OwedFull }
-    ensures request_without_reply { refusal Client (replicate 256 heard_request ++ channel_confirmed Client) (ChannelRequest 3 [] false []) ≡ None }
-    ensures request_after_close { refusal Client (says_on 3 (ChannelClose 5) ∷ replicate 256 heard_request ++ channel_confirmed Client) (ChannelRequest 3 [] true []) ≡ None }
+    ensures too_many_requests { refusal Client (replicate 256 heard_request ++ channel_confirmed Client) (ChannelRequest 3 [] true [])
+        ≡ Some OwedFull }
+    ensures request_without_reply { refusal Client (replicate 256 heard_request ++ channel_confirmed Client)
+        (ChannelRequest 3 [] false []) ≡ None }
+    ensures request_after_close { refusal Client (says_on 3 (ChannelClose 5) ∷ replicate 256 heard_request ++ channel_confirmed Client)
+        (ChannelRequest 3 [] true []) ≡ None }
     ensures request_of_no_channel { refusal Client (channel_opened Client) (ChannelRequest 3 [] true []) ≡ Some UnknownChannel }
-    ensures reply_to_request { refusal Client (says_on 3 (ChannelRequest 5 [] true []) ∷ channel_confirmed Client) (ChannelSuccess 3) ≡ None }
-    ensures failure_of_request { refusal Client (says_on 3 (ChannelRequest 5 [] true []) ∷ channel_confirmed Client) (ChannelFailure 3) ≡ None }
-    ensures reply_to_no_request { refusal Client (says_on 3 (ChannelRequest 5 [] false []) ∷ channel_confirmed Client) (ChannelSuccess 3) ≡ Some Unexpected }
+    ensures reply_to_request { refusal Client (says_on 3 (ChannelRequest 5 [] true []) ∷ channel_confirmed Client) (ChannelSuccess 3)
+        ≡ None }
+    ensures failure_of_request { refusal Client (says_on 3 (ChannelRequest 5 [] true []) ∷ channel_confirmed Client) (ChannelFailure 3)
+        ≡ None }
+    ensures reply_to_no_request { refusal Client (says_on 3 (ChannelRequest 5 [] false []) ∷ channel_confirmed Client) (ChannelSuccess 3)
+        ≡ Some Unexpected }
     ensures failure_of_no_request { refusal Client (channel_confirmed Client) (ChannelFailure 3) ≡ Some Unexpected }
     ensures reply_of_no_channel { refusal Client (channel_opened Client) (ChannelSuccess 3) ≡ Some UnknownChannel }
     ensures failure_of_no_channel { refusal Client (channel_opened Client) (ChannelFailure 3) ≡ Some UnknownChannel }
@@ -192,7 +273,8 @@ pub fn ask_examples()
     ensures requests_while_one_waits { map (ask_refusal Client requesting) requests ≡ replicate 4 (Some Busy) }
     ensures requests_when_authenticated { map (ask_refusal Client (admitted Client)) requests ≡ replicate 4 (Some AskRefusal.Ended) }
     ensures requests_after_failure { map (ask_refusal Client (hears (UserauthFailure [] false) ∷ requesting)) requests ≡ replicate 4 None }
-    ensures requests_after_key_ok { map (ask_refusal Client (hears (UserauthPkOk (codes "toy") (codes "k")) ∷ probing_client)) requests ≡ replicate 4 None }
+    ensures requests_after_key_ok { map (ask_refusal Client (hears (UserauthPkOk (codes "toy") (codes "k")) ∷ probing_client)) requests
+        ≡ replicate 4 None }
     ensures long_user { ask_refusal Client (served Client) (AskNone (replicate 33969 0)) ≡ None }
     ensures too_long_user { ask_refusal Client (served Client) (AskNone (replicate 33970 0)) ≡ Some TooLong }
     ensures authenticated_before_too_long { ask_refusal Client (admitted Client) (AskNone (replicate 33970 0)) ≡ Some AskRefusal.Ended }
@@ -201,7 +283,8 @@ pub fn ask_examples()
     ensures long_key { ask_refusal Client (served Client) (AskProbe (codes "u") (codes "toy") (replicate 33951 0)) ≡ None }
     ensures too_long_key { ask_refusal Client (served Client) (AskProbe (codes "u") (codes "toy") (replicate 33952 0)) ≡ Some TooLong }
     ensures long_key_with_signature { ask_refusal Client (served Client) (AskSign (codes "u") (codes "toy") (replicate 29851 0)) ≡ None }
-    ensures too_long_key_with_signature { ask_refusal Client (served Client) (AskSign (codes "u") (codes "toy") (replicate 29852 0)) ≡ Some TooLong }
+    ensures too_long_key_with_signature { ask_refusal Client (served Client) (AskSign (codes "u") (codes "toy") (replicate 29852 0))
+        ≡ Some TooLong }
     ensures rekey { (side : Side) → ask_refusal side (fed_again side) AskRekey ≡ None }
     ensures rekey_before_authentication { (side : Side) → ask_refusal side (served side) AskRekey ≡ Some NotYet }
     ensures rekey_while_blocked { (side : Side) → ask_refusal side (rekeying side) AskRekey ≡ Some Busy }
@@ -216,7 +299,8 @@ pub fn ask_examples()
 pub fn channel_ask_examples()
     ensures not_authenticated { map (ask_refusal Client (served Client)) connection_asks ≡ replicate 14 (Some NotYet) }
     ensures blocked_by_own_kexinit { map (ask_refusal Client (rekeying Client)) connection_asks ≡ replicate 14 (Some Busy) }
-    ensures rekey_is_due { map (ask_refusal Client (replicate 62 (says (Ignore [])) ++ admitted Client)) connection_asks ≡ replicate 14 (Some RekeyDue) }
+    ensures rekey_is_due { map (ask_refusal Client (replicate 62 (says (Ignore [])) ++ admitted Client)) connection_asks
+        ≡ replicate 14 (Some RekeyDue) }
     ensures blocked_before_rekey_is_due { ask_refusal Client (replicate 62 (says (Ignore [])) ++ rekeying Client) (AskEof 3) ≡ Some Busy }
     ensures rekey_is_not_due { ask_refusal Client (replicate 61 (says (Ignore [])) ++ admitted Client) (AskOpen [] 0 1 []) ≡ None }
     ensures rekey_though_due { ask_refusal Client (replicate 62 (says (Ignore [])) ++ fed_again Client) AskRekey ≡ None }
@@ -229,7 +313,8 @@ pub fn channel_ask_examples()
     ensures open_of_no_data { ask_refusal Client (admitted Client) (AskOpen [] 0 0 []) ≡ Some TooMuch }
     ensures long_open { ask_refusal Client (admitted Client) (AskOpen (codes "session") 0 1 (replicate 33976 0)) ≡ None }
     ensures too_long_open { ask_refusal Client (admitted Client) (AskOpen (codes "session") 0 1 (replicate 33977 0)) ≡ Some TooLong }
-    ensures too_much_before_too_long { ask_refusal Client (admitted Client) (AskOpen (codes "session") 0 0 (replicate 33977 0)) ≡ Some TooMuch }
+    ensures too_much_before_too_long { ask_refusal Client (admitted Client) (AskOpen (codes "session") 0 0 (replicate 33977 0))
+        ≡ Some TooMuch }
     ensures confirm { ask_refusal Server (channel_opened Server) (AskConfirm 5 20 16 []) ≡ None }
     ensures confirm_of_no_open { ask_refusal Server (channel_opened Server) (AskConfirm 3 20 16 []) ≡ Some NoChannel }
     ensures confirm_of_own_open { ask_refusal Client (channel_opened Client) (AskConfirm 3 20 16 []) ≡ Some NoChannel }
@@ -242,109 +327,160 @@ pub fn channel_ask_examples()
     ensures refuse_of_no_open { ask_refusal Server (channel_confirmed Server) (AskRefuse 5 1) ≡ Some NoChannel }
     ensures give_data { ask_refusal Client (channel_confirmed Client) (AskData 3 None (replicate 16 0)) ≡ None }
     ensures data_on_no_channel { ask_refusal Client (channel_opened Client) (AskData 3 None []) ≡ Some NoChannel }
-    ensures data_after_own_eof { ask_refusal Client (says_on 3 (ChannelEof 5) ∷ channel_confirmed Client) (AskData 3 None (replicate 17 0)) ≡ Some AskRefusal.Ended }
-    ensures data_after_own_close { ask_refusal Client (says_on 3 (ChannelClose 5) ∷ channel_confirmed Client) (AskData 3 None []) ≡ Some AskRefusal.Ended }
-    ensures data_after_both_closed { ask_refusal Client (hears_on 3 (ChannelClose 3) ∷ says_on 3 (ChannelClose 5) ∷ channel_confirmed Client) (AskData 3 None []) ≡ Some NoChannel }
+    ensures data_after_own_eof { ask_refusal Client (says_on 3 (ChannelEof 5) ∷ channel_confirmed Client)
+        (AskData 3 None (replicate 17 0)) ≡ Some AskRefusal.Ended }
+    ensures data_after_own_close { ask_refusal Client (says_on 3 (ChannelClose 5) ∷ channel_confirmed Client) (AskData 3 None [])
+        ≡ Some AskRefusal.Ended }
+    ensures data_after_both_closed { ask_refusal Client (hears_on 3 (ChannelClose 3) ∷ says_on 3 (ChannelClose 5) ∷ channel_confirmed
+        Client) (AskData 3 None []) ≡ Some NoChannel }
     ensures data_over_most_of_peer { ask_refusal Client (channel_confirmed Client) (AskData 3 None (replicate 17 0)) ≡ Some TooLong }
     ensures data_over_room { ask_refusal Client (said_data ∷ channel_confirmed Client) (AskData 3 None (replicate 5 0)) ≡ Some NoRoom }
     ensures data_within_room { ask_refusal Client (said_data ∷ channel_confirmed Client) (AskData 3 None (replicate 4 0)) ≡ None }
-    ensures too_long_before_no_room { ask_refusal Client (said_data ∷ channel_confirmed Client) (AskData 3 None (replicate 17 0)) ≡ Some TooLong }
+    ensures too_long_before_no_room { ask_refusal Client (said_data ∷ channel_confirmed Client) (AskData 3 None (replicate 17 0))
+        ≡ Some TooLong }
     ensures largest_data { ask_refusal Client wide_channel (AskData 3 None (replicate 32768 0)) ≡ None }
     ensures larger_data { ask_refusal Client wide_channel (AskData 3 None (replicate 32769 0)) ≡ Some TooLong }
-    ensures extended_data_over_room { ask_refusal Client (said_data ∷ channel_confirmed Client) (AskData 3 (Some 1) (replicate 5 0)) ≡ Some NoRoom }
+    ensures extended_data_over_room { ask_refusal Client (said_data ∷ channel_confirmed Client) (AskData 3 (Some 1) (replicate 5 0))
+        ≡ Some NoRoom }
     ensures extended_data_over_most { ask_refusal Client (channel_confirmed Client) (AskData 3 (Some 1) (replicate 17 0)) ≡ Some TooLong }
     ensures grant { ask_refusal Client (channel_confirmed Client) (AskAdjust 3 4294967285) ≡ None }
     ensures grant_too_much { ask_refusal Client (channel_confirmed Client) (AskAdjust 3 4294967286) ≡ Some TooMuch }
     ensures grant_after_data { ask_refusal Client (heard_data ∷ channel_confirmed Client) (AskAdjust 3 4294967293) ≡ None }
     ensures grant_on_no_channel { ask_refusal Client (channel_opened Client) (AskAdjust 3 1) ≡ Some NoChannel }
-    ensures grant_after_own_close { ask_refusal Client (says_on 3 (ChannelClose 5) ∷ channel_confirmed Client) (AskAdjust 3 1) ≡ Some AskRefusal.Ended }
+    ensures grant_after_own_close { ask_refusal Client (says_on 3 (ChannelClose 5) ∷ channel_confirmed Client) (AskAdjust 3 1)
+        ≡ Some AskRefusal.Ended }
     ensures grant_after_own_eof { ask_refusal Client (says_on 3 (ChannelEof 5) ∷ channel_confirmed Client) (AskAdjust 3 1) ≡ None }
     ensures end_of_data { ask_refusal Client (channel_confirmed Client) (AskEof 3) ≡ None }
     ensures second_own_eof { ask_refusal Client (says_on 3 (ChannelEof 5) ∷ channel_confirmed Client) (AskEof 3) ≡ Some AskRefusal.Ended }
-    ensures eof_after_own_close { ask_refusal Client (says_on 3 (ChannelClose 5) ∷ channel_confirmed Client) (AskEof 3) ≡ Some AskRefusal.Ended }
+    ensures eof_after_own_close { ask_refusal Client (says_on 3 (ChannelClose 5) ∷ channel_confirmed Client) (AskEof 3)
+        ≡ Some AskRefusal.Ended }
     ensures eof_on_no_channel { ask_refusal Client (channel_opened Client) (AskEof 3) ≡ Some NoChannel }
     ensures close_after_own_eof { ask_refusal Client (says_on 3 (ChannelEof 5) ∷ channel_confirmed Client) (AskClose 3) ≡ None }
-    ensures second_own_close { ask_refusal Client (says_on 3 (ChannelClose 5) ∷ channel_confirmed Client) (AskClose 3) ≡ Some AskRefusal.Ended }
+    ensures second_own_close { ask_refusal Client (says_on 3 (ChannelClose 5) ∷ channel_confirmed Client) (AskClose 3)
+        ≡ Some AskRefusal.Ended }
     ensures close_on_no_channel { ask_refusal Client (channel_opened Client) (AskClose 3) ≡ Some NoChannel }
-    ensures many_own_requests { ask_refusal Client (replicate 255 said_request ++ channel_confirmed Client) (AskRequest 3 [] true []) ≡ Some RekeyDue }
-    ensures too_many_own_requests { ask_refusal Client (replicate 256 said_request ++ channel_confirmed Client) (AskRequest 3 [] true []) ≡ Some Busy }
-    ensures own_request_without_reply { ask_refusal Client (replicate 256 said_request ++ channel_confirmed Client) (AskRequest 3 [] false []) ≡ Some RekeyDue }
-    ensures too_many_requests_on_a_channel { first_refusal (ask_checks patient Client (replicate 256 said_request ++ channel_confirmed Client) (AskRequest 3 [] true [])) ≡ Some Busy }
-    ensures request_on_unused_number { first_refusal (ask_checks patient Client (replicate 256 said_request ++ channel_confirmed Client) (AskRequest 900 [] true [])) ≡ Some NoChannel }
+    ensures many_own_requests { ask_refusal Client (replicate 255 said_request ++ channel_confirmed Client) (AskRequest 3 [] true [])
+        ≡ Some RekeyDue }
+    ensures too_many_own_requests { ask_refusal Client (replicate 256 said_request ++ channel_confirmed Client) (AskRequest 3 [] true [])
+        ≡ Some Busy }
+    ensures own_request_without_reply { ask_refusal Client (replicate 256 said_request ++ channel_confirmed Client)
+        (AskRequest 3 [] false []) ≡ Some RekeyDue }
+    ensures too_many_requests_on_a_channel { first_refusal (ask_checks patient Client
+        (replicate 256 said_request ++ channel_confirmed Client) (AskRequest 3 [] true [])) ≡ Some Busy }
+    ensures request_on_unused_number { first_refusal (ask_checks patient Client (replicate 256 said_request ++ channel_confirmed Client)
+        (AskRequest 900 [] true [])) ≡ Some NoChannel }
     ensures request_on_no_channel { ask_refusal Client (channel_opened Client) (AskRequest 3 [] true []) ≡ Some NoChannel }
-    ensures request_after_own_close { ask_refusal Client (says_on 3 (ChannelClose 5) ∷ channel_confirmed Client) (AskRequest 3 [] true []) ≡ Some AskRefusal.Ended }
+    ensures request_after_own_close { ask_refusal Client (says_on 3 (ChannelClose 5) ∷ channel_confirmed Client) (AskRequest 3 [] true [])
+        ≡ Some AskRefusal.Ended }
     ensures long_request { ask_refusal Client (channel_confirmed Client) (AskRequest 3 (codes "x") true (replicate 33989 0)) ≡ None }
-    ensures too_long_request { ask_refusal Client (channel_confirmed Client) (AskRequest 3 (codes "x") true (replicate 33990 0)) ≡ Some TooLong }
+    ensures too_long_request { ask_refusal Client (channel_confirmed Client) (AskRequest 3 (codes "x") true (replicate 33990 0))
+        ≡ Some TooLong }
     ensures request_reply { ask_refusal Client (heard_request ∷ channel_confirmed Client) (AskReply 3 true) ≡ None }
     ensures reply_to_nothing { ask_refusal Client (channel_confirmed Client) (AskReply 3 false) ≡ Some NothingOwed }
-    ensures second_reply { ask_refusal Client (says_on 3 (ChannelFailure 5) ∷ heard_request ∷ channel_confirmed Client) (AskReply 3 true) ≡ Some NothingOwed }
+    ensures second_reply { ask_refusal Client (says_on 3 (ChannelFailure 5) ∷ heard_request ∷ channel_confirmed Client) (AskReply 3 true)
+        ≡ Some NothingOwed }
     ensures reply_on_no_channel { ask_refusal Client (channel_opened Client) (AskReply 3 true) ≡ Some NoChannel }
-    ensures reply_after_own_close { ask_refusal Client (says_on 3 (ChannelClose 5) ∷ channel_confirmed Client) (AskReply 3 true) ≡ Some AskRefusal.Ended }
+    ensures reply_after_own_close { ask_refusal Client (says_on 3 (ChannelClose 5) ∷ channel_confirmed Client) (AskReply 3 true)
+        ≡ Some AskRefusal.Ended }
     ensures global_request { ask_refusal Client (admitted Client) (AskGlobal (codes "x") true (replicate 33993 0)) ≡ None }
     ensures too_long_global_request { ask_refusal Client (admitted Client) (AskGlobal (codes "x") true (replicate 33994 0)) ≡ Some TooLong }
-    ensures many_own_globals { ask_refusal Client (replicate 255 (says (GlobalRequest [] true [])) ++ admitted Client) (AskGlobal [] true []) ≡ Some RekeyDue }
-    ensures too_many_own_globals { ask_refusal Client (replicate 256 (says (GlobalRequest [] true [])) ++ admitted Client) (AskGlobal [] true []) ≡ Some Busy }
-    ensures own_global_without_reply { ask_refusal Client (replicate 256 (says (GlobalRequest [] true [])) ++ admitted Client) (AskGlobal [] false []) ≡ Some RekeyDue }
-    ensures global_reply { ask_refusal Client (hears (GlobalRequest [] true []) ∷ admitted Client) (AskGlobalReply true (replicate 33999 0)) ≡ None }
-    ensures too_long_global_reply { ask_refusal Client (hears (GlobalRequest [] true []) ∷ admitted Client) (AskGlobalReply true (replicate 34000 0)) ≡ Some TooLong }
-    ensures global_reply_to_nothing { ask_refusal Client (hears (GlobalRequest [] false []) ∷ admitted Client) (AskGlobalReply true (replicate 34000 0)) ≡ Some NothingOwed }
+    ensures many_own_globals { ask_refusal Client (replicate 255 (says (GlobalRequest [] true [])) ++ admitted Client)
+        (AskGlobal [] true []) ≡ Some RekeyDue }
+    ensures too_many_own_globals { ask_refusal Client (replicate 256 (says (GlobalRequest [] true [])) ++ admitted Client)
+        (AskGlobal [] true []) ≡ Some Busy }
+    ensures own_global_without_reply { ask_refusal Client (replicate 256 (says (GlobalRequest [] true [])) ++ admitted Client)
+        (AskGlobal [] false []) ≡ Some RekeyDue }
+    ensures global_reply { ask_refusal Client (hears (GlobalRequest [] true []) ∷ admitted Client)
+        (AskGlobalReply true (replicate 33999 0)) ≡ None }
+    ensures too_long_global_reply { ask_refusal Client (hears (GlobalRequest [] true []) ∷ admitted Client)
+        (AskGlobalReply true (replicate 34000 0)) ≡ Some TooLong }
+    ensures global_reply_to_nothing { ask_refusal Client (hears (GlobalRequest [] false []) ∷ admitted Client)
+        (AskGlobalReply true (replicate 34000 0)) ≡ Some NothingOwed }
     ensures global_failure { ask_refusal Client (hears (GlobalRequest [] true []) ∷ admitted Client) (AskGlobalReply false []) ≡ None }
     ensures global_failure_of_nothing { ask_refusal Client (admitted Client) (AskGlobalReply false []) ≡ Some NothingOwed }
 {}
 
 /// What an end adds to a message of the transport or of authentication that it took, the newest first.
 pub fn answer_examples()
-    ensures disconnect { Answer toy Client (admitted Client) None (Disconnect 11 (codes "x") []) (Died ∷ Told (Disconnected 11 (codes "x")) ∷ []) }
+    ensures disconnect { Answer toy Client (admitted Client) None (Disconnect 11 (codes "x") [])
+        (Died ∷ Told (Disconnected 11 (codes "x")) ∷ []) }
     ensures ignore { Answer toy Client (admitted Client) None (Ignore (codes "x")) (Told Ignored ∷ []) }
     ensures unimplemented { Answer toy Client (admitted Client) None (Unimplemented 5) (Told (NotImplemented 5) ∷ []) }
     ensures debug { Answer toy Client (admitted Client) None (Debug true (codes "x") []) (Told (Debugged true (codes "x")) ∷ []) }
     ensures first_unknown { Answer toy Client (keyed Client) None (Unknown 7) (says (Unimplemented 0) ∷ []) }
     ensures second_unknown { Answer toy Client (hears (Ignore []) ∷ keyed Client) None (Unknown 7) (says (Unimplemented 1) ∷ []) }
-    ensures unknown_after_skipped_packet { Answer toy Server (TookGuess [] ∷ hears (KexInit (guessing Server false)) ∷ rekeying Server) None (Unknown 7) (says (Unimplemented 4) ∷ []) }
+    ensures unknown_after_skipped_packet { Answer toy Server (TookGuess [] ∷ hears (KexInit (guessing Server false)) ∷ rekeying Server)
+        None (Unknown 7) (says (Unimplemented 4) ∷ []) }
     ensures unknown_while_blocked { Answer toy Client (rekeying Client) None (Unknown 200) (says (Unimplemented 2) ∷ []) }
     ensures service_request { Answer toy Server (keyed Server) None (ServiceRequest userauth) (says (ServiceAccept userauth) ∷ []) }
     ensures service_accept { Answer toy Client asking None (ServiceAccept userauth) (Told Service ∷ []) }
     ensures first_kexinit_at_server { Answer toy Server (lined Server) None (KexInit (offer_of Client true)) [] }
-    ensures first_kexinit_at_client { Answer toy Client (lined Client) None (KexInit (offer_of Server true)) (says (KexEcdhInit (secret 1)) ∷ []) }
-    ensures kexinit_answered_at_server { Answer toy Server (fed_again Server) None (KexInit (offer_of Client false)) (says (KexInit (offer_of Server false)) ∷ []) }
-    ensures kexinit_answered_at_client { Answer toy Client (fed_again Client) None (KexInit (offer_of Server false)) (says (KexEcdhInit (secret 4)) ∷ says (KexInit (offer_of Client false)) ∷ []) }
-    ensures kexinit_crossing_at_client { Answer toy Client (rekeying Client) None (KexInit (offer_of Server false)) (says (KexEcdhInit (secret 4)) ∷ []) }
+    ensures first_kexinit_at_client { Answer toy Client (lined Client) None (KexInit (offer_of Server true))
+        (says (KexEcdhInit (secret 1)) ∷ []) }
+    ensures kexinit_answered_at_server { Answer toy Server (fed_again Server) None (KexInit (offer_of Client false))
+        (says (KexInit (offer_of Server false)) ∷ []) }
+    ensures kexinit_answered_at_client { Answer toy Client (fed_again Client) None (KexInit (offer_of Server false))
+        (says (KexEcdhInit (secret 4)) ∷ says (KexInit (offer_of Client false)) ∷ []) }
+    ensures kexinit_crossing_at_client { Answer toy Client (rekeying Client) None (KexInit (offer_of Server false))
+        (says (KexEcdhInit (secret 4)) ∷ []) }
     ensures kexinit_crossing_at_server { Answer toy Server (rekeying Server) None (KexInit (offer_of Client false)) [] }
-    ensures exchange_at_server { Answer toy Server (offered Server) None (KexEcdhInit (secret 1)) (Told (Completed 1) ∷ says NewKeys ∷ says first_reply ∷ []) }
+    ensures exchange_at_server { Answer toy Server (offered Server) None (KexEcdhInit (secret 1))
+        (Told (Completed 1) ∷ says NewKeys ∷ says first_reply ∷ []) }
     ensures exchange_at_client { Answer toy Client (offered Client) None first_reply (Told (Completed 1) ∷ says NewKeys ∷ []) }
-    ensures owed_reply_of_server { Answer toy Server (hears (KexInit (offer_of Client false)) ∷ closed_by_peer Server) None (KexEcdhInit (secret 4)) (Told (Completed 2) ∷ says_on 5 (ChannelClose 3) ∷ says NewKeys ∷ says (reply_now toy (hears (KexInit (offer_of Client false)) ∷ closed_by_peer Server) (secret 4)) ∷ []) }
-    ensures owed_reply_of_client { Answer toy Client (says (KexEcdhInit (secret 4)) ∷ hears (KexInit (offer_of Server false)) ∷ closed_by_peer Client) None (KexEcdhReply toy_key (secret 8) []) (Told (Completed 2) ∷ says_on 3 (ChannelClose 5) ∷ says NewKeys ∷ []) }
+    ensures owed_reply_of_server { Answer toy Server (hears (KexInit (offer_of Client false)) ∷ closed_by_peer Server) None
+        (KexEcdhInit (secret 4)) (Told (Completed 2) ∷ says_on 5 (ChannelClose 3) ∷ says NewKeys ∷ says
+        (reply_now toy (hears (KexInit (offer_of Client false)) ∷ closed_by_peer Server) (secret 4)) ∷ []) }
+    ensures owed_reply_of_client { Answer toy Client (says (KexEcdhInit (secret 4)) ∷ hears (KexInit (offer_of Server false))
+        ∷ closed_by_peer Client) None (KexEcdhReply toy_key (secret 8) [])
+        (Told (Completed 2) ∷ says_on 3 (ChannelClose 5) ∷ says NewKeys ∷ []) }
     ensures newkeys_of_peer { (side : Side) → Answer toy side (completed side) None NewKeys [] }
-    ensures right_password { Answer toy Server (served Server) None right_request (Told (Accepted (codes "u")) ∷ says UserauthSuccess ∷ []) }
-    ensures right_signature { Answer toy Server (served Server) None (UserauthRequest (codes "u") connection (Publickey (codes "toy") (codes "k") (Some right_signature))) (Told (Accepted (codes "u")) ∷ says UserauthSuccess ∷ []) }
+    ensures right_password { Answer toy Server (served Server) None right_request
+        (Told (Accepted (codes "u")) ∷ says UserauthSuccess ∷ []) }
+    ensures right_signature { Answer toy Server (served Server) None (UserauthRequest (codes "u") connection
+        (Publickey (codes "toy") (codes "k") (Some right_signature))) (Told (Accepted (codes "u")) ∷ says UserauthSuccess ∷ []) }
     ensures known_key { Answer toy Server (served Server) None (probe (codes "k")) (says (UserauthPkOk (codes "toy") (codes "k")) ∷ []) }
-    ensures wrong_password { Answer toy Server (served Server) None wrong_request (says (UserauthFailure (codes "publickey" ∷ codes "password" ∷ []) false) ∷ []) }
+    ensures wrong_password { Answer toy Server (served Server) None wrong_request
+        (says (UserauthFailure (codes "publickey" ∷ codes "password" ∷ []) false) ∷ []) }
     ensures request_after_success { Answer toy Server (admitted Server) None right_request (Told Ignored ∷ []) }
-    ensures failed_request { Answer toy Client requesting None (UserauthFailure (codes "x" ∷ []) true) (Told (Failed (codes "x" ∷ []) true) ∷ []) }
+    ensures failed_request { Answer toy Client requesting None (UserauthFailure (codes "x" ∷ []) true)
+        (Told (Failed (codes "x" ∷ []) true) ∷ []) }
     ensures accepted_request { Answer toy Client requesting None UserauthSuccess (Told Authenticated ∷ []) }
     ensures shown_banner { Answer toy Client requesting None (UserauthBanner (codes "x") []) (Told (Banner (codes "x")) ∷ []) }
-    ensures good_key { Answer toy Client probing_client None (UserauthPkOk (codes "toy") (codes "k")) (Told (KeyOk (codes "toy") (codes "k")) ∷ []) }
+    ensures good_key { Answer toy Client probing_client None (UserauthPkOk (codes "toy") (codes "k"))
+        (Told (KeyOk (codes "toy") (codes "k")) ∷ []) }
 {}
 
 /// What an end adds to a message of the connection that it took, the newest first.
 pub fn connection_answer_examples()
-    ensures global_request_taken { Answer toy Client (channel_confirmed Client) None (GlobalRequest (codes "x") true (codes "y")) (Told (Global (codes "x") true (codes "y")) ∷ []) }
-    ensures global_success_taken { Answer toy Client (channel_confirmed Client) None (RequestSuccess (codes "x")) (Told (GlobalDone true (codes "x")) ∷ []) }
+    ensures global_request_taken { Answer toy Client (channel_confirmed Client) None (GlobalRequest (codes "x") true (codes "y"))
+        (Told (Global (codes "x") true (codes "y")) ∷ []) }
+    ensures global_success_taken { Answer toy Client (channel_confirmed Client) None (RequestSuccess (codes "x"))
+        (Told (GlobalDone true (codes "x")) ∷ []) }
     ensures global_failure_taken { Answer toy Client (channel_confirmed Client) None RequestFailure (Told (GlobalDone false []) ∷ []) }
     ensures open_taken { Answer toy Server (admitted Server) (Some 5) open_message (Told (Opened 5 (codes "session") 10 8 []) ∷ []) }
-    ensures open_taken_at_last_number { Answer toy Server (admitted Server) (Some 1023) open_message (Told (Opened 1023 (codes "session") 10 8 []) ∷ []) }
-    ensures open_without_place { (h : List Item) → is_full Server h ≡ true → blocked h ≡ false → Answer toy Server h None open_message (says (ChannelOpenFailure 3 4 [] []) ∷ []) }
-    ensures open_without_place_while_blocked { (h : List Item) → is_full Server h ≡ true → blocked h ≡ true → Answer toy Server h None open_message [] }
+    ensures open_taken_at_last_number { Answer toy Server (admitted Server) (Some 1023) open_message
+        (Told (Opened 1023 (codes "session") 10 8 []) ∷ []) }
+    ensures open_without_place { (h : List Item) → is_full Server h ≡ true → blocked h ≡ false →
+        Answer toy Server h None open_message (says (ChannelOpenFailure 3 4 [] []) ∷ []) }
+    ensures open_without_place_while_blocked { (h : List Item) → is_full Server h ≡ true → blocked h ≡ true →
+        Answer toy Server h None open_message [] }
     ensures confirmation_taken { Answer toy Client (channel_opened Client) (Some 3) confirm_message (Told (Confirmed 3 20 16 []) ∷ []) }
-    ensures open_failure_taken { Answer toy Client (channel_opened Client) (Some 3) (ChannelOpenFailure 3 1 (codes "x") []) (Told (OpenFailed 3 1 (codes "x")) ∷ []) }
+    ensures open_failure_taken { Answer toy Client (channel_opened Client) (Some 3) (ChannelOpenFailure 3 1 (codes "x") [])
+        (Told (OpenFailed 3 1 (codes "x")) ∷ []) }
     ensures adjust_taken { Answer toy Client (channel_confirmed Client) (Some 3) (ChannelWindowAdjust 3 7) (Told (Adjusted 3 7) ∷ []) }
-    ensures data_taken { Answer toy Client (channel_confirmed Client) (Some 3) (ChannelData 3 (codes "x")) (Told (GotData 3 None (codes "x")) ∷ []) }
-    ensures extended_data_taken { Answer toy Client (channel_confirmed Client) (Some 3) (ChannelExtendedData 3 1 (codes "x")) (Told (GotData 3 (Some 1) (codes "x")) ∷ []) }
+    ensures data_taken { Answer toy Client (channel_confirmed Client) (Some 3) (ChannelData 3 (codes "x"))
+        (Told (GotData 3 None (codes "x")) ∷ []) }
+    ensures extended_data_taken { Answer toy Client (channel_confirmed Client) (Some 3) (ChannelExtendedData 3 1 (codes "x"))
+        (Told (GotData 3 (Some 1) (codes "x")) ∷ []) }
     ensures eof_taken { Answer toy Client (channel_confirmed Client) (Some 3) (ChannelEof 3) (Told (Ended 3) ∷ []) }
-    ensures close_answered { Answer toy Client (channel_confirmed Client) (Some 3) (ChannelClose 3) (Told (Closed 3) ∷ says_on 3 (ChannelClose 5) ∷ []) }
-    ensures close_after_close { Answer toy Client (says_on 3 (ChannelClose 5) ∷ channel_confirmed Client) (Some 3) (ChannelClose 3) (Told (Closed 3) ∷ []) }
-    ensures close_while_blocked { Answer toy Client (says (KexInit (offer_of Client false)) ∷ channel_confirmed Client) (Some 3) (ChannelClose 3) (Told (Closed 3) ∷ []) }
-    ensures request_taken { Answer toy Client (channel_confirmed Client) (Some 3) (ChannelRequest 3 (codes "x") true (codes "y")) (Told (Requested 3 (codes "x") true (codes "y")) ∷ []) }
+    ensures close_answered { Answer toy Client (channel_confirmed Client) (Some 3) (ChannelClose 3)
+        (Told (Closed 3) ∷ says_on 3 (ChannelClose 5) ∷ []) }
+    ensures close_after_close { Answer toy Client (says_on 3 (ChannelClose 5) ∷ channel_confirmed Client) (Some 3) (ChannelClose 3)
+        (Told (Closed 3) ∷ []) }
+    ensures close_while_blocked { Answer toy Client (says (KexInit (offer_of Client false)) ∷ channel_confirmed Client) (Some 3)
+        (ChannelClose 3) (Told (Closed 3) ∷ []) }
+    ensures request_taken { Answer toy Client (channel_confirmed Client) (Some 3) (ChannelRequest 3 (codes "x") true (codes "y"))
+        (Told (Requested 3 (codes "x") true (codes "y")) ∷ []) }
     ensures success_taken { Answer toy Client (channel_confirmed Client) (Some 3) (ChannelSuccess 3) (Told (RequestDone 3 true) ∷ []) }
     ensures failure_taken { Answer toy Client (channel_confirmed Client) (Some 3) (ChannelFailure 3) (Told (RequestDone 3 false) ∷ []) }
 {}
@@ -352,25 +488,34 @@ pub fn connection_answer_examples()
 /// What an end adds on an ask that it does not refuse, the newest first.
 pub fn sending_examples()
     ensures service_sent { OnAsk toy Client (keyed Client) AskService (says (ServiceRequest userauth) ∷ []) }
-    ensures none_sent { OnAsk toy Client (served Client) (AskNone (codes "u")) (says (UserauthRequest (codes "u") connection NoMethod) ∷ []) }
+    ensures none_sent { OnAsk toy Client (served Client) (AskNone (codes "u"))
+        (says (UserauthRequest (codes "u") connection NoMethod) ∷ []) }
     ensures password_sent { OnAsk toy Client (served Client) (AskPassword (codes "u") (codes "p")) (says right_request ∷ []) }
     ensures probe_sent { OnAsk toy Client (served Client) (AskProbe (codes "u") (codes "toy") (codes "k")) (says (probe (codes "k")) ∷ []) }
-    ensures signature_sent { OnAsk toy Client (served Client) (AskSign (codes "u") (codes "toy") (codes "k")) (says (UserauthRequest (codes "u") connection (Publickey (codes "toy") (codes "k") (Some (take 4096 right_signature)))) ∷ []) }
+    ensures signature_sent { OnAsk toy Client (served Client) (AskSign (codes "u") (codes "toy") (codes "k"))
+        (says (UserauthRequest (codes "u") connection (Publickey (codes "toy") (codes "k") (Some (take 4096 right_signature)))) ∷ []) }
     ensures rekey_sent { (side : Side) → OnAsk toy side (fed_again side) AskRekey (says (KexInit (offer_of side false)) ∷ []) }
-    ensures disconnect_sent { OnAsk toy Client (opened Client) (AskDisconnect (codes "x")) (Died ∷ says (Disconnect 11 (codes "x") []) ∷ []) }
-    ensures open_sent { OnAsk toy Client (admitted Client) (AskOpen (codes "session") 10 8 []) (Told (Opening 3) ∷ says_on 3 open_message ∷ []) }
+    ensures disconnect_sent { OnAsk toy Client (opened Client) (AskDisconnect (codes "x"))
+        (Died ∷ says (Disconnect 11 (codes "x") []) ∷ []) }
+    ensures open_sent { OnAsk toy Client (admitted Client) (AskOpen (codes "session") 10 8 [])
+        (Told (Opening 3) ∷ says_on 3 open_message ∷ []) }
     ensures confirm_sent { OnAsk toy Server (channel_opened Server) (AskConfirm 5 20 16 []) (says_on 5 confirm_message ∷ []) }
     ensures refuse_sent { OnAsk toy Server (channel_opened Server) (AskRefuse 5 1) (says_on 5 (ChannelOpenFailure 3 1 [] []) ∷ []) }
-    ensures data_sent { OnAsk toy Client (channel_confirmed Client) (AskData 3 None (codes "x")) (says_on 3 (ChannelData 5 (codes "x")) ∷ []) }
-    ensures extended_data_sent { OnAsk toy Client (channel_confirmed Client) (AskData 3 (Some 1) (codes "x")) (says_on 3 (ChannelExtendedData 5 1 (codes "x")) ∷ []) }
+    ensures data_sent { OnAsk toy Client (channel_confirmed Client) (AskData 3 None (codes "x"))
+        (says_on 3 (ChannelData 5 (codes "x")) ∷ []) }
+    ensures extended_data_sent { OnAsk toy Client (channel_confirmed Client) (AskData 3 (Some 1) (codes "x"))
+        (says_on 3 (ChannelExtendedData 5 1 (codes "x")) ∷ []) }
     ensures adjust_sent { OnAsk toy Client (channel_confirmed Client) (AskAdjust 3 7) (says_on 3 (ChannelWindowAdjust 5 7) ∷ []) }
     ensures eof_sent { OnAsk toy Client (channel_confirmed Client) (AskEof 3) (says_on 3 (ChannelEof 5) ∷ []) }
     ensures close_sent { OnAsk toy Client (channel_confirmed Client) (AskClose 3) (says_on 3 (ChannelClose 5) ∷ []) }
-    ensures request_sent { OnAsk toy Client (channel_confirmed Client) (AskRequest 3 (codes "x") true (codes "y")) (says_on 3 (ChannelRequest 5 (codes "x") true (codes "y")) ∷ []) }
+    ensures request_sent { OnAsk toy Client (channel_confirmed Client) (AskRequest 3 (codes "x") true (codes "y"))
+        (says_on 3 (ChannelRequest 5 (codes "x") true (codes "y")) ∷ []) }
     ensures success_sent { OnAsk toy Client (channel_confirmed Client) (AskReply 3 true) (says_on 3 (ChannelSuccess 5) ∷ []) }
     ensures failure_sent { OnAsk toy Client (channel_confirmed Client) (AskReply 3 false) (says_on 3 (ChannelFailure 5) ∷ []) }
-    ensures global_request_sent { OnAsk toy Client (admitted Client) (AskGlobal (codes "x") true (codes "y")) (says (GlobalRequest (codes "x") true (codes "y")) ∷ []) }
-    ensures global_success_sent { OnAsk toy Client (admitted Client) (AskGlobalReply true (codes "x")) (says (RequestSuccess (codes "x")) ∷ []) }
+    ensures global_request_sent { OnAsk toy Client (admitted Client) (AskGlobal (codes "x") true (codes "y"))
+        (says (GlobalRequest (codes "x") true (codes "y")) ∷ []) }
+    ensures global_success_sent { OnAsk toy Client (admitted Client) (AskGlobalReply true (codes "x"))
+        (says (RequestSuccess (codes "x")) ∷ []) }
     ensures global_failure_sent { OnAsk toy Client (admitted Client) (AskGlobalReply false []) (says RequestFailure ∷ []) }
 {}
 
@@ -378,15 +523,31 @@ pub fn sending_examples()
 pub fn choice_examples()
     ensures first_of_client { first_common (codes "a" ∷ codes "b" ∷ codes "c" ∷ []) (codes "c" ∷ codes "b" ∷ []) ≡ Some (codes "b") }
     ensures nothing_in_common { first_common (codes "a" ∷ []) (codes "ab" ∷ []) ≡ None }
-    ensures markers_are_not_chosen { common Kex (lists_of (record (offer_of Client true) { kex = client_marker ∷ server_marker ∷ codes "a" ∷ [] })) (lists_of (record (offer_of Server true) { kex = server_marker ∷ client_marker ∷ codes "a" ∷ [] })) ≡ Some (codes "a") }
-    ensures server_order_is_not_followed { (choice Server 0 (hears (KexInit (record (offer_of Client true) { host = codes "x" ∷ codes "y" ∷ [] })) ∷ says (KexInit (record (offer_of Server true) { host = codes "y" ∷ codes "x" ∷ [] })) ∷ [])).host ≡ codes "x" }
-    ensures client_order_is_followed { (choice Client 0 (hears (KexInit (record (offer_of Server true) { host = codes "y" ∷ codes "x" ∷ [] })) ∷ says (KexInit (record (offer_of Client true) { host = codes "x" ∷ codes "y" ∷ [] })) ∷ [])).host ≡ codes "x" }
-    ensures each_direction_is_chosen { (choice Client 0 (hears (KexInit (record (offer_of Server true) { mac_cs = codes "y" ∷ codes "x" ∷ []; mac_sc = codes "y" ∷ [] })) ∷ says (KexInit (record (offer_of Client true) { mac_cs = codes "x" ∷ codes "y" ∷ []; mac_sc = codes "x" ∷ codes "y" ∷ [] })) ∷ [])).mac_sc ≡ codes "y" }
+    ensures markers_are_not_chosen { common Kex (lists_of (record (offer_of Client true)
+        { kex = client_marker ∷ server_marker ∷ codes "a" ∷ [] }))
+        (lists_of (record (offer_of Server true) { kex = server_marker ∷ client_marker ∷ codes "a" ∷ [] })) ≡ Some (codes "a") }
+    ensures server_order_is_not_followed { (choice Server 0 (hears
+        (KexInit (record (offer_of Client true) { host = codes "x" ∷ codes "y" ∷ [] }))
+        ∷ says (KexInit (record (offer_of Server true) { host = codes "y" ∷ codes "x" ∷ [] })) ∷ [])).host ≡ codes "x" }
+    ensures client_order_is_followed { (choice Client 0 (hears
+        (KexInit (record (offer_of Server true) { host = codes "y" ∷ codes "x" ∷ [] }))
+        ∷ says (KexInit (record (offer_of Client true) { host = codes "x" ∷ codes "y" ∷ [] })) ∷ [])).host ≡ codes "x" }
+    ensures each_direction_is_chosen { (choice Client 0 (hears
+        (KexInit (record (offer_of Server true) { mac_cs = codes "y" ∷ codes "x" ∷ []; mac_sc = codes "y" ∷ [] }))
+        ∷ says (KexInit (record (offer_of Client true) { mac_cs = codes "x" ∷ codes "y" ∷ []; mac_sc = codes "x" ∷ codes "y" ∷ [] }))
+        ∷ [])).mac_sc ≡ codes "y" }
     ensures no_guess { is_wrong_guess (record (offer_of Client true) { host = codes "x" ∷ [] }) (own_names toy Server) ≡ false }
     ensures right_guess { is_wrong_guess (record (offer_of Client true) { follows = true }) (own_names toy Server) ≡ false }
-    ensures right_guess_after_marker { is_wrong_guess (record (offer_of Client true) { kex = client_marker ∷ codes "curve25519-sha256" ∷ []; follows = true }) (own_names toy Server) ≡ false }
-    ensures wrong_guess_of_method { is_wrong_guess (record (offer_of Client true) { kex = codes "x" ∷ codes "curve25519-sha256" ∷ []; follows = true }) (own_names toy Server) ≡ true }
-    ensures wrong_guess_of_host_key { is_wrong_guess (record (offer_of Client true) { host = codes "x" ∷ codes "toy@example.com" ∷ []; follows = true }) (own_names toy Server) ≡ true }
+    ensures right_guess_after_marker { is_wrong_guess (record (offer_of Client true)
+        { kex = client_marker ∷ codes "curve25519-sha256" ∷ []; follows = true }) (own_names toy Server) ≡ false }
+    ensures wrong_guess_of_method { is_wrong_guess (record (offer_of Client true) {
+      kex = codes "x" ∷ codes "curve25519-sha256" ∷ [];
+      follows = true;
+    }) (own_names toy Server) ≡ true }
+    ensures wrong_guess_of_host_key { is_wrong_guess (record (offer_of Client true) {
+      host = codes "x" ∷ codes "toy@example.com" ∷ [];
+      follows = true;
+    }) (own_names toy Server) ≡ true }
     ensures marker_stands_last { (side : Side) → (offer_of side true).kex ≡ (offer_of side false).kex ++ marker_of side ∷ [] }
 {}
 
@@ -408,8 +569,12 @@ pub fn number_examples()
     ensures key_after_newkeys { (side : Side) → sending_key toy side (completed side) ≡ Some (mac_key side (first_inputs side)) }
     ensures key_of_peer_after_newkeys { (side : Side) → taking_key toy side (keyed side) ≡ Some (mac_key (peer side) (first_inputs side)) }
     ensures key_lasts_while_rekeying { (side : Side) → sending_key toy side (offered_again side) ≡ Some (mac_key side (first_inputs side)) }
-    ensures letters_of_keys { iv_letter Client ∷ iv_letter Server ∷ cipher_letter Client ∷ cipher_letter Server ∷ mac_letter Client ∷ mac_letter Server ∷ [] ≡ codes "ABCDEF" }
-    ensures parts_of_key { (x : Inputs) (session_hash : List ℕ) → key_of plain_crypto Server x session_hash (choice Client 0 (offered Client)) ≡ derived x.shared (exchange_hash x) (iv_letter Server) session_hash 2 ++ derived x.shared (exchange_hash x) (cipher_letter Server) session_hash 3 ++ derived x.shared (exchange_hash x) (mac_letter Server) session_hash 4 }
+    ensures letters_of_keys { iv_letter Client ∷ iv_letter Server ∷ cipher_letter Client ∷ cipher_letter Server ∷ mac_letter Client
+        ∷ mac_letter Server ∷ [] ≡ codes "ABCDEF" }
+    ensures parts_of_key { (x : Inputs) (session_hash : List ℕ) → key_of plain_crypto Server x session_hash
+        (choice Client 0 (offered Client)) ≡ derived x.shared (exchange_hash x) (iv_letter Server) session_hash 2
+        ++ derived x.shared (exchange_hash x) (cipher_letter Server) session_hash 3
+        ++ derived x.shared (exchange_hash x) (mac_letter Server) session_hash 4 }
     ensures same_inputs { first_inputs Client ≡ first_inputs Server }
     ensures shared_of_first_exchange { (side : Side) → (first_inputs side).shared ≡ 3 }
     ensures shared_of_later_exchange { (side : Side) → (exchange toy side 1 (completed_again side)).shared ≡ 12 }
@@ -425,37 +590,54 @@ pub fn authentication_examples()
     ensures changed_password { is_accepted toy (served Server) (codes "u") connection (Password (codes "p") (Some (codes "q"))) ≡ false }
     ensures other_service_of_request { is_accepted toy (served Server) (codes "u") userauth (Password (codes "p") None) ≡ false }
     ensures bare_request { is_accepted toy (served Server) (codes "u") connection NoMethod ≡ false }
-    ensures bare_request_admitted { is_accepted (record toy { admits = λ user. true }) (served Server) (codes "u") connection NoMethod ≡ true }
-    ensures password_not_configured { is_accepted (with_methods (codes "publickey" ∷ [])) (served Server) (codes "u") connection (Password (codes "p") None) ≡ false }
-    ensures key_alone_is_not_accepted { is_accepted toy (served Server) (codes "u") connection (Publickey (codes "toy") (codes "k") None) ≡ false }
+    ensures bare_request_admitted { is_accepted (record toy { admits = λ user. true }) (served Server) (codes "u") connection NoMethod
+        ≡ true }
+    ensures password_not_configured { is_accepted (with_methods (codes "publickey" ∷ [])) (served Server) (codes "u") connection
+        (Password (codes "p") None) ≡ false }
+    ensures key_alone_is_not_accepted { is_accepted toy (served Server) (codes "u") connection (Publickey (codes "toy") (codes "k") None)
+        ≡ false }
     ensures probe_of_known_key { is_good_probe toy (codes "u") connection (Publickey (codes "toy") (codes "k") None) ≡ true }
     ensures probe_of_other_key { is_good_probe toy (codes "u") connection (Publickey (codes "toy") (codes "l") None) ≡ false }
     ensures probe_for_other_service { is_good_probe toy (codes "u") userauth (Publickey (codes "toy") (codes "k") None) ≡ false }
-    ensures probe_not_configured { is_good_probe (with_methods (codes "password" ∷ [])) (codes "u") connection (Publickey (codes "toy") (codes "k") None) ≡ false }
+    ensures probe_not_configured { is_good_probe (with_methods (codes "password" ∷ [])) (codes "u") connection
+        (Publickey (codes "toy") (codes "k") None) ≡ false }
     ensures longest_key { is_known_key (judge_of friendly) [] (replicate 64 0) (replicate 16384 0) ≡ true }
     ensures longer_key { is_known_key (judge_of friendly) [] [] (replicate 16385 0) ≡ false }
     ensures longer_algorithm { is_known_key (judge_of friendly) [] (replicate 65 0) [] ≡ false }
-    ensures what_is_signed { signed_text (codes "s") (codes "u") (codes "c") (codes "t") (codes "k") ≡ 0 ∷ 0 ∷ 0 ∷ 1 ∷ 115 ∷ 50 ∷ 0 ∷ 0 ∷ 0 ∷ 1 ∷ 117 ∷ 0 ∷ 0 ∷ 0 ∷ 1 ∷ 99 ∷ 0 ∷ 0 ∷ 0 ∷ 9 ∷ 112 ∷ 117 ∷ 98 ∷ 108 ∷ 105 ∷ 99 ∷ 107 ∷ 101 ∷ 121 ∷ 1 ∷ 0 ∷ 0 ∷ 0 ∷ 1 ∷ 116 ∷ 0 ∷ 0 ∷ 0 ∷ 1 ∷ 107 ∷ [] }
+    ensures what_is_signed { signed_text (codes "s") (codes "u") (codes "c") (codes "t") (codes "k") ≡ 0 ∷ 0 ∷ 0 ∷ 1 ∷ 115 ∷ 50 ∷ 0 ∷ 0
+        ∷ 0 ∷ 1 ∷ 117 ∷ 0 ∷ 0 ∷ 0 ∷ 1 ∷ 99 ∷ 0 ∷ 0 ∷ 0 ∷ 9 ∷ 112 ∷ 117 ∷ 98 ∷ 108 ∷ 105 ∷ 99 ∷ 107 ∷ 101 ∷ 121 ∷ 1 ∷ 0 ∷ 0 ∷ 0 ∷ 1 ∷ 116
+        ∷ 0 ∷ 0 ∷ 0 ∷ 1 ∷ 107 ∷ [] }
 {}
 
 /// What holds where no more channels or owed replies fit: with 1,024 channels an end has no place for another, and it
 /// owes at most 256 replies.
 pub fn limits()
-    ensures open_refused_while_many_are_owed { (h : List Item) → is_full Client h ≡ true → is_owed_limit_reached Client h ≡ true → refusal Client h open_message ≡ Some OwedFull }
+    ensures open_refused_while_many_are_owed { (h : List Item) → is_full Client h ≡ true → is_owed_limit_reached Client h ≡ true →
+        refusal Client h open_message ≡ Some OwedFull }
     ensures open_while_few_are_owed { (h : List Item) → is_owed_limit_reached Client h ≡ false → refusal Client h open_message ≡ None }
     ensures open_with_place { (h : List Item) → is_full Client h ≡ false → refusal Client h open_message ≡ None }
-    ensures close_refused_while_many_are_owed { (h : List Item) (x : ℕ) → is_confirmed x (notes Client h) ≡ true → has_closed x (notes Client h) ≡ false → is_owed_limit_reached Client h ≡ true → refusal Client h (ChannelClose x) ≡ Some OwedFull }
-    ensures close_that_owes_nothing { (h : List Item) (x : ℕ) → is_confirmed x (notes Client h) ≡ true → has_closed x (notes Client h) ≡ true → refusal Client h (ChannelClose x) ≡ None }
+    ensures close_refused_while_many_are_owed { (h : List Item) (x : ℕ) → is_confirmed x (notes Client h) ≡ true →
+        has_closed x (notes Client h) ≡ false → is_owed_limit_reached Client h ≡ true →
+        refusal Client h (ChannelClose x) ≡ Some OwedFull }
+    ensures close_that_owes_nothing { (h : List Item) (x : ℕ) → is_confirmed x (notes Client h) ≡ true →
+        has_closed x (notes Client h) ≡ true → refusal Client h (ChannelClose x) ≡ None }
     ensures many { map is_limit_reached (255 ∷ 256 ∷ []) ≡ false ∷ true ∷ [] }
     ensures many_are_owed_while_blocked { (h : List Item) → blocked h ≡ false → is_owed_limit_reached Client h ≡ false }
-    ensures open_asked_without_place { (h : List Item) (window most : ℕ) → authenticated Client h ≡ true → blocked h ≡ false → is_rekey_due toy Client h ≡ false → is_full Client h ≡ true → ask_refusal Client h (AskOpen [] window most []) ≡ Some TableFull }
+    ensures open_asked_without_place { (h : List Item) (window most : ℕ) → authenticated Client h ≡ true → blocked h ≡ false →
+        is_rekey_due toy Client h ≡ false → is_full Client h ≡ true → ask_refusal Client h (AskOpen [] window most []) ≡ Some TableFull }
 {}
 
 /// The numbers and the names of refusals, and their reason codes (RFC 4253 section 11.1).
 pub fn refusals()
     ensures numbers { map refusal_number every_refusal ≡ from_to 1 19 }
-    ensures reason_codes { map refusal_reason every_refusal ≡ None ∷ None ∷ map Some (2 ∷ 2 ∷ 5 ∷ 2 ∷ 2 ∷ 3 ∷ 3 ∷ 3 ∷ 9 ∷ 3 ∷ 7 ∷ 2 ∷ 14 ∷ 2 ∷ 2 ∷ 2 ∷ 2 ∷ []) }
-    ensures names { map refusal_name every_refusal ≡ codes "BadLine" ∷ codes "BadVersion" ∷ codes "BadLength" ∷ codes "BadPadding" ∷ codes "BadTag" ∷ codes "BadMessage" ∷ codes "Unexpected" ∷ codes "NoCommon" ∷ codes "NotStrict" ∷ codes "BadPoint" ∷ codes "BadHost" ∷ codes "NoMaterial" ∷ codes "NoService" ∷ codes "NumberSpent" ∷ codes "TooManyTries" ∷ codes "UnknownChannel" ∷ codes "WindowOverrun" ∷ codes "WindowTooLarge" ∷ codes "OwedFull" ∷ [] }
+    ensures reason_codes { map refusal_reason every_refusal ≡ None ∷ None
+        ∷ map Some (2 ∷ 2 ∷ 5 ∷ 2 ∷ 2 ∷ 3 ∷ 3 ∷ 3 ∷ 9 ∷ 3 ∷ 7 ∷ 2 ∷ 14 ∷ 2 ∷ 2 ∷ 2 ∷ 2 ∷ []) }
+    ensures names { map refusal_name every_refusal ≡ codes "BadLine" ∷ codes "BadVersion" ∷ codes "BadLength" ∷ codes "BadPadding"
+        ∷ codes "BadTag" ∷ codes "BadMessage" ∷ codes "Unexpected" ∷ codes "NoCommon" ∷ codes "NotStrict" ∷ codes "BadPoint"
+        ∷ codes "BadHost" ∷ codes "NoMaterial" ∷ codes "NoService" ∷ codes "NumberSpent" ∷ codes "TooManyTries" ∷ codes "UnknownChannel"
+        ∷ codes "WindowOverrun" ∷ codes "WindowTooLarge" ∷ codes "OwedFull" ∷ [] }
     ensures ask_numbers { map ask_refusal_number every_ask_refusal ≡ from_to 1 12 }
-    ensures ask_names { map ask_refusal_name every_ask_refusal ≡ codes "NotYet" ∷ codes "Busy" ∷ codes "NoChannel" ∷ codes "NoRoom" ∷ codes "TooLong" ∷ codes "Ended" ∷ codes "TableFull" ∷ codes "NothingOwed" ∷ codes "RekeyDue" ∷ codes "TooMuch" ∷ codes "WrongSide" ∷ codes "NoMaterial" ∷ [] }
+    ensures ask_names { map ask_refusal_name every_ask_refusal ≡ codes "NotYet" ∷ codes "Busy" ∷ codes "NoChannel" ∷ codes "NoRoom"
+        ∷ codes "TooLong" ∷ codes "Ended" ∷ codes "TableFull" ∷ codes "NothingOwed" ∷ codes "RekeyDue" ∷ codes "TooMuch"
+        ∷ codes "WrongSide" ∷ codes "NoMaterial" ∷ [] }
 {}

@@ -12,11 +12,14 @@ ghost use Rattle.ssh_model.specs.Protocol.Sessions.Refusals.{Refusal.BadLength, 
 pub fn packet_units<K>()
     ensures stand_alone { (c : Crypto K) (key : Option K) (number count : ℕ) (unit more other : List ℕ) (a b : Outcome) → IsSealing c →
         PacketUnit c key number count unit a → PacketUnit c key number count other b → unit ++ more ≡ other → more ≡ [] }
-    ensures have_one_outcome { (c : Crypto K) (key : Option K) (number count : ℕ) (unit : List ℕ) (a b : Outcome) → IsSealing c → PacketUnit c key number count unit a → PacketUnit c key number count unit b → a ≡ b }
-    ensures have_bytes { (c : Crypto K) (key : Option K) (number count : ℕ) (a : Outcome) → IsSealing c → PacketUnit c key number count [] a → ⊥ }
-    ensures come_after_what_is_begun { (c : Crypto K) (key : Option K) (number count : ℕ) (bytes unit more : List ℕ) (a : Outcome) → IsSealing c → IsPacketBegun c key count bytes → unit ++ more ≡ bytes →
-        PacketUnit c key number count unit a → ⊥ }
-    ensures leave_no_gap { (c : Crypto K) (key : Option K) (number count : ℕ) (bytes : List ℕ) → IsSealing c → IsPlace number count → AreBytes bytes → IsPacketBegun c key count bytes ⊎ HasUnit (PacketUnit c key number count) bytes }
+    ensures have_one_outcome { (c : Crypto K) (key : Option K) (number count : ℕ) (unit : List ℕ) (a b : Outcome) → IsSealing c →
+        PacketUnit c key number count unit a → PacketUnit c key number count unit b → a ≡ b }
+    ensures have_bytes { (c : Crypto K) (key : Option K) (number count : ℕ) (a : Outcome) → IsSealing c →
+        PacketUnit c key number count [] a → ⊥ }
+    ensures come_after_what_is_begun { (c : Crypto K) (key : Option K) (number count : ℕ) (bytes unit more : List ℕ) (a : Outcome) →
+        IsSealing c → IsPacketBegun c key count bytes → unit ++ more ≡ bytes → PacketUnit c key number count unit a → ⊥ }
+    ensures leave_no_gap { (c : Crypto K) (key : Option K) (number count : ℕ) (bytes : List ℕ) → IsSealing c → IsPlace number count →
+        AreBytes bytes → IsPacketBegun c key count bytes ⊎ HasUnit (PacketUnit c key number count) bytes }
 {}
 
 /// Which sizes packets have whose tag has 16 bytes, at both sides of each bound: in blocks of which packet_length is a
@@ -46,9 +49,11 @@ pub fn size_examples()
 /// What some bytes are to an end that awaits a packet in clear.
 pub fn packet_examples<K>()
     ensures newkeys { (c : Crypto K) → PacketUnit c None 0 0 (0 ∷ 0 ∷ 0 ∷ 12 ∷ 10 ∷ 21 ∷ replicate 10 0) (Opens (21 ∷ [])) }
-    ensures last_number { (c : Crypto K) → PacketUnit c None 4294967295 4294967295 (0 ∷ 0 ∷ 0 ∷ 12 ∷ 10 ∷ 21 ∷ replicate 10 0) (Opens (21 ∷ [])) }
+    ensures last_number { (c : Crypto K) → PacketUnit c None 4294967295 4294967295 (0 ∷ 0 ∷ 0 ∷ 12 ∷ 10 ∷ 21 ∷ replicate 10 0)
+        (Opens (21 ∷ [])) }
     ensures spent_number { (c : Crypto K) → PacketUnit c None 4294967296 4294967296 (0 ∷ 0 ∷ 0 ∷ 12 ∷ []) (RefusedPacket NumberSpent) }
-    ensures last_of_plain_epoch { (c : Crypto K) → PacketUnit c None 3 4294967295 (0 ∷ 0 ∷ 0 ∷ 12 ∷ 10 ∷ 21 ∷ replicate 10 0) (Opens (21 ∷ [])) }
+    ensures last_of_plain_epoch { (c : Crypto K) → PacketUnit c None 3 4294967295 (0 ∷ 0 ∷ 0 ∷ 12 ∷ 10 ∷ 21 ∷ replicate 10 0)
+        (Opens (21 ∷ [])) }
     ensures spent_plain_epoch { (c : Crypto K) → PacketUnit c None 4 4294967296 (0 ∷ 0 ∷ 0 ∷ 12 ∷ []) (RefusedPacket NumberSpent) }
     ensures no_whole_blocks { (c : Crypto K) → PacketUnit c None 0 0 (0 ∷ 0 ∷ 0 ∷ 11 ∷ []) (RefusedPacket BadLength) }
     ensures largest { (c : Crypto K) → IsPacketBegun c None 0 (0 ∷ 0 ∷ 136 ∷ 180 ∷ []) }

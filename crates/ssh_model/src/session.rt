@@ -55,7 +55,8 @@ pub fn safety<K>()
 
 /// Whatever is asked, fed and delivered gives a run, so each law of runs holds of it at every moment.
 pub fn every_play<K>()
-    ensures { (p : Parties K) → (before after : World) (events : List Event) → Plays p before events after → Run p before.run → Run p after.run }
+    ensures { (p : Parties K) → (before after : World) (events : List Event) → Plays p before events after → Run p before.run →
+        Run p after.run }
 {}
 
 /// A prefix of an honest run is honest.

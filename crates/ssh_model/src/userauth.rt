@@ -12,25 +12,37 @@ ghost use Rattle.ssh_model.specs.Protocol.KeyExchange.Exchanges.{exchanges, sess
 ghost use Rattle.ssh_model.specs.Protocol.Authentication.Requests.{judge_of};
 ghost use Rattle.ssh_model.specs.Protocol.Authentication.Rows.{authentication_checks, authentication_ask_checks};
 ghost use Rattle.ssh_model.specs.State.Authentication.Kept as kept;
-ghost use Rattle.ssh_model.specs.State.Authentication.Kept.{Answered, new_server, opened_server, server_checks, server_takes, ServerTakes, new_client, opened_client, client_takes, is_key_probe, ClientTakes, client_checks, ClientSends};
-ghost use Rattle.ssh_model.specs.State.Authentication.Summary.{ServerSumsUp, ClientSumsUp, ServerAccepts, ClientAccepts, ClientAllows, LeavesServer, LeavesClient};
+ghost use Rattle.ssh_model.specs.State.Authentication.Kept.{Answered, new_server, opened_server, server_checks, server_takes, ServerTakes};
+ghost use Rattle.ssh_model.specs.State.Authentication.Kept.{new_client, opened_client, client_takes, is_key_probe, ClientTakes};
+ghost use Rattle.ssh_model.specs.State.Authentication.Kept.{client_checks, ClientSends};
+ghost use Rattle.ssh_model.specs.State.Authentication.Summary.{ServerSumsUp, ClientSumsUp, ServerAccepts, ClientAccepts, ClientAllows};
+ghost use Rattle.ssh_model.specs.State.Authentication.Summary.{LeavesServer, LeavesClient};
 
 /// What a new server keeps sums up the empty history, and what an opened one keeps sums up the history with
 /// SERVICE_ACCEPT sent; items of other layers keep it.
 #[tactic(auto, using(crate::proofs::Authentication::Rows::server_starts, crate::proofs::Authentication::Rows::server_opened, crate::proofs::Authentication::Rows::server_kept))]
 pub fn server_beginnings()
     ensures new { ServerSumsUp [] new_server }
-    ensures opened { (history : List Item) (server : kept.Server) (channel : Option ℕ) (service payload : List ℕ) → ServerSumsUp history server → ServerSumsUp (Sent channel (ServiceAccept service) payload ∷ history) (opened_server server) }
-    ensures kept { (history : List Item) (server : kept.Server) (item : Item) → LeavesServer item → ServerSumsUp history server → ServerSumsUp (item ∷ history) server }
+    ensures opened { (history : List Item) (server : kept.Server) (channel : Option ℕ) (service payload : List ℕ) →
+        ServerSumsUp history server → ServerSumsUp (Sent channel (ServiceAccept service) payload ∷ history) (opened_server server) }
+    ensures kept { (history : List Item) (server : kept.Server) (item : Item) → LeavesServer item → ServerSumsUp history server →
+        ServerSumsUp (item ∷ history) server }
 {}
 
 /// What a server keeps refuses a message as a session does, and takes the numbers from 50 to 79 that a session takes.
 /// The answer is one of a session, and what is then kept sums up the history with the message and its answer.
 #[tactic(auto, using(crate::proofs::Authentication::Rows::server_refused, crate::proofs::Authentication::Rows::server_accepted, crate::proofs::Authentication::Numbers::server_number))]
 pub fn server_messages<K>()
-    ensures numbers { (number : ℕ) → 50 ≤ number → number < 80 → (p : Parties K) (history : List Item) (server : kept.Server) → ServerSumsUp history server → phase p Server history ≡ Normal → may_take p Server history number ≡ server_takes server number }
-    ensures refused { (p : Parties K) (history : List Item) (server : kept.Server) → ServerSumsUp history server → (message : Msg) → first_refusal (authentication_checks p Server history message) ≡ first_refusal (server_checks (judge_of p) p.server.tries p.server.methods (session_id (exchanges p Server history)) server message) }
-    ensures accepted { (p : Parties K) (history : List Item) (server : kept.Server) → ServerSumsUp history server → (message : Msg) (answered : Answered) (new : kept.Server) → ServerTakes (judge_of p) p.server.methods (session_id (exchanges p Server history)) server message answered new → ServerAccepts p history message answered new }
+    ensures numbers { (number : ℕ) → 50 ≤ number → number < 80 → (p : Parties K) (history : List Item) (server : kept.Server) →
+        ServerSumsUp history server → phase p Server history ≡ Normal → may_take p Server history number ≡ server_takes server number }
+    ensures refused { (p : Parties K) (history : List Item) (server : kept.Server) → ServerSumsUp history server → (message : Msg) →
+        first_refusal (authentication_checks p Server history message)
+        ≡ first_refusal (server_checks (judge_of p) p.server.tries p.server.methods (session_id (exchanges p Server history)) server
+        message) }
+    ensures accepted { (p : Parties K) (history : List Item) (server : kept.Server) → ServerSumsUp history server →
+        (message : Msg) (answered : Answered) (new : kept.Server) →
+        ServerTakes (judge_of p) p.server.methods (session_id (exchanges p Server history)) server message answered new →
+        ServerAccepts p history message answered new }
 {}
 
 /// What a new client keeps sums up the empty history, and what an opened one keeps sums up the history with
@@ -38,8 +50,10 @@ pub fn server_messages<K>()
 #[tactic(auto, using(crate::proofs::Authentication::Rows::client_starts, crate::proofs::Authentication::Rows::client_opened, crate::proofs::Authentication::Rows::client_kept))]
 pub fn client_beginnings()
     ensures new { ClientSumsUp [] new_client }
-    ensures opened { (history : List Item) (client : kept.Client) (channel : Option ℕ) (service payload : List ℕ) → ClientSumsUp history client → ClientSumsUp (Took channel (ServiceAccept service) payload ∷ history) (opened_client client) }
-    ensures kept { (history : List Item) (client : kept.Client) (item : Item) → LeavesClient item → ClientSumsUp history client → ClientSumsUp (item ∷ history) client }
+    ensures opened { (history : List Item) (client : kept.Client) (channel : Option ℕ) (service payload : List ℕ) →
+        ClientSumsUp history client → ClientSumsUp (Took channel (ServiceAccept service) payload ∷ history) (opened_client client) }
+    ensures kept { (history : List Item) (client : kept.Client) (item : Item) → LeavesClient item → ClientSumsUp history client →
+        ClientSumsUp (item ∷ history) client }
 {}
 
 /// What a client keeps takes the numbers from 50 to 79 that a session takes, and tells whether a key probe is
@@ -47,15 +61,22 @@ pub fn client_beginnings()
 /// and its answer.
 #[tactic(auto, using(crate::proofs::Authentication::Rows::client_accepted, crate::proofs::Authentication::Rows::probing_is, crate::proofs::Authentication::Numbers::client_number))]
 pub fn client_messages<K>()
-    ensures numbers { (number : ℕ) → 50 ≤ number → number < 80 → (p : Parties K) (history : List Item) (client : kept.Client) → ClientSumsUp history client → phase p Client history ≡ Normal → may_take p Client history number ≡ client_takes client number }
-    ensures probes { (history : List Item) (client : kept.Client) → ClientSumsUp history client → probing history ≡ is_key_probe client.outstanding }
-    ensures accepted { (p : Parties K) (history : List Item) (client : kept.Client) → ClientSumsUp history client → (message : Msg) (answered : Answered) (new : kept.Client) → ClientTakes client message answered new → ClientAccepts p history message answered new }
+    ensures numbers { (number : ℕ) → 50 ≤ number → number < 80 → (p : Parties K) (history : List Item) (client : kept.Client) →
+        ClientSumsUp history client → phase p Client history ≡ Normal → may_take p Client history number ≡ client_takes client number }
+    ensures probes { (history : List Item) (client : kept.Client) → ClientSumsUp history client →
+        probing history ≡ is_key_probe client.outstanding }
+    ensures accepted { (p : Parties K) (history : List Item) (client : kept.Client) → ClientSumsUp history client →
+        (message : Msg) (answered : Answered) (new : kept.Client) → ClientTakes client message answered new →
+        ClientAccepts p history message answered new }
 {}
 
 /// What a client keeps refuses an ask as a session does. Where it does not, what is sent is what a session sends, and
 /// what is then kept sums up the history with it.
 #[tactic(auto, using(crate::proofs::Authentication::Rows::client_refused, crate::proofs::Authentication::Rows::client_allowed))]
 pub fn client_asks<K>()
-    ensures refused { (history : List Item) (client : kept.Client) → ClientSumsUp history client → (ask : Ask) → first_refusal (authentication_ask_checks Client history ask) ≡ first_refusal (client_checks client ask) }
-    ensures allowed { (p : Parties K) (history : List Item) (client : kept.Client) → ClientSumsUp history client → (ask : Ask) (message : Msg) (new : kept.Client) → ClientSends (user_signature_by p) (session_id (exchanges p Client history)) client ask message new → ClientAllows p history ask message new }
+    ensures refused { (history : List Item) (client : kept.Client) → ClientSumsUp history client → (ask : Ask) →
+        first_refusal (authentication_ask_checks Client history ask) ≡ first_refusal (client_checks client ask) }
+    ensures allowed { (p : Parties K) (history : List Item) (client : kept.Client) → ClientSumsUp history client →
+        (ask : Ask) (message : Msg) (new : kept.Client) → ClientSends (user_signature_by p) (session_id (exchanges p Client history))
+        client ask message new → ClientAllows p history ask message new }
 {}

@@ -71,9 +71,16 @@ impl Model for LineReader {
 
     ghost Value = { LineReading };
 
-    ghost view = { λ r. record { from_server = r.from_server; others = r.others; text = take r.text r.line; begun = begun_by r.ended r.after_cr (take r.filled r.line); ended = ended_by r.ended (take r.filled r.line) } };
+    ghost view = { λ r. record {
+      from_server = r.from_server;
+      others = r.others;
+      text = take r.text r.line;
+      begun = begun_by r.ended r.after_cr (take r.filled r.line);
+      ended = ended_by r.ended (take r.filled r.line);
+    } };
 
-    ghost invariant = { λ r. (length r.line ≡ 255) × (r.filled ≤ 255) × (r.text ≤ 255) × (r.others ≤ 64) × IsKept r.ended r.after_cr r.filled r.line };
+    ghost invariant = { λ r. (length r.line ≡ 255) × (r.filled ≤ 255) × (r.text ≤ 255) × (r.others ≤ 64)
+        × IsKept r.ended r.after_cr r.filled r.line };
 }
 
 impl LineReader {

@@ -1,9 +1,11 @@
-ghost use Rattle.std.specs.Prelude.{◌≡◌, ◌≢◌, ◌↔◌, IsTrue, ◌<◌, ◌≤◌, ◌+◌, ◌-◌, ◌++◌, ◌^◌, ℕ, List, [], true, false, length, take, min, drop, IfSome, IfNone, OnOk, IfOk, Some, None, slice_index};
+ghost use Rattle.std.specs.Prelude.{◌≡◌, ◌≢◌, ◌↔◌, IsTrue, ◌<◌, ◌≤◌, ◌+◌, ◌-◌, ◌++◌, ◌^◌, ℕ, List, [], true, false, length, take, min};
+ghost use Rattle.std.specs.Prelude.{drop, IfSome, IfNone, OnOk, IfOk, Some, None, slice_index};
 ghost use Rattle.std.specs.Vec.{vec_capacity, vec_len};
 ghost use Rattle.std.specs.Option.{option_copied};
 ghost use Rattle.ssh_model.specs.Protocol.Wire.DataTypes.{AreBytes};
 ghost use Rattle.ssh_model.specs.Protocol.Wire.Packet.{IsBlock, IsPacket, is_size as fits_size};
-ghost use Rattle.ssh_model.specs.Protocol.Wire.Sealing.{HasSize, IsBadLength, IsBegun, IsWhole, blocks_under, is_wire_size, opened_under, tag_under};
+ghost use Rattle.ssh_model.specs.Protocol.Wire.Sealing.{HasSize, IsBadLength, IsBegun, IsWhole, blocks_under, is_wire_size, opened_under};
+ghost use Rattle.ssh_model.specs.Protocol.Wire.Sealing.{tag_under};
 ghost use Rattle.ssh_packet.specs.Reading.{Finds, HasPadding, IsReceived, Reading, empty, inner};
 
 use crate::blocks::Blocks;
@@ -44,9 +46,14 @@ impl Model for PacketReader {
 
     ghost Value = { Reading };
 
-    ghost view = { λ r. record { rest = take r.filled r.buffer.items; payload = take r.shown (drop 5 r.buffer.items); refused = r.refused } };
+    ghost view = { λ r. record {
+      rest = take r.filled r.buffer.items;
+      payload = take r.shown (drop 5 r.buffer.items);
+      refused = r.refused;
+    } };
 
-    ghost invariant = { λ r. (length r.buffer.items ≡ 35000) × (vec_capacity r.buffer ≡ 35000) × (r.filled ≤ 35000) × (r.shown + 5 ≤ 35000) };
+    ghost invariant = { λ r. (length r.buffer.items ≡ 35000) × (vec_capacity r.buffer ≡ 35000) × (r.filled ≤ 35000)
+        × (r.shown + 5 ≤ 35000) };
 }
 
 // What stands in the buffer after bytes were received.
@@ -126,9 +133,11 @@ impl PacketReader {
         ensures used { result.0 ≤ length bytes.now }
         ensures progress { self.old.refused ≡ None → 0 < length bytes.now → 0 < result.0 }
         ensures more { result.1 ≡ ReadStep.More → result.0 ≡ length bytes.now }
-        ensures found { self.old.refused ≡ None → Finds S.crypto (option_copied key.entry) number (self.old.rest ++ take result.0 bytes.now) result.1 self.new }
+        ensures found { self.old.refused ≡ None → Finds S.crypto (option_copied key.entry) number
+            (self.old.rest ++ take result.0 bytes.now) result.1 self.new }
         ensures refused { IfSome self.old.refused (λ refusal. (result ≡ (0, ReadStep.Refused refusal)) × (self.new ≡ self.old)) }
-        ensures begun { IsBegun (blocks_under S.crypto (option_copied key.entry)) (tag_under S.crypto (option_copied key.entry)) self.new.rest }
+        ensures begun { IsBegun (blocks_under S.crypto (option_copied key.entry)) (tag_under S.crypto (option_copied key.entry))
+            self.new.rest }
     {
         if let Some(refusal) = self.refused {
             return (0, ReadStep::Refused(refusal));
@@ -166,7 +175,8 @@ impl PacketReader {
         requires whole { IsWhole (blocks_under S.crypto (option_copied key)) (tag_under S.crypto (option_copied key)) self.old.rest }
         requires clear { self.old ≡ record empty { rest = self.old.rest } }
         ensures good { result ≡ (opened_under S.crypto (option_copied key.entry) number self.old.rest).good }
-        ensures bytes { take (length self.old.rest - tag_under S.crypto (option_copied key.entry)) self.new.rest ≡ (opened_under S.crypto (option_copied key.entry) number self.old.rest).bytes }
+        ensures bytes { take (length self.old.rest - tag_under S.crypto (option_copied key.entry)) self.new.rest
+            ≡ (opened_under S.crypto (option_copied key.entry) number self.old.rest).bytes }
         ensures clear { self.new ≡ record empty { rest = self.new.rest } }
         ensures size { length self.new.rest ≡ length self.old.rest }
     {
@@ -314,7 +324,8 @@ fn open_front<S: Sealing>(key: &S::Key, number: u32, buffer: &mut [u8], size: us
     requires within { size ≤ length buffer.old }
     requires size { IsTrue (is_wire_size (S.crypto.blocks key.now) (S.crypto.tag key.now) size) }
     ensures good { result ≡ (S.crypto.opened key.now number (take size buffer.old)).good }
-    ensures bytes { take (size - S.crypto.tag key.now) (take size buffer.new) ≡ (S.crypto.opened key.now number (take size buffer.old)).bytes }
+    ensures bytes { take (size - S.crypto.tag key.now) (take size buffer.new)
+        ≡ (S.crypto.opened key.now number (take size buffer.old)).bytes }
 {
     S::open(key, number, &mut buffer[..size])
 }

@@ -44,7 +44,8 @@ pub trait Sealing {
         cipher: &[u8],
         mac_key: &[u8],
     ) -> Result<Self::Key, AllocError>
-        requires { IsSomeAnd (crypto.lengths enc.now mac.now) (λ n. (length iv.now ≡ n.iv) × (length cipher.now ≡ n.cipher) × (length mac_key.now ≡ n.mac)) }
+        requires { IsSomeAnd (crypto.lengths enc.now mac.now) (λ n. (length iv.now ≡ n.iv) × (length cipher.now ≡ n.cipher)
+            × (length mac_key.now ≡ n.mac)) }
         ensures { IfOk result (λ key. key ≡ crypto.made enc.now mac.now iv.now cipher.now mac_key.now) };
 
     /// The block size in bytes: 8, 16, 32 or 64.

@@ -43,11 +43,14 @@ pub fn write_packet<S: Sealing, F: Filler>(
     out: &mut Vec<u8>,
 ) -> Result<(), AllocError>
     requires some { 1 ≤ length payload.now }
-    requires fits { packet_size (blocks_under S.crypto (option_copied key)) (tag_under S.crypto (option_copied key)) (length payload.now) ≤ 35000 }
+    requires fits { packet_size (blocks_under S.crypto (option_copied key)) (tag_under S.crypto (option_copied key))
+        (length payload.now) ≤ 35000 }
     ensures written { OnOk result (Writes (IsSealed S.crypto (option_copied key.entry) number payload.now) out.old.items out.new.items) }
-    ensures padded { OnOk result (Pads S.crypto (option_copied key.entry) number payload.now (λ padding. F.gives filler.old padding filler.new) out.old.items out.new.items) }
+    ensures padded { OnOk result (Pads S.crypto (option_copied key.entry) number payload.now
+        (λ padding. F.gives filler.old padding filler.new) out.old.items out.new.items) }
     ensures kept { OnErr result (out.new.items ≡ out.old.items) }
-    ensures full { OnErr result (vec_capacity out.old < length out.old.items + packet_size (blocks_under S.crypto (option_copied key.entry)) (tag_under S.crypto (option_copied key.entry)) (length payload.now)) }
+    ensures full { OnErr result (vec_capacity out.old < length out.old.items + packet_size
+        (blocks_under S.crypto (option_copied key.entry)) (tag_under S.crypto (option_copied key.entry)) (length payload.now)) }
 {
     let start = out.as_slice().len();
     let tag = tag_of::<S>(key);
@@ -64,8 +67,10 @@ pub fn write_packet<S: Sealing, F: Filler>(
 // Seals the packet that begins at `start` and ends with the bytes; in clear nothing is done.
 fn seal_from<S: Sealing>(key: Option<&S::Key>, number: u32, bytes: &mut Vec<u8>, start: usize)
     requires within { start ≤ length bytes.old.items }
-    requires size { IsTrue (is_wire_size (blocks_under S.crypto (option_copied key)) (tag_under S.crypto (option_copied key)) (length bytes.old.items - start)) }
-    ensures { bytes.new.items ≡ take start bytes.old.items ++ sealed_under S.crypto (option_copied key.entry) number (take (length bytes.old.items - start - tag_under S.crypto (option_copied key.entry)) (drop start bytes.old.items)) }
+    requires size { IsTrue (is_wire_size (blocks_under S.crypto (option_copied key)) (tag_under S.crypto (option_copied key))
+        (length bytes.old.items - start)) }
+    ensures { bytes.new.items ≡ take start bytes.old.items ++ sealed_under S.crypto (option_copied key.entry) number
+        (take (length bytes.old.items - start - tag_under S.crypto (option_copied key.entry)) (drop start bytes.old.items)) }
 {
     if let Some(key) = key {
         seal_slice::<S>(key, number, bytes, start);
@@ -76,7 +81,8 @@ fn seal_from<S: Sealing>(key: Option<&S::Key>, number: u32, bytes: &mut Vec<u8>,
 fn seal_slice<S: Sealing>(key: &S::Key, number: u32, bytes: &mut [u8], start: usize)
     requires within { start ≤ length bytes.old }
     requires size { IsTrue (is_wire_size (S.crypto.blocks key.now) (S.crypto.tag key.now) (length bytes.old - start)) }
-    ensures { bytes.new ≡ take start bytes.old ++ S.crypto.sealed key.now number (take (length bytes.old - start - S.crypto.tag key.now) (drop start bytes.old)) }
+    ensures { bytes.new ≡ take start bytes.old ++ S.crypto.sealed key.now number
+        (take (length bytes.old - start - S.crypto.tag key.now) (drop start bytes.old)) }
 {
     S::seal(key, number, &mut bytes[start..])
 }
@@ -106,7 +112,8 @@ fn put_parts<F: Filler>(
     requires padding { padding ≤ 255 }
     requires tag { tag ≤ 64 }
     requires payload { length payload.now ≤ 35000 }
-    ensures written { OnOk result (Writes (HasParts padding tag (λ padding. F.gives filler.old padding filler.new) payload.now) out.old.items out.new.items) }
+    ensures written { OnOk result (Writes (HasParts padding tag (λ padding. F.gives filler.old padding filler.new) payload.now)
+        out.old.items out.new.items) }
     ensures kept { OnErr result (Extends out.old.items out.new.items) }
     ensures full { OnErr result (vec_capacity out.old < length out.old.items + (5 + length payload.now + padding + tag)) }
 {
@@ -126,7 +133,8 @@ fn put_padding<F: Filler>(
 ) -> Result<(), AllocError>
     requires padding { padding ≤ 255 }
     requires tag { tag ≤ 64 }
-    ensures written { OnOk result (Writes (IsTail padding tag (λ padding. F.gives filler.old padding filler.new)) out.old.items out.new.items) }
+    ensures written { OnOk result (Writes (IsTail padding tag (λ padding. F.gives filler.old padding filler.new)) out.old.items
+        out.new.items) }
     ensures kept { OnErr result (out.new.items ≡ out.old.items) }
     ensures full { OnErr result (vec_capacity out.old < length out.old.items + (padding + tag)) }
 {

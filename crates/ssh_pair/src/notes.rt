@@ -20,7 +20,8 @@ use std::alloc::{AllocError, Global};
 
 // Notes what an end did.
 pub(crate) fn note(log: &mut Vec<Done>, side: Side, item: Item) -> Result<(), AllocError>
-    ensures { OnOk result ((run : List session.Done) (what : session.Item) → IsItem item what → Notes log.old.items run → Notes log.new.items (By (side_of side) what ∷ run)) }
+    ensures { OnOk result ((run : List session.Done) (what : session.Item) → IsItem item what → Notes log.old.items run →
+        Notes log.new.items (By (side_of side) what ∷ run)) }
 {
     log.push(Done { side, item })?;
     Ok(())
@@ -118,7 +119,8 @@ fn note_payload(
     channel: Option<u32>,
     payload: &[u8],
 ) -> Result<(), AllocError>
-    ensures { OnOk result ((message : Msg) → Adds (side_of side) (session.Item.Sent channel message payload.now ∷ []) log.old.items log.new.items) }
+    ensures { OnOk result ((message : Msg) → Adds (side_of side) (session.Item.Sent channel message payload.now ∷ []) log.old.items
+        log.new.items) }
 {
     let payload = payload.to_vec(alloc)?;
     note(log, side, Item::Sent { channel, payload })
@@ -155,7 +157,8 @@ pub(crate) fn note_ask(
     sent: &SentPayloads<'_>,
     is_over: bool,
 ) -> Result<(), AllocError>
-    ensures { OnOk result (AddsAsk (side_of side) (ask_of ask.now) done (payloads_in sent.now) (channels_in sent.now) is_over log.old.items log.new.items) }
+    ensures { OnOk result (AddsAsk (side_of side) (ask_of ask.now) done (payloads_in sent.now) (channels_in sent.now) is_over
+        log.old.items log.new.items) }
 {
     match done {
         Ok(step) => {

@@ -25,7 +25,8 @@ pub(crate) fn ask_end<R: EndRole>(
     log: &mut Vec<Done>,
     out: &mut Vec<u8>,
 ) -> Result<(), AllocError>
-    ensures answers { OnOk result (Answers R.EndRole (side_of R.Exchange.SIDE) end.old (ask_of ask.now) end.new log.old.items log.new.items out.old.items out.new.items) }
+    ensures answers { OnOk result (Answers R.EndRole (side_of R.Exchange.SIDE) end.old (ask_of ask.now) end.new log.old.items
+        log.new.items out.old.items out.new.items) }
     ensures role { end.new.role ≡ end.old.role }
 {
     parts();
@@ -54,7 +55,8 @@ pub(crate) fn deliver_to_end<R: EndRole>(
     log: &mut Vec<Done>,
     out: &mut Vec<u8>,
 ) -> Result<(), AllocError>
-    ensures advanced { OnOk result (Advances R.EndRole (side_of R.Exchange.SIDE) end.old piece.now end.new log.old.items log.new.items out.old.items out.new.items) }
+    ensures advanced { OnOk result (Advances R.EndRole (side_of R.Exchange.SIDE) end.old piece.now end.new log.old.items log.new.items
+        out.old.items out.new.items) }
     ensures role { end.new.role ≡ end.old.role }
     ensures live { OnOk result (Stands (side_of R.Exchange.SIDE) end.new.machine) }
 {
@@ -82,7 +84,8 @@ fn advance_end<R: EndRole>(
     requires alive { end.old.machine.kept.dead ≡ false }
     ensures used { IfOk result (λ used. used ≤ length bytes.now) }
     ensures progress { IfOk result (λ used. 0 < length bytes.now → 0 < used) }
-    ensures advanced { IfOk result (λ used. Advances R.EndRole (side_of R.Exchange.SIDE) end.old (take used bytes.now) end.new log.old.items log.new.items out.old.items out.new.items) }
+    ensures advanced { IfOk result (λ used. Advances R.EndRole (side_of R.Exchange.SIDE) end.old (take used bytes.now) end.new
+        log.old.items log.new.items out.old.items out.new.items) }
     ensures role { end.new.role ≡ end.old.role }
 {
     parts();

@@ -53,7 +53,8 @@ impl<
     ghost use Rattle.ssh_layers.specs.Layers as of_server;
     ghost use Rattle.ssh_pair.specs.Standing.{PairState};
 
-    ghost Value = { PairState (EndValue S.Key (ClientRole C U S C.Filler C.Agreement C.HostTrust S.Key) of_client.Layers) (EndValue S.Key (ServerRole V J S V.Filler V.Agreement V.HostSigner S.Key) of_server.Layers) };
+    ghost Value = { PairState (EndValue S.Key (ClientRole C U S C.Filler C.Agreement C.HostTrust S.Key) of_client.Layers)
+        (EndValue S.Key (ServerRole V J S V.Filler V.Agreement V.HostSigner S.Key) of_server.Layers) };
 
     ghost view = { λ pair. record { client = pair.client; server = pair.server; failed = pair.failed } };
 }
@@ -82,8 +83,8 @@ impl<
     V: ServerParts<Sealing = S>,
     J: UserJudge + Drop,
 > Pair<S, C, U, V, J> {
-    /// Two ends that put out their version lines and first KEXINITs (RFC 4253 sections 4.2 and 7.1), and what they did. Each has the parts, the
-    /// user, and the pair of cookie and secret that were handed in for it.
+    /// Two ends that put out their version lines and first KEXINITs (RFC 4253 sections 4.2 and 7.1), and what they did. Each has the parts,
+    /// the user, and the pair of cookie and secret that were handed in for it.
     ///
     /// # Errors
     ///
@@ -94,7 +95,8 @@ impl<
         server: ServerValues<V, J>,
     ) -> Result<(Pair<S, C, U, V, J>, Transcript), AllocError>
         ensures opens { IfOk result (λ r. PairMade ⟦<ClientRole<C, U> as EndRole>⟧ ⟦<ServerRole<V, J> as EndRole>⟧
-            (settings_of client.config) (settings_of server.config) (record { cookie = client.cookie; secret = client.secret }) (record { cookie = server.cookie; secret = server.secret }) r.0 r.1) }
+            (settings_of client.config) (settings_of server.config) (record { cookie = client.cookie; secret = client.secret })
+            (record { cookie = server.cookie; secret = server.secret }) r.0 r.1) }
         ensures fine { IfOk result (λ r. r.0.failed ≡ false) }
         ensures client_parts { IfOk result (λ r. HasClientParts client.parts.agreement client.parts.host_trust client.user r.0.client) }
         ensures server_parts { IfOk result (λ r. HasServerParts server.parts.agreement server.parts.host_signer server.user r.0.server) }
@@ -130,14 +132,15 @@ impl<
     ///
     /// # Errors
     ///
-    /// Where memory for the transcript is refused, the pair has failed: each later call answers that too. So it is where a server is refused
-    /// memory that has no sequence number left.
+    /// Where memory for the transcript is refused, the pair has failed: each later call answers that too. So it is where a server is
+    /// refused memory that has no sequence number left.
     pub fn play(&mut self, events: &[Event<'_>]) -> Result<Transcript, AllocError>
         ensures failed { self.old.failed ≡ true → IsErr result }
         ensures fails { OnErr result (self.new.failed ≡ true) }
         ensures fine { OnOk result (self.new.failed ≡ false) }
         ensures parts { SameParts self.old self.new }
-        ensures plays { IfOk result (λ t. PairPlays ⟦<ClientRole<C, U> as EndRole>⟧ ⟦<ServerRole<V, J> as EndRole>⟧ self.old (events_of events.now) self.new t) }
+        ensures plays { IfOk result (λ t. PairPlays ⟦<ClientRole<C, U> as EndRole>⟧ ⟦<ServerRole<V, J> as EndRole>⟧ self.old
+            (events_of events.now) self.new t) }
     {
         plays::<S::Key>();
         safety::<S::Key>();
@@ -164,7 +167,8 @@ impl<
         ensures still { self.new.failed ≡ self.old.failed }
         ensures unchanged { result ≡ false → self.new ≡ self.old }
         ensures parts { SameParts self.old self.new }
-        ensures fed { self.old.failed ≡ false → PairFeeds ⟦<ClientRole<C, U> as EndRole>⟧ ⟦<ServerRole<V, J> as EndRole>⟧ self.old (side_of side) (record { cookie = cookie; secret = secret }) result self.new }
+        ensures fed { self.old.failed ≡ false → PairFeeds ⟦<ClientRole<C, U> as EndRole>⟧ ⟦<ServerRole<V, J> as EndRole>⟧ self.old
+            (side_of side) (record { cookie = cookie; secret = secret }) result self.new }
     {
         parts();
         events::<S::Key>();
@@ -182,7 +186,8 @@ impl<
     fn play_one(&mut self, event: Event<'_>, transcript: &mut Transcript) -> Result<(), AllocError>
         ensures failed { self.new.failed ≡ self.old.failed }
         ensures parts { SameParts self.old self.new }
-        ensures plays { OnOk result (GoesOn ⟦<ClientRole<C, U> as EndRole>⟧ ⟦<ServerRole<V, J> as EndRole>⟧ self.old (event_of event.entry) self.new transcript.old transcript.new) }
+        ensures plays { OnOk result (GoesOn ⟦<ClientRole<C, U> as EndRole>⟧ ⟦<ServerRole<V, J> as EndRole>⟧ self.old
+            (event_of event.entry) self.new transcript.old transcript.new) }
     {
         match event {
             Event::Ask(side, ask) => self.ask(side, &ask, transcript),
@@ -199,7 +204,8 @@ impl<
     ) -> Result<(), AllocError>
         ensures failed { self.new.failed ≡ self.old.failed }
         ensures parts { SameParts self.old self.new }
-        ensures plays { OnOk result (GoesOn ⟦<ClientRole<C, U> as EndRole>⟧ ⟦<ServerRole<V, J> as EndRole>⟧ self.old (session.Asks (side_of side) (ask_of ask.now)) self.new transcript.old transcript.new) }
+        ensures plays { OnOk result (GoesOn ⟦<ClientRole<C, U> as EndRole>⟧ ⟦<ServerRole<V, J> as EndRole>⟧ self.old
+            (session.Asks (side_of side) (ask_of ask.now)) self.new transcript.old transcript.new) }
     {
         parts();
         events::<S::Key>();
@@ -230,7 +236,8 @@ impl<
     ) -> Result<(), AllocError>
         ensures failed { self.new.failed ≡ self.old.failed }
         ensures parts { SameParts self.old self.new }
-        ensures plays { OnOk result (GoesOn ⟦<ClientRole<C, U> as EndRole>⟧ ⟦<ServerRole<V, J> as EndRole>⟧ self.old (session.Delivers (side_of side) bytes.now) self.new transcript.old transcript.new) }
+        ensures plays { OnOk result (GoesOn ⟦<ClientRole<C, U> as EndRole>⟧ ⟦<ServerRole<V, J> as EndRole>⟧ self.old
+            (session.Delivers (side_of side) bytes.now) self.new transcript.old transcript.new) }
     {
         parts();
         events::<S::Key>();

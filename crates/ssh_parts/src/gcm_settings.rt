@@ -7,8 +7,8 @@ ghost use Rattle.ssh_transport_base.specs.Values.{given};
 use ssh_message::Extension;
 use ssh_transport_base::{Settings, Strictness};
 
-/// The settings of an end that offers aes128-gcm@openssh.com and requires strict key exchange. They have no field for either: the counter of
-/// AES-GCM begins anew with each NEWKEYS (RFC 5647 section 7.1), and a packet's number does so under strict key exchange alone.
+/// The settings of an end that offers aes128-gcm@openssh.com and requires strict key exchange. They have no field for either: the counter
+/// of AES-GCM begins anew with each NEWKEYS (RFC 5647 section 7.1), and a packet's number does so under strict key exchange alone.
 #[derive(Clone, Copy, Debug)]
 pub struct GcmSettings<'a> {
     /// The version of the software (RFC 4253 section 4.2), as `Settings` has it.
@@ -31,8 +31,8 @@ pub struct GcmSettings<'a> {
 
 impl<'a> GcmSettings<'a> {
     /// The settings of an end whose version line has this software: host keys of ssh-ed25519, an exchange of keys after 2^20 packets, six
-    /// requests for authentication, by a key or a password, and no extensions. Fewer than 2^32 blocks of 16 bytes then go under one key, as RFC
-    /// 4344 section 3.2 asks.
+    /// requests for authentication, by a key or a password, and no extensions. Fewer than 2^32 blocks of 16 bytes then go under one key, as
+    /// RFC 4344 section 3.2 asks.
     pub fn new(software: &'a [u8]) -> GcmSettings<'a>
         ensures { gcm_given result ≡ standard_given software.now }
     {
@@ -48,8 +48,8 @@ impl<'a> GcmSettings<'a> {
         }
     }
 
-    /// What `Config::new` takes: these values, the key exchange curve25519-sha256, the encryption aes128-gcm@openssh.com, the MAC hmac-sha2-256,
-    /// which both ends name and AES-GCM does without, and strict key exchange, required.
+    /// What `Config::new` takes: these values, the key exchange curve25519-sha256, the encryption aes128-gcm@openssh.com, the MAC
+    /// hmac-sha2-256, which both ends name and AES-GCM does without, and strict key exchange, required.
     pub fn settings(&self) -> Settings<'a>
         ensures { given result ≡ gcm_given self.now }
     {

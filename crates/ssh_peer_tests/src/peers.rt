@@ -240,8 +240,8 @@ fn two_ends_over_real_parts(rt: HostRuntime) -> Result<(), Fail> {
     Ok(())
 }
 
-// The client asks the server for the service of authentication, and is told that it has it. A payload of 17 bytes fills two blocks of 16 with its
-// padding, after packet_length and before a tag of 16 bytes.
+// The client asks the server for the service of authentication, and is told that it has it. A payload of 17 bytes fills two blocks of 16
+// with its padding, after packet_length and before a tag of 16 bytes.
 fn is_served(
     client: &mut ClientTransport<GcmClient>,
     server: &mut ServerTransport<GcmServer>,

@@ -19,7 +19,8 @@ use ssh_transport_base::ClientPartValues;
 use std::alloc::{AllocError, Global};
 use std::random::RandomSource;
 
-/// A client of SSH-2 that runs one command. Bytes of the server go in, and bytes for it come out; beside them the command's input and its output.
+/// A client of SSH-2 that runs one command. Bytes of the server go in, and bytes for it come out; beside them the command's input and its
+/// output.
 #[derive(Drop)]
 pub struct Client<'a, R: RandomSource + Drop> {
     end: Watched<ClientEnd<PipeClient, UserKey>>,
@@ -85,7 +86,8 @@ impl<'a, R: RandomSource + Drop> Client<'a, R> {
         self.desk.error_output.as_slice()
     }
 
-    /// What the server says to the user since then (RFC 4252 section 5.4): printable US-ASCII characters and ends of lines, with `?` for all else.
+    /// What the server says to the user since then (RFC 4252 section 5.4): printable US-ASCII characters and ends of lines, with `?` for
+    /// all else.
     pub fn notes(&self) -> &[u8] {
         self.desk.notes.as_slice()
     }

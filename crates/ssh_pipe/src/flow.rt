@@ -75,8 +75,8 @@ impl Flow {
         self.sent >= self.waiting.len()
     }
 
-    /// Sends as much as one packet takes, and answers how many bytes that was: none where nothing can be sent now, for want of room in the peer's window
-    /// or while keys are exchanged.
+    /// Sends as much as one packet takes, and answers how many bytes that was: none where nothing can be sent now, for want of room in the
+    /// peer's window or while keys are exchanged.
     ///
     /// # Errors
     ///

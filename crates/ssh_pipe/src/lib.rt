@@ -1,9 +1,9 @@
-//! A client and a server of SSH-2 over a pipe: what the peer sends comes from a reader, and what goes to the peer is written to a writer. The client runs
-//! one command, the server has commands of its own.
+//! A client and a server of SSH-2 over a pipe: what the peer sends comes from a reader, and what goes to the peer is written to a writer.
+//! The client runs one command, the server has commands of its own.
 //!
-//! `Server` and `Client` are `Machine`s, which go from bytes to bytes, and `pump` lets one go on between a reader and a writer. What they decide by
-//! themselves is `ssh_pipe_policy`, and what they tell `ssh_pipe_log`; everything else that they do is to hand on. `ssh_pipe_commands` makes them from the
-//! words of a command line.
+//! `Server` and `Client` are `Machine`s, which go from bytes to bytes, and `pump` lets one go on between a reader and a writer. What they
+//! decide by themselves is `ssh_pipe_policy`, and what they tell `ssh_pipe_log`; everything else that they do is to hand on.
+//! `ssh_pipe_commands` makes them from the words of a command line.
 //!
 //! ```rust
 //! let mut out = Vec::new(alloc);

@@ -45,8 +45,8 @@ impl<'a> Login<'a> {
         }
     }
 
-    /// What was asked for failed, and these methods can go on. Answers whether there is another thing to ask for. A password is sent only where the server
-    /// names the method.
+    /// What was asked for failed, and these methods can go on. Answers whether there is another thing to ask for. A password is sent only
+    /// where the server names the method.
     pub fn fail(&mut self, methods: &NameList<'_>) -> bool {
         let was_key = self.key.is_some();
         self.key = None;

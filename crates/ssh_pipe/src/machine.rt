@@ -9,7 +9,8 @@ pub trait Machine {
     /// Takes a piece of the peer's stream, of any size, and puts what is sent for it into `out`.
     fn take(&mut self, piece: &[u8], out: &mut Vec<u8>) -> Result<(), PipeError>;
 
-    /// Does what can be done without further bytes of the peer. Once it puts nothing into `out`, there is nothing to do until more bytes come.
+    /// Does what can be done without further bytes of the peer. Once it puts nothing into `out`, there is nothing to do until more bytes
+    /// come.
     fn go_on(&mut self, out: &mut Vec<u8>) -> Result<(), PipeError>;
 
     /// Tests whether the end is over.
@@ -25,8 +26,9 @@ pub trait Machine {
 /// The bytes that are read at once.
 const PIECE: usize = 65_536;
 
-/// Lets an end go on until it is over or its peer's stream ends: reads what the peer sends from `input`, and writes what goes to the peer to `output`, what
-/// stands in `out` first. What is to be told of it is written to `log`. A peer that takes nothing any more is still heard, since it may have said why.
+/// Lets an end go on until it is over or its peer's stream ends: reads what the peer sends from `input`, and writes what goes to the peer
+/// to `output`, what stands in `out` first. What is to be told of it is written to `log`. A peer that takes nothing any more is still
+/// heard, since it may have said why.
 ///
 /// # Errors
 ///

@@ -38,8 +38,8 @@ impl ServerParts for PipeServer {
 /// The methods of authentication that there are (RFC 4252 sections 7 and 8).
 pub const METHODS: &[&[u8]] = &[b"publickey", b"password"];
 
-/// The settings of an end, which requires strict key exchange, under this policy. `methods` are those of authentication that a server names; at a client
-/// they mean nothing.
+/// The settings of an end, which requires strict key exchange, under this policy. `methods` are those of authentication that a server
+/// names; at a client they mean nothing.
 ///
 /// # Errors
 ///

@@ -1,5 +1,6 @@
-//! What the program `ssh_pipe` does with its words and its files: `call_of` reads the words of a command line, and `serve` and `call` let a server or a
-//! client of `ssh_pipe` go on over the files that they name. What went wrong is told in a line, and a `Status` is the exit status of it.
+//! What the program `ssh_pipe` does with its words and its files: `call_of` reads the words of a command line, and `serve` and `call` let a
+//! server or a client of `ssh_pipe` go on over the files that they name. What went wrong is told in a line, and a `Status` is the exit
+//! status of it.
 //!
 //! A program that serves one connection over standard input and output:
 //!

@@ -8,8 +8,8 @@ use std::random::RandomSource;
 // The line is written again behind so many bytes more.
 const STEP: u64 = 1_048_576;
 
-/// A client with its files, and a line on a terminal that says how much of the input was read and of the output written. Where there is no terminal
-/// nothing is shown.
+/// A client with its files, and a line on a terminal that says how much of the input was read and of the output written. Where there is no
+/// terminal nothing is shown.
 #[derive(Drop)]
 pub struct ShownFiles<
     'a,

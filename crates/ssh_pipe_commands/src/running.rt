@@ -61,8 +61,8 @@ fn is_orderly(ending: &Ending) -> bool {
     }
 }
 
-/// Runs one command at the server as the options say. Why it can't is told on `err`; there the command's output goes too, where the options name no file.
-/// Where they name one and `err` is a terminal, a line on it says how far the transfer is.
+/// Runs one command at the server as the options say. Why it can't is told on `err`; there the command's output goes too, where the options
+/// name no file. Where they name one and `err` is a terminal, a line on it says how far the transfer is.
 pub fn call<R: Files + AllocGlobal + RandomSource, I: Read, O: Write, E: Write + Copy + IsTerminal>(
     rt: &R,
     options: &ClientOptions<'_>,

@@ -4,7 +4,8 @@ use base64::engine::general_purpose::STANDARD_NO_PAD;
 use sha2::{Digest, Sha256};
 use std::{fmt, str};
 
-/// The fingerprint of a public key, as `ssh-keygen -l` prints it: `SHA256:` and the SHA-256 of the key as 43 base64 digits (RFC 4648 section 4).
+/// The fingerprint of a public key, as `ssh-keygen -l` prints it: `SHA256:` and the SHA-256 of the key as 43 base64 digits (RFC 4648
+/// section 4).
 #[derive(Clone, Copy, PartialEq, Eq)]
 pub struct Fingerprint {
     hash: [u8; 32],

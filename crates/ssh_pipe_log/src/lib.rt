@@ -1,5 +1,5 @@
-//! What a program that embeds an end of SSH-2 tells its user as it goes: who came in and by what, and each message by its number and name. Nothing that is
-//! told is a secret: of a password, a private key or data of a channel no byte and no length.
+//! What a program that embeds an end of SSH-2 tells its user as it goes: who came in and by what, and each message by its number and name.
+//! Nothing that is told is a secret: of a password, a private key or data of a channel no byte and no length.
 //!
 //! A `Watched` is an end whose turns are told in a `Log`. It is an `End` like the one in it:
 //!

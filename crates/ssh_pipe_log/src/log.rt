@@ -6,7 +6,8 @@ use ssh_message::{Message, Method, name};
 use std::alloc::Global;
 use std::io::{self, Write};
 
-/// Lines for the user of a program, each with its end. Texts of the peer stand in them with all but printable US-ASCII characters as escapes.
+/// Lines for the user of a program, each with its end. Texts of the peer stand in them with all but printable US-ASCII characters as
+/// escapes.
 #[derive(Drop)]
 pub struct Log {
     lines: Vec<u8>,

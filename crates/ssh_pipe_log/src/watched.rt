@@ -9,7 +9,8 @@ use ssh_pipe_policy::End;
 use std::alloc::Global;
 use std::io;
 
-/// An end whose turns are told in a log. It does what the end in it does; a turn that can't be told for want of memory answers `Fault::Memory`.
+/// An end whose turns are told in a log. It does what the end in it does; a turn that can't be told for want of memory answers
+/// `Fault::Memory`.
 #[derive(Drop)]
 pub struct Watched<E: End + Drop> {
     end: E,

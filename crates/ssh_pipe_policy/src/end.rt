@@ -44,7 +44,8 @@ pub trait End {
 }
 
 impl<R: EndRole> End for ssh_end::End<R> {
-    ghost feeds = { λ end cookie secret is_taken new. Feeds end.machine cookie secret is_taken new.machine × (new ≡ record end { machine = new.machine }) };
+    ghost feeds = { λ end cookie secret is_taken new. Feeds end.machine cookie secret is_taken new.machine
+        × (new ≡ record end { machine = new.machine }) };
 
     ghost is_due = { λ end. nat_le end.machine.kept.settings.epoch_limit end.machine.kept.sending.count };
 
@@ -80,7 +81,8 @@ impl<R: EndRole> End for ssh_end::End<R> {
 pub enum AskOutcome {
     /// It is done.
     Done,
-    /// It can't be done yet, since keys are being exchanged or have to be, or the peer's NEWKEYS is still to come: it is asked for again later.
+    /// It can't be done yet, since keys are being exchanged or have to be, or the peer's NEWKEYS is still to come: it is asked for again
+    /// later.
     Later,
     /// What it was for is gone: the peer closed the channel.
     Gone,

@@ -12,8 +12,9 @@ use ssh_packet::Filler;
 use std::io;
 use std::random::RandomSource;
 
-/// A source of random bytes. Its ghost member `gives` says which bytes a call may give, from the value before it to the value after it, so that
-/// a clause can say that bytes are those of a call and of no earlier one. Each `RandomSource` is one, of whose bytes nothing is promised.
+/// A source of random bytes. Its ghost member `gives` says which bytes a call may give, from the value before it to the value after it, so
+/// that a clause can say that bytes are those of a call and of no earlier one. Each `RandomSource` is one, of whose bytes nothing is
+/// promised.
 pub trait Entropy: Drop {
     ghost gives: { Self → List ℕ → Self → Type 0 };
 
@@ -93,8 +94,9 @@ impl<R: Entropy> KeySupply<R> {
         })
     }
 
-    /// Called after every turn of the end. It keeps one cookie and one secret with the end, since the peer may begin an exchange at any time, and begins
-    /// the exchange where it is due. Random bytes are drawn only once the ones before were handed in, and what was handed in is kept no longer.
+    /// Called after every turn of the end. It keeps one cookie and one secret with the end, since the peer may begin an exchange at any
+    /// time, and begins the exchange where it is due. Random bytes are drawn only once the ones before were handed in, and what was handed
+    /// in is kept no longer.
     ///
     /// # Errors
     ///

@@ -1,10 +1,12 @@
-//! What a program decides by itself that embeds an end of SSH-2: how large windows and packets are, when a window is given back, how much is sent at once,
-//! when keys are fed and exchanged, and whom a server lets in. Everything else is the protocol's, and the end does it.
+//! What a program decides by itself that embeds an end of SSH-2: how large windows and packets are, when a window is given back, how much
+//! is sent at once, when keys are fed and exchanged, and whom a server lets in. Everything else is the protocol's, and the end does it.
 //!
-//! - **Windows.** A channel's `Window` counts what the peer may send, what came and is not done with, and what is done with and not given back. The
+//! - Windows.** A channel's `Window` counts what the peer may send, what came and is not done with, and what is done with and not given
+//! back. The
 //!   three are the window's size at all times, so never more than that is held. It is given back once half of it is done with.
 //! - **Sending.** A packet has as many bytes of data as wait and as both the peer's window and its largest packet allow (`data_len`).
-//! - **Keys.** A `KeySupply` keeps an `End` fed with one cookie and one secret, and begins an exchange where it is due: after `EPOCH_LIMIT` packets.
+//! - Keys.** A `KeySupply` keeps an `End` fed with one cookie and one secret, and begins an exchange where it is due: after `EPOCH_LIMIT`
+//! packets.
 //! - **Users.** A server lets in `OneUser`, by keys and by a password; a client's user signs with a `UserKey`.
 //!
 //! The bytes of a channel whose peer is given back its window once half of it is done with:

@@ -7,8 +7,9 @@ use crate::ciphers::Ciphers;
 /// The largest data of one packet, sent and offered to be taken, in bytes (RFC 4254 section 5.2). An ask for more is refused.
 pub const MOST_DATA: u32 = 32_768;
 
-/// The window of a channel, in bytes, where its user names no other. What is under way to this end fits into a pipe of 64 KiB, so that a peer is never kept
-/// from reading by what it writes. Two ends that write before they read would wait for each other for ever where both windows are larger than the pipes.
+/// The window of a channel, in bytes, where its user names no other. What is under way to this end fits into a pipe of 64 KiB, so that a
+/// peer is never kept from reading by what it writes. Two ends that write before they read would wait for each other for ever where both
+/// windows are larger than the pipes.
 pub const WINDOW: u32 = 32_768;
 
 /// The smallest window that a user may name, in bytes.
@@ -59,8 +60,8 @@ impl Policy {
     };
 }
 
-/// How many bytes of those that wait go into the next packet of data, for a channel into whose window `room` bytes fit and whose peer takes at most
-/// `max_packet` at once (RFC 4254 section 5.2). It is the least of these and of `MOST_DATA`.
+/// How many bytes of those that wait go into the next packet of data, for a channel into whose window `room` bytes fit and whose peer takes
+/// at most `max_packet` at once (RFC 4254 section 5.2). It is the least of these and of `MOST_DATA`.
 pub fn data_len(room: u32, max_packet: u32, waiting: usize) -> usize
     ensures { result ≡ min (min (min room max_packet) MOST_DATA) waiting }
 {

@@ -10,8 +10,8 @@ use ssh_auth::UserJudge;
 use ssh_packet::is_same_tag;
 use ssh_parts::{AcceptedKey, Ed25519Judge};
 
-/// The SHA-256 of a password. It is compared in place of the password, so that the time taken does not depend on where the two first differ, nor on
-/// the password's length.
+/// The SHA-256 of a password. It is compared in place of the password, so that the time taken does not depend on where the two first
+/// differ, nor on the password's length.
 #[derive(Clone, Copy, PartialEq, Eq)]
 pub struct PasswordHash {
     bytes: [u8; 32],

@@ -61,8 +61,8 @@ impl Window {
         };
     }
 
-    /// How many bytes to give back now: all that are done with, once they are half of the window. So a peer that used up the window and whose bytes
-    /// are all done with is never left waiting.
+    /// How many bytes to give back now: all that are done with, once they are half of the window. So a peer that used up the window and
+    /// whose bytes are all done with is never left waiting.
     pub fn due(&self) -> Option<u32>
         ensures due { result ≡ due_of self.now.size self.now.done }
         ensures never_waits { self.now.granted ≡ 0 → self.now.held ≡ 0 → 0 < self.now.size → IsSome result }

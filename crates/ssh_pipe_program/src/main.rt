@@ -1,5 +1,5 @@
-//! The program `ssh_pipe`: `client` runs one command at a server, `server` serves one connection. Standard input is what the peer sends, and standard
-//! output what goes to it.
+//! The program `ssh_pipe`: `client` runs one command at a server, `server` serves one connection. Standard input is what the peer sends,
+//! and standard output what goes to it.
 #![tactic(auto)]
 
 use ssh_pipe_commands::{Call, Status, call, call_of, refuse, report, serve, version};

@@ -1,15 +1,16 @@
-//! Sessions that OpenSSH 9.2p1 had with the two ends of `ssh_pipe`, recorded and played again: as they were, in pieces of one byte, and with a byte changed in turn.
+//! Sessions that OpenSSH 9.2p1 had with the two ends of `ssh_pipe`, recorded and played again: as they were, in pieces of one byte, and
+//! with a byte changed in turn.
 //!
-//! They were recorded by this program, whose random bytes only count: so it puts out the same bytes again, and those that were recorded fit to them. **Never
-//! use it for anything else.** With the keys of data/, and P for its built file, from a directory with those keys:
+//! They were recorded by this program, whose random bytes only count: so it puts out the same bytes again, and those that were recorded fit
+//! to them. **Never use it for anything else.** With the keys of data/, and P for its built file, from a directory with those keys:
 //!
 //! ```text
 //! ssh -i user -o UserKnownHostsFile=known -o ProxyCommand='P server client_of_openssh' reader@example.org echo hello
 //! sshd -i -f config <up >down & P client server_of_openssh >up <down
 //! ```
 //!
-//! `ssh` ended the program before it had read its DISCONNECT, so the first recording has no end. What is as before where a byte is changed is padding of a
-//! packet in clear, which no hash and no tag covers (RFC 4253 section 6).
+//! `ssh` ended the program before it had read its DISCONNECT, so the first recording has no end. What is as before where a byte is changed
+//! is padding of a packet in clear, which no hash and no tag covers (RFC 4253 section 6).
 #![tactic(auto)]
 
 mod counted;

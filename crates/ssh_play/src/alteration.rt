@@ -35,7 +35,8 @@ impl Alteration {
     ///
     /// Only where memory is refused.
     pub fn altered(&self, alloc: Global, parcel: &Parcel<'_>) -> Result<Option<Vec<u8>>, AllocError>
-        ensures { IfOk result (λ bytes. option_map (λ v. v.items) bytes ≡ option_map (changed_at self.now.change parcel.now.bytes.now) (index_of self.now parcel.now)) }
+        ensures { IfOk result (λ bytes. option_map (λ v. v.items) bytes
+            ≡ option_map (changed_at self.now.change parcel.now.bytes.now) (index_of self.now parcel.now)) }
     {
         let Some(index) = self.index_in(parcel) else {
             return Ok(None);

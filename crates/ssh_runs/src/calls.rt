@@ -1,7 +1,8 @@
 //! Each public call that may answer want of memory, and those between packets and channels that need none.
 //!
-//! A call that memory is refused leaves what it was given as it was, gives nothing, and finds memory when it is made again. A transport and an end are over instead, with nothing
-//! put out, and a pair of ends has failed. Between `taking` and `taken` stand the calls that need no memory.
+//! A call that memory is refused leaves what it was given as it was, gives nothing, and finds memory when it is made again. A transport and
+//! an end are over instead, with nothing put out, and a pair of ends has failed. Between `taking` and `taken` stand the calls that need no
+//! memory.
 
 mod appending;
 mod changing;

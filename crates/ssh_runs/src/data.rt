@@ -1,5 +1,5 @@
-//! 100 CHANNEL_DATA messages of 327 to 32,700 bytes at each of two ends. `taking` is said before the first is taken and `taken` after the last: between the two no
-//! allocation may be refused, since no message is taken by one.
+//! 100 CHANNEL_DATA messages of 327 to 32,700 bytes at each of two ends. `taking` is said before the first is taken and `taken` after the
+//! last: between the two no allocation may be refused, since no message is taken by one.
 
 use crate::status::Status;
 use ssh_channels::Ask as ChannelAsk;
@@ -70,7 +70,8 @@ fn take(ends: &mut ToyEnds) -> Result<usize, Fault> {
     Ok(at_server.saturating_add(at_client))
 }
 
-// The client closes the channel, and the server does. It answers whether the server's reply is shown with that channel, and both ends have one session id.
+// The client closes the channel, and the server does. It answers whether the server's reply is shown with that channel, and both ends have
+// one session id.
 fn close(ends: &mut ToyEnds) -> Result<bool, Fault> {
     let close = ChannelAsk::Close { channel: 0 };
     ends.ask(Side::Client, &Ask::Connection(close))?;

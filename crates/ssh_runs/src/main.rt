@@ -1,9 +1,11 @@
-//! What is run as a program, since no test reads a file or meets its own allocations alone: stored scripts, recorded payloads of OpenSSH, Dropbear and PuTTY, and
-//! what becomes of calls, plays and ends where memory is refused. `make memory` runs the parts `calls`, `plays` and `data` with each allocation refused in turn, until a run meets no refusal, and `sweeping` with some of its many refused.
+//! What is run as a program, since no test reads a file or meets its own allocations alone: stored scripts, recorded payloads of OpenSSH,
+//! Dropbear and PuTTY, and what becomes of calls, plays and ends where memory is refused. `make memory` runs the parts `calls`, `plays` and
+//! `data` with each allocation refused in turn, until a run meets no refusal, and `sweeping` with some of its many refused.
 //!
-//! The word `scripts`, `payloads`, `calls`, `plays`, `data`, `sweeping` or `sweep` names the part that is run, and `unswept` all but the last; without a word all are. The
-//! status is 0 where nothing was refused or a smaller allocation made up for it, 3 where memory was refused before what the part is about, and 4 where it
-//! was refused within that; what this means is said next to each part. All else is wrong: a part says so, and the status is 1. It is 2 for other words.
+//! The word `scripts`, `payloads`, `calls`, `plays`, `data`, `sweeping` or `sweep` names the part that is run, and `unswept` all but the
+//! last; without a word all are. The status is 0 where nothing was refused or a smaller allocation made up for it, 3 where memory was
+//! refused before what the part is about, and 4 where it was refused within that; what this means is said next to each part. All else is
+//! wrong: a part says so, and the status is 1. It is 2 for other words.
 #![tactic(auto)]
 
 mod calls;

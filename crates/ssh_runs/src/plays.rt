@@ -1,10 +1,10 @@
-//! Two sessions, one of them with a second exchange of keys, each played twice and compared. Where an allocation is refused, one of the two plays meets that,
-//! and it has to end in one of two ways. Either it says that memory was refused, and nothing else. Or one end has died and the other has not: what was done
-//! before is what the other play did, the end put out the bytes of what it had sent before that call and no more, and the payloads that each end took after
-//! its first NEWKEYS are a prefix of those that the other sent after its own.
+//! Two sessions, one of them with a second exchange of keys, each played twice and compared. Where an allocation is refused, one of the two
+//! plays meets that, and it has to end in one of two ways. Either it says that memory was refused, and nothing else. Or one end has died
+//! and the other has not: what was done before is what the other play did, the end put out the bytes of what it had sent before that call
+//! and no more, and the payloads that each end took after its first NEWKEYS are a prefix of those that the other sent after its own.
 //!
-//! The scripts are read before `playing` is said. While they are read a smaller allocation may make up for one that is refused; from then on none may, so a play
-//! that met a refusal and did all the same is wrong.
+//! The scripts are read before `playing` is said. While they are read a smaller allocation may make up for one that is refused; from then
+//! on none may, so a play that met a refusal and did all the same is wrong.
 
 mod bytes;
 
@@ -57,7 +57,8 @@ pass s c all
 pass c s all
 ";
 
-/// Plays and compares. It counts as before where memory was refused to the scripts, and to a play that says so, and as within where an end died.
+/// Plays and compares. It counts as before where memory was refused to the scripts, and to a play that says so, and as within where an end
+/// died.
 pub fn run<R: Print + AllocGlobal>(rt: &R) -> Status {
     let alloc = rt.alloc();
     let (channel, rekey) = match (script_of(alloc, CHANNEL), script_of(alloc, REKEY)) {
@@ -92,7 +93,8 @@ fn script_of(alloc: Global, rest: &str) -> Result<SessionScript, ScriptFault> {
     }
 }
 
-// Plays a script twice. One allocation is refused at most, so one of the two plays is whole, and the comparison meets a refusal only where both are.
+// Plays a script twice. One allocation is refused at most, so one of the two plays is whole, and the comparison meets a refusal only where
+// both are.
 fn twice(alloc: Global, script: &SessionScript) -> Status {
     match (play_through(alloc, script), play_through(alloc, script)) {
         (Ok(one), Ok(other)) => compared(alloc, &one, &other).unwrap_or(Status::Wrong),

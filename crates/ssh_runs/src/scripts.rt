@@ -1,5 +1,5 @@
-//! Stored scripts, of whole sessions and of one epoch: whether the ends do what each expects of them. And sweeps: a whole session is played with
-//! each byte that goes over the network changed, left out and doubled in turn, and so is one without strict key exchange.
+//! Stored scripts, of whole sessions and of one epoch: whether the ends do what each expects of them. And sweeps: a whole session is played
+//! with each byte that goes over the network changed, left out and doubled in turn, and so is one without strict key exchange.
 
 use crate::status::Status;
 use ssh_trace::{check_to, sweep_to};
@@ -95,10 +95,11 @@ const EPOCHS: &[&str] = &[
     "epoch_recorded_openssh",
 ];
 
-// Those that are swept: a session with strict key exchange, and one without it, in which the answer to a request for a service is lost. The second is
-// unsafe as it is, and stays so where nothing depends on the byte: on each of the 64 that are lost, in all three ways; on padding of a packet without a
-// tag that is flipped, 11 bytes after a KEXINIT, 6 after a point and 10 after NEWKEYS of each side; and on the last byte of each side that comes
-// twice. The client puts out 291 bytes there, and the server 395, so 3 * 64 + 2 * (11 + 6 + 10) + 2 of its 3 * (291 + 395) runs are unsafe.
+// Those that are swept: a session with strict key exchange, and one without it, in which the answer to a request for a service is lost. The
+// second is unsafe as it is, and stays so where nothing depends on the byte: on each of the 64 that are lost, in all three ways; on padding
+// of a packet without a tag that is flipped, 11 bytes after a KEXINIT, 6 after a point and 10 after NEWKEYS of each side; and on the last
+// byte of each side that comes twice. The client puts out 291 bytes there, and the server 395, so 3 * 64 + 2 * (11 + 6 + 10) + 2 of its 3 *
+// (291 + 395) runs are unsafe.
 const SWEPT: &[&str] = &["whole_session", "plain_session_cut"];
 
 /// Compares, and says on `out` what came of it. It is done unless a file can't be read, which is told on `err`.

@@ -1,4 +1,5 @@
-//! The command that sweeps, over a script that delivers one line. Where memory is refused, it says so and nothing else, or it finds the same.
+//! The command that sweeps, over a script that delivers one line. Where memory is refused, it says so and nothing else, or it finds the
+//! same.
 
 use crate::status::Status;
 use ssh_trace::{Status as Answered, sweep_to};
@@ -6,7 +7,8 @@ use std::alloc::{AllocError, Global};
 
 const SCRIPT: &str = "pass c s 11\n";
 
-// Each end puts out its line, 11 bytes, and the packet of a KEXINIT of 165 bytes, which is 176. Each of these 374 bytes is changed, left out and doubled.
+// Each end puts out its line, 11 bytes, and the packet of a KEXINIT of 165 bytes, which is 176. Each of these 374 bytes is changed, left
+// out and doubled.
 const WHOLE: &[u8] = b"1122 runs, 0 unsafe\n";
 
 // What is said where memory is refused, be it while the script is read.

@@ -73,8 +73,8 @@ impl Script {
     ///
     /// # Errors
     ///
-    /// `TooLong` for more than `MOST_SCRIPT_BYTES`. The fault of the first line that is wrong, with the line's number and what is possible there. `Memory`
-    /// comes only where memory was refused.
+    /// `TooLong` for more than `MOST_SCRIPT_BYTES`. The fault of the first line that is wrong, with the line's number and what is possible
+    /// there. `Memory` comes only where memory was refused.
     pub fn read(alloc: Global, text: &[u8]) -> Result<Script, ScriptFault>
         ensures { 2 ^ 24 < length text.now → result ≡ Err TooLong }
     {

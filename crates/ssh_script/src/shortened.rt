@@ -8,7 +8,8 @@ use std::fmt::{Debug, Display, Formatter};
 // A message repeats at most so many bytes of a word.
 const MOST: usize = 200;
 
-/// A word as a message repeats it: whole, or of a longer one the first 200 bytes at most and how many it has. Between double quotes where it is debugged.
+/// A word as a message repeats it: whole, or of a longer one the first 200 bytes at most and how many it has. Between double quotes where
+/// it is debugged.
 #[derive(Clone, Copy)]
 pub struct Shortened<'a>(pub &'a str);
 

@@ -1,6 +1,7 @@
-//! A client and a server over real parts exchange keys three times, each kept fed by a `KeySupply` over bytes that only count. Printed is the draw that each
-//! cookie and each public value is of. The first draw of a supply gives the first cookie, the second the first secret, the third the key of the padding, and each
-//! exchange of keys takes the next two. So a draw that is used twice, one that is left out, or a secret that was never drawn is seen here.
+//! A client and a server over real parts exchange keys three times, each kept fed by a `KeySupply` over bytes that only count. Printed is
+//! the draw that each cookie and each public value is of. The first draw of a supply gives the first cookie, the second the first secret,
+//! the third the key of the padding, and each exchange of keys takes the next two. So a draw that is used twice, one that is left out, or a
+//! secret that was never drawn is seen here.
 #![tactic(auto)]
 
 mod counted;

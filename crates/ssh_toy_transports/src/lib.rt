@@ -1,5 +1,5 @@
-//! The transports of both roles over the toys, for tests and programs that drive them by hand. **They protect nothing**: never use them on a
-//! network.
+//! The transports of both roles over the toys, for tests and programs that drive them by hand. **They protect nothing**: never use them on
+//! a network.
 //!
 //! ```rust
 //! let mut out = Vec::new(alloc);

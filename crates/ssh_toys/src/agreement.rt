@@ -11,7 +11,8 @@ pub struct ToyAgreement;
 impl Agreement for ToyAgreement {
     ghost public_of = { λ _ secret. secret };
 
-    ghost shared_of = { λ _ secret theirs. if pointwise nat_eq (zip2 bit_xor secret theirs) (replicate 32 0) then None else Some (zip2 bit_xor secret theirs) };
+    ghost shared_of = { λ _ secret theirs. if pointwise nat_eq (zip2 bit_xor secret theirs) (replicate 32 0) then None else Some
+        (zip2 bit_xor secret theirs) };
 
     fn public(&self, secret: &[u8; 32]) -> [u8; 32] {
         *secret

@@ -23,7 +23,12 @@ pub struct ToyJudge<'a> {
 }
 
 impl UserJudge for ToyJudge<'_> {
-    ghost verdicts = { λ judge. record { admits = λ _. false; password_is_right = is_password_of judge.credentials.now; knows_key = λ user _ key. is_key_of judge.credentials.now user key; signature_is_right = λ _ _ text signature. is_text signature (sha256 text) } };
+    ghost verdicts = { λ judge. record {
+      admits = λ _. false;
+      password_is_right = is_password_of judge.credentials.now;
+      knows_key = λ user _ key. is_key_of judge.credentials.now user key;
+      signature_is_right = λ _ _ text signature. is_text signature (sha256 text);
+    } };
 
     fn none(&self, _user: &[u8]) -> bool {
         false

@@ -36,10 +36,9 @@ impl From<AllocError> for DecodeFault {
 /// first of these that holds: `refused 3 BadLength`; `incomplete`, where bytes are missing; `refused 4 BadPadding`;
 /// `trailing N`, where N bytes follow the packet; `refused 6 BadMessage`.
 ///
-/// `Status::Done` where a message was printed, `Status::Refused` for another line; `err` then has a line that says which field is wrong, at which byte of the
-/// packet, counted from 1, and why. `Status::Fault`, with a message on
-/// `err` and nothing on `out`, for a text that isn't hexadecimal and where an allocation failed; and where writing to `out`
-/// failed.
+/// `Status::Done` where a message was printed, `Status::Refused` for another line; `err` then has a line that says which field is wrong, at
+/// which byte of the packet, counted from 1, and why. `Status::Fault`, with a message on `err` and nothing on `out`, for a text that isn't
+/// hexadecimal and where an allocation failed; and where writing to `out` failed.
 pub fn decode_to<W: Write, E: Write>(
     alloc: Global,
     text: &str,

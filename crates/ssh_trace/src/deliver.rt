@@ -21,7 +21,8 @@ pub(crate) fn ask(
     out: &mut Vec<u8>,
 ) -> Result<(), AllocError>
     requires { 1 ≤ length payload.now }
-    ensures asked { OnOk result (Asked end.old.sending_key (side_of side) payload.now end.old end.new log.old.items log.new.items out.old.items out.new.items) }
+    ensures asked { OnOk result (Asked end.old.sending_key (side_of side) payload.now end.old end.new log.old.items log.new.items
+        out.old.items out.new.items) }
     ensures keys { SameKeys end.old end.new }
 {
     if end.is_dead() {
@@ -81,7 +82,8 @@ fn deliver_once(
     requires alive { end.old.dead ≡ false }
     ensures used { IfOk result (λ count. count ≤ length bytes.now) }
     ensures progress { IfOk result (λ count. 0 < length bytes.now → 0 < count) }
-    ensures turn { IfOk result (λ count. Turn end.old.taking_key (side_of side) (take count bytes.now) end.old end.new log.old.items log.new.items) }
+    ensures turn { IfOk result (λ count. Turn end.old.taking_key (side_of side) (take count bytes.now) end.old end.new log.old.items
+        log.new.items) }
     ensures keys { SameKeys end.old end.new }
 {
     let (used, step) = end.take(bytes);

@@ -51,7 +51,10 @@ impl EpochPair {
         server_key: &[u8; 32],
     ) -> Result<EpochPair, Memory>
         ensures stands { IfOk result (λ pair. StandsAt fresh pair) }
-        ensures keys { IfOk result (λ pair. keys_of pair ≡ record { client = key_block client_key.now; server = key_block server_key.now }) }
+        ensures keys { IfOk result (λ pair. keys_of pair ≡ record {
+          client = key_block client_key.now;
+          server = key_block server_key.now;
+        }) }
         ensures fine { IfOk result (λ pair. pair.failed ≡ false) }
     {
         Ok(EpochPair {
@@ -76,11 +79,13 @@ impl EpochPair {
         ensures keys { keys_of self.new ≡ keys_of self.old }
 
         // The transcript, put after all that was done before, is a run of the two ends on these events.
-        ensures plays { IfOk result (λ t. (w : World) → StandsAt w self.old → Plays (events_of events.now) self.old self.new t.items.items t.client_bytes.items t.server_bytes.items w) }
+        ensures plays { IfOk result (λ t. (w : World) → StandsAt w self.old →
+            Plays (events_of events.now) self.old self.new t.items.items t.client_bytes.items t.server_bytes.items w) }
 
         // Where a tag passed only for a payload that the peer had sent under that number, what each side took is a
         // beginning of what the other sent.
-        ensures in_order { IfOk result (λ t. (w : World) → StandsAt w self.old → IsHonestEpoch (logged w.run t.items.items) → TakenInOrder (logged w.run t.items.items)) }
+        ensures in_order { IfOk result (λ t. (w : World) → StandsAt w self.old → IsHonestEpoch (logged w.run t.items.items) →
+            TakenInOrder (logged w.run t.items.items)) }
     {
         taken_in_order();
         if self.failed {

@@ -65,7 +65,8 @@ impl From<AllocError> for Memory {
 // Records what an end did.
 #[tactic(auto, using(crate::proofs::Logs::logged_one))]
 pub(crate) fn note(log: &mut Vec<Done>, side: Side, item: Item) -> Result<(), AllocError>
-    ensures { OnOk result ((run : List history.Done) → logged run log.new.items ≡ By (side_of side) (item_of item) ∷ logged run log.old.items) }
+    ensures { OnOk result ((run : List history.Done) → logged run log.new.items ≡ By (side_of side) (item_of item) ∷ logged run
+        log.old.items) }
 {
     log.push(Done { side, item })?;
     Ok(())
@@ -78,7 +79,8 @@ pub(crate) fn note_took(
     side: Side,
     payload: &[u8],
 ) -> Result<(), AllocError>
-    ensures { OnOk result ((run : List history.Done) → logged run log.new.items ≡ By (side_of side) (history.Took payload.now) ∷ logged run log.old.items) }
+    ensures { OnOk result ((run : List history.Done) → logged run log.new.items ≡ By (side_of side) (history.Took payload.now) ∷ logged
+        run log.old.items) }
 {
     note(log, side, Item::Took(payload.to_vec(alloc)?))
 }
@@ -90,7 +92,8 @@ pub(crate) fn note_sent(
     side: Side,
     payload: &[u8],
 ) -> Result<(), AllocError>
-    ensures { OnOk result ((run : List history.Done) → logged run log.new.items ≡ By (side_of side) (history.Sent payload.now) ∷ logged run log.old.items) }
+    ensures { OnOk result ((run : List history.Done) → logged run log.new.items ≡ By (side_of side) (history.Sent payload.now) ∷ logged
+        run log.old.items) }
 {
     note(log, side, Item::Sent(payload.to_vec(alloc)?))
 }

@@ -1,5 +1,5 @@
-//! The program `ssh_trace`: `decode HEX` shows one clear packet, `play FILE` plays a script, `check FILE` compares what it prints with what it
-//! expects, `sweep FILE` plays it with each byte changed in turn, and `draw FILE` draws what happens. A `-` for FILE is standard input.
+//! The program `ssh_trace`: `decode HEX` shows one clear packet, `play FILE` plays a script, `check FILE` compares what it prints with what
+//! it expects, `sweep FILE` plays it with each byte changed in turn, and `draw FILE` draws what happens. A `-` for FILE is standard input.
 #![tactic(auto)]
 
 use ssh_script::Shortened;

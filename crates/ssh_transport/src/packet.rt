@@ -1,5 +1,6 @@
 //! Packets that a transport takes.
 
+ghost use Rattle.ssh_transport_machine.specs.Puts.{outs};
 ghost use Rattle.std.specs.Prelude.{◌≡◌, ◌<◌, ◌≤◌, ◌++◌, IfOk, IfSome, None, OnErr, false, length, map, take, true};
 ghost use Rattle.ssh_types.specs.Sides.{side_of};
 ghost use Rattle.ssh_transport_machine.specs.Standing.{IsStanding, Stands};
@@ -33,10 +34,12 @@ pub fn take_packet<R: Role>(
     ensures used { result.0 ≤ length bytes.now }
     ensures progress { 0 < length bytes.now → 0 < result.0 }
     ensures more { IfOk result.1 (λ turn. turn ≡ TransportTurn.More → result.0 ≡ length bytes.now) }
-    ensures took { IfOk result.1 (λ turn. PacketTook R.Sealing.crypto (R.does role.now) machine.old (machine.old.receiver.begun ++ take result.0 bytes.now) turn machine.new (record { before = out.old.items; after = out.new.items; listed = map (λ v. v.items) sent.old.items; relisted = map (λ v. v.items) sent.new.items })) }
+    ensures took { IfOk result.1 (λ turn. PacketTook R.Sealing.crypto (R.does role.now) machine.old
+        (machine.old.receiver.begun ++ take result.0 bytes.now) turn machine.new (outs out.old out.new sent.old sent.new)) }
     ensures stands { IfOk result.1 (λ _. Stands (side_of R.SIDE) machine.new) }
     ensures dead { OnErr result.1 (machine.new.kept.dead ≡ true) }
-    ensures lacks { OnErr result.1 (PacketLacked R.Sealing.crypto (R.lacks role.now) machine.old (machine.old.receiver.begun ++ take result.0 bytes.now)) }
+    ensures lacks { OnErr result.1 (PacketLacked R.Sealing.crypto (R.lacks role.now) machine.old
+        (machine.old.receiver.begun ++ take result.0 bytes.now)) }
     ensures out { OnErr result.1 (out.new.items ≡ out.old.items) }
     ensures kept { OnErr result.1 (map (λ v. v.items) sent.new.items ≡ map (λ v. v.items) sent.old.items) }
 {
@@ -61,7 +64,8 @@ fn finish<R: Role>(
     sent: &mut Vec<Vec<u8>>,
 ) -> Result<TransportTurn, AllocError>
     requires { IfSome (own_of done) (λ own. IsReady (side_of R.SIDE) machine.old own) }
-    ensures finished { IfOk result (λ turn. IsFinished (R.does role.now) machine.old done turn machine.new (record { before = out.old.items; after = out.new.items; listed = map (λ v. v.items) sent.old.items; relisted = map (λ v. v.items) sent.new.items })) }
+    ensures finished { IfOk result (λ turn. IsFinished (R.does role.now) machine.old done turn machine.new
+        (outs out.old out.new sent.old sent.new)) }
     ensures own { OnErr result (own_of done ≡ None → ⊥) }
     ensures dead { OnErr result (machine.new.kept.dead ≡ true) }
     ensures lacks { OnErr result (IfSome (own_of done) (λ own. R.lacks role.now machine.old own)) }

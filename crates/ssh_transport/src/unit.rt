@@ -2,7 +2,7 @@
 
 ghost use Rattle.std.specs.Prelude.{◌≡◌, ◌<◌, ◌≤◌, ◌++◌, IfErr, IfOk, OnErr, false, length, map, take, true};
 ghost use Rattle.ssh_types.specs.Sides.{side_of};
-ghost use Rattle.ssh_transport_machine.specs.Puts.{Outs};
+ghost use Rattle.ssh_transport_machine.specs.Puts.{Outs, outs};
 ghost use Rattle.ssh_transport_machine.specs.Standing.{Stands};
 ghost use Rattle.ssh_transport_machine.specs.State.{begun_of};
 ghost use Rattle.ssh_transport_machine.specs.Turning.{IsQuiet};
@@ -32,8 +32,10 @@ pub fn take_unit<R: Role>(
     ensures progress { machine.old.kept.dead ≡ false → 0 < length bytes.now → 0 < result.0 }
     ensures dead { machine.old.kept.dead ≡ true → result.0 ≡ 0 }
     ensures more { IfOk result.1 (λ turn. turn ≡ TransportTurn.More → result.0 ≡ length bytes.now) }
-    ensures took { IfOk result.1 (λ turn. Took R.Sealing.crypto (side_of R.SIDE) (R.does role.now) machine.old (begun_of machine.old ++ take result.0 bytes.now) turn machine.new (record { before = out.old.items; after = out.new.items; listed = map (λ v. v.items) sent.old.items; relisted = map (λ v. v.items) sent.new.items })) }
-    ensures failed { IfErr result.1 (λ fault. Failed R.Sealing.crypto (side_of R.SIDE) (R.lacks role.now) machine.old (begun_of machine.old ++ take result.0 bytes.now) fault machine.new) }
+    ensures took { IfOk result.1 (λ turn. Took R.Sealing.crypto (side_of R.SIDE) (R.does role.now) machine.old
+        (begun_of machine.old ++ take result.0 bytes.now) turn machine.new (outs out.old out.new sent.old sent.new)) }
+    ensures failed { IfErr result.1 (λ fault. Failed R.Sealing.crypto (side_of R.SIDE) (R.lacks role.now) machine.old
+        (begun_of machine.old ++ take result.0 bytes.now) fault machine.new) }
     ensures out { OnErr result.1 (out.new.items ≡ out.old.items) }
     ensures kept { OnErr result.1 (map (λ v. v.items) sent.new.items ≡ map (λ v. v.items) sent.old.items) }
     ensures stands { Stands (side_of R.SIDE) machine.new }
@@ -60,7 +62,8 @@ fn take_line_unit<R: Role>(
     ensures used { result.0 ≤ length bytes.now }
     ensures progress { 0 < length bytes.now → 0 < result.0 }
     ensures more { result.1 ≡ TransportTurn.More → result.0 ≡ length bytes.now }
-    ensures took { (o : Outs) → IsQuiet o → Took R.Sealing.crypto (side_of R.SIDE) (R.does role.now) machine.old (begun_of machine.old ++ take result.0 bytes.now) result.1 machine.new o }
+    ensures took { (o : Outs) → IsQuiet o → Took R.Sealing.crypto (side_of R.SIDE) (R.does role.now) machine.old
+        (begun_of machine.old ++ take result.0 bytes.now) result.1 machine.new o }
     ensures stands { Stands (side_of R.SIDE) machine.new }
 {
     machines_stand::<<R::Sealing as Sealing>::Key>();
@@ -82,8 +85,10 @@ fn take_packet_unit<R: Role>(
     ensures used { result.0 ≤ length bytes.now }
     ensures progress { 0 < length bytes.now → 0 < result.0 }
     ensures more { IfOk result.1 (λ turn. turn ≡ TransportTurn.More → result.0 ≡ length bytes.now) }
-    ensures took { IfOk result.1 (λ turn. Took R.Sealing.crypto (side_of R.SIDE) (R.does role.now) machine.old (begun_of machine.old ++ take result.0 bytes.now) turn machine.new (record { before = out.old.items; after = out.new.items; listed = map (λ v. v.items) sent.old.items; relisted = map (λ v. v.items) sent.new.items })) }
-    ensures failed { IfErr result.1 (λ fault. Failed R.Sealing.crypto (side_of R.SIDE) (R.lacks role.now) machine.old (begun_of machine.old ++ take result.0 bytes.now) fault machine.new) }
+    ensures took { IfOk result.1 (λ turn. Took R.Sealing.crypto (side_of R.SIDE) (R.does role.now) machine.old
+        (begun_of machine.old ++ take result.0 bytes.now) turn machine.new (outs out.old out.new sent.old sent.new)) }
+    ensures failed { IfErr result.1 (λ fault. Failed R.Sealing.crypto (side_of R.SIDE) (R.lacks role.now) machine.old
+        (begun_of machine.old ++ take result.0 bytes.now) fault machine.new) }
     ensures out { OnErr result.1 (out.new.items ≡ out.old.items) }
     ensures kept { OnErr result.1 (map (λ v. v.items) sent.new.items ≡ map (λ v. v.items) sent.old.items) }
     ensures stands { Stands (side_of R.SIDE) machine.new }

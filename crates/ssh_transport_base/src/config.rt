@@ -50,7 +50,9 @@ pub struct Config<S: Sealing> {
     sealing: PhantomData<S>,
     ghost line_is: { line.items ≡ version_text (software_in software_len line.items) (comments_in software_len line.items) },
     ghost software_fits: { 8 + software_len ≤ length line.items },
-    ghost good: { IsTrue (are_good S.crypto (kept line.items software_len (owned_names kex) (owned_names host) (owned_names encryption) (owned_names mac) epoch_limit tries (owned_names methods) (strictness_of strictness) takes_extensions (owned_extensions extensions))) },
+    ghost good: { IsTrue (are_good S.crypto (kept line.items software_len (owned_names kex) (owned_names host) (owned_names encryption)
+        (owned_names mac) epoch_limit tries (owned_names methods) (strictness_of strictness) takes_extensions
+        (owned_extensions extensions))) },
 }
 
 // Written out, since a derive would ask it of the sealing too.

@@ -1,6 +1,7 @@
 //! What an end offers in a KEXINIT of its own.
 
-ghost use Rattle.std.specs.Prelude.{◌≡◌, ◌<◌, ◌≤◌, ◌+◌, ◌^◌, ◌++◌, ◌∷◌, [], Bool, if◌then◌else◌, IfOk, IsTrue, List, OnErr, OnOk, codes, length, ℕ};
+ghost use Rattle.std.specs.Prelude.{◌≡◌, ◌<◌, ◌≤◌, ◌+◌, ◌^◌, ◌++◌, ◌∷◌, [], Bool, if◌then◌else◌, IfOk, IsTrue, List, OnErr, OnOk, codes};
+ghost use Rattle.std.specs.Prelude.{length, ℕ};
 ghost use Rattle.ssh_model.specs.Protocol.Side as model;
 ghost use Rattle.ssh_model.specs.Protocol.Wire.Message.{IsWrittenPayload, KexInit};
 ghost use Rattle.ssh_model.specs.Protocol.Sessions.Parties.{Parties, offer, settings_of as settings_at};
@@ -22,7 +23,8 @@ use std::alloc::{AllocError, Global};
 
 /// What an end of a session offers in a KEXINIT is what its settings say. A fact for proofs, at no cost.
 pub fn offer_of_settings<K>()
-    ensures { (p : Parties K) (side : model.Side) (first : Bool) (cookie : List ℕ) → offer p side first cookie ≡ offer_of (settings_at p side) side first cookie }
+    ensures { (p : Parties K) (side : model.Side) (first : Bool) (cookie : List ℕ) →
+        offer p side first cookie ≡ offer_of (settings_at p side) side first cookie }
 {}
 
 /// Puts the payload of a KEXINIT of this end after `out` (RFC 4253 section 7.1): the names of its config in both
@@ -41,7 +43,8 @@ pub fn put_kexinit<S: Sealing>(
     cookie: &[u8; 16],
     out: &mut Vec<u8>,
 ) -> Result<(), AllocError>
-    ensures written { OnOk result (Writes (IsWrittenPayload (KexInit (offer_of (settings_of config.now) (side_of side) first cookie.now))) out.old.items out.new.items) }
+    ensures written { OnOk result (Writes (IsWrittenPayload (KexInit (offer_of (settings_of config.now) (side_of side) first cookie.now)))
+        out.old.items out.new.items) }
     ensures short { OnOk result (length out.new.items ≤ length out.old.items + 34000) }
     ensures kept { OnErr result (out.new.items ≡ out.old.items) }
 {
@@ -88,7 +91,8 @@ fn put_offer<S: Sealing>(
 ) -> Result<(), AllocError>
     requires few { length (names kex) ≤ 18 }
     requires short { length (text_of kex) < 2 ^ 32 }
-    ensures written { OnOk result (Writes (IsWrittenPayload (KexInit (offer_with (settings_of config.now) (names kex.entry) cookie.now))) out.old.items out.new.items) }
+    ensures written { OnOk result (Writes (IsWrittenPayload (KexInit (offer_with (settings_of config.now) (names kex.entry) cookie.now)))
+        out.old.items out.new.items) }
     ensures short { OnOk result (length out.new.items ≤ length out.old.items + 34000) }
     ensures kept { OnErr result (out.new.items ≡ out.old.items) }
 {

@@ -1,5 +1,6 @@
 -- What an end puts out.
-use Rattle.std.specs.Prelude.{◌≡◌, ℕ, ◌<◌, ◌^◌, true, List, [], ◌∷◌, ◌++◌}
+use Rattle.std.specs.Prelude.{◌≡◌, ℕ, ◌<◌, ◌^◌, true, List, [], ◌∷◌, ◌++◌, map}
+use Rattle.std.specs.Global.{Vec}
 use Rattle.ssh_model.specs.Protocol.Wire.Message.{Msg}
 use Rattle.ssh_model.specs.Protocol.Wire.Sealing.{Crypto, IsSealed}
 use Rattle.ssh_model.specs.Protocol.Sessions.Items.{Spelled, Spelled.SpelledBy}
@@ -14,6 +15,15 @@ pub record Outs : Type 0 where
   pub after : List ℕ
   pub listed : List (List ℕ)
   pub relisted : List (List ℕ)
+
+-- what a call put at the end of bytes and of a list of payloads, each as it was before the call and after it
+abbrev pub outs : (old new : Vec ℕ) → (sent resent : Vec (Vec ℕ)) → Outs
+outs old new sent resent = record {
+  before = old.items;
+  after = new.items;
+  listed = map (λ payload. payload.items) sent.items;
+  relisted = map (λ payload. payload.items) resent.items;
+}
 
 -- the payloads of messages, the oldest first
 abbrev pub payloads_of : List Spelled → List (List ℕ)

@@ -35,7 +35,8 @@ pub fn key_from<S: Sealing>(
     mac: &[u8],
 ) -> Result<S::Key, AllocError>
     requires { IsSome (S.crypto.lengths encryption.now mac.now) }
-    ensures { IfOk result (λ key. key ≡ key_with S.crypto (side_of from) (number agreed.now.shared.now) agreed.now.hash.now agreed.now.session.now encryption.now mac.now) }
+    ensures { IfOk result (λ key. key ≡ key_with S.crypto (side_of from) (number agreed.now.shared.now) agreed.now.hash.now
+        agreed.now.session.now encryption.now mac.now) }
 {
     let sizes = sizes_of::<S>(encryption, mac);
     let mut iv = [0; 64];
@@ -67,7 +68,8 @@ fn sizes_of<S: Sealing>(encryption: &[u8], mac: &[u8]) -> Lengths
 
 // Key material of this letter.
 fn fill(agreed: &Agreed<'_>, letter: Letter, out: &mut [u8])
-    ensures { out.new ≡ derived (number agreed.now.shared.now) agreed.now.hash.now (letter_of letter) agreed.now.session.now (length out.old) }
+    ensures { out.new ≡ derived (number agreed.now.shared.now) agreed.now.hash.now (letter_of letter) agreed.now.session.now
+        (length out.old) }
 {
     let shared = agreed.shared;
     let hash = agreed.hash;

@@ -34,7 +34,9 @@ use ssh_model::transport::{
 /// What a machine does with a payload, right after its packet was taken, is a turn of a session; what only one role does with it,
 /// or a layer above, is left, and is what it was judged to be.
 pub fn payload_turns<K>()
-    ensures { (p : Parties K) (side : Side) (history : List Item) (s : Transport K) → SumsUp p side history s → s.dead ≡ false → (old : State K) (done : PayloadTurn) (new : State K) (o : Outs) → old.kept ≡ after_taken s → Turns p.crypto old done new o → TurnOf p side history s old done new o }
+    ensures { (p : Parties K) (side : Side) (history : List Item) (s : Transport K) → SumsUp p side history s → s.dead ≡ false →
+        (old : State K) (done : PayloadTurn) (new : State K) (o : Outs) → old.kept ≡ after_taken s → Turns p.crypto old done new o →
+        TurnOf p side history s old done new o }
 {
     payloads::<K>();
     payload_numbers();
@@ -42,8 +44,12 @@ pub fn payload_turns<K>()
 
 /// What a machine does on an ask for a service, for an exchange of keys, or to disconnect, is a turn of a session.
 pub fn ask_turns<K>()
-    ensures asked { (p : Parties K) (side : Side) (history : List Item) (old : State K) → SumsUp p side history old.kept → old.kept.dead ≡ false → (ask : Ask) (done : AskTurn) (new : State K) (o : Outs) → IsTransportAsk ask → AskDone p.crypto old ask done new o → IsAskTurn p side history ask done new.kept o }
-    ensures disconnected { (p : Parties K) (side : Side) (history : List Item) (old : State K) → SumsUp p side history old.kept → old.kept.dead ≡ false → (description : List ℕ) (done : AskTurn) (new : State K) (o : Outs) → DisconnectDone p.crypto old description done new o → IsAskTurn p side history (AskDisconnect description) done new.kept o }
+    ensures asked { (p : Parties K) (side : Side) (history : List Item) (old : State K) → SumsUp p side history old.kept →
+        old.kept.dead ≡ false → (ask : Ask) (done : AskTurn) (new : State K) (o : Outs) → IsTransportAsk ask →
+        AskDone p.crypto old ask done new o → IsAskTurn p side history ask done new.kept o }
+    ensures disconnected { (p : Parties K) (side : Side) (history : List Item) (old : State K) → SumsUp p side history old.kept →
+        old.kept.dead ≡ false → (description : List ℕ) (done : AskTurn) (new : State K) (o : Outs) →
+        DisconnectDone p.crypto old description done new o → IsAskTurn p side history (AskDisconnect description) done new.kept o }
 {
     turns_of_asks::<K>();
     refused_and_spent::<K>();
@@ -51,8 +57,13 @@ pub fn ask_turns<K>()
 
 /// What a machine finds in a line or a packet is what an end of a session finds; and where it refuses that, it does as one.
 pub fn unit_turns<K>()
-    ensures lines { (p : Parties K) (side : Side) (history : List Item) (old : State K) → SumsUp p side history old.kept → old.kept.dead ≡ false → IsLive old → old.kept.lines.found ≡ false → (bytes : List ℕ) (done : LineTurn) (new : State K) → LineTaken old bytes done new → LineTurnOf p side history old.kept bytes done new }
-    ensures packets { (p : Parties K) (side : Side) (history : List Item) (old : State K) → SumsUp p side history old.kept → old.kept.dead ≡ false → IsLive old → old.kept.lines.found ≡ true → (bytes : List ℕ) (done : PacketTurn) (new : State K) (o : Outs) → PacketTaken p.crypto old bytes done new o → PacketTurnOf p side history old.kept bytes done new o }
+    ensures lines { (p : Parties K) (side : Side) (history : List Item) (old : State K) → SumsUp p side history old.kept →
+        old.kept.dead ≡ false → IsLive old → old.kept.lines.found ≡ false → (bytes : List ℕ) (done : LineTurn) (new : State K) →
+        LineTaken old bytes done new → LineTurnOf p side history old.kept bytes done new }
+    ensures packets { (p : Parties K) (side : Side) (history : List Item) (old : State K) → SumsUp p side history old.kept →
+        old.kept.dead ≡ false → IsLive old → old.kept.lines.found ≡ true →
+        (bytes : List ℕ) (done : PacketTurn) (new : State K) (o : Outs) → PacketTaken p.crypto old bytes done new o →
+        PacketTurnOf p side history old.kept bytes done new o }
 {
     units::<K>();
     lines::<K>();
@@ -62,7 +73,8 @@ pub fn unit_turns<K>()
 
 /// What a new machine keeps sums up the history of its opening, and it put out what an end of a session puts out.
 pub fn openings<K>()
-    ensures { (p : Parties K) (side : Side) (cookie secret : List ℕ) (new : State K) (o : Outs) → IsOpened p.crypto (settings_of p side) side cookie secret new o → IsOpening p side cookie secret new.kept o }
+    ensures { (p : Parties K) (side : Side) (cookie secret : List ℕ) (new : State K) (o : Outs) →
+        IsOpened p.crypto (settings_of p side) side cookie secret new o → IsOpening p side cookie secret new.kept o }
 {
     new_transports::<K>();
 }
@@ -70,20 +82,30 @@ pub fn openings<K>()
 /// What holds of a machine that is not over holds of a new one, and goes on holding: with each line and packet, and with each ask.
 /// What an end does in a turn of its own keeps it where the readers are as before, and what is kept has it.
 pub fn live_machines<K>()
-    ensures opened { (c : Crypto K) (settings : Settings) (side : Side) (cookie secret : List ℕ) (new : State K) (o : Outs) → IsOpened c settings side cookie secret new o → IsLive new }
-    ensures lines { (old : State K) (bytes : List ℕ) (done : LineTurn) (new : State K) → IsLive old → LineTaken old bytes done new → new.kept.dead ≡ false → IsLive new }
-    ensures packets { (c : Crypto K) (old : State K) (bytes : List ℕ) (done : PacketTurn) (new : State K) (o : Outs) → IsLive old → PacketTaken c old bytes done new o → new.kept.dead ≡ false → IsLive new }
-    ensures asks { (c : Crypto K) (old : State K) (ask : Ask) (done : AskTurn) (new : State K) (o : Outs) → IsLive old → AskDone c old ask done new o → new.kept.dead ≡ false → IsLive new }
-    ensures answers { (c : Crypto K) (old : State K) (message : Msg) (answer : Answer) (new : State K) (o : Outs) → IsLive old → Answers c old message (after_sent old.kept) answer new o → new.kept.dead ≡ false → IsLive new }
-    ensures fed { (old new : State K) (cookie secret : List ℕ) → IsLive old → can_be_fed old.kept ≡ true → new ≡ record old { kept = after_fed cookie secret old.kept } → IsLive new }
-    ensures others { (old new : State K) (kept : Transport K) → new ≡ record old { kept = kept } → kept.lines ≡ old.kept.lines → kept.side ≡ old.kept.side → kept.taking ≡ old.kept.taking → IsKeptLive kept → IsLive old → IsLive new }
+    ensures opened { (c : Crypto K) (settings : Settings) (side : Side) (cookie secret : List ℕ) (new : State K) (o : Outs) →
+        IsOpened c settings side cookie secret new o → IsLive new }
+    ensures lines { (old : State K) (bytes : List ℕ) (done : LineTurn) (new : State K) → IsLive old → LineTaken old bytes done new →
+        new.kept.dead ≡ false → IsLive new }
+    ensures packets { (c : Crypto K) (old : State K) (bytes : List ℕ) (done : PacketTurn) (new : State K) (o : Outs) → IsLive old →
+        PacketTaken c old bytes done new o → new.kept.dead ≡ false → IsLive new }
+    ensures asks { (c : Crypto K) (old : State K) (ask : Ask) (done : AskTurn) (new : State K) (o : Outs) → IsLive old →
+        AskDone c old ask done new o → new.kept.dead ≡ false → IsLive new }
+    ensures answers { (c : Crypto K) (old : State K) (message : Msg) (answer : Answer) (new : State K) (o : Outs) → IsLive old →
+        Answers c old message (after_sent old.kept) answer new o → new.kept.dead ≡ false → IsLive new }
+    ensures fed { (old new : State K) (cookie secret : List ℕ) → IsLive old → can_be_fed old.kept ≡ true →
+        new ≡ record old { kept = after_fed cookie secret old.kept } → IsLive new }
+    ensures others { (old new : State K) (kept : Transport K) → new ≡ record old { kept = kept } → kept.lines ≡ old.kept.lines →
+        kept.side ≡ old.kept.side → kept.taking ≡ old.kept.taking → IsKeptLive kept → IsLive old → IsLive new }
 {}
 
 /// Where a machine answers that memory was refused, something would be sent in a session on the payload or the packet: it has a
 /// spelling, and a number of its own.
 pub fn memory_deaths<K>()
-    ensures payloads { (p : Parties K) (side : Side) (history : List Item) (s : Transport K) → SumsUp p side history s → s.dead ≡ false → (old : State K) → old.kept ≡ after_taken s → TurnLacks old → WouldAnswer p side s old.receiver.payload }
-    ensures packets { (p : Parties K) (side : Side) (history : List Item) (old : State K) → SumsUp p side history old.kept → old.kept.dead ≡ false → IsLive old → old.kept.lines.found ≡ true → (bytes : List ℕ) → PacketLacks p.crypto old bytes → WouldAnswerPacket p side old.kept bytes }
+    ensures payloads { (p : Parties K) (side : Side) (history : List Item) (s : Transport K) → SumsUp p side history s → s.dead ≡ false →
+        (old : State K) → old.kept ≡ after_taken s → TurnLacks old → WouldAnswer p side s old.receiver.payload }
+    ensures packets { (p : Parties K) (side : Side) (history : List Item) (old : State K) → SumsUp p side history old.kept →
+        old.kept.dead ≡ false → IsLive old → old.kept.lines.found ≡ true → (bytes : List ℕ) → PacketLacks p.crypto old bytes →
+        WouldAnswerPacket p side old.kept bytes }
 {
     units::<K>();
     lines::<K>();
@@ -95,8 +117,12 @@ pub fn memory_deaths<K>()
 /// either end, and with NEWKEYS sent, for which an epoch is left.
 pub fn live_exchanges<K>()
     ensures sent { (k : Transport K) → IsKeptLive k → IsKeptLive (after_sent k) }
-    ensures noted { (wrong strict extensions : Bool) (payload : List ℕ) (k : Transport K) → k.blocked ≡ true → IsKeptLive k → IsKeptLive (noted wrong strict extensions payload k) }
-    ensures own { (material : Material) (payload : List ℕ) (k : Transport K) → k.blocked ≡ false → k.material ≡ Some material → IsKeptLive k → IsKeptLive (after_own_kexinit material payload k) }
-    ensures completed { (k : Transport K) (direction : Direction K) (key : K) (session : List ℕ) → direction.epoch ≡ k.sending.epoch + 1 → k.blocked ≡ true → IsKeptLive k → IsKeptLive (record k { sending = direction; pending = Some key; phase = Keying; blocked = false; session = Some session }) }
+    ensures noted { (wrong strict extensions : Bool) (payload : List ℕ) (k : Transport K) → k.blocked ≡ true → IsKeptLive k →
+        IsKeptLive (noted wrong strict extensions payload k) }
+    ensures own { (material : Material) (payload : List ℕ) (k : Transport K) → k.blocked ≡ false → k.material ≡ Some material →
+        IsKeptLive k → IsKeptLive (after_own_kexinit material payload k) }
+    ensures completed { (k : Transport K) (direction : Direction K) (key : K) (session : List ℕ) → direction.epoch ≡ k.sending.epoch + 1 →
+        k.blocked ≡ true → IsKeptLive k → IsKeptLive
+        (record k { sending = direction; pending = Some key; phase = Keying; blocked = false; session = Some session }) }
     ensures epoch { (k : Transport K) → k.blocked ≡ true → IsKeptLive k → k.sending.epoch < 2 ^ 32 - 1 }
 {}

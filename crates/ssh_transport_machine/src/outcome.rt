@@ -2,7 +2,8 @@
 
 ghost use Rattle.ssh_transport_machine.specs.declared.outcome.TransportFault.TheVariants.{Memory};
 ghost use Rattle.std.specs.Prelude.{◌≡◌};
-ghost use Rattle.ssh_transport_machine.specs.Outcomes.{LineOutcome, answer_outcome as of_answer, packet_outcome as of_packet, payload_outcome as of_payload};
+ghost use Rattle.ssh_transport_machine.specs.Outcomes.{LineOutcome, answer_outcome as of_answer, packet_outcome as of_packet};
+ghost use Rattle.ssh_transport_machine.specs.Outcomes.{payload_outcome as of_payload};
 
 use crate::machine::{Answer, LineTurn, PacketTurn, PayloadTurn};
 use ssh_kex::OwnedChoice;

@@ -1,7 +1,8 @@
 //! Facts for proofs, each the contract of a function without a body. A call of one costs nothing.
 
 ghost use Rattle.std.specs.Prelude.{◌≡◌, ◌↔◌, Bool, List, ℕ, ℤ};
-ghost use Rattle.ssh_model.specs.Protocol.Wire.DataTypes.{AreBytes, IsByte, IsBoolean, IsWrittenBoolean, IsUint32, IsUint64, IsString, IsShortest, IsMpint, IsNameList};
+ghost use Rattle.ssh_model.specs.Protocol.Wire.DataTypes.{AreBytes, IsByte, IsBoolean, IsWrittenBoolean, IsUint32, IsUint64, IsString};
+ghost use Rattle.ssh_model.specs.Protocol.Wire.DataTypes.{IsShortest, IsMpint, IsNameList};
 ghost use Rattle.ssh_model.specs.Laws.Reading.{OneForm, OneSpelling};
 
 /// What spells one value begins with nothing that spells another, so what was written is read again,

@@ -1,7 +1,8 @@
 //! The field of 2^255 - 19 elements (RFC 7748 section 4.1), in five limbs of 51 bits and some more. No sum and no product wraps.
 
 ghost use Rattle.std.specs.Prelude.{◌≡◌, ◌<◌, ◌≤◌, ◌+◌, ◌*◌, ◌/◌, ◌%◌, ◌^◌};
-ghost use Rattle.x25519.specs.Field.{IsLoose, IsTight, IsWide, carried, chosen, difference, picked, product, residue, row_a, row_b, row_c, row_d, row_e, sum, times_small};
+ghost use Rattle.x25519.specs.Field.{IsLoose, IsTight, IsWide, carried, chosen, difference, picked, product, residue, row_a, row_b, row_c};
+ghost use Rattle.x25519.specs.Field.{row_d, row_e, sum, times_small};
 ghost use Rattle.x25519.specs.Residues.{minus, plus, times as times_modulo};
 
 /// An element: the number that is the sum of its limbs, where the limb k is worth 2^(51 k). An element is tight where each limb is below

@@ -25,7 +25,8 @@ impl Channels {
         ensures refused { IfErr result (λ e. first_refusal (take_checks false self.old (Msg.ChannelEof recipient)) ≡ Some (refusal_of e)) }
         ensures kept { OnErr result (self.new ≡ self.old) }
         ensures passed { OnOk result (first_refusal (take_checks false self.old (Msg.ChannelEof recipient)) ≡ None) }
-        ensures taken { IfOk result (λ t. (is_blocked : Bool) → Takes is_blocked self.old (Msg.ChannelEof recipient) (taken_of t) self.new) }
+        ensures taken { IfOk result (λ t. (is_blocked : Bool) → Takes is_blocked self.old (Msg.ChannelEof recipient) (taken_of t)
+            self.new) }
     {
         let Some(entry) = self.open_entry(recipient) else {
             return Err(Refusal::UnknownChannel);
@@ -55,7 +56,8 @@ impl Channels {
         blocked: bool,
         recipient: u32,
     ) -> Result<Taken<'a>, Refusal>
-        ensures refused { IfErr result (λ e. first_refusal (take_checks blocked self.old (Msg.ChannelClose recipient)) ≡ Some (refusal_of e)) }
+        ensures refused { IfErr result (λ e. first_refusal (take_checks blocked self.old (Msg.ChannelClose recipient))
+            ≡ Some (refusal_of e)) }
         ensures kept { OnErr result (self.new ≡ self.old) }
         ensures passed { OnOk result (first_refusal (take_checks blocked self.old (Msg.ChannelClose recipient)) ≡ None) }
         ensures taken { IfOk result (λ t. Takes blocked self.old (Msg.ChannelClose recipient) (taken_of t) self.new) }
@@ -107,7 +109,8 @@ impl Channels {
     /// Asks for EOF.
     #[tactic(auto, using(crate::proofs::Asking::eof_sent))]
     pub(super) fn ask_eof<'a>(&mut self, channel: u32) -> Result<Sent<'a>, AskRefusal>
-        ensures refused { IfErr result (λ e. first_refusal (send_checks false false self.old (Ask.AskEof channel)) ≡ Some (ask_refusal_of e)) }
+        ensures refused { IfErr result (λ e. first_refusal (send_checks false false self.old (Ask.AskEof channel))
+            ≡ Some (ask_refusal_of e)) }
         ensures kept { OnErr result (self.new ≡ self.old) }
         ensures passed { OnOk result (first_refusal (send_checks false false self.old (Ask.AskEof channel)) ≡ None) }
         ensures sent { IfOk result (λ t. Sends self.old (Ask.AskEof channel) (sent_of t) self.new) }
@@ -139,7 +142,8 @@ impl Channels {
     /// Asks for CLOSE.
     #[tactic(auto, using(crate::proofs::Asking::close_sent))]
     pub(super) fn ask_close<'a>(&mut self, channel: u32) -> Result<Sent<'a>, AskRefusal>
-        ensures refused { IfErr result (λ e. first_refusal (send_checks false false self.old (Ask.AskClose channel)) ≡ Some (ask_refusal_of e)) }
+        ensures refused { IfErr result (λ e. first_refusal (send_checks false false self.old (Ask.AskClose channel))
+            ≡ Some (ask_refusal_of e)) }
         ensures kept { OnErr result (self.new ≡ self.old) }
         ensures passed { OnOk result (first_refusal (send_checks false false self.old (Ask.AskClose channel)) ≡ None) }
         ensures sent { IfOk result (λ t. Sends self.old (Ask.AskClose channel) (sent_of t) self.new) }

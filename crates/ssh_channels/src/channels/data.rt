@@ -29,10 +29,12 @@ impl Channels {
         recipient: u32,
         bytes: u32,
     ) -> Result<Taken<'a>, Refusal>
-        ensures refused { IfErr result (λ e. first_refusal (take_checks false self.old (Msg.ChannelWindowAdjust recipient bytes)) ≡ Some (refusal_of e)) }
+        ensures refused { IfErr result (λ e. first_refusal (take_checks false self.old (Msg.ChannelWindowAdjust recipient bytes))
+            ≡ Some (refusal_of e)) }
         ensures kept { OnErr result (self.new ≡ self.old) }
         ensures passed { OnOk result (first_refusal (take_checks false self.old (Msg.ChannelWindowAdjust recipient bytes)) ≡ None) }
-        ensures taken { IfOk result (λ t. (is_blocked : Bool) → Takes is_blocked self.old (Msg.ChannelWindowAdjust recipient bytes) (taken_of t) self.new) }
+        ensures taken { IfOk result (λ t. (is_blocked : Bool) → Takes is_blocked self.old (Msg.ChannelWindowAdjust recipient bytes)
+            (taken_of t) self.new) }
     {
         let Some(entry) = self.open_entry(recipient) else {
             return Err(Refusal::UnknownChannel);
@@ -65,10 +67,12 @@ impl Channels {
         kind: Option<u32>,
         body: &'a [u8],
     ) -> Result<Taken<'a>, Refusal>
-        ensures refused { IfErr result (λ e. first_refusal (data_checks (at self.old.places recipient) (length body.now)) ≡ Some (refusal_of e)) }
+        ensures refused { IfErr result (λ e. first_refusal (data_checks (at self.old.places recipient) (length body.now))
+            ≡ Some (refusal_of e)) }
         ensures kept { OnErr result (self.new ≡ self.old) }
         ensures passed { OnOk result (first_refusal (data_checks (at self.old.places recipient) (length body.now)) ≡ None) }
-        ensures taken { IfOk result (λ t. (is_blocked : Bool) → Takes is_blocked self.old (data_message recipient kind body.now) (taken_of t) self.new) }
+        ensures taken { IfOk result (λ t. (is_blocked : Bool) → Takes is_blocked self.old (data_message recipient kind body.now)
+            (taken_of t) self.new) }
     {
         let Some(entry) = self.open_entry(recipient) else {
             return Err(Refusal::UnknownChannel);
@@ -106,7 +110,8 @@ impl Channels {
         kind: Option<u32>,
         body: &'a [u8],
     ) -> Result<Sent<'a>, AskRefusal>
-        ensures refused { IfErr result (λ e. first_refusal (send_checks false false self.old (Ask.AskData channel kind body.now)) ≡ Some (ask_refusal_of e)) }
+        ensures refused { IfErr result (λ e. first_refusal (send_checks false false self.old (Ask.AskData channel kind body.now))
+            ≡ Some (ask_refusal_of e)) }
         ensures kept { OnErr result (self.new ≡ self.old) }
         ensures passed { OnOk result (first_refusal (send_checks false false self.old (Ask.AskData channel kind body.now)) ≡ None) }
         ensures sent { IfOk result (λ t. Sends self.old (Ask.AskData channel kind body.now) (sent_of t) self.new) }
@@ -147,7 +152,8 @@ impl Channels {
         channel: u32,
         bytes: u32,
     ) -> Result<Sent<'a>, AskRefusal>
-        ensures refused { IfErr result (λ e. first_refusal (send_checks false false self.old (Ask.AskAdjust channel bytes)) ≡ Some (ask_refusal_of e)) }
+        ensures refused { IfErr result (λ e. first_refusal (send_checks false false self.old (Ask.AskAdjust channel bytes))
+            ≡ Some (ask_refusal_of e)) }
         ensures kept { OnErr result (self.new ≡ self.old) }
         ensures passed { OnOk result (first_refusal (send_checks false false self.old (Ask.AskAdjust channel bytes)) ≡ None) }
         ensures sent { IfOk result (λ t. Sends self.old (Ask.AskAdjust channel bytes) (sent_of t) self.new) }

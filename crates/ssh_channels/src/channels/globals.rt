@@ -28,10 +28,12 @@ impl Channels {
         want: bool,
         rest: &'a [u8],
     ) -> Result<Taken<'a>, Refusal>
-        ensures refused { IfErr result (λ e. first_refusal (take_checks false self.old (Msg.GlobalRequest name.now want rest.now)) ≡ Some (refusal_of e)) }
+        ensures refused { IfErr result (λ e. first_refusal (take_checks false self.old (Msg.GlobalRequest name.now want rest.now))
+            ≡ Some (refusal_of e)) }
         ensures kept { OnErr result (self.new ≡ self.old) }
         ensures passed { OnOk result (first_refusal (take_checks false self.old (Msg.GlobalRequest name.now want rest.now)) ≡ None) }
-        ensures taken { IfOk result (λ t. (is_blocked : Bool) → Takes is_blocked self.old (Msg.GlobalRequest name.now want rest.now) (taken_of t) self.new) }
+        ensures taken { IfOk result (λ t. (is_blocked : Bool) → Takes is_blocked self.old (Msg.GlobalRequest name.now want rest.now)
+            (taken_of t) self.new) }
     {
         let Some(waiting) = count_where(want, self.globals_here) else {
             return Err(Refusal::OwedFull);
@@ -55,7 +57,8 @@ impl Channels {
         ensures refused { IfErr result (λ e. first_refusal (take_checks false self.old (Msg.RequestFailure)) ≡ Some (refusal_of e)) }
         ensures kept { OnErr result (self.new ≡ self.old) }
         ensures passed { OnOk result (first_refusal (take_checks false self.old (Msg.RequestFailure)) ≡ None) }
-        ensures taken { IfOk result (λ t. (is_blocked : Bool) → Takes is_blocked self.old (global_reply_message success rest.now) (taken_of t) self.new) }
+        ensures taken { IfOk result (λ t. (is_blocked : Bool) → Takes is_blocked self.old (global_reply_message success rest.now)
+            (taken_of t) self.new) }
     {
         if self.globals_there == 0 {
             return Err(Refusal::Unexpected);
@@ -76,7 +79,8 @@ impl Channels {
         want: bool,
         rest: &'a [u8],
     ) -> Result<Sent<'a>, AskRefusal>
-        ensures refused { IfErr result (λ e. first_refusal (send_checks false false self.old (Ask.AskGlobal name.now want rest.now)) ≡ Some (ask_refusal_of e)) }
+        ensures refused { IfErr result (λ e. first_refusal (send_checks false false self.old (Ask.AskGlobal name.now want rest.now))
+            ≡ Some (ask_refusal_of e)) }
         ensures kept { OnErr result (self.new ≡ self.old) }
         ensures passed { OnOk result (first_refusal (send_checks false false self.old (Ask.AskGlobal name.now want rest.now)) ≡ None) }
         ensures sent { IfOk result (λ t. Sends self.old (Ask.AskGlobal name.now want rest.now) (sent_of t) self.new) }
@@ -104,7 +108,8 @@ impl Channels {
         success: bool,
         rest: &'a [u8],
     ) -> Result<Sent<'a>, AskRefusal>
-        ensures refused { IfErr result (λ e. first_refusal (send_checks false false self.old (Ask.AskGlobalReply success rest.now)) ≡ Some (ask_refusal_of e)) }
+        ensures refused { IfErr result (λ e. first_refusal (send_checks false false self.old (Ask.AskGlobalReply success rest.now))
+            ≡ Some (ask_refusal_of e)) }
         ensures kept { OnErr result (self.new ≡ self.old) }
         ensures passed { OnOk result (first_refusal (send_checks false false self.old (Ask.AskGlobalReply success rest.now)) ≡ None) }
         ensures sent { IfOk result (λ t. Sends self.old (Ask.AskGlobalReply success rest.now) (sent_of t) self.new) }
@@ -128,7 +133,8 @@ impl Channels {
     // Asks for REQUEST_SUCCESS.
     #[tactic(auto, using(crate::proofs::Asking::global_reply_sent))]
     fn ask_global_success<'a>(&mut self, rest: &'a [u8]) -> Result<Sent<'a>, AskRefusal>
-        ensures refused { IfErr result (λ e. first_refusal (send_checks false false self.old (Ask.AskGlobalReply true rest.now)) ≡ Some (ask_refusal_of e)) }
+        ensures refused { IfErr result (λ e. first_refusal (send_checks false false self.old (Ask.AskGlobalReply true rest.now))
+            ≡ Some (ask_refusal_of e)) }
         ensures kept { OnErr result (self.new ≡ self.old) }
         ensures passed { OnOk result (first_refusal (send_checks false false self.old (Ask.AskGlobalReply true rest.now)) ≡ None) }
         ensures sent { IfOk result (λ t. Sends self.old (Ask.AskGlobalReply true rest.now) (sent_of t) self.new) }

@@ -12,7 +12,8 @@ ghost use Rattle.ssh_model.specs.Protocol.Sessions.Refusals as model;
 ghost use Rattle.ssh_model.specs.Protocol.Sessions.Refusals.{first_refusal};
 ghost use Rattle.ssh_model.specs.State.Channels.Places.{at, is_at, is_opening, is_waiting_place};
 ghost use Rattle.ssh_model.specs.State.Channels.Kept as DueReply;
-ghost use Rattle.ssh_model.specs.State.Channels.Kept.{Sends, Takes, is_queue_full, is_table_full, opening_checks, owed_where, send_checks, sent_at_once, take_checks};
+ghost use Rattle.ssh_model.specs.State.Channels.Kept.{Sends, Takes, is_queue_full, is_table_full, opening_checks, owed_where, send_checks};
+ghost use Rattle.ssh_model.specs.State.Channels.Kept.{sent_at_once, take_checks};
 ghost use Rattle.ssh_channels.specs.Entries.{place_of};
 ghost use Rattle.ssh_channels.specs.Rows.{IsAskError, IsTakeError};
 ghost use Rattle.ssh_channels.specs.Values.{sent_of, taken_of};
@@ -39,8 +40,10 @@ impl Channels {
     ) -> Result<Taken<'a>, TakeError>
         ensures refused { IfErr result (λ e. IsTakeError blocked self.old (Msg.ChannelOpen kind.now sender window max_packet rest.now) e) }
         ensures kept { OnErr result (self.new ≡ self.old) }
-        ensures passed { OnOk result (first_refusal (take_checks blocked self.old (Msg.ChannelOpen kind.now sender window max_packet rest.now)) ≡ None) }
-        ensures taken { IfOk result (λ t. Takes blocked self.old (Msg.ChannelOpen kind.now sender window max_packet rest.now) (taken_of t) self.new) }
+        ensures passed { OnOk result (first_refusal (take_checks blocked self.old
+            (Msg.ChannelOpen kind.now sender window max_packet rest.now)) ≡ None) }
+        ensures taken { IfOk result (λ t. Takes blocked self.old (Msg.ChannelOpen kind.now sender window max_packet rest.now) (taken_of t)
+            self.new) }
     {
         if !self.is_table_full() {
             return match self.accept_open(kind, sender, window, max_packet, rest) {
@@ -60,7 +63,11 @@ impl Channels {
         ensures many { OnErr result (is_queue_full blocked self.old.owed ≡ true) }
         ensures kept { OnErr result (self.new ≡ self.old) }
         ensures few { OnOk result (is_queue_full blocked self.old.owed ≡ false) }
-        ensures answered { IfOk result (λ t. taken_of t ≡ record { channel = None; reply = sent_at_once blocked (DueReply.RefusesOpen sender); fact = None }) }
+        ensures answered { IfOk result (λ t. taken_of t ≡ record {
+          channel = None;
+          reply = sent_at_once blocked (DueReply.RefusesOpen sender);
+          fact = None;
+        }) }
         ensures owed { OnOk result (self.new ≡ owed_where blocked (DueReply.RefusesOpen sender) self.old) }
     {
         let reply = Reply::OpenFailure { recipient: sender };
@@ -94,7 +101,8 @@ impl Channels {
     ) -> Result<Taken<'a>, AllocError>
         requires { is_table_full self.old.places ≡ false }
         ensures kept { OnErr result (self.new ≡ self.old) }
-        ensures taken { IfOk result (λ t. (is_blocked : Bool) → Takes is_blocked self.old (Msg.ChannelOpen kind.now sender window max_packet rest.now) (taken_of t) self.new) }
+        ensures taken { IfOk result (λ t. (is_blocked : Bool) → Takes is_blocked self.old
+            (Msg.ChannelOpen kind.now sender window max_packet rest.now) (taken_of t) self.new) }
     {
         let entry = Entry::waiting(sender, window, max_packet);
         let number = self.table.insert(entry)?;
@@ -137,7 +145,8 @@ impl Channels {
         ensures refused { IfErr result (λ e. first_refusal (opening_checks (at self.old.places recipient)) ≡ Some (refusal_of e)) }
         ensures kept { OnErr result (self.new ≡ self.old) }
         ensures passed { OnOk result (first_refusal (opening_checks (at self.old.places recipient)) ≡ None) }
-        ensures taken { IfOk result (λ t. (is_blocked : Bool) → Takes is_blocked self.old (Msg.ChannelOpenConfirmation recipient sender window max_packet rest.now) (taken_of t) self.new) }
+        ensures taken { IfOk result (λ t. (is_blocked : Bool) → Takes is_blocked self.old
+            (Msg.ChannelOpenConfirmation recipient sender window max_packet rest.now) (taken_of t) self.new) }
     {
         let entry = self.opening_entry(recipient)?;
         self.table.set(
@@ -173,7 +182,8 @@ impl Channels {
         ensures refused { IfErr result (λ e. first_refusal (opening_checks (at self.old.places recipient)) ≡ Some (refusal_of e)) }
         ensures kept { OnErr result (self.new ≡ self.old) }
         ensures passed { OnOk result (first_refusal (opening_checks (at self.old.places recipient)) ≡ None) }
-        ensures taken { IfOk result (λ t. (is_blocked : Bool) (language : List ℕ) → Takes is_blocked self.old (Msg.ChannelOpenFailure recipient reason description.now language) (taken_of t) self.new) }
+        ensures taken { IfOk result (λ t. (is_blocked : Bool) (language : List ℕ) →
+            Takes is_blocked self.old (Msg.ChannelOpenFailure recipient reason description.now language) (taken_of t) self.new) }
     {
         let _entry = self.opening_entry(recipient)?;
         self.table.remove(recipient);
@@ -199,7 +209,8 @@ impl Channels {
     ) -> Result<Sent<'a>, AskError>
         ensures refused { IfErr result (λ e. IsAskError false false self.old (Ask.AskOpen kind.now window max_packet rest.now) e) }
         ensures kept { OnErr result (self.new ≡ self.old) }
-        ensures passed { OnOk result (first_refusal (send_checks false false self.old (Ask.AskOpen kind.now window max_packet rest.now)) ≡ None) }
+        ensures passed { OnOk result (first_refusal (send_checks false false self.old (Ask.AskOpen kind.now window max_packet rest.now))
+            ≡ None) }
         ensures sent { IfOk result (λ t. Sends self.old (Ask.AskOpen kind.now window max_packet rest.now) (sent_of t) self.new) }
         ensures fits { IfOk result (λ t. Fits t.message) }
         ensures short { IfOk result (λ t. payload_size (meaning t.message) ≤ 34000) }
@@ -252,9 +263,11 @@ impl Channels {
         max_packet: u32,
         rest: &'a [u8],
     ) -> Result<Sent<'a>, AskRefusal>
-        ensures refused { IfErr result (λ e. first_refusal (send_checks false false self.old (Ask.AskConfirm channel window max_packet rest.now)) ≡ Some (ask_refusal_of e)) }
+        ensures refused { IfErr result (λ e. first_refusal (send_checks false false self.old
+            (Ask.AskConfirm channel window max_packet rest.now)) ≡ Some (ask_refusal_of e)) }
         ensures kept { OnErr result (self.new ≡ self.old) }
-        ensures passed { OnOk result (first_refusal (send_checks false false self.old (Ask.AskConfirm channel window max_packet rest.now)) ≡ None) }
+        ensures passed { OnOk result (first_refusal (send_checks false false self.old (Ask.AskConfirm channel window max_packet rest.now))
+            ≡ None) }
         ensures sent { IfOk result (λ t. Sends self.old (Ask.AskConfirm channel window max_packet rest.now) (sent_of t) self.new) }
         ensures fits { IfOk result (λ t. Fits t.message) }
         ensures short { IfOk result (λ t. payload_size (meaning t.message) ≤ 34000) }
@@ -295,7 +308,8 @@ impl Channels {
         channel: u32,
         reason: u32,
     ) -> Result<Sent<'a>, AskRefusal>
-        ensures refused { IfErr result (λ e. first_refusal (send_checks false false self.old (Ask.AskRefuse channel reason)) ≡ Some (ask_refusal_of e)) }
+        ensures refused { IfErr result (λ e. first_refusal (send_checks false false self.old (Ask.AskRefuse channel reason))
+            ≡ Some (ask_refusal_of e)) }
         ensures kept { OnErr result (self.new ≡ self.old) }
         ensures passed { OnOk result (first_refusal (send_checks false false self.old (Ask.AskRefuse channel reason)) ≡ None) }
         ensures sent { IfOk result (λ t. Sends self.old (Ask.AskRefuse channel reason) (sent_of t) self.new) }

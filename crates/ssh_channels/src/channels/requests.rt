@@ -31,10 +31,13 @@ impl Channels {
         want: bool,
         rest: &'a [u8],
     ) -> Result<Taken<'a>, Refusal>
-        ensures refused { IfErr result (λ e. first_refusal (take_checks false self.old (Msg.ChannelRequest recipient name.now want rest.now)) ≡ Some (refusal_of e)) }
+        ensures refused { IfErr result (λ e. first_refusal (take_checks false self.old
+            (Msg.ChannelRequest recipient name.now want rest.now)) ≡ Some (refusal_of e)) }
         ensures kept { OnErr result (self.new ≡ self.old) }
-        ensures passed { OnOk result (first_refusal (take_checks false self.old (Msg.ChannelRequest recipient name.now want rest.now)) ≡ None) }
-        ensures taken { IfOk result (λ t. (is_blocked : Bool) → Takes is_blocked self.old (Msg.ChannelRequest recipient name.now want rest.now) (taken_of t) self.new) }
+        ensures passed { OnOk result (first_refusal (take_checks false self.old (Msg.ChannelRequest recipient name.now want rest.now))
+            ≡ None) }
+        ensures taken { IfOk result (λ t. (is_blocked : Bool) → Takes is_blocked self.old
+            (Msg.ChannelRequest recipient name.now want rest.now) (taken_of t) self.new) }
     {
         let Some(entry) = self.open_entry(recipient) else {
             return Err(Refusal::UnknownChannel);
@@ -72,7 +75,8 @@ impl Channels {
         ensures refused { IfErr result (λ e. first_refusal (reply_checks (at self.old.places recipient)) ≡ Some (refusal_of e)) }
         ensures kept { OnErr result (self.new ≡ self.old) }
         ensures passed { OnOk result (first_refusal (reply_checks (at self.old.places recipient)) ≡ None) }
-        ensures taken { IfOk result (λ t. (is_blocked : Bool) → Takes is_blocked self.old (reply_message recipient success) (taken_of t) self.new) }
+        ensures taken { IfOk result (λ t. (is_blocked : Bool) → Takes is_blocked self.old (reply_message recipient success) (taken_of t)
+            self.new) }
     {
         let Some(entry) = self.open_entry(recipient) else {
             return Err(Refusal::UnknownChannel);
@@ -106,9 +110,11 @@ impl Channels {
         want: bool,
         rest: &'a [u8],
     ) -> Result<Sent<'a>, AskRefusal>
-        ensures refused { IfErr result (λ e. first_refusal (send_checks false false self.old (Ask.AskRequest channel name.now want rest.now)) ≡ Some (ask_refusal_of e)) }
+        ensures refused { IfErr result (λ e. first_refusal (send_checks false false self.old
+            (Ask.AskRequest channel name.now want rest.now)) ≡ Some (ask_refusal_of e)) }
         ensures kept { OnErr result (self.new ≡ self.old) }
-        ensures passed { OnOk result (first_refusal (send_checks false false self.old (Ask.AskRequest channel name.now want rest.now)) ≡ None) }
+        ensures passed { OnOk result (first_refusal (send_checks false false self.old (Ask.AskRequest channel name.now want rest.now))
+            ≡ None) }
         ensures sent { IfOk result (λ t. Sends self.old (Ask.AskRequest channel name.now want rest.now) (sent_of t) self.new) }
         ensures fits { IfOk result (λ t. Fits t.message) }
         ensures short { IfOk result (λ t. payload_size (meaning t.message) ≤ 34000) }
@@ -154,7 +160,8 @@ impl Channels {
         channel: u32,
         success: bool,
     ) -> Result<Sent<'a>, AskRefusal>
-        ensures refused { IfErr result (λ e. first_refusal (send_checks false false self.old (Ask.AskReply channel success)) ≡ Some (ask_refusal_of e)) }
+        ensures refused { IfErr result (λ e. first_refusal (send_checks false false self.old (Ask.AskReply channel success))
+            ≡ Some (ask_refusal_of e)) }
         ensures kept { OnErr result (self.new ≡ self.old) }
         ensures passed { OnOk result (first_refusal (send_checks false false self.old (Ask.AskReply channel success)) ≡ None) }
         ensures sent { IfOk result (λ t. Sends self.old (Ask.AskReply channel success) (sent_of t) self.new) }

@@ -1,5 +1,6 @@
 //! What a client does on an ask of its user.
 
+ghost use Rattle.ssh_transport_machine.specs.Puts.{outs};
 ghost use Rattle.std.specs.Prelude.{◌≡◌, IfErr, OnErr, map, false};
 ghost use Rattle.ssh_model.specs.Protocol.Side.{Side};
 ghost use Rattle.ssh_transport_machine.specs.Standing.{Stands};
@@ -33,7 +34,9 @@ pub fn ask_client<S: Sealing, F: Filler + Drop, U: UserSigner>(
     out: &mut Vec<u8>,
     sent: &mut Vec<Vec<u8>>,
 ) -> Result<AskStep, Fault>
-    ensures in_session { ClientInSession S.crypto (U.signature_of signer.now) layers.old.authentication (end_of machine.old.kept layers.old) (ask_of ask.now) result (end_of machine.new.kept layers.new) (record { before = out.old.items; after = out.new.items; listed = map (λ v. v.items) sent.old.items; relisted = map (λ v. v.items) sent.new.items }) }
+    ensures in_session { ClientInSession S.crypto (U.signature_of signer.now) layers.old.authentication
+        (end_of machine.old.kept layers.old) (ask_of ask.now) result (end_of machine.new.kept layers.new)
+        (outs out.old out.new sent.old sent.new) }
     ensures fails { IfErr result (λ fault. Fails machine.old fault machine.new) }
     ensures layers { IfErr result (λ fault. KeepsLayers layers.old fault layers.new) }
     ensures reading { machine.new.kept.dead ≡ false → SameReading machine.old machine.new }
@@ -54,7 +57,8 @@ fn take_ask<S: Sealing, F: Filler + Drop, U: UserSigner>(
     out: &mut Vec<u8>,
     sent: &mut Vec<Vec<u8>>,
 ) -> Result<AskStep, Fault>
-    ensures row { ClientRow S.crypto (U.signature_of signer.now) layers.old.authentication (end_of machine.old.kept layers.old) (ask_of ask.now) result (end_of machine.new.kept layers.new) (record { before = out.old.items; after = out.new.items; listed = map (λ v. v.items) sent.old.items; relisted = map (λ v. v.items) sent.new.items }) }
+    ensures row { ClientRow S.crypto (U.signature_of signer.now) layers.old.authentication (end_of machine.old.kept layers.old)
+        (ask_of ask.now) result (end_of machine.new.kept layers.new) (outs out.old out.new sent.old sent.new) }
     ensures fails { IfErr result (λ fault. Fails machine.old fault machine.new) }
     ensures layers { IfErr result (λ fault. KeepsLayers layers.old fault layers.new) }
     ensures reading { machine.new.kept.dead ≡ false → SameReading machine.old machine.new }

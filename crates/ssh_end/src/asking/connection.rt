@@ -1,5 +1,6 @@
 //! Asks for a message of the connection.
 
+ghost use Rattle.ssh_transport_machine.specs.Puts.{outs};
 ghost use Rattle.std.specs.Prelude.{◌≡◌, ◌≤◌, IfErr, IfOk, OnErr, map, true, false};
 ghost use Rattle.ssh_model.specs.Protocol.Side.{Side};
 ghost use Rattle.ssh_model.specs.Protocol.Wire.Message.{FitsContext};
@@ -34,7 +35,8 @@ pub fn ask_connection<S: Sealing, F: Filler + Drop>(
     out: &mut Vec<u8>,
     sent: &mut Vec<Vec<u8>>,
 ) -> Result<AskStep, Fault>
-    ensures row { ConnectionRow S.crypto machine.old channels.old (ask_of ask.now) result machine.new channels.new (record { before = out.old.items; after = out.new.items; listed = map (λ v. v.items) sent.old.items; relisted = map (λ v. v.items) sent.new.items }) }
+    ensures row { ConnectionRow S.crypto machine.old channels.old (ask_of ask.now) result machine.new channels.new
+        (outs out.old out.new sent.old sent.new) }
     ensures fails { IfErr result (λ fault. Fails machine.old fault machine.new) }
     ensures channels { IfErr result (λ fault. KeepsLayers channels.old fault channels.new) }
     ensures reading { machine.new.kept.dead ≡ false → SameReading machine.old machine.new }
@@ -74,7 +76,8 @@ fn send_given<S: Sealing, F: Filler + Drop>(
     requires fits { Fits given.now.message }
     requires context { FitsContext true (meaning given.now.message) }
     requires most { payload_size (meaning given.now.message) ≤ 34000 }
-    ensures sent { IfOk result (λ step. GivenSent S.crypto machine.old (ask_of ask.now) (sent_of given.now) machine.new (record { before = out.old.items; after = out.new.items; listed = map (λ v. v.items) sent.old.items; relisted = map (λ v. v.items) sent.new.items }) step) }
+    ensures sent { IfOk result (λ step. GivenSent S.crypto machine.old (ask_of ask.now) (sent_of given.now) machine.new
+        (outs out.old out.new sent.old sent.new) step) }
     ensures failed { IfErr result (λ fault. GivenFails machine.old fault machine.new) }
     ensures reading { machine.new.kept.dead ≡ false → SameReading machine.old machine.new }
     ensures out { OnErr result (out.new.items ≡ out.old.items) }

@@ -1,5 +1,6 @@
 //! Asks for a message of the transport, and messages of a layer above that it sends.
 
+ghost use Rattle.ssh_transport_machine.specs.Puts.{outs};
 ghost use Rattle.std.specs.Prelude.{◌≡◌, IfErr, IfOk, OnErr, map, false};
 ghost use Rattle.ssh_model.specs.Protocol.Side.{Side};
 ghost use Rattle.ssh_transport_machine.specs.Asks.{AskTaken, IsSendable};
@@ -27,7 +28,7 @@ pub fn ask_transport<S: Sealing, F: Filler + Drop>(
     sent: &mut Vec<Vec<u8>>,
 ) -> Result<AskStep, Fault>
     requires { IsSendable ask }
-    ensures row { TransportRow S.crypto machine.old ask.entry result machine.new (record { before = out.old.items; after = out.new.items; listed = map (λ v. v.items) sent.old.items; relisted = map (λ v. v.items) sent.new.items }) }
+    ensures row { TransportRow S.crypto machine.old ask.entry result machine.new (outs out.old out.new sent.old sent.new) }
     ensures fails { IfErr result (λ fault. Fails machine.old fault machine.new) }
     ensures reading { machine.new.kept.dead ≡ false → SameReading machine.old machine.new }
     ensures out { OnErr result (out.new.items ≡ out.old.items) }
@@ -54,7 +55,8 @@ pub fn ask_machine<S: Sealing, F: Filler + Drop>(
     sent: &mut Vec<Vec<u8>>,
 ) -> Result<Answer, Fault>
     requires { IsSendable ask }
-    ensures asked { IfOk result (λ answer. AskTaken S.crypto machine.old ask.entry (ask_turn.Answered answer) machine.new (record { before = out.old.items; after = out.new.items; listed = map (λ v. v.items) sent.old.items; relisted = map (λ v. v.items) sent.new.items })) }
+    ensures asked { IfOk result (λ answer. AskTaken S.crypto machine.old ask.entry (ask_turn.Answered answer) machine.new
+        (outs out.old out.new sent.old sent.new)) }
     ensures refused { IfErr result (λ fault. MachineFails S.crypto machine.old ask.entry fault machine.new) }
     ensures fails { IfErr result (λ fault. Fails machine.old fault machine.new) }
     ensures reading { machine.new.kept.dead ≡ false → SameReading machine.old machine.new }

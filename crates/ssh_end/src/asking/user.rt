@@ -1,5 +1,6 @@
 //! Asks for a request of a user, at a client.
 
+ghost use Rattle.ssh_transport_machine.specs.Puts.{outs};
 ghost use Rattle.std.specs.Prelude.{◌≡◌, IfErr, IfOk, OnErr, List, Some, map, true, ℕ, false};
 ghost use Rattle.ssh_model.specs.Protocol.Side.{Side};
 ghost use Rattle.ssh_model.specs.Protocol.Wire.Message.{FitsContext};
@@ -31,7 +32,8 @@ pub fn ask_user<S: Sealing, F: Filler + Drop, U: UserSigner>(
     out: &mut Vec<u8>,
     sent: &mut Vec<Vec<u8>>,
 ) -> Result<AskStep, Fault>
-    ensures row { UserRow S.crypto (U.signature_of signer.now) machine.old client.old (ask_of ask.now) result machine.new client.new (record { before = out.old.items; after = out.new.items; listed = map (λ v. v.items) sent.old.items; relisted = map (λ v. v.items) sent.new.items }) }
+    ensures row { UserRow S.crypto (U.signature_of signer.now) machine.old client.old (ask_of ask.now) result machine.new client.new
+        (outs out.old out.new sent.old sent.new) }
     ensures fails { IfErr result (λ fault. Fails machine.old fault machine.new) }
     ensures layers { IfErr result (λ fault. KeepsLayers client.old fault client.new) }
     ensures reading { machine.new.kept.dead ≡ false → SameReading machine.old machine.new }
@@ -68,7 +70,8 @@ fn send_request<S: Sealing, F: Filler + Drop>(
     sent: &mut Vec<Vec<u8>>,
 ) -> Result<AskStep, Fault>
     requires { FitsContext true request.now }
-    ensures sent { IfOk result (λ step. RequestSent S.crypto machine.old request.now machine.new (record { before = out.old.items; after = out.new.items; listed = map (λ v. v.items) sent.old.items; relisted = map (λ v. v.items) sent.new.items }) step) }
+    ensures sent { IfOk result (λ step. RequestSent S.crypto machine.old request.now machine.new (outs out.old out.new sent.old sent.new)
+        step) }
     ensures failed { IfErr result (λ fault. GivenFails machine.old fault machine.new) }
     ensures fails { IfErr result (λ fault. Fails machine.old fault machine.new) }
     ensures reading { machine.new.kept.dead ≡ false → SameReading machine.old machine.new }

@@ -2,7 +2,8 @@
 
 ghost use Rattle.std.specs.Prelude.{◌≡◌, true, false, IfSome, IfNone};
 ghost use Rattle.ssh_message.specs.Announced.{extension_of};
-ghost use Rattle.ssh_message.specs.Extensions.{after_extension, after_string, are_extensions as passes_extensions, extension_in, has_extension, has_string, string_in};
+ghost use Rattle.ssh_message.specs.Extensions.{after_extension, after_string, are_extensions as passes_extensions, extension_in};
+ghost use Rattle.ssh_message.specs.Extensions.{has_extension, has_string, string_in};
 
 use super::Extension;
 use ssh_types::Reader;

@@ -4,7 +4,8 @@ ghost use Rattle.std.specs.Prelude.{◌≡◌, OnOk, OnErr, ◌<◌, ◌+◌, le
 ghost use Rattle.ssh_model.specs.Laws.Sizes.{payload_size};
 ghost use Rattle.ssh_model.specs.Protocol.Wire.DataTypes.{IsWrittenBoolean};
 ghost use Rattle.ssh_model.specs.Laws.Reading.{Writes};
-ghost use Rattle.ssh_model.specs.Protocol.Wire.Message.{IsRow, UserauthRequest, UserauthFailure, UserauthSuccess, UserauthBanner, UserauthPkOk};
+ghost use Rattle.ssh_model.specs.Protocol.Wire.Message.{IsRow, UserauthRequest, UserauthFailure, UserauthSuccess, UserauthBanner};
+ghost use Rattle.ssh_model.specs.Protocol.Wire.Message.{UserauthPkOk};
 ghost use Rattle.ssh_types.specs.Values.{names, names_text};
 ghost use Rattle.ssh_message.specs.Meaning.{method_meaning};
 ghost use Rattle.ssh_message.specs.Written.{IsShort, MethodFits};
@@ -25,9 +26,11 @@ pub(crate) fn request<'a>(
     requires user { IsShort user.now }
     requires service { IsShort service.now }
     requires method { MethodFits method.now }
-    ensures written { OnOk result (Writes (IsRow IsWrittenBoolean (UserauthRequest user.now service.now (method_meaning method.now))) out.old.items out.new.items) }
+    ensures written { OnOk result (Writes (IsRow IsWrittenBoolean (UserauthRequest user.now service.now (method_meaning method.now)))
+        out.old.items out.new.items) }
     ensures kept { OnErr result (out.new.items ≡ out.old.items) }
-    ensures full { OnErr result (vec_capacity out.old < length out.old.items + payload_size (UserauthRequest user.now service.now (method_meaning method.now))) }
+    ensures full { OnErr result (vec_capacity out.old < length out.old.items + payload_size
+        (UserauthRequest user.now service.now (method_meaning method.now))) }
 {
     match *method {
         Method::None => method::none(out, user, service),
@@ -59,7 +62,8 @@ pub(crate) fn failure(
     partial: bool,
 ) -> Result<(), AllocError>
     requires { IsShort (names_text methods.now) }
-    ensures written { OnOk result (Writes (IsRow IsWrittenBoolean (UserauthFailure (names methods.now) partial)) out.old.items out.new.items) }
+    ensures written { OnOk result (Writes (IsRow IsWrittenBoolean (UserauthFailure (names methods.now) partial)) out.old.items
+        out.new.items) }
     ensures kept { OnErr result (out.new.items ≡ out.old.items) }
     ensures full { OnErr result (vec_capacity out.old < length out.old.items + payload_size (UserauthFailure (names methods.now) partial)) }
 {

@@ -4,7 +4,10 @@ ghost use Rattle.std.specs.Prelude.{◌≡◌, OnOk, OnErr, ◌<◌, ◌+◌, le
 ghost use Rattle.ssh_model.specs.Laws.Sizes.{payload_size};
 ghost use Rattle.ssh_model.specs.Protocol.Wire.DataTypes.{IsWrittenBoolean};
 ghost use Rattle.ssh_model.specs.Laws.Reading.{Writes};
-ghost use Rattle.ssh_model.specs.Protocol.Wire.Message.{IsRow, GlobalRequest, RequestSuccess, RequestFailure, ChannelOpen, ChannelOpenConfirmation, ChannelOpenFailure, ChannelWindowAdjust, ChannelData, ChannelExtendedData, ChannelEof, ChannelClose, ChannelRequest, ChannelSuccess, ChannelFailure};
+ghost use Rattle.ssh_model.specs.Protocol.Wire.Message.{IsRow, GlobalRequest, RequestSuccess, RequestFailure, ChannelOpen};
+ghost use Rattle.ssh_model.specs.Protocol.Wire.Message.{ChannelOpenConfirmation, ChannelOpenFailure, ChannelWindowAdjust, ChannelData};
+ghost use Rattle.ssh_model.specs.Protocol.Wire.Message.{ChannelExtendedData, ChannelEof, ChannelClose, ChannelRequest, ChannelSuccess};
+ghost use Rattle.ssh_model.specs.Protocol.Wire.Message.{ChannelFailure};
 ghost use Rattle.ssh_message.specs.Written.{IsShort};
 
 use crate::write::field::Field;
@@ -50,9 +53,11 @@ pub(crate) fn channel_open(
     rest: &[u8],
 ) -> Result<(), AllocError>
     requires { IsShort kind.now }
-    ensures written { OnOk result (Writes (IsRow IsWrittenBoolean (ChannelOpen kind.now sender window max rest.now)) out.old.items out.new.items) }
+    ensures written { OnOk result (Writes (IsRow IsWrittenBoolean (ChannelOpen kind.now sender window max rest.now)) out.old.items
+        out.new.items) }
     ensures kept { OnErr result (out.new.items ≡ out.old.items) }
-    ensures full { OnErr result (vec_capacity out.old < length out.old.items + payload_size (ChannelOpen kind.now sender window max rest.now)) }
+    ensures full { OnErr result (vec_capacity out.old < length out.old.items + payload_size
+        (ChannelOpen kind.now sender window max rest.now)) }
 {
     let fields = [
         Field::Text(kind),
@@ -71,9 +76,11 @@ pub(crate) fn channel_open_confirmation(
     max: u32,
     rest: &[u8],
 ) -> Result<(), AllocError>
-    ensures written { OnOk result (Writes (IsRow IsWrittenBoolean (ChannelOpenConfirmation recipient sender window max rest.now)) out.old.items out.new.items) }
+    ensures written { OnOk result (Writes (IsRow IsWrittenBoolean (ChannelOpenConfirmation recipient sender window max rest.now))
+        out.old.items out.new.items) }
     ensures kept { OnErr result (out.new.items ≡ out.old.items) }
-    ensures full { OnErr result (vec_capacity out.old < length out.old.items + payload_size (ChannelOpenConfirmation recipient sender window max rest.now)) }
+    ensures full { OnErr result (vec_capacity out.old < length out.old.items + payload_size
+        (ChannelOpenConfirmation recipient sender window max rest.now)) }
 {
     let fields = [
         Field::Uint32(recipient),
@@ -93,9 +100,11 @@ pub(crate) fn channel_open_failure<'a>(
 ) -> Result<(), AllocError>
     requires description { IsShort description.now }
     requires language { IsShort language.now }
-    ensures written { OnOk result (Writes (IsRow IsWrittenBoolean (ChannelOpenFailure recipient reason description.now language.now)) out.old.items out.new.items) }
+    ensures written { OnOk result (Writes (IsRow IsWrittenBoolean (ChannelOpenFailure recipient reason description.now language.now))
+        out.old.items out.new.items) }
     ensures kept { OnErr result (out.new.items ≡ out.old.items) }
-    ensures full { OnErr result (vec_capacity out.old < length out.old.items + payload_size (ChannelOpenFailure recipient reason description.now language.now)) }
+    ensures full { OnErr result (vec_capacity out.old < length out.old.items + payload_size
+        (ChannelOpenFailure recipient reason description.now language.now)) }
 {
     let fields = [
         Field::Uint32(recipient),
@@ -139,7 +148,8 @@ pub(crate) fn channel_extended_data(
     body: &[u8],
 ) -> Result<(), AllocError>
     requires { IsShort body.now }
-    ensures written { OnOk result (Writes (IsRow IsWrittenBoolean (ChannelExtendedData recipient kind body.now)) out.old.items out.new.items) }
+    ensures written { OnOk result (Writes (IsRow IsWrittenBoolean (ChannelExtendedData recipient kind body.now)) out.old.items
+        out.new.items) }
     ensures kept { OnErr result (out.new.items ≡ out.old.items) }
     ensures full { OnErr result (vec_capacity out.old < length out.old.items + payload_size (ChannelExtendedData recipient kind body.now)) }
 {
@@ -179,9 +189,11 @@ pub(crate) fn channel_request(
     rest: &[u8],
 ) -> Result<(), AllocError>
     requires { IsShort name.now }
-    ensures written { OnOk result (Writes (IsRow IsWrittenBoolean (ChannelRequest recipient name.now want rest.now)) out.old.items out.new.items) }
+    ensures written { OnOk result (Writes (IsRow IsWrittenBoolean (ChannelRequest recipient name.now want rest.now)) out.old.items
+        out.new.items) }
     ensures kept { OnErr result (out.new.items ≡ out.old.items) }
-    ensures full { OnErr result (vec_capacity out.old < length out.old.items + payload_size (ChannelRequest recipient name.now want rest.now)) }
+    ensures full { OnErr result (vec_capacity out.old < length out.old.items + payload_size
+        (ChannelRequest recipient name.now want rest.now)) }
 {
     put_row(
         out,

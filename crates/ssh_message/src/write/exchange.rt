@@ -55,7 +55,8 @@ pub(crate) fn kex_ecdh_reply<'a>(
     requires k_s { IsShort k_s.now }
     requires q_s { IsShort q_s.now }
     requires signature { IsShort signature.now }
-    ensures written { OnOk result (Writes (IsRow IsWrittenBoolean (KexEcdhReply k_s.now q_s.now signature.now)) out.old.items out.new.items) }
+    ensures written { OnOk result (Writes (IsRow IsWrittenBoolean (KexEcdhReply k_s.now q_s.now signature.now)) out.old.items
+        out.new.items) }
     ensures kept { OnErr result (out.new.items ≡ out.old.items) }
     ensures full { OnErr result (vec_capacity out.old < length out.old.items + payload_size (KexEcdhReply k_s.now q_s.now signature.now)) }
 {

@@ -18,9 +18,11 @@ pub(crate) fn none<'a>(
 ) -> Result<(), AllocError>
     requires user { IsShort user.now }
     requires service { IsShort service.now }
-    ensures written { OnOk result (Writes (IsRow IsWrittenBoolean (UserauthRequest user.now service.now NoMethod)) out.old.items out.new.items) }
+    ensures written { OnOk result (Writes (IsRow IsWrittenBoolean (UserauthRequest user.now service.now NoMethod)) out.old.items
+        out.new.items) }
     ensures kept { OnErr result (out.new.items ≡ out.old.items) }
-    ensures full { OnErr result (vec_capacity out.old < length out.old.items + payload_size (UserauthRequest user.now service.now NoMethod)) }
+    ensures full { OnErr result (vec_capacity out.old < length out.old.items + payload_size
+        (UserauthRequest user.now service.now NoMethod)) }
 {
     put_row(
         out,
@@ -43,9 +45,11 @@ pub(crate) fn password<'a>(
     requires user { IsShort user.now }
     requires service { IsShort service.now }
     requires password { IsShort password.now }
-    ensures written { OnOk result (Writes (IsRow IsWrittenBoolean (UserauthRequest user.now service.now (Password password.now None))) out.old.items out.new.items) }
+    ensures written { OnOk result (Writes (IsRow IsWrittenBoolean (UserauthRequest user.now service.now (Password password.now None)))
+        out.old.items out.new.items) }
     ensures kept { OnErr result (out.new.items ≡ out.old.items) }
-    ensures full { OnErr result (vec_capacity out.old < length out.old.items + payload_size (UserauthRequest user.now service.now (Password password.now None))) }
+    ensures full { OnErr result (vec_capacity out.old < length out.old.items + payload_size
+        (UserauthRequest user.now service.now (Password password.now None))) }
 {
     let fields = [
         Field::Text(user),
@@ -68,9 +72,11 @@ pub(crate) fn new_password<'a>(
     requires service { IsShort service.now }
     requires password { IsShort password.now }
     requires new_password { IsShort new_password.now }
-    ensures written { OnOk result (Writes (IsRow IsWrittenBoolean (UserauthRequest user.now service.now (Password password.now (Some new_password.now)))) out.old.items out.new.items) }
+    ensures written { OnOk result (Writes (IsRow IsWrittenBoolean
+        (UserauthRequest user.now service.now (Password password.now (Some new_password.now)))) out.old.items out.new.items) }
     ensures kept { OnErr result (out.new.items ≡ out.old.items) }
-    ensures full { OnErr result (vec_capacity out.old < length out.old.items + payload_size (UserauthRequest user.now service.now (Password password.now (Some new_password.now)))) }
+    ensures full { OnErr result (vec_capacity out.old < length out.old.items + payload_size
+        (UserauthRequest user.now service.now (Password password.now (Some new_password.now)))) }
 {
     let fields = [
         Field::Text(user),
@@ -94,9 +100,11 @@ pub(crate) fn probe<'a>(
     requires service { IsShort service.now }
     requires algorithm { IsShort algorithm.now }
     requires key { IsShort key.now }
-    ensures written { OnOk result (Writes (IsRow IsWrittenBoolean (UserauthRequest user.now service.now (Publickey algorithm.now key.now None))) out.old.items out.new.items) }
+    ensures written { OnOk result (Writes (IsRow IsWrittenBoolean
+        (UserauthRequest user.now service.now (Publickey algorithm.now key.now None))) out.old.items out.new.items) }
     ensures kept { OnErr result (out.new.items ≡ out.old.items) }
-    ensures full { OnErr result (vec_capacity out.old < length out.old.items + payload_size (UserauthRequest user.now service.now (Publickey algorithm.now key.now None))) }
+    ensures full { OnErr result (vec_capacity out.old < length out.old.items + payload_size
+        (UserauthRequest user.now service.now (Publickey algorithm.now key.now None))) }
 {
     let fields = [
         Field::Text(user),
@@ -122,9 +130,11 @@ pub(crate) fn signed<'a>(
     requires algorithm { IsShort algorithm.now }
     requires key { IsShort key.now }
     requires signature { IsShort signature.now }
-    ensures written { OnOk result (Writes (IsRow IsWrittenBoolean (UserauthRequest user.now service.now (Publickey algorithm.now key.now (Some signature.now)))) out.old.items out.new.items) }
+    ensures written { OnOk result (Writes (IsRow IsWrittenBoolean
+        (UserauthRequest user.now service.now (Publickey algorithm.now key.now (Some signature.now)))) out.old.items out.new.items) }
     ensures kept { OnErr result (out.new.items ≡ out.old.items) }
-    ensures full { OnErr result (vec_capacity out.old < length out.old.items + payload_size (UserauthRequest user.now service.now (Publickey algorithm.now key.now (Some signature.now)))) }
+    ensures full { OnErr result (vec_capacity out.old < length out.old.items + payload_size
+        (UserauthRequest user.now service.now (Publickey algorithm.now key.now (Some signature.now)))) }
 {
     let fields = [
         Field::Text(user),
@@ -149,9 +159,11 @@ pub(crate) fn other<'a>(
     requires user { IsShort user.now }
     requires service { IsShort service.now }
     requires name { IsShort name.now }
-    ensures written { OnOk result (Writes (IsRow IsWrittenBoolean (UserauthRequest user.now service.now (Other name.now rest.now))) out.old.items out.new.items) }
+    ensures written { OnOk result (Writes (IsRow IsWrittenBoolean (UserauthRequest user.now service.now (Other name.now rest.now)))
+        out.old.items out.new.items) }
     ensures kept { OnErr result (out.new.items ≡ out.old.items) }
-    ensures full { OnErr result (vec_capacity out.old < length out.old.items + payload_size (UserauthRequest user.now service.now (Other name.now rest.now))) }
+    ensures full { OnErr result (vec_capacity out.old < length out.old.items + payload_size
+        (UserauthRequest user.now service.now (Other name.now rest.now))) }
 {
     put_row(
         out,

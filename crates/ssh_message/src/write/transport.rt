@@ -4,7 +4,8 @@ ghost use Rattle.std.specs.Prelude.{◌≡◌, [], ◌∷◌, ◌++◌, OnOk, On
 ghost use Rattle.ssh_model.specs.Laws.Sizes.{payload_size};
 ghost use Rattle.ssh_model.specs.Protocol.Wire.DataTypes.{IsWrittenBoolean};
 ghost use Rattle.ssh_model.specs.Laws.Reading.{Writes};
-ghost use Rattle.ssh_model.specs.Protocol.Wire.Message.{IsRow, Disconnect, Ignore, Unimplemented, Debug, ServiceRequest, ServiceAccept, ExtInfo, NewKeys, Unknown};
+ghost use Rattle.ssh_model.specs.Protocol.Wire.Message.{IsRow, Disconnect, Ignore, Unimplemented, Debug, ServiceRequest, ServiceAccept};
+ghost use Rattle.ssh_model.specs.Protocol.Wire.Message.{ExtInfo, NewKeys, Unknown};
 ghost use Rattle.ssh_message.specs.Announced.{extensions_of};
 ghost use Rattle.ssh_message.specs.Written.{IsShort};
 
@@ -22,9 +23,11 @@ pub(crate) fn disconnect<'a>(
 ) -> Result<(), AllocError>
     requires description { IsShort description.now }
     requires language { IsShort language.now }
-    ensures written { OnOk result (Writes (IsRow IsWrittenBoolean (Disconnect reason description.now language.now)) out.old.items out.new.items) }
+    ensures written { OnOk result (Writes (IsRow IsWrittenBoolean (Disconnect reason description.now language.now)) out.old.items
+        out.new.items) }
     ensures kept { OnErr result (out.new.items ≡ out.old.items) }
-    ensures full { OnErr result (vec_capacity out.old < length out.old.items + payload_size (Disconnect reason description.now language.now)) }
+    ensures full { OnErr result (vec_capacity out.old < length out.old.items + payload_size
+        (Disconnect reason description.now language.now)) }
 {
     put_row(
         out,

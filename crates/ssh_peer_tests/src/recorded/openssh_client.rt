@@ -1,6 +1,6 @@
 //! Two exchanges of OpenSSH 9.2p1 of Debian 12, a client built with encryption `none` offered, with an independent server, as they were
-//! recorded over loopback. The server is one of curve25519-sha256, ssh-ed25519, none and hmac-sha2-256 that writes down what it sends, takes and
-//! computes. To record the like again, have `ssh` log in to any such server and let the server begin a second exchange.
+//! recorded over loopback. The server is one of curve25519-sha256, ssh-ed25519, none and hmac-sha2-256 that writes down what it sends,
+//! takes and computes. To record the like again, have `ssh` log in to any such server and let the server begin a second exchange.
 
 /// The line of the client.
 pub const LINE: &[u8] = b"SSH-2.0-OpenSSH_9.2p1\r\n";

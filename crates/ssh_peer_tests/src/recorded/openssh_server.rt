@@ -1,7 +1,7 @@
 //! A session between an independent client and OpenSSH 9.2p1 of Debian 12, built with encryption `none` offered, as it was recorded over
 //! loopback: each packet in clear or sealed, in the order of the recording. The client is one of curve25519-sha256, ssh-ed25519, none and
-//! hmac-sha2-256 that announces EXT_INFO, pads with zeros and writes down what it sends, takes and computes. To record the like again, have any
-//! such client log in to such a server by a public key, ask for a channel with a command, send data and begin a second exchange.
+//! hmac-sha2-256 that announces EXT_INFO, pads with zeros and writes down what it sends, takes and computes. To record the like again, have
+//! any such client log in to such a server by a public key, ask for a channel with a command, send data and begin a second exchange.
 
 /// The line of the server.
 pub const LINE: &[u8] = b"SSH-2.0-OpenSSH_9.2p1\r\n";

@@ -49,7 +49,9 @@ pub struct RecordedHost {
 }
 
 impl HostTrust for RecordedHost {
-    ghost judged = { λ h algorithm key hash signature. (is_text algorithm (codes "ssh-ed25519") && is_text key h.key) && ((is_text hash h.first_hash && is_text signature h.first_signature) || (is_text hash h.second_hash && is_text signature h.second_signature)) };
+    ghost judged = { λ h algorithm key hash signature. (is_text algorithm (codes "ssh-ed25519") && is_text key h.key)
+        && ((is_text hash h.first_hash && is_text signature h.first_signature)
+        || (is_text hash h.second_hash && is_text signature h.second_signature)) };
 
     fn judge(&self, algorithm: &[u8], key: &[u8], hash: &[u8; 32], signature: &[u8]) -> bool {
         let is_key = algorithm == b"ssh-ed25519".as_slice() && key == self.key.as_slice();

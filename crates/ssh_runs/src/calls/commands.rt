@@ -1,5 +1,5 @@
-//! The commands of the program. Where memory is refused a command prints nothing, says so, and ends as a fault; but of an end that died for want of memory the
-//! transcript says just that.
+//! The commands of the program. Where memory is refused a command prints nothing, says so, and ends as a fault; but of an end that died for
+//! want of memory the transcript says just that.
 
 use super::outcome::Outcome;
 use ssh_trace::{Status, check_to, decode_to, draw_to, play_to};

@@ -9,7 +9,8 @@ const NEWKEYS: u8 = 21;
 // The bytes of a tag of hmac-sha2-256 (RFC 6668).
 const TAG: usize = 32;
 
-/// How many bytes hold the lines and messages that an end sent: a line with CR LF, a packet with the least padding, and a tag from the first NEWKEYS on.
+/// How many bytes hold the lines and messages that an end sent: a line with CR LF, a packet with the least padding, and a tag from the
+/// first NEWKEYS on.
 pub fn sent_bytes(items: &[Done], side: Side) -> usize {
     let mut bytes: usize = 0;
     let mut is_sealed = false;
@@ -31,7 +32,8 @@ pub fn sent_bytes(items: &[Done], side: Side) -> usize {
     bytes
 }
 
-// The packet of a payload of so many bytes: its length, that of the padding, and 4 bytes of padding at least, in blocks of 8 (RFC 4253 section 6).
+// The packet of a payload of so many bytes: its length, that of the padding, and 4 bytes of padding at least, in blocks of 8 (RFC 4253
+// section 6).
 fn packet(payload: usize) -> usize {
     let least = payload.saturating_add(4 + 1 + 4);
     least.saturating_add(7) / 8 * 8

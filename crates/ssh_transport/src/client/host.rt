@@ -61,8 +61,12 @@ pub fn judge_reply<S: Sealing, F: Filler + Drop, A: Agreement, T: HostTrust>(
     requires shown { ShowsReply machine.now.receiver.payload }
     requires side { machine.now.kept.side ≡ model.Client }
     requires choice { HasChoice machine.now.kept }
-    ensures judged { IfOk result (λ judged. IsReplyJudged S.crypto (record { point = A.public_of agreement.now; shared = A.shared_of agreement.now }) (T.judged trust.now) machine.now.kept machine.now.receiver.payload judged) }
-    ensures due { OnErr result (ShowsDue S.crypto (record { point = A.public_of agreement.now; shared = A.shared_of agreement.now }) (T.judged trust.now) machine.now.kept machine.now.receiver.payload) }
+    ensures judged { IfOk result (λ judged. IsReplyJudged S.crypto (record {
+      point = A.public_of agreement.now;
+      shared = A.shared_of agreement.now;
+    }) (T.judged trust.now) machine.now.kept machine.now.receiver.payload judged) }
+    ensures due { OnErr result (ShowsDue S.crypto (record { point = A.public_of agreement.now; shared = A.shared_of agreement.now })
+        (T.judged trust.now) machine.now.kept machine.now.receiver.payload) }
     ensures room { OnErr result (HasRoom machine.now) }
 {
     let payload = machine.payload();
@@ -85,8 +89,12 @@ fn judge_message<S: Sealing, F: Filler + Drop, A: Agreement, T: HostTrust>(
     requires most { length payload.now ≤ 35000 }
     requires side { machine.now.kept.side ≡ model.Client }
     requires choice { HasChoice machine.now.kept }
-    ensures judged { IfOk result (λ judged. IsReplyJudged S.crypto (record { point = A.public_of agreement.now; shared = A.shared_of agreement.now }) (T.judged trust.now) machine.now.kept payload.now judged) }
-    ensures due { OnErr result (ShowsDue S.crypto (record { point = A.public_of agreement.now; shared = A.shared_of agreement.now }) (T.judged trust.now) machine.now.kept payload.now) }
+    ensures judged { IfOk result (λ judged. IsReplyJudged S.crypto (record {
+      point = A.public_of agreement.now;
+      shared = A.shared_of agreement.now;
+    }) (T.judged trust.now) machine.now.kept payload.now judged) }
+    ensures due { OnErr result (ShowsDue S.crypto (record { point = A.public_of agreement.now; shared = A.shared_of agreement.now })
+        (T.judged trust.now) machine.now.kept payload.now) }
     ensures room { OnErr result (HasRoom machine.now) }
 {
     ssh_model::payload_sizes();
@@ -123,8 +131,13 @@ fn judge_point<S: Sealing, F: Filler + Drop, A: Agreement, T: HostTrust>(
     requires short { length reply.host_key.now ≤ 35000 }
     requires side { machine.now.kept.side ≡ model.Client }
     requires choice { HasChoice machine.now.kept }
-    ensures judged { IfOk result (λ judged. IsHostJudged S.crypto (record { point = A.public_of agreement.now; shared = A.shared_of agreement.now }) (T.judged trust.now) machine.now.kept reply.entry.host_key.now reply.entry.point.now reply.entry.signature.now judged) }
-    ensures due { OnErr result (HostDue S.crypto (record { point = A.public_of agreement.now; shared = A.shared_of agreement.now }) (T.judged trust.now) machine.now.kept reply.entry.host_key.now reply.entry.point.now reply.entry.signature.now) }
+    ensures judged { IfOk result (λ judged. IsHostJudged S.crypto (record {
+      point = A.public_of agreement.now;
+      shared = A.shared_of agreement.now;
+    }) (T.judged trust.now) machine.now.kept reply.entry.host_key.now reply.entry.point.now
+        reply.entry.signature.now judged) }
+    ensures due { OnErr result (HostDue S.crypto (record { point = A.public_of agreement.now; shared = A.shared_of agreement.now })
+        (T.judged trust.now) machine.now.kept reply.entry.host_key.now reply.entry.point.now reply.entry.signature.now) }
     ensures room { OnErr result (HasRoom machine.now) }
 {
     match machine.shared(agreement, reply.point) {
@@ -143,11 +156,17 @@ fn judge_host<S: Sealing, F: Filler + Drop, A: Agreement, T: HostTrust>(
 ) -> Result<HostJudged<S::Key>, AllocError>
     requires short { length reply.host_key.now ≤ 35000 }
     requires size { length reply.point.now ≡ 32 }
-    requires shares { shared_with (record { point = A.public_of agreement.now; shared = A.shared_of agreement.now }) machine.now.kept.underway.secret reply.point.now ≡ Some shared.now }
+    requires shares { shared_with (record { point = A.public_of agreement.now; shared = A.shared_of agreement.now })
+        machine.now.kept.underway.secret reply.point.now ≡ Some shared.now }
     requires side { machine.now.kept.side ≡ model.Client }
     requires choice { HasChoice machine.now.kept }
-    ensures judged { IfOk result (λ judged. IsHostJudged S.crypto (record { point = A.public_of agreement.now; shared = A.shared_of agreement.now }) (T.judged trust.now) machine.now.kept reply.entry.host_key.now reply.entry.point.now reply.entry.signature.now judged) }
-    ensures due { OnErr result (HostDue S.crypto (record { point = A.public_of agreement.now; shared = A.shared_of agreement.now }) (T.judged trust.now) machine.now.kept reply.entry.host_key.now reply.entry.point.now reply.entry.signature.now) }
+    ensures judged { IfOk result (λ judged. IsHostJudged S.crypto (record {
+      point = A.public_of agreement.now;
+      shared = A.shared_of agreement.now;
+    }) (T.judged trust.now) machine.now.kept reply.entry.host_key.now reply.entry.point.now
+        reply.entry.signature.now judged) }
+    ensures due { OnErr result (HostDue S.crypto (record { point = A.public_of agreement.now; shared = A.shared_of agreement.now })
+        (T.judged trust.now) machine.now.kept reply.entry.host_key.now reply.entry.point.now reply.entry.signature.now) }
     ensures room { OnErr result (HasRoom machine.now) }
 {
     let choice = machine.choice();
@@ -180,7 +199,8 @@ fn make_keys<S: Sealing, F: Filler + Drop>(
     hash: &[u8; 32],
 ) -> Result<TrustedHost<S::Key>, AllocError>
     requires { AreKnown S.crypto (chosen_of choice) }
-    ensures keys { IfOk result (λ host. AreKeys S.crypto machine.now.kept (chosen_of choice.entry) (number shared.now) hash.now host.keys.own host.keys.theirs host.keys.session) }
+    ensures keys { IfOk result (λ host. AreKeys S.crypto machine.now.kept (chosen_of choice.entry) (number shared.now) hash.now
+        host.keys.own host.keys.theirs host.keys.session) }
     ensures announcement { IfOk result (λ host. IsAnnouncement machine.now.kept (option_map (λ v. v.items) host.announcement)) }
     ensures chosen { IfOk result (λ host. owned_chosen host.choice ≡ chosen_of choice.entry) }
 {

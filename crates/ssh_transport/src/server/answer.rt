@@ -58,9 +58,18 @@ pub fn spell_answer<S: Sealing, F: Filler + Drop, A: Agreement, H: HostSigner>(
 ) -> Result<Spelling<S::Key>, AllocError>
     requires side { machine.now.kept.side ≡ model.Server }
     requires choice { HasChoice machine.now.kept }
-    requires shares { shared_with (record { point = A.public_of agreement.now; shared = A.shared_of agreement.now }) machine.now.kept.underway.secret point.now ≡ Some shared.now }
-    ensures spelled { IfOk result (λ spelling. IsSpelling S.crypto (record { agreement = record { point = A.public_of agreement.now; shared = A.shared_of agreement.now }; host_key = H.key_of signer.now; host_signature = H.signature_of signer.now }) machine.now.kept point.now spelling) }
-    ensures due { OnErr result (AnswerDue S.crypto (record { agreement = record { point = A.public_of agreement.now; shared = A.shared_of agreement.now }; host_key = H.key_of signer.now; host_signature = H.signature_of signer.now }) machine.now.kept point.now) }
+    requires shares { shared_with (record { point = A.public_of agreement.now; shared = A.shared_of agreement.now })
+        machine.now.kept.underway.secret point.now ≡ Some shared.now }
+    ensures spelled { IfOk result (λ spelling. IsSpelling S.crypto (record {
+      agreement = record { point = A.public_of agreement.now; shared = A.shared_of agreement.now };
+      host_key = H.key_of signer.now;
+      host_signature = H.signature_of signer.now;
+    }) machine.now.kept point.now spelling) }
+    ensures due { OnErr result (AnswerDue S.crypto (record {
+      agreement = record { point = A.public_of agreement.now; shared = A.shared_of agreement.now };
+      host_key = H.key_of signer.now;
+      host_signature = H.signature_of signer.now;
+    }) machine.now.kept point.now) }
     ensures room { OnErr result (machine.now.kept.sending.count + 2 ≤ 2 ^ 32) }
 {
     let choice = machine.choice();
@@ -86,8 +95,14 @@ fn sign<S: Sealing, F: Filler + Drop, A: Agreement, H: HostSigner>(
 ) -> Signed
     requires side { machine.now.kept.side ≡ model.Server }
     requires chosen { IsChosen machine.now.kept (chosen_of choice.now) }
-    requires shares { shared_with (record { point = A.public_of agreement.now; shared = A.shared_of agreement.now }) machine.now.kept.underway.secret point.now ≡ Some shared.now }
-    ensures signed { IsSigned (record { agreement = record { point = A.public_of agreement.now; shared = A.shared_of agreement.now }; host_key = H.key_of signer.now; host_signature = H.signature_of signer.now }) machine.now.kept (chosen_of choice.now) point.now shared.now result.own result.hash (take result.length result.signature) }
+    requires shares { shared_with (record { point = A.public_of agreement.now; shared = A.shared_of agreement.now })
+        machine.now.kept.underway.secret point.now ≡ Some shared.now }
+    ensures signed { IsSigned (record {
+      agreement = record { point = A.public_of agreement.now; shared = A.shared_of agreement.now };
+      host_key = H.key_of signer.now;
+      host_signature = H.signature_of signer.now;
+    }) machine.now.kept (chosen_of choice.now) point.now
+        shared.now result.own result.hash (take result.length result.signature) }
     ensures length { result.length ≤ 4096 }
 {
     let algorithm = choice.host.as_bytes();
@@ -121,9 +136,19 @@ fn answer_fits<S: Sealing, F: Filler + Drop, A: Agreement, H: HostSigner>(
 )
     requires side { machine.now.kept.side ≡ model.Server }
     requires chosen { IsChosen machine.now.kept (chosen_of choice.now) }
-    requires shares { shared_with (record { point = A.public_of agreement.now; shared = A.shared_of agreement.now }) machine.now.kept.underway.secret point.now ≡ Some shared.now }
-    requires signed { IsSigned (record { agreement = record { point = A.public_of agreement.now; shared = A.shared_of agreement.now }; host_key = H.key_of signer.now; host_signature = H.signature_of signer.now }) machine.now.kept (chosen_of choice.now) point.now shared.now signed.now.own signed.now.hash (take signed.now.length signed.now.signature) }
-    ensures { AnswerDue S.crypto (record { agreement = record { point = A.public_of agreement.now; shared = A.shared_of agreement.now }; host_key = H.key_of signer.now; host_signature = H.signature_of signer.now }) machine.now.kept point.now }
+    requires shares { shared_with (record { point = A.public_of agreement.now; shared = A.shared_of agreement.now })
+        machine.now.kept.underway.secret point.now ≡ Some shared.now }
+    requires signed { IsSigned (record {
+      agreement = record { point = A.public_of agreement.now; shared = A.shared_of agreement.now };
+      host_key = H.key_of signer.now;
+      host_signature = H.signature_of signer.now;
+    }) machine.now.kept (chosen_of choice.now) point.now
+        shared.now signed.now.own signed.now.hash (take signed.now.length signed.now.signature) }
+    ensures { AnswerDue S.crypto (record {
+      agreement = record { point = A.public_of agreement.now; shared = A.shared_of agreement.now };
+      host_key = H.key_of signer.now;
+      host_signature = H.signature_of signer.now;
+    }) machine.now.kept point.now }
 {
     spellings();
     payload_sizes();
@@ -143,10 +168,21 @@ fn spell_signed<S: Sealing, F: Filler + Drop, A: Agreement, H: HostSigner>(
     requires side { machine.now.kept.side ≡ model.Server }
     requires chosen { IsChosen machine.now.kept (chosen_of choice) }
     requires known { AreKnown S.crypto (chosen_of choice) }
-    requires shares { shared_with (record { point = A.public_of agreement.now; shared = A.shared_of agreement.now }) machine.now.kept.underway.secret point.now ≡ Some shared.now }
-    requires signed { IsSigned (record { agreement = record { point = A.public_of agreement.now; shared = A.shared_of agreement.now }; host_key = H.key_of signer.now; host_signature = H.signature_of signer.now }) machine.now.kept (chosen_of choice) point.now shared.now signed.now.own signed.now.hash (take signed.now.length signed.now.signature) }
+    requires shares { shared_with (record { point = A.public_of agreement.now; shared = A.shared_of agreement.now })
+        machine.now.kept.underway.secret point.now ≡ Some shared.now }
+    requires signed { IsSigned (record {
+      agreement = record { point = A.public_of agreement.now; shared = A.shared_of agreement.now };
+      host_key = H.key_of signer.now;
+      host_signature = H.signature_of signer.now;
+    }) machine.now.kept (chosen_of choice) point.now
+        shared.now signed.now.own signed.now.hash (take signed.now.length signed.now.signature) }
     requires length { signed.now.length ≤ 4096 }
-    ensures { IfOk result (λ a. IsAnswer S.crypto (record { agreement = record { point = A.public_of agreement.now; shared = A.shared_of agreement.now }; host_key = H.key_of signer.now; host_signature = H.signature_of signer.now }) machine.now.kept point.now (owned_chosen a.choice) a.reply.items a.keys.own a.keys.theirs a.keys.session (option_map (λ v. v.items) a.announcement)) }
+    ensures { IfOk result (λ a. IsAnswer S.crypto (record {
+      agreement = record { point = A.public_of agreement.now; shared = A.shared_of agreement.now };
+      host_key = H.key_of signer.now;
+      host_signature = H.signature_of signer.now;
+    }) machine.now.kept point.now (owned_chosen a.choice) a.reply.items a.keys.own
+        a.keys.theirs a.keys.session (option_map (λ v. v.items) a.announcement)) }
 {
     let keys = machine.exchange_keys(&choice, shared, &signed.hash)?;
     let reply = spell_reply(machine, signer, choice.host.as_bytes(), signed)?;
@@ -167,7 +203,8 @@ fn spell_reply<S: Sealing, F: Filler + Drop, H: HostSigner>(
     signed: &Signed,
 ) -> Result<Vec<u8>, AllocError>
     requires length { signed.now.length ≤ 4096 }
-    ensures spelled { IfOk result (λ reply. IsSpelled (KexEcdhReply (H.key_of signer.now algorithm.now) signed.now.own (take signed.now.length signed.now.signature)) reply.items) }
+    ensures spelled { IfOk result (λ reply. IsSpelled (KexEcdhReply (H.key_of signer.now algorithm.now) signed.now.own
+        (take signed.now.length signed.now.signature)) reply.items) }
     ensures some { IfOk result (λ reply. 1 ≤ length reply.items) }
 {
     machine.spell(&Message::KexEcdhReply {

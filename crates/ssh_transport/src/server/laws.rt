@@ -44,9 +44,12 @@ pub fn points_shown<K>()
 
 /// What holds of a live machine goes on holding with a point that is answered, and no KEXINIT is kept that is still to be chosen by.
 pub fn points_live<K>()
-    ensures live { (c : Crypto K) (parts : ExchangeParts) (old new : State K) (chosen : Chosen) (o : Outs) → old.kept.blocked ≡ true → IsLive old → PointAnswered c parts old chosen new o → IsLive new }
-    ensures choosing { (c : Crypto K) (parts : ExchangeParts) (old new : State K) (chosen : Chosen) (o : Outs) → PointAnswered c parts old chosen new o → IsChoosing new.kept }
-    ensures side { (c : Crypto K) (parts : ExchangeParts) (old new : State K) (chosen : Chosen) (o : Outs) → PointAnswered c parts old chosen new o → new.kept.side ≡ old.kept.side }
+    ensures live { (c : Crypto K) (parts : ExchangeParts) (old new : State K) (chosen : Chosen) (o : Outs) → old.kept.blocked ≡ true →
+        IsLive old → PointAnswered c parts old chosen new o → IsLive new }
+    ensures choosing { (c : Crypto K) (parts : ExchangeParts) (old new : State K) (chosen : Chosen) (o : Outs) →
+        PointAnswered c parts old chosen new o → IsChoosing new.kept }
+    ensures side { (c : Crypto K) (parts : ExchangeParts) (old new : State K) (chosen : Chosen) (o : Outs) →
+        PointAnswered c parts old chosen new o → new.kept.side ≡ old.kept.side }
 {
     exchanges_live::<K>();
     live_machines::<K>();
@@ -55,9 +58,17 @@ pub fn points_live<K>()
 /// What a server does with a client's point is what a server does in a session whose parts it has: it refuses the point, or
 /// ends the exchange up to what it announces, or has too few numbers left for that.
 pub fn points_taken<K>()
-    ensures ended { (p : Parties K) (history : List Item) (s : Transport K) → SumsUp p Server history s → s.dead ≡ false → (old new : State K) (o : Outs) → old.kept ≡ after_taken s → IsRead s old.receiver.payload → (chosen : Chosen) → PointAnswered p.crypto (parts_of p Server) old chosen new o → ExchangeEnds p Server history old.receiver.payload (s.sending.epoch + 1) new.kept o }
-    ensures refused { (p : Parties K) (history : List Item) (s : Transport K) → SumsUp p Server history s → s.dead ≡ false → (old new : State K) (o : Outs) → old.kept ≡ after_taken s → IsRead s old.receiver.payload → PointRefused p.crypto (parts_of p Server) old new o → PayloadRefused p Server history old.receiver.payload BadPoint new.kept o }
-    ensures spent { (p : Parties K) (history : List Item) (s : Transport K) → SumsUp p Server history s → s.dead ≡ false → (old new : State K) (o : Outs) → old.kept ≡ after_taken s → IsRead s old.receiver.payload → (owed : List Item) → AreReplies (owed_replies Server history) owed → AreSpelled owed → AnswerSpent p.crypto (parts_of p Server) old new o → Turned p Server history old.receiver.payload (Died ∷ Refused NumberSpent (Some old.receiver.payload) ∷ []) [] new.kept }
+    ensures ended { (p : Parties K) (history : List Item) (s : Transport K) → SumsUp p Server history s → s.dead ≡ false →
+        (old new : State K) (o : Outs) → old.kept ≡ after_taken s → IsRead s old.receiver.payload → (chosen : Chosen) →
+        PointAnswered p.crypto (parts_of p Server) old chosen new o →
+        ExchangeEnds p Server history old.receiver.payload (s.sending.epoch + 1) new.kept o }
+    ensures refused { (p : Parties K) (history : List Item) (s : Transport K) → SumsUp p Server history s → s.dead ≡ false →
+        (old new : State K) (o : Outs) → old.kept ≡ after_taken s → IsRead s old.receiver.payload →
+        PointRefused p.crypto (parts_of p Server) old new o → PayloadRefused p Server history old.receiver.payload BadPoint new.kept o }
+    ensures spent { (p : Parties K) (history : List Item) (s : Transport K) → SumsUp p Server history s → s.dead ≡ false →
+        (old new : State K) (o : Outs) → old.kept ≡ after_taken s → IsRead s old.receiver.payload → (owed : List Item) →
+        AreReplies (owed_replies Server history) owed → AreSpelled owed → AnswerSpent p.crypto (parts_of p Server) old new o →
+        Turned p Server history old.receiver.payload (Died ∷ Refused NumberSpent (Some old.receiver.payload) ∷ []) [] new.kept }
 {
     payload_numbers();
     exchange_ends::<K>();
@@ -69,8 +80,13 @@ pub fn points_taken<K>()
 /// What a server's transport makes of a line or a packet is what the server makes of it in a session whose parts these are. Where memory
 /// was refused, something would be sent in that session.
 pub fn servers_units<K>()
-    ensures taken { (p : Parties K) (history : List Item) (old : State K) → SumsUp p Server history old.kept → (bytes : List ℕ) (given : TransportTurn) (new : State K) (o : Outs) → Took p.crypto Server (ServerDoes p.crypto (parts_of p Server)) old bytes given new o → UnitTurnOf p Server history old.kept bytes given new o }
-    ensures died { (p : Parties K) (history : List Item) (old : State K) → SumsUp p Server history old.kept → (bytes : List ℕ) (new : State K) → units.Died p.crypto Server (ServerLacks p.crypto (parts_of p Server)) old bytes new → WouldDie p Server old.kept bytes }
+    ensures taken { (p : Parties K) (history : List Item) (old : State K) → SumsUp p Server history old.kept →
+        (bytes : List ℕ) (given : TransportTurn) (new : State K) (o : Outs) →
+        Took p.crypto Server (ServerDoes p.crypto (parts_of p Server)) old bytes given new o →
+        UnitTurnOf p Server history old.kept bytes given new o }
+    ensures died { (p : Parties K) (history : List Item) (old : State K) → SumsUp p Server history old.kept →
+        (bytes : List ℕ) (new : State K) → units.Died p.crypto Server (ServerLacks p.crypto (parts_of p Server)) old bytes new →
+        WouldDie p Server old.kept bytes }
 {
     payload_numbers();
     spellings();
@@ -83,11 +99,17 @@ pub fn servers_units<K>()
 /// What a server's transport leaves to the layers above is a payload from 50 on. When an exchange is completed at most one packet was sent
 /// under the new key, and memory might have been refused for what was sent. What is shown and begun stays, or the server is over.
 pub fn servers_left<K>()
-    ensures up { (c : Crypto K) (parts : ExchangeParts) (old : State K) (bytes : List ℕ) (number : ℕ) (new : State K) (o : Outs) → Took c Server (ServerDoes c parts) old bytes (outcome.Up number) new o → IsUp new o }
-    ensures completed { (c : Crypto K) (parts : ExchangeParts) (old : State K) (bytes : List ℕ) (choice : OwnedChoice) (new : State K) (o : Outs) → Took c Server (ServerDoes c parts) old bytes (outcome.Completed choice) new o → IsCompleted old new o }
-    ensures due { (c : Crypto K) (parts : ExchangeParts) (old : State K) (bytes : List ℕ) (choice : OwnedChoice) (new : State K) (o : Outs) → Took c Server (ServerDoes c parts) old bytes (outcome.Completed choice) new o → units.Died c Server (ServerLacks c parts) old bytes (dead_state old) }
-    ensures shown { (c : Crypto K) (parts : ExchangeParts) (old new : State K) (o : Outs) (own : Own) (given : TransportTurn) → ServerDoes c parts old own given new o → IsOwnShown old given new o }
-    ensures leaves { (c : Crypto K) (parts : ExchangeParts) (old new : State K) (o : Outs) (own : Own) (given : TransportTurn) → ServerDoes c parts old own given new o → Leaves old given new }
+    ensures up { (c : Crypto K) (parts : ExchangeParts) (old : State K) (bytes : List ℕ) (number : ℕ) (new : State K) (o : Outs) →
+        Took c Server (ServerDoes c parts) old bytes (outcome.Up number) new o → IsUp new o }
+    ensures completed { (c : Crypto K) (parts : ExchangeParts) (old : State K) (bytes : List ℕ) (choice : OwnedChoice) (new : State K)
+        (o : Outs) → Took c Server (ServerDoes c parts) old bytes (outcome.Completed choice) new o → IsCompleted old new o }
+    ensures due { (c : Crypto K) (parts : ExchangeParts) (old : State K) (bytes : List ℕ) (choice : OwnedChoice) (new : State K)
+        (o : Outs) → Took c Server (ServerDoes c parts) old bytes (outcome.Completed choice) new o →
+        units.Died c Server (ServerLacks c parts) old bytes (dead_state old) }
+    ensures shown { (c : Crypto K) (parts : ExchangeParts) (old new : State K) (o : Outs) (own : Own) (given : TransportTurn) →
+        ServerDoes c parts old own given new o → IsOwnShown old given new o }
+    ensures leaves { (c : Crypto K) (parts : ExchangeParts) (old new : State K) (o : Outs) (own : Own) (given : TransportTurn) →
+        ServerDoes c parts old own given new o → Leaves old given new }
 {
     payload_numbers();
     spellings();

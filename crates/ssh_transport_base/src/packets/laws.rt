@@ -9,7 +9,10 @@ ghost use Rattle.ssh_transport_base.specs.Directions.{Direction, SumsUp, counted
 /// first NEWKEYS it is the same whether keys are exchanged strictly or not. A fact for proofs, at no cost.
 pub fn directions_sum_up<K>()
     ensures none { (strict : Bool) → SumsUp strict [] (new_direction {K = K}) }
-    ensures other { (strict : Bool) (l : List Payload) (direction : Direction K) (bytes : List ℕ) → SumsUp strict l direction → SumsUp strict (OtherOf bytes ∷ l) (counted direction) }
-    ensures newkeys { (strict : Bool) (l : List Payload) (direction : Direction K) (key : K) (bytes : List ℕ) → SumsUp strict l direction → SumsUp strict (NewkeysOf bytes ∷ l) (renewed strict key (counted direction)) }
-    ensures first_epoch { (strict other : Bool) (l : List Payload) (direction : Direction K) → epoch l ≡ 0 → SumsUp strict l direction → SumsUp other l direction }
+    ensures other { (strict : Bool) (l : List Payload) (direction : Direction K) (bytes : List ℕ) → SumsUp strict l direction →
+        SumsUp strict (OtherOf bytes ∷ l) (counted direction) }
+    ensures newkeys { (strict : Bool) (l : List Payload) (direction : Direction K) (key : K) (bytes : List ℕ) →
+        SumsUp strict l direction → SumsUp strict (NewkeysOf bytes ∷ l) (renewed strict key (counted direction)) }
+    ensures first_epoch { (strict other : Bool) (l : List Payload) (direction : Direction K) → epoch l ≡ 0 → SumsUp strict l direction →
+        SumsUp other l direction }
 {}

@@ -1,7 +1,8 @@
 ghost use Rattle.std.specs.Prelude.{◌≡◌, ◌<◌, ◌≤◌, ◌+◌, ◌-◌, ◌%◌, ◌++◌, ◌^◌, IfOk, IfSome, List, [], None, length, take};
 ghost use Rattle.ssh_model.specs.Protocol.Wire.DataTypes.{AreBytes};
 ghost use Rattle.ssh_model.specs.Protocol.Wire.Unit.{IsPacketBegun};
-ghost use Rattle.ssh_transport_base.specs.Directions.{Receives, new_direction, new_receiver, newkeys, next_number, renewed, sealed_direction};
+ghost use Rattle.ssh_transport_base.specs.Directions.{Receives, new_direction, new_receiver, newkeys, next_number, renewed};
+ghost use Rattle.ssh_transport_base.specs.Directions.{sealed_direction};
 
 use crate::packets::step::PacketStep;
 use crate::packets::{NUMBERS, first_number};
@@ -152,7 +153,8 @@ impl<S: Sealing> PacketReceiver<S> {
         ensures used { result.0 ≤ length bytes.now }
         ensures progress { self.old.ended ≡ None → 0 < length bytes.now → 0 < result.0 }
         ensures more { result.1 ≡ PacketStep.More → result.0 ≡ length bytes.now }
-        ensures received { self.old.ended ≡ None → Receives S.crypto (self.old.begun ++ take result.0 bytes.now) self.old result.1 self.new }
+        ensures received { self.old.ended ≡ None → Receives S.crypto (self.old.begun ++ take result.0 bytes.now) self.old result.1
+            self.new }
         ensures ended { IfSome self.old.ended (λ refusal. (result ≡ (0, PacketStep.Refused refusal)) × (self.new ≡ self.old)) }
     {
         if let Some(refusal) = self.ended {

@@ -132,11 +132,13 @@ impl<S: Sealing> PacketSender<S> {
         requires some { 1 ≤ length payload.now }
         requires most { length payload.now ≤ 34000 }
         ensures written { OnOk result (Writes (IsSealed S.crypto self.old.key self.old.number payload.now) out.old.items out.new.items) }
-        ensures padded { OnOk result (Pads S.crypto self.old.key self.old.number payload.now (λ padding. F.gives filler.old padding filler.new) out.old.items out.new.items) }
+        ensures padded { OnOk result (Pads S.crypto self.old.key self.old.number payload.now
+            (λ padding. F.gives filler.old padding filler.new) out.old.items out.new.items) }
         ensures counted { OnOk result (self.new ≡ counted self.old) }
         ensures kept { OnErr result (self.new ≡ self.old) }
         ensures out { OnErr result (out.new.items ≡ out.old.items) }
-        ensures full { OnErr result (vec_capacity out.old < length out.old.items + packet_size (blocks_under S.crypto self.old.key) (tag_under S.crypto self.old.key) (length payload.now)) }
+        ensures full { OnErr result (vec_capacity out.old < length out.old.items + packet_size (blocks_under S.crypto self.old.key)
+            (tag_under S.crypto self.old.key) (length payload.now)) }
     {
         write_packet::<S, F>(payload, self.key.as_ref(), self.number, filler, out)?;
         self.number = self.number.wrapping_add(1);
@@ -161,11 +163,13 @@ impl<S: Sealing> PacketSender<S> {
         requires left { self.old.count < 2 ^ 32 }
         requires epoch { self.old.epoch < 2 ^ 32 - 1 }
         ensures written { OnOk result (Writes (IsSealed S.crypto self.old.key self.old.number newkeys) out.old.items out.new.items) }
-        ensures padded { OnOk result (Pads S.crypto self.old.key self.old.number newkeys (λ padding. F.gives filler.old padding filler.new) out.old.items out.new.items) }
+        ensures padded { OnOk result (Pads S.crypto self.old.key self.old.number newkeys
+            (λ padding. F.gives filler.old padding filler.new) out.old.items out.new.items) }
         ensures renewed { OnOk result (self.new ≡ renewed strict key (counted self.old)) }
         ensures kept { OnErr result (self.new ≡ self.old) }
         ensures out { OnErr result (out.new.items ≡ out.old.items) }
-        ensures full { OnErr result (vec_capacity out.old < length out.old.items + packet_size (blocks_under S.crypto self.old.key) (tag_under S.crypto self.old.key) 1) }
+        ensures full { OnErr result (vec_capacity out.old < length out.old.items + packet_size (blocks_under S.crypto self.old.key)
+            (tag_under S.crypto self.old.key) 1) }
     {
         self.send(NEWKEYS, filler, out)?;
         self.key = Some(key);

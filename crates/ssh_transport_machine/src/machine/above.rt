@@ -1,6 +1,7 @@
 //! What a layer above has an end do.
 
-ghost use Rattle.std.specs.Prelude.{◌≡◌, ◌≤◌, IfErr, IfOk, OnErr, OnOk, length, map, true};
+ghost use Rattle.ssh_transport_machine.specs.Puts.{outs};
+ghost use Rattle.std.specs.Prelude.{◌≡◌, ◌≤◌, IfErr, IfOk, OnErr, OnOk, length, true};
 ghost use Rattle.ssh_transport_machine.specs.Above.{PayloadSent, PeerRefused, RefuseFailed, SendFailed};
 ghost use Rattle.ssh_transport_machine.specs.Turning.{HasRoom};
 
@@ -24,7 +25,7 @@ impl<S: Sealing, F: Filler + Drop> Machine<S, F> {
         out: &mut Vec<u8>,
         sent: &mut Vec<Vec<u8>>,
     ) -> Result<(), TransportFault>
-        ensures refused { OnOk result (PeerRefused S.crypto self.old refusal self.new (record { before = out.old.items; after = out.new.items; listed = map (λ v. v.items) sent.old.items; relisted = map (λ v. v.items) sent.new.items })) }
+        ensures refused { OnOk result (PeerRefused S.crypto self.old refusal self.new (outs out.old out.new sent.old sent.new)) }
         ensures failed { IfErr result (λ fault. RefuseFailed self.old refusal fault self.new) }
         ensures out { OnErr result (out.new.items ≡ out.old.items) }
         ensures kept { OnErr result (sent.new.items ≡ sent.old.items) }
@@ -50,7 +51,8 @@ impl<S: Sealing, F: Filler + Drop> Machine<S, F> {
     ) -> Result<Answer, TransportFault>
         requires some { 1 ≤ length payload.items }
         requires most { length payload.items ≤ 34000 }
-        ensures answered { IfOk result (λ answer. PayloadSent S.crypto self.old payload.items answer self.new (record { before = out.old.items; after = out.new.items; listed = map (λ v. v.items) sent.old.items; relisted = map (λ v. v.items) sent.new.items })) }
+        ensures answered { IfOk result (λ answer. PayloadSent S.crypto self.old payload.items answer self.new
+            (outs out.old out.new sent.old sent.new)) }
         ensures failed { IfErr result (λ fault. SendFailed self.old fault self.new) }
         ensures out { OnErr result (out.new.items ≡ out.old.items) }
         ensures kept { OnErr result (sent.new.items ≡ sent.old.items) }

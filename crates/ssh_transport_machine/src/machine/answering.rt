@@ -4,7 +4,7 @@ ghost use Rattle.std.specs.Prelude.{◌≡◌, ◌<◌, ◌+◌, ◌^◌, OnOk, 
 ghost use Rattle.ssh_model.specs.Protocol.Wire.Message.{KexEcdhInit};
 ghost use Rattle.ssh_model.specs.State.TransportLayer.Kept.{after_sent};
 ghost use Rattle.ssh_transport_machine.specs.Offering.{BothAnswered, OwnAnswered};
-ghost use Rattle.ssh_transport_machine.specs.Puts.{Sends};
+ghost use Rattle.ssh_transport_machine.specs.Puts.{Sends, outs};
 ghost use Rattle.ssh_transport_machine.specs.State.{noted};
 
 use crate::machine::Machine;
@@ -28,8 +28,10 @@ impl<S: Sealing, F: Filler + Drop> Machine<S, F> {
         sent: &mut Vec<Vec<u8>>,
     ) -> Result<(), AllocError>
         requires left { self.old.kept.sending.count < 2 ^ 32 }
-        ensures sends { OnOk result (Sends S.crypto self.old.kept.sending (KexEcdhInit point.now) (record { before = out.old.items; after = out.new.items; listed = map (λ v. v.items) sent.old.items; relisted = map (λ v. v.items) sent.new.items })) }
-        ensures after { OnOk result (self.new ≡ record self.old { kept = after_sent (noted facts.wrong facts.strict facts.extensions self.old.receiver.payload self.old.kept) }) }
+        ensures sends { OnOk result (Sends S.crypto self.old.kept.sending (KexEcdhInit point.now)
+            (outs out.old out.new sent.old sent.new)) }
+        ensures after { OnOk result (self.new ≡ record self.old
+            { kept = after_sent (noted facts.wrong facts.strict facts.extensions self.old.receiver.payload self.old.kept) }) }
         ensures dead { OnErr result (self.new.kept.dead ≡ true) }
         ensures out { OnErr result (out.new.items ≡ out.old.items) }
         ensures kept { OnErr result (sent.new.items ≡ sent.old.items) }
@@ -52,7 +54,8 @@ impl<S: Sealing, F: Filler + Drop> Machine<S, F> {
         sent: &mut Vec<Vec<u8>>,
     ) -> Result<(), AllocError>
         requires left { self.old.kept.sending.count < 2 ^ 32 }
-        ensures sends { OnOk result (OwnAnswered S.crypto self.old (record { cookie = material.cookie; secret = material.secret }) facts self.new (record { before = out.old.items; after = out.new.items; listed = map (λ v. v.items) sent.old.items; relisted = map (λ v. v.items) sent.new.items })) }
+        ensures sends { OnOk result (OwnAnswered S.crypto self.old (record { cookie = material.cookie; secret = material.secret }) facts
+            self.new (outs out.old out.new sent.old sent.new)) }
         ensures dead { OnErr result (self.new.kept.dead ≡ true) }
         ensures out { OnErr result (out.new.items ≡ out.old.items) }
         ensures kept { OnErr result (sent.new.items ≡ sent.old.items) }
@@ -76,7 +79,8 @@ impl<S: Sealing, F: Filler + Drop> Machine<S, F> {
         sent: &mut Vec<Vec<u8>>,
     ) -> Result<(), AllocError>
         requires left { self.old.kept.sending.count + 1 < 2 ^ 32 }
-        ensures sends { OnOk result (BothAnswered S.crypto self.old (record { cookie = material.cookie; secret = material.secret }) point.now facts self.new (record { before = out.old.items; after = out.new.items; listed = map (λ v. v.items) sent.old.items; relisted = map (λ v. v.items) sent.new.items })) }
+        ensures sends { OnOk result (BothAnswered S.crypto self.old (record { cookie = material.cookie; secret = material.secret })
+            point.now facts self.new (outs out.old out.new sent.old sent.new)) }
         ensures dead { OnErr result (self.new.kept.dead ≡ true) }
         ensures out { OnErr result (out.new.items ≡ out.old.items) }
         ensures kept { OnErr result (map (λ v. v.items) sent.new.items ≡ map (λ v. v.items) sent.old.items) }

@@ -1,12 +1,14 @@
 //! What an end does on an ask of its user: for the service of authentication, for an exchange of keys, or to disconnect.
 
-ghost use Rattle.std.specs.Prelude.{◌≡◌, ◌≤◌, IfOk, OnErr, None, codes, length, map, true};
+ghost use Rattle.ssh_transport_machine.specs.Puts.{outs};
+ghost use Rattle.std.specs.Prelude.{◌≡◌, ◌≤◌, IfOk, OnErr, None, codes, length, true};
 ghost use Rattle.ssh_model.specs.Protocol.Side.{Client};
 ghost use Rattle.ssh_model.specs.Protocol.Wire.Message.{ServiceRequest};
 ghost use Rattle.ssh_model.specs.Protocol.Sessions.Items.{AskDisconnect, AskRekey, AskService};
 ghost use Rattle.ssh_model.specs.Protocol.Sessions.Refusals.{first_refusal};
 ghost use Rattle.ssh_model.specs.State.TransportLayer.Kept.{after_sent, message_ask_checks};
-ghost use Rattle.ssh_transport_machine.specs.Asking.{AskDone, AskLacks, DisconnectDone, DisconnectLacks, OfferDone, OfferLacks, refusal_with};
+ghost use Rattle.ssh_transport_machine.specs.Asking.{AskDone, AskLacks, DisconnectDone, DisconnectLacks, OfferDone, OfferLacks};
+ghost use Rattle.ssh_transport_machine.specs.Asking.{refusal_with};
 ghost use Rattle.ssh_transport_machine.specs.Turning.{Answers, HasRoom};
 
 use crate::machine::Machine;
@@ -32,7 +34,7 @@ impl<S: Sealing, F: Filler + Drop> Machine<S, F> {
         out: &mut Vec<u8>,
         sent: &mut Vec<Vec<u8>>,
     ) -> Result<AskTurn, AllocError>
-        ensures done { IfOk result (λ turn. AskDone S.crypto self.old AskService turn self.new (record { before = out.old.items; after = out.new.items; listed = map (λ v. v.items) sent.old.items; relisted = map (λ v. v.items) sent.new.items })) }
+        ensures done { IfOk result (λ turn. AskDone S.crypto self.old AskService turn self.new (outs out.old out.new sent.old sent.new)) }
         ensures dead { OnErr result (self.new.kept.dead ≡ true) }
         ensures lacks { OnErr result (AskLacks self.old AskService) }
         ensures out { OnErr result (out.new.items ≡ out.old.items) }
@@ -54,7 +56,7 @@ impl<S: Sealing, F: Filler + Drop> Machine<S, F> {
         out: &mut Vec<u8>,
         sent: &mut Vec<Vec<u8>>,
     ) -> Result<AskTurn, AllocError>
-        ensures done { IfOk result (λ turn. AskDone S.crypto self.old AskRekey turn self.new (record { before = out.old.items; after = out.new.items; listed = map (λ v. v.items) sent.old.items; relisted = map (λ v. v.items) sent.new.items })) }
+        ensures done { IfOk result (λ turn. AskDone S.crypto self.old AskRekey turn self.new (outs out.old out.new sent.old sent.new)) }
         ensures dead { OnErr result (self.new.kept.dead ≡ true) }
         ensures lacks { OnErr result (AskLacks self.old AskRekey) }
         ensures out { OnErr result (out.new.items ≡ out.old.items) }
@@ -80,7 +82,8 @@ impl<S: Sealing, F: Filler + Drop> Machine<S, F> {
         out: &mut Vec<u8>,
         sent: &mut Vec<Vec<u8>>,
     ) -> Result<AskTurn, AllocError>
-        ensures done { IfOk result (λ turn. DisconnectDone S.crypto self.old description.now turn self.new (record { before = out.old.items; after = out.new.items; listed = map (λ v. v.items) sent.old.items; relisted = map (λ v. v.items) sent.new.items })) }
+        ensures done { IfOk result (λ turn. DisconnectDone S.crypto self.old description.now turn self.new
+            (outs out.old out.new sent.old sent.new)) }
         ensures dead { OnErr result (self.new.kept.dead ≡ true) }
         ensures lacks { OnErr result (DisconnectLacks self.old description.now) }
         ensures out { OnErr result (out.new.items ≡ out.old.items) }
@@ -148,7 +151,8 @@ impl<S: Sealing, F: Filler + Drop> Machine<S, F> {
         out: &mut Vec<u8>,
         sent: &mut Vec<Vec<u8>>,
     ) -> Result<Answer, AllocError>
-        ensures answers { IfOk result (λ answer. Answers S.crypto self.old (ServiceRequest (codes "ssh-userauth")) (record (after_sent self.old.kept) { requested = true }) answer self.new (record { before = out.old.items; after = out.new.items; listed = map (λ v. v.items) sent.old.items; relisted = map (λ v. v.items) sent.new.items })) }
+        ensures answers { IfOk result (λ answer. Answers S.crypto self.old (ServiceRequest (codes "ssh-userauth"))
+            (record (after_sent self.old.kept) { requested = true }) answer self.new (outs out.old out.new sent.old sent.new)) }
         ensures dead { OnErr result (self.new.kept.dead ≡ true) }
         ensures room { OnErr result (HasRoom self.old) }
         ensures out { OnErr result (out.new.items ≡ out.old.items) }
@@ -171,7 +175,8 @@ impl<S: Sealing, F: Filler + Drop> Machine<S, F> {
         out: &mut Vec<u8>,
         sent: &mut Vec<Vec<u8>>,
     ) -> Result<Answer, AllocError>
-        ensures done { IfOk result (λ answer. OfferDone S.crypto self.old (record { cookie = material.cookie; secret = material.secret }) answer self.new (record { before = out.old.items; after = out.new.items; listed = map (λ v. v.items) sent.old.items; relisted = map (λ v. v.items) sent.new.items })) }
+        ensures done { IfOk result (λ answer. OfferDone S.crypto self.old (record { cookie = material.cookie; secret = material.secret })
+            answer self.new (outs out.old out.new sent.old sent.new)) }
         ensures dead { OnErr result (self.new.kept.dead ≡ true) }
         ensures lacks { OnErr result (OfferLacks self.old (record { cookie = material.cookie; secret = material.secret })) }
         ensures out { OnErr result (out.new.items ≡ out.old.items) }

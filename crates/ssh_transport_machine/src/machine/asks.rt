@@ -1,6 +1,7 @@
 //! What a user asks of an end, or a layer above.
 
-ghost use Rattle.std.specs.Prelude.{◌≡◌, IfErr, IfOk, OnErr, map, true};
+ghost use Rattle.ssh_transport_machine.specs.Puts.{outs};
+ghost use Rattle.std.specs.Prelude.{◌≡◌, IfErr, IfOk, OnErr, true};
 ghost use Rattle.ssh_transport_machine.specs.Asks.{AskFailed, AskLacked, AskTaken, AskTurned, IsSendable};
 
 use crate::machine::Machine;
@@ -23,7 +24,7 @@ impl<S: Sealing, F: Filler + Drop> Machine<S, F> {
         sent: &mut Vec<Vec<u8>>,
     ) -> Result<AskTurn, TransportFault>
         requires { IsSendable ask }
-        ensures asked { IfOk result (λ turn. AskTaken S.crypto self.old ask.entry turn self.new (record { before = out.old.items; after = out.new.items; listed = map (λ v. v.items) sent.old.items; relisted = map (λ v. v.items) sent.new.items })) }
+        ensures asked { IfOk result (λ turn. AskTaken S.crypto self.old ask.entry turn self.new (outs out.old out.new sent.old sent.new)) }
         ensures failed { IfErr result (λ fault. AskFailed self.old ask.entry fault self.new) }
         ensures out { OnErr result (out.new.items ≡ out.old.items) }
         ensures kept { OnErr result (sent.new.items ≡ sent.old.items) }
@@ -43,7 +44,8 @@ impl<S: Sealing, F: Filler + Drop> Machine<S, F> {
         sent: &mut Vec<Vec<u8>>,
     ) -> Result<AskTurn, AllocError>
         requires { IsSendable ask }
-        ensures turned { IfOk result (λ turn. AskTurned S.crypto self.old ask.entry turn self.new (record { before = out.old.items; after = out.new.items; listed = map (λ v. v.items) sent.old.items; relisted = map (λ v. v.items) sent.new.items })) }
+        ensures turned { IfOk result (λ turn. AskTurned S.crypto self.old ask.entry turn self.new
+            (outs out.old out.new sent.old sent.new)) }
         ensures dead { OnErr result (self.new.kept.dead ≡ true) }
         ensures lacks { OnErr result (AskLacked self.old ask.entry) }
         ensures out { OnErr result (out.new.items ≡ out.old.items) }

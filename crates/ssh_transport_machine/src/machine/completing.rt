@@ -1,11 +1,11 @@
 //! The end of an exchange: NEWKEYS of both directions (RFC 4253 section 7.3).
 
-ghost use Rattle.std.specs.Prelude.{◌≡◌, ◌<◌, ◌-◌, ◌^◌, None, OnOk, OnErr, Some, false, map, true};
+ghost use Rattle.std.specs.Prelude.{◌≡◌, ◌<◌, ◌-◌, ◌^◌, None, OnOk, OnErr, Some, false, true};
 ghost use Rattle.ssh_model.specs.Protocol.Sessions.Phases as model;
 ghost use Rattle.ssh_model.specs.Protocol.Wire.Message.{NewKeys};
 ghost use Rattle.ssh_model.specs.State.TransportLayer.Directions.{counted, renewed};
 ghost use Rattle.ssh_transport_base.specs.Directions.{newkeys};
-ghost use Rattle.ssh_transport_machine.specs.Puts.{PutsPayload, Sends};
+ghost use Rattle.ssh_transport_machine.specs.Puts.{PutsPayload, Sends, outs};
 
 use crate::machine::{Machine, Phase};
 use ssh_packet::{Filler, Sealing};
@@ -28,8 +28,16 @@ impl<S: Sealing, F: Filler + Drop> Machine<S, F> {
     ) -> Result<(), AllocError>
         requires left { self.old.kept.sending.count < 2 ^ 32 }
         requires epoch { self.old.kept.sending.epoch < 2 ^ 32 - 1 }
-        ensures sends { OnOk result (Sends S.crypto self.old.kept.sending NewKeys (record { before = out.old.items; after = out.new.items; listed = map (λ v. v.items) sent.old.items; relisted = map (λ v. v.items) sent.new.items })) }
-        ensures after { OnOk result (self.new ≡ record self.old { kept = record self.old.kept { sending = renewed self.old.kept.strict key (counted self.old.kept.sending); pending = Some peer_key; phase = model.Keying; blocked = false; session = Some session } }) }
+        ensures sends { OnOk result (Sends S.crypto self.old.kept.sending NewKeys (outs out.old out.new sent.old sent.new)) }
+        ensures after { OnOk result (self.new ≡ record self.old {
+          kept = record self.old.kept {
+            sending = renewed self.old.kept.strict key (counted self.old.kept.sending);
+            pending = Some peer_key;
+            phase = model.Keying;
+            blocked = false;
+            session = Some session;
+          };
+        }) }
         ensures dead { OnErr result (self.new.kept.dead ≡ true) }
         ensures out { OnErr result (out.new.items ≡ out.old.items) }
         ensures kept { OnErr result (sent.new.items ≡ sent.old.items) }
@@ -54,8 +62,9 @@ impl<S: Sealing, F: Filler + Drop> Machine<S, F> {
     ) -> Result<(), AllocError>
         requires left { self.old.kept.sending.count < 2 ^ 32 }
         requires epoch { self.old.kept.sending.epoch < 2 ^ 32 - 1 }
-        ensures puts { OnOk result (PutsPayload S.crypto self.old.kept.sending newkeys (record { before = out.old.items; after = out.new.items; listed = map (λ v. v.items) sent.old.items; relisted = map (λ v. v.items) sent.new.items })) }
-        ensures after { OnOk result (self.new ≡ record self.old { kept = record self.old.kept { sending = renewed self.old.kept.strict key (counted self.old.kept.sending) } }) }
+        ensures puts { OnOk result (PutsPayload S.crypto self.old.kept.sending newkeys (outs out.old out.new sent.old sent.new)) }
+        ensures after { OnOk result (self.new ≡ record self.old
+            { kept = record self.old.kept { sending = renewed self.old.kept.strict key (counted self.old.kept.sending) } }) }
         ensures out { OnErr result (out.new.items ≡ out.old.items) }
         ensures kept { OnErr result (sent.new.items ≡ sent.old.items) }
     {
@@ -74,7 +83,16 @@ impl<S: Sealing, F: Filler + Drop> Machine<S, F> {
         requires shown { self.old.receiver.payload ≡ newkeys }
         requires taken { 0 < self.old.receiver.direction.count }
         requires epoch { self.old.receiver.direction.epoch < 2 ^ 32 - 1 }
-        ensures { (key : S.Key) → self.old.kept.pending ≡ Some key → self.new ≡ record self.old { receiver = record self.old.receiver { direction = renewed self.old.kept.strict key self.old.receiver.direction }; kept = record self.old.kept { taking = renewed self.old.kept.strict key self.old.receiver.direction; phase = model.Normal; pending = None } } }
+        ensures { (key : S.Key) → self.old.kept.pending ≡ Some key →
+            self.new ≡ record self.old {
+              receiver = record self.old.receiver
+                  { direction = renewed self.old.kept.strict key self.old.receiver.direction };
+              kept = record self.old.kept {
+                taking = renewed self.old.kept.strict key self.old.receiver.direction;
+                phase = model.Normal;
+                pending = None;
+              };
+            } }
     {
         match self.pending.take() {
             Some(key) => {

@@ -1,6 +1,7 @@
 //! The end of an exchange: both keys are made, NEWKEYS is sent, and after it what is announced.
 
-ghost use Rattle.std.specs.Prelude.{◌≡◌, ◌<◌, ◌≤◌, ◌+◌, ◌-◌, ◌^◌, ◌∷◌, [], None, Some, IfOk, OnOk, OnErr, length, map, replicate, true, false};
+ghost use Rattle.std.specs.Prelude.{◌≡◌, ◌<◌, ◌≤◌, ◌+◌, ◌-◌, ◌^◌, ◌∷◌, [], None, Some, IfOk, OnOk, OnErr, length, map, replicate, true};
+ghost use Rattle.std.specs.Prelude.{false};
 ghost use Rattle.std.specs.Option.{option_map};
 ghost use Rattle.ssh_model.specs.Protocol.Sessions.Items.{SpelledBy};
 ghost use Rattle.ssh_model.specs.Protocol.Sessions.Turns.{IsSpelled};
@@ -10,8 +11,9 @@ ghost use Rattle.ssh_model.specs.Protocol.Wire.Message.{Msg, NewKeys};
 ghost use Rattle.ssh_model.specs.State.TransportLayer.Kept.{after_sent};
 ghost use Rattle.ssh_kex.specs.Values.{chosen_of};
 ghost use Rattle.ssh_types.specs.Sides.{side_of};
-ghost use Rattle.ssh_transport_machine.specs.Finishing.{AreKeys, AreKnown, Finishes, IsAnnouncement, IsDue, after_announced, announced_by, forgotten, key_by, keyed, session_by};
-ghost use Rattle.ssh_transport_machine.specs.Puts.{Sends};
+ghost use Rattle.ssh_transport_machine.specs.Finishing.{AreKeys, AreKnown, Finishes, IsAnnouncement, IsDue, after_announced, announced_by};
+ghost use Rattle.ssh_transport_machine.specs.Finishing.{forgotten, key_by, keyed, session_by};
+ghost use Rattle.ssh_transport_machine.specs.Puts.{Sends, outs};
 
 use crate::key_making::{Agreed, key_from};
 use crate::machine::Machine;
@@ -41,7 +43,8 @@ impl<S: Sealing, F: Filler + Drop> Machine<S, F> {
         hash: &[u8; 32],
     ) -> Result<ExchangeKeys<S::Key>, AllocError>
         requires { AreKnown S.crypto (chosen_of choice.now) }
-        ensures { IfOk result (λ keys. AreKeys S.crypto self.now.kept (chosen_of choice.now) (number shared.now) hash.now keys.own keys.theirs keys.session) }
+        ensures { IfOk result (λ keys. AreKeys S.crypto self.now.kept (chosen_of choice.now) (number shared.now) hash.now keys.own
+            keys.theirs keys.session) }
     {
         let session = self.session_with(hash);
         let agreed = Agreed {
@@ -76,7 +79,8 @@ impl<S: Sealing, F: Filler + Drop> Machine<S, F> {
         choice: &Choice<'_>,
     ) -> Result<S::Key, AllocError>
         requires { AreKnown S.crypto (chosen_of choice.now) }
-        ensures { IfOk result (λ key. key ≡ key_by S.crypto (side_of from) (chosen_of choice.now) (number agreed.now.shared.now) agreed.now.hash.now agreed.now.session.now) }
+        ensures { IfOk result (λ key. key ≡ key_by S.crypto (side_of from) (chosen_of choice.now) (number agreed.now.shared.now)
+            agreed.now.hash.now agreed.now.session.now) }
     {
         match from {
             Side::Client => key_from::<S>(
@@ -111,8 +115,13 @@ impl<S: Sealing, F: Filler + Drop> Machine<S, F> {
         requires left { self.old.kept.sending.count < 2 ^ 32 }
         requires epoch { self.old.kept.sending.epoch < 2 ^ 32 - 1 }
         requires due { IsAnnouncement self.old.kept (option_map (λ v. v.items) announcement) }
-        ensures finishes { OnOk result (Finishes S.crypto self.old.kept [] keys.own (announced_by self.old.kept.settings.extensions (option_map (λ v. v.items) announcement)) (record { before = out.old.items; after = out.new.items; listed = map (λ v. v.items) sent.old.items; relisted = map (λ v. v.items) sent.new.items })) }
-        ensures after { OnOk result (self.new ≡ record self.old { kept = after_announced (option_map (λ v. v.items) announcement) (forgotten (keyed keys.own keys.theirs keys.session self.old.kept)) }) }
+        ensures finishes { OnOk result (Finishes S.crypto self.old.kept [] keys.own
+            (announced_by self.old.kept.settings.extensions (option_map (λ v. v.items) announcement))
+            (outs out.old out.new sent.old sent.new)) }
+        ensures after { OnOk result (self.new ≡ record self.old {
+          kept = after_announced (option_map (λ v. v.items) announcement)
+              (forgotten (keyed keys.own keys.theirs keys.session self.old.kept));
+        }) }
         ensures dead { OnErr result (self.new.kept.dead ≡ true) }
         ensures out { OnErr result (out.new.items ≡ out.old.items) }
         ensures kept { OnErr result (map (λ v. v.items) sent.new.items ≡ map (λ v. v.items) sent.old.items) }
@@ -132,8 +141,9 @@ impl<S: Sealing, F: Filler + Drop> Machine<S, F> {
     ) -> Result<(), AllocError>
         requires left { self.old.kept.sending.count < 2 ^ 32 }
         requires epoch { self.old.kept.sending.epoch < 2 ^ 32 - 1 }
-        ensures sends { OnOk result (Sends S.crypto self.old.kept.sending NewKeys (record { before = out.old.items; after = out.new.items; listed = map (λ v. v.items) sent.old.items; relisted = map (λ v. v.items) sent.new.items })) }
-        ensures after { OnOk result (self.new ≡ record self.old { kept = forgotten (keyed keys.own keys.theirs keys.session self.old.kept) }) }
+        ensures sends { OnOk result (Sends S.crypto self.old.kept.sending NewKeys (outs out.old out.new sent.old sent.new)) }
+        ensures after { OnOk result (self.new ≡ record self.old
+            { kept = forgotten (keyed keys.own keys.theirs keys.session self.old.kept) }) }
         ensures dead { OnErr result (self.new.kept.dead ≡ true) }
         ensures out { OnErr result (out.new.items ≡ out.old.items) }
         ensures kept { OnErr result (sent.new.items ≡ sent.old.items) }
@@ -159,8 +169,10 @@ impl<S: Sealing, F: Filler + Drop> Machine<S, F> {
         requires left { self.old.kept.sending.count < 2 ^ 32 }
         requires epoch { self.old.kept.sending.epoch < 2 ^ 32 - 1 }
         requires due { IsDue self.old.kept payload.items }
-        ensures finishes { OnOk result (Finishes S.crypto self.old.kept [] keys.own (announced_by self.old.kept.settings.extensions (Some payload.items)) (record { before = out.old.items; after = out.new.items; listed = map (λ v. v.items) sent.old.items; relisted = map (λ v. v.items) sent.new.items })) }
-        ensures after { OnOk result (self.new ≡ record self.old { kept = after_sent (forgotten (keyed keys.own keys.theirs keys.session self.old.kept)) }) }
+        ensures finishes { OnOk result (Finishes S.crypto self.old.kept [] keys.own
+            (announced_by self.old.kept.settings.extensions (Some payload.items)) (outs out.old out.new sent.old sent.new)) }
+        ensures after { OnOk result (self.new ≡ record self.old
+            { kept = after_sent (forgotten (keyed keys.own keys.theirs keys.session self.old.kept)) }) }
         ensures dead { OnErr result (self.new.kept.dead ≡ true) }
         ensures out { OnErr result (out.new.items ≡ out.old.items) }
         ensures kept { OnErr result (map (λ v. v.items) sent.new.items ≡ map (λ v. v.items) sent.old.items) }
@@ -194,8 +206,14 @@ impl<S: Sealing, F: Filler + Drop> Machine<S, F> {
         requires some { 1 ≤ length payload.items }
         requires most { length payload.items ≤ 34000 }
         requires due { IsAnnouncement self.old.kept (option_map (λ v. v.items) announcement) }
-        ensures finishes { (message : Msg) → IsSpelled message payload.items → OnOk result (Finishes S.crypto self.old.kept (SpelledBy message payload.items ∷ []) keys.own (announced_by self.old.kept.settings.extensions (option_map (λ v. v.items) announcement)) (record { before = out.old.items; after = out.new.items; listed = map (λ v. v.items) sent.old.items; relisted = map (λ v. v.items) sent.new.items })) }
-        ensures after { OnOk result (self.new ≡ record self.old { kept = after_announced (option_map (λ v. v.items) announcement) (forgotten (keyed keys.own keys.theirs keys.session (after_sent self.old.kept))) }) }
+        ensures finishes { (message : Msg) → IsSpelled message payload.items →
+            OnOk result (Finishes S.crypto self.old.kept (SpelledBy message payload.items ∷ []) keys.own
+            (announced_by self.old.kept.settings.extensions (option_map (λ v. v.items) announcement))
+            (outs out.old out.new sent.old sent.new)) }
+        ensures after { OnOk result (self.new ≡ record self.old {
+          kept = after_announced (option_map (λ v. v.items) announcement)
+              (forgotten (keyed keys.own keys.theirs keys.session (after_sent self.old.kept)));
+        }) }
         ensures dead { OnErr result (self.new.kept.dead ≡ true) }
         ensures out { OnErr result (out.new.items ≡ out.old.items) }
         ensures kept { OnErr result (map (λ v. v.items) sent.new.items ≡ map (λ v. v.items) sent.old.items) }

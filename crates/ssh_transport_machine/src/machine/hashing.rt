@@ -25,7 +25,8 @@ impl<S: Sealing, F: Filler + Drop> Machine<S, F> {
     /// The hash of the exchange under way (RFC 5656 section 4). It needs no memory.
     pub fn hash(&self, points: &Points<'_>) -> [u8; 32]
         requires { length points.now.host_key.now ≤ 35000 }
-        ensures { result ≡ hash_of (inputs_in self.now.kept.side self.now.kept points.now.host_key.now points.now.client.now points.now.server.now (number points.now.shared.now)) }
+        ensures { result ≡ hash_of (inputs_in self.now.kept.side self.now.kept points.now.host_key.now points.now.client.now
+            points.now.server.now (number points.now.shared.now)) }
     {
         let inputs = self.inputs(points);
         exchange_hash(&inputs)
@@ -34,7 +35,8 @@ impl<S: Sealing, F: Filler + Drop> Machine<S, F> {
     // What both ends hash.
     fn inputs<'a>(&'a self, points: &Points<'a>) -> ExchangeInputs<'a>
         requires { length points.now.host_key.now ≤ 35000 }
-        ensures inputs { inputs_of result ≡ inputs_in self.now.kept.side self.now.kept points.now.host_key.now points.now.client.now points.now.server.now (number points.now.shared.now) }
+        ensures inputs { inputs_of result ≡ inputs_in self.now.kept.side self.now.kept points.now.host_key.now points.now.client.now
+            points.now.server.now (number points.now.shared.now) }
         ensures fits { Fits (inputs_of result) }
     {
         let shared = points.shared;

@@ -81,7 +81,8 @@ impl<S: Sealing, F: Filler + Drop> Machine<S, F> {
 
     // Keys are exchanged strictly with this KEXINIT: the first one settles it.
     fn strict_with(&self, lists: &KexLists<'_>) -> bool
-        ensures { (theirs : ModelProposal) → theirs.kex ≡ names lists.now.kex → result ≡ (if self.now.kept.taking.epoch == 0 then becomes_strict self.now.kept theirs else self.now.kept.strict) }
+        ensures { (theirs : ModelProposal) → theirs.kex ≡ names lists.now.kex →
+            result ≡ (if self.now.kept.taking.epoch == 0 then becomes_strict self.now.kept theirs else self.now.kept.strict) }
     {
         if self.taking.epoch() == 0 {
             makes_strict(&self.config, self.side, lists)
@@ -92,7 +93,8 @@ impl<S: Sealing, F: Filler + Drop> Machine<S, F> {
 
     // The peer takes extensions with this KEXINIT: the first one settles it.
     fn extensions_with(&self, lists: &KexLists<'_>) -> bool
-        ensures { result ≡ (if self.now.kept.taking.epoch == 0 then has_marker (extension_marker_of (peer self.now.kept.side)) (names lists.now.kex) else self.now.kept.peer_takes_extensions) }
+        ensures { result ≡ (if self.now.kept.taking.epoch == 0 then has_marker (extension_marker_of (peer self.now.kept.side))
+            (names lists.now.kex) else self.now.kept.peer_takes_extensions) }
     {
         if self.taking.epoch() == 0 {
             peer_extension_marker(self.side, lists)
@@ -103,7 +105,8 @@ impl<S: Sealing, F: Filler + Drop> Machine<S, F> {
 
     // The peer's first KEXINIT lacks its marker, and it is required.
     fn lacks_marker(&self, lists: &KexLists<'_>) -> bool
-        ensures { result ≡ (self.now.kept.taking.epoch == 0 && is_required self.now.kept.settings.strictness && not (has_marker (marker_of (peer self.now.kept.side)) (names lists.now.kex))) }
+        ensures { result ≡ (self.now.kept.taking.epoch == 0 && is_required self.now.kept.settings.strictness
+            && not (has_marker (marker_of (peer self.now.kept.side)) (names lists.now.kex))) }
     {
         self.taking.epoch() == 0
             && self.config.strictness().is_required()
@@ -113,7 +116,9 @@ impl<S: Sealing, F: Filler + Drop> Machine<S, F> {
     // The peer's first KEXINIT makes key exchange strict, and is not its first packet.
     fn comes_late(&self, lists: &KexLists<'_>) -> bool
         requires { 1 ≤ self.now.kept.taking.count }
-        ensures { (theirs : ModelProposal) → theirs.kex ≡ names lists.now.kex → result ≡ (self.now.kept.taking.epoch == 0 && (becomes_strict self.now.kept theirs && nat_lt 0 (self.now.kept.taking.count - 1))) }
+        ensures { (theirs : ModelProposal) → theirs.kex ≡ names lists.now.kex →
+            result ≡ (self.now.kept.taking.epoch == 0 && (becomes_strict self.now.kept theirs
+            && nat_lt 0 (self.now.kept.taking.count - 1))) }
     {
         self.taking.epoch() == 0
             && (makes_strict(&self.config, self.side, lists) && self.had_packets())
@@ -129,7 +134,8 @@ impl<S: Sealing, F: Filler + Drop> Machine<S, F> {
 
     // Each kind has a common name.
     fn can_choose(&self, theirs: &KexLists<'_>) -> bool
-        ensures { result ≡ has_choice_with self.now.kept.side (lists_offered (own_offer self.now.kept.settings self.now.kept.side)) (lists_of theirs.now) }
+        ensures { result ≡ has_choice_with self.now.kept.side (lists_offered (own_offer self.now.kept.settings self.now.kept.side))
+            (lists_of theirs.now) }
     {
         let own = self.own_lists();
         self.has_choice_with(&own, theirs)
@@ -158,7 +164,10 @@ impl<S: Sealing, F: Filler + Drop> Machine<S, F> {
 
     /// Keeps the KEXINIT whose payload is shown, and what it settles. It needs no memory.
     pub fn note_kexinit(&mut self, facts: KexinitFacts)
-        ensures { self.new ≡ record self.old { kept = noted facts.wrong facts.strict facts.extensions self.old.receiver.payload self.old.kept } }
+        ensures { self.new ≡ record self.old {
+          kept = noted facts.wrong facts.strict facts.extensions self.old.receiver.payload
+              self.old.kept;
+        } }
     {
         self.theirs.set(self.taking.payload());
         self.phase = phase_after(facts.wrong);
@@ -209,7 +218,8 @@ fn peer_extension_marker(side: Side, lists: &KexLists<'_>) -> bool
 
 // Both ends offer strict key exchange.
 fn makes_strict<S: Sealing>(config: &Config<S>, side: Side, lists: &KexLists<'_>) -> bool
-    ensures { result ≡ (has_marker (marker_of (side_of side)) (first_kex (settings_of config.now) (side_of side)) && has_marker (marker_of (peer (side_of side))) (names lists.now.kex)) }
+    ensures { result ≡ (has_marker (marker_of (side_of side)) (first_kex (settings_of config.now) (side_of side))
+        && has_marker (marker_of (peer (side_of side))) (names lists.now.kex)) }
 {
     shows_strictness(config, side) && peer_marker(side, lists)
 }
@@ -245,7 +255,8 @@ fn can_choose(side: Side, own: &KexLists<'_>, theirs: &KexLists<'_>) -> bool
 // A guess came, and it is wrong.
 fn is_wrong(theirs: Proposal<'_>, lists: &KexLists<'_>, own: &KexLists<'_>) -> bool
     requires { lists.now ≡ proposed theirs }
-    ensures { (ours : ModelProposal) → lists_offered ours ≡ lists_of own.now → result ≡ is_wrong_guess (proposal_meaning theirs.entry) ours }
+    ensures { (ours : ModelProposal) → lists_offered ours ≡ lists_of own.now →
+        result ≡ is_wrong_guess (proposal_meaning theirs.entry) ours }
 {
     theirs.follows && guess_wrong(lists, own)
 }

@@ -1,6 +1,7 @@
 //! A new end: its version line, and its first KEXINIT (RFC 4253 sections 4.2 and 7.1).
 
-ghost use Rattle.std.specs.Prelude.{◌≡◌, ◌<◌, ◌++◌, ◌^◌, IfOk, OnErr, OnOk, map};
+ghost use Rattle.ssh_transport_machine.specs.Puts.{outs};
+ghost use Rattle.std.specs.Prelude.{◌≡◌, ◌<◌, ◌++◌, ◌^◌, IfOk, OnErr, OnOk};
 ghost use Rattle.ssh_model.specs.Protocol.Sessions.Phases.{is_client};
 ghost use Rattle.ssh_model.specs.Protocol.Wire.Line.{line_end};
 ghost use Rattle.ssh_types.specs.Sides.{side_of};
@@ -31,7 +32,8 @@ impl<S: Sealing, F: Filler + Drop> Machine<S, F> {
         out: &mut Vec<u8>,
         sent: &mut Vec<Vec<u8>>,
     ) -> Result<Machine<S, F>, AllocError>
-        ensures opened { IfOk result (λ machine. IsOpened S.crypto (settings_of config) (side_of side) cookie secret machine (record { before = out.old.items; after = out.new.items; listed = map (λ v. v.items) sent.old.items; relisted = map (λ v. v.items) sent.new.items })) }
+        ensures opened { IfOk result (λ machine. IsOpened S.crypto (settings_of config) (side_of side) cookie secret machine
+            (outs out.old out.new sent.old sent.new)) }
         ensures out { OnErr result (out.new.items ≡ out.old.items) }
         ensures kept { OnErr result (sent.new.items ≡ sent.old.items) }
     {
@@ -87,7 +89,7 @@ impl<S: Sealing, F: Filler + Drop> Machine<S, F> {
         sent: &mut Vec<Vec<u8>>,
     ) -> Result<(), AllocError>
         requires left { self.old.kept.sending.count < 2 ^ 32 }
-        ensures begun { OnOk result (IsBegun S.crypto self.old cookie.now self.new (record { before = out.old.items; after = out.new.items; listed = map (λ v. v.items) sent.old.items; relisted = map (λ v. v.items) sent.new.items })) }
+        ensures begun { OnOk result (IsBegun S.crypto self.old cookie.now self.new (outs out.old out.new sent.old sent.new)) }
         ensures out { OnErr result (out.new.items ≡ out.old.items) }
         ensures kept { OnErr result (sent.new.items ≡ sent.old.items) }
     {

@@ -1,6 +1,7 @@
 //! The KEXINIT that an end sends, and what it sends with it.
 
-ghost use Rattle.std.specs.Prelude.{◌≡◌, ◌<◌, ◌≤◌, ◌^◌, Bool, IfOk, OnOk, OnErr, false, length, map, true};
+ghost use Rattle.ssh_transport_machine.specs.Puts.{outs};
+ghost use Rattle.std.specs.Prelude.{◌≡◌, ◌<◌, ◌≤◌, ◌^◌, Bool, IfOk, OnOk, OnErr, false, length, true};
 ghost use Rattle.ssh_model.specs.Protocol.Wire.Message.{KexInit};
 ghost use Rattle.ssh_model.specs.Protocol.KeyExchange.Exchanges as session;
 ghost use Rattle.ssh_model.specs.Protocol.Sessions.Parties.{offer_of};
@@ -27,7 +28,8 @@ impl<S: Sealing, F: Filler + Drop> Machine<S, F> {
         sent: &mut Vec<Vec<u8>>,
     ) -> Result<(), AllocError>
         requires left { self.old.kept.sending.count < 2 ^ 32 }
-        ensures sends { OnOk result (OwnSent S.crypto self.old (record { cookie = material.cookie; secret = material.secret }) self.new (record { before = out.old.items; after = out.new.items; listed = map (λ v. v.items) sent.old.items; relisted = map (λ v. v.items) sent.new.items })) }
+        ensures sends { OnOk result (OwnSent S.crypto self.old (record { cookie = material.cookie; secret = material.secret }) self.new
+            (outs out.old out.new sent.old sent.new)) }
         ensures dead { OnErr result (self.new.kept.dead ≡ true) }
         ensures out { OnErr result (out.new.items ≡ out.old.items) }
         ensures kept { OnErr result (sent.new.items ≡ sent.old.items) }
@@ -53,7 +55,8 @@ impl<S: Sealing, F: Filler + Drop> Machine<S, F> {
     ///
     /// Only where memory is refused.
     pub fn spell_kexinit(&self, first: bool, cookie: &[u8; 16]) -> Result<Vec<u8>, AllocError>
-        ensures spelled { IfOk result (λ payload. IsSpelled (KexInit (offer_of self.now.kept.settings self.now.kept.side first cookie.now)) payload.items) }
+        ensures spelled { IfOk result (λ payload. IsSpelled (KexInit
+            (offer_of self.now.kept.settings self.now.kept.side first cookie.now)) payload.items) }
         ensures some { IfOk result (λ payload. 1 ≤ length payload.items) }
     {
         ssh_model::payload_sizes();

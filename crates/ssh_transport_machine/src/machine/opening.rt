@@ -14,8 +14,12 @@ impl<S: Sealing, F: Filler + Drop> Machine<S, F> {
         ensures used { result.0 ≤ length bytes.now }
         ensures progress { 0 < length bytes.now → 0 < result.0 }
         ensures more { result.1 ≡ PacketStep.More → result.0 ≡ length bytes.now }
-        ensures received { Receives S.crypto (self.old.receiver.begun ++ take result.0 bytes.now) self.old.receiver result.1 self.new.receiver }
-        ensures rest { self.new ≡ record self.old { receiver = self.new.receiver; kept = record self.old.kept { taking = self.new.receiver.direction } } }
+        ensures received { Receives S.crypto (self.old.receiver.begun ++ take result.0 bytes.now) self.old.receiver result.1
+            self.new.receiver }
+        ensures rest { self.new ≡ record self.old {
+          receiver = self.new.receiver;
+          kept = record self.old.kept { taking = self.new.receiver.direction };
+        } }
     {
         self.taking.take(bytes)
     }

@@ -1,9 +1,9 @@
 //! Refusals of the peer.
 
-ghost use Rattle.std.specs.Prelude.{◌≡◌, ◌<◌, ◌≤◌, ◌^◌, IsTrue, OnOk, OnErr, false, length, map, true};
+ghost use Rattle.std.specs.Prelude.{◌≡◌, ◌<◌, ◌≤◌, ◌^◌, IsTrue, OnOk, OnErr, false, length, true};
 ghost use Rattle.ssh_model.specs.Protocol.Sessions.Refusals.{refusal_name};
 ghost use Rattle.ssh_types.specs.Refusals.{refusal_of};
-ghost use Rattle.ssh_transport_machine.specs.Puts.{Refuses};
+ghost use Rattle.ssh_transport_machine.specs.Puts.{Refuses, outs};
 ghost use Rattle.ssh_transport_machine.specs.State.{dead_state};
 ghost use Rattle.ssh_transport_machine.specs.Turning.{RefusalLacks};
 
@@ -26,7 +26,8 @@ impl<S: Sealing, F: Filler + Drop> Machine<S, F> {
         out: &mut Vec<u8>,
         sent: &mut Vec<Vec<u8>>,
     ) -> Result<(), AllocError>
-        ensures refuses { OnOk result (Refuses S.crypto self.old.kept (refusal_of refusal) self.new.kept (record { before = out.old.items; after = out.new.items; listed = map (λ v. v.items) sent.old.items; relisted = map (λ v. v.items) sent.new.items })) }
+        ensures refuses { OnOk result (Refuses S.crypto self.old.kept (refusal_of refusal) self.new.kept
+            (outs out.old out.new sent.old sent.new)) }
         ensures reading { OnOk result (self.new ≡ record self.old { kept = self.new.kept }) }
         ensures dead { OnErr result (self.new ≡ dead_state self.old) }
         ensures lacks { OnErr result (RefusalLacks self.old refusal) }

@@ -1,6 +1,7 @@
 //! Messages that an end sends where a number is left for them.
 
-ghost use Rattle.std.specs.Prelude.{◌≡◌, ◌≤◌, IfOk, OnErr, codes, length, map, true};
+ghost use Rattle.ssh_transport_machine.specs.Puts.{outs};
+ghost use Rattle.std.specs.Prelude.{◌≡◌, ◌≤◌, IfOk, OnErr, codes, length, true};
 ghost use Rattle.ssh_model.specs.Protocol.Wire.Message.{FitsContext, ServiceAccept, Unimplemented};
 ghost use Rattle.ssh_model.specs.Laws.Sizes.{payload_size};
 ghost use Rattle.ssh_model.specs.State.TransportLayer.Kept.{after_sent};
@@ -31,7 +32,8 @@ impl<S: Sealing, F: Filler + Drop> Machine<S, F> {
         requires fits { Fits message.now }
         requires context { FitsContext true (meaning message.now) }
         requires most { payload_size (meaning message.now) ≤ 34000 }
-        ensures answers { IfOk result (λ answer. Answers S.crypto self.old (meaning message.now) (after_sent self.old.kept) answer self.new (record { before = out.old.items; after = out.new.items; listed = map (λ v. v.items) sent.old.items; relisted = map (λ v. v.items) sent.new.items })) }
+        ensures answers { IfOk result (λ answer. Answers S.crypto self.old (meaning message.now) (after_sent self.old.kept) answer
+            self.new (outs out.old out.new sent.old sent.new)) }
         ensures dead { OnErr result (self.new ≡ dead_state self.old) }
         ensures room { OnErr result (HasRoom self.old) }
         ensures out { OnErr result (out.new.items ≡ out.old.items) }
@@ -55,7 +57,8 @@ impl<S: Sealing, F: Filler + Drop> Machine<S, F> {
         out: &mut Vec<u8>,
         sent: &mut Vec<Vec<u8>>,
     ) -> Result<Answer, AllocError>
-        ensures answers { IfOk result (λ answer. Answers S.crypto self.old (Unimplemented (last_number self.old.kept.taking)) (after_sent self.old.kept) answer self.new (record { before = out.old.items; after = out.new.items; listed = map (λ v. v.items) sent.old.items; relisted = map (λ v. v.items) sent.new.items })) }
+        ensures answers { IfOk result (λ answer. Answers S.crypto self.old (Unimplemented (last_number self.old.kept.taking))
+            (after_sent self.old.kept) answer self.new (outs out.old out.new sent.old sent.new)) }
         ensures dead { OnErr result (self.new.kept.dead ≡ true) }
         ensures room { OnErr result (HasRoom self.old) }
         ensures out { OnErr result (out.new.items ≡ out.old.items) }
@@ -75,7 +78,8 @@ impl<S: Sealing, F: Filler + Drop> Machine<S, F> {
         out: &mut Vec<u8>,
         sent: &mut Vec<Vec<u8>>,
     ) -> Result<Answer, AllocError>
-        ensures answers { IfOk result (λ answer. Answers S.crypto self.old (ServiceAccept (codes "ssh-userauth")) (record (after_sent self.old.kept) { requested = true }) answer self.new (record { before = out.old.items; after = out.new.items; listed = map (λ v. v.items) sent.old.items; relisted = map (λ v. v.items) sent.new.items })) }
+        ensures answers { IfOk result (λ answer. Answers S.crypto self.old (ServiceAccept (codes "ssh-userauth"))
+            (record (after_sent self.old.kept) { requested = true }) answer self.new (outs out.old out.new sent.old sent.new)) }
         ensures dead { OnErr result (self.new.kept.dead ≡ true) }
         ensures room { OnErr result (HasRoom self.old) }
         ensures out { OnErr result (out.new.items ≡ out.old.items) }

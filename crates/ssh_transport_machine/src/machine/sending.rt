@@ -1,13 +1,13 @@
 //! Messages that an end sends.
 
-ghost use Rattle.std.specs.Prelude.{◌≡◌, ◌<◌, ◌≤◌, ◌^◌, IfOk, OnOk, OnErr, length, map, true};
+ghost use Rattle.std.specs.Prelude.{◌≡◌, ◌<◌, ◌≤◌, ◌^◌, IfOk, OnOk, OnErr, length, true};
 ghost use Rattle.ssh_model.specs.Protocol.Wire.Message.{FitsContext};
 ghost use Rattle.ssh_model.specs.Laws.Sizes.{payload_size};
 ghost use Rattle.ssh_model.specs.Protocol.Sessions.Turns.{IsSpelled};
 ghost use Rattle.ssh_model.specs.State.TransportLayer.Kept.{after_sent};
 ghost use Rattle.ssh_message.specs.Meaning.{meaning};
 ghost use Rattle.ssh_message.specs.Written.{Fits};
-ghost use Rattle.ssh_transport_machine.specs.Puts.{PutsPayload, Sends};
+ghost use Rattle.ssh_transport_machine.specs.Puts.{PutsPayload, Sends, outs};
 ghost use Rattle.ssh_transport_machine.specs.State.{dead_state};
 
 use crate::machine::Machine;
@@ -31,7 +31,7 @@ impl<S: Sealing, F: Filler + Drop> Machine<S, F> {
         requires fits { Fits message.now }
         requires context { FitsContext true (meaning message.now) }
         requires most { payload_size (meaning message.now) ≤ 34000 }
-        ensures sends { OnOk result (Sends S.crypto self.old.kept.sending (meaning message.now) (record { before = out.old.items; after = out.new.items; listed = map (λ v. v.items) sent.old.items; relisted = map (λ v. v.items) sent.new.items })) }
+        ensures sends { OnOk result (Sends S.crypto self.old.kept.sending (meaning message.now) (outs out.old out.new sent.old sent.new)) }
         ensures after { OnOk result (self.new ≡ record self.old { kept = after_sent self.old.kept }) }
         ensures dead { OnErr result (self.new ≡ dead_state self.old) }
         ensures out { OnErr result (out.new.items ≡ out.old.items) }
@@ -77,7 +77,7 @@ impl<S: Sealing, F: Filler + Drop> Machine<S, F> {
         requires left { self.old.kept.sending.count < 2 ^ 32 }
         requires some { 1 ≤ length payload.items }
         requires most { length payload.items ≤ 34000 }
-        ensures puts { OnOk result (PutsPayload S.crypto self.old.kept.sending payload.items (record { before = out.old.items; after = out.new.items; listed = map (λ v. v.items) sent.old.items; relisted = map (λ v. v.items) sent.new.items })) }
+        ensures puts { OnOk result (PutsPayload S.crypto self.old.kept.sending payload.items (outs out.old out.new sent.old sent.new)) }
         ensures after { OnOk result (self.new ≡ record self.old { kept = after_sent self.old.kept }) }
         ensures dead { OnErr result (self.new ≡ dead_state self.old) }
         ensures out { OnErr result (out.new.items ≡ out.old.items) }
@@ -100,7 +100,7 @@ impl<S: Sealing, F: Filler + Drop> Machine<S, F> {
         requires left { self.old.kept.sending.count < 2 ^ 32 }
         requires some { 1 ≤ length payload.items }
         requires most { length payload.items ≤ 34000 }
-        ensures puts { OnOk result (PutsPayload S.crypto self.old.kept.sending payload.items (record { before = out.old.items; after = out.new.items; listed = map (λ v. v.items) sent.old.items; relisted = map (λ v. v.items) sent.new.items })) }
+        ensures puts { OnOk result (PutsPayload S.crypto self.old.kept.sending payload.items (outs out.old out.new sent.old sent.new)) }
         ensures after { OnOk result (self.new ≡ record self.old { kept = after_sent self.old.kept }) }
         ensures same { OnErr result (self.new ≡ self.old) }
         ensures out { OnErr result (out.new.items ≡ out.old.items) }

@@ -1,6 +1,7 @@
 //! What a server does with a client's KEXINIT.
 
-ghost use Rattle.std.specs.Prelude.{◌≡◌, IfOk, None, OnErr, false, length, map, true};
+ghost use Rattle.ssh_transport_machine.specs.Puts.{outs};
+ghost use Rattle.std.specs.Prelude.{◌≡◌, IfOk, None, OnErr, false, length, true};
 ghost use Rattle.ssh_model.specs.Protocol.Wire.Message.{KexInit};
 ghost use Rattle.ssh_model.specs.Protocol.Side.{Server};
 ghost use Rattle.ssh_model.specs.Protocol.Sessions.Parties.{offer_of};
@@ -30,7 +31,8 @@ impl<S: Sealing, F: Filler + Drop> Machine<S, F> {
         sent: &mut Vec<Vec<u8>>,
     ) -> Result<PayloadTurn, AllocError>
         requires { self.old.kept.blocked ≡ false → self.old.kept.material ≡ None → ⊥ }
-        ensures does { IfOk result (λ done. Does S.crypto self.old (judgement.Kexinit facts) done self.new (record { before = out.old.items; after = out.new.items; listed = map (λ v. v.items) sent.old.items; relisted = map (λ v. v.items) sent.new.items })) }
+        ensures does { IfOk result (λ done. Does S.crypto self.old (judgement.Kexinit facts) done self.new
+            (outs out.old out.new sent.old sent.new)) }
         ensures dead { OnErr result (self.new.kept.dead ≡ true) }
         ensures lacks { OnErr result (KexinitLacks self.old) }
         ensures out { OnErr result (out.new.items ≡ out.old.items) }
@@ -51,7 +53,8 @@ impl<S: Sealing, F: Filler + Drop> Machine<S, F> {
     ) -> Result<Answer, AllocError>
         requires side { self.old.kept.side ≡ Server }
         requires pair { self.old.kept.blocked ≡ false → self.old.kept.material ≡ None → ⊥ }
-        ensures done { IfOk result (λ answer. KexinitDone S.crypto self.old facts answer self.new (record { before = out.old.items; after = out.new.items; listed = map (λ v. v.items) sent.old.items; relisted = map (λ v. v.items) sent.new.items })) }
+        ensures done { IfOk result (λ answer. KexinitDone S.crypto self.old facts answer self.new
+            (outs out.old out.new sent.old sent.new)) }
         ensures dead { OnErr result (self.new.kept.dead ≡ true) }
         ensures lacks { OnErr result (KexinitLacks self.old) }
         ensures out { OnErr result (out.new.items ≡ out.old.items) }

@@ -13,7 +13,9 @@ impl<S: Sealing, F: Filler + Drop> Machine<S, F> {
     /// What the secret of the exchange under way shares with the peer's point; `None` where that has not 32 bytes, or shares
     /// nothing.
     pub fn shared<A: Agreement>(&self, agreement: &A, theirs: &[u8]) -> Option<[u8; 32]>
-        ensures { result ≡ (if length theirs.now == 32 then shared_with (record { point = A.public_of agreement.now; shared = A.shared_of agreement.now }) self.now.kept.underway.secret theirs.now else None) }
+        ensures { result ≡ (if length theirs.now == 32 then shared_with
+            (record { point = A.public_of agreement.now; shared = A.shared_of agreement.now }) self.now.kept.underway.secret theirs.now
+            else None) }
     {
         match point_in(theirs) {
             Some(point) => self.shared_with_point(agreement, point),
@@ -23,7 +25,8 @@ impl<S: Sealing, F: Filler + Drop> Machine<S, F> {
 
     // The same of 32 bytes.
     fn shared_with_point<A: Agreement>(&self, agreement: &A, theirs: &[u8; 32]) -> Option<[u8; 32]>
-        ensures { result ≡ shared_with (record { point = A.public_of agreement.now; shared = A.shared_of agreement.now }) self.now.kept.underway.secret theirs.now }
+        ensures { result ≡ shared_with (record { point = A.public_of agreement.now; shared = A.shared_of agreement.now })
+            self.now.kept.underway.secret theirs.now }
     {
         match agreement.shared(&self.secret, theirs) {
             Some(shared) => {

@@ -1,6 +1,7 @@
 //! Packets that an end takes, and what it does with them.
 
-ghost use Rattle.std.specs.Prelude.{◌≡◌, ◌<◌, ◌≤◌, ◌++◌, IfOk, OnErr, length, map, take, true};
+ghost use Rattle.ssh_transport_machine.specs.Puts.{outs};
+ghost use Rattle.std.specs.Prelude.{◌≡◌, ◌<◌, ◌≤◌, ◌++◌, IfOk, OnErr, length, take, true};
 ghost use Rattle.ssh_transport_base.specs.declared.packets.step.PacketStep.TheVariants as step;
 ghost use Rattle.ssh_transport_machine.specs.State.{IsLive};
 ghost use Rattle.ssh_transport_machine.specs.Turning.{PacketDone, PacketLacks, PacketTaken, RefusalLacks, TurnLacks};
@@ -29,7 +30,8 @@ impl<S: Sealing, F: Filler + Drop> Machine<S, F> {
         ensures used { result.0 ≤ length bytes.now }
         ensures progress { 0 < length bytes.now → 0 < result.0 }
         ensures more { IfOk result.1 (λ done. done ≡ PacketTurn.More → result.0 ≡ length bytes.now) }
-        ensures taken { IfOk result.1 (λ done. PacketTaken S.crypto self.old (self.old.receiver.begun ++ take result.0 bytes.now) done self.new (record { before = out.old.items; after = out.new.items; listed = map (λ v. v.items) sent.old.items; relisted = map (λ v. v.items) sent.new.items })) }
+        ensures taken { IfOk result.1 (λ done. PacketTaken S.crypto self.old (self.old.receiver.begun ++ take result.0 bytes.now) done
+            self.new (outs out.old out.new sent.old sent.new)) }
         ensures dead { OnErr result.1 (self.new.kept.dead ≡ true) }
         ensures lacks { OnErr result.1 (PacketLacks S.crypto self.old (self.old.receiver.begun ++ take result.0 bytes.now)) }
         ensures out { OnErr result.1 (out.new.items ≡ out.old.items) }
@@ -51,7 +53,8 @@ impl<S: Sealing, F: Filler + Drop> Machine<S, F> {
         sent: &mut Vec<Vec<u8>>,
     ) -> Result<PacketTurn, AllocError>
         ensures other { IfOk result (λ done. done ≡ PacketTurn.More → ⊥) }
-        ensures done { IfOk result (λ done. PacketDone S.crypto self.old (step.Refused why) done self.new (record { before = out.old.items; after = out.new.items; listed = map (λ v. v.items) sent.old.items; relisted = map (λ v. v.items) sent.new.items })) }
+        ensures done { IfOk result (λ done. PacketDone S.crypto self.old (step.Refused why) done self.new
+            (outs out.old out.new sent.old sent.new)) }
         ensures dead { OnErr result (self.new.kept.dead ≡ true) }
         ensures lacks { OnErr result (RefusalLacks self.old why) }
         ensures out { OnErr result (out.new.items ≡ out.old.items) }
@@ -70,7 +73,8 @@ impl<S: Sealing, F: Filler + Drop> Machine<S, F> {
         requires live { IsLive self.old }
         requires taken { 1 ≤ self.old.kept.taking.count }
         ensures other { IfOk result (λ done. done ≡ PacketTurn.More → ⊥) }
-        ensures done { IfOk result (λ done. PacketDone S.crypto self.old step.Payload done self.new (record { before = out.old.items; after = out.new.items; listed = map (λ v. v.items) sent.old.items; relisted = map (λ v. v.items) sent.new.items })) }
+        ensures done { IfOk result (λ done. PacketDone S.crypto self.old step.Payload done self.new
+            (outs out.old out.new sent.old sent.new)) }
         ensures dead { OnErr result (self.new.kept.dead ≡ true) }
         ensures lacks { OnErr result (TurnLacks self.old) }
         ensures out { OnErr result (out.new.items ≡ out.old.items) }

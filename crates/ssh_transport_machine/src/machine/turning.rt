@@ -1,6 +1,7 @@
 //! What an end does with a payload that it took: the rows that both roles share.
 
-ghost use Rattle.std.specs.Prelude.{◌≡◌, ◌≤◌, ◌^◌, IfOk, OnErr, map, true};
+ghost use Rattle.ssh_transport_machine.specs.Puts.{outs};
+ghost use Rattle.std.specs.Prelude.{◌≡◌, ◌≤◌, ◌^◌, IfOk, OnErr, true};
 ghost use Rattle.ssh_transport_machine.specs.Judging.{PayloadJudged};
 ghost use Rattle.ssh_transport_machine.specs.State.{IsLive, before_taken};
 ghost use Rattle.ssh_transport_machine.specs.Turning.{Does, NewkeysTaken, TurnLacks, Turns, WouldSend};
@@ -25,7 +26,7 @@ impl<S: Sealing, F: Filler + Drop> Machine<S, F> {
     ) -> Result<PayloadTurn, AllocError>
         requires live { IsLive self.old }
         requires taken { 1 ≤ self.old.kept.taking.count }
-        ensures turns { IfOk result (λ done. Turns S.crypto self.old done self.new (record { before = out.old.items; after = out.new.items; listed = map (λ v. v.items) sent.old.items; relisted = map (λ v. v.items) sent.new.items })) }
+        ensures turns { IfOk result (λ done. Turns S.crypto self.old done self.new (outs out.old out.new sent.old sent.new)) }
         ensures dead { OnErr result (self.new.kept.dead ≡ true) }
         ensures lacks { OnErr result (TurnLacks self.old) }
         ensures out { OnErr result (out.new.items ≡ out.old.items) }
@@ -53,7 +54,7 @@ impl<S: Sealing, F: Filler + Drop> Machine<S, F> {
         requires live { IsLive self.old }
         requires taken { 1 ≤ self.old.kept.taking.count }
         requires judged { PayloadJudged (before_taken self.old.kept) self.old.receiver.payload judged }
-        ensures does { IfOk result (λ done. Does S.crypto self.old judged done self.new (record { before = out.old.items; after = out.new.items; listed = map (λ v. v.items) sent.old.items; relisted = map (λ v. v.items) sent.new.items })) }
+        ensures does { IfOk result (λ done. Does S.crypto self.old judged done self.new (outs out.old out.new sent.old sent.new)) }
         ensures dead { OnErr result (self.new.kept.dead ≡ true) }
         ensures lacks { OnErr result (WouldSend self.old judged) }
         ensures out { OnErr result (out.new.items ≡ out.old.items) }
