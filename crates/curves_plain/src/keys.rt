@@ -50,7 +50,7 @@ fn response(nonce: Scalar, challenge: &[u8; 64], scalar: &[u8; 32]) -> [u8; 32] 
     bytes_of(sum(nonce, times(challenge, reduced(scalar))))
 }
 
-// The SHA-512 of three texts behind each other.
+// The SHA-512 of three texts one after the other.
 pub(crate) fn hash_of(first: &[u8], second: &[u8], third: &[u8]) -> [u8; 64] {
     let mut hasher = Sha512::new();
     hasher.update(first);

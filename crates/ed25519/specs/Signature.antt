@@ -29,7 +29,7 @@ nonce_of pair message = value (sha512 (pair.prefix ++ message)) % order
 abbrev pub challenge_of : (point public message : List ℕ) → List ℕ
 challenge_of point public message = sha512 (point ++ (public ++ message))
 
--- R, and behind it S, which is (r + k s) mod L
+-- R, and after it S, which is (r + k s) mod L
 abbrev pub joined_with : KeyPair → List ℕ → ℕ → List ℕ → List ℕ
 joined_with pair message nonce point =
     point ++ le_bytes ((nonce + value (challenge_of point pair.public message) * value pair.scalar) % order)

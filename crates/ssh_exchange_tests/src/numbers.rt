@@ -221,7 +221,7 @@ fn each_number_at_each_place(rt: HostRuntime) -> Result<(), Fail> {
     Ok(())
 }
 
-// Behind a KEXINIT whose guess is wrong the next packet is numbered 30 to 49, and not read.
+// After a KEXINIT whose guess is wrong the next packet is numbered 30 to 49, and not read.
 #[test]
 fn the_packet_after_a_wrong_guess(rt: HostRuntime) -> Result<(), Fail> {
     let kex = "curve25519-sha256@libssh.org,curve25519-sha256,kex-strict-c-v00@openssh.com";

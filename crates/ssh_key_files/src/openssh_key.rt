@@ -22,7 +22,7 @@ pub struct PrivateKey {
     pub public: [u8; 32],
 }
 
-/// The key of a private key file: one of ssh-ed25519 without a passphrase, whose public key is the one that stands beside it.
+/// The key of a private key file: one of ssh-ed25519 without a passphrase, whose public key is the one that stands with it.
 ///
 /// # Errors
 ///

@@ -1,4 +1,4 @@
-//! Tests that are lines of files: what a layer is told, and behind it, after `> `, what has to come of it.
+//! Tests that are lines of files: what a layer is told, and then, after `> `, what has to come of it.
 //!
 //! A line is told as it stands, but that
 //!

@@ -5,7 +5,7 @@ ghost use Rattle.x25519.specs.Curve.{base_point, shared_of as shared_between, x2
 use ssh_kex::Agreement;
 
 /// X25519 as the agreement of curve25519-sha256 (RFC 8731 section 3, RFC 7748 section 5). No branch and no place in memory depends on a
-/// secret, but for the test whether all that is shared is zero.
+/// secret, except for the test whether all that is shared is zero.
 #[derive(Clone, Copy, Debug, PartialEq, Eq)]
 pub struct Curve25519;
 

@@ -19,7 +19,7 @@ use ssh_transport_base::ClientPartValues;
 use std::alloc::{AllocError, Global};
 use std::random::RandomSource;
 
-/// A client of SSH-2 that runs one command. Bytes of the server go in, and bytes for it come out; beside them the command's input and its
+/// A client of SSH-2 that runs one command. Bytes of the server go in, and bytes for it come out; besides them the command's input and its
 /// output.
 #[derive(Drop)]
 pub struct Client<'a, R: RandomSource + Drop> {

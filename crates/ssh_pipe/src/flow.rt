@@ -60,7 +60,7 @@ impl Flow {
         self.waiting.extend_from_slice(bytes)
     }
 
-    /// These bytes have to be sent as extended data of this type, as all that is added behind them.
+    /// These bytes have to be sent as extended data of this type, as all that is added after them.
     ///
     /// # Errors
     ///

@@ -97,7 +97,7 @@ impl Session {
         self.is_ended = true;
     }
 
-    /// Sends what can be sent, and gives the window back; behind the command's last byte its status, EOF and CLOSE.
+    /// Sends what can be sent, and gives the window back; after the command's last byte its status, EOF and CLOSE.
     ///
     /// # Errors
     ///
@@ -176,7 +176,7 @@ impl Session {
 }
 
 impl Stage {
-    // The stage behind this one.
+    // The stage after this one.
     fn next(self) -> Stage {
         match self {
             Stage::Runs => Stage::SaidStatus,

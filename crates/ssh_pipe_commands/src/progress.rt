@@ -5,7 +5,7 @@ use ssh_pipe::{Ending, Machine, PipeError};
 use std::io::{Read, Write};
 use std::random::RandomSource;
 
-// The line is written again behind so many bytes more.
+// The line is written again after so many bytes more.
 const STEP: u64 = 1_048_576;
 
 /// A client with its files, and a line on a terminal that says how much of the input was read and of the output written. Where there is no

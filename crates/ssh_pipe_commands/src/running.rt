@@ -216,7 +216,7 @@ fn called<
     Ok(ran(rt.alloc(), &mut files, input, output, out, &mut err)?)
 }
 
-// A client with these credentials that runs the command of this text, behind what it put out.
+// A client with these credentials that runs the command of this text, after what it put out.
 fn client_of<'a, 'c, R: AllocGlobal + RandomSource>(
     rt: &'c R,
     options: &'c ClientOptions<'a>,

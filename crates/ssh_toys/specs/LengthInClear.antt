@@ -1,4 +1,4 @@
--- The sealing `none` with `hmac-sha2-256` in blocks that begin behind packet_length.
+-- The sealing `none` with `hmac-sha2-256` in blocks that begin after packet_length.
 use Rattle.std.specs.Prelude.{List, ℕ, refl}
 use Rattle.std.proofs.Common.{inl}
 use Rattle.ssh_model.specs.Protocol.Wire.Packet.{without_length}

@@ -3,7 +3,7 @@ ghost use Rattle.ssh_toys.specs.LengthInClear.{length_in_clear, length_in_clear_
 use ssh_packet::{HmacKey, Lengths, MacOnly, Sealing};
 use std::alloc::{AllocError, Global};
 
-/// `MacOnly` in blocks that begin behind packet_length, as `none` with `hmac-sha2-256-etm@openssh.com` would have it.
+/// `MacOnly` in blocks that begin after packet_length, as `none` with `hmac-sha2-256-etm@openssh.com` would have it.
 #[derive(Clone, Copy, Debug, PartialEq, Eq)]
 pub struct LengthInClear;
 

@@ -155,7 +155,7 @@ turn_refused used side h old new refusal a b c s alive f first second =
 
 -- ---- a whole delivery
 
--- so many bytes of the piece were used: what the end then does with those behind it does with all of them, these items in front
+-- so many bytes of the piece were used: what the end then does with those after it does with all of them, these items in front
 pub record Going (key : List ℕ) (side : Side) (piece : List ℕ) (at_ : ℕ) (h : List Item) (old new : End) (log_old log_new : List Done) : Type 0 where
   pub items : List Item
   pub goes : (more : List Item) (left : List ℕ) → Gets mac_only key (items ++ h) (left_of new ++ drop at_ piece) more left → Gets mac_only key h (left_of old ++ piece) (more ++ items) left

@@ -14,7 +14,7 @@ pub record Front (Is : List ℕ → Type 0) (bytes : List ℕ) : Type 0 where
   pub after : List ℕ
   pub reads : Reads Is bytes after
 
--- A packet stands in front, and so many bytes behind it.
+-- A packet stands in front, and so many bytes after it.
 pub record HasBehind (count : ℕ) (bytes : List ℕ) : Type 0 where
   pub payload : List ℕ
   pub after : List ℕ

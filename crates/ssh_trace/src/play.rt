@@ -34,8 +34,8 @@ pub fn check_to<R: Read, W: Write, E: Write>(
 }
 
 /// Plays the script of a session once, and then three times for each byte that an end put out, with that byte changed, left out and
-/// delivered twice: prints `N runs, M unsafe`. A run is unsafe where an end took behind its first NEWKEYS what is no prefix of what the
-/// other sent behind its own.
+/// delivered twice: prints `N runs, M unsafe`. A run is unsafe where an end took after its first NEWKEYS what is no prefix of what the
+/// other sent after its own.
 ///
 /// `Status::Done` where no run is unsafe, else `Status::Refused`. `Status::Fault` as for `play_to`, and for the script of an epoch.
 pub fn sweep_to<R: Read, W: Write, E: Write>(

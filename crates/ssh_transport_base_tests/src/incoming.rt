@@ -12,7 +12,7 @@ use std::alloc::{AllocError, Global};
 pub enum Found {
     /// A line that comes before the version line.
     OtherLine,
-    /// The version line; packets come behind it.
+    /// The version line; packets come after it.
     Version,
     /// A packet, whose payload is shown until the next call.
     Payload,

@@ -31,7 +31,7 @@ fn receiver(alloc: Global) -> Result<PacketReceiver<MacOnly>, AllocError> {
     PacketReceiver::under(alloc, HmacKey::new(&[1; 32]))
 }
 
-// These parts, one behind the other.
+// These parts, one after the other.
 fn joined(alloc: Global, parts: &[&[u8]]) -> Result<Vec<u8>, AllocError> {
     let mut bytes = Vec::new(alloc);
     for part in parts {

@@ -8,7 +8,7 @@ use std::test::*;
 // What a server may send first: a line of its own and its version line.
 const LINES: &[u8] = b"welcome\r\nSSH-2.0-OpenSSH_9.2p1\r\n";
 
-// The KEXINIT that OpenSSH 9.2p1 sent behind them, recorded on loopback, for a client that offers `none`.
+// The KEXINIT that OpenSSH 9.2p1 sent after them, recorded on loopback, for a client that offers `none`.
 const KEXINIT: &[u8] = b"\0\0\0\xcc\x08\x14\xe5\x11\xdaS\x8b\x93\x9d\xfd\xfexf\x83\xc4Ou[\
     \0\0\0.curve25519-sha256,kex-strict-s-v00@openssh.com\0\0\0\x0bssh-ed25519\
     \0\0\0\x04none\0\0\0\x04none\0\0\0\x0dhmac-sha2-256\0\0\0\x0dhmac-sha2-256\

@@ -8,7 +8,7 @@ use Rattle.x25519.specs.Field.{AreBelow, number, residue}
 use Rattle.x25519.specs.Bytes.{bytes_of, element_of, frozen, le_bytes, up, value, word_of}
 use Rattle.x25519.specs.Values.{four_words}
 
--- a word of some low bits, and bits shifted behind them
+-- a word of some low bits, and bits shifted after them
 with_low : (low high k : ℕ) → low < 2 ^ k → bit_or low (high * 2 ^ k) ≡ low + high * 2 ^ k
 with_low low high k h = or_disjoint low (high * 2 ^ k) (and_comm low (high * 2 ^ k) ∙ and_shifted high k low h)
 

@@ -1,4 +1,4 @@
-//! What a client keeps beside its end, and what it does on what the end tells.
+//! What a client keeps besides its end, and what it does on what the end tells.
 
 use super::request::Request;
 use super::task::{Task, ask_of};
@@ -14,7 +14,7 @@ use ssh_pipe_policy::{AskOutcome, End, MOST_WAITING, asked};
 use ssh_types::NameList;
 use std::alloc::{AllocError, Global};
 
-/// What a client keeps beside its end.
+/// What a client keeps besides its end.
 #[derive(Drop)]
 pub(super) struct Desk<'a> {
     alloc: Global,
@@ -269,7 +269,7 @@ impl<'a> Desk<'a> {
         Ok(true)
     }
 
-    /// Sends what can be sent, and gives the window back; behind the last byte of the input says that it has ended.
+    /// Sends what can be sent, and gives the window back; after the last byte of the input says that it has ended.
     ///
     /// # Errors
     ///

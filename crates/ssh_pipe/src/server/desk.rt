@@ -1,4 +1,4 @@
-//! What a server keeps beside its end, and what it does on what the end tells.
+//! What a server keeps besides its end, and what it does on what the end tells.
 
 use crate::ending::Ending;
 use crate::session::Session;
@@ -9,7 +9,7 @@ use ssh_end::{Ask, Fault, Told, Turn};
 use ssh_pipe_policy::{AskOutcome, End, MOST_DATA, MOST_SESSIONS, asked};
 use std::alloc::{AllocError, Global};
 
-/// What a server keeps beside its end.
+/// What a server keeps besides its end.
 #[derive(Drop)]
 pub(super) struct Desk {
     alloc: Global,

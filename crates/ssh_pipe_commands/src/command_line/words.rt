@@ -84,7 +84,7 @@ fn server<'a>(alloc: Global) -> Result<Command<'a>, AllocError> {
     Ok(command.after_help(COMMANDS))
 }
 
-// A command with these options, and behind them those that both take.
+// A command with these options, and after them those that both take.
 fn subcommand<'a>(
     alloc: Global,
     name: &'static str,
@@ -112,7 +112,7 @@ fn verbose<'a>(alloc: Global) -> Arg<'a> {
 
 // An option of a command.
 struct Row {
-    // The word behind `--`, by which it is also read back.
+    // The word after `--`, by which it is also read back.
     name: &'static str,
     // What help calls its value. None: a flag, which has none.
     value: Option<&'static str>,
