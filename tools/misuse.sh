@@ -9,7 +9,7 @@ trap 'rm -rf "$copy"' EXIT
 copy_tree "$copy"
 cd "$copy"
 git init -q .
-file=crates/ssh_toy_ends/src/ends.rt
+file=crates/ssh_toys/src/ends.rt
 line='rest = rest.get(turn.used..).unwrap_or(&[]);'
 [ "$(grep -cF "$line" "$file")" = 1 ] || {
     echo "error: '$line' does not stand once in $file"

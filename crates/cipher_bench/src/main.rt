@@ -1,4 +1,4 @@
-//! Prints how many times faster `aes_gcm`, `x25519` and `ed25519` are than the plain programs of `aes_gcm_plain` and `curves_plain`, taken
+//! Prints how many times faster `aes_gcm`, `x25519` and `ed25519` are than the plain programs of `ciphers_plain`, taken
 //! in turn in one run.
 //!
 //! `run ROUNDS` takes each time in so many rounds, of which the fastest counts. Called otherwise, it says so and times nothing.

@@ -4,7 +4,7 @@ ghost use Rattle.std.specs.Prelude.{◌≤◌};
 
 use crate::ratio::Ratio;
 use aes_gcm::GcmKey;
-use aes_gcm_plain::PlainKey;
+use ciphers_plain::PlainKey;
 use std::rt::Clock;
 use std::time::{Duration, Instant};
 

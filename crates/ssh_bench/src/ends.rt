@@ -5,7 +5,7 @@ use crate::hashes::Hashes;
 use crate::ratio::Ratio;
 use ssh_channels::{Ask as ChannelAsk, Fact};
 use ssh_end::{Ask, Fault, Told};
-use ssh_toy_ends::ToyEnds;
+use ssh_toys::ToyEnds;
 use ssh_types::Side;
 use std::rt::Clock;
 use std::time::{Duration, Instant};

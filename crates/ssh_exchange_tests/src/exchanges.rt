@@ -11,7 +11,7 @@ use crate::stretch::Stretch::{
 };
 use crate::toys::settings;
 use ssh_kex::{ExchangeInputs, exchange_hash, exchange_text};
-use ssh_toy_transports::ToyTransport;
+use ssh_toys::ToyTransport;
 use ssh_transport::Strictness;
 use ssh_types::Side::{Client, Server};
 use std::alloc::{AllocError, Global};

@@ -8,7 +8,7 @@ use crate::step::Step;
 use crate::stretch::Stretch;
 use crate::toys::settings;
 use crate::transcript::Transcript;
-use ssh_toy_transports::ToyTransport;
+use ssh_toys::ToyTransport;
 use ssh_transport::{Settings, Strictness, TransportAsk};
 use ssh_types::Side;
 use std::alloc::{AllocError, Global};

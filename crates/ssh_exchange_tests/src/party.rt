@@ -4,7 +4,7 @@ ghost use Rattle.ssh_transport_machine.specs.Asks.{IsSendable};
 
 use crate::transcript::Transcript;
 use ssh_kex::OwnedChoice;
-use ssh_toy_transports::ToyTransport;
+use ssh_toys::ToyTransport;
 use ssh_transport::{AskTurn, Effect, Settings, TransportAsk, TransportFault, TransportTurn};
 use ssh_types::Side;
 use std::alloc::{AllocError, Global};

@@ -6,6 +6,6 @@ use ssh_transport::{Settings, Strictness};
 pub const fn settings(software: &'static [u8], strictness: Strictness) -> Settings<'static> {
     Settings {
         strictness,
-        ..ssh_toy_setup::settings(software)
+        ..ssh_toys::settings(software)
     }
 }

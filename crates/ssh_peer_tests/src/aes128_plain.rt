@@ -1,10 +1,10 @@
-//! What `aes_gcm` computes of many blocks at once, compared with the plain programs of `aes_gcm_plain`.
+//! What `aes_gcm` computes of many blocks at once, compared with the plain programs of `ciphers_plain`.
 
 ghost use Rattle.std.specs.Prelude.{◌≤◌, ◌^◌, length};
 
 use crate::checking::same_at;
 use aes_gcm::GcmKey;
-use aes_gcm_plain::PlainKey;
+use ciphers_plain::PlainKey;
 use std::process::Abort;
 use std::test::*;
 

@@ -41,7 +41,7 @@ fn gcm_settings() -> Settings<'static> {
     Settings {
         host: &[b"ssh-ed25519"],
         encryption: &[b"aes128-gcm@openssh.com"],
-        ..ssh_toy_setup::settings(b"d")
+        ..ssh_toys::settings(b"d")
     }
 }
 

@@ -25,7 +25,7 @@ fn recorded_settings() -> Settings<'static> {
         kex: &[b"curve25519-sha256", b"curve25519-sha256@libssh.org"],
         host: &[b"ssh-ed25519"],
         takes_extensions: true,
-        ..ssh_toy_setup::settings(b"oracle_1")
+        ..ssh_toys::settings(b"oracle_1")
     }
 }
 

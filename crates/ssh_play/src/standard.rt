@@ -4,11 +4,10 @@ use ssh_message::Extension;
 use ssh_packet::MacOnly;
 use ssh_pair::{ClientValues, Pair, ServerValues, Transcript};
 use ssh_script::{Credential, EndSetup, ScriptFault, Setup};
-use ssh_toy_setup::{
-    CLIENT_COOKIE, CLIENT_SECRET, SERVER_COOKIE, SERVER_SECRET, ToyClient, ToyServer, client_parts,
-    server_parts,
+use ssh_toys::{
+    CLIENT_COOKIE, CLIENT_SECRET, SERVER_COOKIE, SERVER_SECRET, ToyClient, ToyCredential, ToyJudge,
+    ToyServer, ToyUserSigner, client_parts, server_parts,
 };
-use ssh_toys::{ToyCredential, ToyJudge, ToyUserSigner};
 use ssh_transport_base::{Config, Settings};
 use ssh_types::Side;
 use std::alloc::{AllocError, Global};
@@ -108,7 +107,7 @@ fn settings<'a>(
     setup: &EndSetup,
     extensions: &'a [Extension<'a>],
 ) -> Settings<'a> {
-    let standard = ssh_toy_setup::settings(software);
+    let standard = ssh_toys::settings(software);
     Settings {
         epoch_limit: setup
             .epoch_limit

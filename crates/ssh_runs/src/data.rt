@@ -4,7 +4,7 @@
 use crate::status::Status;
 use ssh_channels::Ask as ChannelAsk;
 use ssh_end::{Ask, Fault};
-use ssh_toy_ends::ToyEnds;
+use ssh_toys::ToyEnds;
 use ssh_types::Side;
 use std::alloc::Global;
 

@@ -3,7 +3,7 @@
 use crate::checking::same;
 use ssh_message::{Message, Proposal, decode};
 use ssh_packet::MacOnly;
-use ssh_toy_setup::settings;
+use ssh_toys::settings;
 use ssh_transport_base::{Config, Settings, Strictness, put_kexinit};
 use ssh_types::Side;
 use std::alloc::Global;

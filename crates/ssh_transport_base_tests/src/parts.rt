@@ -3,8 +3,7 @@
 use crate::checking::same;
 use ssh_kex::{Agreement, HostSigner, HostTrust};
 use ssh_packet::{Filler, Sealing};
-use ssh_toy_setup::{ToyClient, ToyServer};
-use ssh_toys::{HOST_KEY, ToyAgreement, ToyFiller, ToySigner, ToyTrust};
+use ssh_toys::{HOST_KEY, ToyAgreement, ToyClient, ToyFiller, ToyServer, ToySigner, ToyTrust};
 use ssh_transport_base::{ClientPartValues, ClientParts, ServerPartValues, ServerParts};
 use std::test::*;
 

@@ -1,7 +1,7 @@
 ghost use Rattle.std.specs.Prelude.{◌≤◌, length};
 
 use ssh_message::Message;
-use ssh_toy_setup::{
+use ssh_toys::{
     CLIENT_COOKIE, CLIENT_SECRET, SERVER_COOKIE, SERVER_SECRET, ToyClient, ToyServer, client_parts,
     config, server_parts, settings,
 };

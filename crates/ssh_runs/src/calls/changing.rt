@@ -8,8 +8,7 @@ use ssh_auth::{
 use ssh_channels::{Ask, AskError, Channels, TakeError};
 use ssh_message::{Message, decode};
 use ssh_packet::{HmacKey, MacOnly};
-use ssh_toy_setup::{CLIENT_COOKIE, CREDENTIALS, config, settings};
-use ssh_toys::{ToyFiller, ToyJudge, ToyUserSigner};
+use ssh_toys::{CLIENT_COOKIE, CREDENTIALS, ToyFiller, ToyJudge, ToyUserSigner, config, settings};
 use ssh_transport::{PacketSender, put_kexinit};
 use ssh_types::{Name, NameList, NameListBuf, Side};
 use std::alloc::{AllocError, Global};

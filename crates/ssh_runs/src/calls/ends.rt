@@ -4,7 +4,7 @@ use super::outcome::Outcome;
 use ssh_auth::UserAsk;
 use ssh_channels::Ask as ChannelAsk;
 use ssh_end::{Ask, Fault};
-use ssh_toy_ends::ToyEnd;
+use ssh_toys::ToyEnd;
 use ssh_types::Side;
 use std::alloc::{AllocError, Global};
 

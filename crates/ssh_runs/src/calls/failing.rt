@@ -3,11 +3,10 @@
 use super::outcome::Outcome;
 use ssh_packet::MacOnly;
 use ssh_pair::{ClientValues, Event, Pair, ServerValues};
-use ssh_toy_setup::{
-    CLIENT_COOKIE, CLIENT_SECRET, CREDENTIALS, SERVER_COOKIE, SERVER_SECRET, ToyClient, ToyServer,
-    client_parts, config, server_parts, settings,
+use ssh_toys::{
+    CLIENT_COOKIE, CLIENT_SECRET, CREDENTIALS, SERVER_COOKIE, SERVER_SECRET, ToyClient, ToyJudge,
+    ToyServer, ToyUserSigner, client_parts, config, server_parts, settings,
 };
-use ssh_toys::{ToyJudge, ToyUserSigner};
 use ssh_trace::{EpochPair, Event as EpochEvent};
 use ssh_types::Side;
 use std::alloc::{AllocError, Global};

@@ -10,8 +10,7 @@ use ssh_channels::{AskError, Channels};
 use ssh_layers::{
     Below, ClientLayers, LayerFault, ServerLayerAnswer, ServerLayers, ServerTaken, ask_channels,
 };
-use ssh_toy_setup::CREDENTIALS;
-use ssh_toys::{ToyJudge, ToyUserSigner};
+use ssh_toys::{CREDENTIALS, ToyJudge, ToyUserSigner};
 use ssh_types::NameList;
 use std::alloc::{AllocError, Global};
 

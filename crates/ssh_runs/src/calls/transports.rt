@@ -4,8 +4,7 @@ ghost use Rattle.ssh_transport_machine.specs.Asks.{IsSendable};
 
 use super::outcome::Outcome;
 use ssh_message::Message;
-use ssh_toy_setup::settings;
-use ssh_toy_transports::ToyTransport;
+use ssh_toys::{ToyTransport, settings};
 use ssh_transport::{TransportAsk, TransportFault};
 use ssh_types::Side::{Client, Server};
 use ssh_types::{Refusal, Side};

@@ -1,9 +1,9 @@
 -- What keeps the programs from wrapping.
 use Rattle.std.specs.Prelude.{◌<◌, ◌≤◌, ◌^◌}
 use Rattle.x25519.specs.Field.{IsTight}
-use Rattle.curves_plain.specs.declared.field.Wide.{Wide}
-use Rattle.curves_plain.specs.declared.ladder.Ladder.{Ladder}
-use Rattle.curves_plain.specs.declared.point.Point.{Point}
+use Rattle.ciphers_plain.specs.declared.field.Wide.{Wide}
+use Rattle.ciphers_plain.specs.declared.ladder.Ladder.{Ladder}
+use Rattle.ciphers_plain.specs.declared.point.Point.{Point}
 
 -- two points of the ladder in tight elements
 pub record IsRung (l : Ladder) : Type 0 where

@@ -7,11 +7,11 @@ ghost use Rattle.ssh_message.specs.Meaning.{meaning};
 ghost use Rattle.ssh_message.specs.Written.{Fits};
 ghost use Rattle.ssh_transport_machine.specs.Asks.{IsSendable};
 
-use ssh_message::Message;
-use ssh_toy_setup::{
+use crate::{
     CLIENT_COOKIE, CLIENT_SECRET, SERVER_COOKIE, SERVER_SECRET, ToyClient, ToyServer, client_parts,
     config, server_parts,
 };
+use ssh_message::Message;
 use ssh_transport::{
     Answer, AskTurn, ClientTransport, ServerTransport, Settings, TransportAsk, TransportFault,
     TransportTurn,

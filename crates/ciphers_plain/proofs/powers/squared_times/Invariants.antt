@@ -1,5 +1,5 @@
 use Rattle.x25519.specs.Field.{IsLoose}
-use Rattle.curves_plain.proofs.powers.squared_times.Given as goal
+use Rattle.ciphers_plain.proofs.powers.squared_times.Given as goal
 
 abbrev pub invariant-loop-i : goal.invariant-loop-i
 invariant-loop-i l = IsLoose l.y

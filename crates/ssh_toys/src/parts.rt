@@ -1,7 +1,7 @@
 //! The toys that go together.
 
+use crate::{ToyAgreement, ToyCredential, ToyFiller, ToySigner, ToyTrust};
 use ssh_packet::MacOnly;
-use ssh_toys::{ToyAgreement, ToyCredential, ToyFiller, ToySigner, ToyTrust};
 use ssh_transport_base::{ClientPartValues, ClientParts, ServerPartValues, ServerParts};
 
 /// The parts of a client.

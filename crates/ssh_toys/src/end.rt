@@ -1,11 +1,10 @@
 //! An end of either role.
 
-use ssh_end::{Ask, ClientEnd, Fault, ServerEnd, Turn};
-use ssh_toy_setup::{
-    CLIENT_COOKIE, CLIENT_SECRET, CREDENTIALS, SERVER_COOKIE, SERVER_SECRET, ToyClient, ToyServer,
-    client_parts, config, server_parts, settings,
+use crate::{
+    CLIENT_COOKIE, CLIENT_SECRET, CREDENTIALS, SERVER_COOKIE, SERVER_SECRET, ToyClient, ToyJudge,
+    ToyServer, ToyUserSigner, client_parts, config, server_parts, settings,
 };
-use ssh_toys::{ToyJudge, ToyUserSigner};
+use ssh_end::{Ask, ClientEnd, Fault, ServerEnd, Turn};
 use ssh_types::Side;
 use std::alloc::{AllocError, Global};
 

@@ -1,7 +1,7 @@
 //! The curve -x^2 + y^2 = 1 + d x^2 y^2 in extended coordinates (RFC 8032 section 5.1.4).
 
 ghost use Rattle.std.specs.Prelude.{◌≤◌};
-ghost use Rattle.curves_plain.specs.Safe.{IsPoint};
+ghost use Rattle.ciphers_plain.specs.Safe.{IsPoint};
 
 use crate::field::{negated as negated_element, product};
 use x25519::bytes::bit_of;

@@ -1,6 +1,6 @@
 //! The verification of signatures (RFC 8032 section 5.1.7).
 
-ghost use Rattle.curves_plain.specs.Safe.{IsPoint};
+ghost use Rattle.ciphers_plain.specs.Safe.{IsPoint};
 
 use crate::encoding::{decoded, encoded};
 use crate::keys::{hash_of, high_half, low_half};

@@ -2,7 +2,7 @@
 
 ghost use Rattle.std.specs.Prelude.{◌<◌, ◌≤◌, ◌^◌};
 ghost use Rattle.x25519.specs.Field.{IsLoose, IsTight};
-ghost use Rattle.curves_plain.specs.Safe.{IsWide};
+ghost use Rattle.ciphers_plain.specs.Safe.{IsWide};
 
 use x25519::field::{Element, ONE, ZERO, difference};
 

@@ -2,7 +2,7 @@
 
 ghost use Rattle.std.specs.Prelude.{◌≤◌, IfSome};
 ghost use Rattle.x25519.specs.Field.{IsTight};
-ghost use Rattle.curves_plain.specs.Safe.{IsPoint};
+ghost use Rattle.ciphers_plain.specs.Safe.{IsPoint};
 
 use crate::field::{negated, product, tightened};
 use crate::point::Point;

@@ -2,7 +2,7 @@
 
 ghost use Rattle.std.specs.Prelude.{◌≤◌};
 ghost use Rattle.x25519.specs.Field.{IsTight};
-ghost use Rattle.curves_plain.specs.Safe.{IsRung};
+ghost use Rattle.ciphers_plain.specs.Safe.{IsRung};
 
 use crate::field::{product, times_small};
 use crate::powers::inverse;

@@ -1,0 +1,20 @@
+//! AES-128-GCM, X25519 and Ed25519 as plain programs, for tests and times: the key stream four blocks at a time, byte by byte, and GHASH bit by bit;
+//! squares are products, and each bit of a number doubles and adds. `aes_gcm`, `x25519` and `ed25519` compute the same faster. Nothing is claimed of
+//! these programs but that they are safe.
+#![tactic(auto)]
+
+mod encoding;
+mod field;
+mod ghash;
+mod key;
+mod keys;
+mod ladder;
+mod point;
+mod powers;
+mod scalar;
+mod verification;
+
+pub use key::PlainKey;
+pub use keys::PlainPair;
+pub use ladder::x25519;
+pub use verification::verify;
