@@ -28,10 +28,10 @@ embedding: ## The same of the client and the server that docs/EMBEDDING.md has i
 lib: ## Proves the library for C and leaves it as build/libdivrelca.a and build/libdivrelca.so, with its header: docs/C.md.
 	@sh tools/lib.sh
 
-lib-test: ## Makes the library for C and runs its test, a session in memory, with the archives of both compilers.
+lib-test: ## Makes the library for C and runs its tests, sessions in memory, with the archives of both compilers.
 	@sh tools/lib.sh test
 
-test: ## The whole gate, everything from nothing, a misuse that has to be refused, the programs on their cases, and each allocation refused in turn: docs/TIMES.md has how long it takes.
+test: ## The whole gate, everything from nothing, a misuse that has to be refused, the programs on their cases, each allocation refused in turn, and the tests of the libraries for C, Python and Rust: docs/TIMES.md has how long it takes.
 	-@python3 tools/proved.py before
 	$(RT) ci
 	-@python3 tools/proved.py after
@@ -39,13 +39,15 @@ test: ## The whole gate, everything from nothing, a misuse that has to be refuse
 	@python3 tools/cases.py
 	@python3 tools/pictures.py drawn
 	@PROGRAM=$(CURDIR)/crates/ssh_runs/out/ssh_runs sh tools/memory.sh
+	@sh tools/lib.sh test
+	@sh tools/bindings.sh test
 
 cases: ## Runs the programs on their cases: words, scripts, files, what they print, and exit statuses. The first time they are proved and built.
 	@sh tools/build.sh ssh_trace ssh_pipe ssh_embedding
 	@python3 tools/cases.py
 	@python3 tools/pictures.py drawn
 
-times: ## The gate without allocations refused, with the processor time of each of its checks; what it says goes to build/gate.log.
+times: ## The proofs, edits and runs of the gate, which is its first command, with the processor time of each of its checks; what it says goes to build/gate.log.
 	@mkdir -p build
 	@python3 tools/times.py build/gate.log
 

@@ -4,7 +4,7 @@
 # Where the gate proved the same files in this copy of the repository, and what it left is there, the crates below are not proved again (tools/proved.py).
 #
 # `test` besides runs bindings/c/session_test.c and asks_test.c with the archive of each compiler, as it is, under valgrind, and with the C side checked for addresses and
-# undefined behaviour. Where valgrind or the C compiler's checks are missing it says what was skipped; that test is then not run, and all others are.
+# undefined behaviour. Where valgrind or the C compiler's checks are missing it says what was skipped; that test is then not run, and all others are. The gate runs it at its end.
 set -eu
 top=$(cd "$(dirname "$0")/.." && pwd)
 . "$top/tools/common.sh"
@@ -46,6 +46,7 @@ fi
 case $status in
     0) echo "The crates below it are those that the gate proved here" ;;
     3)
+        echo "What a gate proved of these files is not here: the crates below it are proved as well"
         archive "$build/bare.a"
         archive "$build/rattle/bare.a" --backend rattle
         ;;
