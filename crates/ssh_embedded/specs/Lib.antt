@@ -1,4 +1,5 @@
 pub mod Forms
+pub mod Making
 pub mod Queues
 pub mod Users
 pub mod Windows

@@ -1,5 +1,13 @@
 //! A client.
 
+ghost use Rattle.std.specs.Prelude.{◌≡◌, IfOk, []};
+ghost use Rattle.std.specs.Option.{option_map};
+ghost use Rattle.ssh_embedded.specs.Making.{settings_by};
+ghost use Rattle.ssh_embedded.specs.declared.making.Methods.TheVariants.{Both};
+ghost use Rattle.ssh_end.specs.Ends.{IsNewClient};
+ghost use Rattle.ssh_end.specs.declared.step.Step.TheVariants as step;
+ghost use Rattle.ssh_parts.specs.AesGcm.{aes_gcm};
+
 use crate::embedded::Embedded;
 use crate::flows::Flows;
 use crate::making::{MakeError, Material, Methods, config};
@@ -46,7 +54,17 @@ impl Client {
         alloc: Global,
         settings: &ClientSettings<'_>,
         material: Material,
-    ) -> Result<Client, MakeError> {
+    ) -> Result<Client, MakeError>
+        ensures opened { IfOk result (λ made. IsNewClient aes_gcm
+            (settings_by settings.now.software.now settings.now.epoch_limit TRIES Both settings.now.ciphers)
+            material.cookie material.secret made.state.end.machine made.state.end.layers [] made.state.out.items
+            made.state.end.sent) }
+        ensures step { IfOk result (λ made. made.state.end.step ≡ step.More) }
+        ensures host { IfOk result (λ made. made.state.end.role.exchange.host_trust.public ≡ settings.now.host) }
+        ensures user { IfOk result (λ made. made.state.end.role.user.signer ≡ settings.now.user) }
+        ensures key { IfOk result (λ made. made.state.key ≡ option_map (λ signer. signer.key) settings.now.user) }
+        ensures waiting { IfOk result (λ made. made.state.waiting.items ≡ []) }
+    {
         if is_small_order(&settings.host) {
             return Err(MakeError::Key);
         }
@@ -81,10 +99,20 @@ impl Client {
         let state = Embedded {
             end,
             out,
-            key: settings.user.map(|signer| *signer.public_key()),
+            key: key_of(&settings.user),
             waiting: VecDeque::new(alloc),
             flows,
         };
         Ok(Client { state })
+    }
+}
+
+// The public key of a user's key pair, as it goes over the wire.
+fn key_of(user: &Option<Ed25519Signer>) -> Option<[u8; 51]>
+    ensures { result ≡ option_map (λ signer. signer.key) user.now }
+{
+    match user {
+        Some(signer) => Some(*signer.public_key()),
+        None => None,
     }
 }

@@ -1,5 +1,9 @@
 //! What ends are made of, and why none is made.
 
+ghost use Rattle.std.specs.Prelude.{◌≡◌, IfOk, map};
+ghost use Rattle.ssh_embedded.specs.Making.{given_by, method_names, settings_by};
+ghost use Rattle.ssh_transport_base.specs.Meaning.{given_of, settings_of};
+
 use ssh_parts::{AesGcm, GcmSettings};
 use ssh_pipe_policy::Ciphers;
 use ssh_transport_base::{Config, ConfigError, ConfigRefusal, Settings};
@@ -29,7 +33,9 @@ pub enum Methods {
 
 impl Methods {
     // The names that a server gives.
-    fn names(self) -> &'static [&'static [u8]] {
+    fn names(self) -> &'static [&'static [u8]]
+        ensures { map (λ name. name.now) result.now ≡ method_names self }
+    {
         match self {
             Methods::Key => &[b"publickey"],
             Methods::Password => &[b"password"],
@@ -74,7 +80,10 @@ pub(crate) fn config(
     tries: u32,
     methods: Methods,
     ciphers: Ciphers,
-) -> Result<Config<AesGcm>, ConfigError> {
+) -> Result<Config<AesGcm>, ConfigError>
+    ensures given { IfOk result (λ config. given_of config ≡ given_by software.now epoch_limit tries methods ciphers) }
+    ensures settings { IfOk result (λ config. settings_of config ≡ settings_by software.now epoch_limit tries methods ciphers) }
+{
     let settings = GcmSettings {
         epoch_limit,
         tries,

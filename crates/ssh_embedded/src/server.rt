@@ -1,5 +1,11 @@
 //! A server.
 
+ghost use Rattle.std.specs.Prelude.{◌≡◌, IfOk, None, []};
+ghost use Rattle.ssh_embedded.specs.Making.{settings_by};
+ghost use Rattle.ssh_end.specs.Ends.{IsNewServer};
+ghost use Rattle.ssh_end.specs.declared.step.Step.TheVariants as step;
+ghost use Rattle.ssh_parts.specs.AesGcm.{aes_gcm};
+
 use crate::embedded::Embedded;
 use crate::flows::Flows;
 use crate::making::{MakeError, Material, Methods, config};
@@ -48,7 +54,17 @@ impl Server {
         settings: &ServerSettings<'_>,
         users: Users,
         material: Material,
-    ) -> Result<Server, MakeError> {
+    ) -> Result<Server, MakeError>
+        ensures opened { IfOk result (λ made. IsNewServer aes_gcm
+            (settings_by settings.now.software.now settings.now.epoch_limit settings.now.tries settings.now.methods settings.now.ciphers)
+            material.cookie material.secret made.state.end.machine made.state.end.layers [] made.state.out.items
+            made.state.end.sent) }
+        ensures step { IfOk result (λ made. made.state.end.step ≡ step.More) }
+        ensures host { IfOk result (λ made. made.state.end.role.exchange.host_signer ≡ settings.now.host) }
+        ensures users { IfOk result (λ made. made.state.end.role.user ≡ users) }
+        ensures key { IfOk result (λ made. made.state.key ≡ None) }
+        ensures waiting { IfOk result (λ made. made.state.waiting.items ≡ []) }
+    {
         let config = config(
             alloc,
             settings.software,
