@@ -4,7 +4,7 @@ ghost use Rattle.std.specs.Prelude.{◌≡◌, ◌<◌, ◌≤◌, ◌++◌, ◌
 ghost use Rattle.std.specs.Prelude.{length, nat_le, true};
 ghost use Rattle.std.specs.VecDeque.{deque_len};
 ghost use Rattle.ssh_embedded.specs.Forms.{IsAsked, form_asks};
-ghost use Rattle.ssh_embedded.specs.Queues.{IsMade, asked_by, is_early};
+ghost use Rattle.ssh_embedded.specs.Queues.{IsMade, IsOldestMade, asked_by, is_early};
 ghost use Rattle.ssh_embedded.specs.Windows.{bytes_in};
 ghost use Rattle.ssh_end.specs.Asking.{AreAskChannels, Fails, ask_of};
 ghost use Rattle.ssh_end.specs.Calls.{Advances, outs_of};
@@ -239,9 +239,13 @@ impl<R: EndRole> Embedded<R> {
     /// # Errors
     ///
     /// Those of `perform`.
+    #[tactic(auto, using(crate::proofs::Oldest::oldest_made))]
     pub fn work(&mut self, alloc: Global) -> Option<Result<AskStep, Fault>>
         ensures none { result ≡ None → self.old.waiting.items ≡ [] }
         ensures unchanged { result ≡ None → self.new ≡ self.old }
+        ensures made { IfSome result (λ done. IsOldestMade self.old.waiting.items self.old.key (λ asked.
+            R.asks self.old.end.role self.old.end.machine self.old.end.layers asked done self.new.end.machine self.new.end.layers
+            (outs_of self.old.out.items self.new.out.items self.new.end.sent))) }
         ensures waits { IfSome result (λ done. self.new.waiting.items ≡ cond (is_early done) self.old.waiting.items
             (drop 1 self.old.waiting.items)) }
         ensures key { self.new.key ≡ self.old.key }

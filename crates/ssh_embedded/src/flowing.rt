@@ -1,6 +1,10 @@
 //! Data within the windows of both ends, and answers to what a program does not know.
 
-ghost use Rattle.std.specs.Prelude.{◌≡◌, ◌≤◌, IfErr, IfOk, length};
+ghost use Rattle.std.specs.Prelude.{◌≡◌, ◌≤◌, IfErr, IfOk, OnErr, OnOk, length};
+ghost use Rattle.std.specs.Option.{option_map};
+ghost use Rattle.ssh_embedded.specs.Queues.{IsDeclined, IsGivenBack, IsOwed};
+ghost use Rattle.ssh_end.specs.Asking.{ask_of};
+ghost use Rattle.ssh_end.specs.Steps.{shown_by};
 
 use crate::embedded::Embedded;
 use crate::waiting::Waiting;
@@ -51,14 +55,25 @@ impl<R: EndRole> Embedded<R> {
     /// # Errors
     ///
     /// Only where memory is refused: nothing changes.
-    pub fn decline(&mut self) -> Result<(), AllocError> {
-        let answer = match self.end.turn().told {
-            Some(told) => default_answer(&told),
-            None => None,
-        };
-        match answer {
+    pub fn decline(&mut self) -> Result<(), AllocError>
+        ensures put { OnOk result (IsDeclined (shown_by self.old.end.step self.old.end.machine) self.old.end.step
+            self.old.waiting.items self.new.waiting.items) }
+        ensures kept { OnErr result (self.new.waiting.items ≡ self.old.waiting.items) }
+        ensures same { self.new ≡ record self.old { waiting = self.new.waiting } }
+    {
+        match self.answer() {
             Some(answer) => self.queue(Waiting::Known(answer)),
             None => Ok(()),
+        }
+    }
+
+    // The answer that the peer is owed for what the last turn shows.
+    fn answer(&self) -> Option<Ask<'static>>
+        ensures { IsOwed (shown_by self.now.end.step self.now.end.machine) self.now.end.step (option_map ask_of result) }
+    {
+        match self.end.turn().told {
+            Some(told) => default_answer(&told),
+            None => None,
         }
     }
 
@@ -68,7 +83,11 @@ impl<R: EndRole> Embedded<R> {
     /// # Errors
     ///
     /// Only where memory is refused: the bytes count as done with, and the next call gives them back.
-    pub fn consume(&mut self, channel: u32, bytes: usize) -> Result<(), AllocError> {
+    pub fn consume(&mut self, channel: u32, bytes: usize) -> Result<(), AllocError>
+        ensures put { OnOk result (IsGivenBack channel self.old.waiting.items self.new.waiting.items) }
+        ensures kept { OnErr result (self.new.waiting.items ≡ self.old.waiting.items) }
+        ensures same { self.new ≡ record self.old { waiting = self.new.waiting; flows = self.new.flows } }
+    {
         self.flows.finish(channel, bytes);
         let Some(bytes) = self.flows.due(channel) else {
             return Ok(());

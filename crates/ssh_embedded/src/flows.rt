@@ -1,5 +1,8 @@
 //! What goes to and fro on the channels of an end.
 
+ghost use Rattle.std.specs.Prelude.{◌≡◌};
+ghost use Rattle.ssh_embedded.specs.Windows.{due_on};
+
 use ssh_channels::{Ask as ChannelAsk, Fact};
 use ssh_end::{Ask, AskStep, Told};
 use ssh_pipe_policy::Window;
@@ -118,7 +121,9 @@ impl Flows {
     }
 
     /// How many bytes are to be given back on a channel now.
-    pub fn due(&self, channel: u32) -> Option<u32> {
+    pub fn due(&self, channel: u32) -> Option<u32>
+        ensures { result ≡ due_on self.now channel }
+    {
         self.list.get(channel as usize)?.window.due()
     }
 

@@ -2,6 +2,7 @@
 
 ghost use Rattle.std.specs.Prelude.{◌≡◌, IfOk, List, Option, ℕ};
 ghost use Rattle.ssh_embedded.specs.Forms.{form_asks, form_of};
+ghost use Rattle.ssh_embedded.specs.Queues.{IsCopyOf};
 
 use crate::ask_form::AskForm;
 use ssh_end::Ask;
@@ -69,4 +70,18 @@ pub enum Waiting {
     Form(KeptForm),
     /// One that needs no bytes of a user.
     Known(Ask<'static>),
+}
+
+impl Waiting {
+    /// A copy of a form.
+    ///
+    /// # Errors
+    ///
+    /// Only where memory is refused.
+    pub fn of(alloc: Global, form: &AskForm<'_>) -> Result<Waiting, AllocError>
+        ensures { IfOk result (λ ask. IsCopyOf form.now ask) }
+    {
+        let kept = KeptForm::new(alloc, form)?;
+        Ok(Waiting::Form(kept))
+    }
 }
