@@ -1,13 +1,17 @@
 -- What C is answered.
-use Rattle.std.specs.Prelude.{ℤ, pos, negsuc, Option, Some, None, Result, Ok, Err}
+use Rattle.std.specs.Prelude.{ℕ, ℤ, pos, negsuc, Option, Some, None, Result, Ok, Err}
 use Rattle.ssh_model.specs.Protocol.Sessions.Refusals.{ask_refusal_number}
 use Rattle.ssh_types.specs.AskRefusals.{ask_refusal_of}
 use Rattle.ssh_types.specs.declared.refusal.Refusal.{Refusal}
 use Rattle.ssh_end.specs.declared.asking.outcome.AskStep.{AskStep}
 use Rattle.ssh_end.specs.declared.asking.outcome.Fault.{Fault}
 use Rattle.ssh_end.specs.declared.asking.outcome.Fault.TheVariants as fault
+use Rattle.ssh_embedded.specs.declared.ask_form.FormFault.{FormFault}
+use Rattle.ssh_embedded.specs.declared.ask_form.FormFault.TheVariants as form_fault
 use Rattle.ssh_key_files.specs.declared.fault.Expected.{Expected}
 use Rattle.ssh_key_files.specs.declared.fault.Expected.TheVariants as expected
+use Rattle.ssh_key_files.specs.declared.fault.FileFault.{FileFault}
+use Rattle.ssh_key_files.specs.declared.fault.FileFault.TheVariants as file_fault
 
 -- A refused ask is its own number; -1 where memory was refused, and -2 where the end was over.
 abbrev pub code_of : Fault → ℤ
@@ -24,6 +28,11 @@ code_done (Some why) = negsuc 1
 abbrev pub code_asked : Result AskStep Fault → ℤ
 code_asked (Ok step) = code_done step.refused
 code_asked (Err why) = code_of why
+
+-- what is answered where a form is no ask
+abbrev pub form_code : FormFault → ℤ
+form_code form_fault.Kind = pos 306
+form_code form_fault.Key = pos 307
 
 -- what was expected in a file
 abbrev pub file_code : Expected → ℤ
@@ -44,3 +53,14 @@ file_code expected.OneHostKey = pos 214
 file_code expected.Unrevoked = pos 215
 file_code expected.AnyKey = pos 216
 file_code expected.Password = pos 217
+
+-- what a file that is not what it has to be is answered, -1 where memory was refused
+abbrev pub fault_code : FileFault → ℤ
+fault_code (file_fault.Line number expected) = file_code expected
+fault_code (file_fault.File expected) = file_code expected
+fault_code file_fault.Memory = negsuc 0
+
+-- the line that is named with it, 0 where that is the file as a whole
+abbrev pub fault_line : FileFault → ℕ
+fault_line (file_fault.Line number expected) = number
+fault_line _ = 0

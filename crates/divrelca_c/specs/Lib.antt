@@ -1,4 +1,5 @@
 pub mod Codes
 pub mod Events
+pub mod Files
 pub mod Handles
 pub mod Lent

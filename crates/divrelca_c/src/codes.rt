@@ -1,7 +1,7 @@
 //! What C is answered.
 
 ghost use Rattle.std.specs.Prelude.{◌≡◌, negsuc, pos};
-ghost use Rattle.divrelca_c.specs.Codes.{code_asked, code_of, file_code};
+ghost use Rattle.divrelca_c.specs.Codes.{code_asked, code_of, fault_code, fault_line, file_code, form_code};
 
 use ssh_embedded::{FormFault, MakeError};
 use ssh_end::{AskStep, Fault};
@@ -88,7 +88,8 @@ pub fn code_made(error: MakeError) -> i32
 
 /// Why a form is no ask.
 pub fn code_form(fault: FormFault) -> i32
-    ensures { result ≡ pos 0 → ⊥ }
+    ensures code { result ≡ form_code fault }
+    ensures fails { result ≡ pos 0 → ⊥ }
 {
     match fault {
         FormFault::Kind => BAD_ASK,
@@ -98,7 +99,9 @@ pub fn code_form(fault: FormFault) -> i32
 
 /// What was expected in a file, 201 to 217, and on which line: 0 where that is the file as a whole.
 pub fn code_file(fault: FileFault) -> (i32, usize)
-    ensures { result.0 ≡ pos 0 → ⊥ }
+    ensures code { result.0 ≡ fault_code fault }
+    ensures line { result.1 ≡ fault_line fault }
+    ensures fails { result.0 ≡ pos 0 → ⊥ }
 {
     match fault {
         FileFault::Memory => (MEMORY, 0),

@@ -1,7 +1,12 @@
 //! Keys in the files of OpenSSH.
 
-ghost use Rattle.std.specs.Prelude.{◌≡◌, pos};
+ghost use Rattle.std.specs.Prelude.{◌≡◌, Ok, pos};
+ghost use Rattle.std.specs.Option.{option_copied};
+ghost use Rattle.divrelca_c.specs.Files.{TellsFault, TellsKey, code_read, host_in, key_read, line_read};
 ghost use Rattle.ed25519.specs.Signature.{pair_of};
+ghost use Rattle.ssh_key_files.specs.KnownHosts.{trusted_key};
+ghost use Rattle.ssh_key_files.specs.PrivateKeys as spec;
+ghost use Rattle.ssh_key_files.specs.UserKeys.{user_keys};
 
 use crate::codes::{DONE, code_file};
 use ed25519::KeyPair;
@@ -17,8 +22,11 @@ pub extern "C" fn dv_private_key(
     public: &mut [u8; 32],
     line: &mut usize,
 ) -> i32
+    ensures key { result ≡ pos 0 → spec.private_key text.now ≡ Ok (record { seed = seed.new; public = public.new }) }
+    ensures fault { (result ≡ pos 0 → ⊥) → TellsFault (spec.private_key text.now) result line.new }
     ensures seed { (result ≡ pos 0 → ⊥) → seed.new ≡ seed.old }
     ensures public { (result ≡ pos 0 → ⊥) → public.new ≡ public.old }
+    ensures line { result ≡ pos 0 → line.new ≡ line.old }
 {
     match private_key(alloc, text) {
         Ok(key) => {
@@ -45,8 +53,11 @@ pub extern "C" fn dv_authorized_key(
     count: &mut usize,
     line: &mut usize,
 ) -> i32
+    ensures key { result ≡ pos 0 → TellsKey (user_keys text.now) place public.old public.new count.new }
+    ensures fault { (result ≡ pos 0 → ⊥) → TellsFault (user_keys text.now) result line.new }
     ensures public { (result ≡ pos 0 → ⊥) → public.new ≡ public.old }
     ensures count { (result ≡ pos 0 → ⊥) → count.new ≡ count.old }
+    ensures line { result ≡ pos 0 → line.new ≡ line.old }
 {
     match authorized_keys(alloc, text) {
         Ok(keys) => {
@@ -72,10 +83,12 @@ pub extern "C" fn dv_known_host(
     public: &mut [u8; 32],
     line: &mut usize,
 ) -> i32
+    ensures code { result ≡ code_read (trusted_key text.now (host_in host.now)) }
+    ensures key { public.new ≡ key_read (trusted_key text.now (host_in host.now)) public.old }
+    ensures line { line.new ≡ line_read (trusted_key text.now (host_in host.now)) line.old }
     ensures public { (result ≡ pos 0 → ⊥) → public.new ≡ public.old }
 {
-    let named = if host.is_empty() { None } else { Some(host) };
-    match trusted_key(text, named) {
+    match trusted_key(text, host_in(host)) {
         Ok(key) => {
             *public = key;
             DONE
@@ -86,6 +99,13 @@ pub extern "C" fn dv_known_host(
             code
         }
     }
+}
+
+// The host that is named: none where its name has no bytes.
+fn host_in(host: &[u8]) -> Option<&[u8]>
+    ensures { option_copied result ≡ host_in host.now }
+{
+    if host.is_empty() { None } else { Some(host) }
 }
 
 /// The public key of a seed.
