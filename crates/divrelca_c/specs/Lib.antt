@@ -1,3 +1,4 @@
+pub mod Asks
 pub mod Codes
 pub mod Events
 pub mod Files

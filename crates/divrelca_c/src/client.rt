@@ -1,8 +1,14 @@
 //! What C calls of a client.
 
-ghost use Rattle.std.specs.Prelude.{◌≡◌, ◌≤◌, drop, false, length, nat_le, pos, true};
+ghost use Rattle.std.specs.Prelude.{◌≡◌, ◌≤◌, None, [], drop, false, length, nat_le, pos, true};
+ghost use Rattle.std.specs.VecDeque.{deque_len};
+ghost use Rattle.divrelca_c.specs.Asks.{ClientAnswers, ClientWorks};
 ghost use Rattle.divrelca_c.specs.Events.{ShowsTurn};
+ghost use Rattle.ssh_embedded.specs.Forms.{form_asks};
+ghost use Rattle.ssh_embedded.specs.Queues.{IsDeclined, IsGivenBack, IsQueued};
+ghost use Rattle.ssh_embedded.specs.Windows.{bytes_in};
 ghost use Rattle.ssh_end.specs.Steps.{shown_by};
+ghost use Rattle.ssh_model.specs.State.Channels.Places.{at, shown_room};
 ghost use Rattle.ssh_model.specs.State.TransportLayer.Kept.{after_fed, can_be_fed};
 
 use crate::bytes::{DvBytes, DvClientSettings, DvMaterial};
@@ -12,7 +18,7 @@ use crate::codes::{
 };
 use crate::event::{DvEvent, event_of};
 use crate::making::{ciphers_in, key_in, signer_in};
-use ssh_embedded::{AskForm, Client, ClientSettings, KeptForm, Material, Waiting};
+use ssh_embedded::{AskForm, Client, ClientSettings, Material, Waiting};
 use std::alloc::Global;
 
 // The bytes of the settings.
@@ -26,7 +32,9 @@ pub extern "C" fn dv_client_new(
     settings: &DvClientSettings<'_>,
     first: &DvMaterial,
     padding: &[u8; 32],
-) -> i32 {
+) -> i32
+    ensures none { (result ≡ pos 0 → ⊥) → out.new ≡ out.old }
+{
     match made(alloc, settings, first, padding) {
         Ok(client) => match Box::new(alloc, client) {
             Ok(boxed) => {
@@ -159,6 +167,7 @@ pub extern "C" fn dv_client_rekey_due(h: &mut DvClient) -> bool
 /// Tells how many bytes of data fit into the server's window on a channel.
 #[unsafe(no_mangle)]
 pub extern "C" fn dv_client_room(h: &mut DvClient, channel: u32) -> u32
+    ensures room { result ≡ bytes_in (shown_room (at h.old.value.state.end.layers.channels.places channel)) }
     ensures same { h.new.value ≡ h.old.value }
 {
     h.state().state.room(channel)
@@ -166,7 +175,14 @@ pub extern "C" fn dv_client_room(h: &mut DvClient, channel: u32) -> u32
 
 /// Does what is asked for, now. The number of a channel that it opens goes to `channel`.
 #[unsafe(no_mangle)]
-pub extern "C" fn dv_client_ask(h: &mut DvClient, ask: &AskForm<'_>, channel: &mut u32) -> i32 {
+pub extern "C" fn dv_client_ask(h: &mut DvClient, ask: &AskForm<'_>, channel: &mut u32) -> i32
+    ensures asked { (form_asks ask.now h.old.value.state.key ≡ None → ⊥) →
+        ClientAnswers h.old.value ask.now result channel.old channel.new h.new.value }
+    ensures unasked { form_asks ask.now h.old.value.state.key ≡ None → h.new.value ≡ h.old.value }
+    ensures none { form_asks ask.now h.old.value.state.key ≡ None → result ≡ pos 0 → ⊥ }
+    ensures channel { form_asks ask.now h.old.value.state.key ≡ None → channel.new ≡ channel.old }
+    ensures waiting { h.new.value.state.waiting ≡ h.old.value.state.waiting }
+{
     match h.state().state.ask(ask) {
         Ok(done) => {
             if let Ok(step) = done
@@ -182,15 +198,21 @@ pub extern "C" fn dv_client_ask(h: &mut DvClient, ask: &AskForm<'_>, channel: &m
 
 /// Puts an ask after those that wait.
 #[unsafe(no_mangle)]
-pub extern "C" fn dv_client_queue(alloc: Global, h: &mut DvClient, ask: &AskForm<'_>) -> i32 {
+pub extern "C" fn dv_client_queue(alloc: Global, h: &mut DvClient, ask: &AskForm<'_>) -> i32
+    ensures asks { result ≡ pos 0 → form_asks ask.now h.old.value.state.key ≡ None → ⊥ }
+    ensures queued { result ≡ pos 0 → IsQueued ask.now h.old.value.state.waiting.items h.new.value.state.waiting.items }
+    ensures kept { (result ≡ pos 0 → ⊥) → h.new.value.state.waiting.items ≡ h.old.value.state.waiting.items }
+    ensures end { h.new.value.state.end ≡ h.old.value.state.end }
+    ensures out { h.new.value.state.out ≡ h.old.value.state.out }
+{
     let state = &mut h.state().state;
     if let Err(fault) = state.is_ask(ask) {
         return code_form(fault);
     }
-    let Ok(kept) = KeptForm::new(alloc, ask) else {
+    let Ok(asked) = Waiting::of(alloc, ask) else {
         return MEMORY;
     };
-    match state.queue(Waiting::Form(kept)) {
+    match state.queue(asked) {
         Ok(()) => DONE,
         Err(_) => MEMORY,
     }
@@ -199,6 +221,7 @@ pub extern "C" fn dv_client_queue(alloc: Global, h: &mut DvClient, ask: &AskForm
 /// Tells how many asks wait.
 #[unsafe(no_mangle)]
 pub extern "C" fn dv_client_queued(h: &mut DvClient) -> usize
+    ensures queued { result ≡ deque_len h.old.value.state.waiting }
     ensures same { h.new.value ≡ h.old.value }
 {
     h.state().state.queued()
@@ -206,7 +229,12 @@ pub extern "C" fn dv_client_queued(h: &mut DvClient) -> usize
 
 /// Makes the oldest ask that waits. It stays where it comes too early.
 #[unsafe(no_mangle)]
-pub extern "C" fn dv_client_work(alloc: Global, h: &mut DvClient, channel: &mut u32) -> i32 {
+pub extern "C" fn dv_client_work(alloc: Global, h: &mut DvClient, channel: &mut u32) -> i32
+    ensures worked { (h.old.value.state.waiting.items ≡ [] → ⊥) → ClientWorks h.old.value result channel.old channel.new h.new.value }
+    ensures none { h.old.value.state.waiting.items ≡ [] → result ≡ pos 308 }
+    ensures unchanged { h.old.value.state.waiting.items ≡ [] → h.new.value ≡ h.old.value }
+    ensures channel { h.old.value.state.waiting.items ≡ [] → channel.new ≡ channel.old }
+{
     match h.state().state.work(alloc) {
         Some(done) => {
             if let Ok(step) = done
@@ -222,7 +250,14 @@ pub extern "C" fn dv_client_work(alloc: Global, h: &mut DvClient, channel: &mut 
 
 /// Queues the answer that the server is owed for what `dv_client_event` shows.
 #[unsafe(no_mangle)]
-pub extern "C" fn dv_client_decline(h: &mut DvClient) -> i32 {
+pub extern "C" fn dv_client_decline(h: &mut DvClient) -> i32
+    ensures put { result ≡ pos 0 →
+        IsDeclined (shown_by h.old.value.state.end.step h.old.value.state.end.machine) h.old.value.state.end.step
+        h.old.value.state.waiting.items h.new.value.state.waiting.items }
+    ensures kept { (result ≡ pos 0 → ⊥) → h.new.value.state.waiting.items ≡ h.old.value.state.waiting.items }
+    ensures end { h.new.value.state.end ≡ h.old.value.state.end }
+    ensures out { h.new.value.state.out ≡ h.old.value.state.out }
+{
     match h.state().state.decline() {
         Ok(()) => DONE,
         Err(_) => MEMORY,
@@ -253,7 +288,12 @@ pub extern "C" fn dv_client_send(
 
 /// So many bytes that came on a channel are done with.
 #[unsafe(no_mangle)]
-pub extern "C" fn dv_client_consume(h: &mut DvClient, channel: u32, bytes: usize) -> i32 {
+pub extern "C" fn dv_client_consume(h: &mut DvClient, channel: u32, bytes: usize) -> i32
+    ensures put { result ≡ pos 0 → IsGivenBack channel h.old.value.state.waiting.items h.new.value.state.waiting.items }
+    ensures kept { (result ≡ pos 0 → ⊥) → h.new.value.state.waiting.items ≡ h.old.value.state.waiting.items }
+    ensures end { h.new.value.state.end ≡ h.old.value.state.end }
+    ensures out { h.new.value.state.out ≡ h.old.value.state.out }
+{
     match h.state().state.consume(channel, bytes) {
         Ok(()) => DONE,
         Err(_) => MEMORY,

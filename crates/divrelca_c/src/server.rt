@@ -1,8 +1,14 @@
 //! What C calls of a server.
 
-ghost use Rattle.std.specs.Prelude.{◌≡◌, ◌≤◌, drop, false, length, nat_le, pos, true};
+ghost use Rattle.std.specs.Prelude.{◌≡◌, ◌≤◌, None, [], drop, false, length, nat_le, pos, true};
+ghost use Rattle.std.specs.VecDeque.{deque_len};
+ghost use Rattle.divrelca_c.specs.Asks.{ServerAnswers, ServerWorks};
 ghost use Rattle.divrelca_c.specs.Events.{ShowsTurn};
+ghost use Rattle.ssh_embedded.specs.Forms.{form_asks};
+ghost use Rattle.ssh_embedded.specs.Queues.{IsDeclined, IsGivenBack, IsQueued};
+ghost use Rattle.ssh_embedded.specs.Windows.{bytes_in};
 ghost use Rattle.ssh_end.specs.Steps.{shown_by};
+ghost use Rattle.ssh_model.specs.State.Channels.Places.{at, shown_room};
 ghost use Rattle.ssh_model.specs.State.TransportLayer.Kept.{after_fed, can_be_fed};
 
 use crate::bytes::{DvBytes, DvMaterial, DvServerSettings};
@@ -12,7 +18,7 @@ use crate::codes::{
 use crate::event::{DvEvent, event_of};
 use crate::making::{ciphers_in, methods_in, signer_in, users_in};
 use crate::server_handle::DvServer;
-use ssh_embedded::{AskForm, KeptForm, Material, Server, ServerSettings, Waiting};
+use ssh_embedded::{AskForm, Material, Server, ServerSettings, Waiting};
 use std::alloc::Global;
 
 // The bytes of the settings.
@@ -26,7 +32,9 @@ pub extern "C" fn dv_server_new(
     settings: &DvServerSettings<'_>,
     first: &DvMaterial,
     padding: &[u8; 32],
-) -> i32 {
+) -> i32
+    ensures none { (result ≡ pos 0 → ⊥) → out.new ≡ out.old }
+{
     match made(alloc, settings, first, padding) {
         Ok(server) => match Box::new(alloc, server) {
             Ok(boxed) => {
@@ -156,6 +164,7 @@ pub extern "C" fn dv_server_rekey_due(h: &mut DvServer) -> bool
 /// Tells how many bytes of data fit into the client's window on a channel.
 #[unsafe(no_mangle)]
 pub extern "C" fn dv_server_room(h: &mut DvServer, channel: u32) -> u32
+    ensures room { result ≡ bytes_in (shown_room (at h.old.value.state.end.layers.channels.places channel)) }
     ensures same { h.new.value ≡ h.old.value }
 {
     h.state().state.room(channel)
@@ -163,7 +172,14 @@ pub extern "C" fn dv_server_room(h: &mut DvServer, channel: u32) -> u32
 
 /// Does what is asked for, now. The number of a channel that it opens goes to `channel`.
 #[unsafe(no_mangle)]
-pub extern "C" fn dv_server_ask(h: &mut DvServer, ask: &AskForm<'_>, channel: &mut u32) -> i32 {
+pub extern "C" fn dv_server_ask(h: &mut DvServer, ask: &AskForm<'_>, channel: &mut u32) -> i32
+    ensures asked { (form_asks ask.now h.old.value.state.key ≡ None → ⊥) →
+        ServerAnswers h.old.value ask.now result channel.old channel.new h.new.value }
+    ensures unasked { form_asks ask.now h.old.value.state.key ≡ None → h.new.value ≡ h.old.value }
+    ensures none { form_asks ask.now h.old.value.state.key ≡ None → result ≡ pos 0 → ⊥ }
+    ensures channel { form_asks ask.now h.old.value.state.key ≡ None → channel.new ≡ channel.old }
+    ensures waiting { h.new.value.state.waiting ≡ h.old.value.state.waiting }
+{
     match h.state().state.ask(ask) {
         Ok(done) => {
             if let Ok(step) = done
@@ -179,15 +195,21 @@ pub extern "C" fn dv_server_ask(h: &mut DvServer, ask: &AskForm<'_>, channel: &m
 
 /// Puts an ask after those that wait.
 #[unsafe(no_mangle)]
-pub extern "C" fn dv_server_queue(alloc: Global, h: &mut DvServer, ask: &AskForm<'_>) -> i32 {
+pub extern "C" fn dv_server_queue(alloc: Global, h: &mut DvServer, ask: &AskForm<'_>) -> i32
+    ensures asks { result ≡ pos 0 → form_asks ask.now h.old.value.state.key ≡ None → ⊥ }
+    ensures queued { result ≡ pos 0 → IsQueued ask.now h.old.value.state.waiting.items h.new.value.state.waiting.items }
+    ensures kept { (result ≡ pos 0 → ⊥) → h.new.value.state.waiting.items ≡ h.old.value.state.waiting.items }
+    ensures end { h.new.value.state.end ≡ h.old.value.state.end }
+    ensures out { h.new.value.state.out ≡ h.old.value.state.out }
+{
     let state = &mut h.state().state;
     if let Err(fault) = state.is_ask(ask) {
         return code_form(fault);
     }
-    let Ok(kept) = KeptForm::new(alloc, ask) else {
+    let Ok(asked) = Waiting::of(alloc, ask) else {
         return MEMORY;
     };
-    match state.queue(Waiting::Form(kept)) {
+    match state.queue(asked) {
         Ok(()) => DONE,
         Err(_) => MEMORY,
     }
@@ -196,6 +218,7 @@ pub extern "C" fn dv_server_queue(alloc: Global, h: &mut DvServer, ask: &AskForm
 /// Tells how many asks wait.
 #[unsafe(no_mangle)]
 pub extern "C" fn dv_server_queued(h: &mut DvServer) -> usize
+    ensures queued { result ≡ deque_len h.old.value.state.waiting }
     ensures same { h.new.value ≡ h.old.value }
 {
     h.state().state.queued()
@@ -203,7 +226,12 @@ pub extern "C" fn dv_server_queued(h: &mut DvServer) -> usize
 
 /// Makes the oldest ask that waits. It stays where it comes too early.
 #[unsafe(no_mangle)]
-pub extern "C" fn dv_server_work(alloc: Global, h: &mut DvServer, channel: &mut u32) -> i32 {
+pub extern "C" fn dv_server_work(alloc: Global, h: &mut DvServer, channel: &mut u32) -> i32
+    ensures worked { (h.old.value.state.waiting.items ≡ [] → ⊥) → ServerWorks h.old.value result channel.old channel.new h.new.value }
+    ensures none { h.old.value.state.waiting.items ≡ [] → result ≡ pos 308 }
+    ensures unchanged { h.old.value.state.waiting.items ≡ [] → h.new.value ≡ h.old.value }
+    ensures channel { h.old.value.state.waiting.items ≡ [] → channel.new ≡ channel.old }
+{
     match h.state().state.work(alloc) {
         Some(done) => {
             if let Ok(step) = done
@@ -219,7 +247,14 @@ pub extern "C" fn dv_server_work(alloc: Global, h: &mut DvServer, channel: &mut 
 
 /// Queues the answer that the client is owed for what `dv_server_event` shows.
 #[unsafe(no_mangle)]
-pub extern "C" fn dv_server_decline(h: &mut DvServer) -> i32 {
+pub extern "C" fn dv_server_decline(h: &mut DvServer) -> i32
+    ensures put { result ≡ pos 0 →
+        IsDeclined (shown_by h.old.value.state.end.step h.old.value.state.end.machine) h.old.value.state.end.step
+        h.old.value.state.waiting.items h.new.value.state.waiting.items }
+    ensures kept { (result ≡ pos 0 → ⊥) → h.new.value.state.waiting.items ≡ h.old.value.state.waiting.items }
+    ensures end { h.new.value.state.end ≡ h.old.value.state.end }
+    ensures out { h.new.value.state.out ≡ h.old.value.state.out }
+{
     match h.state().state.decline() {
         Ok(()) => DONE,
         Err(_) => MEMORY,
@@ -250,7 +285,12 @@ pub extern "C" fn dv_server_send(
 
 /// So many bytes that came on a channel are done with.
 #[unsafe(no_mangle)]
-pub extern "C" fn dv_server_consume(h: &mut DvServer, channel: u32, bytes: usize) -> i32 {
+pub extern "C" fn dv_server_consume(h: &mut DvServer, channel: u32, bytes: usize) -> i32
+    ensures put { result ≡ pos 0 → IsGivenBack channel h.old.value.state.waiting.items h.new.value.state.waiting.items }
+    ensures kept { (result ≡ pos 0 → ⊥) → h.new.value.state.waiting.items ≡ h.old.value.state.waiting.items }
+    ensures end { h.new.value.state.end ≡ h.old.value.state.end }
+    ensures out { h.new.value.state.out ≡ h.old.value.state.out }
+{
     match h.state().state.consume(channel, bytes) {
         Ok(()) => DONE,
         Err(_) => MEMORY,
