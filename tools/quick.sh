@@ -98,8 +98,9 @@ python3 "$top/tools/printed.py" names || fail "a page names what is not there"
 python3 "$top/tools/pictures.py" stored || fail "texts of a stored picture overlap"
 mkdir "$work/strangers"
 python3 "$top/tools/stranger.py" "$work/strangers"
+python3 -B "$top/tools/limits.py" "$work/strangers"
 for script in "$work"/strangers/*; do
-    cmp "$script" "$top/crates/ssh_runs/data/$(basename "$script")" || fail "tools/stranger.py makes another script"
+    cmp "$script" "$top/crates/ssh_runs/data/$(basename "$script")" || fail "tools/stranger.py or tools/limits.py makes another script"
 done
 try_page &
 (sh "$top/tools/misuse.sh" || fail "a call that has to be refused is not") &

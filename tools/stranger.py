@@ -16,8 +16,8 @@ MARKERS = {"c": b"kex-strict-c-v00@openssh.com", "s": b"kex-strict-s-v00@openssh
 LINES = {"c": b"SSH-2.0-c", "s": b"SSH-2.0-s"}
 COOKIES = {"c": bytes([0xC1]) * 16, "s": bytes([0xD1]) * 16}
 SECRETS = {"c": bytes([1]) * 32, "s": bytes([2]) * 32}
-NAMES = {3: "UNIMPLEMENTED", 4: "DEBUG", 5: "SERVICE_REQUEST", 20: "KEXINIT", 21: "NEWKEYS", 30: "KEX_ECDH_INIT", 31: "KEX_ECDH_REPLY",
-         50: "USERAUTH_REQUEST", 52: "USERAUTH_SUCCESS", 53: "USERAUTH_BANNER", 93: "CHANNEL_WINDOW_ADJUST"}
+NAMES = {2: "IGNORE", 3: "UNIMPLEMENTED", 4: "DEBUG", 5: "SERVICE_REQUEST", 20: "KEXINIT", 21: "NEWKEYS", 30: "KEX_ECDH_INIT", 31: "KEX_ECDH_REPLY",
+         50: "USERAUTH_REQUEST", 52: "USERAUTH_SUCCESS", 53: "USERAUTH_BANNER", 93: "CHANNEL_WINDOW_ADJUST", 94: "CHANNEL_DATA"}
 UNEXPECTED = ("refused 7 Unexpected", "sent 1 DISCONNECT 23", "died")
 BAD_HOST = ("refused 11 BadHost", "sent 1 DISCONNECT 20", "died")
 COMPLETED = ("sent 31 KEX_ECDH_REPLY 85", "sent 21 NEWKEYS 1", "told completed 1")

@@ -77,6 +77,13 @@ const SESSIONS: &[&str] = &[
     "requests_and_replies",
     "tries_used_up",
     "asks_of_each_size",
+    "largest_data",
+    "data_over_the_largest",
+    "data_over_the_clients_largest",
+    "longest_payload",
+    "longest_packet",
+    "clients_longest_packet",
+    "clients_channel_table_full",
 ];
 
 // Those of one epoch.
