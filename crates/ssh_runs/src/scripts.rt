@@ -84,6 +84,7 @@ const SESSIONS: &[&str] = &[
     "longest_packet",
     "clients_longest_packet",
     "clients_channel_table_full",
+    "last_settings_hold",
 ];
 
 // Those of one epoch.
