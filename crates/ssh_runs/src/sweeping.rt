@@ -1,11 +1,15 @@
 //! The command that sweeps, over a script that delivers one line. Where memory is refused, it says so and nothing else, or it finds the
-//! same.
+//! same. The second `feed` is one that the end doesn't take, since it keeps a pair: a sweep leaves it out.
 
 use crate::status::Status;
 use ssh_trace::{Status as Answered, sweep_to};
 use std::alloc::{AllocError, Global};
 
-const SCRIPT: &str = "pass c s 11\n";
+const SCRIPT: &str = "\
+feed c a1
+feed c a2
+pass c s 11
+";
 
 // Each end puts out its line, 11 bytes, and the packet of a KEXINIT of 165 bytes, which is 176. Each of these 374 bytes is changed, left
 // out and doubled.

@@ -1,9 +1,10 @@
-//! Parts that can be supplied to an end, for tests and for the program that plays scripts, and what stands on them: settings and users, transports of
-//! both roles, whole ends, and two ends with the bytes on the way between them. **They protect nothing**: the filler always gives the same byte,
-//! whoever sees a public point knows what is shared, and everyone knows the cookies and secrets. Never use them on a network.
+//! Parts that can be supplied to an end, for tests and for the program that plays scripts, and what stands on them: settings and users,
+//! transports of both roles, whole ends, and two ends with the bytes on the way between them. **They protect nothing**: the filler always
+//! gives the same byte, whoever sees a public point knows what is shared, and everyone knows the cookies and secrets. Never use them on a
+//! network.
 //!
-//! Each part is proved against the contract of its part, so these contracts can be met. Keys are exchanged strictly by `curve25519-sha256` with a toy
-//! host key; there is no encryption, and `hmac-sha2-256` seals. The user u has the password p and the key k.
+//! Each part is proved against the contract of its part, so these contracts can be met. Keys are exchanged strictly by `curve25519-sha256`
+//! with a toy host key; there is no encryption, and `hmac-sha2-256` seals. The user u has the password p and the key k.
 //!
 //! ```rust
 //! let mut ends = ToyEnds::new(alloc)?;
