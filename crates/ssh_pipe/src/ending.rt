@@ -8,7 +8,7 @@ use std::fmt;
 const METHODS: &str = "this end has curve25519-sha256, ssh-ed25519 and what --cipher names";
 
 /// How a session ended, as one of its ends saw it.
-#[derive(Debug, Drop, PartialEq, Eq)]
+#[derive(Drop, PartialEq, Eq)]
 pub enum Ending {
     /// This end refused its peer.
     Refused(Refusal),

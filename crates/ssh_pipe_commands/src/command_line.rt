@@ -10,7 +10,7 @@ use thiserror::Error;
 use words::{VERBOSE, command};
 
 /// What the program is called to do.
-#[derive(Clone, Copy, Debug, PartialEq, Eq)]
+#[derive(Clone, Copy)]
 pub enum Call<'a> {
     /// Be a client.
     Client(ClientOptions<'a>),
@@ -21,7 +21,7 @@ pub enum Call<'a> {
 }
 
 /// What a client is told.
-#[derive(Clone, Copy, Debug, PartialEq, Eq)]
+#[derive(Clone, Copy)]
 pub struct ClientOptions<'a> {
     /// The user's name at the server.
     pub user: &'a str,
@@ -50,7 +50,7 @@ pub struct ClientOptions<'a> {
 }
 
 /// What a server is told.
-#[derive(Clone, Copy, Debug, PartialEq, Eq)]
+#[derive(Clone, Copy)]
 pub struct ServerOptions<'a> {
     /// The file of the server's private key.
     pub host_key: &'a str,

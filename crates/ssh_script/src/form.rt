@@ -5,7 +5,7 @@ ghost use Rattle.std.specs.Prelude.{IsErr};
 use crate::word_fault::WordFault;
 
 /// Which lines a script has, by its kind.
-#[derive(Clone, Copy, Debug, PartialEq, Eq)]
+#[derive(Clone, Copy, Debug)]
 pub(crate) enum Language {
     Epoch,
     Session,
@@ -24,7 +24,7 @@ impl Language {
 }
 
 /// A form of line.
-#[derive(Clone, Copy, Debug, PartialEq, Eq)]
+#[derive(Clone, Copy, Debug)]
 pub(crate) enum Form {
     Epoch,
     User,
@@ -89,7 +89,7 @@ impl Form {
 }
 
 /// A form of ask.
-#[derive(Clone, Copy, Debug, PartialEq, Eq)]
+#[derive(Clone, Copy, Debug)]
 pub(crate) enum AskForm {
     Raw,
     Service,

@@ -12,7 +12,7 @@ use std::io;
 use thiserror::Error;
 
 /// Why a line of a script can't be read.
-#[derive(Clone, Copy, Debug, PartialEq, Eq, Error)]
+#[derive(Clone, Copy, Debug, Error)]
 pub(crate) enum LineFault<'a> {
     /// The first byte that begins no character, counted from 1.
     #[error("byte {0} isn't UTF-8")]
@@ -26,7 +26,7 @@ pub(crate) enum LineFault<'a> {
 }
 
 /// Why a line that was read can't be run.
-#[derive(Clone, Copy, Debug, PartialEq, Eq, Error)]
+#[derive(Clone, Copy, Debug, Error)]
 pub enum RunFault {
     /// Fewer bytes wait than the line wants.
     #[error("{wanted} bytes are wanted, and {waiting} wait")]
@@ -69,7 +69,7 @@ pub enum ScriptFault {
 }
 
 /// Why an end can't have the settings of a script.
-#[derive(Clone, Copy, Debug, PartialEq, Eq, Error)]
+#[derive(Clone, Copy, Debug, Error)]
 #[error("the settings of {letter} are refused: {refusal}", letter = letter_of(*.side))]
 pub struct SettingsFault {
     pub side: Side,

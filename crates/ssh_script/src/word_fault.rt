@@ -8,7 +8,7 @@ use std::alloc::AllocError;
 use thiserror::Error;
 
 /// Why a word isn't pairs of hexadecimal digits.
-#[derive(Clone, Copy, Debug, PartialEq, Eq, Error)]
+#[derive(Clone, Copy, Debug, Error)]
 pub enum HexFault {
     /// The number of digits.
     #[error("{0} digits are no pairs")]
@@ -41,7 +41,7 @@ fn first_other(word: &str, base: u32) -> Option<(usize, char)>
 }
 
 /// What is wrong with the words of a line.
-#[derive(Clone, Copy, Debug, PartialEq, Eq, Error)]
+#[derive(Clone, Copy, Debug, Error)]
 pub(crate) enum WordFault<'a> {
     /// A space at the line's begin or end, or two in a row.
     #[error("a space stands at an end of the line or behind another: words are parted by one space")]

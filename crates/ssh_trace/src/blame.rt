@@ -4,7 +4,7 @@ use ssh_types::{ReadRefusal, Reader};
 use thiserror::Error;
 
 /// The first field of a payload that is wrong.
-#[derive(Clone, Copy, Debug, PartialEq, Eq)]
+#[derive(Clone, Copy)]
 pub(crate) struct FieldFault {
     /// The field, as the standard of its message names it.
     pub field: &'static str,
@@ -14,7 +14,7 @@ pub(crate) struct FieldFault {
 }
 
 /// What is wrong with a field.
-#[derive(Clone, Copy, Debug, PartialEq, Eq, Error)]
+#[derive(Clone, Copy, Debug, Error)]
 pub(crate) enum FieldRefusal {
     #[error("{0}")]
     Read(ReadRefusal),

@@ -12,7 +12,7 @@ use std::io::Write;
 use thiserror::Error;
 
 /// What the program is called to do.
-#[derive(Clone, Copy, Debug, PartialEq, Eq)]
+#[derive(Clone, Copy)]
 pub enum Call<'a> {
     /// Show the packet that this text is.
     Decode(&'a str),
@@ -23,7 +23,7 @@ pub enum Call<'a> {
 }
 
 /// What is done with a script.
-#[derive(Clone, Copy, Debug, PartialEq, Eq)]
+#[derive(Clone, Copy)]
 pub enum Task {
     /// It is played.
     Play,
@@ -36,7 +36,7 @@ pub enum Task {
 }
 
 /// Where a script stands.
-#[derive(Clone, Copy, Debug, PartialEq, Eq)]
+#[derive(Clone, Copy)]
 pub enum Source<'a> {
     /// On standard input, where the word is `-`.
     Input,
