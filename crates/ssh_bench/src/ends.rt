@@ -41,26 +41,40 @@ fn measure_sessions<R: Clock + Print + AllocGlobal>(rt: &R, rounds: u32) -> anyh
     let mut sessions = Duration::MAX;
     let mut of_sessions = Duration::MAX;
     for _ in 0..rounds {
-        let start = Instant::now(rt)?;
-        for _ in 0..SESSIONS {
-            let mut ends = ToyEnds::new(rt.alloc())?;
-            ends.begin()?;
-            pass_data(&mut ends, b"hi")?;
-            close(&mut ends)?;
-        }
-        sessions = sessions.min(start.elapsed(rt)?);
-        let start = Instant::now(rt)?;
-        for _ in 0..SESSIONS {
-            hashes.of_exchange(false);
-            hashes.of_session();
-        }
-        of_sessions = of_sessions.min(start.elapsed(rt)?);
+        sessions = sessions.min(time_sessions(rt)?);
+        of_sessions = of_sessions.min(time_hashes(rt, &mut hashes)?);
     }
     println!(rt;
         "a whole session of two ends, and the making of both: {}",
         Ratio(sessions, of_sessions)
     )?;
     Ok(())
+}
+
+// The time of so many sessions.
+fn time_sessions<R: Clock + AllocGlobal>(rt: &R) -> anyhow::Result<Duration> {
+    let start = Instant::now(rt)?;
+    for _ in 0..SESSIONS {
+        hold_session(&mut ToyEnds::new(rt.alloc())?)?;
+    }
+    Ok(start.elapsed(rt)?)
+}
+
+// A whole session of these ends.
+fn hold_session(ends: &mut ToyEnds) -> Result<(), Fault> {
+    ends.begin()?;
+    pass_data(ends, b"hi")?;
+    close(ends)
+}
+
+// The time of the hashes of as many.
+fn time_hashes<R: Clock>(rt: &R, hashes: &mut Hashes) -> anyhow::Result<Duration> {
+    let start = Instant::now(rt)?;
+    for _ in 0..SESSIONS {
+        hashes.of_exchange(false);
+        hashes.of_session();
+    }
+    Ok(start.elapsed(rt)?)
 }
 
 // Prints the ratio of data, asked for at one end, taken by the other and told, to two HMACs of their packet.
@@ -70,29 +84,34 @@ fn measure_ends<R: Clock + Print + AllocGlobal>(
     size: usize,
     messages: usize,
 ) -> anyhow::Result<()> {
+    let mut ends = ToyEnds::new(rt.alloc())?;
+    ends.begin()?;
+    let ratio = data_ratio(rt, &mut ends, rounds, size, messages)?;
+    println!(rt;
+        "{} bytes of data through both ends, to two HMACs of the packet: {ratio}",
+        told(&ends)
+    )?;
+    Ok(())
+}
+
+fn data_ratio<R: Clock>(
+    rt: &R,
+    ends: &mut ToyEnds,
+    rounds: u32,
+    size: usize,
+    messages: usize,
+) -> anyhow::Result<Ratio> {
     let bytes = [0x61; 32_800];
     let body = bytes.get(..size).unwrap_or(&[]);
     let packet = bytes.get(..text_of_data(size)).unwrap_or(&[]);
-    let mut ends = ToyEnds::new(rt.alloc())?;
-    ends.begin()?;
     let mut hashes = Hashes::new();
     let mut data = Duration::MAX;
     let mut hmacs = Duration::MAX;
     for _ in 0..rounds {
-        data = data.min(time_data(rt, &mut ends, body, messages)?);
-        let start = Instant::now(rt)?;
-        for _ in 0..messages {
-            hashes.mac(packet);
-            hashes.mac(packet);
-        }
-        hmacs = hmacs.min(start.elapsed(rt)?);
+        data = data.min(time_data(rt, ends, body, messages)?);
+        hmacs = hmacs.min(time_hmacs(rt, &mut hashes, packet, messages)?);
     }
-    println!(rt;
-        "{} bytes of data through both ends, to two HMACs of the packet: {}",
-        told(&ends),
-        Ratio(data, hmacs)
-    )?;
-    Ok(())
+    Ok(Ratio(data, hmacs))
 }
 
 // The client sends data, the server takes them, and its user is told.
@@ -138,17 +157,35 @@ fn time_data<R: Clock>(
     Ok(start.elapsed(rt)?)
 }
 
+// That of two HMACs of the packet of each.
+fn time_hmacs<R: Clock>(
+    rt: &R,
+    hashes: &mut Hashes,
+    packet: &[u8],
+    messages: usize,
+) -> anyhow::Result<Duration> {
+    let start = Instant::now(rt)?;
+    for _ in 0..messages {
+        hashes.mac(packet);
+        hashes.mac(packet);
+    }
+    Ok(start.elapsed(rt)?)
+}
+
+// The time of so many messages of 64 bytes between two ends of their own.
+fn time_small<R: Clock + AllocGlobal>(rt: &R, messages: usize) -> anyhow::Result<Duration> {
+    let mut ends = ToyEnds::new(rt.alloc())?;
+    ends.begin()?;
+    time_data(rt, &mut ends, &[0x61; 64], messages)
+}
+
 // Prints what a message costs among many, as a ratio to one among few.
 fn measure_many<R: Clock + Print + AllocGlobal>(rt: &R) -> anyhow::Result<()> {
     let mut few = Duration::ZERO;
     for _ in 0..TIMES {
-        let mut ends = ToyEnds::new(rt.alloc())?;
-        ends.begin()?;
-        few = few.saturating_add(time_data(rt, &mut ends, &[0x61; 64], FEW)?);
+        few = few.saturating_add(time_small(rt, FEW)?);
     }
-    let mut ends = ToyEnds::new(rt.alloc())?;
-    ends.begin()?;
-    let many = time_data(rt, &mut ends, &[0x61; 64], FEW * TIMES)?;
+    let many = time_small(rt, FEW * TIMES)?;
     println!(rt;
         "a message among {} to one among {}: {}",
         FEW * TIMES,

@@ -81,29 +81,41 @@ fn time_hashes<R: Clock>(rt: &R, hashes: &mut Hashes, is_later: bool) -> anyhow:
 
 // Prints the ratio of 32 KiB of data, sent and taken, to two HMACs of its packet.
 fn measure_data<R: Clock + Print + AllocGlobal>(rt: &R, rounds: u32) -> anyhow::Result<()> {
-    let body = [0x61; 32_768];
-    let packet = [0x61; 32_796];
     let mut session = Session::new(rt.alloc())?;
     session.exchange()?;
+    let ratio = data_ratio(rt, &mut session, rounds)?;
+    println!(rt; "32 KiB of data sent and taken, to two HMACs of the packet: {ratio}")?;
+    Ok(())
+}
+
+fn data_ratio<R: Clock>(rt: &R, session: &mut Session, rounds: u32) -> anyhow::Result<Ratio> {
     let mut hashes = Hashes::new();
     let mut data = Duration::MAX;
     let mut hmacs = Duration::MAX;
     for _ in 0..rounds {
-        let start = Instant::now(rt)?;
-        for _ in 0..MESSAGES {
-            session.data(&body)?;
-        }
-        data = data.min(start.elapsed(rt)?);
-        let start = Instant::now(rt)?;
-        for _ in 0..MESSAGES {
-            hashes.mac(&packet);
-            hashes.mac(&packet);
-        }
-        hmacs = hmacs.min(start.elapsed(rt)?);
+        data = data.min(time_data(rt, session)?);
+        hmacs = hmacs.min(time_hmacs(rt, &mut hashes)?);
     }
-    println!(rt;
-        "32 KiB of data sent and taken, to two HMACs of the packet: {}",
-        Ratio(data, hmacs)
-    )?;
-    Ok(())
+    Ok(Ratio(data, hmacs))
+}
+
+// The time of so many messages with 32 KiB of data.
+fn time_data<R: Clock>(rt: &R, session: &mut Session) -> anyhow::Result<Duration> {
+    let body = [0x61; 32_768];
+    let start = Instant::now(rt)?;
+    for _ in 0..MESSAGES {
+        session.data(&body)?;
+    }
+    Ok(start.elapsed(rt)?)
+}
+
+// That of two HMACs of the packet of each.
+fn time_hmacs<R: Clock>(rt: &R, hashes: &mut Hashes) -> anyhow::Result<Duration> {
+    let packet = [0x61; 32_796];
+    let start = Instant::now(rt)?;
+    for _ in 0..MESSAGES {
+        hashes.mac(&packet);
+        hashes.mac(&packet);
+    }
+    Ok(start.elapsed(rt)?)
 }

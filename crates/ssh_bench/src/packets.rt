@@ -1,6 +1,6 @@
 //! Times sealing and opening packets under `MacOnly` against the bare HMAC-SHA-256 of the same bytes.
 
-ghost use Rattle.std.specs.Prelude.{◌≤◌};
+ghost use Rattle.std.specs.Prelude.{◌≤◌, length};
 
 use crate::ratio::Ratio;
 use case::Case;
@@ -34,22 +34,41 @@ fn measure_size<R: Clock + Print + AllocGlobal>(rt: &R, size: usize, rounds: u32
     let payload = vec![in rt.alloc(); 0x61; size]?;
     let mut case = Case::new(rt.alloc(), &payload)?;
     let count = BYTES / size + 1;
+    let times = fastest(rt, &mut case, &payload, count, rounds)?;
+    print(rt, size, times)
+}
+
+// The shortest times of this payload and packet, each taken so often at once, in so many rounds.
+fn fastest<R: Clock>(
+    rt: &R,
+    case: &mut Case,
+    payload: &[u8],
+    count: usize,
+    rounds: u32,
+) -> io::Result<Times>
+    requires from { 1 ≤ length payload.now }
+    requires to { length payload.now ≤ 34000 }
+{
     let mut fastest = Times::longest();
     for _ in 0..rounds {
         let times = Times {
-            seal: case.seal(rt, &payload, count)?,
+            seal: case.seal(rt, payload, count)?,
             open: case.open(rt, count)?,
             kept: case.kept(rt, count)?,
             anew: case.anew(rt, count)?,
         };
         fastest = fastest.faster(times);
     }
+    Ok(fastest)
+}
+
+fn print<R: Print>(rt: &R, size: usize, times: Times) -> io::Result<()> {
     let Times {
         seal,
         open,
         kept,
         anew,
-    } = fastest;
+    } = times;
     println!(rt; "payload of {size} bytes")?;
     println!(rt;
         "  to a key with kept states: sealing {}, opening {}",

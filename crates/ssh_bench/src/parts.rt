@@ -1,6 +1,6 @@
 //! Times sealing and opening packets under `AesGcm`, an agreement by X25519, and signatures by Ed25519, against HMAC-SHA-256.
 
-ghost use Rattle.std.specs.Prelude.{◌≤◌};
+ghost use Rattle.std.specs.Prelude.{◌≤◌, length};
 
 use crate::ratio::Ratio;
 use case::Case;
@@ -15,6 +15,9 @@ const BYTES: usize = 262_144;
 
 // How many agreements, signatures and verifications are.
 const CALLS: usize = 8;
+
+// What their HMAC is of.
+const PAYLOAD: [u8; 1024] = [0x61; 1024];
 
 /// Prints the ratios at payloads of three sizes, of an agreement, and of signatures.
 ///
@@ -38,52 +41,66 @@ fn measure_size<R: Clock + Print + AllocGlobal>(rt: &R, size: usize, rounds: u32
     let payload = vec![in rt.alloc(); 0x61; size]?;
     let mut case = Case::new(rt.alloc(), &payload)?;
     let count = BYTES / size + 1;
+    let (sealing, opening) = packet_ratios(rt, &mut case, &payload, count, rounds)?;
+    println!(rt; "payload of {size} bytes, to the HMAC of it: sealing {sealing}, opening {opening}")
+}
+
+// The ratios of sealing and opening to the HMAC, each taken so often at once.
+fn packet_ratios<R: Clock>(
+    rt: &R,
+    case: &mut Case,
+    payload: &[u8],
+    count: usize,
+    rounds: u32,
+) -> io::Result<(Ratio, Ratio)>
+    requires from { 1 ≤ length payload.now }
+    requires to { length payload.now ≤ 34000 }
+{
     let mut seal = Duration::MAX;
     let mut open = Duration::MAX;
     let mut hmac = Duration::MAX;
     for _ in 0..rounds {
-        seal = seal.min(case.seal(rt, &payload, count)?);
+        seal = seal.min(case.seal(rt, payload, count)?);
         open = open.min(case.open(rt, count)?);
-        hmac = hmac.min(case.hmac(rt, &payload, count)?);
+        hmac = hmac.min(case.hmac(rt, payload, count)?);
     }
-    println!(rt;
-        "payload of {size} bytes, to the HMAC of it: sealing {}, opening {}",
-        Ratio(seal, hmac),
-        Ratio(open, hmac)
-    )
+    Ok((Ratio(seal, hmac), Ratio(open, hmac)))
 }
 
 // Prints the ratio of an agreement to the HMAC of 1 KiB.
 fn measure_agreement<R: Clock + Print + AllocGlobal>(rt: &R, rounds: u32) -> io::Result<()> {
-    let payload = [0x61; 1024];
-    let mut case = Case::new(rt.alloc(), &payload)?;
+    let mut case = Case::new(rt.alloc(), &PAYLOAD)?;
+    let ratio = agreement_ratio(rt, &mut case, rounds)?;
+    println!(rt; "an agreement by X25519, to the HMAC of 1024 bytes: {ratio}")
+}
+
+fn agreement_ratio<R: Clock>(rt: &R, case: &mut Case, rounds: u32) -> io::Result<Ratio> {
     let mut shared = Duration::MAX;
     let mut hmac = Duration::MAX;
     for _ in 0..rounds {
         shared = shared.min(case.share(rt, CALLS)?);
-        hmac = hmac.min(case.hmac(rt, &payload, CALLS)?);
+        hmac = hmac.min(case.hmac(rt, &PAYLOAD, CALLS)?);
     }
-    println!(rt;
-        "an agreement by X25519, to the HMAC of 1024 bytes: {}",
-        Ratio(shared, hmac)
-    )
+    Ok(Ratio(shared, hmac))
 }
 
 // Prints the ratios of a signature and of its verification to the HMAC of 1 KiB.
 fn measure_signatures<R: Clock + Print + AllocGlobal>(rt: &R, rounds: u32) -> io::Result<()> {
-    let payload = [0x61; 1024];
-    let mut case = Case::new(rt.alloc(), &payload)?;
+    let mut case = Case::new(rt.alloc(), &PAYLOAD)?;
+    let (signing, verifying) = signature_ratios(rt, &mut case, rounds)?;
+    println!(rt;
+        "Ed25519, to the HMAC of 1024 bytes: a signature {signing}, its verification {verifying}"
+    )
+}
+
+fn signature_ratios<R: Clock>(rt: &R, case: &mut Case, rounds: u32) -> io::Result<(Ratio, Ratio)> {
     let mut signed = Duration::MAX;
     let mut verified = Duration::MAX;
     let mut hmac = Duration::MAX;
     for _ in 0..rounds {
         signed = signed.min(case.sign(rt, CALLS)?);
         verified = verified.min(case.verify(rt, CALLS)?);
-        hmac = hmac.min(case.hmac(rt, &payload, CALLS)?);
+        hmac = hmac.min(case.hmac(rt, &PAYLOAD, CALLS)?);
     }
-    println!(rt;
-        "Ed25519, to the HMAC of 1024 bytes: a signature {}, its verification {}",
-        Ratio(signed, hmac),
-        Ratio(verified, hmac)
-    )
+    Ok((Ratio(signed, hmac), Ratio(verified, hmac)))
 }
