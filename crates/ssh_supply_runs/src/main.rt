@@ -8,7 +8,7 @@ mod counted;
 mod line;
 mod parts;
 
-use divrelca::{AcceptedKey, Ask, Ed25519Signer, Ed25519Trust, UserAsk};
+use divrelca::{AcceptedKey, Ask, Ed25519Signer, Ed25519Trust, End, UserAsk};
 use line::{Line, Seen, ask, take_all};
 use parts::{client_end, server_end};
 use std::alloc::Global;
@@ -48,17 +48,41 @@ fn play(alloc: Global, client: &mut Line, server: &mut Line) -> anyhow::Result<(
         (Some(Ask::Rekey), None),
         (None, None),
     ];
-    for (of_server, of_client) in &asks {
-        for _ in 0..3 {
-            take_all(alloc, &mut at_server, server, client)?;
-            take_all(alloc, &mut at_client, client, server)?;
-        }
-        if let Some(of_server) = of_server {
-            ask(&mut at_server, server, of_server)?;
-        }
-        if let Some(of_client) = of_client {
-            ask(&mut at_client, client, of_client)?;
-        }
+    for asks in &asks {
+        pass(alloc, &mut at_client, client, &mut at_server, server)?;
+        ask_both(&mut at_client, client, &mut at_server, server, asks)?;
+    }
+    Ok(())
+}
+
+// Both ends take what the other put out, until there is nothing more.
+fn pass<C: End, S: End>(
+    alloc: Global,
+    at_client: &mut C,
+    client: &mut Line,
+    at_server: &mut S,
+    server: &mut Line,
+) -> anyhow::Result<()> {
+    for _ in 0..3 {
+        take_all(alloc, at_server, server, client)?;
+        take_all(alloc, at_client, client, server)?;
+    }
+    Ok(())
+}
+
+// The server is asked for the first of these, and the client for the second.
+fn ask_both<C: End, S: End>(
+    at_client: &mut C,
+    client: &mut Line,
+    at_server: &mut S,
+    server: &mut Line,
+    (of_server, of_client): &(Option<Ask<'_>>, Option<Ask<'_>>),
+) -> anyhow::Result<()> {
+    if let Some(of_server) = of_server {
+        ask(at_server, server, of_server)?;
+    }
+    if let Some(of_client) = of_client {
+        ask(at_client, client, of_client)?;
     }
     Ok(())
 }
