@@ -69,15 +69,25 @@ const LONG: &[Stretch] = &[First, Service, Authentication, Feeds, Second, Behind
 #[test]
 fn sessions_byte_for_byte(rt: HostRuntime) -> Result<(), Fail> {
     for is_dripped in [false, true] {
-        let mut pair = Pair::strict(rt.alloc())?;
-        same!(rt, pair.differs(SHORT, is_dripped)?, None);
-        same!(rt, pair.party(Client).out().len(), 579);
-        same!(rt, pair.party(Server).out().len(), 523);
-        let mut pair = Pair::strict(rt.alloc())?;
-        same!(rt, pair.differs(LONG, is_dripped)?, None);
-        assert!(rt; has_put_out(rt.alloc(), pair.party(Client), FROM_CLIENT)?);
-        assert!(rt; has_put_out(rt.alloc(), pair.party(Server), FROM_SERVER)?);
+        short_session(&rt, is_dripped)?;
+        long_session(&rt, is_dripped)?;
     }
+    Ok(())
+}
+
+fn short_session(rt: &(impl Abort + AllocGlobal), is_dripped: bool) -> Result<(), Fail> {
+    let mut pair = Pair::strict(rt.alloc())?;
+    same!(rt, pair.differs(SHORT, is_dripped)?, None);
+    same!(rt, pair.party(Client).out().len(), 579);
+    same!(rt, pair.party(Server).out().len(), 523);
+    Ok(())
+}
+
+fn long_session(rt: &(impl Abort + AllocGlobal), is_dripped: bool) -> Result<(), Fail> {
+    let mut pair = Pair::strict(rt.alloc())?;
+    same!(rt, pair.differs(LONG, is_dripped)?, None);
+    assert!(rt; has_put_out(rt.alloc(), pair.party(Client), FROM_CLIENT)?);
+    assert!(rt; has_put_out(rt.alloc(), pair.party(Server), FROM_SERVER)?);
     Ok(())
 }
 
