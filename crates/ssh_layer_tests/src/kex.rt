@@ -21,7 +21,7 @@ fn lists_of(payload: &[u8]) -> Result<KexLists<'_>, BadMessage> {
 
 fn check_keys(rt: &impl Abort, at: usize, exchange: &Recorded) {
     let [a, b, c, d, e, f] = exchange.keys;
-    let table = [
+    let table = &[
         (Letter::A, a),
         (Letter::B, b),
         (Letter::C, c),
@@ -29,7 +29,7 @@ fn check_keys(rt: &impl Abort, at: usize, exchange: &Recorded) {
         (Letter::E, e),
         (Letter::F, f),
     ];
-    for (letter, key) in table {
+    for &(letter, key) in table {
         assert!(rt; exchange.inputs.fits());
         let mut room = [0; 32];
         let length = key.len().min(32);
@@ -44,7 +44,7 @@ fn check_choice(rt: &impl Abort, at: usize, exchange: &Recorded) -> Result<(), F
     let client = lists_of(exchange.inputs.client_init)?;
     let server = lists_of(exchange.inputs.server_init)?;
     let choice = choose(&client, &server)?;
-    let table: [(&str, &[u8], &[u8]); 8] = [
+    let table: &[(&str, &[u8], &[u8])] = &[
         ("kex", choice.kex.as_bytes(), b"curve25519-sha256"),
         ("host", choice.host.as_bytes(), b"ssh-ed25519"),
         ("enc_cs", choice.enc_cs.as_bytes(), exchange.encryption),
@@ -54,7 +54,7 @@ fn check_choice(rt: &impl Abort, at: usize, exchange: &Recorded) -> Result<(), F
         ("comp_cs", choice.comp_cs.as_bytes(), b"none"),
         ("comp_sc", choice.comp_sc.as_bytes(), b"none"),
     ];
-    for (list, found, wanted) in table {
+    for &(list, found, wanted) in table {
         same_at(rt, (at, list), found, wanted);
     }
     Ok(())
@@ -141,13 +141,13 @@ fn the_first_name_of_the_client_is_chosen(rt: HostRuntime) -> Result<(), Fail> {
 #[test]
 fn the_first_kind_without_a_common_name_is_refused(rt: HostRuntime) -> Result<(), Fail> {
     let client = lists(b"a,kex-strict-s-v00@openssh.com", b"a", b"a").ok_or("no names")?;
-    let table: [(&[u8], &[u8], &[u8], Kind); 4] = [
+    let table: &[(&[u8], &[u8], &[u8], Kind)] = &[
         (b"kex-strict-s-v00@openssh.com", b"b", b"b", Kind::Kex),
         (b"", b"b", b"b", Kind::Kex),
         (b"b,a", b"b", b"b", Kind::HostKey),
         (b"b,a", b"b,a", b"b", Kind::EncCs),
     ];
-    for (kex, host, enc, kind) in table {
+    for &(kex, host, enc, kind) in table {
         let server = lists(kex, host, enc).ok_or("no names")?;
         let refusal = choose(&client, &server).err();
         same!(rt, refusal, Some(NoCommon { kind }));
@@ -159,7 +159,7 @@ fn the_first_kind_without_a_common_name_is_refused(rt: HostRuntime) -> Result<()
 fn guesses_are_judged_without_the_markers(rt: HostRuntime) -> Result<(), Fail> {
     let kex = b"curve25519-sha256,kex-strict-c-v00@openssh.com";
     let client = lists(kex, b"h", b"a").ok_or("no names")?;
-    let table: [(&[u8], &[u8], bool); 4] = [
+    let table: &[(&[u8], &[u8], bool)] = &[
         (
             b"kex-strict-s-v00@openssh.com,curve25519-sha256",
             b"h",
@@ -169,7 +169,7 @@ fn guesses_are_judged_without_the_markers(rt: HostRuntime) -> Result<(), Fail> {
         (b"k,curve25519-sha256", b"h", true),
         (b"kex-strict-s-v00@openssh.com", b"h", true),
     ];
-    for (kex, host, wrong) in table {
+    for &(kex, host, wrong) in table {
         let server = lists(kex, host, b"a").ok_or("no names")?;
         same!(rt, guess_wrong(&client, &server), wrong);
     }

@@ -7,7 +7,7 @@ use std::test::*;
 // A message shows its number and its name, a method its name, and neither shows a user, a password or a key.
 #[test]
 fn debugged_messages(rt: HostRuntime) -> Result<(), Fail> {
-    let methods = [
+    let methods = &[
         (Method::None, "none"),
         (
             Method::Password {
@@ -32,7 +32,7 @@ fn debugged_messages(rt: HostRuntime) -> Result<(), Fail> {
             "other",
         ),
     ];
-    for (method, name) in methods {
+    for &(method, name) in methods {
         same!(rt, format!(in rt.alloc(); "{method:?}")?.as_str(), name);
         let request = Message::UserauthRequest {
             user: b"me",

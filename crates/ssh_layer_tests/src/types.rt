@@ -49,7 +49,7 @@ fn a_refused_reader_is_unchanged(rt: HostRuntime) {
 // The numbers of RFC 4251 section 5, and two more.
 #[test]
 fn whole_numbers_are_read(rt: HostRuntime) -> Result<(), Fail> {
-    let table: [(&[u8], bool, &[u8]); 7] = [
+    let table: &[(&[u8], bool, &[u8])] = &[
         (b"\x00\x00\x00\x00", false, b""),
         (
             b"\x00\x00\x00\x08\x09\xa3\x78\xf9\xb2\xe3\x32\xa7",
@@ -66,7 +66,7 @@ fn whole_numbers_are_read(rt: HostRuntime) -> Result<(), Fail> {
         (b"\x00\x00\x00\x01\x7f", false, b"\x7f"),
         (b"\x00\x00\x00\x02\xff\x7f", false, b"\xff\x7f"),
     ];
-    for (bytes, marked, digits) in table {
+    for &(bytes, marked, digits) in table {
         let mut reader = Reader::new(bytes);
         let number = reader.mpint()?;
         same_at(&rt, bytes, number.parts(), (marked, digits));
@@ -80,7 +80,7 @@ fn whole_numbers_are_read(rt: HostRuntime) -> Result<(), Fail> {
 
 #[test]
 fn whole_numbers_are_refused(rt: HostRuntime) {
-    let table: [(&[u8], ReadRefusal); 7] = [
+    let table: &[(&[u8], ReadRefusal)] = &[
         (b"\x00\x00\x00\x03\x00\x00\x80", ReadRefusal::NotCanonical),
         (b"\x00\x00\x00\x01\x00", ReadRefusal::NotCanonical),
         (b"\x00\x00\x00\x02\xff\x80", ReadRefusal::NotCanonical),
@@ -89,7 +89,7 @@ fn whole_numbers_are_refused(rt: HostRuntime) {
         (b"\x00\x00\x00\x03\x00", ReadRefusal::Short),
         (b"\x00\x00\x00\x02\x00", ReadRefusal::Short),
     ];
-    for (bytes, refusal) in table {
+    for &(bytes, refusal) in table {
         let mut reader = Reader::new(bytes);
         same_at(&rt, bytes, reader.mpint(), Err(refusal));
         same!(rt, reader.rest(), bytes);
@@ -106,8 +106,8 @@ fn unsigned_bytes_are_written_in_the_shortest_way(rt: HostRuntime) -> Result<(),
     high[0] = 0x80;
     let mut marked = [0u8; 37];
     marked[..6].copy_from_slice(&[0, 0, 0, 0x21, 0, 0x80]);
-    let table: [([u8; 32], &[u8]); 3] = [(low, &short), (high, &marked), ([0; 32], &[0; 4])];
-    for (secret, wanted) in table {
+    let table: &[([u8; 32], &[u8])] = &[(low, &short), (high, &marked), ([0; 32], &[0; 4])];
+    for &(secret, wanted) in table {
         let number = MpInt::from_unsigned(&secret);
         let mut out = Vec::new(rt.alloc());
         out.put_mpint(&number)?;
@@ -130,14 +130,14 @@ fn unsigned_bytes_are_written_in_the_shortest_way(rt: HostRuntime) -> Result<(),
 fn names_are_read(rt: HostRuntime) -> Result<(), Fail> {
     let mut long = [b'x'; 68];
     long[..4].copy_from_slice(&[0, 0, 0, 64]);
-    let table: [(&[u8], usize); 5] = [
+    let table: &[(&[u8], usize)] = &[
         (b"\x00\x00\x00\x00", 0),
         (b"\x00\x00\x00\x04zlib", 1),
         (b"\x00\x00\x00\x09zlib,none", 2),
         (b"\x00\x00\x00\x10a,!~,zlib@openss", 3),
         (&long, 1),
     ];
-    for (bytes, count) in table {
+    for &(bytes, count) in table {
         let mut reader = Reader::new(bytes);
         let list = reader.names()?;
         same!(rt, reader.end(), Ok(()));
@@ -154,7 +154,7 @@ fn names_are_read(rt: HostRuntime) -> Result<(), Fail> {
 fn names_are_refused(rt: HostRuntime) {
     let mut long = [b'x'; 69];
     long[..4].copy_from_slice(&[0, 0, 0, 65]);
-    let table: [(&[u8], ReadRefusal); 9] = [
+    let table: &[(&[u8], ReadRefusal)] = &[
         (b"\x00\x00\x00\x04a,,b", ReadRefusal::BadNames),
         (b"\x00\x00\x00\x01,", ReadRefusal::BadNames),
         (b"\x00\x00\x00\x02a,", ReadRefusal::BadNames),
@@ -165,7 +165,7 @@ fn names_are_refused(rt: HostRuntime) {
         (&long, ReadRefusal::BadNames),
         (b"\x00\x00\x00\x04a,b", ReadRefusal::Short),
     ];
-    for (bytes, refusal) in table {
+    for &(bytes, refusal) in table {
         let mut reader = Reader::new(bytes);
         same_at(&rt, bytes, reader.names(), Err(refusal));
         same!(rt, reader.rest(), bytes);
@@ -196,7 +196,7 @@ fn names_of_a_text(rt: HostRuntime) -> Result<(), Fail> {
 
 #[test]
 fn refusals(rt: HostRuntime) -> Result<(), Fail> {
-    let table = [
+    let table = &[
         (ReadRefusal::Short, 1, "Short", "the bytes end too early"),
         (
             ReadRefusal::BadNames,
@@ -212,7 +212,7 @@ fn refusals(rt: HostRuntime) -> Result<(), Fail> {
         ),
         (ReadRefusal::LeftOver, 4, "LeftOver", "bytes are left over"),
     ];
-    for (refusal, number, name, text) in table {
+    for &(refusal, number, name, text) in table {
         same!(rt, refusal.number(), number);
         same!(rt, refusal.name(), name);
         same!(rt, format!(in rt.alloc(); "{refusal}")?.as_str(), text);
@@ -225,7 +225,7 @@ fn refusals(rt: HostRuntime) -> Result<(), Fail> {
 fn sides_and_refusals(rt: HostRuntime) {
     same!(rt, Side::Client.peer(), Side::Server);
     same!(rt, Side::Server.peer(), Side::Client);
-    let table = [
+    let table = &[
         (Refusal::BadLine, 1, "BadLine", None),
         (Refusal::BadTag, 5, "BadTag", Some(5)),
         (Refusal::Unexpected, 7, "Unexpected", Some(2)),
@@ -235,7 +235,7 @@ fn sides_and_refusals(rt: HostRuntime) {
         (Refusal::TooManyTries, 15, "TooManyTries", Some(14)),
         (Refusal::OwedFull, 19, "OwedFull", Some(2)),
     ];
-    for (refusal, number, name, code) in table {
+    for &(refusal, number, name, code) in table {
         same!(rt, refusal.number(), number);
         same!(rt, refusal.name(), name);
         same!(rt, refusal.code(), code);

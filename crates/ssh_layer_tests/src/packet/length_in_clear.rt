@@ -60,7 +60,7 @@ fn packets_are_sealed_and_opened(rt: HostRuntime) -> Result<(), Fail> {
 #[test]
 fn lengths_are_judged(rt: HostRuntime) -> Result<(), Fail> {
     let bad_length = ReadStep::Refused(PacketRefusal::BadLength);
-    let table: [(&[u8], ReadStep); 6] = [
+    let table: &[(&[u8], ReadStep)] = &[
         (b"\0\0\0\x08", ReadStep::More),
         (b"\0\0\0\x0c", bad_length),
         (b"\0\0\0\x00", bad_length),
@@ -69,7 +69,7 @@ fn lengths_are_judged(rt: HostRuntime) -> Result<(), Fail> {
         (b"\0\0\x88\x98", bad_length),
     ];
     let key = HmacKey::new(&[1; 32]);
-    for (bytes, step) in table {
+    for &(bytes, step) in table {
         let mut reader = PacketReader::new(rt.alloc())?;
         same_at(
             &rt,

@@ -16,7 +16,7 @@ fn version<'a>(protoversion: &'a [u8], software: &'a [u8]) -> LineStep<'a> {
 fn first_lines(rt: HostRuntime) {
     let bad_line = LineStep::Refused(LineRefusal::BadLine);
     let bad_version = LineStep::Refused(LineRefusal::BadVersion);
-    let table: [(bool, &[u8], usize, LineStep); 24] = [
+    let table: &[(bool, &[u8], usize, LineStep)] = &[
         (false, b"SSH-2.0-x\r\n", 11, version(b"2.0", b"x")),
         (true, b"SSH-2.0-x\r\n", 11, version(b"2.0", b"x")),
         (false, b"SSH-2.0-x\r\nmore", 11, version(b"2.0", b"x")),
@@ -47,7 +47,7 @@ fn first_lines(rt: HostRuntime) {
         (true, b"SSH-2.0-x\r", 10, LineStep::More),
         (true, b"", 0, LineStep::More),
     ];
-    for (from_server, bytes, used, step) in table {
+    for &(from_server, bytes, used, step) in table {
         let mut reader = LineReader::new(from_server);
         same!(rt, reader.take(bytes), (used, step));
     }
@@ -56,7 +56,7 @@ fn first_lines(rt: HostRuntime) {
 // The version lines of an OpenSSH server and client, a Dropbear server and a PuTTY client, as they were recorded.
 #[test]
 fn recorded_lines(rt: HostRuntime) {
-    let table: [(bool, &[u8], &[u8]); 4] = [
+    let table: &[(bool, &[u8], &[u8])] = &[
         (
             true,
             b"SSH-2.0-OpenSSH_9.2p1 Debian-2+deb12u10\r\n",
@@ -74,7 +74,7 @@ fn recorded_lines(rt: HostRuntime) {
             b"PuTTY_Release_0.78",
         ),
     ];
-    for (from_server, bytes, software) in table {
+    for &(from_server, bytes, software) in table {
         let mut reader = LineReader::new(from_server);
         same!(
             rt,
@@ -135,14 +135,14 @@ fn other_lines(rt: HostRuntime) {
 fn byte_by_byte(rt: HostRuntime) {
     let bad_line = LineStep::Refused(LineRefusal::BadLine);
     let bad_version = LineStep::Refused(LineRefusal::BadVersion);
-    let table: [(&[u8], u8, LineStep); 5] = [
+    let table: &[(&[u8], u8, LineStep)] = &[
         (b"SSH-2.0-x y\r", b'\n', version(b"2.0", b"x y")),
         (b"SSH-2.0-x y", b'\n', bad_line),
         (b"SSH-2.0-x y\r", b'x', bad_line),
         (b"SSH-1.99-x\r", b'\n', bad_version),
         (b"hello\r", b'\n', bad_line),
     ];
-    for (bytes, last, step) in table {
+    for &(bytes, last, step) in table {
         let mut reader = LineReader::new(false);
         for byte in bytes {
             same!(rt, reader.take(&[*byte]), (1, LineStep::More));

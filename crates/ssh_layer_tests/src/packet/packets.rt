@@ -32,7 +32,7 @@ fn packet_of(
 
 #[test]
 fn packets_in_clear(rt: HostRuntime) -> Result<(), Fail> {
-    let table: [(&[u8], u8, &[u8]); 4] = [
+    let table: &[(&[u8], u8, &[u8])] = &[
         (b"\x15", 0, b"\0\0\0\x0c\x0a\x15\0\0\0\0\0\0\0\0\0\0"),
         (
             b"\x15",
@@ -46,7 +46,7 @@ fn packets_in_clear(rt: HostRuntime) -> Result<(), Fail> {
             b"\0\0\0\x14\x0beight by\0\0\0\0\0\0\0\0\0\0\0",
         ),
     ];
-    for (payload, padding, wire) in table {
+    for &(payload, padding, wire) in table {
         let out = packet_of(&rt, payload, None, 0, padding)?;
         same!(rt, out.as_slice(), wire);
         let mut reader = PacketReader::new(rt.alloc())?;
@@ -66,7 +66,7 @@ fn packets_in_clear(rt: HostRuntime) -> Result<(), Fail> {
 fn length_and_padding_are_judged(rt: HostRuntime) -> Result<(), Fail> {
     let bad_length = ReadStep::Refused(PacketRefusal::BadLength);
     let bad_padding = ReadStep::Refused(PacketRefusal::BadPadding);
-    let table: [(bool, &[u8], usize, ReadStep, usize); 13] = [
+    let table: &[(bool, &[u8], usize, ReadStep, usize)] = &[
         (false, b"\0\0\0", 3, ReadStep::More, 3),
         (false, b"\0\0\0\x0b", 4, bad_length, 0),
         (false, b"\0\0\0\x0b\x04", 4, bad_length, 0),
@@ -88,7 +88,7 @@ fn length_and_padding_are_judged(rt: HostRuntime) -> Result<(), Fail> {
         ),
     ];
     let key = HmacKey::new(&[1; 32]);
-    for (sealed, bytes, used, step, held) in table {
+    for &(sealed, bytes, used, step, held) in table {
         let mut reader = PacketReader::new(rt.alloc())?;
         let under = if sealed { Some(&key) } else { None };
         same_at(

@@ -7,7 +7,7 @@ use std::test::Fail;
 
 #[test]
 fn refusals_of_packets(rt: HostRuntime) -> Result<(), Fail> {
-    let table = [
+    let table = &[
         (
             PacketRefusal::BadLength,
             Refusal::BadLength,
@@ -24,7 +24,7 @@ fn refusals_of_packets(rt: HostRuntime) -> Result<(), Fail> {
             "the tag of a packet is wrong",
         ),
     ];
-    for (refusal, of_peer, text) in table {
+    for &(refusal, of_peer, text) in table {
         same!(rt, Refusal::from(refusal), of_peer);
         same!(rt, format!(in rt.alloc(); "{refusal}")?.as_str(), text);
     }
@@ -33,7 +33,7 @@ fn refusals_of_packets(rt: HostRuntime) -> Result<(), Fail> {
 
 #[test]
 fn refusals_of_lines(rt: HostRuntime) -> Result<(), Fail> {
-    let table = [
+    let table = &[
         (
             LineRefusal::BadLine,
             Refusal::BadLine,
@@ -45,7 +45,7 @@ fn refusals_of_lines(rt: HostRuntime) -> Result<(), Fail> {
             "the version of the protocol is not 2.0",
         ),
     ];
-    for (refusal, of_peer, text) in table {
+    for &(refusal, of_peer, text) in table {
         same!(rt, Refusal::from(refusal), of_peer);
         same!(rt, format!(in rt.alloc(); "{refusal}")?.as_str(), text);
     }

@@ -7,7 +7,7 @@ use std::test::Fail;
 // RFC 4231, test cases 1, 2 and 6.
 #[test]
 fn published_tags(rt: HostRuntime) {
-    let table: [(&[u8], &[u8], [u8; 32]); 3] = [
+    let table: &[(&[u8], &[u8], [u8; 32])] = &[
         (
             &[0x0b; 20],
             b"Hi There",
@@ -27,7 +27,7 @@ fn published_tags(rt: HostRuntime) {
           \x8e\x0b\xc6\x21\x37\x28\xc5\x14\x05\x46\x04\x0f\x0e\xe3\x7f\x54",
         ),
     ];
-    for (key, text, tag) in table {
+    for &(key, text, tag) in table {
         same_at(&rt, ("of", text), HmacKey::new(key).mac(text), tag);
     }
 }
