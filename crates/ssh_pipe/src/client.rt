@@ -9,12 +9,13 @@ use crate::error::PipeError;
 use crate::login::Login;
 use crate::machine::Machine;
 use crate::parts::{METHODS, PipeClient, config};
-use desk::Desk;
+use crate::station::Station;
+use desk::ClientDesk;
 pub use request::{Request, RequestKind};
 use ssh_end::ClientEnd;
 use ssh_parts::{Curve25519, Ed25519Trust};
 use ssh_pipe_log::Watched;
-use ssh_pipe_policy::{End, KeySupply, Policy, UserKey};
+use ssh_pipe_policy::{KeySupply, Policy, UserKey};
 use ssh_transport_base::ClientPartValues;
 use std::alloc::{AllocError, Global};
 use std::random::RandomSource;
@@ -23,9 +24,7 @@ use std::random::RandomSource;
 /// output.
 #[derive(Drop)]
 pub struct Client<'a, R: RandomSource + Drop> {
-    end: Watched<ClientEnd<PipeClient, UserKey>>,
-    supply: KeySupply<R>,
-    desk: Desk<'a>,
+    station: Station<ClientEnd<PipeClient, UserKey>, R, ClientDesk<'a>>,
 }
 
 impl<'a, R: RandomSource + Drop> Client<'a, R> {
@@ -56,9 +55,11 @@ impl<'a, R: RandomSource + Drop> Client<'a, R> {
         let config = config(alloc, policy, METHODS)?;
         let end = ClientEnd::new(alloc, config, parts, key, first.cookie, first.secret, out)?;
         Ok(Client {
-            end: Watched::new(alloc, end),
-            supply,
-            desk: Desk::new(alloc, policy.window, login, request),
+            station: Station {
+                end: Watched::new(alloc, end),
+                supply,
+                desk: ClientDesk::new(alloc, policy.window, login, request),
+            },
         })
     }
 
@@ -68,38 +69,41 @@ impl<'a, R: RandomSource + Drop> Client<'a, R> {
     ///
     /// Only `Memory`: messages are not shown.
     pub fn show_messages(&mut self) -> Result<(), PipeError> {
-        self.end.show_messages().map_err(|_| PipeError::Memory)
+        self.station
+            .end
+            .show_messages()
+            .map_err(|_| PipeError::Memory)
     }
 
     /// How the session ended, once that is known.
     pub fn take_ending(&mut self) -> Option<Ending> {
-        self.desk.ending.take()
+        self.station.desk.ending.take()
     }
 
     /// What the command wrote to its output since the last `clear_output`.
     pub fn output(&self) -> &[u8] {
-        self.desk.output.as_slice()
+        self.station.desk.output.as_slice()
     }
 
     /// What the command wrote to its error output since then.
     pub fn error_output(&self) -> &[u8] {
-        self.desk.error_output.as_slice()
+        self.station.desk.error_output.as_slice()
     }
 
     /// What the server says to the user since then (RFC 4252 section 5.4): printable US-ASCII characters and ends of lines, with `?` for
     /// all else.
     pub fn notes(&self) -> &[u8] {
-        self.desk.notes.as_slice()
+        self.station.desk.notes.as_slice()
     }
 
     /// All output is written to where it goes: the server may send as many bytes again.
     pub fn clear_output(&mut self) {
-        self.desk.clear_output();
+        self.station.desk.clear_output();
     }
 
     /// Tests whether more of the command's input can be given now.
     pub fn wants_input(&self) -> bool {
-        self.desk.wants_input()
+        self.station.desk.wants_input()
     }
 
     /// Gives bytes of the command's input; none where it has ended.
@@ -108,46 +112,28 @@ impl<'a, R: RandomSource + Drop> Client<'a, R> {
     ///
     /// Only where memory is refused: no byte is taken.
     pub fn give_input(&mut self, bytes: &[u8]) -> Result<(), AllocError> {
-        self.desk.give_input(bytes)
+        self.station.desk.give_input(bytes)
     }
 }
 
 impl<R: RandomSource + Drop> Machine for Client<'_, R> {
     fn take(&mut self, piece: &[u8], out: &mut Vec<u8>) -> Result<(), PipeError> {
-        let mut rest = piece;
-        // Each call uses a byte at least.
-        for _ in 0..piece.len() {
-            if rest.is_empty() || self.end.is_dead() {
-                break;
-            }
-            let turn = self.end.take(rest, out)?;
-            rest = rest.split_at(turn.used).1;
-            self.desk.hear(&turn)?;
-            self.go_on(out)?;
-        }
-        Ok(())
+        self.station.take(piece, out)
     }
 
     fn go_on(&mut self, out: &mut Vec<u8>) -> Result<(), PipeError> {
-        if self.end.is_dead() {
-            return Ok(());
-        }
-        self.supply.keep_fresh(&mut self.end, out)?;
-        if self.desk.work(&mut self.end, out)? {
-            self.desk.flow_on(&mut self.end, out)?;
-        }
-        Ok(())
+        self.station.go_on(out)
     }
 
     fn is_over(&self) -> bool {
-        self.end.is_dead()
+        self.station.is_over()
     }
 
     fn lines(&self) -> &[u8] {
-        self.end.lines()
+        self.station.lines()
     }
 
     fn clear_lines(&mut self) {
-        self.end.clear_lines();
+        self.station.clear_lines();
     }
 }

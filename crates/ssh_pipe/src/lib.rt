@@ -22,6 +22,7 @@ mod machine;
 mod parts;
 mod server;
 mod session;
+mod station;
 mod tasks;
 mod texts;
 

@@ -6,11 +6,12 @@ use crate::ending::Ending;
 use crate::error::PipeError;
 use crate::machine::Machine;
 use crate::parts::{METHODS, PipeServer, config};
-use desk::Desk;
+use crate::station::Station;
+use desk::ServerDesk;
 use ssh_end::ServerEnd;
 use ssh_parts::{Curve25519, Ed25519Signer};
 use ssh_pipe_log::Watched;
-use ssh_pipe_policy::{End, KeySupply, OneUser, Policy};
+use ssh_pipe_policy::{KeySupply, OneUser, Policy};
 use ssh_transport_base::ServerPartValues;
 use std::alloc::Global;
 use std::random::RandomSource;
@@ -18,9 +19,7 @@ use std::random::RandomSource;
 /// A server of SSH-2 for one connection. Bytes of the client go in, and bytes for it come out.
 #[derive(Drop)]
 pub struct Server<'a, R: RandomSource + Drop> {
-    end: Watched<ServerEnd<PipeServer, OneUser<'a>>>,
-    supply: KeySupply<R>,
-    desk: Desk,
+    station: Station<ServerEnd<PipeServer, OneUser<'a>>, R, ServerDesk>,
 }
 
 impl<'a, R: RandomSource + Drop> Server<'a, R> {
@@ -49,9 +48,11 @@ impl<'a, R: RandomSource + Drop> Server<'a, R> {
         let config = config(alloc, policy, methods_of(&user))?;
         let end = ServerEnd::new(alloc, config, parts, user, first.cookie, first.secret, out)?;
         Ok(Server {
-            end: Watched::new(alloc, end),
-            supply,
-            desk: Desk::new(alloc, policy.window),
+            station: Station {
+                end: Watched::new(alloc, end),
+                supply,
+                desk: ServerDesk::new(alloc, policy.window),
+            },
         })
     }
 
@@ -61,17 +62,20 @@ impl<'a, R: RandomSource + Drop> Server<'a, R> {
     ///
     /// Only `Memory`: messages are not shown.
     pub fn show_messages(&mut self) -> Result<(), PipeError> {
-        self.end.show_messages().map_err(|_| PipeError::Memory)
+        self.station
+            .end
+            .show_messages()
+            .map_err(|_| PipeError::Memory)
     }
 
     /// How the session ended, once that is known.
     pub fn take_ending(&mut self) -> Option<Ending> {
-        self.desk.ending.take()
+        self.station.desk.ending.take()
     }
 
     /// What it means if the client's stream ends now, where no ending is known.
     pub fn ending_left(&self) -> Ending {
-        self.desk.ending_left()
+        self.station.desk.ending_left()
     }
 }
 
@@ -86,40 +90,22 @@ fn methods_of(user: &OneUser<'_>) -> &'static [&'static [u8]] {
 
 impl<R: RandomSource + Drop> Machine for Server<'_, R> {
     fn take(&mut self, piece: &[u8], out: &mut Vec<u8>) -> Result<(), PipeError> {
-        let mut rest = piece;
-        // Each call uses a byte at least.
-        for _ in 0..piece.len() {
-            if rest.is_empty() || self.end.is_dead() {
-                break;
-            }
-            let turn = self.end.take(rest, out)?;
-            rest = rest.split_at(turn.used).1;
-            self.desk.hear(&turn)?;
-            self.go_on(out)?;
-        }
-        Ok(())
+        self.station.take(piece, out)
     }
 
     fn go_on(&mut self, out: &mut Vec<u8>) -> Result<(), PipeError> {
-        if self.end.is_dead() {
-            return Ok(());
-        }
-        self.supply.keep_fresh(&mut self.end, out)?;
-        if self.desk.work(&mut self.end, out)? {
-            self.desk.flow_on(&mut self.end, out)?;
-        }
-        Ok(())
+        self.station.go_on(out)
     }
 
     fn is_over(&self) -> bool {
-        self.end.is_dead()
+        self.station.is_over()
     }
 
     fn lines(&self) -> &[u8] {
-        self.end.lines()
+        self.station.lines()
     }
 
     fn clear_lines(&mut self) {
-        self.end.clear_lines();
+        self.station.clear_lines();
     }
 }

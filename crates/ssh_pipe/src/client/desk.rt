@@ -5,6 +5,7 @@ use super::task::{Task, ask_of};
 use crate::ending::Ending;
 use crate::flow::Flow;
 use crate::login::Login;
+use crate::station::Desk;
 use crate::tasks::Tasks;
 use crate::texts::{first_string_in, number_in};
 use divrelca::default_answer;
@@ -16,7 +17,7 @@ use std::alloc::{AllocError, Global};
 
 /// What a client keeps besides its end.
 #[derive(Drop)]
-pub(super) struct Desk<'a> {
+pub(super) struct ClientDesk<'a> {
     alloc: Global,
     // The window of the channel, in bytes.
     window: u32,
@@ -57,10 +58,15 @@ const STDERR: u32 = 1;
 // At most so many packets of data are sent at a time.
 const ROUNDS: usize = 64;
 
-impl<'a> Desk<'a> {
+impl<'a> ClientDesk<'a> {
     /// Nothing to do.
-    pub fn new(alloc: Global, window: u32, login: Login<'a>, request: Request<'a>) -> Desk<'a> {
-        Desk {
+    pub fn new(
+        alloc: Global,
+        window: u32,
+        login: Login<'a>,
+        request: Request<'a>,
+    ) -> ClientDesk<'a> {
+        ClientDesk {
             alloc,
             window,
             login,
@@ -105,37 +111,6 @@ impl<'a> Desk<'a> {
         match &mut self.flow {
             Some(flow) => flow.add(bytes),
             None => Ok(()),
-        }
-    }
-
-    /// Listens to what was told in a turn, and keeps what of it is needed.
-    ///
-    /// # Errors
-    ///
-    /// Only where memory is refused: what was told may be kept in part.
-    pub fn hear(&mut self, turn: &Turn<'_>) -> Result<(), AllocError> {
-        if let Some(refusal) = turn.refused {
-            self.ending = Some(Ending::Refused(refusal));
-        }
-        match turn.told {
-            Some(Told::Completed { position: 1 }) => self.tasks.add(Task::AskService),
-            Some(Told::Service) => self.tasks.add(Task::LogIn),
-            Some(Told::Authenticated) => self.tasks.add(Task::Open),
-            Some(Told::Failed { methods, .. }) => self.fail(&methods),
-            Some(Told::Banner { message }) => self.note(message),
-            Some(
-                Told::Disconnected {
-                    reason,
-                    description,
-                },
-            ) => {
-                if self.ending.is_none() {
-                    self.ending = Some(Ending::disconnected(self.alloc, reason, description)?);
-                }
-                Ok(())
-            }
-            Some(Told::Channel(fact)) => self.hear_of_channels(&fact),
-            _ => Ok(()),
         }
     }
 
@@ -248,34 +223,51 @@ impl<'a> Desk<'a> {
         }
         Ok(())
     }
+}
 
-    /// Does what is to be done, the oldest first, and answers whether all of it is done.
-    ///
-    /// # Errors
-    ///
-    /// - `Memory`: memory was refused, and the end is over.
-    /// - `Dead`: the end was over before.
-    pub fn work<E: End>(&mut self, end: &mut E, out: &mut Vec<u8>) -> Result<bool, Fault> {
-        for _ in 0..self.tasks.len() {
-            let Some(task) = self.tasks.first() else {
-                break;
-            };
-            let ask = ask_of(task, self.window, &self.login, &self.request);
-            if asked(end, &ask, out)? == AskOutcome::Later {
-                return Ok(false);
-            }
-            self.tasks.finish_first();
+impl Desk for ClientDesk<'_> {
+    fn hear(&mut self, turn: &Turn<'_>) -> Result<(), AllocError> {
+        if let Some(refusal) = turn.refused {
+            self.ending = Some(Ending::Refused(refusal));
         }
-        Ok(true)
+        match turn.told {
+            Some(Told::Completed { position: 1 }) => self.tasks.add(Task::AskService),
+            Some(Told::Service) => self.tasks.add(Task::LogIn),
+            Some(Told::Authenticated) => self.tasks.add(Task::Open),
+            Some(Told::Failed { methods, .. }) => self.fail(&methods),
+            Some(Told::Banner { message }) => self.note(message),
+            Some(
+                Told::Disconnected {
+                    reason,
+                    description,
+                },
+            ) => {
+                if self.ending.is_none() {
+                    self.ending = Some(Ending::disconnected(self.alloc, reason, description)?);
+                }
+                Ok(())
+            }
+            Some(Told::Channel(fact)) => self.hear_of_channels(&fact),
+            _ => Ok(()),
+        }
     }
 
-    /// Sends what can be sent, and gives the window back; after the last byte of the input says that it has ended.
-    ///
-    /// # Errors
-    ///
-    /// - `Memory`: memory was refused, and the end is over.
-    /// - `Dead`: the end was over before.
-    pub fn flow_on<E: End>(&mut self, end: &mut E, out: &mut Vec<u8>) -> Result<(), Fault> {
+    fn count(&self) -> usize {
+        self.tasks.len()
+    }
+
+    fn first_ask(&self) -> Option<Ask<'_>> {
+        match self.tasks.first() {
+            Some(task) => Some(ask_of(task, self.window, &self.login, &self.request)),
+            None => None,
+        }
+    }
+
+    fn finish_first(&mut self) {
+        self.tasks.finish_first();
+    }
+
+    fn flow_on<E: End>(&mut self, end: &mut E, out: &mut Vec<u8>) -> Result<(), Fault> {
         let Some(flow) = &mut self.flow else {
             return Ok(());
         };

@@ -2,16 +2,17 @@
 
 use crate::ending::Ending;
 use crate::session::Session;
+use crate::station::Desk;
 use crate::tasks::Tasks;
 use divrelca::default_answer;
 use ssh_channels::{Ask as ChannelAsk, Fact};
 use ssh_end::{Ask, Fault, Told, Turn};
-use ssh_pipe_policy::{AskOutcome, End, MOST_DATA, MOST_SESSIONS, asked};
+use ssh_pipe_policy::{End, MOST_DATA, MOST_SESSIONS};
 use std::alloc::{AllocError, Global};
 
 /// What a server keeps besides its end.
 #[derive(Drop)]
-pub(super) struct Desk {
+pub(super) struct ServerDesk {
     alloc: Global,
     // The window of each channel, in bytes.
     window: u32,
@@ -42,44 +43,16 @@ const UNKNOWN_TYPE: u32 = 3;
 
 const RESOURCE_SHORTAGE: u32 = 4;
 
-impl Desk {
+impl ServerDesk {
     /// Nothing to do.
-    pub fn new(alloc: Global, window: u32) -> Desk {
-        Desk {
+    pub fn new(alloc: Global, window: u32) -> ServerDesk {
+        ServerDesk {
             alloc,
             window,
             tasks: Tasks::new(alloc),
             sessions: Vec::new(alloc),
             is_let_in: false,
             ending: None,
-        }
-    }
-
-    /// Listens to what was told in a turn, and keeps what of it is needed.
-    ///
-    /// # Errors
-    ///
-    /// Only where memory is refused: what was told may be kept in part.
-    pub fn hear(&mut self, turn: &Turn<'_>) -> Result<(), AllocError> {
-        if let Some(refusal) = turn.refused {
-            self.ending = Some(Ending::Refused(refusal));
-        }
-        match turn.told {
-            Some(
-                Told::Disconnected {
-                    reason,
-                    description,
-                },
-            ) => {
-                self.ending = Some(Ending::disconnected(self.alloc, reason, description)?);
-                Ok(())
-            }
-            Some(Told::Accepted { .. }) => {
-                self.is_let_in = true;
-                Ok(())
-            }
-            Some(Told::Channel(fact)) => self.hear_of_channels(&fact),
-            _ => Ok(()),
         }
     }
 
@@ -187,34 +160,48 @@ impl Desk {
         }
         Ok(())
     }
+}
 
-    /// Does what is to be done, the oldest first, and answers whether all of it is done.
-    ///
-    /// # Errors
-    ///
-    /// - `Memory`: memory was refused, and the end is over.
-    /// - `Dead`: the end was over before.
-    pub fn work<E: End>(&mut self, end: &mut E, out: &mut Vec<u8>) -> Result<bool, Fault> {
-        for _ in 0..self.tasks.len() {
-            let Some(task) = self.tasks.first() else {
-                break;
-            };
-            let ask = ask_of(task, self.window);
-            if asked(end, &ask, out)? == AskOutcome::Later {
-                return Ok(false);
-            }
-            self.tasks.finish_first();
+impl Desk for ServerDesk {
+    fn hear(&mut self, turn: &Turn<'_>) -> Result<(), AllocError> {
+        if let Some(refusal) = turn.refused {
+            self.ending = Some(Ending::Refused(refusal));
         }
-        Ok(true)
+        match turn.told {
+            Some(
+                Told::Disconnected {
+                    reason,
+                    description,
+                },
+            ) => {
+                self.ending = Some(Ending::disconnected(self.alloc, reason, description)?);
+                Ok(())
+            }
+            Some(Told::Accepted { .. }) => {
+                self.is_let_in = true;
+                Ok(())
+            }
+            Some(Told::Channel(fact)) => self.hear_of_channels(&fact),
+            _ => Ok(()),
+        }
     }
 
-    /// Lets each session send what it can.
-    ///
-    /// # Errors
-    ///
-    /// - `Memory`: memory was refused, and the end is over.
-    /// - `Dead`: the end was over before.
-    pub fn flow_on<E: End>(&mut self, end: &mut E, out: &mut Vec<u8>) -> Result<(), Fault> {
+    fn count(&self) -> usize {
+        self.tasks.len()
+    }
+
+    fn first_ask(&self) -> Option<Ask<'_>> {
+        match self.tasks.first() {
+            Some(task) => Some(ask_of(task, self.window)),
+            None => None,
+        }
+    }
+
+    fn finish_first(&mut self) {
+        self.tasks.finish_first();
+    }
+
+    fn flow_on<E: End>(&mut self, end: &mut E, out: &mut Vec<u8>) -> Result<(), Fault> {
         for session in self.sessions.iter_mut() {
             session.go_on(end, out)?;
         }
