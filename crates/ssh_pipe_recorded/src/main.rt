@@ -22,6 +22,7 @@ use keys::Keys;
 use playing::{Outcome, Role, played};
 use recording::record;
 use ssh_pipe::Ending;
+use std::alloc::Global;
 use std::{env, fs};
 
 /// Each byte of so many is changed in turn.
@@ -64,6 +65,23 @@ fn play<R: Print + AllocGlobal>(
     }
     let is_same = played(alloc, keys, role, bytes, 1)? == whole;
     println!(rt; "in pieces of one byte the same: {is_same}")?;
+    let Counts {
+        refused,
+        same,
+        other,
+    } = counts_of(alloc, keys, role, bytes, &whole)?;
+    println!(rt; "with a byte changed: {refused} refused, {same} as before, {other} otherwise")?;
+    Ok(())
+}
+
+// What becomes of the sessions in which a byte is changed, where this became of the whole one.
+fn counts_of(
+    alloc: Global,
+    keys: &Keys,
+    role: Role,
+    bytes: &[u8],
+    whole: &Outcome,
+) -> anyhow::Result<Counts> {
     let mut counts = Counts::default();
     for at in (0..bytes.len()).step_by(STRIDE) {
         let mut changed = bytes.to_vec(alloc)?;
@@ -72,16 +90,10 @@ fn play<R: Print + AllocGlobal>(
         }
         counts.add(
             &played(alloc, keys, role, changed.as_slice(), changed.len())?,
-            &whole,
+            whole,
         );
     }
-    let Counts {
-        refused,
-        same,
-        other,
-    } = counts;
-    println!(rt; "with a byte changed: {refused} refused, {same} as before, {other} otherwise")?;
-    Ok(())
+    Ok(counts)
 }
 
 // What became of sessions in which a byte was changed.

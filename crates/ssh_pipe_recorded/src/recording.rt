@@ -28,42 +28,43 @@ impl<W: Write + Drop> Read for Copied<W> {
 ///
 /// Those of the end, of standard input and output, and of the file.
 pub fn record(rt: &HostRuntime, keys: &Keys, role: Role, file: &str) -> anyhow::Result<()> {
-    let alloc = rt.alloc();
     let mut input = Copied {
         from: rt.stdin(),
         copy: fs::create(rt, file)?,
     };
-    let mut out = Vec::new(alloc);
     match role {
-        Role::Server => {
-            let mut server = server(alloc, keys, &mut out)?;
-            pump(
-                alloc,
-                &mut server,
-                &mut input,
-                &mut rt.stdout(),
-                out,
-                &mut rt.stderr(),
-            )?;
-        }
-        Role::Client => {
-            let client = client(alloc, keys, &mut out)?;
-            let mut files = ClientFiles::new(
-                alloc,
-                client,
-                None::<File>,
-                rt.stderr(),
-                rt.stderr(),
-            )?;
-            pump(
-                alloc,
-                &mut files,
-                &mut input,
-                &mut rt.stdout(),
-                out,
-                &mut rt.stderr(),
-            )?;
-        }
+        Role::Server => record_server(rt, keys, &mut input),
+        Role::Client => record_client(rt, keys, &mut input),
     }
+}
+
+fn record_server<I: Read>(rt: &HostRuntime, keys: &Keys, input: &mut I) -> anyhow::Result<()> {
+    let alloc = rt.alloc();
+    let mut out = Vec::new(alloc);
+    let mut server = server(alloc, keys, &mut out)?;
+    pump(
+        alloc,
+        &mut server,
+        input,
+        &mut rt.stdout(),
+        out,
+        &mut rt.stderr(),
+    )?;
+    Ok(())
+}
+
+fn record_client<I: Read>(rt: &HostRuntime, keys: &Keys, input: &mut I) -> anyhow::Result<()> {
+    let alloc = rt.alloc();
+    let mut out = Vec::new(alloc);
+    let client = client(alloc, keys, &mut out)?;
+    let mut files = ClientFiles::new(alloc, client, None::<File>, rt.stderr(), rt.stderr())?;
+    pump(
+        alloc,
+        &mut files,
+        input,
+        &mut rt.stdout(),
+        out,
+        &mut rt.stderr(),
+    )?;
     Ok(())
 }
