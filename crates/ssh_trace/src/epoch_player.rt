@@ -94,28 +94,34 @@ impl Player {
         let done = match step {
             EpochStep::Ask { side, payload } => {
                 let done = self.ask(*side, payload.as_slice())?;
-                let lines = lines_of(self.alloc, done.items.as_slice())?;
-                drawing.act(
-                    lines.as_str(),
-                    done.client_bytes.as_slice(),
-                    done.server_bytes.as_slice(),
-                )?;
+                draw(self.alloc, &done, drawing)?;
                 done
             }
-            EpochStep::Network(delivery) => {
-                if let Delivery::Lose { from, count } = delivery {
-                    drawing.lose(*from, *count as usize)?;
-                }
-                match self.network.deliver(delivery)? {
-                    Some(parcel) => {
-                        watched_bytes(self.alloc, &mut self.pair, delivery, &parcel, drawing)?
-                    }
-                    None => nothing(self.alloc),
-                }
-            }
+            EpochStep::Network(delivery) => self.watch_delivery(delivery, drawing)?,
         };
         self.put_out(&done)?;
         Ok(())
+    }
+
+    // Delivers what a line of the network means, and draws what happens.
+    fn watch_delivery(
+        &mut self,
+        delivery: &Delivery,
+        drawing: &mut Drawing,
+    ) -> Result<Transcript, RunFault> {
+        if let Delivery::Lose { from, count } = delivery {
+            drawing.lose(*from, *count as usize)?;
+        }
+        match self.network.deliver(delivery)? {
+            Some(parcel) => Ok(watched_bytes(
+                self.alloc,
+                &mut self.pair,
+                delivery,
+                &parcel,
+                drawing,
+            )?),
+            None => Ok(nothing(self.alloc)),
+        }
     }
 
     // What the ends put out waits from now on.
@@ -173,12 +179,7 @@ fn watched_bytes(
         drawing.come(parcel.to, origin_of(delivery, index), piece)?;
         let mut done = play(pair, &[Event::Deliver(parcel.to, piece)])?;
         if !done.items.is_empty() {
-            let lines = lines_of(alloc, done.items.as_slice())?;
-            drawing.act(
-                lines.as_str(),
-                done.client_bytes.as_slice(),
-                done.server_bytes.as_slice(),
-            )?;
+            draw(alloc, &done, drawing)?;
         }
         all.client_bytes.append(&mut done.client_bytes)?;
         all.server_bytes.append(&mut done.server_bytes)?;
@@ -186,10 +187,15 @@ fn watched_bytes(
     Ok(all)
 }
 
-fn lines_of(alloc: Global, items: &[Done]) -> Result<String, AllocError> {
+// Draws what the ends did.
+fn draw(alloc: Global, done: &Transcript, drawing: &mut Drawing) -> Result<(), AllocError> {
     let mut lines = String::new(alloc);
-    write_items(items, &mut lines)?;
-    Ok(lines)
+    write_items(done.items.as_slice(), &mut lines)?;
+    drawing.act(
+        lines.as_str(),
+        done.client_bytes.as_slice(),
+        done.server_bytes.as_slice(),
+    )
 }
 
 fn play(pair: &mut EpochPair, events: &[Event<'_>]) -> Result<Transcript, AllocError>
