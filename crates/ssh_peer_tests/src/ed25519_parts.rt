@@ -52,7 +52,7 @@ fn host_signatures_of_openssh(rt: HostRuntime) {
     let other = &RECORDED[1];
     let host = &RECORDED[0];
     let trust = Ed25519Trust::from_key(&host.key).expect(&rt, "a key");
-    let table: [(&[u8], &[u8], [u8; 32], &[u8], bool); 8] = [
+    let table: &[(&[u8], &[u8], [u8; 32], &[u8], bool)] = &[
         (NAME, &host.key, host.hash, &host.signature, true),
         (b"ssh-rsa", &host.key, host.hash, &host.signature, false),
         (b"", &host.key, host.hash, &host.signature, false),

@@ -12,14 +12,14 @@ const GCM: &[u8] = b"aes128-gcm@openssh.com";
 
 #[test]
 fn lengths_of_each_name(rt: HostRuntime) {
-    let table: [(&[u8], &[u8], Option<(usize, usize, usize)>); 5] = [
+    let table: &[(&[u8], &[u8], Option<(usize, usize, usize)>)] = &[
         (GCM, b"hmac-sha2-256", Some((12, 16, 0))),
         (GCM, b"hmac-sha1", Some((12, 16, 0))),
         (b"none", b"hmac-sha2-256", Some((0, 0, 32))),
         (b"none", b"hmac-sha1", None),
         (b"aes128-ctr", b"hmac-sha2-256", None),
     ];
-    for (encryption, mac, found) in table {
+    for &(encryption, mac, found) in table {
         let expected = match found {
             Some((iv, cipher, mac)) => Some(Lengths { iv, cipher, mac }),
             None => None,
