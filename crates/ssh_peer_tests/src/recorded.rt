@@ -108,7 +108,6 @@ impl Drop for Recording {
 impl Recording {
     // A client with the parts of the recorded one.
     fn new(alloc: Global) -> Result<Recording, Fail> {
-        let config = Config::<MacOnly>::new(alloc, &recorded_settings())?;
         let parts: ClientPartValues<RecordedClient> = ClientPartValues {
             filler: ToyFiller { byte: 0 },
             agreement: agreement(alloc, &openssh_server::POINTS, &openssh_server::SHARED)?,
@@ -121,6 +120,7 @@ impl Recording {
         };
         let cookie = array(alloc, openssh_server::COOKIES[0])?;
         let secret = array(alloc, openssh_server::SHARED[0])?;
+        let config = Config::<MacOnly>::new(alloc, &recorded_settings())?;
         let mut out = Vec::new(alloc);
         let mut sent = Vec::new(alloc);
         let client = ClientTransport::new(
@@ -244,7 +244,6 @@ fn recorded_server(
     out: &mut Vec<u8>,
     sent: &mut Vec<Vec<u8>>,
 ) -> Result<ServerTransport<RecordedServer>, Fail> {
-    let config = Config::<MacOnly>::new(alloc, &recorded_settings())?;
     let parts: ServerPartValues<RecordedServer> = ServerPartValues {
         filler: ToyFiller { byte: 0 },
         agreement: agreement(
@@ -261,6 +260,7 @@ fn recorded_server(
     };
     let cookie = cookie_of(&bytes(alloc, openssh_client::SERVER_KEXINITS[0])?);
     let secret = array(alloc, openssh_client::SHARED[0])?;
+    let config = Config::<MacOnly>::new(alloc, &recorded_settings())?;
     let server = ServerTransport::new(alloc, config, parts, cookie, secret, out, sent)?;
     Ok(server)
 }
@@ -373,23 +373,26 @@ fn client_packets(alloc: Global) -> Result<Vec<Vec<u8>>, AllocError> {
 #[test]
 fn exchanges_with_an_openssh_client(rt: HostRuntime) -> Result<(), Fail> {
     let alloc = rt.alloc();
+    let cookie = cookie_of(&bytes(alloc, openssh_client::SERVER_KEXINITS[1])?);
+    let secret = array(alloc, openssh_client::SHARED[1])?;
+    let session = array(alloc, openssh_client::HASHES[0])?;
+    let packets = client_packets(alloc)?;
+    let stream = server_stream(alloc)?;
     let mut out = Vec::new(alloc);
     let mut sent = Vec::new(alloc);
     let mut server = recorded_server(alloc, &mut out, &mut sent)?;
     let (used, _) = server.take(openssh_client::LINE, &mut out, &mut sent);
     same!(rt, used, 23);
-    let cookie = cookie_of(&bytes(alloc, openssh_client::SERVER_KEXINITS[1])?);
-    assert!(rt; server.feed_material(cookie, array(alloc, openssh_client::SHARED[1])?));
+    assert!(rt; server.feed_material(cookie, secret));
     server.authenticated();
-    for (index, packet) in client_packets(alloc)?.iter().enumerate() {
+    for (index, packet) in packets.iter().enumerate() {
         let (used, turn) = server.take(packet, &mut out, &mut sent);
         same_at(&rt, index, used, packet.len());
         same_at(&rt, index, turn.is_ok() && !server.is_dead(), true);
     }
     same!(rt, (server.epochs(), server.numbers()), ((2, 2), (0, 1)));
-    let session = array(alloc, openssh_client::HASHES[0])?;
     same!(rt, server.session_id(), Some(&session));
     server.ask(TransportAsk::Disconnect(b"x"), &mut out, &mut sent)?;
-    same!(rt, out, server_stream(alloc)?);
+    same!(rt, out, stream);
     Ok(())
 }
