@@ -1,3 +1,4 @@
 pub mod Boxing
 pub mod ClientBoxed
 pub mod ServerBoxed
+mod Working

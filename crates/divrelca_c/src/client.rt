@@ -14,7 +14,7 @@ ghost use Rattle.ssh_model.specs.State.TransportLayer.Kept.{after_fed, can_be_fe
 use crate::bytes::{DvBytes, DvClientSettings, DvMaterial};
 use crate::client_handle::DvClient;
 use crate::codes::{
-    BAD_SIZE, DONE, MEMORY, NOTHING_QUEUED, code_asked, code_form, code_made, code_of, code_taken,
+    BAD_SIZE, DONE, MEMORY, NOTHING_QUEUED, answer, code_form, code_made, code_of, code_taken,
 };
 use crate::event::{DvEvent, event_of};
 use crate::making::{ciphers_in, key_in, signer_in};
@@ -184,14 +184,7 @@ pub extern "C" fn dv_client_ask(h: &mut DvClient, ask: &AskForm<'_>, channel: &m
     ensures waiting { h.new.value.state.waiting ≡ h.old.value.state.waiting }
 {
     match h.state().state.ask(ask) {
-        Ok(done) => {
-            if let Ok(step) = done
-                && let Some(number) = step.opening
-            {
-                *channel = number;
-            }
-            code_asked(done)
-        }
+        Ok(done) => answer(done, channel),
         Err(fault) => code_form(fault),
     }
 }
@@ -236,14 +229,7 @@ pub extern "C" fn dv_client_work(alloc: Global, h: &mut DvClient, channel: &mut 
     ensures channel { h.old.value.state.waiting.items ≡ [] → channel.new ≡ channel.old }
 {
     match h.state().state.work(alloc) {
-        Some(done) => {
-            if let Ok(step) = done
-                && let Some(number) = step.opening
-            {
-                *channel = number;
-            }
-            code_asked(done)
-        }
+        Some(done) => answer(done, channel),
         None => NOTHING_QUEUED,
     }
 }

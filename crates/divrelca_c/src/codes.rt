@@ -1,6 +1,7 @@
 //! What C is answered.
 
 ghost use Rattle.std.specs.Prelude.{◌≡◌, negsuc, pos};
+ghost use Rattle.divrelca_c.specs.Asks.{channel_after};
 ghost use Rattle.divrelca_c.specs.Codes.{code_asked, code_of, fault_code, fault_line, file_code, form_code};
 
 use ssh_embedded::{FormFault, MakeError};
@@ -51,8 +52,8 @@ pub fn code_of(fault: Fault) -> i32
     }
 }
 
-/// What an ask is answered.
-pub fn code_asked(done: Result<AskStep, Fault>) -> i32
+// What an ask is answered.
+fn code_asked(done: Result<AskStep, Fault>) -> i32
     ensures { result ≡ code_asked done }
 {
     match done {
@@ -62,6 +63,19 @@ pub fn code_asked(done: Result<AskStep, Fault>) -> i32
         },
         Err(fault) => code_of(fault),
     }
+}
+
+/// What an ask is answered, with the number of the channel that opens put into `channel`, which stays as it is where none does.
+pub fn answer(done: Result<AskStep, Fault>, channel: &mut u32) -> i32
+    ensures code { result ≡ code_asked done }
+    ensures channel { channel.new ≡ channel_after done channel.old }
+{
+    if let Ok(step) = done
+        && let Some(number) = step.opening
+    {
+        *channel = number;
+    }
+    code_asked(done)
 }
 
 /// Bytes that are taken are refused by no ask.
