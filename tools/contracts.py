@@ -3,7 +3,7 @@
 usage: contracts.py OLD NEW      two folders, each with a tree of this repository
 
 A function goes by its crate, the type of its impl, and its name; where no such function is left, by these without a role in them, in that crate or in another one. Two contracts are the same where
-their clauses are, but for white space. Prints a line for each function whose contract is not the same, with the clauses that differ, and then how many there are of each kind."""
+their clauses are, except for white space and the last semicolon of a record. Prints a line for each function whose contract is not the same, with the clauses that differ, and then how many there are of each kind."""
 
 import re
 import sys
@@ -13,6 +13,7 @@ from pathlib import Path
 FUNCTION = re.compile(r"^(\s*)pub (?:const )?fn (\w+)")
 IMPL = re.compile(r"^impl(?:<.*?>)? (?:(\w+)(?:<.*>)? for )?(\w+)")
 CLAUSE = re.compile(r"(requires|ensures\*?)\s*(\w+)?\s*\{")
+OPENING = re.compile(r"\{\}?$", re.M)
 
 
 def braces(text, start):
@@ -31,7 +32,7 @@ def clauses_of(text):
     while (clause := CLAUSE.match(text, at)) is not None:
         end = braces(text, clause.end() - 1)
         name = f"{clause[1]} {clause[2] or ''}".strip()
-        found[name] = " ".join(text[clause.end() : end - 1].split())
+        found[name] = " ".join(text[clause.end() : end - 1].replace("{", "{ ").split()).replace("; }", " }")
         at = end + len(text[end:]) - len(text[end:].lstrip())
     return found
 
@@ -48,8 +49,8 @@ def contracts_in(tree):
                 owner = "" if not line.startswith("}") else owner
             if function := FUNCTION.match(line):
                 first = CLAUSE.search(text, at)
-                body = text.find("\n" + function[1] + "{\n", at)
-                inside = first is not None and (body < 0 or first.start() < body)
+                opening = OPENING.search(text, at)
+                inside = first is not None and opening is not None and first.start() < opening.start()
                 key = crate, owner if function[1] else "", function[2]
                 found[key] = clauses_of(text[first.start() :]) if inside else {}
             at += len(line) + 1
