@@ -4,3 +4,4 @@ pub mod Sums
 pub mod Products
 pub mod Curve
 pub mod Shared
+pub mod Field

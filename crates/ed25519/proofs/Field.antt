@@ -1,0 +1,5 @@
+pub mod Power
+pub mod Divisors
+pub mod Binomial
+pub mod Fermat
+pub mod Pocklington
