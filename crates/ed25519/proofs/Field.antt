@@ -3,3 +3,5 @@ pub mod Divisors
 pub mod Binomial
 pub mod Fermat
 pub mod Pocklington
+pub mod Prime
+pub mod Laws
