@@ -5,3 +5,4 @@ pub mod Products
 pub mod Curve
 pub mod Shared
 pub mod Field
+pub mod Group

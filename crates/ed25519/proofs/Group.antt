@@ -1,0 +1,2 @@
+-- The group law of the curve.
+pub mod Points
