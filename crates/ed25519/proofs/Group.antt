@@ -1,2 +1,8 @@
 -- The group law of the curve.
 pub mod Points
+pub mod Polynomials
+pub mod Identities
+pub mod Multiples
+pub mod Flat
+pub mod Complete
+pub mod Closed
