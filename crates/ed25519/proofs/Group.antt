@@ -6,3 +6,6 @@ pub mod Multiples
 pub mod Flat
 pub mod Complete
 pub mod Closed
+pub mod Associative
+pub mod Same
+pub mod Laws

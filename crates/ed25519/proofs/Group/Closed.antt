@@ -4,8 +4,8 @@ use Rattle.x25519.specs.Residues.{times}
 use Rattle.ed25519.specs.Point.{Extended, added}
 use Rattle.ed25519.proofs.Group.Identities.{Term, Values, and, identity, none, number, ring, times_below, variable, ◌⊕◌, ◌⊖◌, ◌⊗◌}
 use Rattle.ed25519.proofs.Group.Points.{IsCurve, IsField}
-use Rattle.ed25519.proofs.Group.Multiples.{Coordinates, added_multiples, d, multiple, of_curve, square_of, sum_of}
-use Rattle.ed25519.proofs.Group.Flat.{IsFlat, as_multiple, flat, flat_is_curve, flat_x, flat_y, is_flat, multiple_is_curve, nonzero_product}
+use Rattle.ed25519.proofs.Group.Multiples.{Coordinates, IsReduced, added_multiples, d, multiple, of_curve, square_of, sum_of}
+use Rattle.ed25519.proofs.Group.Flat.{IsFlat, as_multiple, flat, flat_is_curve, flat_of, is_flat, multiple_is_curve, nonzero_product}
 use Rattle.ed25519.proofs.Group.Complete.{curve_left, curve_right, flat_term, sum_some}
 
 abbrev two : Term
@@ -48,16 +48,19 @@ flat_sum f a b u v p q =
           refl;
     }
 
+pub flat_reduced : (f : IsField) (p : Extended) → IsCurve p → IsReduced (flat_of p)
+flat_reduced f p c = of_curve (flat_of p) (flat_is_curve _ _ (is_flat f p c))
+
+-- a sum is a multiple of that of points whose z is 1
+pub sum_is : (f : IsField) (p q : Extended) → IsCurve p → IsCurve q → added p q ≡ multiple (square_of p.z q.z) (added (flat_of p) (flat_of q))
+sum_is f p q c e =
+    ap (λ (r : Extended). added r q) (as_multiple f p c)
+    ∙ ap (λ (r : Extended). added (multiple p.z (flat_of p)) r) (as_multiple f q e)
+    ∙ added_multiples p.z q.z (flat_of p) (flat_of q) c.z e.z (flat_reduced f p c) (flat_reduced f q e)
+
 pub added_is_curve : (f : IsField) (p q : Extended) → IsCurve p → IsCurve q → IsCurve (added p q)
 added_is_curve f p q c e =
-    let a : Extended = flat (flat_x f p c) (flat_y f p c) in
-    let b : Extended = flat (flat_x f q e) (flat_y f q e) in
-    let fa : IsFlat (flat_x f p c) (flat_y f p c) = is_flat f p c in
-    let fb : IsFlat (flat_x f q e) (flat_y f q e) = is_flat f q e in
-    let sum : added p q ≡ multiple (square_of p.z q.z) (added a b) =
-    ap (λ (r : Extended). added r q) (as_multiple f p c)
-    ∙ ap (λ (r : Extended). added (multiple p.z a) r) (as_multiple f q e)
-    ∙ added_multiples p.z q.z a b c.z e.z (of_curve a (flat_is_curve _ _ fa)) (of_curve b (flat_is_curve _ _ fb)) in
     let n : times p.z q.z ≢ 0 = nonzero_product f p.z q.z c.z e.z c.some e.some in
     let m : square_of p.z q.z ≢ 0 = nonzero_product f (times p.z q.z) (times p.z q.z) (times_below _ _) (times_below _ _) n n in
-    rw sum (multiple_is_curve f (square_of p.z q.z) (added a b) (times_below _ _) m (flat_sum f _ _ _ _ fa fb))
+    let flat : IsCurve (added (flat_of p) (flat_of q)) = flat_sum f _ _ _ _ (is_flat f p c) (is_flat f q e) in
+    rw (sum_is f p q c e) (multiple_is_curve f (square_of p.z q.z) (added (flat_of p) (flat_of q)) (times_below _ _) m flat)

@@ -2,6 +2,7 @@
 use Rattle.std.proofs.Common.{◌≡◌, ℕ, ◌-◌, ◌%◌, ◌<◌, ◌≢◌, ◌⊎◌, inl, inr, [], ◌∷◌, refl, arith}
 use Rattle.x25519.specs.Field.{prime}
 use Rattle.x25519.specs.Residues.{minus, plus, power, times}
+use Rattle.ed25519.specs.Encoding.{quotient}
 use Rattle.ed25519.specs.Point as point
 use Rattle.ed25519.specs.Point.{Extended}
 use Rattle.ed25519.proofs.Group.Identities.{Term, Values, and, identity, none, number, ring, times_below, variable, ◌⊕◌, ◌⊖◌, ◌⊗◌}
@@ -53,18 +54,16 @@ flat_is_curve x y c =
     let t : Term = variable 0 ⊗ variable 1 in
     record { x = c.x; y = c.y; z = omega arith; t = times_below x y; some = omega arith; product = ring v t (number 1 ⊗ t) refl; curve = c.curve }
 
+-- the one whose multiple a point is
+abbrev pub flat_of : Extended → Extended
+flat_of p = flat (quotient p.x p.z) (quotient p.y p.z)
+
 module _ (f : IsField) (p : Extended) (c : IsCurve p) where
-  pub flat_x : ℕ
-  flat_x = times p.x (inverse p.z)
-
-  pub flat_y : ℕ
-  flat_y = times p.y (inverse p.z)
-
   values : Values
   values = and (inverse p.z) (inverse_below p.z) (and_point p (of_curve p c) none)
 
-  pub as_multiple : p ≡ multiple p.z (flat flat_x flat_y)
-  unfolding values flat_x flat_y
+  pub as_multiple : p ≡ multiple p.z (flat_of p)
+  unfolding values
   as_multiple =
       let i : Term = variable 0 in
       let a : Coordinates = variables 1 in
@@ -80,8 +79,8 @@ module _ (f : IsField) (p : Extended) (c : IsCurve p) where
       (one, (c.product, tt))
       refl)
 
-  pub is_flat : IsFlat flat_x flat_y
-  unfolding values flat_x flat_y
+  pub is_flat : IsFlat (quotient p.x p.z) (quotient p.y p.z)
+  unfolding values
   is_flat =
       let i : Term = variable 0 in
       let a : Coordinates = variables 1 in
