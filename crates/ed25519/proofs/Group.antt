@@ -2,6 +2,7 @@
 pub mod Points
 pub mod Polynomials
 pub mod Identities
+pub mod Coordinates
 pub mod Multiples
 pub mod Flat
 pub mod Complete

@@ -5,13 +5,10 @@ use Rattle.x25519.specs.Residues.{minus, plus, times}
 use Rattle.ed25519.specs.Encoding.{root_of_minus_one}
 use Rattle.ed25519.specs.Point as point
 use Rattle.ed25519.specs.Point.{added}
-use Rattle.ed25519.proofs.Group.Identities.{Fact, Term, Values, and, identity, meaning, minus_below, none, number, plus_below, ring, times_below, variable, ◌⊕◌, ◌⊖◌, ◌⊗◌}
+use Rattle.ed25519.proofs.Group.Identities.{Fact, Hold, Term, Values, and, identity, meaning, minus_below, none, number, plus_below, ring, times_below, variable, ◌⊕◌, ◌⊖◌, ◌⊗◌}
 use Rattle.ed25519.proofs.Group.Points.{IsField}
-use Rattle.ed25519.proofs.Group.Multiples.{Coordinates, d, factor_f, factor_g}
+use Rattle.ed25519.proofs.Group.Coordinates.{curve_left, curve_times, d, factor_f, factor_g, first, one, opposite, second}
 use Rattle.ed25519.proofs.Group.Flat.{IsFlat, flat, nonzero_product, small_zero}
-
-abbrev one : Term
-one = number 1
 
 -- one half, and a square root of -1
 abbrev half : Term
@@ -20,59 +17,39 @@ half = number (prime / 2 + 1)
 abbrev i : Term
 i = number root_of_minus_one
 
-abbrev x1 : Term
-x1 = variable 0
-
-abbrev y1 : Term
-y1 = variable 1
-
-abbrev x2 : Term
-x2 = variable 2
-
-abbrev y2 : Term
-y2 = variable 3
-
 -- 1 or -1
 abbrev sign : Term
 sign = variable 4
 
-abbrev pub flat_term : Term → Term → Coordinates
-flat_term x y = record { x = x; y = y; z = number 1; t = x ⊗ y }
+-- With one of the signs it would be 1, where a sum's z were zero.
+abbrev signed : Term → Term
+signed s = s ⊗ (d ⊗ first.t ⊗ second.t)
 
-abbrev pub curve_left : Term → Term → Term
-curve_left x y = y ⊗ y ⊖ x ⊗ x
-
-abbrev pub curve_right : Term → Term → Term
-curve_right x y = number 1 ⊗ number 1 ⊕ d ⊗ (x ⊗ y ⊗ (x ⊗ y))
-
--- what would be the root of a square that is a multiple of d
+-- d times the squares of both would be squares
 abbrev plus_root : Term
-plus_root = x1 ⊗ y1 ⊗ (i ⊗ x2 ⊕ y2)
+plus_root = first.t ⊗ (i ⊗ second.x ⊕ second.y)
 
 abbrev minus_root : Term
-minus_root = x1 ⊗ y1 ⊗ (i ⊗ x2 ⊖ y2)
+minus_root = first.t ⊗ (i ⊗ second.x ⊖ second.y)
 
--- 1 where it is zero that a sum's z is made of
-abbrev signed : Term
-signed = sign ⊗ (d ⊗ (x1 ⊗ y1) ⊗ (x2 ⊗ y2))
-
--- the facts that a square is a multiple of d by, which differ in the sign of i
+-- why they would, by either square root of -1
 abbrev facts : Term → List Fact
 facts root =
-    let k : Term = curve_left x1 y1 in
-    let c : Term = curve_left x2 y2 in
-    let t : Term = x1 ⊗ y1 in
-    record { factor = c ⊖ d ⊗ (x2 ⊗ y2 ⊗ sign) ⊗ (x2 ⊗ y2 ⊗ sign); left = k; right = curve_right x1 y1 }
-    ∷ record { factor = sign ⊗ sign ⊗ (one ⊖ k); left = c; right = curve_right x2 y2 }
-    ∷ record { factor = number 0 ⊖ signed ⊖ (t ⊕ t) ⊗ sign ⊗ root ⊖ one; left = signed; right = one }
-    ∷ record { factor = (d ⊕ d) ⊗ t ⊗ t ⊗ x2 ⊗ y2 ⊗ root ⊕ k ⊗ c ⊕ x1 ⊗ x1 ⊖ c ⊕ one; left = sign ⊗ sign; right = one }
+    let k : Term = curve_left first in
+    let c : Term = curve_left second in
+    let t : Term = first.t in
+    let s : Term = second.t ⊗ sign in
+    curve_times (c ⊖ d ⊗ s ⊗ s) first
+    ∷ curve_times (sign ⊗ sign ⊗ (one ⊖ k)) second
+    ∷ record { factor = opposite (signed sign ⊕ (t ⊕ t) ⊗ sign ⊗ root ⊕ one); left = signed sign; right = one }
+    ∷ record { factor = (d ⊕ d) ⊗ t ⊗ t ⊗ second.t ⊗ root ⊕ k ⊗ c ⊕ first.x ⊗ first.x ⊖ c ⊕ one; left = sign ⊗ sign; right = one }
     ∷ []
 
-no_factor : (f : IsField) (a u : ℕ) → a < prime → times u u ≡ times point.d (times a a) → a ≡ 0
-no_factor f a u b e = small_zero a b (f.d_is_no_square u a e)
+no_square : (f : IsField) (u v : ℕ) → v < prime → times u u ≡ times point.d (times v v) → v ≡ 0
+no_square f u v b e = small_zero v b (f.d_is_no_square u v e)
 
-zero_is_one : ◌≡◌ {A = ℕ} 1 0 → ⊥
-zero_is_one e = omega arith
+one_is_not_zero : ◌≡◌ {A = ℕ} 1 0 → ⊥
+one_is_not_zero e = omega arith
 
 module _ (f : IsField) (a b u v s : ℕ) (p : IsFlat a b) (q : IsFlat u v) (below : s < prime) (unit : times s s ≡ 1)
     (h : times s (times (times point.d (times a b)) (times u v)) ≡ 1) where
@@ -82,56 +59,50 @@ module _ (f : IsField) (a b u v s : ℕ) (p : IsFlat a b) (q : IsFlat u v) (belo
   plus_zero : times (times a b) (plus (times root_of_minus_one u) v) ≡ 0
   unfolding values
   plus_zero =
-      let side : Term = i ⊗ x1 ⊕ sign ⊗ y1 in
-      no_factor f _ _ (times_below _ _) (identity values (side ⊗ side) (d ⊗ (plus_root ⊗ plus_root)) (facts i) (p.curve, (q.curve, (h, (unit, tt)))) refl)
+      let side : Term = i ⊗ first.x ⊕ sign ⊗ first.y in
+      let given : Hold values.list (facts i) = (p.curve, (q.curve, (h, (unit, tt)))) in
+      let squares = identity values (side ⊗ side) (d ⊗ (plus_root ⊗ plus_root)) (facts i) given refl in
+      no_square f (meaning values.list side) (meaning values.list plus_root) (times_below _ _) squares
 
   minus_zero : times (times a b) (minus (times root_of_minus_one u) v) ≡ 0
   unfolding values
   minus_zero =
-      let side : Term = i ⊗ x1 ⊖ sign ⊗ y1 in
-      no_factor f _ _ (times_below _ _) (identity values (side ⊗ side) (d ⊗ (minus_root ⊗ minus_root)) (facts (number 0 ⊖ i)) (p.curve, (q.curve, (h, (unit, tt)))) refl)
+      let side : Term = i ⊗ first.x ⊖ sign ⊗ first.y in
+      let given : Hold values.list (facts (opposite i)) = (p.curve, (q.curve, (h, (unit, tt)))) in
+      let squares = identity values (side ⊗ side) (d ⊗ (minus_root ⊗ minus_root)) (facts (opposite i)) given refl in
+      no_square f (meaning values.list side) (meaning values.list minus_root) (times_below _ _) squares
 
   impossible : ⊥
   unfolding values
   impossible =
-      let k : Term = sign ⊗ d ⊗ x2 ⊗ half in
-      zero_is_one (
-      identity values one (number 0)
-      (record { factor = number 0 ⊖ one; left = signed; right = one }
+      let k : Term = sign ⊗ d ⊗ second.x ⊗ half in
+      let all : List Fact =
+      record { factor = opposite one; left = signed sign; right = one }
       ∷ record { factor = k; left = plus_root; right = number 0 }
-      ∷ record { factor = number 0 ⊖ k; left = minus_root; right = number 0 }
-      ∷ [])
-      (h, (plus_zero, (minus_zero, tt)))
-      refl)
+      ∷ record { factor = opposite k; left = minus_root; right = number 0 }
+      ∷ [] in
+      one_is_not_zero (identity values one (number 0) all (h, (plus_zero, (minus_zero, tt))) refl)
 
 -- ---- the factors of a sum's z
-
-abbrev p_term : Coordinates
-p_term = flat_term x1 y1
-
-abbrev q_term : Coordinates
-q_term = flat_term x2 y2
-
--- the product that is 1 where a factor is zero
-abbrev turned : Term → Term
-turned s = s ⊗ (d ⊗ (x1 ⊗ y1) ⊗ (x2 ⊗ y2))
 
 module _ (f : IsField) (a b u v : ℕ) (p : IsFlat a b) (q : IsFlat u v) where
   four : Values
   four = and a p.x (and b p.y (and u q.x (and v q.y none)))
 
-  pub f_some : meaning (a ∷ b ∷ u ∷ v ∷ []) (factor_f p_term q_term) ≢ 0
+  f_some : meaning (a ∷ b ∷ u ∷ v ∷ []) (factor_f first second) ≢ 0
   unfolding four
   f_some e =
-      impossible f a b u v 1 p q (omega arith) (ring none (one ⊗ one) one refl)
-      (identity four (turned one) one (record { factor = number 0 ⊖ half; left = factor_f p_term q_term; right = number 0 } ∷ []) (e, tt) refl)
+      let zero : Fact = record { factor = opposite half; left = factor_f first second; right = number 0 } in
+      let given = identity four (signed one) one (zero ∷ []) (e, tt) refl in
+      impossible f a b u v 1 p q (omega arith) (ring none (one ⊗ one) one refl) given
 
-  pub g_some : meaning (a ∷ b ∷ u ∷ v ∷ []) (factor_g p_term q_term) ≢ 0
+  g_some : meaning (a ∷ b ∷ u ∷ v ∷ []) (factor_g first second) ≢ 0
   unfolding four
   g_some e =
       let s : Term = number (prime - 1) in
-      impossible f a b u v (prime - 1) p q (omega arith) (ring none (s ⊗ s) one refl)
-      (identity four (turned s) one (record { factor = number 0 ⊖ half; left = factor_g p_term q_term; right = number 0 } ∷ []) (e, tt) refl)
+      let zero : Fact = record { factor = opposite half; left = factor_g first second; right = number 0 } in
+      let given = identity four (signed s) one (zero ∷ []) (e, tt) refl in
+      impossible f a b u v (prime - 1) p q (omega arith) (ring none (s ⊗ s) one refl) given
 
   pub sum_some : (added (flat a b) (flat u v)).z ≢ 0
   unfolding added

@@ -1,13 +1,14 @@
 -- Each point of the curve is a multiple of one whose z is 1.
-use Rattle.std.proofs.Common.{◌≡◌, ℕ, ◌-◌, ◌%◌, ◌<◌, ◌≢◌, ◌⊎◌, inl, inr, [], ◌∷◌, refl, arith}
+use Rattle.std.proofs.Common.{◌≡◌, ℕ, ◌-◌, ◌%◌, ◌<◌, ◌≢◌, ◌⊎◌, inl, inr, List, [], ◌∷◌, refl, arith}
 use Rattle.x25519.specs.Field.{prime}
 use Rattle.x25519.specs.Residues.{minus, plus, power, times}
 use Rattle.ed25519.specs.Encoding.{quotient}
 use Rattle.ed25519.specs.Point as point
 use Rattle.ed25519.specs.Point.{Extended}
-use Rattle.ed25519.proofs.Group.Identities.{Term, Values, and, identity, none, number, ring, times_below, variable, ◌⊕◌, ◌⊖◌, ◌⊗◌}
+use Rattle.ed25519.proofs.Group.Identities.{Fact, Term, Values, and, identity, none, ring, times_below, variable, ◌⊕◌, ◌⊖◌, ◌⊗◌}
 use Rattle.ed25519.proofs.Group.Points.{IsCurve, IsField}
-use Rattle.ed25519.proofs.Group.Multiples.{Coordinates, and_point, d, multiple, of_curve, same_coordinates, variables}
+use Rattle.ed25519.proofs.Group.Coordinates.{Coordinates, curve_left, curve_right, curve_times, d, first, flat_term, multiple_of, one, opposite, product_times, variables}
+use Rattle.ed25519.proofs.Group.Multiples.{and_point, multiple, of_curve, same_coordinates}
 
 -- ---- factors that are not zero
 
@@ -50,13 +51,22 @@ pub record IsFlat (a b : ℕ) : Type 0 where
 
 pub flat_is_curve : (x y : ℕ) → IsFlat x y → IsCurve (flat x y)
 flat_is_curve x y c =
-    let v : Values = and x c.x (and y c.y none) in
-    let t : Term = variable 0 ⊗ variable 1 in
-    record { x = c.x; y = c.y; z = omega arith; t = times_below x y; some = omega arith; product = ring v t (number 1 ⊗ t) refl; curve = c.curve }
+    let product = ring (and x c.x (and y c.y none)) first.t (one ⊗ first.t) refl in
+    record { x = c.x; y = c.y; z = omega arith; t = times_below x y; some = omega arith; product = product; curve = c.curve }
 
 -- the one whose multiple a point is
 abbrev pub flat_of : Extended → Extended
 flat_of p = flat (quotient p.x p.z) (quotient p.y p.z)
+
+-- one over z, and the coordinates
+abbrev i : Term
+i = variable 0
+
+abbrev a : Coordinates
+a = variables 1
+
+abbrev inverse_times : Term → Fact
+inverse_times k = record { factor = k; left = a.z ⊗ i; right = one }
 
 module _ (f : IsField) (p : Extended) (c : IsCurve p) where
   values : Values
@@ -65,40 +75,26 @@ module _ (f : IsField) (p : Extended) (c : IsCurve p) where
   pub as_multiple : p ≡ multiple p.z (flat_of p)
   unfolding values
   as_multiple =
-      let i : Term = variable 0 in
-      let a : Coordinates = variables 1 in
-      let one : ◌≡◌ {A = ℕ} (times p.z (inverse p.z)) 1 = times_inverse f p c in
+      let unit : ◌≡◌ {A = ℕ} (times p.z (inverse p.z)) 1 = times_inverse f p c in
+      let m : Coordinates = multiple_of a.z (flat_term (a.x ⊗ i) (a.y ⊗ i)) in
+      let once : Fact = inverse_times (opposite (a.t ⊗ (a.z ⊗ i ⊕ one))) in
+      let product : Fact = product_times (opposite (a.z ⊗ i ⊗ i)) a in
       same_coordinates _ _ _ _ _ _ _ _
-      (identity values a.x (a.z ⊗ (a.x ⊗ i)) (record { factor = number 0 ⊖ a.x; left = a.z ⊗ i; right = number 1 } ∷ []) (one, tt) refl)
-      (identity values a.y (a.z ⊗ (a.y ⊗ i)) (record { factor = number 0 ⊖ a.y; left = a.z ⊗ i; right = number 1 } ∷ []) (one, tt) refl)
-      (ring values a.z (a.z ⊗ number 1) refl)
-      (identity values a.t (a.z ⊗ (a.x ⊗ i ⊗ (a.y ⊗ i)))
-      (record { factor = number 0 ⊖ a.t ⊗ (a.z ⊗ i ⊕ number 1); left = a.z ⊗ i; right = number 1 }
-      ∷ record { factor = number 0 ⊖ a.z ⊗ i ⊗ i; left = a.x ⊗ a.y; right = a.z ⊗ a.t }
-      ∷ [])
-      (one, (c.product, tt))
-      refl)
+      (identity values a.x m.x (inverse_times (opposite a.x) ∷ []) (unit, tt) refl)
+      (identity values a.y m.y (inverse_times (opposite a.y) ∷ []) (unit, tt) refl)
+      (ring values a.z m.z refl)
+      (identity values a.t m.t (once ∷ product ∷ []) (unit, (c.product, tt)) refl)
 
   pub is_flat : IsFlat (quotient p.x p.z) (quotient p.y p.z)
   unfolding values
   is_flat =
-      let i : Term = variable 0 in
-      let a : Coordinates = variables 1 in
-      let one : ◌≡◌ {A = ℕ} (times p.z (inverse p.z)) 1 = times_inverse f p c in
-      let x : Term = a.x ⊗ i in
-      let y : Term = a.y ⊗ i in
-      record {
-        x = times_below p.x (inverse p.z);
-        y = times_below p.y (inverse p.z);
-        curve =
-            identity values (y ⊗ y ⊖ x ⊗ x) (number 1 ⊗ number 1 ⊕ d ⊗ (x ⊗ y ⊗ (x ⊗ y)))
-            (record { factor = (a.z ⊗ i ⊕ number 1) ⊗ (number 1 ⊖ d ⊗ (i ⊗ a.t) ⊗ (i ⊗ a.t)); left = a.z ⊗ i; right = number 1 }
-            ∷ record { factor = i ⊗ i; left = a.y ⊗ a.y ⊖ a.x ⊗ a.x; right = a.z ⊗ a.z ⊕ d ⊗ (a.t ⊗ a.t) }
-            ∷ record { factor = number 0 ⊖ d ⊗ (i ⊗ i) ⊗ (i ⊗ i) ⊗ (a.x ⊗ a.y ⊕ a.z ⊗ a.t); left = a.x ⊗ a.y; right = a.z ⊗ a.t }
-            ∷ [])
-            (one, (c.curve, (c.product, tt)))
-            refl;
-      }
+      let unit : ◌≡◌ {A = ℕ} (times p.z (inverse p.z)) 1 = times_inverse f p c in
+      let flattened : Coordinates = flat_term (a.x ⊗ i) (a.y ⊗ i) in
+      let once : Fact = inverse_times ((a.z ⊗ i ⊕ one) ⊗ (one ⊖ d ⊗ (i ⊗ a.t) ⊗ (i ⊗ a.t))) in
+      let product : Fact = product_times (opposite (d ⊗ (i ⊗ i) ⊗ (i ⊗ i) ⊗ (a.x ⊗ a.y ⊕ a.z ⊗ a.t))) a in
+      let facts : List Fact = once ∷ curve_times (i ⊗ i) a ∷ product ∷ [] in
+      let curve = identity values (curve_left flattened) (curve_right flattened) facts (unit, (c.curve, (c.product, tt))) refl in
+      record { x = times_below p.x (inverse p.z); y = times_below p.y (inverse p.z); curve = curve }
 
 -- ---- multiples of points of the curve
 
@@ -106,21 +102,13 @@ pub multiple_is_curve : (f : IsField) (k : ℕ) (p : Extended) → k < prime →
 multiple_is_curve f k p b n c =
     let v : Values = and k b (and_point p (of_curve p c) none) in
     let m : Term = variable 0 in
-    let a : Coordinates = variables 1 in
-    let x : Term = m ⊗ a.x in
-    let y : Term = m ⊗ a.y in
-    let z : Term = m ⊗ a.z in
-    let t : Term = m ⊗ a.t in
+    let q : Coordinates = multiple_of m a in
     record {
       x = times_below k p.x;
       y = times_below k p.y;
       z = times_below k p.z;
       t = times_below k p.t;
       some = nonzero_product f k p.z b c.z n c.some;
-      product = identity v (x ⊗ y) (z ⊗ t) (record { factor = m ⊗ m; left = a.x ⊗ a.y; right = a.z ⊗ a.t } ∷ []) (c.product, tt) refl;
-      curve =
-          identity v (y ⊗ y ⊖ x ⊗ x) (z ⊗ z ⊕ d ⊗ (t ⊗ t))
-          (record { factor = m ⊗ m; left = a.y ⊗ a.y ⊖ a.x ⊗ a.x; right = a.z ⊗ a.z ⊕ d ⊗ (a.t ⊗ a.t) } ∷ [])
-          (c.curve, tt)
-          refl;
+      product = identity v (q.x ⊗ q.y) (q.z ⊗ q.t) (product_times (m ⊗ m) a ∷ []) (c.product, tt) refl;
+      curve = identity v (curve_left q) (curve_right q) (curve_times (m ⊗ m) a ∷ []) (c.curve, tt) refl;
     }

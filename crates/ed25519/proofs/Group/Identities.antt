@@ -9,7 +9,7 @@ use Rattle.ed25519.proofs.Group.Polynomials.{Polynomial, constant, product, prod
 infixl 65 ◌⊕◌
 infixl 65 ◌⊖◌
 infixl 70 ◌⊗◌
--- what is made of numbers and variables by the operations of the field
+-- What is made of numbers and variables by the operations of the field.
 pub data Term : Type 0 where
   variable : ℕ → Term
   number : ℕ → Term
@@ -64,23 +64,33 @@ plus_same : (x y u v : ℕ) → x % prime ≡ u % prime → y % prime ≡ v % pr
 unfolding plus
 plus_same x y u v e h = omega arith
 
-minus_same : (x y u v : ℕ) → y < prime → x % prime ≡ u % prime → y % prime ≡ v % prime → minus x y % prime ≡ (u + (prime - 1) * v) % prime
+minus_same : (x y u v : ℕ) → y < prime → x % prime ≡ u % prime → y % prime ≡ v % prime
+    → minus x y % prime ≡ (u + (prime - 1) * v) % prime
 unfolding minus
 minus_same x y u v b e h = omega arith
 
 times_same : (x y u v : ℕ) → x % prime ≡ u % prime → y % prime ≡ v % prime → times x y % prime ≡ u * v % prime
 unfolding times
 times_same x y u v e h =
-    mod-mod (x * y) prime ∙ mul-mod x y prime ∙ ap (λ n. n * (y % prime) % prime) e ∙ ap (λ n. u % prime * n % prime) h ∙ sym (mul-mod u v prime)
+    mod-mod (x * y) prime
+    ∙ mul-mod x y prime
+    ∙ ap (λ n. n * (y % prime) % prime) e
+    ∙ ap (λ n. u % prime * n % prime) h
+    ∙ sym (mul-mod u v prime)
 
 -- a term means what its polynomial does
 pub expanded_value : (xs : List ℕ) (a : Term) → AreBelow xs → meaning xs a % prime ≡ value xs (expanded a) % prime
 expanded_value xs (variable i) b = ap (λ n. n % prime) (sym (single_value xs i))
 expanded_value xs (number n) b = omega arith
-expanded_value xs (a ⊕ c) b = plus_same _ _ _ _ (expanded_value xs a b) (expanded_value xs c b) ∙ ap (λ n. n % prime) (sym (sum_value xs (expanded a) (expanded c)))
+expanded_value xs (a ⊕ c) b =
+    plus_same _ _ _ _ (expanded_value xs a b) (expanded_value xs c b)
+    ∙ ap (λ n. n % prime) (sym (sum_value xs (expanded a) (expanded c)))
 expanded_value xs (a ⊖ c) b =
+    let p : Polynomial = expanded a in
+    let q : Polynomial = expanded c in
     minus_same _ _ _ _ (meaning_below xs c b) (expanded_value xs a b) (expanded_value xs c b)
-    ∙ ap (λ n. n % prime) (sym (sum_value xs (expanded a) (scaled (prime - 1) (expanded c)) ∙ ap (λ n. value xs (expanded a) + n) (scaled_value xs (prime - 1) (expanded c))))
+    ∙ ap (λ n. (value xs p + n) % prime) (sym (scaled_value xs (prime - 1) q))
+    ∙ ap (λ n. n % prime) (sym (sum_value xs p (scaled (prime - 1) q)))
 expanded_value xs (a ⊗ c) b =
     times_same _ _ _ _ (expanded_value xs a b) (expanded_value xs c b)
     ∙ ap (λ n. n % prime) (sym (product_value xs (expanded a) (expanded c)))
@@ -88,7 +98,7 @@ expanded_value xs (a ⊗ c) b =
 
 -- ---- identities that follow from others
 
--- an equation, and what it is multiplied by
+-- An equation, and what it is multiplied by.
 pub record Fact : Type 0 where
   pub factor : Term
   pub left : Term
@@ -113,13 +123,14 @@ zero_product x = omega arith
 combined_zero : (xs : List ℕ) (fs : List Fact) → AreBelow xs → Hold xs fs → meaning xs (combined fs) ≡ 0
 combined_zero xs [] b h = refl
 combined_zero xs (f ∷ fs) b h =
-    rw (no_difference (meaning xs f.left) (meaning xs f.right) h.0 (meaning_below xs f.left b), combined_zero xs fs b h.1) (zero_product (meaning xs f.factor))
+    let e = no_difference (meaning xs f.left) (meaning xs f.right) h.0 (meaning_below xs f.left b) in
+    rw (e, combined_zero xs fs b h.1) (zero_product (meaning xs f.factor))
 
 apart : (x y : ℕ) → x < prime → y < prime → minus (minus x y) 0 % prime ≡ 0 → x ≡ y
 unfolding minus
 apart x y b c e = omega arith
 
--- what the variables stand for
+-- What the variables stand for.
 pub record Values : Type 0 where
   pub list : List ℕ
   pub below : AreBelow list
@@ -130,14 +141,15 @@ none = record { list = []; below = tt }
 abbrev pub and : (x : ℕ) → x < prime → Values → Values
 and x b v = record { list = x ∷ v.list; below = (b, v.below) }
 
--- two terms are equal, where their difference is that of the facts
+-- Two terms are equal, where their difference is a sum of those of the facts, each so many times.
 pub identity : (v : Values) (a c : Term) (fs : List Fact) → Hold v.list fs → vanishes (expanded (a ⊖ c ⊖ combined fs)) ≡ true
     → meaning v.list a ≡ meaning v.list c
 identity v a c fs h e =
     let difference : Term = a ⊖ c ⊖ combined fs in
-    let zero : meaning v.list difference % prime ≡ 0 = expanded_value v.list difference v.below ∙ vanishing_value v.list (expanded difference) e in
+    let zero : meaning v.list difference % prime ≡ 0 =
+    expanded_value v.list difference v.below ∙ vanishing_value v.list (expanded difference) e in
     apart _ _ (meaning_below v.list a v.below) (meaning_below v.list c v.below) (rw (combined_zero v.list fs v.below h) at zero)
 
--- with no other one
+-- two terms that are equal by the laws of a ring alone
 pub ring : (v : Values) (a c : Term) → vanishes (expanded (a ⊖ c ⊖ number 0)) ≡ true → meaning v.list a ≡ meaning v.list c
 ring v a c e = identity v a c [] tt e

@@ -7,10 +7,11 @@ use Rattle.ed25519.specs.Encoding.{IsOnCurve}
 use Rattle.ed25519.specs.Point as point
 use Rattle.ed25519.specs.Point.{Extended, added, base, identity, negated}
 use Rattle.ed25519.proofs.Group.Identities as identities
-use Rattle.ed25519.proofs.Group.Identities.{Term, Values, minus_below, none, number, ring, variable, ◌⊕◌, ◌⊖◌, ◌⊗◌}
+use Rattle.ed25519.proofs.Group.Identities.{Term, Values, minus_below, none, number, ring, ◌⊕◌, ◌⊗◌}
 use Rattle.ed25519.proofs.Group.Points.{AreSame, IsCurve}
-use Rattle.ed25519.proofs.Group.Multiples.{Coordinates, and_point, d, of_curve, same_coordinates, sum_of, variables}
-use Rattle.ed25519.proofs.Group.Flat.{IsFlat, flat, flat_is_curve}
+use Rattle.ed25519.proofs.Group.Coordinates.{Coordinates, curve_left, curve_right, curve_times, d, first, one, opposite, product_times, sum_of, variables}
+use Rattle.ed25519.proofs.Group.Multiples.{and_point, of_curve, same_coordinates}
+use Rattle.ed25519.proofs.Group.Flat.{flat, flat_is_curve}
 
 times_comm : (x y : ℕ) → times x y ≡ times y x
 unfolding times
@@ -34,35 +35,48 @@ doubled x y = mul-mod_second x (y + y) prime ∙ ap (λ (n : ℕ). n % prime) (t
 pub added_commutes : (p q : Extended) → added p q ≡ added q p
 unfolding added
 added_commutes p q =
-    rw (times_comm (minus p.y p.x) (minus q.y q.x), times_comm (plus p.y p.x) (plus q.y q.x), around p.t (plus point.d point.d) q.t, doubled p.z q.z) refl
+    let less = times_comm (minus p.y p.x) (minus q.y q.x) in
+    let more = times_comm (plus p.y p.x) (plus q.y q.x) in
+    rw (less, more, around p.t (plus point.d point.d) q.t, doubled p.z q.z) refl
 
 pub identity_is_curve : IsCurve identity
 unfolding times plus minus
-identity_is_curve = record { x = omega arith; y = omega arith; z = omega arith; t = omega arith; some = omega arith; product = refl; curve = refl }
+identity_is_curve = record {
+  x = omega arith;
+  y = omega arith;
+  z = omega arith;
+  t = omega arith;
+  some = omega arith;
+  product = refl;
+  curve = refl;
+}
 
 pub base_is_curve : IsCurve base
 unfolding times plus minus
-base_is_curve = record { x = omega arith; y = omega arith; z = omega arith; t = omega arith; some = omega arith; product = refl; curve = refl }
+base_is_curve = record {
+  x = omega arith;
+  y = omega arith;
+  z = omega arith;
+  t = omega arith;
+  some = omega arith;
+  product = refl;
+  curve = refl;
+}
 
 pub negated_is_curve : (p : Extended) → IsCurve p → IsCurve (negated p)
 unfolding negated
 negated_is_curve p c =
     let v : Values = and_point p (of_curve p c) none in
     let a : Coordinates = variables 0 in
-    let x : Term = number 0 ⊖ a.x in
-    let t : Term = number 0 ⊖ a.t in
+    let b : Coordinates = record { x = opposite a.x; y = a.y; z = a.z; t = opposite a.t } in
     record {
       x = minus_below 0 p.x;
       y = c.y;
       z = c.z;
       t = minus_below 0 p.t;
       some = c.some;
-      product = identities.identity v (x ⊗ a.y) (a.z ⊗ t) (record { factor = number 0 ⊖ number 1; left = a.x ⊗ a.y; right = a.z ⊗ a.t } ∷ []) (c.product, tt) refl;
-      curve =
-          identities.identity v (a.y ⊗ a.y ⊖ x ⊗ x) (a.z ⊗ a.z ⊕ d ⊗ (t ⊗ t))
-          (record { factor = number 1; left = a.y ⊗ a.y ⊖ a.x ⊗ a.x; right = a.z ⊗ a.z ⊕ d ⊗ (a.t ⊗ a.t) } ∷ [])
-          (c.curve, tt)
-          refl;
+      product = identities.identity v (b.x ⊗ b.y) (b.z ⊗ b.t) (product_times (opposite one) a ∷ []) (c.product, tt) refl;
+      curve = identities.identity v (curve_left b) (curve_right b) (curve_times one a ∷ []) (c.curve, tt) refl;
     }
 
 pub added_identity : (p : Extended) → IsCurve p → AreSame (added identity p) p
@@ -70,17 +84,14 @@ unfolding added
 added_identity p c =
     let v : Values = and_point p (of_curve p c) none in
     let a : Coordinates = variables 0 in
-    let zero : Coordinates = record { x = number 0; y = number 1; z = number 1; t = number 0 } in
-    let sum : Coordinates = sum_of zero a in
+    let sum : Coordinates = sum_of (record { x = number 0; y = one; z = one; t = number 0 }) a in
     record { x = ring v (sum.x ⊗ a.z) (a.x ⊗ sum.z) refl; y = ring v (sum.y ⊗ a.z) (a.y ⊗ sum.z) refl }
 
 -- a decoded point is one
 pub on_curve : (p : Extended) → IsOnCurve p → p.x < prime → p.y < prime → IsCurve p
 on_curve p c bx by =
     let v : Values = identities.and p.x bx (identities.and p.y by none) in
-    let x : Term = variable 0 in
-    let y : Term = variable 1 in
-    let o : Term = number 1 in
-    let equation : IsFlat p.x p.y = record { x = bx; y = by; curve = c.curve ∙ ring v (o ⊕ d ⊗ (x ⊗ x ⊗ (y ⊗ y))) (o ⊗ o ⊕ d ⊗ (x ⊗ y ⊗ (x ⊗ y))) refl } in
+    let squares : Term = first.x ⊗ first.x ⊗ (first.y ⊗ first.y) in
+    let curve = c.curve ∙ ring v (one ⊕ d ⊗ squares) (curve_right first) refl in
     let e : p ≡ flat p.x p.y = same_coordinates _ _ _ _ _ _ _ _ refl refl c.z c.t in
-    rw e (flat_is_curve p.x p.y equation)
+    rw e (flat_is_curve p.x p.y (record { x = bx; y = by; curve = curve }))

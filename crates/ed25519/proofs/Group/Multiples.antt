@@ -1,65 +1,13 @@
 -- Coordinates that are multiples of others, and their sums.
-use Rattle.std.proofs.Common.{◌≡◌, ℕ, ◌+◌, ◌<◌, [], ◌∷◌, refl}
+use Rattle.std.proofs.Common.{◌≡◌, ℕ, ◌<◌, [], ◌∷◌, refl}
 use Rattle.x25519.specs.Field.{prime}
 use Rattle.x25519.specs.Residues.{times}
-use Rattle.ed25519.specs.Point as point
 use Rattle.ed25519.specs.Point.{Extended, added}
-use Rattle.ed25519.proofs.Group.Identities.{Term, Values, and, identity, none, number, ring, times_below, variable, ◌⊕◌, ◌⊖◌, ◌⊗◌}
+use Rattle.ed25519.proofs.Group.Identities.{Fact, Term, Values, and, identity, none, ring, times_below, variable, ◌⊗◌}
 use Rattle.ed25519.proofs.Group.Points.{AreSame, IsCurve}
+use Rattle.ed25519.proofs.Group.Coordinates.{Coordinates, multiple_of, sum_of, variables}
 
--- ---- points whose coordinates are terms
-
-pub record Coordinates : Type 0 where
-  pub x : Term
-  pub y : Term
-  pub z : Term
-  pub t : Term
-
--- the four variables from this place on
-abbrev pub variables : ℕ → Coordinates
-variables n = record { x = variable n; y = variable (n + 1); z = variable (n + 2); t = variable (n + 3) }
-
-abbrev pub d : Term
-d = number point.d
-
--- the four factors of a sum
-abbrev pub less : (p q : Coordinates) → Term
-less p q = (p.y ⊖ p.x) ⊗ (q.y ⊖ q.x)
-
-abbrev pub more : (p q : Coordinates) → Term
-more p q = (p.y ⊕ p.x) ⊗ (q.y ⊕ q.x)
-
-abbrev pub twisted : (p q : Coordinates) → Term
-twisted p q = p.t ⊗ (d ⊕ d) ⊗ q.t
-
-abbrev pub twice : (p q : Coordinates) → Term
-twice p q = p.z ⊗ (q.z ⊕ q.z)
-
-abbrev pub factor_e : (p q : Coordinates) → Term
-factor_e p q = more p q ⊖ less p q
-
-abbrev pub factor_f : (p q : Coordinates) → Term
-factor_f p q = twice p q ⊖ twisted p q
-
-abbrev pub factor_g : (p q : Coordinates) → Term
-factor_g p q = twice p q ⊕ twisted p q
-
-abbrev pub factor_h : (p q : Coordinates) → Term
-factor_h p q = more p q ⊕ less p q
-
-abbrev pub sum_of : (p q : Coordinates) → Coordinates
-sum_of p q = record {
-  x = factor_e p q ⊗ factor_f p q;
-  y = factor_g p q ⊗ factor_h p q;
-  z = factor_f p q ⊗ factor_g p q;
-  t = factor_e p q ⊗ factor_h p q;
-}
-
-abbrev pub multiple_of : Term → Coordinates → Coordinates
-multiple_of k p = record { x = k ⊗ p.x; y = k ⊗ p.y; z = k ⊗ p.z; t = k ⊗ p.t }
-
--- ---- points
-
+-- the coordinates are below the prime
 pub record IsReduced (p : Extended) : Type 0 where
   pub x : p.x < prime
   pub y : p.y < prime
@@ -98,7 +46,10 @@ module _ (k m : ℕ) (p q : Extended) (bk : k < prime) (bm : m < prime) (bp : Is
       let left : Coordinates = sum_of (multiple_of (variable 0) (variables 2)) (multiple_of (variable 1) (variables 6)) in
       let right : Coordinates = multiple_of (both ⊗ both) (sum_of (variables 2) (variables 6)) in
       same_coordinates _ _ _ _ _ _ _ _
-      (ring values left.x right.x refl) (ring values left.y right.y refl) (ring values left.z right.z refl) (ring values left.t right.t refl)
+      (ring values left.x right.x refl)
+      (ring values left.y right.y refl)
+      (ring values left.z right.z refl)
+      (ring values left.t right.t refl)
 
   pub multiples_same : AreSame p q → AreSame (multiple k p) (multiple m q)
   unfolding values
@@ -108,7 +59,9 @@ module _ (k m : ℕ) (p q : Extended) (bk : k < prime) (bm : m < prime) (bp : Is
       let b : Coordinates = variables 6 in
       let left : Coordinates = multiple_of (variable 0) a in
       let right : Coordinates = multiple_of (variable 1) b in
+      let x : Fact = record { factor = both; left = a.x ⊗ b.z; right = b.x ⊗ a.z } in
+      let y : Fact = record { factor = both; left = a.y ⊗ b.z; right = b.y ⊗ a.z } in
       record {
-        x = identity values (left.x ⊗ right.z) (right.x ⊗ left.z) (record { factor = both; left = a.x ⊗ b.z; right = b.x ⊗ a.z } ∷ []) (s.x, tt) refl;
-        y = identity values (left.y ⊗ right.z) (right.y ⊗ left.z) (record { factor = both; left = a.y ⊗ b.z; right = b.y ⊗ a.z } ∷ []) (s.y, tt) refl;
+        x = identity values (left.x ⊗ right.z) (right.x ⊗ left.z) (x ∷ []) (s.x, tt) refl;
+        y = identity values (left.y ⊗ right.z) (right.y ⊗ left.z) (y ∷ []) (s.y, tt) refl;
       }

@@ -1,10 +1,10 @@
--- Polynomials whose coefficients are numbers, by the powers of their first variable.
+-- Polynomials whose coefficients are numbers, as sums of powers of the first variable.
 use Rattle.std.proofs.Common.{◌≡◌, ℕ, zero, suc, ◌+◌, ◌*◌, ◌%◌, Bool, true, false, ◌&&◌, nat_eq, List, [], ◌∷◌, drop, slice_index, refl, ap, sym, ◌∙◌, arith}
 use Rattle.std.proofs.lemmas.Bool.{eqb-true}
 use Rattle.std.proofs.lemmas.Nat.{mul-mod_second}
 use Rattle.x25519.specs.Field.{prime}
 
--- A number, or what the first variable is not in, and what it is multiplied by.
+-- A number; or the part without the first variable, and the part that is multiplied by it.
 pub data Polynomial : Type 0 where
   constant : ℕ → Polynomial
   powers : Polynomial → Polynomial → Polynomial
@@ -19,7 +19,7 @@ abbrev pub single : ℕ → Polynomial
 single zero = powers (constant 0) (constant 1)
 single (suc i) = powers (single i) (constant 0)
 
--- what both make, which is a number again where only a number is left
+-- a polynomial of these two parts, which is a number where only a number is left
 abbrev pub joined : Polynomial → Polynomial → Polynomial
 joined (constant n) (constant zero) = constant n
 joined (constant n) (constant (suc m)) = powers (constant n) (constant (suc m))
@@ -79,7 +79,8 @@ more_value xs n (powers p q) = rw (more_value (drop 1 xs) n p) (omega arith)
 pub sum_value : (xs : List ℕ) (p q : Polynomial) → value xs (sum p q) ≡ value xs p + value xs q
 sum_value xs (constant n) q = more_value xs n q
 sum_value xs (powers p q) (constant m) = rw (more_value (drop 1 xs) m p) (omega arith)
-sum_value xs (powers p q) (powers r s) = rw (joined_value xs (sum p r) (sum q s), sum_value (drop 1 xs) p r, sum_value xs q s) (ring _ _ _ _ _)
+sum_value xs (powers p q) (powers r s) =
+    rw (joined_value xs (sum p r) (sum q s), sum_value (drop 1 xs) p r, sum_value xs q s) (ring _ _ _ _ _)
   where
     ring : (a b x c d : ℕ) → a + b + x * (c + d) ≡ a + x * c + (b + x * d)
     ring a b x c d = omega arith
@@ -103,8 +104,9 @@ pub product_value : (xs : List ℕ) (p q : Polynomial) → value xs (product p q
 product_value xs (constant zero) r = omega arith
 product_value xs (constant (suc n)) r = scaled_value xs (suc n) r
 product_value xs (powers p q) r =
+    let rest = each_value xs (value (drop 1 xs) p) (product p) r (product_value (drop 1 xs) p) in
     sum_value xs (each (product p) r) (joined (constant 0) (product q r))
-    ∙ rw (joined_value xs (constant 0) (product q r), each_value xs (value (drop 1 xs) p) (product p) r (product_value (drop 1 xs) p), product_value xs q r) (ring _ _ _ _)
+    ∙ rw (joined_value xs (constant 0) (product q r), rest, product_value xs q r) (ring _ _ _ _)
   where
     ring : (a x b c : ℕ) → a * c + (0 + x * (b * c)) ≡ (a + x * b) * c
     ring a x b c = omega arith
