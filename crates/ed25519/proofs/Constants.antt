@@ -5,7 +5,7 @@ use Rattle.x25519.specs.declared.field.Element.{Element}
 use Rattle.x25519.specs.Field.{number, prime, residue}
 use Rattle.x25519.specs.Residues.{minus, plus, times}
 use Rattle.ed25519.specs.Encoding.{root_of_minus_one}
-use Rattle.ed25519.specs.Point.{base, base_x, base_y, numbers}
+use Rattle.ed25519.specs.Point.{base_x, base_y}
 use Rattle.ed25519.specs.Point as point
 
 pub zero : residue (record { a = 0; b = 0; c = 0; d = 0; e = 0 }) ≡ 0
@@ -29,16 +29,6 @@ unfolding residue
 root = refl
 
 pub ruleset roots = (one, d, root)
-
-pub base_numbers : numbers (record {
-  x = record { a = 1738742601995546; b = 1146398526822698; c = 2070867633025821; d = 562264141797630; e = 587772402128613 };
-  y = record { a = 1801439850948184; b = 1351079888211148; c = 450359962737049; d = 900719925474099; e = 1801439850948198 };
-  z = record { a = 1; b = 0; c = 0; d = 0; e = 0 };
-  t = record { a = 1841354044333475; b = 16398895984059; c = 755974180946558; d = 900171276175154; e = 1821297809914039 };
-})
-    ≡ base
-unfolding residue times
-base_numbers = refl
 
 pub small_residue : (x : Element) (n : ℕ) → number x ≡ n → n < prime → residue x ≡ n
 unfolding residue

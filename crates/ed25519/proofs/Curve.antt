@@ -1,11 +1,13 @@
 -- What is decoded is a point of the curve.
-use Rattle.std.proofs.Common.{◌≡◌, ℕ, ◌+◌, ◌-◌, ◌*◌, ◌/◌, ◌%◌, ◌<◌, Bool, true, false, nat_eq, List, Option, Some, None, IfSome, if◌then◌else◌, slice_index, refl, ap, sym, ◌∙◌, arith}
+use Rattle.std.proofs.Common.{◌≡◌, ℕ, ◌+◌, ◌-◌, ◌*◌, ◌/◌, ◌%◌, ◌<◌, Bool, true, false, nat_eq, List, Option, Some, None, IfSome, if◌then◌else◌, slice_index, refl, ap, subst, sym, ◌∙◌, arith}
 use Rattle.std.proofs.lemmas.Bool.{eqb-true}
 use Rattle.std.proofs.lemmas.Nat.{mul-mod, mul-mod_first, mul-mod_second}
 use Rattle.x25519.specs.Field.{prime}
 use Rattle.x25519.specs.Residues.{minus, plus, times}
 use Rattle.ed25519.specs.Encoding.{IsOnCurve, candidate, decoded, is_root, point_of, root, root_of_minus_one, signed, with_x, y_in}
-use Rattle.ed25519.specs.Point.{d}
+use Rattle.ed25519.specs.declared.point.Point.{Point}
+use Rattle.ed25519.specs.Point.{Extended, d, numbers}
+use Rattle.ed25519.proofs.Group.Identities.{times_below}
 
 -- the products of the two sides
 same_product : (x y : ℕ) → y * d % prime * x % prime ≡ d * (x * y % prime) % prime
@@ -44,10 +46,6 @@ opposite_square x t e =
   where
     ring : (k t x : ℕ) → k * (t + x) ≡ k * t + k * x
     ring k t x = omega arith
-
-times_below : (x y : ℕ) → times x y < prime
-unfolding times
-times_below x y = omega arith
 
 opposite : (x : ℕ) → x < prime → times (minus 0 x) (minus 0 x) ≡ times x x
 unfolding times minus
@@ -99,3 +97,6 @@ with_y (Some y) sign = with_root (root y) y sign (root_is y)
 pub decoded_point : (bytes : List ℕ) → IfSome (decoded bytes) (λ p. IsOnCurve p)
 unfolding decoded
 decoded_point bytes = with_y (y_in bytes) (slice_index bytes 31 / 128)
+
+pub decoded_numbers : (p : Point) (bytes : List ℕ) → Some (numbers p) ≡ decoded bytes → IsOnCurve (numbers p)
+decoded_numbers p bytes e = subst (λ (o : Option Extended). IfSome o (λ q. IsOnCurve q)) (sym e) (decoded_point bytes)

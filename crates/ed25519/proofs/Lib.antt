@@ -6,3 +6,4 @@ pub mod Curve
 pub mod Shared
 pub mod Field
 pub mod Group
+pub mod Ladder

@@ -1,4 +1,6 @@
 pub mod Point
+pub mod Comb
+pub mod Windows
 pub mod Encoding
 pub mod Scalar
 pub mod Order

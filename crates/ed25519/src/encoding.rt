@@ -58,7 +58,6 @@ fn with_sign(x: Element, y: Element) -> [u8; 32]
 pub(crate) fn decoded(bytes: &[u8; 32]) -> Option<Point>
     ensures value { option_map numbers result ≡ decoded bytes.now }
     ensures point { IfSome result (λ p. IsPoint p) }
-    ensures z { IfSome result (λ p. residue p.z ≡ 1) }
 {
     let y = y_in(bytes)?;
     let x = signed(root(y)?, bytes[31] / 128)?;
@@ -84,7 +83,6 @@ fn point_of(x: Element, y: Element) -> Point
     requires y { IsTight y }
     ensures value { Some (numbers result) ≡ point_of (Some (residue x)) (residue y) }
     ensures point { IsPoint result }
-    ensures z { residue result.z ≡ 1 }
 {
     is_loose(x);
     is_loose(y);

@@ -6,9 +6,9 @@ ghost use Rattle.x25519.specs.Bytes.{le_bytes, value};
 ghost use Rattle.ed25519.specs.Scalar.{number, order};
 ghost use Rattle.ed25519.specs.Signature.{base_times, pair_of, signature_of};
 
+use crate::comb::base_multiple;
 use crate::encoding::encoded;
-use crate::point::{BASE, multiplied};
-use crate::scalar::{Scalar, bytes_of, reduced, sum, times};
+use crate::scalar::{Scalar, bytes_of, reduced, scalar_of, sum, times};
 use sha2::{Digest, Sha512};
 use x25519::clamped;
 
@@ -55,11 +55,10 @@ impl KeyPair {
 }
 
 // The base point so many times, encoded.
-#[tactic(auto, unfolding(crate::specs::Signature::base_times), using(crate::proofs::Constants::base_numbers))]
 fn base_times(number: &[u8; 32]) -> [u8; 32]
     ensures { result ≡ base_times number.now }
 {
-    encoded(multiplied(number, BASE))
+    encoded(base_multiple(scalar_of(number)))
 }
 
 // The second half of a signature, S, which is r + k s modulo the order.

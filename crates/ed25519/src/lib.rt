@@ -7,13 +7,16 @@
 //! ```
 #![tactic(auto)]
 
+mod comb;
 mod encoding;
 mod keys;
 pub mod laws;
 mod order;
 mod point;
 mod scalar;
+mod teeth;
 mod verification;
+mod windows;
 
 pub use keys::KeyPair;
 pub use order::is_small_order;

@@ -3,9 +3,8 @@
 ghost use Rattle.std.specs.Prelude.{◌≡◌, ◌≤◌};
 ghost use Rattle.x25519.specs.Field.{IsLoose, IsTight, residue};
 ghost use Rattle.x25519.specs.Residues.{minus, plus, times};
-ghost use Rattle.ed25519.specs.Point.{IsPoint, IsPrepared, added, added_ready, chosen, d, multiplied, negated, numbers, prepared, ready};
+ghost use Rattle.ed25519.specs.Point.{IsPoint, IsPrepared, added, added_ready, d, negated, numbers, prepared, ready};
 
-use x25519::bytes::bit_of;
 use x25519::field;
 use x25519::field::{
     Element, ONE, ZERO, difference, is_loose, product, sum, twice_less, twice_plus,
@@ -30,37 +29,11 @@ pub(crate) struct ReadyPoint {
 }
 
 // The neutral point, whose coordinates are 0 and 1.
-const IDENTITY: Point = Point {
+pub(crate) const IDENTITY: Point = Point {
     x: ZERO,
     y: ONE,
     z: ONE,
     t: ZERO,
-};
-
-// The base point B (section 5.1), whose y is 4/5 and whose x is even.
-pub(crate) const BASE: Point = Point {
-    x: Element {
-        a: 0x6_2d60_8f25_d51a,
-        b: 0x4_12a4_b4f6_592a,
-        c: 0x7_5b71_71a4_b31d,
-        d: 0x1_ff60_5271_18fe,
-        e: 0x2_1693_6d3c_d6e5,
-    },
-    y: Element {
-        a: 0x6_6666_6666_6658,
-        b: 0x4_cccc_cccc_cccc,
-        c: 0x1_9999_9999_9999,
-        d: 0x3_3333_3333_3333,
-        e: 0x6_6666_6666_6666,
-    },
-    z: ONE,
-    t: Element {
-        a: 0x6_8ab3_a5b7_dda3,
-        b: 0x0_eea2_a5ea_dbb,
-        c: 0x2_af8d_f483_c27e,
-        d: 0x3_32b3_7527_4732,
-        e: 0x6_7875_f0fd_78b7,
-    },
 };
 
 // Twice the constant d of the curve, which is -121665/121666.
@@ -101,7 +74,7 @@ pub(crate) fn added(p: Point, q: Point) -> Point
 
 // Twice a point: the sum of it and itself, by four squares and five products.
 #[tactic(auto, unfolding(crate::specs::Point::added))]
-fn doubled(p: Point) -> Point
+pub(crate) fn doubled(p: Point) -> Point
     requires { IsPoint p }
     ensures value { numbers result ≡ added (numbers p) (numbers p) }
     ensures point { IsPoint result }
@@ -163,7 +136,7 @@ fn square_plus(z: Element, square: Element, c: Element) -> Element
 
 // A point whose z is 1, made ready to be added often.
 #[tactic(auto, using(crate::proofs::Constants::twice_d))]
-fn prepared(p: Point) -> ReadyPoint
+pub(crate) fn prepared(p: Point) -> ReadyPoint
     requires { IsPoint p }
     ensures value { ready result ≡ prepared (numbers p) }
     ensures prepared { IsPrepared result }
@@ -178,7 +151,7 @@ fn prepared(p: Point) -> ReadyPoint
 
 // The sum of a point and a prepared one, by seven products.
 #[tactic(auto, unfolding(crate::specs::Point::added_ready))]
-fn added_prepared(p: Point, q: ReadyPoint) -> Point
+pub(crate) fn added_prepared(p: Point, q: ReadyPoint) -> Point
     requires p { IsPoint p }
     requires q { IsPrepared q }
     ensures value { numbers result ≡ added_ready (numbers p) (ready q) }
@@ -207,7 +180,6 @@ pub(crate) fn negated(p: Point) -> Point
     requires { IsPoint p }
     ensures value { numbers result ≡ negated (numbers p) }
     ensures point { IsPoint result }
-    ensures z { residue result.z ≡ residue p.z }
 {
     Point {
         x: field::negated(p.x),
@@ -215,58 +187,4 @@ pub(crate) fn negated(p: Point) -> Point
         z: p.z,
         t: field::negated(p.t),
     }
-}
-
-// The second point where the choice is 1, and the first where it is 0. No branch depends on the choice.
-#[tactic(auto, using(crate::proofs::Steps::chosen_numbers))]
-fn chosen_point(choice: u64, p: Point, q: Point) -> Point
-    requires choice { choice ≤ 1 }
-    requires p { IsPoint p }
-    requires q { IsPoint q }
-    ensures value { numbers result ≡ chosen choice (numbers p) (numbers q) }
-    ensures point { IsPoint result }
-{
-    Point {
-        x: field::chosen(choice, p.x, q.x),
-        y: field::chosen(choice, p.y, q.y),
-        z: field::chosen(choice, p.z, q.z),
-        t: field::chosen(choice, p.t, q.t),
-    }
-}
-
-// A point whose z is 1 so many times, a number of 32 bytes with the lowest byte first. Each of 256 steps doubles and adds, and no branch
-// and no place in memory depends on the number.
-#[tactic(auto, using(crate::proofs::Steps::one_step, crate::proofs::Shared::ready_sum))]
-pub(crate) fn multiplied(number: &[u8; 32], p: Point) -> Point
-    requires p { IsPoint p }
-    requires z { residue p.z ≡ 1 }
-    ensures value { numbers result ≡ multiplied number.now (numbers p) 256 }
-    ensures point { IsPoint result }
-{
-    let ready = prepared(p);
-    let mut q = IDENTITY;
-    for i in 0..256usize {
-        q = doubled(q);
-        q = chosen_point(bit_of(number, 255 - i), q, added_prepared(q, ready));
-    }
-    q
-}
-
-// The same for a number that is no secret: nothing is added where its bit is 0.
-#[tactic(auto, using(crate::proofs::Steps::one_step, crate::proofs::Shared::ready_sum))]
-pub(crate) fn multiplied_openly(number: &[u8; 32], p: Point) -> Point
-    requires p { IsPoint p }
-    requires z { residue p.z ≡ 1 }
-    ensures value { numbers result ≡ multiplied number.now (numbers p) 256 }
-    ensures point { IsPoint result }
-{
-    let ready = prepared(p);
-    let mut q = IDENTITY;
-    for i in 0..256usize {
-        q = doubled(q);
-        if bit_of(number, 255 - i) == 1 {
-            q = added_prepared(q, ready);
-        }
-    }
-    q
 }

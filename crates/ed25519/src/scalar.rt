@@ -218,7 +218,7 @@ fn less_order(x: Scalar) -> Less
     }
 }
 
-fn scalar_of(bytes: &[u8; 32]) -> Scalar
+pub(crate) fn scalar_of(bytes: &[u8; 32]) -> Scalar
     ensures { number result ≡ value bytes.now }
 {
     Scalar {

@@ -2,20 +2,21 @@
 
 ghost use Rattle.std.specs.Prelude.{◌≡◌, ◌%◌};
 ghost use Rattle.x25519.specs.Bytes.{le_bytes, value};
-ghost use Rattle.x25519.specs.Field.{residue};
+ghost use Rattle.ed25519.specs.Encoding.{IsOnCurve};
 ghost use Rattle.ed25519.specs.Point.{IsPoint, numbers};
 ghost use Rattle.ed25519.specs.Scalar.{order};
 ghost use Rattle.ed25519.specs.Signature.{challenge_of, commitment, is_signature};
 
 use crate::encoding::{decoded, encoded};
 use crate::keys::{hash_of, high_half, low_half};
-use crate::point::{BASE, Point, added, multiplied_openly, negated};
-use crate::scalar::{bytes_of, is_reduced, reduced};
+use crate::point::{Point, negated};
+use crate::scalar::{bytes_of, is_reduced, reduced, scalar_of};
+use crate::windows::joint_multiple;
 
 /// Tests whether the signature is that of the message under this public key (section 5.1.7, without the cofactor): the public key is a
 /// point A in its one encoding, the number S of the signature is below the order, and its R is the encoding of S B - k A. Points of small
 /// order are no exception.
-#[tactic(auto, unfolding(crate::specs::Signature::is_signature))]
+#[tactic(auto, unfolding(crate::specs::Signature::is_signature), using(crate::proofs::Curve::decoded_numbers))]
 pub fn verify(public: &[u8; 32], message: &[u8], signature: &[u8; 64]) -> bool
     ensures { result ≡ is_signature public.now message.now signature.now }
 {
@@ -32,14 +33,10 @@ pub fn verify(public: &[u8; 32], message: &[u8], signature: &[u8; 64]) -> bool
 }
 
 // The encoding of S B - k A.
-#[tactic(auto, unfolding(crate::specs::Signature::commitment), using(crate::proofs::Constants::base_numbers))]
 fn commitment(response: &[u8; 32], challenge: &[u8; 32], key: Point) -> [u8; 32]
     requires key { IsPoint key }
-    requires z { residue key.z ≡ 1 }
+    requires curve { IsOnCurve (numbers key) }
     ensures { result ≡ commitment response.now challenge.now (numbers key) }
 {
-    encoded(added(
-        multiplied_openly(response, BASE),
-        multiplied_openly(challenge, negated(key)),
-    ))
+    encoded(joint_multiple(scalar_of(response), challenge, negated(key)))
 }
