@@ -1,4 +1,5 @@
 pub mod Point
+pub mod Group
 pub mod Comb
 pub mod Windows
 pub mod Encoding

@@ -7,7 +7,7 @@ use Rattle.ed25519.specs.Encoding.{IsOnCurve}
 use Rattle.ed25519.specs.Point as point
 use Rattle.ed25519.specs.Point.{Extended, added, base, identity, negated}
 use Rattle.ed25519.proofs.Group.Identities as identities
-use Rattle.ed25519.proofs.Group.Identities.{Term, Values, minus_below, none, number, ring, ◌⊕◌, ◌⊗◌}
+use Rattle.ed25519.proofs.Group.Identities.{Term, Values, minus_below, none, number, ring, ◌⊕◌, ◌⊗◌, ◌⊖◌}
 use Rattle.ed25519.proofs.Group.Points.{AreSame, IsCurve}
 use Rattle.ed25519.proofs.Group.Coordinates.{Coordinates, curve_left, curve_right, curve_times, d, first, one, opposite, product_times, sum_of, variables}
 use Rattle.ed25519.proofs.Group.Multiples.{and_point, of_curve, same_coordinates}
@@ -86,6 +86,19 @@ added_identity p c =
     let a : Coordinates = variables 0 in
     let sum : Coordinates = sum_of (record { x = number 0; y = one; z = one; t = number 0 }) a in
     record { x = ring v (sum.x ⊗ a.z) (a.x ⊗ sum.z) refl; y = ring v (sum.y ⊗ a.z) (a.y ⊗ sum.z) refl }
+
+-- a point and its opposite
+pub added_negated : (p : Extended) → IsCurve p → AreSame (added p (negated p)) identity
+unfolding added negated
+added_negated p c =
+    let v : Values = and_point p (of_curve p c) none in
+    let a : Coordinates = variables 0 in
+    let sum : Coordinates = sum_of a (record { x = opposite a.x; y = a.y; z = a.z; t = opposite a.t }) in
+    let g : Term = number 4 ⊗ (a.z ⊗ a.z ⊖ d ⊗ a.t ⊗ a.t) in
+    record {
+      x = ring v (sum.x ⊗ one) (number 0 ⊗ sum.z) refl;
+      y = identities.identity v (sum.y ⊗ one) (one ⊗ sum.z) (curve_times g a ∷ []) (c.curve, tt) refl;
+    }
 
 -- a decoded point is one
 pub on_curve : (p : Extended) → IsOnCurve p → p.x < prime → p.y < prime → IsCurve p
