@@ -11,6 +11,7 @@ use Rattle.ssh_model.specs.State.End.Below.{AreBelow, opened_by_all}
 use Rattle.ssh_model.specs.State.End.Deaths.{CanSettle}
 use Rattle.ssh_model.specs.State.End.State.{Authentication, Authentication.OfClient, EndState}
 use Rattle.ssh_model.specs.State.End.Summary.{EndTurned}
+use Rattle.ssh_model.specs.Protocol.KeyExchange.Choice.{Chosen}
 use Rattle.ssh_model.specs.Protocol.Sessions.Items.{Fact, Fact.Completed, Item, Item.Told, Item.Took, Spelled, Spelled.SpelledBy, messages_sent}
 use Rattle.ssh_model.specs.Protocol.Sessions.Parties.{Parties}
 use Rattle.ssh_model.specs.Protocol.Sessions.Turns.{OnUnit, stage}
@@ -104,7 +105,7 @@ module _ {K : Type 0} (laws : TurningLaws K) (p : Parties K) (history : List Ite
   -- ---- an exchange that is ended
 
   module _ (between : Transport K) (live : between.dead ≡ false) (few : between.sending.count ≤ 1) (epoch : between.sending.epoch ≡ old.kept.sending.epoch + 1) (front middle : List ℕ) (listed amid : List (List ℕ))
-      (ends : ExchangeEnds p Client history payload (old.kept.sending.epoch + 1) between (record { before = front; after = middle; listed = listed; relisted = amid })) where
+      {algorithms : Chosen} (ends : ExchangeEnds p Client history payload (old.kept.sending.epoch + 1) algorithms between (record { before = front; after = middle; listed = listed; relisted = amid })) where
     abbrev told_step : ℕ → Step
     told_step position = step.Took (record { channel = None; probing = false; telling = telling.Completed position })
 

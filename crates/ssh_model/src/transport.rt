@@ -5,6 +5,7 @@ ghost use Rattle.std.specs.Prelude.{◌≡◌, ◌<◌, ◌≤◌, ◌+◌, ◌^
 ghost use Rattle.ssh_model.specs.Protocol.Side.{Side, Side.Client, Side.Server};
 ghost use Rattle.ssh_model.specs.Protocol.Wire.Message.{Msg, Msg.Disconnect, Msg.KexInit, Msg.UserauthSuccess};
 ghost use Rattle.ssh_model.specs.Protocol.KeyExchange.Choice.{Chosen};
+ghost use Rattle.ssh_model.specs.Protocol.KeyExchange.Exchanges.{choice};
 ghost use Rattle.ssh_model.specs.Protocol.Sessions.Refusals.{AskRefusal, Refusal, Refusal.NumberSpent, first_refusal};
 ghost use Rattle.ssh_model.specs.Protocol.Sessions.Transport.{transport_ask_checks};
 ghost use Rattle.ssh_model.specs.Protocol.Sessions.Turns.{AreSpelled, IsSpelled, OnPayload, answer_checks, can_feed, number_of, stage};
@@ -17,12 +18,12 @@ ghost use Rattle.ssh_model.specs.Protocol.Sessions.Items.{Ask, Ask.AskDisconnect
 ghost use Rattle.ssh_model.specs.Protocol.Sessions.Items.{Item.Asked, Item.AskRefused, Item.Died, Item.Refused, Item.Told, Item.Fed};
 ghost use Rattle.ssh_model.specs.Protocol.Sessions.Items.{Item.SentLine, Item.Sent, Item.Took, Item.TookLine, Item.TookGuess};
 ghost use Rattle.ssh_model.specs.Protocol.Sessions.Items.{Item.TookOtherLine, Spelled, Spelled.SpelledBy, Payload, Payload.NewkeysOf};
-ghost use Rattle.ssh_model.specs.Protocol.Sessions.Items.{Payload.OtherOf};
+ghost use Rattle.ssh_model.specs.Protocol.Sessions.Items.{Payload.OtherOf, sent};
 ghost use Rattle.ssh_model.specs.Protocol.Sessions.Epochs.{epoch};
-ghost use Rattle.ssh_model.specs.Protocol.Sessions.Phases.{Phase.Guessed, is_client, has_line, may_take};
+ghost use Rattle.ssh_model.specs.Protocol.Sessions.Phases.{Phase.Exchanging, Phase.Guessed, is_client, has_line, may_take};
 ghost use Rattle.ssh_model.specs.State.TransportLayer.Directions as directions;
 ghost use Rattle.ssh_model.specs.State.TransportLayer.Directions.{Direction, counted, new_direction, renewed};
-ghost use Rattle.ssh_model.specs.State.TransportLayer.Kept.{Answered, Asks, Completes, Takes, Transport, new_transport, after_sent};
+ghost use Rattle.ssh_model.specs.State.TransportLayer.Kept.{Answered, Asks, Completes, IsChosen, Takes, Transport, new_transport, after_sent};
 ghost use Rattle.ssh_model.specs.State.TransportLayer.Kept.{after_taken, after_line, after_other_line, after_success, after_fed};
 ghost use Rattle.ssh_model.specs.State.TransportLayer.Kept.{after_guess, after_wiping, can_be_fed, message_ask_checks, message_checks};
 ghost use Rattle.ssh_model.specs.State.TransportLayer.Kept.{takes};
@@ -194,6 +195,12 @@ pub fn payloads<K>()
         Takes (agreement_of p side) s payload message answered new → AreSpelled (items_sent answered.sent) → 1 ≤ length answered.sent →
         2 ^ 32 < s.sending.count + length answered.sent → dead.dead ≡ true →
         Turned p side history payload (Died ∷ Refused NumberSpent (Some payload) ∷ []) [] dead }
+{}
+
+/// What is chosen by the peer's KEXINIT that is kept is the choice of the exchange under way in the history (RFC 4253 section 7.1).
+pub fn choices<K>()
+    ensures { (p : Parties K) (side : Side) (history : List Item) (s : Transport K) → SumsUp p side history s → s.dead ≡ false →
+        (chosen : Chosen) → s.phase ≡ Exchanging → IsChosen s chosen → choice side (epoch (sent history)) history ≡ chosen }
 {}
 
 /// What a transport does with the message that ends an exchange is, up to what it announces, what a session does; and with

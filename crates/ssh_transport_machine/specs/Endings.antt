@@ -2,7 +2,10 @@
 use Rattle.std.specs.Prelude.{◌≡◌, ℕ, ◌<◌, true, Some, List, ◌++◌}
 use Rattle.ssh_model.specs.Protocol.Side.{Side}
 use Rattle.ssh_model.specs.Protocol.Wire.Message.{Msg}
-use Rattle.ssh_model.specs.Protocol.Sessions.Items.{Item, Spelled}
+use Rattle.ssh_model.specs.Protocol.KeyExchange.Choice.{Chosen}
+use Rattle.ssh_model.specs.Protocol.KeyExchange.Exchanges.{choice}
+use Rattle.ssh_model.specs.Protocol.Sessions.Epochs.{epoch}
+use Rattle.ssh_model.specs.Protocol.Sessions.Items.{Item, Spelled, sent}
 use Rattle.ssh_model.specs.Protocol.Sessions.Parties.{Parties}
 use Rattle.ssh_model.specs.Protocol.Sessions.Phases as model
 use Rattle.ssh_model.specs.Protocol.Sessions.Refusals.{Refusal}
@@ -18,10 +21,11 @@ pub record IsRead {K : Type 0} (s : Transport K) (payload : List ℕ) : Type 0 w
   pub taken : takes s (number_of payload) ≡ true
   pub no_guess : s.phase ≡ model.Phase.Guessed → ⊥
 
--- The payload ends an exchange. What is done with it, up to what is announced, is what a session does, whatever is owed
--- after it.
+-- The payload ends an exchange, with the algorithms that its two KEXINITs choose. What is done with it, up to what is
+-- announced, is what a session does, whatever is owed after it.
 pub record ExchangeEnds {K : Type 0} (p : Parties K) (side : Side) (history : List Item) (payload : List ℕ)
-    (position : ℕ) (new : Transport K) (o : Outs) : Type 0 where
+    (position : ℕ) (algorithms : Chosen) (new : Transport K) (o : Outs) : Type 0 where
+  pub chosen_is : choice side (epoch (sent history)) history ≡ algorithms
   pub message : Msg
   pub sent : List Spelled
   pub more : List ℕ

@@ -7,10 +7,10 @@ use Rattle.ssh_model.specs.Protocol.KeyExchange.Exchanges.{Reply, nth, no_offer,
 use Rattle.ssh_model.specs.Protocol.Sessions.Parties.{Parties, Settings, Strictness, Strictness.Require, Strictness.Offer as OfferStrict, Strictness.Off, settings_of, offer_of, lists_of, first_markers}
 use Rattle.ssh_model.specs.Protocol.Sessions.Items.{Item, Item.Sent, Item.Took, sent, messages_sent, messages_taken}
 use Rattle.ssh_model.specs.Protocol.Sessions.Epochs.{epoch}
-use Rattle.ssh_model.specs.Protocol.Sessions.Phases.{phase, blocked}
+use Rattle.ssh_model.specs.Protocol.Sessions.Phases.{Phase.Exchanging, phase, blocked}
 use Rattle.ssh_model.specs.Protocol.Sessions.Transport.{secret_now}
 use Rattle.ssh_model.specs.State.TransportLayer.Kept.{Transport, IsChosen, choice_with, own_offer, inputs_with, own_point}
-use Rattle.ssh_model.specs.State.TransportLayer.Summary.{Live, is_agreeing}
+use Rattle.ssh_model.specs.State.TransportLayer.Summary.{Live, SumsUp, is_agreeing}
 use Rattle.ssh_model.specs.State.TransportLayer.View.{view}
 use Rattle.ssh_model.proofs.Wire.OneMessage.{same_message}
 
@@ -95,6 +95,13 @@ module _ {K : Type 0} (p : Parties K) (side : Side) (h : List Item) (s : Transpo
       ∙ ((λ i. choice_with side (lists_of (own.offer_is i)) (lists_of (theirs i)))
       ∙ (own_chooses (settings_of p side) side own.first own.cookie (lists_of is.theirs)
       ∙ ((λ i. choice_with (sym a.side_is i) (lists_of (own_offer (sym a.settings_are i) (sym a.side_is i))) (lists_of is.theirs)) ∙ sym is.chosen_is)))
+
+-- The choice of the exchange under way is that of the history.
+pub choices_are : {K : Type 0} (p : Parties K) (side : Side) (h : List Item) (s : Transport K) → SumsUp p side h s → s.dead ≡ false →
+    (c : Chosen) → s.phase ≡ Exchanging → IsChosen s c → choice side (epoch (sent h)) h ≡ c
+choices_are p side h s sums alive c phase_is is =
+    let a = sums.live alive in
+    choice_is p side h s a c (ap is_agreeing (sym a.phase_is ∙ phase_is)) is
 
 -- The inputs of the exchange that a client's reply ends.
 pub client_exchange : {K : Type 0} (p : Parties K) (h : List Item) (s : Transport K) (a : Live p Client (view p Client h) s) (k_s q_s signature payload : List ℕ) → is_agreeing (phase p Client h) ≡ true →

@@ -35,7 +35,7 @@ ghost use Rattle.ssh_transport.specs.Units as units;
 ghost use Rattle.ssh_transport.specs.Units.{Took};
 ghost use Rattle.ssh_transport.specs.declared.own.Own.{Own};
 
-use ssh_model::transport::{exchange_ends, payloads, refused_and_spent};
+use ssh_model::transport::{choices, exchange_ends, payloads, refused_and_spent};
 use ssh_model::{payload_numbers, spellings};
 use ssh_transport_machine::ending::{choices_kept, exchanges_live, secrets_forgotten};
 use ssh_transport_machine::laws::{live_machines, memory_deaths, unit_turns};
@@ -91,7 +91,7 @@ pub fn replies_taken<K>()
     ensures ended { (p : Parties K) (history : List Item) (s : Transport K) → SumsUp p Client history s → s.dead ≡ false →
         (old new : State K) (o : Outs) → old.kept ≡ after_taken s → IsRead s old.receiver.payload → (chosen : Chosen) →
         HostAccepted p.crypto (agreement_of p Client) p.trusts old chosen new o →
-        ExchangeEnds p Client history old.receiver.payload (s.sending.epoch + 1) new.kept o }
+        ExchangeEnds p Client history old.receiver.payload (s.sending.epoch + 1) chosen new.kept o }
     ensures bad_point { (p : Parties K) (history : List Item) (s : Transport K) → SumsUp p Client history s → s.dead ≡ false →
         (old new : State K) (o : Outs) → old.kept ≡ after_taken s → IsRead s old.receiver.payload →
         PointRefused p.crypto (agreement_of p Client) old new o →
@@ -107,6 +107,7 @@ pub fn replies_taken<K>()
         Turned p Client history old.receiver.payload (Died ∷ Refused NumberSpent (Some old.receiver.payload) ∷ []) [] new.kept }
 {
     payload_numbers();
+    choices::<K>();
     exchange_ends::<K>();
     payloads::<K>();
     refused_and_spent::<K>();

@@ -32,7 +32,7 @@ ghost use Rattle.ssh_transport.specs.Units as units;
 ghost use Rattle.ssh_transport.specs.Units.{Took};
 ghost use Rattle.ssh_transport.specs.declared.own.Own.{Own};
 
-use ssh_model::transport::{exchange_ends, payloads, refused_and_spent};
+use ssh_model::transport::{choices, exchange_ends, payloads, refused_and_spent};
 use ssh_model::{payload_numbers, spellings};
 use ssh_transport_machine::ending::{exchanges_live, secrets_forgotten};
 use ssh_transport_machine::laws::{live_machines, memory_deaths, unit_turns};
@@ -61,7 +61,7 @@ pub fn points_taken<K>()
     ensures ended { (p : Parties K) (history : List Item) (s : Transport K) → SumsUp p Server history s → s.dead ≡ false →
         (old new : State K) (o : Outs) → old.kept ≡ after_taken s → IsRead s old.receiver.payload → (chosen : Chosen) →
         PointAnswered p.crypto (parts_of p Server) old chosen new o →
-        ExchangeEnds p Server history old.receiver.payload (s.sending.epoch + 1) new.kept o }
+        ExchangeEnds p Server history old.receiver.payload (s.sending.epoch + 1) chosen new.kept o }
     ensures refused { (p : Parties K) (history : List Item) (s : Transport K) → SumsUp p Server history s → s.dead ≡ false →
         (old new : State K) (o : Outs) → old.kept ≡ after_taken s → IsRead s old.receiver.payload →
         PointRefused p.crypto (parts_of p Server) old new o → PayloadRefused p Server history old.receiver.payload BadPoint new.kept o }
@@ -71,6 +71,7 @@ pub fn points_taken<K>()
         Turned p Server history old.receiver.payload (Died ∷ Refused NumberSpent (Some old.receiver.payload) ∷ []) [] new.kept }
 {
     payload_numbers();
+    choices::<K>();
     exchange_ends::<K>();
     payloads::<K>();
     refused_and_spent::<K>();
