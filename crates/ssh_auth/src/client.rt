@@ -1,6 +1,7 @@
 //! The client of authentication.
 
 ghost use Rattle.std.specs.Prelude.{◌≡◌, ◌≤◌, ◌<◌, ◌+◌, ◌^◌, false, true, Bool, IfErr, IfOk, OnErr, OnOk, None, Some, length};
+ghost use Rattle.ssh_model.specs.Protocol.Bounds.{longest_payload};
 ghost use Rattle.ssh_model.specs.Protocol.Wire.Message.{message_number};
 ghost use Rattle.ssh_model.specs.Protocol.Sessions.Refusals.{first_refusal};
 ghost use Rattle.ssh_model.specs.Protocol.Sessions.Sizes as sizes;
@@ -200,7 +201,7 @@ impl AuthClient {
     #[tactic(auto, using(crate::proofs::Asks::checks_are))]
     fn check(&self, ask: &UserAsk<'_>) -> Result<(), AuthAskRefusal>
         ensures fine { OnOk result (first_refusal (client_checks self.now (ask_of ask.now)) ≡ None) }
-        ensures short { OnOk result (ask_size ask.now ≤ 34000) }
+        ensures short { OnOk result (ask_size ask.now ≤ longest_payload) }
         ensures refused { IfErr result (λ refusal. first_refusal (client_checks self.now (ask_of ask.now))
             ≡ Some (auth_ask_refusal refusal)) }
     {

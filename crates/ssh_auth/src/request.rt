@@ -1,6 +1,7 @@
 //! The requests of a client.
 
 ghost use Rattle.std.specs.Prelude.{◌≡◌, ◌≤◌, ◌+◌, IfOk, None, Some, codes, length};
+ghost use Rattle.ssh_model.specs.Protocol.Bounds.{longest_payload};
 ghost use Rattle.ssh_model.specs.Protocol.Wire.Message.{Method.NoMethod, Method.Password, Method.Publickey};
 ghost use Rattle.ssh_model.specs.Laws.Sizes.{payload_size};
 ghost use Rattle.ssh_model.specs.Protocol.Authentication.Requests.{signed_text};
@@ -27,6 +28,7 @@ pub struct UserRequest<'a> {
 
 impl<'a> Model for UserRequest<'a> {
     ghost use Rattle.std.specs.Prelude.{◌≤◌};
+    ghost use Rattle.ssh_model.specs.Protocol.Bounds.{longest_payload};
     ghost use Rattle.ssh_model.specs.Protocol.Wire.Message.{Msg};
     ghost use Rattle.ssh_model.specs.Laws.Sizes.{payload_size};
     ghost use Rattle.ssh_model.specs.State.Authentication.Kept.{request_by};
@@ -36,7 +38,7 @@ impl<'a> Model for UserRequest<'a> {
 
     ghost view = { λ r. request_by r.user.now (method_in r.method) };
 
-    ghost invariant = { λ r. payload_size (request_by r.user.now (method_in r.method)) ≤ 34000 };
+    ghost invariant = { λ r. payload_size (request_by r.user.now (method_in r.method)) ≤ longest_payload };
 }
 
 #[derive(Drop)]
@@ -59,7 +61,7 @@ impl<'a> UserRequest<'a> {
     pub fn message(&self) -> Message<'_>
         ensures message { meaning result ≡ self.now }
         ensures fits { Fits result }
-        ensures short { payload_size self.now ≤ 34000 }
+        ensures short { payload_size self.now ≤ longest_payload }
     {
         Message::UserauthRequest {
             user: self.user,
@@ -70,7 +72,7 @@ impl<'a> UserRequest<'a> {
 
     // By `none`.
     pub(crate) fn none(user: &'a [u8]) -> UserRequest<'a>
-        requires { payload_size (request_by user.now NoMethod) ≤ 34000 }
+        requires { payload_size (request_by user.now NoMethod) ≤ longest_payload }
         ensures { result ≡ request_by user.now NoMethod }
     {
         UserRequest {
@@ -81,7 +83,7 @@ impl<'a> UserRequest<'a> {
 
     // By a password.
     pub(crate) fn password(user: &'a [u8], password: &'a [u8]) -> UserRequest<'a>
-        requires { payload_size (request_by user.now (Password password.now None)) ≤ 34000 }
+        requires { payload_size (request_by user.now (Password password.now None)) ≤ longest_payload }
         ensures { result ≡ request_by user.now (Password password.now None) }
     {
         UserRequest {
@@ -92,7 +94,7 @@ impl<'a> UserRequest<'a> {
 
     // Whether a key would do.
     pub(crate) fn probe(user: &'a [u8], algorithm: &'a [u8], key: &'a [u8]) -> UserRequest<'a>
-        requires { payload_size (request_by user.now (Publickey algorithm.now key.now None)) ≤ 34000 }
+        requires { payload_size (request_by user.now (Publickey algorithm.now key.now None)) ≤ longest_payload }
         ensures { result ≡ request_by user.now (Publickey algorithm.now key.now None) }
     {
         UserRequest {
@@ -110,7 +112,7 @@ impl<'a> UserRequest<'a> {
         algorithm: &'a [u8],
         key: &'a [u8],
     ) -> Result<UserRequest<'a>, AllocError>
-        requires { payload_size (request_by user.now (Publickey algorithm.now key.now None)) + 4100 ≤ 34000 }
+        requires { payload_size (request_by user.now (Publickey algorithm.now key.now None)) + 4100 ≤ longest_payload }
         ensures { IfOk result (λ request. request ≡ request_by user.now
             (Publickey algorithm.now key.now (Some
             (short_signature (S.signature_of signer.now) user.now algorithm.now key.now

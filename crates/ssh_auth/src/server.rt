@@ -2,6 +2,7 @@
 
 ghost use Rattle.std.specs.Prelude.{◌≡◌, ◌<◌, ◌≤◌, false, true, IfErr, IfOk, IfSome, OnErr, OnOk, length};
 ghost use Rattle.std.specs.Option.{option_map};
+ghost use Rattle.ssh_model.specs.Protocol.Bounds.{longest_payload};
 ghost use Rattle.ssh_model.specs.Protocol.Wire.Message as model;
 ghost use Rattle.ssh_model.specs.State.Authentication.Kept.{new_server, opened_server, server_takes};
 ghost use Rattle.ssh_types.specs.Values.{names, names_text};
@@ -109,7 +110,7 @@ impl AuthServer {
         requires { IsShortAnswer answer.now }
         ensures message { option_map meaning result ≡ (answered self.now.methods answer.now).message }
         ensures fits { IfSome result (λ message. Fits message) }
-        ensures short { IfSome result (λ message. payload_size (meaning message) ≤ 34000) }
+        ensures short { IfSome result (λ message. payload_size (meaning message) ≤ longest_payload) }
     {
         match *answer {
             ServerAnswer::Ignored | ServerAnswer::Unimplemented => None,

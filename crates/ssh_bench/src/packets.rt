@@ -1,6 +1,7 @@
 //! Times sealing and opening packets under `MacOnly` against the bare HMAC-SHA-256 of the same bytes.
 
 ghost use Rattle.std.specs.Prelude.{◌≤◌, length};
+ghost use Rattle.ssh_model.specs.Protocol.Bounds.{longest_payload};
 
 use crate::ratio::Ratio;
 use case::Case;
@@ -29,7 +30,7 @@ pub fn measure<R: Clock + Print + AllocGlobal>(rt: &R, rounds: u32) -> io::Resul
 // Prints the ratios at payloads of this size.
 fn measure_size<R: Clock + Print + AllocGlobal>(rt: &R, size: usize, rounds: u32) -> io::Result<()>
     requires from { 1 ≤ size }
-    requires to { size ≤ 34000 }
+    requires to { size ≤ longest_payload }
 {
     let payload = vec![in rt.alloc(); 0x61; size]?;
     let mut case = Case::new(rt.alloc(), &payload)?;
@@ -47,7 +48,7 @@ fn fastest<R: Clock>(
     rounds: u32,
 ) -> io::Result<Times>
     requires from { 1 ≤ length payload.now }
-    requires to { length payload.now ≤ 34000 }
+    requires to { length payload.now ≤ longest_payload }
 {
     let mut fastest = Times::longest();
     for _ in 0..rounds {

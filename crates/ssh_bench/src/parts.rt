@@ -1,6 +1,7 @@
 //! Times sealing and opening packets under `AesGcm`, an agreement by X25519, and signatures by Ed25519, against HMAC-SHA-256.
 
 ghost use Rattle.std.specs.Prelude.{◌≤◌, length};
+ghost use Rattle.ssh_model.specs.Protocol.Bounds.{longest_payload};
 
 use crate::ratio::Ratio;
 use case::Case;
@@ -36,7 +37,7 @@ pub fn measure<R: Clock + Print + AllocGlobal>(rt: &R, rounds: u32) -> io::Resul
 // Prints the ratios at payloads of this size.
 fn measure_size<R: Clock + Print + AllocGlobal>(rt: &R, size: usize, rounds: u32) -> io::Result<()>
     requires from { 1 ≤ size }
-    requires to { size ≤ 34000 }
+    requires to { size ≤ longest_payload }
 {
     let payload = vec![in rt.alloc(); 0x61; size]?;
     let mut case = Case::new(rt.alloc(), &payload)?;
@@ -54,7 +55,7 @@ fn packet_ratios<R: Clock>(
     rounds: u32,
 ) -> io::Result<(Ratio, Ratio)>
     requires from { 1 ≤ length payload.now }
-    requires to { length payload.now ≤ 34000 }
+    requires to { length payload.now ≤ longest_payload }
 {
     let mut seal = Duration::MAX;
     let mut open = Duration::MAX;

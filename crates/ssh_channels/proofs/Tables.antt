@@ -3,6 +3,7 @@ use Rattle.std.proofs.Common.{◌≡◌, ◌≢◌, ℕ, zero, suc, ◌<◌, Lis
 use Rattle.std.proofs.lemmas.List.Recursion.{is_count_by}
 use lib.ListN.{get_or-map, length-map, length-replicate}
 use Rattle.slab.specs.Slab.{Slab, get, slab_len, Updates, with_value}
+use Rattle.ssh_model.specs.Protocol.Bounds.{most_channels}
 use Rattle.ssh_model.specs.State.Channels.Places.{at}
 use Rattle.ssh_channels.specs.Table.{found, places, IsTable}
 
@@ -143,12 +144,12 @@ unfolding tally
 none_counted zero = refl
 none_counted (suc n) = none_counted n
 
-pub none_table : {A : Type 0} (s : Slab A) → slab_len s ≡ 0 → IsTable s (replicate 1024 None)
+pub none_table : {A : Type 0} (s : Slab A) → slab_len s ≡ 0 → IsTable s (replicate most_channels None)
 none_table s e = record {
-  size = length-replicate {A = Option ℕ} 1024 None;
-  linked = λ x key f. let z = at_none 1024 x in absurd (cc (z, f));
-  single = λ x y key f g. let z = at_none 1024 x in absurd (cc (z, f));
-  used = e ∙ (sym (none_counted 1024) ∙ tallied (replicate 1024 None));
+  size = length-replicate {A = Option ℕ} most_channels None;
+  linked = λ x key f. let z = at_none most_channels x in absurd (cc (z, f));
+  single = λ x y key f g. let z = at_none most_channels x in absurd (cc (z, f));
+  used = e ∙ (sym (none_counted most_channels) ∙ tallied (replicate most_channels None));
 }
 
 -- ---- an entry is changed

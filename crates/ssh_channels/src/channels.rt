@@ -1,6 +1,7 @@
 //! The channels of one end.
 
 ghost use Rattle.std.specs.Prelude.{◌≡◌, ◌<◌, ◌&&◌, Some, None, IfOk, IfSome, IfNone, true, false, length};
+ghost use Rattle.ssh_model.specs.Protocol.Bounds.{most_waiting};
 ghost use Rattle.ssh_model.specs.Protocol.Channels.Connection.{is_limit_reached};
 ghost use Rattle.ssh_model.specs.State.Channels.Places.{at, is_at, is_open};
 ghost use Rattle.ssh_model.specs.State.Channels.Kept.{no_channels, count_where, is_queue_full, is_table_full, owe};
@@ -9,7 +10,8 @@ ghost use Rattle.ssh_channels.specs.Values.{reply_of};
 
 use crate::Reply;
 use crate::entry::Entry;
-use crate::table::{NUMBERS, Table};
+use crate::table::Table;
+use ssh_types::bounds::{MOST_CHANNELS, MOST_WAITING};
 use std::alloc::{AllocError, Global};
 use std::collections::VecDeque;
 use std::marker::Model;
@@ -25,9 +27,6 @@ mod sizes;
 mod taking;
 mod unblocking;
 
-// How many replies are owed at most, and how many requests of one channel, and global ones, of one side wait.
-const LIMIT: usize = 256;
-
 /// The channels of one end.
 #[derive(Drop)]
 pub struct Channels {
@@ -42,6 +41,7 @@ pub struct Channels {
 impl Model for Channels {
     ghost use Rattle.std.specs.Prelude.{◌≤◌, map};
     ghost use Rattle.std.specs.VecDeque.{deque_capacity};
+    ghost use Rattle.ssh_model.specs.Protocol.Bounds.{most_waiting};
     ghost use Rattle.ssh_model.specs.State.Channels.Kept as kept;
     ghost use Rattle.ssh_channels.specs.Values.{reply_of};
 
@@ -54,7 +54,7 @@ impl Model for Channels {
       globals_there = c.globals_there;
     } };
 
-    ghost invariant = { λ c. 256 ≤ deque_capacity c.owed };
+    ghost invariant = { λ c. most_waiting ≤ deque_capacity c.owed };
 }
 
 impl Channels {
@@ -67,7 +67,7 @@ impl Channels {
         ensures { IfOk result (λ channels. channels ≡ no_channels) }
     {
         let table = Table::new(alloc)?;
-        let owed = VecDeque::with_capacity(alloc, LIMIT)?;
+        let owed = VecDeque::with_capacity(alloc, MOST_WAITING)?;
         Ok(Channels {
             table,
             owed,
@@ -92,19 +92,19 @@ impl Channels {
     fn is_table_full(&self) -> bool
         ensures { result ≡ is_table_full self.now.places }
     {
-        self.table.count() >= NUMBERS
+        self.table.count() >= MOST_CHANNELS
     }
 
     // One reply more cannot be owed.
     fn is_queue_full(&self, blocked: bool) -> bool
         ensures { result ≡ is_queue_full blocked self.now.owed }
     {
-        blocked && self.owed.len() >= LIMIT
+        blocked && self.owed.len() >= MOST_WAITING
     }
 
     // A reply is owed after the others.
     fn owe(&mut self, reply: Reply)
-        requires { length self.old.owed < 256 }
+        requires { length self.old.owed < most_waiting }
         ensures { self.new ≡ owe (reply_of reply) self.old }
     {
         self.owed.push_back_reserved(reply);
@@ -120,7 +120,7 @@ fn count_where(want: bool, waiting: u32) -> Option<u32>
     if !want {
         return Some(waiting);
     }
-    if waiting as usize >= LIMIT {
+    if waiting as usize >= MOST_WAITING {
         return None;
     }
     Some(waiting + 1)

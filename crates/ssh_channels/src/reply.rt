@@ -1,6 +1,7 @@
 ghost use Rattle.std.specs.Prelude.{◌≡◌, ◌≤◌};
 ghost use Rattle.ssh_message.specs.Meaning.{meaning};
 ghost use Rattle.ssh_message.specs.Written.{Fits};
+ghost use Rattle.ssh_model.specs.Protocol.Bounds.{longest_payload};
 ghost use Rattle.ssh_model.specs.Laws.Sizes.{payload_size};
 ghost use Rattle.ssh_model.specs.State.Channels.Summary.{reply_channel, reply_sent};
 ghost use Rattle.ssh_channels.specs.Values.{reply_of};
@@ -34,7 +35,7 @@ impl Reply {
     pub fn message(self) -> Message<'static>
         ensures means { meaning result ≡ reply_sent (reply_of self) }
         ensures fits { Fits result }
-        ensures short { payload_size (meaning result) ≤ 34000 }
+        ensures short { payload_size (meaning result) ≤ longest_payload }
     {
         match self {
             Reply::OpenFailure { recipient } => Message::ChannelOpenFailure {

@@ -1,16 +1,15 @@
 ghost use Rattle.std.specs.Prelude.{◌≡◌, ◌<◌, None, Some, IfOk, IfSome, IfNone, ℕ, OnErr, IsSome, Contains, length, replicate, slice_set};
 ghost use Rattle.std.specs.Prelude.{count_by, is_some, option_map};
+ghost use Rattle.ssh_model.specs.Protocol.Bounds.{most_channels};
 ghost use Rattle.ssh_model.specs.State.Channels.Places.{at};
 ghost use Rattle.ssh_model.specs.State.Channels.Kept.{used, IsUnused};
 ghost use Rattle.ssh_channels.specs.Entries.{place_of};
 
 use crate::entry::Entry;
 use slab::Slab;
+use ssh_types::bounds::MOST_CHANNELS;
 use std::alloc::{AllocError, Global};
 use std::marker::Model;
-
-/// How many local numbers there are.
-pub(crate) const NUMBERS: usize = 1024;
 
 /// The channels of an end by their local numbers: for each number in use the key of an entry.
 #[derive(Drop)]
@@ -82,9 +81,9 @@ impl Table {
     ///
     /// Only where memory is refused.
     pub fn new(alloc: Global) -> Result<Table, AllocError>
-        ensures { IfOk result (λ table. table ≡ replicate 1024 None) }
+        ensures { IfOk result (λ table. table ≡ replicate most_channels None) }
     {
-        let keys = Vec::from_array(alloc, [None; NUMBERS])?;
+        let keys = Vec::from_array(alloc, [None; MOST_CHANNELS])?;
         Ok(Table {
             entries: Slab::new(alloc),
             keys,
@@ -134,7 +133,7 @@ impl Table {
     ///
     /// Only where memory is refused: nothing changes.
     pub fn insert(&mut self, entry: Entry) -> Result<u32, AllocError>
-        requires { used self.old < 1024 }
+        requires { used self.old < most_channels }
         ensures unused { IfOk result (λ number. IsUnused self.old number) }
         ensures put { IfOk result (λ number. self.new ≡ slice_set self.old number (Some (place_of entry))) }
         ensures kept { OnErr result (self.new ≡ self.old) }

@@ -6,10 +6,8 @@ ghost use Rattle.ssh_embedded.specs.Windows.{due_on};
 use ssh_channels::{Ask as ChannelAsk, Fact};
 use ssh_end::{Ask, AskStep, Told};
 use ssh_pipe_policy::Window;
+use ssh_types::bounds::MOST_CHANNELS;
 use std::alloc::{AllocError, Global};
-
-// As many channels as an end has at most.
-const NUMBERS: usize = 1_024;
 
 /// What is kept of one channel.
 #[derive(Clone, Copy)]
@@ -38,7 +36,7 @@ impl Flows {
             window: Window::new(0),
         };
         Ok(Flows {
-            list: Vec::from_elem(alloc, flow, NUMBERS)?,
+            list: Vec::from_elem(alloc, flow, MOST_CHANNELS)?,
         })
     }
 

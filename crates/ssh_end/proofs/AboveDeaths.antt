@@ -1,6 +1,7 @@
 -- Where memory is refused above its transport an end dies as in a session.
 use Rattle.std.proofs.Common.{◌≡◌, ℕ, ◌+◌, ◌<◌, ◌≤◌, ◌^◌, Bool, true, false, List, [], ◌∷◌, ◌++◌, ◌&&◌, length, arith, refl, ap, sym, ◌∙◌, subst, Option, None, Some}
 use Rattle.std.proofs.lemmas.Bool.{leb-false}
+use Rattle.ssh_model.specs.Protocol.Bounds.{most_channels}
 use Rattle.ssh_model.specs.Protocol.Side.{Side}
 use Rattle.ssh_model.specs.Protocol.Wire.Message.{Msg, Msg.ChannelOpen}
 use Rattle.ssh_model.specs.State.Channels.Kept as channels
@@ -89,9 +90,9 @@ refused_lacks p side e payload m why x y room =
 
 -- ---- a channel that is made
 
-a_number : (c : Channels) → length c.places ≡ 1024 → is_table_full c.places ≡ false → (number : ℕ) × IsUnused c.places number
+a_number : (c : Channels) → length c.places ≡ most_channels → is_table_full c.places ≡ false → (number : ℕ) × IsUnused c.places number
 a_number c size free =
-    let few = leb-false 1024 (used c.places) free in
+    let few = leb-false most_channels (used c.places) free in
     let x = some_unused c.places (omega (arith, few, size)) in
     (x.0, record { inside = omega (arith, x.1, size); nothing = x.2 })
 
@@ -100,7 +101,7 @@ open_fine : (c : Channels) (is_blocked : Bool) → is_table_full c.places ≡ fa
 open_fine c is_blocked free = ap (λ (b : Bool). first_refusal (RefusedWhere (b && is_queue_full is_blocked c.owed) OwedFull ∷ [])) free
 
 -- A channel would be made, where authentication refuses no message of a channel.
-pub channel_lacks : {K : Type 0} (p : Parties K) (side : Side) (e : EndState K) (payload : List ℕ) → length e.channels.places ≡ 1024 → e.transport.sending.count ≤ 2 ^ 32 → (message : Msg) → OpensChannel e.channels message → ReadsAbove e message payload → LacksAbove p side e payload
+pub channel_lacks : {K : Type 0} (p : Parties K) (side : Side) (e : EndState K) (payload : List ℕ) → length e.channels.places ≡ most_channels → e.transport.sending.count ≤ 2 ^ 32 → (message : Msg) → OpensChannel e.channels message → ReadsAbove e message payload → LacksAbove p side e payload
 channel_lacks p side e payload size few (ChannelOpen kind sender window max_packet rest) free reads =
     let n = a_number e.channels size free in
     lacks_by p side e payload (ChannelOpen kind sender window max_packet rest) (Some n.0) (Told (Opened n.0 kind window max_packet rest) ∷ []) e.authentication _ reads (fine e.authentication)

@@ -2,6 +2,7 @@
 use Rattle.std.proofs.Common.{◌≡◌, ℕ, ◌≤◌, ◌^◌, Bool, List, [], ◌∷◌, ◌++◌, refl, ap, sym, ◌∙◌, subst, nat_le, true, false, Option, Some, None, Result, Ok, Err}
 use Rattle.std.specs.Prelude.{IfOk, IfErr, OnOk, OnErr}
 use Rattle.std.specs.Option.{option_map}
+use Rattle.ssh_model.specs.Protocol.Bounds.{longest_payload}
 use Rattle.ssh_model.specs.Protocol.Side.{Side, Side.Client, Side.Server}
 use Rattle.ssh_model.specs.Protocol.Wire.Sealing.{Crypto}
 use Rattle.ssh_model.specs.Laws.Sizes.{payload_size}
@@ -182,7 +183,7 @@ module _ {K : Type 0} (c : Crypto K) (old : State K) (ch : Channels) (a : Ask) (
   same_checks : first_refusal (after_authentication authenticated (send_checks blocked due ch (ask_of a))) ≡ first_refusal (after_authentication old.kept.authenticated (send_checks old.kept.blocked (nat_le old.kept.settings.epoch_limit old.kept.sending.count) ch (ask_of a)))
   same_checks = λ i. first_refusal (after_authentication (authenticated_is i) (send_checks (blocked_is i) (due_is i) ch (ask_of a)))
 
-  pub sent_row : (given : channels.Sent) (kept : Channels) → first_refusal (after_authentication authenticated (send_checks blocked due ch (ask_of a))) ≡ None → Sends ch (ask_of a) given kept → HasUint32s given.message → HasRecipient given.message → payload_size given.message ≤ 34000 →
+  pub sent_row : (given : channels.Sent) (kept : Channels) → first_refusal (after_authentication authenticated (send_checks blocked due ch (ask_of a))) ≡ None → Sends ch (ask_of a) given kept → HasUint32s given.message → HasRecipient given.message → payload_size given.message ≤ longest_payload →
       (result : Result AskStep Fault) (new : State K) (o : Outs) → IfOk result (λ step. GivenSent c old (ask_of a) given new o step) → IfErr result (λ f. GivenFails old f new) → ConnectionRow c old ch (ask_of a) result new kept o
   sent_row given kept passed sends numbers recipient short result new o x y = λ side authentication p is settings.
       given_row p side old authentication ch a alive (settings alive) (sym same_checks ∙ passed) given kept sends (is_spelled ch kept (ask_of a) given sends numbers recipient short) result new o

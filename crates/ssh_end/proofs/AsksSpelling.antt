@@ -3,6 +3,7 @@ use Rattle.std.proofs.Common.{◌≡◌, ℕ, zero, suc, ◌+◌, ◌<◌, ◌�
 use Rattle.std.proofs.lemmas.Bool.{leb-false, ltb-false}
 use Rattle.std.proofs.lemmas.List.Sums.{length-filter}
 use Rattle.std.specs.Option.{option_map}
+use Rattle.ssh_model.specs.Protocol.Bounds.{longest_payload, most_channels}
 use Rattle.ssh_model.specs.Protocol.Wire.Message.{Msg.ChannelData, Msg.ChannelExtendedData, FitsContext}
 use Rattle.ssh_model.specs.Laws.Sizes.{payload_size}
 use Rattle.ssh_model.specs.Protocol.Sessions.Items as session
@@ -56,13 +57,13 @@ module _ (ch : Channels) where
   opening_told new asked given (Sends.global_yes x) = refl
   opening_told new asked given (Sends.global_no x) = refl
 
-  data_spelled : (r : ℕ) (body : List ℕ) → r < 2 ^ 32 → payload_size (ChannelData r body) ≤ 34000 → HasSpelling (ChannelData r body)
+  data_spelled : (r : ℕ) (body : List ℕ) → r < 2 ^ 32 → payload_size (ChannelData r body) ≤ longest_payload → HasSpelling (ChannelData r body)
   data_spelled r body a n = spelled (ChannelData r body) _ (byte 94 (uint32 r a (string body (omega (arith, n)) ended))) tt (omega (arith, n))
 
-  extended_spelled : (r kind : ℕ) (body : List ℕ) → r < 2 ^ 32 → kind < 2 ^ 32 → payload_size (ChannelExtendedData r kind body) ≤ 34000 → HasSpelling (ChannelExtendedData r kind body)
+  extended_spelled : (r kind : ℕ) (body : List ℕ) → r < 2 ^ 32 → kind < 2 ^ 32 → payload_size (ChannelExtendedData r kind body) ≤ longest_payload → HasSpelling (ChannelExtendedData r kind body)
   extended_spelled r kind body a b n = spelled (ChannelExtendedData r kind body) _ (byte 95 (uint32 r a (uint32 kind b (string body (omega (arith, n)) ended)))) tt (omega (arith, n))
 
-  pub is_spelled : (new : Channels) (asked : session.Ask) (given : channels.Sent) → Sends ch asked given new → HasUint32s given.message → HasRecipient given.message → payload_size given.message ≤ 34000 → HasSpelling given.message
+  pub is_spelled : (new : Channels) (asked : session.Ask) (given : channels.Sent) → Sends ch asked given new → HasUint32s given.message → HasRecipient given.message → payload_size given.message ≤ longest_payload → HasSpelling given.message
   is_spelled new asked given (Sends.opens x kind w m rest v q) u r n = open_spelled kind x w m rest (u.0) (u.1) (u.2) (omega (arith, n))
   is_spelled new asked given (Sends.confirm x w m rest v) u r n = confirmation_spelled _ x w m rest r (u.0) (u.1) (u.2) (omega (arith, n))
   is_spelled new asked given (Sends.refuse x reason) u r n = open_failure_spelled _ reason r u
@@ -103,13 +104,13 @@ free_among (Some place ∷ places) (suc most) e =
 pub open_would : (blocked due : Bool) (ch : Channels) (a : Ask) → AsksUint32s (ask_of a) → AsksForChannel blocked due ch (ask_of a) → WouldSend ch (ask_of a)
 open_would blocked due ch (ask.Open kind window max rest) u e =
     let passed = all_passed (send_checks blocked due ch (session.Ask.AskOpen kind.now window max rest.now)) e in
-    let few = leb-false 1024 (used ch.places) (passed.1.1.0) in
-    let free = free_among ch.places 1024 (omega (arith, few)) in
+    let few = leb-false most_channels (used ch.places) (passed.1.1.0) in
+    let free = free_among ch.places most_channels (omega (arith, few)) in
     record {
       given = _;
       kept = _;
       sends = Sends.opens free.number kind.now window max rest.now (record { inside = free.inside; nothing = free.nothing }) (omega (arith, u.0));
-      spelling = open_spelled kind.now free.number window max rest.now (omega (arith, free.inside)) (u.0) (u.1) (omega (arith, ltb-false 34000 (13 + string_size kind.now + length rest.now) (passed.1.1.1.1.0)));
+      spelling = open_spelled kind.now free.number window max rest.now (omega (arith, free.inside)) (u.0) (u.1) (omega (arith, ltb-false longest_payload (13 + string_size kind.now + length rest.now) (passed.1.1.1.1.0)));
     }
 open_would blocked due ch (ask.Confirm channel window max rest) u e = elim e [ ]
 open_would blocked due ch (ask.Refuse channel reason) u e = elim e [ ]

@@ -3,6 +3,7 @@ use Rattle.std.proofs.Common.{◌≡◌, ℕ, ◌≤◌, ◌^◌, List, [], ◌�
 use Rattle.std.proofs.lemmas.Bool.{ltb-false, not-false}
 use Rattle.std.proofs.lemmas.List.{length-take}
 use Rattle.std.specs.Prelude.{IfOk, IfErr, OnOk, OnErr, codes}
+use Rattle.ssh_model.specs.Protocol.Bounds.{longest_payload}
 use Rattle.ssh_model.specs.Protocol.Side.{Side, Side.Client, Side.Server}
 use Rattle.ssh_model.specs.Protocol.Wire.Message.{Msg}
 use Rattle.ssh_model.specs.Protocol.Wire.Sealing.{Crypto}
@@ -50,10 +51,10 @@ short : (l : List ℕ) → length (take 4096 l) ≤ 4096
 short l = omega (arith, length-take 4096 l)
 
 request_spelled : (signature : List ℕ → List ℕ → List ℕ → List ℕ → List ℕ) (id : List ℕ) (client new : authentication.Client) (asked : session.Ask) (m : Msg) → first_refusal (client_checks client asked) ≡ None → ClientSends (short_signature signature) id client asked m new → HasSpelling m
-request_spelled signature id client new asked m fine (ClientSends.none user) = let passed = all_passed (client_checks client (session.Ask.AskNone user)) fine in let n = ltb-false 34000 (request_size user (codes "none")) (passed.1.1.1.0) in no_method_spelled user (omega (arith, n))
-request_spelled signature id client new asked m fine (ClientSends.password user word) = let passed = all_passed (client_checks client (session.Ask.AskPassword user word)) fine in let n = ltb-false 34000 (password_size user word) (passed.1.1.1.0) in password_spelled user word (omega (arith, n))
-request_spelled signature id client new asked m fine (ClientSends.probe user algorithm key) = let passed = all_passed (client_checks client (session.Ask.AskProbe user algorithm key)) fine in let n = ltb-false 34000 (probe_size user algorithm key) (passed.1.1.1.0) in probe_spelled user algorithm key (omega (arith, n))
-request_spelled signature id client new asked m fine (ClientSends.sign user algorithm key) = let passed = all_passed (client_checks client (session.Ask.AskSign user algorithm key)) fine in let n = ltb-false 34000 (sign_size user algorithm key) (passed.1.1.1.0) in sign_spelled user algorithm key _ (omega (arith, n)) (short _)
+request_spelled signature id client new asked m fine (ClientSends.none user) = let passed = all_passed (client_checks client (session.Ask.AskNone user)) fine in let n = ltb-false longest_payload (request_size user (codes "none")) (passed.1.1.1.0) in no_method_spelled user (omega (arith, n))
+request_spelled signature id client new asked m fine (ClientSends.password user word) = let passed = all_passed (client_checks client (session.Ask.AskPassword user word)) fine in let n = ltb-false longest_payload (password_size user word) (passed.1.1.1.0) in password_spelled user word (omega (arith, n))
+request_spelled signature id client new asked m fine (ClientSends.probe user algorithm key) = let passed = all_passed (client_checks client (session.Ask.AskProbe user algorithm key)) fine in let n = ltb-false longest_payload (probe_size user algorithm key) (passed.1.1.1.0) in probe_spelled user algorithm key (omega (arith, n))
+request_spelled signature id client new asked m fine (ClientSends.sign user algorithm key) = let passed = all_passed (client_checks client (session.Ask.AskSign user algorithm key)) fine in let n = ltb-false longest_payload (sign_size user algorithm key) (passed.1.1.1.0) in sign_spelled user algorithm key _ (omega (arith, n)) (short _)
 
 -- Only an open client is refused for nothing.
 opened : (client : authentication.Client) (a : UserAsk) → first_refusal (client_checks client (ask_of a)) ≡ None → client.opened ≡ true

@@ -1,6 +1,7 @@
 -- What an end does with a payload from 50 on: what the layers above its transport make of it, and what is then sent.
 use Rattle.std.specs.Prelude.{◌≡◌, ℕ, ◌<◌, ◌≤◌, ◌^◌, Bool, true, false, Option, Some, None, IsSome, List, [], ◌∷◌, length}
 use Rattle.std.specs.Option.{option_map}
+use Rattle.ssh_model.specs.Protocol.Bounds.{longest_payload}
 use Rattle.ssh_model.specs.Protocol.Side.{Side}
 use Rattle.ssh_model.specs.Protocol.Wire.Message.{Msg}
 use Rattle.ssh_model.specs.Protocol.Wire.Sealing.{Crypto}
@@ -124,7 +125,7 @@ pub record CanReply {K : Type 0} (m : State K) (payload : List ℕ) : Type 0 whe
   pub alive : m.kept.dead ≡ false
   pub room : HasRoom m
   pub some : 1 ≤ length payload
-  pub most : length payload ≤ 34000
+  pub most : length payload ≤ longest_payload
 
 -- what is sent is spelled, or there is nothing
 abbrev pub SpellsReply : {K : Type 0} → State K → Option Msg → Option (List ℕ) → Type 0

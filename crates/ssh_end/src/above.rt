@@ -4,6 +4,7 @@ ghost use Rattle.ssh_transport_machine.specs.Puts.{outs};
 ghost use Rattle.std.specs.Prelude.{◌≡◌, ◌≤◌, IfOk, IfSome, IsSome, List, OnErr, OnOk, Some, false, true, ℕ};
 ghost use Rattle.ssh_message.specs.Meaning.{meaning};
 ghost use Rattle.ssh_message.specs.Written.{Fits};
+ghost use Rattle.ssh_model.specs.Protocol.Bounds.{longest_payload};
 ghost use Rattle.ssh_model.specs.Protocol.Wire.Message.{FitsContext};
 ghost use Rattle.ssh_model.specs.Laws.Sizes.{payload_size};
 ghost use Rattle.ssh_end.specs.Above.{CanFinish, CanReply, CanReplyWith, FinishLacks, Finished, IsAnswer, IsReply, PutsReply};
@@ -187,7 +188,7 @@ pub fn spell_answer<S: Sealing, F: Filler + Drop>(
 ) -> Result<Judgement, AllocError>
     requires fits { IfSome message (λ m. Fits m) }
     requires context { IfSome message (λ m. FitsContext true (meaning m)) }
-    requires short { IfSome message (λ m. payload_size (meaning m) ≤ 34000) }
+    requires short { IfSome message (λ m. payload_size (meaning m) ≤ longest_payload) }
     requires alive { machine.now.kept.dead ≡ false }
     ensures made { IfOk result (λ judgement. IsAnswer machine.now step (option_map meaning message.entry) success judgement) }
     ensures some { OnErr result (IsSome (option_map meaning message.entry)) }

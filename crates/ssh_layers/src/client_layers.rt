@@ -1,6 +1,7 @@
 //! Authentication and channels on a client's transport.
 
 ghost use Rattle.std.specs.Prelude.{◌≡◌, ◌≤◌, IfErr, IfOk, IfSome, OnErr, option_map, true};
+ghost use Rattle.ssh_model.specs.Protocol.Bounds.{longest_payload};
 ghost use Rattle.ssh_model.specs.State.Authentication.Kept.{new_client, opened_client};
 ghost use Rattle.ssh_model.specs.State.Channels.Kept.{no_channels};
 ghost use Rattle.ssh_model.specs.Laws.Sizes.{payload_size};
@@ -88,7 +89,7 @@ impl ClientLayers {
     pub fn message<'a>(&self, answer: &ClientLayerAnswer<'a>, number: u32) -> Option<Message<'a>>
         ensures message { option_map meaning result ≡ message_of answer.now number }
         ensures fits { IfSome result (λ message. Fits message) }
-        ensures short { IfSome result (λ message. payload_size (meaning message) ≤ 34000) }
+        ensures short { IfSome result (λ message. payload_size (meaning message) ≤ longest_payload) }
     {
         match *answer {
             ClientLayerAnswer::Authentication(_) => None,

@@ -1,6 +1,7 @@
 //! Asks for messages of the connection, at an end that may not be authenticated.
 
 ghost use Rattle.std.specs.Prelude.{◌≡◌, ◌≤◌, None, IfErr, IfOk, IfSome, OnErr, OnOk, option_map};
+ghost use Rattle.ssh_model.specs.Protocol.Bounds.{longest_payload};
 ghost use Rattle.ssh_model.specs.Protocol.Channels.Connection.{after_authentication};
 ghost use Rattle.ssh_model.specs.State.Channels.Kept.{Sends, send_checks};
 ghost use Rattle.ssh_model.specs.State.Channels.Summary.{reply_sent};
@@ -37,7 +38,7 @@ pub fn ask_channels<'a>(
         (send_checks below.now.blocked due channels.old (ask_of ask.now))) ≡ None) }
     ensures sent { IfOk result (λ sent. Sends channels.old (ask_of ask.now) (sent_of sent) channels.new) }
     ensures fits { IfOk result (λ sent. Fits sent.message) }
-    ensures short { IfOk result (λ sent. payload_size (meaning sent.message) ≤ 34000) }
+    ensures short { IfOk result (λ sent. payload_size (meaning sent.message) ≤ longest_payload) }
 {
     if !below.authenticated {
         return Err(AskError::Refused(AskRefusal::NotYet));
@@ -49,7 +50,7 @@ pub fn ask_channels<'a>(
 pub fn reply_message(reply: Option<Reply>) -> Option<Message<'static>>
     ensures message { option_map meaning result ≡ option_map (λ r. reply_sent (reply_of r)) reply }
     ensures fits { IfSome result (λ message. Fits message) }
-    ensures short { IfSome result (λ message. payload_size (meaning message) ≤ 34000) }
+    ensures short { IfSome result (λ message. payload_size (meaning message) ≤ longest_payload) }
 {
     match reply {
         Some(reply) => Some(reply.message()),

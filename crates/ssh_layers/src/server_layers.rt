@@ -1,6 +1,7 @@
 //! Authentication and channels on a server's transport.
 
 ghost use Rattle.std.specs.Prelude.{◌≡◌, ◌≤◌, IfErr, IfOk, IfSome, OnErr, option_map, false, length, true};
+ghost use Rattle.ssh_model.specs.Protocol.Bounds.{longest_payload};
 ghost use Rattle.ssh_model.specs.State.Authentication.Kept.{new_server, opened_server};
 ghost use Rattle.ssh_model.specs.State.Channels.Kept.{no_channels};
 ghost use Rattle.ssh_model.specs.Laws.Sizes.{payload_size};
@@ -101,7 +102,7 @@ impl ServerLayers {
         requires { IsShort answer.now }
         ensures message { option_map meaning result ≡ message_of self.now answer.now number }
         ensures fits { IfSome result (λ message. Fits message) }
-        ensures short { IfSome result (λ message. payload_size (meaning message) ≤ 34000) }
+        ensures short { IfSome result (λ message. payload_size (meaning message) ≤ longest_payload) }
     {
         match *answer {
             ServerLayerAnswer::Authentication(answer) => self.authentication.message(&answer),

@@ -1,3 +1,4 @@
+pub mod Bounds
 pub mod Side
 pub mod Lists
 pub mod Wire

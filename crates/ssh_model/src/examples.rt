@@ -1,60 +1,57 @@
 //! What the definitions say of two toy ends.
 
 ghost use Rattle.std.specs.Prelude.{◌≡◌, ℕ, ◌∷◌, ◌++◌, true, false, List, [], Some, None, codes, replicate, length, take, map};
+ghost use Rattle.ssh_model.specs.Protocol.Bounds.{longest_description};
 ghost use Rattle.ssh_model.specs.Protocol.Side.{Side, Side.Client, Side.Server, peer, part};
 ghost use Rattle.ssh_model.specs.Protocol.Lists.{IsIn};
-ghost use Rattle.ssh_model.specs.Example.Histories.{taken, refusal, ask_refusal, says, hears, says_on, hears_on, offer_of, opened, lined};
-ghost use Rattle.ssh_model.specs.Example.Histories.{offered, first_reply, completed, keyed, userauth, connection, asking, served};
-ghost use Rattle.ssh_model.specs.Example.Histories.{right_request, wrong_request, probe, right_signature, requesting, probing_client};
-ghost use Rattle.ssh_model.specs.Example.Histories.{failed, admitted, fed_again, rekeying, offered_again, completed_again, open_message};
-ghost use Rattle.ssh_model.specs.Example.Histories.{confirm_message, channel_opened, channel_confirmed, heard_data, heard_eof};
-ghost use Rattle.ssh_model.specs.Example.Histories.{heard_request, closed_by_peer, guessing, said_data, said_request, wide_channel};
-ghost use Rattle.ssh_model.specs.Example.Histories.{requests, connection_asks, with_methods, patient, friendly, plain_crypto, first_inputs};
-ghost use Rattle.ssh_model.specs.Example.Histories.{mac_key};
+ghost use Rattle.ssh_model.specs.Example.Histories.{taken, refusal, ask_refusal, says, hears, says_on, offer_of, opened, lined, offered};
+ghost use Rattle.ssh_model.specs.Example.Histories.{first_reply, completed, keyed, userauth, connection, asking, served, right_request};
+ghost use Rattle.ssh_model.specs.Example.Histories.{wrong_request, probe, right_signature, requesting, probing_client, failed, admitted};
+ghost use Rattle.ssh_model.specs.Example.Histories.{fed_again, rekeying, offered_again, completed_again, open_message, confirm_message};
+ghost use Rattle.ssh_model.specs.Example.Histories.{channel_opened, channel_confirmed, closed_by_peer, guessing, requests, with_methods};
+ghost use Rattle.ssh_model.specs.Example.Histories.{friendly, plain_crypto, first_inputs, mac_key};
 ghost use Rattle.ssh_model.specs.Example.Toys.{toy_key, toy, secret, every_refusal, every_ask_refusal, from_to};
 ghost use Rattle.ssh_model.specs.Example.Run.{session};
 ghost use Rattle.ssh_model.specs.Protocol.Wire.Message.{Method.NoMethod, Method.Password, Method.Publickey, Method.Other, Msg.Disconnect};
 ghost use Rattle.ssh_model.specs.Protocol.Wire.Message.{Msg.Ignore, Msg.Unimplemented, Msg.Debug, Msg.ServiceRequest, Msg.ServiceAccept};
 ghost use Rattle.ssh_model.specs.Protocol.Wire.Message.{Msg.KexInit, Msg.NewKeys, Msg.KexEcdhInit, Msg.KexEcdhReply, Msg.UserauthRequest};
 ghost use Rattle.ssh_model.specs.Protocol.Wire.Message.{Msg.UserauthFailure, Msg.UserauthSuccess, Msg.UserauthBanner, Msg.UserauthPkOk};
-ghost use Rattle.ssh_model.specs.Protocol.Wire.Message.{Msg.GlobalRequest, Msg.RequestSuccess, Msg.RequestFailure};
-ghost use Rattle.ssh_model.specs.Protocol.Wire.Message.{Msg.ChannelOpenConfirmation, Msg.ChannelOpenFailure, Msg.ChannelWindowAdjust};
-ghost use Rattle.ssh_model.specs.Protocol.Wire.Message.{Msg.ChannelData, Msg.ChannelExtendedData, Msg.ChannelEof, Msg.ChannelClose};
-ghost use Rattle.ssh_model.specs.Protocol.Wire.Message.{Msg.ChannelRequest, Msg.ChannelSuccess, Msg.ChannelFailure, Msg.Unknown};
-ghost use Rattle.ssh_model.specs.Protocol.Sessions.Refusals.{first_refusal, refusal_number, refusal_name, refusal_reason};
-ghost use Rattle.ssh_model.specs.Protocol.Sessions.Refusals.{ask_refusal_number, ask_refusal_name, Refusal, Refusal.Unexpected};
-ghost use Rattle.ssh_model.specs.Protocol.Sessions.Refusals.{Refusal.NoCommon, Refusal.NotStrict, Refusal.BadPoint, Refusal.BadHost};
-ghost use Rattle.ssh_model.specs.Protocol.Sessions.Refusals.{Refusal.NoService, Refusal.TooManyTries, Refusal.UnknownChannel};
-ghost use Rattle.ssh_model.specs.Protocol.Sessions.Refusals.{Refusal.WindowOverrun, Refusal.WindowTooLarge, Refusal.OwedFull};
-ghost use Rattle.ssh_model.specs.Protocol.Sessions.Refusals.{AskRefusal.NotYet, AskRefusal.Busy, AskRefusal.NoChannel, AskRefusal.NoRoom};
-ghost use Rattle.ssh_model.specs.Protocol.Sessions.Refusals.{AskRefusal.TooLong, AskRefusal.TableFull, AskRefusal.NothingOwed};
-ghost use Rattle.ssh_model.specs.Protocol.Sessions.Refusals.{AskRefusal.RekeyDue, AskRefusal.TooMuch, AskRefusal.WrongSide, AskRefusal};
+ghost use Rattle.ssh_model.specs.Protocol.Wire.Message.{Msg.GlobalRequest, Msg.RequestSuccess, Msg.RequestFailure, Msg.ChannelOpenFailure};
+ghost use Rattle.ssh_model.specs.Protocol.Wire.Message.{Msg.ChannelWindowAdjust, Msg.ChannelData, Msg.ChannelExtendedData, Msg.ChannelEof};
+ghost use Rattle.ssh_model.specs.Protocol.Wire.Message.{Msg.ChannelClose, Msg.ChannelRequest, Msg.ChannelSuccess, Msg.ChannelFailure};
+ghost use Rattle.ssh_model.specs.Protocol.Wire.Message.{Msg.Unknown};
+ghost use Rattle.ssh_model.specs.Protocol.Sessions.Refusals.{refusal_number, refusal_name, refusal_reason, ask_refusal_number};
+ghost use Rattle.ssh_model.specs.Protocol.Sessions.Refusals.{ask_refusal_name, Refusal, Refusal.Unexpected, Refusal.NoCommon};
+ghost use Rattle.ssh_model.specs.Protocol.Sessions.Refusals.{Refusal.NotStrict, Refusal.BadPoint, Refusal.BadHost, Refusal.NoService};
+ghost use Rattle.ssh_model.specs.Protocol.Sessions.Refusals.{Refusal.TooManyTries, Refusal.UnknownChannel, Refusal.WindowOverrun};
+ghost use Rattle.ssh_model.specs.Protocol.Sessions.Refusals.{Refusal.WindowTooLarge, Refusal.OwedFull, AskRefusal.NotYet, AskRefusal.Busy};
+ghost use Rattle.ssh_model.specs.Protocol.Sessions.Refusals.{AskRefusal.NoChannel, AskRefusal.NoRoom, AskRefusal.TooLong};
+ghost use Rattle.ssh_model.specs.Protocol.Sessions.Refusals.{AskRefusal.TableFull, AskRefusal.NothingOwed, AskRefusal.RekeyDue};
+ghost use Rattle.ssh_model.specs.Protocol.Sessions.Refusals.{AskRefusal.TooMuch, AskRefusal.WrongSide, AskRefusal};
 ghost use Rattle.ssh_model.specs.Protocol.Sessions.Parties.{AreLawful, marker_of, lists_of};
-ghost use Rattle.ssh_model.specs.Protocol.Sessions.Items.{Item, has_died, sent, took, Ask.AskService, Ask.AskNone, Ask.AskPassword};
-ghost use Rattle.ssh_model.specs.Protocol.Sessions.Items.{Ask.AskProbe, Ask.AskSign, Ask.AskRekey, Ask.AskOpen, Ask.AskConfirm};
-ghost use Rattle.ssh_model.specs.Protocol.Sessions.Items.{Ask.AskRefuse, Ask.AskData, Ask.AskAdjust, Ask.AskEof, Ask.AskClose};
-ghost use Rattle.ssh_model.specs.Protocol.Sessions.Items.{Ask.AskRequest, Ask.AskReply, Ask.AskGlobal, Ask.AskGlobalReply};
-ghost use Rattle.ssh_model.specs.Protocol.Sessions.Items.{Ask.AskDisconnect, Fact.Completed, Fact.Service, Fact.Accepted};
-ghost use Rattle.ssh_model.specs.Protocol.Sessions.Items.{Fact.Authenticated, Fact.Failed, Fact.Banner, Fact.KeyOk, Fact.Ignored};
-ghost use Rattle.ssh_model.specs.Protocol.Sessions.Items.{Fact.Debugged, Fact.NotImplemented, Fact.Disconnected, Fact.Global};
-ghost use Rattle.ssh_model.specs.Protocol.Sessions.Items.{Fact.GlobalDone, Fact.Opening, Fact.Opened, Fact.Confirmed, Fact.OpenFailed};
-ghost use Rattle.ssh_model.specs.Protocol.Sessions.Items.{Fact.GotData, Fact.Adjusted, Fact.Ended, Fact.Closed, Fact.Requested};
-ghost use Rattle.ssh_model.specs.Protocol.Sessions.Items.{Fact.RequestDone, Item.TookGuess, Item.Told, Item.Died};
+ghost use Rattle.ssh_model.specs.Protocol.Sessions.Items.{has_died, sent, took, Ask.AskService, Ask.AskNone, Ask.AskPassword, Ask.AskProbe};
+ghost use Rattle.ssh_model.specs.Protocol.Sessions.Items.{Ask.AskSign, Ask.AskRekey, Ask.AskOpen, Ask.AskConfirm, Ask.AskRefuse};
+ghost use Rattle.ssh_model.specs.Protocol.Sessions.Items.{Ask.AskData, Ask.AskAdjust, Ask.AskEof, Ask.AskClose, Ask.AskRequest};
+ghost use Rattle.ssh_model.specs.Protocol.Sessions.Items.{Ask.AskReply, Ask.AskGlobal, Ask.AskGlobalReply, Ask.AskDisconnect};
+ghost use Rattle.ssh_model.specs.Protocol.Sessions.Items.{Fact.Completed, Fact.Service, Fact.Accepted, Fact.Authenticated, Fact.Failed};
+ghost use Rattle.ssh_model.specs.Protocol.Sessions.Items.{Fact.Banner, Fact.KeyOk, Fact.Ignored, Fact.Debugged, Fact.NotImplemented};
+ghost use Rattle.ssh_model.specs.Protocol.Sessions.Items.{Fact.Disconnected, Fact.Opening, Fact.GotData, Fact.Ended, Item.TookGuess};
+ghost use Rattle.ssh_model.specs.Protocol.Sessions.Items.{Item.Told, Item.Died};
 ghost use Rattle.ssh_model.specs.Protocol.Sessions.Epochs.{epoch};
 ghost use Rattle.ssh_model.specs.Protocol.KeyExchange.Exchange.{Inputs, exchange_hash, derived};
 ghost use Rattle.ssh_model.specs.Protocol.KeyExchange.Exchanges.{sending_number, taking_number, exchange, exchanges, first_common, common};
 ghost use Rattle.ssh_model.specs.Protocol.KeyExchange.Exchanges.{choice, iv_letter, cipher_letter, mac_letter, key_of, sending_key};
 ghost use Rattle.ssh_model.specs.Protocol.KeyExchange.Exchanges.{taking_key};
-ghost use Rattle.ssh_model.specs.Protocol.Sessions.Phases.{is_wrong_guess, own_names, blocked, authenticated};
+ghost use Rattle.ssh_model.specs.Protocol.Sessions.Phases.{is_wrong_guess, own_names};
 ghost use Rattle.ssh_model.specs.Protocol.Authentication.Requests.{judge_of, is_known_key, signed_text, is_accepted, is_good_probe};
 ghost use Rattle.ssh_model.specs.Protocol.Sessions.Transport.{hash_to_sign, reply_now};
-ghost use Rattle.ssh_model.specs.Protocol.Channels.Connection.{notes, is_full, is_limit_reached, is_owed_limit_reached, is_rekey_due};
-ghost use Rattle.ssh_model.specs.Protocol.Sessions.Turns.{ask_checks, Answer, OnAsk, Run};
+ghost use Rattle.ssh_model.specs.Protocol.Sessions.Turns.{Answer, OnAsk, Run};
 ghost use Rattle.ssh_model.specs.Protocol.Sessions.Honest.{IsHonest};
 ghost use Rattle.ssh_model.specs.Protocol.Sessions.Claims.{TookUnder, HasAccepted};
 ghost use Rattle.ssh_model.specs.Protocol.Sessions.TurnClaims.{AreGood};
 ghost use Rattle.ssh_model.specs.Protocol.KeyExchange.Choice.{client_marker, server_marker, Kind.Kex};
-ghost use Rattle.ssh_model.specs.Protocol.Channels.Numbers.{is_confirmed, has_closed};
+
+pub mod channels;
 
 /// The toy parts keep what is promised of parts, and the toy settings are good.
 pub fn toy_parts()
@@ -176,91 +173,6 @@ pub fn refusal_examples()
     ensures unknown_number { refusal Client (admitted Client) (Unknown 200) ≡ None }
 {}
 
-/// What an end refuses a message of the connection for, or none.
-pub fn channel_refusal_examples()
-    ensures many_global_requests { refusal Client (replicate 255 (hears (GlobalRequest [] true [])) ++ admitted Client)
-        (GlobalRequest [] true []) ≡ None }
-    ensures too_many_global_requests { refusal Client (replicate 256 (hears (GlobalRequest [] true [])) ++ admitted Client)
-        (GlobalRequest [] true []) ≡ Some OwedFull }
-    ensures global_request_without_reply { refusal Client (replicate 256 (hears (GlobalRequest [] true [])) ++ admitted Client)
-        (GlobalRequest [] false []) ≡ None }
-    ensures replied_global_request { refusal Client (says RequestFailure ∷ replicate 256 (hears (GlobalRequest [] true [])) ++ admitted
-        Client) (GlobalRequest [] true []) ≡ None }
-    ensures reply_to_no_global_request { refusal Client (says (GlobalRequest [] false []) ∷ admitted Client) (RequestSuccess [])
-        ≡ Some Unexpected }
-    ensures failure_of_no_global_request { refusal Client (admitted Client) RequestFailure ≡ Some Unexpected }
-    ensures reply_to_global_request { refusal Client (says (GlobalRequest [] true []) ∷ admitted Client) (RequestSuccess []) ≡ None }
-    ensures failure_of_global_request { refusal Client (says (GlobalRequest [] true []) ∷ admitted Client) RequestFailure ≡ None }
-    ensures second_reply_to_global_request { refusal Client (hears RequestFailure ∷ says (GlobalRequest [] true []) ∷ admitted Client)
-        RequestFailure ≡ Some Unexpected }
-    ensures channel_open { refusal Server (admitted Server) open_message ≡ None }
-    ensures confirmation { refusal Client (channel_opened Client) confirm_message ≡ None }
-    ensures confirmation_of_no_channel { refusal Client (admitted Client) confirm_message ≡ Some UnknownChannel }
-    ensures second_confirmation { refusal Client (channel_confirmed Client) confirm_message ≡ Some Unexpected }
-    ensures confirmation_while_close_is_owed { refusal Client (closed_by_peer Client) confirm_message ≡ Some Unexpected }
-    ensures confirmation_after_both_closed { refusal Client (hears_on 3 (ChannelClose 3) ∷ says_on 3 (ChannelClose 5) ∷ channel_confirmed
-        Client) confirm_message ≡ Some UnknownChannel }
-    ensures confirmation_by_who_opened { refusal Server (channel_opened Server) (ChannelOpenConfirmation 5 3 10 8 []) ≡ Some Unexpected }
-    ensures open_failure { refusal Client (channel_opened Client) (ChannelOpenFailure 3 1 [] []) ≡ None }
-    ensures open_failure_of_no_channel { refusal Client (admitted Client) (ChannelOpenFailure 3 1 [] []) ≡ Some UnknownChannel }
-    ensures failure_after_confirmation { refusal Client (channel_confirmed Client) (ChannelOpenFailure 3 1 [] []) ≡ Some Unexpected }
-    ensures failure_while_close_is_owed { refusal Client (closed_by_peer Client) (ChannelOpenFailure 3 1 [] []) ≡ Some Unexpected }
-    ensures adjust { refusal Client (channel_confirmed Client) (ChannelWindowAdjust 3 4294967275) ≡ None }
-    ensures adjust_too_far { refusal Client (channel_confirmed Client) (ChannelWindowAdjust 3 4294967276) ≡ Some WindowTooLarge }
-    ensures adjust_after_data { refusal Client (says_on 3 (ChannelData 5 (codes "x")) ∷ channel_confirmed Client)
-        (ChannelWindowAdjust 3 4294967276) ≡ None }
-    ensures adjust_of_no_channel { refusal Client (channel_opened Client) (ChannelWindowAdjust 3 4294967296) ≡ Some UnknownChannel }
-    ensures adjust_after_close { refusal Client (says_on 3 (ChannelClose 5) ∷ channel_confirmed Client) (ChannelWindowAdjust 3 1) ≡ None }
-    ensures adjust_after_close_of_peer { refusal Client (closed_by_peer Client) (ChannelWindowAdjust 3 1) ≡ Some UnknownChannel }
-    ensures channel_data { refusal Client (channel_confirmed Client) (ChannelData 3 (replicate 8 0)) ≡ None }
-    ensures data_of_no_channel { refusal Client (channel_confirmed Client) (ChannelData 5 []) ≡ Some UnknownChannel }
-    ensures data_before_confirmation { refusal Client (channel_opened Client) (ChannelData 3 []) ≡ Some UnknownChannel }
-    ensures data_to_unconfirmed { refusal Server (channel_opened Server) (ChannelData 5 []) ≡ Some UnknownChannel }
-    ensures data_over_size { refusal Client (channel_confirmed Client) (ChannelData 3 (replicate 9 0)) ≡ Some WindowOverrun }
-    ensures data_over_window { refusal Client (heard_data ∷ channel_confirmed Client) (ChannelData 3 (replicate 3 0)) ≡ Some WindowOverrun }
-    ensures data_within_window { refusal Client (heard_data ∷ channel_confirmed Client) (ChannelData 3 (replicate 2 0)) ≡ None }
-    ensures data_after_adjust { refusal Client (says_on 3 (ChannelWindowAdjust 5 1) ∷ heard_data ∷ channel_confirmed Client)
-        (ChannelData 3 (replicate 3 0)) ≡ None }
-    ensures data_after_eof { refusal Client (heard_eof ∷ channel_confirmed Client) (ChannelData 3 []) ≡ Some Unexpected }
-    ensures data_after_eof_over_window { refusal Client (heard_eof ∷ channel_confirmed Client) (ChannelData 3 (replicate 9 0))
-        ≡ Some Unexpected }
-    ensures data_after_close { refusal Client (says_on 3 (ChannelClose 5) ∷ channel_confirmed Client) (ChannelData 3 (replicate 8 0))
-        ≡ None }
-    ensures data_after_close_of_peer { refusal Client (closed_by_peer Client) (ChannelData 3 []) ≡ Some UnknownChannel }
-    ensures extended_data { refusal Client (channel_confirmed Client) (ChannelExtendedData 3 1 (replicate 8 0)) ≡ None }
-    ensures extended_data_over_size { refusal Client (channel_confirmed Client) (ChannelExtendedData 3 1 (replicate 9 0))
-        ≡ Some WindowOverrun }
-    ensures extended_data_over_window { refusal Client (heard_data ∷ channel_confirmed Client) (ChannelExtendedData 3 1 (replicate 3 0))
-        ≡ Some WindowOverrun }
-    ensures extended_data_after_eof { refusal Client (heard_eof ∷ channel_confirmed Client) (ChannelExtendedData 3 1 (replicate 9 0))
-        ≡ Some Unexpected }
-    ensures extended_data_of_no_channel { refusal Client (channel_confirmed Client) (ChannelExtendedData 5 1 []) ≡ Some UnknownChannel }
-    ensures eof { refusal Client (channel_confirmed Client) (ChannelEof 3) ≡ None }
-    ensures second_eof { refusal Client (heard_eof ∷ channel_confirmed Client) (ChannelEof 3) ≡ Some Unexpected }
-    ensures eof_of_no_channel { refusal Client (channel_opened Client) (ChannelEof 3) ≡ Some UnknownChannel }
-    ensures close { refusal Client (heard_eof ∷ channel_confirmed Client) (ChannelClose 3) ≡ None }
-    ensures close_of_no_channel { refusal Client (channel_opened Client) (ChannelClose 3) ≡ Some UnknownChannel }
-    ensures second_close { refusal Client (hears_on 3 (ChannelClose 3) ∷ says_on 3 (ChannelClose 5) ∷ channel_confirmed Client)
-        (ChannelClose 3) ≡ Some UnknownChannel }
-    ensures many_requests { refusal Client (replicate 255 heard_request ++ channel_confirmed Client) (ChannelRequest 3 [] true []) ≡ None }
-    ensures too_many_requests { refusal Client (replicate 256 heard_request ++ channel_confirmed Client) (ChannelRequest 3 [] true [])
-        ≡ Some OwedFull }
-    ensures request_without_reply { refusal Client (replicate 256 heard_request ++ channel_confirmed Client)
-        (ChannelRequest 3 [] false []) ≡ None }
-    ensures request_after_close { refusal Client (says_on 3 (ChannelClose 5) ∷ replicate 256 heard_request ++ channel_confirmed Client)
-        (ChannelRequest 3 [] true []) ≡ None }
-    ensures request_of_no_channel { refusal Client (channel_opened Client) (ChannelRequest 3 [] true []) ≡ Some UnknownChannel }
-    ensures reply_to_request { refusal Client (says_on 3 (ChannelRequest 5 [] true []) ∷ channel_confirmed Client) (ChannelSuccess 3)
-        ≡ None }
-    ensures failure_of_request { refusal Client (says_on 3 (ChannelRequest 5 [] true []) ∷ channel_confirmed Client) (ChannelFailure 3)
-        ≡ None }
-    ensures reply_to_no_request { refusal Client (says_on 3 (ChannelRequest 5 [] false []) ∷ channel_confirmed Client) (ChannelSuccess 3)
-        ≡ Some Unexpected }
-    ensures failure_of_no_request { refusal Client (channel_confirmed Client) (ChannelFailure 3) ≡ Some Unexpected }
-    ensures reply_of_no_channel { refusal Client (channel_opened Client) (ChannelSuccess 3) ≡ Some UnknownChannel }
-    ensures failure_of_no_channel { refusal Client (channel_opened Client) (ChannelFailure 3) ≡ Some UnknownChannel }
-{}
-
 /// What an ask for the transport or for authentication is refused for, or none.
 pub fn ask_examples()
     ensures service { ask_refusal Client (keyed Client) AskService ≡ None }
@@ -290,114 +202,9 @@ pub fn ask_examples()
     ensures rekey_while_blocked { (side : Side) → ask_refusal side (rekeying side) AskRekey ≡ Some Busy }
     ensures rekey_before_newkeys_is_taken { (side : Side) → ask_refusal side (completed_again side) AskRekey ≡ Some Busy }
     ensures rekey_without_material { (side : Side) → ask_refusal side (admitted side) AskRekey ≡ Some AskRefusal.NoMaterial }
-    ensures disconnect { (side : Side) → ask_refusal side (opened side) (AskDisconnect (replicate 1024 0)) ≡ None }
+    ensures disconnect { (side : Side) → ask_refusal side (opened side) (AskDisconnect (replicate longest_description 0)) ≡ None }
     ensures long_disconnect { (side : Side) → ask_refusal side (opened side) (AskDisconnect (replicate 1025 0)) ≡ Some TooLong }
     ensures disconnect_while_blocked { (side : Side) → ask_refusal side (rekeying side) (AskDisconnect []) ≡ None }
-{}
-
-/// What an ask for the connection is refused for, or none.
-pub fn channel_ask_examples()
-    ensures not_authenticated { map (ask_refusal Client (served Client)) connection_asks ≡ replicate 14 (Some NotYet) }
-    ensures blocked_by_own_kexinit { map (ask_refusal Client (rekeying Client)) connection_asks ≡ replicate 14 (Some Busy) }
-    ensures rekey_is_due { map (ask_refusal Client (replicate 62 (says (Ignore [])) ++ admitted Client)) connection_asks
-        ≡ replicate 14 (Some RekeyDue) }
-    ensures blocked_before_rekey_is_due { ask_refusal Client (replicate 62 (says (Ignore [])) ++ rekeying Client) (AskEof 3) ≡ Some Busy }
-    ensures rekey_is_not_due { ask_refusal Client (replicate 61 (says (Ignore [])) ++ admitted Client) (AskOpen [] 0 1 []) ≡ None }
-    ensures rekey_though_due { ask_refusal Client (replicate 62 (says (Ignore [])) ++ fed_again Client) AskRekey ≡ None }
-    ensures service_though_due { ask_refusal Client (replicate 64 (says (Ignore [])) ++ keyed Client) AskService ≡ None }
-    ensures request_though_due { map (ask_refusal Client (replicate 64 (says (Ignore [])) ++ served Client)) requests ≡ replicate 4 None }
-    ensures disconnect_though_due { ask_refusal Client (replicate 62 (says (Ignore [])) ++ admitted Client) (AskDisconnect []) ≡ None }
-    ensures open_by_server { ask_refusal Server (admitted Server) (AskOpen (codes "x") 0 1 []) ≡ None }
-    ensures open_of_largest_data { ask_refusal Client (admitted Client) (AskOpen [] 0 32768 []) ≡ None }
-    ensures open_of_larger_data { ask_refusal Client (admitted Client) (AskOpen [] 0 32769 []) ≡ Some TooMuch }
-    ensures open_of_no_data { ask_refusal Client (admitted Client) (AskOpen [] 0 0 []) ≡ Some TooMuch }
-    ensures long_open { ask_refusal Client (admitted Client) (AskOpen (codes "session") 0 1 (replicate 33976 0)) ≡ None }
-    ensures too_long_open { ask_refusal Client (admitted Client) (AskOpen (codes "session") 0 1 (replicate 33977 0)) ≡ Some TooLong }
-    ensures too_much_before_too_long { ask_refusal Client (admitted Client) (AskOpen (codes "session") 0 0 (replicate 33977 0))
-        ≡ Some TooMuch }
-    ensures confirm { ask_refusal Server (channel_opened Server) (AskConfirm 5 20 16 []) ≡ None }
-    ensures confirm_of_no_open { ask_refusal Server (channel_opened Server) (AskConfirm 3 20 16 []) ≡ Some NoChannel }
-    ensures confirm_of_own_open { ask_refusal Client (channel_opened Client) (AskConfirm 3 20 16 []) ≡ Some NoChannel }
-    ensures second_confirm { ask_refusal Server (channel_confirmed Server) (AskConfirm 5 20 0 []) ≡ Some NoChannel }
-    ensures confirm_of_larger_data { ask_refusal Server (channel_opened Server) (AskConfirm 5 20 32769 []) ≡ Some TooMuch }
-    ensures confirm_of_no_data { ask_refusal Server (channel_opened Server) (AskConfirm 5 20 0 []) ≡ Some TooMuch }
-    ensures long_confirm { ask_refusal Server (channel_opened Server) (AskConfirm 5 20 16 (replicate 33983 0)) ≡ None }
-    ensures too_long_confirm { ask_refusal Server (channel_opened Server) (AskConfirm 5 20 16 (replicate 33984 0)) ≡ Some TooLong }
-    ensures refuse { ask_refusal Server (channel_opened Server) (AskRefuse 5 1) ≡ None }
-    ensures refuse_of_no_open { ask_refusal Server (channel_confirmed Server) (AskRefuse 5 1) ≡ Some NoChannel }
-    ensures give_data { ask_refusal Client (channel_confirmed Client) (AskData 3 None (replicate 16 0)) ≡ None }
-    ensures data_on_no_channel { ask_refusal Client (channel_opened Client) (AskData 3 None []) ≡ Some NoChannel }
-    ensures data_after_own_eof { ask_refusal Client (says_on 3 (ChannelEof 5) ∷ channel_confirmed Client)
-        (AskData 3 None (replicate 17 0)) ≡ Some AskRefusal.Ended }
-    ensures data_after_own_close { ask_refusal Client (says_on 3 (ChannelClose 5) ∷ channel_confirmed Client) (AskData 3 None [])
-        ≡ Some AskRefusal.Ended }
-    ensures data_after_both_closed { ask_refusal Client (hears_on 3 (ChannelClose 3) ∷ says_on 3 (ChannelClose 5) ∷ channel_confirmed
-        Client) (AskData 3 None []) ≡ Some NoChannel }
-    ensures data_over_most_of_peer { ask_refusal Client (channel_confirmed Client) (AskData 3 None (replicate 17 0)) ≡ Some TooLong }
-    ensures data_over_room { ask_refusal Client (said_data ∷ channel_confirmed Client) (AskData 3 None (replicate 5 0)) ≡ Some NoRoom }
-    ensures data_within_room { ask_refusal Client (said_data ∷ channel_confirmed Client) (AskData 3 None (replicate 4 0)) ≡ None }
-    ensures too_long_before_no_room { ask_refusal Client (said_data ∷ channel_confirmed Client) (AskData 3 None (replicate 17 0))
-        ≡ Some TooLong }
-    ensures largest_data { ask_refusal Client wide_channel (AskData 3 None (replicate 32768 0)) ≡ None }
-    ensures larger_data { ask_refusal Client wide_channel (AskData 3 None (replicate 32769 0)) ≡ Some TooLong }
-    ensures extended_data_over_room { ask_refusal Client (said_data ∷ channel_confirmed Client) (AskData 3 (Some 1) (replicate 5 0))
-        ≡ Some NoRoom }
-    ensures extended_data_over_most { ask_refusal Client (channel_confirmed Client) (AskData 3 (Some 1) (replicate 17 0)) ≡ Some TooLong }
-    ensures grant { ask_refusal Client (channel_confirmed Client) (AskAdjust 3 4294967285) ≡ None }
-    ensures grant_too_much { ask_refusal Client (channel_confirmed Client) (AskAdjust 3 4294967286) ≡ Some TooMuch }
-    ensures grant_after_data { ask_refusal Client (heard_data ∷ channel_confirmed Client) (AskAdjust 3 4294967293) ≡ None }
-    ensures grant_on_no_channel { ask_refusal Client (channel_opened Client) (AskAdjust 3 1) ≡ Some NoChannel }
-    ensures grant_after_own_close { ask_refusal Client (says_on 3 (ChannelClose 5) ∷ channel_confirmed Client) (AskAdjust 3 1)
-        ≡ Some AskRefusal.Ended }
-    ensures grant_after_own_eof { ask_refusal Client (says_on 3 (ChannelEof 5) ∷ channel_confirmed Client) (AskAdjust 3 1) ≡ None }
-    ensures end_of_data { ask_refusal Client (channel_confirmed Client) (AskEof 3) ≡ None }
-    ensures second_own_eof { ask_refusal Client (says_on 3 (ChannelEof 5) ∷ channel_confirmed Client) (AskEof 3) ≡ Some AskRefusal.Ended }
-    ensures eof_after_own_close { ask_refusal Client (says_on 3 (ChannelClose 5) ∷ channel_confirmed Client) (AskEof 3)
-        ≡ Some AskRefusal.Ended }
-    ensures eof_on_no_channel { ask_refusal Client (channel_opened Client) (AskEof 3) ≡ Some NoChannel }
-    ensures close_after_own_eof { ask_refusal Client (says_on 3 (ChannelEof 5) ∷ channel_confirmed Client) (AskClose 3) ≡ None }
-    ensures second_own_close { ask_refusal Client (says_on 3 (ChannelClose 5) ∷ channel_confirmed Client) (AskClose 3)
-        ≡ Some AskRefusal.Ended }
-    ensures close_on_no_channel { ask_refusal Client (channel_opened Client) (AskClose 3) ≡ Some NoChannel }
-    ensures many_own_requests { ask_refusal Client (replicate 255 said_request ++ channel_confirmed Client) (AskRequest 3 [] true [])
-        ≡ Some RekeyDue }
-    ensures too_many_own_requests { ask_refusal Client (replicate 256 said_request ++ channel_confirmed Client) (AskRequest 3 [] true [])
-        ≡ Some Busy }
-    ensures own_request_without_reply { ask_refusal Client (replicate 256 said_request ++ channel_confirmed Client)
-        (AskRequest 3 [] false []) ≡ Some RekeyDue }
-    ensures too_many_requests_on_a_channel { first_refusal (ask_checks patient Client
-        (replicate 256 said_request ++ channel_confirmed Client) (AskRequest 3 [] true [])) ≡ Some Busy }
-    ensures request_on_unused_number { first_refusal (ask_checks patient Client (replicate 256 said_request ++ channel_confirmed Client)
-        (AskRequest 900 [] true [])) ≡ Some NoChannel }
-    ensures request_on_no_channel { ask_refusal Client (channel_opened Client) (AskRequest 3 [] true []) ≡ Some NoChannel }
-    ensures request_after_own_close { ask_refusal Client (says_on 3 (ChannelClose 5) ∷ channel_confirmed Client) (AskRequest 3 [] true [])
-        ≡ Some AskRefusal.Ended }
-    ensures long_request { ask_refusal Client (channel_confirmed Client) (AskRequest 3 (codes "x") true (replicate 33989 0)) ≡ None }
-    ensures too_long_request { ask_refusal Client (channel_confirmed Client) (AskRequest 3 (codes "x") true (replicate 33990 0))
-        ≡ Some TooLong }
-    ensures request_reply { ask_refusal Client (heard_request ∷ channel_confirmed Client) (AskReply 3 true) ≡ None }
-    ensures reply_to_nothing { ask_refusal Client (channel_confirmed Client) (AskReply 3 false) ≡ Some NothingOwed }
-    ensures second_reply { ask_refusal Client (says_on 3 (ChannelFailure 5) ∷ heard_request ∷ channel_confirmed Client) (AskReply 3 true)
-        ≡ Some NothingOwed }
-    ensures reply_on_no_channel { ask_refusal Client (channel_opened Client) (AskReply 3 true) ≡ Some NoChannel }
-    ensures reply_after_own_close { ask_refusal Client (says_on 3 (ChannelClose 5) ∷ channel_confirmed Client) (AskReply 3 true)
-        ≡ Some AskRefusal.Ended }
-    ensures global_request { ask_refusal Client (admitted Client) (AskGlobal (codes "x") true (replicate 33993 0)) ≡ None }
-    ensures too_long_global_request { ask_refusal Client (admitted Client) (AskGlobal (codes "x") true (replicate 33994 0)) ≡ Some TooLong }
-    ensures many_own_globals { ask_refusal Client (replicate 255 (says (GlobalRequest [] true [])) ++ admitted Client)
-        (AskGlobal [] true []) ≡ Some RekeyDue }
-    ensures too_many_own_globals { ask_refusal Client (replicate 256 (says (GlobalRequest [] true [])) ++ admitted Client)
-        (AskGlobal [] true []) ≡ Some Busy }
-    ensures own_global_without_reply { ask_refusal Client (replicate 256 (says (GlobalRequest [] true [])) ++ admitted Client)
-        (AskGlobal [] false []) ≡ Some RekeyDue }
-    ensures global_reply { ask_refusal Client (hears (GlobalRequest [] true []) ∷ admitted Client)
-        (AskGlobalReply true (replicate 33999 0)) ≡ None }
-    ensures too_long_global_reply { ask_refusal Client (hears (GlobalRequest [] true []) ∷ admitted Client)
-        (AskGlobalReply true (replicate 34000 0)) ≡ Some TooLong }
-    ensures global_reply_to_nothing { ask_refusal Client (hears (GlobalRequest [] false []) ∷ admitted Client)
-        (AskGlobalReply true (replicate 34000 0)) ≡ Some NothingOwed }
-    ensures global_failure { ask_refusal Client (hears (GlobalRequest [] true []) ∷ admitted Client) (AskGlobalReply false []) ≡ None }
-    ensures global_failure_of_nothing { ask_refusal Client (admitted Client) (AskGlobalReply false []) ≡ Some NothingOwed }
 {}
 
 /// What an end adds to a message of the transport or of authentication that it took, the newest first.
@@ -448,41 +255,6 @@ pub fn answer_examples()
     ensures shown_banner { Answer toy Client requesting None (UserauthBanner (codes "x") []) (Told (Banner (codes "x")) ∷ []) }
     ensures good_key { Answer toy Client probing_client None (UserauthPkOk (codes "toy") (codes "k"))
         (Told (KeyOk (codes "toy") (codes "k")) ∷ []) }
-{}
-
-/// What an end adds to a message of the connection that it took, the newest first.
-pub fn connection_answer_examples()
-    ensures global_request_taken { Answer toy Client (channel_confirmed Client) None (GlobalRequest (codes "x") true (codes "y"))
-        (Told (Global (codes "x") true (codes "y")) ∷ []) }
-    ensures global_success_taken { Answer toy Client (channel_confirmed Client) None (RequestSuccess (codes "x"))
-        (Told (GlobalDone true (codes "x")) ∷ []) }
-    ensures global_failure_taken { Answer toy Client (channel_confirmed Client) None RequestFailure (Told (GlobalDone false []) ∷ []) }
-    ensures open_taken { Answer toy Server (admitted Server) (Some 5) open_message (Told (Opened 5 (codes "session") 10 8 []) ∷ []) }
-    ensures open_taken_at_last_number { Answer toy Server (admitted Server) (Some 1023) open_message
-        (Told (Opened 1023 (codes "session") 10 8 []) ∷ []) }
-    ensures open_without_place { (h : List Item) → is_full Server h ≡ true → blocked h ≡ false →
-        Answer toy Server h None open_message (says (ChannelOpenFailure 3 4 [] []) ∷ []) }
-    ensures open_without_place_while_blocked { (h : List Item) → is_full Server h ≡ true → blocked h ≡ true →
-        Answer toy Server h None open_message [] }
-    ensures confirmation_taken { Answer toy Client (channel_opened Client) (Some 3) confirm_message (Told (Confirmed 3 20 16 []) ∷ []) }
-    ensures open_failure_taken { Answer toy Client (channel_opened Client) (Some 3) (ChannelOpenFailure 3 1 (codes "x") [])
-        (Told (OpenFailed 3 1 (codes "x")) ∷ []) }
-    ensures adjust_taken { Answer toy Client (channel_confirmed Client) (Some 3) (ChannelWindowAdjust 3 7) (Told (Adjusted 3 7) ∷ []) }
-    ensures data_taken { Answer toy Client (channel_confirmed Client) (Some 3) (ChannelData 3 (codes "x"))
-        (Told (GotData 3 None (codes "x")) ∷ []) }
-    ensures extended_data_taken { Answer toy Client (channel_confirmed Client) (Some 3) (ChannelExtendedData 3 1 (codes "x"))
-        (Told (GotData 3 (Some 1) (codes "x")) ∷ []) }
-    ensures eof_taken { Answer toy Client (channel_confirmed Client) (Some 3) (ChannelEof 3) (Told (Ended 3) ∷ []) }
-    ensures close_answered { Answer toy Client (channel_confirmed Client) (Some 3) (ChannelClose 3)
-        (Told (Closed 3) ∷ says_on 3 (ChannelClose 5) ∷ []) }
-    ensures close_after_close { Answer toy Client (says_on 3 (ChannelClose 5) ∷ channel_confirmed Client) (Some 3) (ChannelClose 3)
-        (Told (Closed 3) ∷ []) }
-    ensures close_while_blocked { Answer toy Client (says (KexInit (offer_of Client false)) ∷ channel_confirmed Client) (Some 3)
-        (ChannelClose 3) (Told (Closed 3) ∷ []) }
-    ensures request_taken { Answer toy Client (channel_confirmed Client) (Some 3) (ChannelRequest 3 (codes "x") true (codes "y"))
-        (Told (Requested 3 (codes "x") true (codes "y")) ∷ []) }
-    ensures success_taken { Answer toy Client (channel_confirmed Client) (Some 3) (ChannelSuccess 3) (Told (RequestDone 3 true) ∷ []) }
-    ensures failure_taken { Answer toy Client (channel_confirmed Client) (Some 3) (ChannelFailure 3) (Told (RequestDone 3 false) ∷ []) }
 {}
 
 /// What an end adds on an ask that it does not refuse, the newest first.
@@ -607,24 +379,6 @@ pub fn authentication_examples()
     ensures what_is_signed { signed_text (codes "s") (codes "u") (codes "c") (codes "t") (codes "k") ≡ 0 ∷ 0 ∷ 0 ∷ 1 ∷ 115 ∷ 50 ∷ 0 ∷ 0
         ∷ 0 ∷ 1 ∷ 117 ∷ 0 ∷ 0 ∷ 0 ∷ 1 ∷ 99 ∷ 0 ∷ 0 ∷ 0 ∷ 9 ∷ 112 ∷ 117 ∷ 98 ∷ 108 ∷ 105 ∷ 99 ∷ 107 ∷ 101 ∷ 121 ∷ 1 ∷ 0 ∷ 0 ∷ 0 ∷ 1 ∷ 116
         ∷ 0 ∷ 0 ∷ 0 ∷ 1 ∷ 107 ∷ [] }
-{}
-
-/// What holds where no more channels or owed replies fit: with 1,024 channels an end has no place for another, and it
-/// owes at most 256 replies.
-pub fn limits()
-    ensures open_refused_while_many_are_owed { (h : List Item) → is_full Client h ≡ true → is_owed_limit_reached Client h ≡ true →
-        refusal Client h open_message ≡ Some OwedFull }
-    ensures open_while_few_are_owed { (h : List Item) → is_owed_limit_reached Client h ≡ false → refusal Client h open_message ≡ None }
-    ensures open_with_place { (h : List Item) → is_full Client h ≡ false → refusal Client h open_message ≡ None }
-    ensures close_refused_while_many_are_owed { (h : List Item) (x : ℕ) → is_confirmed x (notes Client h) ≡ true →
-        has_closed x (notes Client h) ≡ false → is_owed_limit_reached Client h ≡ true →
-        refusal Client h (ChannelClose x) ≡ Some OwedFull }
-    ensures close_that_owes_nothing { (h : List Item) (x : ℕ) → is_confirmed x (notes Client h) ≡ true →
-        has_closed x (notes Client h) ≡ true → refusal Client h (ChannelClose x) ≡ None }
-    ensures many { map is_limit_reached (255 ∷ 256 ∷ []) ≡ false ∷ true ∷ [] }
-    ensures many_are_owed_while_blocked { (h : List Item) → blocked h ≡ false → is_owed_limit_reached Client h ≡ false }
-    ensures open_asked_without_place { (h : List Item) (window most : ℕ) → authenticated Client h ≡ true → blocked h ≡ false →
-        is_rekey_due toy Client h ≡ false → is_full Client h ≡ true → ask_refusal Client h (AskOpen [] window most []) ≡ Some TableFull }
 {}
 
 /// The numbers and the names of refusals, and their reason codes (RFC 4253 section 11.1).

@@ -1,4 +1,5 @@
 ghost use Rattle.std.specs.Prelude.{◌≡◌, ◌<◌, ◌≤◌, ◌+◌, ◌^◌, Bool, List, [], length, ℕ, None, Some, codes};
+ghost use Rattle.ssh_model.specs.Protocol.Bounds.{largest_data, longest_description, longest_payload};
 ghost use Rattle.ssh_model.specs.Protocol.Wire.Message.{Msg, Msg.Disconnect, Msg.Unimplemented, Msg.ServiceRequest, Msg.ServiceAccept};
 ghost use Rattle.ssh_model.specs.Protocol.Wire.Message.{Msg.NewKeys, Msg.KexEcdhInit, Msg.KexEcdhReply, Msg.UserauthSuccess};
 ghost use Rattle.ssh_model.specs.Protocol.Wire.Message.{Msg.UserauthPkOk, Msg.GlobalRequest, Msg.RequestSuccess, Msg.RequestFailure};
@@ -35,7 +36,7 @@ pub fn payload_numbers()
 /// What an end sends has a payload that spells it and fits into a packet, where its numbers are uint32s and its texts within
 /// their bounds.
 pub fn spellings()
-    ensures disconnect { (reason : ℕ) (description : List ℕ) → reason < 2 ^ 32 → length description ≤ 1024 →
+    ensures disconnect { (reason : ℕ) (description : List ℕ) → reason < 2 ^ 32 → length description ≤ longest_description →
         HasSpelling (Disconnect reason description []) }
     ensures unimplemented { (number : ℕ) → number < 2 ^ 32 → HasSpelling (Unimplemented number) }
     ensures service_request { (service : List ℕ) → length service ≤ 100 → HasSpelling (ServiceRequest service) }
@@ -46,36 +47,36 @@ pub fn spellings()
         HasSpelling (KexEcdhReply k_s q_s signature) }
     ensures success { HasSpelling UserauthSuccess }
     ensures key_ok { (algorithm key : List ℕ) → length algorithm ≤ 64 → length key ≤ 16384 → HasSpelling (UserauthPkOk algorithm key) }
-    ensures global_request { (name : List ℕ) (want : Bool) (rest : List ℕ) → 2 + (4 + length name) + length rest ≤ 34000 →
+    ensures global_request { (name : List ℕ) (want : Bool) (rest : List ℕ) → 2 + (4 + length name) + length rest ≤ longest_payload →
         HasSpelling (GlobalRequest name want rest) }
-    ensures request_success { (rest : List ℕ) → 1 + length rest ≤ 34000 → HasSpelling (RequestSuccess rest) }
+    ensures request_success { (rest : List ℕ) → 1 + length rest ≤ longest_payload → HasSpelling (RequestSuccess rest) }
     ensures request_failure { HasSpelling RequestFailure }
     ensures channel_open { (kind : List ℕ) (sender window max : ℕ) (rest : List ℕ) → sender < 2 ^ 32 → window < 2 ^ 32 → max < 2 ^ 32 →
-        13 + (4 + length kind) + length rest ≤ 34000 → HasSpelling (ChannelOpen kind sender window max rest) }
+        13 + (4 + length kind) + length rest ≤ longest_payload → HasSpelling (ChannelOpen kind sender window max rest) }
     ensures confirmation { (recipient sender window max : ℕ) (rest : List ℕ) → recipient < 2 ^ 32 → sender < 2 ^ 32 → window < 2 ^ 32 →
-        max < 2 ^ 32 → 17 + length rest ≤ 34000 → HasSpelling (ChannelOpenConfirmation recipient sender window max rest) }
+        max < 2 ^ 32 → 17 + length rest ≤ longest_payload → HasSpelling (ChannelOpenConfirmation recipient sender window max rest) }
     ensures open_failure { (recipient reason : ℕ) → recipient < 2 ^ 32 → reason < 2 ^ 32 →
         HasSpelling (ChannelOpenFailure recipient reason [] []) }
     ensures adjust { (recipient bytes : ℕ) → recipient < 2 ^ 32 → bytes < 2 ^ 32 → HasSpelling (ChannelWindowAdjust recipient bytes) }
-    ensures plain_data { (recipient : ℕ) (body : List ℕ) → recipient < 2 ^ 32 → length body ≤ 32768 →
+    ensures plain_data { (recipient : ℕ) (body : List ℕ) → recipient < 2 ^ 32 → length body ≤ largest_data →
         HasSpelling (ChannelData recipient body) }
-    ensures extended_data { (recipient kind : ℕ) (body : List ℕ) → recipient < 2 ^ 32 → kind < 2 ^ 32 → length body ≤ 32768 →
+    ensures extended_data { (recipient kind : ℕ) (body : List ℕ) → recipient < 2 ^ 32 → kind < 2 ^ 32 → length body ≤ largest_data →
         HasSpelling (ChannelExtendedData recipient kind body) }
     ensures eof { (recipient : ℕ) → recipient < 2 ^ 32 → HasSpelling (ChannelEof recipient) }
     ensures close { (recipient : ℕ) → recipient < 2 ^ 32 → HasSpelling (ChannelClose recipient) }
     ensures request { (recipient : ℕ) (name : List ℕ) (want : Bool) (rest : List ℕ) → recipient < 2 ^ 32 →
-        6 + (4 + length name) + length rest ≤ 34000 → HasSpelling (ChannelRequest recipient name want rest) }
+        6 + (4 + length name) + length rest ≤ longest_payload → HasSpelling (ChannelRequest recipient name want rest) }
     ensures channel_success { (recipient : ℕ) → recipient < 2 ^ 32 → HasSpelling (ChannelSuccess recipient) }
     ensures channel_failure { (recipient : ℕ) → recipient < 2 ^ 32 → HasSpelling (ChannelFailure recipient) }
 {}
 
 /// So has each request of a user that is not too long to be asked for.
 pub fn request_spellings()
-    ensures none { (user : List ℕ) → request_size user (codes "none") ≤ 34000 → HasSpelling (request_by user NoMethod) }
-    ensures password { (user password : List ℕ) → password_size user password ≤ 34000 →
+    ensures none { (user : List ℕ) → request_size user (codes "none") ≤ longest_payload → HasSpelling (request_by user NoMethod) }
+    ensures password { (user password : List ℕ) → password_size user password ≤ longest_payload →
         HasSpelling (request_by user (Password password None)) }
-    ensures probe { (user algorithm key : List ℕ) → probe_size user algorithm key ≤ 34000 →
+    ensures probe { (user algorithm key : List ℕ) → probe_size user algorithm key ≤ longest_payload →
         HasSpelling (request_by user (Publickey algorithm key None)) }
-    ensures sign { (user algorithm key signature : List ℕ) → sign_size user algorithm key ≤ 34000 → length signature ≤ 4096 →
+    ensures sign { (user algorithm key signature : List ℕ) → sign_size user algorithm key ≤ longest_payload → length signature ≤ 4096 →
         HasSpelling (request_by user (Publickey algorithm key (Some signature))) }
 {}

@@ -4,6 +4,7 @@ use Rattle.std.specs.Prelude.{Option, Some, None}
 use Rattle.std.proofs.Math.Seq.{take-append_seam, drop-append_seam, drop-cons}
 use Rattle.std.proofs.lemmas.Bool.{le-leb}
 use Rattle.std.proofs.lemmas.List.{length-take-le, take-append-drop}
+use Rattle.ssh_model.specs.Protocol.Bounds.{largest_packet}
 use Rattle.ssh_model.specs.Protocol.Wire.DataTypes.{AreBytes, IsUint32}
 use Rattle.ssh_model.specs.Protocol.Wire.Packet.{Blocks, IsBody, IsPacket, is_size}
 use Rattle.ssh_model.specs.Protocol.Wire.Sealing.{Crypto, IsSealing, IsWhole, is_wire_size, blocks_under, tag_under, opened_under}
@@ -24,7 +25,7 @@ whole_size blocks tag bytes w =
 pub whole_room : (blocks : Blocks) (tag : ℕ) (bytes : List ℕ) → IsWhole blocks tag bytes → tag + 12 ≤ length bytes
 whole_room blocks tag bytes w = omega (arith, w.has.whole, (size_facts blocks tag (4 + w.has.count) w.has.size).from)
 
-pub whole_most : (blocks : Blocks) (tag : ℕ) (bytes : List ℕ) → IsWhole blocks tag bytes → length bytes ≤ 35000
+pub whole_most : (blocks : Blocks) (tag : ℕ) (bytes : List ℕ) → IsWhole blocks tag bytes → length bytes ≤ largest_packet
 whole_most blocks tag bytes w = omega (arith, w.has.whole, (size_facts blocks tag (4 + w.has.count) w.has.size).to)
 
 -- ---- the packet that was opened

@@ -3,6 +3,7 @@ use Rattle.std.proofs.Common.{◌≡◌, ℕ, ◌+◌, ◌-◌, ◌%◌, ◌<◌
 use Rattle.std.proofs.lemmas.Bool.{le-leb, eq-eqb, cases_Bool, ltb-true, ltb-false, cond-true, cond-false}
 use Rattle.std.proofs.lemmas.List.{length-take-le}
 use Rattle.std.proofs.Math.Seq.{take-add, take-append_seam}
+use Rattle.ssh_model.specs.Protocol.Bounds.{largest_packet}
 use Rattle.ssh_model.specs.Protocol.Wire.DataTypes.{AreBytes, IsByte, IsUint32}
 use Rattle.ssh_model.specs.Laws.Reading.{Writes}
 use Rattle.ssh_model.specs.Protocol.Wire.Packet.{Blocks, IsBlock, IsPacket, IsLeastPacket, counted, is_size, least_size}
@@ -136,8 +137,8 @@ blocks_of blocks count (inr (inr (inr e))) = subst (λ (n : ℕ). BlockFacts (re
 
 -- ---- the packet
 
-size_test : (blocks : Blocks) (tag size : ℕ) → counted blocks size % max blocks.size 8 ≡ 0 → least_size blocks ≤ size → size + tag ≤ 35000 → is_size blocks tag size ≡ true
-size_test blocks tag size whole from to = rw (eq-eqb (counted blocks size % max blocks.size 8) 0 whole, le-leb (least_size blocks) size from, le-leb (size + tag) 35000 to) refl
+size_test : (blocks : Blocks) (tag size : ℕ) → counted blocks size % max blocks.size 8 ≡ 0 → least_size blocks ≤ size → size + tag ≤ largest_packet → is_size blocks tag size ≡ true
+size_test blocks tag size whole from to = rw (eq-eqb (counted blocks size % max blocks.size 8) 0 whole, le-leb (least_size blocks) size from, le-leb (size + tag) largest_packet to) refl
 
 -- a packet of a payload, by its padding
 packet_size : (blocks : Blocks) (tag : ℕ) (payload bytes : List ℕ) → (p : IsPacket blocks tag payload bytes) → length bytes ≡ 5 + length payload + length p.is_body.padding
@@ -159,7 +160,7 @@ written_size blocks tag IsGiven payload bytes h =
     let packet : List ℕ = h.length_field ++ (count ∷ payload ++ h.padding) in
     ap length h.parts ∙ omega (arith, length-append packet h.room, h.left, length-append h.length_field (count ∷ payload ++ h.padding), h.counts.count, length-append payload h.padding, h.filled)
 
-pub least_packet : (blocks : Blocks) (tag : ℕ) (IsGiven : List ℕ → Type 0) (payload bytes : List ℕ) → IsBlock blocks.size → 1 ≤ length payload → 5 + length payload + padding_for blocks (length payload) + tag ≤ 35000
+pub least_packet : (blocks : Blocks) (tag : ℕ) (IsGiven : List ℕ → Type 0) (payload bytes : List ℕ) → IsBlock blocks.size → 1 ≤ length payload → 5 + length payload + padding_for blocks (length payload) + tag ≤ largest_packet
     → HasParts (padding_for blocks (length payload)) tag IsGiven payload bytes → IsLeastPacket blocks tag payload (take (length bytes - tag) bytes)
 least_packet blocks tag IsGiven payload bytes is some fits h =
     let count : ℕ = padding_for blocks (length payload) in
@@ -189,7 +190,7 @@ pub record Written {K : Type 0} (c : Crypto K) (key : Option K) (IsGiven : List 
   pub tag_is : tag ≡ tag_under c key
   pub start_is : start ≡ length old
   pub some : 1 ≤ length payload
-  pub fits : 5 + length payload + padding_for blocks (length payload) + tag ≤ 35000
+  pub fits : 5 + length payload + padding_for blocks (length payload) + tag ≤ largest_packet
   pub parts : Writes (HasParts (padding_for blocks (length payload)) tag IsGiven payload) old put
   pub are_bytes : AreBytes (drop start put)
 

@@ -1,11 +1,6 @@
 //! The limits of packets and of the lines before them.
 
-/// The bytes of the largest packet, its tag included. Packets of so many have to be taken (RFC 4253 section 6.1), and no
-/// larger one is taken or written here.
-pub const LARGEST_PACKET: usize = 35_000;
-
-/// The bytes of the longest payload that an end sends: whatever the sealing, its packet is none larger than the largest.
-pub const LONGEST_PAYLOAD: usize = 34_000;
+pub use ssh_types::bounds::{LARGEST_PACKET, LONGEST_PAYLOAD};
 
 /// The bytes of packet_length (RFC 4253 section 6).
 pub const LENGTH_FIELD: usize = 4;

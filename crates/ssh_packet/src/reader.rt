@@ -2,6 +2,7 @@ ghost use Rattle.std.specs.Prelude.{◌≡◌, ◌≢◌, ◌↔◌, IsTrue, ◌
 ghost use Rattle.std.specs.Prelude.{drop, IfSome, IfNone, OnOk, IfOk, Some, None, slice_index};
 ghost use Rattle.std.specs.Vec.{vec_capacity, vec_len};
 ghost use Rattle.std.specs.Option.{option_copied};
+ghost use Rattle.ssh_model.specs.Protocol.Bounds.{largest_packet};
 ghost use Rattle.ssh_model.specs.Protocol.Wire.DataTypes.{AreBytes};
 ghost use Rattle.ssh_model.specs.Protocol.Wire.Packet.{IsBlock, IsPacket, is_size as fits_size};
 ghost use Rattle.ssh_model.specs.Protocol.Wire.Sealing.{HasSize, IsBadLength, IsBegun, IsWhole, blocks_under, is_wire_size, opened_under};
@@ -43,6 +44,7 @@ impl Model for PacketReader {
     ghost use Rattle.std.specs.Prelude.{◌≡◌, ◌≤◌, ◌+◌, take, drop, length};
     ghost use Rattle.std.specs.Vec.{vec_capacity};
     ghost use Rattle.ssh_packet.specs.Reading.{Reading};
+    ghost use Rattle.ssh_model.specs.Protocol.Bounds.{largest_packet};
 
     ghost Value = { Reading };
 
@@ -52,8 +54,8 @@ impl Model for PacketReader {
       refused = r.refused;
     } };
 
-    ghost invariant = { λ r. (length r.buffer.items ≡ 35000) × (vec_capacity r.buffer ≡ 35000) × (r.filled ≤ 35000)
-        × (r.shown + 5 ≤ 35000) };
+    ghost invariant = { λ r. (length r.buffer.items ≡ largest_packet) × (vec_capacity r.buffer ≡ largest_packet) × (r.filled ≤ largest_packet)
+        × (r.shown + 5 ≤ largest_packet) };
 }
 
 // What stands in the buffer after bytes were received.
@@ -77,8 +79,8 @@ impl PacketReader {
 
     // A reader that nothing was given to, over its buffer.
     fn over(buffer: Vec<u8>) -> PacketReader
-        requires size { vec_len buffer ≡ 35000 }
-        requires capacity { vec_capacity buffer ≡ 35000 }
+        requires size { vec_len buffer ≡ largest_packet }
+        requires capacity { vec_capacity buffer ≡ largest_packet }
         ensures { result ≡ empty }
     {
         PacketReader {
@@ -93,7 +95,7 @@ impl PacketReader {
     /// before the first.
     pub fn payload(&self) -> &[u8]
         ensures payload { result.now ≡ self.now.payload }
-        ensures most { length self.now.payload ≤ 35000 }
+        ensures most { length self.now.payload ≤ largest_packet }
     {
         &self.buffer[5..5 + self.shown]
     }
@@ -107,7 +109,7 @@ impl PacketReader {
 
     /// How many bytes the buffer has room for: those of the largest packet, for good.
     pub fn capacity(&self) -> usize
-        ensures { result ≡ 35000 }
+        ensures { result ≡ largest_packet }
     {
         self.buffer.capacity()
     }
@@ -247,7 +249,7 @@ impl PacketReader {
         requires field { 4 ≤ length self.now.rest }
         requires tag { tag ≤ 64 }
         ensures size { IfSome result (λ n. HasSize blocks tag n self.now.rest) }
-        ensures most { IfSome result (λ n. n ≤ 35000) }
+        ensures most { IfSome result (λ n. n ≤ largest_packet) }
         ensures none { IfNone result (length self.now.rest ≡ 4 → IsBadLength blocks tag self.now.rest) }
         ensures other { IfNone result ((n : ℕ) → HasSize blocks tag n self.now.rest → ⊥) }
     {
@@ -256,7 +258,7 @@ impl PacketReader {
 
     // Adds bytes up to this size, as many as there are, and answers how many.
     fn fill(&mut self, size: usize, bytes: &[u8]) -> usize
-        requires { size ≤ 35000 }
+        requires { size ≤ largest_packet }
         ensures used { result ≡ min (size - length self.old.rest) (length bytes.now) }
         ensures after { self.new ≡ record self.old { rest = self.old.rest ++ take result bytes.now; payload = [] } }
     {
@@ -271,8 +273,8 @@ impl PacketReader {
 
 // As many zeros as the largest packet has bytes, with room for no more.
 fn zeros(alloc: Global) -> Result<Vec<u8>, AllocError>
-    ensures size { IfOk result (λ buffer. vec_len buffer ≡ 35000) }
-    ensures capacity { IfOk result (λ buffer. vec_capacity buffer ≡ 35000) }
+    ensures size { IfOk result (λ buffer. vec_len buffer ≡ largest_packet) }
+    ensures capacity { IfOk result (λ buffer. vec_capacity buffer ≡ largest_packet) }
 {
     let mut buffer = Vec::with_capacity(alloc, LARGEST_PACKET)?;
     for _ in 0..LARGEST_PACKET {
@@ -287,7 +289,7 @@ fn size_of(bytes: &[u8], blocks: Blocks, tag: usize) -> Option<usize>
     requires field { 4 ≤ length bytes.now }
     requires tag { tag ≤ 64 }
     ensures size { IfSome result (λ n. HasSize blocks tag n bytes.now) }
-    ensures most { IfSome result (λ n. n ≤ 35000) }
+    ensures most { IfSome result (λ n. n ≤ largest_packet) }
     ensures none { IfNone result (length bytes.now ≡ 4 → IsBadLength blocks tag bytes.now) }
     ensures other { IfNone result ((n : ℕ) → HasSize blocks tag n bytes.now → ⊥) }
 {

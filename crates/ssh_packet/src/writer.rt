@@ -1,5 +1,6 @@
 ghost use Rattle.std.specs.Prelude.{◌≡◌, ◌<◌, ◌≤◌, ◌+◌, ◌-◌, ◌++◌, ℕ, List, length, take, drop, IsTrue, OnErr, OnOk, vec_capacity};
 ghost use Rattle.std.specs.Option.{option_copied};
+ghost use Rattle.ssh_model.specs.Protocol.Bounds.{largest_packet};
 ghost use Rattle.ssh_model.specs.Protocol.Wire.Packet.{IsBlock};
 ghost use Rattle.ssh_model.specs.Laws.Reading.{Extends, Writes};
 ghost use Rattle.ssh_model.specs.Protocol.Wire.Sealing.{IsSealed, blocks_under, is_wire_size, sealed_under, tag_under};
@@ -44,7 +45,7 @@ pub fn write_packet<S: Sealing, F: Filler>(
 ) -> Result<(), AllocError>
     requires some { 1 ≤ length payload.now }
     requires fits { packet_size (blocks_under S.crypto (option_copied key)) (tag_under S.crypto (option_copied key))
-        (length payload.now) ≤ 35000 }
+        (length payload.now) ≤ largest_packet }
     ensures written { OnOk result (Writes (IsSealed S.crypto (option_copied key.entry) number payload.now) out.old.items out.new.items) }
     ensures padded { OnOk result (Pads S.crypto (option_copied key.entry) number payload.now
         (λ padding. F.gives filler.old padding filler.new) out.old.items out.new.items) }
@@ -89,7 +90,7 @@ fn seal_slice<S: Sealing>(key: &S::Key, number: u32, bytes: &mut [u8], start: us
 
 // How many bytes fill up the last block, where four are wanted.
 fn least_padding(blocks: Blocks, count: usize) -> usize
-    requires { count ≤ 35000 }
+    requires { count ≤ largest_packet }
     ensures { result ≡ padding_for blocks count }
 {
     let front = if blocks.counts_length {
@@ -111,7 +112,7 @@ fn put_parts<F: Filler>(
 ) -> Result<(), AllocError>
     requires padding { padding ≤ 255 }
     requires tag { tag ≤ 64 }
-    requires payload { length payload.now ≤ 35000 }
+    requires payload { length payload.now ≤ largest_packet }
     ensures written { OnOk result (Writes (HasParts padding tag (λ padding. F.gives filler.old padding filler.new) payload.now)
         out.old.items out.new.items) }
     ensures kept { OnErr result (Extends out.old.items out.new.items) }

@@ -1,6 +1,7 @@
 //! The transport of either role.
 
 ghost use Rattle.std.specs.Prelude.{◌≤◌, true};
+ghost use Rattle.ssh_model.specs.Protocol.Bounds.{longest_payload};
 ghost use Rattle.ssh_model.specs.Protocol.Wire.Message.{FitsContext};
 ghost use Rattle.ssh_model.specs.Laws.Sizes.{payload_size};
 ghost use Rattle.ssh_message.specs.Meaning.{meaning};
@@ -98,7 +99,7 @@ impl ToyTransport {
     pub fn spell(&self, message: &Message<'_>) -> Result<Vec<u8>, AllocError>
         requires fits { Fits message.now }
         requires context { FitsContext true (meaning message.now) }
-        requires most { payload_size (meaning message.now) ≤ 34000 }
+        requires most { payload_size (meaning message.now) ≤ longest_payload }
     {
         match self {
             ToyTransport::Client(end) => end.spell(message),

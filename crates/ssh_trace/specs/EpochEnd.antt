@@ -1,5 +1,6 @@
 -- One end of an epoch.
 use Rattle.std.specs.Prelude.{◌≡◌, ◌≤◌, ◌<◌, ◌+◌, ◌%◌, ◌^◌, ℕ, Bool, true, false, if◌then◌else◌, List, [], length, Option, None, Some, unwrap_or}
+use Rattle.ssh_model.specs.Protocol.Bounds.{longest_payload}
 use Rattle.ssh_model.specs.OneEpoch.History.{Item, has_died, sent, took}
 use Rattle.ssh_model.specs.Protocol.Wire.MacOnly.{mac_only}
 use Rattle.ssh_model.specs.Protocol.Wire.Outcome.{Outcome.Opens, Outcome.RefusedPacket}
@@ -73,18 +74,18 @@ EndFinds bytes old (Refused refusal) new = PacketUnit mac_only (Some old.taking_
 
 -- What an end made of the ask to send a payload, with the bytes put out before and after.
 pub record Sends (payload : List ℕ) (old new : End) (before after : List ℕ) : Type 0 where
-  pub short : length payload ≤ 34000
+  pub short : length payload ≤ longest_payload
   pub left : old.sent < 2 ^ 32
   pub writes : Writes (IsSealed mac_only (Some old.sending_key) old.sent payload) before after
   pub new_is : new ≡ record old { sent = old.sent + 1 }
 
 pub record RefusesAsk (payload : List ℕ) (old new : End) (before after : List ℕ) : Type 0 where
-  pub long : 34000 < length payload
+  pub long : longest_payload < length payload
   pub new_is : new ≡ old
   pub none : after ≡ before
 
 pub record SpendsNumbers (payload : List ℕ) (old new : End) (before after : List ℕ) : Type 0 where
-  pub short : length payload ≤ 34000
+  pub short : length payload ≤ longest_payload
   pub spent : old.sent ≡ 2 ^ 32
   pub died : HasDied old new
   pub none : after ≡ before

@@ -1,5 +1,6 @@
 -- Which payloads a transport sends for the layers above it.
 use Rattle.std.specs.Prelude.{◌≡◌, ◌||◌, ◌==◌, ℕ, ◌≤◌, Bool, true, false, List, length}
+use Rattle.ssh_model.specs.Protocol.Bounds.{longest_payload}
 use Rattle.ssh_model.specs.Protocol.Sessions.Turns.{number_of}
 use Rattle.ssh_model.specs.State.TransportLayer.Kept.{Transport}
 
@@ -12,6 +13,6 @@ is_own_number n = n == 1 || n == 5 || n == 6 || n == 20 || n == 21 || n == 30 ||
 -- UNIMPLEMENTED (RFC 4253 section 7.1).
 pub record CanSend {K : Type 0} (s : Transport K) (payload : List ℕ) : Type 0 where
   pub some : 1 ≤ length payload
-  pub most : length payload ≤ 34000
+  pub most : length payload ≤ longest_payload
   pub number : is_own_number (number_of payload) ≡ false
   pub unblocked : s.dead ≡ false → s.blocked ≡ true → number_of payload ≡ 3

@@ -4,6 +4,7 @@ use Rattle.std.specs.Prelude.{codes, if◌then◌else◌, Result, Ok, Err, OnOk}
 use Rattle.std.specs.List.{join_with_byte, list_all}
 use Rattle.std.proofs.lemmas.List.{append-nil}
 use Rattle.std.proofs.lemmas.List.Folds.{list_all-append}
+use Rattle.ssh_model.specs.Protocol.Bounds.{longest_payload}
 use Rattle.ssh_model.specs.Protocol.Wire.DataTypes.{IsByte, IsNameList, IsNameText, IsUint32, IsWrittenBoolean, is_name}
 use Rattle.ssh_model.specs.Protocol.Side.{Side}
 use Rattle.ssh_model.specs.Protocol.Wire.Message.{IsCookie, IsEnd, IsWrittenPayload, KexInit, Proposal, Then}
@@ -145,7 +146,7 @@ offer_few s kex cookie host encryption mac most =
     }
 
 short_offer : (s : Settings) (kex : List (List ℕ)) (cookie old new : List ℕ) → IsList s.host → IsList s.encryption → IsList s.mac → length kex ≤ 18 →
-    Writes (IsWrittenPayload (KexInit (offer_with s kex cookie))) old new → length new ≤ length old + 34000
+    Writes (IsWrittenPayload (KexInit (offer_with s kex cookie))) old new → length new ≤ length old + longest_payload
 short_offer s kex cookie old new host encryption mac most w =
     let size : length w.bytes ≤ 11762 = payload_at_most (offer_with s kex cookie) (offer_few s kex cookie host encryption mac most) w.bytes w.meets in
     let parts : length new ≡ length (old ++ w.bytes) = ap (λ (l : List ℕ). length l) w.parts in
@@ -156,5 +157,5 @@ when_ok (Ok value) f h = f h
 when_ok (Err error) f h = tt
 
 pub short_put : {T E : Type 0} (result : Result T E) (s : Settings) (kex : List (List ℕ)) (cookie old new : List ℕ) → IsList s.host → IsList s.encryption → IsList s.mac → length kex ≤ 18 →
-    OnOk result (Writes (IsWrittenPayload (KexInit (offer_with s kex cookie))) old new) → OnOk result (length new ≤ length old + 34000)
+    OnOk result (Writes (IsWrittenPayload (KexInit (offer_with s kex cookie))) old new) → OnOk result (length new ≤ length old + longest_payload)
 short_put result s kex cookie old new host encryption mac most = when_ok result (short_offer s kex cookie old new host encryption mac most)

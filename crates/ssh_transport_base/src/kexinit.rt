@@ -2,6 +2,7 @@
 
 ghost use Rattle.std.specs.Prelude.{◌≡◌, ◌<◌, ◌≤◌, ◌+◌, ◌^◌, ◌++◌, ◌∷◌, [], Bool, if◌then◌else◌, IfOk, IsTrue, List, OnErr, OnOk, codes};
 ghost use Rattle.std.specs.Prelude.{length, ℕ};
+ghost use Rattle.ssh_model.specs.Protocol.Bounds.{longest_payload};
 ghost use Rattle.ssh_model.specs.Protocol.Side as model;
 ghost use Rattle.ssh_model.specs.Protocol.Wire.Message.{IsWrittenPayload, KexInit};
 ghost use Rattle.ssh_model.specs.Protocol.Sessions.Parties.{Parties, offer, settings_of as settings_at};
@@ -45,7 +46,7 @@ pub fn put_kexinit<S: Sealing>(
 ) -> Result<(), AllocError>
     ensures written { OnOk result (Writes (IsWrittenPayload (KexInit (offer_of (settings_of config.now) (side_of side) first cookie.now)))
         out.old.items out.new.items) }
-    ensures short { OnOk result (length out.new.items ≤ length out.old.items + 34000) }
+    ensures short { OnOk result (length out.new.items ≤ length out.old.items + longest_payload) }
     ensures kept { OnErr result (out.new.items ≡ out.old.items) }
 {
     every_config_is_good(config);
@@ -93,7 +94,7 @@ fn put_offer<S: Sealing>(
     requires short { length (text_of kex) < 2 ^ 32 }
     ensures written { OnOk result (Writes (IsWrittenPayload (KexInit (offer_with (settings_of config.now) (names kex.entry) cookie.now)))
         out.old.items out.new.items) }
-    ensures short { OnOk result (length out.new.items ≤ length out.old.items + 34000) }
+    ensures short { OnOk result (length out.new.items ≤ length out.old.items + longest_payload) }
     ensures kept { OnErr result (out.new.items ≡ out.old.items) }
 {
     every_config_is_good(config);

@@ -2,6 +2,7 @@
 use Rattle.std.proofs.Common.{◌≡◌, ◌≤◌, ◌<◌, ◌+◌, ◌*◌, ◌^◌, ◌==◌, ℕ, Bool, true, false, ◌&&◌, List, [], ◌∷◌, length, arith, refl, subst, leb-true, Some, None}
 use Rattle.std.specs.Prelude.{nat_le}
 use Rattle.std.specs.List.{count_by, list_all}
+use Rattle.ssh_model.specs.Protocol.Bounds.{longest_payload}
 use Rattle.ssh_model.specs.Protocol.Wire.DataTypes.{is_name, is_name_byte}
 use Rattle.ssh_model.specs.Protocol.Wire.Message.{Msg, Msg.ExtInfo, Extension, IsExtensions, IsWrittenPayload}
 use Rattle.ssh_model.specs.Laws.Sizes.{HasPayloadSize, extensions_size, payload_size}
@@ -35,12 +36,12 @@ sized (x ∷ l) n v =
     let rest = sized l (right (is_name x.name) (list_all is_name (extension_names l)) n) (right (is_short_value x) (list_all is_short_value l) v) in
     omega (arith, name, value, rest)
 
-pub fits : (g : Given) → AreExtensions g → payload_size (ExtInfo g.extensions) ≤ 34000
+pub fits : (g : Given) → AreExtensions g → payload_size (ExtInfo g.extensions) ≤ longest_payload
 fits g x = let s = sized g.extensions x.names x.values in omega (arith, s, x.most)
 
 -- ---- it has a spelling
 
-made : (l : List Extension) → extensions_size l ≤ 34000 → Made (IsExtensions l) (extensions_size l)
+made : (l : List Extension) → extensions_size l ≤ longest_payload → Made (IsExtensions l) (extensions_size l)
 made [] n = ended
 made (x ∷ l) n = string x.name (omega (arith, n)) (string x.value (omega (arith, n)) (made l (omega (arith, n))))
 

@@ -1,5 +1,6 @@
 -- What a user asks of an end, or a layer above, and what the end does on it.
 use Rattle.std.specs.Prelude.{◌≡◌, ℕ, ◌≤◌, true, false}
+use Rattle.ssh_model.specs.Protocol.Bounds.{longest_payload}
 use Rattle.ssh_model.specs.Protocol.Wire.Message.{Msg, FitsContext}
 use Rattle.ssh_model.specs.Protocol.Wire.Sealing.{Crypto}
 use Rattle.ssh_model.specs.Laws.Sizes.{payload_size}
@@ -23,7 +24,7 @@ use Rattle.ssh_transport_machine.specs.declared.outcome.TransportFault.TheVarian
 pub record CanBeSent (message : Message) : Type 0 where
   pub fits : Fits message
   pub context : FitsContext true (meaning message)
-  pub most : payload_size (meaning message) ≤ 34000
+  pub most : payload_size (meaning message) ≤ longest_payload
 
 -- what a message has to be that is sent for a layer above
 abbrev pub IsSendable : TransportAsk → Type 0

@@ -1,6 +1,7 @@
 -- The end of an exchange: its keys, NEWKEYS, and what is announced after it.
 use Rattle.std.specs.Prelude.{◌≡◌, ℕ, ◌≤◌, Bool, true, false, Option, Some, None, unwrap_or, IsSome, List, [], ◌∷◌}
 use Rattle.std.specs.Prelude.{◌++◌, length, replicate}
+use Rattle.ssh_model.specs.Protocol.Bounds.{longest_payload}
 use Rattle.ssh_model.specs.Protocol.Side.{Side, Side.Client, Side.Server, peer}
 use Rattle.ssh_model.specs.Protocol.Wire.Message.{Msg, Msg.ExtInfo, Msg.KexInit, Msg.NewKeys, Extension, Proposal, IsPayload}
 use Rattle.ssh_model.specs.Protocol.Wire.Sealing.{Crypto}
@@ -69,7 +70,7 @@ pub record IsDue {K : Type 0} (s : Transport K) (payload : List ℕ) : Type 0 wh
   pub due : is_announcing s ≡ true
   pub spelled : IsSpelled (ExtInfo s.settings.extensions) payload
   pub some : 1 ≤ length payload
-  pub most : length payload ≤ 34000
+  pub most : length payload ≤ longest_payload
 
 -- what is announced after NEWKEYS, if anything
 abbrev pub IsAnnouncement : {K : Type 0} → Transport K → Option (List ℕ) → Type 0

@@ -28,6 +28,7 @@
 #![tactic(auto)]
 
 mod ask_refusal;
+pub mod bounds;
 mod digits;
 pub mod laws;
 mod mpint;

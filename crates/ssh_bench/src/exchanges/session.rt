@@ -1,4 +1,5 @@
 ghost use Rattle.std.specs.Prelude.{◌≤◌, length};
+ghost use Rattle.ssh_model.specs.Protocol.Bounds.{largest_data};
 
 use ssh_message::Message;
 use ssh_toys::{
@@ -109,7 +110,7 @@ impl Session {
     ///
     /// Those of `send` and `take`: here only where memory is refused.
     pub fn data(&mut self, body: &[u8]) -> Result<(), TransportFault>
-        requires { length body.now ≤ 32768 }
+        requires { length body.now ≤ largest_data }
     {
         let message = Message::ChannelData { recipient: 0, body };
         self.client.ask(

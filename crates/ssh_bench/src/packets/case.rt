@@ -1,4 +1,5 @@
 ghost use Rattle.std.specs.Prelude.{◌≤◌, length};
+ghost use Rattle.ssh_model.specs.Protocol.Bounds.{longest_payload};
 
 use ssh_packet::{HmacKey, MacOnly, PacketReader, write_packet};
 use ssh_toys::ToyFiller;
@@ -47,7 +48,7 @@ impl Case {
     /// Only where memory is refused.
     pub fn new(alloc: Global, payload: &[u8]) -> Result<Case, AllocError>
         requires from { 1 ≤ length payload.now }
-        requires to { length payload.now ≤ 34000 }
+        requires to { length payload.now ≤ longest_payload }
     {
         let key = HmacKey::new(&KEY);
         let mut filler = ZEROS;
@@ -72,7 +73,7 @@ impl Case {
     /// Those of the clock, or memory is refused.
     pub fn seal<R: Clock>(&mut self, rt: &R, payload: &[u8], count: usize) -> io::Result<Duration>
         requires from { 1 ≤ length payload.now }
-        requires to { length payload.now ≤ 34000 }
+        requires to { length payload.now ≤ longest_payload }
     {
         let key = &self.key;
         let out = &mut self.wire;

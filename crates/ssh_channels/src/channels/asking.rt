@@ -3,6 +3,7 @@
 ghost use Rattle.std.specs.Prelude.{◌≡◌, ◌≤◌, Some, None, IfOk, IfErr, OnOk, OnErr, true, false};
 ghost use Rattle.ssh_message.specs.Meaning.{meaning};
 ghost use Rattle.ssh_message.specs.Written.{Fits};
+ghost use Rattle.ssh_model.specs.Protocol.Bounds.{longest_payload};
 ghost use Rattle.ssh_model.specs.Laws.Sizes.{payload_size};
 ghost use Rattle.ssh_model.specs.Protocol.Sessions.Refusals.{first_refusal};
 ghost use Rattle.ssh_model.specs.State.Channels.Kept.{Sends, send_checks};
@@ -10,10 +11,11 @@ ghost use Rattle.ssh_channels.specs.Rows.{IsAskError, is_busy};
 ghost use Rattle.ssh_channels.specs.Sessions.{AsksInSession};
 ghost use Rattle.ssh_channels.specs.Values.{ask_of, sent_of};
 
-use super::{Channels, LIMIT};
+use super::Channels;
 use crate::{Ask, AskError, Sent};
 use ssh_model::connection::asks;
 use ssh_types::AskRefusal;
+use ssh_types::bounds::MOST_WAITING;
 
 impl Channels {
     /// Asks for a message of the connection (RFC 4254). `blocked` says whether this end is within a key exchange of its
@@ -29,7 +31,7 @@ impl Channels {
         ensures passed { OnOk result (first_refusal (send_checks blocked due self.old (ask_of ask.now)) ≡ None) }
         ensures sent { IfOk result (λ t. Sends self.old (ask_of ask.now) (sent_of t) self.new) }
         ensures fits { IfOk result (λ t. Fits t.message) }
-        ensures short { IfOk result (λ t. payload_size (meaning t.message) ≤ 34000) }
+        ensures short { IfOk result (λ t. payload_size (meaning t.message) ≤ longest_payload) }
         ensures in_session { AsksInSession blocked due self.old (ask_of ask.now) self.new result }
     {
         asks();
@@ -44,7 +46,7 @@ impl Channels {
         ensures passed { OnOk result (first_refusal (send_checks blocked due self.old (ask_of ask.now)) ≡ None) }
         ensures sent { IfOk result (λ t. Sends self.old (ask_of ask.now) (sent_of t) self.new) }
         ensures fits { IfOk result (λ t. Fits t.message) }
-        ensures short { IfOk result (λ t. payload_size (meaning t.message) ≤ 34000) }
+        ensures short { IfOk result (λ t. payload_size (meaning t.message) ≤ longest_payload) }
     {
         if blocked {
             return Err(AskError::Refused(AskRefusal::Busy));
@@ -68,10 +70,10 @@ impl Channels {
                 want: true,
                 ..
             } => match self.table.get(channel) {
-                Some(entry) => entry.waiting_there as usize >= LIMIT,
+                Some(entry) => entry.waiting_there as usize >= MOST_WAITING,
                 None => false,
             },
-            Ask::Global { want: true, .. } => self.globals_there as usize >= LIMIT,
+            Ask::Global { want: true, .. } => self.globals_there as usize >= MOST_WAITING,
             _ => false,
         }
     }
@@ -83,7 +85,7 @@ impl Channels {
         ensures passed { OnOk result (first_refusal (send_checks false false self.old (ask_of ask.now)) ≡ None) }
         ensures sent { IfOk result (λ t. Sends self.old (ask_of ask.now) (sent_of t) self.new) }
         ensures fits { IfOk result (λ t. Fits t.message) }
-        ensures short { IfOk result (λ t. payload_size (meaning t.message) ≤ 34000) }
+        ensures short { IfOk result (λ t. payload_size (meaning t.message) ≤ longest_payload) }
     {
         let sent = match *ask {
             Ask::Open {

@@ -5,6 +5,7 @@ ghost use Rattle.ssh_types.specs.AskRefusals.{ask_refusal_of};
 ghost use Rattle.ssh_types.specs.Refusals.{refusal_of};
 ghost use Rattle.ssh_message.specs.Meaning.{meaning};
 ghost use Rattle.ssh_message.specs.Written.{Fits};
+ghost use Rattle.ssh_model.specs.Protocol.Bounds.{largest_data, longest_payload};
 ghost use Rattle.ssh_model.specs.Protocol.Wire.Message as Msg;
 ghost use Rattle.ssh_model.specs.Laws.Sizes.{payload_size};
 ghost use Rattle.ssh_model.specs.Protocol.Sessions.Items as Ask;
@@ -15,10 +16,10 @@ ghost use Rattle.ssh_channels.specs.Rows.{data_message};
 ghost use Rattle.ssh_channels.specs.Values.{sent_of, taken_of};
 
 use super::Channels;
-use super::sizes::LARGEST_DATA;
 use crate::entry::Entry;
 use crate::{Fact, Sent, Taken};
 use ssh_message::Message;
+use ssh_types::bounds::LARGEST_DATA;
 use ssh_types::{AskRefusal, Refusal};
 
 impl Channels {
@@ -116,7 +117,7 @@ impl Channels {
         ensures passed { OnOk result (first_refusal (send_checks false false self.old (Ask.AskData channel kind body.now)) ≡ None) }
         ensures sent { IfOk result (λ t. Sends self.old (Ask.AskData channel kind body.now) (sent_of t) self.new) }
         ensures fits { IfOk result (λ t. Fits t.message) }
-        ensures short { IfOk result (λ t. payload_size (meaning t.message) ≤ 34000) }
+        ensures short { IfOk result (λ t. payload_size (meaning t.message) ≤ longest_payload) }
     {
         let Some(entry) = self.open_entry(channel) else {
             return Err(AskRefusal::NoChannel);
@@ -158,7 +159,7 @@ impl Channels {
         ensures passed { OnOk result (first_refusal (send_checks false false self.old (Ask.AskAdjust channel bytes)) ≡ None) }
         ensures sent { IfOk result (λ t. Sends self.old (Ask.AskAdjust channel bytes) (sent_of t) self.new) }
         ensures fits { IfOk result (λ t. Fits t.message) }
-        ensures short { IfOk result (λ t. payload_size (meaning t.message) ≤ 34000) }
+        ensures short { IfOk result (λ t. payload_size (meaning t.message) ≤ longest_payload) }
     {
         let Some(entry) = self.open_entry(channel) else {
             return Err(AskRefusal::NoChannel);
@@ -190,8 +191,8 @@ impl Channels {
 // CHANNEL_DATA, or CHANNEL_EXTENDED_DATA of a kind.
 fn data_message<'a>(recipient: u32, kind: Option<u32>, body: &'a [u8]) -> Message<'a>
     ensures means { meaning result ≡ data_message recipient kind body.now }
-    ensures fits { length body.now ≤ 32768 → Fits result }
-    ensures short { length body.now ≤ 32768 → payload_size (meaning result) ≤ 34000 }
+    ensures fits { length body.now ≤ largest_data → Fits result }
+    ensures short { length body.now ≤ largest_data → payload_size (meaning result) ≤ longest_payload }
 {
     match kind {
         None => Message::ChannelData { recipient, body },

@@ -5,6 +5,7 @@ ghost use Rattle.ssh_types.specs.AskRefusals.{ask_refusal_of};
 ghost use Rattle.ssh_types.specs.Refusals.{refusal_of};
 ghost use Rattle.ssh_message.specs.Meaning.{meaning};
 ghost use Rattle.ssh_message.specs.Written.{Fits};
+ghost use Rattle.ssh_model.specs.Protocol.Bounds.{longest_payload};
 ghost use Rattle.ssh_model.specs.Protocol.Wire.Message as Msg;
 ghost use Rattle.ssh_model.specs.Laws.Sizes.{payload_size};
 ghost use Rattle.ssh_model.specs.Protocol.Sessions.Items as Ask;
@@ -85,7 +86,7 @@ impl Channels {
         ensures passed { OnOk result (first_refusal (send_checks false false self.old (Ask.AskGlobal name.now want rest.now)) ≡ None) }
         ensures sent { IfOk result (λ t. Sends self.old (Ask.AskGlobal name.now want rest.now) (sent_of t) self.new) }
         ensures fits { IfOk result (λ t. Fits t.message) }
-        ensures short { IfOk result (λ t. payload_size (meaning t.message) ≤ 34000) }
+        ensures short { IfOk result (λ t. payload_size (meaning t.message) ≤ longest_payload) }
     {
         let Some(waiting) = count_where(want, self.globals_there) else {
             return Err(AskRefusal::Busy);
@@ -114,7 +115,7 @@ impl Channels {
         ensures passed { OnOk result (first_refusal (send_checks false false self.old (Ask.AskGlobalReply success rest.now)) ≡ None) }
         ensures sent { IfOk result (λ t. Sends self.old (Ask.AskGlobalReply success rest.now) (sent_of t) self.new) }
         ensures fits { IfOk result (λ t. Fits t.message) }
-        ensures short { IfOk result (λ t. payload_size (meaning t.message) ≤ 34000) }
+        ensures short { IfOk result (λ t. payload_size (meaning t.message) ≤ longest_payload) }
     {
         if success {
             return self.ask_global_success(rest);
@@ -139,7 +140,7 @@ impl Channels {
         ensures passed { OnOk result (first_refusal (send_checks false false self.old (Ask.AskGlobalReply true rest.now)) ≡ None) }
         ensures sent { IfOk result (λ t. Sends self.old (Ask.AskGlobalReply true rest.now) (sent_of t) self.new) }
         ensures fits { IfOk result (λ t. Fits t.message) }
-        ensures short { IfOk result (λ t. payload_size (meaning t.message) ≤ 34000) }
+        ensures short { IfOk result (λ t. payload_size (meaning t.message) ≤ longest_payload) }
     {
         if self.globals_here == 0 {
             return Err(AskRefusal::NothingOwed);

@@ -5,6 +5,7 @@ ghost use Rattle.ssh_types.specs.AskRefusals.{ask_refusal_of};
 ghost use Rattle.ssh_types.specs.Refusals.{refusal_of};
 ghost use Rattle.ssh_message.specs.Meaning.{meaning};
 ghost use Rattle.ssh_message.specs.Written.{Fits};
+ghost use Rattle.ssh_model.specs.Protocol.Bounds.{longest_payload};
 ghost use Rattle.ssh_model.specs.Protocol.Wire.Message as Msg;
 ghost use Rattle.ssh_model.specs.Laws.Sizes.{payload_size};
 ghost use Rattle.ssh_model.specs.Protocol.Sessions.Items as Ask;
@@ -213,7 +214,7 @@ impl Channels {
             ≡ None) }
         ensures sent { IfOk result (λ t. Sends self.old (Ask.AskOpen kind.now window max_packet rest.now) (sent_of t) self.new) }
         ensures fits { IfOk result (λ t. Fits t.message) }
-        ensures short { IfOk result (λ t. payload_size (meaning t.message) ≤ 34000) }
+        ensures short { IfOk result (λ t. payload_size (meaning t.message) ≤ longest_payload) }
     {
         if self.is_table_full() {
             return Err(AskError::Refused(AskRefusal::TableFull));
@@ -270,7 +271,7 @@ impl Channels {
             ≡ None) }
         ensures sent { IfOk result (λ t. Sends self.old (Ask.AskConfirm channel window max_packet rest.now) (sent_of t) self.new) }
         ensures fits { IfOk result (λ t. Fits t.message) }
-        ensures short { IfOk result (λ t. payload_size (meaning t.message) ≤ 34000) }
+        ensures short { IfOk result (λ t. payload_size (meaning t.message) ≤ longest_payload) }
     {
         let entry = self.waiting_entry(channel)?;
         if !is_max_packet(max_packet) {
@@ -314,7 +315,7 @@ impl Channels {
         ensures passed { OnOk result (first_refusal (send_checks false false self.old (Ask.AskRefuse channel reason)) ≡ None) }
         ensures sent { IfOk result (λ t. Sends self.old (Ask.AskRefuse channel reason) (sent_of t) self.new) }
         ensures fits { IfOk result (λ t. Fits t.message) }
-        ensures short { IfOk result (λ t. payload_size (meaning t.message) ≤ 34000) }
+        ensures short { IfOk result (λ t. payload_size (meaning t.message) ≤ longest_payload) }
     {
         let entry = self.waiting_entry(channel)?;
         self.table.remove(channel);

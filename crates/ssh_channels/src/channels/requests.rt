@@ -5,6 +5,7 @@ ghost use Rattle.ssh_types.specs.AskRefusals.{ask_refusal_of};
 ghost use Rattle.ssh_types.specs.Refusals.{refusal_of};
 ghost use Rattle.ssh_message.specs.Meaning.{meaning};
 ghost use Rattle.ssh_message.specs.Written.{Fits};
+ghost use Rattle.ssh_model.specs.Protocol.Bounds.{longest_payload};
 ghost use Rattle.ssh_model.specs.Protocol.Wire.Message as Msg;
 ghost use Rattle.ssh_model.specs.Laws.Sizes.{payload_size};
 ghost use Rattle.ssh_model.specs.Protocol.Sessions.Items as Ask;
@@ -117,7 +118,7 @@ impl Channels {
             ≡ None) }
         ensures sent { IfOk result (λ t. Sends self.old (Ask.AskRequest channel name.now want rest.now) (sent_of t) self.new) }
         ensures fits { IfOk result (λ t. Fits t.message) }
-        ensures short { IfOk result (λ t. payload_size (meaning t.message) ≤ 34000) }
+        ensures short { IfOk result (λ t. payload_size (meaning t.message) ≤ longest_payload) }
     {
         let Some(entry) = self.table.get(channel) else {
             return Err(AskRefusal::NoChannel);
@@ -166,7 +167,7 @@ impl Channels {
         ensures passed { OnOk result (first_refusal (send_checks false false self.old (Ask.AskReply channel success)) ≡ None) }
         ensures sent { IfOk result (λ t. Sends self.old (Ask.AskReply channel success) (sent_of t) self.new) }
         ensures fits { IfOk result (λ t. Fits t.message) }
-        ensures short { IfOk result (λ t. payload_size (meaning t.message) ≤ 34000) }
+        ensures short { IfOk result (λ t. payload_size (meaning t.message) ≤ longest_payload) }
     {
         let Some(entry) = self.open_entry(channel) else {
             return Err(AskRefusal::NoChannel);
@@ -196,7 +197,7 @@ impl Channels {
 fn reply_message<'a>(recipient: u32, success: bool) -> Message<'a>
     ensures means { meaning result ≡ reply_message recipient success }
     ensures fits { Fits result }
-    ensures short { payload_size (meaning result) ≤ 34000 }
+    ensures short { payload_size (meaning result) ≤ longest_payload }
 {
     if success {
         Message::ChannelSuccess { recipient }

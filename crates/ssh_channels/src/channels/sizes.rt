@@ -5,11 +5,7 @@ ghost use Rattle.ssh_model.specs.Protocol.Channels.Connection.{is_max_packet};
 ghost use Rattle.ssh_model.specs.Protocol.Sessions.Sizes.{string_size};
 ghost use Rattle.ssh_model.specs.Protocol.Sessions.Sizes as model;
 
-// The most bytes of a payload.
-const LONGEST_PAYLOAD: usize = 34_000;
-
-// The most bytes of data that an end takes in one message, as it offers, and that it sends in one.
-pub(super) const LARGEST_DATA: u32 = 32_768;
+use ssh_types::bounds::{LARGEST_DATA, LONGEST_PAYLOAD};
 
 /// A payload of so many bytes and these is too long for a packet.
 pub(super) fn is_too_long(fixed: usize, rest: &[u8]) -> bool

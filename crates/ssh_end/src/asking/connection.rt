@@ -2,6 +2,7 @@
 
 ghost use Rattle.ssh_transport_machine.specs.Puts.{outs};
 ghost use Rattle.std.specs.Prelude.{◌≡◌, ◌≤◌, IfErr, IfOk, OnErr, map, true, false};
+ghost use Rattle.ssh_model.specs.Protocol.Bounds.{longest_payload};
 ghost use Rattle.ssh_model.specs.Protocol.Side.{Side};
 ghost use Rattle.ssh_model.specs.Protocol.Wire.Message.{FitsContext};
 ghost use Rattle.ssh_model.specs.Laws.Sizes.{payload_size};
@@ -75,7 +76,7 @@ fn send_given<S: Sealing, F: Filler + Drop>(
 ) -> Result<AskStep, Fault>
     requires fits { Fits given.now.message }
     requires context { FitsContext true (meaning given.now.message) }
-    requires most { payload_size (meaning given.now.message) ≤ 34000 }
+    requires most { payload_size (meaning given.now.message) ≤ longest_payload }
     ensures sent { IfOk result (λ step. GivenSent S.crypto machine.old (ask_of ask.now) (sent_of given.now) machine.new
         (outs out.old out.new sent.old sent.new) step) }
     ensures failed { IfErr result (λ fault. GivenFails machine.old fault machine.new) }

@@ -1,5 +1,6 @@
 -- Each ask on a channel, over what is kept, sends what a session sends.
 use Rattle.std.proofs.Common.{◌≡◌, ℕ, ◌+◌, ◌-◌, ◌≤◌, List, [], ◌∷◌, length, refl, ap, sym, ◌∙◌, arith, subst, None, Some, ltb, ltb-false, cond, Bool, true, false}
+use Rattle.ssh_model.specs.Protocol.Bounds.{largest_data}
 use Rattle.ssh_model.specs.Protocol.Side.{Side}
 use Rattle.ssh_model.specs.Protocol.Wire.Message.{Msg, Msg.GlobalRequest, Msg.RequestSuccess, Msg.RequestFailure, Msg.ChannelOpen, Msg.ChannelOpenConfirmation, Msg.ChannelOpenFailure, Msg.ChannelWindowAdjust, Msg.ChannelData, Msg.ChannelExtendedData, Msg.ChannelEof, Msg.ChannelClose, Msg.ChannelRequest, Msg.ChannelSuccess, Msg.ChannelFailure}
 use Rattle.ssh_model.specs.Protocol.Sessions.Refusals.{first_refusal}
@@ -62,7 +63,7 @@ module _ (s : Side) (h : List Item) (c : Channels) (has : SumsUp s h (owed_repli
     data_allowed body passed =
         let q = all_passed (channel_ask_checks (blocked h) due s h (AskData x None body)) passed in
         let e = not_false _ q.1.1.0 in
-        let long = or_false (ltb 32768 (length body)) (ltb (max_packet_there x (notes s h)) (length body)) q.1.1.1.1.0 in
+        let long = or_false (ltb largest_data (length body)) (ltb (max_packet_there x (notes s h)) (length body)) q.1.1.1.1.0 in
         let a = row.Ask.give_data None body e q.1.1.1.0 (ltb-false _ _ long.0) (ltb-false _ _ long.1) (ltb-false _ _ q.1.1.1.1.1.0) in
         changed_ask (AskData x None body) x (λ t. ChannelData t body) (λ (p : Place). record p { send_window = p.send_window - length body }) _ _
         (λ payload. sends x body payload) (held_open e) (data_said s (notes s h) has.run x None body (peer_number x (notes s h)) a) refl (λ payload. (refl, refl, refl, refl))
@@ -72,7 +73,7 @@ module _ (s : Side) (h : List Item) (c : Channels) (has : SumsUp s h (owed_repli
     extended_allowed kind body passed =
         let q = all_passed (channel_ask_checks (blocked h) due s h (AskData x (Some kind) body)) passed in
         let e = not_false _ q.1.1.0 in
-        let long = or_false (ltb 32768 (length body)) (ltb (max_packet_there x (notes s h)) (length body)) q.1.1.1.1.0 in
+        let long = or_false (ltb largest_data (length body)) (ltb (max_packet_there x (notes s h)) (length body)) q.1.1.1.1.0 in
         let a = row.Ask.give_data (Some kind) body e q.1.1.1.0 (ltb-false _ _ long.0) (ltb-false _ _ long.1) (ltb-false _ _ q.1.1.1.1.1.0) in
         changed_ask (AskData x (Some kind) body) x (λ t. ChannelExtendedData t kind body) (λ (p : Place). record p { send_window = p.send_window - length body }) _ _
         (λ payload. sends_extended x kind body payload) (held_open e) (data_said s (notes s h) has.run x (Some kind) body (peer_number x (notes s h)) a) refl (λ payload. (refl, refl, refl, refl))

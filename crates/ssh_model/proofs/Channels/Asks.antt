@@ -1,5 +1,6 @@
 -- The turns of an end on its channels: asks, exchanges, and whole turns.
 use Rattle.std.proofs.Common.{◌≡◌, ℕ, ◌≤◌, ◌^◌, List, [], ◌∷◌, ◌++◌, length, refl, ap, sym, ◌∙◌, arith, subst, append_assoc, Bool, true, false, not, nat_lt, ltb-false, ◌&&◌, ◌||◌, Option, Some, None}
+use Rattle.ssh_model.specs.Protocol.Bounds.{largest_data}
 use Rattle.ssh_model.specs.Protocol.Side.{Side, Side.Client, Side.Server}
 use Rattle.ssh_model.specs.Protocol.Wire.DataTypes.{IsUint32}
 use Rattle.ssh_model.specs.Protocol.Wire.Message.{Msg, Msg.KexEcdhInit, Msg.KexEcdhReply}
@@ -118,14 +119,14 @@ module _ {K : Type 0} (p : Parties K) where
       turn (row.Turn.asks x _ (unblocked side h false q.1.0) (row.Ask.refuse (not_false _ q.1.1.1.0)))
   ask_seen side h items a (of_connection (sends x y b)) c s =
       let q = all_passed (ask_checks p side h (AskData x None y)) c in
-      let long = or_false (nat_lt 32768 (length y)) (nat_lt (max_packet_there x (notes side h)) (length y)) q.1.1.1.1.1.0 in
+      let long = or_false (nat_lt largest_data (length y)) (nat_lt (max_packet_there x (notes side h)) (length y)) q.1.1.1.1.1.0 in
       turn (row.Turn.asks x _ (unblocked side h false q.1.0)
-      (row.Ask.give_data None y (not_false _ q.1.1.1.0) q.1.1.1.1.0 (ltb-false 32768 (length y) long.0) (ltb-false _ (length y) long.1) (ltb-false _ (length y) q.1.1.1.1.1.1.0)))
+      (row.Ask.give_data None y (not_false _ q.1.1.1.0) q.1.1.1.1.0 (ltb-false largest_data (length y) long.0) (ltb-false _ (length y) long.1) (ltb-false _ (length y) q.1.1.1.1.1.1.0)))
   ask_seen side h items a (of_connection (sends_extended x k y b)) c s =
       let q = all_passed (ask_checks p side h (AskData x (Some k) y)) c in
-      let long = or_false (nat_lt 32768 (length y)) (nat_lt (max_packet_there x (notes side h)) (length y)) q.1.1.1.1.1.0 in
+      let long = or_false (nat_lt largest_data (length y)) (nat_lt (max_packet_there x (notes side h)) (length y)) q.1.1.1.1.1.0 in
       turn (row.Turn.asks x _ (unblocked side h false q.1.0)
-      (row.Ask.give_data (Some k) y (not_false _ q.1.1.1.0) q.1.1.1.1.0 (ltb-false 32768 (length y) long.0) (ltb-false _ (length y) long.1) (ltb-false _ (length y) q.1.1.1.1.1.1.0)))
+      (row.Ask.give_data (Some k) y (not_false _ q.1.1.1.0) q.1.1.1.1.0 (ltb-false largest_data (length y) long.0) (ltb-false _ (length y) long.1) (ltb-false _ (length y) q.1.1.1.1.1.1.0)))
   ask_seen side h items a (of_connection (adjust x n b)) c s =
       let q = all_passed (ask_checks p side h (AskAdjust x n)) c in
       turn (row.Turn.asks x _ (unblocked side h false q.1.0) (row.Ask.adjust n (not_false _ q.1.1.1.0) q.1.1.1.1.0 (ltb-false _ _ q.1.1.1.1.1.0)))

@@ -1,5 +1,6 @@
 -- What is kept of channels is refused for what their history is.
 use Rattle.std.proofs.Common.{◌≡◌, ℕ, ◌+◌, List, [], ◌∷◌, length, refl, ap, sym, ◌∙◌, Option, None, Some, is_some, nat_lt, cond, not, ◌&&◌, ◌||◌, Bool, true, false, ◌==◌}
+use Rattle.ssh_model.specs.Protocol.Bounds.{largest_data}
 use Rattle.ssh_model.specs.Protocol.Side.{Side}
 use Rattle.ssh_model.specs.Protocol.Wire.Message.{Msg, Msg.GlobalRequest, Msg.RequestSuccess, Msg.RequestFailure, Msg.ChannelOpen, Msg.ChannelOpenConfirmation, Msg.ChannelOpenFailure, Msg.ChannelWindowAdjust, Msg.ChannelData, Msg.ChannelExtendedData, Msg.ChannelEof, Msg.ChannelClose, Msg.ChannelRequest, Msg.ChannelSuccess, Msg.ChannelFailure}
 use Rattle.ssh_model.specs.Protocol.Sessions.Refusals.{Check, Check.RefusedWhere, first_refusal, Refusal, Refusal.Unexpected, Refusal.UnknownChannel, Refusal.WindowOverrun, Refusal.WindowTooLarge, Refusal.OwedFull, AskRefusal, AskRefusal.Busy, AskRefusal.NoChannel, AskRefusal.NoRoom, AskRefusal.TooLong, AskRefusal.NothingOwed, AskRefusal.RekeyDue, AskRefusal.TooMuch}
@@ -139,19 +140,19 @@ module _ (s : Side) (h : List Item) (c : Channels) (has : SumsUp s h (owed_repli
 
   data_ask : (x : ℕ) (kind : Option ℕ) (body : List ℕ)
       → first_refusal (RefusedWhere (not (is_confirmed x (notes s h))) NoChannel ∷ RefusedWhere (has_ended x (notes s h)) AskRefusal.Ended
-      ∷ RefusedWhere (nat_lt 32768 (length body) || nat_lt (max_packet_there x (notes s h)) (length body)) TooLong
+      ∷ RefusedWhere (nat_lt largest_data (length body) || nat_lt (max_packet_there x (notes s h)) (length body)) TooLong
       ∷ RefusedWhere (nat_lt (send_window x (notes s h)) (length body)) NoRoom ∷ [])
       ≡ first_refusal (RefusedWhere (not (is_at is_open (at c.places x))) NoChannel ∷ RefusedWhere (is_at is_ended (at c.places x)) AskRefusal.Ended
-      ∷ RefusedWhere (nat_lt 32768 (length body) || is_at (λ kept. nat_lt kept.max_packet_there (length body)) (at c.places x)) TooLong
+      ∷ RefusedWhere (nat_lt largest_data (length body) || is_at (λ kept. nat_lt kept.max_packet_there (length body)) (at c.places x)) TooLong
       ∷ RefusedWhere (is_at (λ kept. nat_lt kept.send_window (length body)) (at c.places x)) NoRoom ∷ [])
   unfolding place_at place_of
   data_ask x kind body =
       confirmed_first x
       (RefusedWhere (has_ended x (notes s h)) AskRefusal.Ended
-      ∷ RefusedWhere (nat_lt 32768 (length body) || nat_lt (max_packet_there x (notes s h)) (length body)) TooLong
+      ∷ RefusedWhere (nat_lt largest_data (length body) || nat_lt (max_packet_there x (notes s h)) (length body)) TooLong
       ∷ RefusedWhere (nat_lt (send_window x (notes s h)) (length body)) NoRoom ∷ [])
       (RefusedWhere (is_at is_ended (at c.places x)) AskRefusal.Ended
-      ∷ RefusedWhere (nat_lt 32768 (length body) || is_at (λ kept. nat_lt kept.max_packet_there (length body)) (at c.places x)) TooLong
+      ∷ RefusedWhere (nat_lt largest_data (length body) || is_at (λ kept. nat_lt kept.max_packet_there (length body)) (at c.places x)) TooLong
       ∷ RefusedWhere (is_at (λ kept. nat_lt kept.send_window (length body)) (at c.places x)) NoRoom ∷ [])
       (λ e. rw (open_place s h (owed_replies s h) c has x e, own_end s h (owed_replies s h) c has x) refl)
 

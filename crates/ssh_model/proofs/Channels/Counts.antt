@@ -2,6 +2,7 @@
 use Rattle.std.proofs.Common.{◌≡◌, ℕ, zero, suc, ◌+◌, ◌<◌, ◌≤◌, List, ◌∷◌, length, refl, ap, sym, ◌∙◌, arith, cond, not, ◌&&◌, ◌||◌, Bool, true, false, Option, is_some, count_by, nat_lt, nat_le, lt-ltb, ltb-true, ltb-false}
 use Rattle.std.proofs.lemmas.Bool.{le-leb, lt-leb}
 use Rattle.std.proofs.lemmas.List.Recursion.{is_count_by}
+use Rattle.ssh_model.specs.Protocol.Bounds.{most_channels}
 use Rattle.ssh_model.specs.Protocol.Side.{Side}
 use Rattle.ssh_model.specs.Protocol.Channels.Notes.{Note}
 use Rattle.ssh_model.specs.Protocol.Channels.Numbers.{is_held}
@@ -71,12 +72,12 @@ no_more b u k e = e ∙ step (nat_lt u k) refl
         go false y = z ∙ sym y
         go true y = let w : suc u < suc k = ltb-true (suc u) (suc k) y in let v : nat_lt u k ≡ true = lt-ltb u k (omega (arith, w)) in absurd (cc (v, z))
 
-pub some_free_is : (s : Side) (h : List Item) (k : ℕ) → k ≤ 1024 → some_free s h k ≡ nat_lt (count_below (in_use (noted s h) (owed s h)) k) k
+pub some_free_is : (s : Side) (h : List Item) (k : ℕ) → k ≤ most_channels → some_free s h k ≡ nat_lt (count_below (in_use (noted s h) (owed s h)) k) k
 unfolding some_free count_below
 some_free_is s h zero e = refl
 some_free_is s h (suc k) e =
     let more = some_free_is s h k (omega (arith, e)) in
-    let inside : nat_lt k 1024 ≡ true = lt-ltb k 1024 (omega (arith, e)) in
+    let inside : nat_lt k most_channels ≡ true = lt-ltb k most_channels (omega (arith, e)) in
     go (is_held k (noted s h)) (is_owed k (owed s h)) refl refl more inside
   where
     used : ℕ
@@ -86,28 +87,28 @@ some_free_is s h (suc k) e =
     fits = below_bound (in_use (noted s h) (owed s h)) k
 
     goal : Bool → Bool → Type 0
-    goal b c = ((nat_lt k 1024 && (not b && not c)) || some_free s h k) ≡ nat_lt (cond (b || c) (suc used) used) (suc k)
+    goal b c = ((nat_lt k most_channels && (not b && not c)) || some_free s h k) ≡ nat_lt (cond (b || c) (suc used) used) (suc k)
 
-    taken : some_free s h k ≡ nat_lt used k → ((nat_lt k 1024 && false) || some_free s h k) ≡ nat_lt (suc used) (suc k)
-    taken more = fall (nat_lt k 1024) ∙ no_more (some_free s h k) used k more
+    taken : some_free s h k ≡ nat_lt used k → ((nat_lt k most_channels && false) || some_free s h k) ≡ nat_lt (suc used) (suc k)
+    taken more = fall (nat_lt k most_channels) ∙ no_more (some_free s h k) used k more
       where
         fall : (b : Bool) → ((b && false) || some_free s h k) ≡ some_free s h k
         fall true = refl
         fall false = refl
 
-    go : (b c : Bool) → is_held k (noted s h) ≡ b → is_owed k (owed s h) ≡ c → some_free s h k ≡ nat_lt used k → nat_lt k 1024 ≡ true
+    go : (b c : Bool) → is_held k (noted s h) ≡ b → is_owed k (owed s h) ≡ c → some_free s h k ≡ nat_lt used k → nat_lt k most_channels ≡ true
         → (is_free s h k || some_free s h k) ≡ nat_lt (cond (in_use (noted s h) (owed s h) k) (suc used) used) (suc k)
     go true c p q more i = rw (p) (taken more)
     go false true p q more i = rw (p, q) (taken more)
     go false false p q more i = rw (p, q, i) (sym (lt-ltb used (suc k) (omega (arith, fits))))
 
-not_below : (u : ℕ) → not (nat_lt u 1024) ≡ nat_le 1024 u
-not_below u = go (nat_lt u 1024) refl
+not_below : (u : ℕ) → not (nat_lt u most_channels) ≡ nat_le most_channels u
+not_below u = go (nat_lt u most_channels) refl
   where
-    go : (b : Bool) → nat_lt u 1024 ≡ b → not b ≡ nat_le 1024 u
-    go true e = sym (lt-leb 1024 u (ltb-true u 1024 e))
-    go false e = sym (le-leb 1024 u (ltb-false u 1024 e))
+    go : (b : Bool) → nat_lt u most_channels ≡ b → not b ≡ nat_le most_channels u
+    go true e = sym (lt-leb most_channels u (ltb-true u most_channels e))
+    go false e = sym (le-leb most_channels u (ltb-false u most_channels e))
 
-pub full_is : (s : Side) (h : List Item) → not (has_place s h) ≡ nat_le 1024 (count (noted s h) (owed s h))
+pub full_is : (s : Side) (h : List Item) → not (has_place s h) ≡ nat_le most_channels (count (noted s h) (owed s h))
 unfolding has_place count
-full_is s h = ap not (some_free_is s h 1024 (omega arith)) ∙ not_below _
+full_is s h = ap not (some_free_is s h most_channels (omega arith)) ∙ not_below _

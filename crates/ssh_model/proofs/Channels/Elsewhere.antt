@@ -1,6 +1,7 @@
 -- An end without channels, items of other layers, and what is shown.
 use Rattle.std.proofs.Common.{◌≡◌, ℕ, zero, suc, List, [], ◌∷◌, replicate, refl, ap, sym, ◌∙◌, subst, Option, None}
 use lib.ListN.{length-replicate}
+use Rattle.ssh_model.specs.Protocol.Bounds.{most_channels}
 use Rattle.ssh_model.specs.Protocol.Side.{Side}
 use Rattle.ssh_model.specs.Protocol.Wire.Message.{Msg.NewKeys, Msg.GlobalRequest, Msg.RequestSuccess, Msg.RequestFailure, Msg.ChannelOpen, Msg.ChannelOpenConfirmation, Msg.ChannelOpenFailure, Msg.ChannelWindowAdjust, Msg.ChannelData, Msg.ChannelExtendedData, Msg.ChannelEof, Msg.ChannelClose, Msg.ChannelRequest, Msg.ChannelSuccess, Msg.ChannelFailure}
 use Rattle.ssh_model.specs.Protocol.Sessions.Items.{Item, Item.Sent, Item.Took}
@@ -25,8 +26,8 @@ none_at (suc k) (suc x) = none_at k x
 pub starts : (s : Side) → SumsUp s [] [] no_channels
 starts s = record {
   run = start;
-  places = λ x. none_at 1024 x ∙ sym (place_none s x [] [] refl refl);
-  size = length-replicate {A = Option Place} 1024 None;
+  places = λ x. none_at most_channels x ∙ sym (place_none s x [] [] refl refl);
+  size = length-replicate {A = Option Place} most_channels None;
   queue = refl;
   settled = tt;
   here = refl;

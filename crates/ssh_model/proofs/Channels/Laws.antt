@@ -1,6 +1,7 @@
 -- Laws of the definitions by themselves.
 use Rattle.std.proofs.Common.{◌≡◌, ℕ, ◌-◌, ◌<◌, List, ◌∷◌, length, ◌⊎◌, inl, inr, refl, ap, ◌∙◌, arith, zero, suc, Bool, true, false, not, ◌&&◌, ◌||◌, nat_lt, eqb, eqb-true, eq-eqb, Option}
 use Rattle.std.proofs.lemmas.Bool.{ltb-true}
+use Rattle.ssh_model.specs.Protocol.Bounds.{most_channels}
 use Rattle.ssh_model.specs.Protocol.Side.{Side}
 use Rattle.ssh_model.specs.Protocol.Channels.Message.{Message, Message.Data, Message.Request, Message.Reply, Channel, Stage, Stage.Closed, Stage.Failed, stage, over_at, over, window, spent}
 use Rattle.ssh_model.specs.Protocol.Channels.Notes.{Note, Note.Said, Note.Took, said, took, said_all, took_all, channel_at, At, Free}
@@ -81,12 +82,12 @@ none_free s h x (suc k) l e = go (is_free s h k) refl (none_free s h x k) (split
 
 pub place_is : (s : Side) (h : List Item) → has_place s h ≡ true → (x : ℕ) × (is_free s h x ≡ true)
 unfolding has_place
-place_is s h e = found s h 1024 e
+place_is s h e = found s h most_channels e
 
 pub full_is : (s : Side) (h : List Item) (x : ℕ) → has_place s h ≡ false → is_free s h x ≡ false
 unfolding has_place
-full_is s h x e = go (nat_lt x 1024) refl
+full_is s h x e = go (nat_lt x most_channels) refl
   where
-    go : (b : Bool) → nat_lt x 1024 ≡ b → (b && (not (is_held x (noted s h)) && not (is_owed x (owed s h)))) ≡ false
+    go : (b : Bool) → nat_lt x most_channels ≡ b → (b && (not (is_held x (noted s h)) && not (is_owed x (owed s h)))) ≡ false
     go false q = refl
-    go true q = let z = none_free s h x 1024 (ltb-true x 1024 q) e in rw q at z
+    go true q = let z = none_free s h x most_channels (ltb-true x most_channels q) e in rw q at z

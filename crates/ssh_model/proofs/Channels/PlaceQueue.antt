@@ -7,7 +7,6 @@ use Rattle.ssh_model.specs.Protocol.Channels.Numbers.{said_at, took_at, has_open
 use Rattle.ssh_model.specs.Protocol.Channels.Rules.{EndRun, next_theirs}
 use Rattle.ssh_model.specs.Protocol.Channels.History.{Item, Item.Sent, is_owed}
 use Rattle.ssh_model.specs.State.Channels.Places.{Place, place_of, place_at, place, IsOver, AreOwed, ChannelState, ChannelState.Opening, ChannelState.Waiting, ChannelState.Confirmed, channel_state, room, is_at, is_open, is_opening, is_waiting_place, shown_state, shown_room}
-use Rattle.ssh_model.proofs.Channels.State.{and_is}
 use Rattle.ssh_model.proofs.Channels.Steps.{Same, Moves, Steps, refused_moves}
 use Rattle.ssh_model.proofs.Channels.PlaceOpens.{offered_place, waits_place}
 

@@ -2,6 +2,7 @@
 use Rattle.std.proofs.Common.{◌≡◌, ℕ, suc, ◌<◌, List, [], ◌∷◌, ◌++◌, length, map, refl, ap, sym, ◌∙◌, arith, subst, Option, None, Some, is_some, option_map, nat_le, reverse, slice_set, get_or-set_same, get_or-set_other, length-set, lt-ltb, zero, cond, ◌&&◌, ◌||◌, Bool, true, false, ◌==◌, eqb-true}
 use Rattle.std.proofs.lemmas.List.{length-reverse, reverse-append, map-append}
 use lib.ListN.{length-map}
+use Rattle.ssh_model.specs.Protocol.Bounds.{most_channels}
 use Rattle.ssh_model.specs.Protocol.Side.{Side}
 use Rattle.ssh_model.specs.Protocol.Sessions.Refusals.{Check, Check.RefusedWhere, first_refusal}
 use Rattle.ssh_model.specs.Protocol.Sessions.Items.{Item}
@@ -183,14 +184,14 @@ module _ (s : Side) (h : List Item) (o : List channel.Item) (c : Channels) (has 
   unfolding count
   count_is =
       sym (places_count c.places) ∙ (ap (λ k. count_below (λ y. is_some (at c.places y)) k) has.size
-      ∙ below_same (λ y. is_some (at c.places y)) (in_use (notes s h) o) 1024 (λ y. used_here s h o c has y))
+      ∙ below_same (λ y. is_some (at c.places y)) (in_use (notes s h) o) most_channels (λ y. used_here s h o c has y))
 
   pub queue_owed : length c.owed ≡ length o
   queue_owed = sym (length-map c.owed reply_item) ∙ (sym (length-reverse (map reply_item c.owed)) ∙ ap length has.queue)
 
 module _ (s : Side) (h : List Item) (c : Channels) (has : SumsUp s h (owed_replies s h) c) where
   pub full_here : is_full s h ≡ is_table_full c.places
-  full_here = full_is s (channel_items h) ∙ ap (λ k. nat_le 1024 k) (sym (count_is s h (owed_replies s h) c has))
+  full_here = full_is s (channel_items h) ∙ ap (λ k. nat_le most_channels k) (sym (count_is s h (owed_replies s h) c has))
 
   pub many_here : is_owed_limit_reached s h ≡ is_queue_full (blocked h) c.owed
   many_here = ap (λ n. blocked h && is_limit_reached n) (sym (queue_owed s h (owed_replies s h) c has))
@@ -198,4 +199,4 @@ module _ (s : Side) (h : List Item) (c : Channels) (has : SumsUp s h (owed_repli
   pub free_here : (x : ℕ) → IsUnused c.places x → is_free s (channel_items h) x ≡ true
   free_here x free =
       let u = unused_here s h (owed_replies s h) c has x free in
-      rw (lt-ltb x 1024 free.inside, u.0, u.1) refl
+      rw (lt-ltb x most_channels free.inside, u.0, u.1) refl

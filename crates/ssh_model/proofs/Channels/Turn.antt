@@ -1,5 +1,6 @@
 -- A turn of an end: what its notes and what it owes become.
 use Rattle.std.proofs.Common.{◌≡◌, ℕ, List, [], ◌∷◌, ◌++◌, map, refl, ap, sym, ◌∙◌, subst, cond, not, nat_lt, Bool, true, false, append_assoc, Option, Some, None}
+use Rattle.ssh_model.specs.Protocol.Bounds.{most_channels}
 use Rattle.ssh_model.specs.Protocol.Side.{Side}
 use Rattle.ssh_model.specs.Protocol.Channels.Message.{Message, Message.Open, Message.Close, stage}
 use Rattle.ssh_model.specs.Protocol.Channels.Notes.{payload, Note, Note.Said, said, said_all, took_all, channel_at, Free}
@@ -110,7 +111,7 @@ module _ (s : Side) (R : List Note → Type 0) (N : List Note → Message → Ty
 
   free_is : (x : ℕ) → is_free s h x ≡ true → Free x (noted s h) × (is_owed x (owed s h) ≡ false)
   free_is x e =
-      let a = and_is (nat_lt x 1024) _ e in
+      let a = and_is (nat_lt x most_channels) _ e in
       let b = and_is (not (is_held x (noted s h))) _ a.1 in
       (free_number s x (noted s h) (can.stands _ v.run) (not_is _ b.0), not_is _ b.1)
 

@@ -1,5 +1,6 @@
 -- What the toy ends refuse an ask for.
 use Rattle.std.specs.Prelude.{◌≡◌, ◌∷◌, false, [], Some, None, codes, replicate, map, refl}
+use Rattle.ssh_model.specs.Protocol.Bounds.{longest_description}
 use Rattle.ssh_model.specs.Protocol.Side.{Side, Side.Client, Side.Server}
 use Rattle.ssh_model.specs.Example.Histories.{ask_refusal, hears, opened, completed, keyed, asking, served, requesting, probing_client, admitted, fed_again, rekeying, completed_again, requests}
 use Rattle.ssh_model.specs.Protocol.Wire.Message.{Msg.UserauthFailure, Msg.UserauthPkOk}
@@ -112,7 +113,7 @@ unfolding methods
 rekey_without_material_row Client = refl
 rekey_without_material_row Server = refl
 
-pub disconnect_row : (side : Side) → ask_refusal side (opened side) (AskDisconnect (replicate 1024 0)) ≡ None
+pub disconnect_row : (side : Side) → ask_refusal side (opened side) (AskDisconnect (replicate longest_description 0)) ≡ None
 unfolding methods
 disconnect_row Client = refl
 disconnect_row Server = refl

@@ -5,6 +5,7 @@ use Rattle.std.specs.List.{list_all, join_with_byte}
 use Rattle.std.specs.Int.{w32, to_be_bytes}
 use Rattle.std.proofs.lemmas.Bool.{le-leb, eq-eqb}
 use Rattle.std.proofs.lemmas.List.{length-replicate}
+use Rattle.ssh_model.specs.Protocol.Bounds.{largest_packet, longest_payload}
 use Rattle.ssh_model.specs.Protocol.Wire.DataTypes.{AreBytes, IsByte, IsWrittenBoolean, IsUint32, IsString, IsNameList, is_name}
 use Rattle.ssh_model.specs.Protocol.Wire.Message.{◌▸◌}
 use Rattle.ssh_model.specs.Protocol.Wire.Packet.{IsPacket, is_size, with_length}
@@ -77,17 +78,17 @@ packet_length : (payload : List ℕ) → length (packet_of payload) ≡ 5 + (len
 unfolding packet_of
 packet_length payload = omega (arith, body_length payload)
 
-good_size : (tag n : ℕ) → n % 8 ≡ 0 → 16 ≤ n → n + tag ≤ 35000 → is_size (with_length 8) tag n ≡ true
+good_size : (tag n : ℕ) → n % 8 ≡ 0 → 16 ≤ n → n + tag ≤ largest_packet → is_size (with_length 8) tag n ≡ true
 good_size tag n whole from to =
     let a : (n % 8 == 0) ≡ true = eq-eqb (n % 8) 0 whole in
     let b : nat_le 16 n ≡ true = le-leb 16 n from in
-    let c : nat_le (n + tag) 35000 ≡ true = le-leb (n + tag) 35000 to in rw (a, b, c) refl
+    let c : nat_le (n + tag) largest_packet ≡ true = le-leb (n + tag) largest_packet to in rw (a, b, c) refl
 
-packet_size : (tag : ℕ) (payload : List ℕ) → tag ≤ 64 → 1 ≤ length payload → length payload ≤ 34000 → is_size (with_length 8) tag (length (packet_of payload)) ≡ true
+packet_size : (tag : ℕ) (payload : List ℕ) → tag ≤ 64 → 1 ≤ length payload → length payload ≤ longest_payload → is_size (with_length 8) tag (length (packet_of payload)) ≡ true
 unfolding pad_of
 packet_size tag payload t some small = let e = packet_length payload in good_size tag (length (packet_of payload)) (omega (arith, e)) (omega (arith, e)) (omega (arith, e))
 
-packet_is : (tag : ℕ) (payload : List ℕ) → tag ≤ 64 → 1 ≤ length payload → length payload ≤ 34000 → IsPacket (with_length 8) tag payload (packet_of payload)
+packet_is : (tag : ℕ) (payload : List ℕ) → tag ≤ 64 → 1 ≤ length payload → length payload ≤ longest_payload → IsPacket (with_length 8) tag payload (packet_of payload)
 unfolding packet_of body_of pad_of
 packet_is tag payload t some small = record {
   body = body_of payload;
@@ -113,7 +114,7 @@ sealed_is c laws key n payload packet below are is =
     let count = laws.sealed_length key n packet below are is.size in
     record { size = rw count (wire_size (c.blocks key) (c.tag key) (length packet) is.size); good = rw opens refl; packet = rw opens is }
 
-wire_is : (key : Option (List ℕ)) (n : ℕ) (payload : List ℕ) → n < 2 ^ 32 → AreBytes payload → 1 ≤ length payload → length payload ≤ 34000 → IsWire mac_only key n payload (wire_of key n payload)
+wire_is : (key : Option (List ℕ)) (n : ℕ) (payload : List ℕ) → n < 2 ^ 32 → AreBytes payload → 1 ≤ length payload → length payload ≤ longest_payload → IsWire mac_only key n payload (wire_of key n payload)
 unfolding wire_of
 wire_is None n payload below are some small =
     record {
@@ -128,5 +129,5 @@ unfolding wire_of
 wire_bytes None n payload are = packet_bytes payload are
 wire_bytes (Some key) n payload are = append_bytes (packet_of payload) (tag_of key n (packet_of payload)) (packet_bytes payload are) (hash_bytes _)
 
-pub packet_unit : (key : Option (List ℕ)) (n taken : ℕ) (payload : List ℕ) → HasNumber n taken → AreBytes payload → 1 ≤ length payload → length payload ≤ 34000 → PacketUnit mac_only key n taken (wire_of key n payload) (Opens payload)
+pub packet_unit : (key : Option (List ℕ)) (n taken : ℕ) (payload : List ℕ) → HasNumber n taken → AreBytes payload → 1 ≤ length payload → length payload ≤ longest_payload → PacketUnit mac_only key n taken (wire_of key n payload) (Opens payload)
 packet_unit key n taken payload below are some small = opens payload below (wire_bytes key n payload are) (wire_is key n payload below.1 are some small)

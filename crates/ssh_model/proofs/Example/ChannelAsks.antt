@@ -1,5 +1,6 @@
 -- What the toy ends refuse an ask for the connection for.
 use Rattle.std.specs.Prelude.{◌≡◌, ◌∷◌, ◌++◌, true, false, [], Some, None, codes, replicate, map, refl}
+use Rattle.ssh_model.specs.Protocol.Bounds.{largest_data, longest_payload}
 use Rattle.ssh_model.specs.Protocol.Side.{Side.Client, Side.Server}
 use Rattle.ssh_model.specs.Example.Histories.{patient, ask_refusal, says, hears, says_on, hears_on, keyed, served, admitted, fed_again, rekeying, channel_opened, channel_confirmed, heard_data, heard_request, said_data, said_request, wide_channel, requests, connection_asks}
 use Rattle.ssh_model.specs.Protocol.Wire.Message.{Msg.Ignore, Msg.GlobalRequest, Msg.ChannelEof, Msg.ChannelClose, Msg.ChannelFailure}
@@ -50,7 +51,7 @@ pub open_by_server_row : ask_refusal Server (admitted Server) (AskOpen (codes "x
 unfolding methods largest_window has_place some_free
 open_by_server_row = refl
 
-pub open_of_largest_data_row : ask_refusal Client (admitted Client) (AskOpen [] 0 32768 []) ≡ None
+pub open_of_largest_data_row : ask_refusal Client (admitted Client) (AskOpen [] 0 largest_data []) ≡ None
 unfolding methods largest_window has_place some_free
 open_of_largest_data_row = refl
 
@@ -150,7 +151,7 @@ pub too_long_before_no_room_row : ask_refusal Client (said_data ∷ channel_conf
 unfolding methods largest_window has_place some_free
 too_long_before_no_room_row = refl
 
-pub largest_data_row : ask_refusal Client wide_channel (AskData 3 None (replicate 32768 0)) ≡ None
+pub largest_data_row : ask_refusal Client wide_channel (AskData 3 None (replicate largest_data 0)) ≡ None
 unfolding methods largest_window has_place some_free
 largest_data_row = refl
 
@@ -296,11 +297,11 @@ pub global_reply_row : ask_refusal Client (hears (GlobalRequest [] true []) ∷ 
 unfolding methods largest_window has_place some_free
 global_reply_row = refl
 
-pub too_long_global_reply_row : ask_refusal Client (hears (GlobalRequest [] true []) ∷ admitted Client) (AskGlobalReply true (replicate 34000 0)) ≡ Some TooLong
+pub too_long_global_reply_row : ask_refusal Client (hears (GlobalRequest [] true []) ∷ admitted Client) (AskGlobalReply true (replicate longest_payload 0)) ≡ Some TooLong
 unfolding methods largest_window has_place some_free
 too_long_global_reply_row = refl
 
-pub global_reply_to_nothing_row : ask_refusal Client (hears (GlobalRequest [] false []) ∷ admitted Client) (AskGlobalReply true (replicate 34000 0)) ≡ Some NothingOwed
+pub global_reply_to_nothing_row : ask_refusal Client (hears (GlobalRequest [] false []) ∷ admitted Client) (AskGlobalReply true (replicate longest_payload 0)) ≡ Some NothingOwed
 unfolding methods largest_window has_place some_free
 global_reply_to_nothing_row = refl
 

@@ -6,6 +6,7 @@ use Rattle.std.proofs.lemmas.Bool.{leb-true, and_parts}
 use Rattle.std.proofs.lemmas.List.{take_all}
 use Rattle.sha2.specs.Sha256.{sha256}
 use Rattle.sha2.proofs.Facts256.{length-sha256}
+use Rattle.ssh_model.specs.Protocol.Bounds.{longest_payload}
 use Rattle.ssh_model.specs.Protocol.Side.{Side, Side.Client, Side.Server}
 use Rattle.ssh_model.specs.Protocol.Wire.DataTypes.{AreBytes}
 use Rattle.ssh_model.specs.Protocol.Wire.Message.{Msg, Msg.Ignore, Msg.NewKeys, Msg.KexEcdhInit, Msg.KexEcdhReply, Msg.ServiceRequest, Msg.ServiceAccept, Msg.UserauthSuccess, Msg.ChannelClose, ◌▸◌, IsCookie, FitsContext, IsWrittenPayload}
@@ -26,10 +27,10 @@ pub record IsGood (m : Msg) : Type 0 where
   pub bytes : AreBytes (payload_of m)
   pub some : 1 ≤ length (payload_of m)
 
-good : (m : Msg) → FitsContext true m → IsWrittenPayload m (payload_of m) → list_all is_byte (payload_of m) ≡ true → (nat_le 1 (length (payload_of m)) && nat_le (length (payload_of m)) 34000) ≡ true → IsGood m
+good : (m : Msg) → FitsContext true m → IsWrittenPayload m (payload_of m) → list_all is_byte (payload_of m) ≡ true → (nat_le 1 (length (payload_of m)) && nat_le (length (payload_of m)) longest_payload) ≡ true → IsGood m
 good m suits row bytes sizes =
-    let p = and_parts (nat_le 1 (length (payload_of m))) (nat_le (length (payload_of m)) 34000) sizes in
-    record { spelled = record { context = suits; row = row; size = leb-true (length (payload_of m)) 34000 p.1 }; bytes = are_bytes (payload_of m) bytes; some = leb-true 1 (length (payload_of m)) p.0 }
+    let p = and_parts (nat_le 1 (length (payload_of m))) (nat_le (length (payload_of m)) longest_payload) sizes in
+    record { spelled = record { context = suits; row = row; size = leb-true (length (payload_of m)) longest_payload p.1 }; bytes = are_bytes (payload_of m) bytes; some = leb-true 1 (length (payload_of m)) p.0 }
 
 cookie_then : {G : List ℕ → Type 0} (cookie rest : List ℕ) → length cookie ≡ 16 → G rest → (IsCookie cookie ▸ G) (cookie ++ rest)
 cookie_then cookie rest n g = record { front = cookie; back = rest; first = record { same = refl; count = n }; second = g; parts = refl }

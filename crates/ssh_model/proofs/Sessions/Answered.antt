@@ -2,6 +2,7 @@
 use Rattle.std.proofs.Common.{◌≡◌, ℕ, zero, suc, ◌<◌, ◌≤◌, ◌^◌, Bool, true, false, cond, nat_lt, nat_le, ◌==◌, ◌||◌, ◌&&◌, List, [], ◌∷◌, ◌++◌, length, take, ◌⊎◌, inl, inr, refl, sym, subst, arith, Option, None, Some, eq-eqb, lt-ltb}
 use Rattle.std.specs.Prelude.{codes}
 use Rattle.std.proofs.lemmas.Bool.{leb-true, ltb-true}
+use Rattle.ssh_model.specs.Protocol.Bounds.{most_channels}
 use Rattle.ssh_model.specs.Protocol.Side.{Side, Side.Client, Side.Server}
 use Rattle.ssh_model.specs.Protocol.Wire.MacOnly.{is_text}
 use Rattle.ssh_model.specs.Protocol.Wire.Outcome.{Outcome, Outcome.OtherLine, Outcome.VersionLine, Outcome.RefusedLine, Outcome.Opens, Outcome.RefusedPacket}
@@ -127,7 +128,7 @@ free_number side items (suc n) e = go (is_free side items n) refl (free_number s
 
 pub place_found : (side : Side) (items : List channel.Item) → has_place side items ≡ true → (x : ℕ) × (is_free side items x ≡ true)
 unfolding has_place
-place_found side items e = free_number side items 1024 e
+place_found side items e = free_number side items most_channels e
 
 -- ---- numbers
 

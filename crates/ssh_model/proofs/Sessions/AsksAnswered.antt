@@ -2,6 +2,7 @@
 use Rattle.std.proofs.Common.{◌≡◌, ℕ, ◌<◌, ◌+◌, ◌^◌, true, false, not, nat_lt, nat_le, List, [], ◌∷◌, ◌++◌, length, ◌⊎◌, inl, inr, refl, arith, Option, None, Some}
 use Rattle.std.specs.Prelude.{codes}
 use Rattle.std.proofs.lemmas.Bool.{leb-true, ltb-true, ltb-false}
+use Rattle.ssh_model.specs.Protocol.Bounds.{largest_data, longest_description, longest_payload, most_channels}
 use Rattle.ssh_model.specs.Protocol.Side.{Side}
 use Rattle.ssh_model.specs.Protocol.Channels.History as channel
 use Rattle.ssh_model.specs.Protocol.Channels.History.{is_free, has_place}
@@ -26,10 +27,10 @@ use Rattle.ssh_model.proofs.Sessions.Stages.{and_left, and_right, not_false, or_
 -- ---- numbers of an ask
 
 free_small : (side : Side) (items : List channel.Item) (x : ℕ) → is_free side items x ≡ true → x < 2 ^ 32
-free_small side items x e = let n = ltb-true x 1024 (and_left (nat_lt x 1024) _ e) in omega (arith, n)
+free_small side items x e = let n = ltb-true x most_channels (and_left (nat_lt x most_channels) _ e) in omega (arith, n)
 
 packet_small : (max : ℕ) → not (is_max_packet max) ≡ false → max < 2 ^ 32
-packet_small max e = let n = leb-true max 32768 (and_right (nat_le 1 max) _ (not_false (is_max_packet max) e)) in omega (arith, n)
+packet_small max e = let n = leb-true max largest_data (and_right (nat_le 1 max) _ (not_false (is_max_packet max) e)) in omega (arith, n)
 
 window_small : (bytes window : ℕ) → nat_lt largest_window (bytes + window) ≡ false → bytes < 2 ^ 32
 unfolding largest_window
@@ -55,42 +56,42 @@ module _ {K : Type 0} (p : Parties K) where
   given : (side : Side) (h : List Item) (ask : Ask) → first_refusal (ask_checks p side h ask) ≡ None → Stands p side h → HasUint32s ask → Asking p side h ask
   given side h AskService e v u = let s = service_request_spelled (codes "ssh-userauth") (omega arith) in by_transport_ask side h _ _ (asks_service s.payload) (s.spells, tt)
   given side h AskRekey e v u = let c = all_passed (ask_checks p side h AskRekey) e in let s = v.good.offers false (next_cookie h) (kept_cookie h v.serves.fed_is (not_false (has_material h) c.1.1.0)) in by_transport_ask side h _ _ (asks_rekey s.payload) (s.spells, tt)
-  given side h (AskDisconnect d) e v u = let c = all_passed (ask_checks p side h (AskDisconnect d)) e in let s = disconnect_spelled 11 d (omega arith) (ltb-false 1024 (length d) c.0) in by_transport_ask side h _ _ (asks_disconnect d s.payload) (s.spells, tt)
-  given side h (AskNone x) e v u = let c = all_passed (ask_checks p side h (AskNone x)) e in let n = ltb-false 34000 (request_size x (codes "none")) c.1.1.1.1.0 in let s = no_method_spelled x (omega (arith, n)) in by_authentication_ask side h _ _ (asks_none x s.payload) (s.spells, tt)
-  given side h (AskPassword x y) e v u = let c = all_passed (ask_checks p side h (AskPassword x y)) e in let n = ltb-false 34000 (password_size x y) c.1.1.1.1.0 in let s = password_spelled x y (omega (arith, n)) in by_authentication_ask side h _ _ (asks_password x y s.payload) (s.spells, tt)
-  given side h (AskProbe x y z) e v u = let c = all_passed (ask_checks p side h (AskProbe x y z)) e in let n = ltb-false 34000 (probe_size x y z) c.1.1.1.1.0 in let s = probe_spelled x y z (omega (arith, n)) in by_authentication_ask side h _ _ (asks_probe x y z s.payload) (s.spells, tt)
-  given side h (AskSign x y z) e v u = let c = all_passed (ask_checks p side h (AskSign x y z)) e in let n = ltb-false 34000 (sign_size x y z) c.1.1.1.1.0 in let s = sign_spelled x y z (user_signature_now p h x y z) (omega (arith, n)) (short 4096 _) in by_authentication_ask side h _ _ (asks_sign x y z s.payload) (s.spells, tt)
+  given side h (AskDisconnect d) e v u = let c = all_passed (ask_checks p side h (AskDisconnect d)) e in let s = disconnect_spelled 11 d (omega arith) (ltb-false longest_description (length d) c.0) in by_transport_ask side h _ _ (asks_disconnect d s.payload) (s.spells, tt)
+  given side h (AskNone x) e v u = let c = all_passed (ask_checks p side h (AskNone x)) e in let n = ltb-false longest_payload (request_size x (codes "none")) c.1.1.1.1.0 in let s = no_method_spelled x (omega (arith, n)) in by_authentication_ask side h _ _ (asks_none x s.payload) (s.spells, tt)
+  given side h (AskPassword x y) e v u = let c = all_passed (ask_checks p side h (AskPassword x y)) e in let n = ltb-false longest_payload (password_size x y) c.1.1.1.1.0 in let s = password_spelled x y (omega (arith, n)) in by_authentication_ask side h _ _ (asks_password x y s.payload) (s.spells, tt)
+  given side h (AskProbe x y z) e v u = let c = all_passed (ask_checks p side h (AskProbe x y z)) e in let n = ltb-false longest_payload (probe_size x y z) c.1.1.1.1.0 in let s = probe_spelled x y z (omega (arith, n)) in by_authentication_ask side h _ _ (asks_probe x y z s.payload) (s.spells, tt)
+  given side h (AskSign x y z) e v u = let c = all_passed (ask_checks p side h (AskSign x y z)) e in let n = ltb-false longest_payload (sign_size x y z) c.1.1.1.1.0 in let s = sign_spelled x y z (user_signature_now p h x y z) (omega (arith, n)) (short 4096 _) in by_authentication_ask side h _ _ (asks_sign x y z s.payload) (s.spells, tt)
   given side h (AskOpen kind window max rest) e v u = let c = all_passed (ask_checks p side h (AskOpen kind window max rest)) e in
       let x = place_found side (channel_items h) (not_false (has_place side (channel_items h)) c.1.1.1.0) in
       let m = packet_small max c.1.1.1.1.0 in
-      let n = ltb-false 34000 (13 + string_size kind + length rest) c.1.1.1.1.1.0 in
+      let n = ltb-false longest_payload (13 + string_size kind + length rest) c.1.1.1.1.1.0 in
       let s = open_spelled kind (x.0) window max rest (free_small side (channel_items h) (x.0) (x.1)) u m (omega (arith, n)) in
       by_connection_ask side h _ _ (asks_opens (x.0) kind window max rest s.payload (x.1)) (s.spells, tt)
   given side h (AskConfirm x window max rest) e v u = let c = all_passed (ask_checks p side h (AskConfirm x window max rest)) e in
       let m = packet_small max c.1.1.1.1.0 in
-      let n = ltb-false 34000 (17 + length rest) c.1.1.1.1.1.0 in
+      let n = ltb-false longest_payload (17 + length rest) c.1.1.1.1.1.0 in
       let s = confirmation_spelled (peer_number x (notes side h)) x window max rest (peer_number_below p side h x v.formed) u.0 u.1 m n in
       by_connection_ask side h _ _ (asks_confirm x window max rest s.payload) (s.spells, tt)
   given side h (AskRefuse x reason) e v u = let s = open_failure_spelled (peer_number x (notes side h)) reason (peer_number_below p side h x v.formed) u in by_connection_ask side h _ _ (asks_refuse x reason s.payload) (s.spells, tt)
   given side h (AskData x None body) e v u = let c = all_passed (ask_checks p side h (AskData x None body)) e in
-      let n = ltb-false 32768 (length body) (or_false (nat_lt 32768 (length body)) _ c.1.1.1.1.1.0).0 in
+      let n = ltb-false largest_data (length body) (or_false (nat_lt largest_data (length body)) _ c.1.1.1.1.1.0).0 in
       let s = data_message_spelled (peer_number x (notes side h)) body (peer_number_below p side h x v.formed) n in by_connection_ask side h _ _ (asks_data x body s.payload) (s.spells, tt)
   given side h (AskData x (Some kind) body) e v u = let c = all_passed (ask_checks p side h (AskData x (Some kind) body)) e in
-      let n = ltb-false 32768 (length body) (or_false (nat_lt 32768 (length body)) _ c.1.1.1.1.1.0).0 in
+      let n = ltb-false largest_data (length body) (or_false (nat_lt largest_data (length body)) _ c.1.1.1.1.1.0).0 in
       let s = extended_data_spelled (peer_number x (notes side h)) kind body (peer_number_below p side h x v.formed) u n in by_connection_ask side h _ _ (asks_extended x kind body s.payload) (s.spells, tt)
   given side h (AskAdjust x bytes) e v u = let c = all_passed (ask_checks p side h (AskAdjust x bytes)) e in
       let s = adjust_spelled (peer_number x (notes side h)) bytes (peer_number_below p side h x v.formed) (window_small bytes (receive_window x (notes side h)) c.1.1.1.1.1.0) in by_connection_ask side h _ _ (asks_adjust x bytes s.payload) (s.spells, tt)
   given side h (AskEof x) e v u = let s = eof_spelled (peer_number x (notes side h)) (peer_number_below p side h x v.formed) in by_connection_ask side h _ _ (asks_eof x s.payload) (s.spells, tt)
   given side h (AskClose x) e v u = let s = close_spelled (peer_number x (notes side h)) (peer_number_below p side h x v.formed) in by_connection_ask side h _ _ (asks_close x s.payload) (s.spells, tt)
   given side h (AskRequest x name want rest) e v u = let c = all_passed (ask_checks p side h (AskRequest x name want rest)) e in
-      let n = ltb-false 34000 (6 + string_size name + length rest) c.1.1.1.1.1.0 in
+      let n = ltb-false longest_payload (6 + string_size name + length rest) c.1.1.1.1.1.0 in
       let s = request_spelled (peer_number x (notes side h)) name want rest (peer_number_below p side h x v.formed) (omega (arith, n)) in by_connection_ask side h _ _ (asks_request x name want rest s.payload) (s.spells, tt)
   given side h (AskReply x true) e v u = let s = channel_success_spelled (peer_number x (notes side h)) (peer_number_below p side h x v.formed) in by_connection_ask side h _ _ (asks_yes x s.payload) (s.spells, tt)
   given side h (AskReply x false) e v u = let s = channel_failure_spelled (peer_number x (notes side h)) (peer_number_below p side h x v.formed) in by_connection_ask side h _ _ (asks_no x s.payload) (s.spells, tt)
   given side h (AskGlobal name want rest) e v u = let c = all_passed (ask_checks p side h (AskGlobal name want rest)) e in
-      let n = ltb-false 34000 (2 + string_size name + length rest) c.1.1.1.0 in
+      let n = ltb-false longest_payload (2 + string_size name + length rest) c.1.1.1.0 in
       let s = global_request_spelled name want rest (omega (arith, n)) in by_connection_ask side h _ _ (asks_global name want rest s.payload) (s.spells, tt)
-  given side h (AskGlobalReply true rest) e v u = let c = all_passed (ask_checks p side h (AskGlobalReply true rest)) e in let s = request_success_spelled rest (ltb-false 34000 (1 + length rest) c.1.1.1.1.0) in by_connection_ask side h _ _ (asks_global_yes rest s.payload) (s.spells, tt)
+  given side h (AskGlobalReply true rest) e v u = let c = all_passed (ask_checks p side h (AskGlobalReply true rest)) e in let s = request_success_spelled rest (ltb-false longest_payload (1 + length rest) c.1.1.1.1.0) in by_connection_ask side h _ _ (asks_global_yes rest s.payload) (s.spells, tt)
   given side h (AskGlobalReply false rest) e v u = let s = request_failure_spelled in by_connection_ask side h _ _ (asks_global_no rest s.payload) (s.spells, tt)
 
   asked : (side : Side) (h : List Item) (ask : Ask) → has_died h ≡ false → Stands p side h → HasUint32s ask → (r : Option AskRefusal) → first_refusal (ask_checks p side h ask) ≡ r

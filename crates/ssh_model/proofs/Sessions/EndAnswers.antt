@@ -2,6 +2,7 @@
 use Rattle.std.proofs.Common.{◌≡◌, ℕ, suc, ◌<◌, ◌≤◌, List, [], ◌∷◌, ◌++◌, length, map, refl, ap, sym, ◌∙◌, arith, append_assoc, Bool, true, false, cond, not, Option, None}
 use Rattle.std.proofs.lemmas.List.{length-map}
 use Rattle.std.proofs.lemmas.Bool.{ltb-true}
+use Rattle.ssh_model.specs.Protocol.Bounds.{largest_packet}
 use Rattle.ssh_model.specs.Protocol.Side.{Side, Side.Client, Side.Server}
 use Rattle.ssh_model.specs.Protocol.Lists.{IsOlder}
 use Rattle.ssh_model.specs.Protocol.Wire.Message.{Msg, Msg.KexInit, Msg.NewKeys, Msg.KexEcdhInit, Msg.KexEcdhReply, Proposal, message_number}
@@ -55,7 +56,7 @@ heard_guess : (t : Bool) (n : ℕ) → 0 < n → Heard (cond t Guessed Exchangin
 heard_guess true n k = k
 heard_guess false n k = k
 
-took_kexinit : {K : Type 0} (p : Parties K) (side : Side) (h : List Item) (theirs : Proposal) (b : List ℕ) → length b ≤ 35000 → Welcomes p side h (KexInit theirs) b
+took_kexinit : {K : Type 0} (p : Parties K) (side : Side) (h : List Item) (theirs : Proposal) (b : List ℕ) → length b ≤ largest_packet → Welcomes p side h (KexInit theirs) b
     → blocked h ≡ true → End p side h → End p side (Took None (KexInit theirs) b ∷ h)
 took_kexinit p side h theirs b n w e v = record {
   in_step = step_guess (is_wrong_guess theirs (own_names p side)) _ _ _ e (level_at_20 (phase p side h) _ side h _ _ _ (may_be p side h _ b w) v.in_step);
@@ -91,7 +92,7 @@ has_kept p side h theirs b w e =
     not_false (has_material h) (second_false (not (blocked h)) (not (has_material h)) (ap not e) checks.1.1.1.0)
 
 -- this end answers with its own
-answers_kexinit : {K : Type 0} (p : Parties K) (side : Side) (h : List Item) (theirs : Proposal) (b own : List ℕ) → length b ≤ 35000 → Welcomes p side h (KexInit theirs) b
+answers_kexinit : {K : Type 0} (p : Parties K) (side : Side) (h : List Item) (theirs : Proposal) (b own : List ℕ) → length b ≤ largest_packet → Welcomes p side h (KexInit theirs) b
     → blocked h ≡ false → IsSpelled (KexInit (offer p side false (next_cookie h))) own → End p side h
     → End p side (Sent None (KexInit (offer p side false (next_cookie h))) own ∷ Took None (KexInit theirs) b ∷ h)
 answers_kexinit p side h theirs b own n w e s v = record {
@@ -109,7 +110,7 @@ answers_kexinit p side h theirs b own n w e s v = record {
 }
 
 -- the server completes
-completes_at_server : {K : Type 0} (p : Parties K) (h : List Item) (q k_s q_s g b rb nb : List ℕ) → length b ≤ 35000 → Welcomes p Server h (KexEcdhInit q) b
+completes_at_server : {K : Type 0} (p : Parties K) (h : List Item) (q k_s q_s g b rb nb : List ℕ) → length b ≤ largest_packet → Welcomes p Server h (KexEcdhInit q) b
     → IsSpelled (KexEcdhReply k_s q_s g) rb → IsSpelled NewKeys nb → End p Server h
     → End p Server (Sent None NewKeys nb ∷ Sent None (KexEcdhReply k_s q_s g) rb ∷ Took None (KexEcdhInit q) b ∷ h)
 completes_at_server p h q k_s q_s g b rb nb n w r s v =
@@ -146,7 +147,7 @@ completes_at_server p h q k_s q_s g b rb nb n w r s v =
     }
 
 -- the client completes
-completes_at_client : {K : Type 0} (p : Parties K) (h : List Item) (k_s q_s g b nb : List ℕ) → length b ≤ 35000 → Welcomes p Client h (KexEcdhReply k_s q_s g) b
+completes_at_client : {K : Type 0} (p : Parties K) (h : List Item) (k_s q_s g b nb : List ℕ) → length b ≤ largest_packet → Welcomes p Client h (KexEcdhReply k_s q_s g) b
     → IsSpelled NewKeys nb → End p Client h → End p Client (Sent None NewKeys nb ∷ Took None (KexEcdhReply k_s q_s g) b ∷ h)
 completes_at_client p h k_s q_s g b nb n w s v =
     let st = level_at_31 (phase p Client h) _ h _ _ _ (may_be p Client h _ b w) v.in_step in
@@ -201,11 +202,11 @@ took_newkeys p side h b w v =
 
 module _ {K : Type 0} (p : Parties K) where
   -- a row that takes and sends nothing of an exchange
-  plain : (side : Side) (h items : List Item) (c : Option ℕ) (m : Msg) (b : List ℕ) → IsPlainTaken m → ArePlain items → length b ≤ 35000 → Welcomes p side h m b
+  plain : (side : Side) (h items : List Item) (c : Option ℕ) (m : Msg) (b : List ℕ) → IsPlainTaken m → ArePlain items → length b ≤ largest_packet → Welcomes p side h m b
       → AreSpelled items → End p side h → End p side (items ++ (Took c m b ∷ h))
   plain side h items c m b t q n w s v = add_plain p side items (Took c m b ∷ h) q s (add_taken p side c m b _ h t n w.message_is v)
 
-  pub transport_keeps : (side : Side) (h items : List Item) (m : Msg) (b : List ℕ) → TransportAnswer p side h m items → length b ≤ 35000
+  pub transport_keeps : (side : Side) (h items : List Item) (m : Msg) (b : List ℕ) → TransportAnswer p side h m items → length b ≤ largest_packet
       → Welcomes p side h m b → AreSpelled items → End p side h → End p side (items ++ (Took None m b ∷ h))
   transport_keeps side h items m b (disconnect r d l) n w s v = plain side h items None m b tt (tt, (tt, tt)) n w s v
   transport_keeps side h items m b (ignore x) n w s v = plain side h items None m b tt (tt, tt) n w s v
@@ -223,7 +224,7 @@ module _ {K : Type 0} (p : Parties K) where
   transport_keeps side h items m b (extensions a) n w s v = plain side h items None m b tt (tt, tt) n w s v
   transport_keeps side h items m b newkeys n w s v = took_newkeys p side h b w v
 
-  pub completion_keeps : (side : Side) (h owed items : List Item) (m : Msg) (b : List ℕ) → CompletingAnswer p owed side h m items → ArePlain owed → length b ≤ 35000
+  pub completion_keeps : (side : Side) (h owed items : List Item) (m : Msg) (b : List ℕ) → CompletingAnswer p owed side h m items → ArePlain owed → length b ≤ largest_packet
       → Welcomes p side h m b → AreSpelled items → End p side h → End p side (items ++ (Took None m b ∷ h))
   completion_keeps side h owed items m b (init q rb nb (IsAnnounced.extensions xb f)) o n w s v =
       let t = spelled_behind owed _ s in
@@ -242,7 +243,7 @@ module _ {K : Type 0} (p : Parties K) where
       let e = completes_at_client p h k_s q_s g b nb n w t.1.0 v in
       add_quiet p Client _ _ tt (rw (append_assoc owed (Sent None NewKeys nb ∷ []) (Took None (KexEcdhReply k_s q_s g) b ∷ h)) (add_plain p Client owed _ o t.0 e))
 
-  pub authentication_keeps : (side : Side) (h items : List Item) (m : Msg) (b : List ℕ) → AuthenticationAnswer p side h m items → length b ≤ 35000
+  pub authentication_keeps : (side : Side) (h items : List Item) (m : Msg) (b : List ℕ) → AuthenticationAnswer p side h m items → length b ≤ largest_packet
       → Welcomes p side h m b → AreSpelled items → End p side h → End p side (items ++ (Took None m b ∷ h))
   authentication_keeps side h items m b (request_too_late x y z e) n w s v = plain side h items None m b tt (tt, tt) n w s v
   authentication_keeps side h items m b (request_accepted x y z c e f) n w s v = plain side h items None m b tt (tt, (tt, tt)) n w s v
@@ -253,7 +254,7 @@ module _ {K : Type 0} (p : Parties K) where
   authentication_keeps side h items m b (banner x y) n w s v = plain side h items None m b tt (tt, tt) n w s v
   authentication_keeps side h items m b (key_ok x y) n w s v = plain side h items None m b tt (tt, tt) n w s v
 
-  pub connection_keeps : (side : Side) (h items : List Item) (c : Option ℕ) (m : Msg) (b : List ℕ) → ConnectionAnswer side h c m items → length b ≤ 35000
+  pub connection_keeps : (side : Side) (h items : List Item) (c : Option ℕ) (m : Msg) (b : List ℕ) → ConnectionAnswer side h c m items → length b ≤ largest_packet
       → Welcomes p side h m b → AreSpelled items → End p side h → End p side (items ++ (Took c m b ∷ h))
   connection_keeps side h items c m b (global x y z) n w s v = plain side h items c m b tt (tt, tt) n w s v
   connection_keeps side h items c m b (global_success z) n w s v = plain side h items c m b tt (tt, tt) n w s v

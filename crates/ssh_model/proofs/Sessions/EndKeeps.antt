@@ -1,5 +1,6 @@
 -- What holds of one end between its turns, and that most items keep it.
 use Rattle.std.proofs.Common.{◌≡◌, ℕ, suc, ◌+◌, ◌<◌, ◌≤◌, ◌^◌, List, [], ◌∷◌, ◌++◌, length, map, inr, arith, Bool, true, false, Option}
+use Rattle.ssh_model.specs.Protocol.Bounds.{largest_packet}
 use Rattle.ssh_model.specs.Protocol.Side.{Side, Side.Client, Side.Server}
 use Rattle.ssh_model.specs.Protocol.Lists.{IsOlder}
 use Rattle.ssh_model.specs.Protocol.Wire.Message.{Msg, Msg.KexInit, Msg.NewKeys, Msg.KexEcdhInit, Msg.KexEcdhReply, IsPayload}
@@ -100,7 +101,7 @@ IsPlainTaken (KexEcdhInit q_c) = ⊥
 IsPlainTaken (KexEcdhReply k_s q_s signature) = ⊥
 IsPlainTaken _ = Unit {0}
 
-pub add_taken : {K : Type 0} (p : Parties K) (side : Side) (c : Option ℕ) (m : Msg) (b : List ℕ) (probing : Bool) (h : List Item) → IsPlainTaken m → length b ≤ 35000 → IsPayload probing m b → End p side h → End p side (Took c m b ∷ h)
+pub add_taken : {K : Type 0} (p : Parties K) (side : Side) (c : Option ℕ) (m : Msg) (b : List ℕ) (probing : Bool) (h : List Item) → IsPlainTaken m → length b ≤ largest_packet → IsPayload probing m b → End p side h → End p side (Took c m b ∷ h)
 add_taken p side c (KexInit o) b x h q n s v = elim q [ ]
 add_taken p side c NewKeys b x h q n s v = elim q [ ]
 add_taken p side c (KexEcdhInit q_c) b x h q n s v = elim q [ ]

@@ -1,5 +1,6 @@
 -- Each turn of an end keeps what holds of it between its turns, and its opening begins with it.
 use Rattle.std.proofs.Common.{◌≡◌, ℕ, ◌+◌, ◌<◌, ◌≤◌, ◌^◌, List, [], ◌∷◌, ◌++◌, length, inl, refl, ap, sym, ◌∙◌, arith, subst, append_assoc, length-append, Bool, true, false, not, nat_le, max, ◌%◌, ◌&&◌, ◌==◌, Option, None}
+use Rattle.ssh_model.specs.Protocol.Bounds.{largest_packet}
 use Rattle.ssh_model.specs.Protocol.Side.{Side, Side.Client, Side.Server}
 use Rattle.ssh_model.specs.Protocol.Wire.Message.{Msg, Msg.KexInit}
 use Rattle.std.proofs.lemmas.Bool.{leb-true}
@@ -28,15 +29,15 @@ right : (a b : Bool) → (a && b) ≡ true → b ≡ true
 right true b e = e
 right false b e = absurd (cc e)
 
-packet_short : (blocks : Blocks) (tag : ℕ) (payload bytes : List ℕ) → IsPacket blocks tag payload bytes → length payload ≤ 35000
+packet_short : (blocks : Blocks) (tag : ℕ) (payload bytes : List ℕ) → IsPacket blocks tag payload bytes → length payload ≤ largest_packet
 packet_short blocks tag payload bytes k =
-    let room : length bytes + tag ≤ 35000 = leb-true (length bytes + tag) 35000 (right (nat_le (least_size blocks) (length bytes)) (nat_le (length bytes + tag) 35000) (right (counted blocks (length bytes) % max blocks.size 8 == 0) (nat_le (least_size blocks) (length bytes) && nat_le (length bytes + tag) 35000) k.size)) in
+    let room : length bytes + tag ≤ largest_packet = leb-true (length bytes + tag) largest_packet (right (nat_le (least_size blocks) (length bytes)) (nat_le (length bytes + tag) largest_packet) (right (counted blocks (length bytes) % max blocks.size 8 == 0) (nat_le (least_size blocks) (length bytes) && nat_le (length bytes + tag) largest_packet) k.size)) in
     omega (arith, room, ap length k.is_body.parts, length-append payload k.is_body.padding, ap length k.string.parts, length-append k.string.front k.body)
 
-pub wire_short : {K : Type 0} (p : Parties K) (key : Option K) (n : ℕ) (payload unit : List ℕ) → IsWire p.crypto key n payload unit → length payload ≤ 35000
+pub wire_short : {K : Type 0} (p : Parties K) (key : Option K) (n : ℕ) (payload unit : List ℕ) → IsWire p.crypto key n payload unit → length payload ≤ largest_packet
 wire_short p key n payload unit w = packet_short _ _ payload _ w.packet
 
-pub opened_short : {K : Type 0} (p : Parties K) (st : Stage K) (unit payload : List ℕ) → IsUnit p.crypto st unit (Opens payload) → length payload ≤ 35000
+pub opened_short : {K : Type 0} (p : Parties K) (st : Stage K) (unit payload : List ℕ) → IsUnit p.crypto st unit (Opens payload) → length payload ≤ largest_packet
 opened_short p (Lines from n) unit payload (line text l i) = elim i [ ]
 opened_short p (Packets key n k) unit payload (opens q a b w) = wire_short p key n payload unit w
 
@@ -126,14 +127,14 @@ module _ {K : Type 0} (p : Parties K) (laws : AreLawful p) where
 
   -- ---- turns
 
-  answer_keeps : (side : Side) (h items : List Item) (c : Option ℕ) (m : Msg) (b : List ℕ) → Answer p side h c m items → length b ≤ 35000 → Welcomes p side h m b
+  answer_keeps : (side : Side) (h items : List Item) (c : Option ℕ) (m : Msg) (b : List ℕ) → Answer p side h c m items → length b ≤ largest_packet → Welcomes p side h m b
       → AreSpelled items → End p side h → End p side (items ++ (Took c m b ∷ h))
   answer_keeps side h items c m b (of_transport a) n w s v = transport_keeps p side h items m b a n w s v
   answer_keeps side h items c m b (of_completion r a) n w s v = completion_keeps p side h _ items m b a (replies_plain _ _ r) n w s v
   answer_keeps side h items c m b (of_authentication a) n w s v = authentication_keeps p side h items m b a n w s v
   answer_keeps side h items c m b (of_connection a) n w s v = connection_keeps p side h items c m b a n w s v
 
-  payload_keeps : (side : Side) (h items : List Item) (b : List ℕ) → length b ≤ 35000 → OnPayload p side h b items → End p side h → End p side (items ++ h)
+  payload_keeps : (side : Side) (h items : List Item) (b : List ℕ) → length b ≤ largest_packet → OnPayload p side h b items → End p side h → End p side (items ++ h)
   payload_keeps side h items b n (takes {items = l} c m w a s k) v = rw append_assoc (answer_keeps side h l c m b a n w s v)
   payload_keeps side h items b n (skips e m) v = add_quiet p side _ _ tt (skipped p side h b e m v)
   payload_keeps side h items b n (unexpected m r) v = refuses_keeps p side h items Unexpected _ r v

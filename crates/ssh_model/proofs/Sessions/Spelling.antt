@@ -1,6 +1,7 @@
 -- What the payloads of messages tell of them: their tags, their cookies, and that their texts fit.
 use Rattle.std.proofs.Common.{◌≡◌, ◌≢◌, ℕ, ◌<◌, ◌≤◌, ◌^◌, List, [], ◌∷◌, ◌++◌, length, take, refl, ap, sym, ◌∙◌, arith, subst, Bool, true, false, cond, ◌==◌, eqb-true}
 use Rattle.std.proofs.Math.Seq.{take-append_seam}
+use Rattle.ssh_model.specs.Protocol.Bounds.{largest_packet}
 use Rattle.ssh_model.specs.Protocol.Wire.DataTypes.{IsBoolean, IsWrittenBoolean}
 use Rattle.ssh_model.specs.Protocol.Wire.Message.{Msg, Msg.KexInit, Msg.NewKeys, Msg.KexEcdhInit, Msg.KexEcdhReply, Proposal, IsPayload}
 use Rattle.ssh_model.specs.Protocol.Sessions.Items.{Payload.NewkeysOf, Payload.OtherOf, Spelled, Spelled.SpelledBy}
@@ -69,7 +70,7 @@ abbrev pub AllFit : List Spelled → Type 0
 AllFit [] = Unit {0}
 AllFit (SpelledBy m b ∷ l) = TextsFit m b × AllFit l
 
-pub taken_fits : (c : Bool) (m : Msg) (b : List ℕ) → length b ≤ 35000 → IsPayload c m b → TextsFit m b
+pub taken_fits : (c : Bool) (m : Msg) (b : List ℕ) → length b ≤ largest_packet → IsPayload c m b → TextsFit m b
 taken_fits c (KexInit o) b n s = omega (arith, n)
 taken_fits c (KexEcdhInit q_c) b n s = string_fits q_c s.row.second.front s.row.second.first
 taken_fits c (KexEcdhReply k_s q_s signature) b n s =

@@ -3,6 +3,7 @@ use Rattle.std.proofs.Common.{◌≡◌, ℕ, ◌<◌, ◌≤◌, true, ltb, Lis
 use Rattle.std.proofs.lemmas.Bool.{ltb-true}
 use Rattle.std.specs.Prelude.{replicate}
 use Rattle.std.specs.List.{list_all}
+use Rattle.ssh_model.specs.Protocol.Bounds.{largest_packet}
 use Rattle.ssh_model.specs.Protocol.Wire.DataTypes.{AreBytes, IsUint32, number as number_of}
 use Rattle.ssh_model.specs.Protocol.Wire.Packet.{Blocks, IsPacket, with_length, without_length}
 use Rattle.ssh_model.specs.Protocol.Wire.Sealing.{Crypto, IsBadLength, IsWhole, IsBegun.has_length}
@@ -67,7 +68,7 @@ module _ {K : Type 0} (c : Crypto K) where
   pub largest_row : IsPacketBegun c None 0 (0 ∷ 0 ∷ 136 ∷ 180 ∷ [])
   largest_row =
       record {
-        begun = has_length 35000 (record {
+        begun = has_length largest_packet (record {
           field = 0 ∷ 0 ∷ 136 ∷ 180 ∷ [];
           rest = [];
           count = 34996;

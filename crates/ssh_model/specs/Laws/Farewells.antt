@@ -3,6 +3,7 @@
 use Rattle.std.proofs.Common.{◌≡◌, ℕ, ◌≤◌, length, List, [], Option, Some, None, refl, arith}
 use Rattle.std.proofs.lemmas.Bool.{false≢true, ltb-false}
 use Rattle.std.specs.Prelude.{IsSome}
+use Rattle.ssh_model.specs.Protocol.Bounds.{longest_description}
 use Rattle.ssh_model.specs.Protocol.Wire.Message.{Msg.Disconnect}
 use Rattle.ssh_model.specs.Protocol.Sessions.Items.{Ask.AskDisconnect}
 use Rattle.ssh_model.specs.Protocol.Sessions.Refusals.{Refusal, Refusal.BadLine, Refusal.BadVersion, Refusal.BadLength}
@@ -88,4 +89,4 @@ pub farewell_spelled : {K : Type 0} (s : Transport K) (description : List ℕ) �
     HasSpelling (Disconnect 11 description [])
 farewell_spelled s description fine =
     let passed = all_passed (message_ask_checks s (AskDisconnect description)) fine in
-    disconnect_spelled 11 description (omega arith) (ltb-false 1024 (length description) passed.0)
+    disconnect_spelled 11 description (omega arith) (ltb-false longest_description (length description) passed.0)

@@ -9,6 +9,7 @@ use Rattle.std.proofs.lemmas.Cmp.{nat_list_eq_equiv}
 use Rattle.std.specs.Int.{w32, to_be_bytes}
 use Rattle.sha2.specs.Sha256.{sha256, digest_bytes}
 use Rattle.sha2.proofs.Facts256.{length-sha256}
+use Rattle.ssh_model.specs.Protocol.Bounds.{largest_packet}
 use Rattle.ssh_model.specs.Protocol.Wire.DataTypes.{AreBytes}
 use Rattle.ssh_model.specs.Protocol.Wire.Packet.{Blocks, IsBlock, counted, is_size, least_size, with_length}
 use Rattle.ssh_model.specs.Protocol.Wire.Sealing.{IsSealing, is_wire_size}
@@ -18,8 +19,8 @@ use Rattle.ssh_model.specs.Protocol.Wire.MacOnly.{mac_only, mac_only_lengths, ta
 size_from : (blocks : Blocks) (tag size : ℕ) → is_size blocks tag size ≡ true → 12 ≤ size
 size_from blocks tag size h =
     let p = and_parts (counted blocks size % max blocks.size 8 == 0) (nat_le (least_size blocks) size
-    && nat_le (size + tag) 35000) h in
-    let q = and_parts (nat_le (least_size blocks) size) (nat_le (size + tag) 35000) p.1 in
+    && nat_le (size + tag) largest_packet) h in
+    let q = and_parts (nat_le (least_size blocks) size) (nat_le (size + tag) largest_packet) p.1 in
     let low : least_size blocks ≤ size = leb-true (least_size blocks) size q.0 in
     let some : 12 ≤ least_size blocks = twelve blocks.counts_length blocks.size in
     omega (arith, low, some)

@@ -3,6 +3,7 @@ use Rattle.std.proofs.Common.{◌≡◌, ℕ, ◌<◌, ◌≤◌, ◌+◌, ◌^�
 use Rattle.std.specs.Prelude.{if◌then◌else◌, codes}
 use Rattle.std.specs.List.{list_all, join_with_byte}
 use Rattle.std.specs.Int.{w32, to_be_bytes}
+use Rattle.ssh_model.specs.Protocol.Bounds.{largest_data, longest_description, longest_payload}
 use Rattle.ssh_model.specs.Protocol.Wire.DataTypes.{IsByte, IsWrittenBoolean, IsUint32, IsString, IsNameList, is_name}
 use Rattle.ssh_model.specs.Protocol.Wire.Message.{◌▸◌, IsEnd, IsRest, IsAny, IsCookie, Msg, Msg.ChannelClose, Msg.ChannelData, Msg.ChannelEof, Msg.ChannelExtendedData, Msg.ChannelFailure, Msg.ChannelOpen, Msg.ChannelOpenConfirmation, Msg.ChannelOpenFailure, Msg.ChannelRequest, Msg.ChannelSuccess, Msg.ChannelWindowAdjust, Msg.Disconnect, Msg.GlobalRequest, Msg.KexEcdhInit, Msg.KexEcdhReply, Msg.NewKeys, Msg.RequestFailure, Msg.RequestSuccess, Msg.ServiceAccept, Msg.ServiceRequest, Msg.Unimplemented, Msg.Unknown, Msg.UserauthPkOk, Msg.UserauthRequest, Msg.UserauthSuccess, Method.NoMethod, Method.Password, Method.Publickey, FitsContext, IsWrittenPayload}
 use Rattle.ssh_model.specs.Protocol.Sessions.TurnClaims.{HasSpelling}
@@ -70,13 +71,13 @@ module _ {G : List ℕ → Type 0} {k : ℕ} where
       }
 
 -- A message of at most 34,000 bytes that its context allows has a spelling.
-pub spelled : (m : Msg) (k : ℕ) → Made (IsWrittenPayload m) k → FitsContext true m → k ≤ 34000 → HasSpelling m
+pub spelled : (m : Msg) (k : ℕ) → Made (IsWrittenPayload m) k → FitsContext true m → k ≤ longest_payload → HasSpelling m
 spelled m k made fits n = record { payload = made.bytes; spells = record { context = fits; row = made.spells; size = omega (arith, made.size, n) } }
 
 -- ---- messages
 
 -- Each message has a spelling, where its parts have theirs.
-pub disconnect_spelled : (reason : ℕ) (text : List ℕ) → reason < 2 ^ 32 → length text ≤ 1024 → HasSpelling (Disconnect reason text [])
+pub disconnect_spelled : (reason : ℕ) (text : List ℕ) → reason < 2 ^ 32 → length text ≤ longest_description → HasSpelling (Disconnect reason text [])
 disconnect_spelled reason text a b = spelled (Disconnect reason text []) _ (byte 1 (uint32 reason a (string text (omega (arith, b)) (string [] (omega arith) ended)))) tt (omega (arith, b))
 
 pub unimplemented_spelled : (n : ℕ) → n < 2 ^ 32 → HasSpelling (Unimplemented n)
@@ -106,31 +107,31 @@ pk_ok_spelled a k m n = spelled (UserauthPkOk a k) _ (byte 60 (string a (omega (
 pub unknown_0_spelled : HasSpelling (Unknown 0)
 unknown_0_spelled = spelled (Unknown 0) _ (byte 0 any) refl (omega arith)
 
-pub no_method_spelled : (u : List ℕ) → 1 + (4 + length u) + 18 + 8 ≤ 34000 → HasSpelling (UserauthRequest u (codes "ssh-connection") NoMethod)
+pub no_method_spelled : (u : List ℕ) → 1 + (4 + length u) + 18 + 8 ≤ longest_payload → HasSpelling (UserauthRequest u (codes "ssh-connection") NoMethod)
 no_method_spelled u n = spelled (UserauthRequest u (codes "ssh-connection") NoMethod) _ (byte 50 (string u (omega (arith, n)) (string (codes "ssh-connection") (omega arith) (string (codes "none") (omega arith) ended)))) tt (omega (arith, n))
 
-pub password_spelled : (u w : List ℕ) → 1 + (4 + length u) + 18 + 12 + 1 + (4 + length w) ≤ 34000 → HasSpelling (UserauthRequest u (codes "ssh-connection") (Password w None))
+pub password_spelled : (u w : List ℕ) → 1 + (4 + length u) + 18 + 12 + 1 + (4 + length w) ≤ longest_payload → HasSpelling (UserauthRequest u (codes "ssh-connection") (Password w None))
 password_spelled u w n = spelled (UserauthRequest u (codes "ssh-connection") (Password w None)) _ (byte 50 (string u (omega (arith, n)) (string (codes "ssh-connection") (omega arith) (string (codes "password") (omega arith) (truth false (string w (omega (arith, n)) ended)))))) tt (omega (arith, n))
 
-pub probe_spelled : (u a k : List ℕ) → 1 + (4 + length u) + 18 + 13 + 1 + (4 + length a) + (4 + length k) ≤ 34000 → HasSpelling (UserauthRequest u (codes "ssh-connection") (Publickey a k None))
+pub probe_spelled : (u a k : List ℕ) → 1 + (4 + length u) + 18 + 13 + 1 + (4 + length a) + (4 + length k) ≤ longest_payload → HasSpelling (UserauthRequest u (codes "ssh-connection") (Publickey a k None))
 probe_spelled u a k n = spelled (UserauthRequest u (codes "ssh-connection") (Publickey a k None)) _ (byte 50 (string u (omega (arith, n)) (string (codes "ssh-connection") (omega arith) (string (codes "publickey") (omega arith) (truth false (string a (omega (arith, n)) (string k (omega (arith, n)) ended))))))) tt (omega (arith, n))
 
-pub sign_spelled : (u a k s : List ℕ) → 1 + (4 + length u) + 18 + 13 + 1 + (4 + length a) + (4 + length k) + 4 + 4096 ≤ 34000 → length s ≤ 4096 → HasSpelling (UserauthRequest u (codes "ssh-connection") (Publickey a k (Some s)))
+pub sign_spelled : (u a k s : List ℕ) → 1 + (4 + length u) + 18 + 13 + 1 + (4 + length a) + (4 + length k) + 4 + 4096 ≤ longest_payload → length s ≤ 4096 → HasSpelling (UserauthRequest u (codes "ssh-connection") (Publickey a k (Some s)))
 sign_spelled u a k s n o = spelled (UserauthRequest u (codes "ssh-connection") (Publickey a k (Some s))) _ (byte 50 (string u (omega (arith, n)) (string (codes "ssh-connection") (omega arith) (string (codes "publickey") (omega arith) (truth true (string a (omega (arith, n)) (string k (omega (arith, n)) (string s (omega (arith, o)) ended)))))))) tt (omega (arith, n, o))
 
-pub global_request_spelled : (name : List ℕ) (want : Bool) (l : List ℕ) → 2 + (4 + length name) + length l ≤ 34000 → HasSpelling (GlobalRequest name want l)
+pub global_request_spelled : (name : List ℕ) (want : Bool) (l : List ℕ) → 2 + (4 + length name) + length l ≤ longest_payload → HasSpelling (GlobalRequest name want l)
 global_request_spelled name want l n = spelled (GlobalRequest name want l) _ (byte 80 (string name (omega (arith, n)) (truth want (rest l)))) tt (omega (arith, n))
 
-pub request_success_spelled : (l : List ℕ) → 1 + length l ≤ 34000 → HasSpelling (RequestSuccess l)
+pub request_success_spelled : (l : List ℕ) → 1 + length l ≤ longest_payload → HasSpelling (RequestSuccess l)
 request_success_spelled l n = spelled (RequestSuccess l) _ (byte 81 (rest l)) tt (n)
 
 pub request_failure_spelled : HasSpelling RequestFailure
 request_failure_spelled = spelled RequestFailure _ (byte 82 ended) tt (omega arith)
 
-pub open_spelled : (kind : List ℕ) (x w m : ℕ) (l : List ℕ) → x < 2 ^ 32 → w < 2 ^ 32 → m < 2 ^ 32 → 13 + (4 + length kind) + length l ≤ 34000 → HasSpelling (ChannelOpen kind x w m l)
+pub open_spelled : (kind : List ℕ) (x w m : ℕ) (l : List ℕ) → x < 2 ^ 32 → w < 2 ^ 32 → m < 2 ^ 32 → 13 + (4 + length kind) + length l ≤ longest_payload → HasSpelling (ChannelOpen kind x w m l)
 open_spelled kind x w m l a b c n = spelled (ChannelOpen kind x w m l) _ (byte 90 (string kind (omega (arith, n)) (uint32 x a (uint32 w b (uint32 m c (rest l)))))) tt (omega (arith, n))
 
-pub confirmation_spelled : (r x w m : ℕ) (l : List ℕ) → r < 2 ^ 32 → x < 2 ^ 32 → w < 2 ^ 32 → m < 2 ^ 32 → 17 + length l ≤ 34000 → HasSpelling (ChannelOpenConfirmation r x w m l)
+pub confirmation_spelled : (r x w m : ℕ) (l : List ℕ) → r < 2 ^ 32 → x < 2 ^ 32 → w < 2 ^ 32 → m < 2 ^ 32 → 17 + length l ≤ longest_payload → HasSpelling (ChannelOpenConfirmation r x w m l)
 confirmation_spelled r x w m l d a b c n = spelled (ChannelOpenConfirmation r x w m l) _ (byte 91 (uint32 r d (uint32 x a (uint32 w b (uint32 m c (rest l)))))) tt (omega (arith, n))
 
 pub open_failure_spelled : (r reason : ℕ) → r < 2 ^ 32 → reason < 2 ^ 32 → HasSpelling (ChannelOpenFailure r reason [] [])
@@ -139,10 +140,10 @@ open_failure_spelled r reason a b = spelled (ChannelOpenFailure r reason [] []) 
 pub adjust_spelled : (r n : ℕ) → r < 2 ^ 32 → n < 2 ^ 32 → HasSpelling (ChannelWindowAdjust r n)
 adjust_spelled r n a b = spelled (ChannelWindowAdjust r n) _ (byte 93 (uint32 r a (uint32 n b ended))) tt (omega arith)
 
-pub data_message_spelled : (r : ℕ) (body : List ℕ) → r < 2 ^ 32 → length body ≤ 32768 → HasSpelling (ChannelData r body)
+pub data_message_spelled : (r : ℕ) (body : List ℕ) → r < 2 ^ 32 → length body ≤ largest_data → HasSpelling (ChannelData r body)
 data_message_spelled r body a n = spelled (ChannelData r body) _ (byte 94 (uint32 r a (string body (omega (arith, n)) ended))) tt (omega (arith, n))
 
-pub extended_data_spelled : (r kind : ℕ) (body : List ℕ) → r < 2 ^ 32 → kind < 2 ^ 32 → length body ≤ 32768 → HasSpelling (ChannelExtendedData r kind body)
+pub extended_data_spelled : (r kind : ℕ) (body : List ℕ) → r < 2 ^ 32 → kind < 2 ^ 32 → length body ≤ largest_data → HasSpelling (ChannelExtendedData r kind body)
 extended_data_spelled r kind body a b n = spelled (ChannelExtendedData r kind body) _ (byte 95 (uint32 r a (uint32 kind b (string body (omega (arith, n)) ended)))) tt (omega (arith, n))
 
 pub eof_spelled : (r : ℕ) → r < 2 ^ 32 → HasSpelling (ChannelEof r)
@@ -151,7 +152,7 @@ eof_spelled r a = spelled (ChannelEof r) _ (byte 96 (uint32 r a ended)) tt (omeg
 pub close_spelled : (r : ℕ) → r < 2 ^ 32 → HasSpelling (ChannelClose r)
 close_spelled r a = spelled (ChannelClose r) _ (byte 97 (uint32 r a ended)) tt (omega arith)
 
-pub request_spelled : (r : ℕ) (name : List ℕ) (want : Bool) (l : List ℕ) → r < 2 ^ 32 → 6 + (4 + length name) + length l ≤ 34000 → HasSpelling (ChannelRequest r name want l)
+pub request_spelled : (r : ℕ) (name : List ℕ) (want : Bool) (l : List ℕ) → r < 2 ^ 32 → 6 + (4 + length name) + length l ≤ longest_payload → HasSpelling (ChannelRequest r name want l)
 request_spelled r name want l a n = spelled (ChannelRequest r name want l) _ (byte 98 (uint32 r a (string name (omega (arith, n)) (truth want (rest l))))) tt (omega (arith, n))
 
 pub channel_success_spelled : (r : ℕ) → r < 2 ^ 32 → HasSpelling (ChannelSuccess r)

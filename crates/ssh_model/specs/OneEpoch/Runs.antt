@@ -1,5 +1,6 @@
 -- Two ends in one sealed epoch: each direction under one key, both numbers from zero.
 use Rattle.std.specs.Prelude.{◌≡◌, ◌≤◌, ◌<◌, ◌^◌, ℕ, List, [], ◌∷◌, ◌++◌, length, false, true, Some}
+use Rattle.ssh_model.specs.Protocol.Bounds.{longest_payload}
 use Rattle.ssh_model.specs.Protocol.Wire.Sealing.{Crypto, IsSealed}
 use Rattle.ssh_model.specs.Protocol.Wire.Outcome.{Outcome.Opens, Outcome.RefusedPacket}
 use Rattle.ssh_model.specs.Protocol.Wire.Unit.{IsPacketBegun, PacketUnit}
@@ -41,11 +42,11 @@ pub data Gets {K : Type 0} (c : Crypto K) (key : K) : List Item → List ℕ →
 pub data Asks {K : Type 0} (c : Crypto K) (key : K) (h : List Item) (rest payload : List ℕ) : List Item → List ℕ →
     List ℕ → Type 0 where
   dead : has_died h ≡ true → Asks c key h rest payload [] [] rest
-  too_long : has_died h ≡ false → 34000 < length payload →
+  too_long : has_died h ≡ false → longest_payload < length payload →
       Asks c key h rest payload (AskRefused TooLong ∷ Asked ∷ []) [] rest
-  spent : has_died h ≡ false → length payload ≤ 34000 → length (sent h) ≡ 2 ^ 32 →
+  spent : has_died h ≡ false → length payload ≤ longest_payload → length (sent h) ≡ 2 ^ 32 →
       Asks c key h rest payload (Died ∷ Refused NumberSpent ∷ Asked ∷ []) [] []
-  sends : (bytes : List ℕ) → has_died h ≡ false → length payload ≤ 34000 → length (sent h) < 2 ^ 32 →
+  sends : (bytes : List ℕ) → has_died h ≡ false → length payload ≤ longest_payload → length (sent h) < 2 ^ 32 →
       IsSealed c (Some key) (length (sent h)) payload bytes →
       Asks c key h rest payload (Sent payload ∷ Asked ∷ []) bytes rest
 

@@ -2,6 +2,7 @@
 
 ghost use Rattle.std.specs.Prelude.{◌≡◌, ◌≤◌, IfOk, OnErr, Some, false, length, true};
 ghost use Rattle.std.specs.Option.{option_map};
+ghost use Rattle.ssh_model.specs.Protocol.Bounds.{largest_packet};
 ghost use Rattle.ssh_model.specs.Protocol.Side as model;
 ghost use Rattle.ssh_model.specs.Protocol.Wire.Message.{IsPayload, KexEcdhReply};
 ghost use Rattle.ssh_model.specs.State.TransportLayer.Kept.{shared_with};
@@ -86,7 +87,7 @@ fn judge_message<S: Sealing, F: Filler + Drop, A: Agreement, T: HostTrust>(
 ) -> Result<HostJudged<S::Key>, AllocError>
     requires read { IsPayload false (meaning message) payload.now }
     requires reply { IsReply (meaning message) }
-    requires most { length payload.now ≤ 35000 }
+    requires most { length payload.now ≤ largest_packet }
     requires side { machine.now.kept.side ≡ model.Client }
     requires choice { HasChoice machine.now.kept }
     ensures judged { IfOk result (λ judged. IsReplyJudged S.crypto (record {
@@ -128,7 +129,7 @@ fn judge_point<S: Sealing, F: Filler + Drop, A: Agreement, T: HostTrust>(
     trust: &T,
     reply: Reply<'_>,
 ) -> Result<HostJudged<S::Key>, AllocError>
-    requires short { length reply.host_key.now ≤ 35000 }
+    requires short { length reply.host_key.now ≤ largest_packet }
     requires side { machine.now.kept.side ≡ model.Client }
     requires choice { HasChoice machine.now.kept }
     ensures judged { IfOk result (λ judged. IsHostJudged S.crypto (record {
@@ -154,7 +155,7 @@ fn judge_host<S: Sealing, F: Filler + Drop, A: Agreement, T: HostTrust>(
     reply: Reply<'_>,
     shared: &[u8; 32],
 ) -> Result<HostJudged<S::Key>, AllocError>
-    requires short { length reply.host_key.now ≤ 35000 }
+    requires short { length reply.host_key.now ≤ largest_packet }
     requires size { length reply.point.now ≡ 32 }
     requires shares { shared_with (record { point = A.public_of agreement.now; shared = A.shared_of agreement.now })
         machine.now.kept.underway.secret reply.point.now ≡ Some shared.now }

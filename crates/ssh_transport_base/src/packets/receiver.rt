@@ -1,4 +1,5 @@
 ghost use Rattle.std.specs.Prelude.{◌≡◌, ◌<◌, ◌≤◌, ◌+◌, ◌-◌, ◌%◌, ◌++◌, ◌^◌, IfOk, IfSome, List, [], None, length, take};
+ghost use Rattle.ssh_model.specs.Protocol.Bounds.{largest_packet};
 ghost use Rattle.ssh_model.specs.Protocol.Wire.DataTypes.{AreBytes};
 ghost use Rattle.ssh_model.specs.Protocol.Wire.Unit.{IsPacketBegun};
 ghost use Rattle.ssh_transport_base.specs.Directions.{Receives, new_direction, new_receiver, newkeys, next_number, renewed};
@@ -92,7 +93,7 @@ impl<S: Sealing> PacketReceiver<S> {
     /// The payload that the last `take` found, at most 35,000 bytes; no bytes where it found none, and before the first.
     pub fn payload(&self) -> &[u8]
         ensures payload { result.now ≡ self.now.payload }
-        ensures most { length self.now.payload ≤ 35000 }
+        ensures most { length self.now.payload ≤ largest_packet }
     {
         self.reader.payload()
     }

@@ -1,4 +1,5 @@
 ghost use Rattle.std.specs.Prelude.{◌≡◌, ◌<◌, ◌≤◌, ◌+◌, ◌-◌, ◌^◌, IsTrue, false, OnErr, OnOk, length, vec_capacity};
+ghost use Rattle.ssh_model.specs.Protocol.Bounds.{longest_payload};
 ghost use Rattle.ssh_model.specs.Laws.Reading.{Writes};
 ghost use Rattle.ssh_model.specs.Protocol.Wire.Sealing.{IsSealed, blocks_under, tag_under};
 ghost use Rattle.ssh_packet.specs.Writing.{Pads, packet_size};
@@ -130,7 +131,7 @@ impl<S: Sealing> PacketSender<S> {
     ) -> Result<(), AllocError>
         requires left { self.old.count < 2 ^ 32 }
         requires some { 1 ≤ length payload.now }
-        requires most { length payload.now ≤ 34000 }
+        requires most { length payload.now ≤ longest_payload }
         ensures written { OnOk result (Writes (IsSealed S.crypto self.old.key self.old.number payload.now) out.old.items out.new.items) }
         ensures padded { OnOk result (Pads S.crypto self.old.key self.old.number payload.now
             (λ padding. F.gives filler.old padding filler.new) out.old.items out.new.items) }

@@ -4,6 +4,7 @@ ghost use Rattle.ssh_transport_machine.specs.Puts.{outs};
 ghost use Rattle.std.specs.Prelude.{◌≡◌, ◌≤◌, IfErr, IfOk, OnErr, OnOk, length, true};
 ghost use Rattle.ssh_transport_machine.specs.Above.{PayloadSent, PeerRefused, RefuseFailed, SendFailed};
 ghost use Rattle.ssh_transport_machine.specs.Turning.{HasRoom};
+ghost use Rattle.ssh_model.specs.Protocol.Bounds.{longest_payload};
 
 use crate::machine::Machine;
 use crate::machine::turn::Answer;
@@ -50,7 +51,7 @@ impl<S: Sealing, F: Filler + Drop> Machine<S, F> {
         sent: &mut Vec<Vec<u8>>,
     ) -> Result<Answer, TransportFault>
         requires some { 1 ≤ length payload.items }
-        requires most { length payload.items ≤ 34000 }
+        requires most { length payload.items ≤ longest_payload }
         ensures answered { IfOk result (λ answer. PayloadSent S.crypto self.old payload.items answer self.new
             (outs out.old out.new sent.old sent.new)) }
         ensures failed { IfErr result (λ fault. SendFailed self.old fault self.new) }

@@ -2,6 +2,7 @@
 
 ghost use Rattle.std.specs.Prelude.{◌≡◌, ◌≤◌, IfOk, Bool, length, nat_lt};
 ghost use Rattle.std.specs.Option.{option_map};
+ghost use Rattle.ssh_model.specs.Protocol.Bounds.{longest_payload};
 ghost use Rattle.ssh_model.specs.Protocol.Wire.Message.{ExtInfo};
 ghost use Rattle.ssh_model.specs.Laws.Sizes.{payload_size};
 ghost use Rattle.ssh_model.specs.Protocol.Sessions.Turns.{IsSpelled};
@@ -52,7 +53,7 @@ impl<S: Sealing, F: Filler + Drop> Machine<S, F> {
     fn spell_extensions(&self) -> Result<Vec<u8>, AllocError>
         ensures spelled { IfOk result (λ payload. IsSpelled (ExtInfo self.now.kept.settings.extensions) payload.items) }
         ensures some { IfOk result (λ payload. 1 ≤ length payload.items) }
-        ensures most { IfOk result (λ payload. length payload.items ≤ 34000) }
+        ensures most { IfOk result (λ payload. length payload.items ≤ longest_payload) }
     {
         let extensions = own_extensions(&self.config);
         self.spell(&Message::ExtInfo { extensions })
@@ -69,7 +70,7 @@ fn has_extensions<S: Sealing>(config: &Config<S>) -> bool
 // What is announced fits a payload.
 fn own_extensions<S: Sealing>(config: &Config<S>) -> Extensions<'_>
     ensures extensions { extensions_of result ≡ (settings_of config.now).extensions }
-    ensures size { payload_size (ExtInfo (extensions_of result)) ≤ 34000 }
+    ensures size { payload_size (ExtInfo (extensions_of result)) ≤ longest_payload }
 {
     every_config_is_good(config);
     config.extensions()

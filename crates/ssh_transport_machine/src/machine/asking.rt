@@ -17,11 +17,9 @@ use crate::machine::service::USERAUTH;
 use crate::machine::turn::{Answer, AskTurn};
 use ssh_message::Message;
 use ssh_packet::{Filler, Sealing};
+use ssh_types::bounds::LONGEST_DESCRIPTION;
 use ssh_types::{AskRefusal, Side};
 use std::alloc::AllocError;
-
-// The most bytes that the description of a DISCONNECT has.
-const LONGEST_DESCRIPTION: usize = 1024;
 
 impl<S: Sealing, F: Filler + Drop> Machine<S, F> {
     /// Asks for the service of authentication (RFC 4253 section 10).

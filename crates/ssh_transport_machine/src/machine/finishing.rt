@@ -3,6 +3,7 @@
 ghost use Rattle.std.specs.Prelude.{◌≡◌, ◌<◌, ◌≤◌, ◌+◌, ◌-◌, ◌^◌, ◌∷◌, [], None, Some, IfOk, OnOk, OnErr, length, map, replicate, true};
 ghost use Rattle.std.specs.Prelude.{false};
 ghost use Rattle.std.specs.Option.{option_map};
+ghost use Rattle.ssh_model.specs.Protocol.Bounds.{longest_payload};
 ghost use Rattle.ssh_model.specs.Protocol.Sessions.Items.{SpelledBy};
 ghost use Rattle.ssh_model.specs.Protocol.Sessions.Turns.{IsSpelled};
 ghost use Rattle.ssh_model.specs.Protocol.Side.{peer};
@@ -204,7 +205,7 @@ impl<S: Sealing, F: Filler + Drop> Machine<S, F> {
         requires left { self.old.kept.sending.count + 1 < 2 ^ 32 }
         requires epoch { self.old.kept.sending.epoch < 2 ^ 32 - 1 }
         requires some { 1 ≤ length payload.items }
-        requires most { length payload.items ≤ 34000 }
+        requires most { length payload.items ≤ longest_payload }
         requires due { IsAnnouncement self.old.kept (option_map (λ v. v.items) announcement) }
         ensures finishes { (message : Msg) → IsSpelled message payload.items →
             OnOk result (Finishes S.crypto self.old.kept (SpelledBy message payload.items ∷ []) keys.own

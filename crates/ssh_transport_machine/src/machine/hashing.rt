@@ -1,6 +1,7 @@
 //! The exchange hash of an end.
 
 ghost use Rattle.std.specs.Prelude.{◌≡◌, ◌≤◌, length};
+ghost use Rattle.ssh_model.specs.Protocol.Bounds.{largest_packet};
 ghost use Rattle.ssh_model.specs.Protocol.Wire.DataTypes.{number};
 ghost use Rattle.ssh_model.specs.Protocol.KeyExchange.Exchange.{Fits, exchange_hash as hash_of};
 ghost use Rattle.ssh_kex.specs.Values.{inputs_of};
@@ -24,7 +25,7 @@ pub struct Points<'a> {
 impl<S: Sealing, F: Filler + Drop> Machine<S, F> {
     /// The hash of the exchange under way (RFC 5656 section 4). It needs no memory.
     pub fn hash(&self, points: &Points<'_>) -> [u8; 32]
-        requires { length points.now.host_key.now ≤ 35000 }
+        requires { length points.now.host_key.now ≤ largest_packet }
         ensures { result ≡ hash_of (inputs_in self.now.kept.side self.now.kept points.now.host_key.now points.now.client.now
             points.now.server.now (number points.now.shared.now)) }
     {
@@ -34,7 +35,7 @@ impl<S: Sealing, F: Filler + Drop> Machine<S, F> {
 
     // What both ends hash.
     fn inputs<'a>(&'a self, points: &Points<'a>) -> ExchangeInputs<'a>
-        requires { length points.now.host_key.now ≤ 35000 }
+        requires { length points.now.host_key.now ≤ largest_packet }
         ensures inputs { inputs_of result ≡ inputs_in self.now.kept.side self.now.kept points.now.host_key.now points.now.client.now
             points.now.server.now (number points.now.shared.now) }
         ensures fits { Fits (inputs_of result) }

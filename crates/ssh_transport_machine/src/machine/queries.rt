@@ -4,6 +4,7 @@ ghost use Rattle.std.specs.Prelude.{◌≡◌, ◌≤◌, length, nat_le};
 ghost use Rattle.std.specs.Option.{option_copied};
 ghost use Rattle.ssh_transport_base.specs.Directions.{next_number};
 ghost use Rattle.ssh_transport_machine.specs.State.{last_number as number_before, line_taken};
+ghost use Rattle.ssh_model.specs.Protocol.Bounds.{largest_packet};
 
 use crate::machine::Machine;
 use ssh_packet::{Filler, Sealing};
@@ -12,7 +13,7 @@ impl<S: Sealing, F: Filler + Drop> Machine<S, F> {
     /// The payload that was taken last.
     pub fn payload(&self) -> &[u8]
         ensures payload { result.now ≡ self.now.receiver.payload }
-        ensures most { length self.now.receiver.payload ≤ 35000 }
+        ensures most { length self.now.receiver.payload ≤ largest_packet }
     {
         self.taking.payload()
     }

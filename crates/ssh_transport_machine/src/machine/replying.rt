@@ -2,6 +2,7 @@
 
 ghost use Rattle.ssh_transport_machine.specs.Puts.{outs};
 ghost use Rattle.std.specs.Prelude.{◌≡◌, ◌≤◌, IfOk, OnErr, codes, length, true};
+ghost use Rattle.ssh_model.specs.Protocol.Bounds.{longest_payload};
 ghost use Rattle.ssh_model.specs.Protocol.Wire.Message.{FitsContext, ServiceAccept, Unimplemented};
 ghost use Rattle.ssh_model.specs.Laws.Sizes.{payload_size};
 ghost use Rattle.ssh_model.specs.State.TransportLayer.Kept.{after_sent};
@@ -31,7 +32,7 @@ impl<S: Sealing, F: Filler + Drop> Machine<S, F> {
     ) -> Result<Answer, AllocError>
         requires fits { Fits message.now }
         requires context { FitsContext true (meaning message.now) }
-        requires most { payload_size (meaning message.now) ≤ 34000 }
+        requires most { payload_size (meaning message.now) ≤ longest_payload }
         ensures answers { IfOk result (λ answer. Answers S.crypto self.old (meaning message.now) (after_sent self.old.kept) answer
             self.new (outs out.old out.new sent.old sent.new)) }
         ensures dead { OnErr result (self.new ≡ dead_state self.old) }

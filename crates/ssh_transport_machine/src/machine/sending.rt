@@ -1,6 +1,7 @@
 //! Messages that an end sends.
 
 ghost use Rattle.std.specs.Prelude.{◌≡◌, ◌<◌, ◌≤◌, ◌^◌, IfOk, OnOk, OnErr, length, true};
+ghost use Rattle.ssh_model.specs.Protocol.Bounds.{longest_payload};
 ghost use Rattle.ssh_model.specs.Protocol.Wire.Message.{FitsContext};
 ghost use Rattle.ssh_model.specs.Laws.Sizes.{payload_size};
 ghost use Rattle.ssh_model.specs.Protocol.Sessions.Turns.{IsSpelled};
@@ -30,7 +31,7 @@ impl<S: Sealing, F: Filler + Drop> Machine<S, F> {
         requires left { self.old.kept.sending.count < 2 ^ 32 }
         requires fits { Fits message.now }
         requires context { FitsContext true (meaning message.now) }
-        requires most { payload_size (meaning message.now) ≤ 34000 }
+        requires most { payload_size (meaning message.now) ≤ longest_payload }
         ensures sends { OnOk result (Sends S.crypto self.old.kept.sending (meaning message.now) (outs out.old out.new sent.old sent.new)) }
         ensures after { OnOk result (self.new ≡ record self.old { kept = after_sent self.old.kept }) }
         ensures dead { OnErr result (self.new ≡ dead_state self.old) }
@@ -54,7 +55,7 @@ impl<S: Sealing, F: Filler + Drop> Machine<S, F> {
     pub fn spell(&self, message: &Message<'_>) -> Result<Vec<u8>, AllocError>
         requires fits { Fits message.now }
         requires context { FitsContext true (meaning message.now) }
-        requires most { payload_size (meaning message.now) ≤ 34000 }
+        requires most { payload_size (meaning message.now) ≤ longest_payload }
         ensures spelled { IfOk result (λ payload. IsSpelled (meaning message.now) payload.items) }
         ensures some { IfOk result (λ payload. 1 ≤ length payload.items) }
     {
@@ -76,7 +77,7 @@ impl<S: Sealing, F: Filler + Drop> Machine<S, F> {
     ) -> Result<(), AllocError>
         requires left { self.old.kept.sending.count < 2 ^ 32 }
         requires some { 1 ≤ length payload.items }
-        requires most { length payload.items ≤ 34000 }
+        requires most { length payload.items ≤ longest_payload }
         ensures puts { OnOk result (PutsPayload S.crypto self.old.kept.sending payload.items (outs out.old out.new sent.old sent.new)) }
         ensures after { OnOk result (self.new ≡ record self.old { kept = after_sent self.old.kept }) }
         ensures dead { OnErr result (self.new ≡ dead_state self.old) }
@@ -99,7 +100,7 @@ impl<S: Sealing, F: Filler + Drop> Machine<S, F> {
     ) -> Result<(), AllocError>
         requires left { self.old.kept.sending.count < 2 ^ 32 }
         requires some { 1 ≤ length payload.items }
-        requires most { length payload.items ≤ 34000 }
+        requires most { length payload.items ≤ longest_payload }
         ensures puts { OnOk result (PutsPayload S.crypto self.old.kept.sending payload.items (outs out.old out.new sent.old sent.new)) }
         ensures after { OnOk result (self.new ≡ record self.old { kept = after_sent self.old.kept }) }
         ensures same { OnErr result (self.new ≡ self.old) }

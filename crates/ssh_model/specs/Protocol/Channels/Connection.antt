@@ -2,6 +2,7 @@
 -- is one row. What is known of channels is read off the notes of their messages.
 use Rattle.std.specs.Prelude.{◌≡◌, ℕ, suc, ◌+◌, ◌-◌, Bool, true, false, not, ◌==◌, ◌&&◌, ◌||◌, nat_le, nat_lt, Option}
 use Rattle.std.specs.Prelude.{Some, None, List, [], ◌∷◌, length}
+use Rattle.ssh_model.specs.Protocol.Bounds.{largest_data, most_waiting}
 use Rattle.ssh_model.specs.Protocol.Side.{Side}
 use Rattle.ssh_model.specs.Protocol.Wire.Message.{Msg, Msg.KexInit, Msg.NewKeys, Msg.GlobalRequest, Msg.RequestSuccess}
 use Rattle.ssh_model.specs.Protocol.Wire.Message.{Msg.RequestFailure, Msg.ChannelOpen, Msg.ChannelOpenConfirmation}
@@ -116,7 +117,7 @@ globals_there (_ ∷ h) = globals_there h
 
 -- at most so many requests wait, and so many replies are owed
 abbrev pub is_limit_reached : ℕ → Bool
-is_limit_reached n = nat_le 256 n
+is_limit_reached n = nat_le most_waiting n
 
 -- one reply more cannot be owed
 abbrev pub is_owed_limit_reached : Side → List Item → Bool
@@ -238,7 +239,7 @@ common_checks is_blocked is_due busy checks =
 
 -- an end offers to take data of 1 to 32,768 bytes in a message
 abbrev pub is_max_packet : ℕ → Bool
-is_max_packet max_packet = nat_le 1 max_packet && nat_le max_packet 32768
+is_max_packet max_packet = nat_le 1 max_packet && nat_le max_packet largest_data
 
 -- What is refused of an ask for a message of the connection, where the end is blocked or not, and an exchange is due
 -- or not.
@@ -258,7 +259,7 @@ channel_ask_checks is_blocked is_due side h (AskData x kind body) =
     common_checks is_blocked is_due false
     (RefusedWhere (not (is_confirmed x (notes side h))) NoChannel
     ∷ RefusedWhere (has_ended x (notes side h)) AskRefusal.Ended
-    ∷ RefusedWhere (nat_lt 32768 (length body) || nat_lt (max_packet_there x (notes side h)) (length body)) TooLong
+    ∷ RefusedWhere (nat_lt largest_data (length body) || nat_lt (max_packet_there x (notes side h)) (length body)) TooLong
     ∷ RefusedWhere (nat_lt (send_window x (notes side h)) (length body)) NoRoom ∷ [])
 channel_ask_checks is_blocked is_due side h (AskAdjust x bytes) =
     common_checks is_blocked is_due false

@@ -3,6 +3,7 @@
 -- An end is blocked from its KEXINIT to its NEWKEYS (RFC 4253 section 7.1): what it says then is owed.
 use Rattle.std.specs.Prelude.{ℕ, zero, suc, List, [], ◌∷◌, ◌++◌, Bool, true, false, cond, not, ◌&&◌, ◌||◌, nat_lt}
 use Rattle.std.specs.Prelude.{◌==◌, Option, Some, None}
+use Rattle.ssh_model.specs.Protocol.Bounds.{most_channels}
 use Rattle.ssh_model.specs.Protocol.Side.{Side}
 use Rattle.ssh_model.specs.Protocol.Channels.Message.{Message, Message.Open, Message.OpenFailure, Message.Close}
 use Rattle.ssh_model.specs.Protocol.Channels.Notes.{Note, Note.Said, Note.Took, Note.Refused, channel_at}
@@ -90,7 +91,7 @@ is_owed number (_ ∷ replies) = is_owed number replies
 -- A new channel can have this number: local numbers are below 1,024 (own).
 abbrev pub is_free : Side → List Item → ℕ → Bool
 is_free side history number =
-    nat_lt number 1024 && (not (is_held number (noted side history)) && not (is_owed number (owed side history)))
+    nat_lt number most_channels && (not (is_held number (noted side history)) && not (is_owed number (owed side history)))
 
 -- There is a free number, so a place for a new channel. With none there are 1,024 channels.
 unfoldable pub some_free : Side → List Item → ℕ → Bool
@@ -99,7 +100,7 @@ some_free side history (suc number) = is_free side history number || some_free s
 
 -- There is a place for a new channel among the 1,024.
 unfoldable pub has_place : Side → List Item → Bool
-has_place side history = some_free side history 1024
+has_place side history = some_free side history most_channels
 
 -- replies are sent at once, or owed where the end is blocked
 abbrev pub at_once : Bool → List Item → List Item

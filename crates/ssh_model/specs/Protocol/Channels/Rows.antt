@@ -1,5 +1,6 @@
 -- What may be asked and taken on a channel, row by row, and the runs of two ends as one list.
 use Rattle.std.specs.Prelude.{◌≡◌, ℕ, ◌+◌, ◌≤◌, List, [], ◌∷◌, ◌++◌, length, Bool, true, false, Option, Some, None}
+use Rattle.ssh_model.specs.Protocol.Bounds.{largest_data}
 use Rattle.ssh_model.specs.Protocol.Side.{DoneBy, Side, done_by, part, peer}
 use Rattle.ssh_model.specs.Protocol.Lists.{IsOlder}
 use Rattle.ssh_model.specs.Protocol.Channels.Message.{Message, Message.Open, Message.OpenConfirmation, Message.OpenFailure}
@@ -29,7 +30,7 @@ pub data Ask : Side → List Note → ℕ → Message → Type 0 where
       Ask side notes number (WindowAdjust (peer_number number notes) bytes)
   give_data : {side : Side} {notes : List Note} {number : ℕ} (kind : Option ℕ) (body : List ℕ) →
       is_confirmed number notes ≡ true →
-      has_ended number notes ≡ false → length body ≤ 32768 → length body ≤ max_packet_there number notes →
+      has_ended number notes ≡ false → length body ≤ largest_data → length body ≤ max_packet_there number notes →
       length body ≤ send_window number notes → Ask side notes number (Data (peer_number number notes) kind body)
   -- section 5.3
   eof : {side : Side} {notes : List Note} {number : ℕ} → is_confirmed number notes ≡ true →

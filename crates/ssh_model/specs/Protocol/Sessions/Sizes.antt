@@ -1,5 +1,6 @@
 -- The bytes of a payload, by which an ask may be too long (own).
 use Rattle.std.specs.Prelude.{ℕ, ◌+◌, Bool, nat_lt, List, length, codes}
+use Rattle.ssh_model.specs.Protocol.Bounds.{longest_payload}
 
 -- the bytes of a string in a payload
 abbrev pub string_size : List ℕ → ℕ
@@ -7,7 +8,7 @@ string_size text = 4 + length text
 
 -- A payload is too long for a packet.
 abbrev pub is_too_long : ℕ → Bool
-is_too_long size = nat_lt 34000 size
+is_too_long size = nat_lt longest_payload size
 
 -- the bytes of a request for authentication up to its method name
 abbrev pub request_size : (user method : List ℕ) → ℕ

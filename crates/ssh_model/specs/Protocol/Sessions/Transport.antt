@@ -1,6 +1,7 @@
 -- What an end answers to the messages of the transport, and to the asks for them. One clause or constructor is one row.
 use Rattle.std.specs.Prelude.{◌≡◌, ℕ, suc, Bool, true, false, not, ◌==◌, ◌&&◌, ◌||◌, nat_lt, None, is_some, List, []}
 use Rattle.std.specs.Prelude.{◌∷◌, ◌++◌, length, codes}
+use Rattle.ssh_model.specs.Protocol.Bounds.{longest_description}
 use Rattle.ssh_model.specs.Protocol.Side.{Side, Side.Client, Side.Server, peer}
 use Rattle.ssh_model.specs.Protocol.Wire.Message.{Msg, Msg.Disconnect, Msg.Ignore, Msg.Unimplemented, Msg.Debug}
 use Rattle.ssh_model.specs.Protocol.Wire.Message.{Msg.ServiceRequest, Msg.ServiceAccept, Msg.ExtInfo, Msg.KexInit, Msg.NewKeys}
@@ -177,7 +178,7 @@ transport_ask_checks p side h AskService =
 transport_ask_checks p side h AskRekey =
     RefusedWhere (not (authenticated side h)) NotYet ∷ RefusedWhere (blocked h || not (is_normal (phase p side h))) Busy
     ∷ RefusedWhere (not (has_material h)) AskRefusal.NoMaterial ∷ []
-transport_ask_checks p side h (AskDisconnect description) = RefusedWhere (nat_lt 1024 (length description)) TooLong ∷ []
+transport_ask_checks p side h (AskDisconnect description) = RefusedWhere (nat_lt longest_description (length description)) TooLong ∷ []
 transport_ask_checks p side h _ = []
 
 -- what it sends on an ask that it does not refuse

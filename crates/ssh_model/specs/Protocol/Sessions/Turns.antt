@@ -2,6 +2,7 @@
 -- authentication and of the connection.
 use Rattle.std.specs.Prelude.{◌≡◌, ℕ, ◌<◌, ◌≤◌, ◌^◌, ◌-◌, Bool, true, false, not, ◌&&◌, nat_lt, Option, Some, None}
 use Rattle.std.specs.Prelude.{List, [], ◌∷◌, ◌++◌, length}
+use Rattle.ssh_model.specs.Protocol.Bounds.{longest_payload}
 use Rattle.ssh_model.specs.Protocol.Wire.DataTypes.{AreBytes}
 use Rattle.ssh_model.specs.Protocol.Side.{Side, Side.Client, Side.Server, done_by, part}
 use Rattle.ssh_model.specs.Protocol.Wire.Message.{Msg, Msg.KexInit, Msg.Disconnect, FitsContext, IsPayload, IsWrittenPayload}
@@ -32,7 +33,7 @@ use Rattle.ssh_model.specs.Protocol.Wire.Unit.{Stage, Stage.Lines, Stage.Packets
 pub record IsSpelled (message : Msg) (payload : List ℕ) : Type 0 where
   pub context : FitsContext true message
   pub row : IsWrittenPayload message payload
-  pub size : length payload ≤ 34000
+  pub size : length payload ≤ longest_payload
 
 -- Each payload that is sent among these items spells its message.
 abbrev pub AreSpelled : List Item → Type 0

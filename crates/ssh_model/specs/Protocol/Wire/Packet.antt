@@ -1,6 +1,7 @@
 -- The binary packet without its tag (RFC 4253 section 6).
 use Rattle.std.specs.Prelude.{◌≡◌, ℕ, ◌+◌, ◌-◌, ◌%◌, ◌≤◌, Bool, true, false, nat_le, ◌==◌, ◌&&◌, ◌⊎◌, if◌then◌else◌}
 use Rattle.std.specs.Prelude.{IsTrue, max, List, ◌∷◌, ◌++◌, length}
+use Rattle.ssh_model.specs.Protocol.Bounds.{largest_packet}
 use Rattle.ssh_model.specs.Protocol.Wire.DataTypes.{IsString}
 
 -- the block sizes of the ciphers; 8 where there is none
@@ -40,7 +41,7 @@ least_size blocks = if blocks.counts_length then max 16 blocks.size else 4 + max
 -- bytes than the least one, and at most 35,000 with the tag.
 abbrev pub is_size : Blocks → ℕ → ℕ → Bool
 is_size blocks tag size =
-    (counted blocks size % max blocks.size 8 == 0) && (nat_le (least_size blocks) size && nat_le (size + tag) 35000)
+    (counted blocks size % max blocks.size 8 == 0) && (nat_le (least_size blocks) size && nat_le (size + tag) largest_packet)
 
 -- The bytes are a packet of the payload: packet_length, and the body that it counts.
 pub record IsPacket (blocks : Blocks) (tag : ℕ) (payload bytes : List ℕ) : Type 0 where

@@ -3,6 +3,7 @@
 use Rattle.std.specs.Prelude.{◌≡◌, ℕ, ◌+◌, ◌-◌, ◌<◌, ◌≤◌, Bool, true, false, not, ◌==◌, ◌&&◌, ◌||◌, nat_le, nat_lt}
 use Rattle.std.specs.Prelude.{Option, Some, None, is_some, option_map, List, [], ◌∷◌, ◌++◌, length, replicate}
 use Rattle.std.specs.Prelude.{count_by, slice_set}
+use Rattle.ssh_model.specs.Protocol.Bounds.{largest_data, most_channels}
 use Rattle.ssh_model.specs.Protocol.Wire.Message.{Msg, Msg.GlobalRequest, Msg.RequestSuccess, Msg.RequestFailure}
 use Rattle.ssh_model.specs.Protocol.Wire.Message.{Msg.ChannelOpen, Msg.ChannelOpenConfirmation, Msg.ChannelOpenFailure}
 use Rattle.ssh_model.specs.Protocol.Wire.Message.{Msg.ChannelWindowAdjust, Msg.ChannelData, Msg.ChannelExtendedData}
@@ -39,7 +40,7 @@ pub record Channels : Type 0 where
 
 -- nothing is open, owed or awaited
 abbrev pub no_channels : Channels
-no_channels = record { places = replicate 1024 None; owed = []; globals_here = 0; globals_there = 0 }
+no_channels = record { places = replicate most_channels None; owed = []; globals_here = 0; globals_there = 0 }
 
 -- ---- tests
 
@@ -49,7 +50,7 @@ used places = count_by is_some places
 
 -- all 1,024 numbers are in use
 abbrev pub is_table_full : List (Option Place) → Bool
-is_table_full places = nat_le 1024 (used places)
+is_table_full places = nat_le most_channels (used places)
 
 -- one reply more cannot be owed
 abbrev pub is_queue_full : Bool → List DueReply → Bool
@@ -57,7 +58,7 @@ is_queue_full is_blocked owed = is_blocked && is_limit_reached (length owed)
 
 -- a number in the table at which nothing is kept
 pub record IsUnused (places : List (Option Place)) (number : ℕ) : Type 0 where
-  pub inside : number < 1024
+  pub inside : number < most_channels
   pub nothing : at places number ≡ None
 
 -- CLOSE was said at a number
@@ -341,7 +342,7 @@ send_checks is_blocked is_due channels (AskData number kind body) =
     confirmed_checks is_blocked is_due false (at channels.places number)
     (RefusedWhere (is_at is_ended (at channels.places number)) AskRefusal.Ended
     ∷ RefusedWhere
-    (nat_lt 32768 (length body)
+    (nat_lt largest_data (length body)
     || is_at (λ kept. nat_lt kept.max_packet_there (length body)) (at channels.places number)) TooLong
     ∷ RefusedWhere (is_at (λ kept. nat_lt kept.send_window (length body)) (at channels.places number)) NoRoom ∷ [])
 send_checks is_blocked is_due channels (AskAdjust number bytes) =

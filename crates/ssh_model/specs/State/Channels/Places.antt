@@ -2,11 +2,12 @@
 -- owes (own).
 use Rattle.std.specs.Prelude.{◌≡◌, ℕ, zero, suc, ◌-◌, List, [], ◌∷◌, Bool, true, false, cond, not, ◌&&◌, ◌||◌, Option}
 use Rattle.std.specs.Prelude.{Some, None, slice_index_or}
+use Rattle.ssh_model.specs.Protocol.Bounds.{most_channels}
 use Rattle.ssh_model.specs.Protocol.Side.{Side}
 use Rattle.ssh_model.specs.Protocol.Channels.Message.{Message, Message.OpenFailure, Message.Close, mine, window, spent, sender}
 use Rattle.ssh_model.specs.Protocol.Channels.Message.{max_packet, has_eof, stage, closed, begun}
 use Rattle.ssh_model.specs.Protocol.Channels.Notes.{Note, channel_at}
-use Rattle.ssh_model.specs.Protocol.Channels.Numbers.{said_at, took_at, has_open, is_held, is_confirmed, is_offered}
+use Rattle.ssh_model.specs.Protocol.Channels.Numbers.{said_at, took_at, has_open, is_held, is_offered}
 use Rattle.ssh_model.specs.Protocol.Channels.Numbers.{is_waiting, has_closed, send_window, waiting_here, waiting_there}
 use Rattle.ssh_model.specs.Protocol.Channels.History.{Item, Item.Sent, is_owed}
 
@@ -116,7 +117,7 @@ count_below meets (suc number) = cond (meets number) (suc (count_below meets num
 
 -- how many numbers are in use: local numbers are below 1,024
 unfoldable pub count : List Note → List Item → ℕ
-count notes owed = count_below (in_use notes owed) 1024
+count notes owed = count_below (in_use notes owed) most_channels
 
 -- ---- the same of what is kept
 

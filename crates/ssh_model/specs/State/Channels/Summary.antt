@@ -1,5 +1,6 @@
 -- When the channels that an end keeps sum up its history, and how its rows are rows of a session (own).
 use Rattle.std.specs.Prelude.{◌≡◌, ℕ, Bool, Option, Some, None, List, [], ◌∷◌, ◌++◌, length, map, reverse}
+use Rattle.ssh_model.specs.Protocol.Bounds.{most_channels}
 use Rattle.ssh_model.specs.Protocol.Side.{Side}
 use Rattle.ssh_model.specs.Protocol.Wire.Message.{Msg, Msg.NewKeys, Msg.GlobalRequest, Msg.RequestSuccess, Msg.RequestFailure}
 use Rattle.ssh_model.specs.Protocol.Wire.Message.{Msg.ChannelOpen, Msg.ChannelOpenConfirmation, Msg.ChannelOpenFailure}
@@ -46,7 +47,7 @@ reply_sent (AnswersClose number to) = ChannelClose to
 pub record SumsUp (side : Side) (history : List Item) (waiting : List channel.Item) (channels : Channels) : Type 0 where
   pub run : EndRun side (notes side history)
   pub places : (number : ℕ) → at channels.places number ≡ place side (notes side history) waiting number
-  pub size : length channels.places ≡ 1024
+  pub size : length channels.places ≡ most_channels
   pub queue : pending channels.owed ≡ waiting
   pub settled : AreOwed waiting (notes side history)
   pub here : channels.globals_here ≡ globals_here history

@@ -3,6 +3,7 @@
 use Rattle.std.specs.Prelude.{◌≡◌, ℕ, ◌+◌, ◌-◌, ◌^◌, ◌<◌, Bool, true, false, not, cond, if◌then◌else◌, ◌==◌, ◌&&◌}
 use Rattle.std.specs.Prelude.{◌||◌, nat_le, nat_lt, Option, Some, None, is_some, unwrap_or, List, [], ◌∷◌}
 use Rattle.std.specs.Prelude.{length, take, codes}
+use Rattle.ssh_model.specs.Protocol.Bounds.{longest_description}
 use Rattle.ssh_model.specs.Protocol.Side.{Side, Side.Client, Side.Server, peer}
 use Rattle.ssh_model.specs.Protocol.Wire.DataTypes.{number}
 use Rattle.ssh_model.specs.Protocol.Wire.Message.{Msg, Msg.Ignore, Msg.Unimplemented, Msg.Debug}
@@ -264,7 +265,7 @@ message_ask_checks s AskService =
 message_ask_checks s AskRekey =
     RefusedWhere (not s.authenticated) NotYet ∷ RefusedWhere (s.blocked || not (is_normal s.phase)) Busy
     ∷ RefusedWhere (not (is_some s.material)) AskRefusal.NoMaterial ∷ []
-message_ask_checks s (AskDisconnect description) = RefusedWhere (nat_lt 1024 (length description)) TooLong ∷ []
+message_ask_checks s (AskDisconnect description) = RefusedWhere (nat_lt longest_description (length description)) TooLong ∷ []
 message_ask_checks s _ = []
 
 -- ---- what is answered

@@ -1,5 +1,6 @@
 use Rattle.std.proofs.Common.{◌+◌, ◌≤◌, ◌∙◌, List, ℕ, length, drop, ap, sym, subst}
 use Rattle.std.specs.Option.{option_copied}
+use Rattle.ssh_model.specs.Protocol.Bounds.{largest_packet}
 use Rattle.ssh_model.specs.Protocol.Wire.DataTypes.{AreBytes}
 use Rattle.ssh_model.specs.Laws.Reading.{Writes}
 use Rattle.ssh_model.specs.Protocol.Wire.Packet.{Blocks}
@@ -22,8 +23,8 @@ returns g c =
       start_is = ap length c.as_slice-start.ensures.value;
       some = c.requires.some;
       fits =
-          subst (λ (b : Blocks). 5 + length c.args.payload.now + padding_for b (length c.args.payload.now) + c.tag_of-tag.result ≤ 35000) (sym c.blocks_of.ensures.value)
-          (subst (λ (t : ℕ). 5 + length c.args.payload.now + padding_for (blocks_under g.S.Sealing.crypto key) (length c.args.payload.now) + t ≤ 35000) (sym c.tag_of-tag.ensures.value) c.requires.fits);
+          subst (λ (b : Blocks). 5 + length c.args.payload.now + padding_for b (length c.args.payload.now) + c.tag_of-tag.result ≤ largest_packet) (sym c.blocks_of.ensures.value)
+          (subst (λ (t : ℕ). 5 + length c.args.payload.now + padding_for (blocks_under g.S.Sealing.crypto key) (length c.args.payload.now) + t ≤ largest_packet) (sym c.tag_of-tag.ensures.value) c.requires.fits);
       parts = subst (λ (n : ℕ). Writes (HasParts n c.tag_of-tag.result IsGiven c.args.payload.now) old put) c.least_padding-padding.ensures c.in_default.ensures.written;
       are_bytes = subst AreBytes (c.split_at.ensures.back ∙ ap (drop start) c.deref.ensures.value) c.are_bytes.ensures;
     } in

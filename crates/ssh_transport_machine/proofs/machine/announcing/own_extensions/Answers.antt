@@ -1,4 +1,5 @@
 use Rattle.std.proofs.Common.{◌≤◌, sym, subst, List}
+use Rattle.ssh_model.specs.Protocol.Bounds.{longest_payload}
 use Rattle.ssh_model.specs.Protocol.Wire.Message.{Extension, Msg.ExtInfo}
 use Rattle.ssh_model.specs.Laws.Sizes.{payload_size}
 use Rattle.ssh_transport_base.specs.Meaning.{given_of}
@@ -7,4 +8,4 @@ use Rattle.ssh_transport_machine.proofs.machine.announcing.own_extensions.Goals 
 
 pub returns-clause-size : goal.returns-clause-size
 returns-clause-size g c =
-    subst (λ (l : List Extension). payload_size (ExtInfo l) ≤ 34000) (sym c.extensions.ensures) (fits (given_of c.args.config.now) c.every_config_is_good.ensures.extensions)
+    subst (λ (l : List Extension). payload_size (ExtInfo l) ≤ longest_payload) (sym c.extensions.ensures) (fits (given_of c.args.config.now) c.every_config_is_good.ensures.extensions)

@@ -1,5 +1,5 @@
 use Rattle.ssh_model.proofs.Example.ChannelAsks.{not_authenticated_row, blocked_by_own_kexinit_row, rekey_is_due_row, blocked_before_rekey_is_due_row, rekey_is_not_due_row, rekey_though_due_row, service_though_due_row, request_though_due_row, disconnect_though_due_row, open_by_server_row, open_of_largest_data_row, open_of_larger_data_row, open_of_no_data_row, long_open_row, too_long_open_row, too_much_before_too_long_row, confirm_row, confirm_of_no_open_row, confirm_of_own_open_row, second_confirm_row, confirm_of_larger_data_row, confirm_of_no_data_row, long_confirm_row, too_long_confirm_row, refuse_row, refuse_of_no_open_row, give_data_row, data_on_no_channel_row, data_after_own_eof_row, data_after_own_close_row, data_after_both_closed_row, data_over_most_of_peer_row, data_over_room_row, data_within_room_row, too_long_before_no_room_row, largest_data_row, larger_data_row, extended_data_over_room_row, extended_data_over_most_row, grant_row, grant_too_much_row, grant_after_data_row, grant_on_no_channel_row, grant_after_own_close_row, grant_after_own_eof_row, end_of_data_row, second_own_eof_row, eof_after_own_close_row, eof_on_no_channel_row, close_after_own_eof_row, second_own_close_row, close_on_no_channel_row, many_own_requests_row, too_many_own_requests_row, own_request_without_reply_row, request_on_no_channel_row, request_after_own_close_row, long_request_row, too_long_request_row, request_reply_row, reply_to_nothing_row, second_reply_row, reply_on_no_channel_row, reply_after_own_close_row, global_request_row, too_long_global_request_row, many_own_globals_row, too_many_own_globals_row, own_global_without_reply_row, global_reply_row, too_long_global_reply_row, global_reply_to_nothing_row, global_failure_row, global_failure_of_nothing_row, too_many_requests_on_a_channel_row, request_on_unused_number_row}
-use Rattle.ssh_model.proofs.examples.channel_ask_examples.Goals as goal
+use Rattle.ssh_model.proofs.examples.channels.ask_examples.Goals as goal
 
 pub returns : goal.returns
 returns c = record {

@@ -1,5 +1,5 @@
 use Rattle.ssh_model.proofs.Example.ConnectionAnswers.{global_request_taken_row, global_success_taken_row, global_failure_taken_row, open_taken_row, open_taken_at_last_number_row, open_without_place_row, open_without_place_while_blocked_row, confirmation_taken_row, open_failure_taken_row, adjust_taken_row, data_taken_row, extended_data_taken_row, eof_taken_row, close_answered_row, close_after_close_row, close_while_blocked_row, request_taken_row, success_taken_row, failure_taken_row}
-use Rattle.ssh_model.proofs.examples.connection_answer_examples.Goals as goal
+use Rattle.ssh_model.proofs.examples.channels.answer_examples.Goals as goal
 
 pub returns : goal.returns
 returns c = record {

@@ -1,5 +1,5 @@
 use Rattle.ssh_model.proofs.Example.Limits.{open_refused_while_many_are_owed_row, open_while_few_are_owed_row, open_with_place_row, close_refused_while_many_are_owed_row, close_that_owes_nothing_row, many_row, many_are_owed_while_blocked_row, open_asked_without_place_row}
-use Rattle.ssh_model.proofs.examples.limits.Goals as goal
+use Rattle.ssh_model.proofs.examples.channels.limits.Goals as goal
 
 pub returns : goal.returns
 returns c = record {
