@@ -23,7 +23,7 @@ pipe: ## The same of ssh_pipe alone.
 	@sh tools/build.sh ssh_pipe
 
 embedding: ## The same of the client and the server that docs/EMBEDDING.md has in full.
-	@sh tools/build.sh ssh_embedding
+	@sh tools/build.sh example_embedding
 
 lib: ## Proves the library for C and leaves it as build/libdivrelca.a and build/libdivrelca.so, with its header: docs/C.md.
 	@sh tools/lib.sh
@@ -38,12 +38,12 @@ test: ## The whole gate, everything from nothing, a misuse that has to be refuse
 	@sh tools/misuse.sh
 	@python3 tools/cases.py
 	@python3 tools/pictures.py drawn
-	@PROGRAM=$(CURDIR)/crates/ssh_runs/out/ssh_runs sh tools/memory.sh
+	@PROGRAM=$(CURDIR)/crates/test_plays/out/test_plays sh tools/memory.sh
 	@sh tools/lib.sh test
 	@sh tools/bindings.sh test
 
 cases: ## Runs the programs on their cases: words, scripts, files, what they print, and exit statuses. The first time they are proved and built.
-	@sh tools/build.sh ssh_trace ssh_pipe ssh_embedding
+	@sh tools/build.sh ssh_trace ssh_pipe example_embedding
 	@python3 tools/cases.py
 	@python3 tools/pictures.py drawn
 

@@ -21,7 +21,7 @@ def table():
         ("edits that the gate tries, `must-fail/`", count("*/must-fail/*.edit")),
         ("edits of `make falsify`", count("*/falsify/*.edit")),
         ("cases of the programs", cases()),
-        ("scripts and recorded sessions of `ssh_runs`", count("ssh_runs/data/*")),
+        ("scripts and recorded sessions of `test_plays`", count("test_plays/data/*")),
     ]
     crates = sorted((TOP / "crates").glob("*/falsify"))
     edits = ", ".join(f"`{folder.parent.name}` {count(f'{folder.parent.name}/falsify/*.edit')}" for folder in crates)

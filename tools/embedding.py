@@ -1,4 +1,4 @@
-"""Keeps the program of docs/EMBEDDING.md what it is in crates/ssh_embedding.
+"""Keeps the program of docs/EMBEDDING.md what it is in crates/example_embedding.
 
     embedding.py write          puts its files and its line of crates.txt into the page
     embedding.py check          says whether the page has them as they are, and all of them; status 1 where not
@@ -14,7 +14,7 @@ from pathlib import Path
 
 TOP = Path(__file__).resolve().parent.parent
 PAGE = TOP / "docs/EMBEDDING.md"
-CRATE = "ssh_embedding"
+CRATE = "example_embedding"
 BLOCK = re.compile(r"(<!-- file (\S+) -->\n```\w+\n)(.*?)(```\n)", re.S)
 
 

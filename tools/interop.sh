@@ -23,10 +23,10 @@ packets=$((size / 32768 / 16))
 [ "$packets" -ge 64 ] || packets=64
 only=${ONLY:-}
 if [ -z "${SSH_PIPE:-}" ] && [ -z "$only" ]; then
-    sh "$tools/build.sh" ssh_trace ssh_pipe ssh_embedding || exit 2
+    sh "$tools/build.sh" ssh_trace ssh_pipe example_embedding || exit 2
     SSH_PIPE=$top/build/ssh_pipe
 fi
-embedding=$top/build/ssh_embedding
+embedding=$top/build/example_embedding
 work=$(mktemp -d)
 trap 'rm -rf "$work"' EXIT
 cd "$work" || exit 2
@@ -212,7 +212,7 @@ several() {
 # The server of docs/EMBEDDING.md, which is asked for a sign of life each second, and has to give it: the client gives up after two without.
 stays_alive() {
     local seen status answers
-    [ -x "$embedding" ] || { absent "build/ssh_embedding"; return; }
+    [ -x "$embedding" ] || { absent "build/example_embedding"; return; }
     seen=$( (sleep 10; echo alive) | PROXY="$embedding server $work/host reader $work/authorized" \
         stock -vvv -o ServerAliveInterval=1 -o ServerAliveCountMax=2 reader@example.org cat 2>log)
     status=$?

@@ -1,5 +1,5 @@
 #!/bin/sh
-# Runs four parts of a proved program, crates/ssh_runs, with each allocation refused in turn, until a run meets no refusal. The program says what
+# Runs four parts of a proved program, crates/test_plays, with each allocation refused in turn, until a run meets no refusal. The program says what
 # has to become of a run; the allocator under it refuses one allocation. Between the lines `taking` and `taken` of a run none may be refused, and a run
 # that met a refusal after its line `playing` may not do all the same. The last part has some 80,000 allocations: its first 50 are refused, and of the others each 499th. Wants a C
 # compiler. Ends with status 1 where a run went wrong. PROGRAM=FILE is that program where it is proved already, as the gate leaves it.
@@ -13,8 +13,8 @@ trap 'rm -rf "$work"' EXIT
 wrong=0
 program=${PROGRAM:-}
 if [ -z "$program" ]; then
-    program=$top/crates/ssh_runs/out/ssh_runs
-    (cd "$top/crates/ssh_runs" && "$rt" run -- calls)
+    program=$top/crates/test_plays/out/test_plays
+    (cd "$top/crates/test_plays" && "$rt" run -- calls)
 fi
 
 # Runs the part $1 so; after its first 50 allocations each one so far from the last as $2 says. Leaves the runs' statuses in a file, and counts those that

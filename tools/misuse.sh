@@ -16,7 +16,7 @@ line='rest = rest.get(turn.used..).unwrap_or(&[]);'
     exit 1
 }
 sed -i "s/^\( *\)\(rest = rest\.get(turn\.used\.\.)\.unwrap_or(&\[\]);\)$/\1end.feed_material([0; 16], [0; 32]);\n\1\2/" "$file"
-cd crates/ssh_runs
+cd crates/test_plays
 if "$rt" try --steps 1 </dev/null >"$copy/said" 2>&1; then
     echo "a turn is kept over the next call: not refused"
     exit 1

@@ -17,7 +17,7 @@ from pathlib import Path
 
 TOP = Path(__file__).resolve().parent.parent
 PROGRAM = TOP / "crates/ssh_trace_program/out/ssh_trace_program"
-SCRIPTS = ("examples/*.txt", "docs/pictures/*.txt", "crates/ssh_runs/data/*.txt")
+SCRIPTS = ("examples/*.txt", "docs/pictures/*.txt", "crates/test_plays/data/*.txt")
 SPACE = "{http://www.w3.org/2000/svg}"
 MOST_WIDE, MOST_HIGH, MOST_BYTES = 8600, 14000, 60000
 LONG = 6000

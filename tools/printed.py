@@ -147,7 +147,7 @@ def prepare(folder):
     (bin_folder / "ssh").chmod(0o755)
     for name in ("build", "examples"):
         (folder / name).symlink_to(TOP / name)
-    for program in ("ssh_pipe", "ssh_trace", "ssh_embedding"):
+    for program in ("ssh_pipe", "ssh_trace", "example_embedding"):
         (bin_folder / program).symlink_to(TOP / "build" / program)
     return {**os.environ, "PATH": f"{bin_folder}:{TOP / 'build'}:{os.environ['PATH']}:/usr/sbin"}
 

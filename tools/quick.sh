@@ -38,7 +38,7 @@ run_program() {
     set -- "$1" --
     said=$1
     cp stdout "$said.wanted"
-    if [ "$crate" = ssh_runs ]; then
+    if [ "$crate" = test_plays ]; then
         set -- "$@" unswept
         grep -v ' runs, ' stdout >"$said.wanted"
     fi
@@ -61,7 +61,7 @@ try_page() (
     python3 "$top/tools/embedding.py" tree "$work/page"
     cd "$work/page"
     git init -q .
-    cd crates/ssh_embedding
+    cd crates/example_embedding
     "$rt" try --steps 1 </dev/null >"$work/page.said" 2>&1 || true
     grep -q '^error: the words are ' "$work/page.said" || fail "the program of docs/EMBEDDING.md" "$work/page.said"
 )
@@ -100,13 +100,13 @@ mkdir "$work/strangers"
 python3 "$top/tools/stranger.py" "$work/strangers"
 python3 -B "$top/tools/limits.py" "$work/strangers"
 for script in "$work"/strangers/*; do
-    cmp "$script" "$top/crates/ssh_runs/data/$(basename "$script")" || fail "tools/stranger.py or tools/limits.py makes another script"
+    cmp "$script" "$top/crates/test_plays/data/$(basename "$script")" || fail "tools/stranger.py or tools/limits.py makes another script"
 done
 try_page &
 (sh "$top/tools/misuse.sh" || fail "a call that has to be refused is not") &
 # What takes the longest comes first: the tests of exchanges, the stored scripts, the program, the layers, and then the crates at the top, which are
 # compiled with all below them.
-crates="ssh_exchange_tests ssh_runs ssh_trace_program ssh_layer_runs ssh_bench $(sed 's/#.*//; s/:.*//; s/ .*//' "$top/crates.txt" | grep . | tac)"
+crates="test_exchanges test_plays ssh_trace_program test_layer_runs ssh_bench $(sed 's/#.*//; s/:.*//; s/ .*//' "$top/crates.txt" | grep . | tac)"
 mkdir "$work/taken"
 number=0
 while [ "$number" -lt "$jobs" ]; do

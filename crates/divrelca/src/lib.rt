@@ -49,7 +49,7 @@
 //!
 //! **An ask** goes by `asked`, which answers `Later` while keys are exchanged: keep the task, and ask again after the next `take`.
 //!
-//! The crate `ssh_embedding` is a whole client and a whole server, and docs/EMBEDDING.md has them in full, with tables of all events and
+//! The crate `example_embedding` is a whole client and a whole server, and docs/EMBEDDING.md has them in full, with tables of all events and
 //! refusals.
 #![tactic(auto)]
 

@@ -1,0 +1,124 @@
+//! A whole server and a whole client of SSH-2. Standard input is what the peer sends, and standard output what goes to it.
+//!
+//! - `example_embedding server HOST_KEY USER AUTHORIZED_KEYS` sends back what a client sends on its channel. Status 0.
+//! - sh_embedding client HOST_KEY.pub USER KEY TEXT` sends a text to `cat` at a server, and writes what comes back to standard error. The
+//! status
+//!   is that of `cat`.
+//!
+//! Status 255 says that a session didn't come to its end, and standard error says why. The keys are files of OpenSSH.
+#![tactic(auto)]
+
+mod asks;
+mod client;
+mod driving;
+mod flow;
+mod parts;
+mod server;
+
+use client::Client;
+use divrelca::{AcceptedKey, Ed25519Judge, Ed25519Signer, Ed25519Trust, KeySupply, UserAsk};
+use driving::drive;
+use parts::{client_end, server_end};
+use server::Server;
+use ssh_key_files::{authorized_keys, private_key, trusted_key};
+use std::io::{Read, Write};
+use std::process::ExitCode;
+use std::random::RandomSource;
+use std::rt::{Env, Files};
+use std::{env, fs};
+
+const USAGE: &str =
+    "the words are server HOST_KEY USER AUTHORIZED_KEYS, or client HOST_KEY.pub USER KEY TEXT";
+
+fn main(rt: HostRuntime) -> ExitCode {
+    let mut err = rt.stderr();
+    match run(&rt, &mut rt.stdin(), &mut rt.stdout(), &mut err) {
+        Ok(status) => ExitCode::from(status),
+        Err(error) => {
+            // Where even this can't be written, the status alone tells of the fault.
+            let _ = writeln!(err, "error: {error}");
+            ExitCode::from(255)
+        }
+    }
+}
+
+fn run<R: Env + Files + AllocGlobal + RandomSource, I: Read, O: Write, E: Write>(
+    rt: &R,
+    input: &mut I,
+    output: &mut O,
+    err: &mut E,
+) -> anyhow::Result<u8> {
+    let words: Vec<String> = env::args(rt)?.collect(rt.alloc())?;
+    match words.as_slice() {
+        [_, role, host_key, user, keys] if role.as_str() == "server" => {
+            serve(rt, host_key, user, keys, input, output)
+        }
+        [_, role, host_key, user, key, text] if role.as_str() == "client" => {
+            call(rt, [host_key, user, key, text], input, output, err)
+        }
+        _ => Err(anyhow::Error::msg(USAGE)),
+    }
+}
+
+// Serves one connection.
+fn serve<R: Files + AllocGlobal + RandomSource, I: Read, O: Write>(
+    rt: &R,
+    host_key: &str,
+    user: &str,
+    keys: &str,
+    input: &mut I,
+    output: &mut O,
+) -> anyhow::Result<u8> {
+    let alloc = rt.alloc();
+    let host_key = private_key(alloc, fs::read(rt, host_key)?.as_slice())?;
+    let mut accepted = Vec::new(alloc);
+    for public in authorized_keys(alloc, fs::read(rt, keys)?.as_slice())?.iter() {
+        accepted.push(AcceptedKey {
+            user: user.as_bytes(),
+            public: *public,
+        })?;
+    }
+    let judge = Ed25519Judge {
+        accepted: accepted.as_slice(),
+    };
+    let signer = Ed25519Signer::new(&host_key.seed);
+    let mut supply = KeySupply::new(rt);
+    let mut out = Vec::new(alloc);
+    let mut end = server_end(alloc, &mut supply, signer, judge, &mut out)?;
+    let mut server = Server::new(alloc);
+    match drive(&mut end, &mut supply, &mut server, input, output, out)? {
+        Some(refusal) => Err(anyhow::Error::msg(refusal)),
+        None => Ok(0),
+    }
+}
+
+// Sends the text, and shows what comes back.
+fn call<R: Files + AllocGlobal + RandomSource, I: Read, O: Write, E: Write>(
+    rt: &R,
+    words: [&str; 4],
+    input: &mut I,
+    output: &mut O,
+    err: &mut E,
+) -> anyhow::Result<u8> {
+    let [host_key, user, key, text] = words;
+    let alloc = rt.alloc();
+    let host_trust = Ed25519Trust {
+        public: trusted_key(fs::read(rt, host_key)?.as_slice(), None)?,
+    };
+    let key = private_key(alloc, fs::read(rt, key)?.as_slice())?;
+    let signer = Ed25519Signer::new(&key.seed);
+    let login = UserAsk::Sign {
+        user: user.as_bytes(),
+        algorithm: b"ssh-ed25519",
+        key: signer.public_key(),
+    };
+    let mut supply = KeySupply::new(rt);
+    let mut out = Vec::new(alloc);
+    let mut end = client_end(alloc, &mut supply, host_trust, signer, &mut out)?;
+    let mut client = Client::new(alloc, login, text.as_bytes());
+    if let Some(refusal) = drive(&mut end, &mut supply, &mut client, input, output, out)? {
+        return Err(anyhow::Error::msg(refusal));
+    }
+    err.write_all(client.read.as_slice())?;
+    client.status.ok_or_else(|| anyhow::Error::msg("the session ended before the command did"))
+}

@@ -1,0 +1,133 @@
+//! The channels of one end. `new` makes new ones, `ask` and an ask is what a user asks, `take` and a payload a message of the peer, `owed`
+//! gives the oldest reply that a key exchange held back, and `show` and a number shows a channel. `blocked` before it does it within a key
+//! exchange, and `due` where one is due.
+
+ghost use Rattle.std.specs.Prelude.{IfSome};
+ghost use Rattle.ssh_message.specs.Written.{Fits};
+
+use crate::call::{ask_of, ask_refused, message_of, refused, sent};
+use crate::lines::{Layer, Problem, bytes_of, parsed};
+use ssh_channels::{AskError, Channels, Fact, Reply, TakeError};
+use ssh_end::Ask;
+use ssh_message::Message;
+use std::alloc::{AllocError, Global};
+
+/// Channels that are told lines.
+#[derive(Drop)]
+pub struct ChannelLines {
+    alloc: Global,
+    channels: Channels,
+    // In the line that is told, a key exchange is under way, or due.
+    is_blocked: bool,
+    is_due: bool,
+}
+
+impl ChannelLines {
+    /// Lines of channels, of which nothing was played.
+    ///
+    /// # Errors
+    ///
+    /// Only where memory is refused.
+    pub fn new(alloc: Global) -> Result<ChannelLines, AllocError> {
+        let channels = Channels::new(alloc)?;
+        Ok(ChannelLines {
+            alloc,
+            channels,
+            is_blocked: false,
+            is_due: false,
+        })
+    }
+
+    fn asked(&mut self, words: &str) -> Result<String, Problem> {
+        let ask = ask_of(self.alloc, words)?;
+        let Ask::Connection(ask) = ask.to_ask() else {
+            return Err(Problem::NotALine);
+        };
+        match self.channels.ask(&ask, self.is_blocked, self.is_due) {
+            Ok(sent) => told(self.alloc, sent.channel, Some(sent.message), sent.fact),
+            Err(AskError::Refused(refusal)) => ask_refused(self.alloc, refusal),
+            Err(AskError::Memory) => Err(Problem::from(AllocError)),
+        }
+    }
+
+    fn taken(&mut self, digits: &str) -> Result<String, Problem> {
+        let payload = bytes_of(self.alloc, digits)?;
+        let message = message_of(self.alloc, false, &payload)?;
+        match self.channels.take(&message, self.is_blocked) {
+            Ok(taken) => {
+                let reply = taken.reply.map(|reply| reply.message());
+                told(self.alloc, taken.channel, reply, taken.fact)
+            }
+            Err(TakeError::Refused(refusal)) => refused(self.alloc, refusal),
+            Err(TakeError::Memory) => Err(Problem::from(AllocError)),
+        }
+    }
+
+    fn owed(&mut self) -> Result<String, Problem> {
+        match self.channels.unblock() {
+            Some(reply) => told(self.alloc, reply.channel(), Some(reply.message()), None),
+            None => Ok(String::from_str(self.alloc, "nothing")?),
+        }
+    }
+
+    // A line without the words before it.
+    fn unmarked<'a>(&mut self, line: &'a str) -> &'a str {
+        let behind_blocked = line.strip_prefix("blocked ");
+        self.is_blocked = behind_blocked.is_some();
+        let line = behind_blocked.unwrap_or(line);
+        let behind_due = line.strip_prefix("due ");
+        self.is_due = behind_due.is_some();
+        behind_due.unwrap_or(line)
+    }
+
+    // How a channel stands, the window left for data of this end, and how many are in use.
+    fn shown(&self, number: &str) -> Result<String, Problem> {
+        let number = parsed(number)?;
+        let state = self.channels.state(number);
+        let room = self.channels.room(number);
+        let count = self.channels.count();
+        Ok(format!(in self.alloc; "{state:?} {room:?} {count}")?)
+    }
+}
+
+impl Layer for ChannelLines {
+    fn said_to(&mut self, line: &str) -> Result<String, Problem> {
+        let line = self.unmarked(line);
+        match line {
+            "new" => {
+                self.channels = Channels::new(self.alloc)?;
+                Ok(String::new(self.alloc))
+            }
+            "owed" => self.owed(),
+            _ => match line.split_once(' ') {
+                Some(("ask", words)) => self.asked(words),
+                Some(("take", digits)) => self.taken(digits),
+                Some(("show", number)) => self.shown(number),
+                _ => Err(Problem::NotALine),
+            },
+        }
+    }
+}
+
+// A channel, what is sent on it, and what is told of it.
+fn told(
+    alloc: Global,
+    channel: Option<u32>,
+    message: Option<Message<'_>>,
+    fact: Option<Fact<'_>>,
+) -> Result<String, Problem>
+    requires { IfSome message (λ m. Fits m) }
+{
+    let mut text = String::new(alloc);
+    match channel {
+        Some(channel) => write!(text, "{channel}:")?,
+        None => text.push_str("-:")?,
+    }
+    if let Some(message) = message {
+        write!(text, " {}", sent(alloc, &message)?)?;
+    }
+    if let Some(fact) = fact {
+        write!(text, " told {fact:?}")?;
+    }
+    Ok(text)
+}

@@ -1,0 +1,245 @@
+//! The layers above the transports of a server and of a client, authentication and channels in one. `server`, a number and a list makes
+//! those of a server that lets so many requests fail and names these methods, `client` those of a client, and `open` and a letter is for
+//! SERVICE_ACCEPT. `s take` and a payload from 50 on is one that the server's layers take, of the packet with the number 9, and `c take`
+//! one of the client's; `s ask` and `c ask` what their users ask; `s owed` and `c owed` give the oldest reply that a key exchange held
+//! back. `blocked` before it does it within a key exchange, and `in` once the user is authenticated. The user `u` has the password `p`.
+
+ghost use Rattle.std.specs.Prelude.{◌≡◌, ◌≤◌, true, IfSome};
+ghost use Rattle.ssh_model.specs.Protocol.Sessions.Turns.{number_of};
+ghost use Rattle.ssh_message.specs.Written.{Fits};
+ghost use Rattle.ssh_layers.specs.Layers.{IsShort};
+
+use crate::call::{ask_of, ask_refused, refused, sent};
+use crate::lines::{Layer, Problem, bytes_of, parsed};
+use crate::logins::methods;
+use ssh_auth::AskError as UserAskError;
+use ssh_channels::{AskError, Reply};
+use ssh_end::Ask;
+use ssh_layers::{Below, ClientLayers, LayerFault, ServerLayerAnswer, ServerLayers, ask_channels};
+use ssh_message::Message;
+use ssh_toys::{ToyCredential, ToyJudge, ToyUserSigner};
+use ssh_types::AskRefusal;
+use std::alloc::{AllocError, Global};
+use std::fmt::Debug;
+
+const SESSION: [u8; 32] = [7; 32];
+
+// The number of a packet whose payload is taken.
+const NUMBER: u32 = 9;
+
+const JUDGE: ToyJudge<'static> = ToyJudge {
+    credentials: &[ToyCredential::Password {
+        user: b"u",
+        word: b"p",
+    }],
+};
+
+/// Layers of a server and of a client that are told lines.
+#[derive(Drop)]
+pub struct LayerLines {
+    alloc: Global,
+    // None until a line makes them.
+    server: Option<ServerLayers>,
+    client: ClientLayers,
+}
+
+impl LayerLines {
+    /// Lines of both layers, of which nothing was played.
+    ///
+    /// # Errors
+    ///
+    /// Only where memory is refused.
+    pub fn new(alloc: Global) -> Result<LayerLines, AllocError> {
+        Ok(LayerLines {
+            alloc,
+            server: None,
+            client: ClientLayers::new(alloc)?,
+        })
+    }
+
+    fn made(&mut self, tries: &str, names: &str) -> Result<String, Problem> {
+        let tries = parsed(tries)?;
+        self.server = Some(ServerLayers::new(self.alloc, tries, &methods(names)?)?);
+        Ok(String::new(self.alloc))
+    }
+
+    fn opened(&mut self, letter: &str) -> Result<String, Problem> {
+        match (letter, &mut self.server) {
+            ("s", Some(server)) => server.open(),
+            ("c", _) => self.client.open(),
+            _ => return Err(Problem::NotALine),
+        }
+        Ok(String::new(self.alloc))
+    }
+
+    fn of_server(&mut self, below: &Below<'_>, text: &str) -> Result<String, Problem> {
+        let Some(server) = &mut self.server else {
+            return Err(Problem::NotALine);
+        };
+        match text.split_once(' ') {
+            Some(("take", digits)) => served(self.alloc, server, below, digits),
+            None if text == "owed" => given(self.alloc, server.channels.unblock()),
+            _ => Err(Problem::NotALine),
+        }
+    }
+
+    fn of_client(&mut self, below: &Below<'_>, text: &str) -> Result<String, Problem> {
+        match text.split_once(' ') {
+            Some(("take", digits)) => heard(self.alloc, &mut self.client, below, digits),
+            None if text == "owed" => given(self.alloc, self.client.channels.unblock()),
+            _ => Err(Problem::NotALine),
+        }
+    }
+
+    // What a user of the server or of the client asks.
+    fn asked(&mut self, below: &Below<'_>, letter: &str, words: &str) -> Result<String, Problem> {
+        let ask = ask_of(self.alloc, words)?;
+        let answer = match (ask.to_ask(), letter, &mut self.server) {
+            (Ask::Connection(ask), "s", Some(server)) => ask_channels(
+                &mut server.channels,
+                below,
+                &ask,
+                false,
+            ),
+            (Ask::Connection(ask), "c", _) => ask_channels(
+                &mut self.client.channels,
+                below,
+                &ask,
+                false,
+            ),
+            (Ask::User(ask), "c", _) => {
+                return match self
+                    .client
+                    .authentication
+                    .ask(below.session, &ToyUserSigner, &ask)
+                {
+                    Ok(request) => sent(self.alloc, &request.message()),
+                    Err(UserAskError::Refused(why)) => {
+                        ask_refused(self.alloc, AskRefusal::from(why))
+                    }
+                    Err(UserAskError::Memory) => Err(Problem::from(AllocError)),
+                };
+            }
+            _ => return Err(Problem::NotALine),
+        };
+        match answer {
+            Ok(given) => sent(self.alloc, &given.message),
+            Err(AskError::Refused(why)) => ask_refused(self.alloc, why),
+            Err(AskError::Memory) => Err(Problem::from(AllocError)),
+        }
+    }
+}
+
+impl Layer for LayerLines {
+    fn said_to(&mut self, line: &str) -> Result<String, Problem> {
+        let behind_blocked = line.strip_prefix("blocked ");
+        let line = behind_blocked.unwrap_or(line);
+        let behind_in = line.strip_prefix("in ");
+        let line = behind_in.unwrap_or(line);
+        let below = Below {
+            session: &SESSION,
+            blocked: behind_blocked.is_some(),
+            authenticated: behind_in.is_some(),
+        };
+        if line == "client" {
+            self.client = ClientLayers::new(self.alloc)?;
+            return Ok(String::new(self.alloc));
+        }
+        let Some((word, rest)) = line.split_once(' ') else {
+            return Err(Problem::NotALine);
+        };
+        match (word, rest.split_once(' ')) {
+            ("server", Some((tries, names))) => self.made(tries, names),
+            ("open", None) => self.opened(rest),
+            ("s", Some(("ask", words))) | ("c", Some(("ask", words))) => {
+                self.asked(&below, word, words)
+            }
+            ("s", _) => self.of_server(&below, rest),
+            ("c", _) => self.of_client(&below, rest),
+            _ => Err(Problem::NotALine),
+        }
+    }
+}
+
+// What a server's layers make of a payload.
+fn served(
+    alloc: Global,
+    server: &mut ServerLayers,
+    below: &Below<'_>,
+    digits: &str,
+) -> Result<String, Problem> {
+    let payload = bytes_of(alloc, digits)?;
+    if !is_above(&payload) {
+        return Err(Problem::NotALine);
+    }
+    match server.take(&JUDGE, below, &payload) {
+        Ok(taken) => answered(alloc, server, &taken.answer),
+        Err(fault) => faulted(alloc, fault),
+    }
+}
+
+fn answered(
+    alloc: Global,
+    server: &ServerLayers,
+    answer: &ServerLayerAnswer<'_>,
+) -> Result<String, Problem>
+    requires { IsShort answer.now }
+{
+    told(alloc, answer, server.message(answer, NUMBER))
+}
+
+// What a client's make of one.
+fn heard(
+    alloc: Global,
+    client: &mut ClientLayers,
+    below: &Below<'_>,
+    digits: &str,
+) -> Result<String, Problem> {
+    let payload = bytes_of(alloc, digits)?;
+    if !is_above(&payload) {
+        return Err(Problem::NotALine);
+    }
+    match client.take(below, &payload) {
+        Ok(taken) => told(alloc, &taken.answer, client.message(&taken.answer, NUMBER)),
+        Err(fault) => faulted(alloc, fault),
+    }
+}
+
+// A payload is one for the layers above a transport.
+fn is_above(payload: &[u8]) -> bool
+    ensures { result ≡ true → 50 ≤ number_of payload.now }
+{
+    match payload.first() {
+        Some(number) => 50 <= *number,
+        None => false,
+    }
+}
+
+// What is answered, and what is sent for it.
+fn told<A: Debug>(
+    alloc: Global,
+    answer: &A,
+    message: Option<Message<'_>>,
+) -> Result<String, Problem>
+    requires { IfSome message (λ m. Fits m) }
+{
+    match message {
+        Some(message) => Ok(format!(in alloc; "{answer:?} {}", sent(alloc, &message)?)?),
+        None => Ok(format!(in alloc; "{answer:?}")?),
+    }
+}
+
+fn faulted(alloc: Global, fault: LayerFault) -> Result<String, Problem> {
+    match fault {
+        LayerFault::Refused(refusal) => refused(alloc, refusal),
+        LayerFault::Memory => Err(Problem::from(AllocError)),
+    }
+}
+
+// A reply that was owed.
+fn given(alloc: Global, reply: Option<Reply>) -> Result<String, Problem> {
+    match reply {
+        Some(reply) => sent(alloc, &reply.message()),
+        None => Ok(String::from_str(alloc, "nothing")?),
+    }
+}
