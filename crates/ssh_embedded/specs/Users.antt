@@ -8,6 +8,10 @@ use Rattle.ssh_embedded.specs.declared.users.Login.{Login}
 use Rattle.ssh_embedded.specs.declared.users.Login.TheVariants as login
 use Rattle.ssh_embedded.specs.declared.users.User.{User}
 
+-- an entry as it was handed in: its name, and what lets in
+abbrev pub entry_of : User → List ℕ × Login
+entry_of user = (user.name.items, user.login)
+
 -- by what an entry of this name lets in: the word is its password, and the user is of that name
 abbrev pub is_word : (name : List ℕ) → (user word : List ℕ) → Login → Bool
 is_word name user word (login.Password hash) = is_password name (Some hash) user word

@@ -1,7 +1,7 @@
 //! Whom a server lets in.
 
-ghost use Rattle.std.specs.Prelude.{◌≡◌};
-ghost use Rattle.ssh_embedded.specs.Users.{has_key, has_password, verdicts_for};
+ghost use Rattle.std.specs.Prelude.{◌≡◌, ◌++◌, IfErr, IfOk, [], ◌∷◌, map};
+ghost use Rattle.ssh_embedded.specs.Users.{entry_of, has_key, has_password, verdicts_for};
 
 use crate::making::MakeError;
 use ed25519::is_small_order;
@@ -34,7 +34,9 @@ pub struct Users {
 
 impl Users {
     /// No user.
-    pub fn new(alloc: Global) -> Users {
+    pub fn new(alloc: Global) -> Users
+        ensures { result.list.items ≡ [] }
+    {
         Users {
             list: Vec::new(alloc),
         }
@@ -47,7 +49,12 @@ impl Users {
     /// - `Login`: the name has no bytes.
     /// - `Key`: the key is a point of small order.
     /// - `Memory`: memory was refused.
-    pub fn add(&mut self, alloc: Global, name: &[u8], login: Login) -> Result<(), MakeError> {
+    pub fn add(&mut self, alloc: Global, name: &[u8], login: Login) -> Result<(), MakeError>
+        ensures added { IfOk result (λ done.
+            map entry_of self.new.list.items ≡ map entry_of self.old.list.items ++ (name.now, login) ∷ []) }
+        ensures named { IfOk result (λ done. name.now ≡ [] → ⊥) }
+        ensures kept { IfErr result (λ error. self.new.list.items ≡ self.old.list.items) }
+    {
         if name.is_empty() {
             return Err(MakeError::Login);
         }
