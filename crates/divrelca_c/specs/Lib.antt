@@ -4,3 +4,4 @@ pub mod Events
 pub mod Files
 pub mod Handles
 pub mod Lent
+pub mod Making

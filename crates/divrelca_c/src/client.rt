@@ -1,23 +1,28 @@
 //! What C calls of a client.
 
-ghost use Rattle.std.specs.Prelude.{◌≡◌, ◌≤◌, None, [], drop, false, length, nat_le, pos, true};
+ghost use Rattle.std.specs.Prelude.{◌≡◌, ◌≤◌, IfErr, IfOk, None, [], drop, false, length, nat_le, pos, true};
+ghost use Rattle.std.specs.Option.{IfSome, option_map};
 ghost use Rattle.std.specs.VecDeque.{deque_len};
 ghost use Rattle.divrelca_c.specs.Asks.{ClientAnswers, ClientWorks};
 ghost use Rattle.divrelca_c.specs.Events.{ShowsTurn};
+ghost use Rattle.divrelca_c.specs.Making.{IsClientSettings, client_settings, user_by};
 ghost use Rattle.ssh_embedded.specs.Forms.{form_asks};
 ghost use Rattle.ssh_embedded.specs.Queues.{IsDeclined, IsGivenBack, IsQueued};
 ghost use Rattle.ssh_embedded.specs.Windows.{bytes_in};
+ghost use Rattle.ssh_end.specs.Ends.{IsNewClient};
 ghost use Rattle.ssh_end.specs.Steps.{shown_by};
+ghost use Rattle.ssh_end.specs.declared.step.Step.TheVariants as step;
 ghost use Rattle.ssh_model.specs.State.Channels.Places.{at, shown_room};
 ghost use Rattle.ssh_model.specs.State.TransportLayer.Kept.{after_fed, can_be_fed};
+ghost use Rattle.ssh_parts.specs.AesGcm.{aes_gcm};
 
 use crate::bytes::{DvBytes, DvClientSettings, DvMaterial};
-use crate::client_handle::DvClient;
+use crate::client_handle::{DvClient, DvNewClient};
 use crate::codes::{
     BAD_SIZE, DONE, MEMORY, NOTHING_QUEUED, answer, code_form, code_made, code_of, code_taken,
 };
 use crate::event::{DvEvent, event_of};
-use crate::making::{ciphers_in, key_in, signer_in};
+use crate::making::{ciphers_in, key_in, user_in};
 use ssh_embedded::{AskForm, Client, ClientSettings, Material, Waiting};
 use std::alloc::Global;
 
@@ -28,17 +33,29 @@ const SETTINGS: usize = 64;
 #[unsafe(no_mangle)]
 pub extern "C" fn dv_client_new(
     alloc: Global,
-    out: &mut *mut u8,
+    out: &mut DvNewClient,
     settings: &DvClientSettings<'_>,
     first: &DvMaterial,
     padding: &[u8; 32],
 ) -> i32
     ensures none { (result ≡ pos 0 → ⊥) → out.new ≡ out.old }
+    ensures some { result ≡ pos 0 → out.new.value ≡ None → ⊥ }
+    ensures opened { result ≡ pos 0 → IfSome out.new.value (λ made. IsNewClient aes_gcm (client_settings settings.now)
+        first.now.cookie first.now.secret made.state.end.machine made.state.end.layers [] made.state.out.items made.state.end.sent) }
+    ensures step { result ≡ pos 0 → IfSome out.new.value (λ made. made.state.end.step ≡ step.More) }
+    ensures host { result ≡ pos 0 →
+        IfSome out.new.value (λ made. made.state.end.role.exchange.host_trust.public ≡ settings.now.host_key.now) }
+    ensures user { result ≡ pos 0 →
+        IfSome out.new.value (λ made. made.state.end.role.user.signer ≡ user_by settings.now.user_seed.now) }
+    ensures key { result ≡ pos 0 →
+        IfSome out.new.value (λ made. made.state.key ≡ option_map (λ signer. signer.key) (user_by settings.now.user_seed.now)) }
+    ensures waiting { result ≡ pos 0 → IfSome out.new.value (λ made. made.state.waiting.items ≡ []) }
+    ensures settings { result ≡ pos 0 → IsClientSettings settings.now }
 {
     match made(alloc, settings, first, padding) {
         Ok(client) => match Box::new(alloc, client) {
             Ok(boxed) => {
-                *out = Box::into_raw(boxed) as *mut u8;
+                *out = DvNewClient::of(boxed);
                 DONE
             }
             Err(_) => MEMORY,
@@ -53,15 +70,21 @@ fn made(
     given: &DvClientSettings<'_>,
     first: &DvMaterial,
     padding: &[u8; 32],
-) -> Result<Client, i32> {
+) -> Result<Client, i32>
+    ensures opened { IfOk result (λ made. IsNewClient aes_gcm (client_settings given.now)
+        first.now.cookie first.now.secret made.state.end.machine made.state.end.layers [] made.state.out.items made.state.end.sent) }
+    ensures step { IfOk result (λ made. made.state.end.step ≡ step.More) }
+    ensures host { IfOk result (λ made. made.state.end.role.exchange.host_trust.public ≡ given.now.host_key.now) }
+    ensures user { IfOk result (λ made. made.state.end.role.user.signer ≡ user_by given.now.user_seed.now) }
+    ensures key { IfOk result (λ made. made.state.key ≡ option_map (λ signer. signer.key) (user_by given.now.user_seed.now)) }
+    ensures waiting { IfOk result (λ made. made.state.waiting.items ≡ []) }
+    ensures settings { IfOk result (λ made. IsClientSettings given.now) }
+    ensures fails { IfErr result (λ code. code ≡ pos 0 → ⊥) }
+{
     if given.size != SETTINGS {
         return Err(BAD_SIZE);
     }
-    let user = if given.user_seed.is_empty() {
-        None
-    } else {
-        Some(signer_in(given.user_seed)?)
-    };
+    let user = user_in(given.user_seed)?;
     let settings = ClientSettings {
         software: given.software,
         epoch_limit: given.epoch_limit,

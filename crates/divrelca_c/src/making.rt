@@ -1,5 +1,10 @@
 //! Settings that C passes.
 
+ghost use Rattle.std.specs.Prelude.{◌≡◌, ◌++◌, All, IfErr, IfOk, [], ◌∷◌, length, map, pos};
+ghost use Rattle.divrelca_c.specs.Making.{IsChoice, IsEntry, ciphers_by, entry_by, login_by, methods_by, user_by};
+ghost use Rattle.ssh_embedded.specs.Users.{entry_of};
+ghost use Rattle.ssh_parts.specs.Ed25519.{signer_of};
+
 use crate::bytes::DvUser;
 use crate::codes::{BAD_CIPHERS, BAD_KEY, BAD_LOGIN, BAD_METHODS, code_made};
 use ssh_embedded::{Login, Methods, Users};
@@ -12,7 +17,11 @@ use std::alloc::Global;
 /// # Errors
 ///
 /// `BAD_KEY`: there are more or fewer bytes.
-pub fn key_in(bytes: &[u8]) -> Result<[u8; 32], i32> {
+pub fn key_in(bytes: &[u8]) -> Result<[u8; 32], i32>
+    ensures key { IfOk result (λ key. key ≡ bytes.now) }
+    ensures size { IfOk result (λ key. length bytes.now ≡ 32) }
+    ensures fails { IfErr result (λ code. code ≡ pos 0 → ⊥) }
+{
     <[u8; 32]>::try_from(bytes).map_err(|_| BAD_KEY)
 }
 
@@ -21,9 +30,30 @@ pub fn key_in(bytes: &[u8]) -> Result<[u8; 32], i32> {
 /// # Errors
 ///
 /// `BAD_KEY`: there are more or fewer bytes.
-pub fn signer_in(seed: &[u8]) -> Result<Ed25519Signer, i32> {
+pub fn signer_in(seed: &[u8]) -> Result<Ed25519Signer, i32>
+    ensures signer { IfOk result (λ signer. signer ≡ signer_of seed.now) }
+    ensures size { IfOk result (λ signer. length seed.now ≡ 32) }
+    ensures fails { IfErr result (λ code. code ≡ pos 0 → ⊥) }
+{
     let seed = key_in(seed)?;
     Ok(Ed25519Signer::new(&seed))
+}
+
+/// The key pair of a user, or none where there are no bytes.
+///
+/// # Errors
+///
+/// `BAD_KEY`: there are bytes, and not 32.
+pub fn user_in(seed: &[u8]) -> Result<Option<Ed25519Signer>, i32>
+    ensures user { IfOk result (λ user. user ≡ user_by seed.now) }
+    ensures size { IfOk result (λ user. (seed.now ≡ [] → ⊥) → length seed.now ≡ 32) }
+    ensures fails { IfErr result (λ code. code ≡ pos 0 → ⊥) }
+{
+    if seed.is_empty() {
+        Ok(None)
+    } else {
+        Ok(Some(signer_in(seed)?))
+    }
 }
 
 /// The methods of authentication, by their bits: 1 for keys, 2 for passwords.
@@ -31,7 +61,11 @@ pub fn signer_in(seed: &[u8]) -> Result<Ed25519Signer, i32> {
 /// # Errors
 ///
 /// `BAD_METHODS`: no bit is set, or another one.
-pub fn methods_in(methods: u32) -> Result<Methods, i32> {
+pub fn methods_in(methods: u32) -> Result<Methods, i32>
+    ensures methods { IfOk result (λ made. made ≡ methods_by methods) }
+    ensures choice { IfOk result (λ made. IsChoice methods) }
+    ensures fails { IfErr result (λ code. code ≡ pos 0 → ⊥) }
+{
     match methods {
         1 => Ok(Methods::Key),
         2 => Ok(Methods::Password),
@@ -45,7 +79,11 @@ pub fn methods_in(methods: u32) -> Result<Methods, i32> {
 /// # Errors
 ///
 /// `BAD_CIPHERS`: no bit is set, or another one.
-pub fn ciphers_in(ciphers: u32) -> Result<Ciphers, i32> {
+pub fn ciphers_in(ciphers: u32) -> Result<Ciphers, i32>
+    ensures ciphers { IfOk result (λ made. made ≡ ciphers_by ciphers) }
+    ensures choice { IfOk result (λ made. IsChoice ciphers) }
+    ensures fails { IfErr result (λ code. code ≡ pos 0 → ⊥) }
+{
     match ciphers {
         1 => Ok(Ciphers::Aes128),
         2 => Ok(Ciphers::Aes256),
@@ -55,12 +93,26 @@ pub fn ciphers_in(ciphers: u32) -> Result<Ciphers, i32> {
 }
 
 // What lets a user in.
-fn login_in(user: &DvUser<'_>) -> Result<Login, i32> {
+fn login_in(user: &DvUser<'_>) -> Result<Login, i32>
+    ensures login { IfOk result (λ made. made ≡ login_by user.now) }
+    ensures kind { IfOk result (λ made. IsEntry user.now) }
+    ensures fails { IfErr result (λ code. code ≡ pos 0 → ⊥) }
+{
     match user.kind {
         1 => Ok(Login::Key(key_in(user.login)?)),
         2 if !user.login.is_empty() => Ok(Login::Password(PasswordHash::new(user.login))),
         _ => Err(BAD_LOGIN),
     }
+}
+
+// One user more.
+fn add_user(users: &mut Users, alloc: Global, user: &DvUser<'_>) -> Result<(), i32>
+    ensures added { IfOk result (λ done. map entry_of users.new.list.items ≡ map entry_of users.old.list.items ++ entry_by user.now ∷ []) }
+    ensures entry { IfOk result (λ done. IsEntry user.now) }
+    ensures fails { IfErr result (λ code. code ≡ pos 0 → ⊥) }
+{
+    let login = login_in(user)?;
+    users.add(alloc, user.name, login).map_err(code_made)
 }
 
 /// The users, each with a key or a password.
@@ -70,11 +122,14 @@ fn login_in(user: &DvUser<'_>) -> Result<Login, i32> {
 /// - `BAD_LOGIN`: an entry is of neither kind, or its name or its password is empty.
 /// - `BAD_KEY`: a key does not have 32 bytes, or is a point of small order.
 /// - `MEMORY`: memory was refused.
-pub fn users_in(alloc: Global, given: &[DvUser<'_>]) -> Result<Users, i32> {
+pub fn users_in(alloc: Global, given: &[DvUser<'_>]) -> Result<Users, i32>
+    ensures users { IfOk result (λ users. map entry_of users.list.items ≡ map entry_by given.now) }
+    ensures entries { IfOk result (λ users. All IsEntry given.now) }
+    ensures fails { IfErr result (λ code. code ≡ pos 0 → ⊥) }
+{
     let mut users = Users::new(alloc);
     for user in given {
-        let login = login_in(user)?;
-        users.add(alloc, user.name, login).map_err(code_made)?;
+        add_user(&mut users, alloc, user)?;
     }
     Ok(users)
 }

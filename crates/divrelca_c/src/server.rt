@@ -1,15 +1,22 @@
 //! What C calls of a server.
 
-ghost use Rattle.std.specs.Prelude.{◌≡◌, ◌≤◌, None, [], drop, false, length, nat_le, pos, true};
+ghost use Rattle.std.specs.Prelude.{◌≡◌, ◌≤◌, IfErr, IfOk, None, [], drop, false, length, map, nat_le, pos, true};
+ghost use Rattle.std.specs.Option.{IfSome};
 ghost use Rattle.std.specs.VecDeque.{deque_len};
 ghost use Rattle.divrelca_c.specs.Asks.{ServerAnswers, ServerWorks};
 ghost use Rattle.divrelca_c.specs.Events.{ShowsTurn};
+ghost use Rattle.divrelca_c.specs.Making.{IsServerSettings, entry_by, server_settings};
 ghost use Rattle.ssh_embedded.specs.Forms.{form_asks};
 ghost use Rattle.ssh_embedded.specs.Queues.{IsDeclined, IsGivenBack, IsQueued};
+ghost use Rattle.ssh_embedded.specs.Users.{entry_of};
 ghost use Rattle.ssh_embedded.specs.Windows.{bytes_in};
+ghost use Rattle.ssh_end.specs.Ends.{IsNewServer};
 ghost use Rattle.ssh_end.specs.Steps.{shown_by};
+ghost use Rattle.ssh_end.specs.declared.step.Step.TheVariants as step;
 ghost use Rattle.ssh_model.specs.State.Channels.Places.{at, shown_room};
 ghost use Rattle.ssh_model.specs.State.TransportLayer.Kept.{after_fed, can_be_fed};
+ghost use Rattle.ssh_parts.specs.AesGcm.{aes_gcm};
+ghost use Rattle.ssh_parts.specs.Ed25519.{signer_of};
 
 use crate::bytes::{DvBytes, DvMaterial, DvServerSettings};
 use crate::codes::{
@@ -17,7 +24,7 @@ use crate::codes::{
 };
 use crate::event::{DvEvent, event_of};
 use crate::making::{ciphers_in, methods_in, signer_in, users_in};
-use crate::server_handle::DvServer;
+use crate::server_handle::{DvNewServer, DvServer};
 use ssh_embedded::{AskForm, Material, Server, ServerSettings, Waiting};
 use std::alloc::Global;
 
@@ -28,17 +35,28 @@ const SETTINGS: usize = 72;
 #[unsafe(no_mangle)]
 pub extern "C" fn dv_server_new(
     alloc: Global,
-    out: &mut *mut u8,
+    out: &mut DvNewServer,
     settings: &DvServerSettings<'_>,
     first: &DvMaterial,
     padding: &[u8; 32],
 ) -> i32
     ensures none { (result ≡ pos 0 → ⊥) → out.new ≡ out.old }
+    ensures some { result ≡ pos 0 → out.new.value ≡ None → ⊥ }
+    ensures opened { result ≡ pos 0 → IfSome out.new.value (λ made. IsNewServer aes_gcm (server_settings settings.now)
+        first.now.cookie first.now.secret made.state.end.machine made.state.end.layers [] made.state.out.items made.state.end.sent) }
+    ensures step { result ≡ pos 0 → IfSome out.new.value (λ made. made.state.end.step ≡ step.More) }
+    ensures host { result ≡ pos 0 →
+        IfSome out.new.value (λ made. made.state.end.role.exchange.host_signer ≡ signer_of settings.now.host_seed.now) }
+    ensures users { result ≡ pos 0 →
+        IfSome out.new.value (λ made. map entry_of made.state.end.role.user.list.items ≡ map entry_by settings.now.users.now) }
+    ensures key { result ≡ pos 0 → IfSome out.new.value (λ made. made.state.key ≡ None) }
+    ensures waiting { result ≡ pos 0 → IfSome out.new.value (λ made. made.state.waiting.items ≡ []) }
+    ensures settings { result ≡ pos 0 → IsServerSettings settings.now }
 {
     match made(alloc, settings, first, padding) {
         Ok(server) => match Box::new(alloc, server) {
             Ok(boxed) => {
-                *out = Box::into_raw(boxed) as *mut u8;
+                *out = DvNewServer::of(boxed);
                 DONE
             }
             Err(_) => MEMORY,
@@ -53,7 +71,17 @@ fn made(
     given: &DvServerSettings<'_>,
     first: &DvMaterial,
     padding: &[u8; 32],
-) -> Result<Server, i32> {
+) -> Result<Server, i32>
+    ensures opened { IfOk result (λ made. IsNewServer aes_gcm (server_settings given.now)
+        first.now.cookie first.now.secret made.state.end.machine made.state.end.layers [] made.state.out.items made.state.end.sent) }
+    ensures step { IfOk result (λ made. made.state.end.step ≡ step.More) }
+    ensures host { IfOk result (λ made. made.state.end.role.exchange.host_signer ≡ signer_of given.now.host_seed.now) }
+    ensures users { IfOk result (λ made. map entry_of made.state.end.role.user.list.items ≡ map entry_by given.now.users.now) }
+    ensures key { IfOk result (λ made. made.state.key ≡ None) }
+    ensures waiting { IfOk result (λ made. made.state.waiting.items ≡ []) }
+    ensures settings { IfOk result (λ made. IsServerSettings given.now) }
+    ensures fails { IfErr result (λ code. code ≡ pos 0 → ⊥) }
+{
     if given.size != SETTINGS {
         return Err(BAD_SIZE);
     }

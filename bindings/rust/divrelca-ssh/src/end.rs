@@ -157,12 +157,14 @@ calls!(
     dv_client_rekey_due, dv_client_room, dv_client_ask, dv_client_queue, dv_client_queued, dv_client_work, dv_client_decline, dv_client_send, dv_client_consume
 );
 
-/// One end. What it lends, an event or its output, stands until the next call that changes it. It stays on the thread that made it: that it may move is not
-/// proved of the library.
+/// One end. What it lends, an event or its output, stands until the next call that changes it. It may move to another thread.
 pub struct End<R: Role> {
     handle: R::Handle,
     role: PhantomData<*mut R>,
 }
+
+// SAFETY: a handle of the library may go to another thread, which is proved of it, and `&mut self` keeps one call at a time.
+unsafe impl<R: Role> Send for End<R> {}
 
 /// A server.
 pub type Server = End<AsServer>;

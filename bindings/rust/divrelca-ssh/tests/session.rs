@@ -156,6 +156,13 @@ fn errors() {
 }
 
 #[test]
+fn an_end_goes_to_another_thread() {
+    let mut client = pair().client;
+    let line = std::thread::spawn(move || client.output()[..8].to_vec()).join().expect("joined");
+    assert_eq!(line, b"SSH-2.0-");
+}
+
+#[test]
 fn names() {
     assert_eq!((message_name(20), message_name(200), version() >> 16), ("KEXINIT", "UNKNOWN", 1));
 }

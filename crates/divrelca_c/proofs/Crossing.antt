@@ -1,0 +1,102 @@
+-- What may go to another thread: an end where its role, its layers, its keys and its padding may, and the box of a value that may.
+use mir.Raw.{raw}
+use base.Shift.{Keyless}
+use denote.Memory.{lone}
+use denote.RattleType.{RattleType}
+use denote.RawPtr.{Ptr}
+use denote.Param.Send.{IsSend, sendable, view_send}
+use Rattle.std.proofs.Crossing.{crosses, frees}
+use Rattle.std.specs.Box.Ownership.{box_owns}
+use Rattle.std.specs.Global.{Global}
+use Rattle.std_alloc.proofs.SendSync.{lies}
+use Rattle.std_heap.specs.contracts.GlobalAllocator.TheImpl.{ghosts}
+use Rattle.aes_gcm.specs.contracts.gcm.GcmKey as gcm_key
+use Rattle.aes_gcm.specs.contracts.gcm.GcmKey.TheInside as gcm_key_inside
+use Rattle.aes_gcm.specs.contracts.gcm.KeyParts as key_parts
+use Rattle.aes_gcm.specs.contracts.lanes.Vectors as vectors
+use Rattle.aes_gcm.specs.contracts.planes.Planes as planes
+use Rattle.aes_gcm.specs.contracts.vector_rounds.MoreVectors as more_vectors
+use Rattle.aes_gcm.specs.contracts.vector_rounds.VectorKeys as vector_keys
+use Rattle.ssh_packet.specs.contracts.line_reader.LineReader as line_reader
+use Rattle.ssh_packet.specs.contracts.reader.PacketReader as packet_reader
+use Rattle.ssh_packet.specs.declared.sealing.Sealing
+use Rattle.ssh_packet.specs.declared.writer.Filler
+use Rattle.ssh_transport.specs.declared.role.Role
+use Rattle.ssh_transport_base.specs.contracts.packets.receiver.PacketReceiver as receiver
+use Rattle.ssh_transport_base.specs.contracts.packets.receiver.PacketReceiver.TheInside as receiver_inside
+use Rattle.ssh_transport_machine.specs.contracts.machine.Machine as machine
+use Rattle.ssh_transport_machine.specs.contracts.machine.Machine.TheInside as machine_inside
+use Rattle.ssh_end.specs.contracts.end.End as end
+use Rattle.ssh_end.specs.contracts.end.End.TheInside as end_inside
+use Rattle.ssh_end.specs.declared.role.EndRole
+use Rattle.ssh_layers.specs.contracts.client_layers.ClientLayers as client_layers
+use Rattle.ssh_layers.specs.contracts.server_layers.ServerLayers as server_layers
+use Rattle.ssh_parts.specs.contracts.packet_key.PacketKey as packet_key
+use Rattle.ssh_embedded.specs.contracts.embedded.Embedded as embedded
+use Rattle.ssh_embedded.specs.contracts.padding.Padding as padding
+use Rattle.ssh_embedded.specs.contracts.users.Users as users
+use Rattle.ssh_embedded.specs.contracts.waiting.Waiting as waiting
+
+line_reader_send : IsSend line_reader.the_row
+line_reader_send = search (sendable, crosses) depth 40 fits 20000
+
+packet_reader_send : IsSend packet_reader.the_row
+packet_reader_send = search (sendable, crosses) depth 40 fits 20000
+
+waiting_send : IsSend waiting.the_row
+waiting_send = search (sendable, crosses) depth 40 fits 20000
+
+pub padding_send : IsSend padding.the_row
+padding_send = search (sendable, crosses) depth 40 fits 20000
+
+pub users_send : IsSend (users.the_field).row
+users_send = search (sendable, crosses) depth 40 fits 20000
+
+planes_send : IsSend (planes.the_field).row
+planes_send = search (sendable, crosses) depth 40 fits 20000
+
+vectors_send : IsSend (vectors.the_field).row
+vectors_send = search (sendable, crosses) depth 40 fits 20000
+
+parts_send : IsSend (key_parts.the_field).row
+parts_send = search (sendable, crosses, planes_send) depth 60 fits 30000
+
+more_vectors_send : IsSend (more_vectors.the_field).row
+more_vectors_send = search (sendable, vectors_send) depth 60 fits 30000
+
+vector_keys_send : IsSend (vector_keys.the_field).row
+vector_keys_send = search (sendable, vectors_send, more_vectors_send) depth 60 fits 30000
+
+gcm_key_send : IsSend gcm_key.the_row
+gcm_key_send = view_send gcm_key_inside.the_row _ _ _ _ (search (sendable, crosses, parts_send, vector_keys_send) depth 60 fits 30000)
+
+pub key_send : IsSend packet_key.the_row
+key_send = search (sendable, crosses, gcm_key_send) depth 60 fits 30000
+
+pub server_layers_send : IsSend server_layers.the_row
+server_layers_send = search (sendable, crosses) depth 60 fits 30000
+
+pub client_layers_send : IsSend client_layers.the_row
+client_layers_send = search (sendable, crosses) depth 60 fits 30000
+
+module _ (S Key : RattleType) (sealing : Sealing.Ghosts S.Denot Key.Denot) where
+  receiver_send : IsSend Key → IsSend (receiver.the_row S Key sealing)
+  receiver_send key = view_send (receiver_inside.the_row S Key sealing) _ _ _ _ (search (sendable, crosses, packet_reader_send) depth 40 fits 20000)
+
+  module _ (F : RattleType) (filler : Filler.Ghosts F.Denot) where
+    pub machine_send : IsSend Key → IsSend F → IsSend (machine.the_row S F Key sealing filler)
+    machine_send key f =
+        view_send (machine_inside.the_row S F Key sealing filler) _ _ _ _ (search (sendable, crosses, line_reader_send, receiver_send) depth 100 fits 50000)
+
+    module _ (R Exchange Layers : RattleType) (role : EndRole.Ghosts R.Denot Exchange.Denot Layers.Denot S.Denot F.Denot Key.Denot)
+        (exchange : Role.Ghosts Exchange.Denot S.Denot F.Denot Key.Denot) where
+      pub end_send : IsSend R → IsSend Layers → IsSend Key → IsSend F → IsSend (end.the_row R Exchange Layers S F Key role exchange sealing filler)
+      end_send r layers key f =
+          view_send (end_inside.the_row R Exchange Layers S F Key role exchange sealing filler) _ _ _ _ (search (sendable, crosses, machine_send) depth 100 fits 50000)
+
+      pub embedded_send : IsSend R → IsSend Layers → IsSend Key → IsSend F → IsSend (embedded.the_field R Exchange Layers S F Key role exchange sealing filler).row
+      embedded_send r layers key f = search (sendable, crosses, end_send, waiting_send) depth 100 fits 50000
+
+-- the memory of a box is no thread's own
+pub box_crosses : (R : RattleType) → IsSend R → (alloc : Global) (at : Ptr) (x : R.Denot) → Keyless (box_owns (ghosts.dealloc_token alloc) R at x)
+box_crosses R s alloc at x = (lies R s at x, frees.frees alloc (raw (lone R.mir)) at)

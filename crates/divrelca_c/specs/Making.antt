@@ -1,0 +1,72 @@
+-- What C passes, as the settings of an end.
+--     methods_by, ciphers_by               the methods of authentication and the encryptions, by their bits
+--     entry_by                             an entry of the users' list: the name, and what lets in
+--     user_by                              the key pair of a seed, where there is one
+--     IsServerSettings, IsClientSettings   what is taken as settings
+--     server_settings, client_settings     the settings, as the model has them
+use Rattle.std.specs.Prelude.{◌≡◌, ◌≤◌, ℕ, List, [], ◌∷◌, All, Option, None, Some, if◌then◌else◌, length, nat_eq}
+use Rattle.sha2.specs.Sha256.{sha256}
+use Rattle.ssh_model.specs.Protocol.Sessions.Parties.{Settings}
+use Rattle.ssh_embedded.specs.Making.{settings_by}
+use Rattle.ssh_embedded.specs.declared.making.Methods.{Methods}
+use Rattle.ssh_embedded.specs.declared.making.Methods.TheVariants as methods
+use Rattle.ssh_embedded.specs.declared.users.Login.{Login}
+use Rattle.ssh_embedded.specs.declared.users.Login.TheVariants as login
+use Rattle.ssh_parts.specs.Ed25519.{signer_of}
+use Rattle.ssh_parts.specs.declared.ed25519_signer.Ed25519Signer.{Ed25519Signer}
+use Rattle.ssh_pipe_policy.specs.declared.ciphers.Ciphers.{Ciphers}
+use Rattle.ssh_pipe_policy.specs.declared.ciphers.Ciphers.TheVariants as ciphers
+use Rattle.ssh_pipe_policy.specs.declared.policy.TheConstants.{TRIES}
+use Rattle.divrelca_c.specs.declared.bytes.DvClientSettings.{DvClientSettings}
+use Rattle.divrelca_c.specs.declared.bytes.DvServerSettings.{DvServerSettings}
+use Rattle.divrelca_c.specs.declared.bytes.DvUser.{DvUser}
+
+-- 1 is keys, 2 is passwords, 3 is both
+abbrev pub methods_by : (bits : ℕ) → Methods
+methods_by bits = if nat_eq bits 1 then methods.Key else if nat_eq bits 2 then methods.Password else methods.Both
+
+-- 1 is aes128-gcm, 2 is aes256-gcm, 3 is both
+abbrev pub ciphers_by : (bits : ℕ) → Ciphers
+ciphers_by bits = if nat_eq bits 1 then ciphers.Aes128 else if nat_eq bits 2 then ciphers.Aes256 else ciphers.Both
+
+abbrev pub IsChoice : (bits : ℕ) → Type 0
+IsChoice bits = (1 ≤ bits) × (bits ≤ 3)
+
+-- kind 1 is a key, kind 2 is a password
+abbrev pub login_by : DvUser → Login
+login_by user =
+    if nat_eq user.kind 1 then login.Key user.login.now else login.Password (record { bytes = sha256 user.login.now })
+
+abbrev pub entry_by : DvUser → List ℕ × Login
+entry_by user = (user.name.now, login_by user)
+
+abbrev pub IsEntry : DvUser → Type 0
+IsEntry user = (1 ≤ user.kind) × (user.kind ≤ 2)
+
+-- no bytes are no seed
+abbrev pub user_by : (seed : List ℕ) → Option Ed25519Signer
+user_by [] = None
+user_by (byte ∷ bytes) = Some (signer_of (byte ∷ bytes))
+
+-- what is taken as the settings of a server
+pub record IsServerSettings (given : DvServerSettings) : Type 0 where
+  pub bytes : given.size ≡ 72
+  pub seed : length given.host_seed.now ≡ 32
+  pub entries : All IsEntry given.users.now
+  pub methods_known : IsChoice given.methods
+  pub ciphers_known : IsChoice given.ciphers
+
+abbrev pub server_settings : DvServerSettings → Settings
+server_settings given =
+    settings_by given.software.now given.epoch_limit given.tries (methods_by given.methods) (ciphers_by given.ciphers)
+
+-- what is taken as the settings of a client, whose user may have no key
+pub record IsClientSettings (given : DvClientSettings) : Type 0 where
+  pub bytes : given.size ≡ 64
+  pub trusted : length given.host_key.now ≡ 32
+  pub seed : (given.user_seed.now ≡ [] → ⊥) → length given.user_seed.now ≡ 32
+  pub ciphers_known : IsChoice given.ciphers
+
+-- A client may fail as often as a server of `ssh_pipe` lets a user, and knows both methods.
+abbrev pub client_settings : DvClientSettings → Settings
+client_settings given = settings_by given.software.now given.epoch_limit TRIES methods.Both (ciphers_by given.ciphers)
