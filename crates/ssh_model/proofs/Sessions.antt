@@ -30,3 +30,5 @@ pub mod Deaths
 pub mod PeerNumbers
 pub mod Answered
 pub mod AsksAnswered
+pub mod JudgedParts
+pub mod Judged

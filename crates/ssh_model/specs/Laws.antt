@@ -8,3 +8,4 @@ pub mod Written
 pub mod Farewells
 pub mod Senders
 pub mod Places
+pub mod Verdicts
