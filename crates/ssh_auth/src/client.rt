@@ -21,11 +21,9 @@ use crate::parts::UserSigner;
 use crate::refusal::{AskError, AuthAskRefusal, AuthRefusal};
 use crate::request::UserRequest;
 use ssh_message::Message;
+use ssh_types::bounds::LONGEST_PAYLOAD;
 use std::alloc::Global;
 use std::marker::Model;
-
-// The most bytes that a payload has which an end sends.
-const MOST_PAYLOAD_BYTES: u128 = 34_000;
 
 // The most bytes of a signature.
 const MOST_SIGNATURE_BYTES: u128 = 4_096;
@@ -214,7 +212,7 @@ impl AuthClient {
         if self.authenticated {
             return Err(AuthAskRefusal::Ended);
         }
-        if payload_size(ask) > MOST_PAYLOAD_BYTES {
+        if payload_size(ask) > LONGEST_PAYLOAD as u128 {
             return Err(AuthAskRefusal::TooLong);
         }
         Ok(())
