@@ -42,5 +42,6 @@ pub mod ClientDeaths
 pub mod Placing
 pub mod ServerPlacing
 pub mod ClientPlacing
+pub mod Exchanging
 pub mod Fitting
 pub mod Making

@@ -1,17 +1,23 @@
 -- Where an end of either role stands in a run of its own, and where each of its calls takes it.
 use Rattle.std.specs.Prelude.{◌≡◌, ◌++◌, ℕ, Bool, List, [], ◌∷◌, Result, take}
+use Rattle.ssh_model.specs.Protocol.Authentication.Requests.{Judge}
 use Rattle.ssh_model.specs.State.End.State.{EndState}
 use Rattle.ssh_model.specs.State.End.Summary.{HasOpened}
 use Rattle.ssh_model.specs.Protocol.KeyExchange.Exchanges.{Material, fed}
 use Rattle.ssh_model.specs.Protocol.Sessions.Items as session
 use Rattle.ssh_model.specs.Protocol.Sessions.Items.{Item, messages_sent}
 use Rattle.ssh_model.specs.Protocol.Sessions.Parties.{AreLawful, Parties, Settings, settings_of}
-use Rattle.ssh_model.specs.Protocol.Side.{Side}
+use Rattle.ssh_model.specs.Protocol.Side.{Side, Side.Server}
+use Rattle.ssh_model.specs.Protocol.Wire.Sealing.{Crypto}
+use Rattle.ssh_model.specs.State.TransportLayer.Kept.{ExchangeParts}
+use Rattle.ssh_layers.specs.Layers.{Layers}
+use Rattle.ssh_layers.specs.Sessions.{end_of}
 use Rattle.ssh_types.specs.Sides.{side_of}
 use Rattle.ssh_transport.specs.declared.role.Role as exchange
 use Rattle.ssh_transport_machine.specs.Puts.{payloads_of}
 use Rattle.ssh_transport_machine.specs.State.{State, begun_of}
 use Rattle.ssh_end.specs.Ends.{EndValue}
+use Rattle.ssh_end.specs.Parts.{AreServerLayers, IsServer}
 use Rattle.ssh_end.specs.Places.{AskedTo, DiedOn, FedTo, StandsAfter, TurnedTo, state_by}
 use Rattle.ssh_end.specs.Units.{FrontLacks}
 use Rattle.ssh_end.specs.declared.asking.outcome.AskStep.{AskStep}
@@ -29,6 +35,11 @@ abbrev pub StandsAt : {R X L S F K : Type 0} → role.Ghosts R X L S F K → exc
 StandsAt ends exchanges p history end =
     StandsAfter p (side_of exchanges.SIDE) (ends.is_of end.role p) (ends.are_of end.layers p) history end.machine
     (state_of ends end)
+
+-- The server with these parts and this judge of its users stands after this history.
+abbrev pub ServerStandsAt : {K : Type 0} → Parties K → Crypto K → ExchangeParts → Judge → List Item → State K → Layers → Type 0
+ServerStandsAt p c parts judge history machine layers =
+    StandsAfter p Server (IsServer p c parts judge) (AreServerLayers p layers) history machine (end_of machine.kept layers)
 
 -- where bytes of the peer took an end, of which so many were used
 abbrev pub AdvancedTo : {R X L S F K : Type 0} → role.Ghosts R X L S F K → exchange.Ghosts X S F K → Parties K →

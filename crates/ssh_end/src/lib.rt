@@ -27,6 +27,7 @@ mod cutting;
 mod effect;
 mod end;
 mod fact_laws;
+pub mod judge_laws;
 pub mod opening_laws;
 mod owed;
 mod role;

@@ -25,6 +25,7 @@ use ssh_transport_machine::Machine;
 use ssh_transport_machine::standing::machines_stand;
 use ssh_types::Side;
 use std::alloc::{AllocError, Global};
+use std::mem::replace;
 
 /// The end of a server.
 pub type ServerEnd<P, U> = End<ServerRole<P, U>>;
@@ -93,5 +94,14 @@ impl<P: ServerParts, U: UserJudge + Drop> End<ServerRole<P, U>> {
             channel: [None],
             numbers: Vec::new(alloc),
         })
+    }
+
+    /// Puts another judge of its users in the place of the one that it has, and gives that back. Requests that come from here on are for
+    /// the new one. What is said of the end goes on holding where both agree on each request that was taken: `turn_laws::judges_exchanged`.
+    pub fn replace_user(&mut self, user: U) -> U
+        ensures old { result ≡ self.old.role.user }
+        ensures new { self.new ≡ record self.old { role = record self.old.role { user = user } } }
+    {
+        replace(&mut self.role.user, user)
     }
 }
