@@ -11,6 +11,7 @@ ghost use Rattle.ssh_parts.specs.AesGcm.{aes_gcm};
 use crate::embedded::Embedded;
 use crate::flows::Flows;
 use crate::making::{MakeError, Material, Methods, config};
+use crate::noted::Noted;
 use crate::padding::Padding;
 use crate::parts::EmbeddedClient;
 use ed25519::is_small_order;
@@ -102,6 +103,7 @@ impl Client {
             key: key_of(&settings.user),
             waiting: VecDeque::new(alloc),
             flows,
+            noted: Noted::new(alloc),
         };
         Ok(Client { state })
     }

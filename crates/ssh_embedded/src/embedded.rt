@@ -3,6 +3,7 @@
 ghost use Rattle.std.specs.Prelude.{◌≡◌, ◌<◌, ◌≤◌, ◌++◌, ◌∷◌, cond, IfErr, IfOk, IfSome, IsSome, List, None, OnErr, OnOk, [], drop, false};
 ghost use Rattle.std.specs.Prelude.{length, nat_le, true};
 ghost use Rattle.std.specs.VecDeque.{deque_len};
+ghost use Rattle.ssh_embedded.specs.Asked.{AreNoted};
 ghost use Rattle.ssh_embedded.specs.Forms.{IsAsked, form_asks};
 ghost use Rattle.ssh_embedded.specs.Queues.{IsMade, IsOldestMade, asked_by, is_early};
 ghost use Rattle.ssh_embedded.specs.Windows.{bytes_in};
@@ -21,6 +22,7 @@ ghost use Rattle.ssh_model.specs.State.TransportLayer.Kept.{after_fed, can_be_fe
 
 use crate::ask_form::{AskForm, FormFault};
 use crate::flows::Flows;
+use crate::noted::Noted;
 use crate::waiting::Waiting;
 use ssh_end::{Ask, AskStep, End, EndRole, Fault, Turn};
 use ssh_packet::{Filler, Sealing};
@@ -41,6 +43,8 @@ pub struct Embedded<R: EndRole> {
     // The oldest first.
     pub(crate) waiting: VecDeque<Waiting>,
     pub(crate) flows: Flows,
+    // Whose key or password was asked for, and who was set. A client has nobody here.
+    pub(crate) noted: Noted,
 }
 
 impl<R: EndRole> Drop for Embedded<R> {
@@ -51,17 +55,19 @@ impl<R: EndRole> Drop for Embedded<R> {
             key: _,
             waiting: _,
             flows: _,
+            noted: _,
         } = self;
     }
 }
 
 impl<R: EndRole> Embedded<R> {
     /// What `ssh_end::End::advance` does. What is put out goes after what waits, and the account of the channels' windows follows what is
-    /// told.
+    /// told. Whose key or password a client asks for is noted, for `Server::set_user`.
     ///
     /// # Errors
     ///
     /// Those of `ssh_end::End::take`.
+    #[tactic(auto, using(crate::proofs::Asked::turn_noted))]
     pub fn advance(&mut self, bytes: &[u8]) -> Result<usize, Fault>
         ensures used { IfOk result (λ used. used ≤ length bytes.now) }
         ensures progress { IfOk result (λ used. self.old.end.machine.kept.dead ≡ false → 0 < length bytes.now → 0 < used) }
@@ -75,12 +81,18 @@ impl<R: EndRole> Embedded<R> {
             FailedTo R.EndRole R.Exchange.Role p history self.old.end bytes.now fault self.new.end) }
         ensures none { OnErr result (self.new.end.step ≡ Step.More) }
         ensures out { OnErr result (self.new.out.items ≡ self.old.out.items) }
+        ensures noted { OnOk result ((items history : List Item) →
+            Shows (shown_by self.new.end.step self.new.end.machine) self.new.end.step items → AreNoted history self.old.noted →
+            AreNoted (items ++ history) self.new.noted) }
+        ensures unnoted { OnErr result (self.new.noted ≡ self.old.noted) }
         ensures role { self.new.end.role ≡ self.old.end.role }
         ensures key { self.new.key ≡ self.old.key }
         ensures waiting { self.new.waiting ≡ self.old.waiting }
     {
         let used = self.end.advance(bytes, &mut self.out)?;
-        if let Some(told) = self.end.turn().told {
+        let turn = self.end.turn();
+        self.noted.hear(&turn);
+        if let Some(told) = turn.told {
             self.flows.hear(&told);
         }
         Ok(used)
@@ -119,6 +131,7 @@ impl<R: EndRole> Embedded<R> {
         ensures role { self.new.end.role ≡ self.old.end.role }
         ensures key { self.new.key ≡ self.old.key }
         ensures waiting { self.new.waiting ≡ self.old.waiting }
+        ensures noted { self.new.noted ≡ self.old.noted }
     {
         let done = self.end.perform(ask, &mut self.out);
         if let Ok(step) = done {
@@ -140,6 +153,7 @@ impl<R: EndRole> Embedded<R> {
         ensures unchanged { OnErr result (self.new ≡ self.old) }
         ensures key { self.new.key ≡ self.old.key }
         ensures waiting { self.new.waiting ≡ self.old.waiting }
+        ensures noted { self.new.noted ≡ self.old.noted }
     {
         let key = self.key;
         let ask = form.ask(&key)?;
@@ -249,6 +263,7 @@ impl<R: EndRole> Embedded<R> {
         ensures waits { IfSome result (λ done. self.new.waiting.items ≡ cond (is_early done) self.old.waiting.items
             (drop 1 self.old.waiting.items)) }
         ensures key { self.new.key ≡ self.old.key }
+        ensures noted { self.new.noted ≡ self.old.noted }
     {
         let mut waiting = replace(&mut self.waiting, VecDeque::new(alloc));
         let Some(front) = waiting.front() else {
@@ -270,6 +285,7 @@ impl<R: EndRole> Embedded<R> {
             (outs_of self.old.out.items self.new.out.items self.new.end.sent)) }
         ensures key { self.new.key ≡ self.old.key }
         ensures waiting { self.new.waiting ≡ self.old.waiting }
+        ensures noted { self.new.noted ≡ self.old.noted }
     {
         match waiting {
             Waiting::Form(kept) => match self.ask(&kept.form()) {

@@ -1,22 +1,34 @@
 //! A server.
 
-ghost use Rattle.std.specs.Prelude.{◌≡◌, IfOk, None, []};
+ghost use Rattle.std.specs.Prelude.{◌≡◌, ◌++◌, IfOk, List, None, OnErr, OnOk, [], false, true, ℕ};
+ghost use Rattle.std.specs.List.{list_all};
+ghost use Rattle.ssh_embedded.specs.Asked.{AreNoted, is_noted};
 ghost use Rattle.ssh_embedded.specs.Making.{settings_by};
+ghost use Rattle.ssh_embedded.specs.Users.{verdicts_for};
 ghost use Rattle.ssh_end.specs.Ends.{IsNewServer};
+ghost use Rattle.ssh_end.specs.Stands.{ServerStandsAt};
 ghost use Rattle.ssh_end.specs.declared.step.Step.TheVariants as step;
+ghost use Rattle.ssh_model.specs.Laws.Verdicts.{judged_by};
+ghost use Rattle.ssh_model.specs.Protocol.Sessions.Items.{Item};
+ghost use Rattle.ssh_model.specs.Protocol.Sessions.Parties.{Parties};
+ghost use Rattle.ssh_model.specs.Protocol.Wire.MacOnly.{is_text};
+ghost use Rattle.ssh_model.specs.State.TransportLayer.Kept.{ExchangeParts};
 ghost use Rattle.ssh_parts.specs.AesGcm.{aes_gcm};
 
 use crate::embedded::Embedded;
 use crate::flows::Flows;
 use crate::making::{MakeError, Material, Methods, config};
+use crate::noted::Noted;
 use crate::padding::Padding;
 use crate::parts::EmbeddedServer;
 use crate::users::Users;
+use ssh_end::judge_laws::users_exchanged;
 use ssh_end::{ServerEnd, ServerRole};
-use ssh_parts::{Curve25519, Ed25519Signer};
+use ssh_packet::Sealing;
+use ssh_parts::{AesGcm, Curve25519, Ed25519Signer};
 use ssh_pipe_policy::Ciphers;
 use ssh_transport_base::ServerPartValues;
-use std::alloc::Global;
+use std::alloc::{AllocError, Global};
 use std::collections::VecDeque;
 
 /// What a server is made of besides its users.
@@ -34,6 +46,25 @@ pub struct ServerSettings<'a> {
     pub ciphers: Ciphers,
     /// The key pair of the host.
     pub host: Ed25519Signer,
+}
+
+/// Why a user is not set.
+#[derive(Clone, Copy, Debug, PartialEq, Eq)]
+pub enum UserFault {
+    /// The server is over.
+    Over,
+    /// The name has no bytes, or an entry has another one.
+    Name,
+    /// A key or a password of this user was asked for, or the user was set before.
+    Known,
+    /// Memory was refused.
+    Memory,
+}
+
+impl From<AllocError> for UserFault {
+    fn from(_error: AllocError) -> UserFault {
+        UserFault::Memory
+    }
 }
 
 /// A server, with what a program keeps besides it.
@@ -95,7 +126,73 @@ impl Server {
             key: None,
             waiting: VecDeque::new(alloc),
             flows,
+            noted: Noted::new(alloc),
         };
         Ok(Server { state })
+    }
+
+    /// Gives a server the keys and passwords of one user, once, after those that it has. They have to come before a key or a password of
+    /// that user is asked for. A request by the method `none`, which is never granted, may come first: it shows the name (RFC 4252
+    /// section 5.2).
+    ///
+    /// So a verdict stays a function of what is asked: what is said of the server's run then holds with the new users, too.
+    ///
+    /// # Errors
+    ///
+    /// Nothing changes.
+    ///
+    /// - `Over`: the server is over.
+    /// - `Name`: the name has no bytes, or an entry has another one.
+    /// - `Known`: a key or a password of this user was asked for, or the user was set before.
+    /// - `Memory`: memory was refused.
+    pub fn set_user(&mut self, alloc: Global, name: &[u8], users: Users) -> Result<(), UserFault>
+        ensures set { OnOk result (self.new.state.end.role.user.list.items ≡ self.old.state.end.role.user.list.items ++ users.list.items) }
+        ensures named { OnOk result (list_all (λ user. is_text user.name.items name.now) users.list.items ≡ true) }
+        ensures fresh { OnOk result (is_noted name.now self.old.state.noted ≡ false) }
+        ensures noted { OnOk result (is_noted name.now self.new.state.noted ≡ true) }
+        ensures kept { (user : List ℕ) → is_noted user self.old.state.noted ≡ true → is_noted user self.new.state.noted ≡ true }
+        ensures stands { OnOk result ((p : Parties _) (parts : ExchangeParts) (history : List Item) →
+            ServerStandsAt p aes_gcm parts (verdicts_for self.old.state.end.role.user.list.items) history self.old.state.end.machine
+            self.old.state.end.layers → AreNoted history self.old.state.noted →
+            ServerStandsAt (judged_by (verdicts_for self.new.state.end.role.user.list.items) p) aes_gcm parts
+            (verdicts_for self.new.state.end.role.user.list.items) history self.new.state.end.machine self.new.state.end.layers) }
+        ensures rest { self.new.state.end ≡ record self.old.state.end {
+          role = record self.old.state.end.role
+              { user = self.new.state.end.role.user };
+        } }
+        ensures unchanged { OnErr result (self.new.state.end.role.user.list.items ≡ self.old.state.end.role.user.list.items) }
+        ensures unnoted { OnErr result (self.new.state.noted ≡ self.old.state.noted) }
+        ensures same { self.new.state ≡ record self.old.state { end = self.new.state.end; noted = self.new.state.noted } }
+    {
+        if self.state.is_over() {
+            return Err(UserFault::Over);
+        }
+        if name.is_empty() || !users.are_of(name) {
+            return Err(UserFault::Name);
+        }
+        if self.state.noted.has(name) {
+            return Err(UserFault::Known);
+        }
+        users_exchanged::<<AesGcm as Sealing>::Key>();
+        self.extend(alloc, users)?;
+        self.state.noted.add(name);
+        Ok(())
+    }
+
+    // More users after those that there are.
+    fn extend(&mut self, alloc: Global, users: Users) -> Result<(), AllocError>
+        ensures set { OnOk result (self.new.state.end.role.user.list.items ≡ self.old.state.end.role.user.list.items ++ users.list.items) }
+        ensures rest { self.new.state.end ≡ record self.old.state.end {
+          role = record self.old.state.end.role
+              { user = self.new.state.end.role.user };
+        } }
+        ensures unchanged { OnErr result (self.new.state.end.role.user.list.items ≡ self.old.state.end.role.user.list.items) }
+        ensures same { self.new.state ≡ record self.old.state { end = self.new.state.end } }
+    {
+        let mut all = self.state.end.replace_user(Users::new(alloc));
+        let Users { list: mut more } = users;
+        let done = all.list.append(&mut more);
+        self.state.end.replace_user(all);
+        done
     }
 }

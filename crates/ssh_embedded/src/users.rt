@@ -1,6 +1,8 @@
 //! Whom a server lets in.
 
 ghost use Rattle.std.specs.Prelude.{◌≡◌, ◌++◌, IfErr, IfOk, [], ◌∷◌, map};
+ghost use Rattle.std.specs.List.{list_all};
+ghost use Rattle.ssh_model.specs.Protocol.Wire.MacOnly.{is_text};
 ghost use Rattle.ssh_embedded.specs.Users.{entry_of, has_key, has_password, verdicts_for};
 
 use crate::making::MakeError;
@@ -69,6 +71,13 @@ impl Users {
             .push(User { name: owned, login })
             .map_err(|_| MakeError::Memory)
     }
+
+    /// Tests whether every entry has this name.
+    pub fn are_of(&self, name: &[u8]) -> bool
+        ensures { result ≡ list_all (λ user. is_text user.name.items name.now) self.now.list.items }
+    {
+        self.list.iter().all(|user| is_named(user, name))
+    }
 }
 
 impl UserJudge for Users {
@@ -94,6 +103,13 @@ impl UserJudge for Users {
         let judge = Ed25519Judge { accepted: &[] };
         judge.signature(algorithm, key, text, signature)
     }
+}
+
+// Whether the entry has this name.
+fn is_named(user: &User, name: &[u8]) -> bool
+    ensures { result ≡ is_text user.now.name.items name.now }
+{
+    user.name.as_slice() == name
 }
 
 // Whether the word is the password of this entry, which is the user's.

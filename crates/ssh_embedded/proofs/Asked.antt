@@ -1,0 +1,196 @@
+-- Who is noted for a turn, and judges that agree on all that a server was asked for.
+use Rattle.std.proofs.Common.{◌≡◌, ℕ, Bool, true, false, ◌&&◌, ◌||◌, Option, Some, None, List, [], ◌∷◌, ◌++◌, refl, ap, sym, ◌∙◌, subst}
+use Rattle.std.proofs.lemmas.Bool.{and_parts}
+use Rattle.std.proofs.lemmas.Cmp.{nat_list_eq_equiv}
+use Rattle.std.proofs.lemmas.List.Folds.{list_any-append}
+use Rattle.std.specs.Cmp.Lexicographic.{same_text}
+use Rattle.std.specs.Global.{Vec}
+use Rattle.std.specs.List.{list_all, list_any}
+use Rattle.ssh_model.specs.Laws.Verdicts.{AgreeOn, AgreeOnAsked, judged_by}
+use Rattle.ssh_model.specs.Protocol.Authentication.Requests.{Judge}
+use Rattle.ssh_model.specs.Protocol.Sessions.Parties.{Parties}
+use Rattle.ssh_model.specs.Protocol.Wire.Sealing.{Crypto}
+use Rattle.ssh_model.specs.State.TransportLayer.Kept.{ExchangeParts}
+use Rattle.ssh_layers.specs.Layers.{Layers}
+use Rattle.ssh_transport_machine.specs.State.{State}
+use Rattle.ssh_end.specs.Stands.{ServerStandsAt}
+use Rattle.ssh_model.specs.Protocol.Sessions.Items.{Fact, Item, Item.Refused, Item.Sent, Spelled, Spelled.SpelledBy}
+use Rattle.ssh_model.specs.Protocol.Wire.MacOnly.{is_text}
+use Rattle.ssh_model.specs.Protocol.Wire.Message.{Msg, Msg.UserauthRequest, Method, Method.NoMethod, Method.Other, Method.Password}
+use Rattle.ssh_model.specs.Protocol.Wire.Message.{Method.Publickey}
+use Rattle.ssh_model.specs.State.Channels.Summary.{told}
+use Rattle.ssh_model.specs.State.TransportLayer.Summary.{items_sent}
+use Rattle.ssh_end.specs.Steps.{AreSent, Shows, Shows.disconnected, Shows.other_line, Shows.refused, Shows.skipped, Shows.took}
+use Rattle.ssh_end.specs.Steps.{Shows.version_line}
+use Rattle.ssh_end.specs.Turn.{IsTaken, TurnShows, oldest}
+use Rattle.ssh_end.specs.declared.step.Step.{Step}
+use Rattle.ssh_end.specs.declared.turn.Took.{Took}
+use Rattle.ssh_end.specs.declared.turn.Took.TheVariants as given
+use Rattle.ssh_end.specs.declared.turn.Turn.{Turn}
+use Rattle.ssh_parts.specs.Ed25519.{is_name}
+use Rattle.ssh_embedded.specs.Asked.{AreNoted, IsNoted, Notes, asked_by, asked_in, asked_of, asked_with, is_name_of, is_noted}
+use Rattle.ssh_embedded.specs.Users.{has_key, has_password, verdicts_for}
+use Rattle.ssh_embedded.specs.declared.noted.Noted.{Noted}
+use Rattle.ssh_embedded.specs.declared.users.Login.TheVariants as login
+use Rattle.ssh_embedded.specs.declared.users.User.{User}
+
+-- ---- who is noted
+
+module _ (old new : Noted) (kept : (user : List ℕ) → is_noted user old ≡ true → is_noted user new ≡ true) where
+  stays : (asked : Option (List ℕ)) → IsNoted asked old → IsNoted asked new
+  stays None is = tt
+  stays (Some user) is = kept user is
+
+  stay : (h : List Item) → AreNoted h old → AreNoted h new
+  stay [] are = tt
+  stay (item ∷ h) are = (stays (asked_in item) are.0, stay h are.1)
+
+module _ (noted : Noted) where
+  both : (items h : List Item) → AreNoted items noted → AreNoted h noted → AreNoted (items ++ h) noted
+  both [] h mine theirs = theirs
+  both (item ∷ items) h mine theirs = (mine.0, both items h mine.1 theirs)
+
+  of_sent : (sent h : List Item) → AreSent sent → AreNoted h noted → AreNoted (sent ++ h) noted
+  of_sent [] h are rest = rest
+  of_sent (Sent channel message payload ∷ sent) h are rest = (tt, of_sent sent h are rest)
+  of_sent (item ∷ sent) h are rest = absurd are
+
+  of_told : (fact : Option Fact) (sent h : List Item) → AreNoted (sent ++ h) noted → AreNoted (told fact sent ++ h) noted
+  of_told None sent h rest = rest
+  of_told (Some fact) sent h rest = (tt, rest)
+
+  of_listed : (said : List Spelled) (h : List Item) → AreNoted h noted → AreNoted (items_sent said ++ h) noted
+  of_listed [] h rest = rest
+  of_listed (SpelledBy message payload ∷ said) h rest = (tt, of_listed said h rest)
+
+  last : (items : List Item) (item : Item) → oldest (items ++ item ∷ []) ≡ Some item
+  last [] item = refl
+  last (first ∷ []) item = refl
+  last (first ∷ second ∷ items) item = last (second ∷ items) item
+
+  -- the message that is shown as taken is the one that was
+  taken : (took : Option Took) (channel : Option ℕ) (message : Msg) (payload : List ℕ) → IsTaken took (Some (Item.Took channel message payload)) →
+      IsNoted (asked_of took) noted → IsNoted (asked_by message) noted
+  taken None channel message payload is have = absurd is
+  taken (Some (given.OtherLine text)) channel message payload is have = cc is
+  taken (Some (given.VersionLine text)) channel message payload is have = cc is
+  taken (Some (given.Skipped other)) channel message payload is have = cc is
+  taken (Some (given.Message own shown other)) channel message payload is have = subst (λ asked. IsNoted asked noted) (sym (ap asked_in is)) have
+
+  of_turn : (payload : List ℕ) (step : Step) (items : List Item) → Shows payload step items → (turn : Turn) → TurnShows turn items →
+      IsNoted (asked_of turn.took) noted → AreNoted items noted
+  of_turn payload step items other_line turn shows have = (tt, tt)
+  of_turn payload step items version_line turn shows have = (tt, tt)
+  of_turn payload step items skipped turn shows have = (tt, (tt, tt))
+  of_turn payload step items (took channel probing telling message sent is are) turn shows have =
+      let item : Item = Item.Took channel message payload in
+      let own : IsTaken turn.took (Some item) = subst (λ first. IsTaken turn.took first) (last (told _ sent) item) shows.took in
+      of_told _ sent (item ∷ []) (of_sent sent (item ∷ []) are (taken turn.took channel message payload own have, tt))
+  of_turn payload step items (disconnected reason description language is) turn shows have = (tt, (tt, (tt, tt)))
+  of_turn payload step items (refused why opened said) turn shows have = (tt, of_listed said (Refused _ opened ∷ []) (tt, tt))
+
+-- a name more after the others
+pub name_noted : (old new : Noted) (name : Vec ℕ) (user : List ℕ) → new.names.items ≡ old.names.items ++ name ∷ [] → new.all ≡ old.all →
+    name.items ≡ user → Notes (Some user) old new
+name_noted old new name user names all is = record {
+  asked = rw (all, names, list_any-append (is_name_of user) old.names.items (name ∷ []), is, nat_list_eq_equiv.refl user) (true_last old.all (list_any (is_name_of user) old.names.items));
+  kept = λ other have. rw (all, names, list_any-append (is_name_of other) old.names.items (name ∷ [])) (true_first old.all (list_any (is_name_of other) old.names.items) _ have);
+}
+  where
+    true_last : (a b : Bool) → (a || (b || (true || false))) ≡ true
+    true_last true b = refl
+    true_last false true = refl
+    true_last false false = refl
+
+    true_first : (a b c : Bool) → (a || b) ≡ true → (a || (b || c)) ≡ true
+    true_first true b c have = refl
+    true_first false true c have = refl
+    true_first false false c have = absurd (cc have)
+
+pub turn_noted : (payload : List ℕ) (step : Step) (items : List Item) → Shows payload step items → (turn : Turn) → TurnShows turn items →
+    (old new : Noted) → Notes (asked_of turn.took) old new → (h : List Item) → AreNoted h old → AreNoted (items ++ h) new
+turn_noted payload step items is turn shows old new notes h are =
+    both new items h (of_turn new payload step items is turn shows notes.asked) (stay old new notes.kept h are)
+
+-- ---- judges that agree
+
+module _ (noted : Noted) (name : List ℕ) (fresh : is_noted name noted ≡ false) where
+  differs : (user : List ℕ) → is_noted user noted ≡ true → name ≡ user → ⊥
+  differs user have same = let other : is_noted user noted ≡ false = subst (λ w. is_noted w noted ≡ false) same fresh in cc (have, other)
+
+  -- an entry of this name is none of a user who was noted
+  of_another : (entry : User) → is_text entry.name.items name ≡ true → (user : List ℕ) → is_noted user noted ≡ true →
+      is_text entry.name.items user ≡ false
+  of_another entry named user have = by (is_text entry.name.items user) refl
+    where
+      by : (b : Bool) → is_text entry.name.items user ≡ b → b ≡ false
+      by false e = refl
+      by true e = absurd (differs user have (sym (same_text entry.name.items name (sym named)) ∙ same_text entry.name.items user (sym e)))
+
+  no_word : (user word : List ℕ) → is_noted user noted ≡ true → (added : List User) →
+      list_all (λ entry. is_text entry.name.items name) added ≡ true → list_any (has_password user word) added ≡ false
+  no_word user word have [] named = refl
+  no_word user word have (entry ∷ added) named =
+      let p = and_parts (is_text entry.name.items name) (list_all (λ e. is_text e.name.items name) added) named in
+      by entry.login refl (of_another entry p.0 user have) (no_word user word have added p.1)
+    where
+      by : (l : _) → entry.login ≡ l → is_text entry.name.items user ≡ false → list_any (has_password user word) added ≡ false →
+          (has_password user word entry || list_any (has_password user word) added) ≡ false
+      by (login.Key public) e other none = rw e none
+      by (login.Password hash) e other none = rw (e, other) none
+
+  no_name : (a b : Bool) → b ≡ false → ((a && false) || b) ≡ false
+  no_name true b none = none
+  no_name false b none = none
+
+  no_key : (user algorithm key : List ℕ) → is_noted user noted ≡ true → (added : List User) →
+      list_all (λ entry. is_text entry.name.items name) added ≡ true → list_any (has_key user algorithm key) added ≡ false
+  no_key user algorithm key have [] named = refl
+  no_key user algorithm key have (entry ∷ added) named =
+      let p = and_parts (is_text entry.name.items name) (list_all (λ e. is_text e.name.items name) added) named in
+      by entry.login refl (of_another entry p.0 user have) (no_key user algorithm key have added p.1)
+    where
+      by : (l : _) → entry.login ≡ l → is_text entry.name.items user ≡ false → list_any (has_key user algorithm key) added ≡ false →
+          (has_key user algorithm key entry || list_any (has_key user algorithm key) added) ≡ false
+      by (login.Key public) e other none = rw (e, other) (no_name (is_name algorithm) (list_any (has_key user algorithm key) added) none)
+      by (login.Password hash) e other none = rw e none
+
+  module _ (list added : List User) (named : list_all (λ entry. is_text entry.name.items name) added ≡ true) where
+    one_more : (p : User → Bool) → list_any p added ≡ false → list_any p list ≡ list_any p (list ++ added)
+    one_more p none = sym (list_any-append p list added ∙ ap (λ b. list_any p list || b) none ∙ or_false (list_any p list))
+      where
+        or_false : (b : Bool) → (b || false) ≡ b
+        or_false true = refl
+        or_false false = refl
+
+    agree_on : (user : List ℕ) (method : Method) → IsNoted (asked_with method user) noted →
+        AgreeOn (verdicts_for list) (verdicts_for (list ++ added)) user method
+    agree_on user NoMethod is = refl
+    agree_on user (Password word None) is = one_more (has_password user word) (no_word user word is added named)
+    agree_on user (Password word (Some new)) is = tt
+    agree_on user (Publickey algorithm key None) is = (one_more (has_key user algorithm key) (no_key user algorithm key is added named), tt)
+    agree_on user (Publickey algorithm key (Some signature)) is =
+        (one_more (has_key user algorithm key) (no_key user algorithm key is added named), λ text. refl)
+    agree_on user (Other method rest) is = tt
+
+    pub agree : (h : List Item) → AreNoted h noted → AgreeOnAsked (verdicts_for list) (verdicts_for (list ++ added)) h
+    agree [] are = tt
+    agree (Item.Took channel (UserauthRequest user service method) payload ∷ h) are = (agree_on user method are.0, agree h are.1)
+    agree (item ∷ h) are = agree h are.1
+
+-- ---- the server
+
+module _ {K : Type 0} (exchanged : (p : Parties K) (c : Crypto K) (parts : ExchangeParts) (one other : Judge) (h : List Item) (machine : State K)
+    (layers : Layers) → ServerStandsAt p c parts one h machine layers → machine.kept.dead ≡ false → AgreeOnAsked one other h →
+    ServerStandsAt (judged_by other p) c parts other h machine layers) where
+  pub set_stands : (noted : Noted) (name : List ℕ) → is_noted name noted ≡ false → (list added all : List User) →
+      list_all (λ entry. is_text entry.name.items name) added ≡ true → all ≡ list ++ added → (c : Crypto K) (machine later : State K)
+      (layers after : Layers) → machine.kept.dead ≡ false → later ≡ machine → after ≡ layers →
+      (p : Parties K) (parts : ExchangeParts) (h : List Item) → ServerStandsAt p c parts (verdicts_for list) h machine layers → AreNoted h noted →
+      ServerStandsAt (judged_by (verdicts_for all) p) c parts (verdicts_for all) h later after
+  set_stands noted name fresh list added all named is c machine later layers after alive same unchanged p parts h place are =
+      subst (λ l. ServerStandsAt (judged_by (verdicts_for l) p) c parts (verdicts_for l) h later after) (sym is)
+      (subst (λ m. ServerStandsAt (judged_by (verdicts_for (list ++ added)) p) c parts (verdicts_for (list ++ added)) h m after) (sym same)
+      (subst (λ l. ServerStandsAt (judged_by (verdicts_for (list ++ added)) p) c parts (verdicts_for (list ++ added)) h machine l) (sym unchanged)
+      (exchanged p c parts (verdicts_for list) (verdicts_for (list ++ added)) h machine layers place alive
+      (agree noted name fresh list added named h are))))
