@@ -68,6 +68,18 @@ static dv_material fresh(void) {
   return material;
 }
 
+/* Whom the server is given by a look-up once a request by no method names somebody; nobody where there are none. */
+static const dv_user *found;
+static size_t found_len;
+
+/* The name is copied, since that of an event is the end's. */
+static int32_t set_user(dv_bytes name, const dv_user *users, size_t count) {
+  uint8_t copy[64];
+  size_t len = name.len < sizeof copy ? name.len : sizeof copy;
+  memcpy(copy, name.at, len);
+  return dv_server_set_user(&server, copy, len, users, count);
+}
+
 /* What came of a session: how often each event was told at the client (0) and at the server (1), the channel at both, bytes of data, the last
  * code that was no DV_DONE, and whether the name of who tried to come in was shown. */
 static int told[2][32];
@@ -90,6 +102,11 @@ static int32_t take(bool at_server, dv_bytes bytes, size_t *used, dv_event *even
     if (code != DV_DONE) return code;
   }
   if (event->kind == DV_TRIED && is(event->name, "me") && is(event->data, "none")) tried_me = true;
+  if (event->kind == DV_TRIED && is(event->data, "none") && found_len) {
+    code = set_user(event->name, found, found_len);
+    if (code != DV_DONE) return code;
+    dv_server_event(&server, event);
+  }
   if (event->kind == DV_OPENED && is(event->name, "session")) return DV_DONE;
   if (event->kind == DV_REQUESTED && is(event->name, "exec")) return DV_DONE;
   return at_server ? dv_server_decline(&server) : dv_client_decline(&client);

@@ -1,5 +1,5 @@
 /* A client and a server in one process, with nothing between them but bytes: logins, a channel, data within the windows, exchanges of keys, what
- * is declined, and the end; then every code that arguments, settings and key files have; then the same session with each allocation refused in
+ * is declined, and the end; then users who are looked up by name; then every code that arguments, settings and key files have; then the same session with each allocation refused in
  * turn: each call answers, and no block is kept. `session_test N` refuses each Nth alone, for where a session takes long. */
 #include "session.h"
 
@@ -21,12 +21,12 @@ static bool send_all(bool to_server, uint32_t stream, size_t len) {
   return true;
 }
 
-enum { BY_KEY, BY_PASSWORD, AFTER_NONE };
+enum { BY_KEY, BY_PASSWORD, AFTER_NONE, LOOKED_UP };
 static bool talk(int login) {
   uint32_t channel = 77;
   dv_bytes me = text("me");
   if (!go() || !ask_client(dv_ask_on(DV_ASK_SERVICE, 0), &channel)) return false;
-  if (login == AFTER_NONE && !ask_client(dv_ask_texts(DV_ASK_LOGIN_NONE, 0, me, false, none), &channel)) return false;
+  if (login >= AFTER_NONE && !ask_client(dv_ask_texts(DV_ASK_LOGIN_NONE, 0, me, false, none), &channel)) return false;
   if (login != BY_PASSWORD && !ask_client(dv_ask_texts(DV_ASK_LOGIN_PROBE, 0, me, false, none), &channel)) return false;
   if (login == BY_PASSWORD && !ask_client(dv_ask_texts(DV_ASK_LOGIN_PASSWORD, 0, me, false, text("not it")), &channel)) return false;
   dv_ask in = login == BY_PASSWORD ? dv_ask_texts(DV_ASK_LOGIN_PASSWORD, 0, me, false, text("word")) : dv_ask_texts(DV_ASK_LOGIN_KEY, 0, me, false, none);
@@ -67,8 +67,9 @@ static int32_t session(int login) {
   dv_server_settings of_server = DV_SERVER_SETTINGS_INIT;
   of_server.software = text("Server");
   of_server.host_seed = (dv_bytes){host_seed, 32};
-  of_server.users = users;
-  of_server.users_len = 2;
+  found = users;
+  found_len = login == LOOKED_UP ? 2 : 0;
+  if (login != LOOKED_UP) of_server.users = users, of_server.users_len = 2;
   dv_client_settings of_client = DV_CLIENT_SETTINGS_INIT;
   of_client.software = text("Client");
   of_client.host_key = (dv_bytes){host_key, 32};
@@ -101,6 +102,80 @@ static void sessions(void) {
   CHECK(told[0][DV_FAILED] == 1 && told[1][DV_TRIED] == 1 && told[1][DV_ACCEPTED] == 1);
   CHECK(session(AFTER_NONE) == 0 && held == 0);
   CHECK(told[0][DV_FAILED] == 1 && tried_me && told[1][DV_TRIED] == 2 && told[1][DV_ACCEPTED] == 1);
+  CHECK(session(LOOKED_UP) == 0 && held == 0);
+  CHECK(told[0][DV_FAILED] == 1 && tried_me && told[0][DV_KEY_OK] == 1 && told[1][DV_ACCEPTED] == 1);
+}
+
+/* ---- users who are looked up */
+
+static bool tries_password(const char *user, const char *word) {
+  uint32_t channel;
+  int accepted = told[1][DV_ACCEPTED];
+  CHECK(ask_client(dv_ask_texts(DV_ASK_LOGIN_PASSWORD, 0, text(user), false, text(word)), &channel));
+  return told[1][DV_ACCEPTED] > accepted;
+}
+
+/* Entries that cannot be set, and the same once the server was asked for a password of the name: nothing changes and nothing is put out. */
+static void refused_lookups(dv_bytes key) {
+  static const uint8_t zeros[32];
+  dv_user you[2] = {{text("you"), text("word"), DV_LOGIN_PASSWORD}, {text("me"), text("word"), DV_LOGIN_PASSWORD}};
+  dv_user wrong = {text("you"), key, 0};
+  dv_bytes out = DV_BYTES_INIT;
+  CHECK(set_user(text("you"), you, 2) == DV_BAD_LOGIN && set_user(text("yo"), you, 1) == DV_BAD_LOGIN);
+  CHECK(set_user(none, dv_no_users, 0) == DV_BAD_LOGIN && set_user(text("you"), &wrong, 1) == DV_BAD_LOGIN);
+  wrong.kind = DV_LOGIN_KEY, wrong.login.len = 31;
+  CHECK(set_user(text("you"), &wrong, 1) == DV_BAD_KEY);
+  wrong.login = (dv_bytes){zeros, 32};
+  CHECK(set_user(text("you"), &wrong, 1) == DV_BAD_KEY);
+  CHECK(!tries_password("you", "no word"));
+  CHECK(set_user(text("you"), you, 1) == DV_USER_KNOWN && set_user(text("you"), dv_no_users, 0) == DV_USER_KNOWN);
+  CHECK(!tries_password("you", "word"));
+  CHECK(set_user(text("nobody"), dv_no_users, 0) == DV_DONE && set_user(text("nobody"), dv_no_users, 0) == DV_USER_KNOWN);
+  dv_server_output(&server, &out);
+  CHECK(out.len == 0 && !dv_server_is_over(&server));
+}
+
+/* Each allocation is refused in turn, and then none: a user who was not set for want of memory is set later. */
+static void set_at_last(dv_bytes name, const dv_user *users, size_t count) {
+  int32_t code;
+  long n = 0;
+  for (;; n++) {
+    left = n;
+    code = set_user(name, users, count);
+    bool was_refused = left == -2;
+    left = -1;
+    if (code != DV_MEMORY || !was_refused) break;
+  }
+  CHECK(n > 0 && code == DV_DONE && set_user(name, users, count) == DV_USER_KNOWN);
+}
+
+static void lookups(void) {
+  uint8_t host_seed[32] = {7}, host_key[32], user_seed[32] = {8}, user_key[32], padding[32] = {3};
+  uint32_t channel;
+  dv_public_key(host_seed, host_key);
+  dv_public_key(user_seed, user_key);
+  memset(told, 0, sizeof told);
+  stopped = 0, pairs_fed = 0, found_len = 0;
+  dv_server_settings of_server = DV_SERVER_SETTINGS_INIT;
+  of_server.software = text("Server"), of_server.host_seed = (dv_bytes){host_seed, 32};
+  dv_client_settings of_client = DV_CLIENT_SETTINGS_INIT;
+  of_client.software = text("Client"), of_client.host_key = (dv_bytes){host_key, 32};
+  dv_material first = fresh();
+  CHECK(dv_server_new(&server, &of_server, &first, padding) == DV_DONE);
+  first = fresh();
+  CHECK(dv_client_new(&client, &of_client, &first, padding) == DV_DONE);
+  CHECK(go() && ask_client(dv_ask_on(DV_ASK_SERVICE, 0), &channel));
+  refused_lookups((dv_bytes){user_key, 32});
+  dv_user me[3] = {{text("me"), text("old word"), DV_LOGIN_PASSWORD}, {text("me"), {user_key, 32}, DV_LOGIN_KEY}, {text("me"), text("word"), DV_LOGIN_PASSWORD}};
+  CHECK(ask_client(dv_ask_texts(DV_ASK_LOGIN_NONE, 0, text("me"), false, none), &channel));
+  set_at_last(text("me"), me, 3);
+  memset(me, 0, sizeof me);
+  CHECK(!tries_password("me", "no word") && tries_password("me", "word"));
+  CHECK(ask_client(dv_ask_texts(DV_ASK_DISCONNECT, 0, none, false, text("done")), &channel));
+  CHECK(set_user(text("he"), dv_no_users, 0) == DV_OVER && dv_server_is_over(&server) && !stopped);
+  dv_client_free(client);
+  dv_server_free(server);
+  CHECK(held == 0);
 }
 
 /* ---- settings, arguments and refused asks */
@@ -194,7 +269,7 @@ static void names(void) {
   CHECK(dv_version() == DV_VERSION);
   CHECK(named(0, "Done") && named(1, "NotYet") && named(12, "NoMaterial") && named(13, "UNKNOWN") && named(-1, "Memory"));
   CHECK(named(-2, "Over") && named(104, "BadExtension") && named(201, "FileBegin") && named(217, "FilePassword") && named(301, "BadSize"));
-  CHECK(named(308, "NothingQueued") && named(309, "UNKNOWN") && named(-3, "UNKNOWN"));
+  CHECK(named(308, "NothingQueued") && named(309, "UserKnown") && named(310, "UNKNOWN") && named(-3, "UNKNOWN"));
   dv_message_name(20, &bytes);
   CHECK(is(bytes, "KEXINIT"));
   dv_message_name(200, &bytes);
@@ -258,12 +333,14 @@ static void refused_memory(int login, int step) {
 int main(int count, char **words) {
   int step = count > 1 ? atoi(words[1]) : 1;
   sessions();
+  lookups();
   settings();
   refusals();
   names();
   files();
   refused_memory(BY_KEY, step > 0 ? step : 1);
   refused_memory(BY_PASSWORD, step > 0 ? step : 1);
+  refused_memory(LOOKED_UP, step > 0 ? step : 1);
   printf(bad ? "%d checks fail\n" : "the session test passes\n", bad);
   return bad != 0;
 }

@@ -24,8 +24,8 @@
  * POINTERS. The caller owes this, and nothing checks it:
  * - No pointer is null, also where the length is 0: pass dv_none, and begin structs by their _INIT, which point there.
  * - A handle is one that `_new` wrote with DV_DONE and that `_free` did not get. `_free` takes the handle by value and ends it.
- * - What a call reads stays the caller's; nothing of it is kept once the call returned. What a call writes through a pointer has room
- *   for its type.
+ * - What a call reads stays the caller's; nothing of it is kept once the call returned. It is none of the bytes that an end shows: copy
+ *   the name of an event first. What a call writes through a pointer has room for its type.
  * - A dv_bytes that a call writes is the end's: its bytes stand until the next call on the same end, whichever that is. Those of
  *   dv_code_name and dv_message_name stand for ever.
  * - A dv_bytes or dv_event that a call writes over was begun by DV_BYTES_INIT or DV_EVENT_INIT.
@@ -96,12 +96,14 @@ enum dv_code {
   /* 301 and on: an argument that no call can take. Nothing changed. */
   DV_BAD_SIZE = 301,        /* `size` of the settings is not that of the library's struct */
   DV_BAD_KEY = 302,         /* a key is not 32 bytes, or is a point of small order, under which anyone can sign */
-  DV_BAD_LOGIN = 303,       /* a user's `kind` is none of enum dv_login, or the name or the password has no bytes */
+  DV_BAD_LOGIN = 303,       /* a user's `kind` is none of enum dv_login, the name or the password has no bytes, or dv_server_set_user got
+                               an entry of another name */
   DV_BAD_METHODS = 304,     /* `methods` is not 1 to 3 */
   DV_BAD_CIPHERS = 305,     /* `ciphers` is none of enum dv_ciphers */
   DV_BAD_ASK = 306,         /* `kind` of an ask is none of enum dv_ask_kind */
   DV_NO_KEY = 307,          /* the client was made without a key of its user */
   DV_NOTHING_QUEUED = 308,  /* no ask waits in the queue */
+  DV_USER_KNOWN = 309,      /* a key or a password of this user was asked for already, or the user was set before */
 
   DV_MEMORY = -1,           /* memory was refused. From `_take`, `_ask`, `_send` and `_work` the end is over; else nothing changed */
   DV_OVER = -2              /* the end is over: nothing is taken and nothing sent */
@@ -166,7 +168,7 @@ typedef struct dv_server_settings {
   size_t size;
   dv_bytes software;        /* what stands after "SSH-2.0-": printable, no space and no '-', at most 245 bytes */
   dv_bytes host_seed;       /* 32 bytes: the seed of the host key */
-  const dv_user *users;     /* whom the server lets in; never null, with 0 users too */
+  const dv_user *users;     /* whom the server lets in, besides those of dv_server_set_user; never null, with 0 users too */
   size_t users_len;
   uint32_t epoch_limit;     /* after so many packets sent under one key the next exchange is due: 64 to 2^31 */
   uint32_t tries;           /* how many requests for authentication may fail: 1 to 20 */
@@ -207,7 +209,8 @@ enum dv_kind {
   DV_UNIMPLEMENTED = 11, /* the peer did not understand a packet [number: its sequence number] */
   DV_DISCONNECTED = 12, /* the peer ended the connection, and the end is over [number: reason; data] */
   DV_EXTENSIONS = 13,   /* the peer announced extensions */
-  DV_TRIED = 14,        /* server: a request for authentication that did not let the user in [name: the user; data: the method] */
+  DV_TRIED = 14,        /* server: a request for authentication that did not let the user in [name: the user; data: the method]. After
+                           the method "none" the user can be looked up: dv_server_set_user */
   DV_GLOBAL = 16,       /* a global request [name; flag: a reply is wanted; data] */
   DV_GLOBAL_DONE = 17,  /* the reply to this end's oldest one [flag: success; data] */
   DV_OPENED = 19,       /* the peer opens a channel: confirm or refuse it [channel; name: its type; window, max_packet; data] */
@@ -353,6 +356,26 @@ static inline dv_ask dv_ask_window(uint32_t kind, uint32_t channel, dv_bytes nam
 DV_EACH(dv_server)
 DV_EACH(dv_client)
 #undef DV_EACH
+
+/* ---- users who are looked up by name
+ *
+ * Gives a server the keys and passwords of one user, after those that it has. Each entry has this name, of whom the server may have
+ * entries already. Without entries (dv_no_users, 0) nobody is let in by this call. All is copied; nothing is put out, and `_event` shows
+ * what it showed before.
+ *
+ * A user is set once, and before a key or a password of that name is asked for, whatever became of it. Later it is refused (309), so that
+ * the same request always has the same answer. Where memory is refused for a name that is asked for, every later call is refused too. The
+ * time for it is DV_TRIED of the method "none", by which OpenSSH, PuTTY, AsyncSSH and Go's client begin:
+ *
+ *   if (event.kind == DV_TRIED && event.name.len && event.data.len == 4 && !memcmp(event.data.at, "none", 4)) {
+ *     ...                                                // copy event.name, which is the end's, and look the user up
+ *     code = dv_server_set_user(&end, name, len, users, users_len); // before the next _take; 309 and -2 can be left
+ *   }
+ *
+ * A client that begins by a key or a password, as paramiko, is judged by the users that the server has then: those of the settings.
+ *
+ * 0; 302 and 303 of an entry, also where its name is another; 303 where the name has no bytes; 309; -1; -2. But for 0 nothing changed. */
+int32_t dv_server_set_user(dv_server *end, const uint8_t *name, size_t len, const dv_user *users, size_t users_len);
 
 #ifdef __cplusplus
 }

@@ -6,11 +6,13 @@ A channel's input is an `asyncio.StreamReader`. One that is not read stops its p
 import asyncio
 import contextlib
 import dataclasses
+import inspect
 import struct
 
-from .codes import AskKind, Kind, Login
+from .codes import AskKind, Code, Kind, Login
+from .connection import Connection
 from .ends import Ask, ClientEnd, ServerEnd, User
-from .errors import AskRefused
+from .errors import BadArgument
 from .streams import PACKET, Channel, ConnectionFailed, in_bytes, text
 
 WINDOW = 1 << 21
@@ -29,141 +31,13 @@ class Completed:
     signal: "str | None"
 
 
-class Connection(asyncio.Protocol):
-    """One end over one transport."""
-
-    def __init__(self, end):
-        self.loop = asyncio.get_running_loop()
-        self.end = end
-        self.channels = {}
-        self.user = None
-        self.transport = None
-        self.why = "the connection is closed"
-        self.lost = self.loop.create_future()
-        self._may_write = True
-        self._pumping = False
-
-    def connection_made(self, transport):
-        self.transport = transport
-        self.flush()
-
-    def data_received(self, data):
-        try:
-            for event in self.end.events(data):
-                self._hear(event)
-            self.pump()
-        except Exception as error:
-            self.why = str(error)
-            self.transport.abort()
-            raise
-
-    def connection_lost(self, exc):
-        if exc is not None:
-            self.why = str(exc)
-        for channel in list(self.channels.values()):
-            channel.end()
-        self.channels.clear()
-        self.failed()
-        if not self.lost.done():
-            self.lost.set_result(None)
-        self.end.close()
-
-    def pause_writing(self):
-        self._may_write = False
-
-    def resume_writing(self):
-        self._may_write = True
-        self.pump()
-
-    def failed(self):
-        """Tells who waits that the connection is over."""
-
-    def queue(self, ask, done=None):
-        """Queues an ask and sends what comes of it. ConnectionFailed after the end."""
-        if self.lost.done() or self.end.is_over:
-            raise ConnectionFailed(self.why)
-        self.end.queue(ask, done)
-        self.pump()
-
-    def consumed(self, channel, count):
-        """Gives data back to the peer's window."""
-        if not self.lost.done() and not channel.is_closed:
-            self.end.consume(channel.number, count)
-            self.loop.call_soon(self.pump)
-
-    def pump(self):
-        """Makes the asks that wait, sends the data that the windows take, and writes what the end put out."""
-        if self.lost.done() or self.transport is None or self._pumping:
-            return
-        self._pumping = True
-        try:
-            if not self.end.is_over:
-                self.end.go_on()
-                # an exchange of keys or a full transport holds data back; asks that wait come before data
-                if self._may_write and not self.end.queued:
-                    for channel in list(self.channels.values()):
-                        self._pump(channel)
-                    self.end.go_on()
-        finally:
-            self._pumping = False
-        self.flush()
-
-    def _pump(self, channel):
-        try:
-            channel.pump(self.end)
-        except AskRefused as error:
-            if not error.is_later:
-                channel.end()
-
-    def flush(self):
-        """Writes what the end put out, and closes the transport once the end is over."""
-        out = self.end.output()
-        if out:
-            self.transport.write(out)
-            self.end.written(len(out))
-        if self.end.is_over:
-            self.transport.close()
-
-    def close(self):
-        """Ends the connection: a DISCONNECT, and the transport is closed."""
-        if not self.lost.done() and not self.end.is_over:
-            self.queue(Ask(AskKind.DISCONNECT, data=b"done"))
-            if not self.end.is_over:
-                self.transport.close()
-
-    async def wait_closed(self):
-        """Waits until the transport is closed."""
-        await asyncio.shield(self.lost)
-
-    async def __aenter__(self):
-        return self
-
-    async def __aexit__(self, *_):
-        self.close()
-        await self.wait_closed()
-
-    def _hear(self, event):
-        channel = self.channels.get(event.channel)
-        if event.kind in (Kind.REFUSED, Kind.DISCONNECTED):
-            said = event.name if event.kind == Kind.REFUSED else event.data
-            self.why = f"{event.kind.name.lower()}: {said.decode(errors='replace')}"
-        elif channel is not None and event.kind >= Kind.CONFIRMED and channel.heard(event):
-            if channel.is_closed:
-                del self.channels[event.channel]
-        else:
-            self.hear(event)
-
-    def hear(self, event):
-        """Hears what is about no channel's data."""
-        self.end.decline()
-
-
 class ClientConnection(Connection):
     """A client's end of a connection, made by `connect`."""
 
     def __init__(self, end, user, password, has_key):
         super().__init__(end)
         self._user = in_bytes(user)
+        self._asked_by_none = False
         self._password = None if password is None else in_bytes(password)
         self._has_key = has_key
         self._opening = {}
@@ -178,7 +52,11 @@ class ClientConnection(Connection):
                 it.set_exception(ConnectionFailed(self.why))
 
     def _log_in(self):
-        if self._has_key:
+        if not self._asked_by_none:
+            # a server that looks its users up by name does so now
+            self._asked_by_none = True
+            self.end.queue(Ask(AskKind.LOGIN_NONE, name=self._user))
+        elif self._has_key:
             self._has_key = False
             self.end.queue(Ask(AskKind.LOGIN_KEY, name=self._user))
         elif self._password is not None:
@@ -288,11 +166,14 @@ class ServerProcess:
 class ServerConnection(Connection):
     """A server's end of a connection, made by `serve`."""
 
-    def __init__(self, end, handle, grace):
+    def __init__(self, end, handle, grace, lookup=None):
         super().__init__(end)
         self._handle = handle
         self._grace = self.loop.call_later(grace, self._too_late)
         self._tasks = {}
+        self._lookup = lookup
+        self._looking = None
+        self._looked_up = set()
 
     def _too_late(self):
         if self.user is None and self.transport is not None:
@@ -301,13 +182,45 @@ class ServerConnection(Connection):
 
     def failed(self):
         self._grace.cancel()
+        if self._looking is not None:
+            self._looking.cancel()
         for task in list(self._tasks.values()):
             task.cancel()
+
+    @property
+    def waits(self):
+        return self._looking is not None
+
+    def _tried(self, name):
+        """Looks a user up who asks by no method, once. Until that is done the client is not heard."""
+        if self._lookup is not None and name and name not in self._looked_up:
+            self._looked_up.add(name)
+            self._looking = self.loop.create_task(self._look_up(name))
+            self.transport.pause_reading()
+
+    async def _look_up(self, name):
+        try:
+            users = self._lookup(name)
+            if inspect.isawaitable(users):
+                users = await users
+            if not self.lost.done() and not self.end.is_over:
+                self.end.set_user(name, users=users or ())
+        except Exception as error:
+            # whose key or password was asked for before is judged as before
+            if not isinstance(error, BadArgument) or error.code != Code.USER_KNOWN:
+                self.loop.call_exception_handler({"message": "a user could not be looked up", "exception": error})
+        finally:
+            self._looking = None
+            if not self.lost.done():
+                self.transport.resume_reading()
+                self.hear_on()
 
     def hear(self, event):
         if event.kind == Kind.ACCEPTED:
             self.user = event.name
             self._grace.cancel()
+        elif event.kind == Kind.TRIED and event.data == b"none":
+            self._tried(event.name)
         elif event.kind == Kind.OPENED:
             self._open(event)
         elif event.kind == Kind.REQUESTED and event.channel in self.channels:
@@ -357,7 +270,8 @@ class ServerConnection(Connection):
 
 async def connect(host, port=22, *, host_key, user, seed=b"", password=None, **settings):
     """Connects to a server that has this host key, 32 bytes, and logs in by the key of this seed, by the password, or first by one and then by the other.
-    Returns a `ClientConnection`; `settings` go to `ClientEnd`. ConnectionFailed where the login fails, OSError where there is no connection."""
+    Before that it asks by no method, so that a server may look the user up. Returns a `ClientConnection`; `settings` go to `ClientEnd`. ConnectionFailed where
+    the login fails, OSError where there is no connection."""
     end = ClientEnd(host_key, seed, **settings)
     try:
         _, connection = await asyncio.get_running_loop().create_connection(lambda: ClientConnection(end, user, password, bool(seed)), host, port)
@@ -372,12 +286,16 @@ async def connect(host, port=22, *, host_key, user, seed=b"", password=None, **s
     return connection
 
 
-async def serve(handle, host="127.0.0.1", port=22, *, host_seed, users, grace=120.0, **settings):
+async def serve(handle, host="127.0.0.1", port=22, *, host_seed, users=(), lookup=None, grace=120.0, **settings):
     """Listens, and calls `await handle(process)` for each command, subsystem and shell that a user asks for; what it returns is the exit status, None 0.
-    `users` are `User`s, and whoever is not let in within `grace` seconds is disconnected. Returns an `asyncio.Server`; `settings` go to `ServerEnd`."""
+    `users` are `User`s, and whoever is not let in within `grace` seconds is disconnected. Returns an `asyncio.Server`; `settings` go to `ServerEnd`.
+
+    `lookup(name)` is asked for further `User`s of this name, in bytes, once a client asks by no method, which most do first. It returns them, or None where
+    there are none, or is a coroutine that does; the client waits for it. Where it fails the loop's exception handler is told, and no user is set. A client
+    that begins by a key or a password is judged by `users` alone."""
     users = list(users)
     loop = asyncio.get_running_loop()
-    return await loop.create_server(lambda: ServerConnection(ServerEnd(host_seed, users, **settings), handle, grace), host, port)
+    return await loop.create_server(lambda: ServerConnection(ServerEnd(host_seed, users, **settings), handle, grace, lookup), host, port)
 
 
 def by_key(name, key):

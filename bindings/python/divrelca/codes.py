@@ -48,6 +48,7 @@ class Code(enum.IntEnum):
     BAD_ASK = 306
     NO_KEY = 307
     NOTHING_QUEUED = 308
+    USER_KNOWN = 309
     MEMORY = -1
     OVER = -2
 
@@ -106,7 +107,8 @@ class Kind(enum.IntEnum):
     EXTENSIONS = 13
     """The peer announced extensions."""
     TRIED = 14
-    """Server: a request for authentication that did not let the user in [name: the user; data: the method]."""
+    """Server: a request for authentication that did not let the user in [name: the user; data: the method]. After `b"none"` the user can be looked up:
+    `ServerEnd.set_user`."""
     GLOBAL = 16
     """A global request [name; flag: a reply is wanted; data]."""
     GLOBAL_DONE = 17

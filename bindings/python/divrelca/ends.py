@@ -245,8 +245,17 @@ class End:
         return taken.value
 
 
+def _rows(held, users):
+    """Users as an array of dv_user. It points at a struct also where there are none."""
+    rows = (library.User * max(len(users), 1))()
+    rows[0].name = rows[0].login = library.none()
+    for row, user in zip(rows, users):
+        row.name, row.login, row.kind = held.bytes(user.name), held.bytes(user.login), user.kind
+    return rows
+
+
 class ServerEnd(End):
-    """A server: `host_seed` is the seed of its host key, and `users` whom it lets in. `BadSetting`, `BadArgument`, `NoMemory`."""
+    """A server: `host_seed` is the seed of its host key, and `users` whom it lets in besides those of `set_user`. `BadSetting`, `BadArgument`, `NoMemory`."""
 
     def __init__(
         self,
@@ -261,13 +270,21 @@ class ServerEnd(End):
         draw=os.urandom,
     ):
         held, users = Held(), list(users)
-        rows = (library.User * max(len(users), 1))()
-        rows[0].name = rows[0].login = library.none()
-        for row, user in zip(rows, users):
-            row.name, row.login, row.kind = held.bytes(user.name), held.bytes(user.login), user.kind
         size = ctypes.sizeof(library.ServerSettings)
-        texts = held.bytes(software), held.bytes(host_seed)
+        texts, rows = (held.bytes(software), held.bytes(host_seed)), _rows(held, users)
         super().__init__("dv_server", library.ServerSettings(size, *texts, rows, len(users), epoch_limit, tries, methods, ciphers), draw)
+
+    def set_user(self, name, keys=(), passwords=(), *, users=()):
+        """Sets what lets the user of this name in, besides what the server has: public keys, passwords, and `User`s of this name. Without any of them nobody
+        is let in by this call. The time for it is `Kind.TRIED` of the method `b"none"`.
+
+        `BadArgument` has `Code.USER_KNOWN` once a key or a password of the user was asked for, or the user was set. It has `Code.BAD_LOGIN` where a `User` has
+        another name. Nothing changed then. `NoMemory`, `Over`."""
+        entries = [User(name, it, Login.KEY) for it in keys] + [User(name, it, Login.PASSWORD) for it in passwords] + list(users)
+        held = Held()
+        rows = _rows(held, entries)
+        with self._lock:
+            check(self._call("set_user", bytes(name), len(name), rows, len(entries)))
 
 
 class ClientEnd(End):

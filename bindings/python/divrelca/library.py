@@ -116,6 +116,7 @@ def loaded():
     declare(library, "dv_public_key", None, key, key)
     declare_end(library, "dv_server", ServerSettings)
     declare_end(library, "dv_client", ClientSettings)
+    declare(library, "dv_server_set_user", c_int32, POINTER(Handle), c_void_p, c_size_t, POINTER(User), c_size_t)
     return library
 
 

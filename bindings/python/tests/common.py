@@ -18,9 +18,9 @@ USERS = [User(b"me", public_key(USER_SEED), Login.KEY), User(b"me", b"word", Log
 class Pair:
     """A client and a server. `heard` keeps each side's events."""
 
-    def __init__(self, seed=USER_SEED, **settings):
+    def __init__(self, seed=USER_SEED, users=USERS, **settings):
         self.client = ClientEnd(public_key(HOST_SEED), seed, **settings)
-        self.server = ServerEnd(HOST_SEED, USERS, **settings)
+        self.server = ServerEnd(HOST_SEED, users, **settings)
         self.heard = {self.client: [], self.server: []}
 
     def __enter__(self):

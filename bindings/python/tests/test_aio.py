@@ -8,8 +8,8 @@ import unittest
 
 from .common import HOST_SEED, USER_SEED, USERS
 
-from divrelca import public_key
-from divrelca.aio import ConnectionFailed, connect, serve
+from divrelca import private_key, public_key
+from divrelca.aio import ConnectionFailed, by_key, by_password, connect, serve
 
 
 async def handle(process):
@@ -56,6 +56,67 @@ class Aio(unittest.IsolatedAsyncioTestCase):
     async def test_wrong_password(self):
         with self.assertRaises(ConnectionFailed):
             await self.connect(seed=b"", password="no word")
+
+    async def looks_up(self, lookup):
+        """Serves, beside the other server, whom this function finds."""
+        server = await serve(handle, port=0, host_seed=HOST_SEED, users=[by_password("other", "word")], lookup=lookup)
+        self.port = server.sockets[0].getsockname()[1]
+        self.addCleanup(server.close)
+
+    async def test_lookup(self):
+        asked = []
+
+        def plain(name):
+            asked.append(name)
+            return [by_key(name, public_key(USER_SEED)), by_password(name, "word")] if name == b"me" else None
+
+        async def slow(name):
+            await asyncio.sleep(0.1)
+            return plain(name)
+
+        for lookup in (plain, slow):
+            asked.clear()
+            await self.looks_up(lookup)
+            for words in ({}, {"seed": b"", "password": "word"}, {"user": "other", "password": "word"}):
+                async with await self.connect(**words) as connection:
+                    self.assertEqual((await connection.run("0", b"x")).stdout, b"x")
+            for words in ({"seed": HOST_SEED}, {"user": "you"}):
+                with self.assertRaises(ConnectionFailed):
+                    await self.connect(**words)
+            self.assertEqual(asked, [b"me", b"me", b"other", b"me", b"you"])
+
+    async def test_lookup_that_fails(self):
+        told = []
+        asyncio.get_running_loop().set_exception_handler(lambda _, context: told.append(context["message"]))
+
+        async def fails(name):
+            raise RuntimeError("as planned")
+
+        for lookup in (fails, lambda name: [by_password("me too", "word")]):
+            told.clear()
+            await self.looks_up(lookup)
+            with self.assertRaises(ConnectionFailed):
+                await self.connect(password="word")
+            self.assertEqual(told, ["a user could not be looked up"])
+
+    async def test_connection_that_is_lost_during_a_lookup(self):
+        begun, ended = asyncio.Event(), asyncio.Event()
+
+        async def endless(name):
+            begun.set()
+            try:
+                await asyncio.sleep(60)
+            finally:
+                ended.set()
+
+        server = await serve(handle, port=0, host_seed=HOST_SEED, lookup=endless, grace=0.5)
+        self.addCleanup(server.close)
+        self.port = server.sockets[0].getsockname()[1]
+        connecting = asyncio.ensure_future(self.connect())
+        await asyncio.wait_for(begun.wait(), 10)
+        with self.assertRaises(ConnectionFailed):
+            await asyncio.wait_for(connecting, 10)
+        await asyncio.wait_for(ended.wait(), 10)
 
     async def test_wrong_host(self):
         with self.assertRaises(ConnectionFailed) as refused:
@@ -108,21 +169,19 @@ class Aio(unittest.IsolatedAsyncioTestCase):
             key = f"{folder}/key"
             make = await asyncio.create_subprocess_exec("ssh-keygen", "-q", "-t", "ed25519", "-N", "", "-f", key)
             self.assertEqual(await make.wait(), 0)
-            from divrelca import private_key
-            from divrelca.aio import by_key
-
             with open(key, "rb") as file:
-                users = [by_key("me", private_key(file.read())[1])]
-            server = await serve(handle, port=0, host_seed=HOST_SEED, users=users)
-            port = str(server.sockets[0].getsockname()[1])
+                public = private_key(file.read())[1]
             options = ["-oStrictHostKeyChecking=no", f"-oUserKnownHostsFile={folder}/hosts", "-oBatchMode=yes", "-F", "none", "-i", key]
             pipe = asyncio.subprocess.PIPE
-            ssh = await asyncio.create_subprocess_exec(
-                "ssh", *options, "-p", port, "me@127.0.0.1", "7", stdin=pipe, stdout=pipe, stderr=pipe
-            )
-            out, err = await ssh.communicate(b"hello")
-            self.assertEqual((out, ssh.returncode), (b"hello", 7), err)
-            server.close()
+            for users in ({"users": [by_key("me", public)]}, {"lookup": lambda name: [by_key(name, public)]}):
+                server = await serve(handle, port=0, host_seed=HOST_SEED, **users)
+                port = str(server.sockets[0].getsockname()[1])
+                ssh = await asyncio.create_subprocess_exec(
+                    "ssh", *options, "-p", port, "me@127.0.0.1", "7", stdin=pipe, stdout=pipe, stderr=pipe
+                )
+                out, err = await ssh.communicate(b"hello")
+                self.assertEqual((out, ssh.returncode), (b"hello", 7), err)
+                server.close()
 
 
 if __name__ == "__main__":

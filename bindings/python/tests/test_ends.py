@@ -3,7 +3,7 @@
 import threading
 import unittest
 
-from .common import HOST_SEED, USERS, Pair
+from .common import HOST_SEED, USER_SEED, USERS, Pair
 
 from divrelca import (
     Ask,
@@ -151,6 +151,78 @@ class Sessions(unittest.TestCase):
             pair.carry()
             self.assertEqual(faults, [])
             self.assertEqual(sum(it.kind == Kind.GLOBAL for it in pair.heard[pair.server]), 200)
+
+
+class Lookups(unittest.TestCase):
+    def try_none(self, pair):
+        """A client that asks by no method, of which its server is told."""
+        pair.carry()
+        pair.ask(pair.client, AskKind.SERVICE)
+        pair.ask(pair.client, AskKind.LOGIN_NONE, name=b"me")
+        tried = pair.last(pair.server, Kind.TRIED)
+        self.assertEqual((tried.name, tried.data), (b"me", b"none"))
+
+    def is_known(self, pair, name):
+        """Whether the user cannot be set any more."""
+        with self.assertRaises(BadArgument) as refused:
+            pair.server.set_user(name, passwords=[b"word"])
+        return (refused.exception.code, refused.exception.name) == (Code.USER_KNOWN, "UserKnown")
+
+    def test_key(self):
+        with Pair(users=()) as pair:
+            self.try_none(pair)
+            pair.server.set_user(b"me", [public_key(USER_SEED)])
+            self.assertTrue(self.is_known(pair, b"me"))
+            pair.ask(pair.client, AskKind.LOGIN_KEY, name=b"me")
+            self.assertEqual(pair.last(pair.server, Kind.ACCEPTED).name, b"me")
+
+    def test_passwords(self):
+        for more in ({"passwords": [b"other", b"new word"]}, {"users": [User(b"me", b"new word", Login.PASSWORD)]}):
+            with Pair() as pair:
+                self.try_none(pair)
+                pair.server.set_user(b"me", **more)
+                pair.ask(pair.client, AskKind.LOGIN_PASSWORD, name=b"me", data=b"new word")
+                self.assertEqual(pair.last(pair.server, Kind.ACCEPTED).name, b"me")
+
+    def test_users_of_before_stay(self):
+        with Pair() as pair:
+            self.try_none(pair)
+            pair.server.set_user(b"me", passwords=[b"new word"])
+            pair.ask(pair.client, AskKind.LOGIN_PASSWORD, name=b"me", data=b"word")
+            self.assertIn(Kind.ACCEPTED, pair.kinds(pair.server))
+
+    def test_nobody(self):
+        with Pair(users=()) as pair:
+            self.try_none(pair)
+            pair.server.set_user(b"me")
+            pair.ask(pair.client, AskKind.LOGIN_KEY, name=b"me")
+            self.assertNotIn(Kind.ACCEPTED, pair.kinds(pair.server))
+
+    def test_after_a_password(self):
+        with Pair(users=()) as pair:
+            self.try_none(pair)
+            pair.ask(pair.client, AskKind.LOGIN_PASSWORD, name=b"me", data=b"word")
+            self.assertTrue(self.is_known(pair, b"me"))
+            pair.ask(pair.client, AskKind.LOGIN_PASSWORD, name=b"me", data=b"word")
+            self.assertNotIn(Kind.ACCEPTED, pair.kinds(pair.server))
+
+    def test_arguments(self):
+        with Pair(users=()) as pair:
+            for name, words, code in (
+                (b"me", {"users": [User(b"you", b"word", Login.PASSWORD)]}, Code.BAD_LOGIN),
+                (b"", {}, Code.BAD_LOGIN),
+                (b"me", {"passwords": [b""]}, Code.BAD_LOGIN),
+                (b"me", {"keys": [b"short"]}, Code.BAD_KEY),
+                (b"me", {"keys": [bytes(32)]}, Code.BAD_KEY),
+            ):
+                with self.assertRaises(BadArgument) as refused:
+                    pair.server.set_user(name, **words)
+                self.assertEqual(refused.exception.code, code)
+            pair.server.set_user(b"me", passwords=[b"word"])
+            pair.carry()
+            pair.ask(pair.server, AskKind.DISCONNECT)
+            with self.assertRaises(Over):
+                pair.server.set_user(b"you")
 
 
 class Errors(unittest.TestCase):

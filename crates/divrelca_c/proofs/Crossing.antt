@@ -33,6 +33,7 @@ use Rattle.ssh_layers.specs.contracts.client_layers.ClientLayers as client_layer
 use Rattle.ssh_layers.specs.contracts.server_layers.ServerLayers as server_layers
 use Rattle.ssh_parts.specs.contracts.packet_key.PacketKey as packet_key
 use Rattle.ssh_embedded.specs.contracts.embedded.Embedded as embedded
+use Rattle.ssh_embedded.specs.contracts.noted.Noted as noted
 use Rattle.ssh_embedded.specs.contracts.padding.Padding as padding
 use Rattle.ssh_embedded.specs.contracts.users.Users as users
 use Rattle.ssh_embedded.specs.contracts.waiting.Waiting as waiting
@@ -45,6 +46,9 @@ packet_reader_send = search (sendable, crosses) depth 40 fits 20000
 
 waiting_send : IsSend waiting.the_row
 waiting_send = search (sendable, crosses) depth 40 fits 20000
+
+noted_send : IsSend (noted.the_field).row
+noted_send = search (sendable, crosses) depth 40 fits 20000
 
 pub padding_send : IsSend padding.the_row
 padding_send = search (sendable, crosses) depth 40 fits 20000
@@ -95,7 +99,7 @@ module _ (S Key : RattleType) (sealing : Sealing.Ghosts S.Denot Key.Denot) where
           view_send (end_inside.the_row R Exchange Layers S F Key role exchange sealing filler) _ _ _ _ (search (sendable, crosses, machine_send) depth 100 fits 50000)
 
       pub embedded_send : IsSend R → IsSend Layers → IsSend Key → IsSend F → IsSend (embedded.the_field R Exchange Layers S F Key role exchange sealing filler).row
-      embedded_send r layers key f = search (sendable, crosses, end_send, waiting_send) depth 100 fits 50000
+      embedded_send r layers key f = search (sendable, crosses, end_send, waiting_send, noted_send) depth 100 fits 50000
 
 -- the memory of a box is no thread's own
 pub box_crosses : (R : RattleType) → IsSend R → (alloc : Global) (at : Ptr) (x : R.Denot) → Keyless (box_owns (ghosts.dealloc_token alloc) R at x)

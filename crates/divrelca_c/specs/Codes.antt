@@ -8,6 +8,8 @@ use Rattle.ssh_end.specs.declared.asking.outcome.Fault.{Fault}
 use Rattle.ssh_end.specs.declared.asking.outcome.Fault.TheVariants as fault
 use Rattle.ssh_embedded.specs.declared.ask_form.FormFault.{FormFault}
 use Rattle.ssh_embedded.specs.declared.ask_form.FormFault.TheVariants as form_fault
+use Rattle.ssh_embedded.specs.declared.server.UserFault.{UserFault}
+use Rattle.ssh_embedded.specs.declared.server.UserFault.TheVariants as user_fault
 use Rattle.ssh_key_files.specs.declared.fault.Expected.{Expected}
 use Rattle.ssh_key_files.specs.declared.fault.Expected.TheVariants as expected
 use Rattle.ssh_key_files.specs.declared.fault.FileFault.{FileFault}
@@ -33,6 +35,13 @@ code_asked (Err why) = code_of why
 abbrev pub form_code : FormFault → ℤ
 form_code form_fault.Kind = pos 306
 form_code form_fault.Key = pos 307
+
+-- what is answered where a user is not set
+abbrev pub user_code : UserFault → ℤ
+user_code user_fault.Over = negsuc 1
+user_code user_fault.Name = pos 303
+user_code user_fault.Known = pos 309
+user_code user_fault.Memory = negsuc 0
 
 -- what was expected in a file
 abbrev pub file_code : Expected → ℤ

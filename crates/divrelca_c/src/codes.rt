@@ -2,9 +2,9 @@
 
 ghost use Rattle.std.specs.Prelude.{◌≡◌, negsuc, pos};
 ghost use Rattle.divrelca_c.specs.Asks.{channel_after};
-ghost use Rattle.divrelca_c.specs.Codes.{code_asked, code_of, fault_code, fault_line, file_code, form_code};
+ghost use Rattle.divrelca_c.specs.Codes.{code_asked, code_of, fault_code, fault_line, file_code, form_code, user_code};
 
-use ssh_embedded::{FormFault, MakeError};
+use ssh_embedded::{FormFault, MakeError, UserFault};
 use ssh_end::{AskStep, Fault};
 use ssh_key_files::{Expected, FileFault};
 
@@ -17,7 +17,7 @@ pub const BAD_SIZE: i32 = 301;
 /// A seed or a key does not have 32 bytes, or a key is a point of small order, under which anyone can sign.
 pub const BAD_KEY: i32 = 302;
 
-/// An entry of the users' list is neither a key nor a password, or its name or its password has no bytes.
+/// An entry of the users' list is neither a key nor a password, its name or its password has no bytes, or it is not of the user who is set.
 pub const BAD_LOGIN: i32 = 303;
 
 /// The methods of authentication are neither keys, nor passwords, nor both.
@@ -34,6 +34,9 @@ pub const NO_KEY: i32 = 307;
 
 /// No ask waits in the queue.
 pub const NOTHING_QUEUED: i32 = 308;
+
+/// A key or a password of the user was asked for before, or the user was set before.
+pub const USER_KNOWN: i32 = 309;
 
 /// Memory was refused. An end that says so is over.
 pub const MEMORY: i32 = -1;
@@ -97,6 +100,19 @@ pub fn code_made(error: MakeError) -> i32
         MakeError::Settings(why) => 100 + i32::from(why.number()),
         MakeError::Key => BAD_KEY,
         MakeError::Login => BAD_LOGIN,
+    }
+}
+
+/// Why a user is not set.
+pub fn code_user(fault: UserFault) -> i32
+    ensures code { result ≡ user_code fault }
+    ensures fails { result ≡ pos 0 → ⊥ }
+{
+    match fault {
+        UserFault::Over => OVER,
+        UserFault::Name => BAD_LOGIN,
+        UserFault::Known => USER_KNOWN,
+        UserFault::Memory => MEMORY,
     }
 }
 

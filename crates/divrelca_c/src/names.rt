@@ -25,7 +25,7 @@ pub extern "C" fn dv_code_name(code: i32, text: &mut DvBytes<'static>) {
         1..=12 => ask_name(code),
         101..=104 => setting_name(code),
         201..=217 => file_name(code),
-        301..=308 => argument_name(code),
+        301..=309 => argument_name(code),
         0 => b"Done",
         -1 => b"Memory",
         -2 => b"Over",
@@ -94,6 +94,7 @@ fn argument_name(code: i32) -> &'static [u8] {
         305 => b"BadCiphers",
         306 => b"BadAsk",
         307 => b"NoKey",
-        _ => b"NothingQueued",
+        308 => b"NothingQueued",
+        _ => b"UserKnown",
     }
 }

@@ -1,26 +1,32 @@
 //! What C calls of a server.
 
-ghost use Rattle.std.specs.Prelude.{◌≡◌, ◌≤◌, IfErr, IfOk, None, [], drop, false, length, map, nat_le, pos, true};
+ghost use Rattle.std.specs.Prelude.{◌≡◌, ◌≤◌, ◌++◌, All, IfErr, IfOk, List, None, [], drop, false, length, map, nat_le, pos, true, ℕ};
 ghost use Rattle.std.specs.Option.{IfSome};
 ghost use Rattle.std.specs.VecDeque.{deque_len};
 ghost use Rattle.divrelca_c.specs.Asks.{ServerAnswers, ServerWorks};
 ghost use Rattle.divrelca_c.specs.Events.{ShowsTurn};
-ghost use Rattle.divrelca_c.specs.Making.{IsServerSettings, entry_by, server_settings};
+ghost use Rattle.divrelca_c.specs.Making.{IsEntry, IsServerSettings, entry_by, server_settings};
+ghost use Rattle.ssh_embedded.specs.Asked.{AreNoted, is_noted};
 ghost use Rattle.ssh_embedded.specs.Forms.{form_asks};
 ghost use Rattle.ssh_embedded.specs.Queues.{IsDeclined, IsGivenBack, IsQueued};
-ghost use Rattle.ssh_embedded.specs.Users.{entry_of};
+ghost use Rattle.ssh_embedded.specs.Users.{entry_of, verdicts_for};
 ghost use Rattle.ssh_embedded.specs.Windows.{bytes_in};
 ghost use Rattle.ssh_end.specs.Ends.{IsNewServer};
+ghost use Rattle.ssh_end.specs.Stands.{ServerStandsAt};
 ghost use Rattle.ssh_end.specs.Steps.{shown_by};
 ghost use Rattle.ssh_end.specs.declared.step.Step.TheVariants as step;
+ghost use Rattle.ssh_model.specs.Laws.Verdicts.{judged_by};
+ghost use Rattle.ssh_model.specs.Protocol.Sessions.Items.{Item};
+ghost use Rattle.ssh_model.specs.Protocol.Sessions.Parties.{Parties};
 ghost use Rattle.ssh_model.specs.State.Channels.Places.{at, shown_room};
-ghost use Rattle.ssh_model.specs.State.TransportLayer.Kept.{after_fed, can_be_fed};
+ghost use Rattle.ssh_model.specs.State.TransportLayer.Kept.{ExchangeParts, after_fed, can_be_fed};
 ghost use Rattle.ssh_parts.specs.AesGcm.{aes_gcm};
 ghost use Rattle.ssh_parts.specs.Ed25519.{signer_of};
 
-use crate::bytes::{DvBytes, DvMaterial, DvServerSettings};
+use crate::bytes::{DvBytes, DvMaterial, DvServerSettings, DvUser};
 use crate::codes::{
     BAD_SIZE, DONE, MEMORY, NOTHING_QUEUED, answer, code_form, code_made, code_of, code_taken,
+    code_user,
 };
 use crate::event::{DvEvent, event_of};
 use crate::making::{ciphers_in, methods_in, signer_in, users_in};
@@ -122,6 +128,45 @@ pub extern "C" fn dv_server_take(h: &mut DvServer, bytes: &[u8], used: &mut usiz
             DONE
         }
         Err(fault) => code_taken(fault),
+    }
+}
+
+/// Gives the server the keys and passwords of one user, after those that it has: once, and before a key or a password of that user is asked
+/// for. So a verdict stays a function of what is asked.
+#[unsafe(no_mangle)]
+pub extern "C" fn dv_server_set_user(
+    alloc: Global,
+    h: &mut DvServer,
+    name: &[u8],
+    users: &[DvUser<'_>],
+) -> i32
+    ensures set { result ≡ pos 0 → map entry_of h.new.value.state.end.role.user.list.items ≡
+        map entry_of h.old.value.state.end.role.user.list.items ++ map entry_by users.now }
+    ensures named { result ≡ pos 0 → All (λ user. user.name.now ≡ name.now) users.now }
+    ensures entries { result ≡ pos 0 → All IsEntry users.now }
+    ensures fresh { result ≡ pos 0 → is_noted name.now h.old.value.state.noted ≡ false }
+    ensures noted { result ≡ pos 0 → is_noted name.now h.new.value.state.noted ≡ true }
+    ensures kept { (user : List ℕ) → is_noted user h.old.value.state.noted ≡ true → is_noted user h.new.value.state.noted ≡ true }
+    ensures stands { result ≡ pos 0 → (p : Parties _) (parts : ExchangeParts) (history : List Item) →
+        ServerStandsAt p aes_gcm parts (verdicts_for h.old.value.state.end.role.user.list.items) history h.old.value.state.end.machine
+        h.old.value.state.end.layers → AreNoted history h.old.value.state.noted →
+        ServerStandsAt (judged_by (verdicts_for h.new.value.state.end.role.user.list.items) p) aes_gcm parts
+        (verdicts_for h.new.value.state.end.role.user.list.items) history h.new.value.state.end.machine h.new.value.state.end.layers }
+    ensures rest { h.new.value.state.end ≡ record h.old.value.state.end {
+      role = record h.old.value.state.end.role
+          { user = h.new.value.state.end.role.user };
+    } }
+    ensures unchanged { (result ≡ pos 0 → ⊥) → h.new.value.state.end.role.user.list.items ≡ h.old.value.state.end.role.user.list.items }
+    ensures unnoted { (result ≡ pos 0 → ⊥) → h.new.value.state.noted ≡ h.old.value.state.noted }
+    ensures same { h.new.value.state ≡ record h.old.value.state { end = h.new.value.state.end; noted = h.new.value.state.noted } }
+{
+    let given = match users_in(alloc, users) {
+        Ok(given) => given,
+        Err(code) => return code,
+    };
+    match h.state().set_user(alloc, name, given) {
+        Ok(()) => DONE,
+        Err(fault) => code_user(fault),
     }
 }
 

@@ -56,6 +56,7 @@ pub enum Methods {
 pub struct ServerSettings<'a> {
     pub software: &'a [u8],
     pub host_seed: &'a [u8; 32],
+    /// Whom the server lets in, besides those of `Server::set_user`.
     pub users: &'a [User<'a>],
     pub epoch_limit: u32,
     pub tries: u32,
@@ -193,6 +194,18 @@ impl Server {
         // SAFETY: all that the settings point at stands during the call, and the handle is used only after code 0.
         Error::check(unsafe { sys::dv_server_new(&mut handle, &given, &first.in_c(), padding) })?;
         Ok(End { handle, role: PhantomData })
+    }
+
+    /// Sets what lets the user of this name in, besides what the server has. Without logins nobody is let in by this call. The time for it is `Event::Tried`
+    /// of the method `none`, before the next `take`.
+    ///
+    /// # Errors
+    /// 302 and 303 of a login, 303 where the name has no bytes, 309 where a key or a password of the user was asked for already or the user was set before, -1
+    /// where memory is refused, -2 where the end is over. Nothing changed then.
+    pub fn set_user(&mut self, name: &[u8], logins: &[Login<'_>]) -> Result<(), Error> {
+        let users: Vec<sys::dv_user> = logins.iter().map(|&login| in_c(&User { name, login })).collect();
+        // SAFETY: the handle is one that `new` wrote, and all that is pointed at stands during the call.
+        Error::check(unsafe { sys::dv_server_set_user(&mut self.handle, name.as_ptr(), name.len(), users.as_ptr(), users.len()) })
     }
 }
 

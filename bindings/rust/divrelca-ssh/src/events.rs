@@ -34,7 +34,7 @@ pub enum Event<'a> {
     Disconnected { reason: u32, description: &'a [u8] },
     /// The peer announced extensions.
     Extensions,
-    /// Server: a request for authentication that did not let the user in.
+    /// Server: a request for authentication that did not let the user in. After the method `none` the user can be looked up: `Server::set_user`.
     Tried { user: &'a [u8], method: &'a [u8] },
     /// A global request.
     Global { name: &'a [u8], want: bool, rest: &'a [u8] },

@@ -1,6 +1,28 @@
 //! A server and a client of SSH-2 without sockets, over the library for C. What is proved is that library; this crate keeps the rules of its pointers.
 //!
 //! Bytes of the peer and asks go in; bytes for the peer and events come out. `examples/run.rs` is a whole client over `std::io`.
+//!
+//! A server has its users from the start, or looks them up by name. Most clients, as OpenSSH, PuTTY, AsyncSSH and Go's, ask by the method `none` first, which a
+//! server shows as `Event::Tried`; then the program copies the name, finds the keys and passwords of that user, and hands them over by `Server::set_user`:
+//!
+//! ```no_run
+//! # use divrelca_ssh::{Event, Login, Server};
+//! # fn turn(server: &mut Server, find: impl Fn(&[u8]) -> Vec<[u8; 32]>) -> Result<(), divrelca_ssh::Error> {
+//! if let Event::Tried { user, method: b"none" } = server.event() {
+//!     let name = user.to_vec();
+//!     let keys = find(&name);
+//!     let logins: Vec<Login> = keys.iter().map(Login::Key).collect();
+//!     match server.set_user(&name, &logins) {
+//!         Err(error) if error.code() == 309 => {} // asked for before, and judged as before
+//!         done => done?,
+//!     }
+//! }
+//! # Ok(())
+//! # }
+//! ```
+//!
+//! A user is set once, and before a key or a password of that name is asked for; later the answer is 309, so that the same request always has the same answer.
+//! A client that begins by a key or a password, as paramiko, is judged by the users that the server has then.
 
 mod asks;
 mod end;

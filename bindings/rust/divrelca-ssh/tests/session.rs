@@ -33,10 +33,14 @@ struct Pair {
 }
 
 fn pair() -> Pair {
-    let (host_key, user_key) = (keys::public_key(&HOST_SEED), keys::public_key(&USER_SEED));
-    let users = [User { name: b"me", login: Login::Key(&user_key) }, User { name: b"me", login: Login::Password(b"word") }];
+    let user_key = keys::public_key(&USER_SEED);
+    pair_of(&[User { name: b"me", login: Login::Key(&user_key) }, User { name: b"me", login: Login::Password(b"word") }])
+}
+
+fn pair_of(users: &[User<'_>]) -> Pair {
+    let host_key = keys::public_key(&HOST_SEED);
     let mut pairs = Pairs(0);
-    let server = Server::new(&ServerSettings::new(&HOST_SEED, &users), &pairs.next(), &[3; 32]).expect("a server");
+    let server = Server::new(&ServerSettings::new(&HOST_SEED, users), &pairs.next(), &[3; 32]).expect("a server");
     let client = Client::new(&ClientSettings::new(&host_key, Some(&USER_SEED)), &pairs.next(), &[3; 32]).expect("a client");
     Pair { client, server, pairs, at_client: Heard::default(), at_server: Heard::default() }
 }
@@ -133,6 +137,35 @@ fn session() {
     for kind in ["Completed", "Service", "Failed", "Authenticated", "Confirmed", "RequestDone", "Adjusted", "GlobalDone", "Closed"] {
         assert!(pair.at_client.kinds.iter().any(|it| it == kind), "{kind}");
     }
+}
+
+#[test]
+fn a_user_is_looked_up() {
+    let user_key = keys::public_key(&USER_SEED);
+    let logins = [Login::Password(b"word"), Login::Key(&user_key)];
+    let mut pair = pair_of(&[]);
+    pair.carry();
+    pair.ask_client(Ask::Service);
+    pair.client.ask(&Ask::LoginNone { user: b"me" }).expect("an ask of the client");
+    let request = pair.client.output().to_vec();
+    pair.client.written(request.len());
+    assert_eq!(pair.server.take(&request).expect("taken"), request.len());
+    let Event::Tried { user, method: b"none" } = pair.server.event() else { panic!("no request by no method") };
+    let name = user.to_vec();
+    assert_eq!(pair.server.set_user(&name, &[Login::Key(&[0; 32])]).map_err(Error::code), Err(302));
+    assert_eq!(pair.server.set_user(&name, &[Login::Password(b"")]).map_err(Error::code), Err(303));
+    assert_eq!(pair.server.set_user(b"", &[]).map_err(Error::code), Err(303));
+    pair.server.set_user(&name, &logins).expect("set");
+    assert_eq!(pair.server.set_user(&name, &logins).map_err(Error::name), Err("UserKnown"));
+    pair.carry();
+    pair.ask_client(Ask::LoginPassword { user: b"you", password: b"word" });
+    assert_eq!(pair.server.set_user(b"you", &logins).map_err(Error::code), Err(309));
+    pair.ask_client(Ask::LoginPassword { user: b"you", password: b"word" });
+    assert!(!pair.at_server.kinds.iter().any(|it| it == "Accepted"));
+    pair.ask_client(Ask::LoginKey { user: b"me" });
+    assert!(pair.at_server.kinds.iter().any(|it| it == "Accepted"));
+    pair.ask_client(Ask::Disconnect { description: b"done" });
+    assert_eq!(pair.server.set_user(b"he", &[]).map_err(Error::code), Err(-2));
 }
 
 #[test]

@@ -118,6 +118,7 @@ extern "C" {
     pub fn dv_authorized_key(text: *const u8, len: usize, place: usize, public_key: *mut [u8; 32], count: *mut usize, line: *mut usize) -> i32;
     pub fn dv_known_host(text: *const u8, len: usize, host: *const u8, host_len: usize, public_key: *mut [u8; 32], line: *mut usize) -> i32;
     pub fn dv_public_key(seed: *const [u8; 32], public_key: *mut [u8; 32]);
+    pub fn dv_server_set_user(end: *mut dv_server, name: *const u8, len: usize, users: *const dv_user, users_len: usize) -> i32;
 }
 
 macro_rules! each {

@@ -1,0 +1,49 @@
+-- The users of a server that were made of entries that C passes, and a server that gets them.
+use Rattle.std.proofs.Common.{◌≡◌, ℕ, true, List, [], ◌∷◌, All, map, subst, sym}
+use Rattle.std.proofs.lemmas.List.Elements.{All-cons, All-head, All-map, All-nil, All-tail, All-weaker}
+use Rattle.std.proofs.lemmas.List.Sums.{AllPass-from_list_all}
+use Rattle.std.specs.Cmp.Lexicographic.{same_text}
+use Rattle.std.specs.List.{list_all}
+use Rattle.ssh_model.specs.Laws.Verdicts.{judged_by}
+use Rattle.ssh_model.specs.Protocol.Sessions.Items.{Item}
+use Rattle.ssh_model.specs.Protocol.Sessions.Parties.{Parties}
+use Rattle.ssh_model.specs.Protocol.Wire.MacOnly.{is_text}
+use Rattle.ssh_model.specs.State.TransportLayer.Kept.{ExchangeParts}
+use Rattle.ssh_end.specs.Stands.{ServerStandsAt}
+use Rattle.ssh_parts.specs.AesGcm.{aes_gcm}
+use Rattle.ssh_parts.specs.declared.packet_key.PacketKey.{PacketKey}
+use Rattle.ssh_embedded.specs.Asked.{AreNoted}
+use Rattle.ssh_embedded.specs.Users.{entry_of, verdicts_for}
+use Rattle.ssh_embedded.specs.declared.server.Server.{Server}
+use Rattle.ssh_embedded.specs.declared.users.Login.{Login}
+use Rattle.ssh_embedded.specs.declared.users.User.{User}
+use Rattle.divrelca_c.specs.Making.{entry_by}
+use Rattle.divrelca_c.specs.declared.bytes.DvUser.{DvUser}
+
+-- what holds of the images holds of what they are images of
+unmapped : {X Y : Type 0} (P : X → Type 0) (f : Y → X) (ys : List Y) → All P (map f ys) → All (λ y. P (f y)) ys
+unmapped P f [] all = All-nil (λ y. P (f y))
+unmapped P f (y ∷ ys) all =
+    All-cons (λ it. P (f it)) y ys (All-head P (f y) (map f ys) all) (unmapped P f ys (All-tail P (f y) (map f ys) all))
+
+-- Where the users have this name, the entries have it.
+pub entries_named : (name : List ℕ) (users : List User) (given : List DvUser) → map entry_of users ≡ map entry_by given →
+    list_all (λ user. is_text user.name.items name) users ≡ true → All (λ user. user.name.now ≡ name) given
+entries_named name users given made named =
+    let IsNamed : List ℕ × Login → Type 0 = λ entry. entry.0 ≡ name in
+    let are = All-weaker (λ (user : User). is_text user.name.items name ≡ true) (λ user. user.name.items ≡ name)
+    (λ user is. same_text user.name.items name (sym is)) users
+    (AllPass-from_list_all (λ user. is_text user.name.items name) users named) in
+    unmapped IsNamed entry_by given (subst (All IsNamed) made (All-map IsNamed entry_of users are))
+
+-- Where a server stands with its users, it stands with those of another one, if all whose key or password it was asked for are noted.
+abbrev StandsOn : (old new : Server) → Type 0
+StandsOn old new = (p : Parties PacketKey) (parts : ExchangeParts) (history : List Item) →
+    ServerStandsAt p aes_gcm parts (verdicts_for old.state.end.role.user.list.items) history old.state.end.machine old.state.end.layers →
+    AreNoted history old.state.noted →
+    ServerStandsAt (judged_by (verdicts_for new.state.end.role.user.list.items) p) aes_gcm parts
+    (verdicts_for new.state.end.role.user.list.items) history new.state.end.machine new.state.end.layers
+
+-- the same of the server behind the handle, which is that on loan
+pub stands_on : (old lent new : Server) → lent ≡ old → StandsOn lent new → StandsOn old new
+stands_on old lent new same stands = subst (λ it. StandsOn it new) same stands
