@@ -374,7 +374,7 @@ DV_EACH(dv_client)
  *
  * A client that begins by a key or a password, as paramiko, is judged by the users that the server has then: those of the settings.
  *
- * 0; 302 and 303 of an entry, also where its name is another; 303 where the name has no bytes; 309; -1; -2. But for 0 nothing changed. */
+ * 0; 302 and 303 of an entry, also where its name is another; 303 where the name has no bytes; 309; -1; -2. With any code but 0 nothing changed. */
 int32_t dv_server_set_user(dv_server *end, const uint8_t *name, size_t len, const dv_user *users, size_t users_len);
 
 #ifdef __cplusplus
