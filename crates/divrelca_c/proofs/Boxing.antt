@@ -15,15 +15,15 @@ use contract.Lifetimes.{toks}
 use contract.Monad.{Fun, fact, fact_i, fm→mono}
 use contract.Running.{Running}
 use mir.Raw.{raw as bare}
-use mir.Syntax.{Args, Dict, a_type, dcons, dnil, method, no_args}
+use mir.Syntax.{Args, Dict, Symbol, a_type, dcons, dnil, fn₀, impl, method, no_args, tnil}
 use mir.Val.{Val, WT, has_ty, of_list, vptr, vstruct}
 use prog.Memory.{Memory}
 use prog.Model.{Model}
-use prog.Routine.{Env, Routine}
+use prog.Routine.{Env, Routine, ◌≼⁺◌}
 use types.Kit.{Item, ‵, raw, ◌⊛◌, some, later, now as at_once, ◌$◌, ◌∵◌, !, await, check, done, drop, feq_i, feq_l, fjoin, fpick, fsplit, join, keep, move, pick, qed, rewrite, show, split, split3, updating, use0, use1}
 use types.Logic.{Logic, sem}
 use denote.Builtin.{unit}
-use denote.Exit.{Kept}
+use denote.Exit.{no, yes}
 use denote.Param.{arg, bounded, layout}
 use denote.Param.Glue.{Met, signature, spent}
 use denote.RawPtr.{Ptr, RawPtr, block_ptr, in_a_block, null_ptr, ptr_val}
@@ -35,7 +35,7 @@ use denote.Triple.Carry.{grown, spared}
 use denote.Triple.Clauses.{Ended, Lasts, closing, lasts}
 use denote.Triple.Spec.{Meets, Spec, triple_of}
 use denote.Triple.Statement.{Contract, FmF}
-use denote.Triple.Table.{run_framed}
+use denote.Triple.Table.{run_framed, widened}
 use Rattle.core.proofs.alloc.Calls.{Fits, handle_tells, token}
 use Rattle.std_alloc.specs.Box.Ownership.{box_owns}
 use Rattle.std_alloc.specs.contracts.boxed.Box.from_raw as from_raw
@@ -138,24 +138,33 @@ module _ (E : Bx) (glue : Dict) {M : Type 1} {𝓤 : Ura M} (𝓛 : Logic 𝓤) 
         check ! (ap only word_is, fits) $ keep ! (0 ∷ []) $ done !))))))))
 
 -- A type that is not generic has a `drop` of its own. It is what a call passes for the type's bound.
+--     glue_of                   what is passed, by the symbol of that `drop`
 --     let_go, silent            the contract of such a `drop`, which says nothing
 --     glued                     what meets it is what the bound wants
-module _ (X : RattleType) (kept : Kept) where
-  abbrev pub let_go : Ended
-  let_go = record { signature = record { lifetimes = 0; outlives = []; params = plain (λ _. X) ∷ []; result = plain (λ _. unit) }; kept = (kept, tt) }
+abbrev pub glue_of : Symbol → Dict
+glue_of s = impl (s ∷ []) tnil dnil
 
-  abbrev pub silent : {M : Type 1} {𝓤 : Ura M} → Logic 𝓤 → Spec 𝓤 let_go.signature
+module _ (X : RattleType) where
+  abbrev let_go : Ended
+  let_go = record { signature = record { lifetimes = 0; outlives = []; params = plain (λ _. X) ∷ []; result = plain (λ _. unit) }; kept = (yes, tt) }
+
+  abbrev silent : {M : Type 1} {𝓤 : Ura M} → Logic 𝓤 → Spec 𝓤 let_go.signature
   silent {𝓤 = 𝓤} 𝓛 = closing 𝓛 let_go (λ κs a. record { ghost = Unit {0}; requires = λ _. emp 𝓤; ensures = λ _ r end. emp 𝓤 })
 
-  module _ {M : Type 1} {𝓤 : Ura M} (𝓛 : Logic 𝓤) (𝓜 : Model 𝓤 𝓛.H) (𝓡 : Running 𝓤 𝓛.H 𝓜) (γ : Env) (glue : Dict) where
-    abbrev called : Fun 𝓤
-    called = 𝓡.run (γ (method glue 0 no_args))
+  module _ {M : Type 1} {𝓤 : Ura M} (𝓛 : Logic 𝓤) (𝓜 : Model 𝓤 𝓛.H) (𝓡 : Running 𝓤 𝓛.H 𝓜) (γ : Env) (s : Symbol) where
+    abbrev passed : Routine
+    passed = γ (method (glue_of s) 0 no_args)
 
-    pub glued : (k : Kept) → Meets 𝓛 let_go.signature called (silent 𝓛) → Met 𝓛 𝓜 𝓡 γ (arg (bare (layout X)) k X) glue
-    glued k met y =
-        let fm : FmF 𝓤 called = run_framed 𝓤 𝓛.H 𝓜 𝓡 (γ (method glue 0 no_args)) in
+    abbrev called : Fun 𝓤
+    called = 𝓡.run passed
+
+    pub glued : γ (fn₀ s) ≼⁺ passed → Meets 𝓛 let_go.signature (𝓡.run (γ (fn₀ s))) (silent 𝓛) → Met 𝓛 𝓜 𝓡 γ (arg (bare (layout X)) no X) (glue_of s)
+    glued wider drops y =
+        let met = widened 𝓤 𝓛.H (triple_of 𝓛 let_go.signature (silent 𝓛)) 𝓜 𝓡 γ (γ (fn₀ s)) passed wider drops in
+        let fm : FmF 𝓤 called = run_framed 𝓤 𝓛.H 𝓜 𝓡 passed in
+        let row = arg (bare (layout X)) no X in
         let longer = grown 𝓛 let_go.signature 1 (X.lives, tt) (silent 𝓛) in
-        let wanted = triple_of 𝓛 (signature (arg (bare (layout X)) k X)) (spent 𝓛 (arg (bare (layout X)) k X)) in
+        let wanted = triple_of 𝓛 (signature row) (spent 𝓛 row) in
         let back : Val → Unit {0} → SProp 𝓤 = λ v r. sep 𝓤 (toks 𝓛 1 y.0.0 y.0.1) (sem 𝓛 (unit.own_val r (v ∷ []))) in
         let Last = Lasts let_go tt (y.0.3.0, tt) in
         let gone : SProp 𝓤 = ex 𝓤 (λ (ws : Last). sep 𝓤 (sem 𝓛 (lasts let_go tt (y.0.3.0, tt) ws)) (emp 𝓤)) in

@@ -1,15 +1,9 @@
--- What may go to another thread: an end where its role, its layers, its keys and its padding may, and the box of a value that may.
-use mir.Raw.{raw}
+-- What may go to another thread: an end where its role, its layers, its keys and its padding may, and the handle of an end that may.
+use mathlib.Core.Path.{◌∙◌, subst, sym}
 use base.Shift.{Keyless}
-use denote.Memory.{lone}
 use denote.RattleType.{RattleType}
-use denote.RawPtr.{Ptr}
 use denote.Param.Send.{IsSend, sendable, view_send}
-use Rattle.std.proofs.Crossing.{crosses, frees}
-use Rattle.std.specs.Box.Ownership.{box_owns}
-use Rattle.std.specs.Global.{Global}
-use Rattle.std_alloc.proofs.SendSync.{lies}
-use Rattle.std_heap.specs.contracts.GlobalAllocator.TheImpl.{ghosts}
+use Rattle.std.proofs.Crossing.{Box-send, crosses}
 use Rattle.aes_gcm.specs.contracts.gcm.GcmKey as gcm_key
 use Rattle.aes_gcm.specs.contracts.gcm.GcmKey.TheInside as gcm_key_inside
 use Rattle.aes_gcm.specs.contracts.gcm.KeyParts as key_parts
@@ -37,6 +31,7 @@ use Rattle.ssh_embedded.specs.contracts.noted.Noted as noted
 use Rattle.ssh_embedded.specs.contracts.padding.Padding as padding
 use Rattle.ssh_embedded.specs.contracts.users.Users as users
 use Rattle.ssh_embedded.specs.contracts.waiting.Waiting as waiting
+use Rattle.divrelca_c.proofs.Handling.{Handle}
 
 line_reader_send : IsSend line_reader.the_row
 line_reader_send = search (sendable, crosses) depth 40 fits 20000
@@ -101,6 +96,9 @@ module _ (S Key : RattleType) (sealing : Sealing.Ghosts S.Denot Key.Denot) where
       pub embedded_send : IsSend R → IsSend Layers → IsSend Key → IsSend F → IsSend (embedded.the_field R Exchange Layers S F Key role exchange sealing filler).row
       embedded_send r layers key f = search (sendable, crosses, end_send, waiting_send, noted_send) depth 100 fits 50000
 
--- the memory of a box is no thread's own
-pub box_crosses : (R : RattleType) → IsSend R → (alloc : Global) (at : Ptr) (x : R.Denot) → Keyless (box_owns (ghosts.dealloc_token alloc) R at x)
-box_crosses R s alloc at x = (lies R s at x, frees.frees alloc (raw (lone R.mir)) at)
+-- what a handle owns is what its box owns
+pub handle_send : (K : Handle) → IsSend K.end → IsSend K.row
+handle_send K s = record {
+  owned = λ h vs. subst Keyless (sym (K.owns h vs ∙ K.boxes (K.box_of h) vs)) ((Box-send K.end s).owned (K.box_of h) vs);
+  leaving = λ k h w. subst Keyless (sym (K.silent k h w)) tt;
+}

@@ -1,6 +1,7 @@
 pub mod Boxing
-pub mod ClientBoxed
-pub mod ServerBoxed
+pub mod HandleWalks
+pub mod Handling
+pub mod Roles
 mod Known
 mod Named
 mod UpTo

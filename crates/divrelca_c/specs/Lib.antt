@@ -3,5 +3,4 @@ pub mod Codes
 pub mod Events
 pub mod Files
 pub mod Handles
-pub mod Lent
 pub mod Making

@@ -17,11 +17,11 @@ ghost use Rattle.ssh_model.specs.State.TransportLayer.Kept.{after_fed, can_be_fe
 ghost use Rattle.ssh_parts.specs.AesGcm.{aes_gcm};
 
 use crate::bytes::{DvBytes, DvClientSettings, DvMaterial};
-use crate::client_handle::{DvClient, DvNewClient};
 use crate::codes::{
     BAD_SIZE, DONE, MEMORY, NOTHING_QUEUED, answer, code_form, code_made, code_of, code_taken,
 };
 use crate::event::{DvEvent, event_of};
+use crate::handle::{DvClient, DvNewClient};
 use crate::making::{ciphers_in, key_in, user_in};
 use ssh_embedded::{AskForm, Client, ClientSettings, Material, Waiting};
 use std::alloc::Global;

@@ -4,13 +4,10 @@
 
 pub mod bytes;
 pub mod client;
-pub mod client_handle;
-pub mod client_lent;
 mod codes;
 mod event;
+pub mod handle;
 pub mod keys;
 mod making;
 pub mod names;
 pub mod server;
-pub mod server_handle;
-pub mod server_lent;

@@ -29,8 +29,8 @@ use crate::codes::{
     code_user,
 };
 use crate::event::{DvEvent, event_of};
+use crate::handle::{DvNewServer, DvServer};
 use crate::making::{ciphers_in, methods_in, signer_in, users_in};
-use crate::server_handle::{DvNewServer, DvServer};
 use ssh_embedded::{AskForm, Material, Server, ServerSettings, Waiting};
 use std::alloc::Global;
 
