@@ -119,7 +119,7 @@ static const char *password(void) {
 /* ---- the session */
 
 static struct {
-  bool has_key, tried_password;       /* how to log in */
+  bool asked, has_key, tried_password; /* how to log in */
   bool is_open, may_send, is_closed;  /* the channel */
   bool read_all, sent_eof;            /* standard input */
   bool is_over;
@@ -134,15 +134,20 @@ static void give_up(const char *why, dv_bytes more) {
   say("%s%.*s", why, (int)more.len, (const char *)more.at);
   session.is_over = true;
 }
+static bool may(dv_bytes methods, const char *method) { return !methods.len || memmem(methods.at, methods.len, method, strlen(method)); }
 static void log_in(dv_bytes methods) {
   const char *word = NULL;
-  if (session.has_key) {
+  if (!session.asked) { /* by no method, for what methods there are; a server that looks users up by name does so now */
+    session.asked = true;
+    queue(dv_ask_texts(DV_ASK_LOGIN_NONE, 0, text(words.user), false, none));
+    return;
+  }
+  if (session.has_key && may(methods, "publickey")) {
     session.has_key = false;
     queue(dv_ask_texts(DV_ASK_LOGIN_KEY, 0, text(words.user), false, none));
     return;
   }
-  bool may = !methods.len || memmem(methods.at, methods.len, "password", 8);
-  if (may && !session.tried_password) word = password();
+  if (may(methods, "password") && !session.tried_password) word = password();
   session.tried_password = true;
   if (word) queue(dv_ask_texts(DV_ASK_LOGIN_PASSWORD, 0, text(words.user), false, text(word)));
   else give_up("the user is not let in; methods that can go on: ", methods);
