@@ -1,9 +1,8 @@
 //! A whole server and a whole client of SSH-2. Standard input is what the peer sends, and standard output what goes to it.
 //!
 //! - `example_embedding server HOST_KEY USER AUTHORIZED_KEYS` sends back what a client sends on its channel. Status 0.
-//! - sh_embedding client HOST_KEY.pub USER KEY TEXT` sends a text to `cat` at a server, and writes what comes back to standard error. The
-//! status
-//!   is that of `cat`.
+//! - `example_embedding client HOST_KEY.pub USER KEY TEXT` sends a text to `cat` at a server, and writes what comes back to standard error.
+//!   The status is that of `cat`.
 //!
 //! Status 255 says that a session didn't come to its end, and standard error says why. The keys are files of OpenSSH.
 #![tactic(auto)]

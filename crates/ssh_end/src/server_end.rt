@@ -97,7 +97,7 @@ impl<P: ServerParts, U: UserJudge + Drop> End<ServerRole<P, U>> {
     }
 
     /// Puts another judge of its users in the place of the one that it has, and gives that back. Requests that come from here on are for
-    /// the new one. What is said of the end goes on holding where both agree on each request that was taken: `turn_laws::judges_exchanged`.
+    /// the new one. What is said of the end goes on holding where both agree on each request that was taken: `judge_laws::users_exchanged`.
     pub fn replace_user(&mut self, user: U) -> U
         ensures old { result ≡ self.old.role.user }
         ensures new { self.new ≡ record self.old { role = record self.old.role { user = user } } }
