@@ -8,7 +8,7 @@ found=0
 for crate in *; do
     others=$(ls | grep -vx "$crate" | paste -sd'|')
     if grep -rnE "Rattle\.($others)\.proofs\." "$crate" --exclude-dir=out --include='*.antt' --include='*.rt' |
-        grep -vE "\.TheLaws as [a-z]+$"; then
+        grep -vE "\.TheLaws as [a-z_]+$"; then
         found=1
     fi
 done
