@@ -37,15 +37,15 @@ taken_by p side h = filter (λ n. may_take p side h n) (from_to 0 255)
 abbrev pub taken : Side → List Item → List ℕ
 taken side h = taken_by toy side h
 
--- what it refuses a message for, and an ask
+-- what the end refuses a message for
 abbrev pub refusal_by : Parties (List ℕ) → Side → List Item → Msg → Option Refusal
 refusal_by p side h message = first_refusal (answer_checks p side h message)
 
--- what they refuse a message for
+-- what the toys refuse a message for
 abbrev pub refusal : Side → List Item → Msg → Option Refusal
 refusal side h message = refusal_by toy side h message
 
--- what they refuse an ask for
+-- what the toys refuse an ask for
 abbrev pub ask_refusal : Side → List Item → Ask → Option AskRefusal
 ask_refusal side h ask = first_refusal (ask_checks toy side h ask)
 
@@ -59,7 +59,7 @@ says message = Sent None message []
 abbrev pub hears : Msg → Item
 hears message = Took None message []
 
--- on the channel of this number
+-- the end sent a message on the channel of this number
 abbrev pub says_on : ℕ → Msg → Item
 says_on x message = Sent (Some x) message []
 
@@ -73,21 +73,21 @@ hears_on x message = Took (Some x) message []
 abbrev pub line_of : Side → List ℕ
 line_of side = (settings_of toy side).line
 
--- the bytes of the cookies and of the secrets, of the first exchange and of the second
+-- the byte of a cookie, of the first exchange or of the second
 abbrev pub cookie_byte : Side → (first : Bool) → ℕ
 cookie_byte Client true = 193
 cookie_byte Client false = 162
 cookie_byte Server true = 209
 cookie_byte Server false = 178
 
--- the bytes of the secrets, of the first exchange and of the second
+-- the last byte of a secret, of the first exchange or of the second
 abbrev pub secret_byte : Side → (first : Bool) → ℕ
 secret_byte Client true = 1
 secret_byte Client false = 4
 secret_byte Server true = 2
 secret_byte Server false = 8
 
--- the pair of an exchange
+-- the pair of an exchange was fed
 abbrev pub feeding : Side → (first : Bool) → Item
 feeding side first = Fed (cookie (cookie_byte side first)) (secret (secret_byte side first))
 
@@ -103,7 +103,7 @@ opened_by p side = says (KexInit (offer_by p side true)) ∷ SentLine (line_of s
 abbrev pub lined_by : Parties (List ℕ) → Side → List Item
 lined_by p side = TookLine (line_of (peer side)) ∷ opened_by p side
 
--- its KEXINIT was taken
+-- the KEXINIT of the peer was taken, and a client sent its point
 abbrev pub offered_by : Parties (List ℕ) → Side → List Item
 offered_by p Client = says (KexEcdhInit (secret 1)) ∷ hears (KexInit (offer_by p Server true)) ∷ lined_by p Client
 offered_by p Server = hears (KexInit (offer_by p Client true)) ∷ lined_by p Server
@@ -122,31 +122,31 @@ completed_by p Server =
 abbrev pub keyed_by : Parties (List ℕ) → Side → List Item
 keyed_by p side = hears NewKeys ∷ completed_by p side
 
--- the same of the ends that most examples are about
+-- the KEXINIT of a toy in an exchange: most examples are about the toys
 abbrev pub offer_of : Side → (first : Bool) → Proposal
 offer_of side first = offer_by toy side first
 
--- the opening
+-- the opening of a toy
 abbrev pub opened : Side → List Item
 opened side = opened_by toy side
 
--- after the peer's line
+-- a toy after the peer's line
 abbrev pub lined : Side → List Item
 lined side = lined_by toy side
 
--- after its KEXINIT
+-- a toy after the peer's KEXINIT
 abbrev pub offered : Side → List Item
 offered side = offered_by toy side
 
--- the server's reply
+-- the reply of the toy server in the first exchange
 abbrev pub first_reply : Msg
 first_reply = first_reply_by toy
 
--- after the exchange
+-- a toy after the first exchange
 abbrev pub completed : Side → List Item
 completed side = completed_by toy side
 
--- after the peer's NEWKEYS
+-- a toy after the peer's first NEWKEYS
 abbrev pub keyed : Side → List Item
 keyed side = keyed_by toy side
 
@@ -169,7 +169,7 @@ abbrev pub served : Side → List Item
 served Client = Told Service ∷ hears (ServiceAccept userauth) ∷ asking
 served Server = says (ServiceAccept userauth) ∷ hears (ServiceRequest userauth) ∷ keyed Server
 
--- requests for authentication, of which the first is right
+-- a request with the right password
 abbrev pub right_request : Msg
 right_request = UserauthRequest (codes "u") connection (Password (codes "p") None)
 
@@ -177,7 +177,7 @@ right_request = UserauthRequest (codes "u") connection (Password (codes "p") Non
 abbrev pub wrong_request : Msg
 wrong_request = UserauthRequest (codes "u") connection (Password (codes "q") None)
 
--- a request that asks for a key
+-- a request that asks whether this key would do
 abbrev pub probe : (key : List ℕ) → Msg
 probe key = UserauthRequest (codes "u") connection (Publickey (codes "toy") key None)
 
@@ -191,7 +191,7 @@ right_signature =
 abbrev pub requesting : List Item
 requesting = says right_request ∷ Asked (AskPassword (codes "u") (codes "p")) ∷ served Client
 
--- the client asked for a key
+-- the client asked whether a key would do
 abbrev pub probing_client : List Item
 probing_client = says (probe (codes "k")) ∷ Asked (AskProbe (codes "u") (codes "toy") (codes "k")) ∷ served Client
 
@@ -214,12 +214,12 @@ fed_again side = feeding side false ∷ admitted side
 abbrev pub rekeying : Side → List Item
 rekeying side = says (KexInit (offer_of side false)) ∷ fed_again side
 
--- that of the peer was taken
+-- the peer's second KEXINIT was taken, and a client sent its point
 abbrev pub offered_again : Side → List Item
 offered_again Client = says (KexEcdhInit (secret 4)) ∷ hears (KexInit (offer_of Server false)) ∷ rekeying Client
 offered_again Server = hears (KexInit (offer_of Client false)) ∷ rekeying Server
 
--- the message of the exchange was taken
+-- the message of the exchange was taken, and NEWKEYS was sent
 abbrev pub completed_again : Side → List Item
 completed_again Client = says NewKeys ∷ hears (KexEcdhReply toy_key (secret 8) []) ∷ offered_again Client
 completed_again Server =
@@ -284,7 +284,7 @@ said_data = says_on 3 (ChannelData 5 (replicate 16 0))
 abbrev pub said_request : Item
 said_request = says_on 3 (ChannelRequest 5 [] true [])
 
--- a channel of which the server takes much
+-- a channel of the client on which the server takes much
 abbrev pub wide_channel : List Item
 wide_channel = hears_on 3 (ChannelOpenConfirmation 3 5 100000 100000 []) ∷ channel_opened Client
 
@@ -306,7 +306,7 @@ connection_asks =
 
 -- ---- other parts and settings
 
--- a server that names other methods
+-- toys of which the server names these methods
 abbrev pub with_methods : List (List ℕ) → Parties (List ℕ)
 with_methods methods = record toy { server = record (toy_settings (line_of Server)) { methods = methods } }
 
@@ -325,7 +325,7 @@ plain_crypto = record mac_only {
   made = λ enc mac iv cipher key. iv ++ cipher ++ key;
 }
 
--- where the peer offers another encryption and another MAC in each direction
+-- a KEXINIT that lists another encryption and another MAC for each direction
 abbrev pub naming_offer : Side → Proposal
 naming_offer side =
     record (offer_by naming_toys side true) {
@@ -347,6 +347,6 @@ keyed_naming side =
 abbrev pub first_inputs : Side → Inputs
 first_inputs side = exchange toy side 0 (completed side)
 
--- the MAC key of a direction
+-- the MAC key of a direction after the first exchange
 abbrev pub mac_key : Side → Inputs → List ℕ
 mac_key from x = key_block (derived x.shared (exchange_hash x) (mac_letter from) (exchange_hash x) 32)

@@ -1,6 +1,6 @@
--- A run of two toy ends without strict key exchange, in which a prefix of what the server sent under its keys is lost:
--- an IGNORE that nobody sent comes to the client before there are keys, and makes up in its count for the packet that
--- is lost.
+-- A run of two toy ends without strict key exchange. A prefix of the packets that the server sent under its keys is
+-- lost. An IGNORE that nobody sent comes to the client before there are keys. In the client's count of packets it makes
+-- up for the packet that is lost.
 use Rattle.std.specs.Prelude.{true, List, [], ◌∷◌, ◌++◌, codes}
 use Rattle.ssh_model.specs.Protocol.Side.{Side.Client, Side.Server, part, done_by}
 use Rattle.ssh_model.specs.Protocol.Wire.Message.{Msg, Msg.Disconnect, Msg.Ignore, Msg.NewKeys, Msg.KexEcdhInit}
@@ -22,7 +22,7 @@ plain1 = done_by Server (TookLine (line_of Client) ∷ []) ++ plain0
 abbrev pub plain2 : List Done
 plain2 = done_by Client (TookLine (line_of Server) ∷ []) ++ plain1
 
--- what nobody sent
+-- the turn that takes what nobody sent, and the next turns
 abbrev pub plain3 : List Done
 plain3 = done_by Client (Told Ignored ∷ takes (Ignore []) ∷ []) ++ plain2
 
@@ -32,7 +32,7 @@ plain4 = done_by Server (takes (offer_message_by plain Client true) ∷ []) ++ p
 abbrev pub plain5 : List Done
 plain5 = done_by Client (sends (KexEcdhInit (secret 1)) ∷ takes (offer_message_by plain Server true) ∷ []) ++ plain4
 
--- the reply of the server
+-- the reply of the server, and the next turns
 abbrev pub plain_reply : Msg
 plain_reply = reply_now plain (part Server plain5) (secret 1)
 
@@ -53,17 +53,17 @@ plain9 = done_by Server (takes NewKeys ∷ []) ++ plain8
 abbrev pub plain10 : List Done
 plain10 = done_by Client (sends (ServiceRequest userauth) ∷ Asked AskService ∷ []) ++ plain9
 
--- the packet that is lost
+-- the turn that sends the packet that is lost
 abbrev pub plain11 : List Done
 plain11 = done_by Server (sends (ServiceAccept userauth) ∷ takes (ServiceRequest userauth) ∷ []) ++ plain10
 
--- the DISCONNECT of the server
+-- the DISCONNECT of the server, and the turn that sends it
 abbrev pub farewell : Msg
 farewell = Disconnect 11 (codes "bye") []
 
 abbrev pub plain12 : List Done
 plain12 = done_by Server (Died ∷ sends farewell ∷ Asked (AskDisconnect (codes "bye")) ∷ []) ++ plain11
 
--- the one after it is taken
+-- the whole run: the packet after the lost one is taken
 abbrev pub plain_session : List Done
 plain_session = done_by Client (Died ∷ Told (Disconnected 11 (codes "bye")) ∷ takes farewell ∷ []) ++ plain12

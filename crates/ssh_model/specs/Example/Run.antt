@@ -39,7 +39,7 @@ abbrev pub joined : List (List ℕ) → List ℕ
 joined [] = []
 joined (field ∷ fields) = field ++ joined fields
 
--- the payload of a message of the run
+-- the payload of a message that one of the runs has
 abbrev pub payload_of : Msg → List ℕ
 payload_of (KexInit o) =
     joined ((20 ∷ []) ∷ o.cookie ∷ names_of o.kex ∷ names_of o.host ∷ names_of o.enc_cs ∷ names_of o.enc_sc
@@ -77,7 +77,7 @@ sends message = Sent None message (payload_of message)
 abbrev pub takes : Msg → Item
 takes message = Took None message (payload_of message)
 
--- on the channel of the end's own number
+-- a message that is sent on the channel of the end's own number
 abbrev pub sends_on : ℕ → Msg → Item
 sends_on x message = Sent (Some x) message (payload_of message)
 
@@ -123,7 +123,7 @@ d3 = done_by Server (takes (offer_message Client true) ∷ []) ++ d2
 abbrev pub d4 : List Done
 d4 = done_by Client (sends (KexEcdhInit (secret 1)) ∷ takes (offer_message Server true) ∷ []) ++ d3
 
--- the reply of the server, with the signature of the first exchange
+-- the server's reply in the first exchange, and the next turns of the run
 abbrev pub first_reply_message : Msg
 first_reply_message = reply_now toy (part Server d4) (secret 1)
 
@@ -199,7 +199,7 @@ d26 = done_by Server (sends (offer_message Server false) ∷ takes (offer_messag
 abbrev pub d27 : List Done
 d27 = done_by Client (sends (KexEcdhInit (secret 4)) ∷ takes (offer_message Server false) ∷ []) ++ d26
 
--- and of the second
+-- the server's reply in the second exchange, and the last turns of the run
 abbrev pub second_reply_message : Msg
 second_reply_message = reply_now toy (part Server d27) (secret 4)
 

@@ -24,7 +24,7 @@ abbrev pub mixed : List ℕ → List ℕ → List ℕ
 mixed (a ∷ l) (b ∷ m) = bit_xor a b ∷ mixed l m
 mixed _ _ = []
 
--- What is all zero is shared too: that it doesn't count is in the definitions.
+-- A point is the secret itself. What is shared is the secret and the other point mixed, also where that is all zero.
 abbrev pub toy_agreement : Agreement
 toy_agreement = record { point = λ secret. secret; shared = λ secret theirs. Some (mixed secret theirs) }
 
@@ -116,7 +116,7 @@ two_host_keys = record toy {
   trusts = λ algorithm key hash signature. is_text key algorithm;
 }
 
--- toys of which the server has points of its own
+-- toys of which the server has one point and shares the same bytes, whatever the secret and the other point are
 abbrev pub own_points : Parties (List ℕ)
 own_points =
     let nines : List ℕ = replicate 32 9 in
@@ -129,7 +129,7 @@ own_points =
 abbrev pub cookie : ℕ → List ℕ
 cookie b = replicate 16 b
 
--- Two of them share a small number.
+-- 31 times the byte 7, and then this byte: two of them share a small number
 abbrev pub secret : ℕ → List ℕ
 secret b = replicate 31 7 ++ b ∷ []
 

@@ -18,7 +18,7 @@ use Rattle.ssh_model.specs.State.TransportLayer.Kept.{Transport, message_ask_che
 use Rattle.ssh_model.specs.Laws.Checks.{all_passed}
 use Rattle.ssh_model.specs.Laws.Written.{disconnect_spelled}
 
--- each refusal has a short name
+-- each refusal has a name of at most 20 bytes
 pub short_name : (why : Refusal) → length (refusal_name why) ≤ 20
 short_name BadLine = omega arith
 short_name BadVersion = omega arith
@@ -40,7 +40,7 @@ short_name WindowOverrun = omega arith
 short_name WindowTooLarge = omega arith
 short_name OwedFull = omega arith
 
--- the reason codes are small numbers
+-- each reason code is at most 14
 small_reason : (why : Refusal) (reason : ℕ) → refusal_reason why ≡ Some reason → reason ≤ 14
 small_reason BadLine r e = absurd (cc e)
 small_reason BadVersion r e = absurd (cc e)

@@ -29,7 +29,7 @@ size_from blocks tag size h =
     twelve true n = omega arith
     twelve false n = omega arith
 
--- next to its tag
+-- a packet with its tag has at least 12 bytes besides the tag
 wire_from : (blocks : Blocks) (tag size : ℕ) → is_wire_size blocks tag size ≡ true → (tag ≤ size) × (12 ≤ size - tag)
 wire_from blocks tag size h =
     let p = and_parts (nat_le tag size) (is_size blocks tag (size - tag)) h in
@@ -66,12 +66,12 @@ lengths_small false = tt
 
 -- ---- bytes
 
--- bytes after bytes
+-- bytes with bytes after them are bytes
 pub append_bytes : (a b : List ℕ) → AreBytes a → AreBytes b → AreBytes (a ++ b)
 append_bytes [] b p q = q
 append_bytes (x ∷ a) b p q = (p.0, append_bytes a b p.1 q)
 
--- the bytes of a uint32
+-- the four bytes of a uint32 are below 256
 pub word_bytes : (n : ℕ) → AreBytes (to_be_bytes w32 n)
 word_bytes n = (omega arith, (omega arith, (omega arith, (omega arith, tt))))
 
@@ -80,7 +80,7 @@ unfolding digest_bytes
 digest_are h zero = tt
 digest_are h (suc n) = append_bytes (digest_bytes h n) _ (digest_are h n) (word_bytes _)
 
--- the bytes of a hash
+-- the bytes of a hash are below 256
 pub hash_bytes : (text : List ℕ) → AreBytes (sha256 text)
 unfolding sha256
 hash_bytes text = digest_are _ 8

@@ -44,7 +44,7 @@ split_joined name (next ∷ names) h =
     slice_split_at is_comma name 44 (join_with_byte 44 (next
     ∷ names)) (name_facts name p.0).plain refl ∙ ap (λ (l : List (List ℕ)). name ∷ l) (split_joined next names p.1)
 
--- no text of a name is empty
+-- no text of at least one name is empty, and a text is that of one list of names
 not_empty : (names : List (List ℕ)) (name : List ℕ) → 1 ≤ length name → [] ≡ join_with_byte 44 (name ∷ names) → ⊥
 not_empty [] name some e = omega (arith, ap length e)
 not_empty (next ∷ names) [] some e = omega arith
@@ -63,7 +63,7 @@ one_text (name ∷ names) (other ∷ others) text t u =
     let same = ap (slice_split is_comma) (sym t.joined ∙ u.joined) in
     sym (split_joined name names t.all) ∙ same ∙ split_joined other others u.all
 
--- A name and a comma have at most 65 bytes.
+-- Names joined by commas have at most 65 bytes for each name.
 pub joined_length : (names : List (List ℕ)) → list_all is_name names ≡ true →
     length (join_with_byte 44 names) ≤ 65 * length names
 joined_length [] h = omega arith

@@ -20,11 +20,11 @@ pub record Made (Spells : List ℕ → Type 0) (count : ℕ) : Type 0 where
 pub ended : Made IsEnd 0
 ended = record { bytes = []; spells = refl; size = refl }
 
--- anything, after what is known
+-- no bytes, where anything may stand
 pub any : Made IsAny 0
 any = record { bytes = []; spells = tt; size = refl }
 
--- given bytes, after what is known
+-- given bytes, up to the end of a payload
 pub rest : (l : List ℕ) → Made (IsRest l) (length l)
 rest l = record { bytes = l; spells = refl; size = refl }
 
@@ -76,7 +76,7 @@ spelled m k made fits n = record { payload = made.bytes; spells = record { conte
 
 -- ---- messages
 
--- Each message has a spelling, where its parts have theirs.
+-- Each of these messages has a spelling, where its parts are as short and its numbers as small as is said.
 pub disconnect_spelled : (reason : ℕ) (text : List ℕ) → reason < 2 ^ 32 → length text ≤ longest_description → HasSpelling (Disconnect reason text [])
 disconnect_spelled reason text a b = spelled (Disconnect reason text []) _ (byte 1 (uint32 reason a (string text (omega (arith, b)) (string [] (omega arith) ended)))) tt (omega (arith, b))
 

@@ -18,7 +18,7 @@ pub data Item : Type 0 where
 abbrev pub Done : Type 0
 Done = DoneBy Item
 
--- the payloads that an end sent, and those that it took
+-- the payloads that an end sent
 abbrev pub sent : List Item → List (List ℕ)
 sent [] = []
 sent (Sent p ∷ h) = p ∷ sent h

@@ -37,7 +37,7 @@ pub data Gets {K : Type 0} (c : Crypto K) (key : K) : List Item → List ℕ →
       Takes c key (length (took h)) unit items → Gets c key (items ++ h) after more rest →
       Gets c key h bytes (more ++ items) rest
 
--- What an end with this history, and with bytes that it has not used, does with the ask to send a payload: the items
+-- An end with this history, and with bytes that it has not used, is asked to send a payload. The result is the items
 -- that it adds, the newest first, the bytes that it puts out, and the bytes that are left.
 pub data Asks {K : Type 0} (c : Crypto K) (key : K) (h : List Item) (rest payload : List ℕ) : List Item → List ℕ →
     List ℕ → Type 0 where

@@ -28,7 +28,7 @@ judge_of p =
 
 -- ---- one request, by a judge, the methods that the server names, and the session id
 
--- the service that a request is for
+-- The service of a request is ssh-connection.
 abbrev pub is_for_connection : List ℕ → Bool
 is_for_connection service = is_text service (codes "ssh-connection")
 

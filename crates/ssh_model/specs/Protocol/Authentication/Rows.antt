@@ -57,8 +57,8 @@ pub data AuthenticationAnswer {K : Type 0} (p : Parties K) : Side → List Item 
 
 -- ---- asks
 
--- the conditions of a request for authentication of this size, at a client that took SERVICE_ACCEPT or not, has a
--- request that is not answered or not, and is authenticated or not
+-- The checks on a client's request for authentication. `opened`: the client took SERVICE_ACCEPT. `outstanding`: it has
+-- a request that is not answered. `authenticated`: it is authenticated. `size`: the bytes of the new request.
 abbrev pub request_checks : (opened outstanding authenticated : Bool) → (size : ℕ) → List (Check AskRefusal)
 request_checks opened outstanding authenticated size =
     RefusedWhere (not opened) NotYet ∷ RefusedWhere outstanding Busy ∷ RefusedWhere authenticated AskRefusal.Ended

@@ -19,8 +19,8 @@ WindowsHere notes =
     (spent (said channel notes) ≤ window (took channel notes))
     × (spent (took channel notes) ≤ window (said channel notes))
 
--- No window is overrun, and each part of the window taken had been sent: what this end took on a channel, the parts
--- of its window among it, is a prefix of what the other end said on it.
+-- No window is overrun, in either direction. The messages that this end took on a channel are a prefix of those that the
+-- other end said on it. So each part of the window that this end took had been sent.
 pub record Within (notes others : List Note) : Type 0 where
   pub sends : (channel : Channel) → spent (said channel notes) ≤ window (took channel notes)
   pub takes : (channel : Channel) → spent (took channel notes) ≤ window (said channel notes)
@@ -45,7 +45,7 @@ pub record Welcome (message : Message) (notes : List Note) : Type 0 where
 abbrev pub notes_of : Side → List Done → List Note
 notes_of side run = noted side (part side run)
 
--- The data of both kinds that each end of a run took stayed within the windows that it had granted.
+-- At this end no window is overrun, in either direction. What it took on a channel is a prefix of what the other end said.
 abbrev pub WindowsKept : Side → List Done → Type 0
 WindowsKept side run = Within (notes_of side run) (notes_of (peer side) run)
 

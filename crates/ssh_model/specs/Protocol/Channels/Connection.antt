@@ -54,12 +54,12 @@ on_channel (ChannelSuccess recipient) = Some (Reply recipient true)
 on_channel (ChannelFailure recipient) = Some (Reply recipient false)
 on_channel _ = None
 
--- the messages on channels that an end sent
+-- these items, and then a message on channels that was sent, where there is one
 abbrev pub sent_on : Option ℕ → Option Message → List channel.Item → List channel.Item
 sent_on at None l = l
 sent_on at (Some m) l = channel.Item.Sent at m ∷ l
 
--- the messages on channels that an end took
+-- these items, and then a message on channels that was taken, where there is one
 abbrev pub received_on : Option ℕ → Option Message → List channel.Item → List channel.Item
 received_on at None l = l
 received_on at (Some m) l = channel.Item.Received at m ∷ l
@@ -115,7 +115,7 @@ globals_there (Took at (RequestSuccess rest) payload ∷ h) = globals_there h - 
 globals_there (Took at RequestFailure payload ∷ h) = globals_there h - 1
 globals_there (_ ∷ h) = globals_there h
 
--- at most so many requests wait, and so many replies are owed
+-- The limit of requests that wait, or of replies that are owed, is reached: there are 256 of them or more.
 abbrev pub is_limit_reached : ℕ → Bool
 is_limit_reached n = nat_le most_waiting n
 
@@ -125,7 +125,7 @@ is_owed_limit_reached side h = blocked h && is_limit_reached (length (owed_repli
 
 -- ---- what is refused
 
--- A number is in use also while a CLOSE is owed at it.
+-- What a message of the connection is refused for, in order. A number is in use also while a CLOSE is owed at it.
 abbrev pub connection_checks : Side → List Item → Msg → List (Check Refusal)
 connection_checks side h (GlobalRequest name want rest) =
     RefusedWhere (want && is_limit_reached (globals_here h)) OwedFull ∷ []
@@ -232,7 +232,7 @@ pub data ConnectionAnswer : Side → List Item → Option ℕ → Msg → List I
 abbrev pub is_rekey_due : {K : Type 0} → Parties K → Side → List Item → Bool
 is_rekey_due p side h = nat_le (settings_of p side).epoch_limit (count (sent h))
 
--- for any of them, where also too many requests may wait
+-- The checks of any ask, before its own: the end is blocked, too many requests wait (`busy`), or a new exchange is due.
 abbrev pub common_checks : (is_blocked is_due busy : Bool) → List (Check AskRefusal) → List (Check AskRefusal)
 common_checks is_blocked is_due busy checks =
     RefusedWhere (is_blocked || busy) Busy ∷ RefusedWhere is_due RekeyDue ∷ checks

@@ -93,7 +93,7 @@ abbrev pub is_free : Side → List Item → ℕ → Bool
 is_free side history number =
     nat_lt number most_channels && (not (is_held number (noted side history)) && not (is_owed number (owed side history)))
 
--- There is a free number, so a place for a new channel. With none there are 1,024 channels.
+-- One of the numbers below this one is free.
 unfoldable pub some_free : Side → List Item → ℕ → Bool
 some_free side history zero = false
 some_free side history (suc number) = is_free side history number || some_free side history number

@@ -78,7 +78,7 @@ gives (OpenConfirmation to from granted max_packet) = granted
 gives (WindowAdjust to granted) = granted
 gives _ = 0
 
--- the window that the speaker granted, and the window that its own data spent
+-- the bytes of the window that the speaker of these messages granted
 abbrev pub window : List Message → ℕ
 window [] = 0
 window (message ∷ older) = gives message + window older
@@ -88,14 +88,14 @@ abbrev pub spent : List Message → ℕ
 spent [] = 0
 spent (message ∷ older) = size message + spent older
 
--- the number that the speaker gave the channel, and the maximum packet size: the largest data that it takes
+-- the number that the speaker gave the channel
 abbrev pub sender : List Message → ℕ
 sender [] = 0
 sender (Open from granted largest ∷ older) = from
 sender (OpenConfirmation to from granted largest ∷ older) = from
 sender (_ ∷ older) = sender older
 
--- the largest data that the speaker takes (RFC 4254 section 5.1)
+-- the maximum packet size: the largest data that the speaker takes (RFC 4254 section 5.1)
 abbrev pub max_packet : List Message → ℕ
 max_packet [] = 0
 max_packet (Open from granted largest ∷ older) = largest

@@ -52,7 +52,7 @@ opens [] = 0
 opens (On channel (Open from window max_packet) ∷ lines) = suc (opens lines)
 opens (_ ∷ lines) = opens lines
 
--- the channel has this local number
+-- the channel was opened at this local number
 abbrev pub OpenedAt : ℕ → Channel → List Note → Type 0
 OpenedAt number channel [] = ⊥
 OpenedAt number channel (Said at other (Open from window max_packet) ∷ notes) =

@@ -27,7 +27,7 @@ pub record Lists : Type 0 where
 
 -- ---- markers, which stand among the names of key exchange methods and are none
 
--- of strict key exchange (OpenSSH's PROTOCOL)
+-- the name by which a client offers strict key exchange (OpenSSH's PROTOCOL)
 abbrev pub client_marker : List ℕ
 client_marker = codes "kex-strict-c-v00@openssh.com"
 
@@ -35,7 +35,7 @@ client_marker = codes "kex-strict-c-v00@openssh.com"
 abbrev pub server_marker : List ℕ
 server_marker = codes "kex-strict-s-v00@openssh.com"
 
--- of extensions (RFC 8308 section 2.1)
+-- the name by which a client says that it takes EXT_INFO (RFC 8308 section 2.1)
 abbrev pub client_extension_marker : List ℕ
 client_extension_marker = codes "ext-info-c"
 

@@ -1,5 +1,5 @@
--- The key exchange: the text that both ends hash, its hash, and the bytes of the keys (RFC 4253 sections 7.2 and 8,
--- RFC 5656 section 4, RFC 8731 section 3).
+-- The key exchange: the text that both ends hash, its hash, and the bytes of the keys. It follows RFC 4253 sections 7.2
+-- and 8, RFC 5656 section 4, and RFC 8731 section 3.
 use Rattle.std.specs.Prelude.{ℕ, zero, suc, ◌/◌, ◌%◌, ◌^◌, ◌<◌, nat_lt, nat_le, if◌then◌else◌, List, [], ◌∷◌, ◌++◌}
 use Rattle.std.specs.Prelude.{length, take}
 use Rattle.std.specs.Int.{w32, to_be_bytes}
@@ -71,8 +71,8 @@ exchange_hash x = sha256 (exchange_text x)
 
 -- ---- the keys (RFC 4253 section 7.2)
 
--- So many blocks, each after those before it: the first is the hash of the front and what begins, and each further
--- one is the hash of the front and all blocks so far.
+-- So many blocks, one after another. The first block is the hash of `front` followed by `begin`. Each further block is
+-- the hash of `front` followed by all blocks before it.
 unfoldable pub blocks : List ℕ → List ℕ → ℕ → List ℕ
 blocks front begin zero = []
 blocks front begin (suc zero) = sha256 (front ++ begin)

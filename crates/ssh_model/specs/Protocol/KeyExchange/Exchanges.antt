@@ -109,8 +109,8 @@ replies (_ ∷ l) = replies l
 abbrev pub shared_number : {K : Type 0} → Parties K → Side → (secret theirs : List ℕ) → ℕ
 shared_number p side secret theirs = number (unwrap_or (shared_by p side secret theirs) [])
 
--- Exchange e of a history, from 0: the two lines, the e-th KEXINIT sent and taken, the e-th message 30 and 31, and K of
--- the e-th secret that the end was fed (RFC 4253 section 8, RFC 5656 section 4).
+-- Exchange e of a history, from 0 (RFC 4253 section 8, RFC 5656 section 4). It is read off the two version lines, the
+-- e-th KEXINIT sent and taken, and the e-th messages 30 and 31. Its K comes from the e-th secret that the end was fed.
 abbrev pub exchange : {K : Type 0} → Parties K → Side → ℕ → List Item → Inputs
 exchange p Client e h = record {
   client_version = sent_line h;
@@ -160,7 +160,7 @@ no_exchange =
 abbrev pub has_marker : (marker : List ℕ) → (names : List (List ℕ)) → Bool
 has_marker marker names = is_some (find (λ name. is_text name marker) names)
 
--- the first KEXINIT that an end sent, and the first that it took
+-- the first KEXINIT that an end sent
 abbrev pub first_sent : List Item → Proposal
 first_sent h = (nth no_offer 0 (offers (messages_sent h))).proposal
 
@@ -173,7 +173,7 @@ abbrev pub is_strict : Side → List Item → Bool
 is_strict side h =
     has_marker (marker_of side) (first_sent h).kex && has_marker (marker_of (peer side)) (first_taken h).kex
 
--- the sequence numbers of the packets that come next
+-- the sequence number of the packet that an end sends next
 abbrev pub sending_number : Side → List Item → ℕ
 sending_number side h = wire_number (is_strict side h) (sent h)
 
@@ -181,7 +181,7 @@ sending_number side h = wire_number (is_strict side h) (sent h)
 abbrev pub taking_number : Side → List Item → ℕ
 taking_number side h = wire_number (is_strict side h) (took h)
 
--- this end takes extensions, and so does the peer (RFC 8308 section 2.1)
+-- This end takes EXT_INFO: its first KEXINIT says so (RFC 8308 section 2.1).
 abbrev pub takes_extensions : Side → List Item → Bool
 takes_extensions side h = has_marker (extension_marker_of side) (first_sent h).kex
 
@@ -242,7 +242,7 @@ has_choice client server =
     && is_some (common MacCs client server) && is_some (common MacSc client server)
     && is_some (common CompCs client server) && is_some (common CompSc client server)
 
--- what the client and the server list in exchange e of a history
+-- what the client lists in exchange e of a history
 abbrev pub client_lists : Side → ℕ → List Item → Lists
 client_lists Client e h = lists_of (nth no_offer e (offers (messages_sent h))).proposal
 client_lists Server e h = lists_of (nth no_offer e (offers (messages_taken h))).proposal
@@ -269,7 +269,7 @@ choices side (_ ∷ h) = choices side h
 
 -- ---- keys (RFC 4253 section 7.2)
 
--- the letters of a direction's IV, cipher key and MAC key, by the side that sends
+-- the letter of a direction's IV, by the side that sends
 abbrev pub iv_letter : Side → ℕ
 iv_letter Client = 65
 iv_letter Server = 66
@@ -314,7 +314,7 @@ key_in p side from (suc e) h =
     let xs = exchanges p side h in
     Some (key_of p.crypto from (nth no_exchange e xs) (session_id xs) (nth none_chosen e (choices side h)))
 
--- the name and the key under which an end sends, and those under which it takes
+-- the name of the key under which an end sends
 abbrev pub sending_name : {K : Type 0} → Parties K → Side → List Item → Option KeyName
 sending_name p side h = key_name side (epoch (sent h)) (exchanges p side h)
 

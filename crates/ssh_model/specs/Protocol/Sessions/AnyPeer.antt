@@ -98,8 +98,8 @@ HasServiceMessage [] = ⊥
 HasServiceMessage (payload ∷ l) = (is_service_number (number_of (bytes_of payload)) ≡ true) ⊎ HasServiceMessage l
 
 -- The host was verified in each exchange that the client completed. A client that sent or took a message of a service,
--- of authentication or above has completed an exchange. This excludes a false server, and an attacker in the middle:
--- a host that is not judged, or that is judged for another exchange, and a user who is named to such a host.
+-- of authentication or above has completed an exchange. This excludes a false server, and an attacker in the middle.
+-- Such a host is one that is not judged, or that is judged for another exchange. No user is named to it.
 pub record VerifiesHosts {K : Type 0} (p : Parties K) (h : List Item) : Type 0 where
   pub each : VerifiesEach p h
   pub messages : (HasServiceMessage (sent h) ⊎ HasServiceMessage (took h)) → 0 < length (exchanges p Client h)
@@ -119,8 +119,8 @@ abbrev pub own_point : Side → Inputs → List ℕ
 own_point Client x = x.client_point
 own_point Server x = x.server_point
 
--- The hashed text of exchange e holds the line of the settings, the KEXINIT with the cookie of the e-th pair that the
--- end was fed, and the public point of the secret of that pair.
+-- The hashed text of exchange e holds the line of the settings. It holds the KEXINIT with the cookie of the e-th pair
+-- that the end was fed. It also holds the public point of the secret of that pair.
 pub record IncludesOwn {K : Type 0} (p : Parties K) (side : Side) (e : ℕ) (h : List Item) : Type 0 where
   pub line : own_version side (exchange p side e h) ≡ (settings_of p side).line
   pub pair : e < length (fed h)
@@ -141,9 +141,9 @@ EachIncludesOwn p side (_ ∷ h) = EachIncludesOwn p side h
 abbrev pub is_allowed_in_clear : Side → ℕ → Bool
 is_allowed_in_clear side n = is_general n || n == 20 || n == 21 || n == awaited side
 
--- Until the peer's first NEWKEYS an end took only the messages of the exchange and 1 to 4, whether key exchange is
--- strict or not: no EXT_INFO, no request for a service, nothing of authentication. This excludes messages that are
--- injected into the first exchange and keep their effect after it (AsyncSSH, CVE-2023-46445 and CVE-2023-46446).
+-- Until the peer's first NEWKEYS an end took only the messages of the exchange and 1 to 4. Until then it took no EXT_INFO,
+-- no request for a service, nothing of authentication. This holds with or without strict key exchange. It excludes messages
+-- that are injected into the first exchange and keep their effect after it (AsyncSSH, CVE-2023-46445 and CVE-2023-46446).
 abbrev pub TakesOnlyAllowed : Side → List Item → Type 0
 TakesOnlyAllowed side [] = Unit {0}
 TakesOnlyAllowed side (Took channel message payload ∷ h) =
@@ -157,8 +157,8 @@ abbrev pub until_newkeys : {A : Type 0} → (epoch : ℕ) → A → List A → L
 until_newkeys zero packet packets = packet ∷ packets
 until_newkeys (suc e) packet packets = packets
 
--- What an end took up to the first NEWKEYS, and that NEWKEYS, the newest first: the number of each message, and None
--- for the packet that is not read after a wrong guess.
+-- The packets that an end took up to the first NEWKEYS, with that NEWKEYS, the newest first. A message is given by its
+-- number. The packet that is not read after a wrong guess is given by None.
 abbrev pub taken_in_first_exchange : List Item → List (Option ℕ)
 taken_in_first_exchange [] = []
 taken_in_first_exchange (Took channel message payload ∷ h) =
@@ -170,8 +170,8 @@ taken_in_first_exchange (_ ∷ h) = taken_in_first_exchange h
 abbrev pub unread : (is_wrong : Bool) → List (Option ℕ)
 unread is_wrong = cond is_wrong (None ∷ []) []
 
--- What an end takes in a first exchange, in order of time: KEXINIT, the packet after a wrong guess, message 30 at a
--- server or 31 at a client, and NEWKEYS.
+-- The packets that an end takes in a first exchange, in order of time. They are KEXINIT, the packet after a wrong guess,
+-- message 30 at a server or 31 at a client, and NEWKEYS.
 abbrev pub exchange_taken : {K : Type 0} → Parties K → Side → List Item → List (Option ℕ)
 exchange_taken p side h =
     Some 20 ∷ (unread (is_wrong_guess (first_taken h) (own_names p side)) ++ (Some (awaited side) ∷ Some 21 ∷ []))

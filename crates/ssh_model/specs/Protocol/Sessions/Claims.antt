@@ -98,8 +98,8 @@ pub record Authorized {K : Type 0} (p : Parties K) (run : List Done) : Type 0 wh
 
 -- ---- windows (RFC 4254 section 5.2)
 
--- No window is overrun: on every channel, at each end, data sent is at most the window taken, each part of which the
--- other end had sent, and data taken is at most the window granted.
+-- No window is overrun, on any channel, at either end. Data sent is at most the window taken. Data taken is at most the
+-- window granted. The messages taken on a channel are a prefix of those that the other end said on it.
 abbrev pub Windows : List Done → Type 0
 Windows run = (side : Side) → Within (notes side (part side run)) (notes (peer side) (part (peer side) run))
 
@@ -157,16 +157,16 @@ TookOpen side channel whole (Took (Some number) (ChannelOpen kind sender window 
     (ChannelOpen kind sender window max_packet rest) payload (took h) ⊎ TookOpen side channel whole h
 TookOpen side channel whole (_ ∷ h) = TookOpen side channel whole h
 
--- The channel has a partner: the channel of the other end that has the same OPEN, whole, sent by one end and taken by
--- the other at the same place of what went after the first NEWKEYS.
+-- The channel has a partner: the channel of the other end with the same whole OPEN. One end sent this OPEN, and the other
+-- end took it. At both ends it has the same place among the payloads after the first NEWKEYS.
 pub data HasPartner (side : Side) (channel : Channel) (run : List Done) : Type 0 where
   own : (whole : WholeOpen) → SentOpen side channel whole (part side run) →
       TookOpen (peer side) channel whole (part (peer side) run) → HasPartner side channel run
   theirs : (whole : WholeOpen) → TookOpen side channel whole (part side run) →
       SentOpen (peer side) channel whole (part (peer side) run) → HasPartner side channel run
 
--- Neither end refuses the other for its channels; what was taken of data on a channel, each with its type, is a prefix
--- of what the other end sent on it; and each channel on which data was taken has a partner.
+-- Neither end refuses the other for its channels. The data taken on a channel, each piece with its type, is a prefix of
+-- the data that the other end sent on it. Each channel on which data was taken has a partner.
 pub record Undisturbed (run : List Done) : Type 0 where
   pub unrefused : NoneRefused run
   pub in_order : (side : Side) (i : Channel) → (rest : List (Option ℕ × List ℕ))

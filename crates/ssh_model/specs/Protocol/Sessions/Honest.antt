@@ -23,8 +23,8 @@ SentUnder p side name n payload (Sent channel message other ∷ h) =
     (payload ≡ other) × (name ≡ sending_name p side h) × (n ≡ sending_number side h) ⊎ SentUnder p side name n payload h
 SentUnder p side name n payload (_ ∷ h) = SentUnder p side name n payload h
 
--- The payload that an end opened after this run, if it was under a key, had been sent by the peer under the name and
--- the number under which it was opened.
+-- An end opened this payload after this run. If it did so under a key, the peer had sent the payload under the key name
+-- and the number under which it was opened.
 abbrev pub WasSent : {K : Type 0} → Parties K → Side → List ℕ → List Done → Type 0
 WasSent p side payload run =
     0 < epoch (took (part side run)) →

@@ -101,7 +101,7 @@ abbrev pub bytes_of : Payload → List ℕ
 bytes_of (NewkeysOf bytes) = bytes
 bytes_of (OtherOf bytes) = bytes
 
--- the payloads that an end sent, and those that it took
+-- the payloads that an end sent
 abbrev pub sent : List Item → List Payload
 sent [] = []
 sent (Sent channel NewKeys payload ∷ h) = NewkeysOf payload ∷ sent h

@@ -115,7 +115,7 @@ shared_by p side secret theirs = only_shared ((agreement_of p side).shared secre
 abbrev pub point_by : {K : Type 0} → Parties K → Side → (secret : List ℕ) → List ℕ
 point_by p side secret = take 32 ((agreement_of p side).point secret)
 
--- host keys and signatures, of at most 4,096 bytes
+-- the server's host key under a name of an algorithm, of at most 4,096 bytes
 abbrev pub host_key_by : {K : Type 0} → Parties K → (algorithm : List ℕ) → List ℕ
 host_key_by p algorithm = take 4096 (p.host_key algorithm)
 
@@ -129,7 +129,7 @@ user_signature_by p user algorithm key text = take 4096 (p.user_signature user a
 
 -- ---- offers
 
--- the markers of strict key exchange and of extensions that the end of this side sends
+-- the marker of strict key exchange that the end of this side sends
 abbrev pub marker_of : Side → List ℕ
 marker_of Client = client_marker
 marker_of Server = server_marker

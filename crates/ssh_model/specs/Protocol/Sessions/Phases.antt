@@ -212,7 +212,7 @@ may_take_normally side h n =
     || ((n == 20 || is_connection n) && authenticated side h)
     || is_spare n
 
--- Before the first KEXINIT of the peer an end that requires strict key exchange takes no more than it would with it.
+-- What may be taken in a phase. Before the first KEXINIT, an end that requires strict key exchange takes only what it allows.
 abbrev pub may_take_in : Phase → (required : Bool) → Side → List Item → ℕ → Bool
 may_take_in Start required side h n = is_allowed_at_first required n || n == 20
 may_take_in Guessed required side h n = nat_le 30 n && nat_le n 49

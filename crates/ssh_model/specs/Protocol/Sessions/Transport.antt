@@ -26,7 +26,7 @@ use Rattle.ssh_model.specs.Protocol.Sessions.Phases.{authenticated, sent_service
 
 -- ---- what is refused
 
--- the pair of the exchange that is under way, and the one that is used next
+-- the secret of the exchange that is under way
 abbrev pub secret_now : List Item → List ℕ
 secret_now h = (nth no_material (epoch (sent h)) (fed h)).secret
 
@@ -34,7 +34,7 @@ secret_now h = (nth no_material (epoch (sent h)) (fed h)).secret
 abbrev pub next_cookie : List Item → List ℕ
 next_cookie h = (nth no_material (length (offers (messages_sent h))) (fed h)).cookie
 
--- the choice from the peer's proposal and this end's own
+-- Each kind has a common name in the peer's proposal and this end's own.
 abbrev pub can_choose : {K : Type 0} → Parties K → Side → Proposal → Bool
 can_choose p Client theirs = has_choice (lists_of (own_names p Client)) (lists_of theirs)
 can_choose p Server theirs = has_choice (lists_of theirs) (lists_of (own_names p Server))
@@ -48,8 +48,8 @@ abbrev pub comes_too_late : Side → List Item → Proposal → Bool
 comes_too_late side h theirs =
     has_marker (marker_of side) (first_sent h).kex && is_marked side theirs && nat_lt 0 (length (took h))
 
--- The marker matters in the peer's first KEXINIT alone. A later one is answered with the pair that is kept, unless this
--- end's own was sent before.
+-- What a KEXINIT is refused for, in order. The marker matters in the peer's first one alone. An end that is not blocked
+-- needs a pair for the KEXINIT with which it answers.
 abbrev pub kexinit_checks : {K : Type 0} → Parties K → Side → List Item → Proposal → List (Check Refusal)
 kexinit_checks p side h theirs =
     let is_first = epoch (took h) == 0 in
@@ -62,7 +62,7 @@ kexinit_checks p side h theirs =
 abbrev pub is_point : {K : Type 0} → Parties K → Side → List Item → List ℕ → Bool
 is_point p side h theirs = length theirs == 32 && is_some (shared_by p side (secret_now h) theirs)
 
--- the hash of the exchange that the reply ends, and whether the host is trusted with it
+-- the hash of the exchange that the reply ends
 abbrev pub hash_with_reply : {K : Type 0} → Parties K → List Item → (k_s q_s signature : List ℕ) → List ℕ
 hash_with_reply p h k_s q_s signature =
     exchange_hash (exchange p Client (epoch (sent h)) (Took None (KexEcdhReply k_s q_s signature) [] ∷ h))
@@ -87,7 +87,7 @@ transport_checks p side h _ = []
 
 -- ---- what is answered
 
--- the server's host key, and its reply with the signature of the hash that the reply ends
+-- the server's host key, of the algorithm that is chosen in the exchange under way
 abbrev pub host_key_now : {K : Type 0} → Parties K → List Item → List ℕ
 host_key_now p h = host_key_by p (choice Server (epoch (sent h)) h).host
 
@@ -101,7 +101,7 @@ hash_to_sign p h q_c =
     exchange_hash (exchange p Server (epoch (sent h))
     (Sent None (KexEcdhReply (host_key_now p h) (point_now p Server h) []) [] ∷ Took None (KexEcdhInit q_c) [] ∷ h))
 
--- the server's reply
+-- the server's reply: its host key, its point, and its signature of the hash of the exchange
 abbrev pub reply_now : {K : Type 0} → Parties K → List Item → (q_c : List ℕ) → Msg
 reply_now p h q_c =
     KexEcdhReply (host_key_now p h) (point_now p Server h)

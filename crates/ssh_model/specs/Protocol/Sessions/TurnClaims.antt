@@ -104,7 +104,7 @@ pub record AreGood {K : Type 0} (p : Parties K) (side : Side) : Type 0 where
   pub methods : HasSpelling (UserauthFailure (settings_of p side).methods false)
   pub extensions : HasSpelling (ExtInfo (settings_of p side).extensions)
 
--- the numbers of an ask, which are uint32s
+-- The window, reason or type of an ask is a uint32, and so is the number of the channel that it confirms.
 abbrev pub HasUint32s : Ask → Type 0
 HasUint32s (AskOpen kind window max rest) = window < 2 ^ 32
 HasUint32s (AskConfirm channel window max rest) = (channel < 2 ^ 32) × (window < 2 ^ 32)

@@ -50,7 +50,7 @@ AreNumbered (_ ∷ items) h = AreNumbered items h
 
 -- ---- refusals
 
--- A refusal that has no reason code, or that comes when all numbers of the epoch are spent, is not said to the peer.
+-- The items by which an end refuses its peer. It says nothing where there is no reason code, or no number left in the epoch.
 pub data Refuses (h : List Item) (refusal : Refusal) (payload : Option (List ℕ)) : List Item → Type 0 where
   silently : refusal_reason refusal ≡ None → Refuses h refusal payload (Died ∷ Refused refusal payload ∷ [])
   spent : count (sent h) ≡ 2 ^ 32 → Refuses h refusal payload (Died ∷ Refused refusal payload ∷ [])
@@ -71,8 +71,8 @@ abbrev pub answer_checks : {K : Type 0} → Parties K → Side → List Item →
 answer_checks p side h message =
     transport_checks p side h message ++ (authentication_checks p side h message ++ connection_checks side h message)
 
--- What the end of this side, with the history h, adds to a message that it took, the newest first; `channel` is its own
--- number of the channel of the message.
+-- The items that the end of this side, with the history h, adds to a message that it took, the newest first. `channel`
+-- is the end's own number for the channel of the message.
 pub data Answer {K : Type 0} (p : Parties K) : Side → List Item → Option ℕ → Msg → List Item → Type 0 where
   of_transport : {side : Side} {h items : List Item} {message : Msg} → TransportAnswer p side h message items →
       Answer p side h None message items
@@ -179,8 +179,8 @@ pub record IsMaterial (cookie secret : List ℕ) : Type 0 where
   pub secret_bytes : AreBytes secret
   pub secret_size : length secret ≡ 32
 
--- What an end does with a pair that it is fed. It keeps one pair at a time, and is fed at most 2^32 - 1 of them; where
--- it keeps one, has had so many, or is dead, it answers false and does nothing.
+-- An end keeps one pair at a time, and is fed at most 2^32 - 1 pairs. Where it keeps a pair, was fed so many, or is dead,
+-- it can't be fed. It then answers false and does nothing.
 abbrev pub can_feed : List Item → Bool
 can_feed h = not (has_died h) && not (has_material h) && nat_lt (length (fed h)) (2 ^ 32 - 1)
 

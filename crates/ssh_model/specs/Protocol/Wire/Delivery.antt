@@ -1,8 +1,8 @@
 -- What a delivered piece of the byte stream makes of an end, whatever its units are.
 use Rattle.std.specs.Prelude.{◌≡◌, ℕ, List, [], ◌++◌}
 
--- The rules of one end: which bytes are a unit, or a prefix that is refused, for an end with this history; what
--- the history is after them; and which histories are of dead ends.
+-- The rules of one end, by its history. `Ends` says which bytes are a unit, or a prefix that is refused. `After` gives
+-- the history after these bytes. `Dead` says which histories are of dead ends.
 pub record Rules (History : Type 0) : Type 1 where
   pub Ends : History → List ℕ → Type 0
   pub After : History → List ℕ → History → Type 0

@@ -26,7 +26,7 @@ pub record IsLine (text bytes : List ℕ) : Type 0 where
   pub parts : bytes ≡ text ++ line_end
   pub size : length bytes ≤ 255
 
--- The bytes are a prefix of a line, and not yet a line.
+-- The bytes are at most 254: a text, or a text and CR. A text of 254 bytes is among them, although it can't become a line.
 pub data IsLineBegun (bytes : List ℕ) : Type 0 where
   in_text : IsText bytes → length bytes < 255 → IsLineBegun bytes
   at_line_end : (text : List ℕ) → IsText text → bytes ≡ text ++ 13 ∷ [] → length bytes < 255 → IsLineBegun bytes
@@ -111,8 +111,8 @@ pub data LineIs (from_server : Bool) (others : ℕ) (text : List ℕ) : Outcome 
       IsVersionText protoversion software comments text →
       IsAccepted from_server protoversion → LineIs from_server others text (VersionLine text)
 
--- The bytes of one unit of the stream before the version line was taken, and what the end makes of them: a complete
--- line, or the bytes up to the first with which they can't become a line any more.
+-- One unit of the stream, before the version line was taken. It is a complete line, or the bytes up to the first that
+-- makes them a bad line. A text of 254 bytes is refused with the next byte. The outcome is a line or a refusal.
 pub data LineUnit (from_server : Bool) (others : ℕ) (unit : List ℕ) : Outcome → Type 0 where
   line : {outcome : Outcome} (text : List ℕ) → IsLine text unit → LineIs from_server others text outcome →
       LineUnit from_server others unit outcome

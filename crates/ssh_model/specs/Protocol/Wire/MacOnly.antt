@@ -37,7 +37,7 @@ tag_of block number packet = hmac_under block (to_be_bytes w32 number ++ packet)
 abbrev pub is_text : List ℕ → List ℕ → Bool
 is_text xs ys = pointwise nat_eq xs ys
 
--- the names of its encryption and its MAC
+-- The encryption is "none", and the MAC is "hmac-sha2-256".
 abbrev pub is_mac_only : List ℕ → List ℕ → Bool
 is_mac_only enc mac = is_text enc (codes "none") && is_text mac (codes "hmac-sha2-256")
 

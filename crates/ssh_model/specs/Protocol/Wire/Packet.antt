@@ -33,12 +33,12 @@ pub record IsBody (payload body : List ℕ) : Type 0 where
 abbrev pub counted : Blocks → ℕ → ℕ
 counted blocks size = if blocks.counts_length then size else size - 4
 
--- the least size of a packet: 16 bytes and one block, or one block after packet_length
+-- the least size of a packet: the larger of 16 bytes and one block, or one block after packet_length
 abbrev pub least_size : Blocks → ℕ
 least_size blocks = if blocks.counts_length then max 16 blocks.size else 4 + max 8 blocks.size
 
--- The sizes of a packet without its tag: what counts fills whole blocks of at least 8 bytes, the packet has no fewer
--- bytes than the least one, and at most 35,000 with the tag.
+-- A packet may have this size without its tag. The counted bytes fill whole blocks of at least 8 bytes. The size is no
+-- smaller than the least size. With the tag it is at most 35,000 bytes.
 abbrev pub is_size : Blocks → ℕ → ℕ → Bool
 is_size blocks tag size =
     (counted blocks size % max blocks.size 8 == 0) && (nat_le (least_size blocks) size && nat_le (size + tag) largest_packet)

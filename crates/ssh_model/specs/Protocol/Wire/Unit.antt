@@ -13,9 +13,9 @@ use Rattle.ssh_model.specs.Protocol.Wire.Delivery.{Rules}
 abbrev pub HasNumber : (number count : ℕ) → Type 0
 HasNumber number count = (count < 2 ^ 32) × (number < 2 ^ 32)
 
--- The bytes of one packet with its tag, or of its length field alone, and what an end makes of them whose next packet
--- has this sequence number, and which took so many under this key. A length field is refused before the numbers that
--- are spent, those before the tag, and that before the padding.
+-- The unit is one packet with its tag, or its length field alone. The end took `count` packets under this key. Its next
+-- packet has the sequence number `number`. The outcome is an opened payload or a refusal. The refusals are tested in
+-- this order: the length field, spent numbers, the tag, the padding.
 pub data PacketUnit {K : Type 0} (c : Crypto K) (key : Option K) (number count : ℕ) (unit : List ℕ) : Outcome →
     Type 0 where
   opens : (payload : List ℕ) → HasNumber number count → AreBytes unit → IsWire c key number payload unit →

@@ -16,7 +16,7 @@ use Rattle.ssh_model.specs.Protocol.Authentication.Rows.{request_checks, passwor
 
 -- ---- a server
 
--- SERVICE_ACCEPT was sent, so many requests failed, and SUCCESS was sent.
+-- What a server keeps: whether SERVICE_ACCEPT was sent, how many requests failed, and whether SUCCESS was sent.
 pub record Server : Type 0 where
   pub opened : Bool
   pub failures : ℕ
@@ -26,7 +26,7 @@ pub record Server : Type 0 where
 abbrev pub new_server : Server
 new_server = record { opened = false; failures = 0; authenticated = false }
 
--- a server that sent SERVICE_ACCEPT, and nothing more
+-- the server after it sent SERVICE_ACCEPT: all else is as it was
 abbrev pub opened_server : Server → Server
 opened_server server = record server { opened = true }
 
@@ -47,7 +47,7 @@ told fact = record { message = None; fact = Some fact }
 abbrev pub replied : Msg → Answered
 replied message = record { message = Some message; fact = None }
 
--- with a judge, so many tries, the methods that it names, and the session id
+-- what a server refuses a message for, with a judge, so many tries, the methods that it names, and the session id
 abbrev pub server_checks : Judge → (tries : ℕ) → (methods : List (List ℕ)) → (session : List ℕ) → Server → Msg →
     List (Check Refusal)
 server_checks judge tries methods session server (UserauthRequest user service method) =
@@ -55,7 +55,7 @@ server_checks judge tries methods session server (UserauthRequest user service m
     && nat_le tries server.failures) TooManyTries ∷ []
 server_checks judge tries methods session server _ = []
 
--- What a server makes of a request and answers, by its judge, its tries and the session id: one constructor is one row.
+-- What a server makes of a request and answers, by its judge, its methods and the session id: one constructor is one row.
 pub data ServerTakes (judge : Judge) (methods : List (List ℕ)) (session : List ℕ) (server : Server) : Msg → Answered →
     Server → Type 0 where
   -- RFC 4252 section 5: after SUCCESS further requests are ignored
@@ -89,7 +89,7 @@ abbrev pub is_key_probe : Outstanding → Bool
 is_key_probe Probe = true
 is_key_probe _ = false
 
--- SERVICE_ACCEPT was taken, a request is outstanding, and SUCCESS was taken.
+-- What a client keeps: whether SERVICE_ACCEPT was taken, what request is outstanding, and whether SUCCESS was taken.
 pub record Client : Type 0 where
   pub opened : Bool
   pub outstanding : Outstanding
@@ -99,7 +99,7 @@ pub record Client : Type 0 where
 abbrev pub new_client : Client
 new_client = record { opened = false; outstanding = Nothing; authenticated = false }
 
--- a client that took SERVICE_ACCEPT, and asked nothing yet
+-- the client after it took SERVICE_ACCEPT: all else is as it was
 abbrev pub opened_client : Client → Client
 opened_client client = record client { opened = true }
 
@@ -138,11 +138,11 @@ client_checks client (AskSign user algorithm key) =
     request_checks client.opened (is_outstanding client.outstanding) client.authenticated (sign_size user algorithm key)
 client_checks client _ = []
 
--- the request for the connection that it sends, with a signer of texts, and the session id
+-- the request of this user for the connection, with this method
 abbrev pub request_by : (user : List ℕ) → Method → Msg
 request_by user method = UserauthRequest user (codes "ssh-connection") method
 
--- What a client sends for an ask: one constructor is one row.
+-- What a client sends for an ask, with a signer of texts and the session id: one constructor is one row.
 pub data ClientSends (signature : (user algorithm key text : List ℕ) → List ℕ) (session : List ℕ)
     (client : Client) : Ask → Msg → Client → Type 0 where
   none : (user : List ℕ) →

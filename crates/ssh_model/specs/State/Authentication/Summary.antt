@@ -20,7 +20,7 @@ pub record ServerSumsUp (history : List Item) (server : kept.Server) : Type 0 wh
   pub failed : server.failures ≡ failures history
   pub authenticated : server.authenticated ≡ sent_success history
 
--- of the method of a request that is not answered
+-- what a client keeps of the method of a request that is not answered
 abbrev pub outstanding_of : Option Method → Outstanding
 outstanding_of None = Nothing
 outstanding_of (Some (Publickey algorithm key None)) = Probe
@@ -34,7 +34,7 @@ pub record ClientSumsUp (history : List Item) (client : kept.Client) : Type 0 wh
 
 -- ---- rows
 
--- the items of an answer, with the payload that spells its message
+-- the items, and a fact that is told after them, where there is one
 abbrev pub told_over : Option Fact → List Item → List Item
 told_over None items = items
 told_over (Some fact) items = Told fact ∷ items
@@ -44,7 +44,7 @@ abbrev pub sent_with : List ℕ → Option Msg → List Item
 sent_with payload None = []
 sent_with payload (Some message) = Sent None message payload ∷ []
 
--- all items of an answer
+-- all items of an answer, with the payload that spells its message
 abbrev pub items_of : List ℕ → Answered → List Item
 items_of payload answered = told_over answered.fact (sent_with payload answered.message)
 
@@ -71,14 +71,14 @@ pub record ClientAllows {K : Type 0} (p : Parties K) (history : List Item) (ask 
 
 -- ---- items of other layers
 
--- an item of which a server keeps nothing here: all but SERVICE_ACCEPT, FAILURE and SUCCESS sent
+-- an item of which a server keeps nothing here: all except SERVICE_ACCEPT, FAILURE and SUCCESS sent
 abbrev pub LeavesServer : Item → Type 0
 LeavesServer (Sent channel (ServiceAccept service) payload) = ⊥
 LeavesServer (Sent channel (UserauthFailure methods partial) payload) = ⊥
 LeavesServer (Sent channel UserauthSuccess payload) = ⊥
 LeavesServer _ = Unit {0}
 
--- an item of which a client keeps nothing here: all but a request sent, and SERVICE_ACCEPT and the answers taken
+-- an item of which a client keeps nothing here: all except a request sent, and SERVICE_ACCEPT and the answers taken
 abbrev pub LeavesClient : Item → Type 0
 LeavesClient (Sent channel (UserauthRequest user service how) payload) = ⊥
 LeavesClient (Took channel (ServiceAccept service) payload) = ⊥

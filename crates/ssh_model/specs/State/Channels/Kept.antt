@@ -131,11 +131,11 @@ opening_place window max_packet = record {
 
 -- ---- messages taken
 
--- The channel is unknown, or another check holds.
+-- the checks of a message on a channel that has to be confirmed, and then these
 abbrev pub open_checks : Option Place → List (Check Refusal) → List (Check Refusal)
 open_checks place checks = RefusedWhere (not (is_at is_open place)) UnknownChannel ∷ checks
 
--- what data is refused for, on a channel on which the peer may send data
+-- what data of this size is refused for: an unknown channel, an EOF before it, or more bytes than may come
 abbrev pub data_checks : Option Place → (size : ℕ) → List (Check Refusal)
 data_checks place size =
     open_checks place
@@ -208,12 +208,12 @@ abbrev pub owed_where : (is_blocked : Bool) → DueReply → Channels → Channe
 owed_where true reply channels = owe reply channels
 owed_where false reply channels = channels
 
--- A CLOSE makes one due, unless it was said: the number is free at once, or when the owed reply is sent.
+-- the CLOSE that is sent at once for one that was taken: none where one was said before, or where the end is blocked
 abbrev pub close_reply : (is_said is_blocked : Bool) → (number to : ℕ) → Option DueReply
 close_reply true is_blocked number to = None
 close_reply false is_blocked number to = sent_at_once is_blocked (AnswersClose number to)
 
--- what a CLOSE makes of the channel, and answers
+-- what a CLOSE makes of the channels: its number is free at once, or when the owed CLOSE is sent
 abbrev pub close_taken : (is_said is_blocked : Bool) → (number to : ℕ) → Channels → Channels
 close_taken false true number to channels =
     owe (AnswersClose number to)
@@ -311,13 +311,13 @@ pub data Unblocks (channels : Channels) : Option DueReply → Channels → Type 
 
 -- ---- asks
 
--- on a channel that is confirmed, where another check may hold
+-- the checks of an ask on a channel that has to be confirmed, and then these
 abbrev pub confirmed_checks : (is_blocked is_due busy : Bool) → Option Place → List (Check AskRefusal) →
     List (Check AskRefusal)
 confirmed_checks is_blocked is_due busy place checks =
     common_checks is_blocked is_due busy (RefusedWhere (not (is_at is_open place)) NoChannel ∷ checks)
 
--- on a channel that the peer has yet to answer, where another check may hold
+-- the checks of an ask on a channel whose OPEN this end has yet to answer, and then these
 abbrev pub waiting_checks : (is_blocked is_due : Bool) → Option Place → List (Check AskRefusal) →
     List (Check AskRefusal)
 waiting_checks is_blocked is_due place checks =

@@ -13,7 +13,7 @@ use Rattle.ssh_model.specs.Protocol.Channels.History.{Item, Item.Sent, is_owed}
 
 -- What an end keeps of a channel (RFC 4254 section 5).
 pub record Place : Type 0 where
-  -- this end opened it; the other end answered with OPEN_CONFIRMATION
+  -- this end opened it; the OPEN was answered with OPEN_CONFIRMATION
   pub is_own : Bool
   pub is_answered : Bool
   -- EOF sent and taken
@@ -34,7 +34,7 @@ pub record Place : Type 0 where
   pub waiting_here : ℕ
   pub waiting_there : ℕ
 
--- of a channel of this end or not, the messages said and taken on it, and the requests that wait
+-- what is kept of a channel, of this end or not, by the messages said and taken on it and the requests that wait
 unfoldable pub place_of : Bool → (said took : List Message) → (here there : ℕ) → Place
 place_of own said took here there = record {
   is_own = own;
@@ -71,7 +71,7 @@ place side notes owed number =
 
 -- ---- the replies that are owed
 
--- Both ends said CLOSE on the channel at this number, this end one that it owes.
+-- The channel that was opened last at this number is over, and both ends said CLOSE on it.
 pub record IsOver (number : ℕ) (notes : List Note) : Type 0 where
   pub opened : has_open number notes ≡ true
   pub held : is_held number notes ≡ false

@@ -65,8 +65,8 @@ abbrev pub replied : Option DueReply → List channel.Item
 replied None = []
 replied (Some reply) = reply_item reply ∷ []
 
--- What is answered is what a session answers, whatever payloads spell the message and its reply, and the channels then
--- sum up the history with it.
+-- Nothing refuses the message. What is answered is what a session answers, whatever payload spells the reply. The
+-- channels then sum up the history with it, whatever payloads spell the message and the reply.
 pub record Accepts (side : Side) (history : List Item) (message : Msg) (taken : Taken)
     (channels : Channels) : Type 0 where
   pub passed : first_refusal (connection_checks side history message) ≡ None
@@ -78,8 +78,8 @@ pub record Accepts (side : Side) (history : List Item) (message : Msg) (taken : 
 
 -- ---- an owed reply sent
 
--- The reply is the oldest that was waiting; it is one of the sent messages of those that wait; and the channels then
--- sum up the history with it.
+-- The reply is the oldest that was waiting. What is sent is the message of that reply, whatever payload spells it. The
+-- channels then sum up the history with it.
 pub record SendsOwed (side : Side) (history : List Item) (waiting : List channel.Item) (reply : DueReply)
     (channels : Channels) : Type 0 where
   pub oldest : waiting ≡ pending channels.owed ++ (reply_item reply ∷ [])

@@ -16,7 +16,7 @@ abbrev pub state_of : {K : Type 0} → Side → PairState K → EndState K
 state_of Client pair = pair.client
 state_of Server pair = pair.server
 
--- where it keeps something else
+-- what both ends keep, where the end of this side keeps this instead
 abbrev pub with_state : {K : Type 0} → Side → EndState K → PairState K → PairState K
 with_state Client e pair = record pair { client = e }
 with_state Server e pair = record pair { server = e }

@@ -28,8 +28,8 @@ use Rattle.ssh_model.specs.State.End.State.{takes_above}
 
 -- ---- below 50
 
--- The payload is this message, which may be taken, and nothing refuses it; these algorithms are chosen in the exchange
--- under way.
+-- The payload is this message, which may be taken, and nothing refuses it. A point or a reply is the one that is
+-- awaited. A reply comes in an exchange with these algorithms.
 pub record Admits {K : Type 0} (p : Parties K) (side : Side) (s : Transport K) (chosen : Chosen) (message : Msg)
     (payload : List ℕ) : Type 0 where
   pub reads : Reads s message payload

@@ -86,14 +86,14 @@ after_item Server (Sent channel UserauthSuccess payload) s = after_success (afte
 after_item side (Sent channel message payload) s = after_sent s
 after_item side _ s = s
 
--- all items, the newest first
+-- the transport after all these items, the newest first
 abbrev pub after_items : {K : Type 0} → Side → List Item → Transport K → Transport K
 after_items side [] s = s
 after_items side (i ∷ items) s = after_item side i (after_items side items s)
 
 -- ---- what messages of the transport make of authentication
 
--- SERVICE_REQUEST, which a server answers with SERVICE_ACCEPT, and SERVICE_ACCEPT open it.
+-- SERVICE_REQUEST opens authentication at a server. SERVICE_ACCEPT, which answers it, opens authentication at a client.
 abbrev pub after_service : Msg → Authentication → Authentication
 after_service (ServiceRequest service) (OfServer server) = OfServer (opened_server server)
 after_service (ServiceAccept service) (OfClient client) = OfClient (opened_client client)

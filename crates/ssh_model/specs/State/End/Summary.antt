@@ -15,7 +15,7 @@ use Rattle.ssh_model.specs.State.Channels.Summary as channel_layer
 use Rattle.ssh_model.specs.State.TransportLayer.Summary as transport_layer
 use Rattle.ssh_model.specs.State.End.State.{Authentication, Authentication.OfServer, Authentication.OfClient, EndState}
 
--- A server's authentication sums up its history, in which it made no request.
+-- A server's authentication sums up its history, in which no request of its own is outstanding.
 pub record ServerKeeps (history : List Item) (server : kept.Server) : Type 0 where
   pub sums : ServerSumsUp history server
   pub none_made : outstanding history ≡ None
@@ -26,7 +26,7 @@ AuthenticationSumsUp Server history (OfServer server) = ServerKeeps history serv
 AuthenticationSumsUp Client history (OfClient client) = ClientSumsUp history client
 AuthenticationSumsUp side history authentication = ⊥
 
--- So do both layers above the transport, between turns, and no more replies are owed than may be.
+-- Between turns both layers above the transport sum up the history, and no more replies are owed than may be.
 pub record AboveSumsUp (side : Side) (history : List Item) (authentication : Authentication)
     (channels : Channels) : Type 0 where
   pub authentication_sums : AuthenticationSumsUp side history authentication

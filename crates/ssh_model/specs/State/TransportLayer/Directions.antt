@@ -30,7 +30,7 @@ renewed strict key direction = record {
   epoch = direction.epoch + 1;
 }
 
--- The direction sums up the payloads that went through it, the newest first.
+-- All of the direction except its key sums up the payloads that went through it, the newest first.
 pub record SumsUp {K : Type 0} (strict : Bool) (l : List Payload) (direction : Direction K) : Type 0 where
   pub number_is : direction.number ≡ wire_number strict l % 2 ^ 32
   pub count_is : direction.count ≡ count l

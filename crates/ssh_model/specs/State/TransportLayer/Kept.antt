@@ -172,12 +172,12 @@ takes s n = takes_in s.phase s n
 abbrev pub own_offer : Settings → Side → Proposal
 own_offer settings side = offer_of settings side false []
 
--- the choice from its own lists and those of the peer
+-- Each kind has a common name in this end's lists and those of the peer.
 abbrev pub has_choice_with : Side → (own theirs : Lists) → Bool
 has_choice_with Client own theirs = has_choice own theirs
 has_choice_with Server own theirs = has_choice theirs own
 
--- what is chosen from them
+-- what is chosen from this end's lists and those of the peer
 abbrev pub choice_with : Side → (own theirs : Lists) → Chosen
 choice_with Client own theirs = chosen own theirs
 choice_with Server own theirs = chosen theirs own
@@ -241,8 +241,8 @@ pub record IsChosen {K : Type 0} (s : Transport K) (c : Chosen) : Type 0 where
   pub read : IsPayload false (KexInit theirs) s.underway.theirs
   pub chosen_is : c ≡ choice_with s.side (lists_of (own_offer s.settings s.side)) (lists_of theirs)
 
--- What a message of the transport is refused for that may be taken: by an agreement, who is trusted with the host key
--- of the exchange, and what was chosen in it.
+-- The checks on a message of the transport that may be taken. They use an agreement, the trust in the host key of the
+-- exchange, and the algorithms that were chosen in that exchange.
 abbrev pub message_checks : {K : Type 0} → Agreement → (trusts : List ℕ → List ℕ → List ℕ → List ℕ → Bool) → Chosen →
     Transport K → Msg → List (Check Refusal)
 message_checks agreement trusts c s (ServiceRequest service) =
@@ -311,7 +311,7 @@ after_own_kexinit material payload s = record s {
   underway = record s.underway { own = payload; secret = material.secret };
 }
 
--- What a message of the transport that ends no exchange makes of what is kept. The payload is that of the message.
+-- What a message that ends no exchange makes of what is kept, and what is answered. The payload is that of the message.
 pub data Takes {K : Type 0} (agreement : Agreement) (s : Transport K) (payload : List ℕ) : Msg → Answered →
     Transport K → Type 0 where
   ignore : (body : List ℕ) → Takes agreement s payload (Ignore body) (tells Ignored) (after_taken s)
@@ -396,15 +396,15 @@ pub record ExchangeParts : Type 0 where
 abbrev pub server_inputs : {K : Type 0} → ExchangeParts → Chosen → Transport K → (q_c : List ℕ) → Inputs
 server_inputs parts c s q_c = inputs_with Server parts.agreement s (take 4096 (parts.host_key c.host)) q_c
 
--- the reply
+-- the server's reply to this point
 abbrev pub server_reply : {K : Type 0} → ExchangeParts → Chosen → Transport K → (q_c : List ℕ) → Msg
 server_reply parts c s q_c =
     KexEcdhReply (take 4096 (parts.host_key c.host)) (own_point parts.agreement s)
     (take 4096 (parts.host_signature c.host (exchange_hash (server_inputs parts c s q_c))))
 
--- What the message that ends an exchange makes of what is kept: the messages up to NEWKEYS, what is announced after
--- it, and what is kept right after NEWKEYS and in the end. Messages stand the newest first. What the layers above
--- owe, and what is told, comes after these.
+-- The effect on a transport of the message that ends an exchange. `last` are the messages up to NEWKEYS, and `announced`
+-- those announced after it. `completed` is the transport's state right after NEWKEYS, and `new` its state in the end.
+-- Messages stand the newest first. The replies that the layers above owe, and the facts that are told, come after these.
 pub data Completes {K : Type 0} (crypto : Crypto K) (parts : ExchangeParts) (c : Chosen) (s : Transport K) : Msg →
     (last announced : List Spelled) → (completed new : Transport K) → Type 0 where
   -- RFC 5656 section 4: the server right after its reply
@@ -424,8 +424,8 @@ pub data Completes {K : Type 0} (crypto : Crypto K) (parts : ExchangeParts) (c :
 
 -- ---- asks
 
--- What an ask for a message of the transport sends, with its payload, and what is then kept. An ask to disconnect
--- ends the end.
+-- What an ask for a message of the transport sends, with its payload, and what is then kept. An ask to disconnect has
+-- no row here: it ends the end.
 pub data Asks {K : Type 0} (s : Transport K) : Ask → Msg → List ℕ → Transport K → Type 0 where
   service : (payload : List ℕ) → s.side ≡ Client →
       Asks s AskService (ServiceRequest (codes "ssh-userauth")) payload (record (after_sent s) { requested = true })

@@ -46,7 +46,7 @@ abbrev pub is_start : Phase → Bool
 is_start Start = true
 is_start _ = false
 
--- the peer's lines
+-- The peer's lines are as the history has them. How many other lines came counts only until the version line.
 pub record LinesSumUp (found : Bool) (others : ℕ) (line : List ℕ) (lines : Lines) : Type 0 where
   pub found_is : lines.found ≡ found
   pub line_is : lines.line ≡ line
@@ -78,15 +78,15 @@ session_after (suc e) xs = Some (session_id xs)
 abbrev pub kept_after : ℕ → List Material → Option Material
 kept_after used fed = cond (nat_lt used (length fed)) (Some (nth no_material used fed)) None
 
--- the pairs of cookie and secret
+-- the pairs of cookie and secret, of which at most one is not used
 pub record MaterialSumsUp (used : ℕ) (pairs : List Material) (material : Option Material) (fed : ℕ) : Type 0 where
   pub material_is : material ≡ kept_after used pairs
   pub fed_is : fed ≡ length pairs
   pub least : used ≤ length pairs
   pub most : length pairs ≤ suc used
 
--- Of each message that an exchange has, there is one for each exchange completed, and one more where it was sent or
--- taken in the exchange under way.
+-- For each exchange completed there is a KEXINIT of each end, and NEWKEYS of the peer unless it is awaited. One KEXINIT
+-- more is that of the exchange under way. The end is blocked at the start, and from the peer's KEXINIT to its next message.
 pub record Counts (gone come : ℕ) (phase : Phase) (blocked : Bool) (own theirs exchanges choices : ℕ) : Type 0 where
   pub own_count : own ≡ gone + bit blocked
   pub opened : 1 ≤ own
@@ -174,8 +174,8 @@ LeavesTransport (AskRefused refusal) = Unit {0}
 LeavesTransport (Told fact) = Unit {0}
 LeavesTransport _ = ⊥
 
--- A message of which a transport keeps no more than that a packet went: those of the layers above but USERAUTH_SUCCESS,
--- and of its own those that change nothing.
+-- A message of which a transport keeps no more than that a packet went: those of the layers above except
+-- USERAUTH_SUCCESS, and of its own those that change nothing.
 abbrev pub IsPlain : Msg → Type 0
 IsPlain (ServiceRequest service) = ⊥
 IsPlain (ServiceAccept service) = ⊥
@@ -215,7 +215,7 @@ pub record IsReplyAwaited {K : Type 0} (s : Transport K) (c : Chosen) : Type 0 w
   pub phase_is : s.phase ≡ Exchanging
   pub chosen : IsChosen s c
 
--- A message of an exchange is the one that is awaited.
+-- A point or a reply is the one that is awaited. Of other messages nothing is said.
 abbrev pub IsAwaited : {K : Type 0} → Transport K → Chosen → Msg → Type 0
 IsAwaited s c (KexEcdhInit q_c) = IsInitAwaited s
 IsAwaited s c (KexEcdhReply k_s q_s signature) = IsReplyAwaited s c

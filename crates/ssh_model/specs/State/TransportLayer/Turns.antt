@@ -80,7 +80,7 @@ pub data SaysWhy {K : Type 0} (c : Crypto K) (s : Transport K) (refusal : Refusa
 abbrev pub refusal_items : Refusal → Option (List ℕ) → List Spelled → List Item
 refusal_items refusal payload l = Died ∷ (items_sent l ++ (Refused refusal payload ∷ []))
 
--- What an end does with a line or a packet that it can't take, and that holds no payload to show.
+-- A refusal without a payload gives these items, what is kept sums up the history with them, and these bytes are put out.
 pub record UnitRefused {K : Type 0} (p : Parties K) (side : Side) (history : List Item) (items : List Item)
     (refusal : Refusal) (more : List ℕ) (new : Transport K) : Type 0 where
   pub refuses : Refuses history refusal None items
@@ -94,8 +94,8 @@ pub record Turned {K : Type 0} (p : Parties K) (side : Side) (history : List Ite
   pub sums : SumsUp p side (items ++ history) new
   pub puts : (bytes : List ℕ) → PutsOut p side history bytes → PutsOut p side (items ++ history) (bytes ++ more)
 
--- A payload ends an exchange with these items up to NEWKEYS and what is announced after it, whatever is owed after
--- them; what is kept sums up the history so far, and these bytes are put out.
+-- A payload ends an exchange with these items, whatever replies are owed after them. They are the items up to NEWKEYS,
+-- and any announcement after it. The transport `new` sums up the history so far. These bytes are put out.
 pub record EndedBy {K : Type 0} (p : Parties K) (side : Side) (history : List Item) (message : Msg) (payload : List ℕ)
     (position : ℕ) (items : List Item) (more : List ℕ) (new : Transport K) : Type 0 where
   pub welcomes : Welcomes p side history message payload
