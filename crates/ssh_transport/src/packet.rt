@@ -1,7 +1,8 @@
 //! Packets that a transport takes.
 
+ghost use Rattle.ssh_transport_machine.specs.Padding.{PadsTo, sending_by};
 ghost use Rattle.ssh_transport_machine.specs.Puts.{outs};
-ghost use Rattle.std.specs.Prelude.{◌≡◌, ◌<◌, ◌≤◌, ◌++◌, IfOk, IfSome, None, OnErr, false, length, map, take, true};
+ghost use Rattle.std.specs.Prelude.{◌≡◌, ◌<◌, ◌≤◌, ◌++◌, IfOk, IfSome, None, OnErr, OnOk, false, length, map, take, true};
 ghost use Rattle.ssh_types.specs.Sides.{side_of};
 ghost use Rattle.ssh_transport_machine.specs.Standing.{IsStanding, Stands};
 ghost use Rattle.ssh_transport.specs.Own.{IsReady, own_of};
@@ -10,11 +11,11 @@ ghost use Rattle.ssh_transport.specs.Units.{IsFinished, PacketLacked, PacketTook
 use crate::own::own_in;
 use crate::role::Role;
 use ssh_model::payload_numbers;
-use ssh_packet::{Filler, Sealing};
+use ssh_packet::Sealing;
 use ssh_transport_machine::ending::choices_kept;
 use ssh_transport_machine::laws::live_machines;
 use ssh_transport_machine::standing::machines_stand;
-use ssh_transport_machine::{Machine, PacketTurn, TransportTurn, packet_outcome};
+use ssh_transport_machine::{Machine, Outgoing, PacketTurn, TransportTurn, packet_outcome};
 use std::alloc::AllocError;
 
 /// Takes bytes to the end of one packet, and does what its payload asks for; a payload for the layers above is left.
@@ -23,11 +24,11 @@ use std::alloc::AllocError;
 ///
 /// Only where memory is refused: nothing is put out, and the end is over.
 pub fn take_packet<R: Role>(
-    machine: &mut Machine<R::Sealing, R::Filler>,
+    machine: &mut Machine<R::Sealing>,
     role: &R,
     bytes: &[u8],
     out: &mut Vec<u8>,
-    sent: &mut Vec<Vec<u8>>,
+    sent: &mut Outgoing<R::Filler>,
 ) -> (usize, Result<TransportTurn, AllocError>)
     requires alive { machine.old.kept.dead ≡ false }
     requires stands { IsStanding (side_of R.SIDE) machine.old }
@@ -41,7 +42,9 @@ pub fn take_packet<R: Role>(
     ensures lacks { OnErr result.1 (PacketLacked R.Sealing.crypto (R.lacks role.now) machine.old
         (machine.old.receiver.begun ++ take result.0 bytes.now)) }
     ensures out { OnErr result.1 (out.new.items ≡ out.old.items) }
-    ensures kept { OnErr result.1 (map (λ v. v.items) sent.new.items ≡ map (λ v. v.items) sent.old.items) }
+    ensures kept { OnErr result.1 (map (λ v. v.items) sent.new.payloads.items ≡ map (λ v. v.items) sent.old.payloads.items) }
+    ensures padded { OnOk result.1 (PadsTo R.Sealing.crypto R.Filler.gives (sending_by machine.old sent.old out.old)
+        (sending_by machine.new sent.new out.new)) }
 {
     R::lifts();
     payload_numbers();
@@ -56,12 +59,13 @@ pub fn take_packet<R: Role>(
 }
 
 // Does what is left of a packet to the role.
+#[tactic(auto, using(crate::proofs::Padding::pads_none))]
 fn finish<R: Role>(
-    machine: &mut Machine<R::Sealing, R::Filler>,
+    machine: &mut Machine<R::Sealing>,
     role: &R,
     done: PacketTurn,
     out: &mut Vec<u8>,
-    sent: &mut Vec<Vec<u8>>,
+    sent: &mut Outgoing<R::Filler>,
 ) -> Result<TransportTurn, AllocError>
     requires { IfSome (own_of done) (λ own. IsReady (side_of R.SIDE) machine.old own) }
     ensures finished { IfOk result (λ turn. IsFinished (R.does role.now) machine.old done turn machine.new
@@ -70,7 +74,9 @@ fn finish<R: Role>(
     ensures dead { OnErr result (machine.new.kept.dead ≡ true) }
     ensures lacks { OnErr result (IfSome (own_of done) (λ own. R.lacks role.now machine.old own)) }
     ensures out { OnErr result (out.new.items ≡ out.old.items) }
-    ensures kept { OnErr result (map (λ v. v.items) sent.new.items ≡ map (λ v. v.items) sent.old.items) }
+    ensures kept { OnErr result (map (λ v. v.items) sent.new.payloads.items ≡ map (λ v. v.items) sent.old.payloads.items) }
+    ensures padded { OnOk result (PadsTo R.Sealing.crypto R.Filler.gives (sending_by machine.old sent.old out.old)
+        (sending_by machine.new sent.new out.new)) }
 {
     match own_in(done) {
         Some(own) => role.finish_exchange(machine, own, out, sent),

@@ -1,7 +1,8 @@
 //! Lines and packets that a transport takes.
 
-ghost use Rattle.std.specs.Prelude.{◌≡◌, ◌<◌, ◌≤◌, ◌++◌, IfErr, IfOk, OnErr, false, length, map, take, true};
+ghost use Rattle.std.specs.Prelude.{◌≡◌, ◌<◌, ◌≤◌, ◌++◌, IfErr, IfOk, OnErr, OnOk, false, length, map, take, true};
 ghost use Rattle.ssh_types.specs.Sides.{side_of};
+ghost use Rattle.ssh_transport_machine.specs.Padding.{PadsTo, sending_by};
 ghost use Rattle.ssh_transport_machine.specs.Puts.{Outs, outs};
 ghost use Rattle.ssh_transport_machine.specs.Standing.{Stands};
 ghost use Rattle.ssh_transport_machine.specs.State.{begun_of};
@@ -10,9 +11,9 @@ ghost use Rattle.ssh_transport.specs.Units.{Failed, Took};
 
 use crate::packet::take_packet;
 use crate::role::Role;
-use ssh_packet::{Filler, Sealing};
+use ssh_packet::Sealing;
 use ssh_transport_machine::standing::machines_stand;
-use ssh_transport_machine::{Machine, TransportFault, TransportTurn, line_outcome};
+use ssh_transport_machine::{Machine, Outgoing, TransportFault, TransportTurn, line_outcome};
 
 /// Takes bytes to the end of one line or one packet, and does what that asks for.
 ///
@@ -21,11 +22,11 @@ use ssh_transport_machine::{Machine, TransportFault, TransportTurn, line_outcome
 /// - `Memory`: memory was refused for what is sent. Nothing is put out, and the end is over.
 /// - `Dead`: it was over before. Nothing changes, and no byte is used.
 pub fn take_unit<R: Role>(
-    machine: &mut Machine<R::Sealing, R::Filler>,
+    machine: &mut Machine<R::Sealing>,
     role: &R,
     bytes: &[u8],
     out: &mut Vec<u8>,
-    sent: &mut Vec<Vec<u8>>,
+    sent: &mut Outgoing<R::Filler>,
 ) -> (usize, Result<TransportTurn, TransportFault>)
     requires { Stands (side_of R.SIDE) machine.old }
     ensures used { result.0 ≤ length bytes.now }
@@ -37,8 +38,10 @@ pub fn take_unit<R: Role>(
     ensures failed { IfErr result.1 (λ fault. Failed R.Sealing.crypto (side_of R.SIDE) (R.lacks role.now) machine.old
         (begun_of machine.old ++ take result.0 bytes.now) fault machine.new) }
     ensures out { OnErr result.1 (out.new.items ≡ out.old.items) }
-    ensures kept { OnErr result.1 (map (λ v. v.items) sent.new.items ≡ map (λ v. v.items) sent.old.items) }
+    ensures kept { OnErr result.1 (map (λ v. v.items) sent.new.payloads.items ≡ map (λ v. v.items) sent.old.payloads.items) }
     ensures stands { Stands (side_of R.SIDE) machine.new }
+    ensures padded { OnOk result.1 (PadsTo R.Sealing.crypto R.Filler.gives (sending_by machine.old sent.old out.old)
+        (sending_by machine.new sent.new out.new)) }
 {
     if machine.is_dead() {
         return (0, Err(TransportFault::Dead));
@@ -52,7 +55,7 @@ pub fn take_unit<R: Role>(
 
 // The bytes of a line. They need no memory.
 fn take_line_unit<R: Role>(
-    machine: &mut Machine<R::Sealing, R::Filler>,
+    machine: &mut Machine<R::Sealing>,
     role: &R,
     bytes: &[u8],
 ) -> (usize, TransportTurn)
@@ -64,6 +67,7 @@ fn take_line_unit<R: Role>(
     ensures more { result.1 ≡ TransportTurn.More → result.0 ≡ length bytes.now }
     ensures took { (o : Outs) → IsQuiet o → Took R.Sealing.crypto (side_of R.SIDE) (R.does role.now) machine.old
         (begun_of machine.old ++ take result.0 bytes.now) result.1 machine.new o }
+    ensures sending { machine.new.kept.sending ≡ machine.old.kept.sending }
     ensures stands { Stands (side_of R.SIDE) machine.new }
 {
     machines_stand::<<R::Sealing as Sealing>::Key>();
@@ -73,11 +77,11 @@ fn take_line_unit<R: Role>(
 
 // The bytes of a packet.
 fn take_packet_unit<R: Role>(
-    machine: &mut Machine<R::Sealing, R::Filler>,
+    machine: &mut Machine<R::Sealing>,
     role: &R,
     bytes: &[u8],
     out: &mut Vec<u8>,
-    sent: &mut Vec<Vec<u8>>,
+    sent: &mut Outgoing<R::Filler>,
 ) -> (usize, Result<TransportTurn, TransportFault>)
     requires stands { Stands (side_of R.SIDE) machine.old }
     requires alive { machine.old.kept.dead ≡ false }
@@ -90,8 +94,10 @@ fn take_packet_unit<R: Role>(
     ensures failed { IfErr result.1 (λ fault. Failed R.Sealing.crypto (side_of R.SIDE) (R.lacks role.now) machine.old
         (begun_of machine.old ++ take result.0 bytes.now) fault machine.new) }
     ensures out { OnErr result.1 (out.new.items ≡ out.old.items) }
-    ensures kept { OnErr result.1 (map (λ v. v.items) sent.new.items ≡ map (λ v. v.items) sent.old.items) }
+    ensures kept { OnErr result.1 (map (λ v. v.items) sent.new.payloads.items ≡ map (λ v. v.items) sent.old.payloads.items) }
     ensures stands { Stands (side_of R.SIDE) machine.new }
+    ensures padded { OnOk result.1 (PadsTo R.Sealing.crypto R.Filler.gives (sending_by machine.old sent.old out.old)
+        (sending_by machine.new sent.new out.new)) }
 {
     machines_stand::<<R::Sealing as Sealing>::Key>();
     let (used, done) = take_packet(machine, role, bytes, out, sent);

@@ -1,5 +1,5 @@
 -- The extensions of a config fit a payload.
-use Rattle.std.proofs.Common.{◌≡◌, ◌≤◌, ◌<◌, ◌+◌, ◌*◌, ◌^◌, ◌==◌, ℕ, Bool, true, false, ◌&&◌, List, [], ◌∷◌, length, arith, refl, subst, leb-true, Some, None}
+use Rattle.std.proofs.Common.{◌≡◌, ◌≤◌, ◌+◌, ◌*◌, ◌==◌, ℕ, Bool, true, false, ◌&&◌, List, [], ◌∷◌, length, arith, refl, subst, leb-true, Some, None}
 use Rattle.std.specs.Prelude.{nat_le}
 use Rattle.std.specs.List.{count_by, list_all}
 use Rattle.ssh_model.specs.Protocol.Bounds.{longest_payload}
@@ -10,7 +10,7 @@ use Rattle.ssh_model.specs.Protocol.Sessions.TurnClaims.{HasSpelling}
 use Rattle.ssh_model.specs.State.TransportLayer.Kept.{Transport, is_announcing}
 use Rattle.ssh_model.specs.Laws.Written.{Made, byte, ended, spelled, string, uint32}
 use Rattle.ssh_transport_base.specs.Config.{AreExtensions, Given, extension_names, is_short_value}
-use Rattle.ssh_transport_machine.specs.Finishing.{HasAnnouncement, IsDue}
+use Rattle.ssh_transport_machine.specs.Finishing.{HasAnnouncement}
 use Rattle.ssh_transport_machine.specs.State.{State}
 
 left : (a b : Bool) → (a && b) ≡ true → a ≡ true

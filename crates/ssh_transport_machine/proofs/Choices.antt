@@ -1,5 +1,5 @@
 -- Where the peer's next message of an exchange is awaited, there is a choice by its KEXINIT: this goes on holding.
-use Rattle.std.proofs.Common.{◌≡◌, ℕ, ◌-◌, List, [], ◌∷◌, refl, ap, sym, ◌∙◌, subst, Bool, true, false, not, Some, None}
+use Rattle.std.proofs.Common.{◌≡◌, ℕ, List, [], ◌∷◌, refl, ap, sym, ◌∙◌, subst, Bool, true, false, not, None}
 use Rattle.std.proofs.lemmas.Bool.{false≢true}
 use Rattle.ssh_model.specs.Protocol.Side.{Side}
 use Rattle.ssh_model.specs.Protocol.Wire.Message.{Msg, Msg.KexInit, IsPayload, Proposal}
@@ -7,12 +7,10 @@ use Rattle.ssh_model.specs.Protocol.Wire.Sealing.{Crypto}
 use Rattle.ssh_model.specs.Protocol.Sessions.Items.{Ask}
 use Rattle.ssh_model.specs.Protocol.Sessions.Parties.{Settings, lists_of}
 use Rattle.ssh_model.specs.Protocol.Sessions.Phases as model
-use Rattle.ssh_model.specs.Protocol.Sessions.Refusals.{Check, Check.RefusedWhere, Refusal, Refusal.NotStrict, Refusal.Unexpected, Refusal.NoCommon, Refusal.NoMaterial, first_refusal}
-use Rattle.ssh_model.specs.State.TransportLayer.Directions.{Direction}
+use Rattle.ssh_model.specs.Protocol.Sessions.Refusals.{Check.RefusedWhere, Refusal, Refusal.NotStrict, Refusal.Unexpected, Refusal.NoCommon, first_refusal}
 use Rattle.ssh_model.specs.State.TransportLayer.Kept as kept
 use Rattle.ssh_model.specs.State.TransportLayer.Kept.{Asks, Transport, after_fed, after_own_kexinit, after_sent, has_choice_with, own_offer}
 use Rattle.ssh_model.specs.State.TransportLayer.Summary.{is_agreeing}
-use Rattle.ssh_transport_base.specs.Directions.{Receives}
 use Rattle.ssh_transport_base.specs.declared.packets.step.PacketStep.{PacketStep}
 use Rattle.ssh_transport_base.specs.declared.packets.step.PacketStep.TheVariants as step
 use Rattle.ssh_transport_machine.specs.Asking.{AskDone}

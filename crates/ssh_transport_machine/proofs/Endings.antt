@@ -1,12 +1,12 @@
 -- A secret counts no more once its exchange is over.
-use Rattle.std.proofs.Common.{◌≡◌, ℕ, List, refl, sym, ◌∙◌, Bool, true, false}
+use Rattle.std.proofs.Common.{◌≡◌, ℕ, List, ◌∙◌, Bool, true, false}
 use Rattle.ssh_model.specs.Protocol.Side.{Side, Side.Client, Side.Server}
-use Rattle.ssh_model.specs.Protocol.Sessions.Parties.{Parties, point_by}
+use Rattle.ssh_model.specs.Protocol.Sessions.Parties.{Parties}
 use Rattle.ssh_model.specs.Protocol.Sessions.Phases.{Phase}
 use Rattle.ssh_model.specs.Protocol.Sessions.Items.{Item}
 use Rattle.ssh_model.specs.Protocol.KeyExchange.Exchanges.{Reply}
 use Rattle.ssh_model.specs.State.TransportLayer.Kept.{Transport}
-use Rattle.ssh_model.specs.State.TransportLayer.Summary.{ClientPoints, Live, PointsSumUp, SumsUp, is_agreeing}
+use Rattle.ssh_model.specs.State.TransportLayer.Summary.{Live, PointsSumUp, SumsUp, is_agreeing}
 use Rattle.ssh_model.specs.State.TransportLayer.View.{View, view}
 use Rattle.ssh_transport_machine.specs.Finishing.{forgotten}
 

@@ -1,8 +1,8 @@
 -- NEWKEYS, and what stands before and after it.
-use Rattle.std.proofs.Common.{◌≡◌, ℕ, List, [], ◌∷◌, ◌++◌, refl, ap, sym, ◌∙◌, append-nil, append_assoc, subst, Option, Some, None}
+use Rattle.std.proofs.Common.{◌≡◌, ℕ, List, [], ◌∷◌, ◌++◌, ap, sym, ◌∙◌, append-nil, append_assoc, subst, Option, Some, None}
 use Rattle.ssh_model.specs.Protocol.Wire.Message.{Msg, Msg.ExtInfo, Msg.NewKeys}
 use Rattle.ssh_model.specs.Protocol.Wire.Sealing.{Crypto}
-use Rattle.ssh_model.specs.Protocol.Sessions.Items.{Spelled, Spelled.SpelledBy}
+use Rattle.ssh_model.specs.Protocol.Sessions.Items.{Spelled.SpelledBy}
 use Rattle.ssh_model.specs.Protocol.Sessions.Turns.{IsSpelled}
 use Rattle.ssh_model.specs.State.TransportLayer.Directions.{counted, renewed}
 use Rattle.ssh_model.specs.State.TransportLayer.Kept.{Transport, after_sent}

@@ -1,8 +1,8 @@
 -- What holds of what a live machine keeps, once an exchange is over.
-use Rattle.std.proofs.Common.{◌≡◌, ℕ, ◌+◌, ◌^◌, ◌-◌, ◌≤◌, List, refl, ap, sym, ◌∙◌, arith, Bool, true, false, Option, Some, None, is_some}
+use Rattle.std.proofs.Common.{◌≡◌, ℕ, ◌+◌, ◌≤◌, List, ap, arith, true, Option, Some, None}
 use Rattle.std.proofs.lemmas.Bool.{false≢true}
 use Rattle.ssh_model.specs.State.TransportLayer.Kept.{Transport, after_sent}
-use Rattle.ssh_model.specs.State.TransportLayer.Summary.{bit, is_keying}
+use Rattle.ssh_model.specs.State.TransportLayer.Summary.{bit}
 use Rattle.ssh_transport_machine.specs.Choices.{IsChoosing}
 use Rattle.ssh_transport_machine.specs.Finishing.{after_announced, forgotten, keyed}
 use Rattle.ssh_transport_machine.specs.State.{IsKeptLive}

@@ -19,3 +19,4 @@ pub mod Deaths
 pub mod Choices
 pub mod Keyed
 pub mod Roles
+pub mod Padding

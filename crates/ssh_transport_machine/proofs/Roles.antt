@@ -21,7 +21,7 @@ use Rattle.ssh_transport_machine.specs.LineTurns.{LineTaken}
 use Rattle.ssh_transport_machine.specs.Opening.{IsOpened}
 use Rattle.ssh_transport_machine.specs.Puts.{Outs}
 use Rattle.ssh_transport_machine.specs.Standing.{IsStanding, Stands}
-use Rattle.ssh_transport_machine.specs.State.{IsLive, State}
+use Rattle.ssh_transport_machine.specs.State.{State}
 use Rattle.ssh_transport_machine.specs.Turning as turning
 use Rattle.ssh_transport_machine.specs.Turning.{Answers, Does, KexinitDone, PacketDone, PacketTaken}
 use Rattle.ssh_transport_machine.specs.declared.machine.judging.Judged.{Judged}

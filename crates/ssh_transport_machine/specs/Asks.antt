@@ -1,5 +1,5 @@
 -- What a user asks of an end, or a layer above, and what the end does on it.
-use Rattle.std.specs.Prelude.{◌≡◌, ℕ, ◌≤◌, true, false}
+use Rattle.std.specs.Prelude.{◌≡◌, ◌≤◌, true, false}
 use Rattle.ssh_model.specs.Protocol.Bounds.{longest_payload}
 use Rattle.ssh_model.specs.Protocol.Wire.Message.{Msg, FitsContext}
 use Rattle.ssh_model.specs.Protocol.Wire.Sealing.{Crypto}

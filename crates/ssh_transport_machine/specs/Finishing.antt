@@ -1,5 +1,5 @@
 -- The end of an exchange: its keys, NEWKEYS, and what is announced after it.
-use Rattle.std.specs.Prelude.{◌≡◌, ℕ, ◌≤◌, Bool, true, false, Option, Some, None, unwrap_or, IsSome, List, [], ◌∷◌}
+use Rattle.std.specs.Prelude.{◌≡◌, ℕ, ◌≤◌, true, false, Option, Some, None, unwrap_or, IsSome, List, [], ◌∷◌}
 use Rattle.std.specs.Prelude.{◌++◌, length, replicate}
 use Rattle.ssh_model.specs.Protocol.Bounds.{longest_payload}
 use Rattle.ssh_model.specs.Protocol.Side.{Side, Side.Client, Side.Server, peer}
@@ -11,7 +11,7 @@ use Rattle.ssh_model.specs.Protocol.Sessions.Items.{Spelled, Spelled.SpelledBy}
 use Rattle.ssh_model.specs.Protocol.Sessions.Parties.{lists_of}
 use Rattle.ssh_model.specs.Protocol.Sessions.Phases as model
 use Rattle.ssh_model.specs.Protocol.Sessions.Turns.{IsSpelled}
-use Rattle.ssh_model.specs.State.TransportLayer.Directions.{Direction, counted, renewed}
+use Rattle.ssh_model.specs.State.TransportLayer.Directions.{counted, renewed}
 use Rattle.ssh_model.specs.State.TransportLayer.Kept.{Transport, after_sent, has_choice_with, is_announcing, own_offer}
 use Rattle.ssh_model.specs.State.TransportLayer.Turns.{PutsPackets, counted_by}
 use Rattle.ssh_transport_machine.specs.Hashing.{key_with}

@@ -1,6 +1,8 @@
 pub mod State
 pub mod LineTurns
 pub mod Puts
+pub mod Padding
+pub mod PaddingLaws
 pub mod Kexinits
 pub mod Judging
 pub mod Hashing

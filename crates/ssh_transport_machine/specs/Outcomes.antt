@@ -1,5 +1,5 @@
 -- What a transport answers to its caller, by what it did.
-use Rattle.std.specs.Prelude.{◌≡◌, ℕ, List}
+use Rattle.std.specs.Prelude.{◌≡◌, ℕ}
 use Rattle.ssh_model.specs.Protocol.Sessions.Refusals as model
 use Rattle.ssh_packet.specs.Refusals.{line_refusal}
 use Rattle.ssh_types.specs.Refusals.{refusal_of}

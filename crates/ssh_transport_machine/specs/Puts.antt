@@ -8,6 +8,7 @@ use Rattle.ssh_model.specs.Protocol.Sessions.Refusals.{Refusal}
 use Rattle.ssh_model.specs.State.TransportLayer.Directions.{Direction}
 use Rattle.ssh_model.specs.State.TransportLayer.Kept.{Transport}
 use Rattle.ssh_model.specs.State.TransportLayer.Turns.{PutsPackets, SaysWhy, counted_by}
+use Rattle.ssh_transport_machine.specs.declared.outgoing.Outgoing.{Outgoing}
 
 -- The bytes put out, and the payloads listed, before a call and after it.
 pub record Outs : Type 0 where
@@ -17,13 +18,17 @@ pub record Outs : Type 0 where
   pub relisted : List (List ℕ)
 
 -- what a call put at the end of bytes and of a list of payloads, each as it was before the call and after it
-abbrev pub outs : (old new : Vec ℕ) → (sent resent : Vec (Vec ℕ)) → Outs
-outs old new sent resent = record {
+abbrev pub listed_outs : (old new : Vec ℕ) → (sent resent : Vec (Vec ℕ)) → Outs
+listed_outs old new sent resent = record {
   before = old.items;
   after = new.items;
   listed = map (λ payload. payload.items) sent.items;
   relisted = map (λ payload. payload.items) resent.items;
 }
+
+-- the same where the list stands with the filler
+abbrev pub outs : {F : Type 0} → (old new : Vec ℕ) → (sent resent : Outgoing F) → Outs
+outs old new sent resent = listed_outs old new sent.payloads resent.payloads
 
 -- the payloads of messages, the oldest first
 abbrev pub payloads_of : List Spelled → List (List ℕ)

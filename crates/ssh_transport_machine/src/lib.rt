@@ -9,6 +9,7 @@ mod key_making;
 pub mod laws;
 mod machine;
 mod outcome;
+mod outgoing;
 pub mod standing;
 
 pub use machine::{
@@ -19,3 +20,4 @@ pub use outcome::{
     Effect, TransportAsk, TransportFault, TransportTurn, answer_outcome, line_outcome,
     packet_outcome,
 };
+pub use outgoing::Outgoing;

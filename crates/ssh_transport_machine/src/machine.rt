@@ -45,7 +45,7 @@ use kexinit_payload::KexinitPayload;
 pub use line_turn::LineTurn;
 pub use material::Material;
 pub use phase::Phase;
-use ssh_packet::{Filler, LineReader, LineStep, Sealing};
+use ssh_packet::{LineReader, LineStep, Sealing};
 use ssh_transport_base::{Config, PacketReceiver, PacketSender};
 use ssh_types::Side;
 use std::alloc::Global;
@@ -53,11 +53,10 @@ use std::marker::Model;
 pub use turn::{Answer, AskTurn, PacketTurn, PayloadTurn};
 
 /// One end, without the parts that only one side has.
-pub struct Machine<S: Sealing, F: Filler + Drop> {
+pub struct Machine<S: Sealing> {
     alloc: Global,
     side: Side,
     config: Config<S>,
-    filler: F,
     lines: LineReader,
     sending: PacketSender<S>,
     taking: PacketReceiver<S>,
@@ -82,7 +81,7 @@ pub struct Machine<S: Sealing, F: Filler + Drop> {
     dead: bool,
 }
 
-impl<S: Sealing, F: Filler + Drop> Model for Machine<S, F> {
+impl<S: Sealing> Model for Machine<S> {
     ghost use Rattle.ssh_types.specs.Sides.{side_of};
     ghost use Rattle.ssh_transport_base.specs.Meaning.{settings_of};
     ghost use Rattle.ssh_transport_machine.specs.State.{State, lines_of, material_of, phase_of};
@@ -115,13 +114,12 @@ impl<S: Sealing, F: Filler + Drop> Model for Machine<S, F> {
     } };
 }
 
-impl<S: Sealing, F: Filler + Drop> Drop for Machine<S, F> {
+impl<S: Sealing> Drop for Machine<S> {
     fn drop(self) {
         let Machine {
             alloc: _,
             side: _,
             config: _,
-            filler: _,
             lines: _,
             sending: _,
             taking: _,
@@ -144,7 +142,7 @@ impl<S: Sealing, F: Filler + Drop> Drop for Machine<S, F> {
     }
 }
 
-impl<S: Sealing, F: Filler + Drop> Machine<S, F> {
+impl<S: Sealing> Machine<S> {
     /// Takes bytes to the end of one line. It needs no memory.
     pub fn take_line(&mut self, bytes: &[u8]) -> (usize, LineTurn)
         requires { self.old.reading.ended ≡ None }
@@ -152,6 +150,7 @@ impl<S: Sealing, F: Filler + Drop> Machine<S, F> {
         ensures progress { 0 < length bytes.now → 0 < result.0 }
         ensures more { result.1 ≡ LineTurn.More → result.0 ≡ length bytes.now }
         ensures taken { LineTaken self.old (self.old.reading.begun ++ take result.0 bytes.now) result.1 self.new }
+        ensures sending { self.new.kept.sending ≡ self.old.kept.sending }
     {
         let (used, step) = self.lines.take(bytes);
         match step {

@@ -16,7 +16,7 @@ ghost use Rattle.ssh_transport.specs.OfClient.Replies.{HostDue, IsHostJudged, Is
 use crate::bytes::{copied, has_32_bytes};
 use ssh_kex::{Agreement, Choice, HostTrust, OwnedChoice};
 use ssh_message::{Message, decode};
-use ssh_packet::{Filler, Sealing};
+use ssh_packet::Sealing;
 use ssh_transport_machine::{ExchangeKeys, Machine, Points};
 use std::alloc::AllocError;
 
@@ -54,8 +54,8 @@ struct Reply<'a> {
 /// # Errors
 ///
 /// Only where memory is refused: nothing changes.
-pub fn judge_reply<S: Sealing, F: Filler + Drop, A: Agreement, T: HostTrust>(
-    machine: &Machine<S, F>,
+pub fn judge_reply<S: Sealing, A: Agreement, T: HostTrust>(
+    machine: &Machine<S>,
     agreement: &A,
     trust: &T,
 ) -> Result<HostJudged<S::Key>, AllocError>
@@ -78,8 +78,8 @@ pub fn judge_reply<S: Sealing, F: Filler + Drop, A: Agreement, T: HostTrust>(
 }
 
 // Tests the reply that a payload is.
-fn judge_message<S: Sealing, F: Filler + Drop, A: Agreement, T: HostTrust>(
-    machine: &Machine<S, F>,
+fn judge_message<S: Sealing, A: Agreement, T: HostTrust>(
+    machine: &Machine<S>,
     agreement: &A,
     trust: &T,
     payload: &[u8],
@@ -123,8 +123,8 @@ fn reply_in(message: Message<'_>) -> Reply<'_>
 }
 
 // Tests the point, and then the host.
-fn judge_point<S: Sealing, F: Filler + Drop, A: Agreement, T: HostTrust>(
-    machine: &Machine<S, F>,
+fn judge_point<S: Sealing, A: Agreement, T: HostTrust>(
+    machine: &Machine<S>,
     agreement: &A,
     trust: &T,
     reply: Reply<'_>,
@@ -148,8 +148,8 @@ fn judge_point<S: Sealing, F: Filler + Drop, A: Agreement, T: HostTrust>(
 }
 
 // Tests the host, whose point shares this.
-fn judge_host<S: Sealing, F: Filler + Drop, A: Agreement, T: HostTrust>(
-    machine: &Machine<S, F>,
+fn judge_host<S: Sealing, A: Agreement, T: HostTrust>(
+    machine: &Machine<S>,
     agreement: &A,
     trust: &T,
     reply: Reply<'_>,
@@ -193,8 +193,8 @@ fn judge_host<S: Sealing, F: Filler + Drop, A: Agreement, T: HostTrust>(
 }
 
 // Makes the keys of the exchange, and what is announced after NEWKEYS.
-fn make_keys<S: Sealing, F: Filler + Drop>(
-    machine: &Machine<S, F>,
+fn make_keys<S: Sealing>(
+    machine: &Machine<S>,
     choice: Choice<'_>,
     shared: &[u8; 32],
     hash: &[u8; 32],

@@ -15,7 +15,7 @@ use crate::bytes::has_32_bytes;
 use ssh_kex::{Agreement, Choice, HostSigner, OwnedChoice};
 use ssh_message::Message;
 use ssh_model::{payload_sizes, spellings};
-use ssh_packet::{Filler, Sealing};
+use ssh_packet::Sealing;
 use ssh_transport_machine::{ExchangeKeys, Machine, Points};
 use std::alloc::AllocError;
 
@@ -49,8 +49,8 @@ struct Signed {
 /// # Errors
 ///
 /// Only where memory is refused: nothing changes.
-pub fn spell_answer<S: Sealing, F: Filler + Drop, A: Agreement, H: HostSigner>(
-    machine: &Machine<S, F>,
+pub fn spell_answer<S: Sealing, A: Agreement, H: HostSigner>(
+    machine: &Machine<S>,
     agreement: &A,
     signer: &H,
     point: &[u8; 32],
@@ -78,15 +78,15 @@ pub fn spell_answer<S: Sealing, F: Filler + Drop, A: Agreement, H: HostSigner>(
     if !machine.has_numbers(2) {
         return Ok(Spelling::NumberSpent);
     }
-    let answer = spell_signed::<S, F, A, H>(
+    let answer = spell_signed::<S, A, H>(
         machine, agreement, signer, choice, point, shared, &signed,
     )?;
     Ok(Spelling::Answer(answer))
 }
 
 // Signs the exchange. It needs no memory.
-fn sign<S: Sealing, F: Filler + Drop, A: Agreement, H: HostSigner>(
-    machine: &Machine<S, F>,
+fn sign<S: Sealing, A: Agreement, H: HostSigner>(
+    machine: &Machine<S>,
     agreement: &A,
     signer: &H,
     choice: &Choice<'_>,
@@ -125,8 +125,8 @@ fn sign<S: Sealing, F: Filler + Drop, A: Agreement, H: HostSigner>(
 }
 
 // What answers by this has a spelling: a fact for proofs.
-fn answer_fits<S: Sealing, F: Filler + Drop, A: Agreement, H: HostSigner>(
-    machine: &Machine<S, F>,
+fn answer_fits<S: Sealing, A: Agreement, H: HostSigner>(
+    machine: &Machine<S>,
     agreement: &A,
     signer: &H,
     choice: &Choice<'_>,
@@ -156,8 +156,8 @@ fn answer_fits<S: Sealing, F: Filler + Drop, A: Agreement, H: HostSigner>(
 }
 
 // Makes the keys and the payloads of an exchange that is signed.
-fn spell_signed<S: Sealing, F: Filler + Drop, A: Agreement, H: HostSigner>(
-    machine: &Machine<S, F>,
+fn spell_signed<S: Sealing, A: Agreement, H: HostSigner>(
+    machine: &Machine<S>,
     agreement: &A,
     signer: &H,
     choice: Choice<'_>,
@@ -196,8 +196,8 @@ fn spell_signed<S: Sealing, F: Filler + Drop, A: Agreement, H: HostSigner>(
 }
 
 // The payload of KEX_ECDH_REPLY (RFC 5656 section 4).
-fn spell_reply<S: Sealing, F: Filler + Drop, H: HostSigner>(
-    machine: &Machine<S, F>,
+fn spell_reply<S: Sealing, H: HostSigner>(
+    machine: &Machine<S>,
     signer: &H,
     algorithm: &[u8],
     signed: &Signed,

@@ -14,11 +14,11 @@ ghost use Rattle.ssh_transport_machine.specs.Finishing.{HasAnnouncement, IsAnnou
 use crate::machine::Machine;
 use ssh_message::{Extensions, Message};
 use ssh_model::payload_sizes;
-use ssh_packet::{Filler, Sealing};
+use ssh_packet::Sealing;
 use ssh_transport_base::{Config, every_config_is_good};
 use std::alloc::AllocError;
 
-impl<S: Sealing, F: Filler + Drop> Machine<S, F> {
+impl<S: Sealing> Machine<S> {
     /// The payload of the EXT_INFO that follows the NEWKEYS sent next, where one does.
     ///
     /// # Errors

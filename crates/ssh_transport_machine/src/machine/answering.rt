@@ -3,6 +3,7 @@
 ghost use Rattle.std.specs.Prelude.{◌≡◌, ◌<◌, ◌+◌, ◌^◌, OnOk, OnErr, map, true};
 ghost use Rattle.ssh_model.specs.Protocol.Wire.Message.{KexEcdhInit};
 ghost use Rattle.ssh_model.specs.State.TransportLayer.Kept.{after_sent};
+ghost use Rattle.ssh_transport_machine.specs.Padding.{PadsTo, sending_by};
 ghost use Rattle.ssh_transport_machine.specs.Offering.{BothAnswered, OwnAnswered};
 ghost use Rattle.ssh_transport_machine.specs.Puts.{Sends, outs};
 ghost use Rattle.ssh_transport_machine.specs.State.{noted};
@@ -10,22 +11,23 @@ ghost use Rattle.ssh_transport_machine.specs.State.{noted};
 use crate::machine::Machine;
 use crate::machine::kexinit::KexinitFacts;
 use crate::machine::material::Material;
+use crate::outgoing::Outgoing;
 use ssh_message::Message;
 use ssh_packet::{Filler, Sealing};
 use std::alloc::AllocError;
 
-impl<S: Sealing, F: Filler + Drop> Machine<S, F> {
+impl<S: Sealing> Machine<S> {
     /// A client that sent its KEXINIT answers by its point.
     ///
     /// # Errors
     ///
     /// Only where memory is refused: nothing is put out, and the end is over.
-    pub fn answer_by_point(
+    pub fn answer_by_point<F: Filler + Drop>(
         &mut self,
         facts: KexinitFacts,
         point: &[u8; 32],
         out: &mut Vec<u8>,
-        sent: &mut Vec<Vec<u8>>,
+        sent: &mut Outgoing<F>,
     ) -> Result<(), AllocError>
         requires left { self.old.kept.sending.count < 2 ^ 32 }
         ensures sends { OnOk result (Sends S.crypto self.old.kept.sending (KexEcdhInit point.now)
@@ -34,7 +36,9 @@ impl<S: Sealing, F: Filler + Drop> Machine<S, F> {
             { kept = after_sent (noted facts.wrong facts.strict facts.extensions self.old.receiver.payload self.old.kept) }) }
         ensures dead { OnErr result (self.new.kept.dead ≡ true) }
         ensures out { OnErr result (out.new.items ≡ out.old.items) }
-        ensures kept { OnErr result (sent.new.items ≡ sent.old.items) }
+        ensures kept { OnErr result (sent.new.payloads.items ≡ sent.old.payloads.items) }
+        ensures padded { OnOk result (PadsTo S.crypto F.gives (sending_by self.old sent.old out.old)
+            (sending_by self.new sent.new out.new)) }
     {
         self.send(&Message::KexEcdhInit { q_c: point }, out, sent)?;
         self.note_kexinit(facts);
@@ -46,19 +50,21 @@ impl<S: Sealing, F: Filler + Drop> Machine<S, F> {
     /// # Errors
     ///
     /// Only where memory is refused: nothing is put out, and the end is over.
-    pub fn answer_by_own(
+    pub fn answer_by_own<F: Filler + Drop>(
         &mut self,
         facts: KexinitFacts,
         material: Material,
         out: &mut Vec<u8>,
-        sent: &mut Vec<Vec<u8>>,
+        sent: &mut Outgoing<F>,
     ) -> Result<(), AllocError>
         requires left { self.old.kept.sending.count < 2 ^ 32 }
         ensures sends { OnOk result (OwnAnswered S.crypto self.old (record { cookie = material.cookie; secret = material.secret }) facts
             self.new (outs out.old out.new sent.old sent.new)) }
         ensures dead { OnErr result (self.new.kept.dead ≡ true) }
         ensures out { OnErr result (out.new.items ≡ out.old.items) }
-        ensures kept { OnErr result (sent.new.items ≡ sent.old.items) }
+        ensures kept { OnErr result (sent.new.payloads.items ≡ sent.old.payloads.items) }
+        ensures padded { OnOk result (PadsTo S.crypto F.gives (sending_by self.old sent.old out.old)
+            (sending_by self.new sent.new out.new)) }
     {
         self.send_kexinit(material, out, sent)?;
         self.note_kexinit(facts);
@@ -70,27 +76,30 @@ impl<S: Sealing, F: Filler + Drop> Machine<S, F> {
     /// # Errors
     ///
     /// Only where memory is refused: nothing is put out, and the end is over.
-    pub fn answer_by_both(
+    #[tactic(auto, using(crate::specs::PaddingLaws::pads_then))]
+    pub fn answer_by_both<F: Filler + Drop>(
         &mut self,
         facts: KexinitFacts,
         material: Material,
         point: &[u8; 32],
         out: &mut Vec<u8>,
-        sent: &mut Vec<Vec<u8>>,
+        sent: &mut Outgoing<F>,
     ) -> Result<(), AllocError>
         requires left { self.old.kept.sending.count + 1 < 2 ^ 32 }
         ensures sends { OnOk result (BothAnswered S.crypto self.old (record { cookie = material.cookie; secret = material.secret })
             point.now facts self.new (outs out.old out.new sent.old sent.new)) }
         ensures dead { OnErr result (self.new.kept.dead ≡ true) }
         ensures out { OnErr result (out.new.items ≡ out.old.items) }
-        ensures kept { OnErr result (map (λ v. v.items) sent.new.items ≡ map (λ v. v.items) sent.old.items) }
+        ensures kept { OnErr result (map (λ v. v.items) sent.new.payloads.items ≡ map (λ v. v.items) sent.old.payloads.items) }
+        ensures padded { OnOk result (PadsTo S.crypto F.gives (sending_by self.old sent.old out.old)
+            (sending_by self.new sent.new out.new)) }
     {
         let bytes = out.len();
-        let payloads = sent.as_slice().len();
+        let payloads = sent.payloads.as_slice().len();
         self.send_kexinit(material, out, sent)?;
         if let Err(error) = self.send(&Message::KexEcdhInit { q_c: point }, out, sent) {
             out.truncate(bytes);
-            sent.truncate(payloads);
+            sent.payloads.truncate(payloads);
             return Err(error);
         }
         self.note_kexinit(facts);

@@ -1,7 +1,8 @@
 //! What an end does on an ask of its user: for the service of authentication, for an exchange of keys, or to disconnect.
 
+ghost use Rattle.ssh_transport_machine.specs.Padding.{PadsTo, sending_by};
 ghost use Rattle.ssh_transport_machine.specs.Puts.{outs};
-ghost use Rattle.std.specs.Prelude.{◌≡◌, ◌≤◌, IfOk, OnErr, None, codes, length, true};
+ghost use Rattle.std.specs.Prelude.{◌≡◌, ◌≤◌, IfOk, OnErr, OnOk, None, codes, length, true};
 ghost use Rattle.ssh_model.specs.Protocol.Side.{Client};
 ghost use Rattle.ssh_model.specs.Protocol.Wire.Message.{ServiceRequest};
 ghost use Rattle.ssh_model.specs.Protocol.Sessions.Items.{AskDisconnect, AskRekey, AskService};
@@ -15,28 +16,32 @@ use crate::machine::Machine;
 use crate::machine::material::Material;
 use crate::machine::service::USERAUTH;
 use crate::machine::turn::{Answer, AskTurn};
+use crate::outgoing::Outgoing;
 use ssh_message::Message;
 use ssh_packet::{Filler, Sealing};
 use ssh_types::bounds::LONGEST_DESCRIPTION;
 use ssh_types::{AskRefusal, Side};
 use std::alloc::AllocError;
 
-impl<S: Sealing, F: Filler + Drop> Machine<S, F> {
+impl<S: Sealing> Machine<S> {
     /// Asks for the service of authentication (RFC 4253 section 10).
     ///
     /// # Errors
     ///
     /// Only where memory is refused: nothing is put out, and the end is over.
-    pub fn ask_service(
+    #[tactic(auto, using(crate::specs::PaddingLaws::pads_none))]
+    pub fn ask_service<F: Filler + Drop>(
         &mut self,
         out: &mut Vec<u8>,
-        sent: &mut Vec<Vec<u8>>,
+        sent: &mut Outgoing<F>,
     ) -> Result<AskTurn, AllocError>
         ensures done { IfOk result (λ turn. AskDone S.crypto self.old AskService turn self.new (outs out.old out.new sent.old sent.new)) }
         ensures dead { OnErr result (self.new.kept.dead ≡ true) }
         ensures lacks { OnErr result (AskLacks self.old AskService) }
         ensures out { OnErr result (out.new.items ≡ out.old.items) }
-        ensures kept { OnErr result (sent.new.items ≡ sent.old.items) }
+        ensures kept { OnErr result (sent.new.payloads.items ≡ sent.old.payloads.items) }
+        ensures padded { OnOk result (PadsTo S.crypto F.gives (sending_by self.old sent.old out.old)
+            (sending_by self.new sent.new out.new)) }
     {
         if let Some(why) = self.judge_service_ask() {
             return Ok(AskTurn::Refused(why));
@@ -49,16 +54,19 @@ impl<S: Sealing, F: Filler + Drop> Machine<S, F> {
     /// # Errors
     ///
     /// Only where memory is refused: nothing is put out, and the end is over.
-    pub fn ask_rekey(
+    #[tactic(auto, using(crate::specs::PaddingLaws::pads_none))]
+    pub fn ask_rekey<F: Filler + Drop>(
         &mut self,
         out: &mut Vec<u8>,
-        sent: &mut Vec<Vec<u8>>,
+        sent: &mut Outgoing<F>,
     ) -> Result<AskTurn, AllocError>
         ensures done { IfOk result (λ turn. AskDone S.crypto self.old AskRekey turn self.new (outs out.old out.new sent.old sent.new)) }
         ensures dead { OnErr result (self.new.kept.dead ≡ true) }
         ensures lacks { OnErr result (AskLacks self.old AskRekey) }
         ensures out { OnErr result (out.new.items ≡ out.old.items) }
-        ensures kept { OnErr result (sent.new.items ≡ sent.old.items) }
+        ensures kept { OnErr result (sent.new.payloads.items ≡ sent.old.payloads.items) }
+        ensures padded { OnOk result (PadsTo S.crypto F.gives (sending_by self.old sent.old out.old)
+            (sending_by self.new sent.new out.new)) }
     {
         if let Some(why) = self.judge_rekey_ask() {
             return Ok(AskTurn::Refused(why));
@@ -74,18 +82,21 @@ impl<S: Sealing, F: Filler + Drop> Machine<S, F> {
     /// # Errors
     ///
     /// Only where memory is refused: nothing is put out, and the end is over.
-    pub fn ask_disconnect(
+    #[tactic(auto, using(crate::specs::PaddingLaws::pads_none))]
+    pub fn ask_disconnect<F: Filler + Drop>(
         &mut self,
         description: &[u8],
         out: &mut Vec<u8>,
-        sent: &mut Vec<Vec<u8>>,
+        sent: &mut Outgoing<F>,
     ) -> Result<AskTurn, AllocError>
         ensures done { IfOk result (λ turn. DisconnectDone S.crypto self.old description.now turn self.new
             (outs out.old out.new sent.old sent.new)) }
         ensures dead { OnErr result (self.new.kept.dead ≡ true) }
         ensures lacks { OnErr result (DisconnectLacks self.old description.now) }
         ensures out { OnErr result (out.new.items ≡ out.old.items) }
-        ensures kept { OnErr result (sent.new.items ≡ sent.old.items) }
+        ensures kept { OnErr result (sent.new.payloads.items ≡ sent.old.payloads.items) }
+        ensures padded { OnOk result (PadsTo S.crypto F.gives (sending_by self.old sent.old out.old)
+            (sending_by self.new sent.new out.new)) }
     {
         if description.len() > LONGEST_DESCRIPTION {
             return Ok(AskTurn::Refused(AskRefusal::TooLong));
@@ -144,17 +155,19 @@ impl<S: Sealing, F: Filler + Drop> Machine<S, F> {
     }
 
     // Asks for the service where a number is left for it.
-    fn request_service(
+    fn request_service<F: Filler + Drop>(
         &mut self,
         out: &mut Vec<u8>,
-        sent: &mut Vec<Vec<u8>>,
+        sent: &mut Outgoing<F>,
     ) -> Result<Answer, AllocError>
         ensures answers { IfOk result (λ answer. Answers S.crypto self.old (ServiceRequest (codes "ssh-userauth"))
             (record (after_sent self.old.kept) { requested = true }) answer self.new (outs out.old out.new sent.old sent.new)) }
         ensures dead { OnErr result (self.new.kept.dead ≡ true) }
         ensures room { OnErr result (HasRoom self.old) }
         ensures out { OnErr result (out.new.items ≡ out.old.items) }
-        ensures kept { OnErr result (sent.new.items ≡ sent.old.items) }
+        ensures kept { OnErr result (sent.new.payloads.items ≡ sent.old.payloads.items) }
+        ensures padded { OnOk result (PadsTo S.crypto F.gives (sending_by self.old sent.old out.old)
+            (sending_by self.new sent.new out.new)) }
     {
         let request = Message::ServiceRequest { service: USERAUTH };
         match self.answer(&request, out, sent)? {
@@ -167,18 +180,21 @@ impl<S: Sealing, F: Filler + Drop> Machine<S, F> {
     }
 
     // Sends this end's KEXINIT with a pair of cookie and secret where a number is left for it.
-    fn offer(
+    #[tactic(auto, using(crate::specs::PaddingLaws::pads_none))]
+    fn offer<F: Filler + Drop>(
         &mut self,
         material: Material,
         out: &mut Vec<u8>,
-        sent: &mut Vec<Vec<u8>>,
+        sent: &mut Outgoing<F>,
     ) -> Result<Answer, AllocError>
         ensures done { IfOk result (λ answer. OfferDone S.crypto self.old (record { cookie = material.cookie; secret = material.secret })
             answer self.new (outs out.old out.new sent.old sent.new)) }
         ensures dead { OnErr result (self.new.kept.dead ≡ true) }
         ensures lacks { OnErr result (OfferLacks self.old (record { cookie = material.cookie; secret = material.secret })) }
         ensures out { OnErr result (out.new.items ≡ out.old.items) }
-        ensures kept { OnErr result (sent.new.items ≡ sent.old.items) }
+        ensures kept { OnErr result (sent.new.payloads.items ≡ sent.old.payloads.items) }
+        ensures padded { OnOk result (PadsTo S.crypto F.gives (sending_by self.old sent.old out.old)
+            (sending_by self.new sent.new out.new)) }
     {
         self.offer_fits(&material.cookie);
         if self.is_spent() {

@@ -15,11 +15,11 @@ ghost use Rattle.ssh_transport_machine.specs.Finishing.{AreKnown, HasChoice, IsC
 use crate::machine::Machine;
 use ssh_kex::{Choice, KexLists, choose};
 use ssh_message::{Message, Proposal, decode};
-use ssh_packet::{Filler, Sealing};
+use ssh_packet::Sealing;
 use ssh_transport_base::every_config_is_good;
 use ssh_types::Side;
 
-impl<S: Sealing, F: Filler + Drop> Machine<S, F> {
+impl<S: Sealing> Machine<S> {
     /// The algorithms that the peer's KEXINIT, which is kept, and this end's own give. They are chosen anew, so that no memory is
     /// needed.
     pub fn choice(&self) -> Choice<'_>

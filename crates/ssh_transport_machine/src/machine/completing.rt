@@ -5,26 +5,28 @@ ghost use Rattle.ssh_model.specs.Protocol.Sessions.Phases as model;
 ghost use Rattle.ssh_model.specs.Protocol.Wire.Message.{NewKeys};
 ghost use Rattle.ssh_model.specs.State.TransportLayer.Directions.{counted, renewed};
 ghost use Rattle.ssh_transport_base.specs.Directions.{newkeys};
+ghost use Rattle.ssh_transport_machine.specs.Padding.{PadsTo, sending_by};
 ghost use Rattle.ssh_transport_machine.specs.Puts.{PutsPayload, Sends, outs};
 
 use crate::machine::{Machine, Phase};
+use crate::outgoing::Outgoing;
 use ssh_packet::{Filler, Sealing};
 use std::alloc::AllocError;
 
-impl<S: Sealing, F: Filler + Drop> Machine<S, F> {
+impl<S: Sealing> Machine<S> {
     /// Sends NEWKEYS, by which the exchange is completed: from then on packets are sealed under the first key, and opened under the second
     /// one once the peer's NEWKEYS is taken. The session id is that with this exchange.
     ///
     /// # Errors
     ///
     /// Only where memory is refused: nothing is put out, and the end is over.
-    pub fn send_newkeys(
+    pub fn send_newkeys<F: Filler + Drop>(
         &mut self,
         key: S::Key,
         peer_key: S::Key,
         session: [u8; 32],
         out: &mut Vec<u8>,
-        sent: &mut Vec<Vec<u8>>,
+        sent: &mut Outgoing<F>,
     ) -> Result<(), AllocError>
         requires left { self.old.kept.sending.count < 2 ^ 32 }
         requires epoch { self.old.kept.sending.epoch < 2 ^ 32 - 1 }
@@ -40,7 +42,9 @@ impl<S: Sealing, F: Filler + Drop> Machine<S, F> {
         }) }
         ensures dead { OnErr result (self.new.kept.dead ≡ true) }
         ensures out { OnErr result (out.new.items ≡ out.old.items) }
-        ensures kept { OnErr result (sent.new.items ≡ sent.old.items) }
+        ensures kept { OnErr result (sent.new.payloads.items ≡ sent.old.payloads.items) }
+        ensures padded { OnOk result (PadsTo S.crypto F.gives (sending_by self.old sent.old out.old)
+            (sending_by self.new sent.new out.new)) }
     {
         if let Err(error) = self.try_newkeys(key, out, sent) {
             self.dead = true;
@@ -54,11 +58,11 @@ impl<S: Sealing, F: Filler + Drop> Machine<S, F> {
     }
 
     // All growths come first.
-    fn try_newkeys(
+    fn try_newkeys<F: Filler + Drop>(
         &mut self,
         key: S::Key,
         out: &mut Vec<u8>,
-        sent: &mut Vec<Vec<u8>>,
+        sent: &mut Outgoing<F>,
     ) -> Result<(), AllocError>
         requires left { self.old.kept.sending.count < 2 ^ 32 }
         requires epoch { self.old.kept.sending.epoch < 2 ^ 32 - 1 }
@@ -66,14 +70,16 @@ impl<S: Sealing, F: Filler + Drop> Machine<S, F> {
         ensures after { OnOk result (self.new ≡ record self.old
             { kept = record self.old.kept { sending = renewed self.old.kept.strict key (counted self.old.kept.sending) } }) }
         ensures out { OnErr result (out.new.items ≡ out.old.items) }
-        ensures kept { OnErr result (sent.new.items ≡ sent.old.items) }
+        ensures kept { OnErr result (sent.new.payloads.items ≡ sent.old.payloads.items) }
+        ensures padded { OnOk result (PadsTo S.crypto F.gives (sending_by self.old sent.old out.old)
+            (sending_by self.new sent.new out.new)) }
     {
         let mut payload = Vec::new(self.alloc);
         payload.push(21)?;
-        sent.reserve(1)?;
+        sent.payloads.reserve(1)?;
         self.sending
-            .send_newkeys(key, self.strict, &mut self.filler, out)?;
-        sent.push_reserved(payload);
+            .send_newkeys(key, self.strict, &mut sent.filler, out)?;
+        sent.payloads.push_reserved(payload);
         Ok(())
     }
 

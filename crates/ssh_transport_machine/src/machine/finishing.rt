@@ -12,12 +12,14 @@ ghost use Rattle.ssh_model.specs.Protocol.Wire.Message.{Msg, NewKeys};
 ghost use Rattle.ssh_model.specs.State.TransportLayer.Kept.{after_sent};
 ghost use Rattle.ssh_kex.specs.Values.{chosen_of};
 ghost use Rattle.ssh_types.specs.Sides.{side_of};
+ghost use Rattle.ssh_transport_machine.specs.Padding.{PadsTo, sending_by};
 ghost use Rattle.ssh_transport_machine.specs.Finishing.{AreKeys, AreKnown, Finishes, IsAnnouncement, IsDue, after_announced, announced_by};
 ghost use Rattle.ssh_transport_machine.specs.Finishing.{forgotten, key_by, keyed, session_by};
 ghost use Rattle.ssh_transport_machine.specs.Puts.{Sends, outs};
 
 use crate::key_making::{Agreed, key_from};
 use crate::machine::Machine;
+use crate::outgoing::Outgoing;
 use ssh_kex::Choice;
 use ssh_packet::{Filler, Sealing};
 use ssh_types::Side;
@@ -31,7 +33,7 @@ pub struct ExchangeKeys<K: Drop> {
     pub session: [u8; 32],
 }
 
-impl<S: Sealing, F: Filler + Drop> Machine<S, F> {
+impl<S: Sealing> Machine<S> {
     /// Makes the keys of both directions (RFC 4253 section 7.2).
     ///
     /// # Errors
@@ -106,12 +108,12 @@ impl<S: Sealing, F: Filler + Drop> Machine<S, F> {
     /// # Errors
     ///
     /// Only where memory is refused: nothing is put out, and the end is over.
-    pub fn finish(
+    pub fn finish<F: Filler + Drop>(
         &mut self,
         keys: ExchangeKeys<S::Key>,
         announcement: Option<Vec<u8>>,
         out: &mut Vec<u8>,
-        sent: &mut Vec<Vec<u8>>,
+        sent: &mut Outgoing<F>,
     ) -> Result<(), AllocError>
         requires left { self.old.kept.sending.count < 2 ^ 32 }
         requires epoch { self.old.kept.sending.epoch < 2 ^ 32 - 1 }
@@ -125,7 +127,9 @@ impl<S: Sealing, F: Filler + Drop> Machine<S, F> {
         }) }
         ensures dead { OnErr result (self.new.kept.dead ≡ true) }
         ensures out { OnErr result (out.new.items ≡ out.old.items) }
-        ensures kept { OnErr result (map (λ v. v.items) sent.new.items ≡ map (λ v. v.items) sent.old.items) }
+        ensures kept { OnErr result (map (λ v. v.items) sent.new.payloads.items ≡ map (λ v. v.items) sent.old.payloads.items) }
+        ensures padded { OnOk result (PadsTo S.crypto F.gives (sending_by self.old sent.old out.old)
+            (sending_by self.new sent.new out.new)) }
     {
         match announcement {
             Some(payload) => self.finish_announcing(keys, payload, out, sent),
@@ -134,11 +138,11 @@ impl<S: Sealing, F: Filler + Drop> Machine<S, F> {
     }
 
     // With nothing after NEWKEYS.
-    fn finish_silently(
+    fn finish_silently<F: Filler + Drop>(
         &mut self,
         keys: ExchangeKeys<S::Key>,
         out: &mut Vec<u8>,
-        sent: &mut Vec<Vec<u8>>,
+        sent: &mut Outgoing<F>,
     ) -> Result<(), AllocError>
         requires left { self.old.kept.sending.count < 2 ^ 32 }
         requires epoch { self.old.kept.sending.epoch < 2 ^ 32 - 1 }
@@ -147,7 +151,9 @@ impl<S: Sealing, F: Filler + Drop> Machine<S, F> {
             { kept = forgotten (keyed keys.own keys.theirs keys.session self.old.kept) }) }
         ensures dead { OnErr result (self.new.kept.dead ≡ true) }
         ensures out { OnErr result (out.new.items ≡ out.old.items) }
-        ensures kept { OnErr result (sent.new.items ≡ sent.old.items) }
+        ensures kept { OnErr result (sent.new.payloads.items ≡ sent.old.payloads.items) }
+        ensures padded { OnOk result (PadsTo S.crypto F.gives (sending_by self.old sent.old out.old)
+            (sending_by self.new sent.new out.new)) }
     {
         let ExchangeKeys {
             own,
@@ -160,12 +166,13 @@ impl<S: Sealing, F: Filler + Drop> Machine<S, F> {
     }
 
     // With this EXT_INFO after NEWKEYS.
-    fn finish_announcing(
+    #[tactic(auto, using(crate::specs::PaddingLaws::pads_then))]
+    fn finish_announcing<F: Filler + Drop>(
         &mut self,
         keys: ExchangeKeys<S::Key>,
         payload: Vec<u8>,
         out: &mut Vec<u8>,
-        sent: &mut Vec<Vec<u8>>,
+        sent: &mut Outgoing<F>,
     ) -> Result<(), AllocError>
         requires left { self.old.kept.sending.count < 2 ^ 32 }
         requires epoch { self.old.kept.sending.epoch < 2 ^ 32 - 1 }
@@ -176,14 +183,16 @@ impl<S: Sealing, F: Filler + Drop> Machine<S, F> {
             { kept = after_sent (forgotten (keyed keys.own keys.theirs keys.session self.old.kept)) }) }
         ensures dead { OnErr result (self.new.kept.dead ≡ true) }
         ensures out { OnErr result (out.new.items ≡ out.old.items) }
-        ensures kept { OnErr result (map (λ v. v.items) sent.new.items ≡ map (λ v. v.items) sent.old.items) }
+        ensures kept { OnErr result (map (λ v. v.items) sent.new.payloads.items ≡ map (λ v. v.items) sent.old.payloads.items) }
+        ensures padded { OnOk result (PadsTo S.crypto F.gives (sending_by self.old sent.old out.old)
+            (sending_by self.new sent.new out.new)) }
     {
         let bytes = out.len();
-        let payloads = sent.as_slice().len();
+        let payloads = sent.payloads.as_slice().len();
         self.finish_silently(keys, out, sent)?;
         if let Err(error) = self.put(payload, out, sent) {
             out.truncate(bytes);
-            sent.truncate(payloads);
+            sent.payloads.truncate(payloads);
             return Err(error);
         }
         Ok(())
@@ -194,13 +203,14 @@ impl<S: Sealing, F: Filler + Drop> Machine<S, F> {
     /// # Errors
     ///
     /// Only where memory is refused: nothing is put out, and the end is over.
-    pub fn finish_behind(
+    #[tactic(auto, using(crate::specs::PaddingLaws::pads_then))]
+    pub fn finish_behind<F: Filler + Drop>(
         &mut self,
         payload: Vec<u8>,
         keys: ExchangeKeys<S::Key>,
         announcement: Option<Vec<u8>>,
         out: &mut Vec<u8>,
-        sent: &mut Vec<Vec<u8>>,
+        sent: &mut Outgoing<F>,
     ) -> Result<(), AllocError>
         requires left { self.old.kept.sending.count + 1 < 2 ^ 32 }
         requires epoch { self.old.kept.sending.epoch < 2 ^ 32 - 1 }
@@ -217,14 +227,16 @@ impl<S: Sealing, F: Filler + Drop> Machine<S, F> {
         }) }
         ensures dead { OnErr result (self.new.kept.dead ≡ true) }
         ensures out { OnErr result (out.new.items ≡ out.old.items) }
-        ensures kept { OnErr result (map (λ v. v.items) sent.new.items ≡ map (λ v. v.items) sent.old.items) }
+        ensures kept { OnErr result (map (λ v. v.items) sent.new.payloads.items ≡ map (λ v. v.items) sent.old.payloads.items) }
+        ensures padded { OnOk result (PadsTo S.crypto F.gives (sending_by self.old sent.old out.old)
+            (sending_by self.new sent.new out.new)) }
     {
         let bytes = out.len();
-        let payloads = sent.as_slice().len();
+        let payloads = sent.payloads.as_slice().len();
         self.put(payload, out, sent)?;
         if let Err(error) = self.finish(keys, announcement, out, sent) {
             out.truncate(bytes);
-            sent.truncate(payloads);
+            sent.payloads.truncate(payloads);
             return Err(error);
         }
         Ok(())

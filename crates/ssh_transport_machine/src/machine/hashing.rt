@@ -10,7 +10,7 @@ ghost use Rattle.ssh_transport_machine.specs.Hashing.{inputs_in};
 use crate::machine::Machine;
 use ssh_kex::laws::short_number;
 use ssh_kex::{ExchangeInputs, exchange_hash};
-use ssh_packet::{Filler, Sealing};
+use ssh_packet::Sealing;
 use ssh_types::Side;
 
 /// What comes of an exchange: the host key, at most 35,000 bytes, both points, and the shared number.
@@ -22,7 +22,7 @@ pub struct Points<'a> {
     pub shared: &'a [u8; 32],
 }
 
-impl<S: Sealing, F: Filler + Drop> Machine<S, F> {
+impl<S: Sealing> Machine<S> {
     /// The hash of the exchange under way (RFC 5656 section 4). It needs no memory.
     pub fn hash(&self, points: &Points<'_>) -> [u8; 32]
         requires { length points.now.host_key.now ≤ largest_packet }

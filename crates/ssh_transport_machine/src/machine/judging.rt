@@ -13,7 +13,7 @@ ghost use Rattle.ssh_transport_machine.specs.State.{before_taken};
 use crate::machine::kexinit::{KexinitFacts, KexinitJudged};
 use crate::machine::{Machine, Phase};
 use ssh_message::{Message, Proposal, decode};
-use ssh_packet::{Filler, Sealing};
+use ssh_packet::Sealing;
 use ssh_types::Refusal;
 
 /// What a payload is to an end.
@@ -45,7 +45,7 @@ pub enum Judged {
     Above,
 }
 
-impl<S: Sealing, F: Filler + Drop> Machine<S, F> {
+impl<S: Sealing> Machine<S> {
     /// Tests the payload that is shown: by its number, then whether it is a message, and then what is checked of its message. The
     /// point of a client and the reply of a server are judged by who has the parts for it.
     pub fn judge(&self) -> Judged

@@ -22,7 +22,7 @@ use crate::machine::numbers::shows_strictness;
 use crate::machine::{Machine, Phase};
 use ssh_kex::{KexLists, choose, extension_markers, guess_wrong, markers};
 use ssh_message::Proposal;
-use ssh_packet::{Filler, Sealing};
+use ssh_packet::Sealing;
 use ssh_transport_base::{Config, no_names, uncompressed};
 use ssh_types::{Refusal, Side};
 
@@ -44,7 +44,7 @@ pub enum KexinitJudged {
     Fine(KexinitFacts),
 }
 
-impl<S: Sealing, F: Filler + Drop> Machine<S, F> {
+impl<S: Sealing> Machine<S> {
     /// Tests a proposal in the order of the refusals.
     pub fn judge_kexinit(&self, theirs: Proposal<'_>) -> KexinitJudged
         requires { 1 ≤ self.now.kept.taking.count }

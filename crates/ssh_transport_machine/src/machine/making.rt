@@ -1,5 +1,6 @@
 //! A new end: its version line, and its first KEXINIT (RFC 4253 sections 4.2 and 7.1).
 
+ghost use Rattle.ssh_transport_machine.specs.Padding.{PadsTo, sending_after_line, sending_by};
 ghost use Rattle.ssh_transport_machine.specs.Puts.{outs};
 ghost use Rattle.std.specs.Prelude.{◌≡◌, ◌<◌, ◌++◌, ◌^◌, IfOk, OnErr, OnOk};
 ghost use Rattle.ssh_model.specs.Protocol.Sessions.Phases.{is_client};
@@ -10,34 +11,37 @@ ghost use Rattle.ssh_transport_machine.specs.Opening.{IsBegun, IsOpened, unopene
 
 use crate::machine::kexinit_payload::KexinitPayload;
 use crate::machine::{Machine, Phase};
+use crate::outgoing::Outgoing;
 use ssh_packet::{Filler, LineReader, Sealing};
 use ssh_transport_base::{Config, PacketReceiver, PacketSender};
 use ssh_types::Side;
 use std::alloc::{AllocError, Global};
 
-impl<S: Sealing, F: Filler + Drop> Machine<S, F> {
+impl<S: Sealing> Machine<S> {
     /// An end of this side that put out its version line and its first KEXINIT, with this cookie and the secret of its point. It has room
     /// for the peer's line, for packets and for both KEXINITs of an exchange from then on.
     ///
     /// # Errors
     ///
     /// Only where memory is refused: nothing is put out, and the parts are dropped.
-    pub fn new(
+    pub fn new<F: Filler + Drop>(
         alloc: Global,
         side: Side,
         config: Config<S>,
-        filler: F,
         cookie: [u8; 16],
         secret: [u8; 32],
         out: &mut Vec<u8>,
-        sent: &mut Vec<Vec<u8>>,
-    ) -> Result<Machine<S, F>, AllocError>
+        sent: &mut Outgoing<F>,
+    ) -> Result<Machine<S>, AllocError>
         ensures opened { IfOk result (λ machine. IsOpened S.crypto (settings_of config) (side_of side) cookie secret machine
             (outs out.old out.new sent.old sent.new)) }
+        ensures padded { IfOk result (λ machine. PadsTo S.crypto F.gives
+            (sending_after_line (unopened (settings_of config) (side_of side) secret) sent.old out.old)
+            (sending_by machine sent.new out.new)) }
         ensures out { OnErr result (out.new.items ≡ out.old.items) }
-        ensures kept { OnErr result (sent.new.items ≡ sent.old.items) }
+        ensures kept { OnErr result (sent.new.payloads.items ≡ sent.old.payloads.items) }
     {
-        let mut machine = Machine::unopened(alloc, side, config, filler, secret)?;
+        let mut machine = Machine::unopened(alloc, side, config, secret)?;
         machine.begin(&cookie, out, sent)?;
         Ok(machine)
     }
@@ -47,9 +51,8 @@ impl<S: Sealing, F: Filler + Drop> Machine<S, F> {
         alloc: Global,
         side: Side,
         config: Config<S>,
-        filler: F,
         secret: [u8; 32],
-    ) -> Result<Machine<S, F>, AllocError>
+    ) -> Result<Machine<S>, AllocError>
         ensures { IfOk result (λ machine. machine ≡ unopened (settings_of config) (side_of side) secret) }
     {
         let taking = PacketReceiver::new(alloc)?;
@@ -59,7 +62,6 @@ impl<S: Sealing, F: Filler + Drop> Machine<S, F> {
             alloc,
             side,
             config,
-            filler,
             lines: LineReader::new(reads_server(side)),
             sending: PacketSender::new(),
             taking,
@@ -82,16 +84,18 @@ impl<S: Sealing, F: Filler + Drop> Machine<S, F> {
     }
 
     // Puts out the version line and the first KEXINIT, or nothing.
-    fn begin(
+    fn begin<F: Filler + Drop>(
         &mut self,
         cookie: &[u8; 16],
         out: &mut Vec<u8>,
-        sent: &mut Vec<Vec<u8>>,
+        sent: &mut Outgoing<F>,
     ) -> Result<(), AllocError>
         requires left { self.old.kept.sending.count < 2 ^ 32 }
         ensures begun { OnOk result (IsBegun S.crypto self.old cookie.now self.new (outs out.old out.new sent.old sent.new)) }
         ensures out { OnErr result (out.new.items ≡ out.old.items) }
-        ensures kept { OnErr result (sent.new.items ≡ sent.old.items) }
+        ensures kept { OnErr result (sent.new.payloads.items ≡ sent.old.payloads.items) }
+        ensures padded { OnOk result (PadsTo S.crypto F.gives (sending_after_line self.old sent.old out.old)
+            (sending_by self.new sent.new out.new)) }
     {
         let bytes = out.len();
         let payload = self.spell_kexinit(true, cookie)?;

@@ -13,11 +13,11 @@ ghost use Rattle.ssh_transport_base.specs.Meaning.{settings_of};
 ghost use Rattle.ssh_transport_machine.specs.State.{before_taken};
 
 use crate::machine::{Machine, Phase};
-use ssh_packet::{Filler, Sealing};
+use ssh_packet::Sealing;
 use ssh_transport_base::{Config, every_config_is_good};
 use ssh_types::Side;
 
-impl<S: Sealing, F: Filler + Drop> Machine<S, F> {
+impl<S: Sealing> Machine<S> {
     /// The number of the message that was taken.
     pub fn number(&self) -> u8
         ensures { result ≡ number_of self.now.receiver.payload }

@@ -1,5 +1,6 @@
 //! The KEXINIT that an end sends, and what it sends with it.
 
+ghost use Rattle.ssh_transport_machine.specs.Padding.{PadsTo, sending_by};
 ghost use Rattle.ssh_transport_machine.specs.Puts.{outs};
 ghost use Rattle.std.specs.Prelude.{◌≡◌, ◌<◌, ◌≤◌, ◌^◌, Bool, IfOk, OnOk, OnErr, false, length, true};
 ghost use Rattle.ssh_model.specs.Protocol.Wire.Message.{KexInit};
@@ -11,28 +12,31 @@ ghost use Rattle.ssh_transport_machine.specs.Offering.{OwnSent};
 
 use crate::machine::Machine;
 use crate::machine::material::Material;
+use crate::outgoing::Outgoing;
 use ssh_packet::{Filler, Sealing};
 use ssh_transport_base::put_kexinit;
 use std::alloc::AllocError;
 
-impl<S: Sealing, F: Filler + Drop> Machine<S, F> {
+impl<S: Sealing> Machine<S> {
     /// Sends this end's KEXINIT with a pair of cookie and secret, which is then used up.
     ///
     /// # Errors
     ///
     /// Only where memory is refused: nothing is put out, and the end is over.
-    pub fn send_kexinit(
+    pub fn send_kexinit<F: Filler + Drop>(
         &mut self,
         material: Material,
         out: &mut Vec<u8>,
-        sent: &mut Vec<Vec<u8>>,
+        sent: &mut Outgoing<F>,
     ) -> Result<(), AllocError>
         requires left { self.old.kept.sending.count < 2 ^ 32 }
         ensures sends { OnOk result (OwnSent S.crypto self.old (record { cookie = material.cookie; secret = material.secret }) self.new
             (outs out.old out.new sent.old sent.new)) }
         ensures dead { OnErr result (self.new.kept.dead ≡ true) }
         ensures out { OnErr result (out.new.items ≡ out.old.items) }
-        ensures kept { OnErr result (sent.new.items ≡ sent.old.items) }
+        ensures kept { OnErr result (sent.new.payloads.items ≡ sent.old.payloads.items) }
+        ensures padded { OnOk result (PadsTo S.crypto F.gives (sending_by self.old sent.old out.old)
+            (sending_by self.new sent.new out.new)) }
     {
         match self.spell_kexinit(false, &material.cookie) {
             Ok(payload) => {

@@ -4,10 +4,10 @@ ghost use Rattle.std.specs.Prelude.{◌≡◌, ◌<◌, ◌≤◌, ◌++◌, Non
 ghost use Rattle.ssh_transport_base.specs.Directions.{Receives};
 
 use crate::machine::Machine;
-use ssh_packet::{Filler, Sealing};
+use ssh_packet::Sealing;
 use ssh_transport_base::PacketStep;
 
-impl<S: Sealing, F: Filler + Drop> Machine<S, F> {
+impl<S: Sealing> Machine<S> {
     /// Takes bytes to the end of one packet. It needs no memory.
     pub fn open(&mut self, bytes: &[u8]) -> (usize, PacketStep)
         requires { self.old.receiver.ended ≡ None }

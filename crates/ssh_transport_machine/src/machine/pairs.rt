@@ -5,9 +5,9 @@ ghost use Rattle.ssh_transport_machine.specs.State.{material_of};
 
 use crate::machine::Machine;
 use crate::machine::material::Material;
-use ssh_packet::{Filler, Sealing};
+use ssh_packet::Sealing;
 
-impl<S: Sealing, F: Filler + Drop> Machine<S, F> {
+impl<S: Sealing> Machine<S> {
     /// That pair, where one is kept.
     pub fn material(&self) -> Option<Material>
         ensures { material_of result ≡ self.now.kept.material }

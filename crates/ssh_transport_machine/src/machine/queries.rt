@@ -7,9 +7,9 @@ ghost use Rattle.ssh_transport_machine.specs.State.{last_number as number_before
 ghost use Rattle.ssh_model.specs.Protocol.Bounds.{largest_packet};
 
 use crate::machine::Machine;
-use ssh_packet::{Filler, Sealing};
+use ssh_packet::Sealing;
 
-impl<S: Sealing, F: Filler + Drop> Machine<S, F> {
+impl<S: Sealing> Machine<S> {
     /// The payload that was taken last.
     pub fn payload(&self) -> &[u8]
         ensures payload { result.now ≡ self.now.receiver.payload }

@@ -3,28 +3,31 @@
 ghost use Rattle.std.specs.Prelude.{◌≡◌, ◌<◌, ◌≤◌, ◌^◌, IsTrue, OnOk, OnErr, false, length, true};
 ghost use Rattle.ssh_model.specs.Protocol.Sessions.Refusals.{refusal_name};
 ghost use Rattle.ssh_types.specs.Refusals.{refusal_of};
+ghost use Rattle.ssh_transport_machine.specs.Padding.{PadsTo, sending_by};
 ghost use Rattle.ssh_transport_machine.specs.Puts.{Refuses, outs};
 ghost use Rattle.ssh_transport_machine.specs.State.{dead_state};
 ghost use Rattle.ssh_transport_machine.specs.Turning.{RefusalLacks};
 
 use crate::machine::Machine;
+use crate::outgoing::Outgoing;
 use ssh_message::Message;
 use ssh_packet::{Filler, Sealing};
 use ssh_types::Refusal;
 use std::alloc::AllocError;
 
-impl<S: Sealing, F: Filler + Drop> Machine<S, F> {
+impl<S: Sealing> Machine<S> {
     /// Refuses the peer: says why in a DISCONNECT, where the refusal has a reason code and a number is left, and is over (RFC 4253 section
     /// 11.1).
     ///
     /// # Errors
     ///
     /// Only where memory is refused: nothing is put out, and the end is over.
-    pub fn refuse(
+    #[tactic(auto, using(crate::specs::PaddingLaws::pads_none))]
+    pub fn refuse<F: Filler + Drop>(
         &mut self,
         refusal: Refusal,
         out: &mut Vec<u8>,
-        sent: &mut Vec<Vec<u8>>,
+        sent: &mut Outgoing<F>,
     ) -> Result<(), AllocError>
         ensures refuses { OnOk result (Refuses S.crypto self.old.kept (refusal_of refusal) self.new.kept
             (outs out.old out.new sent.old sent.new)) }
@@ -32,7 +35,9 @@ impl<S: Sealing, F: Filler + Drop> Machine<S, F> {
         ensures dead { OnErr result (self.new ≡ dead_state self.old) }
         ensures lacks { OnErr result (RefusalLacks self.old refusal) }
         ensures out { OnErr result (out.new.items ≡ out.old.items) }
-        ensures kept { OnErr result (sent.new.items ≡ sent.old.items) }
+        ensures kept { OnErr result (sent.new.payloads.items ≡ sent.old.payloads.items) }
+        ensures padded { OnOk result (PadsTo S.crypto F.gives (sending_by self.old sent.old out.old)
+            (sending_by self.new sent.new out.new)) }
     {
         let Some(reason) = refusal.code() else {
             self.dead = true;

@@ -1,7 +1,8 @@
 //! Messages that an end sends where a number is left for them.
 
+ghost use Rattle.ssh_transport_machine.specs.Padding.{PadsTo, sending_by};
 ghost use Rattle.ssh_transport_machine.specs.Puts.{outs};
-ghost use Rattle.std.specs.Prelude.{◌≡◌, ◌≤◌, IfOk, OnErr, codes, length, true};
+ghost use Rattle.std.specs.Prelude.{◌≡◌, ◌≤◌, IfOk, OnErr, OnOk, codes, length, true};
 ghost use Rattle.ssh_model.specs.Protocol.Bounds.{longest_payload};
 ghost use Rattle.ssh_model.specs.Protocol.Wire.Message.{FitsContext, ServiceAccept, Unimplemented};
 ghost use Rattle.ssh_model.specs.Laws.Sizes.{payload_size};
@@ -14,21 +15,23 @@ ghost use Rattle.ssh_transport_machine.specs.Turning.{Answers, HasRoom};
 use crate::machine::Machine;
 use crate::machine::service::USERAUTH;
 use crate::machine::turn::Answer;
+use crate::outgoing::Outgoing;
 use ssh_message::Message;
 use ssh_packet::{Filler, Sealing};
 use std::alloc::AllocError;
 
-impl<S: Sealing, F: Filler + Drop> Machine<S, F> {
+impl<S: Sealing> Machine<S> {
     /// Sends a message where a number is left for it, and else is over.
     ///
     /// # Errors
     ///
     /// Only where memory is refused: nothing is put out, and the end is over.
-    pub fn answer(
+    #[tactic(auto, using(crate::specs::PaddingLaws::pads_none))]
+    pub fn answer<F: Filler + Drop>(
         &mut self,
         message: &Message<'_>,
         out: &mut Vec<u8>,
-        sent: &mut Vec<Vec<u8>>,
+        sent: &mut Outgoing<F>,
     ) -> Result<Answer, AllocError>
         requires fits { Fits message.now }
         requires context { FitsContext true (meaning message.now) }
@@ -38,7 +41,9 @@ impl<S: Sealing, F: Filler + Drop> Machine<S, F> {
         ensures dead { OnErr result (self.new ≡ dead_state self.old) }
         ensures room { OnErr result (HasRoom self.old) }
         ensures out { OnErr result (out.new.items ≡ out.old.items) }
-        ensures kept { OnErr result (sent.new.items ≡ sent.old.items) }
+        ensures kept { OnErr result (sent.new.payloads.items ≡ sent.old.payloads.items) }
+        ensures padded { OnOk result (PadsTo S.crypto F.gives (sending_by self.old sent.old out.old)
+            (sending_by self.new sent.new out.new)) }
     {
         if self.is_spent() {
             self.dead = true;
@@ -53,17 +58,19 @@ impl<S: Sealing, F: Filler + Drop> Machine<S, F> {
     /// # Errors
     ///
     /// Only where memory is refused: nothing is put out, and the end is over.
-    pub fn reply_unknown(
+    pub fn reply_unknown<F: Filler + Drop>(
         &mut self,
         out: &mut Vec<u8>,
-        sent: &mut Vec<Vec<u8>>,
+        sent: &mut Outgoing<F>,
     ) -> Result<Answer, AllocError>
         ensures answers { IfOk result (λ answer. Answers S.crypto self.old (Unimplemented (last_number self.old.kept.taking))
             (after_sent self.old.kept) answer self.new (outs out.old out.new sent.old sent.new)) }
         ensures dead { OnErr result (self.new.kept.dead ≡ true) }
         ensures room { OnErr result (HasRoom self.old) }
         ensures out { OnErr result (out.new.items ≡ out.old.items) }
-        ensures kept { OnErr result (sent.new.items ≡ sent.old.items) }
+        ensures kept { OnErr result (sent.new.payloads.items ≡ sent.old.payloads.items) }
+        ensures padded { OnOk result (PadsTo S.crypto F.gives (sending_by self.old sent.old out.old)
+            (sending_by self.new sent.new out.new)) }
     {
         let number = self.taking.last_number();
         self.answer(&Message::Unimplemented { number }, out, sent)
@@ -74,17 +81,19 @@ impl<S: Sealing, F: Filler + Drop> Machine<S, F> {
     /// # Errors
     ///
     /// Only where memory is refused: nothing is put out, and the end is over.
-    pub fn accept_service(
+    pub fn accept_service<F: Filler + Drop>(
         &mut self,
         out: &mut Vec<u8>,
-        sent: &mut Vec<Vec<u8>>,
+        sent: &mut Outgoing<F>,
     ) -> Result<Answer, AllocError>
         ensures answers { IfOk result (λ answer. Answers S.crypto self.old (ServiceAccept (codes "ssh-userauth"))
             (record (after_sent self.old.kept) { requested = true }) answer self.new (outs out.old out.new sent.old sent.new)) }
         ensures dead { OnErr result (self.new.kept.dead ≡ true) }
         ensures room { OnErr result (HasRoom self.old) }
         ensures out { OnErr result (out.new.items ≡ out.old.items) }
-        ensures kept { OnErr result (sent.new.items ≡ sent.old.items) }
+        ensures kept { OnErr result (sent.new.payloads.items ≡ sent.old.payloads.items) }
+        ensures padded { OnOk result (PadsTo S.crypto F.gives (sending_by self.old sent.old out.old)
+            (sending_by self.new sent.new out.new)) }
     {
         let accept = Message::ServiceAccept { service: USERAUTH };
         match self.answer(&accept, out, sent)? {

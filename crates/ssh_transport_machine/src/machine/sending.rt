@@ -8,25 +8,27 @@ ghost use Rattle.ssh_model.specs.Protocol.Sessions.Turns.{IsSpelled};
 ghost use Rattle.ssh_model.specs.State.TransportLayer.Kept.{after_sent};
 ghost use Rattle.ssh_message.specs.Meaning.{meaning};
 ghost use Rattle.ssh_message.specs.Written.{Fits};
+ghost use Rattle.ssh_transport_machine.specs.Padding.{PadsTo, sending_by};
 ghost use Rattle.ssh_transport_machine.specs.Puts.{PutsPayload, Sends, outs};
 ghost use Rattle.ssh_transport_machine.specs.State.{dead_state};
 
 use crate::machine::Machine;
+use crate::outgoing::Outgoing;
 use ssh_message::{Message, encode};
 use ssh_packet::{Filler, Sealing};
 use std::alloc::AllocError;
 
-impl<S: Sealing, F: Filler + Drop> Machine<S, F> {
+impl<S: Sealing> Machine<S> {
     /// Sends a message.
     ///
     /// # Errors
     ///
     /// Only where memory is refused: nothing is put out, and the end is over.
-    pub fn send(
+    pub fn send<F: Filler + Drop>(
         &mut self,
         message: &Message<'_>,
         out: &mut Vec<u8>,
-        sent: &mut Vec<Vec<u8>>,
+        sent: &mut Outgoing<F>,
     ) -> Result<(), AllocError>
         requires left { self.old.kept.sending.count < 2 ^ 32 }
         requires fits { Fits message.now }
@@ -36,7 +38,9 @@ impl<S: Sealing, F: Filler + Drop> Machine<S, F> {
         ensures after { OnOk result (self.new ≡ record self.old { kept = after_sent self.old.kept }) }
         ensures dead { OnErr result (self.new ≡ dead_state self.old) }
         ensures out { OnErr result (out.new.items ≡ out.old.items) }
-        ensures kept { OnErr result (sent.new.items ≡ sent.old.items) }
+        ensures kept { OnErr result (sent.new.payloads.items ≡ sent.old.payloads.items) }
+        ensures padded { OnOk result (PadsTo S.crypto F.gives (sending_by self.old sent.old out.old)
+            (sending_by self.new sent.new out.new)) }
     {
         match self.spell(message) {
             Ok(payload) => self.put(payload, out, sent),
@@ -69,11 +73,11 @@ impl<S: Sealing, F: Filler + Drop> Machine<S, F> {
     /// # Errors
     ///
     /// Only where memory is refused: nothing is put out, and the end is over.
-    pub fn put(
+    pub fn put<F: Filler + Drop>(
         &mut self,
         payload: Vec<u8>,
         out: &mut Vec<u8>,
-        sent: &mut Vec<Vec<u8>>,
+        sent: &mut Outgoing<F>,
     ) -> Result<(), AllocError>
         requires left { self.old.kept.sending.count < 2 ^ 32 }
         requires some { 1 ≤ length payload.items }
@@ -82,7 +86,9 @@ impl<S: Sealing, F: Filler + Drop> Machine<S, F> {
         ensures after { OnOk result (self.new ≡ record self.old { kept = after_sent self.old.kept }) }
         ensures dead { OnErr result (self.new ≡ dead_state self.old) }
         ensures out { OnErr result (out.new.items ≡ out.old.items) }
-        ensures kept { OnErr result (sent.new.items ≡ sent.old.items) }
+        ensures kept { OnErr result (sent.new.payloads.items ≡ sent.old.payloads.items) }
+        ensures padded { OnOk result (PadsTo S.crypto F.gives (sending_by self.old sent.old out.old)
+            (sending_by self.new sent.new out.new)) }
     {
         if let Err(error) = self.try_put(payload, out, sent) {
             self.dead = true;
@@ -92,11 +98,11 @@ impl<S: Sealing, F: Filler + Drop> Machine<S, F> {
     }
 
     // All growths come first.
-    fn try_put(
+    fn try_put<F: Filler + Drop>(
         &mut self,
         payload: Vec<u8>,
         out: &mut Vec<u8>,
-        sent: &mut Vec<Vec<u8>>,
+        sent: &mut Outgoing<F>,
     ) -> Result<(), AllocError>
         requires left { self.old.kept.sending.count < 2 ^ 32 }
         requires some { 1 ≤ length payload.items }
@@ -105,11 +111,13 @@ impl<S: Sealing, F: Filler + Drop> Machine<S, F> {
         ensures after { OnOk result (self.new ≡ record self.old { kept = after_sent self.old.kept }) }
         ensures same { OnErr result (self.new ≡ self.old) }
         ensures out { OnErr result (out.new.items ≡ out.old.items) }
-        ensures kept { OnErr result (sent.new.items ≡ sent.old.items) }
+        ensures kept { OnErr result (sent.new.payloads.items ≡ sent.old.payloads.items) }
+        ensures padded { OnOk result (PadsTo S.crypto F.gives (sending_by self.old sent.old out.old)
+            (sending_by self.new sent.new out.new)) }
     {
-        sent.reserve(1)?;
-        self.sending.send(&payload, &mut self.filler, out)?;
-        sent.push_reserved(payload);
+        sent.payloads.reserve(1)?;
+        self.sending.send(&payload, &mut sent.filler, out)?;
+        sent.payloads.push_reserved(payload);
         Ok(())
     }
 }

@@ -3,12 +3,12 @@
 ghost use Rattle.std.specs.Prelude.{◌≡◌, true};
 
 use crate::machine::Machine;
-use ssh_packet::{Filler, Sealing};
+use ssh_packet::Sealing;
 
 /// The one service that a client asks for.
 pub const USERAUTH: &[u8] = b"ssh-userauth";
 
-impl<S: Sealing, F: Filler + Drop> Machine<S, F> {
+impl<S: Sealing> Machine<S> {
     /// The service that this client asked for was granted.
     pub fn note_service(&mut self)
         ensures { self.new ≡ record self.old { kept = record self.old.kept { accepted = true } } }

@@ -1,7 +1,8 @@
 //! What a server does with a client's KEXINIT.
 
+ghost use Rattle.ssh_transport_machine.specs.Padding.{PadsTo, sending_by};
 ghost use Rattle.ssh_transport_machine.specs.Puts.{outs};
-ghost use Rattle.std.specs.Prelude.{◌≡◌, IfOk, None, OnErr, false, length, true};
+ghost use Rattle.std.specs.Prelude.{◌≡◌, IfOk, None, OnErr, OnOk, false, length, true};
 ghost use Rattle.ssh_model.specs.Protocol.Wire.Message.{KexInit};
 ghost use Rattle.ssh_model.specs.Protocol.Side.{Server};
 ghost use Rattle.ssh_model.specs.Protocol.Sessions.Parties.{offer_of};
@@ -13,22 +14,24 @@ use crate::machine::Machine;
 use crate::machine::judging::Judged;
 use crate::machine::kexinit::KexinitFacts;
 use crate::machine::turn::{Answer, PayloadTurn};
+use crate::outgoing::Outgoing;
 use ssh_packet::{Filler, Sealing};
 use ssh_transport_base::every_config_is_good;
 use ssh_types::Side;
 use std::alloc::AllocError;
 
-impl<S: Sealing, F: Filler + Drop> Machine<S, F> {
+impl<S: Sealing> Machine<S> {
     /// A KEXINIT that nothing refuses: a server takes it, and a client's answer is left to it.
     ///
     /// # Errors
     ///
     /// Only where memory is refused: nothing is put out, and the end is over.
-    pub fn act_on_kexinit(
+    #[tactic(auto, using(crate::specs::PaddingLaws::pads_none))]
+    pub fn act_on_kexinit<F: Filler + Drop>(
         &mut self,
         facts: KexinitFacts,
         out: &mut Vec<u8>,
-        sent: &mut Vec<Vec<u8>>,
+        sent: &mut Outgoing<F>,
     ) -> Result<PayloadTurn, AllocError>
         requires { self.old.kept.blocked ≡ false → self.old.kept.material ≡ None → ⊥ }
         ensures does { IfOk result (λ done. Does S.crypto self.old (judgement.Kexinit facts) done self.new
@@ -36,7 +39,9 @@ impl<S: Sealing, F: Filler + Drop> Machine<S, F> {
         ensures dead { OnErr result (self.new.kept.dead ≡ true) }
         ensures lacks { OnErr result (KexinitLacks self.old) }
         ensures out { OnErr result (out.new.items ≡ out.old.items) }
-        ensures kept { OnErr result (sent.new.items ≡ sent.old.items) }
+        ensures kept { OnErr result (sent.new.payloads.items ≡ sent.old.payloads.items) }
+        ensures padded { OnOk result (PadsTo S.crypto F.gives (sending_by self.old sent.old out.old)
+            (sending_by self.new sent.new out.new)) }
     {
         match self.side {
             Side::Client => Ok(PayloadTurn::Left(Judged::Kexinit(facts))),
@@ -45,11 +50,12 @@ impl<S: Sealing, F: Filler + Drop> Machine<S, F> {
     }
 
     // A server takes a KEXINIT, and answers it by its own where it had sent none.
-    fn serve_kexinit(
+    #[tactic(auto, using(crate::specs::PaddingLaws::pads_none))]
+    fn serve_kexinit<F: Filler + Drop>(
         &mut self,
         facts: KexinitFacts,
         out: &mut Vec<u8>,
-        sent: &mut Vec<Vec<u8>>,
+        sent: &mut Outgoing<F>,
     ) -> Result<Answer, AllocError>
         requires side { self.old.kept.side ≡ Server }
         requires pair { self.old.kept.blocked ≡ false → self.old.kept.material ≡ None → ⊥ }
@@ -58,7 +64,9 @@ impl<S: Sealing, F: Filler + Drop> Machine<S, F> {
         ensures dead { OnErr result (self.new.kept.dead ≡ true) }
         ensures lacks { OnErr result (KexinitLacks self.old) }
         ensures out { OnErr result (out.new.items ≡ out.old.items) }
-        ensures kept { OnErr result (sent.new.items ≡ sent.old.items) }
+        ensures kept { OnErr result (sent.new.payloads.items ≡ sent.old.payloads.items) }
+        ensures padded { OnOk result (PadsTo S.crypto F.gives (sending_by self.old sent.old out.old)
+            (sending_by self.new sent.new out.new)) }
     {
         if self.blocked {
             self.note_kexinit(facts);

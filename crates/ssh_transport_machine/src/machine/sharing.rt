@@ -6,10 +6,10 @@ ghost use Rattle.ssh_model.specs.State.TransportLayer.Kept.{shared_with};
 use crate::machine::Machine;
 use crate::machine::hashing::has_32_bytes;
 use ssh_kex::Agreement;
-use ssh_packet::{Filler, Sealing};
+use ssh_packet::Sealing;
 use ssh_types::laws::are_bytes;
 
-impl<S: Sealing, F: Filler + Drop> Machine<S, F> {
+impl<S: Sealing> Machine<S> {
     /// What the secret of the exchange under way shares with the peer's point; `None` where that has not 32 bytes, or shares
     /// nothing.
     pub fn shared<A: Agreement>(&self, agreement: &A, theirs: &[u8]) -> Option<[u8; 32]>

@@ -1,30 +1,33 @@
 //! Packets that an end takes, and what it does with them.
 
+ghost use Rattle.ssh_transport_machine.specs.Padding.{PadsTo, sending_by};
 ghost use Rattle.ssh_transport_machine.specs.Puts.{outs};
-ghost use Rattle.std.specs.Prelude.{◌≡◌, ◌<◌, ◌≤◌, ◌++◌, IfOk, OnErr, length, take, true};
+ghost use Rattle.std.specs.Prelude.{◌≡◌, ◌<◌, ◌≤◌, ◌++◌, IfOk, OnErr, OnOk, length, take, true};
 ghost use Rattle.ssh_transport_base.specs.declared.packets.step.PacketStep.TheVariants as step;
 ghost use Rattle.ssh_transport_machine.specs.State.{IsLive};
 ghost use Rattle.ssh_transport_machine.specs.Turning.{PacketDone, PacketLacks, PacketTaken, RefusalLacks, TurnLacks};
 
 use crate::machine::Machine;
 use crate::machine::turn::PacketTurn;
+use crate::outgoing::Outgoing;
 use ssh_packet::{Filler, Sealing};
 use ssh_transport_base::PacketStep;
 use ssh_types::Refusal;
 use std::alloc::AllocError;
 
-impl<S: Sealing, F: Filler + Drop> Machine<S, F> {
+impl<S: Sealing> Machine<S> {
     /// Takes bytes to the end of one packet, and does what its payload asks for, or refuses the peer for it; what only one role does with a
     /// payload is left.
     ///
     /// # Errors
     ///
     /// Only where memory is refused: nothing is put out, and the end is over.
-    pub fn take_packet(
+    #[tactic(auto, using(crate::specs::PaddingLaws::pads_none))]
+    pub fn take_packet<F: Filler + Drop>(
         &mut self,
         bytes: &[u8],
         out: &mut Vec<u8>,
-        sent: &mut Vec<Vec<u8>>,
+        sent: &mut Outgoing<F>,
     ) -> (usize, Result<PacketTurn, AllocError>)
         requires { IsLive self.old }
         ensures used { result.0 ≤ length bytes.now }
@@ -35,7 +38,9 @@ impl<S: Sealing, F: Filler + Drop> Machine<S, F> {
         ensures dead { OnErr result.1 (self.new.kept.dead ≡ true) }
         ensures lacks { OnErr result.1 (PacketLacks S.crypto self.old (self.old.receiver.begun ++ take result.0 bytes.now)) }
         ensures out { OnErr result.1 (out.new.items ≡ out.old.items) }
-        ensures kept { OnErr result.1 (sent.new.items ≡ sent.old.items) }
+        ensures kept { OnErr result.1 (sent.new.payloads.items ≡ sent.old.payloads.items) }
+        ensures padded { OnOk result.1 (PadsTo S.crypto F.gives (sending_by self.old sent.old out.old)
+            (sending_by self.new sent.new out.new)) }
     {
         let (used, step) = self.open(bytes);
         match step {
@@ -46,11 +51,11 @@ impl<S: Sealing, F: Filler + Drop> Machine<S, F> {
     }
 
     // Refuses the peer for a packet.
-    fn refuse_packet(
+    fn refuse_packet<F: Filler + Drop>(
         &mut self,
         why: Refusal,
         out: &mut Vec<u8>,
-        sent: &mut Vec<Vec<u8>>,
+        sent: &mut Outgoing<F>,
     ) -> Result<PacketTurn, AllocError>
         ensures other { IfOk result (λ done. done ≡ PacketTurn.More → ⊥) }
         ensures done { IfOk result (λ done. PacketDone S.crypto self.old (step.Refused why) done self.new
@@ -58,17 +63,19 @@ impl<S: Sealing, F: Filler + Drop> Machine<S, F> {
         ensures dead { OnErr result (self.new.kept.dead ≡ true) }
         ensures lacks { OnErr result (RefusalLacks self.old why) }
         ensures out { OnErr result (out.new.items ≡ out.old.items) }
-        ensures kept { OnErr result (sent.new.items ≡ sent.old.items) }
+        ensures kept { OnErr result (sent.new.payloads.items ≡ sent.old.payloads.items) }
+        ensures padded { OnOk result (PadsTo S.crypto F.gives (sending_by self.old sent.old out.old)
+            (sending_by self.new sent.new out.new)) }
     {
         self.refuse(why, out, sent)?;
         Ok(PacketTurn::Refused(why))
     }
 
     // Does what the payload of a packet asks for.
-    fn turn_payload(
+    fn turn_payload<F: Filler + Drop>(
         &mut self,
         out: &mut Vec<u8>,
-        sent: &mut Vec<Vec<u8>>,
+        sent: &mut Outgoing<F>,
     ) -> Result<PacketTurn, AllocError>
         requires live { IsLive self.old }
         requires taken { 1 ≤ self.old.kept.taking.count }
@@ -78,7 +85,9 @@ impl<S: Sealing, F: Filler + Drop> Machine<S, F> {
         ensures dead { OnErr result (self.new.kept.dead ≡ true) }
         ensures lacks { OnErr result (TurnLacks self.old) }
         ensures out { OnErr result (out.new.items ≡ out.old.items) }
-        ensures kept { OnErr result (sent.new.items ≡ sent.old.items) }
+        ensures kept { OnErr result (sent.new.payloads.items ≡ sent.old.payloads.items) }
+        ensures padded { OnOk result (PadsTo S.crypto F.gives (sending_by self.old sent.old out.old)
+            (sending_by self.new sent.new out.new)) }
     {
         Ok(PacketTurn::Payload(self.turn(out, sent)?))
     }

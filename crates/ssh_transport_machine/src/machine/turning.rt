@@ -1,7 +1,8 @@
 //! What an end does with a payload that it took: the rows that both roles share.
 
+ghost use Rattle.ssh_transport_machine.specs.Padding.{PadsTo, sending_by};
 ghost use Rattle.ssh_transport_machine.specs.Puts.{outs};
-ghost use Rattle.std.specs.Prelude.{◌≡◌, ◌≤◌, ◌^◌, IfOk, OnErr, true};
+ghost use Rattle.std.specs.Prelude.{◌≡◌, ◌≤◌, ◌^◌, IfOk, OnErr, OnOk, true};
 ghost use Rattle.ssh_transport_machine.specs.Judging.{PayloadJudged};
 ghost use Rattle.ssh_transport_machine.specs.State.{IsLive, before_taken};
 ghost use Rattle.ssh_transport_machine.specs.Turning.{Does, NewkeysTaken, TurnLacks, Turns, WouldSend};
@@ -10,19 +11,20 @@ ghost use Rattle.ssh_transport_machine.specs.declared.machine.judging.Judged.The
 use crate::machine::judging::Judged;
 use crate::machine::turn::PayloadTurn;
 use crate::machine::{Machine, Phase};
+use crate::outgoing::Outgoing;
 use ssh_packet::{Filler, Sealing};
 use std::alloc::AllocError;
 
-impl<S: Sealing, F: Filler + Drop> Machine<S, F> {
+impl<S: Sealing> Machine<S> {
     /// Does what the payload that is shown asks for; what only one role does with it is left.
     ///
     /// # Errors
     ///
     /// Only where memory is refused: nothing is put out, and the end is over.
-    pub fn turn(
+    pub fn turn<F: Filler + Drop>(
         &mut self,
         out: &mut Vec<u8>,
-        sent: &mut Vec<Vec<u8>>,
+        sent: &mut Outgoing<F>,
     ) -> Result<PayloadTurn, AllocError>
         requires live { IsLive self.old }
         requires taken { 1 ≤ self.old.kept.taking.count }
@@ -30,7 +32,9 @@ impl<S: Sealing, F: Filler + Drop> Machine<S, F> {
         ensures dead { OnErr result (self.new.kept.dead ≡ true) }
         ensures lacks { OnErr result (TurnLacks self.old) }
         ensures out { OnErr result (out.new.items ≡ out.old.items) }
-        ensures kept { OnErr result (sent.new.items ≡ sent.old.items) }
+        ensures kept { OnErr result (sent.new.payloads.items ≡ sent.old.payloads.items) }
+        ensures padded { OnOk result (PadsTo S.crypto F.gives (sending_by self.old sent.old out.old)
+            (sending_by self.new sent.new out.new)) }
     {
         self.few_packets();
         let judged = self.judge();
@@ -45,11 +49,12 @@ impl<S: Sealing, F: Filler + Drop> Machine<S, F> {
     }
 
     // Does what a payload asks for that was judged so.
-    fn act(
+    #[tactic(auto, using(crate::specs::PaddingLaws::pads_none))]
+    fn act<F: Filler + Drop>(
         &mut self,
         judged: Judged,
         out: &mut Vec<u8>,
-        sent: &mut Vec<Vec<u8>>,
+        sent: &mut Outgoing<F>,
     ) -> Result<PayloadTurn, AllocError>
         requires live { IsLive self.old }
         requires taken { 1 ≤ self.old.kept.taking.count }
@@ -58,7 +63,9 @@ impl<S: Sealing, F: Filler + Drop> Machine<S, F> {
         ensures dead { OnErr result (self.new.kept.dead ≡ true) }
         ensures lacks { OnErr result (WouldSend self.old judged) }
         ensures out { OnErr result (out.new.items ≡ out.old.items) }
-        ensures kept { OnErr result (sent.new.items ≡ sent.old.items) }
+        ensures kept { OnErr result (sent.new.payloads.items ≡ sent.old.payloads.items) }
+        ensures padded { OnOk result (PadsTo S.crypto F.gives (sending_by self.old sent.old out.old)
+            (sending_by self.new sent.new out.new)) }
     {
         match judged {
             Judged::Refused(why) => {

@@ -6,7 +6,7 @@ pub returns-in-Err-clause-kept : goal.returns-in-Err-clause-kept
 returns-in-Err-clause-kept g c =
     let f : Vec ℕ Global → List ℕ = λ v. v.items in
     let e = ap (map f) c.in-Err.ensures.kept ∙ c.in_ok-send_kexinit.ensures.sends.puts.lists in
-    ap (map f) (c.truncate-in-Err.ensures.items ∙ ap (λ (n : ℕ). take n c.send.new.sent.items) (ap length c.as_slice-payloads.ensures.value)) ∙ mapped_front f c.args.sent.now.items c.send.new.sent.items _ e
+    ap (map f) (c.truncate-in-Err.ensures.items ∙ ap (λ (n : ℕ). take n c.send.new.sent.payloads.items) (ap length c.as_slice-payloads.ensures.value)) ∙ mapped_front f c.args.sent.now.payloads.items c.send.new.sent.payloads.items _ e
 
 pub returns-clause-sends : goal.returns-clause-sends
 returns-clause-sends g c =

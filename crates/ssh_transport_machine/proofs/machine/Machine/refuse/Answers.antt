@@ -1,4 +1,4 @@
-use Rattle.std.proofs.Common.{refl, ap, sym, true, ◌∙◌}
+use Rattle.std.proofs.Common.{ap, sym, true, ◌∙◌}
 use Rattle.ssh_transport_machine.proofs.Sending.{farewell, silent, spent}
 use Rattle.ssh_transport_machine.proofs.machine.Machine.refuse.Goals as goal
 

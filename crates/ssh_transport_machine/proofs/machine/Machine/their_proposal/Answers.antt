@@ -1,4 +1,4 @@
-use Rattle.std.proofs.Common.{◌≡◌, ap, sym, ◌∙◌, subst, List, ℕ, false}
+use Rattle.std.proofs.Common.{ap, sym, ◌∙◌, subst, List, ℕ, false}
 use Rattle.ssh_model.specs.Protocol.Wire.Message.{IsPayload, Msg.KexInit}
 use Rattle.ssh_message.specs.Meaning.{NoMessage, proposal_meaning}
 use Rattle.ssh_transport_machine.proofs.Choosing.{choice_of}
