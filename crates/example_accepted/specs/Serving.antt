@@ -50,7 +50,7 @@ PartsOf c point shared key signature verdicts p role =
 abbrev pub Serves : {P U S F A H K : Type 0} → Crypto K → (point : A → List ℕ → List ℕ) →
     (shared : A → List ℕ → List ℕ → Option (List ℕ)) → (key : H → List ℕ → List ℕ) →
     (signature : H → List ℕ → List ℕ → List ℕ) → (verdicts : U → Judge) → Parties K → List Item →
-    EndValue K (ServerRole P U S F A H K) Layers → Bool → EndValue K (ServerRole P U S F A H K) Layers → Type 0
+    EndValue K (ServerRole P U S F A H K) Layers F → Bool → EndValue K (ServerRole P U S F A H K) Layers F → Type 0
 Serves c point shared key signature verdicts p history old is_in new =
     StandsAfter p Server (PartsOf c point shared key signature verdicts p old.role) (AreServerLayers p old.layers) history
     old.machine (end_of old.machine.kept old.layers) →

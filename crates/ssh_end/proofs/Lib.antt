@@ -1,3 +1,4 @@
+pub mod Padding
 pub mod Judging
 pub mod ServerJudged
 pub mod ClientJudged

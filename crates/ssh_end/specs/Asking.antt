@@ -57,6 +57,12 @@ ask_of ask.Rekey = session.Ask.AskRekey
 ask_of (ask.Connection given) = channel_ask_of given
 ask_of (ask.Disconnect description) = session.Ask.AskDisconnect description.now
 
+-- It holds where an ask was done or refused. Where memory was refused, or the end was over before, it says nothing.
+abbrev pub OnAnswered : {A : Type 0} → Result A Fault → Type 0 → Type 0
+OnAnswered (Ok given) fact = fact
+OnAnswered (Err (fault.Ask why)) fact = fact
+OnAnswered (Err failed) fact = Unit {0}
+
 -- ---- numbers
 
 -- The numbers with which a channel is opened are uint32s.

@@ -6,12 +6,13 @@ use Rattle.ssh_model.specs.Protocol.Sessions.Items.{Fact.Opening, Item}
 use Rattle.ssh_model.specs.Protocol.Sessions.Parties.{Parties}
 use Rattle.ssh_model.specs.Protocol.Wire.Sealing.{Crypto}
 use Rattle.ssh_transport.specs.declared.role.Role as exchange
+use Rattle.ssh_transport_machine.specs.Padding.{PadsTo}
 use Rattle.ssh_transport_machine.specs.Puts.{Outs}
 use Rattle.ssh_transport_machine.specs.State.{begun_of}
 use Rattle.ssh_types.specs.Sides.{side_of}
-use Rattle.ssh_end.specs.Asking.{AreAskChannels, Fails}
+use Rattle.ssh_end.specs.Asking.{AreAskChannels, Fails, OnAnswered}
 use Rattle.ssh_end.specs.Beside.{channels_by}
-use Rattle.ssh_end.specs.Ends.{EndValue, IsFault}
+use Rattle.ssh_end.specs.Ends.{EndValue, IsFault, sending_from, sending_to}
 use Rattle.ssh_end.specs.Reading.{SameReading}
 use Rattle.ssh_end.specs.Stands.{AdvancedTo, FailedTo, PerformedTo, StandsAt}
 use Rattle.ssh_end.specs.Steps.{Shows, shown_by}
@@ -33,8 +34,8 @@ outs_of before after sent = record { before = before; after = after; listed = []
 
 -- So many bytes were used, and this was done with them. From each place of a run the end was taken to the next.
 pub record Advances {R X L S F K : Type 0} (ends : role.Ghosts R X L S F K) (exchanges : exchange.Ghosts X S F K)
-    (c : Crypto K) (old : EndValue K R L) (bytes : List ℕ) (used : ℕ) (before after : List ℕ)
-    (new : EndValue K R L) : Type 0 where
+    (c : Crypto K) (old : EndValue K R L F) (bytes : List ℕ) (used : ℕ) (before after : List ℕ)
+    (new : EndValue K R L F) : Type 0 where
   pub goes : UnitGoes c (side_of exchanges.SIDE) (exchanges.does (ends.exchange_of old.role)) (ends.goes old.role)
       old.machine old.layers (begun_of old.machine ++ take used bytes) new.step new.machine new.layers
       (record { before = before; after = after; listed = []; relisted = new.sent })
@@ -53,14 +54,16 @@ pub record ShowsTurn (payload : List ℕ) (given : Step) (payloads : List (List 
 
 -- An end made of these bytes what the turn shows.
 pub record EndTook {R X L S F K : Type 0} (ends : role.Ghosts R X L S F K) (exchanges : exchange.Ghosts X S F K)
-    (c : Crypto K) (old : EndValue K R L) (bytes before after : List ℕ) (turn : Turn) (new : EndValue K R L) : Type 0 where
+    (c : Crypto K) (gives : F → List ℕ → F → Type 0) (old : EndValue K R L F) (bytes before after : List ℕ) (turn : Turn)
+    (new : EndValue K R L F) : Type 0 where
+  pub padded : PadsTo c gives (sending_from old before) (sending_to new after)
   pub advances : Advances ends exchanges c old bytes turn.used before after new
   pub shows : ShowsTurn (shown_by new.step new.machine) new.step new.sent new.channels bytes turn
   pub same : new.role ≡ old.role
 
 -- It did nothing for want of memory, or was over before.
 pub record EndFailed {R X L S F K : Type 0} (ends : role.Ghosts R X L S F K) (exchanges : exchange.Ghosts X S F K)
-    (old : EndValue K R L) (bytes : List ℕ) (given : Fault) (new : EndValue K R L) : Type 0 where
+    (old : EndValue K R L F) (bytes : List ℕ) (given : Fault) (new : EndValue K R L F) : Type 0 where
   pub failed : IsFault old.machine given new.machine
   pub same : new.role ≡ old.role
   pub placed : (p : Parties K) (history : List Item) → StandsAt ends exchanges p history old →
@@ -68,10 +71,10 @@ pub record EndFailed {R X L S F K : Type 0} (ends : role.Ghosts R X L S F K) (ex
 
 -- what an end answers for these bytes, and what is then left
 abbrev pub EndTakes : {R X L S F K : Type 0} → role.Ghosts R X L S F K → exchange.Ghosts X S F K → Crypto K →
-    EndValue K R L → (bytes before after : List ℕ) → Result Turn Fault → EndValue K R L → Type 0
-EndTakes ends exchanges c old bytes before after (Ok turn) new =
-    EndTook ends exchanges c old bytes before after turn new
-EndTakes ends exchanges c old bytes before after (Err fault) new = EndFailed ends exchanges old bytes fault new
+    (F → List ℕ → F → Type 0) → EndValue K R L F → (bytes before after : List ℕ) → Result Turn Fault → EndValue K R L F → Type 0
+EndTakes ends exchanges c gives old bytes before after (Ok turn) new =
+    EndTook ends exchanges c gives old bytes before after turn new
+EndTakes ends exchanges c gives old bytes before after (Err fault) new = EndFailed ends exchanges old bytes fault new
 
 -- ---- asks
 
@@ -93,9 +96,10 @@ ShowsAnswer _ sent channels _ = ⊥
 
 -- An end did on an ask what its role does, and answered so. From each place of a run it was taken to the next.
 pub record EndAsked {R X L S F K : Type 0} (ends : role.Ghosts R X L S F K) (exchanges : exchange.Ghosts X S F K)
-    (old : EndValue K R L) (asked : session.Ask) (before after : List ℕ) (result : Result Turn Fault)
-    (new : EndValue K R L) : Type 0 where
+    (c : Crypto K) (gives : F → List ℕ → F → Type 0) (old : EndValue K R L F) (asked : session.Ask) (before after : List ℕ)
+    (result : Result Turn Fault) (new : EndValue K R L F) : Type 0 where
   pub given : Result AskStep Fault
+  pub padded : OnAnswered given (PadsTo c gives (sending_from old before) (sending_to new after))
   pub shows : ShowsAnswer given new.sent new.channels result
   pub channels : IfOk given (λ step. AreAskChannels asked step new.sent new.channels)
   pub asks : ends.asks old.role old.machine old.layers asked given new.machine new.layers (outs_of before after new.sent)

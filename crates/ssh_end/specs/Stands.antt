@@ -26,12 +26,12 @@ use Rattle.ssh_end.specs.declared.asking.outcome.Fault.TheVariants as fault
 use Rattle.ssh_end.specs.declared.role.EndRole as role
 
 -- what an end keeps, as an end of a session
-abbrev pub state_of : {R X L S F K : Type 0} → role.Ghosts R X L S F K → EndValue K R L → EndState K
+abbrev pub state_of : {R X L S F K : Type 0} → role.Ghosts R X L S F K → EndValue K R L F → EndState K
 state_of ends end = state_by ends.authentication_of ends.channels_of end.machine.kept end.layers
 
 -- The end stands after this history.
 abbrev pub StandsAt : {R X L S F K : Type 0} → role.Ghosts R X L S F K → exchange.Ghosts X S F K → Parties K →
-    List Item → EndValue K R L → Type 0
+    List Item → EndValue K R L F → Type 0
 StandsAt ends exchanges p history end =
     StandsAfter p (side_of exchanges.SIDE) (ends.is_of end.role p) (ends.are_of end.layers p) history end.machine
     (state_of ends end)
@@ -43,7 +43,7 @@ ServerStandsAt p c parts judge history machine layers =
 
 -- where bytes of the peer took an end, of which so many were used
 abbrev pub AdvancedTo : {R X L S F K : Type 0} → role.Ghosts R X L S F K → exchange.Ghosts X S F K → Parties K →
-    List Item → EndValue K R L → (bytes : List ℕ) → (used : ℕ) → (before after : List ℕ) → EndValue K R L → Type 0
+    List Item → EndValue K R L F → (bytes : List ℕ) → (used : ℕ) → (before after : List ℕ) → EndValue K R L F → Type 0
 AdvancedTo ends exchanges p history old bytes used before after new =
     TurnedTo p (side_of exchanges.SIDE) (ends.is_of new.role p) (ends.are_of new.layers p) history
     (begun_of old.machine ++ take used bytes) new.step new.machine (state_of ends new)
@@ -51,7 +51,7 @@ AdvancedTo ends exchanges p history old bytes used before after new =
 
 -- where they left it where nothing was done: it is over by some of them, or was over before
 abbrev pub FailedTo : {R X L S F K : Type 0} → role.Ghosts R X L S F K → exchange.Ghosts X S F K → Parties K →
-    List Item → EndValue K R L → (bytes : List ℕ) → Fault → EndValue K R L → Type 0
+    List Item → EndValue K R L F → (bytes : List ℕ) → Fault → EndValue K R L F → Type 0
 FailedTo ends exchanges p history old bytes fault.Memory new =
     FrontLacks (DiedOn p (side_of exchanges.SIDE) (ends.is_of new.role p) (ends.are_of new.layers p) history old.machine
     new.machine (state_of ends new)) (begun_of old.machine) bytes
@@ -60,7 +60,7 @@ FailedTo ends exchanges p history old bytes (fault.Ask why) new = ⊥
 
 -- where an ask took it
 abbrev pub PerformedTo : {R X L S F K : Type 0} → role.Ghosts R X L S F K → exchange.Ghosts X S F K → Parties K →
-    List Item → EndValue K R L → session.Ask → Result AskStep Fault → (before after : List ℕ) → EndValue K R L → Type 0
+    List Item → EndValue K R L F → session.Ask → Result AskStep Fault → (before after : List ℕ) → EndValue K R L F → Type 0
 PerformedTo ends exchanges p history old asked given before after new =
     AskedTo p (side_of exchanges.SIDE) (ends.is_of new.role p) (ends.are_of new.layers p) history (state_of ends old)
     asked given new.machine (state_of ends new)
@@ -68,7 +68,7 @@ PerformedTo ends exchanges p history old asked given before after new =
 
 -- where a pair of cookie and secret took it, by the answer
 abbrev pub FeedsTo : {R X L S F K : Type 0} → role.Ghosts R X L S F K → exchange.Ghosts X S F K → Parties K → List Item →
-    (cookie secret : List ℕ) → Bool → EndValue K R L → Type 0
+    (cookie secret : List ℕ) → Bool → EndValue K R L F → Type 0
 FeedsTo ends exchanges p history cookie secret answer new =
     FedTo p (side_of exchanges.SIDE) (ends.is_of new.role p) (ends.are_of new.layers p) history cookie secret answer
     new.machine (state_of ends new)

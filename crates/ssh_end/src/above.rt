@@ -1,5 +1,6 @@
 //! What an end does with a payload from 50 on, once the layers above its transport have judged it.
 
+ghost use Rattle.ssh_transport_machine.specs.Padding.{PadsTo, sending_by};
 ghost use Rattle.ssh_transport_machine.specs.Puts.{outs};
 ghost use Rattle.std.specs.Prelude.{◌≡◌, ◌≤◌, IfOk, IfSome, IsSome, List, OnErr, OnOk, Some, false, true, ℕ};
 ghost use Rattle.ssh_message.specs.Meaning.{meaning};
@@ -20,7 +21,7 @@ use crate::step::{Step, TookStep};
 use ssh_message::Message;
 use ssh_packet::{Filler, Sealing};
 use ssh_transport_machine::standing::machines_stand;
-use ssh_transport_machine::{Answer, Machine};
+use ssh_transport_machine::{Answer, Machine, Outgoing};
 use ssh_types::Refusal;
 use std::alloc::AllocError;
 
@@ -50,11 +51,12 @@ pub struct Above {
 /// # Errors
 ///
 /// Only where memory is refused: nothing is put out, and the end is over.
+#[tactic(auto, using(crate::proofs::Padding::pads_none))]
 pub fn finish_above<S: Sealing, F: Filler + Drop>(
-    machine: &mut Machine<S, F>,
+    machine: &mut Machine<S>,
     judgement: Judgement,
     out: &mut Vec<u8>,
-    sent: &mut Vec<Vec<u8>>,
+    sent: &mut Outgoing<F>,
 ) -> Result<Step, AllocError>
     requires can { CanFinish machine.old judgement }
     ensures finished { IfOk result (λ step. Finished S.crypto machine.old judgement step machine.new
@@ -63,8 +65,10 @@ pub fn finish_above<S: Sealing, F: Filler + Drop>(
     ensures lacks { OnErr result (FinishLacks machine.old judgement) }
     ensures dead { OnErr result (machine.new.kept.dead ≡ true) }
     ensures out { OnErr result (out.new.items ≡ out.old.items) }
-    ensures kept { OnErr result (sent.new.items ≡ sent.old.items) }
+    ensures kept { OnErr result (sent.new.payloads.items ≡ sent.old.payloads.items) }
     ensures stands { (side : Side) → Stands side machine.old → Stands side machine.new }
+    ensures padded { OnOk result (PadsTo S.crypto F.gives (sending_by machine.old sent.old out.old)
+        (sending_by machine.new sent.new out.new)) }
 {
     match judgement {
         Judgement::Answered(above) => answer_above(machine, above, out, sent),
@@ -79,10 +83,10 @@ pub fn finish_above<S: Sealing, F: Filler + Drop>(
 
 // Refuses the peer for this.
 fn refuse<S: Sealing, F: Filler + Drop>(
-    machine: &mut Machine<S, F>,
+    machine: &mut Machine<S>,
     why: Refusal,
     out: &mut Vec<u8>,
-    sent: &mut Vec<Vec<u8>>,
+    sent: &mut Outgoing<F>,
 ) -> Result<Step, AllocError>
     requires can { CanFinish machine.old (Judgement.Refused why) }
     ensures finished { IfOk result (λ step. Finished S.crypto machine.old (Judgement.Refused why) step machine.new
@@ -91,8 +95,10 @@ fn refuse<S: Sealing, F: Filler + Drop>(
     ensures lacks { OnErr result (FinishLacks machine.old (Judgement.Refused why)) }
     ensures dead { OnErr result (machine.new.kept.dead ≡ true) }
     ensures out { OnErr result (out.new.items ≡ out.old.items) }
-    ensures kept { OnErr result (sent.new.items ≡ sent.old.items) }
+    ensures kept { OnErr result (sent.new.payloads.items ≡ sent.old.payloads.items) }
     ensures stands { (side : Side) → Stands side machine.old → Stands side machine.new }
+    ensures padded { OnOk result (PadsTo S.crypto F.gives (sending_by machine.old sent.old out.old)
+        (sending_by machine.new sent.new out.new)) }
 {
     machines_stand::<S::Key>();
     match machine.refuse_above(why, out, sent) {
@@ -103,10 +109,10 @@ fn refuse<S: Sealing, F: Filler + Drop>(
 
 // Sends what is sent at once, if anything.
 fn answer_above<S: Sealing, F: Filler + Drop>(
-    machine: &mut Machine<S, F>,
+    machine: &mut Machine<S>,
     above: Above,
     out: &mut Vec<u8>,
-    sent: &mut Vec<Vec<u8>>,
+    sent: &mut Outgoing<F>,
 ) -> Result<Step, AllocError>
     requires can { CanFinish machine.old (Judgement.Answered above) }
     ensures finished { IfOk result (λ step. Finished S.crypto machine.old (Judgement.Answered above) step machine.new
@@ -115,8 +121,10 @@ fn answer_above<S: Sealing, F: Filler + Drop>(
     ensures lacks { OnErr result (FinishLacks machine.old (Judgement.Answered above)) }
     ensures dead { OnErr result (machine.new.kept.dead ≡ true) }
     ensures out { OnErr result (out.new.items ≡ out.old.items) }
-    ensures kept { OnErr result (sent.new.items ≡ sent.old.items) }
+    ensures kept { OnErr result (sent.new.payloads.items ≡ sent.old.payloads.items) }
     ensures stands { (side : Side) → Stands side machine.old → Stands side machine.new }
+    ensures padded { OnOk result (PadsTo S.crypto F.gives (sending_by machine.old sent.old out.old)
+        (sending_by machine.new sent.new out.new)) }
 {
     machines_stand::<S::Key>();
     let Above {
@@ -132,11 +140,12 @@ fn answer_above<S: Sealing, F: Filler + Drop>(
 }
 
 // Sends this payload, if there is one.
+#[tactic(auto, using(crate::proofs::Padding::pads_none))]
 fn put_reply<S: Sealing, F: Filler + Drop>(
-    machine: &mut Machine<S, F>,
+    machine: &mut Machine<S>,
     reply: Option<Vec<u8>>,
     out: &mut Vec<u8>,
-    sent: &mut Vec<Vec<u8>>,
+    sent: &mut Outgoing<F>,
 ) -> Result<(), AllocError>
     requires can { CanReplyWith machine.old (option_map (λ v. v.items) reply) }
     ensures put { OnOk result (PutsReply S.crypto machine.old (option_map (λ v. v.items) reply) machine.new
@@ -145,8 +154,10 @@ fn put_reply<S: Sealing, F: Filler + Drop>(
     ensures room { OnErr result (HasRoom machine.old) }
     ensures dead { OnErr result (machine.new.kept.dead ≡ true) }
     ensures out { OnErr result (out.new.items ≡ out.old.items) }
-    ensures kept { OnErr result (sent.new.items ≡ sent.old.items) }
+    ensures kept { OnErr result (sent.new.payloads.items ≡ sent.old.payloads.items) }
     ensures stands { (side : Side) → Stands side machine.old → Stands side machine.new }
+    ensures padded { OnOk result (PadsTo S.crypto F.gives (sending_by machine.old sent.old out.old)
+        (sending_by machine.new sent.new out.new)) }
 {
     match reply {
         Some(payload) => put(machine, payload, out, sent),
@@ -156,17 +167,19 @@ fn put_reply<S: Sealing, F: Filler + Drop>(
 
 // Sends this payload, for which a number is left.
 fn put<S: Sealing, F: Filler + Drop>(
-    machine: &mut Machine<S, F>,
+    machine: &mut Machine<S>,
     payload: Vec<u8>,
     out: &mut Vec<u8>,
-    sent: &mut Vec<Vec<u8>>,
+    sent: &mut Outgoing<F>,
 ) -> Result<(), AllocError>
     requires can { CanReply machine.old payload.items }
     ensures put { OnOk result (IsPut S.crypto machine.old payload.items machine.new (outs out.old out.new sent.old sent.new)) }
     ensures dead { OnErr result (machine.new.kept.dead ≡ true) }
     ensures out { OnErr result (out.new.items ≡ out.old.items) }
-    ensures kept { OnErr result (sent.new.items ≡ sent.old.items) }
+    ensures kept { OnErr result (sent.new.payloads.items ≡ sent.old.payloads.items) }
     ensures stands { (side : Side) → Stands side machine.old → Stands side machine.new }
+    ensures padded { OnOk result (PadsTo S.crypto F.gives (sending_by machine.old sent.old out.old)
+        (sending_by machine.new sent.new out.new)) }
 {
     machines_stand::<S::Key>();
     match machine.send_above(payload, out, sent) {
@@ -180,8 +193,8 @@ fn put<S: Sealing, F: Filler + Drop>(
 /// # Errors
 ///
 /// Only where memory is refused.
-pub fn spell_answer<S: Sealing, F: Filler + Drop>(
-    machine: &Machine<S, F>,
+pub fn spell_answer<S: Sealing>(
+    machine: &Machine<S>,
     step: TookStep,
     message: Option<Message<'_>>,
     success: bool,
@@ -214,10 +227,7 @@ pub fn spell_answer<S: Sealing, F: Filler + Drop>(
 }
 
 /// The session id, or these bytes before the first exchange, when no payload from 50 on comes.
-pub fn session_of<'a, S: Sealing, F: Filler + Drop>(
-    machine: &'a Machine<S, F>,
-    none: &'a [u8; 32],
-) -> &'a [u8; 32]
+pub fn session_of<'a, S: Sealing>(machine: &'a Machine<S>, none: &'a [u8; 32]) -> &'a [u8; 32]
     ensures { (id : List ℕ) → machine.now.kept.session ≡ Some id → result.now ≡ id }
 {
     machine.session_id().unwrap_or(none)

@@ -10,7 +10,7 @@ use crate::above::{Judgement, session_of, spell_answer};
 use crate::step::{Telling, TookStep};
 use ssh_auth::ClientAnswer;
 use ssh_layers::{Below, ClientLayerAnswer, ClientLayers, LayerFault};
-use ssh_packet::{Filler, Sealing};
+use ssh_packet::Sealing;
 use ssh_transport_machine::Machine;
 use std::alloc::AllocError;
 
@@ -19,8 +19,8 @@ use std::alloc::AllocError;
 /// # Errors
 ///
 /// Only where memory is refused.
-pub fn judge_client<S: Sealing, F: Filler + Drop>(
-    machine: &Machine<S, F>,
+pub fn judge_client<S: Sealing>(
+    machine: &Machine<S>,
     layers: &mut ClientLayers,
 ) -> Result<Judgement, AllocError>
     requires above { 50 ≤ number_of machine.now.receiver.payload }

@@ -20,7 +20,7 @@ use ssh_model::end::{asks, deaths, identified, units};
 use ssh_packet::Sealing;
 use ssh_transport::Client;
 use ssh_transport_base::ClientParts;
-use ssh_transport_machine::{Machine, TransportTurn};
+use ssh_transport_machine::{Machine, Outgoing, TransportTurn};
 use std::alloc::AllocError;
 
 /// What is of a client alone: its part in an exchange of keys, and who signs for its user.
@@ -74,11 +74,11 @@ impl<P: ClientParts, U: UserSigner + Drop> EndRole for ClientRole<P, U> {
 
     fn go_on(
         &self,
-        machine: &mut Machine<P::Sealing, P::Filler>,
+        machine: &mut Machine<P::Sealing>,
         layers: &mut ClientLayers,
         turn: TransportTurn,
         out: &mut Vec<u8>,
-        sent: &mut Vec<Vec<u8>>,
+        sent: &mut Outgoing<P::Filler>,
         numbers: &mut Vec<Option<u32>>,
     ) -> Result<Step, AllocError> {
         go_on(machine, layers, turn, out, sent, numbers)
@@ -86,11 +86,11 @@ impl<P: ClientParts, U: UserSigner + Drop> EndRole for ClientRole<P, U> {
 
     fn ask(
         &self,
-        machine: &mut Machine<P::Sealing, P::Filler>,
+        machine: &mut Machine<P::Sealing>,
         layers: &mut ClientLayers,
         ask: &Ask<'_>,
         out: &mut Vec<u8>,
-        sent: &mut Vec<Vec<u8>>,
+        sent: &mut Outgoing<P::Filler>,
     ) -> Result<AskStep, Fault> {
         ask_client(machine, layers, &self.user, ask, out, sent)
     }

@@ -1,7 +1,8 @@
 //! What a client does with an answer of its transport.
 
+ghost use Rattle.ssh_transport_machine.specs.Padding.{PadsTo, sending_by};
 ghost use Rattle.ssh_transport_machine.specs.Puts.{outs};
-ghost use Rattle.std.specs.Prelude.{◌≡◌, ◌<◌, ◌≤◌, ◌++◌, IfErr, IfOk, List, OnErr, [], false, length, map, take, true};
+ghost use Rattle.std.specs.Prelude.{◌≡◌, ◌<◌, ◌≤◌, ◌++◌, IfErr, IfOk, List, OnErr, OnOk, [], false, length, map, take, true};
 ghost use Rattle.ssh_model.specs.State.Channels.Kept.{DueReply};
 ghost use Rattle.ssh_model.specs.Protocol.Sessions.Turns.{number_of};
 ghost use Rattle.ssh_model.specs.Protocol.Side as model;
@@ -19,7 +20,7 @@ use crate::step::Step;
 use ssh_layers::ClientLayers;
 use ssh_packet::{Filler, Sealing};
 use ssh_transport_machine::standing::machines_stand;
-use ssh_transport_machine::{Effect, Machine, TransportTurn};
+use ssh_transport_machine::{Effect, Machine, Outgoing, TransportTurn};
 use std::alloc::AllocError;
 
 /// Does what is left to be done with an answer of the transport.
@@ -27,12 +28,13 @@ use std::alloc::AllocError;
 /// # Errors
 ///
 /// Only where memory is refused: the end is over, and what was put out so far stands.
+#[tactic(auto, using(crate::proofs::Padding::pads_none))]
 pub fn go_on<S: Sealing, F: Filler + Drop>(
-    machine: &mut Machine<S, F>,
+    machine: &mut Machine<S>,
     layers: &mut ClientLayers,
     turn: TransportTurn,
     out: &mut Vec<u8>,
-    sent: &mut Vec<Vec<u8>>,
+    sent: &mut Outgoing<F>,
     numbers: &mut Vec<Option<u32>>,
 ) -> Result<Step, AllocError>
     requires ready { IsReady machine.old turn }
@@ -44,8 +46,10 @@ pub fn go_on<S: Sealing, F: Filler + Drop>(
     ensures dead { OnErr result (machine.new.kept.dead ≡ true) }
     ensures left { OnErr result (is_whole turn ≡ false) }
     ensures out { OnErr result (Extends out.old.items out.new.items) }
-    ensures sent { OnErr result (Extends (map (λ v. v.items) sent.old.items) (map (λ v. v.items) sent.new.items)) }
+    ensures sent { OnErr result (Extends (map (λ v. v.items) sent.old.payloads.items) (map (λ v. v.items) sent.new.payloads.items)) }
     ensures stands { Stands model.Client machine.old → Stands model.Client machine.new }
+    ensures padded { OnOk result (PadsTo S.crypto F.gives (sending_by machine.old sent.old out.old)
+        (sending_by machine.new sent.new out.new)) }
 {
     match turn {
         TransportTurn::Up(_) => go_up(machine, layers, out, sent),
@@ -65,10 +69,10 @@ pub fn go_on<S: Sealing, F: Filler + Drop>(
 
 // Has the layers above judge the payload that is shown, and sends what they answer, or refuses the server.
 fn go_up<S: Sealing, F: Filler + Drop>(
-    machine: &mut Machine<S, F>,
+    machine: &mut Machine<S>,
     layers: &mut ClientLayers,
     out: &mut Vec<u8>,
-    sent: &mut Vec<Vec<u8>>,
+    sent: &mut Outgoing<F>,
 ) -> Result<Step, AllocError>
     requires above { 50 ≤ number_of machine.old.receiver.payload }
     requires alive { machine.old.kept.dead ≡ false }
@@ -79,8 +83,10 @@ fn go_up<S: Sealing, F: Filler + Drop>(
     ensures lacks { OnErr result (UpLacks machine.old layers.old) }
     ensures dead { OnErr result (machine.new.kept.dead ≡ true) }
     ensures out { OnErr result (out.new.items ≡ out.old.items) }
-    ensures kept { OnErr result (sent.new.items ≡ sent.old.items) }
+    ensures kept { OnErr result (sent.new.payloads.items ≡ sent.old.payloads.items) }
     ensures stands { Stands model.Client machine.old → Stands model.Client machine.new }
+    ensures padded { OnOk result (PadsTo S.crypto F.gives (sending_by machine.old sent.old out.old)
+        (sending_by machine.new sent.new out.new)) }
 {
     match judge_client(machine, layers) {
         Ok(judgement) => finish_above(machine, judgement, out, sent),

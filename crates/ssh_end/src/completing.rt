@@ -1,5 +1,6 @@
 //! What an end does once its transport ended an exchange of keys.
 
+ghost use Rattle.ssh_transport_machine.specs.Padding.{PadsTo, sending_by};
 ghost use Rattle.ssh_transport_machine.specs.Puts.{outs};
 ghost use Rattle.std.specs.Prelude.{◌≡◌, ◌≤◌, ◌++◌, IfOk, OnErr, OnOk, false, length, map, true};
 ghost use Rattle.ssh_model.specs.Protocol.Side.{Side};
@@ -12,8 +13,8 @@ use crate::owed::give_owed;
 use crate::step::{Step, Telling, TookStep};
 use ssh_channels::Channels;
 use ssh_packet::{Filler, Sealing};
-use ssh_transport_machine::Machine;
 use ssh_transport_machine::standing::machines_stand;
+use ssh_transport_machine::{Machine, Outgoing};
 use ssh_types::Refusal;
 use std::alloc::AllocError;
 
@@ -22,11 +23,12 @@ use std::alloc::AllocError;
 /// # Errors
 ///
 /// Only where memory is refused: the end is over, and what was put out so far stands.
+#[tactic(auto, using(crate::proofs::Padding::pads_none))]
 pub fn complete<S: Sealing, F: Filler + Drop>(
-    machine: &mut Machine<S, F>,
+    machine: &mut Machine<S>,
     channels: &mut Channels,
     out: &mut Vec<u8>,
-    sent: &mut Vec<Vec<u8>>,
+    sent: &mut Outgoing<F>,
     numbers: &mut Vec<Option<u32>>,
 ) -> Result<Step, AllocError>
     requires alive { machine.old.kept.dead ≡ false }
@@ -38,9 +40,11 @@ pub fn complete<S: Sealing, F: Filler + Drop>(
     ensures dead { OnErr result (machine.new.kept.dead ≡ true) }
     ensures rest { machine.new ≡ record machine.old { kept = machine.new.kept } }
     ensures out { Extends out.old.items out.new.items }
-    ensures sent { Extends (map (λ v. v.items) sent.old.items) (map (λ v. v.items) sent.new.items) }
+    ensures sent { Extends (map (λ v. v.items) sent.old.payloads.items) (map (λ v. v.items) sent.new.payloads.items) }
     ensures numbers { Extends numbers.old.items numbers.new.items }
     ensures stands { (side : Side) → Stands side machine.old → Stands side machine.new }
+    ensures padded { OnOk result (PadsTo S.crypto F.gives (sending_by machine.old sent.old out.old)
+        (sending_by machine.new sent.new out.new)) }
 {
     let owed = channels.owed();
     if owed == 0 {
@@ -57,7 +61,7 @@ pub fn complete<S: Sealing, F: Filler + Drop>(
 }
 
 // What is told of the exchange that is completed now.
-fn completed<S: Sealing, F: Filler + Drop>(machine: &Machine<S, F>) -> Step
+fn completed<S: Sealing>(machine: &Machine<S>) -> Step
     ensures { result ≡ completed_at machine.now.kept.sending.epoch }
 {
     let (position, _) = machine.epochs();

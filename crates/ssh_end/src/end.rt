@@ -3,17 +3,18 @@
 ghost use Rattle.std.specs.Borrow.{sem};
 ghost use Rattle.std.specs.Io.BufRead.{Rests};
 ghost use Rattle.std.specs.Option.{option_copied};
-ghost use Rattle.std.specs.Prelude.{◌≡◌, ◌<◌, ◌≤◌, IfErr, IfOk, List, OnErr, [], false, length, nat_le, true};
+ghost use Rattle.std.specs.Prelude.{◌≡◌, ◌<◌, ◌≤◌, IfErr, IfOk, List, OnErr, OnOk, [], false, length, nat_le, true};
 ghost use Rattle.ssh_model.specs.Protocol.Sessions.Items.{Item};
 ghost use Rattle.ssh_model.specs.Protocol.Sessions.Parties.{Parties};
 ghost use Rattle.ssh_model.specs.State.TransportLayer.Kept.{after_fed, can_be_fed};
 ghost use Rattle.ssh_types.specs.Sides.{side_of};
 ghost use Rattle.ssh_transport_base.specs.Directions.{next_number};
+ghost use Rattle.ssh_transport_machine.specs.Padding.{PadsTo};
 ghost use Rattle.ssh_transport_machine.specs.Standing.{Stands};
 ghost use Rattle.ssh_transport_machine.specs.State.{line_taken};
-ghost use Rattle.ssh_end.specs.Asking.{AreAskChannels, Fails, ask_of};
+ghost use Rattle.ssh_end.specs.Asking.{AreAskChannels, Fails, OnAnswered, ask_of};
 ghost use Rattle.ssh_end.specs.Calls.{Advances, EndAsked, EndTakes, outs_of};
-ghost use Rattle.ssh_end.specs.Ends.{EndLacks, IsFault};
+ghost use Rattle.ssh_end.specs.Ends.{EndLacks, IsFault, sending_from, sending_to};
 ghost use Rattle.ssh_end.specs.Reading.{SameReading};
 ghost use Rattle.ssh_end.specs.Stands.{FailedTo, FeedsTo, PerformedTo, StandsAt};
 ghost use Rattle.ssh_end.specs.Steps.{Shows, shown_by};
@@ -29,10 +30,10 @@ use crate::unit::advance;
 use ssh_channels::Channels;
 use ssh_model::any_peer::against_any_peer;
 use ssh_model::end::feeds;
-use ssh_packet::{Filler, Sealing};
+use ssh_packet::Sealing;
 use ssh_transport::Role;
-use ssh_transport_machine::Machine;
 use ssh_transport_machine::standing::machines_stand;
+use ssh_transport_machine::{Machine, Outgoing};
 use std::marker::Model;
 
 /// An end of SSH-2: its transport (RFC 4253), the authentication of its user (RFC 4252), and channels (RFC 4254). `ServerEnd` and
@@ -41,14 +42,14 @@ use std::marker::Model;
 /// It has no socket, no clock and no source of random bytes. Bytes of the peer go in by `take`, what its user wants by `ask`; bytes for
 /// the peer are appended to `out`. It holds room for one packet of at most 35,000 bytes and for 1,024 channels from the beginning on.
 pub struct End<R: EndRole> {
-    pub(crate) machine: Machine<<R::Exchange as Role>::Sealing, <R::Exchange as Role>::Filler>,
+    pub(crate) machine: Machine<<R::Exchange as Role>::Sealing>,
     pub(crate) role: R,
     pub(crate) layers: R::Layers,
-    // What was done in the turn, with how many bytes, the payloads that were sent in it, the channel of a single one, and those of
-    // payloads that were owed.
+    // What gives the padding, and the payloads that were sent in the turn.
+    pub(crate) sent: Outgoing<<R::Exchange as Role>::Filler>,
+    // What was done in the turn, with how many bytes, the channel of a single payload that was sent, and those of payloads that were owed.
     pub(crate) step: Step,
     pub(crate) used: usize,
-    pub(crate) sent: Vec<Vec<u8>>,
     pub(crate) channel: [Option<u32>; 1],
     pub(crate) numbers: Vec<Option<u32>>,
 }
@@ -60,16 +61,17 @@ impl<R: EndRole> Model for End<R> {
     ghost use Rattle.ssh_end.specs.Ends.{EndValue};
     ghost use Rattle.ssh_end.specs.Beside.{channels_beside, last_channels};
 
-    ghost Value = { EndValue R.Exchange.Sealing.Key R R.Layers };
+    ghost Value = { EndValue R.Exchange.Sealing.Key R R.Layers R.Exchange.Filler };
 
     ghost view = { λ e. record {
       machine = e.machine;
       role = e.role;
       layers = e.layers;
+      filler = e.sent.filler;
       step = e.step;
       used = e.used;
-      sent = map (λ v. v.items) e.sent.items;
-      channels = channels_beside (map (λ v. v.items) e.sent.items)
+      sent = map (λ v. v.items) e.sent.payloads.items;
+      channels = channels_beside (map (λ v. v.items) e.sent.payloads.items)
           (last_channels e.channel e.numbers.items);
     } };
 
@@ -82,9 +84,9 @@ impl<R: EndRole> Drop for End<R> {
             machine: _,
             role: _,
             layers: _,
+            sent: _,
             step: _,
             used: _,
-            sent: _,
             channel: _,
             numbers: _,
         } = self;
@@ -114,8 +116,8 @@ impl<R: EndRole> End<R> {
         ensures out { OnErr result (out.new.items ≡ out.old.items) }
         ensures* done { sem 𝓛 (Rests (the_row R.row R.Exchange.row R.Layers.row R.Exchange.Sealing.row R.Exchange.Filler.row
             R.Exchange.Sealing.Key.row R.EndRole R.Exchange.Role R.Exchange.Sealing.Sealing R.Exchange.Filler.Filler) self.entry
-            (λ new. EndTakes R.EndRole R.Exchange.Role R.Exchange.Sealing.crypto self.old bytes.now out.old.items out.new.items result
-            new)) }
+            (λ new. EndTakes R.EndRole R.Exchange.Role R.Exchange.Sealing.crypto R.Exchange.Filler.gives self.old bytes.now
+            out.old.items out.new.items result new)) }
     {
         self.advance(bytes, out)?;
         Ok(self.turn())
@@ -133,6 +135,8 @@ impl<R: EndRole> End<R> {
         ensures more { IfOk result (λ used. self.new.step ≡ Step.More → used ≡ length bytes.now) }
         ensures advances { IfOk result (λ used. Advances R.EndRole R.Exchange.Role R.Exchange.Sealing.crypto self.old bytes.now used
             out.old.items out.new.items self.new) }
+        ensures padded { OnOk result (PadsTo R.Exchange.Sealing.crypto R.Exchange.Filler.gives (sending_from self.old out.old.items)
+            (sending_to self.new out.new.items)) }
         ensures shown { IfOk result (λ used. self.new.used ≡ used) }
         ensures none { OnErr result (self.new.step ≡ Step.More) }
         ensures unused { OnErr result (self.new.used ≡ 0) }
@@ -150,7 +154,7 @@ impl<R: EndRole> End<R> {
         R::lifts();
         self.step = Step::More;
         self.used = 0;
-        self.sent.clear();
+        self.sent.payloads.clear();
         self.numbers.clear();
         let (used, done) = advance(
             &mut self.machine,
@@ -182,7 +186,7 @@ impl<R: EndRole> End<R> {
             self.used,
             self.shown(),
             sent_payloads(
-                self.sent.as_slice(),
+                self.sent.payloads.as_slice(),
                 self.channel.as_slice(),
                 self.numbers.as_slice(),
             ),
@@ -213,7 +217,8 @@ impl<R: EndRole> End<R> {
         ensures out { OnErr result (out.new.items ≡ out.old.items) }
         ensures* done { sem 𝓛 (Rests (the_row R.row R.Exchange.row R.Layers.row R.Exchange.Sealing.row R.Exchange.Filler.row
             R.Exchange.Sealing.Key.row R.EndRole R.Exchange.Role R.Exchange.Sealing.Sealing R.Exchange.Filler.Filler) self.entry
-            (λ new. EndAsked R.EndRole R.Exchange.Role self.old (ask_of ask.now) out.old.items out.new.items result new)) }
+            (λ new. EndAsked R.EndRole R.Exchange.Role R.Exchange.Sealing.crypto R.Exchange.Filler.gives self.old (ask_of ask.now)
+            out.old.items out.new.items result new)) }
     {
         let step = self.perform(ask, out)?;
         Ok(asked_turn(step, self.turn().sent))
@@ -227,6 +232,8 @@ impl<R: EndRole> End<R> {
     pub fn perform(&mut self, ask: &Ask<'_>, out: &mut Vec<u8>) -> Result<AskStep, Fault>
         ensures asks { R.asks self.old.role self.old.machine self.old.layers (ask_of ask.now) result self.new.machine self.new.layers
             (outs_of out.old.items out.new.items self.new.sent) }
+        ensures padded { OnAnswered result (PadsTo R.Exchange.Sealing.crypto R.Exchange.Filler.gives (sending_from self.old out.old.items)
+            (sending_to self.new out.new.items)) }
         ensures reading { self.new.machine.kept.dead ≡ false → SameReading self.old.machine self.new.machine }
         ensures step { self.new.step ≡ Step.More }
         ensures used { self.new.used ≡ 0 }
@@ -242,7 +249,7 @@ impl<R: EndRole> End<R> {
         R::lifts();
         self.step = Step::More;
         self.used = 0;
-        self.sent.clear();
+        self.sent.payloads.clear();
         self.numbers.clear();
         let done = self.role.ask(
             &mut self.machine,

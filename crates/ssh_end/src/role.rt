@@ -1,16 +1,17 @@
 //! What one end does above its transport and the other does not.
 
-ghost use Rattle.std.specs.Prelude.{◌≡◌, ◌++◌, IfErr, IfOk, OnErr, Result, false, map, true};
+ghost use Rattle.std.specs.Prelude.{◌≡◌, ◌++◌, IfErr, IfOk, OnErr, OnOk, Result, false, map, true};
 ghost use Rattle.ssh_model.specs.State.Channels.Kept.{Channels};
 ghost use Rattle.ssh_model.specs.State.End.State.{Authentication};
 ghost use Rattle.ssh_model.specs.Protocol.Sessions.Items as session;
 ghost use Rattle.ssh_model.specs.Protocol.Sessions.Parties.{Parties};
 ghost use Rattle.ssh_types.specs.Sides.{side_of};
+ghost use Rattle.ssh_transport_machine.specs.Padding.{PadsTo, sending_by};
 ghost use Rattle.ssh_transport_machine.specs.Puts.{Outs, outs};
 ghost use Rattle.ssh_transport_machine.specs.Standing.{Stands};
 ghost use Rattle.ssh_transport_machine.specs.State.{State};
 ghost use Rattle.ssh_transport_machine.specs.declared.outcome.TransportTurn.{TransportTurn};
-ghost use Rattle.ssh_end.specs.Asking.{Fails, ask_of};
+ghost use Rattle.ssh_end.specs.Asking.{Fails, OnAnswered, ask_of};
 ghost use Rattle.ssh_end.specs.Beside.{channels_behind};
 ghost use Rattle.ssh_end.specs.Effects.{IsReady, is_whole};
 ghost use Rattle.ssh_end.specs.Owed.{Extends};
@@ -24,9 +25,9 @@ use crate::ask::Ask;
 use crate::asking::{AskStep, Fault};
 use crate::step::Step;
 use ssh_channels::Channels;
-use ssh_packet::{Filler, Sealing};
+use ssh_packet::Sealing;
 use ssh_transport::Role;
-use ssh_transport_machine::{Machine, TransportTurn};
+use ssh_transport_machine::{Machine, Outgoing, TransportTurn};
 use std::alloc::AllocError;
 
 /// What one end does above its transport and the other does not: the authentication of a user, and what it keeps for it. `ServerRole` and
@@ -71,11 +72,11 @@ pub trait EndRole: Drop {
     /// Only where memory is refused: the end is over, and what was put out so far stands.
     fn go_on(
         &self,
-        machine: &mut Machine<<Self::Exchange as Role>::Sealing, <Self::Exchange as Role>::Filler>,
+        machine: &mut Machine<<Self::Exchange as Role>::Sealing>,
         layers: &mut Self::Layers,
         turn: TransportTurn,
         out: &mut Vec<u8>,
-        sent: &mut Vec<Vec<u8>>,
+        sent: &mut Outgoing<<Self::Exchange as Role>::Filler>,
         numbers: &mut Vec<Option<u32>>,
     ) -> Result<Step, AllocError>
         requires ready { IsReady machine.old turn }
@@ -88,7 +89,9 @@ pub trait EndRole: Drop {
         ensures dead { OnErr result (machine.new.kept.dead ≡ true) }
         ensures left { OnErr result (is_whole turn ≡ false) }
         ensures out { OnErr result (Extends out.old.items out.new.items) }
-        ensures sent { OnErr result (Extends (map (λ v. v.items) sent.old.items) (map (λ v. v.items) sent.new.items)) }
+        ensures sent { OnErr result (Extends (map (λ v. v.items) sent.old.payloads.items) (map (λ v. v.items) sent.new.payloads.items)) }
+        ensures padded { OnOk result (PadsTo Self.Exchange.Sealing.crypto Self.Exchange.Filler.gives
+            (sending_by machine.old sent.old out.old) (sending_by machine.new sent.new out.new)) }
         ensures stands { Stands (side_of Self.Exchange.SIDE) machine.old → Stands (side_of Self.Exchange.SIDE) machine.new };
 
     /// Does what a user asks for, or refuses that.
@@ -100,18 +103,20 @@ pub trait EndRole: Drop {
     /// - `Dead`: the end was over before. Nothing changes.
     fn ask(
         &self,
-        machine: &mut Machine<<Self::Exchange as Role>::Sealing, <Self::Exchange as Role>::Filler>,
+        machine: &mut Machine<<Self::Exchange as Role>::Sealing>,
         layers: &mut Self::Layers,
         ask: &Ask<'_>,
         out: &mut Vec<u8>,
-        sent: &mut Vec<Vec<u8>>,
+        sent: &mut Outgoing<<Self::Exchange as Role>::Filler>,
     ) -> Result<AskStep, Fault>
         ensures asks { asks self.now machine.old layers.old (ask_of ask.now) result machine.new layers.new
             (outs out.old out.new sent.old sent.new) }
         ensures fails { IfErr result (λ fault. Fails machine.old fault machine.new) }
         ensures reading { machine.new.kept.dead ≡ false → SameReading machine.old machine.new }
         ensures out { OnErr result (out.new.items ≡ out.old.items) }
-        ensures kept { OnErr result (map (λ v. v.items) sent.new.items ≡ map (λ v. v.items) sent.old.items) }
+        ensures kept { OnErr result (map (λ v. v.items) sent.new.payloads.items ≡ map (λ v. v.items) sent.old.payloads.items) }
+        ensures padded { OnAnswered result (PadsTo Self.Exchange.Sealing.crypto Self.Exchange.Filler.gives
+            (sending_by machine.old sent.old out.old) (sending_by machine.new sent.new out.new)) }
         ensures stands { Stands (side_of Self.Exchange.SIDE) machine.old → Stands (side_of Self.Exchange.SIDE) machine.new };
 
     /// What it does is what an end of its side does in a session whose parts it has. A fact for proofs, at no cost.

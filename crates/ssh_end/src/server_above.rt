@@ -10,7 +10,7 @@ use crate::above::{Judgement, session_of, spell_answer};
 use crate::step::{Telling, TookStep};
 use ssh_auth::{ServerAnswer, UserJudge};
 use ssh_layers::{Below, LayerFault, ServerLayerAnswer, ServerLayers};
-use ssh_packet::{Filler, Sealing};
+use ssh_packet::Sealing;
 use ssh_transport_machine::Machine;
 use std::alloc::AllocError;
 
@@ -19,8 +19,8 @@ use std::alloc::AllocError;
 /// # Errors
 ///
 /// Only where memory is refused.
-pub fn judge_server<S: Sealing, F: Filler + Drop, J: UserJudge>(
-    machine: &Machine<S, F>,
+pub fn judge_server<S: Sealing, J: UserJudge>(
+    machine: &Machine<S>,
     layers: &mut ServerLayers,
     judge: &J,
 ) -> Result<Judgement, AllocError>

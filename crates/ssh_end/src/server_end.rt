@@ -3,8 +3,9 @@
 ghost use Rattle.std.specs.Prelude.{◌≡◌, ◌∷◌, IfOk, None, OnErr, []};
 ghost use Rattle.ssh_model.specs.Protocol.Side as model;
 ghost use Rattle.ssh_transport_base.specs.Meaning.{settings_of};
+ghost use Rattle.ssh_transport_machine.specs.Padding.{PadsTo};
 ghost use Rattle.ssh_end.specs.Beside.{channels_beside};
-ghost use Rattle.ssh_end.specs.Ends.{IsNewServer};
+ghost use Rattle.ssh_end.specs.Ends.{IsNewServer, sending_from_line, sending_to};
 ghost use Rattle.ssh_end.specs.Parts.{AreServerLayers, IsServer, exchange_parts};
 ghost use Rattle.ssh_end.specs.Stands.{MadeOf};
 ghost use Rattle.ssh_layers.specs.Sessions.{end_of};
@@ -18,11 +19,11 @@ use ssh_auth::UserJudge;
 use ssh_layers::ServerLayers;
 use ssh_model::any_peer::against_any_peer;
 use ssh_model::end::openings;
-use ssh_packet::{Filler, Sealing};
+use ssh_packet::Sealing;
 use ssh_transport::Server;
 use ssh_transport_base::{Config, ServerPartValues, ServerParts};
-use ssh_transport_machine::Machine;
 use ssh_transport_machine::standing::machines_stand;
+use ssh_transport_machine::{Machine, Outgoing};
 use ssh_types::Side;
 use std::alloc::{AllocError, Global};
 use std::mem::replace;
@@ -48,6 +49,8 @@ impl<P: ServerParts, U: UserJudge + Drop> End<ServerRole<P, U>> {
     ) -> Result<ServerEnd<P, U>, AllocError>
         ensures opened { IfOk result (λ end. IsNewServer P.Sealing.crypto (settings_of config) cookie secret end.machine end.layers
             out.old.items out.new.items end.sent) }
+        ensures padded { IfOk result (λ end. PadsTo P.Sealing.crypto P.Filler.gives
+            (sending_from_line (settings_of config) parts.filler out.old.items) (sending_to end out.new.items)) }
         ensures step { IfOk result (λ end. end.step ≡ Step.More) }
         ensures used { IfOk result (λ end. end.used ≡ 0) }
         ensures channels { IfOk result (λ end. end.channels ≡ channels_beside end.sent (None ∷ [])) }
@@ -69,17 +72,11 @@ impl<P: ServerParts, U: UserJudge + Drop> End<ServerRole<P, U>> {
         machines_stand::<<P::Sealing as Sealing>::Key>();
         let (filler, agreement, host_signer) = parts.into_parts();
         let layers = ServerLayers::new(alloc, config.tries(), &config.methods())?;
-        let mut sent = Vec::new(alloc);
-        let machine = Machine::new(
-            alloc,
-            Side::Server,
-            config,
+        let mut sent = Outgoing {
             filler,
-            cookie,
-            secret,
-            out,
-            &mut sent,
-        )?;
+            payloads: Vec::new(alloc),
+        };
+        let machine = Machine::new(alloc, Side::Server, config, cookie, secret, out, &mut sent)?;
         let exchange = Server {
             agreement,
             host_signer,
@@ -88,9 +85,9 @@ impl<P: ServerParts, U: UserJudge + Drop> End<ServerRole<P, U>> {
             machine,
             role: ServerRole { exchange, user },
             layers,
+            sent,
             step: Step::More,
             used: 0,
-            sent,
             channel: [None],
             numbers: Vec::new(alloc),
         })

@@ -19,7 +19,7 @@ use ssh_model::end::{asks, deaths, identified, units};
 use ssh_packet::Sealing;
 use ssh_transport::Server;
 use ssh_transport_base::ServerParts;
-use ssh_transport_machine::{Machine, TransportTurn};
+use ssh_transport_machine::{Machine, Outgoing, TransportTurn};
 use std::alloc::AllocError;
 
 /// What is of a server alone: its part in an exchange of keys, and who judges its users.
@@ -72,11 +72,11 @@ impl<P: ServerParts, U: UserJudge + Drop> EndRole for ServerRole<P, U> {
 
     fn go_on(
         &self,
-        machine: &mut Machine<P::Sealing, P::Filler>,
+        machine: &mut Machine<P::Sealing>,
         layers: &mut ServerLayers,
         turn: TransportTurn,
         out: &mut Vec<u8>,
-        sent: &mut Vec<Vec<u8>>,
+        sent: &mut Outgoing<P::Filler>,
         numbers: &mut Vec<Option<u32>>,
     ) -> Result<Step, AllocError> {
         go_on(machine, layers, &self.user, turn, out, sent, numbers)
@@ -84,11 +84,11 @@ impl<P: ServerParts, U: UserJudge + Drop> EndRole for ServerRole<P, U> {
 
     fn ask(
         &self,
-        machine: &mut Machine<P::Sealing, P::Filler>,
+        machine: &mut Machine<P::Sealing>,
         layers: &mut ServerLayers,
         ask: &Ask<'_>,
         out: &mut Vec<u8>,
-        sent: &mut Vec<Vec<u8>>,
+        sent: &mut Outgoing<P::Filler>,
     ) -> Result<AskStep, Fault> {
         ask_server(machine, layers, ask, out, sent)
     }

@@ -1,7 +1,8 @@
 //! What a server does with an answer of its transport.
 
+ghost use Rattle.ssh_transport_machine.specs.Padding.{PadsTo, sending_by};
 ghost use Rattle.ssh_transport_machine.specs.Puts.{outs};
-ghost use Rattle.std.specs.Prelude.{◌≡◌, ◌<◌, ◌≤◌, ◌++◌, IfErr, IfOk, List, OnErr, [], false, length, map, take, true};
+ghost use Rattle.std.specs.Prelude.{◌≡◌, ◌<◌, ◌≤◌, ◌++◌, IfErr, IfOk, List, OnErr, OnOk, [], false, length, map, take, true};
 ghost use Rattle.ssh_model.specs.State.Channels.Kept.{DueReply};
 ghost use Rattle.ssh_model.specs.Protocol.Sessions.Turns.{number_of};
 ghost use Rattle.ssh_model.specs.Protocol.Side as model;
@@ -20,7 +21,7 @@ use ssh_auth::UserJudge;
 use ssh_layers::ServerLayers;
 use ssh_packet::{Filler, Sealing};
 use ssh_transport_machine::standing::machines_stand;
-use ssh_transport_machine::{Effect, Machine, TransportTurn};
+use ssh_transport_machine::{Effect, Machine, Outgoing, TransportTurn};
 use std::alloc::AllocError;
 
 /// Does what is left to be done with an answer of the transport.
@@ -28,13 +29,14 @@ use std::alloc::AllocError;
 /// # Errors
 ///
 /// Only where memory is refused: the end is over, and what was put out so far stands.
+#[tactic(auto, using(crate::proofs::Padding::pads_none))]
 pub fn go_on<S: Sealing, F: Filler + Drop, J: UserJudge>(
-    machine: &mut Machine<S, F>,
+    machine: &mut Machine<S>,
     layers: &mut ServerLayers,
     judge: &J,
     turn: TransportTurn,
     out: &mut Vec<u8>,
-    sent: &mut Vec<Vec<u8>>,
+    sent: &mut Outgoing<F>,
     numbers: &mut Vec<Option<u32>>,
 ) -> Result<Step, AllocError>
     requires ready { IsReady machine.old turn }
@@ -46,8 +48,10 @@ pub fn go_on<S: Sealing, F: Filler + Drop, J: UserJudge>(
     ensures dead { OnErr result (machine.new.kept.dead ≡ true) }
     ensures left { OnErr result (is_whole turn ≡ false) }
     ensures out { OnErr result (Extends out.old.items out.new.items) }
-    ensures sent { OnErr result (Extends (map (λ v. v.items) sent.old.items) (map (λ v. v.items) sent.new.items)) }
+    ensures sent { OnErr result (Extends (map (λ v. v.items) sent.old.payloads.items) (map (λ v. v.items) sent.new.payloads.items)) }
     ensures stands { Stands model.Server machine.old → Stands model.Server machine.new }
+    ensures padded { OnOk result (PadsTo S.crypto F.gives (sending_by machine.old sent.old out.old)
+        (sending_by machine.new sent.new out.new)) }
 {
     match turn {
         TransportTurn::Up(_) => go_up(machine, layers, judge, out, sent),
@@ -67,11 +71,11 @@ pub fn go_on<S: Sealing, F: Filler + Drop, J: UserJudge>(
 
 // Has the layers above judge the payload that is shown, and sends what they answer, or refuses the client.
 fn go_up<S: Sealing, F: Filler + Drop, J: UserJudge>(
-    machine: &mut Machine<S, F>,
+    machine: &mut Machine<S>,
     layers: &mut ServerLayers,
     judge: &J,
     out: &mut Vec<u8>,
-    sent: &mut Vec<Vec<u8>>,
+    sent: &mut Outgoing<F>,
 ) -> Result<Step, AllocError>
     requires above { 50 ≤ number_of machine.old.receiver.payload }
     requires alive { machine.old.kept.dead ≡ false }
@@ -82,8 +86,10 @@ fn go_up<S: Sealing, F: Filler + Drop, J: UserJudge>(
     ensures lacks { OnErr result (UpLacks (J.verdicts judge.now) machine.old layers.old) }
     ensures dead { OnErr result (machine.new.kept.dead ≡ true) }
     ensures out { OnErr result (out.new.items ≡ out.old.items) }
-    ensures kept { OnErr result (sent.new.items ≡ sent.old.items) }
+    ensures kept { OnErr result (sent.new.payloads.items ≡ sent.old.payloads.items) }
     ensures stands { Stands model.Server machine.old → Stands model.Server machine.new }
+    ensures padded { OnOk result (PadsTo S.crypto F.gives (sending_by machine.old sent.old out.old)
+        (sending_by machine.new sent.new out.new)) }
 {
     match judge_server(machine, layers, judge) {
         Ok(judgement) => finish_above(machine, judgement, out, sent),

@@ -1,7 +1,8 @@
 //! Lines and packets that an end takes.
 
+ghost use Rattle.ssh_transport_machine.specs.Padding.{PadsTo, sending_by};
 ghost use Rattle.ssh_transport_machine.specs.Puts.{outs};
-ghost use Rattle.std.specs.Prelude.{◌≡◌, ◌<◌, ◌≤◌, ◌++◌, IfErr, IfOk, OnErr, false, length, map, take};
+ghost use Rattle.std.specs.Prelude.{◌≡◌, ◌<◌, ◌≤◌, ◌++◌, IfErr, IfOk, OnErr, OnOk, false, length, map, take};
 ghost use Rattle.ssh_types.specs.Sides.{side_of};
 ghost use Rattle.ssh_transport_machine.specs.Standing.{Stands};
 ghost use Rattle.ssh_transport_machine.specs.State.{begun_of};
@@ -12,10 +13,10 @@ ghost use Rattle.ssh_end.specs.Units.{UnitGoes, UnitLacks};
 use crate::cutting::cut_back;
 use crate::role::EndRole;
 use crate::step::Step;
-use ssh_packet::{Filler, Sealing};
+use ssh_packet::Sealing;
 use ssh_transport::laws::turns_left;
 use ssh_transport::{Role, take_unit};
-use ssh_transport_machine::{Machine, TransportFault};
+use ssh_transport_machine::{Machine, Outgoing, TransportFault};
 
 /// Takes bytes to the end of one line or one packet, and does all that it asks for.
 ///
@@ -24,12 +25,12 @@ use ssh_transport_machine::{Machine, TransportFault};
 /// - `Memory`: memory was refused. Nothing is put out, and the end is over.
 /// - `Dead`: it was over before. Nothing changes.
 pub fn advance<R: EndRole>(
-    machine: &mut Machine<<R::Exchange as Role>::Sealing, <R::Exchange as Role>::Filler>,
+    machine: &mut Machine<<R::Exchange as Role>::Sealing>,
     role: &R,
     layers: &mut R::Layers,
     bytes: &[u8],
     out: &mut Vec<u8>,
-    sent: &mut Vec<Vec<u8>>,
+    sent: &mut Outgoing<<R::Exchange as Role>::Filler>,
     numbers: &mut Vec<Option<u32>>,
 ) -> (usize, Result<Step, TransportFault>)
     requires { Stands (side_of R.Exchange.SIDE) machine.old }
@@ -48,12 +49,14 @@ pub fn advance<R: EndRole>(
         (R.Exchange.lacks (R.exchange_of role.now)) (R.lacks role.now) machine.old layers.old
         (begun_of machine.old ++ take result.0 bytes.now)) }
     ensures out { OnErr result.1 (out.new.items ≡ out.old.items) }
-    ensures kept { OnErr result.1 (map (λ v. v.items) sent.new.items ≡ map (λ v. v.items) sent.old.items) }
+    ensures kept { OnErr result.1 (map (λ v. v.items) sent.new.payloads.items ≡ map (λ v. v.items) sent.old.payloads.items) }
     ensures stands { Stands (side_of R.Exchange.SIDE) machine.new }
+    ensures padded { OnOk result.1 (PadsTo R.Exchange.Sealing.crypto R.Exchange.Filler.gives (sending_by machine.old sent.old out.old)
+        (sending_by machine.new sent.new out.new)) }
 {
     turns_left::<R::Exchange>();
     let start = out.as_slice().len();
-    let listed = sent.as_slice().len();
+    let listed = sent.payloads.as_slice().len();
     let exchange = role.exchange();
     let (used, given) = take_unit(machine, exchange, bytes, out, sent);
     let turn = match given {
@@ -63,7 +66,7 @@ pub fn advance<R: EndRole>(
     match role.go_on(machine, layers, turn, out, sent, numbers) {
         Ok(step) => (used, Ok(step)),
         Err(_) => {
-            cut_back(out, sent, start, listed);
+            cut_back(out, &mut sent.payloads, start, listed);
             (used, Err(TransportFault::Memory))
         }
     }

@@ -1,10 +1,11 @@
 //! What a client does on an ask of its user.
 
+ghost use Rattle.ssh_transport_machine.specs.Padding.{PadsTo, sending_by};
 ghost use Rattle.ssh_transport_machine.specs.Puts.{outs};
 ghost use Rattle.std.specs.Prelude.{◌≡◌, IfErr, OnErr, map, false};
 ghost use Rattle.ssh_model.specs.Protocol.Side.{Side};
 ghost use Rattle.ssh_transport_machine.specs.Standing.{Stands};
-ghost use Rattle.ssh_end.specs.Asking.{ClientInSession, ClientRow, Fails, KeepsLayers, ask_of};
+ghost use Rattle.ssh_end.specs.Asking.{ClientInSession, ClientRow, Fails, KeepsLayers, OnAnswered, ask_of};
 ghost use Rattle.ssh_end.specs.Reading.{SameReading};
 ghost use Rattle.ssh_layers.specs.ClientSessions.{end_of};
 
@@ -17,7 +18,7 @@ use ssh_auth::UserSigner;
 use ssh_layers::ClientLayers;
 use ssh_model::end::asks;
 use ssh_packet::{Filler, Sealing};
-use ssh_transport_machine::{Machine, TransportAsk};
+use ssh_transport_machine::{Machine, Outgoing, TransportAsk};
 
 /// Does what a client is asked for, as an end of a session does.
 ///
@@ -27,12 +28,12 @@ use ssh_transport_machine::{Machine, TransportAsk};
 /// - `Memory`: memory was refused. Nothing is put out, and the end is over.
 /// - `Dead`: the end was over before. Nothing changes.
 pub fn ask_client<S: Sealing, F: Filler + Drop, U: UserSigner>(
-    machine: &mut Machine<S, F>,
+    machine: &mut Machine<S>,
     layers: &mut ClientLayers,
     signer: &U,
     ask: &Ask<'_>,
     out: &mut Vec<u8>,
-    sent: &mut Vec<Vec<u8>>,
+    sent: &mut Outgoing<F>,
 ) -> Result<AskStep, Fault>
     ensures in_session { ClientInSession S.crypto (U.signature_of signer.now) layers.old.authentication
         (end_of machine.old.kept layers.old) (ask_of ask.now) result (end_of machine.new.kept layers.new)
@@ -41,8 +42,10 @@ pub fn ask_client<S: Sealing, F: Filler + Drop, U: UserSigner>(
     ensures layers { IfErr result (λ fault. KeepsLayers layers.old fault layers.new) }
     ensures reading { machine.new.kept.dead ≡ false → SameReading machine.old machine.new }
     ensures out { OnErr result (out.new.items ≡ out.old.items) }
-    ensures kept { OnErr result (map (λ v. v.items) sent.new.items ≡ map (λ v. v.items) sent.old.items) }
+    ensures kept { OnErr result (map (λ v. v.items) sent.new.payloads.items ≡ map (λ v. v.items) sent.old.payloads.items) }
     ensures stands { (side : Side) → Stands side machine.old → Stands side machine.new }
+    ensures padded { OnAnswered result (PadsTo S.crypto F.gives (sending_by machine.old sent.old out.old)
+        (sending_by machine.new sent.new out.new)) }
 {
     asks::<S::Key>();
     take_ask(machine, layers, signer, ask, out, sent)
@@ -50,12 +53,12 @@ pub fn ask_client<S: Sealing, F: Filler + Drop, U: UserSigner>(
 
 // Does what is asked for, by the layer that it is for.
 fn take_ask<S: Sealing, F: Filler + Drop, U: UserSigner>(
-    machine: &mut Machine<S, F>,
+    machine: &mut Machine<S>,
     layers: &mut ClientLayers,
     signer: &U,
     ask: &Ask<'_>,
     out: &mut Vec<u8>,
-    sent: &mut Vec<Vec<u8>>,
+    sent: &mut Outgoing<F>,
 ) -> Result<AskStep, Fault>
     ensures row { ClientRow S.crypto (U.signature_of signer.now) layers.old.authentication (end_of machine.old.kept layers.old)
         (ask_of ask.now) result (end_of machine.new.kept layers.new) (outs out.old out.new sent.old sent.new) }
@@ -63,8 +66,10 @@ fn take_ask<S: Sealing, F: Filler + Drop, U: UserSigner>(
     ensures layers { IfErr result (λ fault. KeepsLayers layers.old fault layers.new) }
     ensures reading { machine.new.kept.dead ≡ false → SameReading machine.old machine.new }
     ensures out { OnErr result (out.new.items ≡ out.old.items) }
-    ensures kept { OnErr result (map (λ v. v.items) sent.new.items ≡ map (λ v. v.items) sent.old.items) }
+    ensures kept { OnErr result (map (λ v. v.items) sent.new.payloads.items ≡ map (λ v. v.items) sent.old.payloads.items) }
     ensures stands { (side : Side) → Stands side machine.old → Stands side machine.new }
+    ensures padded { OnAnswered result (PadsTo S.crypto F.gives (sending_by machine.old sent.old out.old)
+        (sending_by machine.new sent.new out.new)) }
 {
     match *ask {
         Ask::Service => ask_transport(machine, TransportAsk::Service, out, sent),

@@ -1,5 +1,6 @@
 //! Asks for a message of the connection.
 
+ghost use Rattle.ssh_transport_machine.specs.Padding.{PadsTo, sending_by};
 ghost use Rattle.ssh_transport_machine.specs.Puts.{outs};
 ghost use Rattle.std.specs.Prelude.{◌≡◌, ◌≤◌, IfErr, IfOk, OnErr, map, true, false};
 ghost use Rattle.ssh_model.specs.Protocol.Bounds.{longest_payload};
@@ -10,7 +11,7 @@ ghost use Rattle.ssh_message.specs.Meaning.{meaning};
 ghost use Rattle.ssh_message.specs.Written.{Fits};
 ghost use Rattle.ssh_channels.specs.Values.{ask_of, sent_of};
 ghost use Rattle.ssh_transport_machine.specs.Standing.{Stands};
-ghost use Rattle.ssh_end.specs.Asking.{ConnectionRow, Fails, GivenFails, GivenSent, KeepsLayers, opening_by, step_on};
+ghost use Rattle.ssh_end.specs.Asking.{ConnectionRow, Fails, GivenFails, GivenSent, KeepsLayers, OnAnswered, opening_by, step_on};
 ghost use Rattle.ssh_end.specs.Reading.{SameReading};
 
 use crate::asking::memory::lack_memory;
@@ -20,7 +21,7 @@ use crate::asking::transport::ask_machine;
 use ssh_channels::{Ask, AskError, Channels, Sent};
 use ssh_layers::{Below, ask_channels};
 use ssh_packet::{Filler, Sealing};
-use ssh_transport_machine::{Answer, Machine, TransportAsk};
+use ssh_transport_machine::{Answer, Machine, Outgoing, TransportAsk};
 
 /// Asks channels for a message, and sends it.
 ///
@@ -29,12 +30,13 @@ use ssh_transport_machine::{Answer, Machine, TransportAsk};
 /// - `Ask`: the ask is refused, by the first refusal that holds. Nothing changes.
 /// - `Memory`: memory was refused. Nothing is put out, and the end is over.
 /// - `Dead`: the end was over before. Nothing changes.
+#[tactic(auto, using(crate::proofs::Padding::answered, crate::proofs::Padding::pads_none))]
 pub fn ask_connection<S: Sealing, F: Filler + Drop>(
-    machine: &mut Machine<S, F>,
+    machine: &mut Machine<S>,
     channels: &mut Channels,
     ask: &Ask<'_>,
     out: &mut Vec<u8>,
-    sent: &mut Vec<Vec<u8>>,
+    sent: &mut Outgoing<F>,
 ) -> Result<AskStep, Fault>
     ensures row { ConnectionRow S.crypto machine.old channels.old (ask_of ask.now) result machine.new channels.new
         (outs out.old out.new sent.old sent.new) }
@@ -42,8 +44,10 @@ pub fn ask_connection<S: Sealing, F: Filler + Drop>(
     ensures channels { IfErr result (λ fault. KeepsLayers channels.old fault channels.new) }
     ensures reading { machine.new.kept.dead ≡ false → SameReading machine.old machine.new }
     ensures out { OnErr result (out.new.items ≡ out.old.items) }
-    ensures kept { OnErr result (map (λ v. v.items) sent.new.items ≡ map (λ v. v.items) sent.old.items) }
+    ensures kept { OnErr result (map (λ v. v.items) sent.new.payloads.items ≡ map (λ v. v.items) sent.old.payloads.items) }
     ensures stands { (side : Side) → Stands side machine.old → Stands side machine.new }
+    ensures padded { OnAnswered result (PadsTo S.crypto F.gives (sending_by machine.old sent.old out.old)
+        (sending_by machine.new sent.new out.new)) }
 {
     if machine.is_dead() {
         return Err(Fault::Dead);
@@ -68,11 +72,11 @@ pub fn ask_connection<S: Sealing, F: Filler + Drop>(
 
 // Sends what channels gave.
 fn send_given<S: Sealing, F: Filler + Drop>(
-    machine: &mut Machine<S, F>,
+    machine: &mut Machine<S>,
     ask: &Ask<'_>,
     given: &Sent<'_>,
     out: &mut Vec<u8>,
-    sent: &mut Vec<Vec<u8>>,
+    sent: &mut Outgoing<F>,
 ) -> Result<AskStep, Fault>
     requires fits { Fits given.now.message }
     requires context { FitsContext true (meaning given.now.message) }
@@ -82,8 +86,10 @@ fn send_given<S: Sealing, F: Filler + Drop>(
     ensures failed { IfErr result (λ fault. GivenFails machine.old fault machine.new) }
     ensures reading { machine.new.kept.dead ≡ false → SameReading machine.old machine.new }
     ensures out { OnErr result (out.new.items ≡ out.old.items) }
-    ensures kept { OnErr result (map (λ v. v.items) sent.new.items ≡ map (λ v. v.items) sent.old.items) }
+    ensures kept { OnErr result (map (λ v. v.items) sent.new.payloads.items ≡ map (λ v. v.items) sent.old.payloads.items) }
     ensures stands { (side : Side) → Stands side machine.old → Stands side machine.new }
+    ensures padded { OnAnswered result (PadsTo S.crypto F.gives (sending_by machine.old sent.old out.old)
+        (sending_by machine.new sent.new out.new)) }
 {
     let answer = ask_machine(machine, TransportAsk::Send(&given.message), out, sent)?;
     Ok(given_step(ask, given.channel, answer))

@@ -8,7 +8,7 @@ ghost use Rattle.ssh_end.specs.Asking.{step_by};
 ghost use Rattle.ssh_end.specs.declared.asking.outcome.Fault.TheVariants.{Memory};
 
 use crate::asking::outcome::{AskStep, Fault, step_of};
-use ssh_packet::{Filler, Sealing};
+use ssh_packet::Sealing;
 use ssh_transport_machine::{Answer, Machine};
 
 /// A layer above got no memory for what it would send. The end is over, and where no number is left for that, for want of one.
@@ -17,9 +17,7 @@ use ssh_transport_machine::{Answer, Machine};
 ///
 /// - `Memory`: a number is left for what would be sent.
 /// - `Dead`: the end was over before.
-pub fn lack_memory<S: Sealing, F: Filler + Drop>(
-    machine: &mut Machine<S, F>,
-) -> Result<AskStep, Fault>
+pub fn lack_memory<S: Sealing>(machine: &mut Machine<S>) -> Result<AskStep, Fault>
     ensures spent { IfOk result (λ step. step ≡ step_by Spent) }
     ensures none_left { OnOk result (machine.old.kept.sending.count ≡ 2 ^ 32) }
     ensures memory { IfErr result (λ fault. fault ≡ Memory) }

@@ -1,11 +1,12 @@
 //! What a server does on an ask of its user.
 
+ghost use Rattle.ssh_transport_machine.specs.Padding.{PadsTo, sending_by};
 ghost use Rattle.ssh_transport_machine.specs.Puts.{outs};
 ghost use Rattle.std.specs.Prelude.{◌≡◌, IfErr, OnErr, cond, map, false};
 ghost use Rattle.ssh_model.specs.Protocol.Side.{Side, Side.Server};
 ghost use Rattle.ssh_transport_machine.specs.Standing.{Stands};
 ghost use Rattle.ssh_types.specs.declared.ask_refusal.AskRefusal.TheVariants.{WrongSide};
-ghost use Rattle.ssh_end.specs.Asking.{EndRow, Fails, InSession, KeepsLayers, ask_of};
+ghost use Rattle.ssh_end.specs.Asking.{EndRow, Fails, InSession, KeepsLayers, OnAnswered, ask_of};
 ghost use Rattle.ssh_end.specs.Reading.{SameReading};
 ghost use Rattle.ssh_layers.specs.Sessions.{end_of};
 ghost use Rattle.ssh_end.specs.declared.asking.outcome.Fault.TheVariants as fault;
@@ -17,7 +18,7 @@ use crate::asking::transport::ask_transport;
 use ssh_layers::ServerLayers;
 use ssh_model::end::asks;
 use ssh_packet::{Filler, Sealing};
-use ssh_transport_machine::{Machine, TransportAsk};
+use ssh_transport_machine::{Machine, Outgoing, TransportAsk};
 use ssh_types::AskRefusal;
 
 /// Does what a server is asked for, as an end of a session does.
@@ -28,11 +29,11 @@ use ssh_types::AskRefusal;
 /// - `Memory`: memory was refused. Nothing is put out, and the end is over.
 /// - `Dead`: the end was over before. Nothing changes.
 pub fn ask_server<S: Sealing, F: Filler + Drop>(
-    machine: &mut Machine<S, F>,
+    machine: &mut Machine<S>,
     layers: &mut ServerLayers,
     ask: &Ask<'_>,
     out: &mut Vec<u8>,
-    sent: &mut Vec<Vec<u8>>,
+    sent: &mut Outgoing<F>,
 ) -> Result<AskStep, Fault>
     ensures in_session { InSession S.crypto Server (end_of machine.old.kept layers.old) (ask_of ask.now) result
         (end_of machine.new.kept layers.new) (outs out.old out.new sent.old sent.new) }
@@ -41,20 +42,23 @@ pub fn ask_server<S: Sealing, F: Filler + Drop>(
     ensures authentication { layers.new.authentication ≡ layers.old.authentication }
     ensures reading { machine.new.kept.dead ≡ false → SameReading machine.old machine.new }
     ensures out { OnErr result (out.new.items ≡ out.old.items) }
-    ensures kept { OnErr result (map (λ v. v.items) sent.new.items ≡ map (λ v. v.items) sent.old.items) }
+    ensures kept { OnErr result (map (λ v. v.items) sent.new.payloads.items ≡ map (λ v. v.items) sent.old.payloads.items) }
     ensures stands { (side : Side) → Stands side machine.old → Stands side machine.new }
+    ensures padded { OnAnswered result (PadsTo S.crypto F.gives (sending_by machine.old sent.old out.old)
+        (sending_by machine.new sent.new out.new)) }
 {
     asks::<S::Key>();
     take_ask(machine, layers, ask, out, sent)
 }
 
 // Does what is asked for, by the layer that it is for.
+#[tactic(auto, using(crate::proofs::Padding::answered, crate::proofs::Padding::pads_none))]
 fn take_ask<S: Sealing, F: Filler + Drop>(
-    machine: &mut Machine<S, F>,
+    machine: &mut Machine<S>,
     layers: &mut ServerLayers,
     ask: &Ask<'_>,
     out: &mut Vec<u8>,
-    sent: &mut Vec<Vec<u8>>,
+    sent: &mut Outgoing<F>,
 ) -> Result<AskStep, Fault>
     ensures row { EndRow S.crypto Server (end_of machine.old.kept layers.old) (ask_of ask.now) result (end_of machine.new.kept layers.new)
         (outs out.old out.new sent.old sent.new) }
@@ -63,8 +67,10 @@ fn take_ask<S: Sealing, F: Filler + Drop>(
     ensures authentication { layers.new.authentication ≡ layers.old.authentication }
     ensures reading { machine.new.kept.dead ≡ false → SameReading machine.old machine.new }
     ensures out { OnErr result (out.new.items ≡ out.old.items) }
-    ensures kept { OnErr result (map (λ v. v.items) sent.new.items ≡ map (λ v. v.items) sent.old.items) }
+    ensures kept { OnErr result (map (λ v. v.items) sent.new.payloads.items ≡ map (λ v. v.items) sent.old.payloads.items) }
     ensures stands { (side : Side) → Stands side machine.old → Stands side machine.new }
+    ensures padded { OnAnswered result (PadsTo S.crypto F.gives (sending_by machine.old sent.old out.old)
+        (sending_by machine.new sent.new out.new)) }
 {
     match *ask {
         Ask::Service => ask_transport(machine, TransportAsk::Service, out, sent),
@@ -78,7 +84,7 @@ fn take_ask<S: Sealing, F: Filler + Drop>(
 }
 
 // Why a server makes no request of a user.
-fn user_fault<S: Sealing, F: Filler + Drop>(machine: &Machine<S, F>) -> Fault
+fn user_fault<S: Sealing>(machine: &Machine<S>) -> Fault
     ensures { result ≡ cond machine.now.kept.dead fault.Dead (fault.Ask WrongSide) }
 {
     if machine.is_dead() {

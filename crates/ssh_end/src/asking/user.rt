@@ -1,12 +1,13 @@
 //! Asks for a request of a user, at a client.
 
+ghost use Rattle.ssh_transport_machine.specs.Padding.{PadsTo, sending_by};
 ghost use Rattle.ssh_transport_machine.specs.Puts.{outs};
 ghost use Rattle.std.specs.Prelude.{◌≡◌, IfErr, IfOk, OnErr, List, Some, map, true, ℕ, false};
 ghost use Rattle.ssh_model.specs.Protocol.Side.{Side};
 ghost use Rattle.ssh_model.specs.Protocol.Wire.Message.{FitsContext};
 ghost use Rattle.ssh_auth.specs.Asking.{ask_of};
 ghost use Rattle.ssh_transport_machine.specs.Standing.{Stands};
-ghost use Rattle.ssh_end.specs.Asking.{Fails, GivenFails, KeepsLayers, RequestSent, UserRow};
+ghost use Rattle.ssh_end.specs.Asking.{Fails, GivenFails, KeepsLayers, OnAnswered, RequestSent, UserRow};
 ghost use Rattle.ssh_end.specs.Reading.{SameReading};
 
 use crate::asking::memory::lack_memory;
@@ -14,7 +15,7 @@ use crate::asking::outcome::{AskStep, Fault, step_of};
 use crate::asking::transport::ask_machine;
 use ssh_auth::{AskError, AuthClient, UserAsk, UserRequest, UserSigner};
 use ssh_packet::{Filler, Sealing};
-use ssh_transport_machine::{Machine, TransportAsk};
+use ssh_transport_machine::{Machine, Outgoing, TransportAsk};
 use ssh_types::AskRefusal;
 
 /// Asks authentication for a request, and sends it.
@@ -24,13 +25,14 @@ use ssh_types::AskRefusal;
 /// - `Ask`: the ask is refused, by the first refusal that holds. Nothing changes.
 /// - `Memory`: memory was refused. Nothing is put out, and the end is over.
 /// - `Dead`: the end was over before. Nothing changes.
+#[tactic(auto, using(crate::proofs::Padding::answered, crate::proofs::Padding::pads_none))]
 pub fn ask_user<S: Sealing, F: Filler + Drop, U: UserSigner>(
-    machine: &mut Machine<S, F>,
+    machine: &mut Machine<S>,
     client: &mut AuthClient,
     signer: &U,
     ask: &UserAsk<'_>,
     out: &mut Vec<u8>,
-    sent: &mut Vec<Vec<u8>>,
+    sent: &mut Outgoing<F>,
 ) -> Result<AskStep, Fault>
     ensures row { UserRow S.crypto (U.signature_of signer.now) machine.old client.old (ask_of ask.now) result machine.new client.new
         (outs out.old out.new sent.old sent.new) }
@@ -38,8 +40,10 @@ pub fn ask_user<S: Sealing, F: Filler + Drop, U: UserSigner>(
     ensures layers { IfErr result (λ fault. KeepsLayers client.old fault client.new) }
     ensures reading { machine.new.kept.dead ≡ false → SameReading machine.old machine.new }
     ensures out { OnErr result (out.new.items ≡ out.old.items) }
-    ensures kept { OnErr result (map (λ v. v.items) sent.new.items ≡ map (λ v. v.items) sent.old.items) }
+    ensures kept { OnErr result (map (λ v. v.items) sent.new.payloads.items ≡ map (λ v. v.items) sent.old.payloads.items) }
     ensures stands { (side : Side) → Stands side machine.old → Stands side machine.new }
+    ensures padded { OnAnswered result (PadsTo S.crypto F.gives (sending_by machine.old sent.old out.old)
+        (sending_by machine.new sent.new out.new)) }
 {
     if machine.is_dead() {
         return Err(Fault::Dead);
@@ -53,7 +57,7 @@ pub fn ask_user<S: Sealing, F: Filler + Drop, U: UserSigner>(
 }
 
 // The session id. Before there is one authentication refuses each ask, and no text with it is signed.
-fn session_of<S: Sealing, F: Filler + Drop>(machine: &Machine<S, F>) -> [u8; 32]
+fn session_of<S: Sealing>(machine: &Machine<S>) -> [u8; 32]
     ensures { (session : List ℕ) → machine.now.kept.session ≡ Some session → result ≡ session }
 {
     match machine.session_id() {
@@ -64,10 +68,10 @@ fn session_of<S: Sealing, F: Filler + Drop>(machine: &Machine<S, F>) -> [u8; 32]
 
 // Sends a request.
 fn send_request<S: Sealing, F: Filler + Drop>(
-    machine: &mut Machine<S, F>,
+    machine: &mut Machine<S>,
     request: &UserRequest<'_>,
     out: &mut Vec<u8>,
-    sent: &mut Vec<Vec<u8>>,
+    sent: &mut Outgoing<F>,
 ) -> Result<AskStep, Fault>
     requires { FitsContext true request.now }
     ensures sent { IfOk result (λ step. RequestSent S.crypto machine.old request.now machine.new (outs out.old out.new sent.old sent.new)
@@ -76,8 +80,10 @@ fn send_request<S: Sealing, F: Filler + Drop>(
     ensures fails { IfErr result (λ fault. Fails machine.old fault machine.new) }
     ensures reading { machine.new.kept.dead ≡ false → SameReading machine.old machine.new }
     ensures out { OnErr result (out.new.items ≡ out.old.items) }
-    ensures kept { OnErr result (map (λ v. v.items) sent.new.items ≡ map (λ v. v.items) sent.old.items) }
+    ensures kept { OnErr result (map (λ v. v.items) sent.new.payloads.items ≡ map (λ v. v.items) sent.old.payloads.items) }
     ensures stands { (side : Side) → Stands side machine.old → Stands side machine.new }
+    ensures padded { OnAnswered result (PadsTo S.crypto F.gives (sending_by machine.old sent.old out.old)
+        (sending_by machine.new sent.new out.new)) }
 {
     let answer = ask_machine(machine, TransportAsk::Send(&request.message()), out, sent)?;
     Ok(step_of(answer))
