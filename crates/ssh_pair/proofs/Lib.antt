@@ -5,6 +5,7 @@ pub mod Stepping
 pub mod Losing
 pub mod Going
 pub mod Feeding
+pub mod Padding
 pub mod Playing
 pub mod Events
 pub mod Ending

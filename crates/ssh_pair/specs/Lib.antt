@@ -2,3 +2,4 @@ pub mod Items
 pub mod Noting
 pub mod Standing
 pub mod Playing
+pub mod Padding

@@ -32,7 +32,7 @@ pub record Standing (K : Type 0) : Type 1 where
   pub channels : Channels
 
 -- an end of a role, by the ghost members of the role
-abbrev pub standing_of : {R X L S F K : Type 0} → role.Ghosts R X L S F K → EndValue K R L → Standing K
+abbrev pub standing_of : {R X L S F K : Type 0} → role.Ghosts R X L S F K → EndValue K R L F → Standing K
 standing_of ends end = record {
   parts = ends.is_of end.role;
   layers = ends.are_of end.layers;
@@ -80,27 +80,27 @@ pub record PairState (C S : Type 0) : Type 0 where
 
 -- both ends, by the ghost members of their roles
 abbrev pub both : {R X L S F Q Y M T G K : Type 0} → role.Ghosts R X L S F K → role.Ghosts Q Y M T G K →
-    PairState (EndValue K R L) (EndValue K Q M) → Both K
+    PairState (EndValue K R L F) (EndValue K Q M G) → Both K
 both clients servers pair = record {
   client = standing_of clients pair.client;
   server = standing_of servers pair.server;
 }
 
 -- The supplied parts are as before.
-pub record SameParts {K R L Q M : Type 0} (old new : PairState (EndValue K R L) (EndValue K Q M)) : Type 0 where
+pub record SameParts {K R L F Q M G : Type 0} (old new : PairState (EndValue K R L F) (EndValue K Q M G)) : Type 0 where
   pub client : new.client.role ≡ old.client.role
   pub server : new.server.role ≡ old.server.role
 
 -- A client was made with these parts, and has this user.
 pub record HasClientParts {P U S F A H K : Type 0} (agreement : A) (host_trust : H) (user : U)
-    (end : EndValue K (ClientRole P U S F A H K) client.Layers) : Type 0 where
+    (end : EndValue K (ClientRole P U S F A H K) client.Layers F) : Type 0 where
   pub agreement_is : end.role.exchange.agreement ≡ agreement
   pub host_trust_is : end.role.exchange.host_trust ≡ host_trust
   pub user_is : end.role.user ≡ user
 
 -- A server was made with these parts, and judges users by this.
 pub record HasServerParts {P U S F A H K : Type 0} (agreement : A) (host_signer : H) (user : U)
-    (end : EndValue K (ServerRole P U S F A H K) server.Layers) : Type 0 where
+    (end : EndValue K (ServerRole P U S F A H K) server.Layers F) : Type 0 where
   pub agreement_is : end.role.exchange.agreement ≡ agreement
   pub host_signer_is : end.role.exchange.host_signer ≡ host_signer
   pub user_is : end.role.user ≡ user

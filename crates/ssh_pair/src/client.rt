@@ -3,6 +3,8 @@
 ghost use Rattle.std.specs.Prelude.{◌≡◌, IfOk};
 ghost use Rattle.ssh_model.specs.Protocol.Side as model;
 ghost use Rattle.ssh_transport_base.specs.Meaning.{settings_of};
+ghost use Rattle.ssh_transport_machine.specs.Padding.{PadsTo};
+ghost use Rattle.ssh_end.specs.Ends.{sending_from_line, sending_to};
 ghost use Rattle.ssh_pair.specs.Playing.{OpensAs};
 ghost use Rattle.ssh_pair.specs.Standing.{HasClientParts};
 
@@ -69,6 +71,8 @@ pub(crate) fn open_client<P: ClientParts, U: UserSigner + Drop>(
 ) -> Result<ClientEnd<P, U>, AllocError>
     ensures opens { IfOk result (λ end. OpensAs ⟦<ClientRole<P, U> as EndRole>⟧ model.Client (settings_of values.config)
         (record { cookie = values.cookie; secret = values.secret }) end log.old.items log.new.items out.old.items out.new.items) }
+    ensures padded { IfOk result (λ end. PadsTo P.Sealing.crypto P.Filler.gives
+        (sending_from_line (settings_of values.config) values.parts.filler out.old.items) (sending_to end out.new.items)) }
     ensures parts { IfOk result (λ end. HasClientParts values.parts.agreement values.parts.host_trust values.user end) }
 {
     let (config, parts, user, cookie, secret) = values.into_parts();

@@ -5,6 +5,7 @@ ghost use Rattle.ssh_model.specs.Protocol.Side.{Side.Server};
 ghost use Rattle.ssh_types.specs.Sides.{side_of};
 ghost use Rattle.ssh_transport_machine.specs.Standing.{Stands};
 ghost use Rattle.ssh_end.specs.Asking.{ask_of};
+ghost use Rattle.ssh_pair.specs.Padding.{PadsOn};
 ghost use Rattle.ssh_pair.specs.Playing.{Advances, Answers};
 
 use crate::item::Done;
@@ -27,6 +28,8 @@ pub(crate) fn ask_end<R: EndRole>(
 ) -> Result<(), AllocError>
     ensures answers { OnOk result (Answers R.EndRole (side_of R.Exchange.SIDE) end.old (ask_of ask.now) end.new log.old.items
         log.new.items out.old.items out.new.items) }
+    ensures padded { OnOk result (PadsOn R.Exchange.Sealing.crypto R.Exchange.Filler.gives end.old out.old.items end.new
+        out.new.items) }
     ensures role { end.new.role ≡ end.old.role }
 {
     parts();
@@ -57,6 +60,8 @@ pub(crate) fn deliver_to_end<R: EndRole>(
 ) -> Result<(), AllocError>
     ensures advanced { OnOk result (Advances R.EndRole (side_of R.Exchange.SIDE) end.old piece.now end.new log.old.items log.new.items
         out.old.items out.new.items) }
+    ensures padded { OnOk result (PadsOn R.Exchange.Sealing.crypto R.Exchange.Filler.gives end.old out.old.items end.new
+        out.new.items) }
     ensures role { end.new.role ≡ end.old.role }
     ensures live { OnOk result (Stands (side_of R.Exchange.SIDE) end.new.machine) }
 {
@@ -86,6 +91,8 @@ fn advance_end<R: EndRole>(
     ensures progress { IfOk result (λ used. 0 < length bytes.now → 0 < used) }
     ensures advanced { IfOk result (λ used. Advances R.EndRole (side_of R.Exchange.SIDE) end.old (take used bytes.now) end.new
         log.old.items log.new.items out.old.items out.new.items) }
+    ensures padded { OnOk result (PadsOn R.Exchange.Sealing.crypto R.Exchange.Filler.gives end.old out.old.items end.new
+        out.new.items) }
     ensures role { end.new.role ≡ end.old.role }
 {
     parts();

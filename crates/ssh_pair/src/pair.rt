@@ -1,11 +1,13 @@
 //! Two ends of SSH-2.
 
-ghost use Rattle.std.specs.Prelude.{◌≡◌, IfOk, IsErr, OnErr, OnOk, false, true};
+ghost use Rattle.std.specs.Prelude.{◌≡◌, IfOk, IsErr, OnErr, OnOk, [], false, true};
 ghost use Rattle.ssh_model.specs.Protocol.Sessions.Events as session;
 ghost use Rattle.ssh_types.specs.Sides.{side_of};
 ghost use Rattle.ssh_transport_base.specs.Meaning.{settings_of};
 ghost use Rattle.ssh_end.specs.Asking.{ask_of};
-ghost use Rattle.ssh_pair.specs.Playing.{GoesOn, PairFeeds, PairMade, PairPlays, event_of, events_of};
+ghost use Rattle.ssh_end.specs.Ends.{sending_from_line};
+ghost use Rattle.ssh_pair.specs.Padding.{PairPads, PairPadsFirst, SameFillers};
+ghost use Rattle.ssh_pair.specs.Playing.{GoesOn, PairFeeds, PairMade, PairPlays, event_of, events_of, output_in};
 ghost use Rattle.ssh_pair.specs.Standing.{HasClientParts, HasServerParts, SameParts};
 
 use crate::client::{ClientValues, open_client};
@@ -53,8 +55,8 @@ impl<
     ghost use Rattle.ssh_layers.specs.Layers as of_server;
     ghost use Rattle.ssh_pair.specs.Standing.{PairState};
 
-    ghost Value = { PairState (EndValue S.Key (ClientRole C U S C.Filler C.Agreement C.HostTrust S.Key) of_client.Layers)
-        (EndValue S.Key (ServerRole V J S V.Filler V.Agreement V.HostSigner S.Key) of_server.Layers) };
+    ghost Value = { PairState (EndValue S.Key (ClientRole C U S C.Filler C.Agreement C.HostTrust S.Key) of_client.Layers C.Filler)
+        (EndValue S.Key (ServerRole V J S V.Filler V.Agreement V.HostSigner S.Key) of_server.Layers V.Filler) };
 
     ghost view = { λ pair. record { client = pair.client; server = pair.server; failed = pair.failed } };
 }
@@ -97,6 +99,9 @@ impl<
         ensures opens { IfOk result (λ r. PairMade ⟦<ClientRole<C, U> as EndRole>⟧ ⟦<ServerRole<V, J> as EndRole>⟧
             (settings_of client.config) (settings_of server.config) (record { cookie = client.cookie; secret = client.secret })
             (record { cookie = server.cookie; secret = server.secret }) r.0 r.1) }
+        ensures padded { IfOk result (λ r. PairPadsFirst S.crypto C.Filler.gives V.Filler.gives
+            (sending_from_line (settings_of client.config) client.parts.filler [])
+            (sending_from_line (settings_of server.config) server.parts.filler []) r.0 (output_in r.1)) }
         ensures fine { IfOk result (λ r. r.0.failed ≡ false) }
         ensures client_parts { IfOk result (λ r. HasClientParts client.parts.agreement client.parts.host_trust client.user r.0.client) }
         ensures server_parts { IfOk result (λ r. HasServerParts server.parts.agreement server.parts.host_signer server.user r.0.server) }
@@ -141,6 +146,8 @@ impl<
         ensures parts { SameParts self.old self.new }
         ensures plays { IfOk result (λ t. PairPlays ⟦<ClientRole<C, U> as EndRole>⟧ ⟦<ServerRole<V, J> as EndRole>⟧ self.old
             (events_of events.now) self.new t) }
+        ensures padded { IfOk result (λ t. PairPads S.crypto C.Filler.gives V.Filler.gives self.old self.new
+            (record { client = []; server = [] }) (output_in t)) }
     {
         plays::<S::Key>();
         safety::<S::Key>();
@@ -167,6 +174,7 @@ impl<
         ensures still { self.new.failed ≡ self.old.failed }
         ensures unchanged { result ≡ false → self.new ≡ self.old }
         ensures parts { SameParts self.old self.new }
+        ensures fillers { SameFillers self.old self.new }
         ensures fed { self.old.failed ≡ false → PairFeeds ⟦<ClientRole<C, U> as EndRole>⟧ ⟦<ServerRole<V, J> as EndRole>⟧ self.old
             (side_of side) (record { cookie = cookie; secret = secret }) result self.new }
     {
@@ -188,6 +196,8 @@ impl<
         ensures parts { SameParts self.old self.new }
         ensures plays { OnOk result (GoesOn ⟦<ClientRole<C, U> as EndRole>⟧ ⟦<ServerRole<V, J> as EndRole>⟧ self.old
             (event_of event.entry) self.new transcript.old transcript.new) }
+        ensures padded { OnOk result (PairPads S.crypto C.Filler.gives V.Filler.gives self.old self.new (output_in transcript.old)
+            (output_in transcript.new)) }
     {
         match event {
             Event::Ask(side, ask) => self.ask(side, &ask, transcript),
@@ -206,6 +216,8 @@ impl<
         ensures parts { SameParts self.old self.new }
         ensures plays { OnOk result (GoesOn ⟦<ClientRole<C, U> as EndRole>⟧ ⟦<ServerRole<V, J> as EndRole>⟧ self.old
             (session.Asks (side_of side) (ask_of ask.now)) self.new transcript.old transcript.new) }
+        ensures padded { OnOk result (PairPads S.crypto C.Filler.gives V.Filler.gives self.old self.new (output_in transcript.old)
+            (output_in transcript.new)) }
     {
         parts();
         events::<S::Key>();
@@ -238,6 +250,8 @@ impl<
         ensures parts { SameParts self.old self.new }
         ensures plays { OnOk result (GoesOn ⟦<ClientRole<C, U> as EndRole>⟧ ⟦<ServerRole<V, J> as EndRole>⟧ self.old
             (session.Delivers (side_of side) bytes.now) self.new transcript.old transcript.new) }
+        ensures padded { OnOk result (PairPads S.crypto C.Filler.gives V.Filler.gives self.old self.new (output_in transcript.old)
+            (output_in transcript.new)) }
     {
         parts();
         events::<S::Key>();

@@ -8,6 +8,7 @@ use Rattle.ssh_pair.specs.Playing.{Advanced}
 use Rattle.ssh_pair.specs.Standing.{EndStands, kept_bytes, standing_of, state_in}
 use Rattle.ssh_pair.proofs.Going.{died_at, fallen, went}
 use Rattle.ssh_pair.proofs.Losing.{fell, numbers_left}
+use Rattle.ssh_pair.proofs.Padding.{falls_padded, fallen_dead, puts_padded}
 use Rattle.ssh_pair.proofs.one_end.advance_end.Goals as goal
 
 pub returns-clause-advanced : goal.returns-clause-advanced
@@ -35,3 +36,12 @@ returns-in_default-clause-advanced g c = λ p run s.
     (fallen p side run was end s c.requires.alive c.parts.ensures.here x.dead c.args.bytes.now c.args.log.now.items c.note_death.new.log.items c.args.out.now.items c.advance.new.out.items x.lost.used died.1 turned
     (λ behind last rest d. c.deliveries.ensures.unit p side run (state_in was) s.sums c.requires.alive unit (Died ∷ []) [] (state_in end) turned behind last rest d)
     (rw c.SIDE-side.ensures at c.in_ok-note_death.ensures) c.in_default.ensures.out)
+
+pub returns-clause-padded : goal.returns-clause-padded
+returns-clause-padded g c =
+    puts_padded g.R.Exchange.Sealing.Sealing.crypto g.R.Exchange.Filler.Filler.gives c.args.end.now c.args.out.now.items c.advance.new.self c.advance.new.out.items c.requires.alive (rw c.in-Ok.is at c.advance.ensures.padded)
+
+pub returns-in_default-clause-padded : goal.returns-in_default-clause-padded
+returns-in_default-clause-padded g c =
+    falls_padded g.R.Exchange.Sealing.Sealing.crypto g.R.Exchange.Filler.Filler.gives c.args.end.now c.args.out.now.items c.advance.new.self c.advance.new.out.items c.requires.alive
+    (fallen_dead c.args.end.now.machine c.advance.new.self.machine c.in_default.field-0 c.in_default.ensures.failed c.requires.alive) c.in_default.ensures.out

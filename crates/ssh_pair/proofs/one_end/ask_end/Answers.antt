@@ -6,6 +6,7 @@ use Rattle.ssh_end.specs.Asking.{ask_of}
 use Rattle.ssh_pair.specs.Standing.{standing_of}
 use Rattle.ssh_pair.proofs.Going.{answers, over}
 use Rattle.ssh_pair.proofs.Noting.{on_ok}
+use Rattle.ssh_pair.proofs.Padding.{asks_padded, stays_padded}
 use Rattle.ssh_pair.proofs.one_end.ask_end.Goals as goal
 
 pub returns-then-is_dead-clause-answers : goal.returns-then-is_dead-clause-answers
@@ -20,3 +21,13 @@ returns-clause-answers g c =
     c.perform-done.new.self.sent _ c.turn.ensures.sent c.perform-done.new.self.channels _ c.turn.ensures.channels c.perform-done.result c.is_dead-is_over.result c.is_dead-is_over.ensures
     (λ fault e. subst (λ r. OnErr r (c.perform-done.new.out.items ≡ c.args.out.now.items)) e c.perform-done.ensures.out)
     (c.perform-done.ensures.placed p (part side run) s) c.perform-done.ensures.channels noted) (rw c.SIDE.ensures at c.note_ask.ensures)
+
+pub returns-then-is_dead-clause-padded : goal.returns-then-is_dead-clause-padded
+returns-then-is_dead-clause-padded g c = stays_padded g.R.Exchange.Sealing.Sealing.crypto g.R.Exchange.Filler.Filler.gives c.args.end.now c.args.out.now.items
+
+pub returns-clause-padded : goal.returns-clause-padded
+returns-clause-padded g c =
+    let alive : c.args.end.now.machine.kept.dead ≡ false = sym c.is_dead.ensures ∙ c.if-is_dead.false in
+    on_ok c.note_ask.result (λ noted.
+    asks_padded g.R.Exchange.Sealing.Sealing.crypto g.R.Exchange.Filler.Filler.gives c.args.end.now c.args.out.now.items c.perform-done.new.self c.perform-done.new.out.items c.perform-done.result alive
+    c.perform-done.ensures.padded c.perform-done.ensures.fails c.perform-done.ensures.out) c.note_ask.ensures

@@ -5,11 +5,13 @@ use Rattle.ssh_types.specs.Sides.{side_of}
 use Rattle.ssh_pair.specs.Playing.{Advanced}
 use Rattle.ssh_pair.specs.Standing.{EndStands, kept_bytes, standing_of}
 use Rattle.ssh_pair.proofs.Advancing.{advanced_dead, advanced_more, advanced_none}
+use Rattle.ssh_pair.proofs.Padding.{padded_then, stays_padded}
 use Rattle.ssh_pair.proofs.one_end.deliver_to_end.Goals as goal
 
 pub loop-at-init : goal.loop-at-init
 loop-at-init g c = record {
   within = omega arith;
+  padded = stays_padded g.R.Exchange.Sealing.Sealing.crypto g.R.Exchange.Filler.Filler.gives c.args.end.now c.args.out.now.items;
   role = refl;
   going = λ p run s. advanced_none p (side_of g.R.Exchange.Role.SIDE) c.parts.ensures.here run (kept_bytes c.args.end.now.machine) (EndStands p (side_of g.R.Exchange.Role.SIDE) (standing_of g.R.EndRole c.args.end.now)) c.args.log.now.items c.args.out.now.items s;
 }
@@ -32,6 +34,7 @@ loop-at-preserved g c =
     let used = c.in_ok-at.field-0 in
     record {
       within = omega (arith, c.in_ok-at.ensures.used, c.split_at.ensures.back_len);
+      padded = padded_then g.R.Exchange.Sealing.Sealing.crypto g.R.Exchange.Filler.Filler.gives c.args.end.now c.args.out.now.items c.loop-at.end c.loop-at.out.items new c.advance_end.new.out.items c.loop-at.invariant.padded c.in_ok-at.ensures.padded;
       role = now ∙ was;
       going = λ p run s.
           let x = c.loop-at.invariant.going p run s in

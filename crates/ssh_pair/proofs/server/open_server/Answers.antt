@@ -2,6 +2,8 @@ use Rattle.std.proofs.Common.{ap, sym, ◌∙◌, subst, [], ◌∷◌}
 use Rattle.ssh_model.specs.Protocol.Sessions.Items.{Item.SentLine}
 use Rattle.ssh_model.specs.Protocol.Side.{Side.Server}
 use Rattle.ssh_transport_base.specs.Meaning as config
+use Rattle.ssh_transport_machine.specs.Padding.{PadsTo}
+use Rattle.ssh_end.specs.Ends.{sending_from_line, sending_to}
 use Rattle.ssh_pair.specs.Noting.{Adds}
 use Rattle.ssh_pair.specs.Playing.{OpensAs}
 use Rattle.ssh_pair.proofs.Opening.{begins_with_nothing, opens}
@@ -17,3 +19,8 @@ returns-clause-opens g c =
     (c.in_ok-begun.ensures.placed p lawful settings parts)
     (subst (λ l. Adds Server (SentLine l ∷ []) c.args.log.now.items c.note_line.new.log.items) (c.line.ensures.line ∙ sym (ap (λ s. s.line) settings)) c.in_ok-note_line.ensures)
     c.in_ok-end.ensures.notes c.in_ok-begun.ensures.channels (begins_with_nothing _ _ _ _ _ c.in_ok-begun.begun.machine _ c.in_ok-begun.ensures.opened.opened)))
+
+pub returns-clause-padded : goal.returns-clause-padded
+returns-clause-padded g c =
+    subst (λ t. PadsTo g.P.Sealing.Sealing.crypto g.P.Filler.Filler.gives (sending_from_line (config.settings_of t.0) t.1.filler c.args.out.now.items) (sending_to c.in_ok-end.end c.new.new.out.items)) c.into_parts-config.ensures
+    (subst (λ e. PadsTo g.P.Sealing.Sealing.crypto g.P.Filler.Filler.gives (sending_from_line (config.settings_of c.into_parts-config.result.0) c.into_parts-config.result.1.filler c.args.out.now.items) (sending_to e c.new.new.out.items)) (sym c.in_ok-end.ensures.same) c.in_ok-begun.ensures.padded)

@@ -2,11 +2,13 @@ use Rattle.std.proofs.Common.{refl, sym, subst}
 use Rattle.ssh_model.specs.Protocol.Side.{Side.Client, Side.Server, part}
 use Rattle.ssh_model.specs.Protocol.Sessions.Events.{Event.Delivers}
 use Rattle.ssh_types.specs.Sides.{side_of}
+use Rattle.ssh_pair.specs.Padding.{PairPads}
 use Rattle.ssh_pair.specs.Playing.{GoesOn, output_in}
 use Rattle.ssh_pair.specs.Standing.{both}
 use Rattle.ssh_pair.proofs.Noting.{on_both, on_ok}
 use Rattle.ssh_pair.proofs.Ending.{at_end}
 use Rattle.ssh_pair.proofs.Playing.{delivered, pair_sums, states}
+use Rattle.ssh_pair.proofs.Padding.{stays_padded}
 use Rattle.ssh_end.specs.contracts.client_role.ClientRoleEndRole.TheImpl as client
 use Rattle.ssh_end.specs.contracts.server_role.ServerRoleEndRole.TheImpl as server
 use Rattle.ssh_pair.proofs.pair.Pair.deliver.Goals as goal
@@ -42,3 +44,15 @@ returns-in-Server-clause-plays g c =
     (λ t sums alive sealing found bytes begun. c.waiting.ensures.packets p Server (part Server run) t sums alive sealing found bytes begun)
     (λ t sums alive sealing found bytes begun. c.waiting.ensures.lines p Server (part Server run) t sums alive sealing found bytes begun))
     (x.0 p w.run (s.ends Server))))) (on_both _ _ c.deliver_to_end-in-Server.result c.deliver_to_end-in-Server.ensures.advanced c.deliver_to_end-in-Server.ensures.live)
+
+pub returns-in-Client-clause-padded : goal.returns-in-Client-clause-padded
+returns-in-Client-clause-padded g c =
+    on_ok c.deliver_to_end.result (λ x.
+    subst (λ q. PairPads g.S.Sealing.crypto g.C.Filler.Filler.gives g.V.Filler.Filler.gives q (record { client = c.deliver_to_end.new.end; server = c.self.inside.server; failed = c.self.inside.failed }) (output_in c.args.transcript.now) (output_in (record { items = c.deliver_to_end.new.log; client_bytes = c.deliver_to_end.new.out; server_bytes = c.args.transcript.now.server_bytes }))) c.self.view_is
+    (record { client = x; server = stays_padded g.S.Sealing.crypto g.V.Filler.Filler.gives c.self.inside.server c.args.transcript.now.server_bytes.items })) c.deliver_to_end.ensures.padded
+
+pub returns-in-Server-clause-padded : goal.returns-in-Server-clause-padded
+returns-in-Server-clause-padded g c =
+    on_ok c.deliver_to_end-in-Server.result (λ x.
+    subst (λ q. PairPads g.S.Sealing.crypto g.C.Filler.Filler.gives g.V.Filler.Filler.gives q (record { client = c.self.inside.client; server = c.deliver_to_end-in-Server.new.end; failed = c.self.inside.failed }) (output_in c.args.transcript.now) (output_in (record { items = c.deliver_to_end-in-Server.new.log; client_bytes = c.args.transcript.now.client_bytes; server_bytes = c.deliver_to_end-in-Server.new.out }))) c.self.view_is
+    (record { client = stays_padded g.S.Sealing.crypto g.C.Filler.Filler.gives c.self.inside.client c.args.transcript.now.client_bytes.items; server = x })) c.deliver_to_end-in-Server.ensures.padded

@@ -2,6 +2,9 @@ use Rattle.std.proofs.Common.{◌≤◌, [], length, sym, subst}
 use Rattle.ssh_model.specs.Protocol.Side.{Side.Client, Side.Server}
 use Rattle.ssh_model.specs.Protocol.Wire.Sealing.{IsSealing}
 use Rattle.ssh_model.specs.Protocol.Sessions.Parties.{AreLawful, Settings}
+use Rattle.ssh_transport_base.specs.Meaning as config
+use Rattle.ssh_transport_machine.specs.Padding.{PadsTo}
+use Rattle.ssh_end.specs.Ends.{sending_from_line, sending_to}
 use Rattle.ssh_pair.specs.Playing.{Opens}
 use Rattle.ssh_pair.specs.Standing.{standing_of}
 use Rattle.ssh_end.specs.contracts.client_role.ClientRoleEndRole.TheImpl as client
@@ -24,3 +27,9 @@ returns-clause-opens g c = λ p of_client of_server client_is server_is.
     met p _ c.parts.ensures.there c.parts.ensures.here _ _ c.open_client.new.log.items c.open_server.new.log.items _ _ _ client server
     (c.openings.ensures p client.made.items server.made.items client.made.bytes server.made.bytes _ _ client.made.opened server.made.opened)
     (λ run lawful offer r honest. c.safety.ensures p lawful offer run r honest)
+
+pub returns-clause-padded : goal.returns-clause-padded
+returns-clause-padded g c = record {
+  client = subst (λ b. PadsTo g.S.Sealing.crypto g.C.Filler.Filler.gives (sending_from_line (config.settings_of c.args.client.config) c.args.client.parts.filler b) (sending_to c.in_ok-client.client c.open_client.new.out.items)) c.new-transcript.ensures.client c.in_ok-client.ensures.padded;
+  server = subst (λ b. PadsTo g.S.Sealing.crypto g.V.Filler.Filler.gives (sending_from_line (config.settings_of c.args.server.config) c.args.server.parts.filler b) (sending_to c.in_ok-server.server c.open_server.new.out.items)) c.new-transcript.ensures.server c.in_ok-server.ensures.padded;
+}
