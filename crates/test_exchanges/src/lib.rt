@@ -18,6 +18,8 @@ mod numbers;
 #[cfg(test)]
 mod offers;
 #[cfg(test)]
+mod padding;
+#[cfg(test)]
 mod pair;
 #[cfg(test)]
 mod party;
