@@ -20,15 +20,16 @@ use Rattle.ssh_transport_base.specs.contracts.packets.receiver.PacketReceiver as
 use Rattle.ssh_transport_base.specs.contracts.packets.receiver.PacketReceiver.TheInside as receiver_inside
 use Rattle.ssh_transport_machine.specs.contracts.machine.Machine as machine
 use Rattle.ssh_transport_machine.specs.contracts.machine.Machine.TheInside as machine_inside
+use Rattle.ssh_transport_machine.specs.contracts.outgoing.Outgoing as outgoing
 use Rattle.ssh_end.specs.contracts.end.End as end
 use Rattle.ssh_end.specs.contracts.end.End.TheInside as end_inside
 use Rattle.ssh_end.specs.declared.role.EndRole
 use Rattle.ssh_layers.specs.contracts.client_layers.ClientLayers as client_layers
 use Rattle.ssh_layers.specs.contracts.server_layers.ServerLayers as server_layers
 use Rattle.ssh_parts.specs.contracts.packet_key.PacketKey as packet_key
+use Rattle.ssh_pipe_policy.specs.contracts.keys.PaddingSource as padding
 use Rattle.ssh_embedded.specs.contracts.embedded.Embedded as embedded
 use Rattle.ssh_embedded.specs.contracts.noted.Noted as noted
-use Rattle.ssh_embedded.specs.contracts.padding.Padding as padding
 use Rattle.ssh_embedded.specs.contracts.users.Users as users
 use Rattle.ssh_embedded.specs.contracts.waiting.Waiting as waiting
 use Rattle.divrelca_c.proofs.Handling.{Handle}
@@ -82,16 +83,19 @@ module _ (S Key : RattleType) (sealing : Sealing.Ghosts S.Denot Key.Denot) where
   receiver_send : IsSend Key → IsSend (receiver.the_row S Key sealing)
   receiver_send key = view_send (receiver_inside.the_row S Key sealing) _ _ _ _ (search (sendable, crosses, packet_reader_send) depth 40 fits 20000)
 
+  pub machine_send : IsSend Key → IsSend (machine.the_row S Key sealing)
+  machine_send key =
+      view_send (machine_inside.the_row S Key sealing) _ _ _ _ (search (sendable, crosses, line_reader_send, receiver_send) depth 100 fits 50000)
+
   module _ (F : RattleType) (filler : Filler.Ghosts F.Denot) where
-    pub machine_send : IsSend Key → IsSend F → IsSend (machine.the_row S F Key sealing filler)
-    machine_send key f =
-        view_send (machine_inside.the_row S F Key sealing filler) _ _ _ _ (search (sendable, crosses, line_reader_send, receiver_send) depth 100 fits 50000)
+    outgoing_send : IsSend F → IsSend (outgoing.the_field F).row
+    outgoing_send f = search (sendable, crosses) depth 40 fits 20000
 
     module _ (R Exchange Layers : RattleType) (role : EndRole.Ghosts R.Denot Exchange.Denot Layers.Denot S.Denot F.Denot Key.Denot)
         (exchange : Role.Ghosts Exchange.Denot S.Denot F.Denot Key.Denot) where
       pub end_send : IsSend R → IsSend Layers → IsSend Key → IsSend F → IsSend (end.the_row R Exchange Layers S F Key role exchange sealing filler)
       end_send r layers key f =
-          view_send (end_inside.the_row R Exchange Layers S F Key role exchange sealing filler) _ _ _ _ (search (sendable, crosses, machine_send) depth 100 fits 50000)
+          view_send (end_inside.the_row R Exchange Layers S F Key role exchange sealing filler) _ _ _ _ (search (sendable, crosses, machine_send, outgoing_send) depth 100 fits 50000)
 
       pub embedded_send : IsSend R → IsSend Layers → IsSend Key → IsSend F → IsSend (embedded.the_field R Exchange Layers S F Key role exchange sealing filler).row
       embedded_send r layers key f = search (sendable, crosses, end_send, waiting_send, noted_send) depth 100 fits 50000

@@ -1,6 +1,6 @@
 //! What C calls of a client.
 
-ghost use Rattle.std.specs.Prelude.{◌≡◌, ◌≤◌, IfErr, IfOk, None, [], drop, false, length, nat_le, pos, true};
+ghost use Rattle.std.specs.Prelude.{◌≡◌, ◌<◌, ◌≤◌, IfErr, IfOk, None, [], drop, false, length, nat_le, pos, true};
 ghost use Rattle.std.specs.Option.{IfSome, option_map};
 ghost use Rattle.std.specs.VecDeque.{deque_len};
 ghost use Rattle.divrelca_c.specs.Asks.{ClientAnswers, ClientWorks};
@@ -9,12 +9,14 @@ ghost use Rattle.divrelca_c.specs.Making.{IsClientSettings, client_settings, use
 ghost use Rattle.ssh_embedded.specs.Forms.{form_asks};
 ghost use Rattle.ssh_embedded.specs.Queues.{IsDeclined, IsGivenBack, IsQueued};
 ghost use Rattle.ssh_embedded.specs.Windows.{bytes_in};
-ghost use Rattle.ssh_end.specs.Ends.{IsNewClient};
+ghost use Rattle.ssh_end.specs.Ends.{IsNewClient, sending_from, sending_from_line, sending_to};
 ghost use Rattle.ssh_end.specs.Steps.{shown_by};
 ghost use Rattle.ssh_end.specs.declared.step.Step.TheVariants as step;
 ghost use Rattle.ssh_model.specs.State.Channels.Places.{at, shown_room};
 ghost use Rattle.ssh_model.specs.State.TransportLayer.Kept.{after_fed, can_be_fed};
 ghost use Rattle.ssh_parts.specs.AesGcm.{aes_gcm};
+ghost use Rattle.ssh_pipe_policy.specs.Supplies.{next_bytes, padding_under};
+ghost use Rattle.ssh_transport_machine.specs.Padding.{PadsTo};
 
 use crate::bytes::{DvBytes, DvClientSettings, DvMaterial};
 use crate::codes::{
@@ -42,6 +44,9 @@ pub extern "C" fn dv_client_new(
     ensures some { result ≡ pos 0 → out.new.value ≡ None → ⊥ }
     ensures opened { result ≡ pos 0 → IfSome out.new.value (λ made. IsNewClient aes_gcm (client_settings settings.now)
         first.now.cookie first.now.secret made.state.end.machine made.state.end.layers [] made.state.out.items made.state.end.sent) }
+    ensures padded { result ≡ pos 0 → IfSome out.new.value (λ made. PadsTo aes_gcm next_bytes
+        (sending_from_line (client_settings settings.now) (padding_under padding.now) [])
+        (sending_to made.state.end made.state.out.items)) }
     ensures step { result ≡ pos 0 → IfSome out.new.value (λ made. made.state.end.step ≡ step.More) }
     ensures host { result ≡ pos 0 →
         IfSome out.new.value (λ made. made.state.end.role.exchange.host_trust.public ≡ settings.now.host_key.now) }
@@ -73,6 +78,8 @@ fn made(
 ) -> Result<Client, i32>
     ensures opened { IfOk result (λ made. IsNewClient aes_gcm (client_settings given.now)
         first.now.cookie first.now.secret made.state.end.machine made.state.end.layers [] made.state.out.items made.state.end.sent) }
+    ensures padded { IfOk result (λ made. PadsTo aes_gcm next_bytes
+        (sending_from_line (client_settings given.now) (padding_under padding.now) []) (sending_to made.state.end made.state.out.items)) }
     ensures step { IfOk result (λ made. made.state.end.step ≡ step.More) }
     ensures host { IfOk result (λ made. made.state.end.role.exchange.host_trust.public ≡ given.now.host_key.now) }
     ensures user { IfOk result (λ made. made.state.end.role.user.signer ≡ user_by given.now.user_seed.now) }
@@ -111,6 +118,8 @@ pub extern "C" fn dv_client_free(h: DvClient) {
 pub extern "C" fn dv_client_take(h: &mut DvClient, bytes: &[u8], used: &mut usize) -> i32
     ensures used { used.new ≤ length bytes.now }
     ensures unused { (result ≡ pos 0 → ⊥) → used.new ≡ 0 }
+    ensures padded { result ≡ pos 0 → PadsTo aes_gcm next_bytes (sending_from h.old.value.state.end h.old.value.state.out.items)
+        (sending_to h.new.value.state.end h.new.value.state.out.items) }
     ensures out { (result ≡ pos 0 → ⊥) → h.new.value.state.out.items ≡ h.old.value.state.out.items }
 {
     *used = 0;
@@ -163,6 +172,7 @@ pub extern "C" fn dv_client_feed(h: &mut DvClient, material: &DvMaterial) -> boo
     ensures fed { result ≡ can_be_fed h.old.value.state.end.machine.kept }
     ensures kept { result ≡ true → h.new.value.state.end.machine ≡ record h.old.value.state.end.machine
         { kept = after_fed material.now.cookie material.now.secret h.old.value.state.end.machine.kept } }
+    ensures rest { h.new.value.state.end ≡ record h.old.value.state.end { machine = h.new.value.state.end.machine } }
     ensures unchanged { result ≡ false → h.new.value ≡ h.old.value }
     ensures out { h.new.value.state.out ≡ h.old.value.state.out }
 {
@@ -201,6 +211,8 @@ pub extern "C" fn dv_client_room(h: &mut DvClient, channel: u32) -> u32
 pub extern "C" fn dv_client_ask(h: &mut DvClient, ask: &AskForm<'_>, channel: &mut u32) -> i32
     ensures asked { (form_asks ask.now h.old.value.state.key ≡ None → ⊥) →
         ClientAnswers h.old.value ask.now result channel.old channel.new h.new.value }
+    ensures padded { result ≡ pos 0 → PadsTo aes_gcm next_bytes (sending_from h.old.value.state.end h.old.value.state.out.items)
+        (sending_to h.new.value.state.end h.new.value.state.out.items) }
     ensures unasked { form_asks ask.now h.old.value.state.key ≡ None → h.new.value ≡ h.old.value }
     ensures none { form_asks ask.now h.old.value.state.key ≡ None → result ≡ pos 0 → ⊥ }
     ensures channel { form_asks ask.now h.old.value.state.key ≡ None → channel.new ≡ channel.old }
@@ -247,6 +259,8 @@ pub extern "C" fn dv_client_queued(h: &mut DvClient) -> usize
 #[unsafe(no_mangle)]
 pub extern "C" fn dv_client_work(alloc: Global, h: &mut DvClient, channel: &mut u32) -> i32
     ensures worked { (h.old.value.state.waiting.items ≡ [] → ⊥) → ClientWorks h.old.value result channel.old channel.new h.new.value }
+    ensures padded { result ≡ pos 0 → PadsTo aes_gcm next_bytes (sending_from h.old.value.state.end h.old.value.state.out.items)
+        (sending_to h.new.value.state.end h.new.value.state.out.items) }
     ensures none { h.old.value.state.waiting.items ≡ [] → result ≡ pos 308 }
     ensures unchanged { h.old.value.state.waiting.items ≡ [] → h.new.value ≡ h.old.value }
     ensures channel { h.old.value.state.waiting.items ≡ [] → channel.new ≡ channel.old }
@@ -283,6 +297,9 @@ pub extern "C" fn dv_client_send(
     taken: &mut usize,
 ) -> i32
     ensures taken { taken.new ≤ length body.now }
+    ensures none { result ≡ pos 0 → taken.new ≡ 0 → h.new.value ≡ h.old.value }
+    ensures padded { result ≡ pos 0 → 0 < taken.new → PadsTo aes_gcm next_bytes (sending_from h.old.value.state.end h.old.value.state.out.items)
+        (sending_to h.new.value.state.end h.new.value.state.out.items) }
 {
     *taken = 0;
     let kind = if stream == 0 { None } else { Some(stream) };

@@ -1,6 +1,6 @@
 //! What C calls of a server.
 
-ghost use Rattle.std.specs.Prelude.{◌≡◌, ◌≤◌, ◌++◌, All, IfErr, IfOk, List, None, [], drop, false, length, map, nat_le, pos, true, ℕ};
+ghost use Rattle.std.specs.Prelude.{◌≡◌, ◌<◌, ◌≤◌, ◌++◌, All, IfErr, IfOk, List, None, [], drop, false, length, map, nat_le, pos, true, ℕ};
 ghost use Rattle.std.specs.Option.{IfSome};
 ghost use Rattle.std.specs.VecDeque.{deque_len};
 ghost use Rattle.divrelca_c.specs.Asks.{ServerAnswers, ServerWorks};
@@ -11,7 +11,7 @@ ghost use Rattle.ssh_embedded.specs.Forms.{form_asks};
 ghost use Rattle.ssh_embedded.specs.Queues.{IsDeclined, IsGivenBack, IsQueued};
 ghost use Rattle.ssh_embedded.specs.Users.{entry_of, verdicts_for};
 ghost use Rattle.ssh_embedded.specs.Windows.{bytes_in};
-ghost use Rattle.ssh_end.specs.Ends.{IsNewServer};
+ghost use Rattle.ssh_end.specs.Ends.{IsNewServer, sending_from, sending_from_line, sending_to};
 ghost use Rattle.ssh_end.specs.Stands.{ServerStandsAt};
 ghost use Rattle.ssh_end.specs.Steps.{shown_by};
 ghost use Rattle.ssh_end.specs.declared.step.Step.TheVariants as step;
@@ -22,6 +22,8 @@ ghost use Rattle.ssh_model.specs.State.Channels.Places.{at, shown_room};
 ghost use Rattle.ssh_model.specs.State.TransportLayer.Kept.{ExchangeParts, after_fed, can_be_fed};
 ghost use Rattle.ssh_parts.specs.AesGcm.{aes_gcm};
 ghost use Rattle.ssh_parts.specs.Ed25519.{signer_of};
+ghost use Rattle.ssh_pipe_policy.specs.Supplies.{next_bytes, padding_under};
+ghost use Rattle.ssh_transport_machine.specs.Padding.{PadsTo};
 
 use crate::bytes::{DvBytes, DvMaterial, DvServerSettings, DvUser};
 use crate::codes::{
@@ -50,6 +52,9 @@ pub extern "C" fn dv_server_new(
     ensures some { result ≡ pos 0 → out.new.value ≡ None → ⊥ }
     ensures opened { result ≡ pos 0 → IfSome out.new.value (λ made. IsNewServer aes_gcm (server_settings settings.now)
         first.now.cookie first.now.secret made.state.end.machine made.state.end.layers [] made.state.out.items made.state.end.sent) }
+    ensures padded { result ≡ pos 0 → IfSome out.new.value (λ made. PadsTo aes_gcm next_bytes
+        (sending_from_line (server_settings settings.now) (padding_under padding.now) [])
+        (sending_to made.state.end made.state.out.items)) }
     ensures step { result ≡ pos 0 → IfSome out.new.value (λ made. made.state.end.step ≡ step.More) }
     ensures host { result ≡ pos 0 →
         IfSome out.new.value (λ made. made.state.end.role.exchange.host_signer ≡ signer_of settings.now.host_seed.now) }
@@ -80,6 +85,8 @@ fn made(
 ) -> Result<Server, i32>
     ensures opened { IfOk result (λ made. IsNewServer aes_gcm (server_settings given.now)
         first.now.cookie first.now.secret made.state.end.machine made.state.end.layers [] made.state.out.items made.state.end.sent) }
+    ensures padded { IfOk result (λ made. PadsTo aes_gcm next_bytes
+        (sending_from_line (server_settings given.now) (padding_under padding.now) []) (sending_to made.state.end made.state.out.items)) }
     ensures step { IfOk result (λ made. made.state.end.step ≡ step.More) }
     ensures host { IfOk result (λ made. made.state.end.role.exchange.host_signer ≡ signer_of given.now.host_seed.now) }
     ensures users { IfOk result (λ made. map entry_of made.state.end.role.user.list.items ≡ map entry_by given.now.users.now) }
@@ -119,6 +126,8 @@ pub extern "C" fn dv_server_free(h: DvServer) {
 pub extern "C" fn dv_server_take(h: &mut DvServer, bytes: &[u8], used: &mut usize) -> i32
     ensures used { used.new ≤ length bytes.now }
     ensures unused { (result ≡ pos 0 → ⊥) → used.new ≡ 0 }
+    ensures padded { result ≡ pos 0 → PadsTo aes_gcm next_bytes (sending_from h.old.value.state.end h.old.value.state.out.items)
+        (sending_to h.new.value.state.end h.new.value.state.out.items) }
     ensures out { (result ≡ pos 0 → ⊥) → h.new.value.state.out.items ≡ h.old.value.state.out.items }
 {
     *used = 0;
@@ -210,6 +219,7 @@ pub extern "C" fn dv_server_feed(h: &mut DvServer, material: &DvMaterial) -> boo
     ensures fed { result ≡ can_be_fed h.old.value.state.end.machine.kept }
     ensures kept { result ≡ true → h.new.value.state.end.machine ≡ record h.old.value.state.end.machine
         { kept = after_fed material.now.cookie material.now.secret h.old.value.state.end.machine.kept } }
+    ensures rest { h.new.value.state.end ≡ record h.old.value.state.end { machine = h.new.value.state.end.machine } }
     ensures unchanged { result ≡ false → h.new.value ≡ h.old.value }
     ensures out { h.new.value.state.out ≡ h.old.value.state.out }
 {
@@ -248,6 +258,8 @@ pub extern "C" fn dv_server_room(h: &mut DvServer, channel: u32) -> u32
 pub extern "C" fn dv_server_ask(h: &mut DvServer, ask: &AskForm<'_>, channel: &mut u32) -> i32
     ensures asked { (form_asks ask.now h.old.value.state.key ≡ None → ⊥) →
         ServerAnswers h.old.value ask.now result channel.old channel.new h.new.value }
+    ensures padded { result ≡ pos 0 → PadsTo aes_gcm next_bytes (sending_from h.old.value.state.end h.old.value.state.out.items)
+        (sending_to h.new.value.state.end h.new.value.state.out.items) }
     ensures unasked { form_asks ask.now h.old.value.state.key ≡ None → h.new.value ≡ h.old.value }
     ensures none { form_asks ask.now h.old.value.state.key ≡ None → result ≡ pos 0 → ⊥ }
     ensures channel { form_asks ask.now h.old.value.state.key ≡ None → channel.new ≡ channel.old }
@@ -294,6 +306,8 @@ pub extern "C" fn dv_server_queued(h: &mut DvServer) -> usize
 #[unsafe(no_mangle)]
 pub extern "C" fn dv_server_work(alloc: Global, h: &mut DvServer, channel: &mut u32) -> i32
     ensures worked { (h.old.value.state.waiting.items ≡ [] → ⊥) → ServerWorks h.old.value result channel.old channel.new h.new.value }
+    ensures padded { result ≡ pos 0 → PadsTo aes_gcm next_bytes (sending_from h.old.value.state.end h.old.value.state.out.items)
+        (sending_to h.new.value.state.end h.new.value.state.out.items) }
     ensures none { h.old.value.state.waiting.items ≡ [] → result ≡ pos 308 }
     ensures unchanged { h.old.value.state.waiting.items ≡ [] → h.new.value ≡ h.old.value }
     ensures channel { h.old.value.state.waiting.items ≡ [] → channel.new ≡ channel.old }
@@ -330,6 +344,9 @@ pub extern "C" fn dv_server_send(
     taken: &mut usize,
 ) -> i32
     ensures taken { taken.new ≤ length body.now }
+    ensures none { result ≡ pos 0 → taken.new ≡ 0 → h.new.value ≡ h.old.value }
+    ensures padded { result ≡ pos 0 → 0 < taken.new → PadsTo aes_gcm next_bytes (sending_from h.old.value.state.end h.old.value.state.out.items)
+        (sending_to h.new.value.state.end h.new.value.state.out.items) }
 {
     *taken = 0;
     let kind = if stream == 0 { None } else { Some(stream) };

@@ -4,20 +4,21 @@ ghost use Rattle.std.specs.Prelude.{◌≡◌, IfOk, []};
 ghost use Rattle.std.specs.Option.{option_map};
 ghost use Rattle.ssh_embedded.specs.Making.{settings_by};
 ghost use Rattle.ssh_embedded.specs.declared.making.Methods.TheVariants.{Both};
-ghost use Rattle.ssh_end.specs.Ends.{IsNewClient};
+ghost use Rattle.ssh_end.specs.Ends.{IsNewClient, sending_from_line, sending_to};
 ghost use Rattle.ssh_end.specs.declared.step.Step.TheVariants as step;
 ghost use Rattle.ssh_parts.specs.AesGcm.{aes_gcm};
+ghost use Rattle.ssh_pipe_policy.specs.Supplies.{next_bytes, padding_under};
+ghost use Rattle.ssh_transport_machine.specs.Padding.{PadsTo};
 
 use crate::embedded::Embedded;
 use crate::flows::Flows;
 use crate::making::{MakeError, Material, Methods, config};
 use crate::noted::Noted;
-use crate::padding::Padding;
 use crate::parts::EmbeddedClient;
 use ed25519::is_small_order;
 use ssh_end::{ClientEnd, ClientRole};
 use ssh_parts::{Curve25519, Ed25519Signer, Ed25519Trust};
-use ssh_pipe_policy::{Ciphers, TRIES, UserKey};
+use ssh_pipe_policy::{Ciphers, PaddingSource, TRIES, UserKey};
 use ssh_transport_base::ClientPartValues;
 use std::alloc::Global;
 use std::collections::VecDeque;
@@ -60,6 +61,9 @@ impl Client {
             (settings_by settings.now.software.now settings.now.epoch_limit TRIES Both settings.now.ciphers)
             material.cookie material.secret made.state.end.machine made.state.end.layers [] made.state.out.items
             made.state.end.sent) }
+        ensures padded { IfOk result (λ made. PadsTo aes_gcm next_bytes (sending_from_line
+            (settings_by settings.now.software.now settings.now.epoch_limit TRIES Both settings.now.ciphers)
+            (padding_under material.padding) []) (sending_to made.state.end made.state.out.items)) }
         ensures step { IfOk result (λ made. made.state.end.step ≡ step.More) }
         ensures host { IfOk result (λ made. made.state.end.role.exchange.host_trust.public ≡ settings.now.host) }
         ensures user { IfOk result (λ made. made.state.end.role.user.signer ≡ settings.now.user) }
@@ -78,7 +82,7 @@ impl Client {
             settings.ciphers,
         )?;
         let parts = ClientPartValues {
-            filler: Padding::new(material.padding),
+            filler: PaddingSource::from_key(material.padding),
             agreement: Curve25519,
             host_trust: Ed25519Trust {
                 public: settings.host,

@@ -9,7 +9,7 @@ ghost use Rattle.ssh_embedded.specs.Queues.{IsMade, IsOldestMade, asked_by, is_e
 ghost use Rattle.ssh_embedded.specs.Windows.{bytes_in};
 ghost use Rattle.ssh_end.specs.Asking.{AreAskChannels, Fails, ask_of};
 ghost use Rattle.ssh_end.specs.Calls.{Advances, outs_of};
-ghost use Rattle.ssh_end.specs.Ends.{EndLacks, IsFault};
+ghost use Rattle.ssh_end.specs.Ends.{EndLacks, IsFault, sending_from, sending_to};
 ghost use Rattle.ssh_end.specs.Reading.{SameReading};
 ghost use Rattle.ssh_end.specs.Stands.{FailedTo, FeedsTo, PerformedTo, StandsAt};
 ghost use Rattle.ssh_end.specs.Steps.{Shows, shown_by};
@@ -19,6 +19,7 @@ ghost use Rattle.ssh_model.specs.State.Channels.Places.{at, shown_room};
 ghost use Rattle.ssh_model.specs.Protocol.Sessions.Items.{Item};
 ghost use Rattle.ssh_model.specs.Protocol.Sessions.Parties.{Parties};
 ghost use Rattle.ssh_model.specs.State.TransportLayer.Kept.{after_fed, can_be_fed};
+ghost use Rattle.ssh_transport_machine.specs.Padding.{PadsTo};
 
 use crate::ask_form::{AskForm, FormFault};
 use crate::flows::Flows;
@@ -73,6 +74,8 @@ impl<R: EndRole> Embedded<R> {
         ensures progress { IfOk result (λ used. self.old.end.machine.kept.dead ≡ false → 0 < length bytes.now → 0 < used) }
         ensures advances { IfOk result (λ used. Advances R.EndRole R.Exchange.Role R.Exchange.Sealing.crypto self.old.end bytes.now used
             self.old.out.items self.new.out.items self.new.end) }
+        ensures padded { OnOk result (PadsTo R.Exchange.Sealing.crypto R.Exchange.Filler.gives
+            (sending_from self.old.end self.old.out.items) (sending_to self.new.end self.new.out.items)) }
         ensures failed { IfErr result (λ fault. IsFault self.old.end.machine fault self.new.end.machine) }
         ensures lacks { IfErr result (λ fault. fault ≡ Fault.Memory → EndLacks R.EndRole R.Exchange.Role R.Exchange.Sealing.crypto
             self.old.end bytes.now) }
@@ -119,6 +122,8 @@ impl<R: EndRole> Embedded<R> {
     pub fn perform(&mut self, ask: &Ask<'_>) -> Result<AskStep, Fault>
         ensures asks { R.asks self.old.end.role self.old.end.machine self.old.end.layers (ask_of ask.now) result self.new.end.machine
             self.new.end.layers (outs_of self.old.out.items self.new.out.items self.new.end.sent) }
+        ensures padded { OnOk result (PadsTo R.Exchange.Sealing.crypto R.Exchange.Filler.gives
+            (sending_from self.old.end self.old.out.items) (sending_to self.new.end self.new.out.items)) }
         ensures reading { self.new.end.machine.kept.dead ≡ false → SameReading self.old.end.machine self.new.end.machine }
         ensures step { self.new.end.step ≡ Step.More }
         ensures channels { IfOk result (λ step. AreAskChannels (ask_of ask.now) step self.new.end.sent self.new.end.channels) }
@@ -149,6 +154,8 @@ impl<R: EndRole> Embedded<R> {
         ensures asked { IfOk result (λ done. IsAsked (form_asks form.now self.old.key)
             (λ asked. R.asks self.old.end.role self.old.end.machine self.old.end.layers asked done self.new.end.machine
             self.new.end.layers (outs_of self.old.out.items self.new.out.items self.new.end.sent))) }
+        ensures padded { IfOk result (λ done. OnOk done (PadsTo R.Exchange.Sealing.crypto R.Exchange.Filler.gives
+            (sending_from self.old.end self.old.out.items) (sending_to self.new.end self.new.out.items))) }
         ensures none { OnErr result (form_asks form.now self.old.key ≡ None) }
         ensures unchanged { OnErr result (self.new ≡ self.old) }
         ensures key { self.new.key ≡ self.old.key }
@@ -260,6 +267,8 @@ impl<R: EndRole> Embedded<R> {
         ensures made { IfSome result (λ done. IsOldestMade self.old.waiting.items self.old.key (λ asked.
             R.asks self.old.end.role self.old.end.machine self.old.end.layers asked done self.new.end.machine self.new.end.layers
             (outs_of self.old.out.items self.new.out.items self.new.end.sent))) }
+        ensures padded { IfSome result (λ done. OnOk done (PadsTo R.Exchange.Sealing.crypto R.Exchange.Filler.gives
+            (sending_from self.old.end self.old.out.items) (sending_to self.new.end self.new.out.items))) }
         ensures waits { IfSome result (λ done. self.new.waiting.items ≡ cond (is_early done) self.old.waiting.items
             (drop 1 self.old.waiting.items)) }
         ensures key { self.new.key ≡ self.old.key }
@@ -283,6 +292,8 @@ impl<R: EndRole> Embedded<R> {
         ensures made { IsMade (asked_by waiting.now self.old.key) (λ asked. R.asks self.old.end.role self.old.end.machine
             self.old.end.layers asked result self.new.end.machine self.new.end.layers
             (outs_of self.old.out.items self.new.out.items self.new.end.sent)) }
+        ensures padded { OnOk result (PadsTo R.Exchange.Sealing.crypto R.Exchange.Filler.gives
+            (sending_from self.old.end self.old.out.items) (sending_to self.new.end self.new.out.items)) }
         ensures key { self.new.key ≡ self.old.key }
         ensures waiting { self.new.waiting ≡ self.old.waiting }
         ensures noted { self.new.noted ≡ self.old.noted }

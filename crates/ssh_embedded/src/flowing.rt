@@ -1,10 +1,12 @@
 //! Data within the windows of both ends, and answers to what a program does not know.
 
-ghost use Rattle.std.specs.Prelude.{◌≡◌, ◌≤◌, IfErr, IfOk, OnErr, OnOk, length};
+ghost use Rattle.std.specs.Prelude.{◌≡◌, ◌<◌, ◌≤◌, IfErr, IfOk, OnErr, OnOk, length};
 ghost use Rattle.std.specs.Option.{option_map};
 ghost use Rattle.ssh_embedded.specs.Queues.{IsDeclined, IsGivenBack, IsOwed};
 ghost use Rattle.ssh_end.specs.Asking.{ask_of};
+ghost use Rattle.ssh_end.specs.Ends.{sending_from, sending_to};
 ghost use Rattle.ssh_end.specs.Steps.{shown_by};
+ghost use Rattle.ssh_transport_machine.specs.Padding.{PadsTo};
 
 use crate::embedded::Embedded;
 use crate::waiting::Waiting;
@@ -28,6 +30,9 @@ impl<R: EndRole> Embedded<R> {
     /// - `Dead`: the end was over before, or no sequence number was left for the data, and it is over now.
     pub fn send(&mut self, channel: u32, kind: Option<u32>, body: &[u8]) -> Result<usize, Fault>
         ensures taken { IfOk result (λ taken. taken ≤ length body.now) }
+        ensures none { IfOk result (λ taken. taken ≡ 0 → self.new ≡ self.old) }
+        ensures padded { IfOk result (λ taken. 0 < taken → PadsTo R.Exchange.Sealing.crypto R.Exchange.Filler.gives
+            (sending_from self.old.end self.old.out.items) (sending_to self.new.end self.new.out.items)) }
         ensures out { IfErr result (λ fault. (fault ≡ Fault.Dead → ⊥) → self.new.out.items ≡ self.old.out.items) }
     {
         let Some(room) = self.end.channels().room(channel) else {

@@ -1,7 +1,7 @@
 //! The supplied parts of both ends.
 
-use crate::padding::Padding;
 use ssh_parts::{AesGcm, Curve25519, Ed25519Signer, Ed25519Trust};
+use ssh_pipe_policy::PaddingSource;
 use ssh_transport_base::{ClientParts, ServerParts};
 
 /// The parts of a server: AES-GCM, X25519 and Ed25519.
@@ -10,7 +10,7 @@ pub struct EmbeddedServer;
 impl ServerParts for EmbeddedServer {
     type Sealing = AesGcm;
 
-    type Filler = Padding;
+    type Filler = PaddingSource;
 
     type Agreement = Curve25519;
 
@@ -23,7 +23,7 @@ pub struct EmbeddedClient;
 impl ClientParts for EmbeddedClient {
     type Sealing = AesGcm;
 
-    type Filler = Padding;
+    type Filler = PaddingSource;
 
     type Agreement = Curve25519;
 

@@ -5,7 +5,7 @@ ghost use Rattle.std.specs.List.{list_all};
 ghost use Rattle.ssh_embedded.specs.Asked.{AreNoted, is_noted};
 ghost use Rattle.ssh_embedded.specs.Making.{settings_by};
 ghost use Rattle.ssh_embedded.specs.Users.{verdicts_for};
-ghost use Rattle.ssh_end.specs.Ends.{IsNewServer};
+ghost use Rattle.ssh_end.specs.Ends.{IsNewServer, sending_from_line, sending_to};
 ghost use Rattle.ssh_end.specs.Stands.{ServerStandsAt};
 ghost use Rattle.ssh_end.specs.declared.step.Step.TheVariants as step;
 ghost use Rattle.ssh_model.specs.Laws.Verdicts.{judged_by};
@@ -14,19 +14,20 @@ ghost use Rattle.ssh_model.specs.Protocol.Sessions.Parties.{Parties};
 ghost use Rattle.ssh_model.specs.Protocol.Wire.MacOnly.{is_text};
 ghost use Rattle.ssh_model.specs.State.TransportLayer.Kept.{ExchangeParts};
 ghost use Rattle.ssh_parts.specs.AesGcm.{aes_gcm};
+ghost use Rattle.ssh_pipe_policy.specs.Supplies.{next_bytes, padding_under};
+ghost use Rattle.ssh_transport_machine.specs.Padding.{PadsTo};
 
 use crate::embedded::Embedded;
 use crate::flows::Flows;
 use crate::making::{MakeError, Material, Methods, config};
 use crate::noted::Noted;
-use crate::padding::Padding;
 use crate::parts::EmbeddedServer;
 use crate::users::Users;
 use ssh_end::judge_laws::users_exchanged;
 use ssh_end::{ServerEnd, ServerRole};
 use ssh_packet::Sealing;
 use ssh_parts::{AesGcm, Curve25519, Ed25519Signer};
-use ssh_pipe_policy::Ciphers;
+use ssh_pipe_policy::{Ciphers, PaddingSource};
 use ssh_transport_base::ServerPartValues;
 use std::alloc::{AllocError, Global};
 use std::collections::VecDeque;
@@ -90,6 +91,9 @@ impl Server {
             (settings_by settings.now.software.now settings.now.epoch_limit settings.now.tries settings.now.methods settings.now.ciphers)
             material.cookie material.secret made.state.end.machine made.state.end.layers [] made.state.out.items
             made.state.end.sent) }
+        ensures padded { IfOk result (λ made. PadsTo aes_gcm next_bytes (sending_from_line
+            (settings_by settings.now.software.now settings.now.epoch_limit settings.now.tries settings.now.methods settings.now.ciphers)
+            (padding_under material.padding) []) (sending_to made.state.end made.state.out.items)) }
         ensures step { IfOk result (λ made. made.state.end.step ≡ step.More) }
         ensures host { IfOk result (λ made. made.state.end.role.exchange.host_signer ≡ settings.now.host) }
         ensures users { IfOk result (λ made. made.state.end.role.user ≡ users) }
@@ -105,7 +109,7 @@ impl Server {
             settings.ciphers,
         )?;
         let parts = ServerPartValues {
-            filler: Padding::new(material.padding),
+            filler: PaddingSource::from_key(material.padding),
             agreement: Curve25519,
             host_signer: settings.host,
         };

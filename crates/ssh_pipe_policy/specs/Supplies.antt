@@ -45,6 +45,10 @@ pub record KeepsFresh {S E : Type 0} (gives : Gives S) (feeds : E → (cookie se
 
 -- ---- padding
 
+-- the source of padding from the stream of ChaCha20 under this key, from its first byte
+abbrev pub padding_under : (key : List ℕ) → PaddingSource
+padding_under key = record { stream = of_seed key }
+
 -- The padding is that of a stream of ChaCha20 whose key is drawn now.
 pub record SeedsPadding {S : Type 0} (gives : Gives S) (old : S) (padding : PaddingSource) (new : S) : Type 0 where
   pub seed : List ℕ

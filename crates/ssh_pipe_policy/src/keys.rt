@@ -1,7 +1,7 @@
 //! Cookies, secrets and padding.
 
 ghost use Rattle.std.specs.Prelude.{◌≡◌, IfOk, List, None, OnOk, ℕ};
-ghost use Rattle.ssh_pipe_policy.specs.Supplies.{IsDrawn, KeepsFresh, SeedsPadding, next_bytes};
+ghost use Rattle.ssh_pipe_policy.specs.Supplies.{IsDrawn, KeepsFresh, SeedsPadding, next_bytes, padding_under};
 
 use crate::end::{End, asked};
 use crate::error::SupplyError;
@@ -89,9 +89,7 @@ impl<R: Entropy> KeySupply<R> {
     {
         let mut seed = [0; 32];
         self.source.draw(&mut seed).map_err(SupplyError::Random)?;
-        Ok(PaddingSource {
-            stream: ChaCha20Rng::from_seed(seed),
-        })
+        Ok(PaddingSource::from_key(seed))
     }
 
     /// Called after every turn of the end. It keeps one cookie and one secret with the end, since the peer may begin an exchange at any
@@ -119,10 +117,21 @@ impl<R: Entropy> KeySupply<R> {
     }
 }
 
-/// Fills the padding of packets (RFC 4253 section 6) from a stream of ChaCha20, whose key is 32 bytes of the source of random bytes.
+/// Fills the padding of packets (RFC 4253 section 6) from a stream of ChaCha20, whose key is 32 random bytes.
 #[derive(Drop)]
 pub struct PaddingSource {
     stream: ChaCha20Rng,
+}
+
+impl PaddingSource {
+    /// The stream under this key, from its first byte. The key is to be 32 random bytes that are used for nothing else.
+    pub fn from_key(key: [u8; 32]) -> PaddingSource
+        ensures { result ≡ padding_under key }
+    {
+        PaddingSource {
+            stream: ChaCha20Rng::from_seed(key),
+        }
+    }
 }
 
 impl Filler for PaddingSource {
