@@ -4,6 +4,7 @@ pub mod Handling
 pub mod Roles
 mod Known
 mod Named
+mod Padding
 mod UpTo
 mod Working
 pub mod Crossing

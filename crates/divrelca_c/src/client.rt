@@ -1,12 +1,13 @@
 //! What C calls of a client.
 
-ghost use Rattle.std.specs.Prelude.{◌≡◌, ◌<◌, ◌≤◌, IfErr, IfOk, None, [], drop, false, length, nat_le, pos, true};
+ghost use Rattle.std.specs.Prelude.{◌≡◌, ◌<◌, ◌≤◌, IfErr, IfOk, None, [], drop, false, length, nat_le, negsuc, pos, true};
 ghost use Rattle.std.specs.Option.{IfSome, option_map};
 ghost use Rattle.std.specs.VecDeque.{deque_len};
 ghost use Rattle.divrelca_c.specs.Asks.{ClientAnswers, ClientWorks};
 ghost use Rattle.divrelca_c.specs.Events.{ShowsTurn};
 ghost use Rattle.divrelca_c.specs.Making.{IsClientSettings, client_settings, user_by};
 ghost use Rattle.ssh_embedded.specs.Forms.{form_asks};
+ghost use Rattle.ssh_embedded.specs.Padding.{PadsOn};
 ghost use Rattle.ssh_embedded.specs.Queues.{IsDeclined, IsGivenBack, IsQueued};
 ghost use Rattle.ssh_embedded.specs.Windows.{bytes_in};
 ghost use Rattle.ssh_end.specs.Ends.{IsNewClient, sending_from, sending_from_line, sending_to};
@@ -213,6 +214,8 @@ pub extern "C" fn dv_client_ask(h: &mut DvClient, ask: &AskForm<'_>, channel: &m
         ClientAnswers h.old.value ask.now result channel.old channel.new h.new.value }
     ensures padded { result ≡ pos 0 → PadsTo aes_gcm next_bytes (sending_from h.old.value.state.end h.old.value.state.out.items)
         (sending_to h.new.value.state.end h.new.value.state.out.items) }
+    ensures chains { (result ≡ negsuc 0 → ⊥) → (result ≡ negsuc 1 → ⊥) → PadsOn aes_gcm next_bytes h.old.value.state.end
+        h.old.value.state.out.items h.new.value.state.end h.new.value.state.out.items }
     ensures unasked { form_asks ask.now h.old.value.state.key ≡ None → h.new.value ≡ h.old.value }
     ensures none { form_asks ask.now h.old.value.state.key ≡ None → result ≡ pos 0 → ⊥ }
     ensures channel { form_asks ask.now h.old.value.state.key ≡ None → channel.new ≡ channel.old }
@@ -261,6 +264,8 @@ pub extern "C" fn dv_client_work(alloc: Global, h: &mut DvClient, channel: &mut 
     ensures worked { (h.old.value.state.waiting.items ≡ [] → ⊥) → ClientWorks h.old.value result channel.old channel.new h.new.value }
     ensures padded { result ≡ pos 0 → PadsTo aes_gcm next_bytes (sending_from h.old.value.state.end h.old.value.state.out.items)
         (sending_to h.new.value.state.end h.new.value.state.out.items) }
+    ensures chains { (result ≡ negsuc 0 → ⊥) → (result ≡ negsuc 1 → ⊥) → PadsOn aes_gcm next_bytes h.old.value.state.end
+        h.old.value.state.out.items h.new.value.state.end h.new.value.state.out.items }
     ensures none { h.old.value.state.waiting.items ≡ [] → result ≡ pos 308 }
     ensures unchanged { h.old.value.state.waiting.items ≡ [] → h.new.value ≡ h.old.value }
     ensures channel { h.old.value.state.waiting.items ≡ [] → channel.new ≡ channel.old }
@@ -300,6 +305,8 @@ pub extern "C" fn dv_client_send(
     ensures none { result ≡ pos 0 → taken.new ≡ 0 → h.new.value ≡ h.old.value }
     ensures padded { result ≡ pos 0 → 0 < taken.new → PadsTo aes_gcm next_bytes (sending_from h.old.value.state.end h.old.value.state.out.items)
         (sending_to h.new.value.state.end h.new.value.state.out.items) }
+    ensures chains { (result ≡ negsuc 0 → ⊥) → (result ≡ negsuc 1 → ⊥) → PadsOn aes_gcm next_bytes h.old.value.state.end
+        h.old.value.state.out.items h.new.value.state.end h.new.value.state.out.items }
 {
     *taken = 0;
     let kind = if stream == 0 { None } else { Some(stream) };

@@ -1,6 +1,6 @@
 //! What C calls of a server.
 
-ghost use Rattle.std.specs.Prelude.{◌≡◌, ◌<◌, ◌≤◌, ◌++◌, All, IfErr, IfOk, List, None, [], drop, false, length, map, nat_le, pos, true, ℕ};
+ghost use Rattle.std.specs.Prelude.{◌≡◌, ◌<◌, ◌≤◌, ◌++◌, All, IfErr, IfOk, List, None, [], drop, false, length, map, nat_le, negsuc, pos, true, ℕ};
 ghost use Rattle.std.specs.Option.{IfSome};
 ghost use Rattle.std.specs.VecDeque.{deque_len};
 ghost use Rattle.divrelca_c.specs.Asks.{ServerAnswers, ServerWorks};
@@ -8,6 +8,7 @@ ghost use Rattle.divrelca_c.specs.Events.{ShowsTurn};
 ghost use Rattle.divrelca_c.specs.Making.{IsEntry, IsServerSettings, entry_by, server_settings};
 ghost use Rattle.ssh_embedded.specs.Asked.{AreNoted, is_noted};
 ghost use Rattle.ssh_embedded.specs.Forms.{form_asks};
+ghost use Rattle.ssh_embedded.specs.Padding.{PadsOn};
 ghost use Rattle.ssh_embedded.specs.Queues.{IsDeclined, IsGivenBack, IsQueued};
 ghost use Rattle.ssh_embedded.specs.Users.{entry_of, verdicts_for};
 ghost use Rattle.ssh_embedded.specs.Windows.{bytes_in};
@@ -260,6 +261,8 @@ pub extern "C" fn dv_server_ask(h: &mut DvServer, ask: &AskForm<'_>, channel: &m
         ServerAnswers h.old.value ask.now result channel.old channel.new h.new.value }
     ensures padded { result ≡ pos 0 → PadsTo aes_gcm next_bytes (sending_from h.old.value.state.end h.old.value.state.out.items)
         (sending_to h.new.value.state.end h.new.value.state.out.items) }
+    ensures chains { (result ≡ negsuc 0 → ⊥) → (result ≡ negsuc 1 → ⊥) → PadsOn aes_gcm next_bytes h.old.value.state.end
+        h.old.value.state.out.items h.new.value.state.end h.new.value.state.out.items }
     ensures unasked { form_asks ask.now h.old.value.state.key ≡ None → h.new.value ≡ h.old.value }
     ensures none { form_asks ask.now h.old.value.state.key ≡ None → result ≡ pos 0 → ⊥ }
     ensures channel { form_asks ask.now h.old.value.state.key ≡ None → channel.new ≡ channel.old }
@@ -308,6 +311,8 @@ pub extern "C" fn dv_server_work(alloc: Global, h: &mut DvServer, channel: &mut 
     ensures worked { (h.old.value.state.waiting.items ≡ [] → ⊥) → ServerWorks h.old.value result channel.old channel.new h.new.value }
     ensures padded { result ≡ pos 0 → PadsTo aes_gcm next_bytes (sending_from h.old.value.state.end h.old.value.state.out.items)
         (sending_to h.new.value.state.end h.new.value.state.out.items) }
+    ensures chains { (result ≡ negsuc 0 → ⊥) → (result ≡ negsuc 1 → ⊥) → PadsOn aes_gcm next_bytes h.old.value.state.end
+        h.old.value.state.out.items h.new.value.state.end h.new.value.state.out.items }
     ensures none { h.old.value.state.waiting.items ≡ [] → result ≡ pos 308 }
     ensures unchanged { h.old.value.state.waiting.items ≡ [] → h.new.value ≡ h.old.value }
     ensures channel { h.old.value.state.waiting.items ≡ [] → channel.new ≡ channel.old }
@@ -347,6 +352,8 @@ pub extern "C" fn dv_server_send(
     ensures none { result ≡ pos 0 → taken.new ≡ 0 → h.new.value ≡ h.old.value }
     ensures padded { result ≡ pos 0 → 0 < taken.new → PadsTo aes_gcm next_bytes (sending_from h.old.value.state.end h.old.value.state.out.items)
         (sending_to h.new.value.state.end h.new.value.state.out.items) }
+    ensures chains { (result ≡ negsuc 0 → ⊥) → (result ≡ negsuc 1 → ⊥) → PadsOn aes_gcm next_bytes h.old.value.state.end
+        h.old.value.state.out.items h.new.value.state.end h.new.value.state.out.items }
 {
     *taken = 0;
     let kind = if stream == 0 { None } else { Some(stream) };

@@ -1,3 +1,3 @@
 mod Asked
 mod Oldest
-mod Padding
+pub mod Padding

@@ -1,6 +1,7 @@
 pub mod Asked
 pub mod Forms
 pub mod Making
+pub mod Padding
 pub mod Queues
 pub mod Users
 pub mod Windows

@@ -5,9 +5,10 @@ ghost use Rattle.std.specs.Prelude.{length, nat_le, true};
 ghost use Rattle.std.specs.VecDeque.{deque_len};
 ghost use Rattle.ssh_embedded.specs.Asked.{AreNoted};
 ghost use Rattle.ssh_embedded.specs.Forms.{IsAsked, form_asks};
+ghost use Rattle.ssh_embedded.specs.Padding.{PadsOn};
 ghost use Rattle.ssh_embedded.specs.Queues.{IsMade, IsOldestMade, asked_by, is_early};
 ghost use Rattle.ssh_embedded.specs.Windows.{bytes_in};
-ghost use Rattle.ssh_end.specs.Asking.{AreAskChannels, Fails, ask_of};
+ghost use Rattle.ssh_end.specs.Asking.{AreAskChannels, Fails, OnAnswered, ask_of};
 ghost use Rattle.ssh_end.specs.Calls.{Advances, outs_of};
 ghost use Rattle.ssh_end.specs.Ends.{EndLacks, IsFault, sending_from, sending_to};
 ghost use Rattle.ssh_end.specs.Reading.{SameReading};
@@ -122,7 +123,7 @@ impl<R: EndRole> Embedded<R> {
     pub fn perform(&mut self, ask: &Ask<'_>) -> Result<AskStep, Fault>
         ensures asks { R.asks self.old.end.role self.old.end.machine self.old.end.layers (ask_of ask.now) result self.new.end.machine
             self.new.end.layers (outs_of self.old.out.items self.new.out.items self.new.end.sent) }
-        ensures padded { OnOk result (PadsTo R.Exchange.Sealing.crypto R.Exchange.Filler.gives
+        ensures padded { OnAnswered result (PadsTo R.Exchange.Sealing.crypto R.Exchange.Filler.gives
             (sending_from self.old.end self.old.out.items) (sending_to self.new.end self.new.out.items)) }
         ensures reading { self.new.end.machine.kept.dead ≡ false → SameReading self.old.end.machine self.new.end.machine }
         ensures step { self.new.end.step ≡ Step.More }
@@ -154,7 +155,7 @@ impl<R: EndRole> Embedded<R> {
         ensures asked { IfOk result (λ done. IsAsked (form_asks form.now self.old.key)
             (λ asked. R.asks self.old.end.role self.old.end.machine self.old.end.layers asked done self.new.end.machine
             self.new.end.layers (outs_of self.old.out.items self.new.out.items self.new.end.sent))) }
-        ensures padded { IfOk result (λ done. OnOk done (PadsTo R.Exchange.Sealing.crypto R.Exchange.Filler.gives
+        ensures padded { IfOk result (λ done. OnAnswered done (PadsTo R.Exchange.Sealing.crypto R.Exchange.Filler.gives
             (sending_from self.old.end self.old.out.items) (sending_to self.new.end self.new.out.items))) }
         ensures none { OnErr result (form_asks form.now self.old.key ≡ None) }
         ensures unchanged { OnErr result (self.new ≡ self.old) }
@@ -269,6 +270,8 @@ impl<R: EndRole> Embedded<R> {
             (outs_of self.old.out.items self.new.out.items self.new.end.sent))) }
         ensures padded { IfSome result (λ done. OnOk done (PadsTo R.Exchange.Sealing.crypto R.Exchange.Filler.gives
             (sending_from self.old.end self.old.out.items) (sending_to self.new.end self.new.out.items))) }
+        ensures chains { IfSome result (λ done. OnAnswered done (PadsOn R.Exchange.Sealing.crypto R.Exchange.Filler.gives
+            self.old.end self.old.out.items self.new.end self.new.out.items)) }
         ensures waits { IfSome result (λ done. self.new.waiting.items ≡ cond (is_early done) self.old.waiting.items
             (drop 1 self.old.waiting.items)) }
         ensures key { self.new.key ≡ self.old.key }
@@ -288,12 +291,15 @@ impl<R: EndRole> Embedded<R> {
     }
 
     // Makes an ask that waits. Only asks are put there.
+    #[tactic(auto, using(crate::proofs::Padding::pads_on, crate::proofs::Padding::pads_on_none))]
     fn make(&mut self, waiting: &Waiting) -> Result<AskStep, Fault>
         ensures made { IsMade (asked_by waiting.now self.old.key) (λ asked. R.asks self.old.end.role self.old.end.machine
             self.old.end.layers asked result self.new.end.machine self.new.end.layers
             (outs_of self.old.out.items self.new.out.items self.new.end.sent)) }
         ensures padded { OnOk result (PadsTo R.Exchange.Sealing.crypto R.Exchange.Filler.gives
             (sending_from self.old.end self.old.out.items) (sending_to self.new.end self.new.out.items)) }
+        ensures chains { OnAnswered result (PadsOn R.Exchange.Sealing.crypto R.Exchange.Filler.gives
+            self.old.end self.old.out.items self.new.end self.new.out.items) }
         ensures key { self.new.key ≡ self.old.key }
         ensures waiting { self.new.waiting ≡ self.old.waiting }
         ensures noted { self.new.noted ≡ self.old.noted }

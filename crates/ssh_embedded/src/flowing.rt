@@ -2,8 +2,9 @@
 
 ghost use Rattle.std.specs.Prelude.{◌≡◌, ◌<◌, ◌≤◌, IfErr, IfOk, OnErr, OnOk, length};
 ghost use Rattle.std.specs.Option.{option_map};
+ghost use Rattle.ssh_embedded.specs.Padding.{PadsOn};
 ghost use Rattle.ssh_embedded.specs.Queues.{IsDeclined, IsGivenBack, IsOwed};
-ghost use Rattle.ssh_end.specs.Asking.{ask_of};
+ghost use Rattle.ssh_end.specs.Asking.{OnAnswered, ask_of};
 ghost use Rattle.ssh_end.specs.Ends.{sending_from, sending_to};
 ghost use Rattle.ssh_end.specs.Steps.{shown_by};
 ghost use Rattle.ssh_transport_machine.specs.Padding.{PadsTo};
@@ -28,11 +29,14 @@ impl<R: EndRole> Embedded<R> {
     /// - `Ask`: the ask for the data is refused, by the first refusal that holds; `NoChannel` where the channel is not confirmed.
     /// - `Memory`: memory was refused, and the end is over.
     /// - `Dead`: the end was over before, or no sequence number was left for the data, and it is over now.
+    #[tactic(auto, using(crate::proofs::Padding::pads_on, crate::proofs::Padding::pads_on_none))]
     pub fn send(&mut self, channel: u32, kind: Option<u32>, body: &[u8]) -> Result<usize, Fault>
         ensures taken { IfOk result (λ taken. taken ≤ length body.now) }
         ensures none { IfOk result (λ taken. taken ≡ 0 → self.new ≡ self.old) }
         ensures padded { IfOk result (λ taken. 0 < taken → PadsTo R.Exchange.Sealing.crypto R.Exchange.Filler.gives
             (sending_from self.old.end self.old.out.items) (sending_to self.new.end self.new.out.items)) }
+        ensures chains { OnAnswered result (PadsOn R.Exchange.Sealing.crypto R.Exchange.Filler.gives
+            self.old.end self.old.out.items self.new.end self.new.out.items) }
         ensures out { IfErr result (λ fault. (fault ≡ Fault.Dead → ⊥) → self.new.out.items ≡ self.old.out.items) }
     {
         let Some(room) = self.end.channels().room(channel) else {
