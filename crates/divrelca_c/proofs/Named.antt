@@ -1,5 +1,6 @@
 -- The users of a server that were made of entries that C passes, and a server that gets them.
-use Rattle.std.proofs.Common.{◌≡◌, ℕ, true, List, [], ◌∷◌, All, map, subst, sym}
+use Rattle.std.proofs.Common.{◌≡◌, ◌∙◌, ℕ, ℤ, Bool, Err, Ok, Result, ap, false, pos, refl, true, List, [], ◌∷◌, All, map, subst, sym}
+use Rattle.std.proofs.lemmas.Cmp.{nat_list_eq_equiv}
 use Rattle.std.proofs.lemmas.List.Elements.{All-cons, All-head, All-map, All-nil, All-tail, All-weaker}
 use Rattle.std.proofs.lemmas.List.Sums.{AllPass-from_list_all}
 use Rattle.std.specs.Cmp.Lexicographic.{same_text}
@@ -17,6 +18,8 @@ use Rattle.ssh_embedded.specs.Users.{entry_of, verdicts_for}
 use Rattle.ssh_embedded.specs.declared.server.Server.{Server}
 use Rattle.ssh_embedded.specs.declared.users.Login.{Login}
 use Rattle.ssh_embedded.specs.declared.users.User.{User}
+use Rattle.ssh_embedded.specs.declared.server.UserFault.{UserFault}
+use Rattle.divrelca_c.specs.Codes.{user_code}
 use Rattle.divrelca_c.specs.Making.{entry_by}
 use Rattle.divrelca_c.specs.declared.bytes.DvUser.{DvUser}
 
@@ -47,3 +50,36 @@ StandsOn old new = (p : Parties PacketKey) (parts : ExchangeParts) (history : Li
 -- the same of the server behind the handle, which is that on loan
 pub stands_on : (old lent new : Server) → lent ≡ old → StandsOn lent new → StandsOn old new
 stands_on old lent new same stands = subst (λ it. StandsOn it new) same stands
+
+-- Where the entries have this name, the users have it.
+pub users_named : (name : List ℕ) (users : List User) (given : List DvUser) → map entry_of users ≡ map entry_by given →
+    All (λ user. user.name.now ≡ name) given → list_all (λ user. is_text user.name.items name) users ≡ true
+users_named name users given made named =
+    let IsNamed : List ℕ × Login → Type 0 = λ entry. entry.0 ≡ name in
+    let are = unmapped IsNamed entry_of users (subst (All IsNamed) (sym made) (All-map IsNamed entry_by given named)) in
+    by users are
+  where
+    by : (users : List User) → All (λ user. user.name.items ≡ name) users → list_all (λ user. is_text user.name.items name) users ≡ true
+    by [] are = refl
+    by (user ∷ users) are =
+        let Is : User → Type 0 = λ user. user.name.items ≡ name in
+        rw (All-head Is user users are, nat_list_eq_equiv.refl name) (by users (All-tail Is user users are))
+
+-- Where not all entries have it, not all users have it.
+pub users_of_another : (name : List ℕ) (users : List User) (given : List DvUser) → map entry_of users ≡ map entry_by given →
+    (All (λ user. user.name.now ≡ name) given → ⊥) → list_all (λ user. is_text user.name.items name) users ≡ false
+users_of_another name users given made other = by (list_all (λ user. is_text user.name.items name) users) refl
+  where
+    by : (b : Bool) → list_all (λ user. is_text user.name.items name) users ≡ b → b ≡ false
+    by false is = refl
+    by true is = absurd (other (entries_named name users given made is))
+
+-- the code of what came of setting a user
+abbrev set_code : {A : Type 0} → Result A UserFault → ℤ
+set_code (Ok done) = pos 0
+set_code (Err fault) = user_code fault
+
+-- Where the fault is known, so is the code.
+pub coded : {A : Type 0} (fault known : UserFault) → ◌≡◌ {A = Result A UserFault} (Err fault) (Err known) → (code : ℤ) →
+    code ≡ user_code fault → code ≡ user_code known
+coded fault known same code is = is ∙ ap set_code same

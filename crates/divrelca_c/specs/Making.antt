@@ -1,13 +1,15 @@
 -- What C passes, as the settings of an end.
 --     methods_by, ciphers_by               the methods of authentication and the encryptions, by their bits
 --     entry_by                             an entry of the users' list: the name, and what lets in
+--     IsTaken                              what is taken as an entry of it
 --     user_by                              the key pair of a seed, where there is one
 --     IsServerSettings, IsClientSettings   what is taken as settings
 --     server_settings, client_settings     the settings, as the model has them
-use Rattle.std.specs.Prelude.{◌≡◌, ◌≤◌, ℕ, List, [], ◌∷◌, All, Option, None, Some, if◌then◌else◌, length, nat_eq}
+use Rattle.std.specs.Prelude.{◌≡◌, ◌≤◌, ℕ, List, [], ◌∷◌, All, Option, None, Some, if◌then◌else◌, length, nat_eq, false}
 use Rattle.sha2.specs.Sha256.{sha256}
 use Rattle.ssh_model.specs.Protocol.Sessions.Parties.{Settings}
 use Rattle.ssh_embedded.specs.Making.{settings_by}
+use Rattle.ssh_embedded.specs.Users.{is_weak}
 use Rattle.ssh_embedded.specs.declared.making.Methods.{Methods}
 use Rattle.ssh_embedded.specs.declared.making.Methods.TheVariants as methods
 use Rattle.ssh_embedded.specs.declared.users.Login.{Login}
@@ -42,6 +44,18 @@ entry_by user = (user.name.now, login_by user)
 
 abbrev pub IsEntry : DvUser → Type 0
 IsEntry user = (1 ≤ user.kind) × (user.kind ≤ 2)
+
+-- a key of 32 bytes, or a password that has bytes
+pub record IsLogin (user : DvUser) : Type 0 where
+  pub entry : IsEntry user
+  pub key : user.kind ≡ 1 → length user.login.now ≡ 32
+  pub password : user.kind ≡ 2 → user.login.now ≡ [] → ⊥
+
+-- what is taken as an entry: it has a name, and its key is not of small order
+pub record IsTaken (user : DvUser) : Type 0 where
+  pub login : IsLogin user
+  pub named : user.name.now ≡ [] → ⊥
+  pub strong : is_weak (login_by user) ≡ false
 
 -- no bytes are no seed
 abbrev pub user_by : (seed : List ℕ) → Option Ed25519Signer

@@ -303,8 +303,8 @@ pub extern "C" fn dv_client_send(
 ) -> i32
     ensures taken { taken.new ≤ length body.now }
     ensures none { result ≡ pos 0 → taken.new ≡ 0 → h.new.value ≡ h.old.value }
-    ensures padded { result ≡ pos 0 → 0 < taken.new → PadsTo aes_gcm next_bytes (sending_from h.old.value.state.end h.old.value.state.out.items)
-        (sending_to h.new.value.state.end h.new.value.state.out.items) }
+    ensures padded { result ≡ pos 0 → 0 < taken.new → PadsTo aes_gcm next_bytes
+        (sending_from h.old.value.state.end h.old.value.state.out.items) (sending_to h.new.value.state.end h.new.value.state.out.items) }
     ensures chains { (result ≡ negsuc 0 → ⊥) → (result ≡ negsuc 1 → ⊥) → PadsOn aes_gcm next_bytes h.old.value.state.end
         h.old.value.state.out.items h.new.value.state.end h.new.value.state.out.items }
 {

@@ -93,7 +93,8 @@ pub fn code_taken(fault: Fault) -> i32
 
 /// A setting that is none is 100 and its number, 1 to 4.
 pub fn code_made(error: MakeError) -> i32
-    ensures { result ≡ pos 0 → ⊥ }
+    ensures fails { result ≡ pos 0 → ⊥ }
+    ensures memory { error ≡ MakeError.Memory → result ≡ negsuc 0 }
 {
     match error {
         MakeError::Memory => MEMORY,

@@ -1,7 +1,7 @@
 //! Settings that C passes.
 
-ghost use Rattle.std.specs.Prelude.{◌≡◌, ◌++◌, All, IfErr, IfOk, [], ◌∷◌, length, map, pos};
-ghost use Rattle.divrelca_c.specs.Making.{IsChoice, IsEntry, ciphers_by, entry_by, login_by, methods_by, user_by};
+ghost use Rattle.std.specs.Prelude.{◌≡◌, ◌++◌, All, IfErr, IfOk, [], ◌∷◌, length, map, negsuc, pos};
+ghost use Rattle.divrelca_c.specs.Making.{IsChoice, IsEntry, IsLogin, IsTaken, ciphers_by, entry_by, login_by, methods_by, user_by};
 ghost use Rattle.ssh_embedded.specs.Users.{entry_of};
 ghost use Rattle.ssh_parts.specs.Ed25519.{signer_of};
 
@@ -20,6 +20,7 @@ use std::alloc::Global;
 pub fn key_in(bytes: &[u8]) -> Result<[u8; 32], i32>
     ensures key { IfOk result (λ key. key ≡ bytes.now) }
     ensures size { IfOk result (λ key. length bytes.now ≡ 32) }
+    ensures refused { IfErr result (λ code. length bytes.now ≡ 32 → ⊥) }
     ensures fails { IfErr result (λ code. code ≡ pos 0 → ⊥) }
 {
     <[u8; 32]>::try_from(bytes).map_err(|_| BAD_KEY)
@@ -96,6 +97,8 @@ pub fn ciphers_in(ciphers: u32) -> Result<Ciphers, i32>
 fn login_in(user: &DvUser<'_>) -> Result<Login, i32>
     ensures login { IfOk result (λ made. made ≡ login_by user.now) }
     ensures kind { IfOk result (λ made. IsEntry user.now) }
+    ensures taken { IfOk result (λ made. IsLogin user.now) }
+    ensures refused { IfErr result (λ code. IsLogin user.now → ⊥) }
     ensures fails { IfErr result (λ code. code ≡ pos 0 → ⊥) }
 {
     match user.kind {
@@ -109,6 +112,8 @@ fn login_in(user: &DvUser<'_>) -> Result<Login, i32>
 fn add_user(users: &mut Users, alloc: Global, user: &DvUser<'_>) -> Result<(), i32>
     ensures added { IfOk result (λ done. map entry_of users.new.list.items ≡ map entry_of users.old.list.items ++ entry_by user.now ∷ []) }
     ensures entry { IfOk result (λ done. IsEntry user.now) }
+    ensures taken { IfOk result (λ done. IsTaken user.now) }
+    ensures refused { IsTaken user.now → IfErr result (λ code. code ≡ negsuc 0) }
     ensures fails { IfErr result (λ code. code ≡ pos 0 → ⊥) }
 {
     let login = login_in(user)?;
@@ -125,6 +130,8 @@ fn add_user(users: &mut Users, alloc: Global, user: &DvUser<'_>) -> Result<(), i
 pub fn users_in(alloc: Global, given: &[DvUser<'_>]) -> Result<Users, i32>
     ensures users { IfOk result (λ users. map entry_of users.list.items ≡ map entry_by given.now) }
     ensures entries { IfOk result (λ users. All IsEntry given.now) }
+    ensures taken { IfOk result (λ users. All IsTaken given.now) }
+    ensures refused { All IsTaken given.now → IfErr result (λ code. code ≡ negsuc 0) }
     ensures fails { IfErr result (λ code. code ≡ pos 0 → ⊥) }
 {
     let mut users = Users::new(alloc);

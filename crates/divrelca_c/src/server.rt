@@ -1,11 +1,12 @@
 //! What C calls of a server.
 
-ghost use Rattle.std.specs.Prelude.{◌≡◌, ◌<◌, ◌≤◌, ◌++◌, All, IfErr, IfOk, List, None, [], drop, false, length, map, nat_le, negsuc, pos, true, ℕ};
+ghost use Rattle.std.specs.Prelude.{◌≡◌, ◌<◌, ◌≤◌, ◌++◌, ◌||◌, All, IfErr, IfOk, List, None, [], drop, false, length, map};
+ghost use Rattle.std.specs.Prelude.{nat_le, negsuc, pos, true, ℕ};
 ghost use Rattle.std.specs.Option.{IfSome};
 ghost use Rattle.std.specs.VecDeque.{deque_len};
 ghost use Rattle.divrelca_c.specs.Asks.{ServerAnswers, ServerWorks};
 ghost use Rattle.divrelca_c.specs.Events.{ShowsTurn};
-ghost use Rattle.divrelca_c.specs.Making.{IsEntry, IsServerSettings, entry_by, server_settings};
+ghost use Rattle.divrelca_c.specs.Making.{IsEntry, IsServerSettings, IsTaken, entry_by, server_settings};
 ghost use Rattle.ssh_embedded.specs.Asked.{AreNoted, is_noted};
 ghost use Rattle.ssh_embedded.specs.Forms.{form_asks};
 ghost use Rattle.ssh_embedded.specs.Padding.{PadsOn};
@@ -19,6 +20,7 @@ ghost use Rattle.ssh_end.specs.declared.step.Step.TheVariants as step;
 ghost use Rattle.ssh_model.specs.Laws.Verdicts.{judged_by};
 ghost use Rattle.ssh_model.specs.Protocol.Sessions.Items.{Item};
 ghost use Rattle.ssh_model.specs.Protocol.Sessions.Parties.{Parties};
+ghost use Rattle.ssh_model.specs.Protocol.Wire.MacOnly.{is_text};
 ghost use Rattle.ssh_model.specs.State.Channels.Places.{at, shown_room};
 ghost use Rattle.ssh_model.specs.State.TransportLayer.Kept.{ExchangeParts, after_fed, can_be_fed};
 ghost use Rattle.ssh_parts.specs.AesGcm.{aes_gcm};
@@ -157,6 +159,20 @@ pub extern "C" fn dv_server_set_user(
     ensures fresh { result ≡ pos 0 → is_noted name.now h.old.value.state.noted ≡ false }
     ensures noted { result ≡ pos 0 → is_noted name.now h.new.value.state.noted ≡ true }
     ensures kept { (user : List ℕ) → is_noted user h.old.value.state.noted ≡ true → is_noted user h.new.value.state.noted ≡ true }
+    ensures noted_only { result ≡ pos 0 → h.new.value.state.noted.all ≡ false → (user : List ℕ) →
+        is_noted user h.new.value.state.noted ≡ (is_noted user h.old.value.state.noted || is_text name.now user) }
+    ensures taken { result ≡ pos 0 → All IsTaken users.now }
+    ensures over { All IsTaken users.now → h.old.value.state.end.machine.kept.dead ≡ true → (result ≡ negsuc 0 → ⊥) → result ≡ negsuc 1 }
+    ensures nameless { All IsTaken users.now → h.old.value.state.end.machine.kept.dead ≡ false → name.now ≡ [] →
+        (result ≡ negsuc 0 → ⊥) → result ≡ pos 303 }
+    ensures another { All IsTaken users.now → h.old.value.state.end.machine.kept.dead ≡ false →
+        (All (λ user. user.name.now ≡ name.now) users.now → ⊥) → (result ≡ negsuc 0 → ⊥) → result ≡ pos 303 }
+    ensures known { All IsTaken users.now → h.old.value.state.end.machine.kept.dead ≡ false → (name.now ≡ [] → ⊥) →
+        All (λ user. user.name.now ≡ name.now) users.now → is_noted name.now h.old.value.state.noted ≡ true →
+        (result ≡ negsuc 0 → ⊥) → result ≡ pos 309 }
+    ensures otherwise { All IsTaken users.now → h.old.value.state.end.machine.kept.dead ≡ false → (name.now ≡ [] → ⊥) →
+        All (λ user. user.name.now ≡ name.now) users.now → is_noted name.now h.old.value.state.noted ≡ false →
+        (result ≡ negsuc 0 → ⊥) → result ≡ pos 0 }
     ensures stands { result ≡ pos 0 → (p : Parties _) (parts : ExchangeParts) (history : List Item) →
         ServerStandsAt p aes_gcm parts (verdicts_for h.old.value.state.end.role.user.list.items) history h.old.value.state.end.machine
         h.old.value.state.end.layers → AreNoted history h.old.value.state.noted →
@@ -350,8 +366,8 @@ pub extern "C" fn dv_server_send(
 ) -> i32
     ensures taken { taken.new ≤ length body.now }
     ensures none { result ≡ pos 0 → taken.new ≡ 0 → h.new.value ≡ h.old.value }
-    ensures padded { result ≡ pos 0 → 0 < taken.new → PadsTo aes_gcm next_bytes (sending_from h.old.value.state.end h.old.value.state.out.items)
-        (sending_to h.new.value.state.end h.new.value.state.out.items) }
+    ensures padded { result ≡ pos 0 → 0 < taken.new → PadsTo aes_gcm next_bytes
+        (sending_from h.old.value.state.end h.old.value.state.out.items) (sending_to h.new.value.state.end h.new.value.state.out.items) }
     ensures chains { (result ≡ negsuc 0 → ⊥) → (result ≡ negsuc 1 → ⊥) → PadsOn aes_gcm next_bytes h.old.value.state.end
         h.old.value.state.out.items h.new.value.state.end h.new.value.state.out.items }
 {

@@ -28,7 +28,8 @@ use Rattle.ssh_end.specs.declared.turn.Took.{Took}
 use Rattle.ssh_end.specs.declared.turn.Took.TheVariants as given
 use Rattle.ssh_end.specs.declared.turn.Turn.{Turn}
 use Rattle.ssh_parts.specs.Ed25519.{is_name}
-use Rattle.ssh_embedded.specs.Asked.{AreNoted, IsNoted, Notes, asked_by, asked_in, asked_of, asked_with, is_name_of, is_noted}
+use Rattle.ssh_embedded.specs.Asked.{AreNoted, IsNoted, Notes, asked_by, asked_in, asked_of, asked_with, is_asked, is_asked_among, is_name_of}
+use Rattle.ssh_embedded.specs.Asked.{is_noted}
 use Rattle.ssh_embedded.specs.Users.{has_key, has_password, verdicts_for}
 use Rattle.ssh_embedded.specs.declared.noted.Noted.{Noted}
 use Rattle.ssh_embedded.specs.declared.users.Login.TheVariants as login
@@ -89,12 +90,18 @@ module _ (noted : Noted) where
   of_turn payload step items (disconnected reason description language is) turn shows have = (tt, (tt, (tt, tt)))
   of_turn payload step items (refused why opened said) turn shows have = (tt, of_listed said (Refused _ opened ∷ []) (tt, tt))
 
+or_false : (b : Bool) → (b || false) ≡ b
+or_false true = refl
+or_false false = refl
+
 -- a name more after the others
 pub name_noted : (old new : Noted) (name : Vec ℕ) (user : List ℕ) → new.names.items ≡ old.names.items ++ name ∷ [] → new.all ≡ old.all →
     name.items ≡ user → Notes (Some user) old new
 name_noted old new name user names all is = record {
   asked = rw (all, names, list_any-append (is_name_of user) old.names.items (name ∷ []), is, nat_list_eq_equiv.refl user) (true_last old.all (list_any (is_name_of user) old.names.items));
   kept = λ other have. rw (all, names, list_any-append (is_name_of other) old.names.items (name ∷ [])) (true_first old.all (list_any (is_name_of other) old.names.items) _ have);
+  only = λ some other. rw (all, names, list_any-append (is_name_of other) old.names.items (name ∷ []), is)
+      (apart old.all (list_any (is_name_of other) old.names.items) (is_text user other));
 }
   where
     true_last : (a b : Bool) → (a || (b || (true || false))) ≡ true
@@ -106,6 +113,74 @@ name_noted old new name user names all is = record {
     true_first true b c have = refl
     true_first false true c have = refl
     true_first false false c have = absurd (cc have)
+
+    apart : (a b c : Bool) → (a || (b || (c || false))) ≡ ((a || b) || c)
+    apart true b c = refl
+    apart false true c = refl
+    apart false false c = or_false c
+
+-- memory is refused for a name, and everybody counts as noted
+pub all_noted : (given : Option (List ℕ)) (old new : Noted) → new.all ≡ true → Notes given old new
+all_noted given old new all = record {
+  asked = of_given given;
+  kept = λ user have. rw all refl;
+  only = λ none. absurd (cc (all, none));
+}
+  where
+    of_given : (asked : Option (List ℕ)) → IsNoted asked new
+    of_given None = tt
+    of_given (Some user) = rw all refl
+
+-- nobody is asked for, or somebody who was noted before
+pub none_noted : (noted : Noted) → Notes None noted noted
+none_noted noted = record { asked = tt; kept = λ user have. have; only = λ some user. sym (or_false (is_noted user noted)) }
+
+pub noted_before : (noted : Noted) (user : List ℕ) → is_noted user noted ≡ true → Notes (Some user) noted noted
+noted_before noted user have = record { asked = have; kept = λ other is. is; only = λ some other. by other (is_text user other) refl }
+  where
+    by : (other : List ℕ) (b : Bool) → is_text user other ≡ b → is_noted other noted ≡ (is_noted other noted || is_text user other)
+    by other false is = rw is (sym (or_false (is_noted other noted)))
+    by other true is =
+        let there : is_noted other noted ≡ true = subst (λ it. is_noted it noted ≡ true) (same_text user other (sym is)) have in
+        rw (there) refl
+
+-- who is asked for by what a turn took is so in one of its items
+asked_there : (user : List ℕ) (took : Option Took) (items : List Item) → IsTaken took (oldest items) →
+    is_asked user (asked_of took) ≡ true → is_asked_among user items ≡ true
+asked_there user any [] is have = absurd (nobody any is have)
+  where
+    nobody : (took : Option Took) → IsTaken took None → is_asked user (asked_of took) ≡ true → ⊥
+    nobody None is have = cc have
+    nobody (Some (given.OtherLine text)) is have = is
+    nobody (Some (given.VersionLine text)) is have = is
+    nobody (Some (given.Skipped other)) is have = is
+    nobody (Some (given.Message own shown other)) is have = is
+asked_there user any (item ∷ []) is have = by any is have
+  where
+    by : (took : Option Took) → IsTaken took (Some item) → is_asked user (asked_of took) ≡ true → is_asked_among user (item ∷ []) ≡ true
+    by None is have = absurd (cc have)
+    by (Some (given.OtherLine text)) is have = absurd (cc have)
+    by (Some (given.VersionLine text)) is have = absurd (cc have)
+    by (Some (given.Skipped other)) is have = absurd (cc have)
+    by (Some (given.Message own shown other)) is have =
+        or_false (is_asked user (asked_in item)) ∙ (ap (λ it. is_asked user (asked_in it)) is ∙ have)
+asked_there user any (first ∷ second ∷ items) is have =
+    later (is_asked user (asked_in first)) (asked_there user any (second ∷ items) is have)
+  where
+    later : (a : Bool) {b : Bool} → b ≡ true → (a || b) ≡ true
+    later true is = refl
+    later false is = is
+
+-- Who is noted after a turn was noted before, or a key or a password of this user is asked for in the turn.
+pub turn_notes_only : (items : List Item) → (turn : Turn) → TurnShows turn items → (old new : Noted) → Notes (asked_of turn.took) old new →
+    new.all ≡ false → (user : List ℕ) → is_noted user new ≡ true → (is_noted user old || is_asked_among user items) ≡ true
+turn_notes_only items turn shows old new notes some user have =
+    by (is_noted user old) (is_asked user (asked_of turn.took)) refl (sym (notes.only some user) ∙ have)
+  where
+    by : (a b : Bool) → is_asked user (asked_of turn.took) ≡ b → (a || b) ≡ true → (a || is_asked_among user items) ≡ true
+    by true b is have = refl
+    by false true is have = asked_there user turn.took items shows.took is
+    by false false is have = absurd (cc have)
 
 pub turn_noted : (payload : List ℕ) (step : Step) (items : List Item) → Shows payload step items → (turn : Turn) → TurnShows turn items →
     (old new : Noted) → Notes (asked_of turn.took) old new → (h : List Item) → AreNoted h old → AreNoted (items ++ h) new
@@ -158,10 +233,6 @@ module _ (noted : Noted) (name : List ℕ) (fresh : is_noted name noted ≡ fals
   module _ (list added : List User) (named : list_all (λ entry. is_text entry.name.items name) added ≡ true) where
     one_more : (p : User → Bool) → list_any p added ≡ false → list_any p list ≡ list_any p (list ++ added)
     one_more p none = sym (list_any-append p list added ∙ ap (λ b. list_any p list || b) none ∙ or_false (list_any p list))
-      where
-        or_false : (b : Bool) → (b || false) ≡ b
-        or_false true = refl
-        or_false false = refl
 
     agree_on : (user : List ℕ) (method : Method) → IsNoted (asked_with method user) noted →
         AgreeOn (verdicts_for list) (verdicts_for (list ++ added)) user method

@@ -1,3 +1,3 @@
 mod Asked
 mod Oldest
-pub mod Padding
+mod Padding

@@ -2,8 +2,8 @@
 --     asked_by      whose key or password a message that was taken asks for
 --     is_noted      a user is noted
 --     AreNoted      each user whose key or password was asked for in a history is
---     Notes         what is noted
-use Rattle.std.specs.Prelude.{◌≡◌, ◌||◌, ℕ, Bool, true, Option, Some, None, List, [], ◌∷◌}
+--     Notes         what is noted, and that nobody else is
+use Rattle.std.specs.Prelude.{◌≡◌, ◌||◌, ℕ, Bool, true, false, Option, Some, None, List, [], ◌∷◌}
 use Rattle.std.specs.Global.{Vec}
 use Rattle.std.specs.List.{list_any}
 use Rattle.ssh_model.specs.Protocol.Sessions.Items.{Item}
@@ -49,7 +49,17 @@ abbrev pub AreNoted : List Item → Noted → Type 0
 AreNoted [] noted = Unit {0}
 AreNoted (item ∷ items) noted = IsNoted (asked_in item) noted × AreNoted items noted
 
--- Who is asked for is noted, and who was noted before.
+-- The user is the one that is asked for.
+abbrev pub is_asked : List ℕ → Option (List ℕ) → Bool
+is_asked user None = false
+is_asked user (Some given) = is_text given user
+
+-- A key or a password of the user is asked for in one of these items.
+abbrev pub is_asked_among : List ℕ → List Item → Bool
+is_asked_among user items = list_any (λ item. is_asked user (asked_in item)) items
+
+-- Who is asked for is noted, and who was noted before. Nobody else is, unless memory was refused.
 pub record Notes (given : Option (List ℕ)) (old new : Noted) : Type 0 where
   pub asked : IsNoted given new
   pub kept : (user : List ℕ) → is_noted user old ≡ true → is_noted user new ≡ true
+  pub only : new.all ≡ false → (user : List ℕ) → is_noted user new ≡ (is_noted user old || is_asked user given)

@@ -1,6 +1,7 @@
 -- Whom a server lets in.
 use Rattle.std.specs.Prelude.{ℕ, Bool, false, List, [], ◌∷◌, Some}
 use Rattle.std.specs.List.{list_any}
+use Rattle.ed25519.specs.Order.{is_small_order}
 use Rattle.ssh_model.specs.Protocol.Authentication.Requests.{Judge}
 use Rattle.ssh_parts.specs.Ed25519.{judge_of}
 use Rattle.ssh_pipe_policy.specs.Users.{is_password}
@@ -11,6 +12,11 @@ use Rattle.ssh_embedded.specs.declared.users.User.{User}
 -- an entry as it was handed in: its name, and what lets in
 abbrev pub entry_of : User → List ℕ × Login
 entry_of user = (user.name.items, user.login)
+
+-- The key is a point of small order, under which anyone can sign.
+abbrev pub is_weak : Login → Bool
+is_weak (login.Key public) = is_small_order public
+is_weak (login.Password hash) = false
 
 -- by what an entry of this name lets in: the word is its password, and the user is of that name
 abbrev pub is_word : (name : List ℕ) → (user word : List ℕ) → Login → Bool

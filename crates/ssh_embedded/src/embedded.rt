@@ -1,9 +1,9 @@
 //! An end of either role, with what a program keeps besides it.
 
-ghost use Rattle.std.specs.Prelude.{◌≡◌, ◌<◌, ◌≤◌, ◌++◌, ◌∷◌, cond, IfErr, IfOk, IfSome, IsSome, List, None, OnErr, OnOk, [], drop, false};
-ghost use Rattle.std.specs.Prelude.{length, nat_le, true};
+ghost use Rattle.std.specs.Prelude.{◌≡◌, ◌<◌, ◌≤◌, ◌++◌, ◌∷◌, ◌||◌, cond, IfErr, IfOk, IfSome, IsSome, List, None, OnErr, OnOk, [], drop};
+ghost use Rattle.std.specs.Prelude.{false, length, nat_le, true, ℕ};
 ghost use Rattle.std.specs.VecDeque.{deque_len};
-ghost use Rattle.ssh_embedded.specs.Asked.{AreNoted};
+ghost use Rattle.ssh_embedded.specs.Asked.{AreNoted, is_asked_among, is_noted};
 ghost use Rattle.ssh_embedded.specs.Forms.{IsAsked, form_asks};
 ghost use Rattle.ssh_embedded.specs.Padding.{PadsOn};
 ghost use Rattle.ssh_embedded.specs.Queues.{IsMade, IsOldestMade, asked_by, is_early};
@@ -69,7 +69,7 @@ impl<R: EndRole> Embedded<R> {
     /// # Errors
     ///
     /// Those of `ssh_end::End::take`.
-    #[tactic(auto, using(crate::proofs::Asked::turn_noted))]
+    #[tactic(auto, using(crate::proofs::Asked::turn_noted, crate::proofs::Asked::turn_notes_only))]
     pub fn advance(&mut self, bytes: &[u8]) -> Result<usize, Fault>
         ensures used { IfOk result (λ used. used ≤ length bytes.now) }
         ensures progress { IfOk result (λ used. self.old.end.machine.kept.dead ≡ false → 0 < length bytes.now → 0 < used) }
@@ -88,6 +88,9 @@ impl<R: EndRole> Embedded<R> {
         ensures noted { OnOk result ((items history : List Item) →
             Shows (shown_by self.new.end.step self.new.end.machine) self.new.end.step items → AreNoted history self.old.noted →
             AreNoted (items ++ history) self.new.noted) }
+        ensures noted_only { OnOk result ((items : List Item) →
+            Shows (shown_by self.new.end.step self.new.end.machine) self.new.end.step items → self.new.noted.all ≡ false → (user : List ℕ) →
+            is_noted user self.new.noted ≡ true → (is_noted user self.old.noted || is_asked_among user items) ≡ true) }
         ensures unnoted { OnErr result (self.new.noted ≡ self.old.noted) }
         ensures role { self.new.end.role ≡ self.old.end.role }
         ensures key { self.new.key ≡ self.old.key }
@@ -291,7 +294,7 @@ impl<R: EndRole> Embedded<R> {
     }
 
     // Makes an ask that waits. Only asks are put there.
-    #[tactic(auto, using(crate::proofs::Padding::pads_on, crate::proofs::Padding::pads_on_none))]
+    #[tactic(auto, using(crate::specs::PaddingLaws::pads_on, crate::specs::PaddingLaws::pads_on_none))]
     fn make(&mut self, waiting: &Waiting) -> Result<AskStep, Fault>
         ensures made { IsMade (asked_by waiting.now self.old.key) (λ asked. R.asks self.old.end.role self.old.end.machine
             self.old.end.layers asked result self.new.end.machine self.new.end.layers

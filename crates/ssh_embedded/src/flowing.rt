@@ -29,7 +29,7 @@ impl<R: EndRole> Embedded<R> {
     /// - `Ask`: the ask for the data is refused, by the first refusal that holds; `NoChannel` where the channel is not confirmed.
     /// - `Memory`: memory was refused, and the end is over.
     /// - `Dead`: the end was over before, or no sequence number was left for the data, and it is over now.
-    #[tactic(auto, using(crate::proofs::Padding::pads_on, crate::proofs::Padding::pads_on_none))]
+    #[tactic(auto, using(crate::specs::PaddingLaws::pads_on, crate::specs::PaddingLaws::pads_on_none))]
     pub fn send(&mut self, channel: u32, kind: Option<u32>, body: &[u8]) -> Result<usize, Fault>
         ensures taken { IfOk result (λ taken. taken ≤ length body.now) }
         ensures none { IfOk result (λ taken. taken ≡ 0 → self.new ≡ self.old) }

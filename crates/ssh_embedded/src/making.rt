@@ -2,6 +2,7 @@
 
 ghost use Rattle.std.specs.Prelude.{◌≡◌, IfOk, map};
 ghost use Rattle.ssh_embedded.specs.Making.{given_by, method_names, settings_by};
+ghost use Rattle.ssh_embedded.specs.declared.making.MakeError.TheVariants as make_error;
 ghost use Rattle.ssh_transport_base.specs.Meaning.{given_of, settings_of};
 
 use ssh_parts::{AesGcm, GcmSettings};
@@ -58,6 +59,8 @@ pub enum MakeError {
 }
 
 impl From<AllocError> for MakeError {
+    ghost from_gives = { λ _ error. error ≡ make_error.Memory };
+
     fn from(_error: AllocError) -> MakeError {
         MakeError::Memory
     }

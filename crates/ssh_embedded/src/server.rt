@@ -1,10 +1,11 @@
 //! A server.
 
-ghost use Rattle.std.specs.Prelude.{◌≡◌, ◌++◌, IfOk, List, None, OnErr, OnOk, [], false, true, ℕ};
+ghost use Rattle.std.specs.Prelude.{◌≡◌, ◌++◌, ◌||◌, Err, IfErr, IfOk, List, None, OnErr, OnOk, [], false, true, ℕ};
 ghost use Rattle.std.specs.List.{list_all};
 ghost use Rattle.ssh_embedded.specs.Asked.{AreNoted, is_noted};
 ghost use Rattle.ssh_embedded.specs.Making.{settings_by};
 ghost use Rattle.ssh_embedded.specs.Users.{verdicts_for};
+ghost use Rattle.ssh_embedded.specs.declared.server.UserFault.TheVariants as user_fault;
 ghost use Rattle.ssh_end.specs.Ends.{IsNewServer, sending_from_line, sending_to};
 ghost use Rattle.ssh_end.specs.Stands.{ServerStandsAt};
 ghost use Rattle.ssh_end.specs.declared.step.Step.TheVariants as step;
@@ -63,6 +64,8 @@ pub enum UserFault {
 }
 
 impl From<AllocError> for UserFault {
+    ghost from_gives = { λ _ error. error ≡ user_fault.Memory };
+
     fn from(_error: AllocError) -> UserFault {
         UserFault::Memory
     }
@@ -155,6 +158,18 @@ impl Server {
         ensures fresh { OnOk result (is_noted name.now self.old.state.noted ≡ false) }
         ensures noted { OnOk result (is_noted name.now self.new.state.noted ≡ true) }
         ensures kept { (user : List ℕ) → is_noted user self.old.state.noted ≡ true → is_noted user self.new.state.noted ≡ true }
+        ensures noted_only { OnOk result (self.new.state.noted.all ≡ false → (user : List ℕ) →
+            is_noted user self.new.state.noted ≡ (is_noted user self.old.state.noted || is_text name.now user)) }
+        ensures over { self.old.state.end.machine.kept.dead ≡ true → result ≡ Err UserFault.Over }
+        ensures nameless { self.old.state.end.machine.kept.dead ≡ false → name.now ≡ [] → result ≡ Err UserFault.Name }
+        ensures another { self.old.state.end.machine.kept.dead ≡ false →
+            list_all (λ user. is_text user.name.items name.now) users.list.items ≡ false → result ≡ Err UserFault.Name }
+        ensures known { self.old.state.end.machine.kept.dead ≡ false → (name.now ≡ [] → ⊥) →
+            list_all (λ user. is_text user.name.items name.now) users.list.items ≡ true → is_noted name.now self.old.state.noted ≡ true →
+            result ≡ Err UserFault.Known }
+        ensures otherwise { self.old.state.end.machine.kept.dead ≡ false → (name.now ≡ [] → ⊥) →
+            list_all (λ user. is_text user.name.items name.now) users.list.items ≡ true → is_noted name.now self.old.state.noted ≡ false →
+            IfErr result (λ fault. fault ≡ UserFault.Memory) }
         ensures stands { OnOk result ((p : Parties _) (parts : ExchangeParts) (history : List Item) →
             ServerStandsAt p aes_gcm parts (verdicts_for self.old.state.end.role.user.list.items) history self.old.state.end.machine
             self.old.state.end.layers → AreNoted history self.old.state.noted →

@@ -1,9 +1,9 @@
 //! Whom a server lets in.
 
-ghost use Rattle.std.specs.Prelude.{◌≡◌, ◌++◌, IfErr, IfOk, [], ◌∷◌, map};
+ghost use Rattle.std.specs.Prelude.{◌≡◌, ◌++◌, Err, IfErr, IfOk, [], ◌∷◌, false, map, true};
 ghost use Rattle.std.specs.List.{list_all};
 ghost use Rattle.ssh_model.specs.Protocol.Wire.MacOnly.{is_text};
-ghost use Rattle.ssh_embedded.specs.Users.{entry_of, has_key, has_password, verdicts_for};
+ghost use Rattle.ssh_embedded.specs.Users.{entry_of, has_key, has_password, is_weak, verdicts_for};
 
 use crate::making::MakeError;
 use ed25519::is_small_order;
@@ -56,6 +56,9 @@ impl Users {
             map entry_of self.new.list.items ≡ map entry_of self.old.list.items ++ (name.now, login) ∷ []) }
         ensures named { IfOk result (λ done. name.now ≡ [] → ⊥) }
         ensures kept { IfErr result (λ error. self.new.list.items ≡ self.old.list.items) }
+        ensures nameless { name.now ≡ [] → result ≡ Err MakeError.Login }
+        ensures weak { (name.now ≡ [] → ⊥) → is_weak login ≡ true → result ≡ Err MakeError.Key }
+        ensures otherwise { (name.now ≡ [] → ⊥) → is_weak login ≡ false → IfErr result (λ error. error ≡ MakeError.Memory) }
     {
         if name.is_empty() {
             return Err(MakeError::Login);

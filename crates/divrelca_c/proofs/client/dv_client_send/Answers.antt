@@ -7,9 +7,11 @@ use Rattle.divrelca_c.proofs.client.dv_client_send.Goals as goal
 
 pub returns-in-Ok-clause-chains : goal.returns-in-Ok-clause-chains
 returns-in-Ok-clause-chains c memory over =
-    subst (λ it. PadsOn aes_gcm next_bytes it.state.end it.state.out.items c.send.new.self.end c.send.new.self.out.items) c.state.ensures.value c.in-Ok.ensures.chains
+    subst (λ it. PadsOn aes_gcm next_bytes it.state.end it.state.out.items c.send.new.self.end c.send.new.self.out.items)
+    c.state.ensures.value c.in-Ok.ensures.chains
 
 pub returns-in-Err-clause-chains : goal.returns-in-Err-clause-chains
 returns-in-Err-clause-chains c memory over =
-    subst (λ it. PadsOn aes_gcm next_bytes it.state.end it.state.out.items c.send.new.self.end c.send.new.self.out.items) c.state.ensures.value
+    subst (λ it. PadsOn aes_gcm next_bytes it.state.end it.state.out.items c.send.new.self.end c.send.new.self.out.items)
+    c.state.ensures.value
     (refused_by ℕ c.in-Err.fault c.in-Err.ensures.chains (to_z w32 (of_z w32 c.code_of.result)) (search rules) memory over)

@@ -1,6 +1,6 @@
 use Rattle.std.proofs.Common.{◌≡◌, All, map, take}
 use Rattle.ssh_embedded.specs.Users.{entry_of}
-use Rattle.divrelca_c.specs.Making.{IsEntry, entry_by}
+use Rattle.divrelca_c.specs.Making.{IsEntry, IsTaken, entry_by}
 use Rattle.divrelca_c.proofs.making.users_in.Given as goal
 
 -- the users who were put there are those before this one
@@ -8,4 +8,5 @@ abbrev pub invariant-loop-user : goal.invariant-loop-user
 invariant-loop-user l = record {
   users : map entry_of l.users.list.items ≡ map entry_by (take l.user-index l.given);
   entries : All IsEntry (take l.user-index l.given);
+  taken : All IsTaken (take l.user-index l.given);
 }
