@@ -6,14 +6,13 @@ mod task;
 
 use crate::ending::Ending;
 use crate::error::PipeError;
-use crate::login::Login;
 use crate::machine::Machine;
 use crate::parts::{METHODS, PipeClient, config};
 use crate::station::Station;
 use desk::ClientDesk;
-pub use request::{Request, RequestKind};
+pub use request::{ClientSession, Request, RequestKind};
 use ssh_end::ClientEnd;
-use ssh_parts::{Curve25519, Ed25519Trust};
+use ssh_parts::Curve25519;
 use ssh_pipe_log::Watched;
 use ssh_pipe_policy::{KeySupply, Policy, UserKey};
 use ssh_transport_base::ClientPartValues;
@@ -28,7 +27,7 @@ pub struct Client<'a, R: RandomSource + Drop> {
 }
 
 impl<'a, R: RandomSource + Drop> Client<'a, R> {
-    /// A client that trusts this host, and that put its version line and its first KEXINIT into `out`.
+    /// A client of this session that put its version line and its first KEXINIT into `out`.
     ///
     /// # Errors
     ///
@@ -39,12 +38,15 @@ impl<'a, R: RandomSource + Drop> Client<'a, R> {
         alloc: Global,
         policy: &Policy,
         source: R,
-        host: Ed25519Trust,
-        key: UserKey,
-        login: Login<'a>,
-        request: Request<'a>,
+        session: ClientSession<'a>,
         out: &mut Vec<u8>,
     ) -> Result<Client<'a, R>, PipeError> {
+        let ClientSession {
+            host,
+            key,
+            login,
+            request,
+        } = session;
         let mut supply = KeySupply::new(source);
         let first = supply.draw()?;
         let parts = ClientPartValues {

@@ -54,17 +54,7 @@ impl Ending {
 impl fmt::Display for Ending {
     fn fmt<W: fmt::Write>(&self, f: &mut fmt::Formatter<W>) -> fmt::Result {
         match self {
-            Ending::Refused(refusal) => {
-                let (number, name) = (refusal.number(), refusal.name());
-                write!(
-                    f,
-                    "the peer is refused: {refusal} (refusal {number} {name})"
-                )?;
-                if *refusal == Refusal::NoCommon {
-                    write!(f, ": {METHODS}")?;
-                }
-                Ok(())
-            }
+            Ending::Refused(refusal) => write_refused(*refusal, f),
             Ending::Disconnected {
                 reason,
                 description,
@@ -79,19 +69,13 @@ impl fmt::Display for Ending {
             }
             Ending::NoStatus => write!(f, "the server did not say how the command ended"),
             Ending::NotLetIn { methods } => {
-                let methods = methods.as_slice().escape_ascii();
-                write!(
-                    f,
-                    "the server does not let the user in (methods: {methods})"
-                )
+                write_methods("the server does not let the user in", methods, f)
             }
-            Ending::NothingOffered { methods } => {
-                let methods = methods.as_slice().escape_ascii();
-                write!(
-                    f,
-                    "no key and no password was offered, and the server lets nobody in without (methods: {methods})"
-                )
-            }
+            Ending::NothingOffered { methods } => write_methods(
+                "no key and no password was offered, and the server lets nobody in without",
+                methods,
+                f,
+            ),
             Ending::NoChannel {
                 reason,
                 description,
@@ -108,4 +92,27 @@ impl fmt::Display for Ending {
             Ending::BrokenOff => write!(f, "the connection broke off while a channel was open"),
         }
     }
+}
+
+// That this end refused its peer, and why.
+fn write_refused<W: fmt::Write>(refusal: Refusal, f: &mut fmt::Formatter<W>) -> fmt::Result {
+    let (number, name) = (refusal.number(), refusal.name());
+    write!(
+        f,
+        "the peer is refused: {refusal} (refusal {number} {name})"
+    )?;
+    if refusal == Refusal::NoCommon {
+        write!(f, ": {METHODS}")?;
+    }
+    Ok(())
+}
+
+// That the user is not let in, and by which methods it could go on.
+fn write_methods<W: fmt::Write>(
+    why: &str,
+    methods: &[u8],
+    f: &mut fmt::Formatter<W>,
+) -> fmt::Result {
+    let methods = methods.escape_ascii();
+    write!(f, "{why} (methods: {methods})")
 }

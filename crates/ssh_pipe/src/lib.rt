@@ -26,7 +26,7 @@ mod station;
 mod tasks;
 mod texts;
 
-pub use client::{Client, Request, RequestKind};
+pub use client::{Client, ClientSession, Request, RequestKind};
 pub use ending::Ending;
 pub use error::PipeError;
 pub use login::Login;

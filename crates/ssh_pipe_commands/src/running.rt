@@ -13,8 +13,8 @@ use inputs::{accepted_keys, opened, password_in, private_key_in, sink, trusted_k
 use ssh_key_files::PrivateKey;
 use ssh_parts::{AcceptedKey, Ed25519Signer, Ed25519Trust};
 use ssh_pipe::{
-    Client, Ending, Login, OneUser, PasswordHash, PipeError, Request, Server, UserKey, pump,
-    string_of,
+    Client, ClientSession, Ending, Login, OneUser, PasswordHash, PipeError, Request, Server,
+    UserKey, pump, string_of,
 };
 use ssh_release::{KIT, VERSION};
 use std::alloc::Global;
@@ -234,16 +234,13 @@ fn client_of<'a, 'c, R: AllocGlobal + RandomSource>(
         kind: options.kind,
         text,
     };
-    let mut client = Client::new(
-        rt.alloc(),
-        &options.policy,
-        rt,
+    let session = ClientSession {
         host,
         key,
         login,
         request,
-        out,
-    )?;
+    };
+    let mut client = Client::new(rt.alloc(), &options.policy, rt, session, out)?;
     if options.is_verbose {
         client.show_messages()?;
     }

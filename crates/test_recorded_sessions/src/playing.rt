@@ -3,8 +3,8 @@
 use crate::counted::Counted;
 use crate::keys::Keys;
 use ssh_pipe::{
-    Client, Ending, Login, Machine, OneUser, PipeError, Policy, Request, RequestKind, Server,
-    UserKey,
+    Client, ClientSession, Ending, Login, Machine, OneUser, PipeError, Policy, Request,
+    RequestKind, Server, UserKey,
 };
 use std::alloc::Global;
 
@@ -55,19 +55,16 @@ pub fn client(
     let key = UserKey {
         signer: Some(keys.user()),
     };
-    Client::new(
-        alloc,
-        &Policy::DEFAULT,
-        Counted::new(100),
-        keys.trust(),
+    let session = ClientSession {
+        host: keys.trust(),
         key,
-        Login::new(b"root", &key, None),
-        Request {
+        login: Login::new(b"root", &key, None),
+        request: Request {
             kind: RequestKind::Exec,
             text: b"\0\0\0\x12echo hello; exit 3",
         },
-        out,
-    )
+    };
+    Client::new(alloc, &Policy::DEFAULT, Counted::new(100), session, out)
 }
 
 /// What became of a session.

@@ -1,4 +1,21 @@
-//! What a client asks of the server.
+//! What a client asks of the server, and as whom.
+
+use crate::login::Login;
+use ssh_parts::Ed25519Trust;
+use ssh_pipe_policy::UserKey;
+
+/// A client's session: the host that it trusts, the user who logs in, and what is asked of the server.
+#[derive(Clone, Copy)]
+pub struct ClientSession<'a> {
+    /// The host keys that are trusted.
+    pub host: Ed25519Trust,
+    /// Signs for the user.
+    pub key: UserKey,
+    /// The user, and what lets the user in.
+    pub login: Login<'a>,
+    /// What is asked of the server.
+    pub request: Request<'a>,
+}
 
 /// What is asked of the server.
 #[derive(Clone, Copy)]
