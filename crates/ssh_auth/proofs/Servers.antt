@@ -2,7 +2,8 @@
 use Rattle.std.proofs.Common.{◌≡◌, ◌<◌, ℕ, Bool, true, false, not, ◌&&◌, ◌||◌, nat_le, List, [], ◌∷◌, refl, sym, subst, ◌∙◌, arith}
 use Rattle.std.specs.Prelude.{None}
 use Rattle.ssh_model.specs.Protocol.Wire.Message.{Msg.UserauthRequest, Method, Method.Publickey}
-use Rattle.ssh_model.specs.Protocol.Sessions.Refusals.{Check.RefusedWhere, Refusal.TooManyTries, Refusal.Unexpected, first_refusal}
+use Rattle.ssh_model.specs.declared.refusal.Refusal.TheVariants.{TooManyTries, Unexpected}
+use Rattle.ssh_model.specs.Protocol.Sessions.Refusals.{Check.RefusedWhere, first_refusal}
 use Rattle.ssh_model.specs.Protocol.Authentication.Requests.{Judge, accepts, approves, fails}
 use Rattle.ssh_model.specs.State.Authentication.Kept.{ServerTakes}
 use Rattle.ssh_auth.specs.Serving.{IsJudged, Server, ServerAnswers, server_refusals, settled}

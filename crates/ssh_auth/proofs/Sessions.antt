@@ -1,7 +1,7 @@
 -- The rows of this crate as turns of a session.
 use Rattle.std.proofs.Common.{◌≡◌, ℕ, List, ◌∷◌, sym, subst}
 use Rattle.std.specs.Prelude.{None}
-use Rattle.ssh_model.specs.Protocol.Side.{Side.Client, Side.Server}
+use Rattle.ssh_model.specs.declared.side.Side.TheVariants.{Client, Server}
 use Rattle.ssh_model.specs.Protocol.Wire.Message.{Msg, Msg.Unimplemented, Msg.Unknown}
 use Rattle.ssh_model.specs.Protocol.Sessions.Parties.{Parties, user_signature_by}
 use Rattle.ssh_model.specs.Protocol.Sessions.Refusals.{first_refusal}

@@ -2,7 +2,9 @@
 use Rattle.std.specs.Prelude.{◌≡◌, ℕ, ◌≤◌, ◌+◌, Bool, true, false, not, Some, None, List, ◌∷◌, length, codes}
 use Rattle.ssh_model.specs.Protocol.Wire.DataTypes.{IsNameText}
 use Rattle.ssh_model.specs.Protocol.Wire.Message.{Msg, Msg.UserauthRequest, Msg.UserauthFailure, Msg.UserauthSuccess, Msg.UserauthPkOk, Msg.Unknown, Method, Method.Publickey, message_number}
-use Rattle.ssh_model.specs.Protocol.Sessions.Refusals.{Check, Check.RefusedWhere, Refusal, Refusal.Unexpected, first_refusal}
+use Rattle.ssh_model.specs.declared.refusal.Refusal.{Refusal}
+use Rattle.ssh_model.specs.declared.refusal.Refusal.TheVariants.{Unexpected}
+use Rattle.ssh_model.specs.Protocol.Sessions.Refusals.{Check, Check.RefusedWhere, first_refusal}
 use Rattle.ssh_model.specs.Protocol.Sessions.Items.{Fact.Accepted, Fact.Ignored}
 use Rattle.ssh_model.specs.Protocol.Authentication.Requests.{Judge, accepts, approves, fails, is_configured, is_for_connection, is_known_key}
 use Rattle.ssh_model.specs.State.Authentication.Kept as kept

@@ -21,9 +21,8 @@ pub enum AuthRefusal {
 impl From<AuthRefusal> for Refusal {
     ghost use Rattle.std.specs.Prelude.{◌≡◌};
     ghost use Rattle.ssh_auth.specs.Refusals.{auth_refusal};
-    ghost use Rattle.ssh_types.specs.Refusals.{refusal_of};
 
-    ghost from_gives = { λ refusal all. refusal_of all ≡ auth_refusal refusal };
+    ghost from_gives = { λ refusal all. all ≡ auth_refusal refusal };
 
     fn from(refusal: AuthRefusal) -> Refusal {
         match refusal {
@@ -84,9 +83,8 @@ pub enum AuthAskRefusal {
 impl From<AuthAskRefusal> for AskRefusal {
     ghost use Rattle.std.specs.Prelude.{◌≡◌};
     ghost use Rattle.ssh_auth.specs.Refusals.{auth_ask_refusal};
-    ghost use Rattle.ssh_types.specs.AskRefusals.{ask_refusal_of};
 
-    ghost from_gives = { λ refusal all. ask_refusal_of all ≡ auth_ask_refusal refusal };
+    ghost from_gives = { λ refusal all. all ≡ auth_ask_refusal refusal };
 
     fn from(refusal: AuthAskRefusal) -> AskRefusal {
         match refusal {

@@ -1,7 +1,8 @@
 -- The rows of the asks, from what they send and what they change.
 use Rattle.std.proofs.Common.{◌≡◌, ◌≤◌, ℕ, ◌+◌, ◌-◌, Bool, true, false, Option, Some, None, length, List, [], refl}
 use Rattle.ssh_model.specs.Protocol.Wire.Message.{Msg.GlobalRequest, Msg.ChannelOpen, Msg.ChannelOpenConfirmation, Msg.ChannelOpenFailure, Msg.ChannelWindowAdjust, Msg.ChannelEof, Msg.ChannelClose, Msg.ChannelRequest}
-use Rattle.ssh_model.specs.Protocol.Sessions.Refusals.{AskRefusal.Busy, AskRefusal.RekeyDue, first_refusal}
+use Rattle.ssh_model.specs.declared.ask_refusal.AskRefusal.TheVariants.{Busy, RekeyDue}
+use Rattle.ssh_model.specs.Protocol.Sessions.Refusals.{first_refusal}
 use Rattle.ssh_model.specs.Protocol.Sessions.Items.{Ask.AskOpen, Ask.AskConfirm, Ask.AskRefuse, Ask.AskData, Ask.AskAdjust, Ask.AskEof, Ask.AskClose, Ask.AskRequest, Ask.AskReply, Ask.AskGlobal, Ask.AskGlobalReply, Fact.Opening}
 use Rattle.ssh_model.specs.State.Channels.Places.{at}
 use Rattle.ssh_model.specs.State.Channels.Kept.{Channels, IsUnused, Sent, Sends, Sends.opens, Sends.confirm, Sends.refuse, Sends.gives_data, Sends.gives_extended, Sends.adjust, Sends.eof, Sends.close, Sends.request, Sends.reply_yes, Sends.reply_no, Sends.global, Sends.global_yes, Sends.global_no, change, put, count_where, opening_place, peer_of, send_checks, sends_on, sends_globally}

@@ -1,9 +1,9 @@
 -- What a message is refused for, and the words in which the rows of single messages and asks are said.
 use Rattle.std.specs.Prelude.{◌≡◌, ℕ, Bool, true, false, not, ◌&&◌, Option, Some, None, List, ◌∷◌}
 use Rattle.ssh_model.specs.Protocol.Wire.Message.{Msg, Msg.GlobalRequest, Msg.RequestSuccess, Msg.RequestFailure, Msg.ChannelOpen, Msg.ChannelOpenConfirmation, Msg.ChannelOpenFailure, Msg.ChannelWindowAdjust, Msg.ChannelData, Msg.ChannelExtendedData, Msg.ChannelEof, Msg.ChannelClose, Msg.ChannelRequest, Msg.ChannelSuccess, Msg.ChannelFailure}
-use Rattle.ssh_types.specs.Refusals.{refusal_of}
-use Rattle.ssh_types.specs.AskRefusals.{ask_refusal_of}
-use Rattle.ssh_model.specs.Protocol.Sessions.Refusals.{Check, Check.RefusedWhere, Refusal, Refusal.Unexpected, first_refusal}
+use Rattle.ssh_model.specs.declared.refusal.Refusal.{Refusal}
+use Rattle.ssh_model.specs.declared.refusal.Refusal.TheVariants.{Unexpected}
+use Rattle.ssh_model.specs.Protocol.Sessions.Refusals.{Check, Check.RefusedWhere, first_refusal}
 use Rattle.ssh_model.specs.Protocol.Sessions.Items.{Ask, Ask.AskOpen, Ask.AskRequest, Ask.AskGlobal}
 use Rattle.ssh_model.specs.State.Channels.Places.{at, is_at}
 use Rattle.ssh_model.specs.Protocol.Channels.Connection.{is_limit_reached}
@@ -58,7 +58,7 @@ OpensChannel channels (ChannelOpen kind sender window max_packet rest) = is_tabl
 OpensChannel channels _ = ⊥
 
 abbrev pub IsTakeError : (is_blocked : Bool) → Channels → Msg → TakeError → Type 0
-IsTakeError is_blocked channels message (Refused refusal) = first_refusal (message_checks is_blocked channels message) ≡ Some (refusal_of refusal)
+IsTakeError is_blocked channels message (Refused refusal) = first_refusal (message_checks is_blocked channels message) ≡ Some refusal
 IsTakeError is_blocked channels message Memory = OpensChannel channels message
 
 -- A request more cannot wait for a reply, so an ask for one is refused before it is said that an exchange is due.
@@ -73,5 +73,5 @@ AsksForChannel is_blocked is_due channels (AskOpen kind window max_packet rest) 
 AsksForChannel is_blocked is_due channels _ = ⊥
 
 abbrev pub IsAskError : (is_blocked is_due : Bool) → Channels → Ask → AskError → Type 0
-IsAskError is_blocked is_due channels ask (ask_error.Refused refusal) = first_refusal (send_checks is_blocked is_due channels ask) ≡ Some (ask_refusal_of refusal)
+IsAskError is_blocked is_due channels ask (ask_error.Refused refusal) = first_refusal (send_checks is_blocked is_due channels ask) ≡ Some refusal
 IsAskError is_blocked is_due channels ask ask_error.Memory = AsksForChannel is_blocked is_due channels ask

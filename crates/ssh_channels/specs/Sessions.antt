@@ -1,8 +1,6 @@
 -- What a call answers after any history that the channels sum up.
 use Rattle.std.specs.Prelude.{◌≡◌, ℕ, Bool, true, List, [], Option, Some, None, option_map, Result, Ok, Err}
-use Rattle.ssh_types.specs.AskRefusals.{ask_refusal_of}
-use Rattle.ssh_types.specs.Refusals.{refusal_of}
-use Rattle.ssh_model.specs.Protocol.Side.{Side}
+use Rattle.ssh_model.specs.declared.side.Side.{Side}
 use Rattle.ssh_model.specs.Protocol.Wire.Message.{Msg}
 use Rattle.ssh_model.specs.Protocol.Sessions.Refusals.{first_refusal}
 use Rattle.ssh_model.specs.Protocol.Sessions.Items.{Ask, Item}
@@ -26,7 +24,7 @@ use Rattle.ssh_channels.specs.declared.state.ChannelState.{ChannelState}
 -- A message is answered as in a session, and the channels then sum up the history with it; or it is refused as in a session.
 abbrev pub AnswersInSession : Side → List Item → Msg → Channels → Result Taken TakeError → Type 0
 AnswersInSession side history message new (Ok taken) = Accepts side history message (taken_of taken) new
-AnswersInSession side history message new (Err (Refused refusal)) = is_connection message ≡ true → first_refusal (connection_checks side history message) ≡ Some (refusal_of refusal)
+AnswersInSession side history message new (Err (Refused refusal)) = is_connection message ≡ true → first_refusal (connection_checks side history message) ≡ Some refusal
 AnswersInSession side history message new (Err Memory) = Unit {0}
 
 -- The same after every history in which the end is within a key exchange of its own or not.
@@ -44,7 +42,7 @@ pub record Allowed (side : Side) (history : List Item) (is_due : Bool) (ask : As
 -- An ask is allowed, or it is refused as in a session, after the check that the end is authenticated.
 abbrev pub SendsInSession : Side → List Item → (is_due : Bool) → Ask → Channels → Result Sent AskError → Type 0
 SendsInSession side history is_due ask new (Ok sent) = Allowed side history is_due ask sent new
-SendsInSession side history is_due ask new (Err (ask_error.Refused refusal)) = first_refusal (channel_ask_checks (blocked history) is_due side history ask) ≡ Some (ask_refusal_of refusal)
+SendsInSession side history is_due ask new (Err (ask_error.Refused refusal)) = first_refusal (channel_ask_checks (blocked history) is_due side history ask) ≡ Some refusal
 SendsInSession side history is_due ask new (Err ask_error.Memory) = Unit {0}
 
 -- The same after every history in which the end is within a key exchange of its own or not.

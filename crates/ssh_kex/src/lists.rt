@@ -5,7 +5,6 @@ ghost use Rattle.ssh_model.specs.Protocol.KeyExchange.Choice.{server_marker};
 ghost use Rattle.ssh_model.specs.Protocol.KeyExchange.Exchanges.{has_marker};
 ghost use Rattle.ssh_model.specs.Protocol.Wire.DataTypes.{is_name};
 ghost use Rattle.ssh_model.specs.Protocol.Sessions.Parties.{extension_marker_of, marker_of};
-ghost use Rattle.ssh_types.specs.Sides.{side_of};
 ghost use Rattle.ssh_types.specs.Values.{name_text, names};
 
 use ssh_message::Proposal;
@@ -75,7 +74,7 @@ impl<'a> From<Proposal<'a>> for KexLists<'a> {
 /// The name by which the end of this side offers strict key exchange, in the kex list of its first KEXINIT (OpenSSH's
 /// PROTOCOL).
 pub fn strict_marker(side: Side) -> Name<'static>
-    ensures { name_text result ≡ marker_of (side_of side) }
+    ensures { name_text result ≡ marker_of side }
 {
     match side {
         Side::Client => name_of(CLIENT_MARKER),
@@ -86,7 +85,7 @@ pub fn strict_marker(side: Side) -> Name<'static>
 /// The name by which the end of this side says, in the kex list of its first KEXINIT, that it takes extensions (RFC 8308
 /// section 2.1).
 pub fn extension_marker(side: Side) -> Name<'static>
-    ensures { name_text result ≡ extension_marker_of (side_of side) }
+    ensures { name_text result ≡ extension_marker_of side }
 {
     match side {
         Side::Client => name_of(CLIENT_EXTENSION_MARKER),

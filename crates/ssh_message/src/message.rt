@@ -278,7 +278,7 @@ impl From<ReadRefusal> for BadMessage {
 
 impl From<BadMessage> for Refusal {
     ghost use Rattle.std.specs.Prelude.{◌≡◌};
-    ghost use Rattle.ssh_types.specs.declared.refusal.Refusal.TheVariants as refusals;
+    ghost use Rattle.ssh_model.specs.declared.refusal.Refusal.TheVariants as refusals;
 
     ghost from_gives = { λ _ refusal. refusal ≡ refusals.BadMessage };
 

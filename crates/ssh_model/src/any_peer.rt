@@ -1,7 +1,9 @@
 //! What one end keeps to, whoever its peer is: the second headline, besides the claims on two ends in an honest run.
 
 ghost use Rattle.std.specs.Prelude.{◌≡◌, List, [], ◌∷◌, Some, None, true, false, codes, reverse};
-ghost use Rattle.ssh_model.specs.Protocol.Side.{Side, Side.Client, Side.Server, part};
+ghost use Rattle.ssh_model.specs.declared.side.Side.{Side};
+ghost use Rattle.ssh_model.specs.declared.side.Side.TheVariants.{Client, Server};
+ghost use Rattle.ssh_model.specs.Protocol.Side.{part};
 ghost use Rattle.ssh_model.specs.Protocol.Wire.Message.{Msg.Ignore, Msg.KexInit, Msg.NewKeys, Msg.KexEcdhInit, Msg.ExtInfo};
 ghost use Rattle.ssh_model.specs.Protocol.Wire.Message.{Msg.UserauthRequest, Msg.UserauthSuccess, Method.NoMethod};
 ghost use Rattle.ssh_model.specs.Protocol.Sessions.Parties.{Parties, AreLawful};

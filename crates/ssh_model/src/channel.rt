@@ -1,7 +1,8 @@
 //! Laws of channels (RFC 4254 section 5).
 
 ghost use Rattle.std.specs.Prelude.{ℕ, suc, Bool, true, false, List, ◌∷◌, length, Option, ◌≡◌, ◌-◌, ◌⊎◌};
-ghost use Rattle.ssh_model.specs.Protocol.Side.{Side, peer, part};
+ghost use Rattle.ssh_model.specs.declared.side.Side.{Side};
+ghost use Rattle.ssh_model.specs.Protocol.Side.{peer, part};
 ghost use Rattle.ssh_model.specs.Protocol.Channels.Message.{Message, Message.Data, Message.Request, Message.Reply, Channel, Stage.Closed};
 ghost use Rattle.ssh_model.specs.Protocol.Channels.Message.{Stage.Failed, stage, over};
 ghost use Rattle.ssh_model.specs.Protocol.Channels.Notes.{Note, Note.Said, Note.Took, channel_at, At, Free};

@@ -2,7 +2,9 @@
 //! session. An end is proved against what it keeps alone, and these laws make of it what is said of histories.
 
 ghost use Rattle.std.specs.Prelude.{◌≡◌, ◌<◌, ◌≤◌, ◌^◌, ◌++◌, ◌↔◌, ℕ, List, [], ◌∷◌, None, true, false};
-ghost use Rattle.ssh_model.specs.Protocol.Side.{Side, Side.Client, part};
+ghost use Rattle.ssh_model.specs.declared.side.Side.{Side};
+ghost use Rattle.ssh_model.specs.declared.side.Side.TheVariants.{Client};
+ghost use Rattle.ssh_model.specs.Protocol.Side.{part};
 ghost use Rattle.ssh_model.specs.Protocol.Wire.Message.{Msg, Msg.KexInit};
 ghost use Rattle.ssh_model.specs.Protocol.Wire.Line.{IsLineBegun, line_end};
 ghost use Rattle.ssh_model.specs.Protocol.Wire.Sealing.{IsSealing};
@@ -11,7 +13,8 @@ ghost use Rattle.ssh_model.specs.Protocol.Wire.Outcome.{Outcome.OtherLine, Outco
 ghost use Rattle.ssh_model.specs.Protocol.Wire.Outcome.{Outcome.RefusedPacket};
 ghost use Rattle.ssh_model.specs.Protocol.Wire.Delivery.{Delivered, InPieces, Waits};
 ghost use Rattle.ssh_model.specs.Protocol.KeyExchange.Exchanges.{exchanges, session_id};
-ghost use Rattle.ssh_model.specs.Protocol.Sessions.Refusals.{Refusal, first_refusal};
+ghost use Rattle.ssh_model.specs.declared.refusal.Refusal.{Refusal};
+ghost use Rattle.ssh_model.specs.Protocol.Sessions.Refusals.{first_refusal};
 ghost use Rattle.ssh_model.specs.Protocol.Sessions.Parties.{AreLawful, Parties, offer, settings_of};
 ghost use Rattle.ssh_model.specs.Protocol.Sessions.Items.{Ask, Done, Item, Fact.Completed, Item.Fed, Item.SentLine, Item.Sent, Item.Took};
 ghost use Rattle.ssh_model.specs.Protocol.Sessions.Items.{Item.TookLine, Item.TookOtherLine, Item.Told, Item.Died, Spelled.SpelledBy};

@@ -2,7 +2,9 @@
 
 ghost use Rattle.std.specs.Prelude.{◌≡◌, ℕ, ◌∷◌, ◌++◌, true, false, List, [], Some, None, codes, replicate, length, take, map};
 ghost use Rattle.ssh_model.specs.Protocol.Bounds.{longest_description};
-ghost use Rattle.ssh_model.specs.Protocol.Side.{Side, Side.Client, Side.Server, peer, part};
+ghost use Rattle.ssh_model.specs.declared.side.Side.{Side};
+ghost use Rattle.ssh_model.specs.declared.side.Side.TheVariants.{Client, Server};
+ghost use Rattle.ssh_model.specs.Protocol.Side.{peer, part};
 ghost use Rattle.ssh_model.specs.Protocol.Lists.{IsIn};
 ghost use Rattle.ssh_model.specs.Example.Histories.{taken, refusal, ask_refusal, says, hears, says_on, offer_of, opened, lined, offered};
 ghost use Rattle.ssh_model.specs.Example.Histories.{first_reply, completed, keyed, userauth, connection, asking, served, right_request};
@@ -21,13 +23,17 @@ ghost use Rattle.ssh_model.specs.Protocol.Wire.Message.{Msg.ChannelWindowAdjust,
 ghost use Rattle.ssh_model.specs.Protocol.Wire.Message.{Msg.ChannelClose, Msg.ChannelRequest, Msg.ChannelSuccess, Msg.ChannelFailure};
 ghost use Rattle.ssh_model.specs.Protocol.Wire.Message.{Msg.Unknown};
 ghost use Rattle.ssh_model.specs.Protocol.Sessions.Refusals.{refusal_number, refusal_name, refusal_reason, ask_refusal_number};
-ghost use Rattle.ssh_model.specs.Protocol.Sessions.Refusals.{ask_refusal_name, Refusal, Refusal.Unexpected, Refusal.NoCommon};
-ghost use Rattle.ssh_model.specs.Protocol.Sessions.Refusals.{Refusal.NotStrict, Refusal.BadPoint, Refusal.BadHost, Refusal.NoService};
-ghost use Rattle.ssh_model.specs.Protocol.Sessions.Refusals.{Refusal.TooManyTries, Refusal.UnknownChannel, Refusal.WindowOverrun};
-ghost use Rattle.ssh_model.specs.Protocol.Sessions.Refusals.{Refusal.WindowTooLarge, Refusal.OwedFull, AskRefusal.NotYet, AskRefusal.Busy};
-ghost use Rattle.ssh_model.specs.Protocol.Sessions.Refusals.{AskRefusal.NoChannel, AskRefusal.NoRoom, AskRefusal.TooLong};
-ghost use Rattle.ssh_model.specs.Protocol.Sessions.Refusals.{AskRefusal.TableFull, AskRefusal.NothingOwed, AskRefusal.RekeyDue};
-ghost use Rattle.ssh_model.specs.Protocol.Sessions.Refusals.{AskRefusal.TooMuch, AskRefusal.WrongSide, AskRefusal};
+ghost use Rattle.ssh_model.specs.declared.refusal.Refusal.{Refusal};
+ghost use Rattle.ssh_model.specs.declared.refusal.Refusal.TheVariants.{Unexpected, NoCommon};
+ghost use Rattle.ssh_model.specs.Protocol.Sessions.Refusals.{ask_refusal_name};
+ghost use Rattle.ssh_model.specs.declared.refusal.Refusal.TheVariants.{NotStrict, BadPoint, BadHost, NoService};
+ghost use Rattle.ssh_model.specs.declared.refusal.Refusal.TheVariants.{TooManyTries, UnknownChannel, WindowOverrun};
+ghost use Rattle.ssh_model.specs.declared.refusal.Refusal.TheVariants.{WindowTooLarge, OwedFull};
+ghost use Rattle.ssh_model.specs.declared.ask_refusal.AskRefusal.TheVariants.{NotYet, Busy};
+ghost use Rattle.ssh_model.specs.declared.ask_refusal.AskRefusal.TheVariants.{NoChannel, NoRoom, TooLong};
+ghost use Rattle.ssh_model.specs.declared.ask_refusal.AskRefusal.TheVariants.{TableFull, NothingOwed, RekeyDue};
+ghost use Rattle.ssh_model.specs.declared.ask_refusal.AskRefusal.{AskRefusal};
+ghost use Rattle.ssh_model.specs.declared.ask_refusal.AskRefusal.TheVariants.{TooMuch, WrongSide};
 ghost use Rattle.ssh_model.specs.Protocol.Sessions.Parties.{AreLawful, marker_of, lists_of};
 ghost use Rattle.ssh_model.specs.Protocol.Sessions.Items.{has_died, sent, took, Ask.AskService, Ask.AskNone, Ask.AskPassword, Ask.AskProbe};
 ghost use Rattle.ssh_model.specs.Protocol.Sessions.Items.{Ask.AskSign, Ask.AskRekey, Ask.AskOpen, Ask.AskConfirm, Ask.AskRefuse};

@@ -1,7 +1,7 @@
 //! Another judge of a server's users, in the middle of a run.
 
 ghost use Rattle.std.specs.Prelude.{◌≡◌, List, false};
-ghost use Rattle.ssh_model.specs.Protocol.Side.{Side};
+ghost use Rattle.ssh_model.specs.declared.side.Side.{Side};
 ghost use Rattle.ssh_model.specs.Protocol.Authentication.Requests.{Judge, judge_of};
 ghost use Rattle.ssh_model.specs.Protocol.Sessions.Parties.{Parties, AreLawful};
 ghost use Rattle.ssh_model.specs.Protocol.Sessions.Items.{Item, has_died};

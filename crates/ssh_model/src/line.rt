@@ -1,7 +1,7 @@
 ghost use Rattle.std.specs.Prelude.{◌≡◌, ◌++◌, ◌⊎◌, ℕ, Bool, true, false, List, [], ◌∷◌, codes, replicate, Option, Some, None};
 ghost use Rattle.ssh_model.specs.Protocol.Wire.Line.{IsLineBegun, IsVersionLine, LineUnit, line_end};
 ghost use Rattle.ssh_model.specs.Protocol.Wire.Outcome.{HasUnit, Outcome, Outcome.OtherLine, Outcome.RefusedLine, Outcome.VersionLine};
-ghost use Rattle.ssh_model.specs.Protocol.Sessions.Refusals.{Refusal.BadLine, Refusal.BadVersion};
+ghost use Rattle.ssh_model.specs.declared.refusal.Refusal.TheVariants.{BadLine, BadVersion};
 
 /// Before the version line (RFC 4253 section 4.2) no unit of the stream is a prefix of another, a unit has one outcome
 /// and at least one byte, and bytes have a unit in front exactly where they are not a prefix of a line.

@@ -1,7 +1,8 @@
 //! What holds of one end alone, whatever comes to it.
 
 ghost use Rattle.std.specs.Prelude.{◌≡◌, ◌<◌, ◌^◌, ◌-◌, ℕ, List, [], ◌∷◌, length, map, true, false, Option, Some, None};
-ghost use Rattle.ssh_model.specs.Protocol.Side.{Side, part};
+ghost use Rattle.ssh_model.specs.declared.side.Side.{Side};
+ghost use Rattle.ssh_model.specs.Protocol.Side.{part};
 ghost use Rattle.ssh_model.specs.Protocol.Sessions.Parties.{Parties, AreLawful};
 ghost use Rattle.ssh_model.specs.Protocol.Sessions.Items.{Ask, Item, Item.Asked, Item.SentLine, Item.Sent, Item.Refused, Item.Died, Done};
 ghost use Rattle.ssh_model.specs.Protocol.Sessions.Items.{has_died, sent};
@@ -13,12 +14,15 @@ ghost use Rattle.ssh_model.specs.Protocol.Sessions.Events.{Event, IsFirst, Plays
 ghost use Rattle.ssh_model.specs.Protocol.Sessions.Claims.{WindowsAt};
 ghost use Rattle.ssh_model.specs.Protocol.Wire.Message.{Msg, Msg.Disconnect};
 ghost use Rattle.ssh_model.specs.Protocol.Wire.Sealing.{IsSealing};
-ghost use Rattle.ssh_model.specs.Protocol.Sessions.Refusals.{Refusal, Refusal.NumberSpent, first_refusal, refusal_name, refusal_reason};
+ghost use Rattle.ssh_model.specs.declared.refusal.Refusal.{Refusal};
+ghost use Rattle.ssh_model.specs.declared.refusal.Refusal.TheVariants.{NumberSpent};
+ghost use Rattle.ssh_model.specs.Protocol.Sessions.Refusals.{first_refusal, refusal_name, refusal_reason};
 ghost use Rattle.ssh_model.specs.Protocol.Sessions.Epochs.{count};
 ghost use Rattle.ssh_model.specs.Protocol.Sessions.Phases.{has_material};
 ghost use Rattle.ssh_model.specs.Protocol.KeyExchange.Exchanges.{fed};
 ghost use Rattle.ssh_model.specs.Protocol.Wire.Outcome.{Outcome};
 ghost use Rattle.ssh_model.specs.Protocol.Wire.Unit.{IsUnit};
+ghost use Rattle.ssh_model.specs.Protocol.Bounds.{most_exchanges, numbers_of_epoch};
 
 /// What each end does in a run of two ends is a run of its own, so each law of one end holds of both.
 pub fn runs_of_each_end<K>()
@@ -59,24 +63,25 @@ pub fn refusals_are_said()
     ensures silently { (h items : List Item) (why : Refusal) (payload : Option (List ℕ)) → refusal_reason why ≡ None →
         Refuses h why payload items → items ≡ Died ∷ Refused why payload ∷ [] }
     ensures aloud { (h items : List Item) (why : Refusal) (reason : ℕ) (payload : Option (List ℕ)) → refusal_reason why ≡ Some reason →
-        count (sent h) < 2 ^ 32 → Refuses h why payload items →
+        count (sent h) < numbers_of_epoch → Refuses h why payload items →
         map shown items ≡ Died ∷ Sent None (Disconnect reason (refusal_name why) []) [] ∷ Refused why payload ∷ [] }
-    ensures when_spent { (h items : List Item) (why : Refusal) (payload : Option (List ℕ)) → count (sent h) ≡ 2 ^ 32 →
+    ensures when_spent { (h items : List Item) (why : Refusal) (payload : Option (List ℕ)) → count (sent h) ≡ numbers_of_epoch →
         Refuses h why payload items → items ≡ Died ∷ Refused why payload ∷ [] }
 {}
 
 /// Where all numbers of its epoch are spent, an end dies at an ask that it doesn't refuse.
 pub fn asks_when_spent<K>()
     ensures { (p : Parties K) (side : Side) (h items : List Item) (ask : Ask) → has_died h ≡ false →
-        first_refusal (ask_checks p side h ask) ≡ None → count (sent h) ≡ 2 ^ 32 → AsksTurn p side h ask items →
+        first_refusal (ask_checks p side h ask) ≡ None → count (sent h) ≡ numbers_of_epoch → AsksTurn p side h ask items →
         items ≡ Died ∷ Refused NumberSpent None ∷ Asked ask ∷ [] }
 {}
 
 /// An end keeps one pair of cookie and secret at a time, and is fed at most 2^32 - 1 of them.
 pub fn feeding()
-    ensures feeds_one { (h : List Item) → has_died h ≡ false → has_material h ≡ false → length (fed h) < 2 ^ 32 - 1 → can_feed h ≡ true }
+    ensures feeds_one { (h : List Item) → has_died h ≡ false → has_material h ≡ false → length (fed h) < most_exchanges →
+        can_feed h ≡ true }
     ensures keeps_one { (h : List Item) → has_material h ≡ true → can_feed h ≡ false }
-    ensures most { (h : List Item) → length (fed h) ≡ 2 ^ 32 - 1 → can_feed h ≡ false }
+    ensures most { (h : List Item) → length (fed h) ≡ most_exchanges → can_feed h ≡ false }
 {}
 
 /// What an end puts out: its version line with CR LF, and for each payload a packet that opens to it, under the key and

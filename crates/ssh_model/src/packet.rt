@@ -4,7 +4,7 @@ ghost use Rattle.ssh_model.specs.Protocol.Wire.Outcome.{HasUnit, Outcome, Outcom
 ghost use Rattle.ssh_model.specs.Protocol.Wire.Packet.{IsPacket, is_size, with_length, without_length};
 ghost use Rattle.ssh_model.specs.Protocol.Wire.Sealing.{Crypto, IsBadLength, IsSealing};
 ghost use Rattle.ssh_model.specs.Protocol.Wire.Unit.{IsPacketBegun, IsPlace, PacketUnit};
-ghost use Rattle.ssh_model.specs.Protocol.Sessions.Refusals.{Refusal.BadLength, Refusal.BadPadding, Refusal.NumberSpent};
+ghost use Rattle.ssh_model.specs.declared.refusal.Refusal.TheVariants.{BadLength, BadPadding, NumberSpent};
 
 /// Under one key, with one number and one count of packets, no unit of a stream of packets (RFC 4253 section 6) is a
 /// prefix of another, a unit has one outcome and at least one byte, and bytes have a unit in front exactly where they

@@ -1,7 +1,9 @@
 //! Laws of two ends of a session, by what both keep: from a turn of one end to an event, and to a play of events.
 
 ghost use Rattle.std.specs.Prelude.{◌≡◌, ◌++◌, ℕ, List, [], ◌∷◌, true, false};
-ghost use Rattle.ssh_model.specs.Protocol.Side.{Side, Side.Client, Side.Server, done_by, part, peer};
+ghost use Rattle.ssh_model.specs.declared.side.Side.{Side};
+ghost use Rattle.ssh_model.specs.declared.side.Side.TheVariants.{Client, Server};
+ghost use Rattle.ssh_model.specs.Protocol.Side.{done_by, part, peer};
 ghost use Rattle.ssh_model.specs.Protocol.Wire.Delivery.{Delivered, Waits};
 ghost use Rattle.ssh_model.specs.Protocol.Sessions.Parties.{Parties};
 ghost use Rattle.ssh_model.specs.Protocol.Sessions.Items.{Ask, Done, Item};

@@ -2,7 +2,7 @@
 //! agreement of its own side.
 
 ghost use Rattle.std.specs.Prelude.{◌≡◌, ◌∷◌, ◌++◌, true, false, [], Some, codes, replicate};
-ghost use Rattle.ssh_model.specs.Protocol.Side.{Side.Client, Side.Server};
+ghost use Rattle.ssh_model.specs.declared.side.Side.TheVariants.{Client, Server};
 ghost use Rattle.ssh_model.specs.Protocol.KeyExchange.Exchanges.{sending_key, taking_key};
 ghost use Rattle.ssh_model.specs.Protocol.Sessions.Transport.{host_key_now, is_trusted, point_now};
 ghost use Rattle.ssh_model.specs.Example.Toys.{naming_toys, own_points, secret, two_host_keys};

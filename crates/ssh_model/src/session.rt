@@ -1,5 +1,6 @@
 ghost use Rattle.std.specs.Prelude.{◌++◌, ◌↔◌, ℕ, List};
-ghost use Rattle.ssh_model.specs.Protocol.Side.{Side, part};
+ghost use Rattle.ssh_model.specs.declared.side.Side.{Side};
+ghost use Rattle.ssh_model.specs.Protocol.Side.{part};
 ghost use Rattle.ssh_model.specs.Protocol.Sessions.Parties.{Parties, AreLawful, BothOffer};
 ghost use Rattle.ssh_model.specs.Protocol.Sessions.Items.{Done};
 ghost use Rattle.ssh_model.specs.Protocol.Sessions.Turns.{Run};

@@ -2,11 +2,15 @@
 //! proved against what it keeps alone, and these laws make of it what is said of histories.
 
 ghost use Rattle.std.specs.Prelude.{◌≡◌, ◌<◌, ◌≤◌, ◌+◌, ◌^◌, ◌++◌, ℕ, Bool, length, Some, List, [], ◌∷◌, Option, None, true, false};
-ghost use Rattle.ssh_model.specs.Protocol.Side.{Side, Side.Client, Side.Server};
+ghost use Rattle.ssh_model.specs.declared.side.Side.{Side};
+ghost use Rattle.ssh_model.specs.declared.side.Side.TheVariants.{Client, Server};
 ghost use Rattle.ssh_model.specs.Protocol.Wire.Message.{Msg, Msg.Disconnect, Msg.KexInit, Msg.UserauthSuccess};
 ghost use Rattle.ssh_model.specs.Protocol.KeyExchange.Choice.{Chosen};
 ghost use Rattle.ssh_model.specs.Protocol.KeyExchange.Exchanges.{choice};
-ghost use Rattle.ssh_model.specs.Protocol.Sessions.Refusals.{AskRefusal, Refusal, Refusal.NumberSpent, first_refusal};
+ghost use Rattle.ssh_model.specs.declared.ask_refusal.AskRefusal.{AskRefusal};
+ghost use Rattle.ssh_model.specs.declared.refusal.Refusal.{Refusal};
+ghost use Rattle.ssh_model.specs.declared.refusal.Refusal.TheVariants.{NumberSpent};
+ghost use Rattle.ssh_model.specs.Protocol.Sessions.Refusals.{first_refusal};
 ghost use Rattle.ssh_model.specs.Protocol.Sessions.Transport.{transport_ask_checks};
 ghost use Rattle.ssh_model.specs.Protocol.Sessions.Turns.{AreSpelled, IsSpelled, OnPayload, answer_checks, can_feed, number_of, stage};
 ghost use Rattle.ssh_model.specs.Protocol.Channels.Connection.{AreReplies, owed_replies};
@@ -31,6 +35,7 @@ ghost use Rattle.ssh_model.specs.State.TransportLayer.Summary.{Accepts, Allows, 
 ghost use Rattle.ssh_model.specs.State.TransportLayer.Summary.{IsAwaited, IsPlain, IsTransportMessage, LeavesTransport};
 ghost use Rattle.ssh_model.specs.State.TransportLayer.Turns.{AskTurned, EndedBy, IsRefused, IsTransportAsk, PutOut, PutsPackets, Reads};
 ghost use Rattle.ssh_model.specs.State.TransportLayer.Turns.{SaysWhy, Turned, UnitRefused, refusal_items};
+ghost use Rattle.ssh_model.specs.Protocol.Bounds.{numbers_of_epoch};
 
 /// A direction sums up the payloads that went through it, the newest first: its number is that of the next packet (RFC
 /// 4253 section 6.4, and OpenSSH's strict key exchange), its count is of those after the last NEWKEYS, and its epoch of
@@ -48,7 +53,7 @@ pub fn directions<K>()
 {}
 
 /// What a new transport keeps sums up the history of its opening.
-#[tactic(auto, using(crate::proofs::TransportLayer::Items::opened))]
+#[tactic(auto, using(crate::proofs::Items::opened))]
 pub fn new_transports<K>()
     ensures { (p : Parties K) (side : Side) (cookie secret payload : List ℕ) →
         SumsUp p side (Sent None (KexInit (offer p side true cookie)) payload ∷ SentLine (settings_of p side).line ∷ Fed cookie secret
@@ -56,7 +61,7 @@ pub fn new_transports<K>()
 {}
 
 /// What is kept goes on summing up the history with each line of the peer.
-#[tactic(auto, using(crate::proofs::TransportLayer::Items::line_taken, crate::proofs::TransportLayer::Items::other_line_taken))]
+#[tactic(auto, using(crate::proofs::Items::line_taken, crate::proofs::Items::other_line_taken))]
 pub fn lines<K>()
     ensures version { (p : Parties K) (side : Side) (history : List Item) (s : Transport K) (line : List ℕ) → SumsUp p side history s →
         SumsUp p side (TookLine line ∷ history) (after_line line s) }
@@ -66,7 +71,7 @@ pub fn lines<K>()
 
 /// What is kept goes on summing up the history with the items of other layers: of what is asked and told it keeps nothing,
 /// of a message that is sent or taken that a packet went, and of USERAUTH_SUCCESS that the user is authenticated.
-#[tactic(auto, using(crate::proofs::TransportLayer::Items::left, crate::proofs::TransportLayer::Items::plain_sent, crate::proofs::TransportLayer::Items::plain_taken, crate::proofs::TransportLayer::Items::success_sent, crate::proofs::TransportLayer::Items::success_taken))]
+#[tactic(auto, using(crate::proofs::Items::left, crate::proofs::Items::plain_sent, crate::proofs::Items::plain_taken, crate::proofs::Items::success_sent, crate::proofs::Items::success_taken))]
 pub fn items_of_other_layers<K>()
     ensures left { (p : Parties K) (side : Side) (history : List Item) (s : Transport K) (item : Item) → LeavesTransport item →
         SumsUp p side history s → SumsUp p side (item ∷ history) s }
@@ -193,7 +198,7 @@ pub fn payloads<K>()
         (chosen : Chosen) (message : Msg) (payload : List ℕ) (answered : Answered) (new dead : Transport K) → Reads s message payload →
         IsAwaited s chosen message → first_refusal (message_checks (agreement_of p side) p.trusts chosen s message) ≡ None →
         Takes (agreement_of p side) s payload message answered new → AreSpelled (items_sent answered.sent) → 1 ≤ length answered.sent →
-        2 ^ 32 < s.sending.count + length answered.sent → dead.dead ≡ true →
+        numbers_of_epoch < s.sending.count + length answered.sent → dead.dead ≡ true →
         Turned p side history payload (Died ∷ Refused NumberSpent (Some payload) ∷ []) [] dead }
 {}
 
@@ -245,18 +250,18 @@ pub fn refused_and_spent<K>()
         AskTurned p side history ask (AskRefused refusal ∷ Asked ask ∷ []) [] s }
     ensures ask_spent { (p : Parties K) (side : Side) (history : List Item) (s : Transport K) → SumsUp p side history s → s.dead ≡ false →
         (ask : Ask) (message : Msg) (payload : List ℕ) (new dead : Transport K) → first_refusal (message_ask_checks s ask) ≡ None →
-        Asks s ask message payload new → IsSpelled message payload → s.sending.count ≡ 2 ^ 32 → dead.dead ≡ true →
+        Asks s ask message payload new → IsSpelled message payload → s.sending.count ≡ numbers_of_epoch → dead.dead ≡ true →
         AskTurned p side history ask (Died ∷ Refused NumberSpent None ∷ Asked ask ∷ []) [] dead }
     ensures disconnect_spent { (p : Parties K) (side : Side) (history : List Item) (s : Transport K) → SumsUp p side history s →
         s.dead ≡ false → (description payload : List ℕ) (dead : Transport K) →
         first_refusal (message_ask_checks s (AskDisconnect description)) ≡ None → IsSpelled (Disconnect 11 description []) payload →
-        s.sending.count ≡ 2 ^ 32 → dead.dead ≡ true → AskTurned p side history (AskDisconnect description)
+        s.sending.count ≡ numbers_of_epoch → dead.dead ≡ true → AskTurned p side history (AskDisconnect description)
         (Died ∷ Refused NumberSpent None ∷ Asked (AskDisconnect description) ∷ []) [] dead }
     ensures end_spent { (p : Parties K) (side : Side) (history : List Item) (s : Transport K) → SumsUp p side history s → s.dead ≡ false →
         (chosen : Chosen) (message : Msg) (payload : List ℕ) (last announced : List Spelled) (completed new dead : Transport K)
         (owed : List Item) → Reads s message payload → IsAwaited s chosen message →
         first_refusal (message_checks (agreement_of p side) p.trusts chosen s message) ≡ None →
         Completes p.crypto (parts_of p side) chosen s message last announced completed new → AreSpelled (items_sent (announced ++ last)) →
-        AreReplies (owed_replies side history) owed → AreSpelled owed → 2 ^ 32 < s.sending.count + length last → dead.dead ≡ true →
-        Turned p side history payload (Died ∷ Refused NumberSpent (Some payload) ∷ []) [] dead }
+        AreReplies (owed_replies side history) owed → AreSpelled owed → numbers_of_epoch < s.sending.count + length last →
+        dead.dead ≡ true → Turned p side history payload (Died ∷ Refused NumberSpent (Some payload) ∷ []) [] dead }
 {}

@@ -1,6 +1,7 @@
 ghost use Rattle.std.specs.Prelude.{◌≡◌, ℕ, List, map, Option};
 ghost use Rattle.ssh_model.specs.Protocol.Wire.Message.{Msg};
-ghost use Rattle.ssh_model.specs.Protocol.Side.{Side, part};
+ghost use Rattle.ssh_model.specs.declared.side.Side.{Side};
+ghost use Rattle.ssh_model.specs.Protocol.Side.{part};
 ghost use Rattle.ssh_model.specs.Protocol.Sessions.Parties.{Parties, AreLawful};
 ghost use Rattle.ssh_model.specs.Protocol.Sessions.Items.{Ask, Item, Done};
 ghost use Rattle.ssh_model.specs.Protocol.Sessions.Phases.{Phase.Guessed, phase};

@@ -2,7 +2,7 @@
 //! session. A layer is proved against what it keeps alone, and these laws make of it what is said of histories.
 
 ghost use Rattle.std.specs.Prelude.{◌≡◌, ◌≤◌, ◌<◌, ℕ, List, [], ◌∷◌, Option};
-ghost use Rattle.ssh_model.specs.Protocol.Side.{Side.Client, Side.Server};
+ghost use Rattle.ssh_model.specs.declared.side.Side.TheVariants.{Client, Server};
 ghost use Rattle.ssh_model.specs.Protocol.Wire.Message.{Msg, Msg.ServiceAccept};
 ghost use Rattle.ssh_model.specs.Protocol.Sessions.Refusals.{first_refusal};
 ghost use Rattle.ssh_model.specs.Protocol.Sessions.Parties.{Parties, user_signature_by};

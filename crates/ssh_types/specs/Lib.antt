@@ -2,8 +2,5 @@ pub mod Digits
 pub mod Names
 pub mod ReadRefusals
 pub mod Values
-pub mod Refusals
-pub mod Sides
 pub mod Spellings
 pub mod WholeNumbers
-pub mod AskRefusals

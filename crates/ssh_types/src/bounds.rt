@@ -18,3 +18,16 @@ pub const MOST_WAITING: usize = 256;
 
 /// The most bytes of the text of a DISCONNECT that a user asks for.
 pub const LONGEST_DESCRIPTION: usize = 1_024;
+
+/// The sequence numbers of an epoch, and so the packets of one direction under one key: a sequence number is a uint32 (RFC
+/// 4253 section 6.4).
+pub const NUMBERS_OF_EPOCH: u64 = 1 << 32;
+
+/// The fewest packets of an epoch after which settings may have the next key exchange due.
+pub const LEAST_EPOCH_LIMIT: u32 = 64;
+
+/// The most packets of an epoch after which settings may have the next key exchange due (RFC 4344 section 3.1).
+pub const MOST_EPOCH_LIMIT: u32 = 1 << 31;
+
+/// The most key exchanges of one end, which is fed a cookie and a secret for each.
+pub const MOST_EXCHANGES: u32 = u32::MAX;

@@ -27,7 +27,6 @@
 //! ```
 #![tactic(auto)]
 
-mod ask_refusal;
 pub mod bounds;
 mod digits;
 pub mod laws;
@@ -40,10 +39,7 @@ mod name_list_buf;
 mod put;
 mod read_refusal;
 mod reader;
-mod refusal;
-mod side;
 
-pub use ask_refusal::AskRefusal;
 pub use mpint::MpInt;
 pub use name::Name;
 pub use name_buf::{MOST_NAME_BYTES, NameBuf};
@@ -52,5 +48,4 @@ pub use name_list_buf::NameListBuf;
 pub use put::Put;
 pub use read_refusal::ReadRefusal;
 pub use reader::Reader;
-pub use refusal::Refusal;
-pub use side::Side;
+pub use ssh_model::{AskRefusal, Refusal, Side};

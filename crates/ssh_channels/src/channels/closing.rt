@@ -1,8 +1,6 @@
 //! EOF and CLOSE (RFC 4254 section 5.3).
 
 ghost use Rattle.std.specs.Prelude.{◌≡◌, Bool, ◌≤◌, Some, None, IfOk, IfErr, OnOk, OnErr, false};
-ghost use Rattle.ssh_types.specs.AskRefusals.{ask_refusal_of};
-ghost use Rattle.ssh_types.specs.Refusals.{refusal_of};
 ghost use Rattle.ssh_message.specs.Meaning.{meaning};
 ghost use Rattle.ssh_message.specs.Written.{Fits};
 ghost use Rattle.ssh_model.specs.Protocol.Bounds.{longest_payload};
@@ -23,7 +21,7 @@ impl Channels {
     /// CHANNEL_EOF.
     #[tactic(auto, using(crate::proofs::Taking::eof_taken))]
     pub(super) fn take_eof<'a>(&mut self, recipient: u32) -> Result<Taken<'a>, Refusal>
-        ensures refused { IfErr result (λ e. first_refusal (take_checks false self.old (Msg.ChannelEof recipient)) ≡ Some (refusal_of e)) }
+        ensures refused { IfErr result (λ e. first_refusal (take_checks false self.old (Msg.ChannelEof recipient)) ≡ Some e) }
         ensures kept { OnErr result (self.new ≡ self.old) }
         ensures passed { OnOk result (first_refusal (take_checks false self.old (Msg.ChannelEof recipient)) ≡ None) }
         ensures taken { IfOk result (λ t. (is_blocked : Bool) → Takes is_blocked self.old (Msg.ChannelEof recipient) (taken_of t)
@@ -58,7 +56,7 @@ impl Channels {
         recipient: u32,
     ) -> Result<Taken<'a>, Refusal>
         ensures refused { IfErr result (λ e. first_refusal (take_checks blocked self.old (Msg.ChannelClose recipient))
-            ≡ Some (refusal_of e)) }
+            ≡ Some e) }
         ensures kept { OnErr result (self.new ≡ self.old) }
         ensures passed { OnOk result (first_refusal (take_checks blocked self.old (Msg.ChannelClose recipient)) ≡ None) }
         ensures taken { IfOk result (λ t. Takes blocked self.old (Msg.ChannelClose recipient) (taken_of t) self.new) }
@@ -67,23 +65,15 @@ impl Channels {
             return Err(Refusal::UnknownChannel);
         };
         let fact = Some(Fact::Closed { channel: recipient });
-        if entry.close_said {
-            self.table.remove(recipient);
-            return Ok(Taken {
-                channel: Some(recipient),
-                reply: None,
-                fact,
-            });
-        }
         let reply = Reply::Close {
             channel: recipient,
             recipient: entry.peer_number,
         };
-        if !blocked {
+        if entry.close_said || !blocked {
             self.table.remove(recipient);
             return Ok(Taken {
                 channel: Some(recipient),
-                reply: Some(reply),
+                reply: if entry.close_said { None } else { Some(reply) },
                 fact,
             });
         }
@@ -111,7 +101,7 @@ impl Channels {
     #[tactic(auto, using(crate::proofs::Asking::eof_sent))]
     pub(super) fn ask_eof<'a>(&mut self, channel: u32) -> Result<Sent<'a>, AskRefusal>
         ensures refused { IfErr result (λ e. first_refusal (send_checks false false self.old (Ask.AskEof channel))
-            ≡ Some (ask_refusal_of e)) }
+            ≡ Some e) }
         ensures kept { OnErr result (self.new ≡ self.old) }
         ensures passed { OnOk result (first_refusal (send_checks false false self.old (Ask.AskEof channel)) ≡ None) }
         ensures sent { IfOk result (λ t. Sends self.old (Ask.AskEof channel) (sent_of t) self.new) }
@@ -144,7 +134,7 @@ impl Channels {
     #[tactic(auto, using(crate::proofs::Asking::close_sent))]
     pub(super) fn ask_close<'a>(&mut self, channel: u32) -> Result<Sent<'a>, AskRefusal>
         ensures refused { IfErr result (λ e. first_refusal (send_checks false false self.old (Ask.AskClose channel))
-            ≡ Some (ask_refusal_of e)) }
+            ≡ Some e) }
         ensures kept { OnErr result (self.new ≡ self.old) }
         ensures passed { OnOk result (first_refusal (send_checks false false self.old (Ask.AskClose channel)) ≡ None) }
         ensures sent { IfOk result (λ t. Sends self.old (Ask.AskClose channel) (sent_of t) self.new) }

@@ -1,8 +1,6 @@
 //! Data and windows (RFC 4254 section 5.2).
 
 ghost use Rattle.std.specs.Prelude.{◌≡◌, Bool, ◌≤◌, Some, None, IfOk, IfErr, OnOk, OnErr, false, length};
-ghost use Rattle.ssh_types.specs.AskRefusals.{ask_refusal_of};
-ghost use Rattle.ssh_types.specs.Refusals.{refusal_of};
 ghost use Rattle.ssh_message.specs.Meaning.{meaning};
 ghost use Rattle.ssh_message.specs.Written.{Fits};
 ghost use Rattle.ssh_model.specs.Protocol.Bounds.{largest_data, longest_payload};
@@ -31,7 +29,7 @@ impl Channels {
         bytes: u32,
     ) -> Result<Taken<'a>, Refusal>
         ensures refused { IfErr result (λ e. first_refusal (take_checks false self.old (Msg.ChannelWindowAdjust recipient bytes))
-            ≡ Some (refusal_of e)) }
+            ≡ Some e) }
         ensures kept { OnErr result (self.new ≡ self.old) }
         ensures passed { OnOk result (first_refusal (take_checks false self.old (Msg.ChannelWindowAdjust recipient bytes)) ≡ None) }
         ensures taken { IfOk result (λ t. (is_blocked : Bool) → Takes is_blocked self.old (Msg.ChannelWindowAdjust recipient bytes)
@@ -69,7 +67,7 @@ impl Channels {
         body: &'a [u8],
     ) -> Result<Taken<'a>, Refusal>
         ensures refused { IfErr result (λ e. first_refusal (data_checks (at self.old.places recipient) (length body.now))
-            ≡ Some (refusal_of e)) }
+            ≡ Some e) }
         ensures kept { OnErr result (self.new ≡ self.old) }
         ensures passed { OnOk result (first_refusal (data_checks (at self.old.places recipient) (length body.now)) ≡ None) }
         ensures taken { IfOk result (λ t. (is_blocked : Bool) → Takes is_blocked self.old (data_message recipient kind body.now)
@@ -112,7 +110,7 @@ impl Channels {
         body: &'a [u8],
     ) -> Result<Sent<'a>, AskRefusal>
         ensures refused { IfErr result (λ e. first_refusal (send_checks false false self.old (Ask.AskData channel kind body.now))
-            ≡ Some (ask_refusal_of e)) }
+            ≡ Some e) }
         ensures kept { OnErr result (self.new ≡ self.old) }
         ensures passed { OnOk result (first_refusal (send_checks false false self.old (Ask.AskData channel kind body.now)) ≡ None) }
         ensures sent { IfOk result (λ t. Sends self.old (Ask.AskData channel kind body.now) (sent_of t) self.new) }
@@ -154,7 +152,7 @@ impl Channels {
         bytes: u32,
     ) -> Result<Sent<'a>, AskRefusal>
         ensures refused { IfErr result (λ e. first_refusal (send_checks false false self.old (Ask.AskAdjust channel bytes))
-            ≡ Some (ask_refusal_of e)) }
+            ≡ Some e) }
         ensures kept { OnErr result (self.new ≡ self.old) }
         ensures passed { OnOk result (first_refusal (send_checks false false self.old (Ask.AskAdjust channel bytes)) ≡ None) }
         ensures sent { IfOk result (λ t. Sends self.old (Ask.AskAdjust channel bytes) (sent_of t) self.new) }

@@ -1,8 +1,6 @@
 //! Global requests and their replies (RFC 4254 section 4).
 
 ghost use Rattle.std.specs.Prelude.{◌≡◌, Bool, ◌≤◌, Some, None, IfOk, IfErr, OnOk, OnErr, true, false, []};
-ghost use Rattle.ssh_types.specs.AskRefusals.{ask_refusal_of};
-ghost use Rattle.ssh_types.specs.Refusals.{refusal_of};
 ghost use Rattle.ssh_message.specs.Meaning.{meaning};
 ghost use Rattle.ssh_message.specs.Written.{Fits};
 ghost use Rattle.ssh_model.specs.Protocol.Bounds.{longest_payload};
@@ -30,7 +28,7 @@ impl Channels {
         rest: &'a [u8],
     ) -> Result<Taken<'a>, Refusal>
         ensures refused { IfErr result (λ e. first_refusal (take_checks false self.old (Msg.GlobalRequest name.now want rest.now))
-            ≡ Some (refusal_of e)) }
+            ≡ Some e) }
         ensures kept { OnErr result (self.new ≡ self.old) }
         ensures passed { OnOk result (first_refusal (take_checks false self.old (Msg.GlobalRequest name.now want rest.now)) ≡ None) }
         ensures taken { IfOk result (λ t. (is_blocked : Bool) → Takes is_blocked self.old (Msg.GlobalRequest name.now want rest.now)
@@ -55,7 +53,7 @@ impl Channels {
         rest: &'a [u8],
     ) -> Result<Taken<'a>, Refusal>
         requires { success ≡ false → rest.now ≡ [] }
-        ensures refused { IfErr result (λ e. first_refusal (take_checks false self.old (Msg.RequestFailure)) ≡ Some (refusal_of e)) }
+        ensures refused { IfErr result (λ e. first_refusal (take_checks false self.old (Msg.RequestFailure)) ≡ Some e) }
         ensures kept { OnErr result (self.new ≡ self.old) }
         ensures passed { OnOk result (first_refusal (take_checks false self.old (Msg.RequestFailure)) ≡ None) }
         ensures taken { IfOk result (λ t. (is_blocked : Bool) → Takes is_blocked self.old (global_reply_message success rest.now)
@@ -81,7 +79,7 @@ impl Channels {
         rest: &'a [u8],
     ) -> Result<Sent<'a>, AskRefusal>
         ensures refused { IfErr result (λ e. first_refusal (send_checks false false self.old (Ask.AskGlobal name.now want rest.now))
-            ≡ Some (ask_refusal_of e)) }
+            ≡ Some e) }
         ensures kept { OnErr result (self.new ≡ self.old) }
         ensures passed { OnOk result (first_refusal (send_checks false false self.old (Ask.AskGlobal name.now want rest.now)) ≡ None) }
         ensures sent { IfOk result (λ t. Sends self.old (Ask.AskGlobal name.now want rest.now) (sent_of t) self.new) }
@@ -110,7 +108,7 @@ impl Channels {
         rest: &'a [u8],
     ) -> Result<Sent<'a>, AskRefusal>
         ensures refused { IfErr result (λ e. first_refusal (send_checks false false self.old (Ask.AskGlobalReply success rest.now))
-            ≡ Some (ask_refusal_of e)) }
+            ≡ Some e) }
         ensures kept { OnErr result (self.new ≡ self.old) }
         ensures passed { OnOk result (first_refusal (send_checks false false self.old (Ask.AskGlobalReply success rest.now)) ≡ None) }
         ensures sent { IfOk result (λ t. Sends self.old (Ask.AskGlobalReply success rest.now) (sent_of t) self.new) }
@@ -135,7 +133,7 @@ impl Channels {
     #[tactic(auto, using(crate::proofs::Asking::global_reply_sent))]
     fn ask_global_success<'a>(&mut self, rest: &'a [u8]) -> Result<Sent<'a>, AskRefusal>
         ensures refused { IfErr result (λ e. first_refusal (send_checks false false self.old (Ask.AskGlobalReply true rest.now))
-            ≡ Some (ask_refusal_of e)) }
+            ≡ Some e) }
         ensures kept { OnErr result (self.new ≡ self.old) }
         ensures passed { OnOk result (first_refusal (send_checks false false self.old (Ask.AskGlobalReply true rest.now)) ≡ None) }
         ensures sent { IfOk result (λ t. Sends self.old (Ask.AskGlobalReply true rest.now) (sent_of t) self.new) }

@@ -1,15 +1,14 @@
 //! The opening of channels (RFC 4254 section 5.1).
 
 ghost use Rattle.std.specs.Prelude.{◌≡◌, ◌≤◌, ℕ, Bool, List, Some, None, IfOk, IfErr, OnOk, OnErr, true, false};
-ghost use Rattle.ssh_types.specs.AskRefusals.{ask_refusal_of};
-ghost use Rattle.ssh_types.specs.Refusals.{refusal_of};
 ghost use Rattle.ssh_message.specs.Meaning.{meaning};
 ghost use Rattle.ssh_message.specs.Written.{Fits};
 ghost use Rattle.ssh_model.specs.Protocol.Bounds.{longest_payload};
 ghost use Rattle.ssh_model.specs.Protocol.Wire.Message as Msg;
 ghost use Rattle.ssh_model.specs.Laws.Sizes.{payload_size};
 ghost use Rattle.ssh_model.specs.Protocol.Sessions.Items as Ask;
-ghost use Rattle.ssh_model.specs.Protocol.Sessions.Refusals as model;
+ghost use Rattle.ssh_model.specs.declared.ask_refusal.AskRefusal.TheVariants as ask_refusals;
+ghost use Rattle.ssh_model.specs.declared.refusal.Refusal.TheVariants as refusals;
 ghost use Rattle.ssh_model.specs.Protocol.Sessions.Refusals.{first_refusal};
 ghost use Rattle.ssh_model.specs.State.Channels.Places.{at, is_at, is_opening, is_waiting_place};
 ghost use Rattle.ssh_model.specs.State.Channels.Kept as DueReply;
@@ -60,7 +59,7 @@ impl Channels {
 
     /// CHANNEL_OPEN where no number is free: it is refused, at once or, within a key exchange, later.
     fn decline_open<'a>(&mut self, blocked: bool, sender: u32) -> Result<Taken<'a>, Refusal>
-        ensures refused { IfErr result (λ e. refusal_of e ≡ model.Refusal.OwedFull) }
+        ensures refused { IfErr result (λ e. e ≡ refusals.OwedFull) }
         ensures many { OnErr result (is_queue_full blocked self.old.owed ≡ true) }
         ensures kept { OnErr result (self.new ≡ self.old) }
         ensures few { OnOk result (is_queue_full blocked self.old.owed ≡ false) }
@@ -124,7 +123,7 @@ impl Channels {
     fn opening_entry(&self, number: u32) -> Result<Entry, Refusal>
         ensures found { IfOk result (λ entry. at self.now.places number ≡ Some (place_of entry)) }
         ensures opening { IfOk result (λ entry. is_opening (place_of entry) ≡ true) }
-        ensures refused { IfErr result (λ e. first_refusal (opening_checks (at self.now.places number)) ≡ Some (refusal_of e)) }
+        ensures refused { IfErr result (λ e. first_refusal (opening_checks (at self.now.places number)) ≡ Some e) }
     {
         match self.table.get(number) {
             Some(entry) if entry.is_own && !entry.is_answered => Ok(entry),
@@ -143,7 +142,7 @@ impl Channels {
         max_packet: u32,
         rest: &'a [u8],
     ) -> Result<Taken<'a>, Refusal>
-        ensures refused { IfErr result (λ e. first_refusal (opening_checks (at self.old.places recipient)) ≡ Some (refusal_of e)) }
+        ensures refused { IfErr result (λ e. first_refusal (opening_checks (at self.old.places recipient)) ≡ Some e) }
         ensures kept { OnErr result (self.new ≡ self.old) }
         ensures passed { OnOk result (first_refusal (opening_checks (at self.old.places recipient)) ≡ None) }
         ensures taken { IfOk result (λ t. (is_blocked : Bool) → Takes is_blocked self.old
@@ -180,7 +179,7 @@ impl Channels {
         reason: u32,
         description: &'a [u8],
     ) -> Result<Taken<'a>, Refusal>
-        ensures refused { IfErr result (λ e. first_refusal (opening_checks (at self.old.places recipient)) ≡ Some (refusal_of e)) }
+        ensures refused { IfErr result (λ e. first_refusal (opening_checks (at self.old.places recipient)) ≡ Some e) }
         ensures kept { OnErr result (self.new ≡ self.old) }
         ensures passed { OnOk result (first_refusal (opening_checks (at self.old.places recipient)) ≡ None) }
         ensures taken { IfOk result (λ t. (is_blocked : Bool) (language : List ℕ) →
@@ -246,7 +245,7 @@ impl Channels {
     fn waiting_entry(&self, number: u32) -> Result<Entry, AskRefusal>
         ensures found { IfOk result (λ entry. at self.now.places number ≡ Some (place_of entry)) }
         ensures waiting { IfOk result (λ entry. is_waiting_place (place_of entry) ≡ true) }
-        ensures refused { IfErr result (λ e. ask_refusal_of e ≡ model.AskRefusal.NoChannel) }
+        ensures refused { IfErr result (λ e. e ≡ ask_refusals.NoChannel) }
         ensures none { OnErr result (is_at is_waiting_place (at self.now.places number) ≡ false) }
     {
         match self.table.get(number) {
@@ -265,7 +264,7 @@ impl Channels {
         rest: &'a [u8],
     ) -> Result<Sent<'a>, AskRefusal>
         ensures refused { IfErr result (λ e. first_refusal (send_checks false false self.old
-            (Ask.AskConfirm channel window max_packet rest.now)) ≡ Some (ask_refusal_of e)) }
+            (Ask.AskConfirm channel window max_packet rest.now)) ≡ Some e) }
         ensures kept { OnErr result (self.new ≡ self.old) }
         ensures passed { OnOk result (first_refusal (send_checks false false self.old (Ask.AskConfirm channel window max_packet rest.now))
             ≡ None) }
@@ -310,7 +309,7 @@ impl Channels {
         reason: u32,
     ) -> Result<Sent<'a>, AskRefusal>
         ensures refused { IfErr result (λ e. first_refusal (send_checks false false self.old (Ask.AskRefuse channel reason))
-            ≡ Some (ask_refusal_of e)) }
+            ≡ Some e) }
         ensures kept { OnErr result (self.new ≡ self.old) }
         ensures passed { OnOk result (first_refusal (send_checks false false self.old (Ask.AskRefuse channel reason)) ≡ None) }
         ensures sent { IfOk result (λ t. Sends self.old (Ask.AskRefuse channel reason) (sent_of t) self.new) }

@@ -1,8 +1,6 @@
 //! Requests on channels and their replies (RFC 4254 section 5.4).
 
 ghost use Rattle.std.specs.Prelude.{◌≡◌, Bool, ◌≤◌, Some, None, IfOk, IfErr, OnOk, OnErr, false};
-ghost use Rattle.ssh_types.specs.AskRefusals.{ask_refusal_of};
-ghost use Rattle.ssh_types.specs.Refusals.{refusal_of};
 ghost use Rattle.ssh_message.specs.Meaning.{meaning};
 ghost use Rattle.ssh_message.specs.Written.{Fits};
 ghost use Rattle.ssh_model.specs.Protocol.Bounds.{longest_payload};
@@ -33,7 +31,7 @@ impl Channels {
         rest: &'a [u8],
     ) -> Result<Taken<'a>, Refusal>
         ensures refused { IfErr result (λ e. first_refusal (take_checks false self.old
-            (Msg.ChannelRequest recipient name.now want rest.now)) ≡ Some (refusal_of e)) }
+            (Msg.ChannelRequest recipient name.now want rest.now)) ≡ Some e) }
         ensures kept { OnErr result (self.new ≡ self.old) }
         ensures passed { OnOk result (first_refusal (take_checks false self.old (Msg.ChannelRequest recipient name.now want rest.now))
             ≡ None) }
@@ -73,7 +71,7 @@ impl Channels {
         recipient: u32,
         success: bool,
     ) -> Result<Taken<'a>, Refusal>
-        ensures refused { IfErr result (λ e. first_refusal (reply_checks (at self.old.places recipient)) ≡ Some (refusal_of e)) }
+        ensures refused { IfErr result (λ e. first_refusal (reply_checks (at self.old.places recipient)) ≡ Some e) }
         ensures kept { OnErr result (self.new ≡ self.old) }
         ensures passed { OnOk result (first_refusal (reply_checks (at self.old.places recipient)) ≡ None) }
         ensures taken { IfOk result (λ t. (is_blocked : Bool) → Takes is_blocked self.old (reply_message recipient success) (taken_of t)
@@ -112,7 +110,7 @@ impl Channels {
         rest: &'a [u8],
     ) -> Result<Sent<'a>, AskRefusal>
         ensures refused { IfErr result (λ e. first_refusal (send_checks false false self.old
-            (Ask.AskRequest channel name.now want rest.now)) ≡ Some (ask_refusal_of e)) }
+            (Ask.AskRequest channel name.now want rest.now)) ≡ Some e) }
         ensures kept { OnErr result (self.new ≡ self.old) }
         ensures passed { OnOk result (first_refusal (send_checks false false self.old (Ask.AskRequest channel name.now want rest.now))
             ≡ None) }
@@ -162,7 +160,7 @@ impl Channels {
         success: bool,
     ) -> Result<Sent<'a>, AskRefusal>
         ensures refused { IfErr result (λ e. first_refusal (send_checks false false self.old (Ask.AskReply channel success))
-            ≡ Some (ask_refusal_of e)) }
+            ≡ Some e) }
         ensures kept { OnErr result (self.new ≡ self.old) }
         ensures passed { OnOk result (first_refusal (send_checks false false self.old (Ask.AskReply channel success)) ≡ None) }
         ensures sent { IfOk result (λ t. Sends self.old (Ask.AskReply channel success) (sent_of t) self.new) }

@@ -1,7 +1,8 @@
 -- What may be taken before there is a key: the exchange and 1 to 4, whose numbers are all known.
 use Rattle.std.proofs.Common.{◌≡◌, ℕ, zero, suc, ◌<◌, ◌⊎◌, inl, inr, refl, ap, sym, ◌∙◌, arith, List, nat_le, Bool, true, false, ◌||◌, ◌==◌, eqb-true}
 use Rattle.std.proofs.lemmas.Bool.{leb-true}
-use Rattle.ssh_model.specs.Protocol.Side.{Side, Side.Client, Side.Server}
+use Rattle.ssh_model.specs.declared.side.Side.{Side}
+use Rattle.ssh_model.specs.declared.side.Side.TheVariants.{Client, Server}
 use Rattle.ssh_model.specs.Protocol.Wire.Message.{is_unknown}
 use Rattle.ssh_model.specs.Protocol.Sessions.Items.{Item, took}
 use Rattle.ssh_model.specs.Protocol.Sessions.Epochs.{epoch}

@@ -2,7 +2,8 @@
 -- own, whoever the peer is.
 use Rattle.std.proofs.Common.{sym, Bool, List, [], arith, eqb-true, inl, inr, length, nat_le, refl, subst, suc, true, zero, ℕ, ◌&&◌, ◌<◌, ◌==◌, ◌||◌, ◌∷◌, ◌≡◌, ◌≤◌, ◌⊎◌}
 use Rattle.std.proofs.lemmas.Bool.{leb-true}
-use Rattle.ssh_model.specs.Protocol.Side.{Side, Side.Client, Side.Server}
+use Rattle.ssh_model.specs.declared.side.Side.{Side}
+use Rattle.ssh_model.specs.declared.side.Side.TheVariants.{Client, Server}
 use Rattle.ssh_model.specs.Protocol.Wire.Message.{Msg, Msg.KexInit, Msg.NewKeys, Msg.KexEcdhInit, Msg.KexEcdhReply, Msg.Unimplemented, Msg.UserauthSuccess, message_number}
 use Rattle.ssh_model.specs.Protocol.Sessions.Parties.{Parties, AreLawful}
 use Rattle.ssh_model.specs.Protocol.Sessions.Items.{Item, Item.Sent, Item.Took, Item.TookGuess, sent, took, messages_sent}

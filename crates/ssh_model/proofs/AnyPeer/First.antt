@@ -1,9 +1,13 @@
 -- With strict key exchange the first exchange is only the exchange, whoever the peer is.
 use Rattle.std.proofs.Common.{◌≡◌, ℕ, zero, suc, ◌<◌, List, [], ◌∷◌, ◌++◌, length, reverse, ◌⊎◌, inl, inr, refl, ap, sym, ◌∙◌, subst, arith, cond, not, nat_lt, Bool, true, false, ◌&&◌, ◌||◌, ◌==◌, eq-eqb, ne_eqb, Option, Some, None}
 use Rattle.std.proofs.lemmas.Bool.{lt-ltb}
-use Rattle.ssh_model.specs.Protocol.Side.{Side, Side.Client, Side.Server, peer}
+use Rattle.ssh_model.specs.declared.side.Side.{Side}
+use Rattle.ssh_model.specs.declared.side.Side.TheVariants.{Client, Server}
+use Rattle.ssh_model.specs.Protocol.Side.{peer}
 use Rattle.ssh_model.specs.Protocol.Wire.Message.{Msg, Msg.Disconnect, Msg.KexInit, Msg.NewKeys, Msg.KexEcdhInit, Msg.KexEcdhReply, Msg.Unknown, Proposal, FitsContext, is_unknown, message_number}
-use Rattle.ssh_model.specs.Protocol.Sessions.Parties.{Parties, AreLawful, Strictness, Strictness.Require, Strictness.Offer as Offered, Strictness.Off, is_required, is_offered, settings_of, marker_of}
+use Rattle.ssh_model.specs.declared.strictness.Strictness.{Strictness}
+use Rattle.ssh_model.specs.declared.strictness.Strictness.TheVariants.{Require, Offer as Offered, Off}
+use Rattle.ssh_model.specs.Protocol.Sessions.Parties.{Parties, AreLawful, is_required, is_offered, settings_of, marker_of}
 use Rattle.ssh_model.specs.Protocol.Sessions.Items.{Item, Item.Sent, Item.Took, Item.TookGuess, took, messages_sent, messages_taken, has_died, Payload}
 use Rattle.ssh_model.specs.Protocol.Sessions.Epochs.{epoch}
 use Rattle.ssh_model.specs.Protocol.KeyExchange.Exchanges.{Offer, nth, no_offer, offers, first_sent, first_taken, is_strict, has_marker}

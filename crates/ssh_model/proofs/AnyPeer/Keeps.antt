@@ -1,6 +1,7 @@
 -- What is known of each item that an end did, whoever its peer is, and of its history between two turns.
 use Rattle.std.proofs.Common.{◌≡◌, ℕ, suc, ◌<◌, ◌≤◌, List, [], ◌∷◌, ◌++◌, length, inr, refl, ap, sym, ◌∙◌, arith, subst, cond, ◌==◌, eq-eqb, eqb-true, Bool, true, false, Option, None}
-use Rattle.ssh_model.specs.Protocol.Side.{Side, Side.Client, Side.Server}
+use Rattle.ssh_model.specs.declared.side.Side.{Side}
+use Rattle.ssh_model.specs.declared.side.Side.TheVariants.{Client, Server}
 use Rattle.ssh_model.specs.Protocol.Wire.Message.{Msg, Msg.Unimplemented, Msg.Disconnect, Msg.KexInit, Msg.NewKeys, Msg.KexEcdhInit, Msg.KexEcdhReply, Msg.UserauthRequest, Msg.UserauthSuccess, Method, Proposal}
 use Rattle.ssh_model.specs.Protocol.Sessions.Parties.{Parties, settings_of, offer, point_by}
 use Rattle.ssh_model.specs.Protocol.Sessions.Items.{Fact, Fact.Accepted, Item, Item.Fed, Item.SentLine, Item.Sent, Item.Took, Item.TookGuess, Item.Told, Item.Died, has_died, sent, took, messages_sent, messages_taken}

@@ -1,10 +1,13 @@
 -- What is known of an end's items and history is kept by each of its turns, whoever its peer is.
 use Rattle.std.proofs.Common.{not, ◌≡◌, ℕ, zero, suc, ◌+◌, ◌<◌, List, [], ◌∷◌, ◌++◌, length, refl, ap, sym, ◌∙◌, arith, subst, append_assoc, cond, ◌==◌, eq-eqb, ne_eqb, Bool, true, false, ◌||◌, Option, None}
 use Rattle.std.proofs.lemmas.Bool.{leb-true, ltb-true}
-use Rattle.ssh_model.specs.Protocol.Side.{Side, Side.Client, Side.Server}
+use Rattle.ssh_model.specs.declared.side.Side.{Side}
+use Rattle.ssh_model.specs.declared.side.Side.TheVariants.{Client, Server}
 use Rattle.ssh_model.specs.Protocol.Wire.Message.{Msg, Msg.KexInit, Msg.NewKeys, Msg.KexEcdhInit, Msg.KexEcdhReply, Proposal}
 use Rattle.ssh_model.specs.Protocol.Sessions.Parties.{Parties, AreLawful, offer, point_by}
-use Rattle.ssh_model.specs.Protocol.Sessions.Refusals.{first_refusal, Refusal, Refusal.BadMessage, Refusal.Unexpected}
+use Rattle.ssh_model.specs.declared.refusal.Refusal.{Refusal}
+use Rattle.ssh_model.specs.declared.refusal.Refusal.TheVariants.{BadMessage, Unexpected}
+use Rattle.ssh_model.specs.Protocol.Sessions.Refusals.{first_refusal}
 use Rattle.ssh_model.specs.Protocol.Sessions.Items.{Ask, Ask.AskRekey, Fact.Disconnected, Item, Item.Asked, Item.Sent, Item.Took, Item.TookGuess, sent, took, messages_sent, messages_taken, has_died}
 use Rattle.ssh_model.specs.Protocol.Sessions.Epochs.{epoch}
 use Rattle.ssh_model.specs.Protocol.KeyExchange.Exchanges.{nth, no_material, no_reply, fed, offers, points, replies}

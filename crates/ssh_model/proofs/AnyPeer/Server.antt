@@ -1,7 +1,7 @@
 -- A server requires authentication, whoever its peer is.
 use Rattle.std.proofs.Common.{◌≤◌, List, None, Option, Some, [], ap, arith, false, inl, inr, length, nat_le, refl, subst, sym, true, ℕ, ◌&&◌, ◌<◌, ◌∙◌, ◌∷◌, ◌≡◌, ◌⊎◌}
 use Rattle.std.specs.Prelude.{codes}
-use Rattle.ssh_model.specs.Protocol.Side.{Side.Server}
+use Rattle.ssh_model.specs.declared.side.Side.TheVariants.{Server}
 use Rattle.ssh_model.specs.Protocol.Lists.{IsIn, IsOlder}
 use Rattle.ssh_model.specs.Protocol.Wire.Message.{Msg, message_number, Msg.UserauthRequest, Msg.UserauthSuccess, Method, Method.NoMethod, Method.Password, Method.Publickey, Method.Other}
 use Rattle.ssh_model.specs.Protocol.Sessions.Parties.{Parties, AreLawful}

@@ -1,7 +1,8 @@
 -- Which numbers from 50 to 79 an end takes, by what its layer of authentication keeps.
 use Rattle.std.proofs.Common.{◌≡◌, ℕ, ◌<◌, ◌≤◌, List, refl, ap, sym, ◌∙◌, arith, Bool, true, false, not, ◌&&◌, ◌||◌, ◌==◌, eqb-true, nat_le, is_some}
 use Rattle.std.proofs.lemmas.Bool.{lt-leb}
-use Rattle.ssh_model.specs.Protocol.Side.{Side, Side.Client, Side.Server}
+use Rattle.ssh_model.specs.declared.side.Side.{Side}
+use Rattle.ssh_model.specs.declared.side.Side.TheVariants.{Client, Server}
 use Rattle.ssh_model.specs.Protocol.Sessions.Parties.{Parties, is_required, settings_of}
 use Rattle.ssh_model.specs.Protocol.Sessions.Items.{Item}
 use Rattle.ssh_model.specs.Protocol.Sessions.Phases.{Phase, Phase.Normal, phase, may_take, may_take_in, may_take_normally, may_take_extensions, is_general, is_connection, is_spare, authenticated, took_service_request, sent_service_accept, sent_service_request, took_service_accept, took_success, outstanding, probing}

@@ -1,10 +1,13 @@
 -- The turns of an end on its channels: asks, exchanges, and whole turns.
 use Rattle.std.proofs.Common.{◌≡◌, ℕ, ◌≤◌, ◌^◌, List, [], ◌∷◌, ◌++◌, length, refl, ap, sym, ◌∙◌, arith, subst, append_assoc, Bool, true, false, not, nat_lt, ltb-false, ◌&&◌, ◌||◌, Option, Some, None}
 use Rattle.ssh_model.specs.Protocol.Bounds.{largest_data}
-use Rattle.ssh_model.specs.Protocol.Side.{Side, Side.Client, Side.Server}
+use Rattle.ssh_model.specs.declared.side.Side.{Side}
+use Rattle.ssh_model.specs.declared.side.Side.TheVariants.{Client, Server}
 use Rattle.ssh_model.specs.Protocol.Wire.DataTypes.{IsUint32}
 use Rattle.ssh_model.specs.Protocol.Wire.Message.{Msg, Msg.KexEcdhInit, Msg.KexEcdhReply}
-use Rattle.ssh_model.specs.Protocol.Sessions.Refusals.{first_refusal, Refusal, Refusal.BadMessage, Refusal.Unexpected}
+use Rattle.ssh_model.specs.declared.refusal.Refusal.{Refusal}
+use Rattle.ssh_model.specs.declared.refusal.Refusal.TheVariants.{BadMessage, Unexpected}
+use Rattle.ssh_model.specs.Protocol.Sessions.Refusals.{first_refusal}
 use Rattle.ssh_model.specs.Protocol.Sessions.Parties.{Parties}
 use Rattle.ssh_model.specs.Protocol.Sessions.Items.{Ask, Ask.AskRekey, Ask.AskOpen, Ask.AskConfirm, Ask.AskRefuse, Ask.AskData, Ask.AskAdjust, Ask.AskEof, Ask.AskClose, Ask.AskRequest, Ask.AskReply, Item, Item.Asked, Item.Took}
 use Rattle.ssh_model.specs.Protocol.Sessions.Phases.{blocked, phase, is_normal}

@@ -3,7 +3,7 @@ use Rattle.std.proofs.Common.{◌≡◌, ℕ, zero, suc, ◌+◌, ◌<◌, ◌�
 use Rattle.std.proofs.lemmas.Bool.{le-leb, lt-leb}
 use Rattle.std.proofs.lemmas.List.Recursion.{is_count_by}
 use Rattle.ssh_model.specs.Protocol.Bounds.{most_channels}
-use Rattle.ssh_model.specs.Protocol.Side.{Side}
+use Rattle.ssh_model.specs.declared.side.Side.{Side}
 use Rattle.ssh_model.specs.Protocol.Channels.Notes.{Note}
 use Rattle.ssh_model.specs.Protocol.Channels.Numbers.{is_held}
 use Rattle.ssh_model.specs.Protocol.Channels.History.{Item, noted, owed, is_owed, is_free, some_free, has_place}

@@ -1,7 +1,9 @@
 -- A run that meets every premise: a channel, data of both kinds, a request and its reply, an adjust, EOF, a CLOSE that is
 -- owed while blocked, the number used again, and an OPEN that is refused for want of a place.
 use Rattle.std.proofs.Common.{◌≡◌, ◌≤◌, List, [], ◌∷◌, inl, inr, refl, arith, true, Some, None}
-use Rattle.ssh_model.specs.Protocol.Side.{Side, Side.Client, Side.Server, DoneBy.By, part}
+use Rattle.ssh_model.specs.declared.side.Side.{Side}
+use Rattle.ssh_model.specs.declared.side.Side.TheVariants.{Client, Server}
+use Rattle.ssh_model.specs.Protocol.Side.{DoneBy.By, part}
 use Rattle.ssh_model.specs.Protocol.Channels.Message.{Message.Open, Message.OpenConfirmation, Message.OpenFailure, Message.WindowAdjust, Message.Data, Message.Eof, Message.Close, Message.Request, Message.Reply}
 use Rattle.ssh_model.specs.Protocol.Channels.Numbers.{largest_window, send_window, receive_window, waiting_here, waiting_there}
 use Rattle.ssh_model.specs.Protocol.Channels.History.{Item.Sent, Item.Received, Item.KexinitSent, Item.NewkeysSent, some_free, has_place}

@@ -2,7 +2,7 @@
 use Rattle.std.proofs.Common.{◌≡◌, ℕ, ◌-◌, ◌<◌, List, ◌∷◌, length, ◌⊎◌, inl, inr, refl, ap, ◌∙◌, arith, zero, suc, Bool, true, false, not, ◌&&◌, ◌||◌, nat_lt, eqb, eqb-true, eq-eqb, Option}
 use Rattle.std.proofs.lemmas.Bool.{ltb-true}
 use Rattle.ssh_model.specs.Protocol.Bounds.{most_channels}
-use Rattle.ssh_model.specs.Protocol.Side.{Side}
+use Rattle.ssh_model.specs.declared.side.Side.{Side}
 use Rattle.ssh_model.specs.Protocol.Channels.Message.{Message, Message.Data, Message.Request, Message.Reply, Channel, Stage, Stage.Closed, Stage.Failed, stage, over_at, over, window, spent}
 use Rattle.ssh_model.specs.Protocol.Channels.Notes.{Note, Note.Said, Note.Took, said, took, said_all, took_all, channel_at, At, Free}
 use Rattle.ssh_model.specs.Protocol.Channels.Numbers.{is_held, has_closed, send_window, receive_window, waiting_here, waiting_there}

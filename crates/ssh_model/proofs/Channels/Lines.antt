@@ -1,7 +1,9 @@
 -- Lines of all channels, and those of one.
 use Rattle.std.proofs.Common.{◌≡◌, ℕ, suc, ◌<◌, List, [], ◌∷◌, length, map, inl, inr, refl, ap, sym, ◌∙◌, arith, cond, eq-eqb, eqb-true, ne_eqb, Bool, true, false}
 use Rattle.ssh_model.proofs.Sessions.Ends.{older_length, older_same}
-use Rattle.ssh_model.specs.Protocol.Side.{Side, Side.Client, Side.Server, peer}
+use Rattle.ssh_model.specs.declared.side.Side.{Side}
+use Rattle.ssh_model.specs.declared.side.Side.TheVariants.{Client, Server}
+use Rattle.ssh_model.specs.Protocol.Side.{peer}
 use Rattle.ssh_model.specs.Protocol.Lists.{IsOlder}
 use Rattle.ssh_model.specs.Protocol.Channels.Message.{Message, Message.Open, Message.OpenFailure, Channel, Channel.Opened, same, mine, is_open}
 use Rattle.ssh_model.specs.Protocol.Channels.Notes.{Line, Line.On, payload, Note, Note.Said, Note.Took, Note.Refused, said_all, took_all, on, said, took, opens, OpenedAt}

@@ -1,6 +1,8 @@
 -- A channel on which data were taken has a partner.
 use Rattle.std.proofs.Common.{◌≡◌, ℕ, List, [], ◌∷◌, ◌⊎◌, inl, inr, refl, sym, ◌∙◌, subst, Bool, true, false, Option}
-use Rattle.ssh_model.specs.Protocol.Side.{Side, Side.Client, Side.Server, peer, part}
+use Rattle.ssh_model.specs.declared.side.Side.{Side}
+use Rattle.ssh_model.specs.declared.side.Side.TheVariants.{Client, Server}
+use Rattle.ssh_model.specs.Protocol.Side.{peer, part}
 use Rattle.ssh_model.specs.Protocol.Lists.{IsIn}
 use Rattle.ssh_model.specs.Protocol.Channels.Message.{Message, Message.Open, Message.OpenConfirmation, Message.OpenFailure, Message.Data, Message.Eof, Message.Close, Channel, Channel.Opened, mine, is_open, Stage, Stage.Quiet, Stage.Speaking, stage, talked, begun, MayFollow, data_of}
 use Rattle.ssh_model.specs.Protocol.Channels.Notes.{Note, said_all, took_all, said, took, OpenedAt}

@@ -1,6 +1,6 @@
 -- What an end keeps at its numbers, by its notes and the replies that it owes.
 use Rattle.std.proofs.Common.{◌≡◌, ℕ, suc, List, [], ◌∷◌, refl, ap, sym, ◌∙◌, arith, subst, cond, not, ◌&&◌, ◌||◌, Bool, true, false, ◌==◌, eq-eqb, eqb-true, Option, Some, None}
-use Rattle.ssh_model.specs.Protocol.Side.{Side}
+use Rattle.ssh_model.specs.declared.side.Side.{Side}
 use Rattle.ssh_model.specs.Protocol.Channels.Message.{Message.OpenFailure, Message.Close, begun, has_eof, Stage, Stage.Quiet, Stage.Speaking, Stage.Ended, Stage.Closed, Stage.Failed, stage, closed, talked}
 use Rattle.ssh_model.specs.Protocol.Channels.Notes.{Note, Note.Refused}
 use Rattle.ssh_model.specs.Protocol.Channels.Numbers.{said_at, took_at, has_open, is_held, is_confirmed, is_offered, is_waiting, has_closed, send_window}

@@ -1,6 +1,6 @@
 -- Replies at once and owed: what a history notes, and what its end keeps.
 use Rattle.std.proofs.Common.{◌≡◌, ℕ, List, [], ◌∷◌, ◌++◌, refl, ap, sym, ◌∙◌, subst, cond, Bool, true, false, ◌==◌, Option, Some, None}
-use Rattle.ssh_model.specs.Protocol.Side.{Side}
+use Rattle.ssh_model.specs.declared.side.Side.{Side}
 use Rattle.ssh_model.specs.Protocol.Channels.Message.{Message, Message.Close, Stage, Stage.Closed, closed, MayFollow}
 use Rattle.ssh_model.specs.Protocol.Channels.Notes.{Note, Note.Said, channel_at}
 use Rattle.ssh_model.specs.Protocol.Channels.Numbers.{has_closed}

@@ -1,6 +1,7 @@
 -- The rows meet what the runs of notes ask for.
 use Rattle.std.proofs.Common.{◌≡◌, ℕ, List, ◌⊎◌, inl, inr, refl, arith, Bool, true, false}
-use Rattle.ssh_model.specs.Protocol.Side.{Side, peer}
+use Rattle.ssh_model.specs.declared.side.Side.{Side}
+use Rattle.ssh_model.specs.Protocol.Side.{peer}
 use Rattle.ssh_model.specs.Protocol.Channels.Message.{Message, Message.WindowAdjust, Message.Close, Message.Request, Message.Reply, mine, Stage, Stage.Quiet, Stage.Speaking, Stage.Ended, Stage.Closed, Stage.Failed, talked, MayFollow}
 use Rattle.ssh_model.specs.Protocol.Channels.Notes.{Note, channel_at}
 use Rattle.ssh_model.specs.Protocol.Channels.Rules.{Says, Takes}

@@ -1,6 +1,8 @@
 -- Whole runs as their channels see them: windows, no refusal between the two ends, and data in order.
 use Rattle.std.proofs.Common.{◌≡◌, ℕ, List, [], ◌∷◌, ◌++◌, ◌⊎◌, inl, inr, refl, ap, sym, ◌∙◌, subst, append_assoc, append-nil, Option, Some, None}
-use Rattle.ssh_model.specs.Protocol.Side.{Side, Side.Client, Side.Server, peer, DoneBy.By, done_by, part}
+use Rattle.ssh_model.specs.declared.side.Side.{Side}
+use Rattle.ssh_model.specs.declared.side.Side.TheVariants.{Client, Server}
+use Rattle.ssh_model.specs.Protocol.Side.{peer, DoneBy.By, done_by, part}
 use Rattle.ssh_model.specs.Protocol.Lists.{IsOlder}
 use Rattle.ssh_model.specs.Protocol.Wire.Message.{Msg.NewKeys, Msg.KexInit}
 use Rattle.ssh_model.specs.Protocol.Sessions.Parties.{Parties, AreLawful, BothOffer}

@@ -1,6 +1,6 @@
 -- What one note changes of what an end keeps, at every other number than that of the note: nothing.
 use Rattle.std.proofs.Common.{◌≡◌, ℕ, suc, ◌-◌, List, [], ◌∷◌, refl, ap, ◌∙◌, arith, subst, cond, not, Bool, true, false, ◌==◌, eqb-true}
-use Rattle.ssh_model.specs.Protocol.Side.{Side}
+use Rattle.ssh_model.specs.declared.side.Side.{Side}
 use Rattle.ssh_model.specs.Protocol.Channels.Message.{Message, Message.Open, Message.OpenFailure, Message.Request, Message.Reply, Channel, same, mine, is_open, stage, closed, over}
 use Rattle.ssh_model.specs.Protocol.Channels.Notes.{Note, Note.Said, Note.Took, Note.Refused, said_all, took_all, said, took, opens, channel_at, OpenedAt, waits_here, waits_there}
 use Rattle.ssh_model.specs.Protocol.Channels.Numbers.{took_at, has_open, is_held, has_closed}

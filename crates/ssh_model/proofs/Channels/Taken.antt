@@ -1,6 +1,6 @@
 -- What a received message does to the notes, with the replies that it makes due.
 use Rattle.std.proofs.Common.{◌≡◌, ℕ, ◌≤◌, List, [], ◌∷◌, ◌++◌, map, refl, ap, sym, arith, subst, cond, Bool, true, false, Some, None}
-use Rattle.ssh_model.specs.Protocol.Side.{Side}
+use Rattle.ssh_model.specs.declared.side.Side.{Side}
 use Rattle.ssh_model.specs.Protocol.Channels.Message.{Message, Message.Open, Message.OpenFailure, Message.Close, Channel, same, mine, sender, Stage, Stage.Quiet, Stage.Speaking, Stage.Ended, Stage.Closed, Stage.Failed, stage, talked, closed, MayFollow, over_at}
 use Rattle.ssh_model.specs.Protocol.Channels.Notes.{payload, Note, Note.Said, Note.Took, Note.Refused, said_all, took_all, said, took, opens, channel_at, Free}
 use Rattle.ssh_model.specs.Protocol.Channels.Numbers.{largest_window, has_closed}

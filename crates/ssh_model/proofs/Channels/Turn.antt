@@ -1,7 +1,7 @@
 -- A turn of an end: what its notes and what it owes become.
 use Rattle.std.proofs.Common.{◌≡◌, ℕ, List, [], ◌∷◌, ◌++◌, map, refl, ap, sym, ◌∙◌, subst, cond, not, nat_lt, Bool, true, false, append_assoc, Option, Some, None}
 use Rattle.ssh_model.specs.Protocol.Bounds.{most_channels}
-use Rattle.ssh_model.specs.Protocol.Side.{Side}
+use Rattle.ssh_model.specs.declared.side.Side.{Side}
 use Rattle.ssh_model.specs.Protocol.Channels.Message.{Message, Message.Open, Message.Close, stage}
 use Rattle.ssh_model.specs.Protocol.Channels.Notes.{payload, Note, Note.Said, said, said_all, took_all, channel_at, Free}
 use Rattle.ssh_model.specs.Protocol.Channels.Numbers.{is_held, has_closed, peer_number}

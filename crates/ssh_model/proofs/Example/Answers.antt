@@ -1,6 +1,7 @@
 -- What the toy ends answer to messages of the transport and of authentication.
 use Rattle.std.specs.Prelude.{◌≡◌, ◌∷◌, true, false, [], Some, None, codes, take, refl}
-use Rattle.ssh_model.specs.Protocol.Side.{Side, Side.Client, Side.Server}
+use Rattle.ssh_model.specs.declared.side.Side.{Side}
+use Rattle.ssh_model.specs.declared.side.Side.TheVariants.{Client, Server}
 use Rattle.ssh_model.specs.Example.Histories.{says, hears, says_on, offer_of, lined, offered, first_reply, completed, keyed, userauth, connection, asking, served, right_request, wrong_request, probe, right_signature, requesting, probing_client, admitted, fed_again, rekeying, closed_by_peer, guessing}
 use Rattle.ssh_model.specs.Example.Toys.{toy_key, toy, secret}
 use Rattle.ssh_model.specs.Protocol.Wire.Message.{Msg.Disconnect, Msg.Ignore, Msg.Unimplemented, Msg.Debug, Msg.ServiceRequest, Msg.ServiceAccept, Msg.KexInit, Msg.NewKeys, Msg.KexEcdhInit, Msg.KexEcdhReply, Msg.UserauthRequest, Msg.UserauthFailure, Msg.UserauthSuccess, Msg.UserauthBanner, Msg.UserauthPkOk, Msg.ChannelClose, Msg.Unknown}

@@ -2,7 +2,9 @@
 use Rattle.std.proofs.Common.{get_or, ap, false, ◌≡◌, ℕ, List, [], ◌∷◌, ◌++◌, reverse, inl, inr, refl, arith, subst, true, Option, Some, None}
 use Rattle.std.proofs.lemmas.Bool.{leb-true}
 use Rattle.std.specs.Prelude.{codes}
-use Rattle.ssh_model.specs.Protocol.Side.{Side, Side.Client, Side.Server, part}
+use Rattle.ssh_model.specs.declared.side.Side.{Side}
+use Rattle.ssh_model.specs.declared.side.Side.TheVariants.{Client, Server}
+use Rattle.ssh_model.specs.Protocol.Side.{part}
 use Rattle.ssh_model.specs.Protocol.Lists.{IsOlder}
 use Rattle.ssh_model.specs.Protocol.Wire.Message.{Msg.Ignore, Msg.KexInit, Msg.NewKeys, Msg.KexEcdhInit, Msg.ExtInfo, Msg.UserauthRequest, Msg.UserauthSuccess, Method, Method.NoMethod, Method.Password}
 use Rattle.ssh_model.specs.Protocol.KeyExchange.Choice.{methods}

@@ -1,12 +1,14 @@
 -- What the toy ends refuse an ask for.
 use Rattle.std.specs.Prelude.{◌≡◌, ◌∷◌, false, [], Some, None, codes, replicate, map, refl}
 use Rattle.ssh_model.specs.Protocol.Bounds.{longest_description}
-use Rattle.ssh_model.specs.Protocol.Side.{Side, Side.Client, Side.Server}
+use Rattle.ssh_model.specs.declared.side.Side.{Side}
+use Rattle.ssh_model.specs.declared.side.Side.TheVariants.{Client, Server}
 use Rattle.ssh_model.specs.Example.Histories.{ask_refusal, hears, opened, completed, keyed, asking, served, requesting, probing_client, admitted, fed_again, rekeying, completed_again, requests}
 use Rattle.ssh_model.specs.Protocol.Wire.Message.{Msg.UserauthFailure, Msg.UserauthPkOk}
 use Rattle.ssh_model.specs.Protocol.Sessions.Items.{Ask.AskService, Ask.AskNone, Ask.AskPassword, Ask.AskProbe, Ask.AskSign, Ask.AskRekey, Ask.AskDisconnect}
 use Rattle.ssh_model.specs.Protocol.KeyExchange.Choice.{methods}
-use Rattle.ssh_model.specs.Protocol.Sessions.Refusals.{AskRefusal.NotYet, AskRefusal.Busy, AskRefusal.TooLong, AskRefusal.WrongSide, AskRefusal}
+use Rattle.ssh_model.specs.declared.ask_refusal.AskRefusal.{AskRefusal}
+use Rattle.ssh_model.specs.declared.ask_refusal.AskRefusal.TheVariants.{NotYet, Busy, TooLong, WrongSide}
 
 pub service_row : ask_refusal Client (keyed Client) AskService ≡ None
 unfolding methods

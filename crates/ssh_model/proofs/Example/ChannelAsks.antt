@@ -1,7 +1,7 @@
 -- What the toy ends refuse an ask for the connection for.
 use Rattle.std.specs.Prelude.{◌≡◌, ◌∷◌, ◌++◌, true, false, [], Some, None, codes, replicate, map, refl}
 use Rattle.ssh_model.specs.Protocol.Bounds.{largest_data, longest_payload}
-use Rattle.ssh_model.specs.Protocol.Side.{Side.Client, Side.Server}
+use Rattle.ssh_model.specs.declared.side.Side.TheVariants.{Client, Server}
 use Rattle.ssh_model.specs.Example.Histories.{patient, ask_refusal, says, hears, says_on, hears_on, keyed, served, admitted, fed_again, rekeying, channel_opened, channel_confirmed, heard_data, heard_request, said_data, said_request, wide_channel, requests, connection_asks}
 use Rattle.ssh_model.specs.Protocol.Wire.Message.{Msg.Ignore, Msg.GlobalRequest, Msg.ChannelEof, Msg.ChannelClose, Msg.ChannelFailure}
 use Rattle.ssh_model.specs.Protocol.Sessions.Items.{Ask.AskService, Ask.AskRekey, Ask.AskOpen, Ask.AskConfirm, Ask.AskRefuse, Ask.AskData, Ask.AskAdjust, Ask.AskEof, Ask.AskClose, Ask.AskRequest, Ask.AskReply, Ask.AskGlobal, Ask.AskGlobalReply, Ask.AskDisconnect}
@@ -9,7 +9,10 @@ use Rattle.ssh_model.specs.Protocol.KeyExchange.Choice.{methods}
 use Rattle.ssh_model.specs.Protocol.Channels.Numbers.{largest_window}
 use Rattle.ssh_model.specs.Protocol.Channels.History.{has_place, some_free}
 use Rattle.ssh_model.specs.Protocol.Sessions.Turns.{ask_checks}
-use Rattle.ssh_model.specs.Protocol.Sessions.Refusals.{first_refusal, AskRefusal.NotYet, AskRefusal.Busy, AskRefusal.NoChannel, AskRefusal.NoRoom, AskRefusal.TooLong, AskRefusal.NothingOwed, AskRefusal.RekeyDue, AskRefusal.TooMuch, AskRefusal}
+use Rattle.ssh_model.specs.declared.ask_refusal.AskRefusal.{AskRefusal}
+use Rattle.ssh_model.specs.declared.ask_refusal.AskRefusal.TheVariants.{NotYet, Busy, NoChannel, NoRoom, TooLong}
+use Rattle.ssh_model.specs.declared.ask_refusal.AskRefusal.TheVariants.{NothingOwed, RekeyDue, TooMuch}
+use Rattle.ssh_model.specs.Protocol.Sessions.Refusals.{first_refusal}
 
 pub not_authenticated_row : map (ask_refusal Client (served Client)) connection_asks ≡ replicate 14 (Some NotYet)
 unfolding methods largest_window has_place some_free

@@ -1,12 +1,13 @@
 -- What the toy ends refuse a message of the connection for.
 use Rattle.std.specs.Prelude.{◌≡◌, ◌∷◌, ◌++◌, true, false, [], Some, None, codes, replicate, refl}
-use Rattle.ssh_model.specs.Protocol.Side.{Side.Client, Side.Server}
+use Rattle.ssh_model.specs.declared.side.Side.TheVariants.{Client, Server}
 use Rattle.ssh_model.specs.Example.Histories.{refusal, says, hears, says_on, hears_on, admitted, open_message, confirm_message, channel_opened, channel_confirmed, heard_data, heard_eof, heard_request, closed_by_peer}
 use Rattle.ssh_model.specs.Protocol.Wire.Message.{Msg.GlobalRequest, Msg.RequestSuccess, Msg.RequestFailure, Msg.ChannelOpenConfirmation, Msg.ChannelOpenFailure, Msg.ChannelWindowAdjust, Msg.ChannelData, Msg.ChannelExtendedData, Msg.ChannelEof, Msg.ChannelClose, Msg.ChannelRequest, Msg.ChannelSuccess, Msg.ChannelFailure}
 use Rattle.ssh_model.specs.Protocol.KeyExchange.Choice.{methods}
 use Rattle.ssh_model.specs.Protocol.Channels.Numbers.{largest_window}
 use Rattle.ssh_model.specs.Protocol.Channels.History.{has_place, some_free}
-use Rattle.ssh_model.specs.Protocol.Sessions.Refusals.{Refusal.Unexpected, Refusal.UnknownChannel, Refusal.WindowOverrun, Refusal.WindowTooLarge, Refusal.OwedFull}
+use Rattle.ssh_model.specs.declared.refusal.Refusal.TheVariants.{Unexpected, UnknownChannel, WindowOverrun}
+use Rattle.ssh_model.specs.declared.refusal.Refusal.TheVariants.{WindowTooLarge, OwedFull}
 
 pub many_global_requests_row : refusal Client (replicate 255 (hears (GlobalRequest [] true [])) ++ admitted Client) (GlobalRequest [] true []) ≡ None
 unfolding methods largest_window has_place some_free

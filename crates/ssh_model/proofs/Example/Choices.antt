@@ -1,6 +1,7 @@
 -- What is chosen, and which guess is wrong.
 use Rattle.std.specs.Prelude.{◌≡◌, ◌∷◌, ◌++◌, true, false, [], Some, None, codes, refl}
-use Rattle.ssh_model.specs.Protocol.Side.{Side, Side.Client, Side.Server}
+use Rattle.ssh_model.specs.declared.side.Side.{Side}
+use Rattle.ssh_model.specs.declared.side.Side.TheVariants.{Client, Server}
 use Rattle.ssh_model.specs.Example.Histories.{says, hears, offer_of}
 use Rattle.ssh_model.specs.Example.Toys.{toy}
 use Rattle.ssh_model.specs.Protocol.Wire.Message.{Msg.KexInit}

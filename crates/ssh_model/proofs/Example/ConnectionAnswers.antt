@@ -1,6 +1,6 @@
 -- What the toy ends answer to messages of the connection.
 use Rattle.std.specs.Prelude.{◌≡◌, ◌∷◌, Bool, true, false, List, [], Some, None, codes, refl}
-use Rattle.ssh_model.specs.Protocol.Side.{Side.Client, Side.Server}
+use Rattle.ssh_model.specs.declared.side.Side.TheVariants.{Client, Server}
 use Rattle.ssh_model.specs.Example.Histories.{says, says_on, offer_of, admitted, open_message, confirm_message, channel_opened, channel_confirmed}
 use Rattle.ssh_model.specs.Example.Toys.{toy}
 use Rattle.ssh_model.specs.Protocol.Wire.Message.{Msg.KexInit, Msg.GlobalRequest, Msg.RequestSuccess, Msg.RequestFailure, Msg.ChannelOpenFailure, Msg.ChannelWindowAdjust, Msg.ChannelData, Msg.ChannelExtendedData, Msg.ChannelEof, Msg.ChannelClose, Msg.ChannelRequest, Msg.ChannelSuccess, Msg.ChannelFailure}

@@ -1,6 +1,6 @@
 -- What is refused where no more channels or replies fit.
 use Rattle.std.specs.Prelude.{◌≡◌, ℕ, ◌∷◌, Bool, true, false, List, [], Some, None, map, ◌&&◌, refl}
-use Rattle.ssh_model.specs.Protocol.Side.{Side.Client}
+use Rattle.ssh_model.specs.declared.side.Side.TheVariants.{Client}
 use Rattle.ssh_model.specs.Example.Histories.{refusal, ask_refusal, open_message}
 use Rattle.ssh_model.specs.Example.Toys.{toy}
 use Rattle.ssh_model.specs.Protocol.Wire.Message.{Msg.ChannelClose}
@@ -8,7 +8,9 @@ use Rattle.ssh_model.specs.Protocol.Sessions.Items.{Item, Ask.AskOpen}
 use Rattle.ssh_model.specs.Protocol.Sessions.Phases.{blocked, authenticated}
 use Rattle.ssh_model.specs.Protocol.Channels.Connection.{notes, is_full, is_limit_reached, is_owed_limit_reached, is_rekey_due}
 use Rattle.ssh_model.specs.Protocol.Channels.Numbers.{is_confirmed, has_closed}
-use Rattle.ssh_model.specs.Protocol.Sessions.Refusals.{Check.RefusedWhere, first_refusal, Refusal.OwedFull, AskRefusal.TableFull}
+use Rattle.ssh_model.specs.declared.refusal.Refusal.TheVariants.{OwedFull}
+use Rattle.ssh_model.specs.declared.ask_refusal.AskRefusal.TheVariants.{TableFull}
+use Rattle.ssh_model.specs.Protocol.Sessions.Refusals.{Check.RefusedWhere, first_refusal}
 
 few_owed : (full many : Bool) → many ≡ false → first_refusal (RefusedWhere (full && many) OwedFull ∷ []) ≡ None
 few_owed true many e = rw e refl

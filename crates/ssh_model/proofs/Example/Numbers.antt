@@ -1,6 +1,8 @@
 -- Epochs, numbers and keys of the toy ends.
 use Rattle.std.specs.Prelude.{◌≡◌, ℕ, List, ◌∷◌, ◌++◌, true, [], Some, None, codes, refl}
-use Rattle.ssh_model.specs.Protocol.Side.{Side, Side.Client, Side.Server, peer}
+use Rattle.ssh_model.specs.declared.side.Side.{Side}
+use Rattle.ssh_model.specs.declared.side.Side.TheVariants.{Client, Server}
+use Rattle.ssh_model.specs.Protocol.Side.{peer}
 use Rattle.ssh_model.specs.Example.Histories.{hears, lined, offered, completed, keyed, admitted, offered_again, completed_again, guessing, plain_crypto, first_inputs, mac_key}
 use Rattle.ssh_model.specs.Example.Toys.{toy, secret}
 use Rattle.ssh_model.specs.Protocol.Wire.Message.{Msg.KexInit}

@@ -1,6 +1,7 @@
 -- The toy parts keep what is promised of parts, and the toy settings are good.
 use Rattle.std.proofs.Common.{◌≡◌, ℕ, Bool, true, false, List, length, refl, arith}
-use Rattle.ssh_model.specs.Protocol.Side.{Side, Side.Client, Side.Server}
+use Rattle.ssh_model.specs.declared.side.Side.{Side}
+use Rattle.ssh_model.specs.declared.side.Side.TheVariants.{Client, Server}
 use Rattle.ssh_model.specs.Protocol.Wire.Message.{Msg.KexInit, Msg.UserauthFailure, Msg.ExtInfo}
 use Rattle.ssh_model.specs.Protocol.Sessions.Parties.{AreLawful, offer, settings_of}
 use Rattle.ssh_model.specs.Protocol.Sessions.TurnClaims.{AreGood, HasSpelling}

@@ -1,6 +1,6 @@
 -- Which part the toy ends ask, under which name.
 use Rattle.std.specs.Prelude.{◌≡◌, ◌++◌, true, false, [], Some, codes, replicate}
-use Rattle.ssh_model.specs.Protocol.Side.{Side.Client, Side.Server}
+use Rattle.ssh_model.specs.declared.side.Side.TheVariants.{Client, Server}
 use Rattle.ssh_model.specs.Protocol.KeyExchange.Exchanges.{sending_key, taking_key}
 use Rattle.ssh_model.specs.Protocol.Sessions.Transport.{host_key_now, is_trusted, point_now}
 use Rattle.ssh_model.specs.Example.Toys.{naming_toys, own_points, secret, two_host_keys}

@@ -1,7 +1,9 @@
 -- The toy session without strict key exchange is an honest run, and what the client took is no prefix of what was sent.
 use Rattle.std.proofs.Common.{◌≡◌, ℕ, ◌<◌, true, List, [], ◌∷◌, inl, inr, refl, sym, ◌∙◌, arith, None, ap}
 use Rattle.std.specs.Prelude.{codes}
-use Rattle.ssh_model.specs.Protocol.Side.{Side, Side.Client, Side.Server, part}
+use Rattle.ssh_model.specs.declared.side.Side.{Side}
+use Rattle.ssh_model.specs.declared.side.Side.TheVariants.{Client, Server}
+use Rattle.ssh_model.specs.Protocol.Side.{part}
 use Rattle.ssh_model.specs.Example.Toys.{plain, toy_key, cookie, secret}
 use Rattle.ssh_model.specs.Example.PlainRun.{farewell, plain_reply, plain_session, plain0, plain1, plain2, plain3, plain4, plain5, plain6, plain7, plain8, plain9, plain10, plain11, plain12}
 use Rattle.ssh_model.specs.Example.Run.{payload_of, sends, takes, offer_message_by, start_by}

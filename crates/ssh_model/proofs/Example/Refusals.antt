@@ -1,6 +1,8 @@
 -- What the toy ends refuse a message for.
 use Rattle.std.specs.Prelude.{◌≡◌, ◌∷◌, true, false, [], Some, None, codes, replicate, refl}
-use Rattle.ssh_model.specs.Protocol.Side.{Side, Side.Client, Side.Server, peer}
+use Rattle.ssh_model.specs.declared.side.Side.{Side}
+use Rattle.ssh_model.specs.declared.side.Side.TheVariants.{Client, Server}
+use Rattle.ssh_model.specs.Protocol.Side.{peer}
 use Rattle.ssh_model.specs.Example.Histories.{refusal, says, offer_of, lined, offered, first_reply, keyed, userauth, connection, asking, right_request, wrong_request, probe, failed, admitted, fed_again, rekeying}
 use Rattle.ssh_model.specs.Example.Toys.{toy_key, toy, secret}
 use Rattle.ssh_model.specs.Protocol.Wire.Message.{Method.NoMethod, Method.Password, Method.Publickey, Method.Other, Msg.Ignore, Msg.ServiceRequest, Msg.ServiceAccept, Msg.KexInit, Msg.KexEcdhInit, Msg.KexEcdhReply, Msg.UserauthRequest, Msg.UserauthSuccess, Msg.Unknown}
@@ -17,7 +19,9 @@ use Rattle.sha2.proofs.Facts256.{length-sha256}
 use Rattle.ssh_model.specs.Protocol.Wire.MacOnly.{is_text}
 use Rattle.ssh_model.specs.Protocol.KeyExchange.Exchange.{exchange_text, string_of, mpint_body, digits}
 use Rattle.ssh_model.specs.Protocol.KeyExchange.Exchanges.{exchange}
-use Rattle.ssh_model.specs.Protocol.Sessions.Refusals.{Refusal, Refusal.Unexpected, Refusal.NoCommon, Refusal.NotStrict, Refusal.BadPoint, Refusal.BadHost, Refusal.NoService, Refusal.TooManyTries}
+use Rattle.ssh_model.specs.declared.refusal.Refusal.{Refusal}
+use Rattle.ssh_model.specs.declared.refusal.Refusal.TheVariants.{Unexpected, NoCommon, NotStrict, BadPoint, BadHost}
+use Rattle.ssh_model.specs.declared.refusal.Refusal.TheVariants.{NoService, TooManyTries}
 
 -- A signature of a hash is the hash.
 signs_itself : (text : List ℕ) → is_text (take 4096 (sha256 text)) (sha256 text) ≡ true

@@ -5,7 +5,8 @@ use Rattle.std.proofs.lemmas.Cmp.{nat_list_eq_equiv}
 use Rattle.std.proofs.lemmas.List.{take_all}
 use Rattle.sha2.specs.Sha256.{sha256}
 use Rattle.sha2.proofs.Facts256.{length-sha256}
-use Rattle.ssh_model.specs.Protocol.Side.{Side.Client, Side.Server, part}
+use Rattle.ssh_model.specs.declared.side.Side.TheVariants.{Client, Server}
+use Rattle.ssh_model.specs.Protocol.Side.{part}
 use Rattle.ssh_model.specs.Protocol.Wire.Message.{Msg.NewKeys, Msg.KexEcdhInit, Msg.ServiceRequest, Msg.ServiceAccept, Msg.UserauthSuccess, Msg.ChannelClose, Method.Password}
 use Rattle.ssh_model.specs.Protocol.Wire.MacOnly.{is_text}
 use Rattle.ssh_model.specs.Protocol.KeyExchange.Choice.{methods}

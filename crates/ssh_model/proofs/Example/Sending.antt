@@ -1,6 +1,7 @@
 -- What the toy ends send on asks.
 use Rattle.std.specs.Prelude.{◌∷◌, true, false, [], Some, None, codes, take, refl}
-use Rattle.ssh_model.specs.Protocol.Side.{Side, Side.Client, Side.Server}
+use Rattle.ssh_model.specs.declared.side.Side.{Side}
+use Rattle.ssh_model.specs.declared.side.Side.TheVariants.{Client, Server}
 use Rattle.ssh_model.specs.Example.Histories.{says, says_on, offer_of, opened, keyed, userauth, connection, served, right_request, probe, right_signature, admitted, fed_again, open_message, confirm_message, channel_opened, channel_confirmed}
 use Rattle.ssh_model.specs.Example.Toys.{toy}
 use Rattle.ssh_model.specs.Protocol.Wire.Message.{Method.NoMethod, Method.Publickey, Msg.Disconnect, Msg.ServiceRequest, Msg.KexInit, Msg.UserauthRequest, Msg.GlobalRequest, Msg.RequestSuccess, Msg.RequestFailure, Msg.ChannelOpenFailure, Msg.ChannelWindowAdjust, Msg.ChannelData, Msg.ChannelExtendedData, Msg.ChannelEof, Msg.ChannelClose, Msg.ChannelRequest, Msg.ChannelSuccess, Msg.ChannelFailure}

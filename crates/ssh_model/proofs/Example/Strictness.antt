@@ -1,11 +1,14 @@
 -- What the toy ends do with and without strict key exchange, and with extensions.
 use Rattle.std.specs.Prelude.{◌≡◌, ◌-◌, ◌^◌, ◌∷◌, ◌++◌, true, false, List, [], Some, None, codes, length}
-use Rattle.ssh_model.specs.Protocol.Side.{Side, Side.Client, Side.Server, peer}
+use Rattle.ssh_model.specs.declared.side.Side.{Side}
+use Rattle.ssh_model.specs.declared.side.Side.TheVariants.{Client, Server}
+use Rattle.ssh_model.specs.Protocol.Side.{peer}
 use Rattle.ssh_model.specs.Protocol.Wire.Message.{Msg.Ignore, Msg.Unimplemented, Msg.ExtInfo, Msg.KexInit, Msg.NewKeys, Msg.KexEcdhInit, Msg.Unknown}
 use Rattle.ssh_model.specs.Protocol.KeyExchange.Choice.{Kind.Kex, client_marker, server_marker, client_extension_marker, server_extension_marker}
 use Rattle.ssh_model.specs.Protocol.KeyExchange.Exchanges.{common, sending_number, taking_number}
-use Rattle.ssh_model.specs.Protocol.Sessions.Parties.{Strictness.Offer, Strictness.Off, lists_of}
-use Rattle.ssh_model.specs.Protocol.Sessions.Refusals.{Refusal.Unexpected, Refusal.NoCommon, Refusal.NotStrict}
+use Rattle.ssh_model.specs.declared.strictness.Strictness.TheVariants.{Offer, Off}
+use Rattle.ssh_model.specs.Protocol.Sessions.Parties.{lists_of}
+use Rattle.ssh_model.specs.declared.refusal.Refusal.TheVariants.{Unexpected, NoCommon, NotStrict}
 use Rattle.ssh_model.specs.Protocol.Sessions.Items.{Payload, took, Fact.Completed, Fact.GotExtensions, Item.TookGuess, Item.Told}
 use Rattle.ssh_model.specs.Protocol.Sessions.Epochs.{count, wire_number}
 use Rattle.ssh_model.specs.Protocol.Sessions.Phases.{is_wrong_guess, may_take}

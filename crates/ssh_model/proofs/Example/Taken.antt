@@ -1,6 +1,7 @@
 -- Which messages the toy ends may take next, of all numbers.
 use Rattle.std.specs.Prelude.{◌≡◌, ◌∷◌, ◌++◌, true, false, [], refl}
-use Rattle.ssh_model.specs.Protocol.Side.{Side, Side.Client, Side.Server}
+use Rattle.ssh_model.specs.declared.side.Side.{Side}
+use Rattle.ssh_model.specs.declared.side.Side.TheVariants.{Client, Server}
 use Rattle.ssh_model.specs.Example.Histories.{taken, hears, offer_of, lined, offered, completed, keyed, asking, served, requesting, probing_client, admitted, rekeying, offered_again, completed_again, guessing}
 use Rattle.ssh_model.specs.Example.Toys.{from_to}
 use Rattle.ssh_model.specs.Protocol.Wire.Message.{Msg.KexInit}

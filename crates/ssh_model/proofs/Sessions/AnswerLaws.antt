@@ -2,7 +2,7 @@
 use Rattle.std.proofs.Common.{◌≡◌, ℕ, suc, Bool, true, false, not, ◌&&◌, List, [], ◌∷◌, ◌++◌, map, refl, ap, sym, ◌∙◌, Option, Some, None}
 use Rattle.std.specs.Prelude.{unwrap_or}
 use Rattle.std.proofs.lemmas.List.{map-append}
-use Rattle.ssh_model.specs.Protocol.Side.{Side}
+use Rattle.ssh_model.specs.declared.side.Side.{Side}
 use Rattle.ssh_model.specs.Protocol.Wire.Message.{Msg, Msg.NewKeys}
 use Rattle.ssh_model.specs.Protocol.Sessions.Parties.{Parties}
 use Rattle.ssh_model.specs.Protocol.Sessions.Items.{Fact.Completed, Fact.Closed, Fact.Opened, Item, Item.Sent, Item.Told, sent}

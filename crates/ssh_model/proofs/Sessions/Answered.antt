@@ -3,7 +3,8 @@ use Rattle.std.proofs.Common.{◌≡◌, ℕ, zero, suc, ◌<◌, ◌≤◌, ◌
 use Rattle.std.specs.Prelude.{codes}
 use Rattle.std.proofs.lemmas.Bool.{leb-true, ltb-true}
 use Rattle.ssh_model.specs.Protocol.Bounds.{most_channels}
-use Rattle.ssh_model.specs.Protocol.Side.{Side, Side.Client, Side.Server}
+use Rattle.ssh_model.specs.declared.side.Side.{Side}
+use Rattle.ssh_model.specs.declared.side.Side.TheVariants.{Client, Server}
 use Rattle.ssh_model.specs.Protocol.Wire.MacOnly.{is_text}
 use Rattle.ssh_model.specs.Protocol.Wire.Outcome.{Outcome, Outcome.OtherLine, Outcome.VersionLine, Outcome.RefusedLine, Outcome.Opens, Outcome.RefusedPacket}
 use Rattle.ssh_model.specs.Protocol.Wire.Line.{LineUnit.line}
@@ -25,7 +26,9 @@ use Rattle.ssh_model.proofs.Sessions.EndKeeps.{End}
 use Rattle.ssh_model.proofs.Sessions.PeerNumbers.{RepliesFit, owed_replies_fit, due_replies_fit}
 use Rattle.ssh_model.specs.Protocol.Sessions.Epochs.{count, epoch}
 use Rattle.ssh_model.specs.Protocol.KeyExchange.Exchanges.{offers, fed, nth, no_material, choice, taking_number, is_strict}
-use Rattle.ssh_model.specs.Protocol.Sessions.Refusals.{Refusal, Refusal.BadMessage, Refusal.NumberSpent, Refusal.Unexpected, refusal_name, refusal_reason, first_refusal}
+use Rattle.ssh_model.specs.declared.refusal.Refusal.{Refusal}
+use Rattle.ssh_model.specs.declared.refusal.Refusal.TheVariants.{BadMessage, NumberSpent, Unexpected}
+use Rattle.ssh_model.specs.Protocol.Sessions.Refusals.{refusal_name, refusal_reason, first_refusal}
 use Rattle.ssh_model.specs.Protocol.Sessions.Items.{Item.Refused, Item.Sent, messages_sent, Item, sent, Item.Died, Item.Fed, Fact.Completed, Fact.Ignored, Item.Told, Item.Took, Item.TookGuess, Item.TookLine, Item.TookOtherLine, took}
 use Rattle.ssh_model.proofs.Sessions.Sound.{AllFormed}
 use Rattle.ssh_model.specs.Laws.Checks.{all_passed}

@@ -3,7 +3,7 @@ use Rattle.std.proofs.Common.{◌≡◌, ℕ, ◌<◌, ◌+◌, ◌^◌, true, f
 use Rattle.std.specs.Prelude.{codes}
 use Rattle.std.proofs.lemmas.Bool.{leb-true, ltb-true, ltb-false}
 use Rattle.ssh_model.specs.Protocol.Bounds.{largest_data, longest_description, longest_payload, most_channels}
-use Rattle.ssh_model.specs.Protocol.Side.{Side}
+use Rattle.ssh_model.specs.declared.side.Side.{Side}
 use Rattle.ssh_model.specs.Protocol.Channels.History as channel
 use Rattle.ssh_model.specs.Protocol.Channels.History.{is_free, has_place}
 use Rattle.ssh_model.specs.Protocol.Channels.Numbers.{largest_window, peer_number, receive_window}
@@ -13,7 +13,9 @@ use Rattle.ssh_model.specs.Protocol.Sessions.Sizes.{string_size, request_size}
 use Rattle.ssh_model.specs.Protocol.Sessions.Transport.{TransportAsk, TransportAsk.service as asks_service, TransportAsk.rekey as asks_rekey, TransportAsk.disconnect as asks_disconnect, next_cookie}
 use Rattle.ssh_model.specs.Protocol.Sessions.Parties.{Parties, AreLawful}
 use Rattle.ssh_model.specs.Protocol.Sessions.Phases.{has_material}
-use Rattle.ssh_model.specs.Protocol.Sessions.Refusals.{AskRefusal, Refusal.NumberSpent, first_refusal}
+use Rattle.ssh_model.specs.declared.ask_refusal.AskRefusal.{AskRefusal}
+use Rattle.ssh_model.specs.declared.refusal.Refusal.TheVariants.{NumberSpent}
+use Rattle.ssh_model.specs.Protocol.Sessions.Refusals.{first_refusal}
 use Rattle.ssh_model.specs.Protocol.Sessions.Items.{Ask, Ask.AskService, Ask.AskNone, Ask.AskPassword, Ask.AskProbe, Ask.AskSign, Ask.AskRekey, Ask.AskOpen, Ask.AskConfirm, Ask.AskRefuse, Ask.AskData, Ask.AskAdjust, Ask.AskEof, Ask.AskClose, Ask.AskRequest, Ask.AskReply, Ask.AskGlobal, Ask.AskGlobalReply, Ask.AskDisconnect, Item, Item.Asked, Item.AskRefused, Item.Refused, Item.Died, has_died}
 use Rattle.ssh_model.specs.Protocol.Sessions.Turns.{AreNumbered, AreSpelled, ask_checks, OnAsk, OnAsk.of_transport, OnAsk.of_authentication, OnAsk.of_connection, AsksTurn, AsksTurn.answers, EndRun}
 use Rattle.ssh_model.specs.Protocol.Sessions.TurnClaims.{AreGood, HasUint32s}

@@ -1,7 +1,8 @@
 -- What a blocked end sends: between its KEXINIT and its NEWKEYS nothing but messages of the exchange, UNIMPLEMENTED and
 -- DISCONNECT.
 use Rattle.std.proofs.Common.{◌≡◌, ℕ, ◌<◌, ◌≤◌, List, [], ◌∷◌, ◌++◌, ◌⊎◌, inl, inr, refl, sym, ◌∙◌, ap, subst, append_assoc, arith, Bool, true, false, is_some, ◌||◌, Option, None, cond, length}
-use Rattle.ssh_model.specs.Protocol.Side.{Side, Side.Client, Side.Server}
+use Rattle.ssh_model.specs.declared.side.Side.{Side}
+use Rattle.ssh_model.specs.declared.side.Side.TheVariants.{Client, Server}
 use Rattle.ssh_model.specs.Protocol.Sessions.TurnClaims.{KeepsToExchange, is_sent_while_blocked}
 use Rattle.ssh_model.proofs.Sessions.EndKeeps.{End}
 use Rattle.ssh_model.proofs.Sessions.EndAnswers.{may_be}
@@ -16,7 +17,8 @@ use Rattle.ssh_model.specs.Protocol.Sessions.Epochs.{epoch}
 use Rattle.std.specs.Prelude.{codes}
 use Rattle.ssh_model.specs.Protocol.Sessions.Parties.{AreLawful, settings_of, is_required, offer}
 use Rattle.ssh_model.specs.Protocol.Sessions.Items.{Fact, Fact.Service, Ask, Ask.AskService, Ask.AskRekey}
-use Rattle.ssh_model.specs.Protocol.Sessions.Refusals.{Refusal, first_refusal, refusal_name}
+use Rattle.ssh_model.specs.declared.refusal.Refusal.{Refusal}
+use Rattle.ssh_model.specs.Protocol.Sessions.Refusals.{first_refusal, refusal_name}
 use Rattle.ssh_model.specs.Protocol.Channels.History as channel
 use Rattle.ssh_model.specs.Protocol.Channels.History.{at_once, due}
 use Rattle.ssh_model.specs.Protocol.Channels.Message.{Message, Message.Open, Message.OpenFailure, Message.Close}

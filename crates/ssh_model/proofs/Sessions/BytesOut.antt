@@ -1,6 +1,6 @@
 -- What the bytes that an end put out end with.
 use Rattle.std.proofs.Common.{ℕ, List, ◌∷◌, refl, Option}
-use Rattle.ssh_model.specs.Protocol.Side.{Side}
+use Rattle.ssh_model.specs.declared.side.Side.{Side}
 use Rattle.ssh_model.specs.Protocol.Wire.Message.{Msg}
 use Rattle.ssh_model.specs.Protocol.Wire.Sealing.{IsSealing}
 use Rattle.ssh_model.specs.Protocol.Sessions.Parties.{Parties}

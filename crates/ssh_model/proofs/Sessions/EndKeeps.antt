@@ -1,7 +1,8 @@
 -- What holds of one end between its turns, and that most items keep it.
 use Rattle.std.proofs.Common.{◌≡◌, ℕ, suc, ◌+◌, ◌<◌, ◌≤◌, ◌^◌, List, [], ◌∷◌, ◌++◌, length, map, inr, arith, Bool, true, false, Option}
 use Rattle.ssh_model.specs.Protocol.Bounds.{largest_packet}
-use Rattle.ssh_model.specs.Protocol.Side.{Side, Side.Client, Side.Server}
+use Rattle.ssh_model.specs.declared.side.Side.{Side}
+use Rattle.ssh_model.specs.declared.side.Side.TheVariants.{Client, Server}
 use Rattle.ssh_model.specs.Protocol.Lists.{IsOlder}
 use Rattle.ssh_model.specs.Protocol.Wire.Message.{Msg, Msg.KexInit, Msg.NewKeys, Msg.KexEcdhInit, Msg.KexEcdhReply, IsPayload}
 use Rattle.ssh_model.specs.Protocol.KeyExchange.Exchange.{Fits}

@@ -1,6 +1,8 @@
 -- Each end of a run of two makes a run of its own.
 use Rattle.std.proofs.Common.{◌≡◌, List, [], ◌∷◌, ◌++◌, refl, ap, ◌∙◌, append-nil}
-use Rattle.ssh_model.specs.Protocol.Side.{Side, Side.Client, Side.Server, peer, done_by, part}
+use Rattle.ssh_model.specs.declared.side.Side.{Side}
+use Rattle.ssh_model.specs.declared.side.Side.TheVariants.{Client, Server}
+use Rattle.ssh_model.specs.Protocol.Side.{peer, done_by, part}
 use Rattle.ssh_model.specs.Protocol.Sessions.Parties.{Parties}
 use Rattle.ssh_model.specs.Protocol.Sessions.Items.{Item, Done}
 use Rattle.ssh_model.specs.Protocol.Sessions.Turns.{EndRun, EndRun.start as opens, EndRun.then_turn as goes, Run, Run.start, Run.then_turn}

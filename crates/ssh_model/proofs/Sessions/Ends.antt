@@ -1,7 +1,9 @@
 -- Older parts of a list that grows at its head.
 use Rattle.std.proofs.Common.{◌≡◌, ℕ, ◌<◌, ◌≤◌, List, [], ◌∷◌, ◌++◌, length, reverse, inl, inr, refl, ap, sym, ◌∙◌, arith, append_assoc, append-nil}
 use Rattle.std.proofs.lemmas.List.{reverse-append}
-use Rattle.ssh_model.specs.Protocol.Side.{Side, Side.Client, Side.Server, peer, DoneBy.By, part}
+use Rattle.ssh_model.specs.declared.side.Side.{Side}
+use Rattle.ssh_model.specs.declared.side.Side.TheVariants.{Client, Server}
+use Rattle.ssh_model.specs.Protocol.Side.{peer, DoneBy.By, part}
 use Rattle.ssh_model.specs.Protocol.Lists.{IsOlder, Begins}
 use Rattle.ssh_model.specs.OneEpoch.History.{Item.Sent, Item.Took, Done, sent, took, HasNumber, IsHonestEpoch, TakenInOrder}
 

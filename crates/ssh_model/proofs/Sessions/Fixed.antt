@@ -2,10 +2,12 @@
 use Rattle.std.proofs.Common.{◌≡◌, ℕ, suc, ◌<◌, ◌^◌, Bool, true, false, not, List, [], ◌∷◌, ◌++◌, inl, inr, map, refl, ap, sym, ◌∙◌, subst, arith, Option, Some, None}
 use Rattle.std.specs.Prelude.{unwrap_or}
 use Rattle.std.proofs.lemmas.List.{map-append}
-use Rattle.ssh_model.specs.Protocol.Side.{Side}
+use Rattle.ssh_model.specs.declared.side.Side.{Side}
 use Rattle.ssh_model.specs.Protocol.Wire.Message.{Msg, Msg.NewKeys, Msg.ChannelOpen, Msg.Disconnect, IsPayload}
 use Rattle.ssh_model.specs.Protocol.Wire.Outcome.{Outcome}
-use Rattle.ssh_model.specs.Protocol.Sessions.Refusals.{Refusal, AskRefusal, refusal_name, first_refusal}
+use Rattle.ssh_model.specs.declared.refusal.Refusal.{Refusal}
+use Rattle.ssh_model.specs.declared.ask_refusal.AskRefusal.{AskRefusal}
+use Rattle.ssh_model.specs.Protocol.Sessions.Refusals.{refusal_name, first_refusal}
 use Rattle.ssh_model.specs.Protocol.Sessions.Parties.{Parties, AreLawful}
 use Rattle.ssh_model.specs.Protocol.Sessions.Items.{Ask, Fact.Opening, Fact.Opened, Item, Item.Asked, Item.AskRefused, Item.Sent, Item.Took, Item.Told, Item.Refused, Item.Died, sent}
 use Rattle.ssh_model.specs.Protocol.Sessions.Epochs.{count}

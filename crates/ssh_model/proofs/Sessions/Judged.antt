@@ -1,11 +1,13 @@
 -- A run with another judge of a server's users: each turn of a live end is one by both judges, where they agree on what
 -- it took.
 use Rattle.std.proofs.Common.{◌≡◌, ℕ, false, List, [], ◌∷◌, ◌++◌, Option, Some, None, refl, ap, sym, ◌∙◌}
-use Rattle.ssh_model.specs.Protocol.Side.{Side, Side.Client, Side.Server}
+use Rattle.ssh_model.specs.declared.side.Side.{Side}
+use Rattle.ssh_model.specs.declared.side.Side.TheVariants.{Client, Server}
 use Rattle.ssh_model.specs.Protocol.Wire.Message.{Msg, Msg.UserauthRequest, Method, Method.NoMethod, Method.Password, Method.Publickey}
 use Rattle.ssh_model.specs.Protocol.Wire.Message.{Method.Other}
 use Rattle.ssh_model.specs.Protocol.Wire.Outcome.{Outcome}
-use Rattle.ssh_model.specs.Protocol.Sessions.Refusals.{Refusal, first_refusal}
+use Rattle.ssh_model.specs.declared.refusal.Refusal.{Refusal}
+use Rattle.ssh_model.specs.Protocol.Sessions.Refusals.{first_refusal}
 use Rattle.ssh_model.specs.Protocol.Sessions.Parties.{Parties, AreLawful}
 use Rattle.ssh_model.specs.Protocol.Sessions.Items.{Ask, Item, Item.Took, Item.Died, has_died}
 use Rattle.ssh_model.specs.Protocol.Authentication.Requests.{Judge, judge_of, is_right, accepts, approves, fails, is_accepted}

@@ -1,6 +1,8 @@
 -- What is read off a history by the parties, except for the verdicts on users, is the same with another judge.
 use Rattle.std.proofs.Common.{◌≡◌, ℕ, zero, suc, Bool, true, false, List, [], ◌∷◌, refl, ap}
-use Rattle.ssh_model.specs.Protocol.Side.{Side, Side.Client, Side.Server, peer}
+use Rattle.ssh_model.specs.declared.side.Side.{Side}
+use Rattle.ssh_model.specs.declared.side.Side.TheVariants.{Client, Server}
+use Rattle.ssh_model.specs.Protocol.Side.{peer}
 use Rattle.ssh_model.specs.Protocol.Wire.Message.{Msg, Msg.KexInit, Msg.NewKeys, Msg.KexEcdhInit, Msg.KexEcdhReply, Msg.ServiceRequest}
 use Rattle.ssh_model.specs.Protocol.Wire.Message.{Msg.ServiceAccept}
 use Rattle.ssh_model.specs.Protocol.Wire.Unit.{Stage.Packets}

@@ -1,6 +1,8 @@
 -- Events give runs, a beginning of an honest run is honest, and the cutting of a stream into pieces does not matter.
 use Rattle.std.proofs.Common.{ℕ, List, [], ◌∷◌, ◌++◌, sym, subst, ◌↔◌}
-use Rattle.ssh_model.specs.Protocol.Side.{Side, Side.Client, Side.Server, DoneBy.By, part}
+use Rattle.ssh_model.specs.declared.side.Side.{Side}
+use Rattle.ssh_model.specs.declared.side.Side.TheVariants.{Client, Server}
+use Rattle.ssh_model.specs.Protocol.Side.{DoneBy.By, part}
 use Rattle.ssh_model.specs.Protocol.Wire.Message.{Msg.NewKeys}
 use Rattle.ssh_model.specs.Protocol.Wire.Sealing.{IsSealing}
 use Rattle.ssh_model.specs.Protocol.Sessions.Parties.{Parties}

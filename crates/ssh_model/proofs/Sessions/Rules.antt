@@ -1,7 +1,8 @@
 -- What each end keeps to, and what is known of its exchanges.
 use Rattle.std.proofs.Common.{◌≡◌, ℕ, suc, ◌<◌, ◌≤◌, List, [], ◌∷◌, length, map, take, drop, inl, inr, refl, ap, sym, ◌∙◌, arith, subst, Option, true, cond, ◌==◌}
 use Rattle.std.proofs.lemmas.List.{length-map}
-use Rattle.ssh_model.specs.Protocol.Side.{Side, Side.Client, Side.Server}
+use Rattle.ssh_model.specs.declared.side.Side.{Side}
+use Rattle.ssh_model.specs.declared.side.Side.TheVariants.{Client, Server}
 use Rattle.ssh_model.specs.Protocol.Lists.{IsOlder, IsIn}
 use Rattle.ssh_model.specs.Protocol.Wire.Message.{Msg.KexInit, Msg.NewKeys, Proposal}
 use Rattle.ssh_model.specs.Protocol.KeyExchange.Exchange.{Inputs, Fits}

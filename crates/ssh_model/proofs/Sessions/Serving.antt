@@ -1,6 +1,7 @@
 -- How service and authentication follow on one another, and what lets their messages be taken.
 use Rattle.std.proofs.Common.{◌≡◌, ℕ, zero, suc, ◌<◌, List, [], ◌∷◌, ◌⊎◌, inl, inr, refl, Bool, true, false, is_some, ◌||◌, ◌==◌, length}
-use Rattle.ssh_model.specs.Protocol.Side.{Side, Side.Client, Side.Server}
+use Rattle.ssh_model.specs.declared.side.Side.{Side}
+use Rattle.ssh_model.specs.declared.side.Side.TheVariants.{Client, Server}
 use Rattle.ssh_model.specs.Protocol.Sessions.TurnClaims.{KeepsToExchange}
 use Rattle.ssh_model.proofs.Sessions.EndKeeps.{InStep}
 use Rattle.ssh_model.proofs.Sessions.Stages.{or_split}

@@ -1,9 +1,13 @@
 -- Each turn of an end keeps what is sound of it.
 use Rattle.std.proofs.Common.{◌≡◌, ℕ, ◌<◌, ◌≤◌, List, [], ◌∷◌, ◌++◌, ◌⊎◌, inl, inr, ⊎_elim, refl, ap, sym, ◌∙◌, arith, subst, append_assoc, Bool, true, false, cond, not, nat_le, ◌==◌, eqb-true, Option, Some, None}
 use Rattle.std.proofs.lemmas.Bool.{leb-true, cases_lt}
-use Rattle.ssh_model.specs.Protocol.Side.{Side, Side.Client, Side.Server, part}
+use Rattle.ssh_model.specs.declared.side.Side.{Side}
+use Rattle.ssh_model.specs.declared.side.Side.TheVariants.{Client, Server}
+use Rattle.ssh_model.specs.Protocol.Side.{part}
 use Rattle.ssh_model.specs.Protocol.Wire.Message.{Msg, Msg.NewKeys, Msg.KexInit, Msg.KexEcdhInit, Msg.KexEcdhReply, Msg.UserauthPkOk, Msg.Unknown, Msg.ChannelOpen, Msg.ChannelOpenConfirmation, Msg.ChannelOpenFailure, Msg.ChannelWindowAdjust, Msg.ChannelData, Msg.ChannelExtendedData, Msg.ChannelEof, Msg.ChannelClose, Msg.ChannelRequest, Msg.ChannelSuccess, Msg.ChannelFailure, IsPayload, FitsContext, is_unknown, is_known, message_number}
-use Rattle.ssh_model.specs.Protocol.Sessions.Refusals.{first_refusal, Refusal, Refusal.BadMessage, Refusal.Unexpected}
+use Rattle.ssh_model.specs.declared.refusal.Refusal.{Refusal}
+use Rattle.ssh_model.specs.declared.refusal.Refusal.TheVariants.{BadMessage, Unexpected}
+use Rattle.ssh_model.specs.Protocol.Sessions.Refusals.{first_refusal}
 use Rattle.ssh_model.specs.Protocol.Sessions.Parties.{AreLawful, Parties, is_required, settings_of}
 use Rattle.ssh_model.specs.Protocol.Sessions.Items.{Ask, Ask.AskOpen, Ask.AskConfirm, Ask.AskRefuse, Ask.AskData, Ask.AskAdjust, Ask.AskEof, Ask.AskClose, Ask.AskRequest, Ask.AskReply, Ask.AskGlobal, Ask.AskGlobalReply, Item, Item.Asked, Item.Sent, Item.Took, Item.TookGuess, sent, took, Done}
 use Rattle.ssh_model.specs.Protocol.Sessions.Epochs.{epoch}

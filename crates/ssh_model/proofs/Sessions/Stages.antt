@@ -1,6 +1,7 @@
 -- Which phases let the messages of an exchange be taken, and the numbers of authentication and of the connection.
 use Rattle.std.proofs.Common.{◌≡◌, ℕ, zero, suc, ◌<◌, ◌≤◌, List, ◌⊎◌, inl, inr, refl, arith, Bool, true, false, not, nat_le, nat_lt, is_some, eqb-true, ◌||◌, ◌&&◌, ◌==◌}
-use Rattle.ssh_model.specs.Protocol.Side.{Side, Side.Client, Side.Server}
+use Rattle.ssh_model.specs.declared.side.Side.{Side}
+use Rattle.ssh_model.specs.declared.side.Side.TheVariants.{Client, Server}
 use Rattle.ssh_model.specs.Protocol.Sessions.Items.{Item, took}
 use Rattle.std.proofs.lemmas.Bool.{leb-true, ltb-true}
 use Rattle.ssh_model.specs.Protocol.Wire.Message.{is_known}

@@ -1,13 +1,14 @@
 -- What holds of the turns of one end.
 use Rattle.std.proofs.Common.{◌≡◌, ℕ, List, [], ◌∷◌, ◌++◌, inl, inr, refl, sym, subst, append_assoc, arith, Option}
-use Rattle.ssh_model.specs.Protocol.Side.{Side}
+use Rattle.ssh_model.specs.declared.side.Side.{Side}
 use Rattle.ssh_model.specs.Protocol.Sessions.Parties.{Parties}
 use Rattle.ssh_model.specs.Protocol.Sessions.Items.{Item, Item.Asked, Item.Sent, Item.Took}
 use Rattle.ssh_model.specs.Protocol.Sessions.Phases.{Phase.Guessed, phase}
 use Rattle.ssh_model.specs.Protocol.Wire.Outcome.{Outcome}
 use Rattle.ssh_model.specs.Protocol.Sessions.Turns.{AreNumbered, Refuses, Refuses.silently, Refuses.spent, Refuses.said, OnPayload, OnPayload.takes, OnPayload.skips, OnPayload.unexpected, OnPayload.bad_message, OnPayload.refuses, OnPayload.spends, OnOutcome, OnOutcome.other_line, OnOutcome.version_line, OnOutcome.refused_line, OnOutcome.opened, OnOutcome.refused_packet, FeedsTurn, AsksTurn, AsksTurn.refuses, AsksTurn.spends, OnUnit.reads, Turn, Turn.asks, Turn.reads, IsOpening, EndRun, OnUnit}
 use Rattle.ssh_model.specs.Protocol.Sessions.TurnClaims.{HasNumbers, IsSkipped}
-use Rattle.ssh_model.specs.Protocol.Sessions.Refusals.{Refusal, Refusal.BadMessage, Refusal.Unexpected}
+use Rattle.ssh_model.specs.declared.refusal.Refusal.{Refusal}
+use Rattle.ssh_model.specs.declared.refusal.Refusal.TheVariants.{BadMessage, Unexpected}
 
 pub skipped : {K : Type 0} (p : Parties K) (side : Side) (h items : List Item) (payload : List ℕ) → phase p side h ≡ Guessed → OnPayload p side h payload items → IsSkipped p side h payload items
 skipped p side h items payload e (takes channel message w a s n) = absurd (w.no_guess e)

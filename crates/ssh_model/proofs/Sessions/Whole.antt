@@ -1,6 +1,8 @@
 -- The invariant over whole runs, and the agreement and the beginning that follow from it.
 use Rattle.std.proofs.Common.{◌≡◌, ℕ, suc, ◌<◌, List, [], ◌∷◌, ◌++◌, ◌⊎◌, inl, inr, refl, sym, arith, subst, append-nil, Some}
-use Rattle.ssh_model.specs.Protocol.Side.{Side, Side.Client, Side.Server, DoneBy.By, done_by, part}
+use Rattle.ssh_model.specs.declared.side.Side.{Side}
+use Rattle.ssh_model.specs.declared.side.Side.TheVariants.{Client, Server}
+use Rattle.ssh_model.specs.Protocol.Side.{DoneBy.By, done_by, part}
 use Rattle.ssh_model.specs.Protocol.Lists.{IsOlder, IsIn}
 use Rattle.ssh_model.specs.Protocol.Wire.Message.{Msg.NewKeys}
 use Rattle.ssh_model.specs.Protocol.KeyExchange.Exchange.{Inputs, Fits, exchange_hash}

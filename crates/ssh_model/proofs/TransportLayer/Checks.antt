@@ -1,12 +1,17 @@
 -- What a transport refuses, by what it keeps, is what a session refuses.
 use Rattle.std.proofs.Common.{◌≡◌, ℕ, List, [], ◌∷◌, ◌++◌, length, refl, ap, sym, ◌∙◌, Bool, true, false, not, cond, ◌&&◌, ◌||◌, ◌==◌, eqb-true, is_some, Some, None, Option}
 use Rattle.std.specs.Prelude.{nat_lt, ◌-◌, ◌^◌}
-use Rattle.ssh_model.specs.Protocol.Side.{Side, Side.Client, Side.Server}
+use Rattle.ssh_model.specs.declared.side.Side.{Side}
+use Rattle.ssh_model.specs.declared.side.Side.TheVariants.{Client, Server}
 use Rattle.ssh_model.specs.Protocol.Wire.Message.{Msg, Msg.Disconnect, Msg.Ignore, Msg.Unimplemented, Msg.Debug, Msg.ServiceRequest, Msg.ServiceAccept, Msg.ExtInfo, Msg.KexInit, Msg.NewKeys, Msg.KexEcdhInit, Msg.KexEcdhReply, Msg.Unknown, Proposal}
 use Rattle.ssh_model.specs.Protocol.KeyExchange.Choice.{Chosen}
 use Rattle.ssh_model.specs.Protocol.KeyExchange.Exchange.{exchange_hash}
 use Rattle.ssh_model.specs.Protocol.KeyExchange.Exchanges.{Material, nth, no_material, fed, offers, has_marker, first_sent}
-use Rattle.ssh_model.specs.Protocol.Sessions.Refusals.{Check, Check.RefusedWhere, first_refusal, Refusal, Refusal.Unexpected, Refusal.NoCommon, Refusal.NotStrict, Refusal.BadPoint, Refusal.BadHost, AskRefusal, AskRefusal.NotYet, AskRefusal.Busy, AskRefusal.WrongSide}
+use Rattle.ssh_model.specs.declared.refusal.Refusal.{Refusal}
+use Rattle.ssh_model.specs.declared.refusal.Refusal.TheVariants.{Unexpected, NoCommon, NotStrict, BadPoint, BadHost}
+use Rattle.ssh_model.specs.declared.ask_refusal.AskRefusal.{AskRefusal}
+use Rattle.ssh_model.specs.declared.ask_refusal.AskRefusal.TheVariants.{NotYet, Busy, WrongSide}
+use Rattle.ssh_model.specs.Protocol.Sessions.Refusals.{Check, Check.RefusedWhere, first_refusal}
 use Rattle.ssh_model.specs.Protocol.Sessions.Parties.{Parties, is_required, settings_of, agreement_of, marker_of, lists_of, shared_by}
 use Rattle.ssh_model.specs.Protocol.Sessions.Items.{Ask, Ask.AskService, Ask.AskRekey, Ask.AskDisconnect, Item, took, messages_sent}
 use Rattle.ssh_model.specs.Protocol.Sessions.Epochs.{epoch, count}

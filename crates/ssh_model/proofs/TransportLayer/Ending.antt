@@ -1,10 +1,12 @@
 -- The turn in which a transport ends an exchange, and what it does with an ask, are those of a session.
 use Rattle.std.proofs.Common.{◌≡◌, ℕ, ◌+◌, ◌^◌, ◌<◌, ◌≤◌, List, [], ◌∷◌, ◌++◌, length, refl, ap, sym, ◌∙◌, subst, arith, true, false, Some, None, append-nil, append_assoc}
-use Rattle.ssh_model.specs.Protocol.Side.{Side}
+use Rattle.ssh_model.specs.declared.side.Side.{Side}
 use Rattle.ssh_model.specs.Protocol.Wire.Message.{Msg, Msg.Disconnect, Msg.NewKeys}
 use Rattle.ssh_model.specs.Protocol.KeyExchange.Choice.{Chosen}
 use Rattle.ssh_model.specs.Protocol.KeyExchange.Exchanges.{offers}
-use Rattle.ssh_model.specs.Protocol.Sessions.Refusals.{AskRefusal, Refusal.NumberSpent, first_refusal}
+use Rattle.ssh_model.specs.declared.ask_refusal.AskRefusal.{AskRefusal}
+use Rattle.ssh_model.specs.declared.refusal.Refusal.TheVariants.{NumberSpent}
+use Rattle.ssh_model.specs.Protocol.Sessions.Refusals.{first_refusal}
 use Rattle.ssh_model.specs.Protocol.Sessions.Parties.{Parties, agreement_of}
 use Rattle.ssh_model.specs.Protocol.Sessions.Items.{Ask, Ask.AskService, Ask.AskRekey, Ask.AskDisconnect, Fact.Completed, Item, Item.Sent, Item.Took, Item.Told, Item.Asked, Item.AskRefused, Item.Refused, Item.Died, Spelled, Spelled.SpelledBy, sent, messages_sent}
 use Rattle.ssh_model.specs.Protocol.Sessions.Epochs.{count}
@@ -20,7 +22,7 @@ use Rattle.ssh_model.specs.State.TransportLayer.Summary.{IsAwaited, SumsUp, item
 use Rattle.ssh_model.specs.State.TransportLayer.Turns as turns
 use Rattle.ssh_model.specs.State.TransportLayer.Turns.{AskTurned, EndedBy, IsTransportAsk, PutOut, PutsPackets, Reads, Turned, counted_by}
 use Rattle.ssh_model.proofs.TransportLayer.Checks.{asks_same, none_more}
-use Rattle.ssh_model.proofs.TransportLayer.Items as items
+use Rattle.ssh_model.proofs.Items as items
 use Rattle.ssh_model.proofs.TransportLayer.Packets.{AreOther, Stands, last_out, packets_out, stands_by, stands_live, stands_taken}
 use Rattle.ssh_model.proofs.TransportLayer.Rows.{allowed, completes_row, ends_row}
 use Rattle.ssh_model.proofs.TransportLayer.Turning.{welcomed}

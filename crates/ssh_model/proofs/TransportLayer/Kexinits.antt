@@ -1,7 +1,9 @@
 -- What is kept goes on summing up a view with KEXINITs, and with what an end is fed for them.
 use Rattle.std.proofs.Common.{◌≡◌, ℕ, suc, ◌<◌, ◌≤◌, List, ◌∷◌, length, refl, ap, sym, ◌∙◌, subst, arith, Bool, true, false, cond, ◌==◌, ◌&&◌, eqb-true, Some, None, if◌then◌else◌}
 use Rattle.std.specs.Prelude.{nat_lt}
-use Rattle.ssh_model.specs.Protocol.Side.{Side, Side.Client, Side.Server, peer}
+use Rattle.ssh_model.specs.declared.side.Side.{Side}
+use Rattle.ssh_model.specs.declared.side.Side.TheVariants.{Client, Server}
+use Rattle.ssh_model.specs.Protocol.Side.{peer}
 use Rattle.ssh_model.specs.Protocol.Wire.Message.{Msg.KexInit, Proposal, IsPayload}
 use Rattle.ssh_model.specs.Protocol.KeyExchange.Exchanges.{Material, Offer, Reply, nth, no_material, no_offer, has_marker}
 use Rattle.ssh_model.specs.Protocol.Sessions.Parties.{Parties, settings_of, offer_of, marker_of, extension_marker_of}

@@ -1,7 +1,9 @@
 -- Which numbers below 50 an end takes, by what its transport keeps.
 use Rattle.std.proofs.Common.{◌≡◌, ℕ, zero, suc, ◌<◌, ◌≤◌, List, refl, ap, sym, ◌∙◌, arith, Bool, true, false, not, ◌&&◌, ◌||◌, ◌==◌, eqb-true, nat_le, nat_lt, is_some}
 use Rattle.std.proofs.lemmas.Bool.{lt-leb}
-use Rattle.ssh_model.specs.Protocol.Side.{Side, Side.Client, Side.Server, peer}
+use Rattle.ssh_model.specs.declared.side.Side.{Side}
+use Rattle.ssh_model.specs.declared.side.Side.TheVariants.{Client, Server}
+use Rattle.ssh_model.specs.Protocol.Side.{peer}
 use Rattle.ssh_model.specs.Protocol.KeyExchange.Exchanges.{has_marker, first_taken, is_strict}
 use Rattle.ssh_model.specs.Protocol.Sessions.Parties.{Parties, Settings, is_required, settings_of, marker_of, extension_marker_of}
 use Rattle.ssh_model.specs.Protocol.Sessions.Items.{Item, took}

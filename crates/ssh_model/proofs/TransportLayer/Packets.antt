@@ -1,6 +1,7 @@
 -- What is put out by what a transport keeps is what a session puts out.
 use Rattle.std.proofs.Common.{◌≡◌, ℕ, ◌^◌, ◌<◌, ◌≤◌, List, [], ◌∷◌, ◌++◌, length, refl, ap, sym, ◌∙◌, subst, arith, Bool, true, ◌&&◌, None, Option, append-nil, append_assoc}
-use Rattle.ssh_model.specs.Protocol.Side.{Side, peer}
+use Rattle.ssh_model.specs.declared.side.Side.{Side}
+use Rattle.ssh_model.specs.Protocol.Side.{peer}
 use Rattle.ssh_model.specs.Protocol.Wire.Message.{Msg, Msg.KexInit, Msg.NewKeys, Proposal}
 use Rattle.ssh_model.specs.Protocol.Wire.Sealing.{IsSealed}
 use Rattle.ssh_model.specs.Protocol.KeyExchange.Exchanges.{Offer, no_offer, offers, exchanges, choices, first_sent, first_taken, has_marker, is_strict, sending_key, sending_number}

@@ -2,7 +2,8 @@
 use Rattle.std.proofs.Common.{◌≡◌, ℕ, suc, ◌+◌, ◌%◌, ◌^◌, ◌<◌, List, [], ◌∷◌, ◌++◌, length, refl, ap, sym, ◌∙◌, subst, arith, Bool, true, false, ◌&&◌, ◌==◌, cond, Some, None}
 use Rattle.std.specs.Prelude.{nat_lt, take}
 use Rattle.std.proofs.Math.Nat.{mod-mod}
-use Rattle.ssh_model.specs.Protocol.Side.{Side, Side.Client, Side.Server}
+use Rattle.ssh_model.specs.declared.side.Side.{Side}
+use Rattle.ssh_model.specs.declared.side.Side.TheVariants.{Client, Server}
 use Rattle.ssh_model.specs.Protocol.Wire.Message.{Msg, Msg.Ignore, Msg.Unimplemented, Msg.Debug, Msg.ServiceRequest, Msg.ServiceAccept, Msg.ExtInfo, Msg.KexInit, Msg.NewKeys, Msg.KexEcdhInit, Msg.KexEcdhReply, Msg.Unknown, Proposal, IsPayload}
 use Rattle.ssh_model.specs.Protocol.KeyExchange.Choice.{Chosen}
 use Rattle.ssh_model.specs.Protocol.KeyExchange.Exchange.{Inputs, exchange_hash}
@@ -19,7 +20,7 @@ use Rattle.ssh_model.specs.State.TransportLayer.Kept as kept
 use Rattle.ssh_model.specs.State.TransportLayer.Summary.{Accepts, Allows, Ends, Live, SumsUp, ClientPoints, items_sent, bit, is_agreeing, parts_of}
 use Rattle.ssh_model.specs.State.TransportLayer.View.{View, view}
 use Rattle.ssh_model.proofs.TransportLayer.Completing.{completed_live, newkeys_live}
-use Rattle.ssh_model.proofs.TransportLayer.Items as items
+use Rattle.ssh_model.proofs.Items as items
 use Rattle.ssh_model.proofs.TransportLayer.Kexinits.{agreeing_then, fed_live, free_count, guess_live, kept_is, kexinit_live, not_agreeing, own_kexinit_live}
 use Rattle.ssh_model.proofs.TransportLayer.Numbers.{strict_same}
 use Rattle.ssh_model.proofs.TransportLayer.Steps.{accepted_live, requested_live, sent_live, taken_live}

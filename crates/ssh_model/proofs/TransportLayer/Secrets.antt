@@ -1,6 +1,7 @@
 -- The secret of an exchange that is over matters no more.
 use Rattle.std.proofs.Common.{◌≡◌, ℕ, List, true, false}
-use Rattle.ssh_model.specs.Protocol.Side.{Side, Side.Client, Side.Server}
+use Rattle.ssh_model.specs.declared.side.Side.{Side}
+use Rattle.ssh_model.specs.declared.side.Side.TheVariants.{Client, Server}
 use Rattle.ssh_model.specs.Protocol.KeyExchange.Exchanges.{Reply}
 use Rattle.ssh_model.specs.Protocol.Sessions.Parties.{Parties}
 use Rattle.ssh_model.specs.Protocol.Sessions.Items.{Item}

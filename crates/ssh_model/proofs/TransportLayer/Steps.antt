@@ -1,7 +1,7 @@
 -- What is kept goes on summing up a view with each item that is no row of its own.
 use Rattle.std.proofs.Common.{◌≡◌, ℕ, suc, ◌+◌, ◌%◌, ◌^◌, List, [], ◌∷◌, length, refl, ap, sym, ◌∙◌, arith, Bool, true, false}
 use Rattle.std.proofs.Math.Nat.{mod-mod}
-use Rattle.ssh_model.specs.Protocol.Side.{Side}
+use Rattle.ssh_model.specs.declared.side.Side.{Side}
 use Rattle.ssh_model.specs.Protocol.Sessions.Parties.{Parties}
 use Rattle.ssh_model.specs.Protocol.Sessions.Items.{Payload, Payload.OtherOf, Payload.NewkeysOf}
 use Rattle.ssh_model.specs.Protocol.Sessions.Epochs.{count, epoch, wire_number}

@@ -1,10 +1,12 @@
 -- What a transport does with a payload, by what it keeps, is a turn of a session.
 use Rattle.std.proofs.Common.{◌≡◌, ℕ, suc, ◌+◌, ◌^◌, ◌<◌, ◌≤◌, List, [], ◌∷◌, ◌++◌, length, refl, ap, sym, ◌∙◌, subst, arith, Bool, true, false, not, ◌==◌, if◌then◌else◌, IsTrue, Some, None, Option, append-nil, append_assoc}
-use Rattle.ssh_model.specs.Protocol.Side.{Side}
+use Rattle.ssh_model.specs.declared.side.Side.{Side}
 use Rattle.ssh_model.specs.Protocol.Wire.Message.{Msg, Msg.Disconnect, Msg.NewKeys, Msg.UserauthPkOk, Msg.Unknown, IsPayload, FitsContext, is_known, message_number}
 use Rattle.ssh_model.specs.Protocol.KeyExchange.Choice.{Chosen}
 use Rattle.ssh_model.specs.Protocol.KeyExchange.Exchanges.{offers}
-use Rattle.ssh_model.specs.Protocol.Sessions.Refusals.{Refusal, Refusal.NumberSpent, first_refusal, refusal_name}
+use Rattle.ssh_model.specs.declared.refusal.Refusal.{Refusal}
+use Rattle.ssh_model.specs.declared.refusal.Refusal.TheVariants.{NumberSpent}
+use Rattle.ssh_model.specs.Protocol.Sessions.Refusals.{first_refusal, refusal_name}
 use Rattle.ssh_model.specs.Protocol.Sessions.Parties.{Parties, agreement_of}
 use Rattle.ssh_model.specs.Protocol.Sessions.Items.{Fact, Fact.Disconnected, Fact.Ignored, Item, Item.Sent, Item.Took, Item.TookGuess, Item.Told, Item.Refused, Item.Died, Spelled, Spelled.SpelledBy, sent, messages_sent}
 use Rattle.ssh_model.specs.Protocol.Sessions.Epochs.{count}
@@ -19,7 +21,7 @@ use Rattle.ssh_model.specs.State.TransportLayer.Summary.{IsAwaited, SumsUp, answ
 use Rattle.ssh_model.specs.State.TransportLayer.Turns as turns
 use Rattle.ssh_model.specs.State.TransportLayer.Turns.{EndedBy, IsRefused, PutOut, PutsPackets, Reads, SaysWhy, Turned, UnitRefused, counted_by, refusal_items}
 use Rattle.ssh_model.proofs.TransportLayer.Checks.{messages_same}
-use Rattle.ssh_model.proofs.TransportLayer.Items as items
+use Rattle.ssh_model.proofs.Items as items
 use Rattle.ssh_model.proofs.TransportLayer.Numbers.{above_in_exchange, not_number, numbers_are}
 use Rattle.ssh_model.proofs.TransportLayer.Packets.{AreOther, IsOther, Stands, packets_out, stands_by, stands_live, stands_offer, stands_taken}
 use Rattle.ssh_model.proofs.TransportLayer.Rows.{accepted, guess_taken}

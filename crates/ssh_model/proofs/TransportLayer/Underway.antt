@@ -1,10 +1,13 @@
 -- The exchange under way, by what a transport keeps: its inputs and its choice are those of the history.
 use Rattle.std.proofs.Common.{◌≡◌, ℕ, ◌<◌, List, [], ◌∷◌, ◌++◌, length, refl, ap, sym, ◌∙◌, arith, Bool, true, false, eq-eqb, eqb, None, if◌then◌else◌}
-use Rattle.ssh_model.specs.Protocol.Side.{Side, Side.Client, Side.Server}
+use Rattle.ssh_model.specs.declared.side.Side.{Side}
+use Rattle.ssh_model.specs.declared.side.Side.TheVariants.{Client, Server}
 use Rattle.ssh_model.specs.Protocol.Wire.Message.{Msg.KexInit, Msg.KexEcdhInit, Msg.KexEcdhReply, Proposal}
 use Rattle.ssh_model.specs.Protocol.KeyExchange.Choice.{Chosen, Lists, methods, is_method}
 use Rattle.ssh_model.specs.Protocol.KeyExchange.Exchanges.{Reply, nth, no_offer, no_reply, offers, points, replies, choice, chosen, exchange, first_common, name_of, shared_number}
-use Rattle.ssh_model.specs.Protocol.Sessions.Parties.{Parties, Settings, Strictness, Strictness.Require, Strictness.Offer as OfferStrict, Strictness.Off, settings_of, offer_of, lists_of, first_markers}
+use Rattle.ssh_model.specs.declared.strictness.Strictness.{Strictness}
+use Rattle.ssh_model.specs.declared.strictness.Strictness.TheVariants.{Require, Offer as OfferStrict, Off}
+use Rattle.ssh_model.specs.Protocol.Sessions.Parties.{Parties, Settings, settings_of, offer_of, lists_of, first_markers}
 use Rattle.ssh_model.specs.Protocol.Sessions.Items.{Item, Item.Sent, Item.Took, sent, messages_sent, messages_taken}
 use Rattle.ssh_model.specs.Protocol.Sessions.Epochs.{epoch}
 use Rattle.ssh_model.specs.Protocol.Sessions.Phases.{Phase.Exchanging, phase, blocked}

@@ -1,6 +1,6 @@
 -- The units of the stream of an end, by what its transport keeps.
 use Rattle.std.proofs.Common.{◌≡◌, ℕ, ◌^◌, ◌<◌, List, ap, sym, ◌∙◌, subst, true, false, Option}
-use Rattle.ssh_model.specs.Protocol.Side.{Side}
+use Rattle.ssh_model.specs.declared.side.Side.{Side}
 use Rattle.ssh_model.specs.Protocol.Wire.Sealing.{Crypto}
 use Rattle.ssh_model.specs.Protocol.Wire.Line.{LineUnit}
 use Rattle.ssh_model.specs.Protocol.Wire.Outcome.{Outcome}

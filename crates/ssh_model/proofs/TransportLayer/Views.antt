@@ -1,6 +1,7 @@
 -- What each item makes of the view of a history.
 use Rattle.std.proofs.Common.{◌≡◌, ℕ, zero, suc, List, ◌∷◌, refl, Option}
-use Rattle.ssh_model.specs.Protocol.Side.{Side, Side.Client, Side.Server}
+use Rattle.ssh_model.specs.declared.side.Side.{Side}
+use Rattle.ssh_model.specs.declared.side.Side.TheVariants.{Client, Server}
 use Rattle.ssh_model.specs.Protocol.Wire.Message.{Msg, Msg.KexInit, Msg.NewKeys, Msg.KexEcdhInit, Msg.KexEcdhReply, Msg.ServiceRequest, Msg.ServiceAccept, Msg.UserauthSuccess}
 use Rattle.ssh_model.specs.Protocol.KeyExchange.Exchanges.{choice, choices, exchange, exchanges, key_in}
 use Rattle.ssh_model.specs.Protocol.Sessions.Parties.{Parties}

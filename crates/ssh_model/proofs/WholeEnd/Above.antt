@@ -1,10 +1,12 @@
 -- What an end takes and refuses of payloads from 50 on, by what it keeps, is what a session takes and refuses.
 use Rattle.std.proofs.Common.{◌≡◌, ℕ, zero, suc, ◌<◌, ◌≤◌, List, [], ◌∷◌, ◌++◌, refl, ap, sym, ◌∙◌, subst, arith, cond, Bool, true, false, not, ◌&&◌, ◌||◌, ◌==◌, eqb-true, nat_le, is_some, Option, Some, None, nat_lt, unwrap_or}
 use Rattle.std.proofs.lemmas.Bool.{lt-leb, le-leb, le-ltb, ltb-true, ltb-false}
-use Rattle.ssh_model.specs.Protocol.Side.{Side, Side.Client, Side.Server}
+use Rattle.ssh_model.specs.declared.side.Side.{Side}
+use Rattle.ssh_model.specs.declared.side.Side.TheVariants.{Client, Server}
 use Rattle.ssh_model.specs.Protocol.Wire.Message.{Msg, Msg.ServiceRequest, Msg.ServiceAccept, Msg.KexInit, Msg.KexEcdhInit, Msg.KexEcdhReply, Msg.UserauthRequest, IsPayload, message_number}
 use Rattle.ssh_model.specs.Protocol.KeyExchange.Exchanges.{exchanges, session_id}
-use Rattle.ssh_model.specs.Protocol.Sessions.Refusals.{Check, Check.RefusedWhere, Refusal, first_refusal}
+use Rattle.ssh_model.specs.declared.refusal.Refusal.{Refusal}
+use Rattle.ssh_model.specs.Protocol.Sessions.Refusals.{Check, Check.RefusedWhere, first_refusal}
 use Rattle.ssh_model.specs.Protocol.Sessions.Parties.{AreLawful, Parties, is_required, settings_of}
 use Rattle.ssh_model.specs.Protocol.Sessions.Items.{Item, sent, took}
 use Rattle.ssh_model.specs.Protocol.Sessions.Epochs.{epoch}

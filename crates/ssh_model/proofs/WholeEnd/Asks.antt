@@ -1,10 +1,14 @@
 -- What an end makes of an ask, by what it keeps, is a turn of a session.
 use Rattle.std.proofs.Common.{◌≡◌, ℕ, zero, suc, ◌^◌, ◌<◌, List, [], ◌∷◌, ◌++◌, length, refl, ap, sym, ◌∙◌, subst, arith, cond, Bool, true, false, not, nat_le, Option, Some, None, append-nil, append_assoc, ◌≤◌}
-use Rattle.ssh_model.specs.Protocol.Side.{Side, Side.Client, Side.Server}
+use Rattle.ssh_model.specs.declared.side.Side.{Side}
+use Rattle.ssh_model.specs.declared.side.Side.TheVariants.{Client, Server}
 use Rattle.ssh_model.specs.Protocol.Wire.Message.{Msg, Msg.ServiceRequest, Msg.KexInit, Msg.KexEcdhInit, Msg.KexEcdhReply, Msg.NewKeys, Msg.UserauthRequest, Msg.UserauthSuccess, Msg.ServiceAccept, Msg.UserauthFailure, Msg.Disconnect}
 use Rattle.ssh_model.specs.Protocol.KeyExchange.Exchange.{Inputs}
 use Rattle.ssh_model.specs.Protocol.KeyExchange.Exchanges.{exchanges, session_id}
-use Rattle.ssh_model.specs.Protocol.Sessions.Refusals.{AskRefusal, AskRefusal.NotYet, Check, Refusal.NumberSpent, first_refusal}
+use Rattle.ssh_model.specs.declared.ask_refusal.AskRefusal.{AskRefusal}
+use Rattle.ssh_model.specs.declared.ask_refusal.AskRefusal.TheVariants.{NotYet}
+use Rattle.ssh_model.specs.declared.refusal.Refusal.TheVariants.{NumberSpent}
+use Rattle.ssh_model.specs.Protocol.Sessions.Refusals.{Check, first_refusal}
 use Rattle.ssh_model.specs.Protocol.Sessions.Parties.{Parties, settings_of, user_signature_by}
 use Rattle.ssh_model.specs.Protocol.Sessions.Items.{Ask, Ask.AskNone, Ask.AskPassword, Ask.AskProbe, Ask.AskSign, Ask.AskOpen, Ask.AskConfirm, Ask.AskRefuse, Ask.AskData, Ask.AskAdjust, Ask.AskEof, Ask.AskClose, Ask.AskRequest, Ask.AskReply, Ask.AskGlobal, Ask.AskGlobalReply, Ask.AskDisconnect, Fact, Item, Item.Sent, Item.Told, Item.Asked, Item.AskRefused, Item.Refused, Item.Died, sent, messages_sent, has_died}
 use Rattle.ssh_model.specs.Protocol.Sessions.Epochs.{count, epoch}
@@ -36,7 +40,7 @@ use Rattle.ssh_model.proofs.Channels.Allowing.{allowed}
 use Rattle.ssh_model.proofs.Channels.Checking.{ask_checked}
 use Rattle.ssh_model.proofs.TransportLayer.Checks.{asks_same, none_more}
 use Rattle.ssh_model.proofs.TransportLayer.Ending.{ask_disconnects, ask_sent, ask_spent, disconnect_spent, none_of_others}
-use Rattle.ssh_model.proofs.TransportLayer.Items as layer
+use Rattle.ssh_model.proofs.Items as layer
 use Rattle.ssh_model.proofs.TransportLayer.Rows as rows
 use Rattle.ssh_model.proofs.TransportLayer.Packets.{IsOther, stands_by, stands_live}
 use Rattle.ssh_model.proofs.WholeEnd.Above.{first_both}

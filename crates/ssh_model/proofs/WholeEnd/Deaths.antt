@@ -1,9 +1,9 @@
 -- Where memory fails an end dies as in a session.
 use Rattle.std.proofs.Common.{◌≡◌, ℕ, suc, ◌+◌, ◌^◌, ◌≤◌, List, [], ◌∷◌, ◌++◌, length, refl, ap, arith, false, Option, Some, None}
-use Rattle.ssh_model.specs.Protocol.Side.{Side}
+use Rattle.ssh_model.specs.declared.side.Side.{Side}
 use Rattle.ssh_model.specs.Protocol.Wire.Message.{Msg}
 use Rattle.ssh_model.specs.Protocol.KeyExchange.Choice.{Chosen}
-use Rattle.ssh_model.specs.Protocol.Sessions.Refusals.{Refusal}
+use Rattle.ssh_model.specs.declared.refusal.Refusal.{Refusal}
 use Rattle.ssh_model.specs.Protocol.Sessions.Parties.{Parties, agreement_of}
 use Rattle.ssh_model.specs.Protocol.Sessions.Items.{Fact, Fact.Completed, Item, Item.Took, Item.Told, Spelled, Spelled.SpelledBy, sent, messages_sent}
 use Rattle.ssh_model.specs.Protocol.Sessions.Epochs.{count}

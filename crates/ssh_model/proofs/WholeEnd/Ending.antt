@@ -1,7 +1,7 @@
 -- The turn in which an end completes an exchange, with the replies that it owed; and all turns of a payload.
 use Rattle.std.proofs.Common.{◌≡◌, ℕ, ◌+◌, List, [], ◌∷◌, ◌++◌, refl, ap, sym, ◌∙◌, subst, true, false, None, append_assoc, ◌≤◌, length}
 use Rattle.std.proofs.lemmas.Bool.{leb-true}
-use Rattle.ssh_model.specs.Protocol.Side.{Side}
+use Rattle.ssh_model.specs.declared.side.Side.{Side}
 use Rattle.ssh_model.specs.Protocol.Wire.Message.{Msg}
 use Rattle.ssh_model.specs.Protocol.KeyExchange.Choice.{Chosen}
 use Rattle.ssh_model.specs.Protocol.Sessions.Parties.{Parties, agreement_of}
@@ -23,7 +23,7 @@ use Rattle.ssh_model.specs.State.End.Payloads.{Admits, GivesOwed, TakesPayload}
 use Rattle.ssh_model.specs.State.End.Payloads as end
 use Rattle.ssh_model.proofs.Channels.Elsewhere.{kept_elsewhere}
 use Rattle.ssh_model.proofs.TransportLayer.Ending.{both_out, closed, end_spent, ended_by}
-use Rattle.ssh_model.proofs.TransportLayer.Items as items_of_layers
+use Rattle.ssh_model.proofs.Items as items_of_layers
 use Rattle.ssh_model.proofs.TransportLayer.Packets.{stands_live}
 use Rattle.ssh_model.proofs.TransportLayer.Turning.{disconnected, refused, skipped, spent, turned}
 use Rattle.ssh_model.proofs.WholeEnd.Kept.{all_kept, authentication_kept, upper}

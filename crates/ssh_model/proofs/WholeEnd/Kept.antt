@@ -1,6 +1,7 @@
 -- What the layers above the transport keep goes on summing up a history with items that they leave.
 use Rattle.std.proofs.Common.{◌≡◌, ℕ, List, [], ◌∷◌, ◌++◌, refl, sym, ◌∙◌, subst, Option}
-use Rattle.ssh_model.specs.Protocol.Side.{Side, Side.Client, Side.Server}
+use Rattle.ssh_model.specs.declared.side.Side.{Side}
+use Rattle.ssh_model.specs.declared.side.Side.TheVariants.{Client, Server}
 use Rattle.ssh_model.specs.Protocol.Wire.Message.{Msg, Msg.UserauthRequest, Msg.UserauthFailure, Msg.UserauthSuccess, Msg.UserauthPkOk}
 use Rattle.ssh_model.specs.Protocol.Sessions.Parties.{Parties}
 use Rattle.ssh_model.specs.Protocol.Sessions.Items.{Item, Item.Sent, Item.Took, Item.Told}
@@ -18,7 +19,7 @@ use Rattle.ssh_model.specs.State.End.State.{Authentication, Authentication.OfSer
 use Rattle.ssh_model.specs.State.End.Summary.{AuthenticationSumsUp, AboveSumsUp}
 use Rattle.ssh_model.proofs.Authentication.Rows.{server_kept, client_kept}
 use Rattle.ssh_model.proofs.Channels.Elsewhere.{kept_elsewhere, owed_elsewhere}
-use Rattle.ssh_model.proofs.TransportLayer.Items as items
+use Rattle.ssh_model.proofs.Items as items
 
 -- ---- authentication
 

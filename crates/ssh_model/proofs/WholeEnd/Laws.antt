@@ -1,6 +1,6 @@
 -- The laws of an end.
 use Rattle.std.proofs.Common.{◌≡◌, ℕ, List, ◌++◌, refl, sym, ◌∙◌, subst, Bool, true, false, append-nil}
-use Rattle.ssh_model.specs.Protocol.Side.{Side}
+use Rattle.ssh_model.specs.declared.side.Side.{Side}
 use Rattle.ssh_model.specs.Protocol.Sessions.Parties.{Parties}
 use Rattle.ssh_model.specs.Protocol.Sessions.Items.{Ask, Item}
 use Rattle.ssh_model.specs.Protocol.Sessions.Events.{PutsOut}

@@ -1,6 +1,6 @@
 -- What the layers above send is put out as in a session.
 use Rattle.std.proofs.Common.{◌≡◌, ℕ, suc, ◌+◌, ◌^◌, ◌≤◌, List, [], ◌∷◌, ◌++◌, length, refl, sym, subst, arith, Option, append-nil, append_assoc}
-use Rattle.ssh_model.specs.Protocol.Side.{Side}
+use Rattle.ssh_model.specs.declared.side.Side.{Side}
 use Rattle.ssh_model.specs.Protocol.Wire.Message.{Msg, Msg.NewKeys}
 use Rattle.ssh_model.specs.Protocol.KeyExchange.Exchanges.{offers}
 use Rattle.ssh_model.specs.Protocol.Sessions.Parties.{Parties}

@@ -1,6 +1,7 @@
 -- The replies that were owed, sent after NEWKEYS.
 use Rattle.std.proofs.Common.{◌≡◌, ℕ, List, [], ◌∷◌, ◌++◌, refl, ap, sym, ◌∙◌, subst, Option, Some, None, append-nil, append_assoc, ◌<◌, ◌^◌, ◌+◌, length, arith, map}
-use Rattle.ssh_model.specs.Protocol.Side.{Side, Side.Client, Side.Server}
+use Rattle.ssh_model.specs.declared.side.Side.{Side}
+use Rattle.ssh_model.specs.declared.side.Side.TheVariants.{Client, Server}
 use Rattle.ssh_model.specs.Protocol.Wire.Message.{Msg, Msg.NewKeys, Msg.KexInit, Msg.ChannelOpenFailure, Msg.ChannelClose}
 use Rattle.ssh_model.specs.Protocol.Sessions.Items.{Item, Item.Sent, Item.Told, messages_sent}
 use Rattle.ssh_model.specs.Protocol.Channels.Connection.{AreReplies, owed_replies}

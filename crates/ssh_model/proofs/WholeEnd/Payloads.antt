@@ -1,9 +1,12 @@
 -- What an end makes of a payload, by what it keeps, is a turn of a session.
 use Rattle.std.proofs.Common.{◌≡◌, ℕ, ◌^◌, ◌≤◌, List, [], ◌∷◌, ◌++◌, length, refl, sym, ◌∙◌, subst, Bool, true, false, Option, Some, None, append-nil, append_assoc}
-use Rattle.ssh_model.specs.Protocol.Side.{Side, Side.Client, Side.Server}
+use Rattle.ssh_model.specs.declared.side.Side.{Side}
+use Rattle.ssh_model.specs.declared.side.Side.TheVariants.{Client, Server}
 use Rattle.ssh_model.specs.Protocol.Wire.Message.{Msg, Msg.ServiceRequest, Msg.ServiceAccept, Msg.NewKeys, Msg.KexInit, Msg.KexEcdhInit, Msg.KexEcdhReply, Msg.ExtInfo, Msg.Ignore, Msg.Debug, Msg.Unimplemented, Msg.Unknown, IsPayload}
 use Rattle.ssh_model.specs.Protocol.KeyExchange.Choice.{Chosen}
-use Rattle.ssh_model.specs.Protocol.Sessions.Refusals.{Refusal, Refusal.NumberSpent, first_refusal}
+use Rattle.ssh_model.specs.declared.refusal.Refusal.{Refusal}
+use Rattle.ssh_model.specs.declared.refusal.Refusal.TheVariants.{NumberSpent}
+use Rattle.ssh_model.specs.Protocol.Sessions.Refusals.{first_refusal}
 use Rattle.ssh_model.specs.Protocol.Sessions.Parties.{Agreement, Parties}
 use Rattle.ssh_model.specs.Protocol.Sessions.Items.{Fact.Service, Item, Item.Sent, Item.Took, Item.Told, Item.Refused, Item.Died, Spelled, messages_sent, has_died}
 use Rattle.ssh_model.specs.Protocol.Sessions.Events.{PutsOut, PutsOut.other as put_other}

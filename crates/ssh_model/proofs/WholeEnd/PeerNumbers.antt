@@ -1,6 +1,6 @@
 -- The number that the peer gave a channel, as an end keeps it, is a uint32.
 use Rattle.std.proofs.Common.{ℕ, ◌<◌, ◌^◌, Bool, true, false, cond, List, arith, sym, subst, Option, Some, None}
-use Rattle.ssh_model.specs.Protocol.Side.{Side}
+use Rattle.ssh_model.specs.declared.side.Side.{Side}
 use Rattle.ssh_model.specs.Protocol.Sessions.Items.{Item}
 use Rattle.ssh_model.specs.Protocol.Sessions.Parties.{AreLawful, Parties}
 use Rattle.ssh_model.specs.Protocol.Sessions.Turns.{EndRun}

@@ -1,6 +1,7 @@
 -- The bytes that come to one end: in any pieces, and in a run of two.
 use Rattle.std.proofs.Common.{◌≡◌, ℕ, List, ◌++◌, refl, ap, sym, ◌∙◌, subst, true, false, ◌↔◌, []}
-use Rattle.ssh_model.specs.Protocol.Side.{Side, part, done_by}
+use Rattle.ssh_model.specs.declared.side.Side.{Side}
+use Rattle.ssh_model.specs.Protocol.Side.{part, done_by}
 use Rattle.ssh_model.specs.Protocol.Wire.Sealing.{IsSealing}
 use Rattle.ssh_model.specs.Protocol.Wire.Line.{IsLineBegun}
 use Rattle.ssh_model.specs.Protocol.Wire.Delivery.{Delivered, Delivered.dead, Delivered.waits, Delivered.takes, InPieces, Waits}

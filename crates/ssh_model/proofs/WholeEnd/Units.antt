@@ -2,7 +2,8 @@
 use Rattle.std.proofs.Common.{◌≡◌, ℕ, ◌^◌, List, [], ◌∷◌, ◌++◌, refl, sym, ◌∙◌, subst, Bool, true, false, not, ◌&&◌, is_some, Option, Some, None, append-nil, nat_lt}
 use Rattle.std.specs.Prelude.{◌-◌}
 use Rattle.std.proofs.lemmas.Bool.{leb-true}
-use Rattle.ssh_model.specs.Protocol.Side.{Side, Side.Client, Side.Server}
+use Rattle.ssh_model.specs.declared.side.Side.{Side}
+use Rattle.ssh_model.specs.declared.side.Side.TheVariants.{Client, Server}
 use Rattle.ssh_model.specs.Protocol.Wire.Message.{Msg.KexInit}
 use Rattle.ssh_model.specs.Protocol.Wire.Line.{line_end}
 use Rattle.ssh_model.specs.Protocol.Wire.Sealing.{IsSealed}
@@ -24,7 +25,7 @@ use Rattle.ssh_model.specs.State.End.Units as end
 use Rattle.ssh_model.proofs.Authentication.Rows.{server_starts, client_starts}
 use Rattle.ssh_model.proofs.Channels.Elsewhere.{starts}
 use Rattle.ssh_model.proofs.TransportLayer.Checks.{feeds_same}
-use Rattle.ssh_model.proofs.TransportLayer.Items as layer
+use Rattle.ssh_model.proofs.Items as layer
 use Rattle.ssh_model.proofs.TransportLayer.Rows.{pair_fed}
 use Rattle.ssh_model.proofs.TransportLayer.Turning.{unit_refused}
 use Rattle.ssh_model.proofs.TransportLayer.Units.{packets_same, lines_same}

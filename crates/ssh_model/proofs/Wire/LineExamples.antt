@@ -3,7 +3,7 @@ use Rattle.std.proofs.Common.{◌≡◌, ℕ, true, false, List, [], ◌∷◌, 
 use Rattle.std.specs.Prelude.{codes, replicate, Option, Some, None}
 use Rattle.ssh_model.specs.Protocol.Wire.Outcome.{Outcome.OtherLine, Outcome.VersionLine, Outcome.RefusedLine}
 use Rattle.ssh_model.specs.Protocol.Wire.Line.{IsLine, line_end, IsLineBegun, IsLineBegun.at_line_end, LineIs.other, LineIs.other_from_client, LineIs.too_many_others, LineIs.no_minus, LineIs.bad_version, LineIs.bad_software, LineIs.version, LineUnit, LineUnit.line, LineUnit.zero_byte, LineUnit.lf_without_cr, LineUnit.cr_without_lf, LineUnit.too_long, IsOther, IsAccepted, IsSoftware, comment_text, IsVersionText, IsVersionLine}
-use Rattle.ssh_model.specs.Protocol.Sessions.Refusals.{Refusal.BadLine, Refusal.BadVersion}
+use Rattle.ssh_model.specs.declared.refusal.Refusal.TheVariants.{BadLine, BadVersion}
 
 -- the software x and some comments
 x_software : (comments : Option (List ℕ)) (after : List ℕ) → after ≡ codes "x" ++ (comment_text comments) → IsSoftware (codes "x") comments after

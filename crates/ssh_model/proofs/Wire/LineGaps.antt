@@ -8,7 +8,7 @@ use Rattle.ssh_model.specs.Protocol.Wire.Outcome.{Outcome, HasUnit, Outcome.Othe
 use Rattle.ssh_model.specs.Protocol.Wire.Line.{is_text_byte, IsText, line_end, IsLineBegun, IsLineBegun.in_text, IsLineBegun.at_line_end, LineIs, LineIs.other, LineIs.other_from_client, LineIs.too_many_others, LineIs.no_minus, LineIs.bad_version, LineIs.bad_software, LineIs.version, LineUnit, LineUnit.line, LineUnit.zero_byte, LineUnit.lf_without_cr, LineUnit.cr_without_lf, LineUnit.too_long, HasNoMinus, HasVersion, IsAccepted, IsSoftware, is_version_byte, comment_text, opening}
 use Rattle.ssh_model.proofs.Wire.Lists.{both}
 use Rattle.ssh_model.proofs.Wire.LineOutcomes.{one_software}
-use Rattle.ssh_model.specs.Protocol.Sessions.Refusals.{Refusal.BadLine, Refusal.BadVersion}
+use Rattle.ssh_model.specs.declared.refusal.Refusal.TheVariants.{BadLine, BadVersion}
 
 -- ---- what a complete line is
 

@@ -10,7 +10,7 @@ use Rattle.ssh_model.specs.Protocol.Wire.Sealing.{Crypto, IsBadLength, IsWhole, 
 use Rattle.ssh_model.specs.Protocol.Wire.Outcome.{Outcome.Opens, Outcome.RefusedPacket}
 use Rattle.ssh_model.specs.Protocol.Wire.Unit.{PacketUnit, PacketUnit.opens, PacketUnit.bad_length, PacketUnit.spent, PacketUnit.bad_padding, IsPacketBegun}
 use Rattle.ssh_model.proofs.Wire.Lists.{both}
-use Rattle.ssh_model.specs.Protocol.Sessions.Refusals.{Refusal.BadLength, Refusal.BadPadding, Refusal.NumberSpent}
+use Rattle.ssh_model.specs.declared.refusal.Refusal.TheVariants.{BadLength, BadPadding, NumberSpent}
 use Rattle.ssh_model.specs.Laws.Spellings.{same_front}
 
 bytes : (bs : List ℕ) → list_all (λ b. ltb b 256) bs ≡ true → AreBytes bs

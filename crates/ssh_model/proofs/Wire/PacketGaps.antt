@@ -7,7 +7,7 @@ use Rattle.ssh_model.specs.Protocol.Wire.Packet.{Blocks, IsBody, IsPacket, is_si
 use Rattle.ssh_model.specs.Protocol.Wire.Sealing.{Crypto, IsSealing, IsBegun.no_length, IsBegun.has_length, HasSize, IsWhole, Opened, is_wire_size, blocks_under, tag_under, opened_under}
 use Rattle.ssh_model.specs.Protocol.Wire.Outcome.{Outcome, Outcome.Opens, Outcome.RefusedPacket, HasUnit}
 use Rattle.ssh_model.specs.Protocol.Wire.Unit.{PacketUnit, PacketUnit.opens, PacketUnit.bad_length, PacketUnit.spent, PacketUnit.bad_tag, PacketUnit.bad_padding, IsPacketBegun, HasNumber, IsPlace}
-use Rattle.ssh_model.specs.Protocol.Sessions.Refusals.{Refusal.BadLength, Refusal.BadPadding, Refusal.BadTag, Refusal.NumberSpent}
+use Rattle.ssh_model.specs.declared.refusal.Refusal.TheVariants.{BadLength, BadPadding, BadTag, NumberSpent}
 use Rattle.ssh_model.specs.Laws.Spellings.{same_front}
 
 -- ---- what a whole packet opens to

@@ -2,13 +2,17 @@
 use Rattle.std.specs.Prelude.{ℕ, Bool, true, false, Option, Some, None, List, [], ◌∷◌, ◌++◌, take, replicate, codes}
 use Rattle.std.specs.List.{filter}
 use Rattle.sha2.specs.Sha256.{sha256}
-use Rattle.ssh_model.specs.Protocol.Side.{Side, Side.Client, Side.Server, peer}
+use Rattle.ssh_model.specs.declared.side.Side.{Side}
+use Rattle.ssh_model.specs.declared.side.Side.TheVariants.{Client, Server}
+use Rattle.ssh_model.specs.Protocol.Side.{peer}
 use Rattle.ssh_model.specs.Protocol.Wire.Message.{Msg, Msg.KexInit, Msg.NewKeys, Msg.KexEcdhInit, Msg.KexEcdhReply}
 use Rattle.ssh_model.specs.Protocol.Wire.Message.{Msg.ServiceRequest, Msg.ServiceAccept, Msg.UserauthRequest}
 use Rattle.ssh_model.specs.Protocol.Wire.Message.{Msg.UserauthFailure, Msg.UserauthSuccess, Msg.ChannelOpen}
 use Rattle.ssh_model.specs.Protocol.Wire.Message.{Msg.ChannelOpenConfirmation, Msg.ChannelData, Msg.ChannelEof, Msg.ChannelClose}
 use Rattle.ssh_model.specs.Protocol.Wire.Message.{Msg.ChannelRequest, Method.Password, Method.Publickey, Proposal}
-use Rattle.ssh_model.specs.Protocol.Sessions.Refusals.{Refusal, AskRefusal, first_refusal}
+use Rattle.ssh_model.specs.declared.refusal.Refusal.{Refusal}
+use Rattle.ssh_model.specs.declared.ask_refusal.AskRefusal.{AskRefusal}
+use Rattle.ssh_model.specs.Protocol.Sessions.Refusals.{first_refusal}
 use Rattle.ssh_model.specs.Protocol.Sessions.Parties.{Parties, settings_of, offer}
 use Rattle.ssh_model.specs.Protocol.Sessions.Items.{Ask, Ask.AskService, Ask.AskNone, Ask.AskPassword, Ask.AskProbe, Ask.AskSign}
 use Rattle.ssh_model.specs.Protocol.Sessions.Items.{Ask.AskOpen, Ask.AskConfirm, Ask.AskRefuse, Ask.AskData, Ask.AskAdjust}

@@ -2,7 +2,8 @@
 -- lost. An IGNORE that nobody sent comes to the client before there are keys. In the client's count of packets it makes
 -- up for the packet that is lost.
 use Rattle.std.specs.Prelude.{true, List, [], ◌∷◌, ◌++◌, codes}
-use Rattle.ssh_model.specs.Protocol.Side.{Side.Client, Side.Server, part, done_by}
+use Rattle.ssh_model.specs.declared.side.Side.TheVariants.{Client, Server}
+use Rattle.ssh_model.specs.Protocol.Side.{part, done_by}
 use Rattle.ssh_model.specs.Protocol.Wire.Message.{Msg, Msg.Disconnect, Msg.Ignore, Msg.NewKeys, Msg.KexEcdhInit}
 use Rattle.ssh_model.specs.Protocol.Wire.Message.{Msg.ServiceRequest, Msg.ServiceAccept}
 use Rattle.ssh_model.specs.Protocol.Sessions.Items.{Ask.AskService, Ask.AskDisconnect, Fact.Completed, Fact.Ignored}

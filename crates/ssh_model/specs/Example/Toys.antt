@@ -4,18 +4,23 @@ use Rattle.std.specs.Prelude.{replicate, codes}
 use Rattle.sha2.specs.Sha256.{sha256}
 use Rattle.ssh_model.specs.Protocol.Wire.Message.{Extension}
 use Rattle.ssh_model.specs.Protocol.Wire.MacOnly.{is_text, mac_only}
-use Rattle.ssh_model.specs.Protocol.Sessions.Parties.{Strictness, Strictness.Require, Strictness.Off, Settings, Agreement}
+use Rattle.ssh_model.specs.declared.strictness.Strictness.{Strictness}
+use Rattle.ssh_model.specs.declared.strictness.Strictness.TheVariants.{Require, Off}
+use Rattle.ssh_model.specs.Protocol.Sessions.Parties.{Settings, Agreement}
 use Rattle.ssh_model.specs.Protocol.Sessions.Parties.{Parties}
-use Rattle.ssh_model.specs.Protocol.Sessions.Refusals.{Refusal, Refusal.BadLine, Refusal.BadVersion, Refusal.BadLength}
-use Rattle.ssh_model.specs.Protocol.Sessions.Refusals.{Refusal.BadPadding, Refusal.BadTag, Refusal.BadMessage}
-use Rattle.ssh_model.specs.Protocol.Sessions.Refusals.{Refusal.Unexpected, Refusal.NoCommon, Refusal.NotStrict, Refusal.BadPoint}
-use Rattle.ssh_model.specs.Protocol.Sessions.Refusals.{Refusal.BadHost, Refusal.NoService, Refusal.NumberSpent}
-use Rattle.ssh_model.specs.Protocol.Sessions.Refusals.{Refusal.TooManyTries, Refusal.UnknownChannel, Refusal.WindowOverrun}
-use Rattle.ssh_model.specs.Protocol.Sessions.Refusals.{Refusal.WindowTooLarge, Refusal.OwedFull, AskRefusal, AskRefusal.NotYet}
-use Rattle.ssh_model.specs.Protocol.Sessions.Refusals.{AskRefusal.Busy, AskRefusal.NoChannel, AskRefusal.NoRoom}
-use Rattle.ssh_model.specs.Protocol.Sessions.Refusals.{AskRefusal.TooLong, AskRefusal.Ended, AskRefusal.TableFull}
-use Rattle.ssh_model.specs.Protocol.Sessions.Refusals.{AskRefusal.NothingOwed, AskRefusal.RekeyDue, AskRefusal.TooMuch}
-use Rattle.ssh_model.specs.Protocol.Sessions.Refusals.{AskRefusal.WrongSide}
+use Rattle.ssh_model.specs.declared.refusal.Refusal.{Refusal}
+use Rattle.ssh_model.specs.declared.refusal.Refusal.TheVariants.{BadLine, BadVersion, BadLength}
+use Rattle.ssh_model.specs.declared.refusal.Refusal.TheVariants.{BadPadding, BadTag, BadMessage}
+use Rattle.ssh_model.specs.declared.refusal.Refusal.TheVariants.{Unexpected, NoCommon, NotStrict, BadPoint}
+use Rattle.ssh_model.specs.declared.refusal.Refusal.TheVariants.{BadHost, NoService, NumberSpent}
+use Rattle.ssh_model.specs.declared.refusal.Refusal.TheVariants.{TooManyTries, UnknownChannel, WindowOverrun}
+use Rattle.ssh_model.specs.declared.refusal.Refusal.TheVariants.{WindowTooLarge, OwedFull}
+use Rattle.ssh_model.specs.declared.ask_refusal.AskRefusal.{AskRefusal}
+use Rattle.ssh_model.specs.declared.ask_refusal.AskRefusal.TheVariants.{NotYet}
+use Rattle.ssh_model.specs.declared.ask_refusal.AskRefusal.TheVariants.{Busy, NoChannel, NoRoom}
+use Rattle.ssh_model.specs.declared.ask_refusal.AskRefusal.TheVariants.{TooLong, Ended, TableFull}
+use Rattle.ssh_model.specs.declared.ask_refusal.AskRefusal.TheVariants.{NothingOwed, RekeyDue, TooMuch}
+use Rattle.ssh_model.specs.declared.ask_refusal.AskRefusal.TheVariants.{WrongSide}
 
 -- ---- the parts
 

@@ -6,12 +6,13 @@ use Rattle.std.specs.Prelude.{IsSome}
 use Rattle.ssh_model.specs.Protocol.Bounds.{longest_description}
 use Rattle.ssh_model.specs.Protocol.Wire.Message.{Msg.Disconnect}
 use Rattle.ssh_model.specs.Protocol.Sessions.Items.{Ask.AskDisconnect}
-use Rattle.ssh_model.specs.Protocol.Sessions.Refusals.{Refusal, Refusal.BadLine, Refusal.BadVersion, Refusal.BadLength}
-use Rattle.ssh_model.specs.Protocol.Sessions.Refusals.{Refusal.BadPadding, Refusal.BadTag, Refusal.BadMessage, Refusal.Unexpected}
-use Rattle.ssh_model.specs.Protocol.Sessions.Refusals.{Refusal.NoCommon, Refusal.NotStrict, Refusal.BadPoint, Refusal.BadHost}
-use Rattle.ssh_model.specs.Protocol.Sessions.Refusals.{Refusal.NoMaterial, Refusal.NoService, Refusal.NumberSpent}
-use Rattle.ssh_model.specs.Protocol.Sessions.Refusals.{Refusal.TooManyTries, Refusal.UnknownChannel, Refusal.WindowOverrun}
-use Rattle.ssh_model.specs.Protocol.Sessions.Refusals.{Refusal.WindowTooLarge, Refusal.OwedFull}
+use Rattle.ssh_model.specs.declared.refusal.Refusal.{Refusal}
+use Rattle.ssh_model.specs.declared.refusal.Refusal.TheVariants.{BadLine, BadVersion, BadLength}
+use Rattle.ssh_model.specs.declared.refusal.Refusal.TheVariants.{BadPadding, BadTag, BadMessage, Unexpected}
+use Rattle.ssh_model.specs.declared.refusal.Refusal.TheVariants.{NoCommon, NotStrict, BadPoint, BadHost}
+use Rattle.ssh_model.specs.declared.refusal.Refusal.TheVariants.{NoMaterial, NoService, NumberSpent}
+use Rattle.ssh_model.specs.declared.refusal.Refusal.TheVariants.{TooManyTries, UnknownChannel, WindowOverrun}
+use Rattle.ssh_model.specs.declared.refusal.Refusal.TheVariants.{WindowTooLarge, OwedFull}
 use Rattle.ssh_model.specs.Protocol.Sessions.Refusals.{first_refusal, refusal_name, refusal_reason}
 use Rattle.ssh_model.specs.Protocol.Sessions.TurnClaims.{HasSpelling}
 use Rattle.ssh_model.specs.State.TransportLayer.Kept.{Transport, message_ask_checks}

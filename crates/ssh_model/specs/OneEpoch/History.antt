@@ -1,8 +1,10 @@
 -- What the two ends of one sealed epoch did, in one list of items with their sides. The newest item comes first, so
 -- that "earlier" is the tail.
 use Rattle.std.specs.Prelude.{◌≡◌, ℕ, List, [], ◌∷◌, length, reverse, ◌⊎◌, Bool, true, false}
-use Rattle.ssh_model.specs.Protocol.Sessions.Refusals.{AskRefusal, Refusal}
-use Rattle.ssh_model.specs.Protocol.Side.{DoneBy, DoneBy.By, Side, part, peer}
+use Rattle.ssh_model.specs.declared.ask_refusal.AskRefusal.{AskRefusal}
+use Rattle.ssh_model.specs.declared.refusal.Refusal.{Refusal}
+use Rattle.ssh_model.specs.declared.side.Side.{Side}
+use Rattle.ssh_model.specs.Protocol.Side.{DoneBy, DoneBy.By, part, peer}
 use Rattle.ssh_model.specs.Protocol.Lists.{Begins}
 
 -- What one end did. A payload is its bytes: of messages one epoch says nothing.

@@ -1,11 +1,15 @@
 -- Two ends in one sealed epoch: each direction under one key, both numbers from zero.
-use Rattle.std.specs.Prelude.{◌≡◌, ◌≤◌, ◌<◌, ◌^◌, ℕ, List, [], ◌∷◌, ◌++◌, length, false, true, Some}
-use Rattle.ssh_model.specs.Protocol.Bounds.{longest_payload}
+use Rattle.std.specs.Prelude.{◌≡◌, ◌≤◌, ◌<◌, ℕ, List, [], ◌∷◌, ◌++◌, length, false, true, Some}
+use Rattle.ssh_model.specs.Protocol.Bounds.{longest_payload, numbers_of_epoch}
 use Rattle.ssh_model.specs.Protocol.Wire.Sealing.{Crypto, IsSealed}
 use Rattle.ssh_model.specs.Protocol.Wire.Outcome.{Outcome.Opens, Outcome.RefusedPacket}
 use Rattle.ssh_model.specs.Protocol.Wire.Unit.{IsPacketBegun, PacketUnit}
-use Rattle.ssh_model.specs.Protocol.Sessions.Refusals.{AskRefusal.TooLong, Refusal, Refusal.NumberSpent}
-use Rattle.ssh_model.specs.Protocol.Side.{Side, Side.Client, Side.Server, peer, done_by, part}
+use Rattle.ssh_model.specs.declared.ask_refusal.AskRefusal.TheVariants.{TooLong}
+use Rattle.ssh_model.specs.declared.refusal.Refusal.{Refusal}
+use Rattle.ssh_model.specs.declared.refusal.Refusal.TheVariants.{NumberSpent}
+use Rattle.ssh_model.specs.declared.side.Side.{Side}
+use Rattle.ssh_model.specs.declared.side.Side.TheVariants.{Client, Server}
+use Rattle.ssh_model.specs.Protocol.Side.{peer, done_by, part}
 use Rattle.ssh_model.specs.OneEpoch.History.{Item, Item.Asked, Item.AskRefused, Item.Sent, Item.Took, Item.Refused}
 use Rattle.ssh_model.specs.OneEpoch.History.{Item.Died, Done, sent, took, has_died}
 
@@ -44,9 +48,9 @@ pub data Asks {K : Type 0} (c : Crypto K) (key : K) (h : List Item) (rest payloa
   dead : has_died h ≡ true → Asks c key h rest payload [] [] rest
   too_long : has_died h ≡ false → longest_payload < length payload →
       Asks c key h rest payload (AskRefused TooLong ∷ Asked ∷ []) [] rest
-  spent : has_died h ≡ false → length payload ≤ longest_payload → length (sent h) ≡ 2 ^ 32 →
+  spent : has_died h ≡ false → length payload ≤ longest_payload → length (sent h) ≡ numbers_of_epoch →
       Asks c key h rest payload (Died ∷ Refused NumberSpent ∷ Asked ∷ []) [] []
-  sends : (bytes : List ℕ) → has_died h ≡ false → length payload ≤ longest_payload → length (sent h) < 2 ^ 32 →
+  sends : (bytes : List ℕ) → has_died h ≡ false → length payload ≤ longest_payload → length (sent h) < numbers_of_epoch →
       IsSealed c (Some key) (length (sent h)) payload bytes →
       Asks c key h rest payload (Sent payload ∷ Asked ∷ []) bytes rest
 

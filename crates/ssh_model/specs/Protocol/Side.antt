@@ -1,9 +1,7 @@
--- The two ends of a session (RFC 4253 section 1), and what each of them did.
+-- What each of the two ends of a session did. The ends are the variants of `Side`.
 use Rattle.std.specs.Prelude.{List, [], ◌∷◌, map}
-
--- which of the two
-pub data Side : Type 0 where
-  Client Server : Side
+use Rattle.ssh_model.specs.declared.side.Side.{Side}
+use Rattle.ssh_model.specs.declared.side.Side.TheVariants.{Client, Server}
 
 -- the side of the other end
 abbrev pub peer : Side → Side

@@ -2,7 +2,7 @@
 
 ghost use Rattle.std.specs.Prelude.{◌≡◌, ℕ, ◌∷◌, ◌++◌, true, false, List, [], Some, None, codes, replicate, map};
 ghost use Rattle.ssh_model.specs.Protocol.Bounds.{largest_data, longest_payload};
-ghost use Rattle.ssh_model.specs.Protocol.Side.{Side.Client, Side.Server};
+ghost use Rattle.ssh_model.specs.declared.side.Side.TheVariants.{Client, Server};
 ghost use Rattle.ssh_model.specs.Example.Histories.{refusal, ask_refusal, says, hears, says_on, hears_on, offer_of, keyed, connection};
 ghost use Rattle.ssh_model.specs.Example.Histories.{served, admitted, fed_again, rekeying, open_message, confirm_message, channel_opened};
 ghost use Rattle.ssh_model.specs.Example.Histories.{channel_confirmed, heard_data, heard_eof, heard_request, closed_by_peer, said_data};
@@ -13,11 +13,13 @@ ghost use Rattle.ssh_model.specs.Protocol.Wire.Message.{Msg.Ignore, Msg.KexInit,
 ghost use Rattle.ssh_model.specs.Protocol.Wire.Message.{Msg.ChannelOpenConfirmation, Msg.ChannelOpenFailure, Msg.ChannelWindowAdjust};
 ghost use Rattle.ssh_model.specs.Protocol.Wire.Message.{Msg.ChannelData, Msg.ChannelExtendedData, Msg.ChannelEof, Msg.ChannelClose};
 ghost use Rattle.ssh_model.specs.Protocol.Wire.Message.{Msg.ChannelRequest, Msg.ChannelSuccess, Msg.ChannelFailure};
-ghost use Rattle.ssh_model.specs.Protocol.Sessions.Refusals.{first_refusal, Refusal.Unexpected, Refusal.UnknownChannel};
-ghost use Rattle.ssh_model.specs.Protocol.Sessions.Refusals.{Refusal.WindowOverrun, Refusal.WindowTooLarge, Refusal.OwedFull};
-ghost use Rattle.ssh_model.specs.Protocol.Sessions.Refusals.{AskRefusal.NotYet, AskRefusal.Busy, AskRefusal.NoChannel, AskRefusal.NoRoom};
-ghost use Rattle.ssh_model.specs.Protocol.Sessions.Refusals.{AskRefusal.TooLong, AskRefusal.TableFull, AskRefusal.NothingOwed};
-ghost use Rattle.ssh_model.specs.Protocol.Sessions.Refusals.{AskRefusal.RekeyDue, AskRefusal.TooMuch, AskRefusal};
+ghost use Rattle.ssh_model.specs.declared.refusal.Refusal.TheVariants.{Unexpected, UnknownChannel};
+ghost use Rattle.ssh_model.specs.Protocol.Sessions.Refusals.{first_refusal};
+ghost use Rattle.ssh_model.specs.declared.refusal.Refusal.TheVariants.{WindowOverrun, WindowTooLarge, OwedFull};
+ghost use Rattle.ssh_model.specs.declared.ask_refusal.AskRefusal.TheVariants.{NotYet, Busy, NoChannel, NoRoom};
+ghost use Rattle.ssh_model.specs.declared.ask_refusal.AskRefusal.TheVariants.{TooLong, TableFull, NothingOwed};
+ghost use Rattle.ssh_model.specs.declared.ask_refusal.AskRefusal.{AskRefusal};
+ghost use Rattle.ssh_model.specs.declared.ask_refusal.AskRefusal.TheVariants.{RekeyDue, TooMuch};
 ghost use Rattle.ssh_model.specs.Protocol.Sessions.Items.{Item, took, Ask.AskService, Ask.AskRekey, Ask.AskOpen, Ask.AskConfirm};
 ghost use Rattle.ssh_model.specs.Protocol.Sessions.Items.{Ask.AskRefuse, Ask.AskData, Ask.AskAdjust, Ask.AskEof, Ask.AskClose};
 ghost use Rattle.ssh_model.specs.Protocol.Sessions.Items.{Ask.AskRequest, Ask.AskReply, Ask.AskGlobal, Ask.AskGlobalReply};

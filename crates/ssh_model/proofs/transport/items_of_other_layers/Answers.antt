@@ -1,4 +1,4 @@
-use Rattle.ssh_model.proofs.TransportLayer.Items as items
+use Rattle.ssh_model.proofs.Items as items
 use Rattle.ssh_model.proofs.transport.items_of_other_layers.Goals as goal
 
 pub returns-clause-sent : goal.returns-clause-sent

@@ -1,7 +1,9 @@
 -- What is claimed of channels: windows (RFC 4254 section 5.2), no refusal between the two ends, and data in order
 -- (own).
 use Rattle.std.specs.Prelude.{◌≡◌, ℕ, ◌≤◌, List, [], ◌∷◌, ◌++◌, reverse, ◌⊎◌, false, cond, Option, Some, None}
-use Rattle.ssh_model.specs.Protocol.Side.{Side, Side.Client, Side.Server, peer, part}
+use Rattle.ssh_model.specs.declared.side.Side.{Side}
+use Rattle.ssh_model.specs.declared.side.Side.TheVariants.{Client, Server}
+use Rattle.ssh_model.specs.Protocol.Side.{peer, part}
 use Rattle.ssh_model.specs.Protocol.Lists.{IsIn, IsOlder}
 use Rattle.ssh_model.specs.Protocol.Channels.Message.{Message, Message.Open, Message.OpenFailure, Message.Data, Channel}
 use Rattle.ssh_model.specs.Protocol.Channels.Message.{Channel.Opened, same, window, spent, data_of}

@@ -3,18 +3,22 @@
 use Rattle.std.specs.Prelude.{◌≡◌, ℕ, suc, ◌+◌, ◌-◌, Bool, true, false, not, ◌==◌, ◌&&◌, ◌||◌, nat_le, nat_lt, Option}
 use Rattle.std.specs.Prelude.{Some, None, List, [], ◌∷◌, length}
 use Rattle.ssh_model.specs.Protocol.Bounds.{largest_data, most_waiting}
-use Rattle.ssh_model.specs.Protocol.Side.{Side}
+use Rattle.ssh_model.specs.declared.side.Side.{Side}
 use Rattle.ssh_model.specs.Protocol.Wire.Message.{Msg, Msg.KexInit, Msg.NewKeys, Msg.GlobalRequest, Msg.RequestSuccess}
 use Rattle.ssh_model.specs.Protocol.Wire.Message.{Msg.RequestFailure, Msg.ChannelOpen, Msg.ChannelOpenConfirmation}
 use Rattle.ssh_model.specs.Protocol.Wire.Message.{Msg.ChannelOpenFailure, Msg.ChannelWindowAdjust, Msg.ChannelData}
 use Rattle.ssh_model.specs.Protocol.Wire.Message.{Msg.ChannelExtendedData, Msg.ChannelEof, Msg.ChannelClose}
 use Rattle.ssh_model.specs.Protocol.Wire.Message.{Msg.ChannelRequest, Msg.ChannelSuccess, Msg.ChannelFailure, Msg.Unknown}
-use Rattle.ssh_model.specs.Protocol.Sessions.Refusals.{Check, Check.RefusedWhere, Refusal, Refusal.Unexpected}
-use Rattle.ssh_model.specs.Protocol.Sessions.Refusals.{Refusal.UnknownChannel, Refusal.WindowOverrun, Refusal.WindowTooLarge}
-use Rattle.ssh_model.specs.Protocol.Sessions.Refusals.{Refusal.OwedFull, AskRefusal, AskRefusal.NotYet, AskRefusal.Busy}
-use Rattle.ssh_model.specs.Protocol.Sessions.Refusals.{AskRefusal.NoChannel, AskRefusal.NoRoom, AskRefusal.TooLong}
-use Rattle.ssh_model.specs.Protocol.Sessions.Refusals.{AskRefusal.TableFull, AskRefusal.NothingOwed, AskRefusal.RekeyDue}
-use Rattle.ssh_model.specs.Protocol.Sessions.Refusals.{AskRefusal.TooMuch}
+use Rattle.ssh_model.specs.declared.refusal.Refusal.{Refusal}
+use Rattle.ssh_model.specs.declared.refusal.Refusal.TheVariants.{Unexpected}
+use Rattle.ssh_model.specs.Protocol.Sessions.Refusals.{Check, Check.RefusedWhere}
+use Rattle.ssh_model.specs.declared.refusal.Refusal.TheVariants.{UnknownChannel, WindowOverrun, WindowTooLarge}
+use Rattle.ssh_model.specs.declared.refusal.Refusal.TheVariants.{OwedFull}
+use Rattle.ssh_model.specs.declared.ask_refusal.AskRefusal.{AskRefusal}
+use Rattle.ssh_model.specs.declared.ask_refusal.AskRefusal.TheVariants.{NotYet, Busy}
+use Rattle.ssh_model.specs.declared.ask_refusal.AskRefusal.TheVariants.{NoChannel, NoRoom, TooLong}
+use Rattle.ssh_model.specs.declared.ask_refusal.AskRefusal.TheVariants.{TableFull, NothingOwed, RekeyDue}
+use Rattle.ssh_model.specs.declared.ask_refusal.AskRefusal.TheVariants.{TooMuch}
 use Rattle.ssh_model.specs.Protocol.Sessions.Parties.{Parties, settings_of}
 use Rattle.ssh_model.specs.Protocol.Sessions.Items.{Ask, Ask.AskOpen, Ask.AskConfirm, Ask.AskRefuse, Ask.AskData}
 use Rattle.ssh_model.specs.Protocol.Sessions.Items.{Ask.AskAdjust, Ask.AskEof, Ask.AskClose, Ask.AskRequest, Ask.AskReply}

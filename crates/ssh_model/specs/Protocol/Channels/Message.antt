@@ -1,7 +1,8 @@
 -- The messages on channels (RFC 4254 section 5), and what the list of those that one end said on one channel tells.
 -- Lists have the newest first.
 use Rattle.std.specs.Prelude.{◌≡◌, ℕ, ◌+◌, List, [], ◌∷◌, length, Bool, true, false, ◌==◌, Option}
-use Rattle.ssh_model.specs.Protocol.Side.{Side, Side.Client, Side.Server}
+use Rattle.ssh_model.specs.declared.side.Side.{Side}
+use Rattle.ssh_model.specs.declared.side.Side.TheVariants.{Client, Server}
 
 -- Of a message what windows, numbers and order depend on: `to` is the recipient channel, `from` the sender channel,
 -- `window` the initial window size and `max_packet` the maximum packet size.

@@ -1,6 +1,6 @@
 -- What one end said and took on channels, the newest first, and what can be read off it (own).
 use Rattle.std.specs.Prelude.{◌≡◌, ℕ, suc, ◌-◌, List, [], ◌∷◌, ◌⊎◌, true, false, cond, ◌==◌}
-use Rattle.ssh_model.specs.Protocol.Side.{Side.Client}
+use Rattle.ssh_model.specs.declared.side.Side.TheVariants.{Client}
 use Rattle.ssh_model.specs.Protocol.Channels.Message.{Message, Message.Open, Message.OpenFailure, Message.Request}
 use Rattle.ssh_model.specs.Protocol.Channels.Message.{Message.Reply, Channel, Channel.Opened, same, stage, closed, over}
 

@@ -1,7 +1,8 @@
 -- What may be asked and taken on a channel, row by row, and the runs of two ends as one list.
 use Rattle.std.specs.Prelude.{◌≡◌, ℕ, ◌+◌, ◌≤◌, List, [], ◌∷◌, ◌++◌, length, Bool, true, false, Option, Some, None}
 use Rattle.ssh_model.specs.Protocol.Bounds.{largest_data}
-use Rattle.ssh_model.specs.Protocol.Side.{DoneBy, Side, done_by, part, peer}
+use Rattle.ssh_model.specs.declared.side.Side.{Side}
+use Rattle.ssh_model.specs.Protocol.Side.{DoneBy, done_by, part, peer}
 use Rattle.ssh_model.specs.Protocol.Lists.{IsOlder}
 use Rattle.ssh_model.specs.Protocol.Channels.Message.{Message, Message.Open, Message.OpenConfirmation, Message.OpenFailure}
 use Rattle.ssh_model.specs.Protocol.Channels.Message.{Message.WindowAdjust, Message.Data, Message.Eof, Message.Close}

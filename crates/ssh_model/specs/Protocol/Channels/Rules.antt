@@ -1,6 +1,7 @@
 -- What an end may say and take on channels, and the runs of one end and of two, over notes (own).
 use Rattle.std.specs.Prelude.{◌≡◌, ℕ, ◌+◌, ◌≤◌, List, [], ◌∷◌, map, true, false}
-use Rattle.ssh_model.specs.Protocol.Side.{Side, peer}
+use Rattle.ssh_model.specs.declared.side.Side.{Side}
+use Rattle.ssh_model.specs.Protocol.Side.{peer}
 use Rattle.ssh_model.specs.Protocol.Lists.{IsOlder}
 use Rattle.ssh_model.specs.Protocol.Channels.Message.{Message, Message.Open, Channel, Channel.Opened, mine, is_open, ToIs}
 use Rattle.ssh_model.specs.Protocol.Channels.Message.{FromIs, size, gives, window, spent, sender, max_packet, stage, begun}

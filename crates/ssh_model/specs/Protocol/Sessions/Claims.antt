@@ -1,12 +1,15 @@
 -- What is claimed of the runs of two ends.
 use Rattle.std.specs.Prelude.{◌≡◌, ℕ, suc, ◌<◌, ◌≤◌, true, false, List, [], ◌∷◌, ◌++◌, ◌⊎◌, reverse, length, map}
 use Rattle.std.specs.Prelude.{Option, Some, Bool, ◌||◌}
-use Rattle.ssh_model.specs.Protocol.Side.{Side, Side.Client, Side.Server, peer, DoneBy.By, part}
+use Rattle.ssh_model.specs.declared.side.Side.{Side}
+use Rattle.ssh_model.specs.declared.side.Side.TheVariants.{Client, Server}
+use Rattle.ssh_model.specs.Protocol.Side.{peer, DoneBy.By, part}
 use Rattle.ssh_model.specs.Protocol.Lists.{Begins}
 use Rattle.ssh_model.specs.Protocol.Wire.Message.{Msg, Msg.UserauthRequest, Msg.ChannelOpen, Method}
 use Rattle.ssh_model.specs.Protocol.Sessions.Parties.{Parties}
-use Rattle.ssh_model.specs.Protocol.Sessions.Refusals.{Refusal, Refusal.UnknownChannel, Refusal.WindowOverrun}
-use Rattle.ssh_model.specs.Protocol.Sessions.Refusals.{Refusal.WindowTooLarge}
+use Rattle.ssh_model.specs.declared.refusal.Refusal.{Refusal}
+use Rattle.ssh_model.specs.declared.refusal.Refusal.TheVariants.{UnknownChannel, WindowOverrun}
+use Rattle.ssh_model.specs.declared.refusal.Refusal.TheVariants.{WindowTooLarge}
 use Rattle.ssh_model.specs.Protocol.Sessions.Items.{Item, Item.Sent, Item.Took, Item.TookGuess, Item.Refused, Payload, bytes_of}
 use Rattle.ssh_model.specs.Protocol.Sessions.Items.{Done, sent, took, Spelled, Spelled.SpelledBy, messages_sent}
 use Rattle.ssh_model.specs.Protocol.Sessions.Epochs.{epoch, after_first}

@@ -1,7 +1,9 @@
 -- What comes to two ends, and the runs that it gives: asks, pairs of cookie and secret, and delivered bytes. Losses,
 -- repeats, changes of order and injections are choices of these bytes.
 use Rattle.std.specs.Prelude.{◌≡◌, ℕ, Option, cond, List, [], ◌∷◌, ◌++◌}
-use Rattle.ssh_model.specs.Protocol.Side.{Side, Side.Client, Side.Server, done_by, part}
+use Rattle.ssh_model.specs.declared.side.Side.{Side}
+use Rattle.ssh_model.specs.declared.side.Side.TheVariants.{Client, Server}
+use Rattle.ssh_model.specs.Protocol.Side.{done_by, part}
 use Rattle.ssh_model.specs.Protocol.Wire.Message.{Msg}
 use Rattle.ssh_model.specs.Protocol.Wire.Sealing.{IsSealed}
 use Rattle.ssh_model.specs.Protocol.Wire.Line.{line_end}

@@ -1,6 +1,8 @@
 -- When a run of two ends is honest: what is assumed of tags, signatures, hashes and cookies.
 use Rattle.std.specs.Prelude.{◌≡◌, ℕ, ◌<◌, List, [], ◌∷◌, ◌⊎◌, Option, Some}
-use Rattle.ssh_model.specs.Protocol.Side.{Side, Side.Client, Side.Server, peer, DoneBy.By, part}
+use Rattle.ssh_model.specs.declared.side.Side.{Side}
+use Rattle.ssh_model.specs.declared.side.Side.TheVariants.{Client, Server}
+use Rattle.ssh_model.specs.Protocol.Side.{peer, DoneBy.By, part}
 use Rattle.ssh_model.specs.Protocol.Lists.{IsIn}
 use Rattle.ssh_model.specs.Protocol.Wire.Message.{Msg.NewKeys, Msg.KexEcdhReply}
 use Rattle.ssh_model.specs.Protocol.KeyExchange.Exchange.{Inputs, exchange_text, exchange_hash}

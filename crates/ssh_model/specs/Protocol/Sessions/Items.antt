@@ -3,7 +3,8 @@
 use Rattle.std.specs.Prelude.{ℕ, Bool, List, [], ◌∷◌, Option, true, false}
 use Rattle.ssh_model.specs.Protocol.Side.{DoneBy}
 use Rattle.ssh_model.specs.Protocol.Wire.Message.{Extension, Msg, Msg.NewKeys}
-use Rattle.ssh_model.specs.Protocol.Sessions.Refusals.{Refusal, AskRefusal}
+use Rattle.ssh_model.specs.declared.refusal.Refusal.{Refusal}
+use Rattle.ssh_model.specs.declared.ask_refusal.AskRefusal.{AskRefusal}
 
 -- ---- what a user asks of an end. Channels go by the end's own numbers.
 

@@ -3,16 +3,14 @@
 use Rattle.std.specs.Prelude.{◌≡◌, ℕ, ◌≤◌, ◌==◌, ◌&&◌, not, nat_lt, cond, Bool, true, false, Option, Some, None, List}
 use Rattle.std.specs.Prelude.{[], ◌∷◌, ◌++◌, length, take, codes, if◌then◌else◌}
 use Rattle.std.specs.List.{list_all}
-use Rattle.ssh_model.specs.Protocol.Side.{Side, Side.Client, Side.Server}
+use Rattle.ssh_model.specs.declared.side.Side.{Side}
+use Rattle.ssh_model.specs.declared.side.Side.TheVariants.{Client, Server}
+use Rattle.ssh_model.specs.declared.strictness.Strictness.{Strictness}
+use Rattle.ssh_model.specs.declared.strictness.Strictness.TheVariants.{Require, Off}
 use Rattle.ssh_model.specs.Protocol.Wire.Message.{Extension, Proposal}
 use Rattle.ssh_model.specs.Protocol.KeyExchange.Choice.{Lists, client_marker, server_marker, client_extension_marker}
 use Rattle.ssh_model.specs.Protocol.KeyExchange.Choice.{server_extension_marker}
 use Rattle.ssh_model.specs.Protocol.Wire.Sealing.{Crypto, IsSealing}
-
--- Whether an end exchanges keys strictly (OpenSSH's PROTOCOL): it refuses a peer that doesn't, or offers it and goes on
--- without, or doesn't offer it.
-pub data Strictness : Type 0 where
-  Require Offer Off : Strictness
 
 -- The end refuses a peer without strict key exchange.
 abbrev pub is_required : Strictness → Bool

@@ -2,16 +2,21 @@
 use Rattle.std.specs.Prelude.{◌≡◌, ℕ, suc, Bool, true, false, not, ◌==◌, ◌&&◌, ◌||◌, nat_lt, None, is_some, List, []}
 use Rattle.std.specs.Prelude.{◌∷◌, ◌++◌, length, codes}
 use Rattle.ssh_model.specs.Protocol.Bounds.{longest_description}
-use Rattle.ssh_model.specs.Protocol.Side.{Side, Side.Client, Side.Server, peer}
+use Rattle.ssh_model.specs.declared.side.Side.{Side}
+use Rattle.ssh_model.specs.declared.side.Side.TheVariants.{Client, Server}
+use Rattle.ssh_model.specs.Protocol.Side.{peer}
 use Rattle.ssh_model.specs.Protocol.Wire.Message.{Msg, Msg.Disconnect, Msg.Ignore, Msg.Unimplemented, Msg.Debug}
 use Rattle.ssh_model.specs.Protocol.Wire.Message.{Msg.ServiceRequest, Msg.ServiceAccept, Msg.ExtInfo, Msg.KexInit, Msg.NewKeys}
 use Rattle.ssh_model.specs.Protocol.Wire.Message.{Msg.KexEcdhInit, Msg.KexEcdhReply, Msg.Unknown, Extension, Proposal}
 use Rattle.ssh_model.specs.Protocol.Wire.MacOnly.{is_text}
 use Rattle.ssh_model.specs.Protocol.KeyExchange.Exchange.{exchange_hash}
-use Rattle.ssh_model.specs.Protocol.Sessions.Refusals.{Check, Check.RefusedWhere, Refusal, Refusal.Unexpected, Refusal.NoCommon}
-use Rattle.ssh_model.specs.Protocol.Sessions.Refusals.{Refusal.NotStrict, Refusal.BadPoint, Refusal.BadHost, Refusal.NoService}
-use Rattle.ssh_model.specs.Protocol.Sessions.Refusals.{AskRefusal, AskRefusal.NotYet, AskRefusal.Busy, AskRefusal.TooLong}
-use Rattle.ssh_model.specs.Protocol.Sessions.Refusals.{AskRefusal.WrongSide}
+use Rattle.ssh_model.specs.declared.refusal.Refusal.{Refusal}
+use Rattle.ssh_model.specs.declared.refusal.Refusal.TheVariants.{Unexpected, NoCommon}
+use Rattle.ssh_model.specs.Protocol.Sessions.Refusals.{Check, Check.RefusedWhere}
+use Rattle.ssh_model.specs.declared.refusal.Refusal.TheVariants.{NotStrict, BadPoint, BadHost, NoService}
+use Rattle.ssh_model.specs.declared.ask_refusal.AskRefusal.{AskRefusal}
+use Rattle.ssh_model.specs.declared.ask_refusal.AskRefusal.TheVariants.{NotYet, Busy, TooLong}
+use Rattle.ssh_model.specs.declared.ask_refusal.AskRefusal.TheVariants.{WrongSide}
 use Rattle.ssh_model.specs.Protocol.Sessions.Parties.{Parties, is_required, settings_of, shared_by, point_by, host_key_by}
 use Rattle.ssh_model.specs.Protocol.Sessions.Parties.{host_signature_by, marker_of, offer, lists_of}
 use Rattle.ssh_model.specs.Protocol.Sessions.Items.{Ask, Ask.AskService, Ask.AskRekey, Ask.AskDisconnect, Fact.Completed}

@@ -1,7 +1,7 @@
 -- What is claimed of the turns of one end.
 use Rattle.std.specs.Prelude.{◌≡◌, ℕ, ◌<◌, ◌^◌, ◌==◌, ◌||◌, Bool, true, false, Some, List, [], ◌∷◌, ◌++◌, ◌⊎◌, map}
 use Rattle.std.specs.Prelude.{length}
-use Rattle.ssh_model.specs.Protocol.Side.{Side}
+use Rattle.ssh_model.specs.declared.side.Side.{Side}
 use Rattle.ssh_model.specs.Protocol.Sessions.Parties.{Parties, settings_of, offer}
 use Rattle.ssh_model.specs.Protocol.Wire.Message.{Msg, Msg.KexInit, Msg.UserauthFailure, Msg.ExtInfo, Msg.ChannelOpen}
 use Rattle.ssh_model.specs.Protocol.Wire.Message.{message_number}
@@ -16,11 +16,12 @@ use Rattle.ssh_model.specs.Protocol.Wire.Outcome.{Outcome.Opens}
 use Rattle.ssh_model.specs.Protocol.Wire.Unit.{PacketUnit, HasNumber}
 use Rattle.ssh_model.specs.Protocol.KeyExchange.Exchanges.{sending_key, sending_number}
 use Rattle.ssh_model.specs.Protocol.Sessions.Events.{PutsOut}
+use Rattle.ssh_model.specs.Protocol.Bounds.{numbers_of_epoch}
 
 -- Each payload that was sent has a number of its own in its epoch: fewer than 2^32 came there before it.
 abbrev pub HasNumbers : List Item → Type 0
 HasNumbers [] = Unit {0}
-HasNumbers (Sent channel message payload ∷ h) = (count (sent h) < 2 ^ 32) × HasNumbers h
+HasNumbers (Sent channel message payload ∷ h) = (count (sent h) < numbers_of_epoch) × HasNumbers h
 HasNumbers (_ ∷ h) = HasNumbers h
 
 -- The payload was skipped and not read, or its number may not come here.

@@ -1,13 +1,19 @@
 -- The turns of an end, and the runs of two: what is taken, sent, told and refused, by the tables of the transport, of
 -- authentication and of the connection.
-use Rattle.std.specs.Prelude.{◌≡◌, ℕ, ◌<◌, ◌≤◌, ◌^◌, ◌-◌, Bool, true, false, not, ◌&&◌, nat_lt, Option, Some, None}
+use Rattle.std.specs.Prelude.{◌≡◌, ℕ, ◌<◌, ◌≤◌, Bool, true, false, not, ◌&&◌, nat_lt, Option, Some, None}
 use Rattle.std.specs.Prelude.{List, [], ◌∷◌, ◌++◌, length}
-use Rattle.ssh_model.specs.Protocol.Bounds.{longest_payload}
+use Rattle.ssh_model.specs.Protocol.Bounds.{longest_payload, most_exchanges, numbers_of_epoch}
 use Rattle.ssh_model.specs.Protocol.Wire.DataTypes.{AreBytes}
-use Rattle.ssh_model.specs.Protocol.Side.{Side, Side.Client, Side.Server, done_by, part}
+use Rattle.ssh_model.specs.declared.side.Side.{Side}
+use Rattle.ssh_model.specs.declared.side.Side.TheVariants.{Client, Server}
+use Rattle.ssh_model.specs.Protocol.Side.{done_by, part}
 use Rattle.ssh_model.specs.Protocol.Wire.Message.{Msg, Msg.KexInit, Msg.Disconnect, FitsContext, IsPayload, IsWrittenPayload}
-use Rattle.ssh_model.specs.Protocol.Sessions.Refusals.{Check, first_refusal, Refusal, Refusal.BadMessage, Refusal.Unexpected}
-use Rattle.ssh_model.specs.Protocol.Sessions.Refusals.{Refusal.NumberSpent, AskRefusal, refusal_name, refusal_reason}
+use Rattle.ssh_model.specs.declared.refusal.Refusal.{Refusal}
+use Rattle.ssh_model.specs.declared.refusal.Refusal.TheVariants.{BadMessage, Unexpected}
+use Rattle.ssh_model.specs.Protocol.Sessions.Refusals.{Check, first_refusal}
+use Rattle.ssh_model.specs.declared.refusal.Refusal.TheVariants.{NumberSpent}
+use Rattle.ssh_model.specs.declared.ask_refusal.AskRefusal.{AskRefusal}
+use Rattle.ssh_model.specs.Protocol.Sessions.Refusals.{refusal_name, refusal_reason}
 use Rattle.ssh_model.specs.Protocol.Sessions.Parties.{Parties, settings_of, offer}
 use Rattle.ssh_model.specs.Protocol.Sessions.Items.{Ask, Fact.Ignored, Fact.Opened, Item, Item.Fed, Item.Asked, Item.AskRefused}
 use Rattle.ssh_model.specs.Protocol.Sessions.Items.{Item.SentLine, Item.TookLine, Item.TookOtherLine, Item.Sent, Item.Took}
@@ -45,7 +51,7 @@ AreSpelled (_ ∷ items) = AreSpelled items
 -- there before it.
 abbrev pub AreNumbered : List Item → List Item → Type 0
 AreNumbered [] h = Unit {0}
-AreNumbered (Sent channel message payload ∷ items) h = (count (sent (items ++ h)) < 2 ^ 32) × AreNumbered items h
+AreNumbered (Sent channel message payload ∷ items) h = (count (sent (items ++ h)) < numbers_of_epoch) × AreNumbered items h
 AreNumbered (_ ∷ items) h = AreNumbered items h
 
 -- ---- refusals
@@ -53,8 +59,8 @@ AreNumbered (_ ∷ items) h = AreNumbered items h
 -- The items by which an end refuses its peer. It says nothing where there is no reason code, or no number left in the epoch.
 pub data Refuses (h : List Item) (refusal : Refusal) (payload : Option (List ℕ)) : List Item → Type 0 where
   silently : refusal_reason refusal ≡ None → Refuses h refusal payload (Died ∷ Refused refusal payload ∷ [])
-  spent : count (sent h) ≡ 2 ^ 32 → Refuses h refusal payload (Died ∷ Refused refusal payload ∷ [])
-  said : (reason : ℕ) (said : List ℕ) → refusal_reason refusal ≡ Some reason → count (sent h) < 2 ^ 32 →
+  spent : count (sent h) ≡ numbers_of_epoch → Refuses h refusal payload (Died ∷ Refused refusal payload ∷ [])
+  said : (reason : ℕ) (said : List ℕ) → refusal_reason refusal ≡ Some reason → count (sent h) < numbers_of_epoch →
       IsSpelled (Disconnect reason (refusal_name refusal) []) said →
       Refuses h refusal payload
       (Died ∷ Sent None (Disconnect reason (refusal_name refusal) []) said ∷ Refused refusal payload ∷ [])
@@ -182,7 +188,7 @@ pub record IsMaterial (cookie secret : List ℕ) : Type 0 where
 -- An end keeps one pair at a time, and is fed at most 2^32 - 1 pairs. Where it keeps a pair, was fed so many, or is dead,
 -- it can't be fed. It then answers false and does nothing.
 abbrev pub can_feed : List Item → Bool
-can_feed h = not (has_died h) && not (has_material h) && nat_lt (length (fed h)) (2 ^ 32 - 1)
+can_feed h = not (has_died h) && not (has_material h) && nat_lt (length (fed h)) most_exchanges
 
 -- What an end does with a pair of cookie and secret that it is fed.
 pub data FeedsTurn (side : Side) (h : List Item) (cookie secret : List ℕ) : List Item → Type 0 where

@@ -3,7 +3,7 @@
 use Rattle.std.specs.Prelude.{◌≡◌, ◌<◌, ◌≤◌, ℕ, Bool, true, false, not, nat_le, ◌==◌, ◌&&◌, ◌⊎◌, IsTrue, List, [], ◌∷◌}
 use Rattle.std.specs.Prelude.{◌++◌, length, codes, Option, Some, None}
 use Rattle.std.specs.List.{list_all}
-use Rattle.ssh_model.specs.Protocol.Sessions.Refusals.{Refusal.BadLine, Refusal.BadVersion}
+use Rattle.ssh_model.specs.declared.refusal.Refusal.TheVariants.{BadLine, BadVersion}
 use Rattle.ssh_model.specs.Protocol.Wire.Outcome.{Outcome, Outcome.OtherLine, Outcome.VersionLine, Outcome.RefusedLine}
 
 -- ---- lines

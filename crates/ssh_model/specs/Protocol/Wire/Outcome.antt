@@ -1,6 +1,6 @@
 -- What an end makes of one unit of the byte stream that comes to it.
 use Rattle.std.specs.Prelude.{◌≡◌, ℕ, List, ◌++◌}
-use Rattle.ssh_model.specs.Protocol.Sessions.Refusals.{Refusal}
+use Rattle.ssh_model.specs.declared.refusal.Refusal.{Refusal}
 
 -- Lines come without CR LF.
 pub data Outcome : Type 0 where

@@ -4,14 +4,15 @@ use Rattle.ssh_model.specs.Protocol.Wire.DataTypes.{AreBytes}
 use Rattle.ssh_model.specs.Protocol.Wire.Sealing.{Crypto, IsWire, IsBadLength, IsBadTag, IsBadPadding, IsBegun, HasSize}
 use Rattle.ssh_model.specs.Protocol.Wire.Sealing.{blocks_under, tag_under}
 use Rattle.ssh_model.specs.Protocol.Wire.Outcome.{Outcome, Outcome.Opens, Outcome.RefusedPacket}
-use Rattle.ssh_model.specs.Protocol.Sessions.Refusals.{Refusal.BadLength, Refusal.BadPadding, Refusal.BadTag}
-use Rattle.ssh_model.specs.Protocol.Sessions.Refusals.{Refusal.NumberSpent}
+use Rattle.ssh_model.specs.declared.refusal.Refusal.TheVariants.{BadLength, BadPadding, BadTag}
+use Rattle.ssh_model.specs.declared.refusal.Refusal.TheVariants.{NumberSpent}
 use Rattle.ssh_model.specs.Protocol.Wire.Line.{LineUnit, IsLineBegun}
 use Rattle.ssh_model.specs.Protocol.Wire.Delivery.{Rules}
+use Rattle.ssh_model.specs.Protocol.Bounds.{numbers_of_epoch}
 
 -- The next packet has a sequence number of its own, a uint32: fewer than 2^32 were taken under this key.
 abbrev pub HasNumber : (number count : ℕ) → Type 0
-HasNumber number count = (count < 2 ^ 32) × (number < 2 ^ 32)
+HasNumber number count = (count < numbers_of_epoch) × (number < 2 ^ 32)
 
 -- The unit is one packet with its tag, or its length field alone. The end took `count` packets under this key. Its next
 -- packet has the sequence number `number`. The outcome is an opened payload or a refusal. The refusals are tested in
@@ -22,7 +23,7 @@ pub data PacketUnit {K : Type 0} (c : Crypto K) (key : Option K) (number count :
       PacketUnit c key number count unit (Opens payload)
   bad_length : IsBadLength (blocks_under c key) (tag_under c key) unit →
       PacketUnit c key number count unit (RefusedPacket BadLength)
-  spent : (size : ℕ) → count ≡ 2 ^ 32 → length unit ≡ 4 → HasSize (blocks_under c key) (tag_under c key) size unit →
+  spent : (size : ℕ) → count ≡ numbers_of_epoch → length unit ≡ 4 → HasSize (blocks_under c key) (tag_under c key) size unit →
       PacketUnit c key number count unit (RefusedPacket NumberSpent)
   bad_tag : HasNumber number count → AreBytes unit → IsBadTag c key number unit →
       PacketUnit c key number count unit (RefusedPacket BadTag)
@@ -32,7 +33,7 @@ pub data PacketUnit {K : Type 0} (c : Crypto K) (key : Option K) (number count :
 -- What no unit is yet: a packet begun. Where the numbers are spent, no more of it than a part of its length field.
 pub record IsPacketBegun {K : Type 0} (c : Crypto K) (key : Option K) (count : ℕ) (bytes : List ℕ) : Type 0 where
   pub begun : IsBegun (blocks_under c key) (tag_under c key) bytes
-  pub unspent : 4 ≤ length bytes → count < 2 ^ 32
+  pub unspent : 4 ≤ length bytes → count < numbers_of_epoch
 
 -- What an end reads next: lines, having taken so many other lines, or a packet under a key, with its sequence number,
 -- and having taken so many under that key.
@@ -42,7 +43,7 @@ pub data Stage (K : Type 0) : Type 0 where
 
 -- An end never took more packets under one key than there are numbers, and while one is left the next is a uint32.
 abbrev pub IsPlace : (number count : ℕ) → Type 0
-IsPlace number count = (count ≤ 2 ^ 32) × (count < 2 ^ 32 → number < 2 ^ 32)
+IsPlace number count = (count ≤ numbers_of_epoch) × (count < numbers_of_epoch → number < 2 ^ 32)
 
 -- A stage at which an end can be.
 abbrev pub IsStage : {K : Type 0} → Stage K → Type 0

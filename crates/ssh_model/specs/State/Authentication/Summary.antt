@@ -1,6 +1,6 @@
 -- When a layer of authentication sums up a history, and how its rows are rows of a session (own).
 use Rattle.std.specs.Prelude.{◌≡◌, ℕ, Option, Some, None, List, [], ◌∷◌, ◌++◌}
-use Rattle.ssh_model.specs.Protocol.Side.{Side.Client, Side.Server}
+use Rattle.ssh_model.specs.declared.side.Side.TheVariants.{Client, Server}
 use Rattle.ssh_model.specs.Protocol.Wire.Message.{Msg, Msg.ServiceAccept, Msg.UserauthRequest, Msg.UserauthFailure}
 use Rattle.ssh_model.specs.Protocol.Wire.Message.{Msg.UserauthSuccess, Msg.UserauthPkOk, Method, Method.Publickey}
 use Rattle.ssh_model.specs.Protocol.Sessions.Parties.{Parties}

@@ -9,11 +9,15 @@ use Rattle.ssh_model.specs.Protocol.Wire.Message.{Msg.ChannelOpen, Msg.ChannelOp
 use Rattle.ssh_model.specs.Protocol.Wire.Message.{Msg.ChannelWindowAdjust, Msg.ChannelData, Msg.ChannelExtendedData}
 use Rattle.ssh_model.specs.Protocol.Wire.Message.{Msg.ChannelEof, Msg.ChannelClose, Msg.ChannelRequest, Msg.ChannelSuccess}
 use Rattle.ssh_model.specs.Protocol.Wire.Message.{Msg.ChannelFailure}
-use Rattle.ssh_model.specs.Protocol.Sessions.Refusals.{Check, Check.RefusedWhere, Refusal, Refusal.Unexpected}
-use Rattle.ssh_model.specs.Protocol.Sessions.Refusals.{Refusal.UnknownChannel, Refusal.WindowOverrun, Refusal.WindowTooLarge}
-use Rattle.ssh_model.specs.Protocol.Sessions.Refusals.{Refusal.OwedFull, AskRefusal, AskRefusal.NoChannel, AskRefusal.NoRoom}
-use Rattle.ssh_model.specs.Protocol.Sessions.Refusals.{AskRefusal.TooLong, AskRefusal.TableFull, AskRefusal.NothingOwed}
-use Rattle.ssh_model.specs.Protocol.Sessions.Refusals.{AskRefusal.TooMuch}
+use Rattle.ssh_model.specs.declared.refusal.Refusal.{Refusal}
+use Rattle.ssh_model.specs.declared.refusal.Refusal.TheVariants.{Unexpected}
+use Rattle.ssh_model.specs.Protocol.Sessions.Refusals.{Check, Check.RefusedWhere}
+use Rattle.ssh_model.specs.declared.refusal.Refusal.TheVariants.{UnknownChannel, WindowOverrun, WindowTooLarge}
+use Rattle.ssh_model.specs.declared.refusal.Refusal.TheVariants.{OwedFull}
+use Rattle.ssh_model.specs.declared.ask_refusal.AskRefusal.{AskRefusal}
+use Rattle.ssh_model.specs.declared.ask_refusal.AskRefusal.TheVariants.{NoChannel, NoRoom}
+use Rattle.ssh_model.specs.declared.ask_refusal.AskRefusal.TheVariants.{TooLong, TableFull, NothingOwed}
+use Rattle.ssh_model.specs.declared.ask_refusal.AskRefusal.TheVariants.{TooMuch}
 use Rattle.ssh_model.specs.Protocol.Sessions.Items.{Ask, Ask.AskOpen, Ask.AskConfirm, Ask.AskRefuse, Ask.AskData}
 use Rattle.ssh_model.specs.Protocol.Sessions.Items.{Ask.AskAdjust, Ask.AskEof, Ask.AskClose, Ask.AskRequest, Ask.AskReply}
 use Rattle.ssh_model.specs.Protocol.Sessions.Items.{Ask.AskGlobal, Ask.AskGlobalReply, Fact, Fact.Global, Fact.GlobalDone}

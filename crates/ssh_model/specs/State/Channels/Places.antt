@@ -3,7 +3,7 @@
 use Rattle.std.specs.Prelude.{◌≡◌, ℕ, zero, suc, ◌-◌, List, [], ◌∷◌, Bool, true, false, cond, not, ◌&&◌, ◌||◌, Option}
 use Rattle.std.specs.Prelude.{Some, None, slice_index_or}
 use Rattle.ssh_model.specs.Protocol.Bounds.{most_channels}
-use Rattle.ssh_model.specs.Protocol.Side.{Side}
+use Rattle.ssh_model.specs.declared.side.Side.{Side}
 use Rattle.ssh_model.specs.Protocol.Channels.Message.{Message, Message.OpenFailure, Message.Close, mine, window, spent, sender}
 use Rattle.ssh_model.specs.Protocol.Channels.Message.{max_packet, has_eof, stage, closed, begun}
 use Rattle.ssh_model.specs.Protocol.Channels.Notes.{Note, channel_at}

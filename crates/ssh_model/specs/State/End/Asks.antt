@@ -1,9 +1,12 @@
 -- What an end makes of an ask, by what it keeps: no history here. One constructor is one row (own).
-use Rattle.std.specs.Prelude.{◌≡◌, ℕ, ◌<◌, ◌^◌, true, false, Some, None, List, [], ◌∷◌, ◌++◌}
-use Rattle.ssh_model.specs.Protocol.Side.{Side}
+use Rattle.std.specs.Prelude.{◌≡◌, ℕ, ◌<◌, true, false, Some, None, List, [], ◌∷◌, ◌++◌}
+use Rattle.ssh_model.specs.declared.side.Side.{Side}
 use Rattle.ssh_model.specs.Protocol.Wire.Message.{Msg, Msg.Disconnect}
-use Rattle.ssh_model.specs.Protocol.Sessions.Refusals.{AskRefusal, AskRefusal.WrongSide, Check, Check.RefusedWhere}
-use Rattle.ssh_model.specs.Protocol.Sessions.Refusals.{Refusal.NumberSpent, first_refusal}
+use Rattle.ssh_model.specs.declared.ask_refusal.AskRefusal.{AskRefusal}
+use Rattle.ssh_model.specs.declared.ask_refusal.AskRefusal.TheVariants.{WrongSide}
+use Rattle.ssh_model.specs.Protocol.Sessions.Refusals.{Check, Check.RefusedWhere}
+use Rattle.ssh_model.specs.declared.refusal.Refusal.TheVariants.{NumberSpent}
+use Rattle.ssh_model.specs.Protocol.Sessions.Refusals.{first_refusal}
 use Rattle.ssh_model.specs.Protocol.Sessions.Parties.{Parties, user_signature_by}
 use Rattle.ssh_model.specs.Protocol.Sessions.Items.{Ask, Ask.AskNone, Ask.AskPassword, Ask.AskProbe, Ask.AskSign}
 use Rattle.ssh_model.specs.Protocol.Sessions.Items.{Ask.AskDisconnect, Item, Item.Asked, Item.AskRefused, Item.Sent}
@@ -19,6 +22,7 @@ use Rattle.ssh_model.specs.State.TransportLayer.Kept.{Asks, Transport, message_a
 use Rattle.ssh_model.specs.State.TransportLayer.Turns.{PutsPackets}
 use Rattle.ssh_model.specs.State.End.State.{Authentication, Authentication.OfServer, Authentication.OfClient, EndState}
 use Rattle.ssh_model.specs.State.End.State.{after_items, is_due}
+use Rattle.ssh_model.specs.Protocol.Bounds.{numbers_of_epoch}
 
 -- what authentication refuses an ask for: a server makes no request
 abbrev pub authentication_asks : Authentication → Ask → List (Check AskRefusal)
@@ -79,29 +83,29 @@ pub data TakesAsk {K : Type 0} (p : Parties K) (side : Side) (e : EndState K) : 
   spent : (ask : Ask) (message : Msg) (payload : List ℕ) (transport : Transport K) (new : EndState K) →
       e.transport.dead ≡ false → first_refusal (message_ask_checks e.transport ask) ≡ None →
       Asks e.transport ask message payload transport → IsSpelled message payload →
-      e.transport.sending.count ≡ 2 ^ 32 → new.transport.dead ≡ true →
+      e.transport.sending.count ≡ numbers_of_epoch → new.transport.dead ≡ true →
       TakesAsk p side e ask (Died ∷ Refused NumberSpent None ∷ Asked ask ∷ []) [] new
   disconnect_spent : (description payload : List ℕ) (new : EndState K) → e.transport.dead ≡ false →
       first_refusal (message_ask_checks e.transport (AskDisconnect description)) ≡ None →
-      IsSpelled (Disconnect 11 description []) payload → e.transport.sending.count ≡ 2 ^ 32 →
+      IsSpelled (Disconnect 11 description []) payload → e.transport.sending.count ≡ numbers_of_epoch →
       new.transport.dead ≡ true →
       TakesAsk p side e (AskDisconnect description)
       (Died ∷ Refused NumberSpent None ∷ Asked (AskDisconnect description) ∷ []) [] new
   above_spent : {items : List Item} {authentication : Authentication} {channels : Channels} (ask : Ask)
       (new : EndState K) → e.transport.dead ≡ false → first_refusal (end_ask_checks p side e ask) ≡ None →
-      AsksAbove p e ask items authentication channels → AreSpelled items → e.transport.sending.count ≡ 2 ^ 32 →
+      AsksAbove p e ask items authentication channels → AreSpelled items → e.transport.sending.count ≡ numbers_of_epoch →
       new.transport.dead ≡ true →
       TakesAsk p side e ask (Died ∷ Refused NumberSpent None ∷ Asked ask ∷ []) [] new
   -- Memory fails for what would be sent.
   dies : (ask : Ask) (message : Msg) (payload : List ℕ) (transport : Transport K) (new : EndState K) →
       e.transport.dead ≡ false → first_refusal (message_ask_checks e.transport ask) ≡ None →
       Asks e.transport ask message payload transport → IsSpelled message payload →
-      e.transport.sending.count < 2 ^ 32 → new.transport.dead ≡ true → TakesAsk p side e ask (Died ∷ []) [] new
+      e.transport.sending.count < numbers_of_epoch → new.transport.dead ≡ true → TakesAsk p side e ask (Died ∷ []) [] new
   disconnect_dies : (description payload : List ℕ) (new : EndState K) → e.transport.dead ≡ false →
       first_refusal (message_ask_checks e.transport (AskDisconnect description)) ≡ None →
-      IsSpelled (Disconnect 11 description []) payload → e.transport.sending.count < 2 ^ 32 →
+      IsSpelled (Disconnect 11 description []) payload → e.transport.sending.count < numbers_of_epoch →
       new.transport.dead ≡ true → TakesAsk p side e (AskDisconnect description) (Died ∷ []) [] new
   above_dies : {items : List Item} {authentication : Authentication} {channels : Channels} (ask : Ask)
       (new : EndState K) → e.transport.dead ≡ false → first_refusal (end_ask_checks p side e ask) ≡ None →
-      AsksAbove p e ask items authentication channels → AreSpelled items → e.transport.sending.count < 2 ^ 32 →
+      AsksAbove p e ask items authentication channels → AreSpelled items → e.transport.sending.count < numbers_of_epoch →
       new.transport.dead ≡ true → TakesAsk p side e ask (Died ∷ []) [] new

@@ -1,5 +1,7 @@
 -- Two ends, what they keep, and where they stand (own).
-use Rattle.ssh_model.specs.Protocol.Side.{Side, Side.Client, Side.Server, part}
+use Rattle.ssh_model.specs.declared.side.Side.{Side}
+use Rattle.ssh_model.specs.declared.side.Side.TheVariants.{Client, Server}
+use Rattle.ssh_model.specs.Protocol.Side.{part}
 use Rattle.ssh_model.specs.Protocol.Sessions.Parties.{Parties}
 use Rattle.ssh_model.specs.Protocol.Sessions.Turns.{Run}
 use Rattle.ssh_model.specs.Protocol.Sessions.Events.{Event, IsFirst, OnEvent, World}

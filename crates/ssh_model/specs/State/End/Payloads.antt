@@ -1,10 +1,11 @@
 -- What an end makes of a payload, by what it keeps: no history here. One constructor is one row (own).
-use Rattle.std.specs.Prelude.{◌≡◌, ℕ, ◌+◌, ◌<◌, ◌≤◌, ◌^◌, true, false, Option, Some, None, List, [], ◌∷◌, ◌++◌}
+use Rattle.std.specs.Prelude.{◌≡◌, ℕ, ◌+◌, ◌<◌, ◌≤◌, true, false, Option, Some, None, List, [], ◌∷◌, ◌++◌}
 use Rattle.std.specs.Prelude.{length}
-use Rattle.ssh_model.specs.Protocol.Side.{Side}
+use Rattle.ssh_model.specs.declared.side.Side.{Side}
 use Rattle.ssh_model.specs.Protocol.Wire.Message.{Msg, Msg.Disconnect, Msg.Unimplemented, Msg.Unknown, IsPayload}
 use Rattle.ssh_model.specs.Protocol.KeyExchange.Choice.{Chosen}
-use Rattle.ssh_model.specs.Protocol.Sessions.Refusals.{Refusal, Refusal.BadMessage, Refusal.NumberSpent, Refusal.Unexpected}
+use Rattle.ssh_model.specs.declared.refusal.Refusal.{Refusal}
+use Rattle.ssh_model.specs.declared.refusal.Refusal.TheVariants.{BadMessage, NumberSpent, Unexpected}
 use Rattle.ssh_model.specs.Protocol.Sessions.Refusals.{first_refusal}
 use Rattle.ssh_model.specs.Protocol.Sessions.Parties.{Parties, agreement_of}
 use Rattle.ssh_model.specs.Protocol.Sessions.Items.{Fact.Completed, Fact.Disconnected, Fact.Ignored, Item, Item.Sent, Item.Took}
@@ -25,6 +26,7 @@ use Rattle.ssh_model.specs.State.TransportLayer.Turns.{IsRefused, PutsPackets, R
 use Rattle.ssh_model.specs.State.End.State.{Authentication, Authentication.OfServer, Authentication.OfClient, EndState}
 use Rattle.ssh_model.specs.State.End.State.{above_checks, after_above, after_items, after_service, probes, session_of}
 use Rattle.ssh_model.specs.State.End.State.{takes_above}
+use Rattle.ssh_model.specs.Protocol.Bounds.{numbers_of_epoch}
 
 -- ---- below 50
 
@@ -74,7 +76,7 @@ pub data AnswersAbove {K : Type 0} (p : Parties K) (e : EndState K) : Msg → Op
       channels.Takes e.transport.blocked e.channels message taken new →
       AnswersAbove p e message taken.channel (told taken.fact (reply_items taken.reply reply)) e.authentication new
   -- RFC 4253 section 11.4: with the number of the packet
-  unknown : (number : ℕ) (reply : List ℕ) → e.transport.taking.count < 2 ^ 32 →
+  unknown : (number : ℕ) (reply : List ℕ) → e.transport.taking.count < numbers_of_epoch →
       AnswersAbove p e (Unknown number) None (Sent None (Unimplemented e.transport.taking.number) reply ∷ [])
       e.authentication e.channels
 
@@ -143,18 +145,18 @@ pub data TakesPayload {K : Type 0} (p : Parties K) (side : Side) (e : EndState K
       Admits p side e.transport chosen message payload →
       Takes (agreement_of p side) e.transport payload message answered transport →
       AreSpelled (items_sent answered.sent) → 1 ≤ length answered.sent →
-      2 ^ 32 < e.transport.sending.count + length answered.sent → new.transport.dead ≡ true →
+      numbers_of_epoch < e.transport.sending.count + length answered.sent → new.transport.dead ≡ true →
       TakesPayload p side e payload (Died ∷ Refused NumberSpent (Some payload) ∷ []) [] new
   end_spent : {owed : List Item} {channels : Channels} (chosen : Chosen) (message : Msg)
       (last announced : List Spelled) (completed transport : Transport K) (new : EndState K) →
       Admits p side e.transport chosen message payload →
       Completes p.crypto (parts_of p side) chosen e.transport message last announced completed transport →
       AreSpelled (items_sent (announced ++ last)) → GivesOwed e.channels owed channels → channels.owed ≡ [] →
-      AreSpelled owed → 2 ^ 32 < e.transport.sending.count + length last → new.transport.dead ≡ true →
+      AreSpelled owed → numbers_of_epoch < e.transport.sending.count + length last → new.transport.dead ≡ true →
       TakesPayload p side e payload (Died ∷ Refused NumberSpent (Some payload) ∷ []) [] new
   above_spent : {items : List Item} {authentication : Authentication} {channels : Channels} (message : Msg)
       (channel : Option ℕ) (new : EndState K) → ReadsAbove e message payload →
       first_refusal (above_checks p e message) ≡ None →
       AnswersAbove p e message channel items authentication channels → AreSpelled items →
-      1 ≤ length (messages_sent items) → e.transport.sending.count ≡ 2 ^ 32 → new.transport.dead ≡ true →
+      1 ≤ length (messages_sent items) → e.transport.sending.count ≡ numbers_of_epoch → new.transport.dead ≡ true →
       TakesPayload p side e payload (Died ∷ Refused NumberSpent (Some payload) ∷ []) [] new

@@ -1,6 +1,7 @@
 -- How one end goes over the bytes that come to it, whatever its peer does (own).
 use Rattle.std.specs.Prelude.{◌≡◌, ℕ, List, ◌++◌}
-use Rattle.ssh_model.specs.Protocol.Side.{Side, peer, part}
+use Rattle.ssh_model.specs.declared.side.Side.{Side}
+use Rattle.ssh_model.specs.Protocol.Side.{peer, part}
 use Rattle.ssh_model.specs.Protocol.Wire.Delivery.{Rules, Delivered}
 use Rattle.ssh_model.specs.Protocol.Wire.Unit.{reading}
 use Rattle.ssh_model.specs.Protocol.Sessions.Parties.{Parties}

@@ -1,8 +1,10 @@
 -- What an end of a session keeps: what its transport, its authentication and its channels keep (own).
 use Rattle.std.specs.Prelude.{ℕ, Bool, false, cond, nat_lt, nat_le, unwrap_or, List, [], ◌∷◌, ◌++◌}
-use Rattle.ssh_model.specs.Protocol.Side.{Side, Side.Client, Side.Server}
+use Rattle.ssh_model.specs.declared.side.Side.{Side}
+use Rattle.ssh_model.specs.declared.side.Side.TheVariants.{Client, Server}
 use Rattle.ssh_model.specs.Protocol.Wire.Message.{Msg, Msg.ServiceRequest, Msg.ServiceAccept, Msg.UserauthSuccess}
-use Rattle.ssh_model.specs.Protocol.Sessions.Refusals.{Check, Refusal}
+use Rattle.ssh_model.specs.declared.refusal.Refusal.{Refusal}
+use Rattle.ssh_model.specs.Protocol.Sessions.Refusals.{Check}
 use Rattle.ssh_model.specs.Protocol.Sessions.Parties.{Parties, Settings, settings_of}
 use Rattle.ssh_model.specs.Protocol.Sessions.Items.{Item, Item.Sent}
 use Rattle.ssh_model.specs.Protocol.Authentication.Requests.{judge_of}

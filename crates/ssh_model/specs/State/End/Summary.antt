@@ -1,7 +1,8 @@
 -- When what an end keeps sums up its history, and what a turn makes of both (own).
 use Rattle.std.specs.Prelude.{◌≡◌, ℕ, false, None, List, ◌++◌, ◌≤◌, length}
 use Rattle.ssh_model.specs.Protocol.Bounds.{most_waiting}
-use Rattle.ssh_model.specs.Protocol.Side.{Side, Side.Client, Side.Server}
+use Rattle.ssh_model.specs.declared.side.Side.{Side}
+use Rattle.ssh_model.specs.declared.side.Side.TheVariants.{Client, Server}
 use Rattle.ssh_model.specs.Protocol.Sessions.Parties.{Parties}
 use Rattle.ssh_model.specs.Protocol.Sessions.Items.{Item}
 use Rattle.ssh_model.specs.Protocol.Sessions.Events.{PutsOut}

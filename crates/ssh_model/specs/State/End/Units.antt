@@ -1,11 +1,11 @@
 -- What an end makes of the next unit of its stream, and of a pair of cookie and secret, by what it keeps (own).
 use Rattle.std.specs.Prelude.{◌≡◌, ℕ, true, false, None, List, [], ◌∷◌}
-use Rattle.ssh_model.specs.Protocol.Side.{Side}
+use Rattle.ssh_model.specs.declared.side.Side.{Side}
 use Rattle.ssh_model.specs.Protocol.Wire.Line.{LineUnit}
 use Rattle.ssh_model.specs.Protocol.Wire.Outcome.{Outcome.OtherLine, Outcome.VersionLine, Outcome.RefusedLine, Outcome.Opens}
 use Rattle.ssh_model.specs.Protocol.Wire.Outcome.{Outcome.RefusedPacket}
 use Rattle.ssh_model.specs.Protocol.Wire.Unit.{PacketUnit}
-use Rattle.ssh_model.specs.Protocol.Sessions.Refusals.{Refusal}
+use Rattle.ssh_model.specs.declared.refusal.Refusal.{Refusal}
 use Rattle.ssh_model.specs.Protocol.Sessions.Parties.{Parties}
 use Rattle.ssh_model.specs.Protocol.Sessions.Items.{Item, Item.Fed, Item.TookLine, Item.TookOtherLine, Item.Died, Spelled}
 use Rattle.ssh_model.specs.Protocol.Sessions.Phases.{is_client}

@@ -1,10 +1,12 @@
 -- What a transport keeps, and what each message and each ask makes of it (RFC 4253, RFC 5656): no history here. One
 -- clause or constructor is one row.
-use Rattle.std.specs.Prelude.{◌≡◌, ℕ, ◌+◌, ◌-◌, ◌^◌, ◌<◌, Bool, true, false, not, cond, if◌then◌else◌, ◌==◌, ◌&&◌}
+use Rattle.std.specs.Prelude.{◌≡◌, ℕ, ◌+◌, ◌<◌, Bool, true, false, not, cond, if◌then◌else◌, ◌==◌, ◌&&◌}
 use Rattle.std.specs.Prelude.{◌||◌, nat_le, nat_lt, Option, Some, None, is_some, unwrap_or, List, [], ◌∷◌}
 use Rattle.std.specs.Prelude.{length, take, codes}
-use Rattle.ssh_model.specs.Protocol.Bounds.{longest_description}
-use Rattle.ssh_model.specs.Protocol.Side.{Side, Side.Client, Side.Server, peer}
+use Rattle.ssh_model.specs.Protocol.Bounds.{longest_description, most_exchanges, numbers_of_epoch}
+use Rattle.ssh_model.specs.declared.side.Side.{Side}
+use Rattle.ssh_model.specs.declared.side.Side.TheVariants.{Client, Server}
+use Rattle.ssh_model.specs.Protocol.Side.{peer}
 use Rattle.ssh_model.specs.Protocol.Wire.DataTypes.{number}
 use Rattle.ssh_model.specs.Protocol.Wire.Message.{Msg, Msg.Ignore, Msg.Unimplemented, Msg.Debug}
 use Rattle.ssh_model.specs.Protocol.Wire.Message.{Msg.ServiceRequest, Msg.ServiceAccept, Msg.ExtInfo, Msg.KexInit, Msg.NewKeys}
@@ -15,10 +17,14 @@ use Rattle.ssh_model.specs.Protocol.Wire.Sealing.{Crypto}
 use Rattle.ssh_model.specs.Protocol.KeyExchange.Choice.{Chosen, Lists}
 use Rattle.ssh_model.specs.Protocol.KeyExchange.Exchange.{Inputs, exchange_hash}
 use Rattle.ssh_model.specs.Protocol.KeyExchange.Exchanges.{Material, chosen, has_choice, has_marker, key_of}
-use Rattle.ssh_model.specs.Protocol.Sessions.Refusals.{Check, Check.RefusedWhere, Refusal, Refusal.Unexpected}
-use Rattle.ssh_model.specs.Protocol.Sessions.Refusals.{Refusal.NoCommon, Refusal.NotStrict, Refusal.BadPoint, Refusal.BadHost}
-use Rattle.ssh_model.specs.Protocol.Sessions.Refusals.{Refusal.NoService, AskRefusal, AskRefusal.NotYet, AskRefusal.Busy}
-use Rattle.ssh_model.specs.Protocol.Sessions.Refusals.{AskRefusal.TooLong, AskRefusal.WrongSide}
+use Rattle.ssh_model.specs.declared.refusal.Refusal.{Refusal}
+use Rattle.ssh_model.specs.declared.refusal.Refusal.TheVariants.{Unexpected}
+use Rattle.ssh_model.specs.Protocol.Sessions.Refusals.{Check, Check.RefusedWhere}
+use Rattle.ssh_model.specs.declared.refusal.Refusal.TheVariants.{NoCommon, NotStrict, BadPoint, BadHost}
+use Rattle.ssh_model.specs.declared.refusal.Refusal.TheVariants.{NoService}
+use Rattle.ssh_model.specs.declared.ask_refusal.AskRefusal.{AskRefusal}
+use Rattle.ssh_model.specs.declared.ask_refusal.AskRefusal.TheVariants.{NotYet, Busy}
+use Rattle.ssh_model.specs.declared.ask_refusal.AskRefusal.TheVariants.{TooLong, WrongSide}
 use Rattle.ssh_model.specs.Protocol.Sessions.Parties.{Settings, Agreement, is_required, only_shared, marker_of}
 use Rattle.ssh_model.specs.Protocol.Sessions.Parties.{extension_marker_of, offer_of, lists_of}
 use Rattle.ssh_model.specs.Protocol.Sessions.Items.{Ask, Ask.AskService, Ask.AskRekey, Ask.AskDisconnect, Fact, Fact.Service}
@@ -133,7 +139,7 @@ after_wiping bytes s = record s { underway = record s.underway { secret = bytes 
 
 -- An end that keeps no pair, lives, and was fed fewer than 2^32 - 1 of them can be fed one.
 abbrev pub can_be_fed : {K : Type 0} → Transport K → Bool
-can_be_fed s = not s.dead && not (is_some s.material) && nat_lt s.fed (2 ^ 32 - 1)
+can_be_fed s = not s.dead && not (is_some s.material) && nat_lt s.fed most_exchanges
 
 -- ---- which numbers may be taken
 
@@ -320,7 +326,7 @@ pub data Takes {K : Type 0} (agreement : Agreement) (s : Transport K) (payload :
   debug : (display : Bool) (message language : List ℕ) →
       Takes agreement s payload (Debug display message language) (tells (Debugged display message)) (after_taken s)
   -- RFC 4253 section 11.4: with the number of the packet
-  unknown : (number : ℕ) (reply : List ℕ) → s.taking.count < 2 ^ 32 →
+  unknown : (number : ℕ) (reply : List ℕ) → s.taking.count < numbers_of_epoch →
       Takes agreement s payload (Unknown number) (sends (SpelledBy (Unimplemented s.taking.number) reply ∷ []))
       (after_sent (after_taken s))
   -- RFC 4253 section 10

@@ -1,10 +1,12 @@
 -- What a transport puts out and refuses in a turn, by what it keeps, and the turns of a session that this gives (own).
-use Rattle.std.specs.Prelude.{◌≡◌, ℕ, ◌≤◌, ◌<◌, ◌^◌, Bool, true, false, Option, Some, None, List, [], ◌∷◌, ◌++◌}
-use Rattle.ssh_model.specs.Protocol.Side.{Side}
+use Rattle.std.specs.Prelude.{◌≡◌, ℕ, ◌≤◌, ◌<◌, Bool, true, false, Option, Some, None, List, [], ◌∷◌, ◌++◌}
+use Rattle.ssh_model.specs.declared.side.Side.{Side}
 use Rattle.ssh_model.specs.Protocol.Wire.Message.{Msg, Msg.Disconnect, IsPayload}
 use Rattle.ssh_model.specs.Protocol.Wire.Sealing.{Crypto, IsSealed}
 use Rattle.ssh_model.specs.Protocol.KeyExchange.Choice.{Chosen}
-use Rattle.ssh_model.specs.Protocol.Sessions.Refusals.{Refusal, Refusal.Unexpected, Refusal.BadMessage, first_refusal}
+use Rattle.ssh_model.specs.declared.refusal.Refusal.{Refusal}
+use Rattle.ssh_model.specs.declared.refusal.Refusal.TheVariants.{Unexpected, BadMessage}
+use Rattle.ssh_model.specs.Protocol.Sessions.Refusals.{first_refusal}
 use Rattle.ssh_model.specs.Protocol.Sessions.Refusals.{refusal_name, refusal_reason}
 use Rattle.ssh_model.specs.Protocol.Sessions.Parties.{Parties, Agreement}
 use Rattle.ssh_model.specs.Protocol.Sessions.Items.{Ask, Ask.AskService, Ask.AskRekey, Ask.AskDisconnect, Fact.Completed, Item}
@@ -17,6 +19,7 @@ use Rattle.ssh_model.specs.Protocol.Sessions.Transport.{CompletingAnswer}
 use Rattle.ssh_model.specs.State.TransportLayer.Directions.{Direction, counted}
 use Rattle.ssh_model.specs.State.TransportLayer.Kept.{Transport, message_checks, takes}
 use Rattle.ssh_model.specs.State.TransportLayer.Summary.{IsAwaited, IsTransportMessage, SumsUp, items_sent}
+use Rattle.ssh_model.specs.Protocol.Bounds.{numbers_of_epoch}
 
 -- ---- packets
 
@@ -31,7 +34,7 @@ pub data PutsPackets {K : Type 0} (c : Crypto K) (direction : Direction K) : Lis
   nothing : PutsPackets c direction [] []
   packet : {l : List Spelled} {bytes : List ℕ} (message : Msg) (payload wire : List ℕ) →
       PutsPackets c direction l bytes → IsSpelled message payload →
-      (counted_by l direction).count < 2 ^ 32 →
+      (counted_by l direction).count < numbers_of_epoch →
       IsSealed c (counted_by l direction).key (counted_by l direction).number payload wire →
       PutsPackets c direction (SpelledBy message payload ∷ l) (bytes ++ wire)
 
@@ -71,7 +74,7 @@ pub data IsRefused {K : Type 0} (agreement : Agreement) (trusts : List ℕ → L
 pub data SaysWhy {K : Type 0} (c : Crypto K) (s : Transport K) (refusal : Refusal) : List Spelled → List ℕ →
     Type 0 where
   silently : refusal_reason refusal ≡ None → SaysWhy c s refusal [] []
-  spent : s.sending.count ≡ 2 ^ 32 → SaysWhy c s refusal [] []
+  spent : s.sending.count ≡ numbers_of_epoch → SaysWhy c s refusal [] []
   said : {more : List ℕ} (reason : ℕ) (payload : List ℕ) → refusal_reason refusal ≡ Some reason →
       PutsPackets c s.sending (SpelledBy (Disconnect reason (refusal_name refusal) []) payload ∷ []) more →
       SaysWhy c s refusal (SpelledBy (Disconnect reason (refusal_name refusal) []) payload ∷ []) more

@@ -1,7 +1,8 @@
 -- What of a history a transport sums up, as values: the history itself goes on with items of which most values know
 -- nothing.
 use Rattle.std.specs.Prelude.{ℕ, zero, suc, Bool, Option, Some, None, List, []}
-use Rattle.ssh_model.specs.Protocol.Side.{Side, Side.Client, Side.Server}
+use Rattle.ssh_model.specs.declared.side.Side.{Side}
+use Rattle.ssh_model.specs.declared.side.Side.TheVariants.{Client, Server}
 use Rattle.ssh_model.specs.Protocol.Wire.Sealing.{Crypto}
 use Rattle.ssh_model.specs.Protocol.KeyExchange.Choice.{Chosen}
 use Rattle.ssh_model.specs.Protocol.KeyExchange.Exchange.{Inputs}

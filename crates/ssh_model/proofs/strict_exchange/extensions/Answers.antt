@@ -1,5 +1,5 @@
 use Rattle.ssh_model.proofs.Example.Strictness.{taken_first_row, taken_first_in_plain_session_row, not_before_newkeys_row, not_after_another_row, not_twice_row, not_without_own_marker_row, not_after_later_newkeys_row, told_row, none_told_row, sent_by_server_row, sent_by_client_row, none_to_announce_row, none_taken_by_peer_row, none_in_later_exchange_row}
-use Rattle.ssh_model.proofs.strictness.extensions.Goals as goal
+use Rattle.ssh_model.proofs.strict_exchange.extensions.Goals as goal
 
 pub returns : goal.returns
 returns c = record {

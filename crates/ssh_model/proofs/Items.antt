@@ -1,6 +1,7 @@
 -- What is kept goes on summing up a history with each item that is no row of its own.
 use Rattle.std.proofs.Common.{◌≡◌, ℕ, suc, List, [], ◌∷◌, refl, sym, ◌∙◌, subst, arith, Bool, true, false, ◌&&◌, Option, None}
-use Rattle.ssh_model.specs.Protocol.Side.{Side, Side.Client, Side.Server}
+use Rattle.ssh_model.specs.declared.side.Side.{Side}
+use Rattle.ssh_model.specs.declared.side.Side.TheVariants.{Client, Server}
 use Rattle.ssh_model.specs.Protocol.Wire.Message.{Msg, Msg.KexInit, Msg.UserauthSuccess}
 use Rattle.ssh_model.specs.Protocol.Sessions.Parties.{Parties, offer, settings_of}
 use Rattle.ssh_model.specs.Protocol.Sessions.Items.{Item, Item.Sent, Item.Took, Item.TookLine, Item.TookOtherLine, Item.Fed, Item.SentLine, Payload.OtherOf}

@@ -1,5 +1,5 @@
 use Rattle.ssh_model.proofs.Example.Strictness.{required_row, offered_row, not_offered_row, of_extensions_row, of_extensions_of_server_row, of_none_taken_row, not_later_row, not_chosen_row, not_guessed_row}
-use Rattle.ssh_model.proofs.strictness.markers.Goals as goal
+use Rattle.ssh_model.proofs.strict_exchange.markers.Goals as goal
 
 pub returns : goal.returns
 returns c = record {

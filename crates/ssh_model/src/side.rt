@@ -11,11 +11,9 @@ pub enum Side {
 }
 
 impl Side {
-    ghost use Rattle.ssh_types.specs.Sides.{side_of};
-
     /// The other end.
     pub fn peer(self) -> Side
-        ensures { side_of result ≡ peer_of (side_of self) }
+        ensures { result ≡ peer_of self }
     {
         match self {
             Side::Client => Side::Server,

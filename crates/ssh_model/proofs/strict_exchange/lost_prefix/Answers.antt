@@ -1,5 +1,5 @@
 use Rattle.ssh_model.proofs.Example.PlainRun.{plain_is_lawful, plain_session_runs, plain_session_is_honest, prefix_is_lost}
-use Rattle.ssh_model.proofs.strictness.lost_prefix.Goals as goal
+use Rattle.ssh_model.proofs.strict_exchange.lost_prefix.Goals as goal
 
 pub returns : goal.returns
 returns c = record {

@@ -46,11 +46,10 @@ pub enum AskRefusal {
 impl AskRefusal {
     ghost use Rattle.std.specs.Prelude.{◌≡◌};
     ghost use Rattle.ssh_model.specs.Protocol.Sessions.Refusals.{ask_refusal_name, ask_refusal_number};
-    ghost use Rattle.ssh_types.specs.AskRefusals.{ask_refusal_of};
 
     /// The number of the refusal, 1 to 12.
     pub fn number(self) -> u8
-        ensures { result ≡ ask_refusal_number (ask_refusal_of self) }
+        ensures { result ≡ ask_refusal_number self }
     {
         match self {
             AskRefusal::NotYet => 1,
@@ -70,7 +69,7 @@ impl AskRefusal {
 
     /// The name of the refusal, as `NotYet`.
     pub fn name(self) -> &'static str
-        ensures { result.now ≡ ask_refusal_name (ask_refusal_of self) }
+        ensures { result.now ≡ ask_refusal_name self }
     {
         match self {
             AskRefusal::NotYet => "NotYet",
