@@ -11,3 +11,5 @@ pub mod Softwares
 pub mod VersionLines
 pub mod LineUnits
 pub mod Tags
+pub mod DirectionUnits
+pub mod Numbers

@@ -1,7 +1,7 @@
 -- One byte more of a line.
 use Rattle.std.proofs.Common.{◌≡◌, ℕ, ◌+◌, ◌<◌, ◌⊎◌, inl, inr, Bool, true, false, List, [], ◌∷◌, ◌++◌, length, take, drop, Option, Some, None, is_some, IfSome, refl, ap, sym, subst, ◌∙◌, arith, append_assoc, append-nil, get_or, length-append}
 use Rattle.std.proofs.lemmas.List.{take_more}
-use Rattle.ssh_model.specs.Protocol.Sessions.Refusals as session
+use Rattle.ssh_model.specs.declared.refusal.Refusal.TheVariants as refusals
 use Rattle.ssh_model.specs.Protocol.Wire.Outcome.{Outcome, Outcome.RefusedLine}
 use Rattle.ssh_model.specs.Protocol.Wire.Line.{IsText, IsLineBegun, IsLineBegun.in_text, IsLineBegun.at_line_end, LineIs, LineUnit, LineUnit.line, LineUnit.zero_byte, LineUnit.lf_without_cr, LineUnit.too_long, line_end}
 use Rattle.ssh_packet.specs.Lines.{Ended, Ended.WithVersion, Ended.WithRefusal, LineReading, cleared, with_cr, begun_by, ended_by, IsKept}
@@ -29,7 +29,7 @@ complete_kind s n text (Refused refusal) t room k = complete s n text _ t room k
 -- ---- bytes in the text of a line
 
 -- a byte after a text with which no line goes on
-pub bad_byte : (s : Bool) (n : ℕ) (text : List ℕ) (cr : Bool) (byte : ℕ) → cr ≡ false → IsText text → length (with_cr cr text) < 255 → (byte ≡ 0) ⊎ ((byte ≡ 10) ⊎ (length text ≡ 254)) → LineUnit s n (with_cr cr text ++ byte ∷ []) (RefusedLine session.Refusal.BadLine)
+pub bad_byte : (s : Bool) (n : ℕ) (text : List ℕ) (cr : Bool) (byte : ℕ) → cr ≡ false → IsText text → length (with_cr cr text) < 255 → (byte ≡ 0) ⊎ ((byte ≡ 10) ⊎ (length text ≡ 254)) → LineUnit s n (with_cr cr text ++ byte ∷ []) (RefusedLine refusals.BadLine)
 bad_byte s n text true byte e t room bad = let f : true ≡ false = e in cc f
 bad_byte s n text false byte e t room (inl zero) = zero_byte text t room (ap (λ (b : ℕ). text ++ b ∷ []) zero)
 bad_byte s n text false byte e t room (inr (inl lf)) = lf_without_cr text t room (ap (λ (b : ℕ). text ++ b ∷ []) lf)

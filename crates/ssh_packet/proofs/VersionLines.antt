@@ -2,7 +2,7 @@
 use Rattle.std.proofs.Common.{◌≡◌, ℕ, ◌+◌, Bool, true, false, List, ◌∷◌, ◌++◌, take, drop, inl, inr, refl, ap, sym, subst, ◌∙◌, arith}
 use Rattle.std.specs.List.{list_all}
 use Rattle.std.proofs.lemmas.List.{drop-take, drop-drop}
-use Rattle.ssh_model.specs.Protocol.Sessions.Refusals.{Refusal.BadLine, Refusal.BadVersion}
+use Rattle.ssh_model.specs.declared.refusal.Refusal.TheVariants.{BadLine, BadVersion}
 use Rattle.ssh_model.specs.Protocol.Wire.Outcome.{Outcome.VersionLine, Outcome.RefusedLine}
 use Rattle.ssh_model.specs.Protocol.Wire.Line.{HasVersion, IsAccepted, LineIs, LineIs.bad_version, LineIs.bad_software, LineIs.version, is_version_byte, opening}
 use Rattle.ssh_packet.specs.LineKinds.{HasMinusAt, HasSoftware}

@@ -8,3 +8,4 @@ pub mod LineKinds
 pub mod Lines
 pub mod LineSteps
 pub mod Tags
+pub mod Directions

@@ -1,5 +1,5 @@
 -- Where two texts of one length differ.
-use Rattle.std.specs.Prelude.{ℕ, List, [], ◌∷◌, bit_or, bit_xor}
+use Rattle.std.specs.Prelude.{ℕ, List, ◌∷◌, bit_or, bit_xor}
 
 -- the bits in which they differ at some place, with these bits
 abbrev pub differing : ℕ → List ℕ → List ℕ → ℕ

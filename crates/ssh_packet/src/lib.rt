@@ -7,6 +7,9 @@
 //! a key packets are in clear. What is written under a key and a number is read again under the same key and number,
 //! whatever the sealing: that is a law of the trait, and no two packets of one key should have one number.
 //!
+//! The packets of one direction of a session pass through its epochs: a `PacketSender` puts them out and a `PacketReceiver`
+//! takes them, each with the key and the sequence number that its epoch then has.
+//!
 //! `MacOnly` is the sealing of encryption `none` with MAC `hmac-sha2-256`, and `HmacKey` its key.
 //!
 //! A version line, and what comes after it:
@@ -49,6 +52,7 @@ mod laws;
 mod limits;
 mod line_reader;
 mod mac_only;
+mod packets;
 mod reader;
 mod refusal;
 mod sealing;
@@ -61,6 +65,7 @@ pub use laws::every_sealed_is_a_wire;
 pub use limits::{LARGEST_PACKET, LENGTH_FIELD, LONGEST_PAYLOAD};
 pub use line_reader::{LineReader, LineStep};
 pub use mac_only::MacOnly;
+pub use packets::{PacketReceiver, PacketSender, PacketStep, directions_sum_up};
 pub use reader::{PacketReader, ReadStep};
 pub use refusal::{LineRefusal, PacketRefusal};
 pub use sealing::{Lengths, Sealing};

@@ -21,9 +21,8 @@ pub enum PacketRefusal {
 impl From<PacketRefusal> for Refusal {
     ghost use Rattle.std.specs.Prelude.{◌≡◌};
     ghost use Rattle.ssh_packet.specs.Refusals.{packet_refusal};
-    ghost use Rattle.ssh_types.specs.Refusals.{refusal_of};
 
-    ghost from_gives = { λ refusal all. refusal_of all ≡ packet_refusal refusal };
+    ghost from_gives = { λ refusal all. all ≡ packet_refusal refusal };
 
     fn from(refusal: PacketRefusal) -> Refusal {
         match refusal {
@@ -51,9 +50,8 @@ pub enum LineRefusal {
 impl From<LineRefusal> for Refusal {
     ghost use Rattle.std.specs.Prelude.{◌≡◌};
     ghost use Rattle.ssh_packet.specs.Refusals.{line_refusal};
-    ghost use Rattle.ssh_types.specs.Refusals.{refusal_of};
 
-    ghost from_gives = { λ refusal all. refusal_of all ≡ line_refusal refusal };
+    ghost from_gives = { λ refusal all. all ≡ line_refusal refusal };
 
     fn from(refusal: LineRefusal) -> Refusal {
         match refusal {

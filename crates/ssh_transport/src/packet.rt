@@ -3,7 +3,6 @@
 ghost use Rattle.ssh_transport_machine.specs.Padding.{PadsTo, sending_by};
 ghost use Rattle.ssh_transport_machine.specs.Puts.{outs};
 ghost use Rattle.std.specs.Prelude.{◌≡◌, ◌<◌, ◌≤◌, ◌++◌, IfOk, IfSome, None, OnErr, OnOk, false, length, map, take, true};
-ghost use Rattle.ssh_types.specs.Sides.{side_of};
 ghost use Rattle.ssh_transport_machine.specs.Standing.{IsStanding, Stands};
 ghost use Rattle.ssh_transport.specs.Own.{IsReady, own_of};
 ghost use Rattle.ssh_transport.specs.Units.{IsFinished, PacketLacked, PacketTook};
@@ -31,13 +30,13 @@ pub fn take_packet<R: Role>(
     sent: &mut Outgoing<R::Filler>,
 ) -> (usize, Result<TransportTurn, AllocError>)
     requires alive { machine.old.kept.dead ≡ false }
-    requires stands { IsStanding (side_of R.SIDE) machine.old }
+    requires stands { IsStanding R.SIDE machine.old }
     ensures used { result.0 ≤ length bytes.now }
     ensures progress { 0 < length bytes.now → 0 < result.0 }
     ensures more { IfOk result.1 (λ turn. turn ≡ TransportTurn.More → result.0 ≡ length bytes.now) }
     ensures took { IfOk result.1 (λ turn. PacketTook R.Sealing.crypto (R.does role.now) machine.old
         (machine.old.receiver.begun ++ take result.0 bytes.now) turn machine.new (outs out.old out.new sent.old sent.new)) }
-    ensures stands { IfOk result.1 (λ _. Stands (side_of R.SIDE) machine.new) }
+    ensures stands { IfOk result.1 (λ _. Stands R.SIDE machine.new) }
     ensures dead { OnErr result.1 (machine.new.kept.dead ≡ true) }
     ensures lacks { OnErr result.1 (PacketLacked R.Sealing.crypto (R.lacks role.now) machine.old
         (machine.old.receiver.begun ++ take result.0 bytes.now)) }
@@ -67,7 +66,7 @@ fn finish<R: Role>(
     out: &mut Vec<u8>,
     sent: &mut Outgoing<R::Filler>,
 ) -> Result<TransportTurn, AllocError>
-    requires { IfSome (own_of done) (λ own. IsReady (side_of R.SIDE) machine.old own) }
+    requires { IfSome (own_of done) (λ own. IsReady R.SIDE machine.old own) }
     ensures finished { IfOk result (λ turn. IsFinished (R.does role.now) machine.old done turn machine.new
         (outs out.old out.new sent.old sent.new)) }
     ensures own { OnErr result (own_of done ≡ None → ⊥) }

@@ -1,7 +1,6 @@
 //! Lines and packets that a transport takes.
 
 ghost use Rattle.std.specs.Prelude.{◌≡◌, ◌<◌, ◌≤◌, ◌++◌, IfErr, IfOk, OnErr, OnOk, false, length, map, take, true};
-ghost use Rattle.ssh_types.specs.Sides.{side_of};
 ghost use Rattle.ssh_transport_machine.specs.Padding.{PadsTo, sending_by};
 ghost use Rattle.ssh_transport_machine.specs.Puts.{Outs, outs};
 ghost use Rattle.ssh_transport_machine.specs.Standing.{Stands};
@@ -28,18 +27,18 @@ pub fn take_unit<R: Role>(
     out: &mut Vec<u8>,
     sent: &mut Outgoing<R::Filler>,
 ) -> (usize, Result<TransportTurn, TransportFault>)
-    requires { Stands (side_of R.SIDE) machine.old }
+    requires { Stands R.SIDE machine.old }
     ensures used { result.0 ≤ length bytes.now }
     ensures progress { machine.old.kept.dead ≡ false → 0 < length bytes.now → 0 < result.0 }
     ensures dead { machine.old.kept.dead ≡ true → result.0 ≡ 0 }
     ensures more { IfOk result.1 (λ turn. turn ≡ TransportTurn.More → result.0 ≡ length bytes.now) }
-    ensures took { IfOk result.1 (λ turn. Took R.Sealing.crypto (side_of R.SIDE) (R.does role.now) machine.old
+    ensures took { IfOk result.1 (λ turn. Took R.Sealing.crypto R.SIDE (R.does role.now) machine.old
         (begun_of machine.old ++ take result.0 bytes.now) turn machine.new (outs out.old out.new sent.old sent.new)) }
-    ensures failed { IfErr result.1 (λ fault. Failed R.Sealing.crypto (side_of R.SIDE) (R.lacks role.now) machine.old
+    ensures failed { IfErr result.1 (λ fault. Failed R.Sealing.crypto R.SIDE (R.lacks role.now) machine.old
         (begun_of machine.old ++ take result.0 bytes.now) fault machine.new) }
     ensures out { OnErr result.1 (out.new.items ≡ out.old.items) }
     ensures kept { OnErr result.1 (map (λ v. v.items) sent.new.payloads.items ≡ map (λ v. v.items) sent.old.payloads.items) }
-    ensures stands { Stands (side_of R.SIDE) machine.new }
+    ensures stands { Stands R.SIDE machine.new }
     ensures padded { OnOk result.1 (PadsTo R.Sealing.crypto R.Filler.gives (sending_by machine.old sent.old out.old)
         (sending_by machine.new sent.new out.new)) }
 {
@@ -59,16 +58,16 @@ fn take_line_unit<R: Role>(
     role: &R,
     bytes: &[u8],
 ) -> (usize, TransportTurn)
-    requires stands { Stands (side_of R.SIDE) machine.old }
+    requires stands { Stands R.SIDE machine.old }
     requires alive { machine.old.kept.dead ≡ false }
     requires reading { machine.old.kept.lines.found ≡ false }
     ensures used { result.0 ≤ length bytes.now }
     ensures progress { 0 < length bytes.now → 0 < result.0 }
     ensures more { result.1 ≡ TransportTurn.More → result.0 ≡ length bytes.now }
-    ensures took { (o : Outs) → IsQuiet o → Took R.Sealing.crypto (side_of R.SIDE) (R.does role.now) machine.old
+    ensures took { (o : Outs) → IsQuiet o → Took R.Sealing.crypto R.SIDE (R.does role.now) machine.old
         (begun_of machine.old ++ take result.0 bytes.now) result.1 machine.new o }
     ensures sending { machine.new.kept.sending ≡ machine.old.kept.sending }
-    ensures stands { Stands (side_of R.SIDE) machine.new }
+    ensures stands { Stands R.SIDE machine.new }
 {
     machines_stand::<<R::Sealing as Sealing>::Key>();
     let (used, done) = machine.take_line(bytes);
@@ -83,19 +82,19 @@ fn take_packet_unit<R: Role>(
     out: &mut Vec<u8>,
     sent: &mut Outgoing<R::Filler>,
 ) -> (usize, Result<TransportTurn, TransportFault>)
-    requires stands { Stands (side_of R.SIDE) machine.old }
+    requires stands { Stands R.SIDE machine.old }
     requires alive { machine.old.kept.dead ≡ false }
     requires reading { machine.old.kept.lines.found ≡ true }
     ensures used { result.0 ≤ length bytes.now }
     ensures progress { 0 < length bytes.now → 0 < result.0 }
     ensures more { IfOk result.1 (λ turn. turn ≡ TransportTurn.More → result.0 ≡ length bytes.now) }
-    ensures took { IfOk result.1 (λ turn. Took R.Sealing.crypto (side_of R.SIDE) (R.does role.now) machine.old
+    ensures took { IfOk result.1 (λ turn. Took R.Sealing.crypto R.SIDE (R.does role.now) machine.old
         (begun_of machine.old ++ take result.0 bytes.now) turn machine.new (outs out.old out.new sent.old sent.new)) }
-    ensures failed { IfErr result.1 (λ fault. Failed R.Sealing.crypto (side_of R.SIDE) (R.lacks role.now) machine.old
+    ensures failed { IfErr result.1 (λ fault. Failed R.Sealing.crypto R.SIDE (R.lacks role.now) machine.old
         (begun_of machine.old ++ take result.0 bytes.now) fault machine.new) }
     ensures out { OnErr result.1 (out.new.items ≡ out.old.items) }
     ensures kept { OnErr result.1 (map (λ v. v.items) sent.new.payloads.items ≡ map (λ v. v.items) sent.old.payloads.items) }
-    ensures stands { Stands (side_of R.SIDE) machine.new }
+    ensures stands { Stands R.SIDE machine.new }
     ensures padded { OnOk result.1 (PadsTo R.Sealing.crypto R.Filler.gives (sending_by machine.old sent.old out.old)
         (sending_by machine.new sent.new out.new)) }
 {

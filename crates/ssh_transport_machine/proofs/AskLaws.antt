@@ -1,18 +1,17 @@
 -- What a machine does on an ask is a turn of a session.
 use Rattle.std.proofs.Common.{◌≡◌, ℕ, ◌^◌, List, [], ◌∷◌, ap, sym, ◌∙◌, subst, true, false, Some, None, append-nil}
-use Rattle.ssh_model.specs.Protocol.Side.{Side}
+use Rattle.ssh_model.specs.declared.side.Side.{Side}
 use Rattle.ssh_model.specs.Protocol.Wire.Message.{Msg, Msg.Disconnect}
 use Rattle.ssh_model.specs.Protocol.Sessions.Items.{Ask, Ask.AskDisconnect, Item, Item.Asked, Item.Died, Item.Sent, Spelled.SpelledBy}
 use Rattle.ssh_model.specs.Protocol.Sessions.Parties.{Parties}
-use Rattle.ssh_model.specs.Protocol.Sessions.Refusals as model
+use Rattle.ssh_model.specs.declared.refusal.Refusal.TheVariants as refusals
 use Rattle.ssh_model.specs.Protocol.Sessions.Refusals.{first_refusal}
 use Rattle.ssh_model.specs.Protocol.Sessions.Turns.{IsSpelled}
 use Rattle.ssh_model.specs.Laws.Farewells.{farewell_spelled}
 use Rattle.ssh_model.specs.State.TransportLayer.Kept.{Asks, Transport, message_ask_checks}
 use Rattle.ssh_model.specs.State.TransportLayer.Summary.{SumsUp}
 use Rattle.ssh_model.specs.State.TransportLayer.Turns.{AskTurned, IsTransportAsk, PutsPackets}
-use Rattle.ssh_types.specs.AskRefusals.{ask_refusal_of}
-use Rattle.ssh_types.specs.declared.ask_refusal.AskRefusal.{AskRefusal}
+use Rattle.ssh_model.specs.declared.ask_refusal.AskRefusal.{AskRefusal}
 use Rattle.ssh_transport_machine.specs.Asking as asking
 use Rattle.ssh_transport_machine.specs.Asking.{AskDone, AskSent, AskSpent, DisconnectDone, DisconnectSent, DisconnectSpent}
 use Rattle.ssh_transport_machine.specs.Puts.{Outs}
@@ -27,9 +26,9 @@ use Rattle.ssh_transport_machine.specs.declared.machine.turn.AskTurn.TheVariants
 pub record AskLaws (K : Type 0) : Type 0 where
   pub sent : (p : Parties K) (side : Side) (history : List Item) (s : Transport K) → SumsUp p side history s → s.dead ≡ false → (ask : Ask) (message : Msg) (payload : List ℕ) (new : Transport K) (more : List ℕ) → first_refusal (message_ask_checks s ask) ≡ None → Asks s ask message payload new → PutsPackets p.crypto s.sending (SpelledBy message payload ∷ []) more → AskTurned p side history ask (Sent None message payload ∷ Asked ask ∷ []) more new
   pub disconnected : (p : Parties K) (side : Side) (history : List Item) (s : Transport K) → SumsUp p side history s → s.dead ≡ false → (description payload : List ℕ) (new : Transport K) (more : List ℕ) → first_refusal (message_ask_checks s (AskDisconnect description)) ≡ None → new.dead ≡ true → PutsPackets p.crypto s.sending (SpelledBy (Disconnect 11 description []) payload ∷ []) more → AskTurned p side history (AskDisconnect description) (Died ∷ Sent None (Disconnect 11 description []) payload ∷ Asked (AskDisconnect description) ∷ []) more new
-  pub refused : (p : Parties K) (side : Side) (history : List Item) (s : Transport K) → SumsUp p side history s → s.dead ≡ false → (ask : Ask) (refusal : model.AskRefusal) → IsTransportAsk ask → first_refusal (message_ask_checks s ask) ≡ Some refusal → AskTurned p side history ask (Item.AskRefused refusal ∷ Asked ask ∷ []) [] s
-  pub spent : (p : Parties K) (side : Side) (history : List Item) (s : Transport K) → SumsUp p side history s → s.dead ≡ false → (ask : Ask) (message : Msg) (payload : List ℕ) (new dead : Transport K) → first_refusal (message_ask_checks s ask) ≡ None → Asks s ask message payload new → IsSpelled message payload → s.sending.count ≡ 2 ^ 32 → dead.dead ≡ true → AskTurned p side history ask (Died ∷ Item.Refused model.Refusal.NumberSpent None ∷ Asked ask ∷ []) [] dead
-  pub disconnect_spent : (p : Parties K) (side : Side) (history : List Item) (s : Transport K) → SumsUp p side history s → s.dead ≡ false → (description payload : List ℕ) (dead : Transport K) → first_refusal (message_ask_checks s (AskDisconnect description)) ≡ None → IsSpelled (Disconnect 11 description []) payload → s.sending.count ≡ 2 ^ 32 → dead.dead ≡ true → AskTurned p side history (AskDisconnect description) (Died ∷ Item.Refused model.Refusal.NumberSpent None ∷ Asked (AskDisconnect description) ∷ []) [] dead
+  pub refused : (p : Parties K) (side : Side) (history : List Item) (s : Transport K) → SumsUp p side history s → s.dead ≡ false → (ask : Ask) (refusal : AskRefusal) → IsTransportAsk ask → first_refusal (message_ask_checks s ask) ≡ Some refusal → AskTurned p side history ask (Item.AskRefused refusal ∷ Asked ask ∷ []) [] s
+  pub spent : (p : Parties K) (side : Side) (history : List Item) (s : Transport K) → SumsUp p side history s → s.dead ≡ false → (ask : Ask) (message : Msg) (payload : List ℕ) (new dead : Transport K) → first_refusal (message_ask_checks s ask) ≡ None → Asks s ask message payload new → IsSpelled message payload → s.sending.count ≡ 2 ^ 32 → dead.dead ≡ true → AskTurned p side history ask (Died ∷ Item.Refused refusals.NumberSpent None ∷ Asked ask ∷ []) [] dead
+  pub disconnect_spent : (p : Parties K) (side : Side) (history : List Item) (s : Transport K) → SumsUp p side history s → s.dead ≡ false → (description payload : List ℕ) (dead : Transport K) → first_refusal (message_ask_checks s (AskDisconnect description)) ≡ None → IsSpelled (Disconnect 11 description []) payload → s.sending.count ≡ 2 ^ 32 → dead.dead ≡ true → AskTurned p side history (AskDisconnect description) (Died ∷ Item.Refused refusals.NumberSpent None ∷ Asked (AskDisconnect description) ∷ []) [] dead
 
 module _ {K : Type 0} (laws : AskLaws K) (p : Parties K) (side : Side) (h : List Item) (old : State K) (sums : SumsUp p side h old.kept) (alive : old.kept.dead ≡ false) where
   quiet_ask : (ask : Ask) (done : AskTurn) (items : List Item) (new : Transport K) (o : Outs) → IsQuiet o → AskShows ask done [] items → AskTurned p side h ask items [] new → IsAskTurn p side h ask done new o
@@ -46,7 +45,7 @@ module _ {K : Type 0} (laws : AskLaws K) (p : Parties K) (side : Side) (h : List
   refused_ask : (ask : Ask) (why : AskRefusal) (new : State K) (o : Outs) → IsTransportAsk ask → asking.AskRefused old ask why new o → IsAskTurn p side h ask (turn.Refused why) new.kept o
   refused_ask ask why new o own x =
       quiet_ask ask (turn.Refused why) _ new.kept o x.quiet (AskShows.refused ask why)
-      (subst (λ (t : State K). AskTurned p side h ask (Item.AskRefused (ask_refusal_of why) ∷ Asked ask ∷ []) [] t.kept) (sym x.after) (laws.refused p side h old.kept sums alive ask (ask_refusal_of why) own x.why_is))
+      (subst (λ (t : State K). AskTurned p side h ask (Item.AskRefused why ∷ Asked ask ∷ []) [] t.kept) (sym x.after) (laws.refused p side h old.kept sums alive ask why own x.why_is))
 
   pub ask_lifted : (ask : Ask) (done : AskTurn) (new : State K) (o : Outs) → IsTransportAsk ask → AskDone p.crypto old ask done new o → IsAskTurn p side h ask done new.kept o
   ask_lifted ask (turn.Refused why) new o own x = refused_ask ask why new o own x

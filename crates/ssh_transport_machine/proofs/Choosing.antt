@@ -3,14 +3,15 @@ use Rattle.std.proofs.Common.{◌≡◌, ℕ, List, ◌∷◌, refl, ap, sym, �
 use Rattle.std.specs.Prelude.{IsSome}
 use Rattle.std.specs.List.{Contains}
 use Rattle.std.proofs.lemmas.List.Elements.{Contains-append_right}
-use Rattle.ssh_model.specs.Protocol.Side.{Side, Side.Client, Side.Server}
+use Rattle.ssh_model.specs.declared.side.Side.{Side}
+use Rattle.ssh_model.specs.declared.side.Side.TheVariants.{Client, Server}
 use Rattle.ssh_model.specs.Protocol.Wire.Message.{Msg, Msg.KexInit, Proposal}
 use Rattle.ssh_model.specs.Protocol.Wire.Sealing.{Crypto}
 use Rattle.ssh_model.specs.Protocol.KeyExchange.Choice.{Chosen, IsFirstCommon, Lists}
 use Rattle.ssh_model.specs.Protocol.KeyExchange.Exchanges.{no_offer}
 use Rattle.ssh_model.specs.Protocol.Sessions.Parties.{Settings, lists_of}
 use Rattle.ssh_model.specs.State.TransportLayer.Kept.{Transport, own_offer}
-use Rattle.ssh_transport_base.specs.Config.{AreLists, Given, settings_given}
+use Rattle.ssh_config.specs.Config.{AreLists, Given, settings_given}
 use Rattle.ssh_transport_machine.specs.Finishing.{AreKnown, HasChoice, IsChoiceOf, is_choice_with}
 
 proposal_of : Msg → Proposal

@@ -1,12 +1,13 @@
 -- Where a machine answers that memory was refused, something would be sent in a session.
 use Rattle.std.proofs.Common.{◌≡◌, ℕ, ◌^◌, ◌<◌, ◌≤◌, List, [], ◌∷◌, refl, ap, sym, ◌∙◌, subst, arith, true, false, Some, None}
 use Rattle.std.specs.Prelude.{IsSome}
-use Rattle.ssh_model.specs.Protocol.Side.{Side, Side.Server}
+use Rattle.ssh_model.specs.declared.side.Side.{Side}
+use Rattle.ssh_model.specs.declared.side.Side.TheVariants.{Server}
 use Rattle.ssh_model.specs.Protocol.Wire.Message.{Msg, Msg.KexInit, Msg.ServiceAccept, Msg.Unimplemented, IsPayload}
 use Rattle.ssh_model.specs.Protocol.KeyExchange.Exchanges.{Material, none_chosen}
 use Rattle.ssh_model.specs.Protocol.Sessions.Items.{Item, Spelled.SpelledBy}
 use Rattle.ssh_model.specs.Protocol.Sessions.Parties.{Parties, agreement_of, offer_of}
-use Rattle.ssh_model.specs.Protocol.Sessions.Refusals as model
+use Rattle.ssh_model.specs.declared.refusal.Refusal.TheVariants as refusals
 use Rattle.ssh_model.specs.Protocol.Sessions.Refusals.{first_refusal, refusal_reason}
 use Rattle.ssh_model.specs.Protocol.Sessions.TurnClaims.{HasSpelling}
 use Rattle.ssh_model.specs.Protocol.Sessions.Turns.{number_of}
@@ -15,8 +16,7 @@ use Rattle.ssh_model.specs.State.TransportLayer.Summary.{IsAwaited, SumsUp}
 use Rattle.ssh_model.specs.State.TransportLayer.Turns.{Reads}
 use Rattle.ssh_model.specs.Laws.Farewells.{farewell_of}
 use Rattle.ssh_model.specs.Laws.Written.{unimplemented_spelled}
-use Rattle.ssh_types.specs.Refusals.{refusal_of}
-use Rattle.ssh_types.specs.declared.refusal.Refusal.{Refusal}
+use Rattle.ssh_model.specs.declared.refusal.Refusal.{Refusal}
 use Rattle.ssh_transport_machine.specs.Judging.{MessageJudged, PayloadJudged}
 use Rattle.ssh_transport_machine.specs.Judging as judging
 use Rattle.ssh_transport_machine.specs.Shown.{WouldAnswer, WouldSay}
@@ -29,9 +29,9 @@ use Rattle.ssh_transport_machine.proofs.Lifting.{PayloadLaws, accept_spelled, be
 
 -- ---- what is said of a refusal
 
-pub said_so : {K : Type 0} (s : Transport K) (why : Refusal) → s.sending.count < 2 ^ 32 → IsSome (refusal_reason (refusal_of why)) → WouldSay s (refusal_of why)
+pub said_so : {K : Type 0} (s : Transport K) (why : Refusal) → s.sending.count < 2 ^ 32 → IsSome (refusal_reason why) → WouldSay s why
 said_so s why room x =
-    let say = farewell_of (refusal_of why) x in
+    let say = farewell_of why x in
     record { reason = say.reason; reason_is = say.reason_is; spelling = say.spelling; room = room }
 
 -- ---- what is answered
@@ -65,7 +65,7 @@ module _ {K : Type 0} (laws : PayloadLaws K) (p : Parties K) (side : Side) (h : 
       go message is (judging.MessageJudged.accepted service given) = absurd given
       go message is (judging.MessageJudged.requested service given) =
           let said = accept_spelled service given in
-          one message (ServiceAccept service) _ _ said refl (reads (agreement_of p side) p.trusts s payload message below taken no_guess is tt) tt (checked service true model.Refusal.NoService given)
+          one message (ServiceAccept service) _ _ said refl (reads (agreement_of p side) p.trusts s payload message below taken no_guess is tt) tt (checked service true refusals.NoService given)
           (Takes.service_request service said.payload (requested_of s s.phase no_guess (at_number 5 message is (laws.numbers false message payload is) taken))) room
 
   kexinit_would : (material : Material) → s.side ≡ Server → s.blocked ≡ false → s.material ≡ Some material → HasSpelling (KexInit (offer_of s.settings s.side false material.cookie)) → s.sending.count < 2 ^ 32 → (facts : KexinitFacts) → PayloadJudged s payload (judged.Kexinit facts) →
@@ -104,7 +104,7 @@ turn_lacks {K} laws p side h s sums alive old same x = go x.what judged_so x.wou
         (subst (λ (t : Transport K). HasSpelling (KexInit (offer_of t.settings t.side false y.material.cookie))) same y.spelling) (room_at y.room) facts is
 
     go : (what : Judged) → PayloadJudged s old.receiver.payload what → WouldSend old what → WouldAnswer p side s old.receiver.payload
-    go (judged.Refused why) is y = WouldAnswer.refused (refusal_of why) (refused_by (agreement_of p side) p.trusts s old.receiver.payload why is) (said_so s why (room_at y.room) y.reason)
+    go (judged.Refused why) is y = WouldAnswer.refused why (refused_by (agreement_of p side) p.trusts s old.receiver.payload why is) (said_so s why (room_at y.room) y.reason)
     go judged.Unknown is y = unknown_lacks laws p side h s old.receiver.payload small few (room_at y) is
     go judged.ServiceRequested is y = requested_lacks laws p side h s old.receiver.payload (room_at y) is
     go (judged.Kexinit facts) is y = kexinit_at facts is y

@@ -2,7 +2,9 @@
 use Rattle.std.proofs.Common.{◌≡◌, [], ◌∷◌, refl, sym, ◌∙◌, Bool, true, false, not, ◌&&◌, ◌==◌, is_some, Some, None, Option}
 use Rattle.std.specs.Prelude.{nat_lt}
 use Rattle.ssh_model.specs.Protocol.Wire.Message.{Proposal}
-use Rattle.ssh_model.specs.Protocol.Sessions.Refusals.{Check.RefusedWhere, first_refusal, Refusal, Refusal.NotStrict, Refusal.Unexpected, Refusal.NoCommon}
+use Rattle.ssh_model.specs.declared.refusal.Refusal.{Refusal}
+use Rattle.ssh_model.specs.declared.refusal.Refusal.TheVariants.{NotStrict, Unexpected, NoCommon}
+use Rattle.ssh_model.specs.Protocol.Sessions.Refusals.{Check.RefusedWhere, first_refusal}
 use Rattle.ssh_model.specs.Protocol.Sessions.Parties.{is_required, lists_of}
 use Rattle.ssh_model.specs.Protocol.Sessions.Transport.{is_marked}
 use Rattle.ssh_model.specs.State.TransportLayer.Kept.{Transport, becomes_strict, has_choice_with, offer_checks, own_offer}

@@ -1,7 +1,8 @@
 -- What a machine does with a payload is a turn of a session.
 use Rattle.std.proofs.Common.{◌≡◌, ℕ, zero, suc, ◌+◌, ◌-◌, ◌%◌, ◌^◌, ◌<◌, ◌≤◌, List, [], ◌∷◌, ◌++◌, length, refl, ap, sym, ◌∙◌, subst, arith, Bool, true, false, not, ◌&&◌, ◌||◌, ◌==◌, nat_eq, eqb-true, Some, None, append-nil}
 use Rattle.std.specs.Prelude.{codes}
-use Rattle.ssh_model.specs.Protocol.Side.{Side, Side.Client, Side.Server}
+use Rattle.ssh_model.specs.declared.side.Side.{Side}
+use Rattle.ssh_model.specs.declared.side.Side.TheVariants.{Client, Server}
 use Rattle.ssh_model.specs.Protocol.Wire.MacOnly.{is_text}
 use Rattle.ssh_model.specs.Protocol.Wire.Message.{Msg, Msg.Disconnect, Msg.KexInit, Msg.ServiceAccept, Msg.Unimplemented, IsPayload, Proposal, message_number}
 use Rattle.ssh_model.specs.Protocol.Wire.Sealing.{Crypto}
@@ -13,15 +14,16 @@ use Rattle.ssh_model.specs.Protocol.Sessions.Phases as model
 use Rattle.ssh_model.specs.Protocol.Sessions.Phases.{is_allowed_at_first, is_allowed_during_exchange, is_general, is_spare}
 use Rattle.ssh_model.specs.Protocol.Sessions.TurnClaims.{HasSpelling}
 use Rattle.ssh_model.specs.Laws.Written.{service_accept_spelled, unimplemented_spelled}
-use Rattle.ssh_model.specs.Protocol.Sessions.Refusals.{Refusal, Check.RefusedWhere, Refusal.NoService, Refusal.NumberSpent, Refusal.Unexpected, first_refusal}
+use Rattle.ssh_model.specs.declared.refusal.Refusal.{Refusal}
+use Rattle.ssh_model.specs.declared.refusal.Refusal.TheVariants.{NoService, NumberSpent, Unexpected}
+use Rattle.ssh_model.specs.Protocol.Sessions.Refusals.{Check.RefusedWhere, first_refusal}
 use Rattle.ssh_model.specs.Protocol.Sessions.Turns.{AreSpelled, IsSpelled, number_of}
 use Rattle.ssh_model.specs.State.TransportLayer.Kept.{Answered, Takes, Transport, after_guess, after_own_kexinit, after_sent, after_taken, is_between, message_checks, sends, takes, takes_announced, takes_in, takes_service}
 use Rattle.ssh_model.specs.State.TransportLayer.Directions.{Direction, renewed}
 use Rattle.ssh_model.specs.State.TransportLayer.Summary.{IsAwaited, IsTransportMessage, SumsUp, answer_items, items_sent}
 use Rattle.ssh_model.specs.State.TransportLayer.Turns as turns
 use Rattle.ssh_model.specs.State.TransportLayer.Turns.{IsRefused, PutsPackets, Reads, SaysWhy, Turned, refusal_items}
-use Rattle.ssh_types.specs.Refusals.{refusal_of}
-use Rattle.ssh_types.specs.declared.refusal.Refusal as types
+use Rattle.ssh_model.specs.declared.refusal.Refusal as types
 use Rattle.ssh_transport_machine.specs.Judging.{IsAcceptJudged, IsRequestJudged, MessageJudged, PayloadJudged}
 use Rattle.ssh_transport_machine.specs.Judging as judging
 use Rattle.ssh_transport_machine.specs.Kexinits.{IsFine}
@@ -160,15 +162,15 @@ module _ {K : Type 0} (agreement : Agreement) (trusts : List ℕ → List ℕ �
   reads message below taken no_guess is of = record { below = below; taken = taken; no_guess = no_guess; message_is = is; of_transport = of }
 
   because : (message : Msg) (why : types.Refusal) → number_of payload < 50 → takes s (number_of payload) ≡ true → (s.phase ≡ model.Phase.Guessed → ⊥) → IsPayload false message payload → MessageJudged s message (judged.Refused why) →
-      IsRefused agreement trusts s payload (refusal_of why)
+      IsRefused agreement trusts s payload why
   because message why below taken no_guess is (judging.MessageJudged.requested service given) =
-      turns.IsRefused.refused message none_chosen (refusal_of why) (reads message below taken no_guess is tt) tt (checked service false NoService given.0 ∙ ap (λ (r : types.Refusal). Some (refusal_of r)) (sym given.1))
+      turns.IsRefused.refused message none_chosen why (reads message below taken no_guess is tt) tt (checked service false NoService given.0 ∙ ap (λ (r : types.Refusal). Some r) (sym given.1))
   because message why below taken no_guess is (judging.MessageJudged.accepted service given) =
-      turns.IsRefused.refused message none_chosen (refusal_of why) (reads message below taken no_guess is tt) tt (checked service false Unexpected given.0 ∙ ap (λ (r : types.Refusal). Some (refusal_of r)) (sym given.1))
+      turns.IsRefused.refused message none_chosen why (reads message below taken no_guess is tt) tt (checked service false Unexpected given.0 ∙ ap (λ (r : types.Refusal). Some r) (sym given.1))
   because message why below taken no_guess is (judging.MessageJudged.kexinit_refused theirs r first) =
-      turns.IsRefused.refused message none_chosen (refusal_of why) (reads message below taken no_guess is tt) tt first
+      turns.IsRefused.refused message none_chosen why (reads message below taken no_guess is tt) tt first
 
-  pub refused_by : (why : types.Refusal) → PayloadJudged s payload (judged.Refused why) → IsRefused agreement trusts s payload (refusal_of why)
+  pub refused_by : (why : types.Refusal) → PayloadJudged s payload (judged.Refused why) → IsRefused agreement trusts s payload why
   refused_by why (judging.PayloadJudged.out_of_place from off) = turns.IsRefused.out_of_place from off
   refused_by why (judging.PayloadJudged.unexpected below off) = turns.IsRefused.unexpected below off
   refused_by why (judging.PayloadJudged.bad_message below taken no_guess none) = turns.IsRefused.bad_message below taken no_guess none
@@ -213,13 +215,13 @@ module _ {K : Type 0} (laws : PayloadLaws K) (p : Parties K) (side : Side) (h : 
     lists = x.lists;
   }
 
-  refused_row : (why : types.Refusal) (new : Transport K) (o : Outs) → PayloadJudged s payload (judged.Refused why) → Refuses p.crypto (after_taken s) (refusal_of why) new o → IsTurn p side h s payload (turn.Refused why) new o
+  refused_row : (why : types.Refusal) (new : Transport K) (o : Outs) → PayloadJudged s payload (judged.Refused why) → Refuses p.crypto (after_taken s) why new o → IsTurn p side h s payload (turn.Refused why) new o
   refused_row why new o is x = record {
     said = x.said;
-    items = refusal_items (refusal_of why) (Some payload) x.said;
+    items = refusal_items why (Some payload) x.said;
     more = x.more;
     shows = shown.Shows.refused why;
-    turned = laws.refused p side h s sums alive payload (refusal_of why) x.said x.more new (refused_by agreement p.trusts s payload why is) (says_before p.crypto s (refusal_of why) x.said x.more x.says) (ap (λ (t : Transport K). t.dead) x.after);
+    turned = laws.refused p side h s sums alive payload why x.said x.more new (refused_by agreement p.trusts s payload why is) (says_before p.crypto s why x.said x.more x.says) (ap (λ (t : Transport K). t.dead) x.after);
     parts = x.parts;
     lists = x.lists;
   }
@@ -397,7 +399,7 @@ turns_lifted {K} laws p side h s sums alive old done new o same x = go x.what do
     refused_here : (r why : types.Refusal) → PayloadJudged s old.receiver.payload (judged.Refused r) → RefusalDone p.crypto old r why new o → IsTurn p side h s old.receiver.payload (turn.Refused why) new.kept o
     refused_here r why is y =
         subst (λ (w : types.Refusal). IsTurn p side h s old.receiver.payload (turn.Refused w) new.kept o) (sym y.same)
-        (refused_row laws p side h s sums alive old.receiver.payload r new.kept o is (subst (λ (t : Transport K). Refuses p.crypto t (refusal_of r) new.kept o) same y.refuses))
+        (refused_row laws p side h s sums alive old.receiver.payload r new.kept o is (subst (λ (t : Transport K). Refuses p.crypto t r new.kept o) same y.refuses))
 
     left_here : (what left : Judged) → PayloadJudged s old.receiver.payload what → turning.IsLeft old what left new o → IsLeftSo s old.receiver.payload left old new o
     left_here what left is y = record { is_judged = subst (λ (j : Judged). PayloadJudged s old.receiver.payload j) (sym y.same) is; after = y.after; quiet = y.quiet }

@@ -1,7 +1,7 @@
 -- What holds of a machine that is not over goes on holding.
 use Rattle.std.proofs.Common.{◌≡◌, ℕ, ◌+◌, ◌-◌, ◌^◌, ◌≤◌, List, refl, ap, sym, ◌∙◌, subst, arith, Bool, true, false, Option, Some, None, is_some, nat_lt, not, ◌&&◌, ◌<◌}
 use Rattle.std.proofs.lemmas.Bool.{false≢true}
-use Rattle.ssh_model.specs.Protocol.Side.{Side}
+use Rattle.ssh_model.specs.declared.side.Side.{Side}
 use Rattle.ssh_model.specs.Protocol.Wire.Message.{Msg}
 use Rattle.ssh_model.specs.Protocol.Wire.Sealing.{Crypto}
 use Rattle.ssh_model.specs.Protocol.KeyExchange.Exchanges.{Material}
@@ -12,9 +12,9 @@ use Rattle.ssh_model.specs.State.TransportLayer.Directions.{Direction}
 use Rattle.ssh_model.specs.State.TransportLayer.Kept as kept
 use Rattle.ssh_model.specs.State.TransportLayer.Kept.{Asks, Transport, after_fed, after_own_kexinit, after_sent, can_be_fed}
 use Rattle.ssh_model.specs.State.TransportLayer.Summary.{bit, is_keying}
-use Rattle.ssh_transport_base.specs.Directions.{Receiver, Receives}
-use Rattle.ssh_transport_base.specs.declared.packets.step.PacketStep.{PacketStep}
-use Rattle.ssh_transport_base.specs.declared.packets.step.PacketStep.TheVariants as step
+use Rattle.ssh_packet.specs.Directions.{Receiver, Receives}
+use Rattle.ssh_packet.specs.declared.packets.step.PacketStep.{PacketStep}
+use Rattle.ssh_packet.specs.declared.packets.step.PacketStep.TheVariants as step
 use Rattle.ssh_transport_machine.specs.Asking.{AskDone}
 use Rattle.ssh_transport_machine.specs.Judging.{PayloadJudged}
 use Rattle.ssh_transport_machine.specs.Judging as judging

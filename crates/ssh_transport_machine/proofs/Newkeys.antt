@@ -4,7 +4,7 @@ use Rattle.ssh_model.specs.Protocol.Wire.Message.{Msg, Msg.NewKeys, IsPayload}
 use Rattle.ssh_model.specs.Protocol.Sessions.Phases as model
 use Rattle.ssh_model.specs.Protocol.Sessions.Turns.{number_of}
 use Rattle.ssh_model.specs.State.TransportLayer.Kept.{Transport, takes_in}
-use Rattle.ssh_transport_base.specs.Directions.{newkeys}
+use Rattle.ssh_packet.specs.Directions.{newkeys}
 use Rattle.ssh_transport_machine.specs.Judging.{MessageJudged, PayloadJudged}
 use Rattle.ssh_transport_machine.specs.Judging as judging
 use Rattle.ssh_transport_machine.specs.State.{before_taken}

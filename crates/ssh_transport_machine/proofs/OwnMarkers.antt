@@ -2,12 +2,15 @@
 use Rattle.std.proofs.Common.{◌≡◌, ℕ, suc, List, [], ◌∷◌, ◌++◌, inl, inr, refl, sym, ◌∙◌, subst, arith, Bool, true, false, cond, Some, is_some}
 use Rattle.std.specs.Prelude.{codes}
 use Rattle.std.specs.List.{Contains, find}
-use Rattle.ssh_model.specs.Protocol.Side.{Side, Side.Client, Side.Server}
+use Rattle.ssh_model.specs.declared.side.Side.{Side}
+use Rattle.ssh_model.specs.declared.side.Side.TheVariants.{Client, Server}
 use Rattle.ssh_model.specs.Protocol.Wire.MacOnly.{is_text}
 use Rattle.ssh_model.specs.Protocol.KeyExchange.Exchanges.{has_marker}
-use Rattle.ssh_model.specs.Protocol.Sessions.Parties.{Settings, Strictness, Strictness.Require, Strictness.Offer, Strictness.Off, extension_marker_of, first_markers, is_offered, marker_of}
+use Rattle.ssh_model.specs.declared.strictness.Strictness.{Strictness}
+use Rattle.ssh_model.specs.declared.strictness.Strictness.TheVariants.{Require, Offer, Off}
+use Rattle.ssh_model.specs.Protocol.Sessions.Parties.{Settings, extension_marker_of, first_markers, is_offered, marker_of}
 use Rattle.ssh_model.specs.State.TransportLayer.Kept.{first_kex}
-use Rattle.ssh_transport_base.specs.Config.{IsKexMethod}
+use Rattle.ssh_config.specs.Config.{IsKexMethod}
 
 AreMethods : List (List ℕ) → Type 0
 AreMethods names = (name : List ℕ) → Contains names name → IsKexMethod name

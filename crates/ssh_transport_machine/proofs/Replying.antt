@@ -1,7 +1,8 @@
 -- What the rows of a machine do, from what its calls do.
 use Rattle.std.proofs.Common.{◌≡◌, ℕ, ◌+◌, ◌^◌, ◌<◌, ◌≤◌, List, [], ◌∷◌, refl, ap, subst, ◌∙◌, arith, Bool, true, false, not, ◌&&◌, ◌||◌, ◌==◌, ◌-◌, Option, Some, None, is_some}
 use Rattle.std.specs.Prelude.{Result, Ok, Err, IfOk, OnErr, codes}
-use Rattle.ssh_model.specs.Protocol.Side.{Side, Side.Client, Side.Server}
+use Rattle.ssh_model.specs.declared.side.Side.{Side}
+use Rattle.ssh_model.specs.declared.side.Side.TheVariants.{Client, Server}
 use Rattle.ssh_model.specs.Protocol.Wire.Message.{Msg, Msg.KexInit, Msg.ServiceRequest}
 use Rattle.ssh_model.specs.Protocol.Wire.Sealing.{Crypto}
 use Rattle.ssh_model.specs.Protocol.KeyExchange.Exchanges.{Material}
@@ -9,7 +10,8 @@ use Rattle.ssh_model.specs.Protocol.Sessions.Items.{Ask.AskRekey, Ask.AskService
 use Rattle.ssh_model.specs.Protocol.Sessions.Parties.{offer_of}
 use Rattle.ssh_model.specs.Protocol.Sessions.Phases as model
 use Rattle.ssh_model.specs.Protocol.Sessions.Phases.{is_client, is_normal}
-use Rattle.ssh_model.specs.Protocol.Sessions.Refusals as refusals
+use Rattle.ssh_model.specs.declared.ask_refusal.AskRefusal.TheVariants as ask_refusals
+use Rattle.ssh_model.specs.declared.refusal.Refusal.TheVariants as refusals
 use Rattle.ssh_model.specs.Protocol.Sessions.Refusals.{Check.RefusedWhere, first_refusal}
 use Rattle.ssh_model.specs.State.TransportLayer.Directions.{Direction, renewed}
 use Rattle.ssh_model.specs.Protocol.Sessions.TurnClaims.{HasSpelling}
@@ -48,7 +50,7 @@ sent_by c old m new o x e = record { sends = x; after = e }
 
 -- ---- asks
 
-client_of : (side : Side) (b d : Bool) → first_refusal (RefusedWhere (not (is_client side)) refusals.AskRefusal.WrongSide ∷ RefusedWhere b refusals.AskRefusal.NotYet ∷ RefusedWhere d refusals.AskRefusal.Busy ∷ []) ≡ None → side ≡ Client
+client_of : (side : Side) (b d : Bool) → first_refusal (RefusedWhere (not (is_client side)) ask_refusals.WrongSide ∷ RefusedWhere b ask_refusals.NotYet ∷ RefusedWhere d ask_refusals.Busy ∷ []) ≡ None → side ≡ Client
 client_of Client b d e = refl
 client_of Server b d e = absurd (cc e)
 
@@ -85,7 +87,7 @@ service_lacks old fine room = record {
   room = room;
 }
 
-free_of : (early shut odd lacks : Bool) → first_refusal (RefusedWhere early refusals.AskRefusal.NotYet ∷ RefusedWhere (shut || odd) refusals.AskRefusal.Busy ∷ RefusedWhere lacks refusals.AskRefusal.NoMaterial ∷ []) ≡ None → shut ≡ false
+free_of : (early shut odd lacks : Bool) → first_refusal (RefusedWhere early ask_refusals.NotYet ∷ RefusedWhere (shut || odd) ask_refusals.Busy ∷ RefusedWhere lacks ask_refusals.NoMaterial ∷ []) ≡ None → shut ≡ false
 free_of true shut odd lacks e = absurd (cc e)
 free_of false true odd lacks e = absurd (cc e)
 free_of false false odd lacks e = refl
@@ -145,7 +147,7 @@ kexinit_lacks {K} s old m same side free has spelling room = record {
   room = room;
 }
 
-lacks_pair : (b d e shut has : Bool) → shut ≡ false → has ≡ false → first_refusal (RefusedWhere b refusals.Refusal.NotStrict ∷ RefusedWhere d refusals.Refusal.Unexpected ∷ RefusedWhere e refusals.Refusal.NoCommon ∷ RefusedWhere (not shut && not has) refusals.Refusal.NoMaterial ∷ []) ≡ None → ⊥
+lacks_pair : (b d e shut has : Bool) → shut ≡ false → has ≡ false → first_refusal (RefusedWhere b refusals.NotStrict ∷ RefusedWhere d refusals.Unexpected ∷ RefusedWhere e refusals.NoCommon ∷ RefusedWhere (not shut && not has) refusals.NoMaterial ∷ []) ≡ None → ⊥
 lacks_pair true d e shut has f g x = cc x
 lacks_pair false true e shut has f g x = cc x
 lacks_pair false false true shut has f g x = cc x

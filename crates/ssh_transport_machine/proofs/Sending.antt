@@ -4,7 +4,8 @@ use Rattle.std.proofs.lemmas.List.{length-map}
 use Rattle.std.specs.Prelude.{Result, Ok, Err, OnOk, Some, None, ◌^◌}
 use Rattle.ssh_model.specs.Protocol.Wire.Message.{Msg, Msg.Disconnect, Msg.KexInit, Msg.KexEcdhInit, Msg.NewKeys}
 use Rattle.ssh_model.specs.Protocol.Wire.Sealing.{Crypto}
-use Rattle.ssh_model.specs.Protocol.Sessions.Refusals.{Refusal, refusal_name, refusal_reason}
+use Rattle.ssh_model.specs.declared.refusal.Refusal.{Refusal}
+use Rattle.ssh_model.specs.Protocol.Sessions.Refusals.{refusal_name, refusal_reason}
 use Rattle.ssh_model.specs.Protocol.Sessions.Items.{Spelled, Spelled.SpelledBy}
 use Rattle.ssh_model.specs.Protocol.Sessions.Turns.{IsSpelled}
 use Rattle.ssh_model.specs.State.TransportLayer.Directions.{Direction, counted}
@@ -13,7 +14,7 @@ use Rattle.ssh_model.specs.Protocol.Sessions.Parties.{offer_of}
 use Rattle.ssh_model.specs.State.TransportLayer.Kept.{Transport, after_own_kexinit, after_sent}
 use Rattle.ssh_model.specs.State.TransportLayer.Turns as turns
 use Rattle.ssh_model.specs.State.TransportLayer.Turns.{PutsPackets, counted_by}
-use Rattle.ssh_transport_base.specs.Directions.{newkeys}
+use Rattle.ssh_packet.specs.Directions.{newkeys}
 use Rattle.ssh_transport_machine.specs.Offering.{BothAnswered, OwnSent}
 use Rattle.ssh_transport_machine.specs.State.{State, noted}
 use Rattle.ssh_transport_machine.specs.declared.machine.kexinit.KexinitFacts.{KexinitFacts}

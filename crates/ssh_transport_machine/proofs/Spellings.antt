@@ -2,13 +2,13 @@
 use Rattle.std.proofs.Common.{◌≡◌, ℕ, ◌<◌, ◌≤◌, ◌^◌, List, [], ◌∷◌, length, arith, refl, subst, false}
 use Rattle.std.specs.Prelude.{codes}
 use Rattle.std.specs.List.{join_with_byte}
-use Rattle.ssh_model.specs.Protocol.Side.{Side}
+use Rattle.ssh_model.specs.declared.side.Side.{Side}
 use Rattle.ssh_model.specs.Protocol.Wire.Message.{Msg.KexInit}
 use Rattle.ssh_model.specs.Protocol.Sessions.Parties.{Settings, offer_of}
 use Rattle.ssh_model.specs.Protocol.Sessions.TurnClaims.{HasSpelling}
 use Rattle.ssh_model.specs.Laws.Names.{joined_length}
 use Rattle.ssh_model.specs.Laws.Written.{byte, cookie, ended, names, spelled, truth, uint32}
-use Rattle.ssh_transport_base.specs.Config.{IsList}
+use Rattle.ssh_config.specs.Config.{IsList}
 use Rattle.ssh_transport_machine.specs.State.{State}
 
 text_most : (l : List (List ℕ)) → IsList l → length (join_with_byte 44 l) ≤ 1040

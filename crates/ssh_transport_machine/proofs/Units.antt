@@ -1,6 +1,6 @@
 -- What a machine makes of a line or a packet is what an end of a session does, and so is its opening.
 use Rattle.std.proofs.Common.{◌≡◌, ℕ, ◌<◌, ◌^◌, List, [], ◌∷◌, ◌++◌, refl, ap, sym, ◌∙◌, subst, Bool, true, false, None}
-use Rattle.ssh_model.specs.Protocol.Side.{Side}
+use Rattle.ssh_model.specs.declared.side.Side.{Side}
 use Rattle.ssh_model.specs.Protocol.Wire.Line.{LineUnit, line_end}
 use Rattle.ssh_model.specs.Protocol.Wire.Message.{Msg.KexInit}
 use Rattle.ssh_model.specs.Protocol.Wire.Outcome.{Outcome, Outcome.OtherLine, Outcome.VersionLine, Outcome.RefusedLine, Outcome.RefusedPacket}
@@ -9,7 +9,8 @@ use Rattle.ssh_model.specs.Protocol.Sessions.Events.{PutsOut}
 use Rattle.ssh_model.specs.Protocol.Sessions.Items.{Item, Item.Fed, Item.Sent, Item.SentLine, Item.TookLine, Item.TookOtherLine, Spelled}
 use Rattle.ssh_model.specs.Protocol.Sessions.Parties.{Parties, offer, settings_of}
 use Rattle.ssh_model.specs.Protocol.Sessions.Phases.{has_line, is_client}
-use Rattle.ssh_model.specs.Protocol.Sessions.Refusals.{Refusal, refusal_reason}
+use Rattle.ssh_model.specs.declared.refusal.Refusal.{Refusal}
+use Rattle.ssh_model.specs.Protocol.Sessions.Refusals.{refusal_reason}
 use Rattle.ssh_model.specs.Protocol.Sessions.Turns.{stage}
 use Rattle.ssh_model.specs.State.TransportLayer.Directions.{Direction, counted}
 use Rattle.ssh_model.specs.State.TransportLayer.Kept.{Transport, after_line, after_other_line, after_taken, new_transport}
@@ -19,11 +20,10 @@ use Rattle.ssh_model.specs.State.TransportLayer.Turns.{SaysWhy, UnitRefused, ref
 use Rattle.ssh_packet.specs.Refusals.{line_refusal}
 use Rattle.ssh_packet.specs.declared.refusal.LineRefusal.{LineRefusal}
 use Rattle.ssh_packet.specs.declared.refusal.LineRefusal.TheVariants as line
-use Rattle.ssh_types.specs.Refusals.{refusal_of}
-use Rattle.ssh_types.specs.declared.refusal.Refusal.{Refusal as Refused}
-use Rattle.ssh_transport_base.specs.Directions.{Receiver, Receives}
-use Rattle.ssh_transport_base.specs.declared.packets.step.PacketStep.{PacketStep}
-use Rattle.ssh_transport_base.specs.declared.packets.step.PacketStep.TheVariants as step
+use Rattle.ssh_model.specs.declared.refusal.Refusal.{Refusal as Refused}
+use Rattle.ssh_packet.specs.Directions.{Receiver, Receives}
+use Rattle.ssh_packet.specs.declared.packets.step.PacketStep.{PacketStep}
+use Rattle.ssh_packet.specs.declared.packets.step.PacketStep.TheVariants as step
 use Rattle.ssh_transport_machine.specs.LineTurns.{LineTaken}
 use Rattle.ssh_transport_machine.specs.Opening.{IsOpened}
 use Rattle.ssh_transport_machine.specs.Puts.{Outs}
@@ -106,11 +106,11 @@ module _ {K : Type 0} (laws : UnitLaws K) (p : Parties K) (side : Side) (h : Lis
         PacketTurnOf p side h old.kept bytes (packet_turn.Refused why) new o
     refusal_lifted bytes r why between new o x e y =
         subst (λ (w : Refused). PacketTurnOf p side h old.kept bytes (packet_turn.Refused w) new o) (sym y.same) (record {
-          packet = packet_at bytes (RefusedPacket (refusal_of r)) x.0;
-          unit = packet_by bytes (RefusedPacket (refusal_of r)) x.0;
+          packet = packet_at bytes (RefusedPacket r) x.0;
+          unit = packet_by bytes (RefusedPacket r) x.0;
           said = y.refuses.said;
           more = y.refuses.more;
-          turned = laws.refused p side h old.kept sums alive (refusal_of r) y.refuses.said y.refuses.more new.kept (said_by (refusal_of r) between.kept y.refuses.said y.refuses.more (same_by between.receiver between e (ap (λ (w : Receiver K). w.direction) x.1)) y.refuses.says) (ap (λ (t : Transport K). t.dead) y.refuses.after);
+          turned = laws.refused p side h old.kept sums alive r y.refuses.said y.refuses.more new.kept (said_by r between.kept y.refuses.said y.refuses.more (same_by between.receiver between e (ap (λ (w : Receiver K). w.direction) x.1)) y.refuses.says) (ap (λ (t : Transport K). t.dead) y.refuses.after);
           parts = y.refuses.parts;
           lists = y.refuses.lists;
         })
@@ -138,7 +138,7 @@ module _ {K : Type 0} (laws : UnitLaws K) (p : Parties K) (side : Side) (h : Lis
         WouldAnswerPacket p side old.kept bytes
     lacks_at bytes between step.More x e y rows = absurd y
     lacks_at bytes between (step.Refused why) x e y rows =
-        WouldAnswerPacket.refused (refusal_of why) (packet_at bytes (RefusedPacket (refusal_of why)) x.0)
+        WouldAnswerPacket.refused why (packet_at bytes (RefusedPacket why) x.0)
         (said_so old.kept why (subst (λ (t : Transport K). t.sending.count < 2 ^ 32) (same_by between.receiver between e (ap (λ (r : Receiver K). r.direction) x.1)) y.room) y.reason)
     lacks_at bytes between step.Payload x e y rows =
         WouldAnswerPacket.opened between.receiver.payload (packet_at bytes (Outcome.Opens between.receiver.payload) x.0) (turn_lacks rows p side h old.kept sums alive between (found_by bytes between x e) y)

@@ -2,8 +2,7 @@
 use Rattle.std.specs.Prelude.{◌≡◌, ℕ, false, List}
 use Rattle.ssh_model.specs.Protocol.Wire.Sealing.{Crypto}
 use Rattle.ssh_model.specs.State.TransportLayer.Kept.{after_sent}
-use Rattle.ssh_types.specs.Refusals.{refusal_of}
-use Rattle.ssh_types.specs.declared.refusal.Refusal.{Refusal}
+use Rattle.ssh_model.specs.declared.refusal.Refusal.{Refusal}
 use Rattle.ssh_transport_machine.specs.Asks.{WasDead}
 use Rattle.ssh_transport_machine.specs.Puts.{Outs, PutsPayload, Refuses}
 use Rattle.ssh_transport_machine.specs.State.{State, dead_state}
@@ -17,7 +16,7 @@ use Rattle.ssh_transport_machine.specs.declared.outcome.TransportFault.TheVarian
 pub record PeerRefused {K : Type 0} (c : Crypto K) (old : State K) (why : Refusal) (new : State K) (o : Outs) :
     Type 0 where
   pub alive : old.kept.dead ≡ false
-  pub refuses : Refuses c old.kept (refusal_of why) new.kept o
+  pub refuses : Refuses c old.kept why new.kept o
   pub reading : new ≡ record old { kept = new.kept }
 
 -- Memory was refused for why it is refused, and the end is over. All else stays as it was.

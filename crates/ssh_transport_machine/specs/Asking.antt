@@ -5,12 +5,10 @@ use Rattle.ssh_model.specs.Protocol.Wire.Sealing.{Crypto}
 use Rattle.ssh_model.specs.Protocol.KeyExchange.Exchanges.{Material}
 use Rattle.ssh_model.specs.Protocol.Sessions.Items.{Ask, Ask.AskDisconnect, Spelled.SpelledBy}
 use Rattle.ssh_model.specs.Protocol.Sessions.Parties.{offer_of}
-use Rattle.ssh_model.specs.Protocol.Sessions.Refusals as model
 use Rattle.ssh_model.specs.Protocol.Sessions.TurnClaims.{HasSpelling}
 use Rattle.ssh_model.specs.Protocol.Sessions.Refusals.{first_refusal}
 use Rattle.ssh_model.specs.State.TransportLayer.Kept.{Asks, Transport, after_sent, message_ask_checks}
-use Rattle.ssh_types.specs.AskRefusals.{ask_refusal_of}
-use Rattle.ssh_types.specs.declared.ask_refusal.AskRefusal.{AskRefusal}
+use Rattle.ssh_model.specs.declared.ask_refusal.AskRefusal.{AskRefusal}
 use Rattle.ssh_transport_machine.specs.Offering.{OwnSent}
 use Rattle.ssh_transport_machine.specs.Puts.{Outs, Puts, Sends}
 use Rattle.ssh_transport_machine.specs.State.{State}
@@ -21,14 +19,14 @@ use Rattle.ssh_transport_machine.specs.declared.machine.turn.AskTurn.{AskTurn}
 use Rattle.ssh_transport_machine.specs.declared.machine.turn.AskTurn.TheVariants as turn
 
 -- the refusal of an ask, where there is one
-abbrev pub refusal_with : Option AskRefusal → Option model.AskRefusal
+abbrev pub refusal_with : Option AskRefusal → Option AskRefusal
 refusal_with None = None
-refusal_with (Some why) = Some (ask_refusal_of why)
+refusal_with (Some why) = Some why
 
 -- The ask was refused by the first check that holds, and changed nothing.
 pub record AskRefused {K : Type 0} (old : State K) (ask : Ask) (why : AskRefusal) (new : State K) (o : Outs) :
     Type 0 where
-  pub why_is : first_refusal (message_ask_checks old.kept ask) ≡ Some (ask_refusal_of why)
+  pub why_is : first_refusal (message_ask_checks old.kept ask) ≡ Some why
   pub after : new ≡ old
   pub quiet : IsQuiet o
 

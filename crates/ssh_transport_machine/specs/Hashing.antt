@@ -1,6 +1,7 @@
 -- What both ends hash, and the keys that come of it, from what an end keeps.
 use Rattle.std.specs.Prelude.{ℕ, List, unwrap_or}
-use Rattle.ssh_model.specs.Protocol.Side.{Side, Side.Client, Side.Server}
+use Rattle.ssh_model.specs.declared.side.Side.{Side}
+use Rattle.ssh_model.specs.declared.side.Side.TheVariants.{Client, Server}
 use Rattle.ssh_model.specs.Protocol.Wire.Sealing.{Crypto, Lengths}
 use Rattle.ssh_model.specs.Protocol.KeyExchange.Exchange.{Inputs, derived}
 use Rattle.ssh_model.specs.Protocol.KeyExchange.Exchanges.{cipher_letter, iv_letter, mac_letter, no_lengths}

@@ -6,9 +6,8 @@ use Rattle.ssh_model.specs.Protocol.Sessions.Refusals.{first_refusal}
 use Rattle.ssh_model.specs.Protocol.Sessions.Phases as model
 use Rattle.ssh_model.specs.Protocol.Sessions.Turns.{number_of}
 use Rattle.ssh_model.specs.State.TransportLayer.Kept.{Transport, offer_checks, takes}
-use Rattle.ssh_types.specs.Refusals.{refusal_of}
-use Rattle.ssh_types.specs.declared.refusal.Refusal.{Refusal}
-use Rattle.ssh_types.specs.declared.refusal.Refusal.TheVariants as refusal
+use Rattle.ssh_model.specs.declared.refusal.Refusal.{Refusal}
+use Rattle.ssh_model.specs.declared.refusal.Refusal.TheVariants as refusal
 use Rattle.ssh_transport_machine.specs.Kexinits.{IsFine}
 use Rattle.ssh_transport_machine.specs.declared.machine.judging.Judged.{Judged}
 use Rattle.ssh_transport_machine.specs.declared.machine.judging.Judged.TheVariants as judged
@@ -35,7 +34,7 @@ pub data MessageJudged {K : Type 0} (s : Transport K) : Msg → Judged → Type 
   extensions : (announced : List Extension) → MessageJudged s (ExtInfo announced) judged.Told
   requested : {verdict : Judged} (service : List ℕ) → IsRequestJudged service verdict → MessageJudged s (ServiceRequest service) verdict
   accepted : {verdict : Judged} (service : List ℕ) → IsAcceptJudged service verdict → MessageJudged s (ServiceAccept service) verdict
-  kexinit_refused : (theirs : Proposal) (why : Refusal) → first_refusal (offer_checks s theirs) ≡ Some (refusal_of why) → MessageJudged s (KexInit theirs) (judged.Refused why)
+  kexinit_refused : (theirs : Proposal) (why : Refusal) → first_refusal (offer_checks s theirs) ≡ Some why → MessageJudged s (KexInit theirs) (judged.Refused why)
   kexinit : (theirs : Proposal) (facts : KexinitFacts) → IsFine s theirs facts → MessageJudged s (KexInit theirs) (judged.Kexinit facts)
   newkeys : MessageJudged s NewKeys judged.NewKeys
   init : (q_c : List ℕ) → MessageJudged s (KexEcdhInit q_c) judged.Init

@@ -7,7 +7,6 @@ use Rattle.ssh_model.specs.Protocol.Side.{peer}
 use Rattle.ssh_model.specs.Protocol.KeyExchange.Exchanges.{has_marker}
 use Rattle.ssh_model.specs.Protocol.Sessions.Parties.{extension_marker_of}
 use Rattle.ssh_model.specs.Protocol.Sessions.Phases.{is_wrong_guess}
-use Rattle.ssh_types.specs.Refusals.{refusal_of}
 use Rattle.ssh_transport_machine.specs.declared.machine.kexinit.KexinitFacts.{KexinitFacts}
 use Rattle.ssh_transport_machine.specs.declared.machine.kexinit.KexinitJudged.{KexinitJudged}
 use Rattle.ssh_transport_machine.specs.declared.machine.kexinit.KexinitJudged.TheVariants.{Refused, Fine}
@@ -25,5 +24,5 @@ pub record IsFine {K : Type 0} (s : Transport K) (theirs : Proposal) (facts : Ke
 
 -- the proposal is refused by the first check that holds, or nothing refuses it
 abbrev pub IsJudged : {K : Type 0} → Transport K → Proposal → KexinitJudged → Type 0
-IsJudged s theirs (Refused refusal) = first_refusal (offer_checks s theirs) ≡ Some (refusal_of refusal)
+IsJudged s theirs (Refused refusal) = first_refusal (offer_checks s theirs) ≡ Some refusal
 IsJudged s theirs (Fine facts) = IsFine s theirs facts

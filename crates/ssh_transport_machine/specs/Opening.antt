@@ -1,6 +1,6 @@
 -- A machine that was just made.
 use Rattle.std.specs.Prelude.{◌≡◌, ℕ, true, None, List, [], ◌∷◌, ◌++◌}
-use Rattle.ssh_model.specs.Protocol.Side.{Side}
+use Rattle.ssh_model.specs.declared.side.Side.{Side}
 use Rattle.ssh_model.specs.Protocol.Wire.Line.{line_end}
 use Rattle.ssh_model.specs.Protocol.Wire.Message.{Msg.KexInit}
 use Rattle.ssh_model.specs.Protocol.Wire.Sealing.{Crypto, IsSealed}
@@ -9,7 +9,7 @@ use Rattle.ssh_model.specs.Protocol.Sessions.Phases.{is_client}
 use Rattle.ssh_model.specs.Protocol.Sessions.Turns.{IsSpelled}
 use Rattle.ssh_model.specs.State.TransportLayer.Kept.{after_sent, new_transport}
 use Rattle.ssh_packet.specs.Lines.{no_lines}
-use Rattle.ssh_transport_base.specs.Directions.{new_direction, new_receiver}
+use Rattle.ssh_packet.specs.Directions.{new_direction, new_receiver}
 use Rattle.ssh_transport_machine.specs.Puts.{Outs}
 use Rattle.ssh_transport_machine.specs.State.{State}
 

@@ -1,9 +1,8 @@
 -- What a transport answers to its caller, by what it did.
 use Rattle.std.specs.Prelude.{◌≡◌, ℕ}
-use Rattle.ssh_model.specs.Protocol.Sessions.Refusals as model
+use Rattle.ssh_model.specs.declared.refusal.Refusal.{Refusal}
 use Rattle.ssh_packet.specs.Refusals.{line_refusal}
-use Rattle.ssh_types.specs.Refusals.{refusal_of}
-use Rattle.ssh_types.specs.declared.refusal.Refusal.TheVariants as refusal
+use Rattle.ssh_model.specs.declared.refusal.Refusal.TheVariants as refusal
 use Rattle.ssh_transport_machine.specs.declared.machine.line_turn.LineTurn.{LineTurn}
 use Rattle.ssh_transport_machine.specs.declared.machine.line_turn.LineTurn.TheVariants as line_turn
 use Rattle.ssh_transport_machine.specs.declared.machine.turn.Answer.{Answer}
@@ -18,8 +17,8 @@ use Rattle.ssh_transport_machine.specs.declared.outcome.TransportTurn.{Transport
 use Rattle.ssh_transport_machine.specs.declared.outcome.TransportTurn.TheVariants as outcome
 
 -- The answer is this refusal.
-abbrev pub IsRefusal : model.Refusal → TransportTurn → Type 0
-IsRefusal why (outcome.Refused given) = refusal_of given ≡ why
+abbrev pub IsRefusal : Refusal → TransportTurn → Type 0
+IsRefusal why (outcome.Refused given) = given ≡ why
 IsRefusal why _ = ⊥
 
 -- what a line is answered by

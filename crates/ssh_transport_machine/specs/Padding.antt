@@ -5,7 +5,7 @@ use Rattle.ssh_model.specs.Protocol.Wire.Line.{line_end}
 use Rattle.ssh_model.specs.Protocol.Wire.Sealing.{Crypto}
 use Rattle.ssh_model.specs.State.TransportLayer.Directions.{Direction, counted, renewed}
 use Rattle.ssh_packet.specs.Writing.{IsPadded}
-use Rattle.ssh_transport_base.specs.Directions.{newkeys}
+use Rattle.ssh_packet.specs.Directions.{newkeys}
 use Rattle.ssh_transport_machine.specs.State.{State}
 use Rattle.ssh_transport_machine.specs.declared.outgoing.Outgoing.{Outgoing}
 

@@ -1,14 +1,15 @@
 -- What an end puts out.
-use Rattle.std.specs.Prelude.{◌≡◌, ℕ, ◌<◌, ◌^◌, true, List, [], ◌∷◌, ◌++◌, map}
+use Rattle.std.specs.Prelude.{◌≡◌, ℕ, ◌<◌, true, List, [], ◌∷◌, ◌++◌, map}
 use Rattle.std.specs.Global.{Vec}
 use Rattle.ssh_model.specs.Protocol.Wire.Message.{Msg}
 use Rattle.ssh_model.specs.Protocol.Wire.Sealing.{Crypto, IsSealed}
 use Rattle.ssh_model.specs.Protocol.Sessions.Items.{Spelled, Spelled.SpelledBy}
-use Rattle.ssh_model.specs.Protocol.Sessions.Refusals.{Refusal}
+use Rattle.ssh_model.specs.declared.refusal.Refusal.{Refusal}
 use Rattle.ssh_model.specs.State.TransportLayer.Directions.{Direction}
 use Rattle.ssh_model.specs.State.TransportLayer.Kept.{Transport}
 use Rattle.ssh_model.specs.State.TransportLayer.Turns.{PutsPackets, SaysWhy, counted_by}
 use Rattle.ssh_transport_machine.specs.declared.outgoing.Outgoing.{Outgoing}
+use Rattle.ssh_model.specs.Protocol.Bounds.{numbers_of_epoch}
 
 -- The bytes put out, and the payloads listed, before a call and after it.
 pub record Outs : Type 0 where
@@ -37,7 +38,7 @@ payloads_of (SpelledBy message payload ∷ l) = payloads_of l ++ payload ∷ []
 
 -- The payload was put out as the next packet of the direction, and listed.
 pub record PutsPayload {K : Type 0} (c : Crypto K) (direction : Direction K) (payload : List ℕ) (o : Outs) : Type 0 where
-  pub left : direction.count < 2 ^ 32
+  pub left : direction.count < numbers_of_epoch
   pub wire : List ℕ
   pub sealed : IsSealed c direction.key direction.number payload wire
   pub parts : o.after ≡ o.before ++ wire

@@ -1,6 +1,6 @@
 -- What a transport makes of a unit, as a turn of a session, besides what a machine does alone.
-use Rattle.std.specs.Prelude.{◌≡◌, ℕ, ◌≤◌, ◌+◌, ◌^◌, Bool, true, false, Some, None, List, [], ◌∷◌, ◌++◌, length}
-use Rattle.ssh_model.specs.Protocol.Side.{Side}
+use Rattle.std.specs.Prelude.{◌≡◌, ℕ, ◌≤◌, ◌+◌, Bool, true, false, Some, None, List, [], ◌∷◌, ◌++◌, length}
+use Rattle.ssh_model.specs.declared.side.Side.{Side}
 use Rattle.ssh_model.specs.Protocol.Wire.Message.{Msg}
 use Rattle.ssh_model.specs.Protocol.Wire.Outcome.{Outcome.Opens}
 use Rattle.ssh_model.specs.Protocol.Wire.Unit.{IsUnit, PacketUnit}
@@ -9,7 +9,8 @@ use Rattle.ssh_model.specs.Protocol.Channels.Connection.{AreReplies, owed_replie
 use Rattle.ssh_model.specs.Protocol.Sessions.Items.{Item, Item.Died, Item.Refused, Spelled}
 use Rattle.ssh_model.specs.Protocol.Sessions.Parties.{Parties, agreement_of}
 use Rattle.ssh_model.specs.Protocol.Sessions.Phases.{Phase.Normal}
-use Rattle.ssh_model.specs.Protocol.Sessions.Refusals.{Refusal.NumberSpent, first_refusal}
+use Rattle.ssh_model.specs.declared.refusal.Refusal.TheVariants.{NumberSpent}
+use Rattle.ssh_model.specs.Protocol.Sessions.Refusals.{first_refusal}
 use Rattle.ssh_model.specs.Protocol.Sessions.Turns.{AreSpelled, number_of, stage}
 use Rattle.ssh_model.specs.State.TransportLayer.Kept.{Completes, Transport, after_taken, message_checks}
 use Rattle.ssh_model.specs.State.TransportLayer.Summary.{IsAwaited, items_sent, parts_of}
@@ -21,6 +22,7 @@ use Rattle.ssh_transport_machine.specs.Turning.{IsQuiet}
 use Rattle.ssh_transport_machine.specs.declared.machine.turn.PacketTurn.{PacketTurn}
 use Rattle.ssh_transport_machine.specs.declared.machine.turn.PacketTurn.TheVariants as packet_turn
 use Rattle.ssh_transport_machine.specs.declared.machine.turn.PayloadTurn.TheVariants as turn
+use Rattle.ssh_model.specs.Protocol.Bounds.{numbers_of_epoch}
 
 -- A payload was left to the role, or to the layers above.
 abbrev pub is_left : PacketTurn → Bool
@@ -59,7 +61,7 @@ pub record WouldEnd {K : Type 0} (p : Parties K) (side : Side) (s : Transport K)
   pub unrefused : first_refusal (message_checks (agreement_of p side) p.trusts chosen s message) ≡ None
   pub completes : Completes p.crypto (parts_of p side) chosen s message last announced completed new
   pub spelled : AreSpelled (items_sent (announced ++ last))
-  pub room : s.sending.count + length last ≤ 2 ^ 32
+  pub room : s.sending.count + length last ≤ numbers_of_epoch
 
 -- Something would be sent on the packet.
 pub data WouldDie {K : Type 0} (p : Parties K) (side : Side) (s : Transport K) (bytes : List ℕ) : Type 0 where

@@ -1,7 +1,8 @@
 -- The turns of a session that those of a machine are, and what each answer of a machine shows of them.
-use Rattle.std.specs.Prelude.{◌≡◌, ℕ, ◌+◌, ◌^◌, ◌<◌, ◌≤◌, Bool, true, false, None, Some, List, [], ◌∷◌, ◌++◌}
+use Rattle.std.specs.Prelude.{◌≡◌, ℕ, ◌+◌, ◌<◌, ◌≤◌, Bool, true, false, None, Some, List, [], ◌∷◌, ◌++◌}
 use Rattle.std.specs.Prelude.{length}
-use Rattle.ssh_model.specs.Protocol.Side.{Side, Side.Server}
+use Rattle.ssh_model.specs.declared.side.Side.{Side}
+use Rattle.ssh_model.specs.declared.side.Side.TheVariants.{Server}
 use Rattle.ssh_model.specs.Protocol.Wire.Message.{Msg, Msg.Debug, Msg.Disconnect, Msg.ExtInfo, Msg.Ignore, Msg.KexInit}
 use Rattle.ssh_model.specs.Protocol.Wire.Message.{Msg.NewKeys, Msg.ServiceAccept, Msg.ServiceRequest, Msg.Unimplemented}
 use Rattle.ssh_model.specs.Protocol.Wire.Message.{Msg.Unknown, Extension, IsPayload, Proposal}
@@ -18,7 +19,7 @@ use Rattle.ssh_model.specs.Protocol.Wire.Outcome.{Outcome.Opens, Outcome.Refused
 use Rattle.ssh_model.specs.Protocol.Wire.Unit.{IsPacketBegun, IsUnit, PacketUnit}
 use Rattle.ssh_model.specs.Protocol.KeyExchange.Choice.{Chosen}
 use Rattle.ssh_model.specs.Protocol.Sessions.Phases.{is_client}
-use Rattle.ssh_model.specs.Protocol.Sessions.Refusals as model
+use Rattle.ssh_model.specs.declared.refusal.Refusal.TheVariants as refusals
 use Rattle.ssh_model.specs.Protocol.Sessions.Refusals.{first_refusal, refusal_name, refusal_reason}
 use Rattle.ssh_model.specs.Protocol.Sessions.TurnClaims.{HasSpelling}
 use Rattle.ssh_model.specs.Protocol.Wire.Line.{LineUnit}
@@ -26,10 +27,8 @@ use Rattle.ssh_model.specs.State.TransportLayer.Kept.{Answered, Takes, Transport
 use Rattle.ssh_model.specs.State.TransportLayer.Summary.{IsAwaited, SumsUp, items_sent}
 use Rattle.ssh_model.specs.State.TransportLayer.Turns.{AskTurned, IsRefused, Reads, Turned, UnitRefused, refusal_items}
 use Rattle.ssh_packet.specs.Refusals.{line_refusal}
-use Rattle.ssh_types.specs.AskRefusals.{ask_refusal_of}
-use Rattle.ssh_types.specs.Refusals.{refusal_of}
-use Rattle.ssh_types.specs.declared.ask_refusal.AskRefusal.{AskRefusal}
-use Rattle.ssh_types.specs.declared.refusal.Refusal.{Refusal}
+use Rattle.ssh_model.specs.declared.ask_refusal.AskRefusal.{AskRefusal}
+use Rattle.ssh_model.specs.declared.refusal.Refusal.{Refusal}
 use Rattle.ssh_transport_machine.specs.Judging.{PayloadJudged}
 use Rattle.ssh_transport_machine.specs.Puts.{Outs, payloads_of}
 use Rattle.ssh_transport_machine.specs.State.{State}
@@ -44,6 +43,7 @@ use Rattle.ssh_transport_machine.specs.declared.machine.turn.PacketTurn.{PacketT
 use Rattle.ssh_transport_machine.specs.declared.machine.turn.PacketTurn.TheVariants as packet_turn
 use Rattle.ssh_transport_machine.specs.declared.machine.turn.PayloadTurn.{PayloadTurn}
 use Rattle.ssh_transport_machine.specs.declared.machine.turn.PayloadTurn.TheVariants as turn
+use Rattle.ssh_model.specs.Protocol.Bounds.{numbers_of_epoch}
 
 -- what is told of a message that is not answered
 pub data IsTold : Msg → Fact → Type 0 where
@@ -57,7 +57,7 @@ pub data IsTold : Msg → Fact → Type 0 where
 -- constructor a row.
 pub data Shows {K : Type 0} (s : Transport K) (payload : List ℕ) : PayloadTurn → List Spelled → List Item → Type 0 where
   refused : {said : List Spelled} (why : Refusal) →
-      Shows s payload (turn.Refused why) said (refusal_items (refusal_of why) (Some payload) said)
+      Shows s payload (turn.Refused why) said (refusal_items why (Some payload) said)
   skipped : Shows s payload turn.Skipped [] (Told Ignored ∷ TookGuess payload ∷ [])
   disconnected : (reason : ℕ) (description language : List ℕ) →
       IsPayload false (Disconnect reason description language) payload →
@@ -81,11 +81,11 @@ pub data Shows {K : Type 0} (s : Transport K) (payload : List ℕ) : PayloadTurn
       ++ Took None (KexInit theirs) payload ∷ [])
   newkeys : IsPayload false NewKeys payload → Shows s payload turn.NewKeys [] (Took None NewKeys payload ∷ [])
   unknown_spent : Shows s payload (turn.Unknown Spent) []
-      (Died ∷ Refused model.Refusal.NumberSpent (Some payload) ∷ [])
+      (Died ∷ Refused refusals.NumberSpent (Some payload) ∷ [])
   service_spent : Shows s payload (turn.ServiceRequested Spent) []
-      (Died ∷ Refused model.Refusal.NumberSpent (Some payload) ∷ [])
+      (Died ∷ Refused refusals.NumberSpent (Some payload) ∷ [])
   kexinit_spent : Shows s payload (turn.Kexinit Spent) []
-      (Died ∷ Refused model.Refusal.NumberSpent (Some payload) ∷ [])
+      (Died ∷ Refused refusals.NumberSpent (Some payload) ∷ [])
 
 -- What was done with a payload is a turn of a session, with these items, bytes and payloads listed.
 pub record IsTurn {K : Type 0} (p : Parties K) (side : Side) (history : List Item) (s : Transport K)
@@ -116,7 +116,7 @@ TurnOf p side history s old done new o = IsTurn p side history s old.receiver.pa
 -- The messages that were sent on an ask, and all items of its turn: one constructor a row.
 pub data AskShows : Ask → AskTurn → List Spelled → List Item → Type 0 where
   refused : (ask : Ask) (why : AskRefusal) →
-      AskShows ask (ask_turn.Refused why) [] (Item.AskRefused (ask_refusal_of why) ∷ Asked ask ∷ [])
+      AskShows ask (ask_turn.Refused why) [] (Item.AskRefused why ∷ Asked ask ∷ [])
   sent : (ask : Ask) (message : Msg) (payload : List ℕ) →
       AskShows ask (ask_turn.Answered Done) (SpelledBy message payload ∷ [])
       (Sent None message payload ∷ Asked ask ∷ [])
@@ -125,7 +125,7 @@ pub data AskShows : Ask → AskTurn → List Spelled → List Item → Type 0 wh
       (SpelledBy (Disconnect 11 description []) payload ∷ [])
       (Died ∷ Sent None (Disconnect 11 description []) payload ∷ Asked (AskDisconnect description) ∷ [])
   spent : (ask : Ask) → AskShows ask (ask_turn.Answered Spent) []
-      (Died ∷ Refused model.Refusal.NumberSpent None ∷ Asked ask ∷ [])
+      (Died ∷ Refused refusals.NumberSpent None ∷ Asked ask ∷ [])
 
 -- What was done on an ask is a turn of a session, with these items, bytes and payloads listed.
 pub record IsAskTurn {K : Type 0} (p : Parties K) (side : Side) (history : List Item) (ask : Ask) (done : AskTurn)
@@ -168,7 +168,7 @@ pub record IsLineItem {K : Type 0} (p : Parties K) (side : Side) (history : List
 
 -- The line is refused, and nothing is said.
 pub record IsLineRefusal {K : Type 0} (p : Parties K) (side : Side) (history : List Item) (s : Transport K)
-    (bytes : List ℕ) (why : model.Refusal) (new : Transport K) : Type 0 where
+    (bytes : List ℕ) (why : Refusal) (new : Transport K) : Type 0 where
   pub line : LineUnit (is_client s.side) s.lines.others bytes (RefusedLine why)
   pub unit : IsUnit p.crypto (stage p side history) bytes (RefusedLine why)
   pub turned : UnitRefused p side history (refusal_items why None []) why [] new
@@ -202,7 +202,7 @@ pub record IsPacketBegunBy {K : Type 0} (p : Parties K) (s : Transport K) (bytes
 
 -- The packet was refused.
 pub record IsPacketRefusal {K : Type 0} (p : Parties K) (side : Side) (history : List Item) (s : Transport K)
-    (bytes : List ℕ) (why : model.Refusal) (new : Transport K) (o : Outs) : Type 0 where
+    (bytes : List ℕ) (why : Refusal) (new : Transport K) (o : Outs) : Type 0 where
   pub packet : PacketUnit p.crypto s.taking.key s.taking.number s.taking.count bytes (RefusedPacket why)
   pub unit : IsUnit p.crypto (stage p side history) bytes (RefusedPacket why)
   pub said : List Spelled
@@ -216,17 +216,17 @@ abbrev pub PacketTurnOf : {K : Type 0} → Parties K → Side → (history : Lis
     State K → Outs → Type 0
 PacketTurnOf p side history s bytes packet_turn.More new o = IsPacketBegunBy p s bytes new.kept o
 PacketTurnOf p side history s bytes (packet_turn.Refused why) new o =
-    IsPacketRefusal p side history s bytes (refusal_of why) new.kept o
+    IsPacketRefusal p side history s bytes why new.kept o
 PacketTurnOf p side history s bytes (packet_turn.Payload done) new o = IsPayloadTurn p side history s bytes done new o
 
 -- ---- where memory fails
 
 -- The refusal would be said: it has a reason code, the DISCONNECT that says so a payload, and a number is left for it.
-pub record WouldSay {K : Type 0} (s : Transport K) (why : model.Refusal) : Type 0 where
+pub record WouldSay {K : Type 0} (s : Transport K) (why : Refusal) : Type 0 where
   pub reason : ℕ
   pub reason_is : refusal_reason why ≡ Some reason
   pub spelling : HasSpelling (Disconnect reason (refusal_name why) [])
-  pub room : s.sending.count < 2 ^ 32
+  pub room : s.sending.count < numbers_of_epoch
 
 -- Something would be sent on the payload, which has a spelling and a number of its own: an answer, or why it is
 -- refused.
@@ -235,8 +235,8 @@ pub data WouldAnswer {K : Type 0} (p : Parties K) (side : Side) (s : Transport K
       IsAwaited s chosen message →
       first_refusal (message_checks (agreement_of p side) p.trusts chosen s message) ≡ None →
       Takes (agreement_of p side) s payload message answered new → AreSpelled (items_sent answered.sent) →
-      1 ≤ length answered.sent → s.sending.count + length answered.sent ≤ 2 ^ 32 → WouldAnswer p side s payload
-  refused : (why : model.Refusal) → IsRefused (agreement_of p side) p.trusts s payload why → WouldSay s why →
+      1 ≤ length answered.sent → s.sending.count + length answered.sent ≤ numbers_of_epoch → WouldAnswer p side s payload
+  refused : (why : Refusal) → IsRefused (agreement_of p side) p.trusts s payload why → WouldSay s why →
       WouldAnswer p side s payload
 
 -- Something would be sent on the packet.
@@ -244,6 +244,6 @@ pub data WouldAnswerPacket {K : Type 0} (p : Parties K) (side : Side) (s : Trans
   opened : (payload : List ℕ) →
       PacketUnit p.crypto s.taking.key s.taking.number s.taking.count bytes (Opens payload) →
       WouldAnswer p side s payload → WouldAnswerPacket p side s bytes
-  refused : (why : model.Refusal) →
+  refused : (why : Refusal) →
       PacketUnit p.crypto s.taking.key s.taking.number s.taking.count bytes (RefusedPacket why) → WouldSay s why →
       WouldAnswerPacket p side s bytes

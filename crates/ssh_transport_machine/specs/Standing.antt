@@ -1,6 +1,6 @@
 -- A machine of one side, as the role keeps it.
 use Rattle.std.specs.Prelude.{◌≡◌, false}
-use Rattle.ssh_model.specs.Protocol.Side.{Side}
+use Rattle.ssh_model.specs.declared.side.Side.{Side}
 use Rattle.ssh_transport_machine.specs.Choices.{IsChoosing}
 use Rattle.ssh_transport_machine.specs.State.{IsLive, State}
 

@@ -8,10 +8,11 @@ use Rattle.ssh_model.specs.State.TransportLayer.Kept as kept
 use Rattle.ssh_model.specs.State.TransportLayer.Kept.{Transport}
 use Rattle.ssh_model.specs.State.TransportLayer.Summary.{bit, is_keying}
 use Rattle.ssh_packet.specs.Lines.{Ended, Ended.WithVersion, LineReading}
-use Rattle.ssh_transport_base.specs.Directions.{Receiver}
+use Rattle.ssh_packet.specs.Directions.{Receiver}
 use Rattle.ssh_transport_machine.specs.declared.machine.material.Material.{Material}
 use Rattle.ssh_transport_machine.specs.declared.machine.phase.Phase.{Phase}
 use Rattle.ssh_transport_machine.specs.declared.machine.phase.Phase.TheVariants as at
+use Rattle.ssh_model.specs.Protocol.Bounds.{most_exchanges}
 
 -- where an end stands
 abbrev pub phase_of : Phase → model.Phase
@@ -95,7 +96,7 @@ pub record IsKeptLive {K : Type 0} (s : Transport K) : Type 0 where
   pub blocked : awaits_exchange s.phase ≡ true → s.blocked ≡ true
   pub taken_epochs : s.taking.epoch + bit (is_keying s.phase) ≤ s.sending.epoch
   pub sent_epochs : s.sending.epoch + (bit s.blocked + bit (is_some s.material)) ≤ s.fed
-  pub fed : s.fed ≤ 2 ^ 32 - 1
+  pub fed : s.fed ≤ most_exchanges
 
 -- What holds of a machine that is not over: its readers go on, and are those of what it keeps.
 pub record IsLive {K : Type 0} (s : State K) : Type 0 where

@@ -1,6 +1,6 @@
 -- What an end does with a payload that it took, once it is judged.
-use Rattle.std.specs.Prelude.{◌≡◌, ℕ, ◌<◌, ◌≤◌, ◌^◌, true, false, IsSome, List, Some, None, codes}
-use Rattle.ssh_model.specs.Protocol.Side.{Side.Client, Side.Server}
+use Rattle.std.specs.Prelude.{◌≡◌, ℕ, ◌<◌, ◌≤◌, true, false, IsSome, List, Some, None, codes}
+use Rattle.ssh_model.specs.declared.side.Side.TheVariants.{Client, Server}
 use Rattle.ssh_model.specs.Protocol.Wire.Message.{Msg, Msg.KexInit, Msg.ServiceAccept, Msg.Unimplemented}
 use Rattle.ssh_model.specs.Protocol.Wire.Sealing.{Crypto}
 use Rattle.ssh_model.specs.Protocol.KeyExchange.Exchanges.{Material}
@@ -10,11 +10,10 @@ use Rattle.ssh_model.specs.Protocol.Sessions.Refusals.{refusal_reason}
 use Rattle.ssh_model.specs.Protocol.Sessions.TurnClaims.{HasSpelling}
 use Rattle.ssh_model.specs.State.TransportLayer.Directions.{renewed}
 use Rattle.ssh_model.specs.State.TransportLayer.Kept.{Transport, after_sent}
-use Rattle.ssh_types.specs.Refusals.{refusal_of}
-use Rattle.ssh_types.specs.declared.refusal.Refusal.{Refusal}
-use Rattle.ssh_transport_base.specs.Directions.{Receives}
-use Rattle.ssh_transport_base.specs.declared.packets.step.PacketStep.{PacketStep}
-use Rattle.ssh_transport_base.specs.declared.packets.step.PacketStep.TheVariants as step
+use Rattle.ssh_model.specs.declared.refusal.Refusal.{Refusal}
+use Rattle.ssh_packet.specs.Directions.{Receives}
+use Rattle.ssh_packet.specs.declared.packets.step.PacketStep.{PacketStep}
+use Rattle.ssh_packet.specs.declared.packets.step.PacketStep.TheVariants as step
 use Rattle.ssh_transport_machine.specs.Judging.{PayloadJudged}
 use Rattle.ssh_transport_machine.specs.Offering.{OwnAnswered}
 use Rattle.ssh_transport_machine.specs.Puts.{Outs, Refuses, Sends}
@@ -28,6 +27,7 @@ use Rattle.ssh_transport_machine.specs.declared.machine.turn.PacketTurn.{PacketT
 use Rattle.ssh_transport_machine.specs.declared.machine.turn.PacketTurn.TheVariants as packet_turn
 use Rattle.ssh_transport_machine.specs.declared.machine.turn.PayloadTurn.{PayloadTurn}
 use Rattle.ssh_transport_machine.specs.declared.machine.turn.PayloadTurn.TheVariants as turn
+use Rattle.ssh_model.specs.Protocol.Bounds.{numbers_of_epoch}
 
 -- ---- what is answered
 
@@ -44,7 +44,7 @@ pub record SentBy {K : Type 0} (c : Crypto K) (old : State K) (message : Msg) (k
 
 -- No number was left for what would have been sent: nothing was put out, and the end is over. All else stays as it was.
 pub record SpentBy {K : Type 0} (old new : State K) (o : Outs) : Type 0 where
-  pub none_left : old.kept.sending.count ≡ 2 ^ 32
+  pub none_left : old.kept.sending.count ≡ numbers_of_epoch
   pub after : new ≡ dead_state old
   pub quiet : IsQuiet o
 
@@ -59,7 +59,7 @@ Answers c old message kept Spent new o = SpentBy old new o
 pub record RefusalDone {K : Type 0} (c : Crypto K) (old : State K) (judged why : Refusal) (new : State K)
     (o : Outs) : Type 0 where
   pub same : why ≡ judged
-  pub refuses : Refuses c old.kept (refusal_of judged) new.kept o
+  pub refuses : Refuses c old.kept judged new.kept o
   pub reading : new ≡ record old { kept = new.kept }
 
 -- Nothing was put out, and this is kept.
@@ -141,7 +141,7 @@ Does c old _ _ new o = ⊥
 pub record Turns {K : Type 0} (c : Crypto K) (old : State K) (done : PayloadTurn) (new : State K) (o : Outs) :
     Type 0 where
   pub directed : old.kept.taking ≡ old.receiver.direction
-  pub numbered : old.kept.taking.count ≤ 2 ^ 32
+  pub numbered : old.kept.taking.count ≤ numbers_of_epoch
   pub what : Judged
   pub is_judged : PayloadJudged (before_taken old.kept) old.receiver.payload what
   pub does : Does c old what done new o
@@ -150,11 +150,11 @@ pub record Turns {K : Type 0} (c : Crypto K) (old : State K) (done : PayloadTurn
 
 -- A number is left.
 abbrev pub HasRoom : {K : Type 0} → State K → Type 0
-HasRoom s = s.kept.sending.count < 2 ^ 32
+HasRoom s = s.kept.sending.count < numbers_of_epoch
 
 -- The refusal would be said.
 pub record RefusalLacks {K : Type 0} (old : State K) (why : Refusal) : Type 0 where
-  pub reason : IsSome (refusal_reason (refusal_of why))
+  pub reason : IsSome (refusal_reason why)
   pub room : HasRoom old
 
 -- A KEXINIT of this end would be sent.
@@ -176,7 +176,7 @@ WouldSend old _ = ⊥
 
 -- Something would be sent of the payload that is shown.
 pub record TurnLacks {K : Type 0} (old : State K) : Type 0 where
-  pub numbered : old.kept.taking.count ≤ 2 ^ 32
+  pub numbered : old.kept.taking.count ≤ numbers_of_epoch
   pub what : Judged
   pub is_judged : PayloadJudged (before_taken old.kept) old.receiver.payload what
   pub would : WouldSend old what

@@ -6,7 +6,6 @@ ghost use Rattle.ssh_model.specs.Protocol.KeyExchange.Exchange.{derived};
 ghost use Rattle.ssh_model.specs.Protocol.KeyExchange.Exchanges.{cipher_letter, iv_letter, mac_letter};
 ghost use Rattle.ssh_kex.specs.Values.{letter_of};
 ghost use Rattle.ssh_packet.specs.Sealing.{lengths_of};
-ghost use Rattle.ssh_types.specs.Sides.{side_of};
 ghost use Rattle.ssh_transport_machine.specs.Hashing.{key_with, lengths_in};
 
 use ssh_kex::{Letter, derive};
@@ -35,7 +34,7 @@ pub fn key_from<S: Sealing>(
     mac: &[u8],
 ) -> Result<S::Key, AllocError>
     requires { IsSome (S.crypto.lengths encryption.now mac.now) }
-    ensures { IfOk result (λ key. key ≡ key_with S.crypto (side_of from) (number agreed.now.shared.now) agreed.now.hash.now
+    ensures { IfOk result (λ key. key ≡ key_with S.crypto from (number agreed.now.shared.now) agreed.now.hash.now
         agreed.now.session.now encryption.now mac.now) }
 {
     let sizes = sizes_of::<S>(encryption, mac);
@@ -79,7 +78,7 @@ fn fill(agreed: &Agreed<'_>, letter: Letter, out: &mut [u8])
 
 // The letter of a direction's IV.
 fn iv_of(from: Side) -> Letter
-    ensures { letter_of result ≡ iv_letter (side_of from) }
+    ensures { letter_of result ≡ iv_letter from }
 {
     match from {
         Side::Client => Letter::A,
@@ -89,7 +88,7 @@ fn iv_of(from: Side) -> Letter
 
 // The letter of its cipher key.
 fn cipher_of(from: Side) -> Letter
-    ensures { letter_of result ≡ cipher_letter (side_of from) }
+    ensures { letter_of result ≡ cipher_letter from }
 {
     match from {
         Side::Client => Letter::C,
@@ -99,7 +98,7 @@ fn cipher_of(from: Side) -> Letter
 
 // The letter of its MAC key.
 fn mac_of(from: Side) -> Letter
-    ensures { letter_of result ≡ mac_letter (side_of from) }
+    ensures { letter_of result ≡ mac_letter from }
 {
     match from {
         Side::Client => Letter::E,

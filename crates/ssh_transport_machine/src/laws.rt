@@ -2,7 +2,7 @@
 //! where what it keeps sums up the history of that end. Facts for proofs, at no cost.
 
 ghost use Rattle.std.specs.Prelude.{◌≡◌, ◌<◌, ◌+◌, ◌-◌, ◌^◌, Bool, List, Some, ℕ, false, true};
-ghost use Rattle.ssh_model.specs.Protocol.Side.{Side};
+ghost use Rattle.ssh_model.specs.declared.side.Side.{Side};
 ghost use Rattle.ssh_model.specs.Protocol.Wire.Message.{Msg};
 ghost use Rattle.ssh_model.specs.Protocol.Wire.Sealing.{Crypto};
 ghost use Rattle.ssh_model.specs.Protocol.Sessions.Items.{Ask, Ask.AskDisconnect, Item};
@@ -25,6 +25,7 @@ ghost use Rattle.ssh_transport_machine.specs.declared.machine.turn.Answer.{Answe
 ghost use Rattle.ssh_transport_machine.specs.declared.machine.turn.AskTurn.{AskTurn};
 ghost use Rattle.ssh_transport_machine.specs.declared.machine.turn.PacketTurn.{PacketTurn};
 ghost use Rattle.ssh_transport_machine.specs.declared.machine.turn.PayloadTurn.{PayloadTurn};
+ghost use Rattle.ssh_model.specs.Protocol.Bounds.{most_exchanges};
 
 use ssh_model::payload_numbers;
 use ssh_model::transport::{
@@ -124,5 +125,5 @@ pub fn live_exchanges<K>()
     ensures completed { (k : Transport K) (direction : Direction K) (key : K) (session : List ℕ) → direction.epoch ≡ k.sending.epoch + 1 →
         k.blocked ≡ true → IsKeptLive k → IsKeptLive
         (record k { sending = direction; pending = Some key; phase = Keying; blocked = false; session = Some session }) }
-    ensures epoch { (k : Transport K) → k.blocked ≡ true → IsKeptLive k → k.sending.epoch < 2 ^ 32 - 1 }
+    ensures epoch { (k : Transport K) → k.blocked ≡ true → IsKeptLive k → k.sending.epoch < most_exchanges }
 {}

@@ -45,8 +45,8 @@ use kexinit_payload::KexinitPayload;
 pub use line_turn::LineTurn;
 pub use material::Material;
 pub use phase::Phase;
-use ssh_packet::{LineReader, LineStep, Sealing};
-use ssh_transport_base::{Config, PacketReceiver, PacketSender};
+use ssh_config::Config;
+use ssh_packet::{LineReader, LineStep, PacketReceiver, PacketSender, Sealing};
 use ssh_types::Side;
 use std::alloc::Global;
 use std::marker::Model;
@@ -82,8 +82,7 @@ pub struct Machine<S: Sealing> {
 }
 
 impl<S: Sealing> Model for Machine<S> {
-    ghost use Rattle.ssh_types.specs.Sides.{side_of};
-    ghost use Rattle.ssh_transport_base.specs.Meaning.{settings_of};
+    ghost use Rattle.ssh_config.specs.Meaning.{settings_of};
     ghost use Rattle.ssh_transport_machine.specs.State.{State, lines_of, material_of, phase_of};
 
     ghost Value = { State S.Key };
@@ -92,7 +91,7 @@ impl<S: Sealing> Model for Machine<S> {
       reading = s.lines;
       receiver = s.taking;
       kept = record {
-        side = side_of s.side;
+        side = s.side;
         settings = settings_of s.config;
         lines = lines_of s.lines;
         sending = s.sending;

@@ -2,11 +2,11 @@
 //! cost.
 
 ghost use Rattle.std.specs.Prelude.{◌≡◌, Bool, IfErr, IfOk, List, OnOk, Result, ℕ, false, true};
-ghost use Rattle.ssh_model.specs.Protocol.Side.{Side};
+ghost use Rattle.ssh_model.specs.declared.side.Side.{Side};
 ghost use Rattle.ssh_model.specs.Protocol.Wire.Sealing.{Crypto};
 ghost use Rattle.ssh_model.specs.Protocol.Sessions.Parties.{Settings};
 ghost use Rattle.ssh_model.specs.State.TransportLayer.Kept.{after_fed, can_be_fed};
-ghost use Rattle.ssh_types.specs.declared.refusal.Refusal.{Refusal};
+ghost use Rattle.ssh_model.specs.declared.refusal.Refusal.{Refusal};
 ghost use Rattle.ssh_transport_machine.specs.Above.{PayloadSent, PeerRefused, RefuseFailed, SendFailed};
 ghost use Rattle.ssh_transport_machine.specs.Asks.{AskFailed, AskTaken};
 ghost use Rattle.ssh_transport_machine.specs.LineTurns.{LineTaken};

@@ -3,7 +3,7 @@
 ghost use Rattle.std.specs.Prelude.{◌≡◌, ◌≤◌, IfOk, OnErr, Some, false, length, true};
 ghost use Rattle.std.specs.Option.{option_map};
 ghost use Rattle.ssh_model.specs.Protocol.Bounds.{largest_packet};
-ghost use Rattle.ssh_model.specs.Protocol.Side as model;
+ghost use Rattle.ssh_model.specs.declared.side.Side.TheVariants as sides;
 ghost use Rattle.ssh_model.specs.Protocol.Wire.Message.{IsPayload, KexEcdhReply};
 ghost use Rattle.ssh_model.specs.State.TransportLayer.Kept.{shared_with};
 ghost use Rattle.ssh_message.specs.Meaning.{meaning};
@@ -60,7 +60,7 @@ pub fn judge_reply<S: Sealing, A: Agreement, T: HostTrust>(
     trust: &T,
 ) -> Result<HostJudged<S::Key>, AllocError>
     requires shown { ShowsReply machine.now.receiver.payload }
-    requires side { machine.now.kept.side ≡ model.Client }
+    requires side { machine.now.kept.side ≡ sides.Client }
     requires choice { HasChoice machine.now.kept }
     ensures judged { IfOk result (λ judged. IsReplyJudged S.crypto (record {
       point = A.public_of agreement.now;
@@ -88,7 +88,7 @@ fn judge_message<S: Sealing, A: Agreement, T: HostTrust>(
     requires read { IsPayload false (meaning message) payload.now }
     requires reply { IsReply (meaning message) }
     requires most { length payload.now ≤ largest_packet }
-    requires side { machine.now.kept.side ≡ model.Client }
+    requires side { machine.now.kept.side ≡ sides.Client }
     requires choice { HasChoice machine.now.kept }
     ensures judged { IfOk result (λ judged. IsReplyJudged S.crypto (record {
       point = A.public_of agreement.now;
@@ -130,7 +130,7 @@ fn judge_point<S: Sealing, A: Agreement, T: HostTrust>(
     reply: Reply<'_>,
 ) -> Result<HostJudged<S::Key>, AllocError>
     requires short { length reply.host_key.now ≤ largest_packet }
-    requires side { machine.now.kept.side ≡ model.Client }
+    requires side { machine.now.kept.side ≡ sides.Client }
     requires choice { HasChoice machine.now.kept }
     ensures judged { IfOk result (λ judged. IsHostJudged S.crypto (record {
       point = A.public_of agreement.now;
@@ -159,7 +159,7 @@ fn judge_host<S: Sealing, A: Agreement, T: HostTrust>(
     requires size { length reply.point.now ≡ 32 }
     requires shares { shared_with (record { point = A.public_of agreement.now; shared = A.shared_of agreement.now })
         machine.now.kept.underway.secret reply.point.now ≡ Some shared.now }
-    requires side { machine.now.kept.side ≡ model.Client }
+    requires side { machine.now.kept.side ≡ sides.Client }
     requires choice { HasChoice machine.now.kept }
     ensures judged { IfOk result (λ judged. IsHostJudged S.crypto (record {
       point = A.public_of agreement.now;

@@ -1,12 +1,12 @@
 //! Laws of what a client makes of a server's KEXINIT and of its reply: turns of a session. Facts for proofs, at no cost.
 
 ghost use Rattle.std.specs.Prelude.{◌≡◌, ◌+◌, List, [], ◌∷◌, ℕ, Some, false, true};
-ghost use Rattle.ssh_model.specs.Protocol.Side.{Side.Client};
+ghost use Rattle.ssh_model.specs.declared.side.Side.TheVariants.{Client};
 ghost use Rattle.ssh_model.specs.Protocol.KeyExchange.Choice.{Chosen};
 ghost use Rattle.ssh_model.specs.Protocol.Channels.Connection.{AreReplies, owed_replies};
 ghost use Rattle.ssh_model.specs.Protocol.Sessions.Items.{Item, Item.Died, Item.Refused};
 ghost use Rattle.ssh_model.specs.Protocol.Sessions.Parties.{Agreement, Parties, agreement_of};
-ghost use Rattle.ssh_model.specs.Protocol.Sessions.Refusals.{Refusal.BadHost, Refusal.BadPoint, Refusal.NumberSpent};
+ghost use Rattle.ssh_model.specs.declared.refusal.Refusal.TheVariants.{BadHost, BadPoint, NumberSpent};
 ghost use Rattle.ssh_model.specs.Protocol.Sessions.Turns.{AreSpelled};
 ghost use Rattle.ssh_model.specs.State.TransportLayer.Kept.{Transport, after_taken};
 ghost use Rattle.ssh_model.specs.State.TransportLayer.Summary.{SumsUp};

@@ -2,7 +2,7 @@
 
 ghost use Rattle.std.specs.Prelude.{◌≡◌, ◌+◌, ◌≤◌, ◌^◌, IfOk, OnErr, Some, length, take};
 ghost use Rattle.std.specs.Option.{option_map};
-ghost use Rattle.ssh_model.specs.Protocol.Side as model;
+ghost use Rattle.ssh_model.specs.declared.side.Side.TheVariants as sides;
 ghost use Rattle.ssh_model.specs.Protocol.Wire.Message.{KexEcdhReply};
 ghost use Rattle.ssh_model.specs.Laws.Sizes.{payload_size};
 ghost use Rattle.ssh_model.specs.Protocol.Sessions.Turns.{IsSpelled};
@@ -10,6 +10,7 @@ ghost use Rattle.ssh_model.specs.State.TransportLayer.Kept.{IsChosen, shared_wit
 ghost use Rattle.ssh_kex.specs.Values.{chosen_of, owned_chosen};
 ghost use Rattle.ssh_transport_machine.specs.Finishing.{AreKnown, HasChoice};
 ghost use Rattle.ssh_transport.specs.OfServer.Answers.{AnswerDue, IsAnswer, IsSigned, IsSpelling};
+ghost use Rattle.ssh_model.specs.Protocol.Bounds.{numbers_of_epoch};
 
 use crate::bytes::has_32_bytes;
 use ssh_kex::{Agreement, Choice, HostSigner, OwnedChoice};
@@ -56,7 +57,7 @@ pub fn spell_answer<S: Sealing, A: Agreement, H: HostSigner>(
     point: &[u8; 32],
     shared: &[u8; 32],
 ) -> Result<Spelling<S::Key>, AllocError>
-    requires side { machine.now.kept.side ≡ model.Server }
+    requires side { machine.now.kept.side ≡ sides.Server }
     requires choice { HasChoice machine.now.kept }
     requires shares { shared_with (record { point = A.public_of agreement.now; shared = A.shared_of agreement.now })
         machine.now.kept.underway.secret point.now ≡ Some shared.now }
@@ -70,7 +71,7 @@ pub fn spell_answer<S: Sealing, A: Agreement, H: HostSigner>(
       host_key = H.key_of signer.now;
       host_signature = H.signature_of signer.now;
     }) machine.now.kept point.now) }
-    ensures room { OnErr result (machine.now.kept.sending.count + 2 ≤ 2 ^ 32) }
+    ensures room { OnErr result (machine.now.kept.sending.count + 2 ≤ numbers_of_epoch) }
 {
     let choice = machine.choice();
     let signed = sign(machine, agreement, signer, &choice, point, shared);
@@ -93,7 +94,7 @@ fn sign<S: Sealing, A: Agreement, H: HostSigner>(
     point: &[u8; 32],
     shared: &[u8; 32],
 ) -> Signed
-    requires side { machine.now.kept.side ≡ model.Server }
+    requires side { machine.now.kept.side ≡ sides.Server }
     requires chosen { IsChosen machine.now.kept (chosen_of choice.now) }
     requires shares { shared_with (record { point = A.public_of agreement.now; shared = A.shared_of agreement.now })
         machine.now.kept.underway.secret point.now ≡ Some shared.now }
@@ -134,7 +135,7 @@ fn answer_fits<S: Sealing, A: Agreement, H: HostSigner>(
     shared: &[u8; 32],
     signed: &Signed,
 )
-    requires side { machine.now.kept.side ≡ model.Server }
+    requires side { machine.now.kept.side ≡ sides.Server }
     requires chosen { IsChosen machine.now.kept (chosen_of choice.now) }
     requires shares { shared_with (record { point = A.public_of agreement.now; shared = A.shared_of agreement.now })
         machine.now.kept.underway.secret point.now ≡ Some shared.now }
@@ -165,7 +166,7 @@ fn spell_signed<S: Sealing, A: Agreement, H: HostSigner>(
     shared: &[u8; 32],
     signed: &Signed,
 ) -> Result<Answer<S::Key>, AllocError>
-    requires side { machine.now.kept.side ≡ model.Server }
+    requires side { machine.now.kept.side ≡ sides.Server }
     requires chosen { IsChosen machine.now.kept (chosen_of choice) }
     requires known { AreKnown S.crypto (chosen_of choice) }
     requires shares { shared_with (record { point = A.public_of agreement.now; shared = A.shared_of agreement.now })

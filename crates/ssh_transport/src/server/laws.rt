@@ -1,12 +1,12 @@
 //! Laws of what a server makes of a client's point: turns of a session. Facts for proofs, at no cost.
 
 ghost use Rattle.std.specs.Prelude.{◌≡◌, ◌+◌, ℕ, List, [], ◌∷◌, Some, false, true};
-ghost use Rattle.ssh_model.specs.Protocol.Side.{Side.Server};
+ghost use Rattle.ssh_model.specs.declared.side.Side.TheVariants.{Server};
 ghost use Rattle.ssh_model.specs.Protocol.KeyExchange.Choice.{Chosen};
 ghost use Rattle.ssh_model.specs.Protocol.Channels.Connection.{AreReplies, owed_replies};
 ghost use Rattle.ssh_model.specs.Protocol.Sessions.Items.{Item, Item.Died, Item.Refused};
 ghost use Rattle.ssh_model.specs.Protocol.Sessions.Parties.{Parties};
-ghost use Rattle.ssh_model.specs.Protocol.Sessions.Refusals.{Refusal.BadPoint, Refusal.NumberSpent};
+ghost use Rattle.ssh_model.specs.declared.refusal.Refusal.TheVariants.{BadPoint, NumberSpent};
 ghost use Rattle.ssh_model.specs.Protocol.Sessions.Turns.{AreSpelled};
 ghost use Rattle.ssh_model.specs.State.TransportLayer.Kept.{ExchangeParts, Transport, after_taken};
 ghost use Rattle.ssh_model.specs.State.TransportLayer.Summary.{SumsUp, parts_of};

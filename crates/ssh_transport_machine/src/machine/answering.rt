@@ -7,6 +7,7 @@ ghost use Rattle.ssh_transport_machine.specs.Padding.{PadsTo, sending_by};
 ghost use Rattle.ssh_transport_machine.specs.Offering.{BothAnswered, OwnAnswered};
 ghost use Rattle.ssh_transport_machine.specs.Puts.{Sends, outs};
 ghost use Rattle.ssh_transport_machine.specs.State.{noted};
+ghost use Rattle.ssh_model.specs.Protocol.Bounds.{numbers_of_epoch};
 
 use crate::machine::Machine;
 use crate::machine::kexinit::KexinitFacts;
@@ -29,7 +30,7 @@ impl<S: Sealing> Machine<S> {
         out: &mut Vec<u8>,
         sent: &mut Outgoing<F>,
     ) -> Result<(), AllocError>
-        requires left { self.old.kept.sending.count < 2 ^ 32 }
+        requires left { self.old.kept.sending.count < numbers_of_epoch }
         ensures sends { OnOk result (Sends S.crypto self.old.kept.sending (KexEcdhInit point.now)
             (outs out.old out.new sent.old sent.new)) }
         ensures after { OnOk result (self.new ≡ record self.old
@@ -57,7 +58,7 @@ impl<S: Sealing> Machine<S> {
         out: &mut Vec<u8>,
         sent: &mut Outgoing<F>,
     ) -> Result<(), AllocError>
-        requires left { self.old.kept.sending.count < 2 ^ 32 }
+        requires left { self.old.kept.sending.count < numbers_of_epoch }
         ensures sends { OnOk result (OwnAnswered S.crypto self.old (record { cookie = material.cookie; secret = material.secret }) facts
             self.new (outs out.old out.new sent.old sent.new)) }
         ensures dead { OnErr result (self.new.kept.dead ≡ true) }
@@ -85,7 +86,7 @@ impl<S: Sealing> Machine<S> {
         out: &mut Vec<u8>,
         sent: &mut Outgoing<F>,
     ) -> Result<(), AllocError>
-        requires left { self.old.kept.sending.count + 1 < 2 ^ 32 }
+        requires left { self.old.kept.sending.count + 1 < numbers_of_epoch }
         ensures sends { OnOk result (BothAnswered S.crypto self.old (record { cookie = material.cookie; secret = material.secret })
             point.now facts self.new (outs out.old out.new sent.old sent.new)) }
         ensures dead { OnErr result (self.new.kept.dead ≡ true) }

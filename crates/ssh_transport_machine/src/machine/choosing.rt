@@ -8,15 +8,15 @@ ghost use Rattle.ssh_model.specs.Protocol.Sessions.Parties.{lists_of as lists_of
 ghost use Rattle.ssh_model.specs.State.TransportLayer.Kept.{IsChosen, choice_with, has_choice_with, own_offer};
 ghost use Rattle.ssh_message.specs.Meaning.{meaning, proposal_meaning};
 ghost use Rattle.ssh_kex.specs.Values.{chosen_of, lists_of};
-ghost use Rattle.ssh_transport_base.specs.Config.{AreGood};
-ghost use Rattle.ssh_transport_base.specs.Meaning.{given_of};
+ghost use Rattle.ssh_config.specs.Config.{AreGood};
+ghost use Rattle.ssh_config.specs.Meaning.{given_of};
 ghost use Rattle.ssh_transport_machine.specs.Finishing.{AreKnown, HasChoice, IsChoiceOf, IsKexinit, is_choice_with};
 
 use crate::machine::Machine;
+use ssh_config::every_config_is_good;
 use ssh_kex::{Choice, KexLists, choose};
 use ssh_message::{Message, Proposal, decode};
 use ssh_packet::Sealing;
-use ssh_transport_base::every_config_is_good;
 use ssh_types::Side;
 
 impl<S: Sealing> Machine<S> {

@@ -4,9 +4,10 @@ ghost use Rattle.std.specs.Prelude.{◌≡◌, ◌<◌, ◌-◌, ◌^◌, None, 
 ghost use Rattle.ssh_model.specs.Protocol.Sessions.Phases as model;
 ghost use Rattle.ssh_model.specs.Protocol.Wire.Message.{NewKeys};
 ghost use Rattle.ssh_model.specs.State.TransportLayer.Directions.{counted, renewed};
-ghost use Rattle.ssh_transport_base.specs.Directions.{newkeys};
+ghost use Rattle.ssh_packet.specs.Directions.{newkeys};
 ghost use Rattle.ssh_transport_machine.specs.Padding.{PadsTo, sending_by};
 ghost use Rattle.ssh_transport_machine.specs.Puts.{PutsPayload, Sends, outs};
+ghost use Rattle.ssh_model.specs.Protocol.Bounds.{most_exchanges, numbers_of_epoch};
 
 use crate::machine::{Machine, Phase};
 use crate::outgoing::Outgoing;
@@ -28,8 +29,8 @@ impl<S: Sealing> Machine<S> {
         out: &mut Vec<u8>,
         sent: &mut Outgoing<F>,
     ) -> Result<(), AllocError>
-        requires left { self.old.kept.sending.count < 2 ^ 32 }
-        requires epoch { self.old.kept.sending.epoch < 2 ^ 32 - 1 }
+        requires left { self.old.kept.sending.count < numbers_of_epoch }
+        requires epoch { self.old.kept.sending.epoch < most_exchanges }
         ensures sends { OnOk result (Sends S.crypto self.old.kept.sending NewKeys (outs out.old out.new sent.old sent.new)) }
         ensures after { OnOk result (self.new ≡ record self.old {
           kept = record self.old.kept {
@@ -64,8 +65,8 @@ impl<S: Sealing> Machine<S> {
         out: &mut Vec<u8>,
         sent: &mut Outgoing<F>,
     ) -> Result<(), AllocError>
-        requires left { self.old.kept.sending.count < 2 ^ 32 }
-        requires epoch { self.old.kept.sending.epoch < 2 ^ 32 - 1 }
+        requires left { self.old.kept.sending.count < numbers_of_epoch }
+        requires epoch { self.old.kept.sending.epoch < most_exchanges }
         ensures puts { OnOk result (PutsPayload S.crypto self.old.kept.sending newkeys (outs out.old out.new sent.old sent.new)) }
         ensures after { OnOk result (self.new ≡ record self.old
             { kept = record self.old.kept { sending = renewed self.old.kept.strict key (counted self.old.kept.sending) } }) }
@@ -88,7 +89,7 @@ impl<S: Sealing> Machine<S> {
         requires pending { self.old.kept.pending ≡ None → ⊥ }
         requires shown { self.old.receiver.payload ≡ newkeys }
         requires taken { 0 < self.old.receiver.direction.count }
-        requires epoch { self.old.receiver.direction.epoch < 2 ^ 32 - 1 }
+        requires epoch { self.old.receiver.direction.epoch < most_exchanges }
         ensures { (key : S.Key) → self.old.kept.pending ≡ Some key →
             self.new ≡ record self.old {
               receiver = record self.old.receiver

@@ -3,7 +3,7 @@
 ghost use Rattle.std.specs.Prelude.{◌≡◌, ◌<◌, ◌≤◌, ◌+◌, ◌-◌, ◌^◌, ◌∷◌, [], None, Some, IfOk, OnOk, OnErr, length, map, replicate, true};
 ghost use Rattle.std.specs.Prelude.{false};
 ghost use Rattle.std.specs.Option.{option_map};
-ghost use Rattle.ssh_model.specs.Protocol.Bounds.{longest_payload};
+ghost use Rattle.ssh_model.specs.Protocol.Bounds.{longest_payload, most_exchanges, numbers_of_epoch};
 ghost use Rattle.ssh_model.specs.Protocol.Sessions.Items.{SpelledBy};
 ghost use Rattle.ssh_model.specs.Protocol.Sessions.Turns.{IsSpelled};
 ghost use Rattle.ssh_model.specs.Protocol.Side.{peer};
@@ -11,7 +11,6 @@ ghost use Rattle.ssh_model.specs.Protocol.Wire.DataTypes.{number};
 ghost use Rattle.ssh_model.specs.Protocol.Wire.Message.{Msg, NewKeys};
 ghost use Rattle.ssh_model.specs.State.TransportLayer.Kept.{after_sent};
 ghost use Rattle.ssh_kex.specs.Values.{chosen_of};
-ghost use Rattle.ssh_types.specs.Sides.{side_of};
 ghost use Rattle.ssh_transport_machine.specs.Padding.{PadsTo, sending_by};
 ghost use Rattle.ssh_transport_machine.specs.Finishing.{AreKeys, AreKnown, Finishes, IsAnnouncement, IsDue, after_announced, announced_by};
 ghost use Rattle.ssh_transport_machine.specs.Finishing.{forgotten, key_by, keyed, session_by};
@@ -82,7 +81,7 @@ impl<S: Sealing> Machine<S> {
         choice: &Choice<'_>,
     ) -> Result<S::Key, AllocError>
         requires { AreKnown S.crypto (chosen_of choice.now) }
-        ensures { IfOk result (λ key. key ≡ key_by S.crypto (side_of from) (chosen_of choice.now) (number agreed.now.shared.now)
+        ensures { IfOk result (λ key. key ≡ key_by S.crypto from (chosen_of choice.now) (number agreed.now.shared.now)
             agreed.now.hash.now agreed.now.session.now) }
     {
         match from {
@@ -115,8 +114,8 @@ impl<S: Sealing> Machine<S> {
         out: &mut Vec<u8>,
         sent: &mut Outgoing<F>,
     ) -> Result<(), AllocError>
-        requires left { self.old.kept.sending.count < 2 ^ 32 }
-        requires epoch { self.old.kept.sending.epoch < 2 ^ 32 - 1 }
+        requires left { self.old.kept.sending.count < numbers_of_epoch }
+        requires epoch { self.old.kept.sending.epoch < most_exchanges }
         requires due { IsAnnouncement self.old.kept (option_map (λ v. v.items) announcement) }
         ensures finishes { OnOk result (Finishes S.crypto self.old.kept [] keys.own
             (announced_by self.old.kept.settings.extensions (option_map (λ v. v.items) announcement))
@@ -144,8 +143,8 @@ impl<S: Sealing> Machine<S> {
         out: &mut Vec<u8>,
         sent: &mut Outgoing<F>,
     ) -> Result<(), AllocError>
-        requires left { self.old.kept.sending.count < 2 ^ 32 }
-        requires epoch { self.old.kept.sending.epoch < 2 ^ 32 - 1 }
+        requires left { self.old.kept.sending.count < numbers_of_epoch }
+        requires epoch { self.old.kept.sending.epoch < most_exchanges }
         ensures sends { OnOk result (Sends S.crypto self.old.kept.sending NewKeys (outs out.old out.new sent.old sent.new)) }
         ensures after { OnOk result (self.new ≡ record self.old
             { kept = forgotten (keyed keys.own keys.theirs keys.session self.old.kept) }) }
@@ -174,8 +173,8 @@ impl<S: Sealing> Machine<S> {
         out: &mut Vec<u8>,
         sent: &mut Outgoing<F>,
     ) -> Result<(), AllocError>
-        requires left { self.old.kept.sending.count < 2 ^ 32 }
-        requires epoch { self.old.kept.sending.epoch < 2 ^ 32 - 1 }
+        requires left { self.old.kept.sending.count < numbers_of_epoch }
+        requires epoch { self.old.kept.sending.epoch < most_exchanges }
         requires due { IsDue self.old.kept payload.items }
         ensures finishes { OnOk result (Finishes S.crypto self.old.kept [] keys.own
             (announced_by self.old.kept.settings.extensions (Some payload.items)) (outs out.old out.new sent.old sent.new)) }
@@ -212,8 +211,8 @@ impl<S: Sealing> Machine<S> {
         out: &mut Vec<u8>,
         sent: &mut Outgoing<F>,
     ) -> Result<(), AllocError>
-        requires left { self.old.kept.sending.count + 1 < 2 ^ 32 }
-        requires epoch { self.old.kept.sending.epoch < 2 ^ 32 - 1 }
+        requires left { self.old.kept.sending.count + 1 < numbers_of_epoch }
+        requires epoch { self.old.kept.sending.epoch < most_exchanges }
         requires some { 1 ≤ length payload.items }
         requires most { length payload.items ≤ longest_payload }
         requires due { IsAnnouncement self.old.kept (option_map (λ v. v.items) announcement) }
@@ -244,8 +243,8 @@ impl<S: Sealing> Machine<S> {
 
     /// Tests whether numbers for so many packets are left in the epoch.
     pub fn has_numbers(&self, packets: u64) -> bool
-        ensures has { result ≡ true → self.now.kept.sending.count + packets ≤ 2 ^ 32 }
-        ensures lacks { result ≡ false → 2 ^ 32 < self.now.kept.sending.count + packets }
+        ensures has { result ≡ true → self.now.kept.sending.count + packets ≤ numbers_of_epoch }
+        ensures lacks { result ≡ false → numbers_of_epoch < self.now.kept.sending.count + packets }
     {
         packets <= self.sending.numbers_left()
     }

@@ -7,23 +7,22 @@ ghost use Rattle.ssh_model.specs.Protocol.KeyExchange.Exchanges.{has_marker};
 ghost use Rattle.ssh_model.specs.Protocol.Sessions.Parties.{extension_marker_of, is_required, lists_of as lists_offered, marker_of};
 ghost use Rattle.ssh_model.specs.Protocol.Sessions.Phases as model_phase;
 ghost use Rattle.ssh_model.specs.Protocol.Sessions.Phases.{is_wrong_guess};
-ghost use Rattle.ssh_model.specs.Protocol.Side as session;
+ghost use Rattle.ssh_model.specs.declared.side.Side.TheVariants as sides;
 ghost use Rattle.ssh_model.specs.Protocol.Side.{peer};
 ghost use Rattle.ssh_model.specs.State.TransportLayer.Kept.{becomes_strict, first_kex, has_choice_with, own_offer};
 ghost use Rattle.ssh_message.specs.Meaning.{proposal_meaning};
-ghost use Rattle.ssh_types.specs.Sides.{side_of};
 ghost use Rattle.ssh_types.specs.Values.{names};
 ghost use Rattle.ssh_kex.specs.Values.{lists_of, proposed};
 ghost use Rattle.ssh_transport_machine.specs.Kexinits.{AreFacts, IsJudged};
-ghost use Rattle.ssh_transport_base.specs.Meaning.{settings_of};
+ghost use Rattle.ssh_config.specs.Meaning.{settings_of};
 ghost use Rattle.ssh_transport_machine.specs.State.{before_taken, noted, phase_of};
 
 use crate::machine::numbers::shows_strictness;
 use crate::machine::{Machine, Phase};
+use ssh_config::{Config, no_names, uncompressed};
 use ssh_kex::{KexLists, choose, extension_markers, guess_wrong, markers};
 use ssh_message::Proposal;
 use ssh_packet::Sealing;
-use ssh_transport_base::{Config, no_names, uncompressed};
 use ssh_types::{Refusal, Side};
 
 /// What a KEXINIT that nothing refuses settles.
@@ -196,7 +195,7 @@ fn phase_after(wrong: bool) -> Phase
 
 // The peer's marker of strict key exchange stands in its kex list.
 fn peer_marker(side: Side, lists: &KexLists<'_>) -> bool
-    ensures { result ≡ has_marker (marker_of (peer (side_of side))) (names lists.now.kex) }
+    ensures { result ≡ has_marker (marker_of (peer side)) (names lists.now.kex) }
 {
     let (client, server) = markers(lists);
     match side {
@@ -207,7 +206,7 @@ fn peer_marker(side: Side, lists: &KexLists<'_>) -> bool
 
 // The peer's marker of extensions stands in its kex list.
 fn peer_extension_marker(side: Side, lists: &KexLists<'_>) -> bool
-    ensures { result ≡ has_marker (extension_marker_of (peer (side_of side))) (names lists.now.kex) }
+    ensures { result ≡ has_marker (extension_marker_of (peer side)) (names lists.now.kex) }
 {
     let (client, server) = extension_markers(lists);
     match side {
@@ -218,15 +217,15 @@ fn peer_extension_marker(side: Side, lists: &KexLists<'_>) -> bool
 
 // Both ends offer strict key exchange.
 fn makes_strict<S: Sealing>(config: &Config<S>, side: Side, lists: &KexLists<'_>) -> bool
-    ensures { result ≡ (has_marker (marker_of (side_of side)) (first_kex (settings_of config.now) (side_of side))
-        && has_marker (marker_of (peer (side_of side))) (names lists.now.kex)) }
+    ensures { result ≡ (has_marker (marker_of side) (first_kex (settings_of config.now) side)
+        && has_marker (marker_of (peer side)) (names lists.now.kex)) }
 {
     shows_strictness(config, side) && peer_marker(side, lists)
 }
 
 // The lists of this end, without markers.
 fn own_lists<S: Sealing>(config: &Config<S>) -> KexLists<'_>
-    ensures { lists_of result ≡ lists_offered (own_offer (settings_of config.now) session.Client) }
+    ensures { lists_of result ≡ lists_offered (own_offer (settings_of config.now) sides.Client) }
 {
     KexLists {
         kex: config.kex(),
@@ -244,7 +243,7 @@ fn own_lists<S: Sealing>(config: &Config<S>) -> KexLists<'_>
 
 // Each kind has a common name.
 fn can_choose(side: Side, own: &KexLists<'_>, theirs: &KexLists<'_>) -> bool
-    ensures { result ≡ has_choice_with (side_of side) (lists_of own.now) (lists_of theirs.now) }
+    ensures { result ≡ has_choice_with side (lists_of own.now) (lists_of theirs.now) }
 {
     match side {
         Side::Client => has_choice(own, theirs),

@@ -5,15 +5,15 @@ ghost use Rattle.ssh_transport_machine.specs.Puts.{outs};
 ghost use Rattle.std.specs.Prelude.{◌≡◌, ◌<◌, ◌++◌, ◌^◌, IfOk, OnErr, OnOk};
 ghost use Rattle.ssh_model.specs.Protocol.Sessions.Phases.{is_client};
 ghost use Rattle.ssh_model.specs.Protocol.Wire.Line.{line_end};
-ghost use Rattle.ssh_types.specs.Sides.{side_of};
-ghost use Rattle.ssh_transport_base.specs.Meaning.{settings_of};
+ghost use Rattle.ssh_config.specs.Meaning.{settings_of};
 ghost use Rattle.ssh_transport_machine.specs.Opening.{IsBegun, IsOpened, unopened};
+ghost use Rattle.ssh_model.specs.Protocol.Bounds.{numbers_of_epoch};
 
 use crate::machine::kexinit_payload::KexinitPayload;
 use crate::machine::{Machine, Phase};
 use crate::outgoing::Outgoing;
-use ssh_packet::{Filler, LineReader, Sealing};
-use ssh_transport_base::{Config, PacketReceiver, PacketSender};
+use ssh_config::Config;
+use ssh_packet::{Filler, LineReader, PacketReceiver, PacketSender, Sealing};
 use ssh_types::Side;
 use std::alloc::{AllocError, Global};
 
@@ -33,10 +33,10 @@ impl<S: Sealing> Machine<S> {
         out: &mut Vec<u8>,
         sent: &mut Outgoing<F>,
     ) -> Result<Machine<S>, AllocError>
-        ensures opened { IfOk result (λ machine. IsOpened S.crypto (settings_of config) (side_of side) cookie secret machine
+        ensures opened { IfOk result (λ machine. IsOpened S.crypto (settings_of config) side cookie secret machine
             (outs out.old out.new sent.old sent.new)) }
         ensures padded { IfOk result (λ machine. PadsTo S.crypto F.gives
-            (sending_after_line (unopened (settings_of config) (side_of side) secret) sent.old out.old)
+            (sending_after_line (unopened (settings_of config) side secret) sent.old out.old)
             (sending_by machine sent.new out.new)) }
         ensures out { OnErr result (out.new.items ≡ out.old.items) }
         ensures kept { OnErr result (sent.new.payloads.items ≡ sent.old.payloads.items) }
@@ -53,7 +53,7 @@ impl<S: Sealing> Machine<S> {
         config: Config<S>,
         secret: [u8; 32],
     ) -> Result<Machine<S>, AllocError>
-        ensures { IfOk result (λ machine. machine ≡ unopened (settings_of config) (side_of side) secret) }
+        ensures { IfOk result (λ machine. machine ≡ unopened (settings_of config) side secret) }
     {
         let taking = PacketReceiver::new(alloc)?;
         let own = KexinitPayload::new(alloc)?;
@@ -90,7 +90,7 @@ impl<S: Sealing> Machine<S> {
         out: &mut Vec<u8>,
         sent: &mut Outgoing<F>,
     ) -> Result<(), AllocError>
-        requires left { self.old.kept.sending.count < 2 ^ 32 }
+        requires left { self.old.kept.sending.count < numbers_of_epoch }
         ensures begun { OnOk result (IsBegun S.crypto self.old cookie.now self.new (outs out.old out.new sent.old sent.new)) }
         ensures out { OnErr result (out.new.items ≡ out.old.items) }
         ensures kept { OnErr result (sent.new.payloads.items ≡ sent.old.payloads.items) }
@@ -125,7 +125,7 @@ fn put_line(line: &[u8], out: &mut Vec<u8>) -> Result<(), AllocError>
 
 // The lines are those of a server.
 fn reads_server(side: Side) -> bool
-    ensures { result ≡ is_client (side_of side) }
+    ensures { result ≡ is_client side }
 {
     match side {
         Side::Client => true,

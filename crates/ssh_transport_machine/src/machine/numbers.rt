@@ -8,13 +8,12 @@ ghost use Rattle.ssh_model.specs.Protocol.Sessions.Turns.{number_of};
 ghost use Rattle.ssh_model.specs.Protocol.Wire.Message as messages;
 ghost use Rattle.ssh_model.specs.State.TransportLayer.Kept as kept;
 ghost use Rattle.ssh_model.specs.State.TransportLayer.Kept.{first_kex, takes_announced, takes_service};
-ghost use Rattle.ssh_types.specs.Sides.{side_of};
-ghost use Rattle.ssh_transport_base.specs.Meaning.{settings_of};
+ghost use Rattle.ssh_config.specs.Meaning.{settings_of};
 ghost use Rattle.ssh_transport_machine.specs.State.{before_taken};
 
 use crate::machine::{Machine, Phase};
+use ssh_config::{Config, every_config_is_good};
 use ssh_packet::Sealing;
-use ssh_transport_base::{Config, every_config_is_good};
 use ssh_types::Side;
 
 impl<S: Sealing> Machine<S> {
@@ -99,7 +98,7 @@ impl<S: Sealing> Machine<S> {
 /// The first KEXINIT of an end with this config has the marker of extensions.
 #[tactic(auto, using(crate::proofs::OwnMarkers::own_extensions))]
 pub fn shows_extensions<S: Sealing>(config: &Config<S>, side: Side) -> bool
-    ensures { result ≡ has_marker (extension_marker_of (side_of side)) (first_kex (settings_of config.now) (side_of side)) }
+    ensures { result ≡ has_marker (extension_marker_of side) (first_kex (settings_of config.now) side) }
 {
     every_config_is_good(config);
     config.takes_extensions()
@@ -108,7 +107,7 @@ pub fn shows_extensions<S: Sealing>(config: &Config<S>, side: Side) -> bool
 /// The first KEXINIT of an end with this config has the marker of strict key exchange.
 #[tactic(auto, using(crate::proofs::OwnMarkers::own_strict))]
 pub fn shows_strictness<S: Sealing>(config: &Config<S>, side: Side) -> bool
-    ensures { result ≡ has_marker (marker_of (side_of side)) (first_kex (settings_of config.now) (side_of side)) }
+    ensures { result ≡ has_marker (marker_of side) (first_kex (settings_of config.now) side) }
 {
     every_config_is_good(config);
     config.strictness().is_offered()
@@ -161,7 +160,7 @@ fn is_spare(number: u8) -> bool
 
 // The message of the exchange that comes from the peer.
 fn awaited(side: Side) -> u8
-    ensures { result ≡ model.awaited (side_of side) }
+    ensures { result ≡ model.awaited side }
 {
     match side {
         Side::Server => 30,

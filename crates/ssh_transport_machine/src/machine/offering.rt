@@ -9,12 +9,14 @@ ghost use Rattle.ssh_model.specs.Protocol.Sessions.Parties.{offer_of};
 ghost use Rattle.ssh_model.specs.Protocol.Sessions.Turns.{IsSpelled};
 ghost use Rattle.ssh_model.specs.State.TransportLayer.Kept.{after_fed, can_be_fed};
 ghost use Rattle.ssh_transport_machine.specs.Offering.{OwnSent};
+ghost use Rattle.ssh_model.specs.Protocol.Bounds.{most_exchanges, numbers_of_epoch};
 
 use crate::machine::Machine;
 use crate::machine::material::Material;
 use crate::outgoing::Outgoing;
+use ssh_config::put_kexinit;
 use ssh_packet::{Filler, Sealing};
-use ssh_transport_base::put_kexinit;
+use ssh_types::bounds::MOST_EXCHANGES;
 use std::alloc::AllocError;
 
 impl<S: Sealing> Machine<S> {
@@ -29,7 +31,7 @@ impl<S: Sealing> Machine<S> {
         out: &mut Vec<u8>,
         sent: &mut Outgoing<F>,
     ) -> Result<(), AllocError>
-        requires left { self.old.kept.sending.count < 2 ^ 32 }
+        requires left { self.old.kept.sending.count < numbers_of_epoch }
         ensures sends { OnOk result (OwnSent S.crypto self.old (record { cookie = material.cookie; secret = material.secret }) self.new
             (outs out.old out.new sent.old sent.new)) }
         ensures dead { OnErr result (self.new.kept.dead ≡ true) }
@@ -93,8 +95,8 @@ impl<S: Sealing> Machine<S> {
     // Tests whether a pair may be fed.
     fn can_feed(&self) -> bool
         ensures fed { result ≡ can_be_fed self.now.kept }
-        ensures left { result ≡ true → self.now.kept.fed < 4294967295 }
+        ensures left { result ≡ true → self.now.kept.fed < most_exchanges }
     {
-        !self.dead && !self.has_material() && self.fed < u32::MAX
+        !self.dead && !self.has_material() && self.fed < MOST_EXCHANGES
     }
 }

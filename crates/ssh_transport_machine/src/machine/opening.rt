@@ -1,11 +1,10 @@
 //! Packets that an end takes.
 
 ghost use Rattle.std.specs.Prelude.{◌≡◌, ◌<◌, ◌≤◌, ◌++◌, None, length, take};
-ghost use Rattle.ssh_transport_base.specs.Directions.{Receives};
+ghost use Rattle.ssh_packet.specs.Directions.{Receives};
 
 use crate::machine::Machine;
-use ssh_packet::Sealing;
-use ssh_transport_base::PacketStep;
+use ssh_packet::{PacketStep, Sealing};
 
 impl<S: Sealing> Machine<S> {
     /// Takes bytes to the end of one packet. It needs no memory.

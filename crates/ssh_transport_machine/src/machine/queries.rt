@@ -2,7 +2,7 @@
 
 ghost use Rattle.std.specs.Prelude.{◌≡◌, ◌≤◌, length, nat_le};
 ghost use Rattle.std.specs.Option.{option_copied};
-ghost use Rattle.ssh_transport_base.specs.Directions.{next_number};
+ghost use Rattle.ssh_packet.specs.Directions.{next_number};
 ghost use Rattle.ssh_transport_machine.specs.State.{last_number as number_before, line_taken};
 ghost use Rattle.ssh_model.specs.Protocol.Bounds.{largest_packet};
 

@@ -2,11 +2,11 @@
 
 ghost use Rattle.std.specs.Prelude.{◌≡◌, ◌<◌, ◌≤◌, ◌^◌, IsTrue, OnOk, OnErr, false, length, true};
 ghost use Rattle.ssh_model.specs.Protocol.Sessions.Refusals.{refusal_name};
-ghost use Rattle.ssh_types.specs.Refusals.{refusal_of};
 ghost use Rattle.ssh_transport_machine.specs.Padding.{PadsTo, sending_by};
 ghost use Rattle.ssh_transport_machine.specs.Puts.{Refuses, outs};
 ghost use Rattle.ssh_transport_machine.specs.State.{dead_state};
 ghost use Rattle.ssh_transport_machine.specs.Turning.{RefusalLacks};
+ghost use Rattle.ssh_model.specs.Protocol.Bounds.{numbers_of_epoch};
 
 use crate::machine::Machine;
 use crate::outgoing::Outgoing;
@@ -29,7 +29,7 @@ impl<S: Sealing> Machine<S> {
         out: &mut Vec<u8>,
         sent: &mut Outgoing<F>,
     ) -> Result<(), AllocError>
-        ensures refuses { OnOk result (Refuses S.crypto self.old.kept (refusal_of refusal) self.new.kept
+        ensures refuses { OnOk result (Refuses S.crypto self.old.kept refusal self.new.kept
             (outs out.old out.new sent.old sent.new)) }
         ensures reading { OnOk result (self.new ≡ record self.old { kept = self.new.kept }) }
         ensures dead { OnErr result (self.new ≡ dead_state self.old) }
@@ -59,8 +59,8 @@ impl<S: Sealing> Machine<S> {
 
     /// Tests whether no number is left in the epoch.
     pub fn is_spent(&self) -> bool
-        ensures spent { IsTrue result → self.now.kept.sending.count ≡ 2 ^ 32 }
-        ensures left { result ≡ false → self.now.kept.sending.count < 2 ^ 32 }
+        ensures spent { IsTrue result → self.now.kept.sending.count ≡ numbers_of_epoch }
+        ensures left { result ≡ false → self.now.kept.sending.count < numbers_of_epoch }
     {
         self.sending.is_spent()
     }
@@ -69,7 +69,7 @@ impl<S: Sealing> Machine<S> {
 // What the DISCONNECT describes.
 #[tactic(auto, using(crate::proofs::Refusals::short_name))]
 fn name_of(refusal: Refusal) -> &'static [u8]
-    ensures value { result.now ≡ refusal_name (refusal_of refusal) }
+    ensures value { result.now ≡ refusal_name refusal }
     ensures short { length result.now ≤ 20 }
 {
     refusal.name().as_bytes()

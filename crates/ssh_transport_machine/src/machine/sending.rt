@@ -1,7 +1,7 @@
 //! Messages that an end sends.
 
 ghost use Rattle.std.specs.Prelude.{◌≡◌, ◌<◌, ◌≤◌, ◌^◌, IfOk, OnOk, OnErr, length, true};
-ghost use Rattle.ssh_model.specs.Protocol.Bounds.{longest_payload};
+ghost use Rattle.ssh_model.specs.Protocol.Bounds.{longest_payload, numbers_of_epoch};
 ghost use Rattle.ssh_model.specs.Protocol.Wire.Message.{FitsContext};
 ghost use Rattle.ssh_model.specs.Laws.Sizes.{payload_size};
 ghost use Rattle.ssh_model.specs.Protocol.Sessions.Turns.{IsSpelled};
@@ -30,7 +30,7 @@ impl<S: Sealing> Machine<S> {
         out: &mut Vec<u8>,
         sent: &mut Outgoing<F>,
     ) -> Result<(), AllocError>
-        requires left { self.old.kept.sending.count < 2 ^ 32 }
+        requires left { self.old.kept.sending.count < numbers_of_epoch }
         requires fits { Fits message.now }
         requires context { FitsContext true (meaning message.now) }
         requires most { payload_size (meaning message.now) ≤ longest_payload }
@@ -79,7 +79,7 @@ impl<S: Sealing> Machine<S> {
         out: &mut Vec<u8>,
         sent: &mut Outgoing<F>,
     ) -> Result<(), AllocError>
-        requires left { self.old.kept.sending.count < 2 ^ 32 }
+        requires left { self.old.kept.sending.count < numbers_of_epoch }
         requires some { 1 ≤ length payload.items }
         requires most { length payload.items ≤ longest_payload }
         ensures puts { OnOk result (PutsPayload S.crypto self.old.kept.sending payload.items (outs out.old out.new sent.old sent.new)) }
@@ -104,7 +104,7 @@ impl<S: Sealing> Machine<S> {
         out: &mut Vec<u8>,
         sent: &mut Outgoing<F>,
     ) -> Result<(), AllocError>
-        requires left { self.old.kept.sending.count < 2 ^ 32 }
+        requires left { self.old.kept.sending.count < numbers_of_epoch }
         requires some { 1 ≤ length payload.items }
         requires most { length payload.items ≤ longest_payload }
         ensures puts { OnOk result (PutsPayload S.crypto self.old.kept.sending payload.items (outs out.old out.new sent.old sent.new)) }

@@ -4,7 +4,7 @@ ghost use Rattle.ssh_transport_machine.specs.Padding.{PadsTo, sending_by};
 ghost use Rattle.ssh_transport_machine.specs.Puts.{outs};
 ghost use Rattle.std.specs.Prelude.{◌≡◌, IfOk, None, OnErr, OnOk, false, length, true};
 ghost use Rattle.ssh_model.specs.Protocol.Wire.Message.{KexInit};
-ghost use Rattle.ssh_model.specs.Protocol.Side.{Server};
+ghost use Rattle.ssh_model.specs.declared.side.Side.TheVariants.{Server};
 ghost use Rattle.ssh_model.specs.Protocol.Sessions.Parties.{offer_of};
 ghost use Rattle.ssh_model.specs.Protocol.Sessions.TurnClaims.{HasSpelling};
 ghost use Rattle.ssh_transport_machine.specs.Turning.{Does, KexinitDone, KexinitLacks};
@@ -15,8 +15,8 @@ use crate::machine::judging::Judged;
 use crate::machine::kexinit::KexinitFacts;
 use crate::machine::turn::{Answer, PayloadTurn};
 use crate::outgoing::Outgoing;
+use ssh_config::every_config_is_good;
 use ssh_packet::{Filler, Sealing};
-use ssh_transport_base::every_config_is_good;
 use ssh_types::Side;
 use std::alloc::AllocError;
 

@@ -3,15 +3,14 @@
 ghost use Rattle.ssh_transport_machine.specs.Padding.{PadsTo, sending_by};
 ghost use Rattle.ssh_transport_machine.specs.Puts.{outs};
 ghost use Rattle.std.specs.Prelude.{◌≡◌, ◌<◌, ◌≤◌, ◌++◌, IfOk, OnErr, OnOk, length, take, true};
-ghost use Rattle.ssh_transport_base.specs.declared.packets.step.PacketStep.TheVariants as step;
+ghost use Rattle.ssh_packet.specs.declared.packets.step.PacketStep.TheVariants as step;
 ghost use Rattle.ssh_transport_machine.specs.State.{IsLive};
 ghost use Rattle.ssh_transport_machine.specs.Turning.{PacketDone, PacketLacks, PacketTaken, RefusalLacks, TurnLacks};
 
 use crate::machine::Machine;
 use crate::machine::turn::PacketTurn;
 use crate::outgoing::Outgoing;
-use ssh_packet::{Filler, Sealing};
-use ssh_transport_base::PacketStep;
+use ssh_packet::{Filler, PacketStep, Sealing};
 use ssh_types::Refusal;
 use std::alloc::AllocError;
 

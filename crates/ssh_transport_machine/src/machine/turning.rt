@@ -7,6 +7,7 @@ ghost use Rattle.ssh_transport_machine.specs.Judging.{PayloadJudged};
 ghost use Rattle.ssh_transport_machine.specs.State.{IsLive, before_taken};
 ghost use Rattle.ssh_transport_machine.specs.Turning.{Does, NewkeysTaken, TurnLacks, Turns, WouldSend};
 ghost use Rattle.ssh_transport_machine.specs.declared.machine.judging.Judged.TheVariants as judgement;
+ghost use Rattle.ssh_model.specs.Protocol.Bounds.{numbers_of_epoch};
 
 use crate::machine::judging::Judged;
 use crate::machine::turn::PayloadTurn;
@@ -43,7 +44,7 @@ impl<S: Sealing> Machine<S> {
 
     // An epoch has no more packets than there are numbers: a fact for proofs.
     fn few_packets(&self)
-        ensures { self.now.kept.taking.count ≤ 2 ^ 32 }
+        ensures { self.now.kept.taking.count ≤ numbers_of_epoch }
     {
         self.taking.count();
     }

@@ -1,7 +1,8 @@
 use Rattle.std.proofs.Common.{arith}
 use Rattle.ssh_model.specs.Protocol.Sessions.Parties.{Agreement}
-use Rattle.ssh_model.specs.Protocol.Sessions.Refusals.{Refusal.BadHost, Refusal.BadPoint, refusal_name}
-use Rattle.ssh_model.specs.Protocol.Side.{Side.Client}
+use Rattle.ssh_model.specs.declared.refusal.Refusal.TheVariants.{BadHost, BadPoint}
+use Rattle.ssh_model.specs.Protocol.Sessions.Refusals.{refusal_name}
+use Rattle.ssh_model.specs.declared.side.Side.TheVariants.{Client}
 use Rattle.ssh_transport.specs.OfClient.Replies.{Trusts}
 use Rattle.ssh_transport.proofs.Leaving.{completed, due, up}
 use Rattle.ssh_transport.proofs.OfClient.Lifting.{client_lifts}

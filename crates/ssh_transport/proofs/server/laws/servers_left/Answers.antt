@@ -1,6 +1,7 @@
 use Rattle.std.proofs.Common.{arith}
-use Rattle.ssh_model.specs.Protocol.Sessions.Refusals.{Refusal.BadPoint, refusal_name}
-use Rattle.ssh_model.specs.Protocol.Side.{Side.Server}
+use Rattle.ssh_model.specs.declared.refusal.Refusal.TheVariants.{BadPoint}
+use Rattle.ssh_model.specs.Protocol.Sessions.Refusals.{refusal_name}
+use Rattle.ssh_model.specs.declared.side.Side.TheVariants.{Server}
 use Rattle.ssh_model.specs.State.TransportLayer.Kept.{ExchangeParts}
 use Rattle.ssh_transport.proofs.Leaving.{completed, due, up}
 use Rattle.ssh_transport.proofs.OfServer.Lifting.{server_lifts}

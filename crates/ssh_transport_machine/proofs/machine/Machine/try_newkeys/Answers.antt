@@ -1,5 +1,5 @@
 use Rattle.std.proofs.Common.{◌∙◌, ◌++◌, ◌∷◌, [], ap, refl}
-use Rattle.ssh_transport_base.specs.Directions.{newkeys}
+use Rattle.ssh_packet.specs.Directions.{newkeys}
 use Rattle.ssh_transport_machine.specs.Padding.{Continues.renews}
 use Rattle.ssh_transport_machine.proofs.Padding.{listed_more, pads_sent}
 use Rattle.ssh_transport_machine.proofs.machine.Machine.try_newkeys.Goals as goal

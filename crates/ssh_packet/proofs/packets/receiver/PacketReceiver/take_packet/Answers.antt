@@ -1,0 +1,30 @@
+use Rattle.ssh_packet.specs.Directions.{direction_of}
+use Rattle.ssh_packet.proofs.DirectionUnits.{Live, found_more, found_payload, found_refused, kept_more, unrefused}
+use Rattle.ssh_packet.proofs.packets.receiver.PacketReceiver.take_packet.Goals as goal
+
+pub take-used-requires : goal.take-used-requires
+take-used-requires g c = record { begun = rw c.as_ref.ensures.value c.self.invariant.begun }
+
+pub invariant_of-self-in-More : goal.invariant_of-self-in-More
+invariant_of-self-in-More g c =
+    let l : Live g.S.Sealing.crypto (direction_of c.self.inside.key c.self.inside.number c.self.inside.count c.self.inside.epoch) c.self.inside.reader c.self.inside.ended c.args.self.now =
+    record { same = c.self.view_is; kept = c.self.invariant; live = c.requires.live } in
+    kept_more l c.requires.left _ _ c.are_bytes.ensures _ (rw (c.as_ref.ensures.value, c.in-More.is) at (c.take-used.ensures.found (unrefused l)))
+
+pub returns-in-Packet-clause-received : goal.returns-in-Packet-clause-received
+returns-in-Packet-clause-received g c =
+    let l : Live g.S.Sealing.crypto (direction_of c.self.inside.key c.self.inside.number c.self.inside.count c.self.inside.epoch) c.self.inside.reader c.self.inside.ended c.args.self.now =
+    record { same = c.self.view_is; kept = c.self.invariant; live = c.requires.live } in
+    found_payload l c.requires.left _ _ c.are_bytes.ensures _ (rw (c.as_ref.ensures.value, c.in-Packet.is) at (c.take-used.ensures.found (unrefused l)))
+
+pub returns-in-More-clause-received : goal.returns-in-More-clause-received
+returns-in-More-clause-received g c =
+    let l : Live g.S.Sealing.crypto (direction_of c.self.inside.key c.self.inside.number c.self.inside.count c.self.inside.epoch) c.self.inside.reader c.self.inside.ended c.args.self.now =
+    record { same = c.self.view_is; kept = c.self.invariant; live = c.requires.live } in
+    found_more l c.requires.left _ _ c.are_bytes.ensures _ (rw (c.as_ref.ensures.value, c.in-More.is) at (c.take-used.ensures.found (unrefused l)))
+
+pub returns-in-Refused-clause-received : goal.returns-in-Refused-clause-received
+returns-in-Refused-clause-received g c =
+    let l : Live g.S.Sealing.crypto (direction_of c.self.inside.key c.self.inside.number c.self.inside.count c.self.inside.epoch) c.self.inside.reader c.self.inside.ended c.args.self.now =
+    record { same = c.self.view_is; kept = c.self.invariant; live = c.requires.live } in
+    found_refused l c.requires.left _ _ c.are_bytes.ensures _ _ _ c.from-refusal.ensures (rw (c.as_ref.ensures.value, c.in-Refused.is) at (c.take-used.ensures.found (unrefused l)))

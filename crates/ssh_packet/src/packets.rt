@@ -1,0 +1,22 @@
+//! The packets of one direction at one end, of a client as of a server: their key, their numbers and their epochs (RFC 4253
+//! sections 6 and 6.4).
+
+ghost use Rattle.std.specs.Prelude.{◌≡◌, ◌<◌, ◌^◌, if◌then◌else◌};
+
+mod laws;
+mod receiver;
+mod sender;
+mod step;
+
+pub use laws::directions_sum_up;
+pub use receiver::PacketReceiver;
+pub use sender::PacketSender;
+pub use step::PacketStep;
+
+// The number with which an epoch begins: zero where keys are exchanged strictly, and else the next one.
+fn first_number(strict: bool, next: u32) -> u32
+    ensures value { result ≡ if strict then 0 else next }
+    ensures fits { result < 2 ^ 32 }
+{
+    if strict { 0 } else { next }
+}

@@ -1,0 +1,249 @@
+ghost use Rattle.std.specs.Prelude.{◌≡◌, ◌<◌, ◌≤◌, ◌+◌, ◌-◌, ◌%◌, ◌++◌, ◌^◌, IfOk, IfSome, List, [], None, length, take};
+ghost use Rattle.ssh_model.specs.Protocol.Bounds.{largest_packet, most_exchanges, numbers_of_epoch};
+ghost use Rattle.ssh_model.specs.Protocol.Wire.DataTypes.{AreBytes};
+ghost use Rattle.ssh_model.specs.Protocol.Wire.Unit.{IsPacketBegun};
+ghost use Rattle.ssh_packet.specs.Directions.{Receives, new_direction, new_receiver, newkeys, next_number, renewed};
+ghost use Rattle.ssh_packet.specs.Directions.{sealed_direction};
+
+use crate::packets::first_number;
+use crate::packets::step::PacketStep;
+use crate::{LENGTH_FIELD, PacketReader, ReadStep, Sealing};
+use ssh_types::Refusal;
+use ssh_types::bounds::NUMBERS_OF_EPOCH;
+use ssh_types::laws::are_bytes;
+use std::alloc::{AllocError, Global};
+use std::marker::Model;
+
+/// The packets of the direction in which an end takes (RFC 4253 section 6): the bytes of the packet begun, the key of the
+/// epoch, `None` before the first NEWKEYS, the sequence number of the next packet, how many packets came under the key, and
+/// how many NEWKEYS were taken.
+///
+/// The number begins at zero and grows by one with each packet, modulo 2^32 (section 6.4); where keys are exchanged strictly
+/// it is zero again after each NEWKEYS. An epoch has at most 2^32 packets.
+pub struct PacketReceiver<S: Sealing> {
+    reader: PacketReader,
+    key: Option<S::Key>,
+    number: u32,
+    count: u64,
+    epoch: u32,
+    ended: Option<Refusal>,
+}
+
+impl<S: Sealing> Model for PacketReceiver<S> {
+    ghost use Rattle.ssh_packet.specs.Directions.{Receiver, IsReceiver, direction_of, receiver_of};
+
+    ghost Value = { Receiver S.Key };
+
+    ghost view = { λ r. receiver_of (direction_of r.key r.number r.count r.epoch) r.reader r.ended };
+
+    ghost invariant = { λ r. IsReceiver S.crypto (direction_of r.key r.number r.count r.epoch) r.reader r.ended };
+}
+
+impl<S: Sealing> Drop for PacketReceiver<S> {
+    fn drop(self) {
+        let PacketReceiver {
+            reader: _,
+            key: _,
+            number: _,
+            count: _,
+            epoch: _,
+            ended: _,
+        } = self;
+    }
+}
+
+impl<S: Sealing> PacketReceiver<S> {
+    /// A direction in which nothing came, in clear. This reserves the 35,000 bytes that a packet may have, the only memory that it ever
+    /// takes.
+    ///
+    /// # Errors
+    ///
+    /// Only where memory is refused.
+    pub fn new(alloc: Global) -> Result<PacketReceiver<S>, AllocError>
+        ensures { IfOk result (λ receiver. receiver ≡ new_receiver new_direction) }
+    {
+        PacketReceiver::begun_with(alloc, None)
+    }
+
+    /// A direction in which nothing came, and whose packets are opened under this key from the first one on: that of an end which shares
+    /// the keys of one epoch with its peer. It reserves the same memory.
+    ///
+    /// # Errors
+    ///
+    /// Only where memory is refused.
+    pub fn under(alloc: Global, key: S::Key) -> Result<PacketReceiver<S>, AllocError>
+        ensures { IfOk result (λ receiver. receiver ≡ new_receiver (sealed_direction key)) }
+    {
+        PacketReceiver::begun_with(alloc, Some(key))
+    }
+
+    // A direction in which nothing came, with or without a key.
+    fn begun_with(alloc: Global, key: Option<S::Key>) -> Result<PacketReceiver<S>, AllocError>
+        ensures { IfOk result (λ receiver. receiver ≡ new_receiver (record new_direction { key = key })) }
+    {
+        Ok(PacketReceiver {
+            reader: PacketReader::new(alloc)?,
+            key,
+            number: 0,
+            count: 0,
+            epoch: 0,
+            ended: None,
+        })
+    }
+
+    /// The payload that the last `take` found, at most 35,000 bytes; no bytes where it found none, and before the first.
+    pub fn payload(&self) -> &[u8]
+        ensures payload { result.now ≡ self.now.payload }
+        ensures most { length self.now.payload ≤ largest_packet }
+    {
+        self.reader.payload()
+    }
+
+    /// How many bytes of a packet begun are held; 0 after each payload, when the next epoch may begin, and after a refusal.
+    /// What is begun are bytes of a packet, and at most three where all numbers of the epoch are taken.
+    pub fn held(&self) -> usize
+        ensures held { result ≡ length self.now.begun }
+        ensures begun { self.now.ended ≡ None → IsPacketBegun S.crypto self.now.direction.key self.now.direction.count self.now.begun }
+        ensures bytes { AreBytes self.now.begun }
+    {
+        if self.ended.is_some() {
+            return 0;
+        }
+        self.reader.held()
+    }
+
+    /// The sequence number of the next packet; 2^32 where none may be taken any more in this epoch.
+    pub fn number(&self) -> u64
+        ensures { result ≡ next_number self.now.direction }
+    {
+        if self.count == NUMBERS_OF_EPOCH {
+            NUMBERS_OF_EPOCH
+        } else {
+            u64::from(self.number)
+        }
+    }
+
+    /// The sequence number of the packet that was taken last, where one was taken in this epoch.
+    pub fn last_number(&self) -> u32
+        ensures { result ≡ (self.now.direction.number + (2 ^ 32 - 1)) % 2 ^ 32 }
+    {
+        self.number.wrapping_sub(1)
+    }
+
+    /// How many packets were taken in this epoch, at most 2^32.
+    pub fn count(&self) -> u64
+        ensures count { result ≡ self.now.direction.count }
+        ensures most { result ≤ numbers_of_epoch }
+    {
+        self.count
+    }
+
+    /// How many NEWKEYS were taken.
+    pub fn epoch(&self) -> u32
+        ensures { result ≡ self.now.direction.epoch }
+    {
+        self.epoch
+    }
+
+    /// Takes bytes to the end of one packet and no further, and answers how many and what they were. A payload is shown
+    /// until the next call.
+    ///
+    /// The length field is judged as soon as its four bytes are there. Where it is good and all 2^32 numbers of the epoch
+    /// are taken, the answer is `NumberSpent`. The tag and then the padding are judged once the whole packet is there. After
+    /// `Refused` the answer stays the same for good, and nothing is used. No call needs memory.
+    pub fn take(&mut self, bytes: &[u8]) -> (usize, PacketStep)
+        ensures used { result.0 ≤ length bytes.now }
+        ensures progress { self.old.ended ≡ None → 0 < length bytes.now → 0 < result.0 }
+        ensures more { result.1 ≡ PacketStep.More → result.0 ≡ length bytes.now }
+        ensures received { self.old.ended ≡ None → Receives S.crypto (self.old.begun ++ take result.0 bytes.now) self.old result.1
+            self.new }
+        ensures ended { IfSome self.old.ended (λ refusal. (result ≡ (0, PacketStep.Refused refusal)) × (self.new ≡ self.old)) }
+    {
+        if let Some(refusal) = self.ended {
+            return (0, PacketStep::Refused(refusal));
+        }
+        if self.count < NUMBERS_OF_EPOCH {
+            self.take_packet(bytes)
+        } else {
+            self.take_field(bytes)
+        }
+    }
+
+    // Takes bytes while numbers are left.
+    fn take_packet(&mut self, bytes: &[u8]) -> (usize, PacketStep)
+        requires live { self.old.ended ≡ None }
+        requires left { self.old.direction.count < numbers_of_epoch }
+        ensures used { result.0 ≤ length bytes.now }
+        ensures progress { 0 < length bytes.now → 0 < result.0 }
+        ensures more { result.1 ≡ PacketStep.More → result.0 ≡ length bytes.now }
+        ensures received { Receives S.crypto (self.old.begun ++ take result.0 bytes.now) self.old result.1 self.new }
+    {
+        are_bytes(bytes);
+        let (used, step) = self.reader.take::<S>(self.key.as_ref(), self.number, bytes);
+        match step {
+            ReadStep::Packet => {
+                self.number = self.number.wrapping_add(1);
+                self.count += 1;
+                (used, PacketStep::Payload)
+            }
+            ReadStep::More => (used, PacketStep::More),
+            ReadStep::Refused(refusal) => {
+                let refusal = Refusal::from(refusal);
+                self.ended = Some(refusal);
+                (used, PacketStep::Refused(refusal))
+            }
+        }
+    }
+
+    // Takes at most a length field, where all numbers are taken. It is judged under any number.
+    fn take_field(&mut self, bytes: &[u8]) -> (usize, PacketStep)
+        requires live { self.old.ended ≡ None }
+        requires spent { self.old.direction.count ≡ numbers_of_epoch }
+        ensures used { result.0 ≤ length bytes.now }
+        ensures progress { 0 < length bytes.now → 0 < result.0 }
+        ensures more { result.1 ≡ PacketStep.More → result.0 ≡ length bytes.now }
+        ensures received { Receives S.crypto (self.old.begun ++ take result.0 bytes.now) self.old result.1 self.new }
+    {
+        are_bytes(bytes);
+        let field = length_field(self.reader.held(), bytes);
+        let (used, step) = self.reader.take::<S>(self.key.as_ref(), 0, field);
+        match step {
+            ReadStep::Packet => unreachable!(),
+            ReadStep::More => {
+                if self.reader.held() < LENGTH_FIELD {
+                    return (used, PacketStep::More);
+                }
+                self.ended = Some(Refusal::NumberSpent);
+                (used, PacketStep::Refused(Refusal::NumberSpent))
+            }
+            ReadStep::Refused(refusal) => {
+                let refusal = Refusal::from(refusal);
+                self.ended = Some(refusal);
+                (used, PacketStep::Refused(refusal))
+            }
+        }
+    }
+
+    /// Begins the next epoch, where the last `take` found NEWKEYS: from now on packets are opened under this key (RFC 4253
+    /// section 7.3), from number zero where keys are exchanged strictly.
+    #[tactic(auto, using(crate::proofs::DirectionUnits::epoch_begun))]
+    pub fn start_epoch(&mut self, key: S::Key, strict: bool)
+        requires newkeys { self.old.payload ≡ newkeys }
+        requires taken { 0 < self.old.direction.count }
+        requires epoch { self.old.direction.epoch < most_exchanges }
+        ensures { self.new ≡ record self.old { direction = renewed strict key self.old.direction } }
+    {
+        self.key = Some(key);
+        self.number = first_number(strict, self.number);
+        self.count = 0;
+        self.epoch += 1;
+    }
+}
+
+// The bytes up to the end of the length field, where so many of its packet are there.
+fn length_field(held: usize, bytes: &[u8]) -> &[u8]
+    ensures { result.now ≡ take (4 - held) bytes.now }
+{
+    let room = LENGTH_FIELD.saturating_sub(held);
+    bytes.split_at(room.min(bytes.len())).0
+}
