@@ -6,10 +6,10 @@ use Rattle.ssh_model.specs.Protocol.Lists.{IsIn}
 use Rattle.ssh_model.specs.Protocol.Sessions.AnyPeer.{AcceptedRequest}
 use Rattle.ssh_model.specs.Protocol.Sessions.Items.{Fact.Accepted, Item, Item.Told}
 use Rattle.ssh_model.specs.Protocol.Sessions.Parties.{Parties}
-use Rattle.ssh_model.specs.Protocol.Side.{Side.Server}
+use Rattle.ssh_model.specs.declared.side.Side.TheVariants.{Server}
 use Rattle.ssh_model.specs.Protocol.Wire.Sealing.{Crypto}
-use Rattle.ssh_layers.specs.Layers.{Layers}
-use Rattle.ssh_layers.specs.Sessions.{end_of}
+use Rattle.ssh_end.specs.Layers.{Layers}
+use Rattle.ssh_end.specs.Sessions.{end_of}
 use Rattle.ssh_transport_machine.specs.State.{State}
 use Rattle.ssh_end.specs.Ends.{EndValue}
 use Rattle.ssh_end.specs.Parts.{AreServerLayers, IsServer, exchange_parts}

@@ -2,7 +2,7 @@
 use Rattle.std.proofs.Common.{◌≡◌, ℕ, ◌+◌, ◌<◌, ◌≤◌, ◌^◌, Bool, true, false, List, [], ◌∷◌, ◌++◌, ◌&&◌, length, arith, refl, ap, sym, ◌∙◌, subst, Option, None, Some}
 use Rattle.std.proofs.lemmas.Bool.{leb-false}
 use Rattle.ssh_model.specs.Protocol.Bounds.{most_channels}
-use Rattle.ssh_model.specs.Protocol.Side.{Side}
+use Rattle.ssh_model.specs.declared.side.Side.{Side}
 use Rattle.ssh_model.specs.Protocol.Wire.Message.{Msg, Msg.ChannelOpen}
 use Rattle.ssh_model.specs.State.Channels.Kept as channels
 use Rattle.ssh_model.specs.State.Channels.Kept.{Channels, IsUnused, is_queue_full, is_table_full, used}
@@ -13,15 +13,15 @@ use Rattle.ssh_model.specs.State.End.Payloads.{AnswersAbove, ReadsAbove, Refuses
 use Rattle.ssh_model.specs.State.End.State.{Authentication, Authentication.OfClient, Authentication.OfServer, EndState, above_checks, authentication_refuses, session_of}
 use Rattle.ssh_model.specs.Protocol.Sessions.Items.{Fact, Fact.Opened, Item, Item.Sent, Item.Told, Item.Took, Spelled, Spelled.SpelledBy, messages_sent}
 use Rattle.ssh_model.specs.Protocol.Sessions.Parties.{Parties}
-use Rattle.ssh_model.specs.Protocol.Sessions.Refusals.{Check.RefusedWhere, Refusal.OwedFull, first_refusal}
+use Rattle.ssh_model.specs.declared.refusal.Refusal.TheVariants.{OwedFull}
+use Rattle.ssh_model.specs.Protocol.Sessions.Refusals.{Check.RefusedWhere, first_refusal}
 use Rattle.ssh_model.specs.Protocol.Sessions.Turns.{AreSpelled, IsSpelled, take_memory}
 use Rattle.ssh_model.specs.Laws.Farewells.{farewell_of}
 use Rattle.ssh_model.specs.Laws.Places.{some_unused}
 use Rattle.ssh_channels.specs.Rows.{OpensChannel}
 use Rattle.ssh_transport_machine.specs.State.{State}
 use Rattle.ssh_transport_machine.specs.Turning.{RefusalLacks}
-use Rattle.ssh_types.specs.Refusals.{refusal_of}
-use Rattle.ssh_types.specs.declared.refusal.Refusal as code
+use Rattle.ssh_model.specs.declared.refusal.Refusal as code
 use Rattle.ssh_end.specs.Above.{AnsweredAbove, IsReply, LacksAbove}
 use Rattle.ssh_end.specs.Steps.{AreSent, fact_told}
 use Rattle.ssh_end.specs.declared.step.TookStep.{TookStep}
@@ -79,12 +79,12 @@ answered_lacks p side e payload given (Some reply) success authentication kept x
     (omega (arith, room, length_is)) (some_memory (told fact x.sent) (omega (arith, length_is)))
 
 -- Why the peer is refused would be said.
-pub refused_lacks : {K : Type 0} (p : Parties K) (side : Side) (e : EndState K) (payload : List ℕ) (m : State K) (why : code.Refusal) → RefusesAbove p e payload (refusal_of why) → RefusalLacks m why → e.transport.sending.count < 2 ^ 32 → LacksAbove p side e payload
+pub refused_lacks : {K : Type 0} (p : Parties K) (side : Side) (e : EndState K) (payload : List ℕ) (m : State K) (why : code.Refusal) → RefusesAbove p e payload why → RefusalLacks m why → e.transport.sending.count < 2 ^ 32 → LacksAbove p side e payload
 refused_lacks p side e payload m why x y room =
-    let say = farewell_of (refusal_of why) y.reason in
+    let say = farewell_of why y.reason in
     record {
       items = _;
-      would = WouldTake.refused_above (refusal_of why) say.reason say.spelling.payload x (record { reason_is = say.reason_is; spelled = say.spelling.spells; few = room });
+      would = WouldTake.refused_above why say.reason say.spelling.payload x (record { reason_is = say.reason_is; spelled = say.spelling.spells; few = room });
       memory = refl;
     }
 

@@ -3,13 +3,14 @@ use Rattle.std.proofs.Common.{◌≡◌, ℕ, ◌≤◌, ◌^◌, Bool, List, []
 use Rattle.std.specs.Prelude.{IfOk, IfErr, OnOk, OnErr}
 use Rattle.std.specs.Option.{option_map}
 use Rattle.ssh_model.specs.Protocol.Bounds.{longest_payload}
-use Rattle.ssh_model.specs.Protocol.Side.{Side, Side.Client, Side.Server}
+use Rattle.ssh_model.specs.declared.side.Side.{Side}
+use Rattle.ssh_model.specs.declared.side.Side.TheVariants.{Client, Server}
 use Rattle.ssh_model.specs.Protocol.Wire.Sealing.{Crypto}
 use Rattle.ssh_model.specs.Laws.Sizes.{payload_size}
 use Rattle.ssh_model.specs.Protocol.Sessions.Items as session
 use Rattle.ssh_model.specs.Protocol.Sessions.Items.{Fact, Fact.Opening, Item, Item.Asked, Item.Died, Item.Refused, Item.Sent, Spelled, messages_sent}
 use Rattle.ssh_model.specs.Protocol.Sessions.Parties.{Parties, Settings, settings_of}
-use Rattle.ssh_model.specs.Protocol.Sessions.Refusals as model
+use Rattle.ssh_model.specs.declared.refusal.Refusal.TheVariants as refusals
 use Rattle.ssh_model.specs.Protocol.Sessions.Refusals.{Check, first_refusal}
 use Rattle.ssh_model.specs.Protocol.Sessions.TurnClaims.{HasSpelling}
 use Rattle.ssh_model.specs.Protocol.Sessions.Turns.{AreSpelled}
@@ -21,8 +22,7 @@ use Rattle.ssh_model.specs.State.TransportLayer.Kept.{Transport, after_sent}
 use Rattle.ssh_model.specs.State.TransportLayer.Turns.{PutsPackets}
 use Rattle.ssh_model.specs.State.End.Asks.{AsksAbove, TakesAsk, end_ask_checks}
 use Rattle.ssh_model.specs.State.End.State.{Authentication, Authentication.OfClient, Authentication.OfServer, EndState, after_items}
-use Rattle.ssh_types.specs.AskRefusals.{ask_refusal_of}
-use Rattle.ssh_types.specs.declared.ask_refusal.AskRefusal.{AskRefusal}
+use Rattle.ssh_model.specs.declared.ask_refusal.AskRefusal.{AskRefusal}
 use Rattle.ssh_channels.specs.Rows.{AsksForChannel}
 use Rattle.ssh_channels.specs.Values.{ask_of}
 use Rattle.ssh_channels.specs.declared.ask.Ask.{Ask}
@@ -34,7 +34,7 @@ use Rattle.ssh_transport_machine.specs.Turning.{Answers, HasRoom, IsQuiet, SentB
 use Rattle.ssh_transport_machine.specs.declared.machine.turn.Answer.{Answer}
 use Rattle.ssh_transport_machine.specs.declared.machine.turn.Answer.TheVariants.{Done, Spent}
 use Rattle.ssh_end.specs.Asking.{AskRow, AsksUint32s, ConnectionRow, DiedRow, GivenFails, GivenSent, HasRecipient, HasUint32s, RefusedRow, RowOf, ShowsAsk, end_with, opening_by, step_by, step_on}
-use Rattle.ssh_layers.specs.Connection.{AskFails}
+use Rattle.ssh_end.specs.Connection.{AskFails}
 use Rattle.ssh_end.specs.declared.asking.outcome.Fault.{Fault}
 use Rattle.ssh_end.specs.declared.asking.outcome.Fault.TheVariants as fault
 use Rattle.ssh_end.specs.declared.asking.outcome.AskStep.{AskStep}
@@ -108,13 +108,13 @@ module _ {K : Type 0} (p : Parties K) (side : Side) (old : State K) (authenticat
   abbrev before : EndState K
   before = end_with old authentication ch
 
-  abbrev checks_with : Settings → List (Check model.AskRefusal)
+  abbrev checks_with : Settings → List (Check AskRefusal)
   checks_with s = after_authentication old.kept.authenticated (send_checks old.kept.blocked (nat_le s.epoch_limit old.kept.sending.count) ch (ask_of a))
 
   refusal_is : first_refusal (end_ask_checks p side before (ask_of a)) ≡ first_refusal (checks_with old.kept.settings)
   refusal_is = ap first_refusal (checks_at p side old authentication ch a ∙ ap checks_with (sym settings))
 
-  pub refused_row : (why : AskRefusal) → first_refusal (checks_with old.kept.settings) ≡ Some (ask_refusal_of why) → RefusedRow p side before (ask_of a) why before
+  pub refused_row : (why : AskRefusal) → first_refusal (checks_with old.kept.settings) ≡ Some why → RefusedRow p side before (ask_of a) why before
   refused_row why e = record { alive = alive; why_is = refusal_is ∙ e; same = refl }
 
   module _ (fine : first_refusal (checks_with old.kept.settings) ≡ None) (given : channels.Sent) (kept : Channels) (sends : Sends ch (ask_of a) given kept) where
@@ -146,7 +146,7 @@ module _ {K : Type 0} (p : Parties K) (side : Side) (old : State K) (authenticat
 
       pub spent_row : (new : State K) (o : Outs) → old.kept.sending.count ≡ 2 ^ 32 → new.kept.dead ≡ true → IsQuiet o → AskRow p side before (ask_of a) (step_by Spent) (end_with new authentication later) o
       spent_row new o none_left dead quiet = record {
-        items = Died ∷ Refused model.Refusal.NumberSpent None ∷ Asked (ask_of a) ∷ [];
+        items = Died ∷ Refused refusals.NumberSpent None ∷ Asked (ask_of a) ∷ [];
         more = [];
         shows = ShowsAsk.spent;
         takes = TakesAsk.above_spent (ask_of a) (end_with new authentication later) alive (refusal_is ∙ fine) (AsksAbove.by_channels (ask_of a) given kept spelling.payload sends) spelled_all none_left dead;
@@ -189,7 +189,7 @@ module _ {K : Type 0} (c : Crypto K) (old : State K) (ch : Channels) (a : Ask) (
       given_row p side old authentication ch a alive (settings alive) (sym same_checks ∙ passed) given kept sends (is_spelled ch kept (ask_of a) given sends numbers recipient short) result new o
       (subst (λ (e : Crypto K). IfOk result (λ step. GivenSent e old (ask_of a) given new o step)) (sym is) x) y
 
-  pub refused_rows : (why : AskRefusal) (kept : Channels) (new : State K) (o : Outs) → first_refusal (after_authentication authenticated (send_checks blocked due ch (ask_of a))) ≡ Some (ask_refusal_of why) → new ≡ old → kept ≡ ch → ConnectionRow c old ch (ask_of a) (Err (fault.Ask why)) new kept o
+  pub refused_rows : (why : AskRefusal) (kept : Channels) (new : State K) (o : Outs) → first_refusal (after_authentication authenticated (send_checks blocked due ch (ask_of a))) ≡ Some why → new ≡ old → kept ≡ ch → ConnectionRow c old ch (ask_of a) (Err (fault.Ask why)) new kept o
   refused_rows why kept new o e same same_channels = λ side authentication p is settings.
       subst (λ (k : Channels). RefusedRow p side (end_with old authentication ch) (ask_of a) why (end_with new authentication k)) (sym same_channels)
       (subst (λ (t : State K). RefusedRow p side (end_with old authentication ch) (ask_of a) why (end_with t authentication ch)) (sym same)

@@ -1,6 +1,6 @@
 -- What comes of an ask, as a row of the end, is a turn of a session.
 use Rattle.std.proofs.Common.{◌≡◌, ℕ, List, [], ◌∷◌, sym, ◌∙◌, subst, false, Result, Ok, Err}
-use Rattle.ssh_model.specs.Protocol.Side.{Side}
+use Rattle.ssh_model.specs.declared.side.Side.{Side}
 use Rattle.ssh_model.specs.Protocol.Wire.Sealing.{Crypto}
 use Rattle.ssh_model.specs.Protocol.Sessions.Items as session
 use Rattle.ssh_model.specs.Protocol.Sessions.Items.{Item, Item.Asked, Item.AskRefused}
@@ -10,7 +10,6 @@ use Rattle.ssh_model.specs.Protocol.Sessions.Turns.{AsksTurn, ask_checks}
 use Rattle.ssh_model.specs.State.End.Asks.{TakesAsk, end_ask_checks}
 use Rattle.ssh_model.specs.State.End.State.{EndState}
 use Rattle.ssh_model.specs.State.End.Summary.{EndSumsUp, EndTurned}
-use Rattle.ssh_types.specs.AskRefusals.{ask_refusal_of}
 use Rattle.ssh_transport_machine.specs.Puts.{Outs}
 use Rattle.ssh_end.specs.Asking.{DoneInSession, EndRow, InSession, RowOf}
 use Rattle.ssh_end.specs.declared.asking.outcome.Fault.{Fault}
@@ -30,8 +29,8 @@ module _ {K : Type 0} (refused : (p : Parties K) (side : Side) (history : List I
   }
   turned p side history old asked sums (Err (fault.Ask why)) new o x = record {
     why_is = refused p side history old sums x.alive asked ∙ x.why_is;
-    turned = subst (λ (e : EndState K). EndTurned p side history (AsksTurn p side history asked) (AskRefused (ask_refusal_of why) ∷ Asked asked ∷ []) [] e) (sym x.same)
-        (taken p side history old sums asked _ _ old (TakesAsk.refused asked (ask_refusal_of why) x.alive x.why_is));
+    turned = subst (λ (e : EndState K). EndTurned p side history (AsksTurn p side history asked) (AskRefused why ∷ Asked asked ∷ []) [] e) (sym x.same)
+        (taken p side history old sums asked _ _ old (TakesAsk.refused asked why x.alive x.why_is));
     same = x.same;
   }
   turned p side history old asked sums (Err fault.Memory) new o x = record { turned = taken p side history old sums asked _ _ new x.takes; dead = x.dead }

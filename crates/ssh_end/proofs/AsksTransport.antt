@@ -1,20 +1,19 @@
 -- What comes of an ask for the transport is a row of the end.
 use Rattle.std.proofs.Common.{◌≡◌, ℕ, List, [], ◌∷◌, ◌++◌, refl, ap, sym, ◌∙◌, subst, append-nil, true, false, Some, None, Ok, Err}
-use Rattle.ssh_model.specs.Protocol.Side.{Side}
+use Rattle.ssh_model.specs.declared.side.Side.{Side}
 use Rattle.ssh_model.specs.Protocol.Wire.Message.{Msg.Disconnect}
 use Rattle.ssh_model.specs.Protocol.Wire.Sealing.{Crypto}
 use Rattle.ssh_model.specs.Protocol.Sessions.Items as session
 use Rattle.ssh_model.specs.Protocol.Sessions.Items.{Item.Asked, Item.Died, Item.Refused, Item.Sent}
 use Rattle.ssh_model.specs.Protocol.Sessions.Parties.{Parties}
-use Rattle.ssh_model.specs.Protocol.Sessions.Refusals as model
+use Rattle.ssh_model.specs.declared.refusal.Refusal.TheVariants as refusals
 use Rattle.ssh_model.specs.Protocol.Sessions.Refusals.{Check, Check.RefusedWhere, first_refusal}
 use Rattle.ssh_model.specs.State.Channels.Kept.{Channels}
 use Rattle.ssh_model.specs.State.TransportLayer.Kept.{message_ask_checks}
 use Rattle.ssh_model.specs.Laws.Farewells.{farewell_spelled}
 use Rattle.ssh_model.specs.State.End.Asks.{TakesAsk}
 use Rattle.ssh_model.specs.State.End.State.{Authentication, EndState}
-use Rattle.ssh_types.specs.AskRefusals.{ask_refusal_of}
-use Rattle.ssh_types.specs.declared.ask_refusal.AskRefusal.{AskRefusal}
+use Rattle.ssh_model.specs.declared.ask_refusal.AskRefusal.{AskRefusal}
 use Rattle.ssh_transport_machine.specs.Asking as machine
 use Rattle.ssh_transport_machine.specs.Asking.{AskLacks, AskSent, AskSpent, DisconnectLacks, DisconnectSent, DisconnectSpent}
 use Rattle.ssh_transport_machine.specs.Asks.{AskTaken, WasDead}
@@ -32,7 +31,7 @@ use Rattle.ssh_end.specs.declared.asking.outcome.Fault.TheVariants as fault
 use Rattle.ssh_end.specs.declared.asking.outcome.AskStep.{AskStep}
 
 -- The first refusal stays the first with more checks after.
-pub first_stays : (l more : List (Check model.AskRefusal)) (why : model.AskRefusal) → first_refusal l ≡ Some why → first_refusal (l ++ more) ≡ Some why
+pub first_stays : (l more : List (Check AskRefusal)) (why : AskRefusal) → first_refusal l ≡ Some why → first_refusal (l ++ more) ≡ Some why
 first_stays [] more why e = absurd (cc e)
 first_stays (RefusedWhere true x ∷ l) more why e = e
 first_stays (RefusedWhere false x ∷ l) more why e = first_stays l more why e
@@ -61,7 +60,7 @@ module _ {K : Type 0} (p : Parties K) (side : Side) (old : State K) (a : Authent
 
   spent_row : (ask : session.Ask) (new : State K) (o : Outs) → AskSpent old ask new o → AskRow p side before ask (step_by Spent) (end_with new a ch) o
   spent_row ask new o x = record {
-    items = Died ∷ Refused model.Refusal.NumberSpent None ∷ Asked ask ∷ [];
+    items = Died ∷ Refused refusals.NumberSpent None ∷ Asked ask ∷ [];
     more = [];
     shows = ShowsAsk.spent;
     takes = TakesAsk.spent ask x.message x.spelling.payload x.kept (end_with new a ch) alive x.fine x.asks x.spelling.spells x.spent.none_left (ap (λ (t : State K). t.kept.dead) x.spent.after);
@@ -83,7 +82,7 @@ module _ {K : Type 0} (p : Parties K) (side : Side) (old : State K) (a : Authent
   disconnect_spent_row d new o x =
       let said = farewell_spelled old.kept d x.fine in
       record {
-        items = Died ∷ Refused model.Refusal.NumberSpent None ∷ Asked (session.Ask.AskDisconnect d) ∷ [];
+        items = Died ∷ Refused refusals.NumberSpent None ∷ Asked (session.Ask.AskDisconnect d) ∷ [];
         more = [];
         shows = ShowsAsk.spent;
         takes = TakesAsk.disconnect_spent d said.payload (end_with new a ch) alive x.fine said.spells x.spent.none_left (ap (λ (t : State K). t.kept.dead) x.spent.after);
@@ -94,7 +93,7 @@ module _ {K : Type 0} (p : Parties K) (side : Side) (old : State K) (a : Authent
   refused_row : (ask : session.Ask) (why : AskRefusal) (new : State K) (o : Outs) → machine.AskRefused old ask why new o → RefusedRow p side before ask why (end_with new a ch)
   refused_row ask why new o x = record {
     alive = alive;
-    why_is = first_stays (message_ask_checks old.kept ask) _ (ask_refusal_of why) x.why_is;
+    why_is = first_stays (message_ask_checks old.kept ask) _ why x.why_is;
     same = ap (λ (t : State K). end_with t a ch) x.after;
   }
 

@@ -4,13 +4,14 @@ use Rattle.std.proofs.lemmas.Bool.{ltb-false, not-false}
 use Rattle.std.proofs.lemmas.List.{length-take}
 use Rattle.std.specs.Prelude.{IfOk, IfErr, OnOk, OnErr, codes}
 use Rattle.ssh_model.specs.Protocol.Bounds.{longest_payload}
-use Rattle.ssh_model.specs.Protocol.Side.{Side, Side.Client, Side.Server}
+use Rattle.ssh_model.specs.declared.side.Side.{Side}
+use Rattle.ssh_model.specs.declared.side.Side.TheVariants.{Client, Server}
 use Rattle.ssh_model.specs.Protocol.Wire.Message.{Msg}
 use Rattle.ssh_model.specs.Protocol.Wire.Sealing.{Crypto}
 use Rattle.ssh_model.specs.Protocol.Sessions.Items as session
 use Rattle.ssh_model.specs.Protocol.Sessions.Items.{Item.Asked, Item.Died, Item.Refused, Item.Sent}
 use Rattle.ssh_model.specs.Protocol.Sessions.Parties.{Parties, user_signature_by}
-use Rattle.ssh_model.specs.Protocol.Sessions.Refusals as model
+use Rattle.ssh_model.specs.declared.refusal.Refusal.TheVariants as refusals
 use Rattle.ssh_model.specs.Protocol.Sessions.Refusals.{first_refusal}
 use Rattle.ssh_model.specs.Protocol.Sessions.Sizes.{request_size}
 use Rattle.ssh_model.specs.Protocol.Sessions.TurnClaims.{HasSpelling}
@@ -109,7 +110,7 @@ module _ {K : Type 0} (p : Parties K) (side : Side) (old : State K) (client : au
   module _ (spelling : HasSpelling m) (later : authentication.Client) where
     pub spent_row : (new : State K) (o : Outs) → old.kept.sending.count ≡ 2 ^ 32 → new.kept.dead ≡ true → IsQuiet o → AskRow p side before (ask_of a) (step_by Spent) (end_with new (OfClient later) ch) o
     spent_row new o none_left dead quiet = record {
-      items = Died ∷ Refused model.Refusal.NumberSpent None ∷ Asked (ask_of a) ∷ [];
+      items = Died ∷ Refused refusals.NumberSpent None ∷ Asked (ask_of a) ∷ [];
       more = [];
       shows = ShowsAsk.spent;
       takes = TakesAsk.above_spent (ask_of a) (end_with new (OfClient later) ch) alive unrefused (above_by spelling.payload) (spelling.spells, tt) none_left dead;

@@ -1,6 +1,6 @@
 -- Where memory is refused a client's end dies as the client of a session.
 use Rattle.std.proofs.Common.{◌≡◌, ℕ, ◌≤◌, ◌^◌, true, List, [], ◌∷◌, arith, ap, subst}
-use Rattle.ssh_model.specs.Protocol.Side.{Side.Client}
+use Rattle.ssh_model.specs.declared.side.Side.TheVariants.{Client}
 use Rattle.ssh_model.specs.Protocol.Wire.Message.{Msg}
 use Rattle.ssh_model.specs.Protocol.Wire.Sealing.{Crypto}
 use Rattle.ssh_model.specs.State.End.Payloads.{ReadsAbove}
@@ -23,13 +23,13 @@ use Rattle.ssh_transport.specs.Units as units
 use Rattle.ssh_transport.specs.Units.{Took}
 use Rattle.ssh_end.specs.Above.{FinishLacks, IsBeneath, LacksAbove}
 use Rattle.ssh_end.specs.ClientAbove.{JudgeLacks, JudgesPayload}
-use Rattle.ssh_layers.specs.ClientLayers.{Layers, Reads}
-use Rattle.ssh_layers.specs.ClientSessions.{end_of}
+use Rattle.ssh_end.specs.ClientLayers.{Layers, Reads}
+use Rattle.ssh_end.specs.ClientSessions.{end_of}
 use Rattle.ssh_end.specs.ClientTurns.{IsAsking}
 use Rattle.ssh_end.specs.ClientUnits.{GoLacks, TurnLacks, UpLacks}
 use Rattle.ssh_end.specs.Units.{UnitLacks}
-use Rattle.ssh_layers.specs.Layer.{Beneath}
-use Rattle.ssh_layers.specs.Sessions.{beneath}
+use Rattle.ssh_end.specs.Layer.{Beneath}
+use Rattle.ssh_end.specs.Sessions.{beneath}
 use Rattle.ssh_end.specs.declared.above.Judgement.{Judgement}
 use Rattle.ssh_end.specs.declared.above.Judgement.TheVariants as judged
 use Rattle.ssh_end.proofs.AboveDeaths.{answered_lacks, channel_lacks, refused_lacks, spelled_lacks}

@@ -1,7 +1,7 @@
 -- What the layers of a client make of a payload is what the client of a session makes of it.
 use Rattle.std.proofs.Common.{◌≡◌, ℕ, Bool, true, false, List, [], ◌∷◌, refl, ap, sym, ◌∙◌, subst, Option, Some, None}
 use Rattle.std.specs.Option.{option_map}
-use Rattle.ssh_model.specs.Protocol.Side.{Side.Client}
+use Rattle.ssh_model.specs.declared.side.Side.TheVariants.{Client}
 use Rattle.ssh_model.specs.Protocol.Wire.Message.{Msg, Msg.Unimplemented}
 use Rattle.ssh_model.specs.State.Authentication.Kept as kept
 use Rattle.ssh_model.specs.State.Authentication.Kept.{Answered, ClientTakes}
@@ -12,7 +12,7 @@ use Rattle.ssh_model.specs.State.End.Payloads.{AnswersAbove, RefusesAbove, reply
 use Rattle.ssh_model.specs.State.End.State.{Authentication.OfClient, after_above, after_items}
 use Rattle.ssh_model.specs.Protocol.Sessions.Items.{Fact, Fact.Authenticated, Item, Item.Sent}
 use Rattle.ssh_model.specs.Protocol.Sessions.Parties.{Parties}
-use Rattle.ssh_model.specs.Protocol.Sessions.Refusals.{Refusal}
+use Rattle.ssh_model.specs.declared.refusal.Refusal.{Refusal}
 use Rattle.ssh_model.specs.State.TransportLayer.Kept.{Transport, after_taken}
 use Rattle.ssh_auth.specs.Asking.{client_answered}
 use Rattle.ssh_auth.specs.declared.answer.ClientAnswer.{ClientAnswer}
@@ -21,15 +21,15 @@ use Rattle.ssh_channels.specs.Values.{taken_of}
 use Rattle.ssh_transport_machine.specs.State.{State, last_number}
 use Rattle.ssh_end.specs.Above.{AnsweredAbove, Awaits, IsMade, SpellsReply, after_reply, after_success_where}
 use Rattle.ssh_end.specs.ClientAbove.{IsTaken, RefusesPayload, succeeds, took_by}
-use Rattle.ssh_layers.specs.ClientLayers.{LayerRow, Layers, LayersRefuse, LayersTake, message_of, probes}
-use Rattle.ssh_layers.specs.ClientSessions.{Accepts, end_of}
-use Rattle.ssh_layers.specs.Layer.{Beneath}
-use Rattle.ssh_layers.specs.Sessions.{beneath}
+use Rattle.ssh_end.specs.ClientLayers.{LayerRow, Layers, LayersRefuse, LayersTake, message_of, probes}
+use Rattle.ssh_end.specs.ClientSessions.{Accepts, end_of}
+use Rattle.ssh_end.specs.Layer.{Beneath}
+use Rattle.ssh_end.specs.Sessions.{beneath}
 use Rattle.ssh_end.specs.Steps.{fact_by}
-use Rattle.ssh_layers.specs.declared.client_layers.ClientLayerAnswer.{ClientLayerAnswer}
-use Rattle.ssh_layers.specs.declared.client_layers.ClientLayerAnswer.TheVariants as answer
+use Rattle.ssh_end.specs.declared.layers.client_layers.ClientLayerAnswer.{ClientLayerAnswer}
+use Rattle.ssh_end.specs.declared.layers.client_layers.ClientLayerAnswer.TheVariants as answer
 use Rattle.ssh_end.specs.declared.step.TookStep.{TookStep}
-use Rattle.ssh_layers.specs.Laws.Client.{accepts, refuses}
+use Rattle.ssh_end.specs.Laws.Client.{accepts, refuses}
 use Rattle.ssh_end.proofs.Judging.{ChannelFacts, beneath_is, payload_in, reply_is_sent, reply_replied}
 use Rattle.ssh_end.proofs.SendingOn.{reply_on}
 

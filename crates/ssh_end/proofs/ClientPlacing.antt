@@ -8,11 +8,11 @@ use Rattle.ssh_model.specs.Protocol.Sessions.Items as session
 use Rattle.ssh_model.specs.Protocol.Sessions.Items.{Item, Item.Died}
 use Rattle.ssh_model.specs.Protocol.Sessions.Parties.{Agreement, AreLawful, Parties, agreement_of}
 use Rattle.ssh_model.specs.Protocol.Sessions.Turns.{EndRun, OnUnit}
-use Rattle.ssh_model.specs.Protocol.Side.{Side.Client}
+use Rattle.ssh_model.specs.declared.side.Side.TheVariants.{Client}
 use Rattle.ssh_model.specs.State.TransportLayer.Kept.{Transport}
 use Rattle.ssh_model.specs.Protocol.Wire.Sealing.{Crypto}
-use Rattle.ssh_layers.specs.ClientLayers.{Layers}
-use Rattle.ssh_layers.specs.ClientSessions.{end_of}
+use Rattle.ssh_end.specs.ClientLayers.{Layers}
+use Rattle.ssh_end.specs.ClientSessions.{end_of}
 use Rattle.ssh_transport.specs.OfClient.Replies.{Trusts}
 use Rattle.ssh_transport.specs.OfClient.Roles.{ClientDoes, ClientLacks}
 use Rattle.ssh_transport_machine.specs.Puts.{Outs}

@@ -1,11 +1,11 @@
 -- What a client's end does with the bytes of one line or one packet is what the client of a session does with them.
 use Rattle.std.proofs.Common.{◌≡◌, ℕ, ◌++◌, true, false, List, refl, ap, sym, ◌∙◌, subst}
 use Rattle.std.proofs.lemmas.Bool.{false≢true}
-use Rattle.ssh_model.specs.Protocol.Side.{Side.Client}
+use Rattle.ssh_model.specs.declared.side.Side.TheVariants.{Client}
 use Rattle.ssh_model.specs.State.End.Summary.{EndSumsUp}
 use Rattle.ssh_model.specs.Protocol.Sessions.Items.{Item, messages_sent}
 use Rattle.ssh_model.specs.Protocol.Sessions.Parties.{Agreement, Parties, agreement_of}
-use Rattle.ssh_model.specs.Protocol.Sessions.Refusals.{Refusal}
+use Rattle.ssh_model.specs.declared.refusal.Refusal.{Refusal}
 use Rattle.ssh_model.specs.Protocol.Sessions.Turns.{stage}
 use Rattle.ssh_model.specs.State.TransportLayer.Kept.{Transport}
 use Rattle.ssh_model.specs.State.TransportLayer.Summary.{SumsUp}
@@ -36,12 +36,12 @@ use Rattle.ssh_transport.specs.Roles.{IsCompleted, IsOwnShown, Leaves, OwnTurn}
 use Rattle.ssh_transport.specs.Sessions.{UnitTurnOf}
 use Rattle.ssh_transport.specs.Units.{Took}
 use Rattle.ssh_transport.specs.declared.own.Own.{Own}
-use Rattle.ssh_types.specs.declared.refusal.Refusal.TheVariants as code
+use Rattle.ssh_model.specs.declared.refusal.Refusal.TheVariants as code
 use Rattle.ssh_end.specs.Effects.{is_whole, step_given}
-use Rattle.ssh_layers.specs.ClientLayers.{Layers}
+use Rattle.ssh_end.specs.ClientLayers.{Layers}
 use Rattle.ssh_end.specs.ClientTurns.{IsAsking, IsUnitTurned, ClientTurned}
 use Rattle.ssh_end.specs.ClientUnits.{Goes, GoesOn, GoesUp, GoesWhole, ClientGoes}
-use Rattle.ssh_layers.specs.ClientSessions.{end_of}
+use Rattle.ssh_end.specs.ClientSessions.{end_of}
 use Rattle.ssh_end.specs.Reading.{IsReading}
 use Rattle.ssh_end.specs.Steps.{Shows, UnitTurned, shown_by}
 use Rattle.ssh_end.specs.declared.step.Step.{Step}

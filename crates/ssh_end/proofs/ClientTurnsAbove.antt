@@ -1,7 +1,7 @@
 -- What a client's end does with a payload from 50 on is what the client of a session does with it.
 use Rattle.std.proofs.Common.{◌≡◌, ℕ, false, List, length, refl, ap, sym, ◌∙◌, subst, Option, None}
 use Rattle.std.specs.Prelude.{IsSome}
-use Rattle.ssh_model.specs.Protocol.Side.{Side.Client}
+use Rattle.ssh_model.specs.declared.side.Side.TheVariants.{Client}
 use Rattle.ssh_model.specs.Protocol.Wire.Message.{Msg}
 use Rattle.ssh_model.specs.Protocol.Wire.Unit.{HasNumber}
 use Rattle.ssh_model.specs.State.End.Payloads.{AnswersAbove}
@@ -16,22 +16,22 @@ use Rattle.ssh_transport_machine.specs.Puts.{Outs}
 use Rattle.ssh_transport_machine.specs.Sessions.{IsAbove}
 use Rattle.ssh_transport_machine.specs.State.{State, last_number}
 use Rattle.ssh_end.specs.Above.{Awaits, Finished, IsUnsent, Judged, SpentAbove}
-use Rattle.ssh_layers.specs.Layer.{Beneath}
-use Rattle.ssh_layers.specs.ClientLayers.{LayerRow, Layers, LayersTake, message_of, probes}
+use Rattle.ssh_end.specs.Layer.{Beneath}
+use Rattle.ssh_end.specs.ClientLayers.{LayerRow, Layers, LayersTake, message_of, probes}
 use Rattle.ssh_end.specs.ClientAbove.{IsTaken, JudgesPayload}
 use Rattle.ssh_end.specs.ClientTurns.{IsAsking}
-use Rattle.ssh_layers.specs.ClientSessions.{Accepts, end_of}
-use Rattle.ssh_layers.specs.Sessions.{beneath}
+use Rattle.ssh_end.specs.ClientSessions.{Accepts, end_of}
+use Rattle.ssh_end.specs.Sessions.{beneath}
 use Rattle.ssh_end.specs.Steps.{UnitTurned}
 use Rattle.ssh_end.specs.declared.above.Judgement.{Judgement}
 use Rattle.ssh_end.specs.declared.above.Judgement.TheVariants as judged
-use Rattle.ssh_layers.specs.declared.client_layers.ClientLayerAnswer.{ClientLayerAnswer}
-use Rattle.ssh_layers.specs.declared.client_layers.ClientLayerAnswer.TheVariants as answer
+use Rattle.ssh_end.specs.declared.layers.client_layers.ClientLayerAnswer.{ClientLayerAnswer}
+use Rattle.ssh_end.specs.declared.layers.client_layers.ClientLayerAnswer.TheVariants as answer
 use Rattle.ssh_end.specs.declared.step.Step.{Step}
 use Rattle.ssh_end.proofs.Finishing.{finished}
 use Rattle.ssh_end.proofs.Judging.{ChannelFacts, beneath_is}
 use Rattle.ssh_end.proofs.ClientJudged.{answered_so, refused_so}
-use Rattle.ssh_layers.specs.Laws.Client.{accepts}
+use Rattle.ssh_end.specs.Laws.Client.{accepts}
 use Rattle.ssh_end.proofs.TurningLaws.{TurningLaws}
 use Rattle.ssh_end.proofs.TurningReplies.{SpelledAbove, due_above, due_spelled, has_number, last_of, spent_above}
 

@@ -1,6 +1,6 @@
 -- What a client's end does with its server's KEXINIT and reply, and with what is owed after it, is what the client of a session does.
 use Rattle.std.proofs.Common.{◌≡◌, ℕ, ◌+◌, ◌≤◌, ◌++◌, false, List, [], ◌∷◌, length, append-nil, append_assoc, arith, refl, ap, sym, ◌∙◌, subst, Option, Some, None}
-use Rattle.ssh_model.specs.Protocol.Side.{Side.Client}
+use Rattle.ssh_model.specs.declared.side.Side.TheVariants.{Client}
 use Rattle.ssh_model.specs.Protocol.Wire.Message.{Msg, Msg.KexEcdhInit, Msg.KexInit, IsPayload}
 use Rattle.ssh_model.specs.Protocol.Wire.Outcome.{Outcome.Opens}
 use Rattle.ssh_model.specs.Protocol.Wire.Unit.{IsUnit}
@@ -27,15 +27,14 @@ use Rattle.ssh_transport_machine.specs.declared.machine.turn.Answer.{Answer}
 use Rattle.ssh_transport_machine.specs.declared.outcome.Effect.TheVariants as effect
 use Rattle.ssh_transport_machine.specs.declared.outcome.TransportTurn.TheVariants as outcome
 use Rattle.ssh_transport.specs.OfClient.Kexinits.{KexinitShows, KexinitTurn}
-use Rattle.ssh_types.specs.Refusals.{refusal_of}
-use Rattle.ssh_types.specs.declared.refusal.Refusal.{Refusal}
-use Rattle.ssh_types.specs.declared.refusal.Refusal.TheVariants as code
+use Rattle.ssh_model.specs.declared.refusal.Refusal.{Refusal}
+use Rattle.ssh_model.specs.declared.refusal.Refusal.TheVariants as code
 use Rattle.ssh_end.specs.Completing.{Completing}
 use Rattle.ssh_end.specs.Effects.{step_given}
-use Rattle.ssh_layers.specs.ClientLayers.{Layers}
+use Rattle.ssh_end.specs.ClientLayers.{Layers}
 use Rattle.ssh_end.specs.Owed.{OwedGiven}
 use Rattle.ssh_end.specs.ClientTurns.{IsAsking}
-use Rattle.ssh_layers.specs.ClientSessions.{end_of}
+use Rattle.ssh_end.specs.ClientSessions.{end_of}
 use Rattle.ssh_end.specs.Steps as steps
 use Rattle.ssh_end.specs.Steps.{AreSent, UnitTurned, fact_by}
 use Rattle.ssh_end.specs.declared.step.Step.{Step}
@@ -55,14 +54,14 @@ module _ {K : Type 0} (laws : TurningLaws K) (p : Parties K) (history : List Ite
 
   -- ---- what is refused
 
-  refuses : (why : Refusal) (said : List Spelled) (more : List ℕ) (new : Transport K) (o : Outs) → Turned p Client history payload (refusal_items (refusal_of why) (Some payload) said) more new → o.after ≡ o.before ++ more → o.relisted ≡ o.listed ++ payloads_of said →
+  refuses : (why : Refusal) (said : List Spelled) (more : List ℕ) (new : Transport K) (o : Outs) → Turned p Client history payload (refusal_items why (Some payload) said) more new → o.after ≡ o.before ++ more → o.relisted ≡ o.listed ++ payloads_of said →
       UnitTurned p Client history bytes payload (step.Refused why) (kept_after layers (outcome.Refused why) new) o
   refuses =
       refused p Client history e bytes payload
       (λ items more next below turned. laws.opened p Client history e asking.sums alive bytes payload items more _ unit (laws.layered p Client history e asking.sums alive payload items more next below turned))
       (λ items more next turned dead. laws.opened p Client history e asking.sums alive bytes payload items more next unit (laws.over p Client history e asking.sums alive payload items more next turned dead))
 
-  pub peer_refused : (why : Refusal) (new : Transport K) (o : Outs) → PayloadRefused p Client history payload (refusal_of why) new o → UnitTurned p Client history bytes payload (step.Refused why) (kept_after layers (outcome.Refused why) new) o
+  pub peer_refused : (why : Refusal) (new : Transport K) (o : Outs) → PayloadRefused p Client history payload why new o → UnitTurned p Client history bytes payload (step.Refused why) (kept_after layers (outcome.Refused why) new) o
   peer_refused why new o x = refuses why x.said x.more new o x.turned x.parts x.lists
 
   -- what is owed can be given, so that there are too few numbers for it all

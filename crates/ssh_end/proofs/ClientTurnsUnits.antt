@@ -1,11 +1,11 @@
 -- What a client's end does with a line, and with a packet that both roles take alike, is what the client of a session does.
 use Rattle.std.proofs.Common.{◌≡◌, ◌++◌, ℕ, false, List, [], ◌∷◌, None, append-nil, refl, ap, sym, ◌∙◌, subst}
-use Rattle.ssh_model.specs.Protocol.Side.{Side.Client}
+use Rattle.ssh_model.specs.declared.side.Side.TheVariants.{Client}
 use Rattle.ssh_model.specs.State.End.State.{EndState}
 use Rattle.ssh_model.specs.State.End.Summary.{EndSumsUp, EndTurned}
 use Rattle.ssh_model.specs.Protocol.Sessions.Items.{Item}
 use Rattle.ssh_model.specs.Protocol.Sessions.Parties.{Parties}
-use Rattle.ssh_model.specs.Protocol.Sessions.Refusals.{Refusal}
+use Rattle.ssh_model.specs.declared.refusal.Refusal.{Refusal}
 use Rattle.ssh_model.specs.Protocol.Sessions.Turns.{OnUnit}
 use Rattle.ssh_model.specs.State.TransportLayer.Kept.{Transport}
 use Rattle.ssh_model.specs.State.TransportLayer.Turns.{refusal_items}
@@ -21,11 +21,10 @@ use Rattle.ssh_transport_machine.specs.declared.machine.turn.PayloadTurn.{Payloa
 use Rattle.ssh_transport_machine.specs.declared.outcome.Effect.TheVariants as effect
 use Rattle.ssh_transport_machine.specs.declared.outcome.TransportTurn.{TransportTurn}
 use Rattle.ssh_transport_machine.specs.declared.outcome.TransportTurn.TheVariants as outcome
-use Rattle.ssh_types.specs.Refusals.{refusal_of}
-use Rattle.ssh_types.specs.declared.refusal.Refusal as code
+use Rattle.ssh_model.specs.declared.refusal.Refusal as code
 use Rattle.ssh_end.specs.Effects.{step_given}
-use Rattle.ssh_layers.specs.ClientLayers.{Layers}
-use Rattle.ssh_layers.specs.ClientSessions.{end_of}
+use Rattle.ssh_end.specs.ClientLayers.{Layers}
+use Rattle.ssh_end.specs.ClientSessions.{end_of}
 use Rattle.ssh_end.specs.Steps as steps
 use Rattle.ssh_end.specs.Steps.{UnitTurned}
 use Rattle.ssh_end.proofs.Finishing.{refusal_sends}
@@ -67,12 +66,12 @@ module _ {K : Type 0} (laws : TurningLaws K) (p : Parties K) (history : List Ite
     lists = quiet.sent ∙ sym (append-nil o.listed);
   }
 
-  pub refused_line : (why : Refusal) (given : code.Refusal) → refusal_of given ≡ why → (new : Transport K) (o : Outs) → IsQuiet o → IsLineRefusal p Client history s bytes why new → {payload : List ℕ} → Turns (outcome.Refused given) payload new o
+  pub refused_line : (why : Refusal) (given : code.Refusal) → given ≡ why → (new : Transport K) (o : Outs) → IsQuiet o → IsLineRefusal p Client history s bytes why new → {payload : List ℕ} → Turns (outcome.Refused given) payload new o
   refused_line why given same new o quiet x {payload} =
       let turned : EndTurned p Client history (OnUnit p Client history bytes) (refusal_items why None []) [] (kept_after layers (outcome.Refused given) new) =
       laws.refused_line p Client history e sums alive bytes why _ [] (kept_after layers (outcome.Refused given) new) x.unit x.turned x.turned.sums.dead_is in
       record {
-        items = refusal_items (refusal_of given) None [];
+        items = refusal_items given None [];
         more = [];
         shows = steps.Shows.refused given None [];
         sends_on = λ old older live. refl;
@@ -83,15 +82,15 @@ module _ {K : Type 0} (laws : TurningLaws K) (p : Parties K) (history : List Ite
 
   -- ---- packets
 
-  pub refused_packet : (why : code.Refusal) (new : Transport K) (o : Outs) → IsPacketRefusal p Client history s bytes (refusal_of why) new o → {payload : List ℕ} → Turns (outcome.Refused why) payload new o
+  pub refused_packet : (why : code.Refusal) (new : Transport K) (o : Outs) → IsPacketRefusal p Client history s bytes why new o → {payload : List ℕ} → Turns (outcome.Refused why) payload new o
   refused_packet why new o x {payload} = record {
-    items = refusal_items (refusal_of why) None x.said;
+    items = refusal_items why None x.said;
     more = x.more;
     shows = steps.Shows.refused why None x.said;
-    sends_on = λ old older live. refusal_on x.said (refusal_of why) None;
-    turned = laws.refused_packet p Client history e sums alive bytes (refusal_of why) _ x.more (kept_after layers (outcome.Refused why) new) x.unit x.turned x.turned.sums.dead_is;
+    sends_on = λ old older live. refusal_on x.said why None;
+    turned = laws.refused_packet p Client history e sums alive bytes why _ x.more (kept_after layers (outcome.Refused why) new) x.unit x.turned x.turned.sums.dead_is;
     parts = x.parts;
-    lists = x.lists ∙ ap (λ l. o.listed ++ payloads_of l) (sym (refusal_sends x.said (refusal_of why) None));
+    lists = x.lists ∙ ap (λ l. o.listed ++ payloads_of l) (sym (refusal_sends x.said why None));
   }
 
   pub payload_turn : (done : PayloadTurn) (number : ℕ) (new : State K) (o : Outs) → is_left (packet_turn.Payload done) ≡ false → (x : IsPayloadTurn p Client history s bytes done new o) → Turns (payload_outcome done number) x.between.receiver.payload new.kept o

@@ -1,7 +1,7 @@
 -- What a client's transport did alone is what its end did.
 use Rattle.std.proofs.Common.{◌≡◌, ℕ, true, List, refl, ap, sym, ◌∙◌, subst}
 use Rattle.std.proofs.lemmas.Bool.{false≢true}
-use Rattle.ssh_model.specs.Protocol.Side.{Side.Client}
+use Rattle.ssh_model.specs.declared.side.Side.TheVariants.{Client}
 use Rattle.ssh_model.specs.State.End.State.{Authentication.OfClient, EndState}
 use Rattle.ssh_model.specs.State.End.Summary.{EndTurned}
 use Rattle.ssh_model.specs.Protocol.Sessions.Items.{Item}
@@ -15,9 +15,9 @@ use Rattle.ssh_transport_machine.specs.declared.outcome.Effect.TheVariants as ef
 use Rattle.ssh_transport_machine.specs.declared.outcome.TransportTurn.{TransportTurn}
 use Rattle.ssh_transport_machine.specs.declared.outcome.TransportTurn.TheVariants as outcome
 use Rattle.ssh_end.specs.Effects.{is_accepted, is_whole, opened_where, step_given}
-use Rattle.ssh_layers.specs.ClientLayers.{Layers}
+use Rattle.ssh_end.specs.ClientLayers.{Layers}
 use Rattle.ssh_end.specs.ClientUnits.{Goes, GoesWhole, opened_layers}
-use Rattle.ssh_layers.specs.ClientSessions.{end_of}
+use Rattle.ssh_end.specs.ClientSessions.{end_of}
 use Rattle.ssh_end.specs.Steps.{SendsOn, Shows, UnitTurned}
 use Rattle.ssh_end.specs.declared.step.Step.{Step}
 

@@ -6,12 +6,13 @@ use Rattle.ssh_model.specs.Protocol.Sessions.AnyPeer.{IsGuarded}
 use Rattle.ssh_model.specs.Protocol.Sessions.Items.{Item, has_died}
 use Rattle.ssh_model.specs.Protocol.Sessions.Parties.{AreLawful, Parties}
 use Rattle.ssh_model.specs.Protocol.Sessions.Turns.{EndRun}
-use Rattle.ssh_model.specs.Protocol.Side.{Side, Side.Server}
+use Rattle.ssh_model.specs.declared.side.Side.{Side}
+use Rattle.ssh_model.specs.declared.side.Side.TheVariants.{Server}
 use Rattle.ssh_model.specs.Protocol.Wire.Sealing.{Crypto}
 use Rattle.ssh_model.specs.State.End.State.{EndState}
 use Rattle.ssh_model.specs.State.End.Summary.{EndSumsUp}
 use Rattle.ssh_model.specs.State.TransportLayer.Kept.{ExchangeParts}
-use Rattle.ssh_layers.specs.Layers.{Layers}
+use Rattle.ssh_end.specs.Layers.{Layers}
 use Rattle.ssh_transport_machine.specs.State.{State}
 use Rattle.ssh_end.specs.Parts.{AreServerLayers}
 use Rattle.ssh_end.specs.Stands.{ServerStandsAt}

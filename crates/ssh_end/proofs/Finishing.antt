@@ -1,7 +1,7 @@
 -- What an end does with a payload from 50 on is what an end of a session does with it.
 use Rattle.std.proofs.Common.{◌≡◌, ℕ, Bool, false, List, [], ◌∷◌, ◌++◌, append-nil, refl, ap, sym, ◌∙◌, subst, Option, Some, None}
 use Rattle.std.specs.Option.{option_map}
-use Rattle.ssh_model.specs.Protocol.Side.{Side}
+use Rattle.ssh_model.specs.declared.side.Side.{Side}
 use Rattle.ssh_model.specs.Protocol.Wire.Message.{Msg, IsPayload}
 use Rattle.ssh_model.specs.Protocol.Wire.Outcome.{Outcome.Opens}
 use Rattle.ssh_model.specs.Protocol.Wire.Sealing.{Crypto}
@@ -14,7 +14,8 @@ use Rattle.ssh_model.specs.State.End.State.{Authentication, EndState, after_abov
 use Rattle.ssh_model.specs.State.End.Summary.{EndSumsUp, EndTurned}
 use Rattle.ssh_model.specs.Protocol.Sessions.Items.{Fact, Item, Item.Sent, Item.Took, Item.Refused, Spelled, Spelled.SpelledBy, messages_sent}
 use Rattle.ssh_model.specs.Protocol.Sessions.Parties.{Parties}
-use Rattle.ssh_model.specs.Protocol.Sessions.Refusals.{Refusal, Refusal.NumberSpent}
+use Rattle.ssh_model.specs.declared.refusal.Refusal.{Refusal}
+use Rattle.ssh_model.specs.declared.refusal.Refusal.TheVariants.{NumberSpent}
 use Rattle.ssh_model.specs.Protocol.Sessions.Turns.{OnPayload, OnUnit, stage}
 use Rattle.ssh_model.specs.State.TransportLayer.Directions.{Direction}
 use Rattle.ssh_model.specs.State.TransportLayer.Kept.{Transport, after_taken}
@@ -23,9 +24,8 @@ use Rattle.ssh_model.specs.State.TransportLayer.Turns as turns
 use Rattle.ssh_model.specs.State.TransportLayer.Turns.{PutsPackets, SaysWhy, refusal_items}
 use Rattle.ssh_transport_machine.specs.Puts.{Outs, payloads_of}
 use Rattle.ssh_transport_machine.specs.State.{State}
-use Rattle.ssh_types.specs.Refusals.{refusal_of}
-use Rattle.ssh_types.specs.declared.refusal.Refusal as code
-use Rattle.ssh_types.specs.declared.refusal.Refusal.TheVariants as refusal
+use Rattle.ssh_model.specs.declared.refusal.Refusal as code
+use Rattle.ssh_model.specs.declared.refusal.Refusal.TheVariants as refusal
 use Rattle.ssh_end.specs.Above.{AnsweredAbove, Awaits, Finished, FinishedAnswer, FinishedRefusal, FinishedSpent, IsReplied, Judged, PutsReply, SpentAbove, after_reply, after_success_where}
 use Rattle.ssh_end.specs.Beside.{channels_beside, last_channels}
 use Rattle.ssh_end.specs.Steps as steps
@@ -124,19 +124,19 @@ module _ {K : Type 0} (p : Parties K) (side : Side) (history : List Item) (e : E
         lists = z.lists ∙ ap (λ (l : List Spelled). o.listed ++ payloads_of l) (sym (turn_sends fact x.sent x.are_sent given.channel x.message payload));
       }
 
-  refuse : (why : code.Refusal) (authentication : Authentication) (channels : Channels) → RefusesAbove p e payload (refusal_of why) → (new : State K) (o : Outs) → FinishedRefusal p.crypto m why (step.Refused why) new o →
+  refuse : (why : code.Refusal) (authentication : Authentication) (channels : Channels) → RefusesAbove p e payload why → (new : State K) (o : Outs) → FinishedRefusal p.crypto m why (step.Refused why) new o →
       UnitTurned p side history unit payload (step.Refused why) (record { transport = new.kept; authentication = authentication; channels = channels }) o
   refuse why authentication channels x new o y =
       let r = y.refused.refuses in
       record {
-        items = refusal_items (refusal_of why) (Some payload) r.said;
+        items = refusal_items why (Some payload) r.said;
         more = r.more;
         shows = steps.Shows.refused why (Some payload) r.said;
-        sends_on = λ old older live. refusal_on r.said (refusal_of why) (Some payload);
-        turned = opened _ _ _ (taken _ _ _ (payloads.TakesPayload.refused_above (refusal_of why) (record { transport = new.kept; authentication = authentication; channels = channels }) x
-            (says_before p.crypto e.transport (refusal_of why) r.said r.more (subst (λ (t : Transport K). SaysWhy p.crypto t (refusal_of why) r.said r.more) awaits.kept r.says)) (ap (λ (t : Transport K). t.dead) r.after)));
+        sends_on = λ old older live. refusal_on r.said why (Some payload);
+        turned = opened _ _ _ (taken _ _ _ (payloads.TakesPayload.refused_above why (record { transport = new.kept; authentication = authentication; channels = channels }) x
+            (says_before p.crypto e.transport why r.said r.more (subst (λ (t : Transport K). SaysWhy p.crypto t why r.said r.more) awaits.kept r.says)) (ap (λ (t : Transport K). t.dead) r.after)));
         parts = r.parts;
-        lists = r.lists ∙ ap (λ (l : List Spelled). o.listed ++ payloads_of l) (sym (refusal_sends r.said (refusal_of why) (Some payload)));
+        lists = r.lists ∙ ap (λ (l : List Spelled). o.listed ++ payloads_of l) (sym (refusal_sends r.said why (Some payload)));
       }
 
   spend : (authentication : Authentication) (channels : Channels) → SpentAbove p e payload → (new : State K) (o : Outs) → FinishedSpent m (step.Refused refusal.NumberSpent) new o →

@@ -17,9 +17,9 @@ use Rattle.ssh_auth.specs.Serving.{answered}
 use Rattle.ssh_auth.specs.declared.answer.ServerAnswer.{ServerAnswer}
 use Rattle.ssh_transport_machine.specs.State.{State}
 use Rattle.ssh_end.specs.Above.{Awaits, IsBeneath, IsReplied, SpellsReply}
-use Rattle.ssh_layers.specs.Layer.{Beneath}
+use Rattle.ssh_end.specs.Layer.{Beneath}
 use Rattle.ssh_end.specs.Told.{telling_of}
-use Rattle.ssh_layers.specs.Sessions.{beneath}
+use Rattle.ssh_end.specs.Sessions.{beneath}
 use Rattle.ssh_end.specs.Steps.{AreSent, fact_by, fact_told}
 
 pub both_on_err : {A E : Type 0} {P Q R : Type 0} (r : Result A E) → (P → Q → R) → OnErr r P → OnErr r Q → OnErr r R

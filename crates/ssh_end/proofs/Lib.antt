@@ -46,3 +46,6 @@ pub mod ClientPlacing
 pub mod Exchanging
 pub mod Fitting
 pub mod Making
+pub mod Each
+pub mod Rows
+pub mod ClientRows

@@ -7,7 +7,7 @@ use Rattle.ssh_model.specs.Protocol.Sessions.AnyPeer.{IsGuarded}
 use Rattle.ssh_model.specs.Protocol.Sessions.Items.{Item, Item.Fed, Item.Sent, Item.SentLine, Spelled.SpelledBy}
 use Rattle.ssh_model.specs.Protocol.Sessions.Parties.{AreLawful, Parties, Settings, offer, settings_of}
 use Rattle.ssh_model.specs.Protocol.Sessions.Turns.{EndRun, IsMaterial}
-use Rattle.ssh_model.specs.Protocol.Side.{Side}
+use Rattle.ssh_model.specs.declared.side.Side.{Side}
 use Rattle.ssh_model.specs.State.TransportLayer.Directions.{new_direction}
 use Rattle.ssh_model.specs.State.TransportLayer.Kept.{Transport}
 use Rattle.ssh_model.specs.State.TransportLayer.Turns.{PutsPackets}

@@ -12,13 +12,12 @@ use Rattle.ssh_model.specs.Protocol.Sessions.Items.{Item, Item.Asked, Item.AskRe
 use Rattle.ssh_model.specs.Protocol.Sessions.Parties.{AreLawful, Parties}
 use Rattle.ssh_model.specs.Protocol.Sessions.Phases.{Phase.Normal}
 use Rattle.ssh_model.specs.Protocol.Sessions.Turns.{AsksTurn, EndRun, FeedsTurn, IsMaterial, OnUnit}
-use Rattle.ssh_model.specs.Protocol.Side.{Side}
+use Rattle.ssh_model.specs.declared.side.Side.{Side}
 use Rattle.ssh_model.specs.State.TransportLayer.Kept.{after_fed, can_be_fed}
 use Rattle.ssh_model.specs.Protocol.Wire.Delivery.{Waits}
 use Rattle.ssh_model.specs.Protocol.Wire.Line.{IsLineBegun}
 use Rattle.ssh_model.specs.Protocol.Wire.Sealing.{Crypto}
 use Rattle.ssh_model.specs.Protocol.Wire.Unit.{IsPacketBegun}
-use Rattle.ssh_types.specs.AskRefusals.{ask_refusal_of}
 use Rattle.ssh_transport_machine.specs.Puts.{Outs}
 use Rattle.ssh_transport_machine.specs.State.{State, begun_of}
 use Rattle.ssh_transport_machine.specs.Turning.{IsQuiet}
@@ -111,7 +110,7 @@ module _ {K : Type 0} (laws : PlaceLaws K) (p : Parties K) (side : Side) (parts 
 
     stands_so : (given : Result AskStep Fault) (d : DoneInSession p side history (end_with old a ch) asked given (end_with new b dh) o) → StandsAfter p side parts later (added p side history (end_with old a ch) asked given (end_with new b dh) o d ++ history) new (end_with new b dh)
     stands_so (Ok step) d = by_turn d.items d.more d.turned
-    stands_so (Err (fault.Ask why)) d = by_turn (AskRefused (ask_refusal_of why) ∷ Asked asked ∷ []) [] d.turned
+    stands_so (Err (fault.Ask why)) d = by_turn (AskRefused why ∷ Asked asked ∷ []) [] d.turned
     stands_so (Err fault.Memory) d = by_turn (Died ∷ []) [] d.turned
     stands_so (Err fault.Dead) d =
         let dead : new.kept.dead ≡ true = ap (λ (e : EndState K). e.transport.dead) d.same ∙ d.dead in

@@ -8,7 +8,7 @@ use Rattle.ssh_model.specs.State.Channels.Places.{at}
 use Rattle.ssh_model.specs.State.Channels.Summary.{reply_channel, told}
 use Rattle.ssh_model.specs.State.End.Payloads.{reply_items}
 use Rattle.ssh_model.specs.Protocol.Sessions.Items.{Fact, Item, Item.Refused, Item.Sent, Item.Took, Spelled, Spelled.SpelledBy, messages_sent}
-use Rattle.ssh_model.specs.Protocol.Sessions.Refusals.{Refusal}
+use Rattle.ssh_model.specs.declared.refusal.Refusal.{Refusal}
 use Rattle.ssh_model.specs.State.TransportLayer.Summary.{items_sent}
 use Rattle.ssh_model.specs.State.TransportLayer.Turns.{refusal_items}
 use Rattle.ssh_transport_machine.specs.Puts.{payloads_of}

@@ -1,7 +1,7 @@
 -- Where memory is refused a server's end dies as the server of a session.
 use Rattle.std.proofs.Common.{◌≡◌, ℕ, ◌+◌, ◌<◌, ◌≤◌, ◌^◌, Bool, true, false, not, ◌&&◌, List, [], ◌∷◌, arith, refl, ap, ◌∙◌, subst, Option, Some, None, nat_le, nat_lt}
 use Rattle.std.proofs.lemmas.Bool.{ltb-false, ltb-true}
-use Rattle.ssh_model.specs.Protocol.Side.{Side.Server}
+use Rattle.ssh_model.specs.declared.side.Side.TheVariants.{Server}
 use Rattle.ssh_model.specs.Protocol.Wire.Message.{Method, Method.Publickey, Msg, Msg.UserauthRequest}
 use Rattle.ssh_model.specs.Protocol.Wire.Sealing.{Crypto}
 use Rattle.ssh_model.specs.State.Authentication.Kept as kept
@@ -11,13 +11,15 @@ use Rattle.ssh_model.specs.State.End.Payloads.{ReadsAbove}
 use Rattle.ssh_model.specs.State.End.State.{Authentication.OfServer, EndState, session_of}
 use Rattle.ssh_model.specs.Protocol.Sessions.Items.{Item}
 use Rattle.ssh_model.specs.Protocol.Sessions.Parties.{Parties}
-use Rattle.ssh_model.specs.Protocol.Sessions.Refusals.{Check.RefusedWhere, Refusal, Refusal.TooManyTries, first_refusal}
+use Rattle.ssh_model.specs.declared.refusal.Refusal.{Refusal}
+use Rattle.ssh_model.specs.declared.refusal.Refusal.TheVariants.{TooManyTries}
+use Rattle.ssh_model.specs.Protocol.Sessions.Refusals.{Check.RefusedWhere, first_refusal}
 use Rattle.ssh_model.specs.State.TransportLayer.Kept.{ExchangeParts, Transport}
 use Rattle.ssh_model.specs.State.TransportLayer.Summary.{SumsUp, parts_of}
 use Rattle.ssh_model.specs.Laws.Written.{success_spelled}
 use Rattle.ssh_auth.specs.Serving.{NeedsText}
 use Rattle.ssh_kex.specs.declared.owned_choice.OwnedChoice.{OwnedChoice}
-use Rattle.ssh_types.specs.declared.refusal.Refusal.TheVariants as code
+use Rattle.ssh_model.specs.declared.refusal.Refusal.TheVariants as code
 use Rattle.ssh_transport_machine.specs.Puts.{Outs}
 use Rattle.ssh_transport_machine.specs.Sessions.{IsAbove, WouldDie}
 use Rattle.ssh_transport_machine.specs.State.{State, dead_state}
@@ -29,12 +31,12 @@ use Rattle.ssh_transport.specs.Units.{Died, Took}
 use Rattle.ssh_end.specs.Above.{FinishLacks, IsBeneath, LacksAbove}
 use Rattle.ssh_end.specs.Deaths.{ServerDies}
 use Rattle.ssh_end.specs.Units.{UnitLacks}
-use Rattle.ssh_layers.specs.Layer.{Beneath}
-use Rattle.ssh_layers.specs.Layers.{Layers, LayersLack, Reads}
+use Rattle.ssh_end.specs.Layer.{Beneath}
+use Rattle.ssh_end.specs.Layers.{Layers, LayersLack, Reads}
 use Rattle.ssh_end.specs.ServerAbove.{JudgeLacks, JudgesPayload}
 use Rattle.ssh_end.specs.ServerTurns.{IsServing}
 use Rattle.ssh_end.specs.ServerUnits.{GoLacks, TurnLacks, UpLacks}
-use Rattle.ssh_layers.specs.Sessions.{beneath, end_of}
+use Rattle.ssh_end.specs.Sessions.{beneath, end_of}
 use Rattle.ssh_end.specs.declared.above.Judgement.{Judgement}
 use Rattle.ssh_end.specs.declared.above.Judgement.TheVariants as judged
 use Rattle.ssh_end.proofs.AboveDeaths.{answered_lacks, channel_lacks, lacks_by, refused_lacks, spelled_lacks}

@@ -1,7 +1,7 @@
 -- What the layers of a server make of a payload is what the server of a session makes of it.
 use Rattle.std.proofs.Common.{◌≡◌, ℕ, Bool, List, [], ◌∷◌, refl, ap, sym, ◌∙◌, subst, Option, Some, None}
 use Rattle.std.specs.Option.{option_map}
-use Rattle.ssh_model.specs.Protocol.Side.{Side.Server}
+use Rattle.ssh_model.specs.declared.side.Side.TheVariants.{Server}
 use Rattle.ssh_model.specs.Protocol.Wire.Message.{Msg, Msg.Unimplemented}
 use Rattle.ssh_model.specs.State.Authentication.Kept.{ServerTakes}
 use Rattle.ssh_model.specs.Protocol.Authentication.Requests.{judge_of}
@@ -12,7 +12,7 @@ use Rattle.ssh_model.specs.State.End.Payloads.{AnswersAbove, RefusesAbove, reply
 use Rattle.ssh_model.specs.State.End.State.{Authentication.OfServer, after_items}
 use Rattle.ssh_model.specs.Protocol.Sessions.Items.{Fact, Item, Item.Sent}
 use Rattle.ssh_model.specs.Protocol.Sessions.Parties.{Parties}
-use Rattle.ssh_model.specs.Protocol.Sessions.Refusals.{Refusal}
+use Rattle.ssh_model.specs.declared.refusal.Refusal.{Refusal}
 use Rattle.ssh_model.specs.State.TransportLayer.Kept.{Transport, after_taken}
 use Rattle.ssh_auth.specs.Serving.{answered}
 use Rattle.ssh_auth.specs.declared.answer.ServerAnswer.{ServerAnswer}
@@ -20,17 +20,17 @@ use Rattle.ssh_auth.specs.declared.answer.ServerAnswer.TheVariants as request
 use Rattle.ssh_channels.specs.Values.{taken_of}
 use Rattle.ssh_transport_machine.specs.State.{State, last_number}
 use Rattle.ssh_end.specs.Above.{AnsweredAbove, Awaits, IsMade, SpellsReply, after_reply, after_success_where}
-use Rattle.ssh_layers.specs.Layer.{Beneath}
-use Rattle.ssh_layers.specs.Layers.{LayerRow, Layers, LayersRefuse, LayersTake, message_of}
+use Rattle.ssh_end.specs.Layer.{Beneath}
+use Rattle.ssh_end.specs.Layers.{LayerRow, Layers, LayersRefuse, LayersTake, message_of}
 use Rattle.ssh_end.specs.ServerAbove.{IsTaken, RefusesPayload, accepts_user, took_by}
 use Rattle.ssh_end.specs.Told.{telling_of}
-use Rattle.ssh_layers.specs.Sessions.{Accepts, AreOf, beneath, end_of}
+use Rattle.ssh_end.specs.Sessions.{Accepts, AreOf, beneath, end_of}
 use Rattle.ssh_end.specs.Steps.{fact_by, fact_told}
-use Rattle.ssh_layers.specs.declared.server_layers.ServerLayerAnswer.{ServerLayerAnswer}
-use Rattle.ssh_layers.specs.declared.server_layers.ServerLayerAnswer.TheVariants as answer
+use Rattle.ssh_end.specs.declared.layers.server_layers.ServerLayerAnswer.{ServerLayerAnswer}
+use Rattle.ssh_end.specs.declared.layers.server_layers.ServerLayerAnswer.TheVariants as answer
 use Rattle.ssh_end.specs.declared.step.TookStep.{TookStep}
 use Rattle.ssh_end.proofs.Judging.{ServerFacts, ChannelFacts, are_replied, are_sent, beneath_is, is_told, payload_in, reply_is_sent, reply_replied}
-use Rattle.ssh_layers.specs.Laws.Server.{accepts, refuses}
+use Rattle.ssh_end.specs.Laws.Server.{accepts, refuses}
 use Rattle.ssh_end.proofs.SendingOn.{reply_on, sent_with_on}
 use Rattle.ssh_end.proofs.Beside.{telling_behind}
 

@@ -5,12 +5,12 @@ use Rattle.ssh_model.specs.State.End.State.{Authentication.OfServer}
 use Rattle.ssh_model.specs.Protocol.Sessions.Items as session
 use Rattle.ssh_model.specs.Protocol.Sessions.Items.{Item}
 use Rattle.ssh_model.specs.Protocol.Sessions.Parties.{Parties}
-use Rattle.ssh_model.specs.Protocol.Side.{Side.Server}
+use Rattle.ssh_model.specs.declared.side.Side.TheVariants.{Server}
 use Rattle.ssh_model.specs.State.TransportLayer.Kept.{ExchangeParts}
 use Rattle.ssh_model.specs.State.TransportLayer.Summary.{parts_of}
 use Rattle.ssh_model.specs.Protocol.Wire.Sealing.{Crypto}
-use Rattle.ssh_layers.specs.Layers.{Layers}
-use Rattle.ssh_layers.specs.Sessions.{end_of}
+use Rattle.ssh_end.specs.Layers.{Layers}
+use Rattle.ssh_end.specs.Sessions.{end_of}
 use Rattle.ssh_transport.specs.OfServer.Roles.{ServerDoes, ServerLacks}
 use Rattle.ssh_transport_machine.specs.Puts.{Outs}
 use Rattle.ssh_transport_machine.specs.State.{State}

@@ -1,12 +1,12 @@
 -- What a server's end does with the bytes of one line or one packet is what the server of a session does with them.
 use Rattle.std.proofs.Common.{◌≡◌, ℕ, ◌++◌, true, false, List, refl, ap, sym, ◌∙◌, subst}
 use Rattle.std.proofs.lemmas.Bool.{false≢true}
-use Rattle.ssh_model.specs.Protocol.Side.{Side.Server}
+use Rattle.ssh_model.specs.declared.side.Side.TheVariants.{Server}
 use Rattle.ssh_model.specs.Protocol.Authentication.Requests.{judge_of}
 use Rattle.ssh_model.specs.State.End.Summary.{EndSumsUp}
 use Rattle.ssh_model.specs.Protocol.Sessions.Items.{Item, messages_sent}
 use Rattle.ssh_model.specs.Protocol.Sessions.Parties.{Parties}
-use Rattle.ssh_model.specs.Protocol.Sessions.Refusals.{Refusal}
+use Rattle.ssh_model.specs.declared.refusal.Refusal.{Refusal}
 use Rattle.ssh_model.specs.Protocol.Sessions.Turns.{stage}
 use Rattle.ssh_model.specs.State.TransportLayer.Kept.{ExchangeParts, Transport}
 use Rattle.ssh_model.specs.State.TransportLayer.Summary.{SumsUp, parts_of}
@@ -34,13 +34,13 @@ use Rattle.ssh_transport.specs.Roles.{IsCompleted, IsOwnShown, Leaves, OwnTurn}
 use Rattle.ssh_transport.specs.Sessions.{UnitTurnOf}
 use Rattle.ssh_transport.specs.Units.{Took}
 use Rattle.ssh_transport.specs.declared.own.Own.{Own}
-use Rattle.ssh_types.specs.declared.refusal.Refusal.TheVariants as code
+use Rattle.ssh_model.specs.declared.refusal.Refusal.TheVariants as code
 use Rattle.ssh_end.specs.Effects.{is_requested, is_whole, step_given}
-use Rattle.ssh_layers.specs.Layers.{Layers}
+use Rattle.ssh_end.specs.Layers.{Layers}
 use Rattle.ssh_end.specs.Reading.{IsReading}
 use Rattle.ssh_end.specs.ServerTurns.{IsServing, IsUnitTurned, ServerTurned}
 use Rattle.ssh_end.specs.ServerUnits.{Goes, GoesOn, GoesUp, GoesWhole, ServerGoes}
-use Rattle.ssh_layers.specs.Sessions.{AreOf, end_of}
+use Rattle.ssh_end.specs.Sessions.{AreOf, end_of}
 use Rattle.ssh_end.specs.Steps.{Shows, UnitTurned, shown_by}
 use Rattle.ssh_end.specs.declared.step.Step.{Step}
 use Rattle.ssh_end.specs.declared.step.Step.TheVariants as step

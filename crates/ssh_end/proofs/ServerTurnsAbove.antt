@@ -1,7 +1,7 @@
 -- What a server's end does with a payload from 50 on is what the server of a session does with it.
 use Rattle.std.proofs.Common.{◌≡◌, ℕ, false, List, length, refl, ap, sym, ◌∙◌, subst, Option, None}
 use Rattle.std.specs.Prelude.{IsSome}
-use Rattle.ssh_model.specs.Protocol.Side.{Side.Server}
+use Rattle.ssh_model.specs.declared.side.Side.TheVariants.{Server}
 use Rattle.ssh_model.specs.Protocol.Wire.Message.{Msg}
 use Rattle.ssh_model.specs.Protocol.Wire.Unit.{HasNumber}
 use Rattle.ssh_model.specs.Protocol.Authentication.Requests.{judge_of}
@@ -18,21 +18,21 @@ use Rattle.ssh_transport_machine.specs.Puts.{Outs}
 use Rattle.ssh_transport_machine.specs.Sessions.{IsAbove}
 use Rattle.ssh_transport_machine.specs.State.{State, last_number}
 use Rattle.ssh_end.specs.Above.{Awaits, Finished, IsUnsent, Judged, SpentAbove}
-use Rattle.ssh_layers.specs.Layer.{Beneath}
-use Rattle.ssh_layers.specs.Layers.{LayerRow, Layers, LayersTake, IsShort, message_of}
+use Rattle.ssh_end.specs.Layer.{Beneath}
+use Rattle.ssh_end.specs.Layers.{LayerRow, Layers, LayersTake, IsShort, message_of}
 use Rattle.ssh_end.specs.ServerAbove.{IsTaken, JudgesPayload}
 use Rattle.ssh_end.specs.ServerTurns.{IsServing}
-use Rattle.ssh_layers.specs.Sessions.{Accepts, AreOf, beneath, end_of}
+use Rattle.ssh_end.specs.Sessions.{Accepts, AreOf, beneath, end_of}
 use Rattle.ssh_end.specs.Steps.{UnitTurned}
 use Rattle.ssh_end.specs.declared.above.Judgement.{Judgement}
 use Rattle.ssh_end.specs.declared.above.Judgement.TheVariants as judged
-use Rattle.ssh_layers.specs.declared.server_layers.ServerLayerAnswer.{ServerLayerAnswer}
-use Rattle.ssh_layers.specs.declared.server_layers.ServerLayerAnswer.TheVariants as answer
+use Rattle.ssh_end.specs.declared.layers.server_layers.ServerLayerAnswer.{ServerLayerAnswer}
+use Rattle.ssh_end.specs.declared.layers.server_layers.ServerLayerAnswer.TheVariants as answer
 use Rattle.ssh_end.specs.declared.step.Step.{Step}
 use Rattle.ssh_end.proofs.Finishing.{finished}
 use Rattle.ssh_end.proofs.Judging.{ChannelFacts, ServerFacts, beneath_is}
 use Rattle.ssh_end.proofs.ServerJudged.{answered_so, refused_so}
-use Rattle.ssh_layers.specs.Laws.Server.{accepts}
+use Rattle.ssh_end.specs.Laws.Server.{accepts}
 use Rattle.ssh_end.proofs.TurningLaws.{TurningLaws}
 use Rattle.ssh_end.proofs.TurningReplies.{SpelledAbove, due_above, due_spelled, has_number, last_of, spent_above}
 

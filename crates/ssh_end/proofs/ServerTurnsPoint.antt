@@ -1,6 +1,6 @@
 -- What a server's end does with a client's point, and with what is owed after it, is what the server of a session does.
 use Rattle.std.proofs.Common.{◌≡◌, ℕ, ◌+◌, ◌≤◌, ◌++◌, false, List, [], ◌∷◌, length, append-nil, append_assoc, arith, ap, sym, ◌∙◌, subst, None}
-use Rattle.ssh_model.specs.Protocol.Side.{Side.Server}
+use Rattle.ssh_model.specs.declared.side.Side.TheVariants.{Server}
 use Rattle.ssh_model.specs.Protocol.Wire.Outcome.{Outcome.Opens}
 use Rattle.ssh_model.specs.Protocol.Wire.Unit.{IsUnit}
 use Rattle.ssh_model.specs.State.Channels.Kept.{Channels}
@@ -19,14 +19,13 @@ use Rattle.ssh_transport_machine.specs.Puts.{Outs, payloads_of}
 use Rattle.ssh_transport_machine.specs.Sessions.{IsSpentEnd}
 use Rattle.ssh_transport_machine.specs.State.{State}
 use Rattle.ssh_transport_machine.specs.declared.outcome.TransportTurn.TheVariants as outcome
-use Rattle.ssh_types.specs.Refusals.{refusal_of}
-use Rattle.ssh_types.specs.declared.refusal.Refusal.{Refusal}
-use Rattle.ssh_types.specs.declared.refusal.Refusal.TheVariants as code
+use Rattle.ssh_model.specs.declared.refusal.Refusal.{Refusal}
+use Rattle.ssh_model.specs.declared.refusal.Refusal.TheVariants as code
 use Rattle.ssh_end.specs.Completing.{Completing}
-use Rattle.ssh_layers.specs.Layers.{Layers}
+use Rattle.ssh_end.specs.Layers.{Layers}
 use Rattle.ssh_end.specs.Owed.{OwedGiven}
 use Rattle.ssh_end.specs.ServerTurns.{IsServing}
-use Rattle.ssh_layers.specs.Sessions.{end_of}
+use Rattle.ssh_end.specs.Sessions.{end_of}
 use Rattle.ssh_end.specs.Steps as steps
 use Rattle.ssh_end.specs.Steps.{UnitTurned}
 use Rattle.ssh_end.specs.declared.step.Step.{Step}
@@ -43,7 +42,7 @@ module _ {K : Type 0} (laws : TurningLaws K) (p : Parties K) (history : List Ite
   abbrev e : EndState K
   e = end_of old.kept layers
 
-  pub peer_refused : (why : Refusal) (new : Transport K) (o : Outs) → PayloadRefused p Server history payload (refusal_of why) new o → UnitTurned p Server history bytes payload (step.Refused why) (kept_after layers (outcome.Refused why) new) o
+  pub peer_refused : (why : Refusal) (new : Transport K) (o : Outs) → PayloadRefused p Server history payload why new o → UnitTurned p Server history bytes payload (step.Refused why) (kept_after layers (outcome.Refused why) new) o
   peer_refused why new o x =
       refused p Server history e bytes payload
       (λ items more next below turned. laws.opened p Server history e serving.sums alive bytes payload items more _ unit (laws.layered p Server history e serving.sums alive payload items more next below turned))

@@ -1,7 +1,7 @@
 -- What a server's transport did alone is what its end did.
 use Rattle.std.proofs.Common.{◌≡◌, ℕ, Bool, true, false, List, refl, ap, sym, ◌∙◌, subst}
 use Rattle.std.proofs.lemmas.Bool.{false≢true}
-use Rattle.ssh_model.specs.Protocol.Side.{Side.Server}
+use Rattle.ssh_model.specs.declared.side.Side.TheVariants.{Server}
 use Rattle.ssh_model.specs.Protocol.Authentication.Requests.{Judge}
 use Rattle.ssh_model.specs.State.End.State.{Authentication.OfServer, EndState}
 use Rattle.ssh_model.specs.State.End.Summary.{EndTurned}
@@ -16,9 +16,9 @@ use Rattle.ssh_transport_machine.specs.declared.outcome.Effect.TheVariants as ef
 use Rattle.ssh_transport_machine.specs.declared.outcome.TransportTurn.{TransportTurn}
 use Rattle.ssh_transport_machine.specs.declared.outcome.TransportTurn.TheVariants as outcome
 use Rattle.ssh_end.specs.Effects.{is_requested, is_whole, opened_where, step_given}
-use Rattle.ssh_layers.specs.Layers.{Layers}
+use Rattle.ssh_end.specs.Layers.{Layers}
 use Rattle.ssh_end.specs.ServerUnits.{Goes, GoesWhole, opened_layers}
-use Rattle.ssh_layers.specs.Sessions.{AreOf, end_of}
+use Rattle.ssh_end.specs.Sessions.{AreOf, end_of}
 use Rattle.ssh_end.specs.Steps.{SendsOn, Shows, UnitTurned}
 use Rattle.ssh_end.specs.declared.step.Step.{Step}
 

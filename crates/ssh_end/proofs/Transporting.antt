@@ -1,6 +1,7 @@
 -- What a transport makes of a unit alone is what an end of a session makes of it.
 use Rattle.std.proofs.Common.{◌≡◌, ℕ, true, false, List, [], ◌∷◌, ◌++◌, refl, ap, sym, ◌∙◌, subst, Some, None}
-use Rattle.ssh_model.specs.Protocol.Side.{Side, Side.Server}
+use Rattle.ssh_model.specs.declared.side.Side.{Side}
+use Rattle.ssh_model.specs.declared.side.Side.TheVariants.{Server}
 use Rattle.ssh_model.specs.Protocol.Wire.Message.{Msg, Msg.KexInit, Msg.ServiceAccept, Msg.ServiceRequest, Msg.Unimplemented, Msg.Unknown, IsPayload}
 use Rattle.ssh_model.specs.State.End.Below.{AreBelow, opened_by_all}
 use Rattle.ssh_model.specs.State.End.State.{Authentication, Authentication.OfClient, Authentication.OfServer, EndState}
@@ -19,9 +20,8 @@ use Rattle.ssh_transport_machine.specs.declared.machine.turn.PayloadTurn.TheVari
 use Rattle.ssh_transport_machine.specs.declared.outcome.Effect.TheVariants as effect
 use Rattle.ssh_transport_machine.specs.declared.outcome.TransportTurn.{TransportTurn}
 use Rattle.ssh_transport_machine.specs.declared.outcome.TransportTurn.TheVariants as outcome
-use Rattle.ssh_types.specs.Refusals.{refusal_of}
-use Rattle.ssh_types.specs.declared.refusal.Refusal as code
-use Rattle.ssh_types.specs.declared.refusal.Refusal.TheVariants as refusal
+use Rattle.ssh_model.specs.declared.refusal.Refusal as code
+use Rattle.ssh_model.specs.declared.refusal.Refusal.TheVariants as refusal
 use Rattle.ssh_end.specs.Effects.{opened_where, step_given}
 use Rattle.ssh_end.specs.Steps as steps
 use Rattle.ssh_end.specs.Steps.{SendsOn, Shows, UnitTurned}
@@ -81,7 +81,7 @@ module _ {K : Type 0} (p : Parties K) (side : Side) (history : List Item) (e : E
       o.after ≡ o.before ++ more → o.relisted ≡ o.listed ++ payloads_of said →
       UnitTurned p side history unit payload (step_given (payload_outcome done number)) (kept_after (payload_outcome done number) new) o
   shared s done said items more new o number (shown.Shows.refused why) turned parts lists =
-      made _ more new turned o said parts lists (outcome.Refused why) (steps.Shows.refused why (Some payload) said) (λ old older live. refusal_on said (refusal_of why) (Some payload)) (refusal_sends said (refusal_of why) (Some payload)) (over _ more new turned o said parts lists (outcome.Refused why) turned.sums.dead_is)
+      made _ more new turned o said parts lists (outcome.Refused why) (steps.Shows.refused why (Some payload) said) (λ old older live. refusal_on said why (Some payload)) (refusal_sends said why (Some payload)) (over _ more new turned o said parts lists (outcome.Refused why) turned.sums.dead_is)
   shared s done said items more new o number shown.Shows.skipped turned parts lists =
       made _ more new turned o [] parts lists (outcome.Done effect.Skipped) steps.Shows.skipped (λ old older live. refl) refl (live _ more new turned o [] parts lists (outcome.Done effect.Skipped) (tt, (tt, tt)) refl)
   shared s done said items more new o number (shown.Shows.disconnected reason description language is) turned parts lists =
@@ -109,7 +109,7 @@ module _ {K : Type 0} (p : Parties K) (side : Side) (history : List Item) (e : E
       made _ more new turned o [] parts lists (outcome.Refused refusal.NumberSpent) (steps.Shows.refused refusal.NumberSpent (Some payload) []) (λ old older live. refl) refl (over _ more new turned o [] parts lists (outcome.Refused refusal.NumberSpent) turned.sums.dead_is)
 
   -- a payload that is refused by a role
-  pub refused : (why : code.Refusal) (said : List Spelled) (more : List ℕ) (new : Transport K) (o : Outs) → Turned p side history payload (refusal_items (refusal_of why) (Some payload) said) more new → o.after ≡ o.before ++ more → o.relisted ≡ o.listed ++ payloads_of said →
+  pub refused : (why : code.Refusal) (said : List Spelled) (more : List ℕ) (new : Transport K) (o : Outs) → Turned p side history payload (refusal_items why (Some payload) said) more new → o.after ≡ o.before ++ more → o.relisted ≡ o.listed ++ payloads_of said →
       UnitTurned p side history unit payload (step.Refused why) (kept_after (outcome.Refused why) new) o
   refused why said more new o turned parts lists =
-      made _ more new turned o said parts lists (outcome.Refused why) (steps.Shows.refused why (Some payload) said) (λ old older live. refusal_on said (refusal_of why) (Some payload)) (refusal_sends said (refusal_of why) (Some payload)) (over _ more new turned o said parts lists (outcome.Refused why) turned.sums.dead_is)
+      made _ more new turned o said parts lists (outcome.Refused why) (steps.Shows.refused why (Some payload) said) (λ old older live. refusal_on said why (Some payload)) (refusal_sends said why (Some payload)) (over _ more new turned o said parts lists (outcome.Refused why) turned.sums.dead_is)

@@ -1,7 +1,7 @@
 -- What is begun after a line or a packet, and the payload that is then shown.
 use Rattle.std.proofs.Common.{◌≡◌, ℕ, Bool, true, false, cond, List, [], arith, refl, ap, sym, ◌∙◌, subst, Option}
 use Rattle.std.proofs.lemmas.Bool.{false≢true}
-use Rattle.ssh_model.specs.Protocol.Side.{Side.Client}
+use Rattle.ssh_model.specs.declared.side.Side.TheVariants.{Client}
 use Rattle.ssh_model.specs.State.Channels.Kept.{Channels}
 use Rattle.ssh_model.specs.State.End.Payloads as payloads
 use Rattle.ssh_model.specs.State.End.Payloads.{GivesOwed}
@@ -12,9 +12,9 @@ use Rattle.ssh_model.specs.Protocol.Wire.Line.{IsLineBegun}
 use Rattle.ssh_model.specs.Protocol.Wire.Outcome.{Outcome.Opens}
 use Rattle.ssh_model.specs.Protocol.Wire.Sealing.{Crypto, IsBegun.no_length}
 use Rattle.ssh_model.specs.Protocol.Wire.Unit.{IsPacketBegun, PacketUnit}
-use Rattle.ssh_transport_base.specs.Directions.{Receiver, Receives}
-use Rattle.ssh_transport_base.specs.declared.packets.step.PacketStep.{PacketStep}
-use Rattle.ssh_transport_base.specs.declared.packets.step.PacketStep.TheVariants as step
+use Rattle.ssh_packet.specs.Directions.{Receiver, Receives}
+use Rattle.ssh_packet.specs.declared.packets.step.PacketStep.{PacketStep}
+use Rattle.ssh_packet.specs.declared.packets.step.PacketStep.TheVariants as step
 use Rattle.ssh_transport_machine.specs.LineTurns.{LineTaken}
 use Rattle.ssh_transport_machine.specs.Outcomes.{payload_outcome}
 use Rattle.ssh_transport_machine.specs.Puts.{Outs}
@@ -33,8 +33,8 @@ use Rattle.ssh_transport_machine.specs.declared.machine.turn.PayloadTurn.TheVari
 use Rattle.ssh_transport_machine.specs.declared.outcome.TransportTurn.{TransportTurn}
 use Rattle.ssh_transport_machine.specs.declared.outcome.TransportTurn.TheVariants as outcome
 use Rattle.ssh_transport.specs.Roles.{Leaves, Still}
-use Rattle.ssh_types.specs.declared.refusal.Refusal.{Refusal}
-use Rattle.ssh_types.specs.declared.refusal.Refusal.TheVariants as refusal
+use Rattle.ssh_model.specs.declared.refusal.Refusal.{Refusal}
+use Rattle.ssh_model.specs.declared.refusal.Refusal.TheVariants as refusal
 use Rattle.ssh_end.specs.Reading.{IsReading}
 
 -- ---- nothing is begun

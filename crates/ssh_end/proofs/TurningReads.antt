@@ -2,7 +2,8 @@
 use Rattle.std.proofs.Common.{◌≡◌, ℕ, Bool, true, false, List, [], refl, ap, sym, ◌∙◌, subst, Option, None, Some}
 use Rattle.std.proofs.lemmas.Bool.{false≢true}
 use Rattle.std.specs.Option.{option_map}
-use Rattle.ssh_model.specs.Protocol.Side.{Side, Side.Client}
+use Rattle.ssh_model.specs.declared.side.Side.{Side}
+use Rattle.ssh_model.specs.declared.side.Side.TheVariants.{Client}
 use Rattle.ssh_model.specs.State.Channels.Kept.{Channels}
 use Rattle.ssh_model.specs.State.End.State.{EndState}
 use Rattle.ssh_model.specs.Protocol.Sessions.Items.{Item}
@@ -31,8 +32,8 @@ use Rattle.ssh_transport_machine.specs.declared.outcome.TransportTurn.{Transport
 use Rattle.ssh_transport_machine.specs.declared.outcome.TransportTurn.TheVariants as outcome
 use Rattle.ssh_kex.specs.declared.owned_choice.OwnedChoice.{OwnedChoice}
 use Rattle.ssh_packet.specs.declared.refusal.LineRefusal.{LineRefusal}
-use Rattle.ssh_types.specs.declared.refusal.Refusal.{Refusal}
-use Rattle.ssh_types.specs.declared.refusal.Refusal.TheVariants as code
+use Rattle.ssh_model.specs.declared.refusal.Refusal.{Refusal}
+use Rattle.ssh_model.specs.declared.refusal.Refusal.TheVariants as code
 use Rattle.ssh_transport.specs.Roles.{Leaves, Still}
 use Rattle.ssh_end.specs.Above.{Finished, PutsReply, after_success_where}
 use Rattle.ssh_end.specs.Completing.{Completing}

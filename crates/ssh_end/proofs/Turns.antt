@@ -1,6 +1,5 @@
 -- What a turn shows is what stands in its items.
 use Rattle.std.proofs.Common.{◌≡◌, ℕ, List, [], ◌∷◌, ◌++◌, refl, ap, sym, ◌∙◌, subst, Option, Some, None, option_map}
-use Rattle.ssh_types.specs.Refusals.{refusal_of}
 use Rattle.ssh_model.specs.Protocol.Wire.Message.{Msg, IsPayload}
 use Rattle.ssh_model.specs.Protocol.Sessions.Items.{Fact, Item, Item.Refused, Item.Took, Item.Died, Spelled, Spelled.SpelledBy}
 use Rattle.ssh_model.specs.State.Channels.Summary.{told}
@@ -64,29 +63,29 @@ module _ (payload : List ℕ) (turn : Turn) (unrefused : turn.refused ≡ None) 
       record {
         took = subst (λ (i : Option Item). IsTaken turn.took i) (sym (oldest_is (told fact sent) (Took s.channel message payload))) x.took;
         told = x.told ∙ sym (fact_over fact sent rest nothing.fact);
-        refused = ap (option_map refusal_of) unrefused ∙ sym (refusal_over fact sent rest ∙ nothing.refusal);
+        refused = unrefused ∙ sym (refusal_over fact sent rest ∙ nothing.refusal);
       }
 
   pub message_shows : (s : TookStep) → ((message : Msg) → IsPayload s.probing message payload → IsMessageTurn s message payload turn) → (items : List Item) → Shows payload (step.Took s) items → TurnShows turn items
   message_shows s x items (Shows.took channel probing telling message sent is are) = by_message s message sent (x message is) are
   message_shows s x items (Shows.disconnected reason description language is) =
       let y = x _ is in
-      record { took = y.took; told = y.told; refused = ap (option_map refusal_of) unrefused }
+      record { took = y.took; told = y.told; refused = unrefused }
 
   pub message_shows_at : (given : Step) (s : TookStep) → given ≡ step.Took s → ((message : Msg) → IsPayload s.probing message payload → IsMessageTurn s message payload turn) → (items : List Item) → Shows payload given items → TurnShows turn items
   message_shows_at given s e x items shows = message_shows s x items (subst (λ (g : Step). Shows payload g items) e shows)
 
 -- ---- a refusal
 
-refusal_shows : (payload : List ℕ) (turn : Turn) (why : _) → turn.took ≡ None → turn.told ≡ None → turn.refused ≡ Some why → (opened : Option (List ℕ)) (said : List Spelled) → TurnShows turn (refusal_items (refusal_of why) opened said)
+refusal_shows : (payload : List ℕ) (turn : Turn) (why : _) → turn.took ≡ None → turn.told ≡ None → turn.refused ≡ Some why → (opened : Option (List ℕ)) (said : List Spelled) → TurnShows turn (refusal_items why opened said)
 refusal_shows payload turn why untaken untold refused opened said =
-    let rest = Refused (refusal_of why) opened ∷ [] in
+    let rest = Refused why opened ∷ [] in
     let nothing = adds_nothing (items_sent said) rest (are_sent said) in
     record {
-      took = subst (λ t. IsTaken t (oldest (refusal_items (refusal_of why) opened said))) (sym untaken)
-          (subst (λ (i : Option Item). IsTaken None i) (sym (oldest_is (Died ∷ items_sent said) (Refused (refusal_of why) opened))) tt);
+      took = subst (λ t. IsTaken t (oldest (refusal_items why opened said))) (sym untaken)
+          (subst (λ (i : Option Item). IsTaken None i) (sym (oldest_is (Died ∷ items_sent said) (Refused why opened))) tt);
       told = ap (option_map told_of) untold ∙ sym nothing.fact;
-      refused = ap (option_map refusal_of) refused ∙ sym nothing.refusal;
+      refused = refused ∙ sym nothing.refusal;
     }
 
 pub refused_shows : (payload : List ℕ) (turn : Turn) (why : _) → turn.took ≡ None → turn.told ≡ None → turn.refused ≡ Some why → (items : List Item) → Shows payload (step.Refused why) items → TurnShows turn items

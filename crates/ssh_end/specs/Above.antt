@@ -1,8 +1,8 @@
 -- What an end does with a payload from 50 on: what the layers above its transport make of it, and what is then sent.
-use Rattle.std.specs.Prelude.{◌≡◌, ℕ, ◌<◌, ◌≤◌, ◌^◌, Bool, true, false, Option, Some, None, IsSome, List, [], ◌∷◌, length}
+use Rattle.std.specs.Prelude.{◌≡◌, ℕ, ◌<◌, ◌≤◌, Bool, true, false, Option, Some, None, IsSome, List, [], ◌∷◌, length}
 use Rattle.std.specs.Option.{option_map}
-use Rattle.ssh_model.specs.Protocol.Bounds.{longest_payload}
-use Rattle.ssh_model.specs.Protocol.Side.{Side}
+use Rattle.ssh_model.specs.Protocol.Bounds.{longest_payload, numbers_of_epoch}
+use Rattle.ssh_model.specs.declared.side.Side.{Side}
 use Rattle.ssh_model.specs.Protocol.Wire.Message.{Msg}
 use Rattle.ssh_model.specs.Protocol.Wire.Sealing.{Crypto}
 use Rattle.ssh_model.specs.State.Channels.Kept.{Channels, DueReply}
@@ -20,10 +20,9 @@ use Rattle.ssh_transport_machine.specs.Above.{IsPut, PeerRefused}
 use Rattle.ssh_transport_machine.specs.Puts.{Outs, payloads_of}
 use Rattle.ssh_transport_machine.specs.State.{State, dead_state, last_number}
 use Rattle.ssh_transport_machine.specs.Turning.{HasRoom, IsQuiet, RefusalLacks}
-use Rattle.ssh_types.specs.Refusals.{refusal_of}
-use Rattle.ssh_types.specs.declared.refusal.Refusal.TheVariants as refusal
+use Rattle.ssh_model.specs.declared.refusal.Refusal.TheVariants as refusal
 use Rattle.ssh_end.specs.Beside.{channels_beside, channels_given}
-use Rattle.ssh_layers.specs.Layer.{Beneath}
+use Rattle.ssh_end.specs.Layer.{Beneath}
 use Rattle.ssh_end.specs.Owed.{channels_sent}
 use Rattle.ssh_end.specs.Steps.{AreSent, fact_told}
 use Rattle.ssh_end.specs.declared.above.Judgement.{Judgement}
@@ -41,7 +40,7 @@ pub record Awaits {K : Type 0} (s : Transport K) (m : State K) : Type 0 where
   pub normal : s.phase ≡ Normal
   pub identified : s.session ≡ None → ⊥
   pub number : last_number m.kept.taking ≡ s.taking.number
-  pub few : s.taking.count < 2 ^ 32
+  pub few : s.taking.count < numbers_of_epoch
 
 -- ---- what the layers above make of it
 
@@ -95,7 +94,7 @@ pub record SpentAbove {K : Type 0} (p : Parties K) (e : EndState K) (payload : L
   pub answers : AnswersAbove p e message channel items authentication channels
   pub spelled : AreSpelled items
   pub some : 1 ≤ length (messages_sent items)
-  pub none_left : e.transport.sending.count ≡ 2 ^ 32
+  pub none_left : e.transport.sending.count ≡ numbers_of_epoch
 
 -- what they made of the payload
 abbrev pub Judged : {K : Type 0} → Parties K → Side → EndState K → (payload : List ℕ) → Judgement → Authentication →
@@ -103,7 +102,7 @@ abbrev pub Judged : {K : Type 0} → Parties K → Side → EndState K → (payl
 Judged p side e payload (judged.Answered above) authentication channels =
     AnsweredAbove p side e payload above.step (option_map (λ v. v.items) above.reply) above.success authentication
     channels
-Judged p side e payload (judged.Refused why) authentication channels = RefusesAbove p e payload (refusal_of why)
+Judged p side e payload (judged.Refused why) authentication channels = RefusesAbove p e payload why
 Judged p side e payload judged.Spent authentication channels = SpentAbove p e payload
 
 -- Memory would be taken: something would be sent, or a channel made.
@@ -143,7 +142,7 @@ pub record IsMade {K : Type 0} (m : State K) (took : TookStep) (message : Option
 -- Something would be sent, and no number is left for it.
 pub record IsUnsent {K : Type 0} (m : State K) (message : Option Msg) : Type 0 where
   pub some : IsSome message
-  pub none_left : m.kept.sending.count ≡ 2 ^ 32
+  pub none_left : m.kept.sending.count ≡ numbers_of_epoch
 
 -- What is made of a message that was taken so, where this is sent at once.
 abbrev pub IsAnswer : {K : Type 0} → State K → TookStep → Option Msg → (success : Bool) → Judgement → Type 0

@@ -1,7 +1,8 @@
 -- What an end does on an ask of its user.
 use Rattle.std.specs.Prelude.{◌≡◌, ◌<◌, ◌^◌, ◌++◌, ℕ, true, false, Option, Some, None, List, [], ◌∷◌, Result, Ok, Err}
 use Rattle.std.specs.Option.{option_map}
-use Rattle.ssh_model.specs.Protocol.Side.{Side, Side.Client, Side.Server}
+use Rattle.ssh_model.specs.declared.side.Side.{Side}
+use Rattle.ssh_model.specs.declared.side.Side.TheVariants.{Client, Server}
 use Rattle.ssh_model.specs.Protocol.Wire.Message.{Msg, Msg.Disconnect}
 use Rattle.ssh_model.specs.Protocol.Wire.Message.{Msg.ChannelOpen, Msg.ChannelOpenConfirmation, Msg.ChannelOpenFailure}
 use Rattle.ssh_model.specs.Protocol.Wire.Message.{Msg.ChannelWindowAdjust, Msg.ChannelData, Msg.ChannelExtendedData}
@@ -12,7 +13,7 @@ use Rattle.ssh_model.specs.Protocol.Sessions.Items as session
 use Rattle.ssh_model.specs.Protocol.Sessions.Items.{Fact.Opening, Item, Item.Asked, Item.AskRefused, Item.Died, Item.Refused}
 use Rattle.ssh_model.specs.Protocol.Sessions.Items.{Item.Sent, messages_sent}
 use Rattle.ssh_model.specs.Protocol.Sessions.Parties.{Parties, settings_of}
-use Rattle.ssh_model.specs.Protocol.Sessions.Refusals as model
+use Rattle.ssh_model.specs.declared.refusal.Refusal.TheVariants as refusals
 use Rattle.ssh_model.specs.Protocol.Sessions.Refusals.{first_refusal}
 use Rattle.ssh_model.specs.Protocol.Sessions.TurnClaims.{HasSpelling}
 use Rattle.ssh_model.specs.Protocol.Sessions.Turns.{AsksTurn, ask_checks}
@@ -37,11 +38,9 @@ use Rattle.ssh_transport_machine.specs.declared.outcome.TransportAsk.{TransportA
 use Rattle.ssh_transport_machine.specs.declared.outcome.TransportAsk.TheVariants as transport_ask
 use Rattle.ssh_transport_machine.specs.declared.outcome.TransportFault.{TransportFault}
 use Rattle.ssh_transport_machine.specs.declared.outcome.TransportFault.TheVariants as transport_fault
-use Rattle.ssh_types.specs.AskRefusals.{ask_refusal_of}
-use Rattle.ssh_types.specs.declared.ask_refusal.AskRefusal.{AskRefusal}
-use Rattle.ssh_types.specs.declared.refusal.Refusal.TheVariants as refusal
-use Rattle.ssh_layers.specs.Layers as server
-use Rattle.ssh_layers.specs.Sessions as of_server
+use Rattle.ssh_model.specs.declared.ask_refusal.AskRefusal.{AskRefusal}
+use Rattle.ssh_end.specs.Layers as server
+use Rattle.ssh_end.specs.Sessions as of_server
 use Rattle.ssh_end.specs.Owed.{channels_sent}
 use Rattle.ssh_end.specs.declared.ask.Ask.{Ask}
 use Rattle.ssh_end.specs.declared.ask.Ask.TheVariants as ask
@@ -99,7 +98,7 @@ HasRecipient _ = Unit {0}
 -- the step of what belongs to no channel
 abbrev pub step_by : Answer → AskStep
 step_by Done = record { channel = None; opening = None; refused = None }
-step_by Spent = record { channel = None; opening = None; refused = Some refusal.NumberSpent }
+step_by Spent = record { channel = None; opening = None; refused = Some refusals.NumberSpent }
 
 -- why nothing was done
 abbrev pub fault_by : TransportFault → Fault
@@ -124,8 +123,8 @@ pub data ShowsAsk (asked : session.Ask) : AskStep → List Item → Type 0 where
   disconnected : (description payload : List ℕ) → asked ≡ session.Ask.AskDisconnect description →
       ShowsAsk asked (record { channel = None; opening = None; refused = None })
       (Died ∷ Sent None (Disconnect 11 description []) payload ∷ Asked asked ∷ [])
-  spent : ShowsAsk asked (record { channel = None; opening = None; refused = Some refusal.NumberSpent })
-      (Died ∷ Refused model.Refusal.NumberSpent None ∷ Asked asked ∷ [])
+  spent : ShowsAsk asked (record { channel = None; opening = None; refused = Some refusals.NumberSpent })
+      (Died ∷ Refused refusals.NumberSpent None ∷ Asked asked ∷ [])
 
 -- For the items of the ask whose payloads were sent, these are the channels of the messages.
 abbrev pub AreAskChannels : session.Ask → AskStep → (payloads : List (List ℕ)) → (channels : List (Option ℕ)) → Type 0
@@ -149,7 +148,7 @@ pub record AskRow {K : Type 0} (p : Parties K) (side : Side) (old : EndState K) 
 pub record RefusedRow {K : Type 0} (p : Parties K) (side : Side) (old : EndState K) (asked : session.Ask)
     (why : AskRefusal) (new : EndState K) : Type 0 where
   pub alive : old.transport.dead ≡ false
-  pub why_is : first_refusal (end_ask_checks p side old asked) ≡ Some (ask_refusal_of why)
+  pub why_is : first_refusal (end_ask_checks p side old asked) ≡ Some why
   pub same : new ≡ old
 
 -- Memory was refused for what would have been sent, and the end is over.
@@ -310,9 +309,9 @@ pub record EndAsked {K : Type 0} (p : Parties K) (side : Side) (history : List I
 -- The ask is refused as in a session, and the end goes on as it was.
 pub record EndRefused {K : Type 0} (p : Parties K) (side : Side) (history : List Item) (old : EndState K)
     (asked : session.Ask) (why : AskRefusal) (new : EndState K) : Type 0 where
-  pub why_is : first_refusal (ask_checks p side history asked) ≡ Some (ask_refusal_of why)
+  pub why_is : first_refusal (ask_checks p side history asked) ≡ Some why
   pub turned : EndTurned p side history (AsksTurn p side history asked)
-      (AskRefused (ask_refusal_of why) ∷ Asked asked ∷ []) [] new
+      (AskRefused why ∷ Asked asked ∷ []) [] new
   pub same : new ≡ old
 
 -- The end died as in a session.

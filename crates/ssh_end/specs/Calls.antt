@@ -9,7 +9,6 @@ use Rattle.ssh_transport.specs.declared.role.Role as exchange
 use Rattle.ssh_transport_machine.specs.Padding.{PadsTo}
 use Rattle.ssh_transport_machine.specs.Puts.{Outs}
 use Rattle.ssh_transport_machine.specs.State.{begun_of}
-use Rattle.ssh_types.specs.Sides.{side_of}
 use Rattle.ssh_end.specs.Asking.{AreAskChannels, Fails, OnAnswered}
 use Rattle.ssh_end.specs.Beside.{channels_by}
 use Rattle.ssh_end.specs.Ends.{EndValue, IsFault, sending_from, sending_to}
@@ -36,7 +35,7 @@ outs_of before after sent = record { before = before; after = after; listed = []
 pub record Advances {R X L S F K : Type 0} (ends : role.Ghosts R X L S F K) (exchanges : exchange.Ghosts X S F K)
     (c : Crypto K) (old : EndValue K R L F) (bytes : List ℕ) (used : ℕ) (before after : List ℕ)
     (new : EndValue K R L F) : Type 0 where
-  pub goes : UnitGoes c (side_of exchanges.SIDE) (exchanges.does (ends.exchange_of old.role)) (ends.goes old.role)
+  pub goes : UnitGoes c exchanges.SIDE (exchanges.does (ends.exchange_of old.role)) (ends.goes old.role)
       old.machine old.layers (begun_of old.machine ++ take used bytes) new.step new.machine new.layers
       (record { before = before; after = after; listed = []; relisted = new.sent })
   pub channels : new.channels ≡ channels_by new.step (ends.channels_of old.layers).owed new.sent

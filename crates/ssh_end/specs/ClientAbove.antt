@@ -1,18 +1,17 @@
 -- What a client makes of a payload from 50 on.
 use Rattle.std.specs.Prelude.{◌≡◌, Bool, true, false, None, IsSome}
 use Rattle.ssh_model.specs.Protocol.Wire.Message.{Msg}
-use Rattle.ssh_model.specs.Protocol.Sessions.Refusals.{Refusal}
+use Rattle.ssh_model.specs.declared.refusal.Refusal.{Refusal}
 use Rattle.ssh_auth.specs.declared.answer.ClientAnswer.TheVariants as told
 use Rattle.ssh_transport_machine.specs.State.{State, last_number}
 use Rattle.ssh_transport_machine.specs.Turning.{HasRoom}
-use Rattle.ssh_types.specs.Refusals.{refusal_of}
 use Rattle.ssh_end.specs.Above.{IsAnswer, IsBeneath}
-use Rattle.ssh_layers.specs.Layer.{Beneath}
-use Rattle.ssh_layers.specs.ClientLayers.{Layers, LayersLack, LayersRefuse, LayersTake, message_of, probes}
+use Rattle.ssh_end.specs.Layer.{Beneath}
+use Rattle.ssh_end.specs.ClientLayers.{Layers, LayersLack, LayersRefuse, LayersTake, message_of, probes}
 use Rattle.ssh_end.specs.declared.above.Judgement.{Judgement}
 use Rattle.ssh_end.specs.declared.above.Judgement.TheVariants as judged
-use Rattle.ssh_layers.specs.declared.client_layers.ClientLayerAnswer.{ClientLayerAnswer}
-use Rattle.ssh_layers.specs.declared.client_layers.ClientLayerAnswer.TheVariants as answer
+use Rattle.ssh_end.specs.declared.layers.client_layers.ClientLayerAnswer.{ClientLayerAnswer}
+use Rattle.ssh_end.specs.declared.layers.client_layers.ClientLayerAnswer.TheVariants as answer
 use Rattle.ssh_end.specs.declared.step.Telling.TheVariants as telling
 use Rattle.ssh_end.specs.declared.step.TookStep.{TookStep}
 
@@ -53,7 +52,7 @@ pub record RefusesPayload {K : Type 0} (m : State K) (old : Layers) (why : Refus
 
 -- what was made of the payload that is shown
 abbrev pub JudgesPayload : {K : Type 0} → State K → Layers → Judgement → Layers → Type 0
-JudgesPayload m old (judged.Refused why) new = RefusesPayload m old (refusal_of why) new
+JudgesPayload m old (judged.Refused why) new = RefusesPayload m old why new
 JudgesPayload m old judgement new = TakesPayload m old judgement new
 
 -- Memory was refused in a layer, or for what would be sent, for which a number is left.

@@ -2,7 +2,7 @@
 use Rattle.std.specs.Prelude.{◌≡◌, ◌≤◌, ℕ, Bool, true, false, List, length}
 use Rattle.ssh_model.specs.State.Authentication.Kept.{opened_client}
 use Rattle.ssh_model.specs.Protocol.Sessions.Parties.{Agreement}
-use Rattle.ssh_model.specs.Protocol.Side.{Side.Client}
+use Rattle.ssh_model.specs.declared.side.Side.TheVariants.{Client}
 use Rattle.ssh_model.specs.Protocol.Wire.Sealing.{Crypto}
 use Rattle.ssh_transport_machine.specs.Puts.{Outs}
 use Rattle.ssh_transport_machine.specs.State.{State}
@@ -13,7 +13,7 @@ use Rattle.ssh_transport.specs.OfClient.Roles.{ClientDoes, ClientLacks}
 use Rattle.ssh_end.specs.Above.{FinishLacks, Finished}
 use Rattle.ssh_end.specs.Completing.{Completing}
 use Rattle.ssh_end.specs.Effects.{is_accepted, is_whole, step_given}
-use Rattle.ssh_layers.specs.ClientLayers.{Layers}
+use Rattle.ssh_end.specs.ClientLayers.{Layers}
 use Rattle.ssh_end.specs.ClientAbove.{JudgeLacks, JudgesPayload}
 use Rattle.ssh_end.specs.Units as units
 use Rattle.ssh_end.specs.Units.{UnitGoes, UnitLacks}

@@ -1,6 +1,6 @@
 -- What becomes of an end that memory was refused, as a turn of a session.
-use Rattle.std.specs.Prelude.{◌≡◌, ◌^◌, ℕ, List, [], ◌∷◌}
-use Rattle.ssh_model.specs.Protocol.Side.{Side.Server}
+use Rattle.std.specs.Prelude.{◌≡◌, ℕ, List, [], ◌∷◌}
+use Rattle.ssh_model.specs.declared.side.Side.TheVariants.{Server}
 use Rattle.ssh_model.specs.Protocol.Wire.Message.{Msg}
 use Rattle.ssh_model.specs.Protocol.Wire.Outcome.{Outcome.Opens}
 use Rattle.ssh_model.specs.Protocol.Wire.Unit.{IsUnit}
@@ -10,8 +10,9 @@ use Rattle.ssh_model.specs.Protocol.Sessions.Parties.{Parties}
 use Rattle.ssh_model.specs.Protocol.Sessions.Turns.{OnUnit, stage}
 use Rattle.ssh_auth.specs.Serving.{NeedsText}
 use Rattle.ssh_transport_machine.specs.State.{State}
-use Rattle.ssh_layers.specs.Layers.{Layers, Reads}
-use Rattle.ssh_layers.specs.Sessions.{beneath}
+use Rattle.ssh_end.specs.Layers.{Layers, Reads}
+use Rattle.ssh_end.specs.Sessions.{beneath}
+use Rattle.ssh_model.specs.Protocol.Bounds.{numbers_of_epoch}
 
 -- The bytes are a packet of a request whose signature is due to be looked at, and all numbers are used. A session has no
 -- death for want of memory there: it ends for want of numbers.
@@ -22,7 +23,7 @@ pub record IsTextUnmade {K : Type 0} (p : Parties K) (history : List Item) (old 
   pub message : Msg
   pub reads : Reads (beneath old.kept) layers message payload
   pub needs : NeedsText (judge_of p) layers.authentication message
-  pub none_left : old.kept.sending.count ≡ 2 ^ 32
+  pub none_left : old.kept.sending.count ≡ numbers_of_epoch
 
 -- The server of a session dies at these bytes, but where the text of a signature was not made and all numbers are used.
 pub data ServerDies {K : Type 0} (p : Parties K) (history : List Item) (old : State K) (layers : Layers)

@@ -2,19 +2,18 @@
 use Rattle.std.specs.Prelude.{◌≡◌, ℕ, List, [], ◌++◌, Option}
 use Rattle.ssh_model.specs.State.Authentication.Kept.{new_client, new_server}
 use Rattle.ssh_model.specs.State.Channels.Kept.{no_channels}
-use Rattle.ssh_model.specs.Protocol.Side.{Side.Client, Side.Server}
+use Rattle.ssh_model.specs.declared.side.Side.TheVariants.{Client, Server}
 use Rattle.ssh_model.specs.Protocol.Sessions.Parties.{Settings}
 use Rattle.ssh_model.specs.Protocol.Wire.Line.{line_end}
 use Rattle.ssh_model.specs.Protocol.Wire.Sealing.{Crypto}
-use Rattle.ssh_layers.specs.ClientLayers as client
-use Rattle.ssh_layers.specs.Layers as server
+use Rattle.ssh_end.specs.ClientLayers as client
+use Rattle.ssh_end.specs.Layers as server
 use Rattle.ssh_transport.specs.declared.role.Role as exchange
-use Rattle.ssh_transport_base.specs.Directions.{new_direction}
+use Rattle.ssh_packet.specs.Directions.{new_direction}
 use Rattle.ssh_transport_machine.specs.Asks.{WasDead}
 use Rattle.ssh_transport_machine.specs.Opening.{IsOpened}
 use Rattle.ssh_transport_machine.specs.Padding.{Sending}
 use Rattle.ssh_transport_machine.specs.State.{State, begun_of}
-use Rattle.ssh_types.specs.Sides.{side_of}
 use Rattle.ssh_end.specs.Effects.{DiesOf}
 use Rattle.ssh_end.specs.Units.{FrontLacks, UnitLacks}
 use Rattle.ssh_end.specs.declared.asking.outcome.Fault.{Fault}
@@ -75,5 +74,5 @@ IsFault old (fault.Ask why) new = ⊥
 abbrev pub EndLacks : {R X L S F K : Type 0} → role.Ghosts R X L S F K → exchange.Ghosts X S F K → Crypto K →
     EndValue K R L F → (bytes : List ℕ) → Type 0
 EndLacks ends exchanges c old bytes =
-    FrontLacks (UnitLacks c (side_of exchanges.SIDE) (exchanges.does (ends.exchange_of old.role))
+    FrontLacks (UnitLacks c exchanges.SIDE (exchanges.does (ends.exchange_of old.role))
     (exchanges.lacks (ends.exchange_of old.role)) (ends.lacks old.role) old.machine old.layers) (begun_of old.machine) bytes

@@ -21,3 +21,11 @@ pub mod Calls
 pub mod Parts
 pub mod Places
 pub mod Stands
+pub mod Faults
+pub mod Layer
+pub mod Layers
+pub mod ClientLayers
+pub mod Connection
+pub mod Sessions
+pub mod ClientSessions
+pub mod Laws

@@ -1,6 +1,6 @@
 -- The replies that channels owe once an exchange of keys is over, and the packets by which an end gives them.
 use Rattle.std.specs.Prelude.{◌≡◌, ℕ, Option, List, [], ◌∷◌, ◌++◌}
-use Rattle.ssh_model.specs.Protocol.Side.{Side}
+use Rattle.ssh_model.specs.declared.side.Side.{Side}
 use Rattle.ssh_model.specs.Protocol.Wire.Sealing.{Crypto}
 use Rattle.ssh_model.specs.Protocol.Sessions.Items.{Item, Item.Sent, messages_sent}
 use Rattle.ssh_model.specs.State.Channels.Kept.{Channels}

@@ -6,9 +6,9 @@ use Rattle.ssh_model.specs.Protocol.Sessions.TurnClaims.{HasSpelling}
 use Rattle.ssh_model.specs.State.TransportLayer.Kept.{ExchangeParts}
 use Rattle.ssh_model.specs.Protocol.Wire.Message.{Msg.UserauthFailure}
 use Rattle.ssh_model.specs.Protocol.Wire.Sealing.{Crypto}
-use Rattle.ssh_layers.specs.ClientLayers as client
-use Rattle.ssh_layers.specs.Layers as server
-use Rattle.ssh_layers.specs.Sessions.{AreOf}
+use Rattle.ssh_end.specs.ClientLayers as client
+use Rattle.ssh_end.specs.Layers as server
+use Rattle.ssh_end.specs.Sessions.{AreOf}
 use Rattle.ssh_transport.specs.OfClient.Replies.{Trusts}
 use Rattle.ssh_transport.specs.OfClient.Roles.{IsOfClient}
 use Rattle.ssh_transport.specs.OfServer.Roles.{IsOfServer}

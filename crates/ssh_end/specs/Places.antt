@@ -1,5 +1,5 @@
 -- Where an end stands in a run of its own, and where each call takes it. A history has the newest item first.
-use Rattle.std.specs.Prelude.{◌≡◌, ◌++◌, ◌^◌, ℕ, Bool, true, false, List, [], ◌∷◌, Result, Ok, Err}
+use Rattle.std.specs.Prelude.{◌≡◌, ◌++◌, ℕ, Bool, true, false, List, [], ◌∷◌, Result, Ok, Err}
 use Rattle.ssh_model.specs.State.Channels.Kept.{Channels}
 use Rattle.ssh_model.specs.State.End.Reading.{end_reading}
 use Rattle.ssh_model.specs.State.End.State.{Authentication, EndState}
@@ -9,11 +9,11 @@ use Rattle.ssh_model.specs.Protocol.Sessions.Items as session
 use Rattle.ssh_model.specs.Protocol.Sessions.Items.{Item, Item.Asked, Item.AskRefused, Item.Died, Item.Fed}
 use Rattle.ssh_model.specs.Protocol.Sessions.Parties.{AreLawful, Parties}
 use Rattle.ssh_model.specs.Protocol.Sessions.Turns.{EndRun, FeedsTurn, OnUnit}
-use Rattle.ssh_model.specs.Protocol.Side.{Side, Side.Server}
+use Rattle.ssh_model.specs.declared.side.Side.{Side}
+use Rattle.ssh_model.specs.declared.side.Side.TheVariants.{Server}
 use Rattle.ssh_model.specs.State.TransportLayer.Kept.{Transport}
 use Rattle.ssh_model.specs.Protocol.Wire.Delivery.{Waits}
 use Rattle.ssh_model.specs.Protocol.Wire.Sealing.{Crypto}
-use Rattle.ssh_types.specs.AskRefusals.{ask_refusal_of}
 use Rattle.ssh_transport.specs.Units.{RoleDoes, RoleLacks}
 use Rattle.ssh_transport_machine.specs.Puts.{Outs}
 use Rattle.ssh_transport_machine.specs.State.{State, begun_of}
@@ -27,6 +27,7 @@ use Rattle.ssh_end.specs.declared.asking.outcome.Fault.{Fault}
 use Rattle.ssh_end.specs.declared.asking.outcome.Fault.TheVariants as fault
 use Rattle.ssh_end.specs.declared.step.Step.{Step}
 use Rattle.ssh_end.specs.declared.step.Step.TheVariants as step
+use Rattle.ssh_model.specs.Protocol.Bounds.{numbers_of_epoch}
 
 -- ---- a place
 
@@ -82,7 +83,7 @@ pub data DiedOn {K : Type 0} (p : Parties K) (side : Side) (parts layers : Type 
     (old : State K) (new : State K) (e : EndState K) (bytes : List ℕ) : Type 0 where
   died : OnUnit p side history bytes (Died ∷ []) → StandsAfter p side parts layers (Died ∷ history) new e →
       DiedOn p side parts layers history old new e bytes
-  spent : side ≡ Server → old.kept.sending.count ≡ 2 ^ 32 → DiedOn p side parts layers history old new e bytes
+  spent : side ≡ Server → old.kept.sending.count ≡ numbers_of_epoch → DiedOn p side parts layers history old new e bytes
 
 -- ---- asks
 
@@ -91,7 +92,7 @@ abbrev pub added : {K : Type 0} → (p : Parties K) → (side : Side) → (histo
     (asked : session.Ask) → (given : Result AskStep Fault) → (new : EndState K) → (o : Outs) →
     DoneInSession p side history old asked given new o → List Item
 added p side history old asked (Ok step) new o done = done.items
-added p side history old asked (Err (fault.Ask why)) new o done = AskRefused (ask_refusal_of why) ∷ Asked asked ∷ []
+added p side history old asked (Err (fault.Ask why)) new o done = AskRefused why ∷ Asked asked ∷ []
 added p side history old asked (Err fault.Memory) new o done = Died ∷ []
 added p side history old asked (Err fault.Dead) new o done = []
 

@@ -1,20 +1,19 @@
 -- What a server makes of a payload from 50 on.
 use Rattle.std.specs.Prelude.{◌≡◌, Bool, true, false, None, IsSome}
 use Rattle.ssh_model.specs.Protocol.Wire.Message.{Msg}
-use Rattle.ssh_model.specs.Protocol.Sessions.Refusals.{Refusal}
+use Rattle.ssh_model.specs.declared.refusal.Refusal.{Refusal}
 use Rattle.ssh_model.specs.Protocol.Authentication.Requests.{Judge}
 use Rattle.ssh_auth.specs.declared.answer.ServerAnswer.TheVariants as request
 use Rattle.ssh_transport_machine.specs.State.{State, last_number}
 use Rattle.ssh_transport_machine.specs.Turning.{HasRoom}
-use Rattle.ssh_types.specs.Refusals.{refusal_of}
 use Rattle.ssh_end.specs.Above.{IsAnswer, IsBeneath}
-use Rattle.ssh_layers.specs.Layer.{Beneath}
-use Rattle.ssh_layers.specs.Layers.{IsShort, Layers, LayersLack, LayersRefuse, LayersTake, message_of}
+use Rattle.ssh_end.specs.Layer.{Beneath}
+use Rattle.ssh_end.specs.Layers.{IsShort, Layers, LayersLack, LayersRefuse, LayersTake, message_of}
 use Rattle.ssh_end.specs.Told.{telling_of}
 use Rattle.ssh_end.specs.declared.above.Judgement.{Judgement}
 use Rattle.ssh_end.specs.declared.above.Judgement.TheVariants as judged
-use Rattle.ssh_layers.specs.declared.server_layers.ServerLayerAnswer.{ServerLayerAnswer}
-use Rattle.ssh_layers.specs.declared.server_layers.ServerLayerAnswer.TheVariants as answer
+use Rattle.ssh_end.specs.declared.layers.server_layers.ServerLayerAnswer.{ServerLayerAnswer}
+use Rattle.ssh_end.specs.declared.layers.server_layers.ServerLayerAnswer.TheVariants as answer
 use Rattle.ssh_end.specs.declared.step.Telling.TheVariants as telling
 use Rattle.ssh_end.specs.declared.step.TookStep.{TookStep}
 
@@ -57,7 +56,7 @@ pub record RefusesPayload {K : Type 0} (judge : Judge) (m : State K) (old : Laye
 
 -- what was made of the payload that is shown
 abbrev pub JudgesPayload : {K : Type 0} → Judge → State K → Layers → Judgement → Layers → Type 0
-JudgesPayload judge m old (judged.Refused why) new = RefusesPayload judge m old (refusal_of why) new
+JudgesPayload judge m old (judged.Refused why) new = RefusesPayload judge m old why new
 JudgesPayload judge m old judgement new = TakesPayload judge m old judgement new
 
 -- Memory was refused in a layer, or for what would be sent, for which a number is left.

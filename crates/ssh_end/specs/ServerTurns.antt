@@ -1,6 +1,6 @@
 -- What a server's end makes of the bytes of one line or one packet, as a turn of a session.
 use Rattle.std.specs.Prelude.{◌≡◌, ℕ, false, None, List, []}
-use Rattle.ssh_model.specs.Protocol.Side.{Side.Server}
+use Rattle.ssh_model.specs.declared.side.Side.TheVariants.{Server}
 use Rattle.ssh_model.specs.State.End.Reading.{end_reading}
 use Rattle.ssh_model.specs.State.End.Summary.{EndSumsUp}
 use Rattle.ssh_model.specs.Protocol.Sessions.Items.{Item}
@@ -13,9 +13,9 @@ use Rattle.ssh_model.specs.Protocol.Wire.Message.{Msg.UserauthFailure}
 use Rattle.ssh_transport_machine.specs.Puts.{Outs}
 use Rattle.ssh_transport_machine.specs.State.{State, begun_of}
 use Rattle.ssh_transport_machine.specs.Turning.{IsQuiet}
-use Rattle.ssh_layers.specs.Layers.{Layers}
+use Rattle.ssh_end.specs.Layers.{Layers}
 use Rattle.ssh_end.specs.Reading.{IsReading}
-use Rattle.ssh_layers.specs.Sessions.{AreOf, end_of}
+use Rattle.ssh_end.specs.Sessions.{AreOf, end_of}
 use Rattle.ssh_end.specs.Steps.{UnitTurned, shown_by}
 use Rattle.ssh_end.specs.declared.step.Step.{Step}
 use Rattle.ssh_end.specs.declared.step.Step.TheVariants as step

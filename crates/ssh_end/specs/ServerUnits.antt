@@ -3,7 +3,7 @@ use Rattle.std.specs.Prelude.{◌≡◌, ◌≤◌, ℕ, Bool, true, false, List
 use Rattle.ssh_model.specs.State.Authentication.Kept.{opened_server}
 use Rattle.ssh_model.specs.Protocol.Authentication.Requests.{Judge}
 use Rattle.ssh_model.specs.State.TransportLayer.Kept.{ExchangeParts}
-use Rattle.ssh_model.specs.Protocol.Side.{Side.Server}
+use Rattle.ssh_model.specs.declared.side.Side.TheVariants.{Server}
 use Rattle.ssh_model.specs.Protocol.Wire.Sealing.{Crypto}
 use Rattle.ssh_transport_machine.specs.Puts.{Outs}
 use Rattle.ssh_transport_machine.specs.State.{State}
@@ -13,7 +13,7 @@ use Rattle.ssh_transport.specs.OfServer.Roles.{ServerDoes, ServerLacks}
 use Rattle.ssh_end.specs.Above.{FinishLacks, Finished}
 use Rattle.ssh_end.specs.Completing.{Completing}
 use Rattle.ssh_end.specs.Effects.{is_requested, is_whole, step_given}
-use Rattle.ssh_layers.specs.Layers.{Layers}
+use Rattle.ssh_end.specs.Layers.{Layers}
 use Rattle.ssh_end.specs.ServerAbove.{JudgeLacks, JudgesPayload}
 use Rattle.ssh_end.specs.Units as units
 use Rattle.ssh_end.specs.Units.{UnitGoes, UnitLacks}

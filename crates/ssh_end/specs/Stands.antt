@@ -7,12 +7,12 @@ use Rattle.ssh_model.specs.Protocol.KeyExchange.Exchanges.{Material, fed}
 use Rattle.ssh_model.specs.Protocol.Sessions.Items as session
 use Rattle.ssh_model.specs.Protocol.Sessions.Items.{Item, messages_sent}
 use Rattle.ssh_model.specs.Protocol.Sessions.Parties.{AreLawful, Parties, Settings, settings_of}
-use Rattle.ssh_model.specs.Protocol.Side.{Side, Side.Server}
+use Rattle.ssh_model.specs.declared.side.Side.{Side}
+use Rattle.ssh_model.specs.declared.side.Side.TheVariants.{Server}
 use Rattle.ssh_model.specs.Protocol.Wire.Sealing.{Crypto}
 use Rattle.ssh_model.specs.State.TransportLayer.Kept.{ExchangeParts}
-use Rattle.ssh_layers.specs.Layers.{Layers}
-use Rattle.ssh_layers.specs.Sessions.{end_of}
-use Rattle.ssh_types.specs.Sides.{side_of}
+use Rattle.ssh_end.specs.Layers.{Layers}
+use Rattle.ssh_end.specs.Sessions.{end_of}
 use Rattle.ssh_transport.specs.declared.role.Role as exchange
 use Rattle.ssh_transport_machine.specs.Puts.{payloads_of}
 use Rattle.ssh_transport_machine.specs.State.{State, begun_of}
@@ -33,7 +33,7 @@ state_of ends end = state_by ends.authentication_of ends.channels_of end.machine
 abbrev pub StandsAt : {R X L S F K : Type 0} → role.Ghosts R X L S F K → exchange.Ghosts X S F K → Parties K →
     List Item → EndValue K R L F → Type 0
 StandsAt ends exchanges p history end =
-    StandsAfter p (side_of exchanges.SIDE) (ends.is_of end.role p) (ends.are_of end.layers p) history end.machine
+    StandsAfter p exchanges.SIDE (ends.is_of end.role p) (ends.are_of end.layers p) history end.machine
     (state_of ends end)
 
 -- The server with these parts and this judge of its users stands after this history.
@@ -45,7 +45,7 @@ ServerStandsAt p c parts judge history machine layers =
 abbrev pub AdvancedTo : {R X L S F K : Type 0} → role.Ghosts R X L S F K → exchange.Ghosts X S F K → Parties K →
     List Item → EndValue K R L F → (bytes : List ℕ) → (used : ℕ) → (before after : List ℕ) → EndValue K R L F → Type 0
 AdvancedTo ends exchanges p history old bytes used before after new =
-    TurnedTo p (side_of exchanges.SIDE) (ends.is_of new.role p) (ends.are_of new.layers p) history
+    TurnedTo p exchanges.SIDE (ends.is_of new.role p) (ends.are_of new.layers p) history
     (begun_of old.machine ++ take used bytes) new.step new.machine (state_of ends new)
     (record { before = before; after = after; listed = []; relisted = new.sent })
 
@@ -53,7 +53,7 @@ AdvancedTo ends exchanges p history old bytes used before after new =
 abbrev pub FailedTo : {R X L S F K : Type 0} → role.Ghosts R X L S F K → exchange.Ghosts X S F K → Parties K →
     List Item → EndValue K R L F → (bytes : List ℕ) → Fault → EndValue K R L F → Type 0
 FailedTo ends exchanges p history old bytes fault.Memory new =
-    FrontLacks (DiedOn p (side_of exchanges.SIDE) (ends.is_of new.role p) (ends.are_of new.layers p) history old.machine
+    FrontLacks (DiedOn p exchanges.SIDE (ends.is_of new.role p) (ends.are_of new.layers p) history old.machine
     new.machine (state_of ends new)) (begun_of old.machine) bytes
 FailedTo ends exchanges p history old bytes fault.Dead new = StandsAt ends exchanges p history new
 FailedTo ends exchanges p history old bytes (fault.Ask why) new = ⊥
@@ -62,7 +62,7 @@ FailedTo ends exchanges p history old bytes (fault.Ask why) new = ⊥
 abbrev pub PerformedTo : {R X L S F K : Type 0} → role.Ghosts R X L S F K → exchange.Ghosts X S F K → Parties K →
     List Item → EndValue K R L F → session.Ask → Result AskStep Fault → (before after : List ℕ) → EndValue K R L F → Type 0
 PerformedTo ends exchanges p history old asked given before after new =
-    AskedTo p (side_of exchanges.SIDE) (ends.is_of new.role p) (ends.are_of new.layers p) history (state_of ends old)
+    AskedTo p exchanges.SIDE (ends.is_of new.role p) (ends.are_of new.layers p) history (state_of ends old)
     asked given new.machine (state_of ends new)
     (record { before = before; after = after; listed = []; relisted = new.sent })
 
@@ -70,7 +70,7 @@ PerformedTo ends exchanges p history old asked given before after new =
 abbrev pub FeedsTo : {R X L S F K : Type 0} → role.Ghosts R X L S F K → exchange.Ghosts X S F K → Parties K → List Item →
     (cookie secret : List ℕ) → Bool → EndValue K R L F → Type 0
 FeedsTo ends exchanges p history cookie secret answer new =
-    FedTo p (side_of exchanges.SIDE) (ends.is_of new.role p) (ends.are_of new.layers p) history cookie secret answer
+    FedTo p exchanges.SIDE (ends.is_of new.role p) (ends.are_of new.layers p) history cookie secret answer
     new.machine (state_of ends new)
 
 -- An end that was made stands after its opening: it was fed this pair, put out its version line and its first KEXINIT, and

@@ -1,6 +1,6 @@
 -- What an end did in a turn, as the items of a session.
 use Rattle.std.specs.Prelude.{◌≡◌, ℕ, Bool, true, false, Option, Some, None, List, [], ◌∷◌, ◌++◌}
-use Rattle.ssh_model.specs.Protocol.Side.{Side}
+use Rattle.ssh_model.specs.declared.side.Side.{Side}
 use Rattle.ssh_model.specs.Protocol.Wire.Message.{Msg, Msg.Disconnect, Msg.Ignore, Msg.Unimplemented, Msg.Debug}
 use Rattle.ssh_model.specs.Protocol.Wire.Message.{Msg.ServiceAccept, Msg.ExtInfo, Msg.UserauthRequest, Msg.UserauthFailure}
 use Rattle.ssh_model.specs.Protocol.Wire.Message.{Msg.UserauthSuccess, Msg.UserauthBanner, Msg.UserauthPkOk, Msg.GlobalRequest}
@@ -24,7 +24,6 @@ use Rattle.ssh_model.specs.State.End.State.{EndState}
 use Rattle.ssh_model.specs.State.End.Summary.{EndSumsUp, EndTurned}
 use Rattle.ssh_transport_machine.specs.Puts.{Outs, payloads_of}
 use Rattle.ssh_transport_machine.specs.State.{State}
-use Rattle.ssh_types.specs.Refusals.{refusal_of}
 use Rattle.ssh_end.specs.Beside.{channels_by}
 use Rattle.ssh_end.specs.Owed.{channels_sent}
 use Rattle.ssh_end.specs.declared.step.Step.{Step}
@@ -106,7 +105,7 @@ pub data Shows (payload : List ℕ) : Step → List Item → Type 0 where
       (Died ∷ Told (Disconnected reason description) ∷ Took None (Disconnect reason description language) payload ∷ [])
   -- with the payload of the refused packet, where it was opened
   refused : (why : _) (opened : Option (List ℕ)) (said : List Spelled) →
-      Shows payload (step.Refused why) (refusal_items (refusal_of why) opened said)
+      Shows payload (step.Refused why) (refusal_items why opened said)
 
 -- Where an end that sums up this history does this step, these items are sent on the channels of the step: what was owed after all else.
 abbrev pub SendsOn : {K : Type 0} → Parties K → Side → (history items : List Item) → Step → Type 0

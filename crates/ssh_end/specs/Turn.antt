@@ -1,11 +1,10 @@
 -- What a turn shows of the items of a session.
 use Rattle.std.specs.Prelude.{◌≡◌, ℕ, ◌-◌, length, map, Option, Some, None, option_map, List, [], ◌∷◌, ◌++◌, replicate}
-use Rattle.ssh_types.specs.Refusals.{refusal_of}
 use Rattle.ssh_message.specs.Meaning.{meaning}
 use Rattle.ssh_model.specs.Protocol.Wire.Message.{Msg}
 use Rattle.ssh_model.specs.Protocol.Sessions.Items.{Fact, Item, Item.Refused, Item.Told, Item.TookGuess, Item.TookLine}
 use Rattle.ssh_model.specs.Protocol.Sessions.Items.{Item.TookOtherLine}
-use Rattle.ssh_model.specs.Protocol.Sessions.Refusals.{Refusal}
+use Rattle.ssh_model.specs.declared.refusal.Refusal.{Refusal}
 use Rattle.ssh_end.specs.Steps.{fact_told}
 use Rattle.ssh_end.specs.Told.{told_of}
 use Rattle.ssh_end.specs.declared.step.TookStep.{TookStep}
@@ -49,7 +48,7 @@ IsTaken given item = ⊥
 pub record TurnShows (turn : Turn) (items : List Item) : Type 0 where
   pub took : IsTaken turn.took (oldest items)
   pub told : option_map told_of turn.told ≡ fact_in items
-  pub refused : option_map refusal_of turn.refused ≡ refusal_in items
+  pub refused : turn.refused ≡ refusal_in items
 
 -- The turn is that in which this message was taken.
 pub record IsMessageTurn (step : TookStep) (message : Msg) (payload : List ℕ) (turn : Turn) : Type 0 where

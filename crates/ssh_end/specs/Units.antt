@@ -1,6 +1,6 @@
 -- What an end makes of the bytes of one line or one packet, over what its role does above its transport.
 use Rattle.std.specs.Prelude.{◌≤◌, ◌++◌, ℕ, List, length, take}
-use Rattle.ssh_model.specs.Protocol.Side.{Side}
+use Rattle.ssh_model.specs.declared.side.Side.{Side}
 use Rattle.ssh_model.specs.Protocol.Wire.Sealing.{Crypto}
 use Rattle.ssh_transport_machine.specs.Puts.{Outs}
 use Rattle.ssh_transport_machine.specs.State.{State}

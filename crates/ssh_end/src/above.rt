@@ -12,7 +12,7 @@ ghost use Rattle.ssh_end.specs.Above.{CanFinish, CanReply, CanReplyWith, FinishL
 ghost use Rattle.ssh_end.specs.declared.above.Judgement.TheVariants as Judgement;
 ghost use Rattle.ssh_end.specs.declared.step.Step.TheVariants as Step;
 ghost use Rattle.ssh_transport_machine.specs.Above.{IsPut};
-ghost use Rattle.ssh_model.specs.Protocol.Side.{Side};
+ghost use Rattle.ssh_model.specs.declared.side.Side.{Side};
 ghost use Rattle.ssh_transport_machine.specs.Standing.{Stands};
 ghost use Rattle.ssh_transport_machine.specs.Turning.{HasRoom};
 ghost use Rattle.std.specs.Option.{option_map};

@@ -4,12 +4,12 @@ ghost use Rattle.std.specs.Prelude.{◌≡◌, ◌≤◌, IfOk, OnErr, false};
 ghost use Rattle.ssh_model.specs.Protocol.Sessions.Turns.{number_of};
 ghost use Rattle.ssh_end.specs.Above.{CanFinish};
 ghost use Rattle.ssh_end.specs.ClientAbove.{JudgeLacks, JudgesPayload, succeeds, took_by};
-ghost use Rattle.ssh_layers.specs.ClientLayers.{probes};
+ghost use Rattle.ssh_end.specs.ClientLayers.{probes};
 
 use crate::above::{Judgement, session_of, spell_answer};
+use crate::layers::{Below, ClientLayerAnswer, ClientLayers, LayerFault};
 use crate::step::{Telling, TookStep};
 use ssh_auth::ClientAnswer;
-use ssh_layers::{Below, ClientLayerAnswer, ClientLayers, LayerFault};
 use ssh_packet::Sealing;
 use ssh_transport_machine::Machine;
 use std::alloc::AllocError;

@@ -1,27 +1,27 @@
 //! The end of a client.
 
 ghost use Rattle.std.specs.Prelude.{◌≡◌, ◌∷◌, IfOk, None, OnErr, []};
-ghost use Rattle.ssh_model.specs.Protocol.Side as model;
-ghost use Rattle.ssh_transport_base.specs.Meaning.{settings_of};
+ghost use Rattle.ssh_model.specs.declared.side.Side.TheVariants as sides;
+ghost use Rattle.ssh_config.specs.Meaning.{settings_of};
 ghost use Rattle.ssh_transport_machine.specs.Padding.{PadsTo};
 ghost use Rattle.ssh_end.specs.Beside.{channels_beside};
 ghost use Rattle.ssh_end.specs.Ends.{IsNewClient, sending_from_line, sending_to};
 ghost use Rattle.ssh_end.specs.Parts.{AreClientLayers, IsClient, agreement_by};
 ghost use Rattle.ssh_end.specs.Stands.{MadeOf};
-ghost use Rattle.ssh_layers.specs.ClientSessions.{end_of};
+ghost use Rattle.ssh_end.specs.ClientSessions.{end_of};
 
 use crate::client_role::ClientRole;
 use crate::end::End;
+use crate::layers::ClientLayers;
 use crate::opening_laws::is_material;
 use crate::step::Step;
 use crate::turn_laws::new_ends_read;
 use ssh_auth::UserSigner;
-use ssh_layers::ClientLayers;
+use ssh_config::{ClientPartValues, ClientParts, Config};
 use ssh_model::any_peer::against_any_peer;
 use ssh_model::end::openings;
 use ssh_packet::Sealing;
 use ssh_transport::Client;
-use ssh_transport_base::{ClientPartValues, ClientParts, Config};
 use ssh_transport_machine::standing::machines_stand;
 use ssh_transport_machine::{Machine, Outgoing};
 use ssh_types::Side;
@@ -56,7 +56,7 @@ impl<P: ClientParts, U: UserSigner + Drop> End<ClientRole<P, U>> {
         ensures agreement { IfOk result (λ end. end.role.exchange.agreement ≡ parts.agreement) }
         ensures part { IfOk result (λ end. end.role.exchange.host_trust ≡ parts.host_trust) }
         ensures user { IfOk result (λ end. end.role.user ≡ user) }
-        ensures placed { IfOk result (λ end. MadeOf model.Client (settings_of config)
+        ensures placed { IfOk result (λ end. MadeOf sides.Client (settings_of config)
             (λ p. IsClient p P.Sealing.crypto (agreement_by P.Agreement.public_of P.Agreement.shared_of end.role.exchange.agreement)
             (P.HostTrust.judged end.role.exchange.host_trust) (U.signature_of end.role.user)) (λ p. AreClientLayers p end.layers)
             (record { cookie = cookie; secret = secret }) end.machine (end_of end.machine.kept end.layers) out.old.items out.new.items

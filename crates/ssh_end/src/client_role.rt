@@ -4,22 +4,22 @@ ghost use Rattle.ssh_model.specs.State.End.State.{Authentication.OfClient};
 ghost use Rattle.ssh_end.specs.Asking.{ClientInSession};
 ghost use Rattle.ssh_end.specs.ClientUnits.{GoLacks, Goes};
 ghost use Rattle.ssh_end.specs.Parts.{AreClientLayers, IsClient, agreement_by};
-ghost use Rattle.ssh_layers.specs.ClientSessions.{end_of};
+ghost use Rattle.ssh_end.specs.ClientSessions.{end_of};
 
 use crate::ask::Ask;
 use crate::asking::{AskStep, Fault, ask_client};
 use crate::client_unit::go_on;
+use crate::layers::ClientLayers;
 use crate::role::EndRole;
 use crate::step::Step;
 use crate::turn_laws::{clients_deaths, clients_turns};
 use ssh_auth::UserSigner;
 use ssh_channels::Channels;
-use ssh_layers::ClientLayers;
+use ssh_config::ClientParts;
 use ssh_model::any_peer::against_any_peer;
 use ssh_model::end::{asks, deaths, identified, units};
 use ssh_packet::Sealing;
 use ssh_transport::Client;
-use ssh_transport_base::ClientParts;
 use ssh_transport_machine::{Machine, Outgoing, TransportTurn};
 use std::alloc::AllocError;
 

@@ -3,7 +3,7 @@
 ghost use Rattle.ssh_transport_machine.specs.Padding.{PadsTo, sending_by};
 ghost use Rattle.ssh_transport_machine.specs.Puts.{outs};
 ghost use Rattle.std.specs.Prelude.{◌≡◌, ◌≤◌, ◌++◌, IfOk, OnErr, OnOk, false, length, map, true};
-ghost use Rattle.ssh_model.specs.Protocol.Side.{Side};
+ghost use Rattle.ssh_model.specs.declared.side.Side.{Side};
 ghost use Rattle.ssh_transport_machine.specs.Standing.{Stands};
 ghost use Rattle.ssh_end.specs.Completing.{Completing, completed_at};
 ghost use Rattle.ssh_end.specs.Beside.{channels_behind};

@@ -7,8 +7,7 @@ ghost use Rattle.std.specs.Prelude.{◌≡◌, ◌<◌, ◌≤◌, IfErr, IfOk, 
 ghost use Rattle.ssh_model.specs.Protocol.Sessions.Items.{Item};
 ghost use Rattle.ssh_model.specs.Protocol.Sessions.Parties.{Parties};
 ghost use Rattle.ssh_model.specs.State.TransportLayer.Kept.{after_fed, can_be_fed};
-ghost use Rattle.ssh_types.specs.Sides.{side_of};
-ghost use Rattle.ssh_transport_base.specs.Directions.{next_number};
+ghost use Rattle.ssh_packet.specs.Directions.{next_number};
 ghost use Rattle.ssh_transport_machine.specs.Padding.{PadsTo};
 ghost use Rattle.ssh_transport_machine.specs.Standing.{Stands};
 ghost use Rattle.ssh_transport_machine.specs.State.{line_taken};
@@ -56,7 +55,6 @@ pub struct End<R: EndRole> {
 
 impl<R: EndRole> Model for End<R> {
     ghost use Rattle.std.specs.Prelude.{map};
-    ghost use Rattle.ssh_types.specs.Sides.{side_of};
     ghost use Rattle.ssh_transport_machine.specs.Standing.{Stands};
     ghost use Rattle.ssh_end.specs.Ends.{EndValue};
     ghost use Rattle.ssh_end.specs.Beside.{channels_beside, last_channels};
@@ -75,7 +73,7 @@ impl<R: EndRole> Model for End<R> {
           (last_channels e.channel e.numbers.items);
     } };
 
-    ghost invariant = { λ e. Stands (side_of R.Exchange.SIDE) e.machine };
+    ghost invariant = { λ e. Stands R.Exchange.SIDE e.machine };
 }
 
 impl<R: EndRole> Drop for End<R> {
@@ -324,7 +322,7 @@ impl<R: EndRole> End<R> {
 
     /// What holds of its transport until it is over. A fact for proofs, at no cost.
     pub fn stands(&self)
-        ensures { Stands (side_of R.Exchange.SIDE) self.now.machine }
+        ensures { Stands R.Exchange.SIDE self.now.machine }
     {
         let _ = &self.machine;
     }

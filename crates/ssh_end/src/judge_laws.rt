@@ -7,7 +7,7 @@ ghost use Rattle.ssh_model.specs.Protocol.Sessions.Items.{Item};
 ghost use Rattle.ssh_model.specs.Protocol.Sessions.Parties.{Parties};
 ghost use Rattle.ssh_model.specs.Protocol.Wire.Sealing.{Crypto};
 ghost use Rattle.ssh_model.specs.State.TransportLayer.Kept.{ExchangeParts};
-ghost use Rattle.ssh_layers.specs.Layers.{Layers};
+ghost use Rattle.ssh_end.specs.Layers.{Layers};
 ghost use Rattle.ssh_transport_machine.specs.State.{State};
 ghost use Rattle.ssh_end.specs.Stands.{ServerStandsAt};
 

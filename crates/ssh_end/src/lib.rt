@@ -1,4 +1,4 @@
-//! The ends of SSH-2, each its transport (RFC 4253) with authentication (RFC 4252) and channels (RFC 4254) on it (`ssh_layers`):
+//! The ends of SSH-2, each its transport (RFC 4253) with authentication (RFC 4252) and channels (RFC 4254) on it (`layers`):
 //! `ServerEnd` and `ClientEnd`.
 //!
 //! ```rust
@@ -28,6 +28,7 @@ mod effect;
 mod end;
 mod fact_laws;
 pub mod judge_laws;
+pub mod layers;
 pub mod opening_laws;
 mod owed;
 mod role;

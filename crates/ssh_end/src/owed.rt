@@ -2,7 +2,7 @@
 
 ghost use Rattle.std.specs.Prelude.{◌≡◌, ◌+◌, ◌<◌, ◌≤◌, ◌^◌, ◌++◌, ◌∷◌, [], OnErr, OnOk, false, length, map, true};
 ghost use Rattle.ssh_model.specs.State.Channels.Summary.{reply_channel, reply_sent};
-ghost use Rattle.ssh_model.specs.Protocol.Side.{Side};
+ghost use Rattle.ssh_model.specs.declared.side.Side.{Side};
 ghost use Rattle.ssh_model.specs.State.TransportLayer.Kept.{after_sent};
 ghost use Rattle.ssh_channels.specs.Values.{reply_of};
 ghost use Rattle.ssh_transport_machine.specs.Padding.{PadsTo, sending_by};
@@ -10,6 +10,7 @@ ghost use Rattle.ssh_transport_machine.specs.Puts.{Sends, outs};
 ghost use Rattle.ssh_transport_machine.specs.Standing.{Stands};
 ghost use Rattle.ssh_transport_machine.specs.State.{dead_state};
 ghost use Rattle.ssh_end.specs.Owed.{Extends, ListsChannels, OwedGiven};
+ghost use Rattle.ssh_model.specs.Protocol.Bounds.{numbers_of_epoch};
 
 use ssh_channels::{Channels, Reply};
 use ssh_packet::{Filler, Sealing};
@@ -30,7 +31,7 @@ pub fn give_owed<S: Sealing, F: Filler + Drop>(
     numbers: &mut Vec<Option<u32>>,
 ) -> Result<(), AllocError>
     requires alive { machine.old.kept.dead ≡ false }
-    requires room { machine.old.kept.sending.count + length channels.old.owed ≤ 2 ^ 32 }
+    requires room { machine.old.kept.sending.count + length channels.old.owed ≤ numbers_of_epoch }
     ensures given { OnOk result (OwedGiven S.crypto machine.old.kept channels.old machine.new.kept channels.new
         (outs out.old out.new sent.old sent.new)) }
     ensures numbered { OnOk result (ListsChannels channels.old channels.new numbers.old.items numbers.new.items) }
@@ -58,7 +59,7 @@ fn give_reply<S: Sealing, F: Filler + Drop>(
     sent: &mut Outgoing<F>,
     numbers: &mut Vec<Option<u32>>,
 ) -> Result<(), AllocError>
-    requires left { machine.old.kept.sending.count < 2 ^ 32 }
+    requires left { machine.old.kept.sending.count < numbers_of_epoch }
     ensures sends { OnOk result (Sends S.crypto machine.old.kept.sending (reply_sent (reply_of reply))
         (outs out.old out.new sent.old sent.new)) }
     ensures after { OnOk result (machine.new ≡ record machine.old { kept = after_sent machine.old.kept }) }

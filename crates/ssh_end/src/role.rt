@@ -5,7 +5,6 @@ ghost use Rattle.ssh_model.specs.State.Channels.Kept.{Channels};
 ghost use Rattle.ssh_model.specs.State.End.State.{Authentication};
 ghost use Rattle.ssh_model.specs.Protocol.Sessions.Items as session;
 ghost use Rattle.ssh_model.specs.Protocol.Sessions.Parties.{Parties};
-ghost use Rattle.ssh_types.specs.Sides.{side_of};
 ghost use Rattle.ssh_transport_machine.specs.Padding.{PadsTo, sending_by};
 ghost use Rattle.ssh_transport_machine.specs.Puts.{Outs, outs};
 ghost use Rattle.ssh_transport_machine.specs.Standing.{Stands};
@@ -92,7 +91,7 @@ pub trait EndRole: Drop {
         ensures sent { OnErr result (Extends (map (λ v. v.items) sent.old.payloads.items) (map (λ v. v.items) sent.new.payloads.items)) }
         ensures padded { OnOk result (PadsTo Self.Exchange.Sealing.crypto Self.Exchange.Filler.gives
             (sending_by machine.old sent.old out.old) (sending_by machine.new sent.new out.new)) }
-        ensures stands { Stands (side_of Self.Exchange.SIDE) machine.old → Stands (side_of Self.Exchange.SIDE) machine.new };
+        ensures stands { Stands Self.Exchange.SIDE machine.old → Stands Self.Exchange.SIDE machine.new };
 
     /// Does what a user asks for, or refuses that.
     ///
@@ -117,11 +116,11 @@ pub trait EndRole: Drop {
         ensures kept { OnErr result (map (λ v. v.items) sent.new.payloads.items ≡ map (λ v. v.items) sent.old.payloads.items) }
         ensures padded { OnAnswered result (PadsTo Self.Exchange.Sealing.crypto Self.Exchange.Filler.gives
             (sending_by machine.old sent.old out.old) (sending_by machine.new sent.new out.new)) }
-        ensures stands { Stands (side_of Self.Exchange.SIDE) machine.old → Stands (side_of Self.Exchange.SIDE) machine.new };
+        ensures stands { Stands Self.Exchange.SIDE machine.old → Stands Self.Exchange.SIDE machine.new };
 
     /// What it does is what an end of its side does in a session whose parts it has. A fact for proofs, at no cost.
     fn lifts()
-        ensures { EndLifts (side_of Self.Exchange.SIDE) Self.Exchange.Sealing.crypto is_of are_of
+        ensures { EndLifts Self.Exchange.SIDE Self.Exchange.Sealing.crypto is_of are_of
             (λ kept layers. state_by authentication_of channels_of kept layers) (λ role. Self.Exchange.does (exchange_of role))
             (λ role. Self.Exchange.lacks (exchange_of role)) goes lacks asks };
 }

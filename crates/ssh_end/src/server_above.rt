@@ -7,9 +7,9 @@ ghost use Rattle.ssh_end.specs.ServerAbove.{JudgeLacks, JudgesPayload, accepts_u
 ghost use Rattle.ssh_end.specs.Told.{telling_of as telling_by};
 
 use crate::above::{Judgement, session_of, spell_answer};
+use crate::layers::{Below, LayerFault, ServerLayerAnswer, ServerLayers};
 use crate::step::{Telling, TookStep};
 use ssh_auth::{ServerAnswer, UserJudge};
-use ssh_layers::{Below, LayerFault, ServerLayerAnswer, ServerLayers};
 use ssh_packet::Sealing;
 use ssh_transport_machine::Machine;
 use std::alloc::AllocError;

@@ -1,27 +1,27 @@
 //! The end of a server.
 
 ghost use Rattle.std.specs.Prelude.{◌≡◌, ◌∷◌, IfOk, None, OnErr, []};
-ghost use Rattle.ssh_model.specs.Protocol.Side as model;
-ghost use Rattle.ssh_transport_base.specs.Meaning.{settings_of};
+ghost use Rattle.ssh_model.specs.declared.side.Side.TheVariants as sides;
+ghost use Rattle.ssh_config.specs.Meaning.{settings_of};
 ghost use Rattle.ssh_transport_machine.specs.Padding.{PadsTo};
 ghost use Rattle.ssh_end.specs.Beside.{channels_beside};
 ghost use Rattle.ssh_end.specs.Ends.{IsNewServer, sending_from_line, sending_to};
 ghost use Rattle.ssh_end.specs.Parts.{AreServerLayers, IsServer, exchange_parts};
 ghost use Rattle.ssh_end.specs.Stands.{MadeOf};
-ghost use Rattle.ssh_layers.specs.Sessions.{end_of};
+ghost use Rattle.ssh_end.specs.Sessions.{end_of};
 
 use crate::end::End;
+use crate::layers::ServerLayers;
 use crate::opening_laws::{is_material, settings_fit};
 use crate::server_role::ServerRole;
 use crate::step::Step;
 use crate::turn_laws::new_ends_read;
 use ssh_auth::UserJudge;
-use ssh_layers::ServerLayers;
+use ssh_config::{Config, ServerPartValues, ServerParts};
 use ssh_model::any_peer::against_any_peer;
 use ssh_model::end::openings;
 use ssh_packet::Sealing;
 use ssh_transport::Server;
-use ssh_transport_base::{Config, ServerPartValues, ServerParts};
 use ssh_transport_machine::standing::machines_stand;
 use ssh_transport_machine::{Machine, Outgoing};
 use ssh_types::Side;
@@ -57,7 +57,7 @@ impl<P: ServerParts, U: UserJudge + Drop> End<ServerRole<P, U>> {
         ensures agreement { IfOk result (λ end. end.role.exchange.agreement ≡ parts.agreement) }
         ensures part { IfOk result (λ end. end.role.exchange.host_signer ≡ parts.host_signer) }
         ensures user { IfOk result (λ end. end.role.user ≡ user) }
-        ensures placed { IfOk result (λ end. MadeOf model.Server (settings_of config)
+        ensures placed { IfOk result (λ end. MadeOf sides.Server (settings_of config)
             (λ p. IsServer p P.Sealing.crypto (exchange_parts P.Agreement.public_of P.Agreement.shared_of P.HostSigner.key_of
             P.HostSigner.signature_of end.role.exchange.agreement end.role.exchange.host_signer) (U.verdicts end.role.user))
             (λ p. AreServerLayers p end.layers) (record { cookie = cookie; secret = secret }) end.machine

@@ -7,18 +7,18 @@ ghost use Rattle.ssh_end.specs.ServerUnits.{GoLacks, Goes};
 
 use crate::ask::Ask;
 use crate::asking::{AskStep, Fault, ask_server};
+use crate::layers::ServerLayers;
 use crate::role::EndRole;
 use crate::server_unit::go_on;
 use crate::step::Step;
 use crate::turn_laws::{servers_deaths, servers_turns};
 use ssh_auth::UserJudge;
 use ssh_channels::Channels;
-use ssh_layers::ServerLayers;
+use ssh_config::ServerParts;
 use ssh_model::any_peer::against_any_peer;
 use ssh_model::end::{asks, deaths, identified, units};
 use ssh_packet::Sealing;
 use ssh_transport::Server;
-use ssh_transport_base::ServerParts;
 use ssh_transport_machine::{Machine, Outgoing, TransportTurn};
 use std::alloc::AllocError;
 

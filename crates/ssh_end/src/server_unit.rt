@@ -5,7 +5,7 @@ ghost use Rattle.ssh_transport_machine.specs.Puts.{outs};
 ghost use Rattle.std.specs.Prelude.{◌≡◌, ◌<◌, ◌≤◌, ◌++◌, IfErr, IfOk, List, OnErr, OnOk, [], false, length, map, take, true};
 ghost use Rattle.ssh_model.specs.State.Channels.Kept.{DueReply};
 ghost use Rattle.ssh_model.specs.Protocol.Sessions.Turns.{number_of};
-ghost use Rattle.ssh_model.specs.Protocol.Side as model;
+ghost use Rattle.ssh_model.specs.declared.side.Side.TheVariants as sides;
 ghost use Rattle.ssh_transport_machine.specs.Standing.{Stands};
 ghost use Rattle.ssh_end.specs.Effects.{IsReady, is_whole};
 ghost use Rattle.ssh_end.specs.Beside.{channels_behind};
@@ -15,10 +15,10 @@ ghost use Rattle.ssh_end.specs.ServerUnits.{GoLacks, Goes, GoesUp, UpLacks};
 use crate::above::finish_above;
 use crate::completing::complete;
 use crate::effect::step_of;
+use crate::layers::ServerLayers;
 use crate::server_above::judge_server;
 use crate::step::Step;
 use ssh_auth::UserJudge;
-use ssh_layers::ServerLayers;
 use ssh_packet::{Filler, Sealing};
 use ssh_transport_machine::standing::machines_stand;
 use ssh_transport_machine::{Effect, Machine, Outgoing, TransportTurn};
@@ -49,7 +49,7 @@ pub fn go_on<S: Sealing, F: Filler + Drop, J: UserJudge>(
     ensures left { OnErr result (is_whole turn ≡ false) }
     ensures out { OnErr result (Extends out.old.items out.new.items) }
     ensures sent { OnErr result (Extends (map (λ v. v.items) sent.old.payloads.items) (map (λ v. v.items) sent.new.payloads.items)) }
-    ensures stands { Stands model.Server machine.old → Stands model.Server machine.new }
+    ensures stands { Stands sides.Server machine.old → Stands sides.Server machine.new }
     ensures padded { OnOk result (PadsTo S.crypto F.gives (sending_by machine.old sent.old out.old)
         (sending_by machine.new sent.new out.new)) }
 {
@@ -87,7 +87,7 @@ fn go_up<S: Sealing, F: Filler + Drop, J: UserJudge>(
     ensures dead { OnErr result (machine.new.kept.dead ≡ true) }
     ensures out { OnErr result (out.new.items ≡ out.old.items) }
     ensures kept { OnErr result (sent.new.payloads.items ≡ sent.old.payloads.items) }
-    ensures stands { Stands model.Server machine.old → Stands model.Server machine.new }
+    ensures stands { Stands sides.Server machine.old → Stands sides.Server machine.new }
     ensures padded { OnOk result (PadsTo S.crypto F.gives (sending_by machine.old sent.old out.old)
         (sending_by machine.new sent.new out.new)) }
 {

@@ -4,14 +4,14 @@ ghost use Rattle.std.specs.Prelude.{◌≡◌, ℕ, None, Option, Some, false, o
 ghost use Rattle.ssh_channels.specs.Values.{fact_of};
 ghost use Rattle.ssh_message.specs.Meaning.{meaning};
 ghost use Rattle.ssh_model.specs.Protocol.Sessions.Items.{Fact.GotData, Fact.OpenFailed};
-ghost use Rattle.ssh_layers.specs.Layer.{layer_of as layer_for};
+ghost use Rattle.ssh_end.specs.Layer.{layer_of as layer_for};
 ghost use Rattle.ssh_end.specs.Steps.{accepted_by as accepted, fact_by, fact_told};
 ghost use Rattle.ssh_end.specs.Told.{opens, told_of};
-ghost use Rattle.ssh_layers.specs.declared.layer.Layer.TheVariants as Layer;
+ghost use Rattle.ssh_end.specs.declared.layers.layer.Layer.TheVariants as Layer;
 
+use crate::layers::{Layer, layer_of};
 use crate::step::Telling;
 use ssh_channels::Fact;
-use ssh_layers::{Layer, layer_of};
 use ssh_message::{Extensions, Message};
 use ssh_types::NameList;
 

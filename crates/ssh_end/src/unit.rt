@@ -3,7 +3,6 @@
 ghost use Rattle.ssh_transport_machine.specs.Padding.{PadsTo, sending_by};
 ghost use Rattle.ssh_transport_machine.specs.Puts.{outs};
 ghost use Rattle.std.specs.Prelude.{◌≡◌, ◌<◌, ◌≤◌, ◌++◌, IfErr, IfOk, OnErr, OnOk, false, length, map, take};
-ghost use Rattle.ssh_types.specs.Sides.{side_of};
 ghost use Rattle.ssh_transport_machine.specs.Standing.{Stands};
 ghost use Rattle.ssh_transport_machine.specs.State.{begun_of};
 ghost use Rattle.ssh_end.specs.Beside.{channels_behind};
@@ -33,11 +32,11 @@ pub fn advance<R: EndRole>(
     sent: &mut Outgoing<<R::Exchange as Role>::Filler>,
     numbers: &mut Vec<Option<u32>>,
 ) -> (usize, Result<Step, TransportFault>)
-    requires { Stands (side_of R.Exchange.SIDE) machine.old }
+    requires { Stands R.Exchange.SIDE machine.old }
     ensures used { result.0 ≤ length bytes.now }
     ensures progress { machine.old.kept.dead ≡ false → 0 < length bytes.now → 0 < result.0 }
     ensures more { IfOk result.1 (λ step. step ≡ Step.More → result.0 ≡ length bytes.now) }
-    ensures goes { IfOk result.1 (λ step. UnitGoes R.Exchange.Sealing.crypto (side_of R.Exchange.SIDE)
+    ensures goes { IfOk result.1 (λ step. UnitGoes R.Exchange.Sealing.crypto R.Exchange.SIDE
         (R.Exchange.does (R.exchange_of role.now)) (R.goes role.now) machine.old layers.old
         (begun_of machine.old ++ take result.0 bytes.now) step machine.new layers.new (outs out.old out.new sent.old sent.new)) }
     ensures numbered { IfOk result.1 (λ step. numbers.new.items ≡ numbers.old.items ++ channels_behind step
@@ -45,12 +44,12 @@ pub fn advance<R: EndRole>(
     ensures failed { IfErr result.1 (λ fault. IsOver machine.old fault machine.new) }
     ensures dead { IfErr result.1 (λ fault. fault ≡ TransportFault.Dead → layers.new ≡ layers.old) }
     ensures lacks { IfErr result.1 (λ fault. fault ≡ TransportFault.Memory →
-        UnitLacks R.Exchange.Sealing.crypto (side_of R.Exchange.SIDE) (R.Exchange.does (R.exchange_of role.now))
+        UnitLacks R.Exchange.Sealing.crypto R.Exchange.SIDE (R.Exchange.does (R.exchange_of role.now))
         (R.Exchange.lacks (R.exchange_of role.now)) (R.lacks role.now) machine.old layers.old
         (begun_of machine.old ++ take result.0 bytes.now)) }
     ensures out { OnErr result.1 (out.new.items ≡ out.old.items) }
     ensures kept { OnErr result.1 (map (λ v. v.items) sent.new.payloads.items ≡ map (λ v. v.items) sent.old.payloads.items) }
-    ensures stands { Stands (side_of R.Exchange.SIDE) machine.new }
+    ensures stands { Stands R.Exchange.SIDE machine.new }
     ensures padded { OnOk result.1 (PadsTo R.Exchange.Sealing.crypto R.Exchange.Filler.gives (sending_by machine.old sent.old out.old)
         (sending_by machine.new sent.new out.new)) }
 {

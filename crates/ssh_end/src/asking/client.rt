@@ -3,19 +3,19 @@
 ghost use Rattle.ssh_transport_machine.specs.Padding.{PadsTo, sending_by};
 ghost use Rattle.ssh_transport_machine.specs.Puts.{outs};
 ghost use Rattle.std.specs.Prelude.{◌≡◌, IfErr, OnErr, map, false};
-ghost use Rattle.ssh_model.specs.Protocol.Side.{Side};
+ghost use Rattle.ssh_model.specs.declared.side.Side.{Side};
 ghost use Rattle.ssh_transport_machine.specs.Standing.{Stands};
 ghost use Rattle.ssh_end.specs.Asking.{ClientInSession, ClientRow, Fails, KeepsLayers, OnAnswered, ask_of};
 ghost use Rattle.ssh_end.specs.Reading.{SameReading};
-ghost use Rattle.ssh_layers.specs.ClientSessions.{end_of};
+ghost use Rattle.ssh_end.specs.ClientSessions.{end_of};
 
 use crate::ask::Ask;
 use crate::asking::connection::ask_connection;
 use crate::asking::outcome::{AskStep, Fault};
 use crate::asking::transport::ask_transport;
 use crate::asking::user::ask_user;
+use crate::layers::ClientLayers;
 use ssh_auth::UserSigner;
-use ssh_layers::ClientLayers;
 use ssh_model::end::asks;
 use ssh_packet::{Filler, Sealing};
 use ssh_transport_machine::{Machine, Outgoing, TransportAsk};

@@ -4,7 +4,7 @@ ghost use Rattle.ssh_transport_machine.specs.Padding.{PadsTo, sending_by};
 ghost use Rattle.ssh_transport_machine.specs.Puts.{outs};
 ghost use Rattle.std.specs.Prelude.{◌≡◌, ◌≤◌, IfErr, IfOk, OnErr, map, true, false};
 ghost use Rattle.ssh_model.specs.Protocol.Bounds.{longest_payload};
-ghost use Rattle.ssh_model.specs.Protocol.Side.{Side};
+ghost use Rattle.ssh_model.specs.declared.side.Side.{Side};
 ghost use Rattle.ssh_model.specs.Protocol.Wire.Message.{FitsContext};
 ghost use Rattle.ssh_model.specs.Laws.Sizes.{payload_size};
 ghost use Rattle.ssh_message.specs.Meaning.{meaning};
@@ -18,8 +18,8 @@ use crate::asking::memory::lack_memory;
 use crate::asking::numbers::{ask_numbers, message_numbers, recipient_number};
 use crate::asking::outcome::{AskStep, Fault, step_of};
 use crate::asking::transport::ask_machine;
+use crate::layers::{Below, ask_channels};
 use ssh_channels::{Ask, AskError, Channels, Sent};
-use ssh_layers::{Below, ask_channels};
 use ssh_packet::{Filler, Sealing};
 use ssh_transport_machine::{Answer, Machine, Outgoing, TransportAsk};
 

@@ -6,6 +6,7 @@ ghost use Rattle.ssh_transport_machine.specs.Turning.{HasRoom};
 ghost use Rattle.ssh_transport_machine.specs.declared.machine.turn.Answer.TheVariants.{Spent};
 ghost use Rattle.ssh_end.specs.Asking.{step_by};
 ghost use Rattle.ssh_end.specs.declared.asking.outcome.Fault.TheVariants.{Memory};
+ghost use Rattle.ssh_model.specs.Protocol.Bounds.{numbers_of_epoch};
 
 use crate::asking::outcome::{AskStep, Fault, step_of};
 use ssh_packet::Sealing;
@@ -19,7 +20,7 @@ use ssh_transport_machine::{Answer, Machine};
 /// - `Dead`: the end was over before.
 pub fn lack_memory<S: Sealing>(machine: &mut Machine<S>) -> Result<AskStep, Fault>
     ensures spent { IfOk result (λ step. step ≡ step_by Spent) }
-    ensures none_left { OnOk result (machine.old.kept.sending.count ≡ 2 ^ 32) }
+    ensures none_left { OnOk result (machine.old.kept.sending.count ≡ numbers_of_epoch) }
     ensures memory { IfErr result (λ fault. fault ≡ Memory) }
     ensures room { OnErr result (HasRoom machine.old) }
     ensures over { machine.new ≡ dead_state machine.old }

@@ -3,19 +3,20 @@
 ghost use Rattle.ssh_transport_machine.specs.Padding.{PadsTo, sending_by};
 ghost use Rattle.ssh_transport_machine.specs.Puts.{outs};
 ghost use Rattle.std.specs.Prelude.{◌≡◌, IfErr, OnErr, cond, map, false};
-ghost use Rattle.ssh_model.specs.Protocol.Side.{Side, Side.Server};
+ghost use Rattle.ssh_model.specs.declared.side.Side.{Side};
+ghost use Rattle.ssh_model.specs.declared.side.Side.TheVariants.{Server};
 ghost use Rattle.ssh_transport_machine.specs.Standing.{Stands};
-ghost use Rattle.ssh_types.specs.declared.ask_refusal.AskRefusal.TheVariants.{WrongSide};
+ghost use Rattle.ssh_model.specs.declared.ask_refusal.AskRefusal.TheVariants.{WrongSide};
 ghost use Rattle.ssh_end.specs.Asking.{EndRow, Fails, InSession, KeepsLayers, OnAnswered, ask_of};
 ghost use Rattle.ssh_end.specs.Reading.{SameReading};
-ghost use Rattle.ssh_layers.specs.Sessions.{end_of};
+ghost use Rattle.ssh_end.specs.Sessions.{end_of};
 ghost use Rattle.ssh_end.specs.declared.asking.outcome.Fault.TheVariants as fault;
 
 use crate::ask::Ask;
 use crate::asking::connection::ask_connection;
 use crate::asking::outcome::{AskStep, Fault};
 use crate::asking::transport::ask_transport;
-use ssh_layers::ServerLayers;
+use crate::layers::ServerLayers;
 use ssh_model::end::asks;
 use ssh_packet::{Filler, Sealing};
 use ssh_transport_machine::{Machine, Outgoing, TransportAsk};

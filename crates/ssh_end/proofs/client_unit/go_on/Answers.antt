@@ -1,4 +1,4 @@
-use Rattle.ssh_model.specs.Protocol.Side.{Side.Client}
+use Rattle.ssh_model.specs.declared.side.Side.TheVariants.{Client}
 use Rattle.ssh_end.proofs.client_unit.go_on.Goals as goal
 
 pub returns-in-Completed-clause-stands : goal.returns-in-Completed-clause-stands

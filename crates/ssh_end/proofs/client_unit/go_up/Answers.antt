@@ -1,4 +1,4 @@
-use Rattle.ssh_model.specs.Protocol.Side.{Side.Client}
+use Rattle.ssh_model.specs.declared.side.Side.TheVariants.{Client}
 use Rattle.ssh_end.specs.ClientUnits.{UpLacks}
 use Rattle.ssh_end.proofs.Judging.{on_err}
 use Rattle.ssh_end.proofs.client_unit.go_up.Goals as goal

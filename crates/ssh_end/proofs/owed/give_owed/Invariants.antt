@@ -1,6 +1,6 @@
 use Rattle.std.proofs.Common.{◌≡◌, ◌+◌, ◌≤◌, ◌^◌, ◌++◌, false, length, map}
 use Rattle.ssh_model.specs.State.Channels.Summary.{reply_channel}
-use Rattle.ssh_model.specs.Protocol.Side.{Side}
+use Rattle.ssh_model.specs.declared.side.Side.{Side}
 use Rattle.ssh_transport_machine.specs.Padding.{PadsTo, sending_by}
 use Rattle.ssh_transport_machine.specs.Standing.{Stands}
 use Rattle.ssh_end.specs.Owed.{Extends}

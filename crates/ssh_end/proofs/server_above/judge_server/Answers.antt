@@ -2,11 +2,11 @@ use Rattle.std.proofs.Common.{ℕ, List, ap, ◌∙◌, subst, Option, IsSome}
 use Rattle.ssh_model.specs.Protocol.Wire.Message.{Msg}
 use Rattle.ssh_message.specs.Meaning.{meaning}
 use Rattle.ssh_end.proofs.Judging.{both_on_err}
-use Rattle.ssh_layers.specs.Layer.{Beneath}
-use Rattle.ssh_layers.specs.Layers.{LayersFail, LayersTake, message_of}
+use Rattle.ssh_end.specs.Layer.{Beneath}
+use Rattle.ssh_end.specs.Layers.{LayersFail, LayersTake, message_of}
 use Rattle.ssh_end.specs.ServerAbove as above
-use Rattle.ssh_layers.specs.declared.fault.LayerFault.{LayerFault}
-use Rattle.ssh_layers.specs.declared.fault.LayerFault.TheVariants as fault
+use Rattle.ssh_end.specs.declared.layers.fault.LayerFault.{LayerFault}
+use Rattle.ssh_end.specs.declared.layers.fault.LayerFault.TheVariants as fault
 use Rattle.ssh_end.proofs.server_above.judge_server.Goals as goal
 
 pub returns-in-Ok-clause-lacks : goal.returns-in-Ok-clause-lacks

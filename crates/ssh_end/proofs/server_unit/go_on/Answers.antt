@@ -1,4 +1,4 @@
-use Rattle.ssh_model.specs.Protocol.Side.{Side.Server}
+use Rattle.ssh_model.specs.declared.side.Side.TheVariants.{Server}
 use Rattle.ssh_end.proofs.server_unit.go_on.Goals as goal
 
 pub returns-in-Completed-clause-stands : goal.returns-in-Completed-clause-stands

@@ -1,4 +1,4 @@
-use Rattle.ssh_model.specs.Protocol.Side.{Side.Server}
+use Rattle.ssh_model.specs.declared.side.Side.TheVariants.{Server}
 use Rattle.ssh_end.specs.ServerUnits.{UpLacks}
 use Rattle.ssh_end.proofs.Judging.{on_err}
 use Rattle.ssh_end.proofs.server_unit.go_up.Goals as goal

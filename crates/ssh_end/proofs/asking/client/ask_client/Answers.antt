@@ -1,5 +1,5 @@
-use Rattle.ssh_model.specs.Protocol.Side.{Side.Client}
-use Rattle.ssh_layers.specs.ClientSessions.{end_of}
+use Rattle.ssh_model.specs.declared.side.Side.TheVariants.{Client}
+use Rattle.ssh_end.specs.ClientSessions.{end_of}
 use Rattle.ssh_end.proofs.AsksSessions.{turned}
 use Rattle.ssh_end.proofs.asking.client.ask_client.Goals as goal
 

@@ -2,7 +2,7 @@ use Rattle.std.proofs.Common.{refl, sym, ◌∙◌, ap, subst}
 use Rattle.ssh_channels.specs.Values.{ask_of, sent_of}
 use Rattle.ssh_channels.specs.declared.error.AskError.{AskError}
 use Rattle.ssh_transport_machine.specs.State.{State}
-use Rattle.ssh_layers.specs.Connection.{AskFails}
+use Rattle.ssh_end.specs.Connection.{AskFails}
 use Rattle.ssh_end.proofs.AsksConnection.{memory_row, sent_row}
 use Rattle.ssh_end.proofs.AsksSpelling.{fits_context}
 use Rattle.ssh_end.proofs.asking.connection.ask_connection.Goals as goal

@@ -1,4 +1,4 @@
-use Rattle.ssh_model.specs.Protocol.Side.{Side.Server}
+use Rattle.ssh_model.specs.declared.side.Side.TheVariants.{Server}
 use Rattle.ssh_end.proofs.AsksSessions.{lifted}
 use Rattle.ssh_end.proofs.asking.server.ask_server.Goals as goal
 

@@ -1,7 +1,7 @@
 use Rattle.std.proofs.Common.{ap, rules}
 use Rattle.ssh_model.specs.State.End.State.{Authentication.OfClient}
-use Rattle.ssh_model.specs.Protocol.Side.{Side.Client}
-use Rattle.ssh_transport_base.specs.Meaning.{settings_of}
+use Rattle.ssh_model.specs.declared.side.Side.TheVariants.{Client}
+use Rattle.ssh_config.specs.Meaning.{settings_of}
 use Rattle.ssh_end.proofs.Making.{made_at}
 use Rattle.ssh_end.proofs.client_end.End+ClientRole+P+U.new.Goals as goal
 

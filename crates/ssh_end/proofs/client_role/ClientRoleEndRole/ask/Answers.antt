@@ -1,4 +1,4 @@
-use Rattle.ssh_model.specs.Protocol.Side.{Side.Client}
+use Rattle.ssh_model.specs.declared.side.Side.TheVariants.{Client}
 use Rattle.ssh_end.proofs.client_role.ClientRoleEndRole.ask.Goals as goal
 
 pub returns-clause-stands : goal.returns-clause-stands

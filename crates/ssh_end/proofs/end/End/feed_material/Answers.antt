@@ -1,14 +1,13 @@
 use Rattle.std.proofs.Common.{sym, subst}
-use Rattle.ssh_types.specs.Sides.{side_of}
 use Rattle.ssh_end.specs.Stands.{StandsAt}
 use Rattle.ssh_end.proofs.Placing.{fed_to}
 use Rattle.ssh_end.proofs.end.End.feed_material.Goals as goal
 
 pub invariant_of-self : goal.invariant_of-self
-invariant_of-self g c = c.machines_stand.ensures.fed (side_of g.R.Exchange.Role.SIDE) c.self.inside.machine c.feed.result c.feed.new.self _ _ c.self.invariant c.feed.ensures.fed c.feed.ensures.kept c.feed.ensures.same
+invariant_of-self g c = c.machines_stand.ensures.fed g.R.Exchange.Role.SIDE c.self.inside.machine c.feed.result c.feed.new.self _ _ c.self.invariant c.feed.ensures.fed c.feed.ensures.kept c.feed.ensures.same
 
 pub returns-clause-placed : goal.returns-clause-placed
 returns-clause-placed g c = λ p history given.
     let place = subst (λ v. StandsAt g.R.EndRole g.R.Exchange.Role p history v) (sym c.self.view_is) given in
-    fed_to (record { guards = c.against_any_peer.ensures; taken = c.feeds.ensures.taken; run = c.feeds.ensures.run }) p (side_of g.R.Exchange.Role.SIDE) (g.R.EndRole.is_of c.self.inside.role p) (g.R.EndRole.are_of c.self.inside.layers p) history c.self.inside.machine
+    fed_to (record { guards = c.against_any_peer.ensures; taken = c.feeds.ensures.taken; run = c.feeds.ensures.run }) p g.R.Exchange.Role.SIDE (g.R.EndRole.is_of c.self.inside.role p) (g.R.EndRole.are_of c.self.inside.layers p) history c.self.inside.machine
     (g.R.EndRole.authentication_of c.self.inside.layers) (g.R.EndRole.channels_of c.self.inside.layers) place c.args.cookie c.args.secret c.is_material.ensures c.feed.result c.feed.ensures.fed c.feed.new.self c.feed.ensures.kept c.feed.ensures.same

@@ -1,5 +1,4 @@
 use Rattle.std.proofs.Common.{List, ℕ, [], ◌∷◌, Ok, ap, map, sym, subst}
-use Rattle.ssh_types.specs.Sides.{side_of}
 use Rattle.ssh_end.specs.Asking.{ask_of}
 use Rattle.ssh_end.specs.Beside.{channels_beside, last_channels}
 use Rattle.ssh_end.specs.Places.{AskedTo, state_by}
@@ -19,7 +18,7 @@ returns-in-Ok-clause-placed g c = λ p history given.
     let place = subst (λ v. StandsAt g.R.EndRole g.R.Exchange.Role p history v) (sym c.self.view_is) given in
     let sent = map (λ v. v.items) c.ask-done.new.sent.payloads.items in
     let asks = subst (λ (l : List (List ℕ)). g.R.EndRole.asks c.self.inside.role c.self.inside.machine c.self.inside.layers (ask_of c.args.ask.now) (Ok c.in-Ok.step) c.ask-done.new.machine c.ask-done.new.layers (record { before = c.args.out.now.items; after = c.ask-done.new.out.items; listed = l; relisted = sent })) (ap (λ l. map (λ v. v.items) l) c.clear.ensures.items) c.in-Ok.ensures.asks in
-    subst (λ v. AskedTo p (side_of g.R.Exchange.Role.SIDE) (g.R.EndRole.is_of c.self.inside.role p) (g.R.EndRole.are_of c.ask-done.new.layers p) history (state_of g.R.EndRole v) (ask_of c.args.ask.now) (Ok c.in-Ok.step) c.ask-done.new.machine
+    subst (λ v. AskedTo p g.R.Exchange.Role.SIDE (g.R.EndRole.is_of c.self.inside.role p) (g.R.EndRole.are_of c.ask-done.new.layers p) history (state_of g.R.EndRole v) (ask_of c.args.ask.now) (Ok c.in-Ok.step) c.ask-done.new.machine
     (state_by g.R.EndRole.authentication_of g.R.EndRole.channels_of c.ask-done.new.machine.kept c.ask-done.new.layers) (record { before = c.args.out.now.items; after = c.ask-done.new.out.items; listed = []; relisted = sent })) c.self.view_is
     (c.lifts.ensures.asked c.self.inside.role p history c.self.inside.machine c.self.inside.layers place (ask_of c.args.ask.now) (Ok c.in-Ok.step) c.ask-done.new.machine c.ask-done.new.layers (record { before = c.args.out.now.items; after = c.ask-done.new.out.items; listed = []; relisted = sent }) asks c.ask-done.ensures.reading)
 
@@ -28,6 +27,6 @@ returns-in_default-clause-placed g c = λ p history given.
     let place = subst (λ v. StandsAt g.R.EndRole g.R.Exchange.Role p history v) (sym c.self.view_is) given in
     let sent = map (λ v. v.items) c.ask-done.new.sent.payloads.items in
     let asks = subst (λ (l : List (List ℕ)). g.R.EndRole.asks c.self.inside.role c.self.inside.machine c.self.inside.layers (ask_of c.args.ask.now) c.ask-done.result c.ask-done.new.machine c.ask-done.new.layers (record { before = c.args.out.now.items; after = c.ask-done.new.out.items; listed = l; relisted = sent })) (ap (λ l. map (λ v. v.items) l) c.clear.ensures.items) c.ask-done.ensures.asks in
-    subst (λ v. AskedTo p (side_of g.R.Exchange.Role.SIDE) (g.R.EndRole.is_of c.self.inside.role p) (g.R.EndRole.are_of c.ask-done.new.layers p) history (state_of g.R.EndRole v) (ask_of c.args.ask.now) c.ask-done.result c.ask-done.new.machine
+    subst (λ v. AskedTo p g.R.Exchange.Role.SIDE (g.R.EndRole.is_of c.self.inside.role p) (g.R.EndRole.are_of c.ask-done.new.layers p) history (state_of g.R.EndRole v) (ask_of c.args.ask.now) c.ask-done.result c.ask-done.new.machine
     (state_by g.R.EndRole.authentication_of g.R.EndRole.channels_of c.ask-done.new.machine.kept c.ask-done.new.layers) (record { before = c.args.out.now.items; after = c.ask-done.new.out.items; listed = []; relisted = sent })) c.self.view_is
     (c.lifts.ensures.asked c.self.inside.role p history c.self.inside.machine c.self.inside.layers place (ask_of c.args.ask.now) c.ask-done.result c.ask-done.new.machine c.ask-done.new.layers (record { before = c.args.out.now.items; after = c.ask-done.new.out.items; listed = []; relisted = sent }) asks c.ask-done.ensures.reading)

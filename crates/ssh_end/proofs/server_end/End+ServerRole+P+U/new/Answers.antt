@@ -2,9 +2,9 @@ use Rattle.std.proofs.Common.{◌≡◌, rules, false, ap, sym, ◌∙◌, subst
 use Rattle.ssh_model.specs.State.End.State.{Authentication.OfServer}
 use Rattle.ssh_model.specs.Protocol.Sessions.Parties.{Settings}
 use Rattle.ssh_model.specs.Protocol.Sessions.TurnClaims.{HasSpelling}
-use Rattle.ssh_model.specs.Protocol.Side.{Side.Server}
+use Rattle.ssh_model.specs.declared.side.Side.TheVariants.{Server}
 use Rattle.ssh_model.specs.Protocol.Wire.Message.{Msg.UserauthFailure}
-use Rattle.ssh_transport_base.specs.Meaning.{settings_of}
+use Rattle.ssh_config.specs.Meaning.{settings_of}
 use Rattle.ssh_end.proofs.Making.{made_at}
 use Rattle.ssh_end.proofs.server_end.End+ServerRole+P+U.new.Goals as goal
 

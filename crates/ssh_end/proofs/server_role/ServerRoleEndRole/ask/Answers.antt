@@ -1,4 +1,4 @@
-use Rattle.ssh_model.specs.Protocol.Side.{Side.Server}
+use Rattle.ssh_model.specs.declared.side.Side.TheVariants.{Server}
 use Rattle.ssh_end.proofs.server_role.ServerRoleEndRole.ask.Goals as goal
 
 pub returns-clause-stands : goal.returns-clause-stands

@@ -1,0 +1,18 @@
+-- Asks for messages of the connection, at an end that may not be authenticated.
+use Rattle.std.specs.Prelude.{◌≡◌, Bool, true, Some}
+use Rattle.ssh_model.specs.Protocol.Channels.Connection.{after_authentication}
+use Rattle.ssh_model.specs.State.Channels.Kept.{Channels, send_checks}
+use Rattle.ssh_model.specs.Protocol.Sessions.Items as session
+use Rattle.ssh_model.specs.Protocol.Sessions.Refusals.{first_refusal}
+use Rattle.ssh_channels.specs.Rows.{AsksForChannel}
+use Rattle.ssh_channels.specs.declared.error.AskError.{AskError}
+use Rattle.ssh_channels.specs.declared.error.AskError.TheVariants as ask_error
+
+-- Why nothing is sent: the first refusal that holds, or want of memory for a new channel, once the user is
+-- authenticated.
+abbrev pub AskFails : (is_authenticated is_blocked is_due : Bool) → Channels → session.Ask → AskError → Type 0
+AskFails is_authenticated is_blocked is_due channels ask (ask_error.Refused why) =
+    first_refusal (after_authentication is_authenticated (send_checks is_blocked is_due channels ask))
+    ≡ Some why
+AskFails is_authenticated is_blocked is_due channels ask ask_error.Memory =
+    (is_authenticated ≡ true) × AsksForChannel is_blocked is_due channels ask
