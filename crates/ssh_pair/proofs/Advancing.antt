@@ -1,7 +1,8 @@
 -- What an end did with a piece, out of what it did with the lines and packets of it.
 use Rattle.std.proofs.Common.{◌≡◌, ℕ, true, false, List, [], ◌∷◌, ◌++◌, append-nil, append_assoc, refl, ap, sym, ◌∙◌, subst}
 use Rattle.std.proofs.lemmas.Bool.{false≢true}
-use Rattle.ssh_model.specs.Protocol.Side.{Side, DoneBy.By, done_by, part}
+use Rattle.ssh_model.specs.declared.side.Side.{Side}
+use Rattle.ssh_model.specs.Protocol.Side.{DoneBy.By, done_by, part}
 use Rattle.ssh_model.specs.Protocol.Wire.Delivery.{Delivered}
 use Rattle.ssh_model.specs.Protocol.Sessions.Events.{PutsOut, reading_of}
 use Rattle.ssh_model.specs.Protocol.Sessions.Items.{Done, Item, has_died}

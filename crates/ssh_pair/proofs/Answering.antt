@@ -2,13 +2,13 @@
 use Rattle.std.proofs.Common.{◌≡◌, ℕ, Bool, true, false, cond, List, [], ◌∷◌, ◌++◌, append-nil, refl, ap, sym, ◌∙◌, Ok, Err}
 use Rattle.std.specs.Prelude.{IfOk, Option, Result}
 use Rattle.std.proofs.lemmas.Bool.{false≢true}
-use Rattle.ssh_model.specs.Protocol.Side.{Side, done_by, part}
+use Rattle.ssh_model.specs.declared.side.Side.{Side}
+use Rattle.ssh_model.specs.Protocol.Side.{done_by, part}
 use Rattle.ssh_model.specs.State.End.State.{EndState}
 use Rattle.ssh_model.specs.State.End.Summary.{EndTurned}
 use Rattle.ssh_model.specs.Protocol.Sessions.Items.{Ask, Done, Item, Item.Asked, Item.AskRefused, Item.Died, has_died}
 use Rattle.ssh_model.specs.Protocol.Sessions.Parties.{Parties}
 use Rattle.ssh_model.specs.Protocol.Sessions.Turns.{AsksTurn}
-use Rattle.ssh_types.specs.AskRefusals.{ask_refusal_of}
 use Rattle.ssh_transport_machine.specs.State.{State}
 use Rattle.ssh_end.specs.Asking.{AreAskChannels}
 use Rattle.ssh_end.specs.Calls.{outs_of}
@@ -55,7 +55,7 @@ module _ {K : Type 0} (p : Parties K) (side : Side) (run : List Done) (parts lay
     notes = n d.items d.shows d.lists (on d.items d.shows d.lists) (over ∙ (d.turned.sums.transport.dead_is ∙ died_of d.items (part side run) alive));
     out = d.parts;
   })
-  answered (Err (fault.Ask why)) is_over payloads channels over same x on n was = by_turn (AskRefused (ask_refusal_of why) ∷ Asked asked ∷ []) x.place (record { more = []; turned = x.done.turned; notes = n; out = same _ refl ∙ sym (append-nil out_old) })
+  answered (Err (fault.Ask why)) is_over payloads channels over same x on n was = by_turn (AskRefused why ∷ Asked asked ∷ []) x.place (record { more = []; turned = x.done.turned; notes = n; out = same _ refl ∙ sym (append-nil out_old) })
   answered (Err fault.Memory) is_over payloads channels over same x on n was = by_turn (Died ∷ []) x.place (record { more = []; turned = x.done.turned; notes = n; out = same _ refl ∙ sym (append-nil out_old) })
   answered (Err fault.Dead) is_over payloads channels over same x on n was = absurd (false≢true (sym alive ∙ (sym was ∙ x.done.dead)))
 

@@ -1,6 +1,7 @@
 -- An end of a pair that used what came waits, or is over.
 use Rattle.std.proofs.Common.{◌≡◌, ℕ, Bool, true, false, cond, List, [], refl, ap, sym, ◌∙◌, subst}
-use Rattle.ssh_model.specs.Protocol.Side.{Side, part}
+use Rattle.ssh_model.specs.declared.side.Side.{Side}
+use Rattle.ssh_model.specs.Protocol.Side.{part}
 use Rattle.ssh_model.specs.Protocol.Wire.Delivery.{Delivered, Waits}
 use Rattle.ssh_model.specs.Protocol.Wire.Line.{IsLineBegun}
 use Rattle.ssh_model.specs.Protocol.Wire.Sealing.{IsSealing}

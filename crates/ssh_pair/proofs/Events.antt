@@ -1,6 +1,7 @@
 -- Events one after the other.
 use Rattle.std.proofs.Common.{◌≡◌, List, [], ◌∷◌, ◌++◌, append_assoc, refl, ap, sym, ◌∙◌, subst}
-use Rattle.ssh_model.specs.Protocol.Side.{Side.Client, part}
+use Rattle.ssh_model.specs.declared.side.Side.TheVariants.{Client}
+use Rattle.ssh_model.specs.Protocol.Side.{part}
 use Rattle.ssh_model.specs.Protocol.Sessions.Claims.{IsSafe}
 use Rattle.ssh_model.specs.Protocol.Sessions.Events.{Event, OnEvent, Plays, World}
 use Rattle.ssh_model.specs.Protocol.Sessions.Honest.{IsHonest}

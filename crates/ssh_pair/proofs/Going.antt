@@ -7,7 +7,9 @@ use Rattle.ssh_model.specs.Protocol.Sessions.Events.{reading_of}
 use Rattle.ssh_model.specs.Protocol.Sessions.Items.{Ask, Done, Item, Item.Died, has_died}
 use Rattle.ssh_model.specs.Protocol.Sessions.Parties.{Parties}
 use Rattle.ssh_model.specs.Protocol.Sessions.Turns.{OnUnit}
-use Rattle.ssh_model.specs.Protocol.Side.{Side, Side.Server, done_by, part}
+use Rattle.ssh_model.specs.declared.side.Side.{Side}
+use Rattle.ssh_model.specs.declared.side.Side.TheVariants.{Server}
+use Rattle.ssh_model.specs.Protocol.Side.{done_by, part}
 use Rattle.ssh_model.specs.Protocol.Wire.Delivery.{Delivered}
 use Rattle.ssh_transport_machine.specs.Puts.{Outs}
 use Rattle.ssh_transport_machine.specs.State.{State, begun_of}

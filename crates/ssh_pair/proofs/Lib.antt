@@ -11,3 +11,4 @@ pub mod Events
 pub mod Ending
 pub mod Opening
 pub mod Meeting
+pub mod Noted

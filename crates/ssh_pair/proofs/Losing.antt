@@ -1,14 +1,16 @@
 -- What becomes of an end that memory was refused for what came to it, in a run of two.
-use Rattle.std.proofs.Common.{◌≡◌, ◌≤◌, ◌^◌, ℕ, arith, true, false, List, [], ◌∷◌, ◌++◌, append-nil, append_assoc, take, drop, take-append-drop, ap, sym, ◌∙◌, subst}
+use Rattle.std.proofs.Common.{◌≡◌, ◌<◌, ℕ, arith, true, false, List, [], ◌∷◌, ◌++◌, append-nil, append_assoc, take, drop, take-append-drop, ap, sym, ◌∙◌, subst}
 use Rattle.std.proofs.lemmas.Bool.{false≢true}
 use Rattle.std.specs.Prelude.{◌==◌, if◌then◌else◌}
-use Rattle.ssh_model.specs.Protocol.Side.{Side, done_by, part}
+use Rattle.ssh_model.specs.Protocol.Bounds.{numbers_of_epoch}
+use Rattle.ssh_model.specs.declared.side.Side.{Side}
+use Rattle.ssh_model.specs.Protocol.Side.{done_by, part}
 use Rattle.ssh_model.specs.Protocol.Wire.Delivery.{Delivered}
 use Rattle.ssh_model.specs.Protocol.Sessions.Events.{PutsOut, reading_of}
 use Rattle.ssh_model.specs.Protocol.Sessions.Items.{Done, Item, Item.Died, has_died}
 use Rattle.ssh_model.specs.Protocol.Sessions.Parties.{Parties}
 use Rattle.ssh_model.specs.State.TransportLayer.Directions.{Direction}
-use Rattle.ssh_transport_base.specs.Directions.{next_number}
+use Rattle.ssh_packet.specs.Directions.{next_number}
 use Rattle.ssh_transport_machine.specs.State.{State}
 use Rattle.ssh_transport.specs.declared.role.Role as exchange
 use Rattle.ssh_end.specs.Ends.{EndValue, IsFault}
@@ -54,7 +56,7 @@ fell ends exchanges p history old new bytes fault.Dead x alive lost = absurd (fa
 fell ends exchanges p history old new bytes (fault.Ask why) x alive lost = absurd x
 
 -- an end whose next number is a uint32 has not used all of its numbers
-pub numbers_left : {K : Type 0} (d : Direction K) (next : ℕ) → next ≡ next_number d → next ≤ 4294967295 → d.count ≡ 2 ^ 32 → ⊥
+pub numbers_left : {K : Type 0} (d : Direction K) (next : ℕ) → next ≡ next_number d → next < numbers_of_epoch → d.count ≡ numbers_of_epoch → ⊥
 numbers_left d next is small e =
-    let none : next_number d ≡ 2 ^ 32 = ap (λ (k : ℕ). if k == 2 ^ 32 then 2 ^ 32 else d.number) e in
+    let none : next_number d ≡ numbers_of_epoch = ap (λ (k : ℕ). if k == numbers_of_epoch then numbers_of_epoch else d.number) e in
     omega (arith, small, is ∙ none)

@@ -8,7 +8,9 @@ use Rattle.ssh_model.specs.Protocol.Sessions.Honest.{IsHonest}
 use Rattle.ssh_model.specs.Protocol.Sessions.Items.{Done, Item}
 use Rattle.ssh_model.specs.Protocol.Sessions.Parties.{AreLawful, BothOffer, Parties}
 use Rattle.ssh_model.specs.Protocol.Sessions.Turns.{Run}
-use Rattle.ssh_model.specs.Protocol.Side.{Side, Side.Client, Side.Server, done_by, part, peer}
+use Rattle.ssh_model.specs.declared.side.Side.{Side}
+use Rattle.ssh_model.specs.declared.side.Side.TheVariants.{Client, Server}
+use Rattle.ssh_model.specs.Protocol.Side.{done_by, part, peer}
 use Rattle.ssh_end.specs.Places.{StandsAfter}
 use Rattle.ssh_pair.specs.Items.{Notes}
 use Rattle.ssh_pair.specs.Playing.{Opens, Output, PairOpens, output_of}

@@ -2,12 +2,12 @@
 use Rattle.std.proofs.Common.{◌≡◌, ℕ, ◌+◌, ◌<◌, ◌≤◌, Bool, true, false, List, [], ◌∷◌, ◌++◌, append-nil, append_assoc, get_or, length, map, take, refl, ap, sym, ◌∙◌, subst, arith, Option, Some, None, option_map, Ok, Err}
 use Rattle.std.specs.Prelude.{Result, OnOk}
 use Rattle.std.proofs.lemmas.List.{length-append, length-map, take_all, take_more}
-use Rattle.ssh_types.specs.Refusals.{refusal_of}
-use Rattle.ssh_types.specs.declared.refusal.Refusal.{Refusal}
-use Rattle.ssh_model.specs.Protocol.Side.{Side, DoneBy.By, done_by}
+use Rattle.ssh_model.specs.declared.refusal.Refusal.{Refusal}
+use Rattle.ssh_model.specs.declared.side.Side.{Side}
+use Rattle.ssh_model.specs.Protocol.Side.{DoneBy.By, done_by}
 use Rattle.ssh_model.specs.State.Channels.Summary.{told}
 use Rattle.ssh_model.specs.Protocol.Wire.Message.{Msg, Msg.Disconnect}
-use Rattle.ssh_model.specs.Protocol.Sessions.Refusals.{Refusal.NumberSpent}
+use Rattle.ssh_model.specs.declared.refusal.Refusal.TheVariants.{NumberSpent}
 use Rattle.ssh_model.specs.Protocol.Sessions.Items.{Ask, Done, Fact, Fact.Disconnected, Fact.Ignored, Fact.Opening, Item, Item.Asked, Item.Died, Item.Refused, Item.Sent, Item.Told, Item.Took, Spelled, Spelled.SpelledBy, has_died, messages_sent}
 use Rattle.ssh_model.specs.State.TransportLayer.Summary.{items_sent}
 use Rattle.ssh_transport_machine.specs.Puts.{payloads_of}
@@ -20,15 +20,14 @@ use Rattle.ssh_end.specs.declared.step.Step.{Step}
 use Rattle.ssh_end.specs.declared.asking.outcome.AskStep.{AskStep}
 use Rattle.ssh_end.specs.declared.turn.Took.{Took as Shown}
 use Rattle.ssh_end.specs.declared.turn.Turn.{Turn}
-use Rattle.ssh_types.specs.Sides.{side_of}
 use Rattle.ssh_pair.specs.Items.{IsItem, Notes}
 use Rattle.ssh_pair.specs.Noting.{Adds, AddsDeath, AddsRefused, AddsSent, AddsStep, AddsTold, AddsTook, AddsTurn}
 use Rattle.ssh_pair.specs.declared.item.Done as declared
 
 -- ---- one after the other
 
-pub noted_one : (log new : List declared.Done) (done : declared.Done) → new ≡ log ++ done ∷ [] → (run : List Done) (what : Item) → IsItem done.item what → Notes log run → Notes new (By (side_of done.side) what ∷ run)
-noted_one log new done e run what is noted = subst (λ (l : List declared.Done). Notes l (By (side_of done.side) what ∷ run)) (sym e) (Notes.notes done what is noted)
+pub noted_one : (log new : List declared.Done) (done : declared.Done) → new ≡ log ++ done ∷ [] → (run : List Done) (what : Item) → IsItem done.item what → Notes log run → Notes new (By done.side what ∷ run)
+noted_one log new done e run what is noted = subst (λ (l : List declared.Done). Notes l (By done.side what ∷ run)) (sym e) (Notes.notes done what is noted)
 
 done_more : (side : Side) (late early : List Item) (run : List Done) → done_by side (late ++ early) ++ run ≡ done_by side late ++ (done_by side early ++ run)
 done_more side [] early run = refl
@@ -64,11 +63,11 @@ refusal_untaken side (Some (Shown.VersionLine text)) why opened one two x y = cc
 refusal_untaken side (Some (Shown.Skipped payload)) why opened one two x y = cc x
 refusal_untaken side (Some (Shown.Message channel message payload)) why opened one two x y = cc x
 
-none_refused : (side : Side) (refused : Option Refusal) (one two : List declared.Done) → option_map refusal_of refused ≡ None → AddsRefused side refused one two → two ≡ one
+none_refused : (side : Side) (refused : Option Refusal) (one two : List declared.Done) → refused ≡ None → AddsRefused side refused one two → two ≡ one
 none_refused side None one two e y = y
 none_refused side (Some why) one two e y = cc e
 
-some_refused : (side : Side) (refused : Option Refusal) (why : Refusal) (opened : Option (List ℕ)) (one two : List declared.Done) → option_map refusal_of refused ≡ Some (refusal_of why) → AddsRefused side refused one two → Adds side (Refused (refusal_of why) opened ∷ []) one two
+some_refused : (side : Side) (refused : Option Refusal) (why : Refusal) (opened : Option (List ℕ)) (one two : List declared.Done) → refused ≡ Some why → AddsRefused side refused one two → Adds side (Refused why opened ∷ []) one two
 some_refused side None why opened one two e y = cc e
 some_refused side (Some other) why opened one two e y = subst (λ r. Adds side (Refused r opened ∷ []) one two) (some_same e) (y opened)
   where
@@ -163,7 +162,7 @@ module _ (side : Side) (turn : Turn) (is_over : Bool) (one two three four five s
     (sent : AddsSent side (payloads_in turn.sent) (channels_in turn.sent) three four) (tells : AddsTold side (option_map told_of turn.told) four five)
     (dies : AddsDeath side is_over five six) where
   -- an item was taken, for which nothing was sent
-  alone : (item : Item) (fact : Option Fact) → (IsTaken None (Some item) → ⊥) → IsTaken turn.took (Some item) → option_map told_of turn.told ≡ fact → option_map refusal_of turn.refused ≡ None → payloads_in turn.sent ≡ [] → channels_in turn.sent ≡ [] → Adds side (told fact (item ∷ [])) one five
+  alone : (item : Item) (fact : Option Fact) → (IsTaken None (Some item) → ⊥) → IsTaken turn.took (Some item) → option_map told_of turn.told ≡ fact → turn.refused ≡ None → payloads_in turn.sent ≡ [] → channels_in turn.sent ≡ [] → Adds side (told fact (item ∷ [])) one five
   alone item fact other is tells_is unrefused unsent on_none =
       let a : Adds side (item ∷ []) one three = adds_same side (item ∷ []) one two three (took_noted side turn.took item one two other is took) (none_refused side turn.refused two three unrefused refused) in
       let b : Adds side (item ∷ []) one four = adds_more side (item ∷ []) [] one three four a (sent [] tt unsent on_none) in
@@ -178,7 +177,7 @@ module _ (side : Side) (turn : Turn) (is_over : Bool) (one two three four five s
       let quiet = are_quiet items (taken ∷ []) are in
       let is : IsTaken turn.took (Some taken) = subst (λ (i : Option Item). IsTaken turn.took i) (oldest_is (told fact items) taken) shows.took in
       let tells_is : option_map told_of turn.told ≡ fact = shows.told ∙ fact_over fact items (taken ∷ []) quiet.fact in
-      let unrefused : option_map refusal_of turn.refused ≡ None = shows.refused ∙ (refusal_over fact items (taken ∷ []) ∙ quiet.refusal) in
+      let unrefused : turn.refused ≡ None = shows.refused ∙ (refusal_over fact items (taken ∷ []) ∙ quiet.refusal) in
       let says : payloads_in turn.sent ≡ payloads_of (messages_sent items) = lists ∙ ap payloads_of (messages_over fact items (taken ∷ []) ∙ (quiet.messages ∙ no_more (messages_sent items))) in
       let says_on : channels_in turn.sent ≡ channels_sent items = on ∙ (channels_over fact items (taken ∷ []) ∙ quiet.channels) in
       let alive : is_over ≡ false = over ∙ (died_over fact items (taken ∷ []) ∙ quiet.alive) in
@@ -189,16 +188,16 @@ module _ (side : Side) (turn : Turn) (is_over : Bool) (one two three four five s
       (death_noted side is_over (told fact (items ++ taken ∷ [])) one five six alive c dies)
 
   -- the peer was refused
-  refusal_noted : (why : Refusal) (opened : Option (List ℕ)) (said : List Spelled) → TurnShows turn (Died ∷ (items_sent said ++ (Refused (refusal_of why) opened ∷ []))) →
-      payloads_in turn.sent ≡ payloads_of (messages_sent (Died ∷ (items_sent said ++ (Refused (refusal_of why) opened ∷ [])))) → channels_in turn.sent ≡ channels_sent (Died ∷ (items_sent said ++ (Refused (refusal_of why) opened ∷ []))) → is_over ≡ true →
-      Adds side (Died ∷ (items_sent said ++ (Refused (refusal_of why) opened ∷ []))) one six
+  refusal_noted : (why : Refusal) (opened : Option (List ℕ)) (said : List Spelled) → TurnShows turn (Died ∷ (items_sent said ++ (Refused why opened ∷ []))) →
+      payloads_in turn.sent ≡ payloads_of (messages_sent (Died ∷ (items_sent said ++ (Refused why opened ∷ [])))) → channels_in turn.sent ≡ channels_sent (Died ∷ (items_sent said ++ (Refused why opened ∷ []))) → is_over ≡ true →
+      Adds side (Died ∷ (items_sent said ++ (Refused why opened ∷ []))) one six
   refusal_noted why opened said shows lists on over =
-      let refusing : Item = Refused (refusal_of why) opened in
+      let refusing : Item = Refused why opened in
       let are = said_are_sent said in
       let quiet = are_quiet (items_sent said) (refusing ∷ []) are in
       let is : IsTaken turn.took (Some refusing) = subst (λ (i : Option Item). IsTaken turn.took i) (oldest_is (Died ∷ items_sent said) refusing) shows.took in
-      let untaken : two ≡ one = refusal_untaken side turn.took (refusal_of why) opened one two is took in
-      let refuses : option_map refusal_of turn.refused ≡ Some (refusal_of why) = shows.refused ∙ quiet.refusal in
+      let untaken : two ≡ one = refusal_untaken side turn.took why opened one two is took in
+      let refuses : turn.refused ≡ Some why = shows.refused ∙ quiet.refusal in
       let says : payloads_in turn.sent ≡ payloads_of (messages_sent (items_sent said)) = lists ∙ ap payloads_of (quiet.messages ∙ no_more (messages_sent (items_sent said))) in
       let says_on : channels_in turn.sent ≡ channels_sent (items_sent said) = on ∙ quiet.channels in
       let untold : option_map told_of turn.told ≡ None = shows.told ∙ quiet.fact in

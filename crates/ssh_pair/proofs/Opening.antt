@@ -3,7 +3,7 @@ use Rattle.std.proofs.Common.{◌≡◌, ℕ, true, Option, None, List, [], ◌�
 use Rattle.ssh_model.specs.Protocol.KeyExchange.Exchanges.{Material}
 use Rattle.ssh_model.specs.Protocol.Sessions.Items.{Item, Item.Fed, Item.Sent, Item.SentLine, messages_sent}
 use Rattle.ssh_model.specs.Protocol.Sessions.Parties.{Parties, Settings, offer, settings_of}
-use Rattle.ssh_model.specs.Protocol.Side.{Side}
+use Rattle.ssh_model.specs.declared.side.Side.{Side}
 use Rattle.ssh_model.specs.Protocol.Wire.Message.{Msg.KexInit}
 use Rattle.ssh_model.specs.Protocol.Wire.Sealing.{Crypto}
 use Rattle.ssh_transport_machine.specs.Opening.{IsOpened}

@@ -12,7 +12,10 @@ use Rattle.ssh_end.specs.Asking.{Fails, OnAnswered}
 use Rattle.ssh_end.specs.declared.asking.outcome.AskStep.{AskStep}
 use Rattle.ssh_end.specs.declared.asking.outcome.Fault.{Fault}
 use Rattle.ssh_end.specs.declared.asking.outcome.Fault.TheVariants as fault
+use Rattle.ssh_model.specs.declared.side.Side.{Side}
+use Rattle.ssh_pair.specs.Noted.{NotesAsked, noted_sent}
 use Rattle.ssh_pair.specs.Padding.{PadsOn}
+use Rattle.ssh_pair.specs.declared.item.Done.{Done}
 
 -- ---- payloads that were listed before
 
@@ -52,64 +55,76 @@ fallen_dead old new (fault.Ask why) x alive = absurd x
 
 -- ---- one end
 
-module _ {K R L F : Type 0} (c : Crypto K) (gives : F → List ℕ → F → Type 0) where
+module _ {K R L F : Type 0} (c : Crypto K) (gives : F → List ℕ → F → Type 0) (side : Side) where
   -- nothing was done
-  pub stays_padded : (end : EndValue K R L F) (out : List ℕ) → PadsOn c gives end out end out
-  stays_padded end out = record {
+  pub stays_padded : (end : EndValue K R L F) (log last : List Done) (out : List ℕ) → noted_sent side last ≡ noted_sent side log → PadsOn c gives side end log out end last out
+  stays_padded end log last out same = record {
     to = sending_from end out;
     padded = none;
     bytes = refl;
+    noted = same ∙ sym (append-nil (noted_sent side log));
     direction = λ alive. refl;
     filler = λ alive. refl;
     over = λ dead. dead;
     quiet = λ dead. refl;
+    still = λ dead. same;
   }
 
   -- an end that was not over put this out
-  pub puts_padded : (old : EndValue K R L F) (before : List ℕ) (new : EndValue K R L F) (after : List ℕ) → old.machine.kept.dead ≡ false → PadsTo c gives (sending_from old before) (sending_to new after) → PadsOn c gives old before new after
-  puts_padded old before new after alive x = record {
+  pub puts_padded : (old : EndValue K R L F) (log : List Done) (before : List ℕ) (new : EndValue K R L F) (last : List Done) (after : List ℕ) → old.machine.kept.dead ≡ false → PadsTo c gives (sending_from old before) (sending_to new after)
+      → noted_sent side last ≡ noted_sent side log ++ new.sent → PadsOn c gives side old log before new last after
+  puts_padded old log before new last after alive x noted = record {
     to = sending_to new after;
     padded = x;
     bytes = refl;
+    noted = noted;
     direction = λ alive. refl;
     filler = λ alive. refl;
     over = λ dead. absurd (false≢true (sym alive ∙ dead));
     quiet = λ dead. absurd (false≢true (sym alive ∙ dead));
+    still = λ dead. absurd (false≢true (sym alive ∙ dead));
   }
 
   -- an end that was not over is, and put out nothing
-  pub falls_padded : (old : EndValue K R L F) (before : List ℕ) (new : EndValue K R L F) (after : List ℕ) → old.machine.kept.dead ≡ false → new.machine.kept.dead ≡ true → after ≡ before → PadsOn c gives old before new after
-  falls_padded old before new after alive fell same = record {
+  pub falls_padded : (old : EndValue K R L F) (log : List Done) (before : List ℕ) (new : EndValue K R L F) (last : List Done) (after : List ℕ) → old.machine.kept.dead ≡ false → new.machine.kept.dead ≡ true → after ≡ before
+      → noted_sent side last ≡ noted_sent side log ++ [] → PadsOn c gives side old log before new last after
+  falls_padded old log before new last after alive fell same noted = record {
     to = sending_from old before;
     padded = none;
     bytes = sym same;
+    noted = noted;
     direction = λ alive. absurd (false≢true (sym alive ∙ fell));
     filler = λ alive. absurd (false≢true (sym alive ∙ fell));
     over = λ dead. fell;
     quiet = λ dead. same;
+    still = λ dead. absurd (false≢true (sym alive ∙ dead));
   }
 
   -- An end that was not over did this on an ask, or refused it.
-  pub asks_padded : (old : EndValue K R L F) (before : List ℕ) (new : EndValue K R L F) (after : List ℕ) (result : Result AskStep Fault) → old.machine.kept.dead ≡ false →
+  pub asks_padded : (old : EndValue K R L F) (log : List Done) (before : List ℕ) (new : EndValue K R L F) (last : List Done) (after : List ℕ) (result : Result AskStep Fault) → old.machine.kept.dead ≡ false →
       OnAnswered result (PadsTo c gives (sending_from old before) (sending_to new after)) → IfErr result (λ fault. Fails old.machine fault new.machine) →
-      OnErr result (after ≡ before) → PadsOn c gives old before new after
-  asks_padded old before new after (Ok step) alive padded fails same = puts_padded old before new after alive padded
-  asks_padded old before new after (Err (fault.Ask why)) alive padded fails same = puts_padded old before new after alive padded
-  asks_padded old before new after (Err fault.Memory) alive padded fails same = falls_padded old before new after alive fails same
-  asks_padded old before new after (Err fault.Dead) alive padded fails same = absurd (false≢true (sym alive ∙ fails.dead))
+      OnErr result (after ≡ before) → OnErr result (new.sent ≡ []) → NotesAsked side result new.sent log last → PadsOn c gives side old log before new last after
+  asks_padded old log before new last after (Ok step) alive padded fails same unsent notes = puts_padded old log before new last after alive padded notes.own
+  asks_padded old log before new last after (Err (fault.Ask why)) alive padded fails same unsent notes =
+      puts_padded old log before new last after alive padded (notes.own ∙ ap (λ (l : List (List ℕ)). noted_sent side log ++ l) (sym unsent))
+  asks_padded old log before new last after (Err fault.Memory) alive padded fails same unsent notes = falls_padded old log before new last after alive fails same notes.own
+  asks_padded old log before new last after (Err fault.Dead) alive padded fails same unsent notes = absurd (false≢true (sym alive ∙ fails.dead))
 
   -- ---- one call after another
 
-  module _ (old : EndValue K R L F) (before : List ℕ) (mid : EndValue K R L F) (between : List ℕ) (new : EndValue K R L F) (after : List ℕ) (x : PadsOn c gives old before mid between) (y : PadsOn c gives mid between new after) where
-    by_mid : (dead : Bool) → mid.machine.kept.dead ≡ dead → PadsOn c gives old before new after
+  module _ (old : EndValue K R L F) (log : List Done) (before : List ℕ) (mid : EndValue K R L F) (next : List Done) (between : List ℕ) (new : EndValue K R L F) (last : List Done) (after : List ℕ)
+      (x : PadsOn c gives side old log before mid next between) (y : PadsOn c gives side mid next between new last after) where
+    by_mid : (dead : Bool) → mid.machine.kept.dead ≡ dead → PadsOn c gives side old log before new last after
     by_mid true dead = record {
       to = x.to;
       padded = x.padded;
       bytes = x.bytes ∙ sym (y.quiet dead);
+      noted = y.still dead ∙ x.noted;
       direction = λ alive. absurd (false≢true (sym alive ∙ y.over dead));
       filler = λ alive. absurd (false≢true (sym alive ∙ y.over dead));
       over = λ was. y.over (x.over was);
       quiet = λ was. y.quiet dead ∙ x.quiet was;
+      still = λ was. y.still dead ∙ x.still was;
     }
     by_mid false alive =
         let l : List (List ℕ) = x.to.payloads in
@@ -118,11 +133,13 @@ module _ {K R L F : Type 0} (c : Crypto K) (gives : F → List ℕ → F → Typ
           to = listed_after l y.to;
           padded = pads_then (subst (λ at. PadsTo c gives (sending_from old before) at) here x.padded) (pads_after c gives l (sending_from mid between) y.to y.padded);
           bytes = y.bytes;
+          noted = y.noted ∙ (ap (λ (n : List (List ℕ)). n ++ y.to.payloads) x.noted ∙ append_assoc (noted_sent side log) l y.to.payloads);
           direction = y.direction;
           filler = y.filler;
           over = λ was. y.over (x.over was);
           quiet = λ was. y.quiet (x.over was) ∙ x.quiet was;
+          still = λ was. y.still (x.over was) ∙ x.still was;
         }
 
-    pub padded_then : PadsOn c gives old before new after
+    pub padded_then : PadsOn c gives side old log before new last after
     padded_then = by_mid mid.machine.kept.dead refl

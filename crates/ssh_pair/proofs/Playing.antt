@@ -9,7 +9,9 @@ use Rattle.ssh_model.specs.Protocol.Sessions.Honest.{IsHonest}
 use Rattle.ssh_model.specs.Protocol.Sessions.Items.{Ask, Done, Item, Item.Fed, has_died}
 use Rattle.ssh_model.specs.Protocol.Sessions.Parties.{AreLawful, BothOffer, Parties}
 use Rattle.ssh_model.specs.Protocol.Sessions.Turns.{AsksTurn, FeedsTurn, Run, can_feed}
-use Rattle.ssh_model.specs.Protocol.Side.{Side, Side.Client, Side.Server, done_by, part, peer}
+use Rattle.ssh_model.specs.declared.side.Side.{Side}
+use Rattle.ssh_model.specs.declared.side.Side.TheVariants.{Client, Server}
+use Rattle.ssh_model.specs.Protocol.Side.{done_by, part, peer}
 use Rattle.ssh_model.specs.State.TransportLayer.Kept.{after_fed}
 use Rattle.ssh_model.specs.Protocol.Wire.Delivery.{Delivered}
 use Rattle.ssh_transport_machine.specs.State.{State}

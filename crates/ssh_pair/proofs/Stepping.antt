@@ -1,6 +1,7 @@
 -- What an end did with the bytes of one line or one packet, in a run of two.
 use Rattle.std.proofs.Common.{◌≡◌, ℕ, List, [], ◌++◌, append-nil, append_assoc, ap, sym, ◌∙◌, subst}
-use Rattle.ssh_model.specs.Protocol.Side.{Side, done_by, part}
+use Rattle.ssh_model.specs.declared.side.Side.{Side}
+use Rattle.ssh_model.specs.Protocol.Side.{done_by, part}
 use Rattle.ssh_model.specs.Protocol.Wire.Delivery.{Delivered}
 use Rattle.ssh_model.specs.Protocol.Sessions.Events.{PutsOut, reading_of}
 use Rattle.ssh_model.specs.Protocol.Sessions.Items.{Done, Item}

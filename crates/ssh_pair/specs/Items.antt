@@ -1,8 +1,5 @@
 -- What a transcript shows of the items of a session.
 use Rattle.std.specs.Prelude.{◌≡◌, ℕ, Some, None, List, [], ◌∷◌, ◌++◌, length}
-use Rattle.ssh_types.specs.AskRefusals.{ask_refusal_of}
-use Rattle.ssh_types.specs.Refusals.{refusal_of}
-use Rattle.ssh_types.specs.Sides.{side_of}
 use Rattle.ssh_model.specs.Protocol.Side.{DoneBy.By}
 use Rattle.ssh_model.specs.Protocol.Sessions.Items as session
 use Rattle.ssh_model.specs.Protocol.Sessions.Items.{Item.Fed}
@@ -66,7 +63,7 @@ shown_fact (session.Fact.RequestDone channel answer) = fact.RequestDone channel 
 -- The item of a session is shown as this one.
 abbrev pub IsItem : Item → session.Item → Type 0
 IsItem (item.Asked asked) (session.Item.Asked ask) = asked ≡ kind_of ask
-IsItem (item.AskRefused why) (session.Item.AskRefused refusal) = ask_refusal_of why ≡ refusal
+IsItem (item.AskRefused why) (session.Item.AskRefused refusal) = why ≡ refusal
 IsItem (item.SentLine text) (session.Item.SentLine line) = text.items ≡ line
 IsItem (item.TookLine text) (session.Item.TookLine line) = text.items ≡ line
 IsItem (item.TookLine text) (session.Item.TookOtherLine line) = text.items ≡ line
@@ -76,7 +73,7 @@ IsItem (item.Took number text) (session.Item.Took channel message payload) =
     (number ≡ channel) × (text.items ≡ payload)
 IsItem (item.Skipped text) (session.Item.TookGuess payload) = text.items ≡ payload
 IsItem (item.Told shown) (session.Item.Told told) = shown ≡ shown_fact told
-IsItem (item.Refused why) (session.Item.Refused refusal opened) = refusal_of why ≡ refusal
+IsItem (item.Refused why) (session.Item.Refused refusal opened) = why ≡ refusal
 IsItem item.Died session.Item.Died = Unit {0}
 IsItem _ _ = ⊥
 
@@ -84,6 +81,6 @@ IsItem _ _ = ⊥
 pub data Notes : List Done → List session.Done → Type 0 where
   nothing : Notes [] []
   notes : {noted : List Done} {run : List session.Done} (done : Done) (what : session.Item) → IsItem done.item what →
-      Notes noted run → Notes (noted ++ done ∷ []) (By (side_of done.side) what ∷ run)
+      Notes noted run → Notes (noted ++ done ∷ []) (By done.side what ∷ run)
   fed : {noted : List Done} {run : List session.Done} (side : _) (cookie secret : List ℕ) → Notes noted run →
       Notes noted (By side (Fed cookie secret) ∷ run)

@@ -3,3 +3,4 @@ pub mod Noting
 pub mod Standing
 pub mod Playing
 pub mod Padding
+pub mod Noted

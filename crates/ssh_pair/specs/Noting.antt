@@ -1,9 +1,8 @@
 -- How what an end did is noted.
 use Rattle.std.specs.Prelude.{◌≡◌, ℕ, Bool, true, false, Option, Some, None, Result, Ok, Err, List, [], ◌∷◌, ◌++◌}
-use Rattle.ssh_types.specs.AskRefusals.{ask_refusal_of}
-use Rattle.ssh_types.specs.Refusals.{refusal_of}
-use Rattle.ssh_types.specs.declared.refusal.Refusal.{Refusal}
-use Rattle.ssh_model.specs.Protocol.Side.{Side, done_by}
+use Rattle.ssh_model.specs.declared.refusal.Refusal.{Refusal}
+use Rattle.ssh_model.specs.declared.side.Side.{Side}
+use Rattle.ssh_model.specs.Protocol.Side.{done_by}
 use Rattle.ssh_model.specs.Protocol.Sessions.Items as session
 use Rattle.ssh_model.specs.Protocol.Sessions.Items.{has_died, messages_sent}
 use Rattle.ssh_transport_machine.specs.Puts.{payloads_of}
@@ -34,7 +33,7 @@ AddsTook side (Some took) old new =
 abbrev pub AddsRefused : Side → Option Refusal → (old new : List Done) → Type 0
 AddsRefused side None old new = new ≡ old
 AddsRefused side (Some why) old new =
-    (opened : Option (List ℕ)) → Adds side (session.Item.Refused (refusal_of why) opened ∷ []) old new
+    (opened : Option (List ℕ)) → Adds side (session.Item.Refused why opened ∷ []) old new
 
 -- what was sent, with the channel of each payload
 abbrev pub AddsSent : Side → List (List ℕ) → (channels : List (Option ℕ)) → (old new : List Done) → Type 0
@@ -59,7 +58,7 @@ AddsAsk side asked (Ok step) payloads channels is_over old new =
     (items : List session.Item) → ShowsAsk asked step items → payloads ≡ payloads_of (messages_sent items) →
     channels ≡ channels_sent items → is_over ≡ has_died items → Adds side items old new
 AddsAsk side asked (Err (fault.Ask why)) payloads channels is_over old new =
-    Adds side (session.Item.AskRefused (ask_refusal_of why) ∷ session.Item.Asked asked ∷ []) old new
+    Adds side (session.Item.AskRefused why ∷ session.Item.Asked asked ∷ []) old new
 AddsAsk side asked (Err fault.Memory) payloads channels is_over old new = Adds side (session.Item.Died ∷ []) old new
 AddsAsk side asked (Err fault.Dead) payloads channels is_over old new = new ≡ old
 

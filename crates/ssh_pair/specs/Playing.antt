@@ -1,6 +1,8 @@
 -- What events make of a pair, as what they make of two ends of a session.
 use Rattle.std.specs.Prelude.{◌≡◌, ℕ, Bool, cond, List, [], ◌∷◌, ◌++◌}
-use Rattle.ssh_model.specs.Protocol.Side.{Side, Side.Client, Side.Server, done_by, part}
+use Rattle.ssh_model.specs.declared.side.Side.{Side}
+use Rattle.ssh_model.specs.declared.side.Side.TheVariants.{Client, Server}
+use Rattle.ssh_model.specs.Protocol.Side.{done_by, part}
 use Rattle.ssh_model.specs.Protocol.Wire.Delivery.{Delivered}
 use Rattle.ssh_model.specs.Protocol.KeyExchange.Exchanges.{Material, fed}
 use Rattle.ssh_model.specs.Protocol.Sessions.Claims.{IsSafe}
@@ -10,7 +12,6 @@ use Rattle.ssh_model.specs.Protocol.Sessions.Honest.{IsHonest}
 use Rattle.ssh_model.specs.Protocol.Sessions.Items.{Ask, Done, Item, Item.Fed, has_died}
 use Rattle.ssh_model.specs.Protocol.Sessions.Parties.{AreLawful, BothOffer, Parties, Settings, settings_of}
 use Rattle.ssh_model.specs.Protocol.Sessions.Turns.{AsksTurn, can_feed}
-use Rattle.ssh_types.specs.Sides.{side_of}
 use Rattle.ssh_end.specs.Asking.{ask_of}
 use Rattle.ssh_end.specs.Ends.{EndValue}
 use Rattle.ssh_end.specs.Stands.{MadeAt}
@@ -28,8 +29,8 @@ use Rattle.ssh_pair.specs.declared.item.Transcript.{Transcript}
 
 -- an event, in the words of a session
 abbrev pub event_of : Event → session.Event
-event_of (event.Ask side ask) = session.Event.Asks (side_of side) (ask_of ask)
-event_of (event.Deliver side bytes) = session.Event.Delivers (side_of side) bytes.now
+event_of (event.Ask side ask) = session.Event.Asks side (ask_of ask)
+event_of (event.Deliver side bytes) = session.Event.Delivers side bytes.now
 
 abbrev pub events_of : List Event → List session.Event
 events_of [] = []

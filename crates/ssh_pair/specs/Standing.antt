@@ -6,10 +6,12 @@ use Rattle.ssh_model.specs.Protocol.Sessions.Events.{World, rest_of}
 use Rattle.ssh_model.specs.Protocol.Sessions.Items.{Done}
 use Rattle.ssh_model.specs.Protocol.Sessions.Parties.{Parties}
 use Rattle.ssh_model.specs.Protocol.Sessions.Turns.{Run}
-use Rattle.ssh_model.specs.Protocol.Side.{Side, Side.Client, Side.Server, part}
+use Rattle.ssh_model.specs.declared.side.Side.{Side}
+use Rattle.ssh_model.specs.declared.side.Side.TheVariants.{Client, Server}
+use Rattle.ssh_model.specs.Protocol.Side.{part}
 use Rattle.ssh_transport_machine.specs.State.{State, begun_of}
-use Rattle.ssh_layers.specs.ClientLayers as client
-use Rattle.ssh_layers.specs.Layers as server
+use Rattle.ssh_end.specs.ClientLayers as client
+use Rattle.ssh_end.specs.Layers as server
 use Rattle.ssh_end.specs.Ends.{EndValue}
 use Rattle.ssh_end.specs.Places.{StandsAfter}
 use Rattle.ssh_end.specs.declared.client_role.ClientRole.{ClientRole}

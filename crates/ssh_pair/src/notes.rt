@@ -4,11 +4,11 @@ ghost use Rattle.std.specs.Prelude.{◌∷◌, ◌≡◌, IfOk, List, OnOk, [], 
 ghost use Rattle.ssh_model.specs.Protocol.Wire.Message.{Msg};
 ghost use Rattle.ssh_model.specs.Protocol.Side.{DoneBy.By};
 ghost use Rattle.ssh_model.specs.Protocol.Sessions.Items as session;
-ghost use Rattle.ssh_types.specs.Sides.{side_of};
 ghost use Rattle.ssh_end.specs.Asking.{ask_of};
 ghost use Rattle.ssh_end.specs.Told.{told_of};
 ghost use Rattle.ssh_end.specs.Turn.{channels_in, payloads_in};
 ghost use Rattle.ssh_pair.specs.Items.{IsItem, Notes};
+ghost use Rattle.ssh_pair.specs.Noted.{NotesAsked, NotesSent, payload_in};
 ghost use Rattle.ssh_pair.specs.Noting.{Adds, AddsAsk, AddsDeath, AddsRefused, AddsSent, AddsStep, AddsTold, AddsTook, AddsTurn};
 
 use crate::ask_kind::AskKind;
@@ -20,8 +20,9 @@ use std::alloc::{AllocError, Global};
 
 // Notes what an end did.
 pub(crate) fn note(log: &mut Vec<Done>, side: Side, item: Item) -> Result<(), AllocError>
-    ensures { OnOk result ((run : List session.Done) (what : session.Item) → IsItem item what → Notes log.old.items run →
-        Notes log.new.items (By (side_of side) what ∷ run)) }
+    ensures notes { OnOk result ((run : List session.Done) (what : session.Item) → IsItem item what → Notes log.old.items run →
+        Notes log.new.items (By side what ∷ run)) }
+    ensures sent { OnOk result (NotesSent side (payload_in item) log.old.items log.new.items) }
 {
     log.push(Done { side, item })?;
     Ok(())
@@ -35,7 +36,8 @@ pub(crate) fn note_turn(
     turn: &Turn<'_>,
     is_over: bool,
 ) -> Result<(), AllocError>
-    ensures { OnOk result (AddsTurn (side_of side) turn.now is_over log.old.items log.new.items) }
+    ensures notes { OnOk result (AddsTurn side turn.now is_over log.old.items log.new.items) }
+    ensures sent { OnOk result (NotesSent side (payloads_in turn.now.sent) log.old.items log.new.items) }
 {
     note_took(alloc, log, side, turn.took)?;
     note_refused(log, side, turn.refused)?;
@@ -45,13 +47,15 @@ pub(crate) fn note_turn(
 }
 
 // Notes what was taken.
+#[tactic(auto, using(crate::proofs::Noted::notes_none))]
 fn note_took(
     alloc: Global,
     log: &mut Vec<Done>,
     side: Side,
     took: Option<Took<'_>>,
 ) -> Result<(), AllocError>
-    ensures { OnOk result (AddsTook (side_of side) took.entry log.old.items log.new.items) }
+    ensures notes { OnOk result (AddsTook side took.entry log.old.items log.new.items) }
+    ensures sent { OnOk result (NotesSent side [] log.old.items log.new.items) }
 {
     match took {
         None => Ok(()),
@@ -73,8 +77,10 @@ fn note_took(
 }
 
 // Notes why the peer was refused.
+#[tactic(auto, using(crate::proofs::Noted::notes_none))]
 fn note_refused(log: &mut Vec<Done>, side: Side, refused: Option<Refusal>) -> Result<(), AllocError>
-    ensures { OnOk result (AddsRefused (side_of side) refused log.old.items log.new.items) }
+    ensures notes { OnOk result (AddsRefused side refused log.old.items log.new.items) }
+    ensures sent { OnOk result (NotesSent side [] log.old.items log.new.items) }
 {
     match refused {
         None => Ok(()),
@@ -90,7 +96,8 @@ pub(crate) fn noted<R: EndRole>(
     end: End<R>,
 ) -> Result<End<R>, AllocError>
     ensures same { IfOk result (λ given. given ≡ end) }
-    ensures notes { OnOk result (AddsSent (side_of side) end.sent end.channels log.old.items log.new.items) }
+    ensures notes { OnOk result (AddsSent side end.sent end.channels log.old.items log.new.items) }
+    ensures sent { OnOk result (NotesSent side end.sent log.old.items log.new.items) }
 {
     note_sent(alloc, log, side, &end.turn().sent)?;
     Ok(end)
@@ -103,7 +110,8 @@ fn note_sent(
     side: Side,
     sent: &SentPayloads<'_>,
 ) -> Result<(), AllocError>
-    ensures { OnOk result (AddsSent (side_of side) (payloads_in sent.now) (channels_in sent.now) log.old.items log.new.items) }
+    ensures notes { OnOk result (AddsSent side (payloads_in sent.now) (channels_in sent.now) log.old.items log.new.items) }
+    ensures sent { OnOk result (NotesSent side (payloads_in sent.now) log.old.items log.new.items) }
 {
     for (index, payload) in sent.payloads().iter().enumerate() {
         note_payload(alloc, log, side, sent.channel(index), payload.as_slice())?;
@@ -119,16 +127,19 @@ fn note_payload(
     channel: Option<u32>,
     payload: &[u8],
 ) -> Result<(), AllocError>
-    ensures { OnOk result ((message : Msg) → Adds (side_of side) (session.Item.Sent channel message payload.now ∷ []) log.old.items
+    ensures notes { OnOk result ((message : Msg) → Adds side (session.Item.Sent channel message payload.now ∷ []) log.old.items
         log.new.items) }
+    ensures sent { OnOk result (NotesSent side (payload.now ∷ []) log.old.items log.new.items) }
 {
     let payload = payload.to_vec(alloc)?;
     note(log, side, Item::Sent { channel, payload })
 }
 
 // Notes what the user is told.
+#[tactic(auto, using(crate::proofs::Noted::notes_none))]
 fn note_told(log: &mut Vec<Done>, side: Side, told: Option<Told<'_>>) -> Result<(), AllocError>
-    ensures { OnOk result (AddsTold (side_of side) (option_map told_of told.entry) log.old.items log.new.items) }
+    ensures notes { OnOk result (AddsTold side (option_map told_of told.entry) log.old.items log.new.items) }
+    ensures sent { OnOk result (NotesSent side [] log.old.items log.new.items) }
 {
     match told {
         None => Ok(()),
@@ -137,8 +148,10 @@ fn note_told(log: &mut Vec<Done>, side: Side, told: Option<Told<'_>>) -> Result<
 }
 
 // Notes that an end is over, where it is.
+#[tactic(auto, using(crate::proofs::Noted::notes_none))]
 pub(crate) fn note_death(log: &mut Vec<Done>, side: Side, is_over: bool) -> Result<(), AllocError>
-    ensures { OnOk result (AddsDeath (side_of side) is_over log.old.items log.new.items) }
+    ensures notes { OnOk result (AddsDeath side is_over log.old.items log.new.items) }
+    ensures sent { OnOk result (NotesSent side [] log.old.items log.new.items) }
 {
     if is_over {
         note(log, side, Item::Died)
@@ -157,8 +170,9 @@ pub(crate) fn note_ask(
     sent: &SentPayloads<'_>,
     is_over: bool,
 ) -> Result<(), AllocError>
-    ensures { OnOk result (AddsAsk (side_of side) (ask_of ask.now) done (payloads_in sent.now) (channels_in sent.now) is_over
+    ensures notes { OnOk result (AddsAsk side (ask_of ask.now) done (payloads_in sent.now) (channels_in sent.now) is_over
         log.old.items log.new.items) }
+    ensures sent { OnOk result (NotesAsked side done (payloads_in sent.now) log.old.items log.new.items) }
 {
     match done {
         Ok(step) => {
@@ -183,7 +197,8 @@ fn note_step(
     step: &AskStep,
     sent: &SentPayloads<'_>,
 ) -> Result<(), AllocError>
-    ensures { OnOk result (AddsStep (side_of side) step.now (payloads_in sent.now) (channels_in sent.now) log.old.items log.new.items) }
+    ensures notes { OnOk result (AddsStep side step.now (payloads_in sent.now) (channels_in sent.now) log.old.items log.new.items) }
+    ensures sent { OnOk result (NotesSent side (payloads_in sent.now) log.old.items log.new.items) }
 {
     note_refused(log, side, step.refused)?;
     note_sent(alloc, log, side, sent)?;
@@ -200,7 +215,8 @@ pub(crate) fn note_line(
     side: Side,
     line: &[u8],
 ) -> Result<(), AllocError>
-    ensures { OnOk result (Adds (side_of side) (session.Item.SentLine line.now ∷ []) log.old.items log.new.items) }
+    ensures notes { OnOk result (Adds side (session.Item.SentLine line.now ∷ []) log.old.items log.new.items) }
+    ensures sent { OnOk result (NotesSent side [] log.old.items log.new.items) }
 {
     let line = line.to_vec(alloc)?;
     note(log, side, Item::SentLine(line))

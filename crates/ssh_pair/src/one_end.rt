@@ -1,10 +1,12 @@
 //! What one end of a pair does, of either role.
 
 ghost use Rattle.std.specs.Prelude.{◌≡◌, ◌<◌, ◌≤◌, IfOk, OnOk, false, length, take};
-ghost use Rattle.ssh_model.specs.Protocol.Side.{Side.Server};
-ghost use Rattle.ssh_types.specs.Sides.{side_of};
+ghost use Rattle.ssh_model.specs.Protocol.Bounds.{numbers_of_epoch};
+ghost use Rattle.ssh_model.specs.declared.side.Side.TheVariants.{Server};
+ghost use Rattle.ssh_model.specs.Protocol.Side.{peer};
 ghost use Rattle.ssh_transport_machine.specs.Standing.{Stands};
 ghost use Rattle.ssh_end.specs.Asking.{ask_of};
+ghost use Rattle.ssh_pair.specs.Noted.{noted_sent};
 ghost use Rattle.ssh_pair.specs.Padding.{PadsOn};
 ghost use Rattle.ssh_pair.specs.Playing.{Advances, Answers};
 
@@ -16,6 +18,7 @@ use ssh_model::pair::{deliveries, parts};
 use ssh_packet::Sealing;
 use ssh_transport::Role;
 use ssh_types::Side;
+use ssh_types::bounds::NUMBERS_OF_EPOCH;
 use std::alloc::{AllocError, Global};
 
 // Asks an end for something. Where it is over it does nothing.
@@ -26,10 +29,12 @@ pub(crate) fn ask_end<R: EndRole>(
     log: &mut Vec<Done>,
     out: &mut Vec<u8>,
 ) -> Result<(), AllocError>
-    ensures answers { OnOk result (Answers R.EndRole (side_of R.Exchange.SIDE) end.old (ask_of ask.now) end.new log.old.items
+    ensures answers { OnOk result (Answers R.EndRole R.Exchange.SIDE end.old (ask_of ask.now) end.new log.old.items
         log.new.items out.old.items out.new.items) }
-    ensures padded { OnOk result (PadsOn R.Exchange.Sealing.crypto R.Exchange.Filler.gives end.old out.old.items end.new
-        out.new.items) }
+    ensures padded { OnOk result (PadsOn R.Exchange.Sealing.crypto R.Exchange.Filler.gives R.Exchange.SIDE end.old
+        log.old.items out.old.items end.new log.new.items out.new.items) }
+    ensures alone { OnOk result (noted_sent (peer R.Exchange.SIDE) log.new.items ≡ noted_sent (peer R.Exchange.SIDE)
+        log.old.items) }
     ensures role { end.new.role ≡ end.old.role }
 {
     parts();
@@ -58,12 +63,14 @@ pub(crate) fn deliver_to_end<R: EndRole>(
     log: &mut Vec<Done>,
     out: &mut Vec<u8>,
 ) -> Result<(), AllocError>
-    ensures advanced { OnOk result (Advances R.EndRole (side_of R.Exchange.SIDE) end.old piece.now end.new log.old.items log.new.items
+    ensures advanced { OnOk result (Advances R.EndRole R.Exchange.SIDE end.old piece.now end.new log.old.items log.new.items
         out.old.items out.new.items) }
-    ensures padded { OnOk result (PadsOn R.Exchange.Sealing.crypto R.Exchange.Filler.gives end.old out.old.items end.new
-        out.new.items) }
+    ensures padded { OnOk result (PadsOn R.Exchange.Sealing.crypto R.Exchange.Filler.gives R.Exchange.SIDE end.old
+        log.old.items out.old.items end.new log.new.items out.new.items) }
+    ensures alone { OnOk result (noted_sent (peer R.Exchange.SIDE) log.new.items ≡ noted_sent (peer R.Exchange.SIDE)
+        log.old.items) }
     ensures role { end.new.role ≡ end.old.role }
-    ensures live { OnOk result (Stands (side_of R.Exchange.SIDE) end.new.machine) }
+    ensures live { OnOk result (Stands R.Exchange.SIDE end.new.machine) }
 {
     parts();
     let mut at = 0;
@@ -89,10 +96,12 @@ fn advance_end<R: EndRole>(
     requires alive { end.old.machine.kept.dead ≡ false }
     ensures used { IfOk result (λ used. used ≤ length bytes.now) }
     ensures progress { IfOk result (λ used. 0 < length bytes.now → 0 < used) }
-    ensures advanced { IfOk result (λ used. Advances R.EndRole (side_of R.Exchange.SIDE) end.old (take used bytes.now) end.new
+    ensures advanced { IfOk result (λ used. Advances R.EndRole R.Exchange.SIDE end.old (take used bytes.now) end.new
         log.old.items log.new.items out.old.items out.new.items) }
-    ensures padded { OnOk result (PadsOn R.Exchange.Sealing.crypto R.Exchange.Filler.gives end.old out.old.items end.new
-        out.new.items) }
+    ensures padded { OnOk result (PadsOn R.Exchange.Sealing.crypto R.Exchange.Filler.gives R.Exchange.SIDE end.old
+        log.old.items out.old.items end.new log.new.items out.new.items) }
+    ensures alone { OnOk result (noted_sent (peer R.Exchange.SIDE) log.new.items ≡ noted_sent (peer R.Exchange.SIDE)
+        log.old.items) }
     ensures role { end.new.role ≡ end.old.role }
 {
     parts();
@@ -114,10 +123,10 @@ fn advance_end<R: EndRole>(
 
 // Tests whether an end is a server that has no number left: it is not known to die where memory is refused.
 fn is_spent_server(side: Side, next: u64) -> bool
-    ensures { result ≡ false → side_of side ≡ Server → next ≤ 4294967295 }
+    ensures { result ≡ false → side ≡ Server → next < numbers_of_epoch }
 {
     match side {
         Side::Client => false,
-        Side::Server => next > u64::from(u32::MAX),
+        Side::Server => next >= NUMBERS_OF_EPOCH,
     }
 }

@@ -2,11 +2,10 @@
 
 ghost use Rattle.std.specs.Prelude.{◌≡◌, IfOk, IsErr, OnErr, OnOk, [], false, true};
 ghost use Rattle.ssh_model.specs.Protocol.Sessions.Events as session;
-ghost use Rattle.ssh_types.specs.Sides.{side_of};
-ghost use Rattle.ssh_transport_base.specs.Meaning.{settings_of};
+ghost use Rattle.ssh_config.specs.Meaning.{settings_of};
 ghost use Rattle.ssh_end.specs.Asking.{ask_of};
 ghost use Rattle.ssh_end.specs.Ends.{sending_from_line};
-ghost use Rattle.ssh_pair.specs.Padding.{PairPads, PairPadsFirst, SameFillers};
+ghost use Rattle.ssh_pair.specs.Padding.{PairPads, PairPadsFirst, SameFillers, nothing_shown, shown_in};
 ghost use Rattle.ssh_pair.specs.Playing.{GoesOn, PairFeeds, PairMade, PairPlays, event_of, events_of, output_in};
 ghost use Rattle.ssh_pair.specs.Standing.{HasClientParts, HasServerParts, SameParts};
 
@@ -16,13 +15,13 @@ use crate::item::Transcript;
 use crate::one_end::{ask_end, deliver_to_end};
 use crate::server::{ServerValues, open_server};
 use ssh_auth::{UserJudge, UserSigner};
+use ssh_config::{ClientParts, ServerParts};
 use ssh_end::opening_laws::settings_fit;
 use ssh_end::{Ask, ClientEnd, ClientRole, EndRole, ServerEnd, ServerRole};
 use ssh_model::end::waiting;
 use ssh_model::pair::{deliveries, events, openings, parts, plays};
 use ssh_model::session::safety;
 use ssh_packet::Sealing;
-use ssh_transport_base::{ClientParts, ServerParts};
 use ssh_types::Side;
 use std::alloc::{AllocError, Global};
 use std::marker::Model;
@@ -51,8 +50,8 @@ impl<
     ghost use Rattle.ssh_end.specs.Ends.{EndValue};
     ghost use Rattle.ssh_end.specs.declared.client_role.ClientRole.{ClientRole};
     ghost use Rattle.ssh_end.specs.declared.server_role.ServerRole.{ServerRole};
-    ghost use Rattle.ssh_layers.specs.ClientLayers as of_client;
-    ghost use Rattle.ssh_layers.specs.Layers as of_server;
+    ghost use Rattle.ssh_end.specs.ClientLayers as of_client;
+    ghost use Rattle.ssh_end.specs.Layers as of_server;
     ghost use Rattle.ssh_pair.specs.Standing.{PairState};
 
     ghost Value = { PairState (EndValue S.Key (ClientRole C U S C.Filler C.Agreement C.HostTrust S.Key) of_client.Layers C.Filler)
@@ -101,7 +100,7 @@ impl<
             (record { cookie = server.cookie; secret = server.secret }) r.0 r.1) }
         ensures padded { IfOk result (λ r. PairPadsFirst S.crypto C.Filler.gives V.Filler.gives
             (sending_from_line (settings_of client.config) client.parts.filler [])
-            (sending_from_line (settings_of server.config) server.parts.filler []) r.0 (output_in r.1)) }
+            (sending_from_line (settings_of server.config) server.parts.filler []) r.0 (shown_in r.1)) }
         ensures fine { IfOk result (λ r. r.0.failed ≡ false) }
         ensures client_parts { IfOk result (λ r. HasClientParts client.parts.agreement client.parts.host_trust client.user r.0.client) }
         ensures server_parts { IfOk result (λ r. HasServerParts server.parts.agreement server.parts.host_signer server.user r.0.server) }
@@ -147,7 +146,7 @@ impl<
         ensures plays { IfOk result (λ t. PairPlays ⟦<ClientRole<C, U> as EndRole>⟧ ⟦<ServerRole<V, J> as EndRole>⟧ self.old
             (events_of events.now) self.new t) }
         ensures padded { IfOk result (λ t. PairPads S.crypto C.Filler.gives V.Filler.gives self.old self.new
-            (record { client = []; server = [] }) (output_in t)) }
+            nothing_shown (shown_in t)) }
     {
         plays::<S::Key>();
         safety::<S::Key>();
@@ -176,7 +175,7 @@ impl<
         ensures parts { SameParts self.old self.new }
         ensures fillers { SameFillers self.old self.new }
         ensures fed { self.old.failed ≡ false → PairFeeds ⟦<ClientRole<C, U> as EndRole>⟧ ⟦<ServerRole<V, J> as EndRole>⟧ self.old
-            (side_of side) (record { cookie = cookie; secret = secret }) result self.new }
+            side (record { cookie = cookie; secret = secret }) result self.new }
     {
         parts();
         events::<S::Key>();
@@ -196,8 +195,8 @@ impl<
         ensures parts { SameParts self.old self.new }
         ensures plays { OnOk result (GoesOn ⟦<ClientRole<C, U> as EndRole>⟧ ⟦<ServerRole<V, J> as EndRole>⟧ self.old
             (event_of event.entry) self.new transcript.old transcript.new) }
-        ensures padded { OnOk result (PairPads S.crypto C.Filler.gives V.Filler.gives self.old self.new (output_in transcript.old)
-            (output_in transcript.new)) }
+        ensures padded { OnOk result (PairPads S.crypto C.Filler.gives V.Filler.gives self.old self.new (shown_in transcript.old)
+            (shown_in transcript.new)) }
     {
         match event {
             Event::Ask(side, ask) => self.ask(side, &ask, transcript),
@@ -215,9 +214,9 @@ impl<
         ensures failed { self.new.failed ≡ self.old.failed }
         ensures parts { SameParts self.old self.new }
         ensures plays { OnOk result (GoesOn ⟦<ClientRole<C, U> as EndRole>⟧ ⟦<ServerRole<V, J> as EndRole>⟧ self.old
-            (session.Asks (side_of side) (ask_of ask.now)) self.new transcript.old transcript.new) }
-        ensures padded { OnOk result (PairPads S.crypto C.Filler.gives V.Filler.gives self.old self.new (output_in transcript.old)
-            (output_in transcript.new)) }
+            (session.Asks side (ask_of ask.now)) self.new transcript.old transcript.new) }
+        ensures padded { OnOk result (PairPads S.crypto C.Filler.gives V.Filler.gives self.old self.new (shown_in transcript.old)
+            (shown_in transcript.new)) }
     {
         parts();
         events::<S::Key>();
@@ -249,9 +248,9 @@ impl<
         ensures failed { self.new.failed ≡ self.old.failed }
         ensures parts { SameParts self.old self.new }
         ensures plays { OnOk result (GoesOn ⟦<ClientRole<C, U> as EndRole>⟧ ⟦<ServerRole<V, J> as EndRole>⟧ self.old
-            (session.Delivers (side_of side) bytes.now) self.new transcript.old transcript.new) }
-        ensures padded { OnOk result (PairPads S.crypto C.Filler.gives V.Filler.gives self.old self.new (output_in transcript.old)
-            (output_in transcript.new)) }
+            (session.Delivers side bytes.now) self.new transcript.old transcript.new) }
+        ensures padded { OnOk result (PairPads S.crypto C.Filler.gives V.Filler.gives self.old self.new (shown_in transcript.old)
+            (shown_in transcript.new)) }
     {
         parts();
         events::<S::Key>();

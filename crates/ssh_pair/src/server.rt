@@ -1,18 +1,19 @@
 //! How the server of a pair is made.
 
 ghost use Rattle.std.specs.Prelude.{◌≡◌, IfOk};
-ghost use Rattle.ssh_model.specs.Protocol.Side as model;
-ghost use Rattle.ssh_transport_base.specs.Meaning.{settings_of};
+ghost use Rattle.ssh_model.specs.declared.side.Side.TheVariants as sides;
+ghost use Rattle.ssh_config.specs.Meaning.{settings_of};
 ghost use Rattle.ssh_transport_machine.specs.Padding.{PadsTo};
 ghost use Rattle.ssh_end.specs.Ends.{sending_from_line, sending_to};
+ghost use Rattle.ssh_pair.specs.Noted.{NotesSent};
 ghost use Rattle.ssh_pair.specs.Playing.{OpensAs};
 ghost use Rattle.ssh_pair.specs.Standing.{HasServerParts};
 
 use crate::item::Done;
 use crate::notes::{note_line, noted};
 use ssh_auth::UserJudge;
+use ssh_config::{Config, ServerPartValues, ServerParts};
 use ssh_end::{EndRole, ServerEnd, ServerRole};
-use ssh_transport_base::{Config, ServerPartValues, ServerParts};
 use ssh_types::Side;
 use std::alloc::{AllocError, Global};
 
@@ -63,16 +64,18 @@ impl<P: ServerParts, U: UserJudge + Drop> ServerValues<P, U> {
 }
 
 // A server that put out its version line and its first KEXINIT.
+#[tactic(auto, using(crate::proofs::Noted::notes_after))]
 pub(crate) fn open_server<P: ServerParts, U: UserJudge + Drop>(
     alloc: Global,
     values: ServerValues<P, U>,
     log: &mut Vec<Done>,
     out: &mut Vec<u8>,
 ) -> Result<ServerEnd<P, U>, AllocError>
-    ensures opens { IfOk result (λ end. OpensAs ⟦<ServerRole<P, U> as EndRole>⟧ model.Server (settings_of values.config)
+    ensures opens { IfOk result (λ end. OpensAs ⟦<ServerRole<P, U> as EndRole>⟧ sides.Server (settings_of values.config)
         (record { cookie = values.cookie; secret = values.secret }) end log.old.items log.new.items out.old.items out.new.items) }
     ensures padded { IfOk result (λ end. PadsTo P.Sealing.crypto P.Filler.gives
         (sending_from_line (settings_of values.config) values.parts.filler out.old.items) (sending_to end out.new.items)) }
+    ensures sent { IfOk result (λ end. NotesSent sides.Server end.sent log.old.items log.new.items) }
     ensures parts { IfOk result (λ end. HasServerParts values.parts.agreement values.parts.host_signer values.user end) }
 {
     let (config, parts, user, cookie, secret) = values.into_parts();

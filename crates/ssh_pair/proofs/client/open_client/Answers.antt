@@ -1,7 +1,7 @@
 use Rattle.std.proofs.Common.{ap, sym, ◌∙◌, subst, [], ◌∷◌}
 use Rattle.ssh_model.specs.Protocol.Sessions.Items.{Item.SentLine}
-use Rattle.ssh_model.specs.Protocol.Side.{Side.Client}
-use Rattle.ssh_transport_base.specs.Meaning as config
+use Rattle.ssh_model.specs.declared.side.Side.TheVariants.{Client}
+use Rattle.ssh_config.specs.Meaning as config
 use Rattle.ssh_transport_machine.specs.Padding.{PadsTo}
 use Rattle.ssh_end.specs.Ends.{sending_from_line, sending_to}
 use Rattle.ssh_pair.specs.Noting.{Adds}
@@ -17,7 +17,7 @@ returns-clause-opens g c =
     (subst (λ e. OpensAs ends Client (config.settings_of c.into_parts-config.result.0) (record { cookie = c.into_parts-config.result.3; secret = c.into_parts-config.result.4 }) e c.args.log.now.items c.noted.new.log.items c.args.out.now.items c.new.new.out.items) (sym c.in_ok-end.ensures.same)
     (λ p lawful settings parts. opens p Client _ _ c.args.log.now.items c.note_line.new.log.items c.noted.new.log.items c.args.out.now.items c.new.new.out.items c.in_ok-begun.begun.sent _
     (c.in_ok-begun.ensures.placed p lawful settings parts)
-    (subst (λ l. Adds Client (SentLine l ∷ []) c.args.log.now.items c.note_line.new.log.items) (c.line.ensures.line ∙ sym (ap (λ s. s.line) settings)) c.in_ok-note_line.ensures)
+    (subst (λ l. Adds Client (SentLine l ∷ []) c.args.log.now.items c.note_line.new.log.items) (c.line.ensures.line ∙ sym (ap (λ s. s.line) settings)) c.in_ok-note_line.ensures.notes)
     c.in_ok-end.ensures.notes c.in_ok-begun.ensures.channels (begins_with_nothing _ _ _ _ _ c.in_ok-begun.begun.machine _ c.in_ok-begun.ensures.opened.opened)))
 
 pub returns-clause-padded : goal.returns-clause-padded

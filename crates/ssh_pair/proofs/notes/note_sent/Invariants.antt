@@ -1,7 +1,11 @@
-use Rattle.ssh_types.specs.Sides.{side_of}
+use Rattle.std.proofs.Common.{map, take}
 use Rattle.ssh_end.specs.Turn.{channels_in}
+use Rattle.ssh_pair.specs.Noted.{NotesSent}
 use Rattle.ssh_pair.proofs.Noting.{AddsFirst}
 use Rattle.ssh_pair.proofs.notes.note_sent.Given as goal
 
 abbrev pub invariant-loop-index : goal.invariant-loop-index
-invariant-loop-index l = AddsFirst (side_of l.side) (λ v. v.items) l.payload-items (channels_in l.sent) l.index l.fn.log.items l.log.items
+invariant-loop-index l = record {
+  adds : AddsFirst l.side (λ v. v.items) l.payload-items (channels_in l.sent) l.index l.fn.log.items l.log.items;
+  sent : NotesSent l.side (map (λ v. v.items) (take l.index l.payload-items)) l.fn.log.items l.log.items;
+}

@@ -1,12 +1,12 @@
-use Rattle.std.proofs.Common.{sym, subst}
-use Rattle.ssh_model.specs.Protocol.Side.{Side.Client, Side.Server}
+use Rattle.std.proofs.Common.{◌≡◌, sym, subst}
+use Rattle.ssh_model.specs.declared.side.Side.TheVariants.{Client, Server}
 use Rattle.ssh_model.specs.Protocol.Sessions.Events.{Event.Asks}
-use Rattle.ssh_types.specs.Sides.{side_of}
 use Rattle.ssh_end.specs.Asking.{ask_of}
-use Rattle.ssh_pair.specs.Padding.{PairPads}
+use Rattle.ssh_pair.specs.Padding.{PadsOn, PairPads, shown_in}
 use Rattle.ssh_pair.specs.Playing.{GoesOn, output_in}
 use Rattle.ssh_pair.specs.Standing.{both}
-use Rattle.ssh_pair.proofs.Noting.{on_ok}
+use Rattle.ssh_pair.proofs.Noting.{on_both, on_ok}
+use Rattle.ssh_pair.specs.Noted.{noted_sent}
 use Rattle.ssh_pair.proofs.Playing.{asked, pair_sums, states}
 use Rattle.ssh_pair.proofs.Padding.{stays_padded}
 use Rattle.ssh_end.specs.contracts.client_role.ClientRoleEndRole.TheImpl as client
@@ -19,8 +19,8 @@ returns-in-Client-clause-plays g c =
     let servers = server.ghosts g.row.V g.row.J g.row.S g.row.V-Filler g.row.V-Agreement g.row.V-HostSigner g.row.S-Key g.V.ServerParts g.V.ServerParts-dict g.S.Sealing g.S.Sealing-dict g.V.Filler.Filler g.V.Filler.Filler-dict g.V.Agreement.Agreement g.V.Agreement.Agreement-dict g.V.HostSigner.HostSigner g.V.HostSigner.HostSigner-dict g.J.UserJudge g.J.UserJudge-dict g.J.Destruct-dict g.V.Filler.Destruct-dict g.V.Agreement.Destruct-dict g.V.HostSigner.Destruct-dict g.S.Key.Destruct-dict in
     let pair = both clients servers (record { client = c.self.inside.client; server = c.self.inside.server; failed = c.self.inside.failed }) in
     on_ok c.ask_end.result (λ x.
-    subst (λ q. GoesOn clients servers q (Asks (side_of c.args.side) (ask_of c.args.ask.now)) (record { client = c.ask_end.new.end; server = c.self.inside.server; failed = c.self.inside.failed }) c.args.transcript.now (record { items = c.ask_end.new.log; client_bytes = c.ask_end.new.out; server_bytes = c.args.transcript.now.server_bytes })) c.self.view_is
-    (subst (λ z. GoesOn clients servers (record { client = c.self.inside.client; server = c.self.inside.server; failed = c.self.inside.failed }) (Asks (side_of z) (ask_of c.args.ask.now)) (record { client = c.ask_end.new.end; server = c.self.inside.server; failed = c.self.inside.failed }) c.args.transcript.now (record { items = c.ask_end.new.log; client_bytes = c.ask_end.new.out; server_bytes = c.args.transcript.now.server_bytes })) (sym c.in-Client.is)
+    subst (λ q. GoesOn clients servers q (Asks c.args.side (ask_of c.args.ask.now)) (record { client = c.ask_end.new.end; server = c.self.inside.server; failed = c.self.inside.failed }) c.args.transcript.now (record { items = c.ask_end.new.log; client_bytes = c.ask_end.new.out; server_bytes = c.args.transcript.now.server_bytes })) c.self.view_is
+    (subst (λ z. GoesOn clients servers (record { client = c.self.inside.client; server = c.self.inside.server; failed = c.self.inside.failed }) (Asks z (ask_of c.args.ask.now)) (record { client = c.ask_end.new.end; server = c.self.inside.server; failed = c.self.inside.failed }) c.args.transcript.now (record { items = c.ask_end.new.log; client_bytes = c.ask_end.new.out; server_bytes = c.args.transcript.now.server_bytes })) (sym c.in-Client.is)
     (λ p w s. asked p w pair s Client _ c.parts.ensures.there c.parts.ensures.here (ask_of c.args.ask.now) c.args.transcript.now.items.items c.ask_end.new.log.items (output_in c.args.transcript.now) c.ask_end.new.out.items
     (λ items more new turned. c.events.ensures.asks p w (states pair) (pair_sums p w pair s) Client (ask_of c.args.ask.now) items more new turned) (x p w.run (s.ends Client))))) c.ask_end.ensures.answers
 
@@ -30,19 +30,23 @@ returns-in-Server-clause-plays g c =
     let servers = server.ghosts g.row.V g.row.J g.row.S g.row.V-Filler g.row.V-Agreement g.row.V-HostSigner g.row.S-Key g.V.ServerParts g.V.ServerParts-dict g.S.Sealing g.S.Sealing-dict g.V.Filler.Filler g.V.Filler.Filler-dict g.V.Agreement.Agreement g.V.Agreement.Agreement-dict g.V.HostSigner.HostSigner g.V.HostSigner.HostSigner-dict g.J.UserJudge g.J.UserJudge-dict g.J.Destruct-dict g.V.Filler.Destruct-dict g.V.Agreement.Destruct-dict g.V.HostSigner.Destruct-dict g.S.Key.Destruct-dict in
     let pair = both clients servers (record { client = c.self.inside.client; server = c.self.inside.server; failed = c.self.inside.failed }) in
     on_ok c.ask_end-in-Server.result (λ x.
-    subst (λ q. GoesOn clients servers q (Asks (side_of c.args.side) (ask_of c.args.ask.now)) (record { client = c.self.inside.client; server = c.ask_end-in-Server.new.end; failed = c.self.inside.failed }) c.args.transcript.now (record { items = c.ask_end-in-Server.new.log; client_bytes = c.args.transcript.now.client_bytes; server_bytes = c.ask_end-in-Server.new.out })) c.self.view_is
-    (subst (λ z. GoesOn clients servers (record { client = c.self.inside.client; server = c.self.inside.server; failed = c.self.inside.failed }) (Asks (side_of z) (ask_of c.args.ask.now)) (record { client = c.self.inside.client; server = c.ask_end-in-Server.new.end; failed = c.self.inside.failed }) c.args.transcript.now (record { items = c.ask_end-in-Server.new.log; client_bytes = c.args.transcript.now.client_bytes; server_bytes = c.ask_end-in-Server.new.out })) (sym c.in-Server.is)
+    subst (λ q. GoesOn clients servers q (Asks c.args.side (ask_of c.args.ask.now)) (record { client = c.self.inside.client; server = c.ask_end-in-Server.new.end; failed = c.self.inside.failed }) c.args.transcript.now (record { items = c.ask_end-in-Server.new.log; client_bytes = c.args.transcript.now.client_bytes; server_bytes = c.ask_end-in-Server.new.out })) c.self.view_is
+    (subst (λ z. GoesOn clients servers (record { client = c.self.inside.client; server = c.self.inside.server; failed = c.self.inside.failed }) (Asks z (ask_of c.args.ask.now)) (record { client = c.self.inside.client; server = c.ask_end-in-Server.new.end; failed = c.self.inside.failed }) c.args.transcript.now (record { items = c.ask_end-in-Server.new.log; client_bytes = c.args.transcript.now.client_bytes; server_bytes = c.ask_end-in-Server.new.out })) (sym c.in-Server.is)
     (λ p w s. asked p w pair s Server _ c.parts.ensures.there c.parts.ensures.here (ask_of c.args.ask.now) c.args.transcript.now.items.items c.ask_end-in-Server.new.log.items (output_in c.args.transcript.now) c.ask_end-in-Server.new.out.items
     (λ items more new turned. c.events.ensures.asks p w (states pair) (pair_sums p w pair s) Server (ask_of c.args.ask.now) items more new turned) (x p w.run (s.ends Server))))) c.ask_end-in-Server.ensures.answers
 
 pub returns-in-Client-clause-padded : goal.returns-in-Client-clause-padded
 returns-in-Client-clause-padded g c =
     on_ok c.ask_end.result (λ x.
-    subst (λ q. PairPads g.S.Sealing.crypto g.C.Filler.Filler.gives g.V.Filler.Filler.gives q (record { client = c.ask_end.new.end; server = c.self.inside.server; failed = c.self.inside.failed }) (output_in c.args.transcript.now) (output_in (record { items = c.ask_end.new.log; client_bytes = c.ask_end.new.out; server_bytes = c.args.transcript.now.server_bytes }))) c.self.view_is
-    (record { client = x; server = stays_padded g.S.Sealing.crypto g.V.Filler.Filler.gives c.self.inside.server c.args.transcript.now.server_bytes.items })) c.ask_end.ensures.padded
+    subst (λ q. PairPads g.S.Sealing.crypto g.C.Filler.Filler.gives g.V.Filler.Filler.gives q (record { client = c.ask_end.new.end; server = c.self.inside.server; failed = c.self.inside.failed }) (shown_in c.args.transcript.now) (shown_in (record { items = c.ask_end.new.log; client_bytes = c.ask_end.new.out; server_bytes = c.args.transcript.now.server_bytes }))) c.self.view_is
+    (record { client = x.0; server = stays_padded g.S.Sealing.crypto g.V.Filler.Filler.gives Server c.self.inside.server c.args.transcript.now.items.items c.ask_end.new.log.items c.args.transcript.now.server_bytes.items x.1 }))
+    (on_both (PadsOn g.S.Sealing.crypto g.C.Filler.Filler.gives Client c.self.inside.client c.args.transcript.now.items.items c.args.transcript.now.client_bytes.items c.ask_end.new.end c.ask_end.new.log.items c.ask_end.new.out.items)
+    (noted_sent Server c.ask_end.new.log.items ≡ noted_sent Server c.args.transcript.now.items.items) c.ask_end.result c.ask_end.ensures.padded c.ask_end.ensures.alone)
 
 pub returns-in-Server-clause-padded : goal.returns-in-Server-clause-padded
 returns-in-Server-clause-padded g c =
     on_ok c.ask_end-in-Server.result (λ x.
-    subst (λ q. PairPads g.S.Sealing.crypto g.C.Filler.Filler.gives g.V.Filler.Filler.gives q (record { client = c.self.inside.client; server = c.ask_end-in-Server.new.end; failed = c.self.inside.failed }) (output_in c.args.transcript.now) (output_in (record { items = c.ask_end-in-Server.new.log; client_bytes = c.args.transcript.now.client_bytes; server_bytes = c.ask_end-in-Server.new.out }))) c.self.view_is
-    (record { client = stays_padded g.S.Sealing.crypto g.C.Filler.Filler.gives c.self.inside.client c.args.transcript.now.client_bytes.items; server = x })) c.ask_end-in-Server.ensures.padded
+    subst (λ q. PairPads g.S.Sealing.crypto g.C.Filler.Filler.gives g.V.Filler.Filler.gives q (record { client = c.self.inside.client; server = c.ask_end-in-Server.new.end; failed = c.self.inside.failed }) (shown_in c.args.transcript.now) (shown_in (record { items = c.ask_end-in-Server.new.log; client_bytes = c.args.transcript.now.client_bytes; server_bytes = c.ask_end-in-Server.new.out }))) c.self.view_is
+    (record { client = stays_padded g.S.Sealing.crypto g.C.Filler.Filler.gives Client c.self.inside.client c.args.transcript.now.items.items c.ask_end-in-Server.new.log.items c.args.transcript.now.client_bytes.items x.1; server = x.0 }))
+    (on_both (PadsOn g.S.Sealing.crypto g.V.Filler.Filler.gives Server c.self.inside.server c.args.transcript.now.items.items c.args.transcript.now.server_bytes.items c.ask_end-in-Server.new.end c.ask_end-in-Server.new.log.items c.ask_end-in-Server.new.out.items)
+    (noted_sent Client c.ask_end-in-Server.new.log.items ≡ noted_sent Client c.args.transcript.now.items.items) c.ask_end-in-Server.result c.ask_end-in-Server.ensures.padded c.ask_end-in-Server.ensures.alone)

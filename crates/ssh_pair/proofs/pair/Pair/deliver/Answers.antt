@@ -1,11 +1,12 @@
-use Rattle.std.proofs.Common.{refl, sym, subst}
-use Rattle.ssh_model.specs.Protocol.Side.{Side.Client, Side.Server, part}
+use Rattle.std.proofs.Common.{◌≡◌, refl, sym, subst}
+use Rattle.ssh_model.specs.declared.side.Side.TheVariants.{Client, Server}
+use Rattle.ssh_model.specs.Protocol.Side.{part}
 use Rattle.ssh_model.specs.Protocol.Sessions.Events.{Event.Delivers}
-use Rattle.ssh_types.specs.Sides.{side_of}
-use Rattle.ssh_pair.specs.Padding.{PairPads}
+use Rattle.ssh_pair.specs.Padding.{PadsOn, PairPads, shown_in}
 use Rattle.ssh_pair.specs.Playing.{GoesOn, output_in}
 use Rattle.ssh_pair.specs.Standing.{both}
 use Rattle.ssh_pair.proofs.Noting.{on_both, on_ok}
+use Rattle.ssh_pair.specs.Noted.{noted_sent}
 use Rattle.ssh_pair.proofs.Ending.{at_end}
 use Rattle.ssh_pair.proofs.Playing.{delivered, pair_sums, states}
 use Rattle.ssh_pair.proofs.Padding.{stays_padded}
@@ -19,8 +20,8 @@ returns-in-Client-clause-plays g c =
     let servers = server.ghosts g.row.V g.row.J g.row.S g.row.V-Filler g.row.V-Agreement g.row.V-HostSigner g.row.S-Key g.V.ServerParts g.V.ServerParts-dict g.S.Sealing g.S.Sealing-dict g.V.Filler.Filler g.V.Filler.Filler-dict g.V.Agreement.Agreement g.V.Agreement.Agreement-dict g.V.HostSigner.HostSigner g.V.HostSigner.HostSigner-dict g.J.UserJudge g.J.UserJudge-dict g.J.Destruct-dict g.V.Filler.Destruct-dict g.V.Agreement.Destruct-dict g.V.HostSigner.Destruct-dict g.S.Key.Destruct-dict in
     let pair = both clients servers (record { client = c.self.inside.client; server = c.self.inside.server; failed = c.self.inside.failed }) in
     on_ok c.deliver_to_end.result (λ x.
-    subst (λ q. GoesOn clients servers q (Delivers (side_of c.args.side) c.args.bytes.now) (record { client = c.deliver_to_end.new.end; server = c.self.inside.server; failed = c.self.inside.failed }) c.args.transcript.now (record { items = c.deliver_to_end.new.log; client_bytes = c.deliver_to_end.new.out; server_bytes = c.args.transcript.now.server_bytes })) c.self.view_is
-    (subst (λ z. GoesOn clients servers (record { client = c.self.inside.client; server = c.self.inside.server; failed = c.self.inside.failed }) (Delivers (side_of z) c.args.bytes.now) (record { client = c.deliver_to_end.new.end; server = c.self.inside.server; failed = c.self.inside.failed }) c.args.transcript.now (record { items = c.deliver_to_end.new.log; client_bytes = c.deliver_to_end.new.out; server_bytes = c.args.transcript.now.server_bytes })) (sym c.in-Client.is)
+    subst (λ q. GoesOn clients servers q (Delivers c.args.side c.args.bytes.now) (record { client = c.deliver_to_end.new.end; server = c.self.inside.server; failed = c.self.inside.failed }) c.args.transcript.now (record { items = c.deliver_to_end.new.log; client_bytes = c.deliver_to_end.new.out; server_bytes = c.args.transcript.now.server_bytes })) c.self.view_is
+    (subst (λ z. GoesOn clients servers (record { client = c.self.inside.client; server = c.self.inside.server; failed = c.self.inside.failed }) (Delivers z c.args.bytes.now) (record { client = c.deliver_to_end.new.end; server = c.self.inside.server; failed = c.self.inside.failed }) c.args.transcript.now (record { items = c.deliver_to_end.new.log; client_bytes = c.deliver_to_end.new.out; server_bytes = c.args.transcript.now.server_bytes })) (sym c.in-Client.is)
     (λ p w s. delivered p w pair s Client _ c.parts.ensures.there c.parts.ensures.here c.args.bytes.now c.args.transcript.now.items.items c.deliver_to_end.new.log.items (output_in c.args.transcript.now) c.deliver_to_end.new.out.items
     (λ items rest new d sums. c.events.ensures.delivered p w (states pair) (pair_sums p w pair s) Client c.args.bytes.now items rest new d sums)
     (λ run st. at_end p Client run _ c.deliver_to_end.new.end.machine refl st.sums st.lawful.sealing st.reading x.1
@@ -35,8 +36,8 @@ returns-in-Server-clause-plays g c =
     let servers = server.ghosts g.row.V g.row.J g.row.S g.row.V-Filler g.row.V-Agreement g.row.V-HostSigner g.row.S-Key g.V.ServerParts g.V.ServerParts-dict g.S.Sealing g.S.Sealing-dict g.V.Filler.Filler g.V.Filler.Filler-dict g.V.Agreement.Agreement g.V.Agreement.Agreement-dict g.V.HostSigner.HostSigner g.V.HostSigner.HostSigner-dict g.J.UserJudge g.J.UserJudge-dict g.J.Destruct-dict g.V.Filler.Destruct-dict g.V.Agreement.Destruct-dict g.V.HostSigner.Destruct-dict g.S.Key.Destruct-dict in
     let pair = both clients servers (record { client = c.self.inside.client; server = c.self.inside.server; failed = c.self.inside.failed }) in
     on_ok c.deliver_to_end-in-Server.result (λ x.
-    subst (λ q. GoesOn clients servers q (Delivers (side_of c.args.side) c.args.bytes.now) (record { client = c.self.inside.client; server = c.deliver_to_end-in-Server.new.end; failed = c.self.inside.failed }) c.args.transcript.now (record { items = c.deliver_to_end-in-Server.new.log; client_bytes = c.args.transcript.now.client_bytes; server_bytes = c.deliver_to_end-in-Server.new.out })) c.self.view_is
-    (subst (λ z. GoesOn clients servers (record { client = c.self.inside.client; server = c.self.inside.server; failed = c.self.inside.failed }) (Delivers (side_of z) c.args.bytes.now) (record { client = c.self.inside.client; server = c.deliver_to_end-in-Server.new.end; failed = c.self.inside.failed }) c.args.transcript.now (record { items = c.deliver_to_end-in-Server.new.log; client_bytes = c.args.transcript.now.client_bytes; server_bytes = c.deliver_to_end-in-Server.new.out })) (sym c.in-Server.is)
+    subst (λ q. GoesOn clients servers q (Delivers c.args.side c.args.bytes.now) (record { client = c.self.inside.client; server = c.deliver_to_end-in-Server.new.end; failed = c.self.inside.failed }) c.args.transcript.now (record { items = c.deliver_to_end-in-Server.new.log; client_bytes = c.args.transcript.now.client_bytes; server_bytes = c.deliver_to_end-in-Server.new.out })) c.self.view_is
+    (subst (λ z. GoesOn clients servers (record { client = c.self.inside.client; server = c.self.inside.server; failed = c.self.inside.failed }) (Delivers z c.args.bytes.now) (record { client = c.self.inside.client; server = c.deliver_to_end-in-Server.new.end; failed = c.self.inside.failed }) c.args.transcript.now (record { items = c.deliver_to_end-in-Server.new.log; client_bytes = c.args.transcript.now.client_bytes; server_bytes = c.deliver_to_end-in-Server.new.out })) (sym c.in-Server.is)
     (λ p w s. delivered p w pair s Server _ c.parts.ensures.there c.parts.ensures.here c.args.bytes.now c.args.transcript.now.items.items c.deliver_to_end-in-Server.new.log.items (output_in c.args.transcript.now) c.deliver_to_end-in-Server.new.out.items
     (λ items rest new d sums. c.events.ensures.delivered p w (states pair) (pair_sums p w pair s) Server c.args.bytes.now items rest new d sums)
     (λ run st. at_end p Server run _ c.deliver_to_end-in-Server.new.end.machine refl st.sums st.lawful.sealing st.reading x.1
@@ -48,11 +49,15 @@ returns-in-Server-clause-plays g c =
 pub returns-in-Client-clause-padded : goal.returns-in-Client-clause-padded
 returns-in-Client-clause-padded g c =
     on_ok c.deliver_to_end.result (λ x.
-    subst (λ q. PairPads g.S.Sealing.crypto g.C.Filler.Filler.gives g.V.Filler.Filler.gives q (record { client = c.deliver_to_end.new.end; server = c.self.inside.server; failed = c.self.inside.failed }) (output_in c.args.transcript.now) (output_in (record { items = c.deliver_to_end.new.log; client_bytes = c.deliver_to_end.new.out; server_bytes = c.args.transcript.now.server_bytes }))) c.self.view_is
-    (record { client = x; server = stays_padded g.S.Sealing.crypto g.V.Filler.Filler.gives c.self.inside.server c.args.transcript.now.server_bytes.items })) c.deliver_to_end.ensures.padded
+    subst (λ q. PairPads g.S.Sealing.crypto g.C.Filler.Filler.gives g.V.Filler.Filler.gives q (record { client = c.deliver_to_end.new.end; server = c.self.inside.server; failed = c.self.inside.failed }) (shown_in c.args.transcript.now) (shown_in (record { items = c.deliver_to_end.new.log; client_bytes = c.deliver_to_end.new.out; server_bytes = c.args.transcript.now.server_bytes }))) c.self.view_is
+    (record { client = x.0; server = stays_padded g.S.Sealing.crypto g.V.Filler.Filler.gives Server c.self.inside.server c.args.transcript.now.items.items c.deliver_to_end.new.log.items c.args.transcript.now.server_bytes.items x.1 }))
+    (on_both (PadsOn g.S.Sealing.crypto g.C.Filler.Filler.gives Client c.self.inside.client c.args.transcript.now.items.items c.args.transcript.now.client_bytes.items c.deliver_to_end.new.end c.deliver_to_end.new.log.items c.deliver_to_end.new.out.items)
+    (noted_sent Server c.deliver_to_end.new.log.items ≡ noted_sent Server c.args.transcript.now.items.items) c.deliver_to_end.result c.deliver_to_end.ensures.padded c.deliver_to_end.ensures.alone)
 
 pub returns-in-Server-clause-padded : goal.returns-in-Server-clause-padded
 returns-in-Server-clause-padded g c =
     on_ok c.deliver_to_end-in-Server.result (λ x.
-    subst (λ q. PairPads g.S.Sealing.crypto g.C.Filler.Filler.gives g.V.Filler.Filler.gives q (record { client = c.self.inside.client; server = c.deliver_to_end-in-Server.new.end; failed = c.self.inside.failed }) (output_in c.args.transcript.now) (output_in (record { items = c.deliver_to_end-in-Server.new.log; client_bytes = c.args.transcript.now.client_bytes; server_bytes = c.deliver_to_end-in-Server.new.out }))) c.self.view_is
-    (record { client = stays_padded g.S.Sealing.crypto g.C.Filler.Filler.gives c.self.inside.client c.args.transcript.now.client_bytes.items; server = x })) c.deliver_to_end-in-Server.ensures.padded
+    subst (λ q. PairPads g.S.Sealing.crypto g.C.Filler.Filler.gives g.V.Filler.Filler.gives q (record { client = c.self.inside.client; server = c.deliver_to_end-in-Server.new.end; failed = c.self.inside.failed }) (shown_in c.args.transcript.now) (shown_in (record { items = c.deliver_to_end-in-Server.new.log; client_bytes = c.args.transcript.now.client_bytes; server_bytes = c.deliver_to_end-in-Server.new.out }))) c.self.view_is
+    (record { client = stays_padded g.S.Sealing.crypto g.C.Filler.Filler.gives Client c.self.inside.client c.args.transcript.now.items.items c.deliver_to_end-in-Server.new.log.items c.args.transcript.now.client_bytes.items x.1; server = x.0 }))
+    (on_both (PadsOn g.S.Sealing.crypto g.V.Filler.Filler.gives Server c.self.inside.server c.args.transcript.now.items.items c.args.transcript.now.server_bytes.items c.deliver_to_end-in-Server.new.end c.deliver_to_end-in-Server.new.log.items c.deliver_to_end-in-Server.new.out.items)
+    (noted_sent Client c.deliver_to_end-in-Server.new.log.items ≡ noted_sent Client c.args.transcript.now.items.items) c.deliver_to_end-in-Server.result c.deliver_to_end-in-Server.ensures.padded c.deliver_to_end-in-Server.ensures.alone)

@@ -1,6 +1,6 @@
 use Rattle.std.proofs.Common.{sym, subst}
-use Rattle.ssh_model.specs.Protocol.Side.{Side.Client, Side.Server, part}
-use Rattle.ssh_types.specs.Sides.{side_of}
+use Rattle.ssh_model.specs.declared.side.Side.TheVariants.{Client, Server}
+use Rattle.ssh_model.specs.Protocol.Side.{part}
 use Rattle.ssh_pair.specs.Playing.{PairFeeds}
 use Rattle.ssh_pair.specs.Standing.{both}
 use Rattle.ssh_pair.proofs.Playing.{fed_same, feeds, pair_sums, states}
@@ -14,8 +14,8 @@ returns-in-Client-clause-fed g c =
     let servers = server.ghosts g.row.V g.row.J g.row.S g.row.V-Filler g.row.V-Agreement g.row.V-HostSigner g.row.S-Key g.V.ServerParts g.V.ServerParts-dict g.S.Sealing g.S.Sealing-dict g.V.Filler.Filler g.V.Filler.Filler-dict g.V.Agreement.Agreement g.V.Agreement.Agreement-dict g.V.HostSigner.HostSigner g.V.HostSigner.HostSigner-dict g.J.UserJudge g.J.UserJudge-dict g.J.Destruct-dict g.V.Filler.Destruct-dict g.V.Agreement.Destruct-dict g.V.HostSigner.Destruct-dict g.S.Key.Destruct-dict in
     let pair = both clients servers (record { client = c.self.inside.client; server = c.self.inside.server; failed = c.self.inside.failed }) in
     λ fine.
-    subst (λ q. PairFeeds clients servers q (side_of c.args.side) (record { cookie = c.args.cookie; secret = c.args.secret }) c.feed_material.result (record { client = c.feed_material.new.self; server = c.self.inside.server; failed = c.self.inside.failed })) c.self.view_is
-    (subst (λ z. PairFeeds clients servers (record { client = c.self.inside.client; server = c.self.inside.server; failed = c.self.inside.failed }) (side_of z) (record { cookie = c.args.cookie; secret = c.args.secret }) c.feed_material.result (record { client = c.feed_material.new.self; server = c.self.inside.server; failed = c.self.inside.failed })) (sym c.in-Client.is)
+    subst (λ q. PairFeeds clients servers q c.args.side (record { cookie = c.args.cookie; secret = c.args.secret }) c.feed_material.result (record { client = c.feed_material.new.self; server = c.self.inside.server; failed = c.self.inside.failed })) c.self.view_is
+    (subst (λ z. PairFeeds clients servers (record { client = c.self.inside.client; server = c.self.inside.server; failed = c.self.inside.failed }) z (record { cookie = c.args.cookie; secret = c.args.secret }) c.feed_material.result (record { client = c.feed_material.new.self; server = c.self.inside.server; failed = c.self.inside.failed })) (sym c.in-Client.is)
     (λ p w s. feeds p w pair s Client _ c.parts.ensures.there c.parts.ensures.here c.args.cookie c.args.secret c.feed_material.result (c.feed_material.ensures.placed p (part Client w.run) (s.ends Client))
     (fed_same c.args.cookie c.args.secret c.feed_material.result c.self.inside.client.machine c.feed_material.new.self.machine c.feed_material.ensures.kept c.feed_material.ensures.same)
     (λ items more new turned. c.events.ensures.feeds p w (states pair) (pair_sums p w pair s) Client c.args.cookie c.args.secret items more new turned)
@@ -27,8 +27,8 @@ returns-in-Server-clause-fed g c =
     let servers = server.ghosts g.row.V g.row.J g.row.S g.row.V-Filler g.row.V-Agreement g.row.V-HostSigner g.row.S-Key g.V.ServerParts g.V.ServerParts-dict g.S.Sealing g.S.Sealing-dict g.V.Filler.Filler g.V.Filler.Filler-dict g.V.Agreement.Agreement g.V.Agreement.Agreement-dict g.V.HostSigner.HostSigner g.V.HostSigner.HostSigner-dict g.J.UserJudge g.J.UserJudge-dict g.J.Destruct-dict g.V.Filler.Destruct-dict g.V.Agreement.Destruct-dict g.V.HostSigner.Destruct-dict g.S.Key.Destruct-dict in
     let pair = both clients servers (record { client = c.self.inside.client; server = c.self.inside.server; failed = c.self.inside.failed }) in
     λ fine.
-    subst (λ q. PairFeeds clients servers q (side_of c.args.side) (record { cookie = c.args.cookie; secret = c.args.secret }) c.feed_material-in-Server.result (record { client = c.self.inside.client; server = c.feed_material-in-Server.new.self; failed = c.self.inside.failed })) c.self.view_is
-    (subst (λ z. PairFeeds clients servers (record { client = c.self.inside.client; server = c.self.inside.server; failed = c.self.inside.failed }) (side_of z) (record { cookie = c.args.cookie; secret = c.args.secret }) c.feed_material-in-Server.result (record { client = c.self.inside.client; server = c.feed_material-in-Server.new.self; failed = c.self.inside.failed })) (sym c.in-Server.is)
+    subst (λ q. PairFeeds clients servers q c.args.side (record { cookie = c.args.cookie; secret = c.args.secret }) c.feed_material-in-Server.result (record { client = c.self.inside.client; server = c.feed_material-in-Server.new.self; failed = c.self.inside.failed })) c.self.view_is
+    (subst (λ z. PairFeeds clients servers (record { client = c.self.inside.client; server = c.self.inside.server; failed = c.self.inside.failed }) z (record { cookie = c.args.cookie; secret = c.args.secret }) c.feed_material-in-Server.result (record { client = c.self.inside.client; server = c.feed_material-in-Server.new.self; failed = c.self.inside.failed })) (sym c.in-Server.is)
     (λ p w s. feeds p w pair s Server _ c.parts.ensures.there c.parts.ensures.here c.args.cookie c.args.secret c.feed_material-in-Server.result (c.feed_material-in-Server.ensures.placed p (part Server w.run) (s.ends Server))
     (fed_same c.args.cookie c.args.secret c.feed_material-in-Server.result c.self.inside.server.machine c.feed_material-in-Server.new.self.machine c.feed_material-in-Server.ensures.kept c.feed_material-in-Server.ensures.same)
     (λ items more new turned. c.events.ensures.feeds p w (states pair) (pair_sums p w pair s) Server c.args.cookie c.args.secret items more new turned)

@@ -1,5 +1,7 @@
 use Rattle.std.proofs.Common.{List, [], take, take_all, refl, sym, ap, ◌∙◌, subst}
 use Rattle.std.proofs.lemmas.List.{take_more}
+use Rattle.ssh_model.specs.declared.side.Side.TheVariants.{Client, Server}
+use Rattle.ssh_pair.specs.Noted.{noted_sent}
 use Rattle.ssh_pair.specs.Padding.{PadsOn}
 use Rattle.ssh_pair.specs.Playing.{PlaysTo, events_of, output_in}
 use Rattle.ssh_pair.specs.Standing.{both}
@@ -24,8 +26,10 @@ loop-event-init g c =
           (subst (λ o. PlaysTo p w [] pair [] (record { client = o; server = c.new-transcript.result.server_bytes.items })) (sym c.new-transcript.ensures.client)
           (subst (λ o. PlaysTo p w [] pair [] (record { client = []; server = o })) (sym c.new-transcript.ensures.server) (plays_none p w pair s)));
       padded = record {
-        client = subst (λ o. PadsOn g.S.Sealing.crypto g.C.Filler.Filler.gives c.args.self.now.client [] c.args.self.now.client o) (sym c.new-transcript.ensures.client) (stays_padded g.S.Sealing.crypto g.C.Filler.Filler.gives c.args.self.now.client []);
-        server = subst (λ o. PadsOn g.S.Sealing.crypto g.V.Filler.Filler.gives c.args.self.now.server [] c.args.self.now.server o) (sym c.new-transcript.ensures.server) (stays_padded g.S.Sealing.crypto g.V.Filler.Filler.gives c.args.self.now.server []);
+        client = subst (λ o. PadsOn g.S.Sealing.crypto g.C.Filler.Filler.gives Client c.args.self.now.client [] [] c.args.self.now.client c.new-transcript.result.items.items o) (sym c.new-transcript.ensures.client)
+            (stays_padded g.S.Sealing.crypto g.C.Filler.Filler.gives Client c.args.self.now.client [] c.new-transcript.result.items.items [] (ap (noted_sent Client) c.new-transcript.ensures.items));
+        server = subst (λ o. PadsOn g.S.Sealing.crypto g.V.Filler.Filler.gives Server c.args.self.now.server [] [] c.args.self.now.server c.new-transcript.result.items.items o) (sym c.new-transcript.ensures.server)
+            (stays_padded g.S.Sealing.crypto g.V.Filler.Filler.gives Server c.args.self.now.server [] c.new-transcript.result.items.items [] (ap (noted_sent Server) c.new-transcript.ensures.items));
       };
     }
 
@@ -44,8 +48,8 @@ loop-event-preserved g c =
           subst (λ (es : List Event). PlaysTo p w (events_of es) pair c.play_one.new.transcript.items.items (output_in c.play_one.new.transcript)) (sym (take_more c.args.events.now c.loop-event.event-index _ c.loop-event-test.true))
           (plays_more p w (take c.loop-event.event-index c.args.events.now) _ _ _ _ _ _ _ (λ w between next events event plays on. c.plays.ensures p w between next events event plays on) x (c.in-Ok.ensures.plays p x.next x.stands));
       padded = record {
-        client = padded_then g.S.Sealing.crypto g.C.Filler.Filler.gives c.args.self.now.client [] c.loop-event.self.client c.loop-event.transcript.client_bytes.items c.play_one.new.self.client c.play_one.new.transcript.client_bytes.items c.loop-event.invariant.padded.client c.in-Ok.ensures.padded.client;
-        server = padded_then g.S.Sealing.crypto g.V.Filler.Filler.gives c.args.self.now.server [] c.loop-event.self.server c.loop-event.transcript.server_bytes.items c.play_one.new.self.server c.play_one.new.transcript.server_bytes.items c.loop-event.invariant.padded.server c.in-Ok.ensures.padded.server;
+        client = padded_then g.S.Sealing.crypto g.C.Filler.Filler.gives Client c.args.self.now.client [] [] c.loop-event.self.client c.loop-event.transcript.items.items c.loop-event.transcript.client_bytes.items c.play_one.new.self.client c.play_one.new.transcript.items.items c.play_one.new.transcript.client_bytes.items c.loop-event.invariant.padded.client c.in-Ok.ensures.padded.client;
+        server = padded_then g.S.Sealing.crypto g.V.Filler.Filler.gives Server c.args.self.now.server [] [] c.loop-event.self.server c.loop-event.transcript.items.items c.loop-event.transcript.server_bytes.items c.play_one.new.self.server c.play_one.new.transcript.items.items c.play_one.new.transcript.server_bytes.items c.loop-event.invariant.padded.server c.in-Ok.ensures.padded.server;
       };
     }
 

@@ -1,6 +1,6 @@
-use Rattle.std.proofs.Common.{◌≡◌, false, [], take}
-use Rattle.ssh_pair.specs.Padding.{PairPads}
-use Rattle.ssh_pair.specs.Playing.{HasPlayed, events_of, output_in}
+use Rattle.std.proofs.Common.{◌≡◌, false, take}
+use Rattle.ssh_pair.specs.Padding.{PairPads, nothing_shown, shown_in}
+use Rattle.ssh_pair.specs.Playing.{HasPlayed, events_of}
 use Rattle.ssh_pair.specs.Standing.{SameParts}
 use Rattle.ssh_end.specs.contracts.client_role.ClientRoleEndRole.TheImpl as client
 use Rattle.ssh_end.specs.contracts.server_role.ServerRoleEndRole.TheImpl as server
@@ -14,5 +14,5 @@ invariant-loop-event g l =
       fine : l.self.failed ≡ false;
       parts : SameParts l.fn.self l.self;
       plays : HasPlayed clients servers l.fn.self (events_of (take l.event-index l.events)) l.self l.transcript;
-      padded : PairPads g.S.Sealing.crypto g.C.Filler.Filler.gives g.V.Filler.Filler.gives l.fn.self l.self (record { client = []; server = [] }) (output_in l.transcript);
+      padded : PairPads g.S.Sealing.crypto g.C.Filler.Filler.gives g.V.Filler.Filler.gives l.fn.self l.self nothing_shown (shown_in l.transcript);
     }
