@@ -1,7 +1,8 @@
 """Writes docs/BELIEVED.md, the files of definitions that who judges the theorems has to read and believe, with their lines; `believed.py check` compares it.
 
-Each theorem has roots, the files in which its claims stand. With them count all files that they use, in crates/*/specs. What a file uses for the place of a
-run at which a pair stands is left out: the contracts of `Pair` establish and keep that, and assume nothing of it."""
+Each theorem has roots, the files in which its claims stand. With them count all files that they use, in crates/*/specs, and the enums of the model's code
+that they use. What a file uses for the place of a run at which a pair stands is left out: the contracts of `Pair` establish and keep that, and assume
+nothing of it."""
 
 import re
 import sys
@@ -9,21 +10,24 @@ from pathlib import Path
 
 TOP = Path(__file__).resolve().parent.parent
 CRATES = TOP / "crates"
+CODE = CRATES / "ssh_model/src"
 PAGE = TOP / "docs/BELIEVED.md"
 USE = re.compile(r"^use Rattle\.(\w+)\.specs\.([\w.]+?)(?:\.\{| as |$)", re.M)
+# An enum of code, with the comment over it.
+ENUM = re.compile(r"^///(?:(?!^pub ).*\n)+?pub enum \w+ \{\n(?:.*\n)*?\}$", re.M)
 
 ANY_PEER = ["ssh_model/specs/Protocol/Sessions/AnyPeer.antt"]
 TWO_ENDS = ["ssh_model/specs/Protocol/Sessions/Claims.antt", "ssh_model/specs/Protocol/Sessions/Honest.antt", "ssh_model/specs/Protocol/Sessions/Events.antt"]
 TRANSCRIPT = ["ssh_pair/specs/Playing.antt", "ssh_pair/specs/Items.antt", "ssh_pair/specs/Noting.antt"]
-# What these use to say which ask is which, and what refusals and sides are called.
-NAMES = ["ssh_end/specs/Asking.antt", "ssh_types/specs/Refusals.antt", "ssh_types/specs/AskRefusals.antt", "ssh_types/specs/Sides.antt"]
+# What these use to say which ask is which.
+ASKS = ["ssh_end/specs/Asking.antt"]
 
 HEAD = """# What has to be believed
 
 Written by `tools/believed.py` from the `use` lines of the specs; `make quick` compares it. Who judges the two theorems of [THEOREMS.md](THEOREMS.md) reads these files and believes
 that they say what the standards say and what the claims mean. Everything else in `specs/`, and all proofs, is checked by the prover. Trusted besides is the toolchain.
 
-Lines are those with a definition or a comment. Empty lines and lines that begin with `use` are not counted.
+Lines are those with a definition or a comment. Empty lines and lines that begin with `use` are not counted. Of a file in `src/` the enum counts, with its comments.
 
 """
 
@@ -35,15 +39,19 @@ LAST = """
 - The specs of all crates between the model and the pair: what a state of their code means is used in proofs alone.
 - In `crates/ssh_model/specs/`, all outside of `Protocol/`: `State/` says how code keeps to the rules without a history, `Laws/` what code uses of them, `OneEpoch/` and
   `Example/` are examples. `Protocol/` has the files above and no other, and `make quick` fails where that is not so.
+- In `crates/ssh_model/src/`, all but the enums above: what else stands there is proved.
 - Lemmas, invariants and answers in `proofs/`.
 """
 
 
 def file_of(crate, path):
-    """The file that has this module, or this name of a module."""
+    """The file that has this module, or this name of a module. A file of code is found only in the model."""
     parts = path.split(".")
+    folder, end = CRATES / crate / "specs", ".antt"
+    if crate == "ssh_model" and parts[0] == "declared":
+        parts, folder, end = parts[1:], CODE, ".rt"
     for count in range(len(parts), 0, -1):
-        file = CRATES / crate / "specs" / ("/".join(parts[:count]) + ".antt")
+        file = folder / ("/".join(parts[:count]) + end)
         if file.exists():
             return file
     return None
@@ -57,12 +65,16 @@ def used_by(roots):
         if file in found:
             continue
         found.add(file)
+        # Code says `ghost use`, so an enum leads to no further file.
         waiting += [used for name in USE.findall(file.read_text()) if (used := file_of(*name))]
     return found
 
 
 def lines_of(file):
-    return sum(1 for line in file.read_text().split("\n") if line.strip() and not line.startswith("use "))
+    text = file.read_text()
+    if CODE in file.parents:
+        return sum(1 for enum in ENUM.findall(text) for line in enum.split("\n") if line and not line.strip().startswith("#["))
+    return sum(1 for line in text.split("\n") if line.strip() and not line.startswith("use "))
 
 
 def table(files):
@@ -74,11 +86,11 @@ def page():
     rules = used_by(TWO_ENDS)
     claims = {CRATES / root for root in TWO_ENDS}
     first = used_by(ANY_PEER) - rules
-    transcript = {CRATES / root for root in TRANSCRIPT + NAMES}
+    transcript = {CRATES / root for root in TRANSCRIPT + ASKS}
     return "".join([
         HEAD,
         "## The rules of a session, an honest run, and what is claimed of two ends\n\n",
-        "In `crates/ssh_model/specs/Protocol/`, the claims are `Sessions/Claims.antt`, an honest run `Sessions/Honest.antt`, what happens to two ends\n`Sessions/Events.antt`. The others are the rules.\n\n",
+        "In `crates/ssh_model/specs/Protocol/`, the claims are `Sessions/Claims.antt`, an honest run `Sessions/Honest.antt`, what happens to two ends\n`Sessions/Events.antt`. The others are the rules, with the enums of `crates/ssh_model/src/` that the rules cite.\n\n",
         table(rules - claims) + "\n" + table(claims),
         "\n## What is claimed of one end against any peer, besides\n\n",
         table(first),
@@ -93,7 +105,7 @@ def others():
     """What is wrong with the folder of the rules: a file of it that no claim uses, or a file of the model that a claim uses and that stands elsewhere."""
     folder = CRATES / "ssh_model/specs/Protocol"
     inside = {file for file in folder.rglob("*.antt") if not file.read_text().startswith("pub mod ")}
-    used = {file for file in used_by(TWO_ENDS + ANY_PEER) if CRATES / "ssh_model" in file.parents}
+    used = {file for file in used_by(TWO_ENDS + ANY_PEER) if CRATES / "ssh_model/specs" in file.parents}
     return [f"{file.relative_to(TOP)}: no claim uses it" for file in sorted(inside - used)] + [f"{file.relative_to(TOP)}: a claim uses it" for file in sorted(used - inside)]
 
 

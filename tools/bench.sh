@@ -3,14 +3,14 @@
 # `openssl` is installed its own speed beside: with all instructions of the processor, without those for AES and for products in GHASH, and
 # with none but the plainest. Then it shows ratios in one run: sealing and opening packets under MacOnly and under AES-128-GCM to the
 # HMAC-SHA-256 of the same bytes, an agreement by X25519 and a signature by Ed25519 and its verification to that of 1,024 bytes, exchanges of
-# keys, data and sessions to the hashes that both ends compute, and taking data with 1,024 channels in use to that with one. The programs are
+# keys, data and sessions to the hashes that both ends compute, and taking data with 1,024 channels in use to that with one. The program is
 # proved and built with optimization first, which takes some minutes the first time. ROUNDS says how often each time is taken; the fastest
 # counts.
 set -eu
 top=$(cd "$(dirname "$0")/.." && pwd)
 . "$top/tools/common.sh"
-cd "$top/crates/cipher_bench"
-"$rt" run -- run "${ROUNDS:-200}"
+cd "$top/crates/ssh_bench"
+"$rt" run -- ciphers "${ROUNDS:-200}"
 
 # One line of what openssl says of its speed, with the capabilities $1 of the processor, as $2 calls them.
 openssl_speed() {
@@ -26,5 +26,4 @@ if command -v openssl >/dev/null 2>&1; then
 else
     echo "openssl is not installed, so nothing is compared with it"
 fi
-cd "$top/crates/ssh_bench"
 "$rt" run -- run "${ROUNDS:-200}"

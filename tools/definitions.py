@@ -1,7 +1,8 @@
 """Writes the tables of docs/definitions.md, the definitions of the model with the comments over them; `definitions.py check` compares them.
 
 A table has the public definitions of one file of crates/ssh_model/specs. A comment speaks for the definition below it and for those after that, up to
-the next comment. What stands above the mark in the page is written by hand."""
+the next comment. The public enums of crates/ssh_model/src are definitions too: each has a table of its variants, with their doc comments. What stands
+above the mark in the page is written by hand."""
 
 import re
 import sys
@@ -9,9 +10,16 @@ from pathlib import Path
 
 TOP = Path(__file__).resolve().parent.parent
 SPECS = TOP / "crates/ssh_model/specs"
+CODE = TOP / "crates/ssh_model/src"
 PAGE = TOP / "docs/definitions.md"
 MARK = "<!-- below this line: made by tools/definitions.py -->\n"
 DEFINITION = re.compile(r"(?:(?:abbrev|unfoldable) )*pub (?!mod |use )(?:(?:data|record) )?([^ ({:]+)")
+ENUM = re.compile(r"^pub enum (\w+) \{\n(.*?)^\}$", re.M | re.S)
+VARIANT = re.compile(r"^    ([A-Z]\w*)\b")
+ENUMS = """### The enums of Rust
+
+These enums of `crates/ssh_model/src` belong to the rules. Code has the very same ones, so no mapping between the two has to be believed.
+"""
 FOLDERS = {
     "Protocol": "The rules of a session, an honest run, and the claims. Who judges the theorems reads these: [BELIEVED.md](BELIEVED.md).",
     "State": "What code keeps in place of a history, and when that sums one up. Nothing here has to be believed.",
@@ -58,12 +66,42 @@ def table(file):
     return "\n".join(said) + "\n"
 
 
+def documented(lines, pattern):
+    """The names that the lines declare, each with the doc comment over it."""
+    found, words = [], []
+    for line in lines:
+        if line.strip().startswith("///"):
+            words.append(line.strip()[3:].strip())
+        elif declared := pattern.match(line):
+            found.append((declared[1], " ".join(word for word in words if word)))
+            words = []
+        elif not line.strip().startswith("#["):
+            words = []
+    return found
+
+
+def enum_tables():
+    """A table for each enum of the model's code, with its variants."""
+    said = [ENUMS]
+    for file in sorted(CODE.rglob("*.rt")):
+        text = file.read_text()
+        docs = dict(documented(text.split("\n"), re.compile(r"^pub enum (\w+)")))
+        for name, body in ENUM.findall(text):
+            variants = documented(body.split("\n"), VARIANT)
+            if bare := [each for each, words in [(name, docs[name]), *variants] if not words]:
+                sys.exit(f"{file.relative_to(TOP)}: no comment speaks for {', '.join(bare)}")
+            rows_of_it = [f"| `{variant}` | {words} |" for variant, words in variants]
+            said.append("\n".join([f"#### `{name}`", "", docs[name], "", "| Variant | Means |", "|---|---|", *rows_of_it]) + "\n")
+    return said
+
+
 def tables():
     said, folder = [], None
     for file in files_below(SPECS / "Lib.antt"):
         if file.relative_to(SPECS).parts[0] != folder:
             folder = file.relative_to(SPECS).parts[0]
             said.append(f"## `{folder}`\n\n{FOLDERS[folder]}\n")
+            said += enum_tables() if folder == "Protocol" else []
         said.append(table(file))
     return "\n".join(said)
 

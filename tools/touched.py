@@ -33,7 +33,7 @@ def kinds(files):
     def kind(name):
         if name.startswith(("docs/", "tools/")):
             return "docs and tools"
-        if re.search(r"crates/\w*(_tests|_runs|_lines|_toys|_bench|_recorded|_embedding)/|/cases/", name):
+        if re.search(r"crates/(test_|example_|ssh_toys/|ssh_bench/)|/cases/", name):
             return "tests"
         if "/falsify/" in name or "/must-fail/" in name:
             return "edits"

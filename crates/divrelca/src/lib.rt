@@ -1,5 +1,5 @@
-//! SSH-2 for a program that embeds one end: all names that it needs, from the crates in which they are proved. This crate adds
-//! `default_answer` alone.
+//! SSH-2 for a program that embeds one end: all names that it needs, from the crates in which they are proved. This crate adds what a
+//! program decides by itself, and `default_answer`.
 //!
 //! A line of crates.txt names it: `echo_server: divrelca anyhow`.
 //!
@@ -49,14 +49,58 @@
 //!
 //! **An ask** goes by `asked`, which answers `Later` while keys are exchanged: keep the task, and ask again after the next `take`.
 //!
-//! The crate `example_embedding` is a whole client and a whole server, and docs/EMBEDDING.md has them in full, with tables of all events and
-//! refusals.
+//! **What a program decides by itself** stands here: how large windows and packets are, when a window is given back, how much is sent at
+//! once, when keys are fed and exchanged, and whom a server lets in. Everything else is the protocol's, and the end does it.
+//!
+//! - **Windows.** A channel's `Window` counts what the peer may send, what came and is not done with, and what is done with and not given
+//!   back. The three are the window's size at all times, so never more than that is held. It is given back once half of it is done with.
+//! - **Sending.** A packet has as many bytes of data as wait and as both the peer's window and its largest packet allow (`data_len`).
+//! - **Keys.** A `KeySupply` keeps an `End` fed with one cookie and one secret, and begins an exchange where it is due: after
+//!   `EPOCH_LIMIT` packets.
+//! - **Users.** A server lets in `OneUser`, by keys and by a password; a client's user signs with a `UserKey`.
+//!
+//! The bytes of a channel whose peer is given back its window once half of it is done with:
+//!
+//! ```rust
+//! let mut window = Window::new(Policy::DEFAULT.window);
+//! window.take(body.len());                    // data came
+//! window.finish(body.len());                  // and is done with
+//! if let Some(bytes) = window.due() {
+//!     let adjust = ChannelAsk::Adjust { channel, bytes };
+//!     if asked(&mut end, &Ask::Connection(adjust), &mut out)? == AskOutcome::Done {
+//!         window.give_back();
+//!     }
+//! }
+//! ```
+//!
+//! The crate `example_embedding` is a whole client and a whole server, and docs/EMBEDDING.md has them in full, with tables of all events
+//! and refusals.
 #![tactic(auto)]
 
+mod ciphers;
+mod end;
+mod error;
+mod keys;
+mod policy;
 mod unknown;
+mod user_key;
+mod users;
+mod window;
 
+pub use ciphers::Ciphers;
+pub use end::{AskOutcome, End, asked};
+pub use error::SupplyError;
+pub use keys::{Entropy, KeySupply, Material, PaddingSource};
+pub use policy::{
+    EPOCH_LIMIT, LEAST_WINDOW, MOST_DATA, MOST_SESSIONS, MOST_WAITING, MOST_WINDOW, Policy, TRIES,
+    WINDOW, data_len,
+};
 pub use ssh_auth::{UserAsk, UserJudge, UserSigner};
 pub use ssh_channels::{Ask as ChannelAsk, ChannelState, Channels, Fact as ChannelFact};
+pub use ssh_config::{
+    ClientPartValues, ClientParts, Config, ConfigError, ConfigLimit, ConfigList, ConfigRefusal,
+    ExtensionFault, ListFault, ServerPartValues, ServerParts, Settings, Strictness,
+};
 pub use ssh_end::{Ask, ClientEnd, Fault, SentPayloads, ServerEnd, Told, Took, Turn};
 pub use ssh_kex::{Agreement, HostSigner, HostTrust};
 pub use ssh_message::{Extension, Extensions, Message};
@@ -64,13 +108,8 @@ pub use ssh_packet::{Filler, Lengths, MacOnly, Sealing, is_same_tag};
 pub use ssh_parts::{
     AcceptedKey, AesGcm, Curve25519, Ed25519Judge, Ed25519Signer, Ed25519Trust, Either, GcmSettings,
 };
-pub use ssh_pipe_policy::{
-    AskOutcome, End, KeySupply, MOST_DATA, Material, OneUser, PaddingSource, PasswordHash,
-    SupplyError, UserKey, WINDOW, Window, asked, data_len,
-};
-pub use ssh_transport_base::{
-    ClientPartValues, ClientParts, Config, ConfigError, ConfigLimit, ConfigList, ConfigRefusal,
-    ExtensionFault, ListFault, ServerPartValues, ServerParts, Settings, Strictness,
-};
 pub use ssh_types::{AskRefusal, NameList, Refusal, Side};
 pub use unknown::default_answer;
+pub use user_key::UserKey;
+pub use users::{OneUser, PasswordHash};
+pub use window::Window;

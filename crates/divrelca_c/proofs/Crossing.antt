@@ -16,18 +16,18 @@ use Rattle.ssh_packet.specs.contracts.reader.PacketReader as packet_reader
 use Rattle.ssh_packet.specs.declared.sealing.Sealing
 use Rattle.ssh_packet.specs.declared.writer.Filler
 use Rattle.ssh_transport.specs.declared.role.Role
-use Rattle.ssh_transport_base.specs.contracts.packets.receiver.PacketReceiver as receiver
-use Rattle.ssh_transport_base.specs.contracts.packets.receiver.PacketReceiver.TheInside as receiver_inside
+use Rattle.ssh_packet.specs.contracts.packets.receiver.PacketReceiver as receiver
+use Rattle.ssh_packet.specs.contracts.packets.receiver.PacketReceiver.TheInside as receiver_inside
 use Rattle.ssh_transport_machine.specs.contracts.machine.Machine as machine
 use Rattle.ssh_transport_machine.specs.contracts.machine.Machine.TheInside as machine_inside
 use Rattle.ssh_transport_machine.specs.contracts.outgoing.Outgoing as outgoing
 use Rattle.ssh_end.specs.contracts.end.End as end
 use Rattle.ssh_end.specs.contracts.end.End.TheInside as end_inside
 use Rattle.ssh_end.specs.declared.role.EndRole
-use Rattle.ssh_layers.specs.contracts.client_layers.ClientLayers as client_layers
-use Rattle.ssh_layers.specs.contracts.server_layers.ServerLayers as server_layers
+use Rattle.ssh_end.specs.contracts.layers.client_layers.ClientLayers as client_layers
+use Rattle.ssh_end.specs.contracts.layers.server_layers.ServerLayers as server_layers
 use Rattle.ssh_parts.specs.contracts.packet_key.PacketKey as packet_key
-use Rattle.ssh_pipe_policy.specs.contracts.keys.PaddingSource as padding
+use Rattle.divrelca.specs.contracts.keys.PaddingSource as padding
 use Rattle.ssh_embedded.specs.contracts.embedded.Embedded as embedded
 use Rattle.ssh_embedded.specs.contracts.noted.Noted as noted
 use Rattle.ssh_embedded.specs.contracts.users.Users as users

@@ -5,9 +5,9 @@ use Rattle.ssh_end.specs.Asking.{ClientInSession, ServerAsks}
 use Rattle.ssh_end.specs.Calls.{outs_of}
 use Rattle.ssh_end.specs.declared.asking.outcome.AskStep.{AskStep}
 use Rattle.ssh_end.specs.declared.asking.outcome.Fault.{Fault}
-use Rattle.ssh_layers.specs.ClientSessions.{end_of}
+use Rattle.ssh_end.specs.ClientSessions.{end_of}
 use Rattle.ssh_parts.specs.AesGcm.{aes_gcm}
-use Rattle.ssh_pipe_policy.specs.UserKey.{signature_by}
+use Rattle.divrelca.specs.UserKey.{signature_by}
 use Rattle.ssh_embedded.specs.Forms.{form_asks}
 use Rattle.ssh_embedded.specs.Queues.{IsOldestMade, is_early}
 use Rattle.ssh_embedded.specs.declared.ask_form.AskForm.{AskForm}

@@ -1,8 +1,7 @@
 -- What C is answered.
 use Rattle.std.specs.Prelude.{ℕ, ℤ, pos, negsuc, Option, Some, None, Result, Ok, Err}
 use Rattle.ssh_model.specs.Protocol.Sessions.Refusals.{ask_refusal_number}
-use Rattle.ssh_types.specs.AskRefusals.{ask_refusal_of}
-use Rattle.ssh_types.specs.declared.refusal.Refusal.{Refusal}
+use Rattle.ssh_model.specs.declared.refusal.Refusal.{Refusal}
 use Rattle.ssh_end.specs.declared.asking.outcome.AskStep.{AskStep}
 use Rattle.ssh_end.specs.declared.asking.outcome.Fault.{Fault}
 use Rattle.ssh_end.specs.declared.asking.outcome.Fault.TheVariants as fault
@@ -19,7 +18,7 @@ use Rattle.ssh_key_files.specs.declared.fault.FileFault.TheVariants as file_faul
 abbrev pub code_of : Fault → ℤ
 code_of fault.Memory = negsuc 0
 code_of fault.Dead = negsuc 1
-code_of (fault.Ask why) = pos (ask_refusal_number (ask_refusal_of why))
+code_of (fault.Ask why) = pos (ask_refusal_number why)
 
 -- An end that has no number left is over.
 abbrev pub code_done : Option Refusal → ℤ

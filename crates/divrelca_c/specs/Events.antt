@@ -2,9 +2,8 @@
 use Rattle.std.specs.Prelude.{◌≡◌, ℕ, Bool, true, false, Option, Some, None, List, [], ◌∷◌, codes}
 use Rattle.ssh_model.specs.Protocol.Sessions.Items.{Item}
 use Rattle.ssh_model.specs.Protocol.Sessions.Refusals.{refusal_name, refusal_number}
-use Rattle.ssh_types.specs.Refusals.{refusal_of}
 use Rattle.ssh_types.specs.Values.{names_text}
-use Rattle.ssh_types.specs.declared.refusal.Refusal.{Refusal}
+use Rattle.ssh_model.specs.declared.refusal.Refusal.{Refusal}
 use Rattle.ssh_message.specs.declared.message.Message.{Message}
 use Rattle.ssh_message.specs.declared.message.Message.TheVariants as message
 use Rattle.ssh_message.specs.declared.message.Method.{Method}
@@ -131,7 +130,7 @@ told_or_tried None took = tried_fields took
 -- A refusal comes first, and nothing else is then shown.
 abbrev pub turn_fields : Option Refusal → Option Told → Option Took → Fields
 turn_fields (Some why) given took =
-    simple 1 0 (refusal_number (refusal_of why)) false (refusal_name (refusal_of why)) []
+    simple 1 0 (refusal_number why) false (refusal_name why) []
 turn_fields None given took = told_or_tried given took
 
 -- the first byte of a payload

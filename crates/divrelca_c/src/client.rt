@@ -3,6 +3,7 @@
 ghost use Rattle.std.specs.Prelude.{◌≡◌, ◌<◌, ◌≤◌, IfErr, IfOk, None, [], drop, false, length, nat_le, negsuc, pos, true};
 ghost use Rattle.std.specs.Option.{IfSome, option_map};
 ghost use Rattle.std.specs.VecDeque.{deque_len};
+ghost use Rattle.divrelca.specs.Supplies.{next_bytes, padding_under};
 ghost use Rattle.divrelca_c.specs.Asks.{ClientAnswers, ClientWorks};
 ghost use Rattle.divrelca_c.specs.Events.{ShowsTurn};
 ghost use Rattle.divrelca_c.specs.Making.{IsClientSettings, client_settings, user_by};
@@ -16,7 +17,6 @@ ghost use Rattle.ssh_end.specs.declared.step.Step.TheVariants as step;
 ghost use Rattle.ssh_model.specs.State.Channels.Places.{at, shown_room};
 ghost use Rattle.ssh_model.specs.State.TransportLayer.Kept.{after_fed, can_be_fed};
 ghost use Rattle.ssh_parts.specs.AesGcm.{aes_gcm};
-ghost use Rattle.ssh_pipe_policy.specs.Supplies.{next_bytes, padding_under};
 ghost use Rattle.ssh_transport_machine.specs.Padding.{PadsTo};
 
 use crate::bytes::{DvBytes, DvClientSettings, DvMaterial};

@@ -4,7 +4,6 @@ ghost use Rattle.std.specs.Prelude.{◌≡◌, false, []};
 ghost use Rattle.divrelca_c.specs.Events.{data_fields, fact_fields, fields_of, method_name, opened_fields, requested_fields, simple};
 ghost use Rattle.divrelca_c.specs.Events.{told_fields, told_or_tried, took_of, tried_fields, turn_fields};
 ghost use Rattle.ssh_model.specs.Protocol.Sessions.Refusals.{refusal_name, refusal_number};
-ghost use Rattle.ssh_types.specs.Refusals.{refusal_of};
 
 use ssh_channels::Fact;
 use ssh_end::{Told, Took, Turn};
@@ -143,7 +142,7 @@ fn event_shown<'a>(turn: &Turn<'a>) -> DvEvent<'a>
 
 // The refusal of the peer.
 fn event_refused(refusal: Refusal) -> DvEvent<'static>
-    ensures { fields_of result ≡ simple 1 0 (refusal_number (refusal_of refusal)) false (refusal_name (refusal_of refusal)) [] }
+    ensures { fields_of result ≡ simple 1 0 (refusal_number refusal) false (refusal_name refusal) [] }
 {
     let number = u32::from(refusal.number());
     shown(REFUSED, 0, number, false, refusal.name().as_bytes(), b"")

@@ -7,9 +7,9 @@ ghost use Rattle.ssh_parts.specs.Ed25519.{signer_of};
 
 use crate::bytes::DvUser;
 use crate::codes::{BAD_CIPHERS, BAD_KEY, BAD_LOGIN, BAD_METHODS, code_made};
+use divrelca::{Ciphers, PasswordHash};
 use ssh_embedded::{Login, Methods, Users};
 use ssh_parts::Ed25519Signer;
-use ssh_pipe_policy::{Ciphers, PasswordHash};
 use std::alloc::Global;
 
 /// A key of 32 bytes.

@@ -4,6 +4,7 @@ ghost use Rattle.std.specs.Prelude.{◌≡◌, ◌<◌, ◌≤◌, ◌++◌, ◌
 ghost use Rattle.std.specs.Prelude.{nat_le, negsuc, pos, true, ℕ};
 ghost use Rattle.std.specs.Option.{IfSome};
 ghost use Rattle.std.specs.VecDeque.{deque_len};
+ghost use Rattle.divrelca.specs.Supplies.{next_bytes, padding_under};
 ghost use Rattle.divrelca_c.specs.Asks.{ServerAnswers, ServerWorks};
 ghost use Rattle.divrelca_c.specs.Events.{ShowsTurn};
 ghost use Rattle.divrelca_c.specs.Making.{IsEntry, IsServerSettings, IsTaken, entry_by, server_settings};
@@ -25,7 +26,6 @@ ghost use Rattle.ssh_model.specs.State.Channels.Places.{at, shown_room};
 ghost use Rattle.ssh_model.specs.State.TransportLayer.Kept.{ExchangeParts, after_fed, can_be_fed};
 ghost use Rattle.ssh_parts.specs.AesGcm.{aes_gcm};
 ghost use Rattle.ssh_parts.specs.Ed25519.{signer_of};
-ghost use Rattle.ssh_pipe_policy.specs.Supplies.{next_bytes, padding_under};
 ghost use Rattle.ssh_transport_machine.specs.Padding.{PadsTo};
 
 use crate::bytes::{DvBytes, DvMaterial, DvServerSettings, DvUser};

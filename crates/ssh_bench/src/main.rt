@@ -1,29 +1,43 @@
-//! Prints ratios of times: packets and real parts to the HMAC-SHA-256 of the same bytes, exchanges of keys, data and sessions to the hashes
-//! that they have to compute, and many channels to one.
+//! Prints ratios of times, the fastest of so many rounds.
 //!
-//! `run ROUNDS` takes each time in so many rounds, of which the fastest counts. Called otherwise, it says so and times nothing.
+//! - `run ROUNDS`: packets and real parts to the HMAC-SHA-256 of the same bytes, exchanges of keys, data and sessions to the hashes that
+//!   they have to compute, and many channels to one.
+//! - `ciphers ROUNDS`: how many times faster `aes_gcm`, `x25519` and `ed25519` are than the plain programs of `ciphers_plain`.
+//!
+//! Called otherwise, it says so and times nothing.
 #![tactic(auto)]
 
-use rounds::rounds_of;
+use call::{Call, call_of};
+use std::rt::Clock;
 
+mod call;
 mod channels;
+mod ciphers;
 mod ends;
 mod exchanges;
 mod hashes;
 mod packets;
 mod parts;
 mod ratio;
-mod rounds;
 
 fn main(rt: HostRuntime) -> anyhow::Result<()> {
-    let Some(rounds) = rounds_of(&rt)? else {
-        println!(rt; "usage: ssh_bench run ROUNDS")?;
-        return Ok(());
-    };
+    match call_of(&rt)? {
+        Some(Call::Run(rounds)) => run(&rt, rounds),
+        Some(Call::Ciphers(rounds)) => ciphers::measure(&rt, rounds),
+        None => {
+            println!(rt; "usage: ssh_bench run ROUNDS")?;
+            println!(rt; "       ssh_bench ciphers ROUNDS")?;
+            Ok(())
+        }
+    }
+}
+
+// Prints the ratios of the core's work.
+fn run<R: Clock + Print + AllocGlobal>(rt: &R, rounds: u32) -> anyhow::Result<()> {
     println!(rt; "The fastest of {rounds} rounds")?;
-    packets::measure(&rt, rounds)?;
-    parts::measure(&rt, rounds)?;
-    exchanges::measure(&rt, rounds)?;
-    ends::measure(&rt, rounds)?;
-    channels::measure(&rt, rounds)
+    packets::measure(rt, rounds)?;
+    parts::measure(rt, rounds)?;
+    exchanges::measure(rt, rounds)?;
+    ends::measure(rt, rounds)?;
+    channels::measure(rt, rounds)
 }

@@ -11,7 +11,7 @@ use Rattle.ssh_model.specs.Protocol.Authentication.Requests.{Judge}
 use Rattle.ssh_model.specs.Protocol.Sessions.Parties.{Parties}
 use Rattle.ssh_model.specs.Protocol.Wire.Sealing.{Crypto}
 use Rattle.ssh_model.specs.State.TransportLayer.Kept.{ExchangeParts}
-use Rattle.ssh_layers.specs.Layers.{Layers}
+use Rattle.ssh_end.specs.Layers.{Layers}
 use Rattle.ssh_transport_machine.specs.State.{State}
 use Rattle.ssh_end.specs.Stands.{ServerStandsAt}
 use Rattle.ssh_model.specs.Protocol.Sessions.Items.{Fact, Item, Item.Refused, Item.Sent, Spelled, Spelled.SpelledBy}

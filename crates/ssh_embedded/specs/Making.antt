@@ -2,9 +2,9 @@
 use Rattle.std.specs.Prelude.{ℕ, false, List, [], ◌∷◌, codes}
 use Rattle.ssh_model.specs.Protocol.Sessions.Parties.{Settings}
 use Rattle.ssh_parts.specs.GcmSettings.{standard_given}
-use Rattle.ssh_pipe_policy.specs.Ciphers.{names_of}
-use Rattle.ssh_pipe_policy.specs.declared.ciphers.Ciphers.{Ciphers}
-use Rattle.ssh_transport_base.specs.Config.{Given, settings_given}
+use Rattle.divrelca.specs.Ciphers.{names_of}
+use Rattle.divrelca.specs.declared.ciphers.Ciphers.{Ciphers}
+use Rattle.ssh_config.specs.Config.{Given, settings_given}
 use Rattle.ssh_embedded.specs.declared.making.Methods.{Methods}
 use Rattle.ssh_embedded.specs.declared.making.Methods.TheVariants.{Key, Password, Both}
 

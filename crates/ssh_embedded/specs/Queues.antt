@@ -3,7 +3,7 @@ use Rattle.std.specs.Prelude.{◌≡◌, ◌++◌, ℕ, Bool, true, false, List,
 use Rattle.divrelca.specs.Unknown.{default_answer_of}
 use Rattle.ssh_model.specs.Protocol.Sessions.Items as session
 use Rattle.ssh_model.specs.Protocol.Sessions.Items.{Item}
-use Rattle.ssh_types.specs.declared.ask_refusal.AskRefusal.TheVariants as refusal
+use Rattle.ssh_model.specs.declared.ask_refusal.AskRefusal.TheVariants as refusal
 use Rattle.ssh_end.specs.Asking.{ask_of}
 use Rattle.ssh_end.specs.Steps.{Shows}
 use Rattle.ssh_end.specs.Told.{told_of}

@@ -4,7 +4,7 @@ use Rattle.std.specs.List.{list_any}
 use Rattle.ed25519.specs.Order.{is_small_order}
 use Rattle.ssh_model.specs.Protocol.Authentication.Requests.{Judge}
 use Rattle.ssh_parts.specs.Ed25519.{judge_of}
-use Rattle.ssh_pipe_policy.specs.Users.{is_password}
+use Rattle.divrelca.specs.Users.{is_password}
 use Rattle.ssh_embedded.specs.declared.users.Login.{Login}
 use Rattle.ssh_embedded.specs.declared.users.Login.TheVariants as login
 use Rattle.ssh_embedded.specs.declared.users.User.{User}

@@ -1,7 +1,7 @@
 -- How much data a channel takes, and what is given back of its window.
 use Rattle.std.specs.Prelude.{ℕ, Option, Some, None}
 use Rattle.std.specs.List.{slice_get}
-use Rattle.ssh_pipe_policy.specs.Windows.{due_of}
+use Rattle.divrelca.specs.Windows.{due_of}
 use Rattle.ssh_embedded.specs.declared.flows.Flow.{Flow}
 use Rattle.ssh_embedded.specs.declared.flows.Flows.{Flows}
 

@@ -2,12 +2,12 @@
 
 ghost use Rattle.std.specs.Prelude.{◌≡◌, IfOk, []};
 ghost use Rattle.std.specs.Option.{option_map};
+ghost use Rattle.divrelca.specs.Supplies.{next_bytes, padding_under};
 ghost use Rattle.ssh_embedded.specs.Making.{settings_by};
 ghost use Rattle.ssh_embedded.specs.declared.making.Methods.TheVariants.{Both};
 ghost use Rattle.ssh_end.specs.Ends.{IsNewClient, sending_from_line, sending_to};
 ghost use Rattle.ssh_end.specs.declared.step.Step.TheVariants as step;
 ghost use Rattle.ssh_parts.specs.AesGcm.{aes_gcm};
-ghost use Rattle.ssh_pipe_policy.specs.Supplies.{next_bytes, padding_under};
 ghost use Rattle.ssh_transport_machine.specs.Padding.{PadsTo};
 
 use crate::embedded::Embedded;
@@ -15,11 +15,11 @@ use crate::flows::Flows;
 use crate::making::{MakeError, Material, Methods, config};
 use crate::noted::Noted;
 use crate::parts::EmbeddedClient;
+use divrelca::{Ciphers, PaddingSource, TRIES, UserKey};
 use ed25519::is_small_order;
+use ssh_config::ClientPartValues;
 use ssh_end::{ClientEnd, ClientRole};
 use ssh_parts::{Curve25519, Ed25519Signer, Ed25519Trust};
-use ssh_pipe_policy::{Ciphers, PaddingSource, TRIES, UserKey};
-use ssh_transport_base::ClientPartValues;
 use std::alloc::Global;
 use std::collections::VecDeque;
 

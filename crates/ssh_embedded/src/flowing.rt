@@ -11,11 +11,10 @@ ghost use Rattle.ssh_transport_machine.specs.Padding.{PadsTo};
 
 use crate::embedded::Embedded;
 use crate::waiting::Waiting;
-use divrelca::default_answer;
+use divrelca::{data_len, default_answer};
 use ssh_channels::Ask as ChannelAsk;
 use ssh_end::{Ask, EndRole, Fault};
 use ssh_packet::{Filler, Sealing};
-use ssh_pipe_policy::data_len;
 use ssh_transport::Role;
 use ssh_types::AskRefusal;
 use std::alloc::AllocError;

@@ -3,9 +3,9 @@
 ghost use Rattle.std.specs.Prelude.{◌≡◌};
 ghost use Rattle.ssh_embedded.specs.Windows.{due_on};
 
+use divrelca::Window;
 use ssh_channels::{Ask as ChannelAsk, Fact};
 use ssh_end::{Ask, AskStep, Told};
-use ssh_pipe_policy::Window;
 use ssh_types::bounds::MOST_CHANNELS;
 use std::alloc::{AllocError, Global};
 

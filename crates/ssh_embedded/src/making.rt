@@ -3,11 +3,11 @@
 ghost use Rattle.std.specs.Prelude.{◌≡◌, IfOk, map};
 ghost use Rattle.ssh_embedded.specs.Making.{given_by, method_names, settings_by};
 ghost use Rattle.ssh_embedded.specs.declared.making.MakeError.TheVariants as make_error;
-ghost use Rattle.ssh_transport_base.specs.Meaning.{given_of, settings_of};
+ghost use Rattle.ssh_config.specs.Meaning.{given_of, settings_of};
 
+use divrelca::Ciphers;
+use ssh_config::{Config, ConfigError, ConfigRefusal, Settings};
 use ssh_parts::{AesGcm, GcmSettings};
-use ssh_pipe_policy::Ciphers;
-use ssh_transport_base::{Config, ConfigError, ConfigRefusal, Settings};
 use std::alloc::{AllocError, Global};
 
 /// What an end takes of random bytes when it is made. Each is from a good source, and is used once.

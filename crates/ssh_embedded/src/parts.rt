@@ -1,8 +1,8 @@
 //! The supplied parts of both ends.
 
+use divrelca::PaddingSource;
+use ssh_config::{ClientParts, ServerParts};
 use ssh_parts::{AesGcm, Curve25519, Ed25519Signer, Ed25519Trust};
-use ssh_pipe_policy::PaddingSource;
-use ssh_transport_base::{ClientParts, ServerParts};
 
 /// The parts of a server: AES-GCM, X25519 and Ed25519.
 pub struct EmbeddedServer;

@@ -2,6 +2,7 @@
 
 ghost use Rattle.std.specs.Prelude.{◌≡◌, ◌++◌, ◌||◌, Err, IfErr, IfOk, List, None, OnErr, OnOk, [], false, true, ℕ};
 ghost use Rattle.std.specs.List.{list_all};
+ghost use Rattle.divrelca.specs.Supplies.{next_bytes, padding_under};
 ghost use Rattle.ssh_embedded.specs.Asked.{AreNoted, is_noted};
 ghost use Rattle.ssh_embedded.specs.Making.{settings_by};
 ghost use Rattle.ssh_embedded.specs.Users.{verdicts_for};
@@ -15,7 +16,6 @@ ghost use Rattle.ssh_model.specs.Protocol.Sessions.Parties.{Parties};
 ghost use Rattle.ssh_model.specs.Protocol.Wire.MacOnly.{is_text};
 ghost use Rattle.ssh_model.specs.State.TransportLayer.Kept.{ExchangeParts};
 ghost use Rattle.ssh_parts.specs.AesGcm.{aes_gcm};
-ghost use Rattle.ssh_pipe_policy.specs.Supplies.{next_bytes, padding_under};
 ghost use Rattle.ssh_transport_machine.specs.Padding.{PadsTo};
 
 use crate::embedded::Embedded;
@@ -24,12 +24,12 @@ use crate::making::{MakeError, Material, Methods, config};
 use crate::noted::Noted;
 use crate::parts::EmbeddedServer;
 use crate::users::Users;
+use divrelca::{Ciphers, PaddingSource};
+use ssh_config::ServerPartValues;
 use ssh_end::judge_laws::users_exchanged;
 use ssh_end::{ServerEnd, ServerRole};
 use ssh_packet::Sealing;
 use ssh_parts::{AesGcm, Curve25519, Ed25519Signer};
-use ssh_pipe_policy::{Ciphers, PaddingSource};
-use ssh_transport_base::ServerPartValues;
 use std::alloc::{AllocError, Global};
 use std::collections::VecDeque;
 

@@ -1,5 +1,5 @@
 -- How long a key is that the lengths of a sealing allow.
-use Rattle.std.proofs.Common.{◌≡◌, ℕ, ◌≤◌, ◌%◌, Bool, true, false, Option, Some, None, IsSomeAnd, subst, sym, arith}
+use Rattle.std.proofs.Common.{◌≡◌, ℕ, Bool, true, false, IsSomeAnd, arith}
 use Rattle.ssh_parts.specs.AesGcm.{IsKeySize, lengths_by}
 
 pub key_size : (b c : Bool) (i k m : ℕ) → IsSomeAnd (lengths_by b c) (λ n. (i ≡ n.iv) × (k ≡ n.cipher) × (m ≡ n.mac)) → (i ≡ 12) × IsKeySize k

@@ -2,8 +2,8 @@
 use Rattle.std.specs.Prelude.{ℕ, List, [], ◌∷◌, ◌^◌, map, codes, None, false}
 use Rattle.std.specs.Option.{option_copied}
 use Rattle.ssh_message.specs.Announced.{extension_of}
-use Rattle.ssh_model.specs.Protocol.Sessions.Parties as model
-use Rattle.ssh_transport_base.specs.Config.{Given}
+use Rattle.ssh_model.specs.declared.strictness.Strictness.TheVariants as strictness
+use Rattle.ssh_config.specs.Config.{Given}
 use Rattle.ssh_parts.specs.declared.gcm_settings.GcmSettings.{GcmSettings}
 
 -- What an end is given by these settings: AES-128-GCM alone, and strict key exchange, required.
@@ -18,7 +18,7 @@ gcm_given s = record {
   epoch_limit = s.epoch_limit;
   tries = s.tries;
   methods = map (λ name. name.now) s.methods.now;
-  strictness = model.Strictness.Require;
+  strictness = strictness.Require;
   takes_extensions = s.takes_extensions;
   extensions = map extension_of s.extensions.now;
 }
@@ -35,7 +35,7 @@ standard_given software = record {
   epoch_limit = 2 ^ 20;
   tries = 6;
   methods = codes "publickey" ∷ codes "password" ∷ [];
-  strictness = model.Strictness.Require;
+  strictness = strictness.Require;
   takes_extensions = false;
   extensions = [];
 }

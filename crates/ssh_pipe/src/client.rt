@@ -6,16 +6,16 @@ mod task;
 
 use crate::ending::Ending;
 use crate::error::PipeError;
+use crate::log::Watched;
 use crate::machine::Machine;
 use crate::parts::{METHODS, PipeClient, config};
 use crate::station::Station;
 use desk::ClientDesk;
+use divrelca::{KeySupply, Policy, UserKey};
 pub use request::{ClientSession, Request, RequestKind};
+use ssh_config::ClientPartValues;
 use ssh_end::ClientEnd;
 use ssh_parts::Curve25519;
-use ssh_pipe_log::Watched;
-use ssh_pipe_policy::{KeySupply, Policy, UserKey};
-use ssh_transport_base::ClientPartValues;
 use std::alloc::{AllocError, Global};
 use std::random::RandomSource;
 

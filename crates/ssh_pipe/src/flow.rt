@@ -1,8 +1,8 @@
 //! What goes out on one channel, within the window of the peer (RFC 4254 section 5.2).
 
+use divrelca::{AskOutcome, End, Window, asked, data_len};
 use ssh_channels::Ask as ChannelAsk;
 use ssh_end::{Ask, Fault};
-use ssh_pipe_policy::{AskOutcome, End, Window, asked, data_len};
 use std::alloc::{AllocError, Global};
 
 /// One channel: what still has to be sent on it, and the window that the peer was given.

@@ -2,7 +2,7 @@
 //! The client runs one command, the server has commands of its own.
 //!
 //! `Server` and `Client` are `Machine`s, which go from bytes to bytes, and `pump` lets one go on between a reader and a writer. What they
-//! decide by themselves is `ssh_pipe_policy`, and what they tell `ssh_pipe_log`; everything else that they do is to hand on.
+//! decide by themselves stands in `divrelca`, and what they tell in the module `log`; everything else that they do is to hand on.
 //! `ssh_pipe_commands` makes them from the words of a command line.
 //!
 //! ```rust
@@ -17,6 +17,7 @@ mod client;
 mod ending;
 mod error;
 mod flow;
+pub mod log;
 mod login;
 mod machine;
 mod parts;
@@ -27,12 +28,12 @@ mod tasks;
 mod texts;
 
 pub use client::{Client, ClientSession, Request, RequestKind};
+pub use divrelca::{
+    Ciphers, EPOCH_LIMIT, LEAST_WINDOW, MOST_WINDOW, OneUser, PasswordHash, Policy, UserKey,
+};
 pub use ending::Ending;
 pub use error::PipeError;
 pub use login::Login;
 pub use machine::{Machine, pump};
 pub use server::Server;
-pub use ssh_pipe_policy::{
-    Ciphers, EPOCH_LIMIT, LEAST_WINDOW, MOST_WINDOW, OneUser, PasswordHash, Policy, UserKey,
-};
 pub use texts::{MOST_COMMAND_BYTES, string_of};

@@ -1,9 +1,9 @@
 //! Settings and supplied parts of both ends.
 
+use divrelca::{PaddingSource, Policy, TRIES};
+use ssh_config::{ClientParts, Config, ConfigError, ServerParts, Settings};
 use ssh_packet::MacOnly;
 use ssh_parts::{AesGcm, Curve25519, Ed25519Signer, Ed25519Trust, Either, GcmSettings};
-use ssh_pipe_policy::{PaddingSource, Policy, TRIES};
-use ssh_transport_base::{ClientParts, Config, ConfigError, ServerParts, Settings};
 use std::alloc::Global;
 
 /// The sealing of both ends: AES-GCM, and `none` with hmac-sha2-256 where a policy offers it.
@@ -43,7 +43,7 @@ pub const METHODS: &[&[u8]] = &[b"publickey", b"password"];
 ///
 /// # Errors
 ///
-/// Those of `ssh_transport_base::Config::new`: `Refused` settings, or `Memory`.
+/// Those of `ssh_config::Config::new`: `Refused` settings, or `Memory`.
 pub fn config(
     alloc: Global,
     policy: &Policy,

@@ -4,15 +4,15 @@ mod desk;
 
 use crate::ending::Ending;
 use crate::error::PipeError;
+use crate::log::Watched;
 use crate::machine::Machine;
 use crate::parts::{METHODS, PipeServer, config};
 use crate::station::Station;
 use desk::ServerDesk;
+use divrelca::{KeySupply, OneUser, Policy};
+use ssh_config::ServerPartValues;
 use ssh_end::ServerEnd;
 use ssh_parts::{Curve25519, Ed25519Signer};
-use ssh_pipe_log::Watched;
-use ssh_pipe_policy::{KeySupply, OneUser, Policy};
-use ssh_transport_base::ServerPartValues;
 use std::alloc::Global;
 use std::random::RandomSource;
 

@@ -3,9 +3,9 @@
 use crate::builtin::Builtin;
 use crate::flow::Flow;
 use crate::texts::string_in;
+use divrelca::{AskOutcome, End, MOST_WAITING, asked};
 use ssh_channels::Ask as ChannelAsk;
 use ssh_end::{Ask, Fault};
-use ssh_pipe_policy::{AskOutcome, End, MOST_WAITING, asked};
 use std::alloc::{AllocError, Global};
 
 /// A channel that a client opened.

@@ -1,10 +1,10 @@
 //! What both roles do by themselves: an end goes on with what it draws from and what its desk asks it for.
 
 use crate::error::PipeError;
+use crate::log::Watched;
 use crate::machine::Machine;
+use divrelca::{AskOutcome, End, KeySupply, asked};
 use ssh_end::{Ask, Fault, Turn};
-use ssh_pipe_log::Watched;
-use ssh_pipe_policy::{AskOutcome, End, KeySupply, asked};
 use std::alloc::AllocError;
 use std::random::RandomSource;
 

@@ -1,11 +1,7 @@
 -- Lines at the front of a text.
-use Rattle.std.proofs.Common.{◌≡◌, ◌≢◌, ℕ, suc, zero, ◌+◌, ◌-◌, ◌<◌, ◌≤◌, List, [], ◌∷◌, ◌++◌, length, take, get_or, Option, Some, None, Bool, true, false, nat_eq}
-use Rattle.std.proofs.Common.{MatchOption, IfSome, IfNone, String, Global, Bor, string_bytes, sym, ◌∙◌, ap, refl, true≢false, ◌==◌, arith, rules, append_assoc, append-nil, add-one}
-use Rattle.std.specs.Cmp.Lexicographic.{pointwise}
-use Rattle.std.proofs.lemmas.Bool.Decides.{Decides-eqb}
+use Rattle.std.proofs.Common.{◌≡◌, ◌≢◌, ℕ, suc, zero, ◌+◌, ◌<◌, List, [], ◌∷◌, ◌++◌, length, take, get_or, Option, Some, None, false}
+use Rattle.std.proofs.Common.{MatchOption, IfSome, IfNone, String, Global, Bor, string_bytes, sym, ◌∙◌, ap, refl, true≢false, ◌==◌, arith, append_assoc, append-nil, add-one}
 use Rattle.std.proofs.lemmas.List.{append_cancel_left}
-use Rattle.std.proofs.lemmas.Slice.Eq.{strip_prefix_is}
-use Rattle.std.proofs.lemmas.Grind.{common_steps}
 use Rattle.ssh_play.specs.Comparing.{Differs, text_of}
 use Rattle.std.proofs.Math.Nat.{add-sub_cancel}
 use Rattle.std.proofs.Math.Seq.{take-length}

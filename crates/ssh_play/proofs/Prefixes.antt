@@ -1,6 +1,5 @@
 -- Prefixes of lists of payloads.
-use Rattle.std.proofs.Common.{◌≡◌, ℕ, suc, zero, ◌<◌, ◌≤◌, ◌↔◌, List, [], ◌∷◌, ◌++◌, ◌&&◌, length, drop, Bool, true, false, nat_eq, Bor, sym, ◌∙◌, ap, refl, true≢false, arith, rules, IsTrue}
-use Rattle.std.proofs.lemmas.Grind.{common_steps}
+use Rattle.std.proofs.Common.{◌≡◌, ℕ, suc, zero, ◌<◌, ◌≤◌, ◌↔◌, List, [], ◌∷◌, ◌++◌, length, drop, Bool, true, false, nat_eq, Bor, sym, ◌∙◌, ap, refl, true≢false, arith, rules, IsTrue}
 use Rattle.std.specs.Cmp.Lexicographic.{pointwise, pointwise_decides}
 use Rattle.std.proofs.lemmas.Bool.Decides.{Decides-eqb}
 use Rattle.ssh_model.specs.Protocol.Lists.{Begins}

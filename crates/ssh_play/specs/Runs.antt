@@ -1,8 +1,9 @@
 -- What went between two ends in a run, by the items of their transcript.
 use Rattle.std.specs.Prelude.{ℕ, Bool, true, false, cond, List, [], ◌∷◌, ◌++◌}
 use Rattle.ssh_model.specs.Protocol.Lists.{Begins}
-use Rattle.ssh_types.specs.declared.side.Side.{Side}
-use Rattle.ssh_types.specs.declared.side.Side.TheVariants.{Client, Server}
+use Rattle.ssh_model.specs.Protocol.Side.{peer}
+use Rattle.ssh_model.specs.declared.side.Side.{Side}
+use Rattle.ssh_model.specs.declared.side.Side.TheVariants.{Client, Server}
 use Rattle.ssh_pair.specs.declared.item.Done.{Done}
 use Rattle.ssh_pair.specs.declared.item.Item.{Item}
 use Rattle.ssh_pair.specs.declared.item.Item.TheVariants as item
@@ -30,10 +31,6 @@ is_side Client Client = true
 is_side Server Server = true
 is_side _ _ = false
 
-abbrev pub peer_of : Side → Side
-peer_of Client = Server
-peer_of Server = Client
-
 -- the payloads that an end took, or sent, in their order
 abbrev pub went : Side → Way → List Done → List (List ℕ)
 went side way [] = []
@@ -42,7 +39,7 @@ went side way (done ∷ run) = cond (is_side done.side side) (payload_in way don
 -- What an end took after its first NEWKEYS is a prefix of what the other sent after its own.
 abbrev pub TakesWhatIsSent : Side → List Done → Type 0
 TakesWhatIsSent side run =
-    Begins (behind_first (went side way.Taken run)) (behind_first (went (peer_of side) way.Sent run))
+    Begins (behind_first (went side way.Taken run)) (behind_first (went (peer side) way.Sent run))
 
 -- So it is at both ends.
 abbrev pub IsSafe : List Done → Type 0

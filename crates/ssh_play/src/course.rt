@@ -2,7 +2,7 @@
 
 ghost use Rattle.std.specs.Prelude.{◌≡◌, ◌↔◌, IfOk, IsTrue};
 ghost use Rattle.ssh_play.specs.Runs.{IsSafe};
-ghost use Rattle.ssh_types.specs.declared.side.Side.TheVariants.{Client, Server};
+ghost use Rattle.ssh_model.specs.declared.side.Side.TheVariants.{Client, Server};
 
 use crate::alteration::Alteration;
 use crate::player::Player;

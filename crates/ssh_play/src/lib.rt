@@ -4,7 +4,7 @@
 //! Both ends begin with one setup, of which a script changes a little: `curve25519-sha256`, a toy host key, no encryption, and
 //! `hmac-sha2-256`. `play` gives what they did, a line for each thing; `compare` tells whether these are the lines that the script
 //! expects; `play_through` plays on where a line finds less than it wants; `sweep` does so again and again, each time with one byte
-//! changed on its way.
+//! changed on its way; `watch` plays a script and makes a `draw::Drawing` of it.
 //!
 //! ```rust
 //! let Script::Session(script) = Script::read(alloc, b"pass c s 11\n> c sent line 9\n")? else { return Ok(()) };
@@ -23,6 +23,7 @@
 mod alteration;
 mod comparison;
 mod course;
+pub mod draw;
 mod lines;
 mod player;
 mod playing;

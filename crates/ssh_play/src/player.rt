@@ -1,9 +1,9 @@
 //! Runs the lines of a script against its two ends.
 
 use crate::alteration::Alteration;
+use crate::draw::Drawing;
 use crate::standard::{Standard, ToyPair};
 use crate::watching::{lines_of, origin_of};
-use ssh_draw::Drawing;
 use ssh_pair::{Done, Event, Transcript};
 use ssh_script::{Delivery, Network, Parcel, RunFault, ScriptFault, Shortage, Step};
 use ssh_types::Side;

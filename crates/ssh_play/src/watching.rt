@@ -1,9 +1,9 @@
 //! A script as it is drawn.
 
+use crate::draw::{Drawing, Origin};
 use crate::lines::write_items;
 use crate::player::Player;
 use crate::standard::Standard;
-use ssh_draw::{Drawing, Origin};
 use ssh_pair::Done;
 use ssh_script::{Delivery, ScriptFault, SessionScript, Shortage};
 use ssh_types::Side;

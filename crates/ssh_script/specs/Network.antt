@@ -1,9 +1,8 @@
 -- What lies between two sides, and what a line delivers of it.
 use Rattle.std.specs.Prelude.{◌≡◌, ℕ, List, length, take, drop, Option, Some, None}
 use Rattle.ssh_model.specs.Protocol.Side.{peer}
-use Rattle.ssh_types.specs.Sides.{side_of}
-use Rattle.ssh_types.specs.declared.side.Side.{Side}
-use Rattle.ssh_types.specs.declared.side.Side.TheVariants.{Client, Server}
+use Rattle.ssh_model.specs.declared.side.Side.{Side}
+use Rattle.ssh_model.specs.declared.side.Side.TheVariants.{Client, Server}
 use Rattle.ssh_script.specs.Shortage.{meant}
 use Rattle.ssh_script.specs.declared.delivery.Count.{Count}
 use Rattle.ssh_script.specs.declared.delivery.Count.TheVariants.{All, Next}
@@ -41,14 +40,14 @@ counted network side (Next n) = meant network.shortage n (length (waiting_of net
 
 -- This parcel comes from the waiting bytes of a side.
 pub record IsNext (network : Network) (from : Side) (count : Count) (pieces : Cut) (parcel : Parcel) : Type 0 where
-  pub to : side_of parcel.to ≡ peer (side_of from)
+  pub to : parcel.to ≡ peer from
   pub bytes : parcel.bytes.now ≡ take (counted network from count) (waiting_of network from)
   pub origin : parcel.origin ≡ PutOut (passed_of network from)
   pub cut : parcel.cut ≡ pieces
 
 -- This parcel has bytes that a side put out before.
 pub record IsAgain (network : Network) (from : Side) (start count : ℕ) (parcel : Parcel) : Type 0 where
-  pub to : side_of parcel.to ≡ peer (side_of from)
+  pub to : parcel.to ≡ peer from
   pub bytes : parcel.bytes.now ≡ take count (drop start (whole_of network from))
   pub cut : parcel.cut ≡ Whole
 

@@ -2,7 +2,7 @@
 
 ghost use Rattle.std.specs.Prelude.{◌≡◌, ◌++◌, [], IfOk, OnOk, OnErr};
 ghost use Rattle.ssh_script.specs.Network.{Delivers, IsAgain, IsNext, passed_of, shortage_of, whole_of};
-ghost use Rattle.ssh_types.specs.declared.side.Side.TheVariants.{Client, Server};
+ghost use Rattle.ssh_model.specs.declared.side.Side.TheVariants.{Client, Server};
 
 use crate::delivery::{Count, Delivery};
 use crate::parcel::{Cut, Origin, Parcel};

@@ -1,8 +1,8 @@
 //! The toys that go together.
 
 use crate::{ToyAgreement, ToyCredential, ToyFiller, ToySigner, ToyTrust};
+use ssh_config::{ClientPartValues, ClientParts, ServerPartValues, ServerParts};
 use ssh_packet::MacOnly;
-use ssh_transport_base::{ClientPartValues, ClientParts, ServerPartValues, ServerParts};
 
 /// The parts of a client.
 pub struct ToyClient;

@@ -1,7 +1,7 @@
 //! The settings of an end, and what it is configured by.
 
+use ssh_config::{Config, ConfigError, Settings, Strictness};
 use ssh_packet::MacOnly;
-use ssh_transport_base::{Config, ConfigError, Settings, Strictness};
 use std::alloc::{AllocError, Global};
 
 /// The settings of an end whose version line has this software.

@@ -1,5 +1,5 @@
 -- While numbers are left, the number of the next packet is the count of those that went under the key.
-use Rattle.std.proofs.Common.{◌≡◌, ℕ, ◌<◌, ◌%◌, ◌^◌, List, sym, subst, ◌∙◌}
+use Rattle.std.proofs.Common.{◌≡◌, ℕ, ◌<◌, ◌%◌, ◌^◌, List, subst, ◌∙◌}
 use Rattle.std.specs.Prelude.{Some}
 use Rattle.std.proofs.Math.Nat.{mod-eq_of_lt}
 use Rattle.ssh_model.specs.Protocol.Wire.MacOnly.{mac_only}

@@ -2,7 +2,8 @@
 use Rattle.std.proofs.Common.{◌≡◌, ℕ, zero, suc, arith, ◌<◌, List, [], ◌∷◌, ◌++◌, length, get_or, refl, sym, ap, subst, ◌∙◌, append-nil, append_assoc, Ok, Err}
 use Rattle.std.specs.Prelude.{Result, OnOk}
 use Rattle.ssh_model.specs.Protocol.Wire.MacOnly.{mac_only}
-use Rattle.ssh_model.specs.Protocol.Side.{Side.Client, Side.Server, DoneBy.By, done_by, part}
+use Rattle.ssh_model.specs.declared.side.Side.TheVariants.{Client, Server}
+use Rattle.ssh_model.specs.Protocol.Side.{done_by, part}
 use Rattle.ssh_model.specs.OneEpoch.History.{Item}
 use Rattle.ssh_model.specs.OneEpoch.History as history
 use Rattle.ssh_model.specs.OneEpoch.Runs.{Asks, Event, Event.Ask, Event.Deliver, Gets, Keys, Run, Run.ends, Run.goes, Step, Step.asks, Step.gets, World, next_world}

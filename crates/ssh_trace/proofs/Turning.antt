@@ -4,18 +4,18 @@ use Rattle.std.specs.Prelude.{Some}
 use Rattle.std.proofs.lemmas.Bool.{cases_Bool}
 use Rattle.std.proofs.lemmas.List.{take-append-drop, drop-drop, drop_all}
 use Rattle.ssh_model.specs.Protocol.Wire.MacOnly.{mac_only}
-use Rattle.ssh_model.specs.Protocol.Wire.Outcome.{Outcome.Opens, Outcome.RefusedPacket}
 use Rattle.ssh_model.specs.Protocol.Wire.Sealing.{IsSealed}
-use Rattle.ssh_model.specs.Protocol.Wire.Unit.{IsPacketBegun, PacketUnit}
-use Rattle.ssh_model.specs.Protocol.Side.{Side, DoneBy.By, done_by}
-use Rattle.ssh_model.specs.Protocol.Sessions.Refusals as session
+use Rattle.ssh_model.specs.Protocol.Wire.Unit.{IsPacketBegun}
+use Rattle.ssh_model.specs.declared.side.Side.{Side}
+use Rattle.ssh_model.specs.declared.refusal.Refusal.{Refusal}
+use Rattle.ssh_model.specs.declared.refusal.Refusal.TheVariants as refusals
+use Rattle.ssh_model.specs.declared.ask_refusal.AskRefusal.TheVariants as ask_refusals
+use Rattle.ssh_model.specs.Protocol.Side.{DoneBy.By, done_by}
 use Rattle.ssh_model.specs.OneEpoch.History.{Item, Item.Asked, Item.AskRefused, Item.Sent, Item.Took, Item.Refused, Item.Died, has_died, sent, took}
 use Rattle.ssh_model.specs.OneEpoch.History as history
 use Rattle.ssh_model.specs.OneEpoch.Runs.{Takes, Gets, Gets.dead, Gets.waits, Gets.takes, Asks}
 use Rattle.ssh_model.specs.OneEpoch.Runs as epoch
-use Rattle.ssh_types.specs.Refusals.{refusal_of}
-use Rattle.ssh_types.specs.declared.refusal.Refusal as rust
-use Rattle.ssh_transport_base.specs.declared.packets.step.PacketStep.TheVariants as step
+use Rattle.ssh_packet.specs.declared.packets.step.PacketStep.TheVariants as step
 use Rattle.ssh_trace.specs.History.{logged}
 use Rattle.ssh_trace.specs.EpochEnd.{End, EndFinds, EndSums, RefusesAsk, Sends, SpendsNumbers, left_of}
 use Rattle.ssh_trace.specs.Turns.{AskedWith, DeliveredWith, Notes, Turn, TurnWith}
@@ -62,16 +62,16 @@ asked_sent payload out after side h old new a b c s alive t f g =
     }
 
 pub asked_too_long : (key payload out after : List ℕ) (side : Side) (h : List Item) (old new : End) (a b c : List Done) → EndSums h (left_of old) old → old.dead ≡ false → RefusesAsk payload old new out after
-    → Adds side Asked a b → Adds side (AskRefused session.TooLong) b c → AskedWith key side payload h old new a c out after
+    → Adds side Asked a b → Adds side (AskRefused ask_refusals.TooLong) b c → AskedWith key side payload h old new a c out after
 asked_too_long key payload out after side h old new a b c s alive t f g =
     let e = t.new_is in
     record {
-      items = AskRefused session.TooLong ∷ Asked ∷ [];
+      items = AskRefused ask_refusals.TooLong ∷ Asked ∷ [];
       bytes = [];
-      asks = subst (λ (x : List ℕ). Asks mac_only key h (left_of old) payload (AskRefused session.TooLong ∷ Asked ∷ []) [] x) (sym (ap left_of e)) (epoch.too_long (alive_is h (left_of old) old s alive) t.long);
+      asks = subst (λ (x : List ℕ). Asks mac_only key h (left_of old) payload (AskRefused ask_refusals.TooLong ∷ Asked ∷ []) [] x) (sym (ap left_of e)) (epoch.too_long (alive_is h (left_of old) old s alive) t.long);
       put = t.none ∙ sym (append-nil out);
       notes = record {
-        records = two side Asked (AskRefused session.TooLong) a b c f g;
+        records = two side Asked (AskRefused ask_refusals.TooLong) a b c f g;
         sums = record { dead_is = ap (λ (x : End). x.dead) e ∙ s.dead_is; sent_is = ap (λ (x : End). x.sent) e ∙ s.sent_is; taken_is = ap (λ (x : End). x.taken) e ∙ s.taken_is; rest_is = refl };
       };
     }
@@ -81,15 +81,15 @@ none_left : (e : End) → e.dead ≡ true → left_of e ≡ []
 none_left e d = ap (λ (b : Bool). cond b [] e.begun) d
 
 pub asked_spent : (key payload out after : List ℕ) (side : Side) (h : List Item) (old new : End) (a b c d : List Done) → EndSums h (left_of old) old → old.dead ≡ false → SpendsNumbers payload old new out after
-    → Adds side Asked a b → Adds side (Refused session.NumberSpent) b c → Adds side Died c d → AskedWith key side payload h old new a d out after
+    → Adds side Asked a b → Adds side (Refused refusals.NumberSpent) b c → Adds side Died c d → AskedWith key side payload h old new a d out after
 asked_spent key payload out after side h old new a b c d s alive t f g i =
     record {
-      items = Died ∷ Refused session.NumberSpent ∷ Asked ∷ [];
+      items = Died ∷ Refused refusals.NumberSpent ∷ Asked ∷ [];
       bytes = [];
-      asks = subst (λ (x : List ℕ). Asks mac_only key h (left_of old) payload (Died ∷ Refused session.NumberSpent ∷ Asked ∷ []) [] x) (sym (none_left new t.died.dead)) (epoch.spent (alive_is h (left_of old) old s alive) t.short (sym s.sent_is ∙ t.spent));
+      asks = subst (λ (x : List ℕ). Asks mac_only key h (left_of old) payload (Died ∷ Refused refusals.NumberSpent ∷ Asked ∷ []) [] x) (sym (none_left new t.died.dead)) (epoch.spent (alive_is h (left_of old) old s alive) t.short (sym s.sent_is ∙ t.spent));
       put = t.none ∙ sym (append-nil out);
       notes = record {
-        records = three side Asked (Refused session.NumberSpent) Died a b c d f g i;
+        records = three side Asked (Refused refusals.NumberSpent) Died a b c d f g i;
         sums = record { dead_is = t.died.dead; sent_is = t.died.sent ∙ s.sent_is; taken_is = t.died.taken ∙ s.taken_is; rest_is = refl };
       };
     }
@@ -140,15 +140,15 @@ turn_taken used side h old new a b s alive f log =
       };
     }
 
-pub turn_refused : (used : List ℕ) (side : Side) (h : List Item) (old new : End) (refusal : rust.Refusal) (a b c : List Done) → EndSums h (left_of old) old → old.dead ≡ false
-    → EndFinds (old.begun ++ used) old (step.Refused refusal) new → Adds side (Refused (refusal_of refusal)) a b → Adds side Died b c → TurnWith old.taking_key side used h old new a c
+pub turn_refused : (used : List ℕ) (side : Side) (h : List Item) (old new : End) (refusal : Refusal) (a b c : List Done) → EndSums h (left_of old) old → old.dead ≡ false
+    → EndFinds (old.begun ++ used) old (step.Refused refusal) new → Adds side (Refused refusal) a b → Adds side Died b c → TurnWith old.taking_key side used h old new a c
 turn_refused used side h old new refusal a b c s alive f first second =
     let died = f.1 in
     record {
-      items = Died ∷ Refused (refusal_of refusal) ∷ [];
-      goes = unit_goes used h (Died ∷ Refused (refusal_of refusal) ∷ []) old new s alive (epoch.refuses (refusal_of refusal) f.0) (none_left new died.dead);
+      items = Died ∷ Refused refusal ∷ [];
+      goes = unit_goes used h (Died ∷ Refused refusal ∷ []) old new s alive (epoch.refuses refusal f.0) (none_left new died.dead);
       notes = record {
-        records = two side (Refused (refusal_of refusal)) Died a b c first second;
+        records = two side (Refused refusal) Died a b c first second;
         sums = record { dead_is = died.dead; sent_is = died.sent ∙ s.sent_is; taken_is = died.taken ∙ s.taken_is; rest_is = refl };
       };
     }

@@ -1,16 +1,15 @@
 -- One end of an epoch.
 use Rattle.std.specs.Prelude.{◌≡◌, ◌≤◌, ◌<◌, ◌+◌, ◌%◌, ◌^◌, ℕ, Bool, true, false, if◌then◌else◌, List, [], length, Option, None, Some, unwrap_or}
-use Rattle.ssh_model.specs.Protocol.Bounds.{longest_payload}
+use Rattle.ssh_model.specs.Protocol.Bounds.{longest_payload, numbers_of_epoch}
 use Rattle.ssh_model.specs.OneEpoch.History.{Item, has_died, sent, took}
 use Rattle.ssh_model.specs.Protocol.Wire.MacOnly.{mac_only}
 use Rattle.ssh_model.specs.Protocol.Wire.Outcome.{Outcome.Opens, Outcome.RefusedPacket}
 use Rattle.ssh_model.specs.Laws.Reading.{Writes}
 use Rattle.ssh_model.specs.Protocol.Wire.Sealing.{IsSealed}
 use Rattle.ssh_model.specs.Protocol.Wire.Unit.{IsPacketBegun, PacketUnit}
-use Rattle.ssh_types.specs.Refusals.{refusal_of}
-use Rattle.ssh_transport_base.specs.Directions.{Direction, Receiver}
-use Rattle.ssh_transport_base.specs.declared.packets.step.PacketStep.{PacketStep}
-use Rattle.ssh_transport_base.specs.declared.packets.step.PacketStep.TheVariants.{Payload, More, Refused}
+use Rattle.ssh_packet.specs.Directions.{Direction, Receiver}
+use Rattle.ssh_packet.specs.declared.packets.step.PacketStep.{PacketStep}
+use Rattle.ssh_packet.specs.declared.packets.step.PacketStep.TheVariants.{Payload, More, Refused}
 use Rattle.ssh_trace.specs.declared.epoch_end.AskStep.{AskStep}
 use Rattle.ssh_trace.specs.declared.epoch_end.AskStep.TheVariants as ask
 
@@ -70,12 +69,12 @@ abbrev pub EndFinds : List ℕ → End → PacketStep → End → Type 0
 EndFinds bytes old More new = IsPacketBegun mac_only (Some old.taking_key) old.taken bytes × (new ≡ record old { begun = bytes; payload = [] })
 EndFinds bytes old Payload new =
     PacketUnit mac_only (Some old.taking_key) old.taken old.taken bytes (Opens new.payload) × (new ≡ record old { begun = []; payload = new.payload; taken = old.taken + 1 })
-EndFinds bytes old (Refused refusal) new = PacketUnit mac_only (Some old.taking_key) old.taken old.taken bytes (RefusedPacket (refusal_of refusal)) × HasDied old new
+EndFinds bytes old (Refused refusal) new = PacketUnit mac_only (Some old.taking_key) old.taken old.taken bytes (RefusedPacket refusal) × HasDied old new
 
 -- What an end made of the ask to send a payload, with the bytes put out before and after.
 pub record Sends (payload : List ℕ) (old new : End) (before after : List ℕ) : Type 0 where
   pub short : length payload ≤ longest_payload
-  pub left : old.sent < 2 ^ 32
+  pub left : old.sent < numbers_of_epoch
   pub writes : Writes (IsSealed mac_only (Some old.sending_key) old.sent payload) before after
   pub new_is : new ≡ record old { sent = old.sent + 1 }
 
@@ -86,7 +85,7 @@ pub record RefusesAsk (payload : List ℕ) (old new : End) (before after : List 
 
 pub record SpendsNumbers (payload : List ℕ) (old new : End) (before after : List ℕ) : Type 0 where
   pub short : length payload ≤ longest_payload
-  pub spent : old.sent ≡ 2 ^ 32
+  pub spent : old.sent ≡ numbers_of_epoch
   pub died : HasDied old new
   pub none : after ≡ before
 

@@ -3,9 +3,6 @@ use Rattle.std.specs.Prelude.{◌≤◌, List, [], ◌∷◌, length}
 use Rattle.ssh_model.specs.OneEpoch.History as history
 use Rattle.ssh_model.specs.OneEpoch.Runs as epoch
 use Rattle.ssh_model.specs.Protocol.Side.{DoneBy.By}
-use Rattle.ssh_types.specs.AskRefusals.{ask_refusal_of}
-use Rattle.ssh_types.specs.Refusals.{refusal_of}
-use Rattle.ssh_types.specs.Sides.{side_of}
 use Rattle.ssh_trace.specs.declared.history.Item.{Item}
 use Rattle.ssh_trace.specs.declared.history.Item.TheVariants as item
 use Rattle.ssh_trace.specs.declared.history.Done.{Done}
@@ -14,20 +11,20 @@ use Rattle.ssh_trace.specs.declared.history.Event.TheVariants.{Ask, Deliver}
 
 abbrev pub item_of : Item → history.Item
 item_of item.Asked = history.Asked
-item_of (item.AskRefused refusal) = history.AskRefused (ask_refusal_of refusal)
+item_of (item.AskRefused refusal) = history.AskRefused refusal
 item_of (item.Took payload) = history.Took payload.items
 item_of (item.Sent payload) = history.Sent payload.items
-item_of (item.Refused refusal) = history.Refused (refusal_of refusal)
+item_of (item.Refused refusal) = history.Refused refusal
 item_of item.Died = history.Died
 
 -- all that was done, the newest first, with these records, the oldest first, put after it
 abbrev pub logged : List history.Done → List Done → List history.Done
 logged run [] = run
-logged run (done ∷ dones) = logged (By (side_of done.side) (item_of done.item) ∷ run) dones
+logged run (done ∷ dones) = logged (By done.side (item_of done.item) ∷ run) dones
 
 abbrev pub event_of : Event → epoch.Event
-event_of (Ask side payload) = epoch.Ask (side_of side) payload.now
-event_of (Deliver side bytes) = epoch.Deliver (side_of side) bytes.now
+event_of (Ask side payload) = epoch.Ask side payload.now
+event_of (Deliver side bytes) = epoch.Deliver side bytes.now
 
 abbrev pub events_of : List Event → List epoch.Event
 events_of [] = []

@@ -1,7 +1,8 @@
 -- The pair of two ends in one epoch.
 use Rattle.std.specs.Prelude.{◌≡◌, ℕ, Bool, List, ◌++◌}
 use Rattle.ssh_model.specs.Protocol.Wire.MacOnly.{mac_only}
-use Rattle.ssh_model.specs.Protocol.Side.{Side.Client, Side.Server, part}
+use Rattle.ssh_model.specs.declared.side.Side.TheVariants.{Client, Server}
+use Rattle.ssh_model.specs.Protocol.Side.{part}
 use Rattle.ssh_model.specs.OneEpoch.History as history
 use Rattle.ssh_model.specs.OneEpoch.Runs.{Event, Keys, Run, Step, World}
 use Rattle.ssh_trace.specs.History.{logged}

@@ -1,13 +1,12 @@
 //! What becomes of an ask, and of bytes that come, with the records of it.
 
 ghost use Rattle.std.specs.Prelude.{◌≡◌, ◌⊎◌, ◌<◌, ◌≤◌, false, true, length, take, IfOk, OnOk};
-ghost use Rattle.ssh_types.specs.Sides.{side_of};
 ghost use Rattle.ssh_trace.specs.EpochEnd.{SameKeys};
 ghost use Rattle.ssh_trace.specs.Turns.{Asked, Delivered, Turn};
 
 use crate::epoch_end::{AskStep, EpochEnd};
 use crate::history::{Done, Item, note, note_sent, note_took};
-use ssh_transport_base::PacketStep;
+use ssh_packet::PacketStep;
 use ssh_types::{AskRefusal, Refusal, Side};
 use std::alloc::{AllocError, Global};
 
@@ -21,7 +20,7 @@ pub(crate) fn ask(
     out: &mut Vec<u8>,
 ) -> Result<(), AllocError>
     requires { 1 ≤ length payload.now }
-    ensures asked { OnOk result (Asked end.old.sending_key (side_of side) payload.now end.old end.new log.old.items log.new.items
+    ensures asked { OnOk result (Asked end.old.sending_key side payload.now end.old end.new log.old.items log.new.items
         out.old.items out.new.items) }
     ensures keys { SameKeys end.old end.new }
 {
@@ -56,7 +55,7 @@ pub(crate) fn deliver(
     piece: &[u8],
     log: &mut Vec<Done>,
 ) -> Result<(), AllocError>
-    ensures delivered { OnOk result (Delivered end.old.taking_key (side_of side) piece.now end.old end.new log.old.items log.new.items) }
+    ensures delivered { OnOk result (Delivered end.old.taking_key side piece.now end.old end.new log.old.items log.new.items) }
     ensures keys { SameKeys end.old end.new }
 {
     let mut at = 0;
@@ -82,7 +81,7 @@ fn deliver_once(
     requires alive { end.old.dead ≡ false }
     ensures used { IfOk result (λ count. count ≤ length bytes.now) }
     ensures progress { IfOk result (λ count. 0 < length bytes.now → 0 < count) }
-    ensures turn { IfOk result (λ count. Turn end.old.taking_key (side_of side) (take count bytes.now) end.old end.new log.old.items
+    ensures turn { IfOk result (λ count. Turn end.old.taking_key side (take count bytes.now) end.old end.new log.old.items
         log.new.items) }
     ensures keys { SameKeys end.old end.new }
 {

@@ -3,9 +3,8 @@ ghost use Rattle.ssh_model.specs.Protocol.Wire.MacOnly.{mac_only};
 ghost use Rattle.ssh_model.specs.Protocol.Wire.Unit.{IsPacketBegun};
 ghost use Rattle.ssh_trace.specs.EpochEnd.{EndAsks, EndFinds, SameKeys, new_end};
 
-use ssh_packet::{HmacKey, LONGEST_PAYLOAD, MacOnly};
+use ssh_packet::{HmacKey, LONGEST_PAYLOAD, MacOnly, PacketReceiver, PacketSender, PacketStep};
 use ssh_toys::ToyFiller;
-use ssh_transport_base::{PacketReceiver, PacketSender, PacketStep};
 use std::alloc::{AllocError, Global};
 use std::marker::Model;
 

@@ -5,7 +5,6 @@ ghost use Rattle.ssh_model.specs.OneEpoch.Runs as epoch;
 ghost use Rattle.ssh_model.specs.OneEpoch.Runs.{World, fresh};
 ghost use Rattle.ssh_model.specs.OneEpoch.History.{IsHonestEpoch, TakenInOrder};
 ghost use Rattle.ssh_model.specs.Protocol.Wire.MacOnly.{key_block};
-ghost use Rattle.ssh_types.specs.Sides.{side_of};
 ghost use Rattle.ssh_trace.specs.History.{AreFilled, event_of, events_of, logged};
 ghost use Rattle.ssh_trace.specs.Pair.{PairState, Plays, PlaysOne, StandsAt, keys_of};
 
@@ -133,7 +132,7 @@ impl EpochPair {
         requires filled { 1 ≤ length payload.now }
         ensures failed { self.new.failed ≡ self.old.failed }
         ensures keys { keys_of self.new ≡ keys_of self.old }
-        ensures plays { OnOk result ((w : World) → StandsAt w self.old → PlaysOne (epoch.Ask (side_of side) payload.now) self.old self.new
+        ensures plays { OnOk result ((w : World) → StandsAt w self.old → PlaysOne (epoch.Ask side payload.now) self.old self.new
             transcript.old.items.items transcript.new.items.items transcript.old.client_bytes.items transcript.new.client_bytes.items
             transcript.old.server_bytes.items transcript.new.server_bytes.items w) }
     {
@@ -166,7 +165,7 @@ impl EpochPair {
     ) -> Result<(), AllocError>
         ensures failed { self.new.failed ≡ self.old.failed }
         ensures keys { keys_of self.new ≡ keys_of self.old }
-        ensures plays { OnOk result ((w : World) → StandsAt w self.old → PlaysOne (epoch.Deliver (side_of side) bytes.now) self.old self.new
+        ensures plays { OnOk result ((w : World) → StandsAt w self.old → PlaysOne (epoch.Deliver side bytes.now) self.old self.new
             transcript.old.items.items transcript.new.items.items transcript.old.client_bytes.items transcript.new.client_bytes.items
             transcript.old.server_bytes.items transcript.new.server_bytes.items w) }
     {

@@ -5,7 +5,7 @@ ghost use Rattle.ssh_trace.specs.History.{AreFilled, events_of};
 use crate::epoch_pair::EpochPair;
 use crate::history::{Done, Event, Item, Memory, Transcript};
 use crate::transcript::write_items;
-use ssh_draw::Drawing;
+use ssh_play::draw::Drawing;
 use ssh_play::{Played, origin_of};
 use ssh_script::{
     Delivery, EpochScript, EpochStep, Keys, Network, Parcel, RunFault, ScriptFault, Shortage,

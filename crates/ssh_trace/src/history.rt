@@ -3,7 +3,6 @@
 ghost use Rattle.std.specs.Prelude.{◌≡◌, ◌∷◌, List, OnOk};
 ghost use Rattle.ssh_model.specs.OneEpoch.History as history;
 ghost use Rattle.ssh_model.specs.Protocol.Side.{DoneBy.By};
-ghost use Rattle.ssh_types.specs.Sides.{side_of};
 ghost use Rattle.ssh_trace.specs.History.{item_of, logged};
 
 use ssh_types::{AskRefusal, Refusal, Side};
@@ -65,7 +64,7 @@ impl From<AllocError> for Memory {
 // Records what an end did.
 #[tactic(auto, using(crate::proofs::Logs::logged_one))]
 pub(crate) fn note(log: &mut Vec<Done>, side: Side, item: Item) -> Result<(), AllocError>
-    ensures { OnOk result ((run : List history.Done) → logged run log.new.items ≡ By (side_of side) (item_of item) ∷ logged run
+    ensures { OnOk result ((run : List history.Done) → logged run log.new.items ≡ By side (item_of item) ∷ logged run
         log.old.items) }
 {
     log.push(Done { side, item })?;
@@ -79,7 +78,7 @@ pub(crate) fn note_took(
     side: Side,
     payload: &[u8],
 ) -> Result<(), AllocError>
-    ensures { OnOk result ((run : List history.Done) → logged run log.new.items ≡ By (side_of side) (history.Took payload.now) ∷ logged
+    ensures { OnOk result ((run : List history.Done) → logged run log.new.items ≡ By side (history.Took payload.now) ∷ logged
         run log.old.items) }
 {
     note(log, side, Item::Took(payload.to_vec(alloc)?))
@@ -92,7 +91,7 @@ pub(crate) fn note_sent(
     side: Side,
     payload: &[u8],
 ) -> Result<(), AllocError>
-    ensures { OnOk result ((run : List history.Done) → logged run log.new.items ≡ By (side_of side) (history.Sent payload.now) ∷ logged
+    ensures { OnOk result ((run : List history.Done) → logged run log.new.items ≡ By side (history.Sent payload.now) ∷ logged
         run log.old.items) }
 {
     note(log, side, Item::Sent(payload.to_vec(alloc)?))

@@ -7,7 +7,7 @@
 ghost use Rattle.std.specs.Prelude.{◌≡◌, ◌≤◌, true, IfSome};
 ghost use Rattle.ssh_model.specs.Protocol.Sessions.Turns.{number_of};
 ghost use Rattle.ssh_message.specs.Written.{Fits};
-ghost use Rattle.ssh_layers.specs.Layers.{IsShort};
+ghost use Rattle.ssh_end.specs.Layers.{IsShort};
 
 use crate::call::{ask_of, ask_refused, refused, sent};
 use crate::lines::{Layer, Problem, bytes_of, parsed};
@@ -15,7 +15,9 @@ use crate::logins::methods;
 use ssh_auth::AskError as UserAskError;
 use ssh_channels::{AskError, Reply};
 use ssh_end::Ask;
-use ssh_layers::{Below, ClientLayers, LayerFault, ServerLayerAnswer, ServerLayers, ask_channels};
+use ssh_end::layers::{
+    Below, ClientLayers, LayerFault, ServerLayerAnswer, ServerLayers, ask_channels,
+};
 use ssh_message::Message;
 use ssh_toys::{ToyCredential, ToyJudge, ToyUserSigner};
 use ssh_types::AskRefusal;

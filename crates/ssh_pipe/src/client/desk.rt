@@ -8,10 +8,9 @@ use crate::login::Login;
 use crate::station::Desk;
 use crate::tasks::Tasks;
 use crate::texts::{first_string_in, number_in};
-use divrelca::default_answer;
+use divrelca::{AskOutcome, End, MOST_WAITING, asked, default_answer};
 use ssh_channels::{Ask as ChannelAsk, Fact};
 use ssh_end::{Ask, Fault, Told, Turn};
-use ssh_pipe_policy::{AskOutcome, End, MOST_WAITING, asked};
 use ssh_types::NameList;
 use std::alloc::{AllocError, Global};
 

@@ -1,8 +1,8 @@
 //! What a client asks of the server, and as whom.
 
 use crate::login::Login;
+use divrelca::UserKey;
 use ssh_parts::Ed25519Trust;
-use ssh_pipe_policy::UserKey;
 
 /// A client's session: the host that it trusts, the user who logs in, and what is asked of the server.
 #[derive(Clone, Copy)]

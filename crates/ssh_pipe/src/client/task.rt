@@ -2,9 +2,9 @@
 
 use super::request::{Request, RequestKind};
 use crate::login::Login;
+use divrelca::MOST_DATA;
 use ssh_channels::Ask as ChannelAsk;
 use ssh_end::Ask;
-use ssh_pipe_policy::MOST_DATA;
 
 /// What is to be done on what the end told.
 #[derive(Clone, Copy)]

@@ -4,10 +4,9 @@ use crate::ending::Ending;
 use crate::session::Session;
 use crate::station::Desk;
 use crate::tasks::Tasks;
-use divrelca::default_answer;
+use divrelca::{End, MOST_DATA, MOST_SESSIONS, default_answer};
 use ssh_channels::{Ask as ChannelAsk, Fact};
 use ssh_end::{Ask, Fault, Told, Turn};
-use ssh_pipe_policy::{End, MOST_DATA, MOST_SESSIONS};
 use std::alloc::{AllocError, Global};
 
 /// What a server keeps besides its end.

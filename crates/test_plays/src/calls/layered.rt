@@ -7,7 +7,7 @@ use super::changing::{OPEN, SESSION, SIGN, SIGNED};
 use super::outcome::{Outcome, came};
 use ssh_auth::{AskError as UserAskError, ServerAnswer};
 use ssh_channels::{AskError, Channels};
-use ssh_layers::{
+use ssh_end::layers::{
     Below, ClientLayers, LayerFault, ServerLayerAnswer, ServerLayers, ServerTaken, ask_channels,
 };
 use ssh_toys::{CREDENTIALS, ToyJudge, ToyUserSigner};

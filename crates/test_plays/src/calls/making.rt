@@ -3,8 +3,8 @@
 use super::outcome::Outcome;
 use ssh_auth::AuthServer;
 use ssh_channels::Channels;
+use ssh_end::layers::{ClientLayers, ServerLayers};
 use ssh_kex::{ExchangeInputs, exchange_text};
-use ssh_layers::{ClientLayers, ServerLayers};
 use ssh_message::{Extension, ExtensionsBuf};
 use ssh_packet::{HmacKey, MacOnly, PacketReader, Sealing};
 use ssh_script::{Script, ScriptFault};

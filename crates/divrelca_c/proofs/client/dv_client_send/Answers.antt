@@ -1,6 +1,6 @@
 use Rattle.std.proofs.Common.{ℕ, of_z, rules, subst, to_z, w32}
 use Rattle.ssh_parts.specs.AesGcm.{aes_gcm}
-use Rattle.ssh_pipe_policy.specs.Supplies.{next_bytes}
+use Rattle.divrelca.specs.Supplies.{next_bytes}
 use Rattle.ssh_embedded.specs.Padding.{PadsOn}
 use Rattle.divrelca_c.proofs.Padding.{refused_by}
 use Rattle.divrelca_c.proofs.client.dv_client_send.Goals as goal

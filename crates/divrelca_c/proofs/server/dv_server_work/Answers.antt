@@ -1,6 +1,6 @@
 use Rattle.std.proofs.Common.{ap, of_z, refl, rules, subst, to_z, w32}
 use Rattle.ssh_parts.specs.AesGcm.{aes_gcm}
-use Rattle.ssh_pipe_policy.specs.Supplies.{next_bytes}
+use Rattle.divrelca.specs.Supplies.{next_bytes}
 use Rattle.ssh_embedded.specs.Padding.{PadsOn}
 use Rattle.divrelca_c.proofs.Padding.{answered_by, pads_on_none}
 use Rattle.divrelca_c.proofs.server.dv_server_work.Goals as goal

@@ -4,8 +4,8 @@ use Rattle.ssh_embedded.specs.declared.making.Methods.{Methods}
 use Rattle.ssh_embedded.specs.declared.server.Server.{Server}
 use Rattle.ssh_end.specs.Ends.{sending_from_line, sending_to}
 use Rattle.ssh_parts.specs.AesGcm.{aes_gcm}
-use Rattle.ssh_pipe_policy.specs.Supplies.{next_bytes, padding_under}
-use Rattle.ssh_pipe_policy.specs.declared.ciphers.Ciphers.{Ciphers}
+use Rattle.divrelca.specs.Supplies.{next_bytes, padding_under}
+use Rattle.divrelca.specs.declared.ciphers.Ciphers.{Ciphers}
 use Rattle.ssh_transport_machine.specs.Padding.{PadsTo}
 use Rattle.divrelca_c.specs.Making.{ciphers_by, methods_by}
 use Rattle.divrelca_c.proofs.Known.{if_mapped}

@@ -1,8 +1,6 @@
-use Rattle.std.proofs.Common.{◌≡◌, ◌++◌, true, sym, ◌∙◌}
-use Rattle.std.proofs.lemmas.Grind.{common_steps}
+use Rattle.std.proofs.Common.{◌≡◌, true, sym, ◌∙◌}
 use Rattle.ssh_play.proofs.Sent.{went_more, went_on}
-use Rattle.ssh_play.specs.Prefixes.{payloads_in}
-use Rattle.ssh_play.specs.Runs.{is_side, went}
+use Rattle.ssh_play.specs.Runs.{is_side}
 use Rattle.ssh_play.proofs.safety.payloads.Goals as goal
 use Rattle.ssh_play.proofs.safety.payloads.Goals.{in-Some+in_ok-push, in_default}
 

@@ -1,5 +1,5 @@
 use Rattle.ssh_parts.specs.AesGcm.{aes_gcm}
-use Rattle.ssh_pipe_policy.specs.Supplies.{next_bytes}
+use Rattle.divrelca.specs.Supplies.{next_bytes}
 use Rattle.ssh_embedded.proofs.Padding.{padded_from}
 use Rattle.ssh_embedded.proofs.client.Client.new.Goals as goal
 

@@ -1,0 +1,76 @@
+//! Whom a server lets in.
+
+ghost use Rattle.std.specs.Prelude.{◌≡◌, Some};
+ghost use Rattle.std.specs.Option.{option_copied};
+ghost use Rattle.divrelca.specs.Users.{is_password, verdicts_of};
+ghost use Rattle.sha2.specs.Sha256.{sha256};
+
+use sha2::{Digest, Sha256};
+use ssh_auth::UserJudge;
+use ssh_packet::is_same_tag;
+use ssh_parts::{AcceptedKey, Ed25519Judge};
+
+/// The SHA-256 of a password. It is compared in place of the password, so that the time taken does not depend on where the two first
+/// differ, nor on the password's length.
+#[derive(Clone, Copy, PartialEq, Eq)]
+pub struct PasswordHash {
+    bytes: [u8; 32],
+}
+
+impl PasswordHash {
+    /// The hash of this password.
+    pub fn new(password: &[u8]) -> PasswordHash
+        ensures { result.bytes ≡ sha256 password.now }
+    {
+        PasswordHash {
+            bytes: Sha256::digest(password),
+        }
+    }
+}
+
+/// Lets one user in, by keys of ssh-ed25519 and by a password where there is one.
+#[derive(Clone, Copy)]
+pub struct OneUser<'a> {
+    /// The user's name.
+    pub name: &'a [u8],
+    /// The user's keys.
+    pub keys: &'a [AcceptedKey<'a>],
+    /// The user's password.
+    pub password: Option<PasswordHash>,
+}
+
+impl UserJudge for OneUser<'_> {
+    ghost verdicts = { λ judge. verdicts_of judge.name.now judge.keys.now judge.password };
+
+    fn none(&self, _user: &[u8]) -> bool {
+        false
+    }
+
+    fn password(&self, user: &[u8], word: &[u8]) -> bool {
+        is_password(self.name, self.password, user, word)
+    }
+
+    fn key_known(&self, user: &[u8], algorithm: &[u8], key: &[u8]) -> bool {
+        let judge = Ed25519Judge {
+            accepted: self.keys,
+        };
+        judge.key_known(user, algorithm, key)
+    }
+
+    fn signature(&self, algorithm: &[u8], key: &[u8], text: &[u8], signature: &[u8]) -> bool {
+        let judge = Ed25519Judge {
+            accepted: self.keys,
+        };
+        judge.signature(algorithm, key, text, signature)
+    }
+}
+
+// Whether this is the user and that the password.
+fn is_password(name: &[u8], password: Option<PasswordHash>, user: &[u8], word: &[u8]) -> bool
+    ensures { result ≡ is_password name.now password user.now word.now }
+{
+    match password {
+        Some(hash) => name == user && is_same_tag(&Sha256::digest(word), &hash.bytes),
+        None => false,
+    }
+}

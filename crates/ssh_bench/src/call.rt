@@ -1,0 +1,31 @@
+use std::rt::Env;
+use std::{env, io};
+
+/// What a call of the program asks for, each time in so many rounds.
+#[derive(Clone, Copy)]
+pub enum Call {
+    /// `run ROUNDS`: the work of the core.
+    Run(u32),
+    /// `ciphers ROUNDS`: the ciphers and curves.
+    Ciphers(u32),
+}
+
+/// What the words of the call ask for, if they ask for times.
+///
+/// # Errors
+///
+/// The arguments can't be read, or memory is refused.
+pub fn call_of<R: Env + AllocGlobal>(rt: &R) -> io::Result<Option<Call>> {
+    let words: Vec<String> = env::args(rt)?.collect(rt.alloc())?;
+    let [_, command, rounds] = words.as_slice() else {
+        return Ok(None);
+    };
+    let Ok(rounds) = rounds.as_str().parse() else {
+        return Ok(None);
+    };
+    match command.as_str() {
+        "run" => Ok(Some(Call::Run(rounds))),
+        "ciphers" => Ok(Some(Call::Ciphers(rounds))),
+        _ => Ok(None),
+    }
+}

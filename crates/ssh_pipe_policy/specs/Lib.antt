@@ -1,7 +1,0 @@
-pub mod Asking
-pub mod Ciphers
-pub mod Feeding
-pub mod Supplies
-pub mod UserKey
-pub mod Users
-pub mod Windows

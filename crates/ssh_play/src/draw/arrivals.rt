@@ -1,0 +1,168 @@
+//! What comes to an end of a run, and what does not.
+
+use crate::draw::Result;
+use crate::draw::drawing::Drawing;
+use crate::draw::end::End;
+use crate::draw::places::Column;
+use crate::draw::text::push_refusal;
+use ssh_types::Side;
+
+/// An arrow to a row of a side.
+#[derive(Clone, Copy, Debug, PartialEq, Eq)]
+pub(crate) struct Arrow {
+    /// The row of the other side in which it begins. None where it begins in the network, since nobody sent what it stands for.
+    pub start: Option<usize>,
+    pub to: Side,
+    pub row: usize,
+    /// What was done to what it stands for. If anything was, a text stands where it leaves the network, and it ends there.
+    pub word: &'static str,
+    pub is_hot: bool,
+}
+
+/// What an end does with what came to it.
+#[derive(Clone, Copy)]
+pub(crate) enum Outcome<'a> {
+    /// It takes it as this.
+    Taken(&'a str),
+    /// It refuses it with this.
+    Refused(&'a str),
+    /// It is over, or waits for more.
+    Unread,
+}
+
+/// What came, next to what was sent.
+#[derive(Clone, Copy)]
+struct Reading {
+    /// What was done to it, if anything was.
+    word: &'static str,
+    /// Whether it came besides what waits.
+    is_foreign: bool,
+    /// How many bytes it has.
+    count: usize,
+    /// The units that it is from: the index of the first, and that after the last.
+    first: usize,
+    last: usize,
+}
+
+impl Drawing {
+    /// An end does this with what came to it.
+    pub(crate) fn arrive(&mut self, to: Side, outcome: Outcome<'_>) -> Result<()> {
+        let mut name = String::from_str(self.alloc, "to go on")?;
+        if !self.end(to).unread.is_empty() {
+            let mut reading = reading_of(self.end(to), self.end(to.peer()));
+            if matches!(outcome, Outcome::Unread) {
+                reading.word = "not read";
+            }
+            self.end_mut(to).settle();
+            name = self.show(to, &reading, outcome)?;
+        }
+        if let Outcome::Refused(refusal) = outcome {
+            push_refusal(&mut self.verdict, to, name.as_str(), refusal)?;
+        }
+        Ok(())
+    }
+
+    /// So many of the next bytes that wait at an end are lost.
+    ///
+    /// # Errors
+    ///
+    /// Only where memory is refused.
+    pub fn lose(&mut self, from: Side, count: usize) -> Result<()> {
+        let start = self.end_mut(from).pass(count);
+        let stop = self.end(from).passed;
+        let (first, last) = self.end(from).touched(start, stop);
+        // What was put out after the last byte that came is lost.
+        let to = self.end(from.peer());
+        let came = to.waited.map_or(to.read, |(_, end)| end);
+        for first in first..last {
+            let unit = self.end(from).units.get(first);
+            if unit.is_some_and(|unit| unit.start >= came && unit.end <= stop) {
+                let reading = Reading {
+                    word: "lost",
+                    is_foreign: false,
+                    count: 0,
+                    first,
+                    last: first.saturating_add(1),
+                };
+                self.show(from.peer(), &reading, Outcome::Unread)?;
+            }
+        }
+        Ok(())
+    }
+
+    // Shows in a row what came, or did not: an arrow for each unit, or one from the network, and what was done to it. Gives its name: that
+    // of its first unit, or else what the end took it as.
+    fn show(&mut self, to: Side, reading: &Reading, outcome: Outcome<'_>) -> Result<String> {
+        let name = match (self.end(to.peer()).units.get(reading.first), outcome) {
+            (Some(unit), _) if reading.first < reading.last => unit.name.clone()?,
+            (_, Outcome::Taken(name)) => String::from_str(self.alloc, name)?,
+            _ => format!(in self.alloc; "{} bytes", reading.count)?,
+        };
+        let row = self.row_of(to, reading);
+        let (word, is_noted) = (reading.word, !reading.word.is_empty());
+        if is_noted {
+            let text = format!(in self.alloc; "{word}: {name}")?;
+            self.put(row, Column::Inner(to), true, text.as_str())?;
+        }
+        let mut arrow = Arrow {
+            start: None,
+            to,
+            row,
+            word,
+            is_hot: is_noted || matches!(outcome, Outcome::Refused(_)),
+        };
+        if reading.is_foreign {
+            self.arrows.push(arrow)?;
+            return Ok(name);
+        }
+        for index in reading.first..reading.last {
+            let unit = self.end(to.peer()).units.get(index);
+            arrow.start = unit.map(|unit| unit.row);
+            self.arrows.push(arrow)?;
+        }
+        Ok(name)
+    }
+
+    // The row of a side to which something comes: none above those in which it was sent. What its peer did not send now has a row of that
+    // one too.
+    fn row_of(&mut self, to: Side, reading: &Reading) -> usize {
+        let last = reading.last.saturating_sub(1);
+        let least = match self.end(to.peer()).units.get(last) {
+            Some(unit) if !reading.is_foreign => unit.row,
+            _ => self.client.rows().max(self.server.rows()),
+        };
+        if reading.is_foreign {
+            self.end_mut(to.peer()).row_of_deed(least);
+        }
+        self.end_mut(to).row_of_deed(least)
+    }
+}
+
+// What came to an end and was not read yet, next to what the other one sent. What did not wait there is from a unit where it is all bytes
+// of that.
+fn reading_of(end: &End, sender: &End) -> Reading {
+    let is_foreign = end.waited.is_none();
+    let (start, stop) = end.waited.or(end.again).unwrap_or((0, 0));
+    let (first, last) = sender.touched(start, stop);
+    let unit = sender.units.get(first);
+    let is_unit = unit.is_some_and(|unit| unit.start == start && unit.end == stop);
+    let from = unit.map_or(start, |unit| unit.start.max(end.read));
+    let to = from.saturating_add(end.unread.len());
+    let is_same = sender.bytes.as_slice().get(from..to) == Some(end.unread.as_slice());
+    let is_early = start >= sender.passed;
+    let (word, last) = match end.again {
+        _ if !is_foreign => (if is_same { "" } else { "changed" }, last),
+        Some(_) if !end.is_given => (
+            if is_early { "out of order" } else { "repeated" },
+            if is_unit { last } else { first },
+        ),
+        _ => ("injected", first),
+    };
+    Reading {
+        word,
+        is_foreign,
+        count: end.unread.len(),
+        first,
+        last,
+    }
+}
