@@ -1,6 +1,6 @@
 //! The key stream (NIST SP 800-38D section 6.5), eight blocks at once.
 
-ghost use Rattle.std.specs.Prelude.{◌≡◌, ◌≢◌, ℕ, ◌≤◌, ◌<◌, ◌+◌, ◌^◌, ◌*◌, ◌/◌, ◌%◌, bit_xor, length, slice_index};
+ghost use Rattle.std.specs.Prelude.{◌≡◌, ℕ, ◌≤◌, ◌<◌, ◌+◌, ◌^◌, ◌*◌, ◌/◌, ◌%◌, bit_xor, length, slice_index};
 ghost use Rattle.aes_gcm.specs.Gcm.{counter_block, stream};
 ghost use Rattle.aes_gcm.specs.Rows.{AreVectors, lane};
 ghost use Rattle.aes_gcm.specs.Same.{lane_of};

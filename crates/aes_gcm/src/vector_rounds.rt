@@ -1,6 +1,6 @@
 //! The rounds of AES (FIPS 197) on eight blocks at once, in vectors of sixteen bytes.
 
-ghost use Rattle.std.specs.Prelude.{ℕ, ◌<◌, ◌≡◌, Option, Some};
+ghost use Rattle.std.specs.Prelude.{ℕ, ◌<◌, Option, Some};
 ghost use Rattle.aes_gcm.specs.Aes.{further, last_round, round};
 ghost use Rattle.aes_gcm.specs.Planes.{added};
 ghost use Rattle.aes_gcm.specs.Rows.{AreVectors};

@@ -1,6 +1,6 @@
 //! Points as 32 bytes (RFC 8032 sections 5.1.2 and 5.1.3).
 
-ghost use Rattle.std.specs.Prelude.{◌≤◌, IfSome};
+ghost use Rattle.std.specs.Prelude.{IfSome};
 ghost use Rattle.x25519.specs.Field.{IsTight};
 ghost use Rattle.ciphers_plain.specs.Safe.{IsPoint};
 

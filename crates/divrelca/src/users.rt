@@ -1,7 +1,6 @@
 //! Whom a server lets in.
 
 ghost use Rattle.std.specs.Prelude.{◌≡◌, Some};
-ghost use Rattle.std.specs.Option.{option_copied};
 ghost use Rattle.divrelca.specs.Users.{is_password, verdicts_of};
 ghost use Rattle.sha2.specs.Sha256.{sha256};
 

@@ -1,6 +1,6 @@
 //! Points as 32 bytes (RFC 8032 sections 5.1.2 and 5.1.3).
 
-ghost use Rattle.std.specs.Prelude.{◌≡◌, ◌≤◌, IfSome, Some};
+ghost use Rattle.std.specs.Prelude.{◌≡◌, IfSome, Some};
 ghost use Rattle.std.specs.Option.{option_map};
 ghost use Rattle.x25519.specs.Field.{IsTight, residue};
 ghost use Rattle.ed25519.specs.Encoding.{candidate, decoded, encoded, is_root, point_of, root, signed, with_sign, y_in};

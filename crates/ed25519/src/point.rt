@@ -1,6 +1,6 @@
 //! The curve -x^2 + y^2 = 1 + d x^2 y^2 in extended coordinates (RFC 8032 section 5.1.4).
 
-ghost use Rattle.std.specs.Prelude.{◌≡◌, ◌≤◌};
+ghost use Rattle.std.specs.Prelude.{◌≡◌};
 ghost use Rattle.x25519.specs.Field.{IsLoose, IsTight, residue};
 ghost use Rattle.x25519.specs.Residues.{minus, plus, times};
 ghost use Rattle.ed25519.specs.Point.{IsPoint, IsPrepared, added, added_ready, d, negated, numbers, prepared, ready};

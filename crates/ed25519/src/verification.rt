@@ -1,11 +1,9 @@
 //! The verification of signatures (RFC 8032 section 5.1.7).
 
-ghost use Rattle.std.specs.Prelude.{◌≡◌, ◌%◌};
-ghost use Rattle.x25519.specs.Bytes.{le_bytes, value};
+ghost use Rattle.std.specs.Prelude.{◌≡◌};
 ghost use Rattle.ed25519.specs.Encoding.{IsOnCurve};
 ghost use Rattle.ed25519.specs.Point.{IsPoint, numbers};
-ghost use Rattle.ed25519.specs.Scalar.{order};
-ghost use Rattle.ed25519.specs.Signature.{challenge_of, commitment, is_signature};
+ghost use Rattle.ed25519.specs.Signature.{commitment, is_signature};
 
 use crate::encoding::{decoded, encoded};
 use crate::keys::{hash_of, high_half, low_half};

@@ -1,6 +1,6 @@
 //! The client of authentication.
 
-ghost use Rattle.std.specs.Prelude.{◌≡◌, ◌≤◌, ◌<◌, ◌+◌, ◌^◌, false, true, Bool, IfErr, IfOk, OnErr, OnOk, None, Some, length};
+ghost use Rattle.std.specs.Prelude.{◌≡◌, ◌≤◌, ◌<◌, ◌+◌, ◌^◌, false, true, IfErr, IfOk, OnErr, OnOk, None, Some};
 ghost use Rattle.ssh_model.specs.Protocol.Bounds.{longest_payload};
 ghost use Rattle.ssh_model.specs.Protocol.Wire.Message.{message_number};
 ghost use Rattle.ssh_model.specs.Protocol.Sessions.Refusals.{first_refusal};

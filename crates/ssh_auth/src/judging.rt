@@ -1,7 +1,7 @@
 // How a request is judged (RFC 4252).
 
-ghost use Rattle.std.specs.Prelude.{◌≡◌, ◌<◌, ◌≤◌, ◌^◌, ◌&&◌, true, IfOk, IsTrue, OnErr, Some, codes, length};
-ghost use Rattle.ssh_model.specs.Protocol.Authentication.Requests.{is_configured as model_configured, is_for_connection};
+ghost use Rattle.std.specs.Prelude.{◌≡◌, ◌<◌, ◌≤◌, ◌&&◌, IfOk, IsTrue, OnErr, Some, codes, length};
+ghost use Rattle.ssh_model.specs.Protocol.Authentication.Requests.{is_configured as model_configured};
 ghost use Rattle.ssh_model.specs.Protocol.Authentication.Requests.{is_known_key as model_known, signed_text};
 ghost use Rattle.ssh_types.specs.Values.{names};
 ghost use Rattle.ssh_message.specs.Meaning.{method_meaning};

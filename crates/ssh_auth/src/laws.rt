@@ -1,9 +1,9 @@
 //! Laws of authentication in a session: what a server and a client keep sums up the history of their end, before and
 //! after each call. Facts for proofs, at no cost.
 
-ghost use Rattle.std.specs.Prelude.{◌≡◌, ◌≤◌, ◌<◌, ℕ, List, [], ◌∷◌, None, Option};
+ghost use Rattle.std.specs.Prelude.{◌≡◌, ◌≤◌, ◌<◌, ℕ, List};
 ghost use Rattle.ssh_model.specs.declared.side.Side.TheVariants.{Client, Server};
-ghost use Rattle.ssh_model.specs.Protocol.Wire.Message.{Msg, Msg.ServiceAccept};
+ghost use Rattle.ssh_model.specs.Protocol.Wire.Message.{Msg};
 ghost use Rattle.ssh_model.specs.Protocol.Sessions.Refusals.{first_refusal};
 ghost use Rattle.ssh_model.specs.Protocol.Sessions.Parties.{Parties};
 ghost use Rattle.ssh_model.specs.Protocol.Sessions.Items.{Ask, Item};

@@ -1,13 +1,13 @@
 //! The requests of a client.
 
-ghost use Rattle.std.specs.Prelude.{◌≡◌, ◌≤◌, ◌+◌, IfOk, None, Some, codes, length};
+ghost use Rattle.std.specs.Prelude.{◌≡◌, ◌≤◌, ◌+◌, IfOk, None, Some, codes};
 ghost use Rattle.ssh_model.specs.Protocol.Bounds.{longest_payload};
 ghost use Rattle.ssh_model.specs.Protocol.Wire.Message.{Method.NoMethod, Method.Password, Method.Publickey};
 ghost use Rattle.ssh_model.specs.Laws.Sizes.{payload_size};
 ghost use Rattle.ssh_model.specs.Protocol.Authentication.Requests.{signed_text};
 ghost use Rattle.ssh_model.specs.State.Authentication.Kept.{request_by};
 ghost use Rattle.ssh_message.specs.Meaning.{meaning, method_meaning};
-ghost use Rattle.ssh_message.specs.Written.{Fits, IsShort, MethodFits};
+ghost use Rattle.ssh_message.specs.Written.{Fits};
 ghost use Rattle.ssh_auth.specs.Asking.{short_signature};
 
 use crate::configured::CONNECTION;

@@ -1,5 +1,5 @@
 ghost use Rattle.std.specs.Prelude.{◌≡◌, ◌<◌, None, Some, IfOk, IfSome, IfNone, ℕ, OnErr, IsSome, Contains, length, replicate, slice_set};
-ghost use Rattle.std.specs.Prelude.{count_by, is_some, option_map};
+ghost use Rattle.std.specs.Prelude.{option_map};
 ghost use Rattle.ssh_model.specs.Protocol.Bounds.{most_channels};
 ghost use Rattle.ssh_model.specs.State.Channels.Places.{at};
 ghost use Rattle.ssh_model.specs.State.Channels.Kept.{used, IsUnused};

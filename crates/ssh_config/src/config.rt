@@ -76,7 +76,7 @@ impl<S: Sealing> Drop for Config<S> {
 }
 
 impl<S: Sealing> Config<S> {
-    ghost use Rattle.std.specs.Prelude.{◌^◌, ◌++◌, IfOk, IfErr};
+    ghost use Rattle.std.specs.Prelude.{◌++◌, IfOk, IfErr};
     ghost use Rattle.std.specs.Option.{option_copied};
     ghost use Rattle.ssh_model.specs.Protocol.Wire.Line.{line_end};
     ghost use Rattle.ssh_types.specs.Values.{names, names_text as text_of};

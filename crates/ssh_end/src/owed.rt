@@ -1,6 +1,6 @@
 //! The replies that channels owe once an exchange of keys is over.
 
-ghost use Rattle.std.specs.Prelude.{◌≡◌, ◌+◌, ◌<◌, ◌≤◌, ◌^◌, ◌++◌, ◌∷◌, [], OnErr, OnOk, false, length, map, true};
+ghost use Rattle.std.specs.Prelude.{◌≡◌, ◌+◌, ◌<◌, ◌≤◌, ◌++◌, ◌∷◌, [], OnErr, OnOk, false, length, map, true};
 ghost use Rattle.ssh_model.specs.State.Channels.Summary.{reply_channel, reply_sent};
 ghost use Rattle.ssh_model.specs.declared.side.Side.{Side};
 ghost use Rattle.ssh_model.specs.State.TransportLayer.Kept.{after_sent};

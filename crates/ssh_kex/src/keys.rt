@@ -1,8 +1,8 @@
-ghost use Rattle.std.specs.Prelude.{◌≡◌, ◌<◌, ◌≤◌, ◌+◌, ◌^◌, ◌++◌, ◌∷◌, List, ℕ, length, take, drop};
+ghost use Rattle.std.specs.Prelude.{◌≡◌, ◌≤◌, ◌+◌, ◌++◌, ◌∷◌, List, ℕ, length, take, drop};
 ghost use Rattle.sha2.specs.Hashers.{Holds256};
 ghost use Rattle.sha2.specs.Sha256.{sha256};
 ghost use Rattle.ssh_model.specs.Protocol.Wire.DataTypes.{number};
-ghost use Rattle.ssh_model.specs.Protocol.KeyExchange.Exchange.{derived, key_front as front_of, mpint_body};
+ghost use Rattle.ssh_model.specs.Protocol.KeyExchange.Exchange.{derived, key_front as front_of};
 ghost use Rattle.ssh_kex.specs.Values.{letter_of};
 
 use crate::laws::short_number;

@@ -1,7 +1,6 @@
 //! The supplied parts of a key exchange.
 
 ghost use Rattle.std.specs.Prelude.{◌≡◌, ◌≤◌, ℕ, Bool, List, length, take, replicate, Option, IfSome};
-ghost use Rattle.std.specs.Option.{option_map};
 
 /// A key agreement over secrets and public points of 32 bytes, as X25519 (RFC 8731 section 3). The answers are
 /// functions of the part and the arguments.

@@ -1,4 +1,4 @@
-ghost use Rattle.std.specs.Prelude.{◌≡◌, ◌∷◌, List, ℕ, IfOk, IfErr, IsOkAnd};
+ghost use Rattle.std.specs.Prelude.{◌≡◌, ◌∷◌, IfOk, IfErr, IsOkAnd};
 ghost use Rattle.ssh_model.specs.Protocol.Wire.Message.{Msg, IsPayload, IsWrittenPayload, FitsContext, message_number};
 ghost use Rattle.ssh_model.specs.Protocol.Sessions.Turns.{number_of};
 ghost use Rattle.ssh_message.specs.Meaning.{meaning, NoMessage};

@@ -34,7 +34,7 @@ pub struct ExtensionsIter<'a> {
 }
 
 impl<'a> Extensions<'a> {
-    ghost use Rattle.std.specs.Prelude.{◌≡◌, IfSome, IfNone, List, ℕ, length};
+    ghost use Rattle.std.specs.Prelude.{◌≡◌, IfSome, IfNone, List, length};
     ghost use Rattle.ssh_model.specs.Protocol.Wire.Message.{Extension as announced, IsExtensions};
     ghost use Rattle.ssh_message.specs.Announced.{extensions_of, extensions_left};
 

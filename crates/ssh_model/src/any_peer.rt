@@ -1,6 +1,6 @@
 //! What one end keeps to, whoever its peer is: the second headline, besides the claims on two ends in an honest run.
 
-ghost use Rattle.std.specs.Prelude.{◌≡◌, List, [], ◌∷◌, Some, None, true, false, codes, reverse};
+ghost use Rattle.std.specs.Prelude.{◌≡◌, List, [], ◌∷◌, Some, true, false, codes, reverse};
 ghost use Rattle.ssh_model.specs.declared.side.Side.{Side};
 ghost use Rattle.ssh_model.specs.declared.side.Side.TheVariants.{Client, Server};
 ghost use Rattle.ssh_model.specs.Protocol.Side.{part};

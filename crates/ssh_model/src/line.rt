@@ -1,4 +1,4 @@
-ghost use Rattle.std.specs.Prelude.{◌≡◌, ◌++◌, ◌⊎◌, ℕ, Bool, true, false, List, [], ◌∷◌, codes, replicate, Option, Some, None};
+ghost use Rattle.std.specs.Prelude.{◌≡◌, ◌++◌, ◌⊎◌, ℕ, Bool, true, false, List, [], ◌∷◌, codes, replicate, Option, Some};
 ghost use Rattle.ssh_model.specs.Protocol.Wire.Line.{IsLineBegun, IsVersionLine, LineUnit, line_end};
 ghost use Rattle.ssh_model.specs.Protocol.Wire.Outcome.{HasUnit, Outcome, Outcome.OtherLine, Outcome.RefusedLine, Outcome.VersionLine};
 ghost use Rattle.ssh_model.specs.declared.refusal.Refusal.TheVariants.{BadLine, BadVersion};

@@ -1,6 +1,6 @@
 //! What holds of one end alone, whatever comes to it.
 
-ghost use Rattle.std.specs.Prelude.{◌≡◌, ◌<◌, ◌^◌, ◌-◌, ℕ, List, [], ◌∷◌, length, map, true, false, Option, Some, None};
+ghost use Rattle.std.specs.Prelude.{◌≡◌, ◌<◌, ℕ, List, [], ◌∷◌, length, map, true, false, Option, Some, None};
 ghost use Rattle.ssh_model.specs.declared.side.Side.{Side};
 ghost use Rattle.ssh_model.specs.Protocol.Side.{part};
 ghost use Rattle.ssh_model.specs.Protocol.Sessions.Parties.{Parties, AreLawful};

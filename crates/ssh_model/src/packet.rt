@@ -1,4 +1,4 @@
-ghost use Rattle.std.specs.Prelude.{◌≡◌, ◌≤◌, ◌^◌, ◌++◌, ◌⊎◌, ℕ, true, false, List, [], ◌∷◌, replicate, Option, None};
+ghost use Rattle.std.specs.Prelude.{◌≡◌, ◌++◌, ◌⊎◌, ℕ, true, false, List, [], ◌∷◌, replicate, Option, None};
 ghost use Rattle.ssh_model.specs.Protocol.Wire.DataTypes.{AreBytes};
 ghost use Rattle.ssh_model.specs.Protocol.Wire.Outcome.{HasUnit, Outcome, Outcome.Opens, Outcome.RefusedPacket};
 ghost use Rattle.ssh_model.specs.Protocol.Wire.Packet.{IsPacket, is_size, with_length, without_length};

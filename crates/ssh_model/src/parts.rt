@@ -1,7 +1,7 @@
 //! Which part an end asks, under which name: algorithms by their direction, host keys by the chosen algorithm, and the
 //! agreement of its own side.
 
-ghost use Rattle.std.specs.Prelude.{◌≡◌, ◌∷◌, ◌++◌, true, false, [], Some, codes, replicate};
+ghost use Rattle.std.specs.Prelude.{◌≡◌, ◌++◌, true, false, [], Some, codes, replicate};
 ghost use Rattle.ssh_model.specs.declared.side.Side.TheVariants.{Client, Server};
 ghost use Rattle.ssh_model.specs.Protocol.KeyExchange.Exchanges.{sending_key, taking_key};
 ghost use Rattle.ssh_model.specs.Protocol.Sessions.Transport.{host_key_now, is_trusted, point_now};

@@ -1,6 +1,6 @@
 //! What the definitions say of peers with and without strict key exchange, and of extensions (RFC 8308).
 
-ghost use Rattle.std.specs.Prelude.{◌≡◌, ◌+◌, ◌-◌, ◌^◌, ℕ, ◌∷◌, ◌++◌, true, false, List, [], Some, None, codes, length};
+ghost use Rattle.std.specs.Prelude.{◌≡◌, ◌+◌, ◌-◌, ◌^◌, ◌∷◌, ◌++◌, true, false, List, [], Some, None, codes, length};
 ghost use Rattle.ssh_model.specs.declared.side.Side.{Side};
 ghost use Rattle.ssh_model.specs.declared.side.Side.TheVariants.{Client, Server};
 ghost use Rattle.ssh_model.specs.Protocol.Side.{peer};

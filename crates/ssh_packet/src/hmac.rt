@@ -1,5 +1,5 @@
-ghost use Rattle.std.specs.Prelude.{◌≡◌, ◌≤◌, ◌<◌, ◌++◌, ◌-◌, ◌+◌, List, ℕ, [], length, take, map, drop, bit_xor, replicate};
-ghost use Rattle.std.specs.Int.{w32, to_be_bytes};
+ghost use Rattle.std.specs.Prelude.{◌≡◌, ◌≤◌, ◌++◌, ◌-◌, ◌+◌, List, ℕ, [], length, replicate};
+ghost use Rattle.std.specs.Int.{to_be_bytes};
 ghost use Rattle.ssh_model.specs.Protocol.Wire.MacOnly.{key_block, padded, tag_of, hmac_under};
 
 use sha2::{Digest, Sha256};

@@ -1,10 +1,9 @@
-ghost use Rattle.std.specs.Prelude.{◌≡◌, ◌≢◌, ◌↔◌, IsTrue, ◌<◌, ◌≤◌, ◌+◌, ◌-◌, ◌++◌, ◌^◌, ℕ, List, [], true, false, length, take, min};
-ghost use Rattle.std.specs.Prelude.{drop, IfSome, IfNone, OnOk, IfOk, Some, None, slice_index};
+ghost use Rattle.std.specs.Prelude.{◌≡◌, ◌≢◌, ◌↔◌, IsTrue, ◌<◌, ◌≤◌, ◌+◌, ◌-◌, ◌++◌, ◌^◌, ℕ, [], true, false, length, take, min};
+ghost use Rattle.std.specs.Prelude.{drop, IfSome, IfNone, IfOk, Some, None, slice_index};
 ghost use Rattle.std.specs.Vec.{vec_capacity, vec_len};
 ghost use Rattle.std.specs.Option.{option_copied};
 ghost use Rattle.ssh_model.specs.Protocol.Bounds.{largest_packet};
-ghost use Rattle.ssh_model.specs.Protocol.Wire.DataTypes.{AreBytes};
-ghost use Rattle.ssh_model.specs.Protocol.Wire.Packet.{IsBlock, IsPacket, is_size as fits_size};
+ghost use Rattle.ssh_model.specs.Protocol.Wire.Packet.{is_size as fits_size};
 ghost use Rattle.ssh_model.specs.Protocol.Wire.Sealing.{HasSize, IsBadLength, IsBegun, IsWhole, blocks_under, is_wire_size, opened_under};
 ghost use Rattle.ssh_model.specs.Protocol.Wire.Sealing.{tag_under};
 ghost use Rattle.ssh_packet.specs.Reading.{Finds, HasPadding, IsReceived, Reading, empty, inner};

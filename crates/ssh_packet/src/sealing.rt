@@ -1,4 +1,4 @@
-ghost use Rattle.std.specs.Prelude.{◌≡◌, ◌-◌, ◌≤◌, ℕ, IfOk, IsSomeAnd, IsTrue, List, length, take};
+ghost use Rattle.std.specs.Prelude.{◌≡◌, ◌-◌, IfOk, IsSomeAnd, IsTrue, length, take};
 ghost use Rattle.std.specs.Option.{option_map};
 ghost use Rattle.ssh_model.specs.Protocol.Wire.Sealing.{Crypto, IsSealing, is_wire_size};
 ghost use Rattle.ssh_packet.specs.Sealing.{lengths_of};

@@ -1,7 +1,6 @@
 ghost use Rattle.std.specs.Prelude.{◌≡◌, ◌<◌, ◌≤◌, ◌+◌, ◌-◌, ◌++◌, ℕ, List, length, take, drop, IsTrue, OnErr, OnOk, vec_capacity};
 ghost use Rattle.std.specs.Option.{option_copied};
 ghost use Rattle.ssh_model.specs.Protocol.Bounds.{largest_packet};
-ghost use Rattle.ssh_model.specs.Protocol.Wire.Packet.{IsBlock};
 ghost use Rattle.ssh_model.specs.Laws.Reading.{Extends, Writes};
 ghost use Rattle.ssh_model.specs.Protocol.Wire.Sealing.{IsSealed, blocks_under, is_wire_size, sealed_under, tag_under};
 ghost use Rattle.ssh_packet.specs.Writing.{HasParts, IsTail, Pads, packet_size, padding_for};

@@ -1,6 +1,5 @@
 //! One sealing of two.
 
-ghost use Rattle.std.specs.Prelude.{◌≡◌};
 ghost use Rattle.ssh_parts.specs.Either.{either};
 ghost use Rattle.ssh_parts.specs.EitherLaws.{either_laws};
 

@@ -1,6 +1,6 @@
 //! What becomes of an ask, and of bytes that come, with the records of it.
 
-ghost use Rattle.std.specs.Prelude.{◌≡◌, ◌⊎◌, ◌<◌, ◌≤◌, false, true, length, take, IfOk, OnOk};
+ghost use Rattle.std.specs.Prelude.{◌≡◌, ◌<◌, ◌≤◌, false, length, take, IfOk, OnOk};
 ghost use Rattle.ssh_trace.specs.EpochEnd.{SameKeys};
 ghost use Rattle.ssh_trace.specs.Turns.{Asked, Delivered, Turn};
 

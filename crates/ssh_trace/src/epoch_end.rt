@@ -1,4 +1,4 @@
-ghost use Rattle.std.specs.Prelude.{◌≡◌, ◌<◌, ◌≤◌, ◌+◌, ◌++◌, ◌^◌, ℕ, List, Some, false, length, take, IfOk, OnErr};
+ghost use Rattle.std.specs.Prelude.{◌≡◌, ◌<◌, ◌≤◌, ◌+◌, ◌++◌, Some, false, length, take, IfOk, OnErr};
 ghost use Rattle.ssh_model.specs.Protocol.Wire.MacOnly.{mac_only};
 ghost use Rattle.ssh_model.specs.Protocol.Wire.Unit.{IsPacketBegun};
 ghost use Rattle.ssh_trace.specs.EpochEnd.{EndAsks, EndFinds, SameKeys, new_end};

@@ -2,7 +2,6 @@
 //! what they refuse. A side says which end it is.
 
 ghost use Rattle.std.specs.Prelude.{◌≡◌, ◌<◌, ◌≤◌, ◌++◌, None, length, take};
-ghost use Rattle.ssh_model.specs.Protocol.Sessions.Turns.{number_of};
 ghost use Rattle.ssh_transport_machine.specs.LineTurns.{LineTaken};
 ghost use Rattle.ssh_transport_machine.specs.State.{dead_state};
 

@@ -1,8 +1,7 @@
 //! X25519 (RFC 7748 section 5): the Montgomery ladder, with no branch and no place in memory that depends on a secret.
 
-ghost use Rattle.std.specs.Prelude.{◌≡◌, ◌<◌, ◌≤◌, ◌^◌, IfSome, Some, None, if◌then◌else◌, bit_xor, replicate};
-ghost use Rattle.std.specs.Cmp.Lexicographic.{pointwise};
-ghost use Rattle.x25519.specs.Curve.{IsRung, base_point, clamped, numbers, rungs, shared_of, step, u_at, u_of, x25519 as x25519_of};
+ghost use Rattle.std.specs.Prelude.{◌≡◌, ◌<◌, ◌≤◌, ◌^◌, IfSome, Some, None, bit_xor, replicate};
+ghost use Rattle.x25519.specs.Curve.{IsRung, base_point, clamped, numbers, rungs, shared_of, step, u_at, x25519 as x25519_of};
 ghost use Rattle.x25519.specs.Field.{IsTight, residue};
 
 use crate::bytes::{bit_of, bytes_of, element_of};

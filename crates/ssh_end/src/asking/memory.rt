@@ -1,6 +1,6 @@
 //! Memory that is refused above the transport.
 
-ghost use Rattle.std.specs.Prelude.{◌≡◌, ◌^◌, IfErr, IfOk, OnErr, OnOk};
+ghost use Rattle.std.specs.Prelude.{◌≡◌, IfErr, IfOk, OnErr, OnOk};
 ghost use Rattle.ssh_transport_machine.specs.State.{dead_state};
 ghost use Rattle.ssh_transport_machine.specs.Turning.{HasRoom};
 ghost use Rattle.ssh_transport_machine.specs.declared.machine.turn.Answer.TheVariants.{Spent};

@@ -1,4 +1,4 @@
-ghost use Rattle.std.specs.Prelude.{◌≡◌, ◌<◌, ◌^◌, IfOk, IsTrue, length, map};
+ghost use Rattle.std.specs.Prelude.{◌<◌, IfOk, IsTrue, map};
 ghost use Rattle.std.specs.List.{list_all};
 ghost use Rattle.ssh_model.specs.Protocol.Wire.Message.{IsExtensions};
 ghost use Rattle.ssh_message.specs.Announced.{extension_of, is_short};

@@ -1,6 +1,6 @@
 // The messages of authentication (RFC 4252).
 
-ghost use Rattle.std.specs.Prelude.{◌≡◌, ◌∷◌, true, List, ℕ, IfOk, IfErr};
+ghost use Rattle.std.specs.Prelude.{◌∷◌, true, IfOk, IfErr};
 ghost use Rattle.ssh_model.specs.Protocol.Wire.Message.{IsPayload};
 ghost use Rattle.ssh_message.specs.Meaning.{meaning, IsMeant, IsNone, NoMessage};
 ghost use Rattle.ssh_message.specs.Written.{Fits};

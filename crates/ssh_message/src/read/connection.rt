@@ -1,6 +1,6 @@
 // The messages of channels (RFC 4254).
 
-ghost use Rattle.std.specs.Prelude.{◌≡◌, ◌∷◌, List, ℕ, IfOk, IfErr};
+ghost use Rattle.std.specs.Prelude.{◌∷◌, IfOk, IfErr};
 ghost use Rattle.ssh_message.specs.Meaning.{IsMeant, IsNone};
 ghost use Rattle.ssh_message.specs.Written.{Fits};
 

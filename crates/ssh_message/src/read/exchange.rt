@@ -1,6 +1,6 @@
 // The messages of a key exchange (RFC 4253 section 7.1 and RFC 5656 section 4).
 
-ghost use Rattle.std.specs.Prelude.{◌≡◌, ◌∷◌, List, ℕ, IfOk, IfErr};
+ghost use Rattle.std.specs.Prelude.{◌∷◌, IfOk, IfErr};
 ghost use Rattle.ssh_message.specs.Meaning.{IsMeant, IsNone};
 ghost use Rattle.ssh_message.specs.Written.{Fits};
 

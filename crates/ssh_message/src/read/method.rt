@@ -1,6 +1,6 @@
 // The method of a request for authentication (RFC 4252 sections 5.2, 7 and 8).
 
-ghost use Rattle.std.specs.Prelude.{List, ℕ, codes, IfOk, IfErr};
+ghost use Rattle.std.specs.Prelude.{codes, IfOk, IfErr};
 ghost use Rattle.ssh_model.specs.Protocol.Wire.Message as model;
 ghost use Rattle.ssh_model.specs.Protocol.Wire.DataTypes.{IsBoolean};
 ghost use Rattle.ssh_model.specs.Protocol.Wire.Message.{IsMethod};

@@ -1,7 +1,7 @@
 // Fields that follow one another. A `Part` is read from the front of what is left, a `Whole` is all that is left: a pair
 // is its first value and then its second, up to the end.
 
-ghost use Rattle.std.specs.Prelude.{◌≡◌, List, ℕ, Bool, length, IfOk, IfErr};
+ghost use Rattle.std.specs.Prelude.{List, ℕ, Bool, IfOk, IfErr};
 ghost use Rattle.ssh_model.specs.Protocol.Wire.DataTypes.{IsBoolean, IsUint32, IsString, IsNameList};
 ghost use Rattle.ssh_model.specs.Laws.Reading.{Reads, NoFront, OneForm};
 ghost use Rattle.ssh_model.specs.Protocol.Wire.Message.{IsCookie, IsRest};

@@ -3,7 +3,7 @@
 ghost use Rattle.std.specs.Prelude.{◌≡◌, ℕ, ◌∷◌, ◌++◌, true, false, List, [], Some, None, codes, replicate, map};
 ghost use Rattle.ssh_model.specs.Protocol.Bounds.{largest_data, longest_payload};
 ghost use Rattle.ssh_model.specs.declared.side.Side.TheVariants.{Client, Server};
-ghost use Rattle.ssh_model.specs.Example.Histories.{refusal, ask_refusal, says, hears, says_on, hears_on, offer_of, keyed, connection};
+ghost use Rattle.ssh_model.specs.Example.Histories.{refusal, ask_refusal, says, hears, says_on, hears_on, offer_of, keyed};
 ghost use Rattle.ssh_model.specs.Example.Histories.{served, admitted, fed_again, rekeying, open_message, confirm_message, channel_opened};
 ghost use Rattle.ssh_model.specs.Example.Histories.{channel_confirmed, heard_data, heard_eof, heard_request, closed_by_peer, said_data};
 ghost use Rattle.ssh_model.specs.Example.Histories.{said_request, wide_channel, requests, connection_asks, patient};
@@ -20,7 +20,7 @@ ghost use Rattle.ssh_model.specs.declared.ask_refusal.AskRefusal.TheVariants.{No
 ghost use Rattle.ssh_model.specs.declared.ask_refusal.AskRefusal.TheVariants.{TooLong, TableFull, NothingOwed};
 ghost use Rattle.ssh_model.specs.declared.ask_refusal.AskRefusal.{AskRefusal};
 ghost use Rattle.ssh_model.specs.declared.ask_refusal.AskRefusal.TheVariants.{RekeyDue, TooMuch};
-ghost use Rattle.ssh_model.specs.Protocol.Sessions.Items.{Item, took, Ask.AskService, Ask.AskRekey, Ask.AskOpen, Ask.AskConfirm};
+ghost use Rattle.ssh_model.specs.Protocol.Sessions.Items.{Item, Ask.AskService, Ask.AskRekey, Ask.AskOpen, Ask.AskConfirm};
 ghost use Rattle.ssh_model.specs.Protocol.Sessions.Items.{Ask.AskRefuse, Ask.AskData, Ask.AskAdjust, Ask.AskEof, Ask.AskClose};
 ghost use Rattle.ssh_model.specs.Protocol.Sessions.Items.{Ask.AskRequest, Ask.AskReply, Ask.AskGlobal, Ask.AskGlobalReply};
 ghost use Rattle.ssh_model.specs.Protocol.Sessions.Items.{Ask.AskDisconnect, Fact.Global, Fact.GlobalDone, Fact.Opened, Fact.Confirmed};

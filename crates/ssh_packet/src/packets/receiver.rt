@@ -1,4 +1,4 @@
-ghost use Rattle.std.specs.Prelude.{◌≡◌, ◌<◌, ◌≤◌, ◌+◌, ◌-◌, ◌%◌, ◌++◌, ◌^◌, IfOk, IfSome, List, [], None, length, take};
+ghost use Rattle.std.specs.Prelude.{◌≡◌, ◌<◌, ◌≤◌, ◌+◌, ◌-◌, ◌%◌, ◌++◌, ◌^◌, IfOk, IfSome, None, length, take};
 ghost use Rattle.ssh_model.specs.Protocol.Bounds.{largest_packet, most_exchanges, numbers_of_epoch};
 ghost use Rattle.ssh_model.specs.Protocol.Wire.DataTypes.{AreBytes};
 ghost use Rattle.ssh_model.specs.Protocol.Wire.Unit.{IsPacketBegun};

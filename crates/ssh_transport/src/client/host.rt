@@ -1,6 +1,6 @@
 //! What the reply of a server is to a client.
 
-ghost use Rattle.std.specs.Prelude.{◌≡◌, ◌≤◌, IfOk, OnErr, Some, false, length, true};
+ghost use Rattle.std.specs.Prelude.{◌≡◌, ◌≤◌, IfOk, OnErr, Some, false, length};
 ghost use Rattle.std.specs.Option.{option_map};
 ghost use Rattle.ssh_model.specs.Protocol.Bounds.{largest_packet};
 ghost use Rattle.ssh_model.specs.declared.side.Side.TheVariants as sides;

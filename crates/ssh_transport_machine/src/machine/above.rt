@@ -4,7 +4,6 @@ ghost use Rattle.ssh_transport_machine.specs.Padding.{PadsTo, sending_by};
 ghost use Rattle.ssh_transport_machine.specs.Puts.{outs};
 ghost use Rattle.std.specs.Prelude.{◌≡◌, ◌≤◌, IfErr, IfOk, OnErr, OnOk, length, true};
 ghost use Rattle.ssh_transport_machine.specs.Above.{PayloadSent, PeerRefused, RefuseFailed, SendFailed};
-ghost use Rattle.ssh_transport_machine.specs.Turning.{HasRoom};
 ghost use Rattle.ssh_model.specs.Protocol.Bounds.{longest_payload};
 
 use crate::machine::Machine;

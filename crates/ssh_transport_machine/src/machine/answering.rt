@@ -1,6 +1,6 @@
 //! Answers to the peer's KEXINIT (RFC 4253 section 7.1, RFC 5656 section 4).
 
-ghost use Rattle.std.specs.Prelude.{◌≡◌, ◌<◌, ◌+◌, ◌^◌, OnOk, OnErr, map, true};
+ghost use Rattle.std.specs.Prelude.{◌≡◌, ◌<◌, ◌+◌, OnOk, OnErr, map, true};
 ghost use Rattle.ssh_model.specs.Protocol.Wire.Message.{KexEcdhInit};
 ghost use Rattle.ssh_model.specs.State.TransportLayer.Kept.{after_sent};
 ghost use Rattle.ssh_transport_machine.specs.Padding.{PadsTo, sending_by};

@@ -2,10 +2,10 @@
 
 ghost use Rattle.ssh_transport_machine.specs.Padding.{PadsTo, sending_by};
 ghost use Rattle.ssh_transport_machine.specs.Puts.{outs};
-ghost use Rattle.std.specs.Prelude.{◌≡◌, ◌≤◌, IfOk, OnErr, OnOk, None, codes, length, true};
+ghost use Rattle.std.specs.Prelude.{◌≡◌, IfOk, OnErr, OnOk, None, codes, true};
 ghost use Rattle.ssh_model.specs.declared.side.Side.TheVariants.{Client};
 ghost use Rattle.ssh_model.specs.Protocol.Wire.Message.{ServiceRequest};
-ghost use Rattle.ssh_model.specs.Protocol.Sessions.Items.{AskDisconnect, AskRekey, AskService};
+ghost use Rattle.ssh_model.specs.Protocol.Sessions.Items.{AskRekey, AskService};
 ghost use Rattle.ssh_model.specs.Protocol.Sessions.Refusals.{first_refusal};
 ghost use Rattle.ssh_model.specs.State.TransportLayer.Kept.{after_sent, message_ask_checks};
 ghost use Rattle.ssh_transport_machine.specs.Asking.{AskDone, AskLacks, DisconnectDone, DisconnectLacks, OfferDone, OfferLacks};

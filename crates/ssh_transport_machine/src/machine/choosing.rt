@@ -1,15 +1,12 @@
 //! What is chosen in the exchange under way (RFC 4253 section 7.1).
 
 ghost use Rattle.std.specs.Prelude.{◌≡◌, false, true};
-ghost use Rattle.ssh_model.specs.Protocol.Wire.Message.{KexInit, Msg};
-ghost use Rattle.ssh_model.specs.Protocol.KeyExchange.Choice.{IsChoice, Lists};
+ghost use Rattle.ssh_model.specs.Protocol.Wire.Message.{KexInit};
+ghost use Rattle.ssh_model.specs.Protocol.KeyExchange.Choice.{IsChoice};
 ghost use Rattle.ssh_model.specs.Protocol.KeyExchange.Exchanges.{chosen as computed_choice, has_choice};
-ghost use Rattle.ssh_model.specs.Protocol.Sessions.Parties.{lists_of as lists_offered};
-ghost use Rattle.ssh_model.specs.State.TransportLayer.Kept.{IsChosen, choice_with, has_choice_with, own_offer};
+ghost use Rattle.ssh_model.specs.State.TransportLayer.Kept.{IsChosen, choice_with, has_choice_with};
 ghost use Rattle.ssh_message.specs.Meaning.{meaning, proposal_meaning};
 ghost use Rattle.ssh_kex.specs.Values.{chosen_of, lists_of};
-ghost use Rattle.ssh_config.specs.Config.{AreGood};
-ghost use Rattle.ssh_config.specs.Meaning.{given_of};
 ghost use Rattle.ssh_transport_machine.specs.Finishing.{AreKnown, HasChoice, IsChoiceOf, IsKexinit, is_choice_with};
 
 use crate::machine::Machine;

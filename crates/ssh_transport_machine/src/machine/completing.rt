@@ -1,6 +1,6 @@
 //! The end of an exchange: NEWKEYS of both directions (RFC 4253 section 7.3).
 
-ghost use Rattle.std.specs.Prelude.{◌≡◌, ◌<◌, ◌-◌, ◌^◌, None, OnOk, OnErr, Some, false, true};
+ghost use Rattle.std.specs.Prelude.{◌≡◌, ◌<◌, ◌-◌, None, OnOk, OnErr, Some, false, true};
 ghost use Rattle.ssh_model.specs.Protocol.Sessions.Phases as model;
 ghost use Rattle.ssh_model.specs.Protocol.Wire.Message.{NewKeys};
 ghost use Rattle.ssh_model.specs.State.TransportLayer.Directions.{counted, renewed};

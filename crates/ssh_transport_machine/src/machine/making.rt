@@ -2,7 +2,7 @@
 
 ghost use Rattle.ssh_transport_machine.specs.Padding.{PadsTo, sending_after_line, sending_by};
 ghost use Rattle.ssh_transport_machine.specs.Puts.{outs};
-ghost use Rattle.std.specs.Prelude.{◌≡◌, ◌<◌, ◌++◌, ◌^◌, IfOk, OnErr, OnOk};
+ghost use Rattle.std.specs.Prelude.{◌≡◌, ◌<◌, ◌++◌, IfOk, OnErr, OnOk};
 ghost use Rattle.ssh_model.specs.Protocol.Sessions.Phases.{is_client};
 ghost use Rattle.ssh_model.specs.Protocol.Wire.Line.{line_end};
 ghost use Rattle.ssh_config.specs.Meaning.{settings_of};

@@ -1,8 +1,8 @@
 //! Which payloads an end may take, by their numbers.
 
-ghost use Rattle.std.specs.Prelude.{◌≡◌, ◌≤◌, ◌-◌, ◌||◌, ◌&&◌, ◌==◌, not, nat_lt, Bool};
+ghost use Rattle.std.specs.Prelude.{◌≡◌, ◌≤◌, ◌-◌, ◌||◌, ◌&&◌, ◌==◌, not, nat_lt};
 ghost use Rattle.ssh_model.specs.Protocol.KeyExchange.Exchanges.{has_marker};
-ghost use Rattle.ssh_model.specs.Protocol.Sessions.Parties.{extension_marker_of, is_offered as is_offering, marker_of};
+ghost use Rattle.ssh_model.specs.Protocol.Sessions.Parties.{extension_marker_of, marker_of};
 ghost use Rattle.ssh_model.specs.Protocol.Sessions.Phases as model;
 ghost use Rattle.ssh_model.specs.Protocol.Sessions.Turns.{number_of};
 ghost use Rattle.ssh_model.specs.Protocol.Wire.Message as messages;

@@ -2,9 +2,8 @@
 
 ghost use Rattle.ssh_transport_machine.specs.Padding.{PadsTo, sending_by};
 ghost use Rattle.ssh_transport_machine.specs.Puts.{outs};
-ghost use Rattle.std.specs.Prelude.{◌≡◌, ◌<◌, ◌≤◌, ◌^◌, Bool, IfOk, OnOk, OnErr, false, length, true};
+ghost use Rattle.std.specs.Prelude.{◌≡◌, ◌<◌, ◌≤◌, IfOk, OnOk, OnErr, false, length, true};
 ghost use Rattle.ssh_model.specs.Protocol.Wire.Message.{KexInit};
-ghost use Rattle.ssh_model.specs.Protocol.KeyExchange.Exchanges as session;
 ghost use Rattle.ssh_model.specs.Protocol.Sessions.Parties.{offer_of};
 ghost use Rattle.ssh_model.specs.Protocol.Sessions.Turns.{IsSpelled};
 ghost use Rattle.ssh_model.specs.State.TransportLayer.Kept.{after_fed, can_be_fed};

@@ -1,6 +1,6 @@
 //! Refusals of the peer.
 
-ghost use Rattle.std.specs.Prelude.{◌≡◌, ◌<◌, ◌≤◌, ◌^◌, IsTrue, OnOk, OnErr, false, length, true};
+ghost use Rattle.std.specs.Prelude.{◌≡◌, ◌<◌, ◌≤◌, IsTrue, OnOk, OnErr, false, length, true};
 ghost use Rattle.ssh_model.specs.Protocol.Sessions.Refusals.{refusal_name};
 ghost use Rattle.ssh_transport_machine.specs.Padding.{PadsTo, sending_by};
 ghost use Rattle.ssh_transport_machine.specs.Puts.{Refuses, outs};

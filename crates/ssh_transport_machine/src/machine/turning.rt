@@ -2,7 +2,7 @@
 
 ghost use Rattle.ssh_transport_machine.specs.Padding.{PadsTo, sending_by};
 ghost use Rattle.ssh_transport_machine.specs.Puts.{outs};
-ghost use Rattle.std.specs.Prelude.{◌≡◌, ◌≤◌, ◌^◌, IfOk, OnErr, OnOk, true};
+ghost use Rattle.std.specs.Prelude.{◌≡◌, ◌≤◌, IfOk, OnErr, OnOk, true};
 ghost use Rattle.ssh_transport_machine.specs.Judging.{PayloadJudged};
 ghost use Rattle.ssh_transport_machine.specs.State.{IsLive, before_taken};
 ghost use Rattle.ssh_transport_machine.specs.Turning.{Does, NewkeysTaken, TurnLacks, Turns, WouldSend};

@@ -1,6 +1,6 @@
 //! A NEWKEYS that is taken, with the epoch that begins after it.
 
-ghost use Rattle.std.specs.Prelude.{◌≡◌, ◌<◌, ◌+◌, ◌-◌, ◌^◌, IsTrue, None};
+ghost use Rattle.std.specs.Prelude.{◌≡◌, ◌<◌, ◌+◌, ◌-◌, IsTrue, None};
 ghost use Rattle.ssh_model.specs.Protocol.Bounds.{most_exchanges};
 
 use ssh_packet::{HmacKey, MacOnly, PacketReceiver, PacketStep};

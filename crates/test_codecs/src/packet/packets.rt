@@ -1,7 +1,5 @@
 //! Worked packets, and recorded ones of an OpenSSH server.
 
-ghost use Rattle.std.specs.Prelude.{◌≤◌, length};
-
 use crate::checking::{same, same_at};
 use crate::packet::stream::Stream;
 use ssh_packet::{HmacKey, MacOnly, PacketReader, PacketRefusal, ReadStep, write_packet};
