@@ -6,3 +6,11 @@ pub mod Unknown
 pub mod UserKey
 pub mod Users
 pub mod Windows
+pub mod Texts
+pub mod Keys
+pub mod Lines
+pub mod HostNames
+pub mod KnownHosts
+pub mod Passwords
+pub mod UserKeys
+pub mod PrivateKeys

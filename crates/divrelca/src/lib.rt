@@ -80,6 +80,7 @@
 mod ciphers;
 mod end;
 mod error;
+pub mod key_files;
 mod keys;
 mod policy;
 mod unknown;

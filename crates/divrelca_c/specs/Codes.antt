@@ -9,10 +9,10 @@ use Rattle.ssh_embedded.specs.declared.ask_form.FormFault.{FormFault}
 use Rattle.ssh_embedded.specs.declared.ask_form.FormFault.TheVariants as form_fault
 use Rattle.ssh_embedded.specs.declared.server.UserFault.{UserFault}
 use Rattle.ssh_embedded.specs.declared.server.UserFault.TheVariants as user_fault
-use Rattle.ssh_key_files.specs.declared.fault.Expected.{Expected}
-use Rattle.ssh_key_files.specs.declared.fault.Expected.TheVariants as expected
-use Rattle.ssh_key_files.specs.declared.fault.FileFault.{FileFault}
-use Rattle.ssh_key_files.specs.declared.fault.FileFault.TheVariants as file_fault
+use Rattle.divrelca.specs.declared.key_files.fault.Expected.{Expected}
+use Rattle.divrelca.specs.declared.key_files.fault.Expected.TheVariants as expected
+use Rattle.divrelca.specs.declared.key_files.fault.FileFault.{FileFault}
+use Rattle.divrelca.specs.declared.key_files.fault.FileFault.TheVariants as file_fault
 
 -- A refused ask is its own number; -1 where memory was refused, and -2 where the end was over.
 abbrev pub code_of : Fault → ℤ

@@ -1,7 +1,7 @@
 -- What a reader of a key file answers, and what it writes, by what stands in the file.
 use Rattle.std.specs.Prelude.{◌≡◌, ℕ, ℤ, pos, List, [], ◌∷◌, length, slice_index_or, Option, Some, None, Result, Ok, Err}
-use Rattle.ssh_key_files.specs.Lines.{IsFaultOf}
-use Rattle.ssh_key_files.specs.declared.fault.FileFault.{FileFault}
+use Rattle.divrelca.specs.Lines.{IsFaultOf}
+use Rattle.divrelca.specs.declared.key_files.fault.FileFault.{FileFault}
 use Rattle.divrelca_c.specs.Codes.{fault_code, fault_line}
 
 -- the host that is named: none where its name has no bytes

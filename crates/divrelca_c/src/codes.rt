@@ -6,7 +6,7 @@ ghost use Rattle.divrelca_c.specs.Codes.{code_asked, code_of, fault_code, fault_
 
 use ssh_embedded::{FormFault, MakeError, UserFault};
 use ssh_end::{AskStep, Fault};
-use ssh_key_files::{Expected, FileFault};
+use divrelca::key_files::{Expected, FileFault};
 
 /// What was asked for is done.
 pub const DONE: i32 = 0;

@@ -4,13 +4,13 @@ ghost use Rattle.std.specs.Prelude.{◌≡◌, Ok, pos};
 ghost use Rattle.std.specs.Option.{option_copied};
 ghost use Rattle.divrelca_c.specs.Files.{TellsFault, TellsKey, code_read, host_in, key_read, line_read};
 ghost use Rattle.ed25519.specs.Signature.{pair_of};
-ghost use Rattle.ssh_key_files.specs.KnownHosts.{trusted_key};
-ghost use Rattle.ssh_key_files.specs.PrivateKeys as spec;
-ghost use Rattle.ssh_key_files.specs.UserKeys.{user_keys};
+ghost use Rattle.divrelca.specs.KnownHosts.{trusted_key};
+ghost use Rattle.divrelca.specs.PrivateKeys as spec;
+ghost use Rattle.divrelca.specs.UserKeys.{user_keys};
 
 use crate::codes::{DONE, code_file};
 use ed25519::KeyPair;
-use ssh_key_files::{authorized_keys, private_key, trusted_key};
+use divrelca::key_files::{authorized_keys, private_key, trusted_key};
 use std::alloc::Global;
 
 /// The key of a private key file of ssh-ed25519 without a passphrase.

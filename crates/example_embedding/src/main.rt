@@ -15,11 +15,11 @@ mod parts;
 mod server;
 
 use client::Client;
+use divrelca::key_files::{authorized_keys, private_key, trusted_key};
 use divrelca::{AcceptedKey, Ed25519Judge, Ed25519Signer, Ed25519Trust, KeySupply, UserAsk};
 use driving::drive;
 use parts::{client_end, server_end};
 use server::Server;
-use ssh_key_files::{authorized_keys, private_key, trusted_key};
 use std::io::{Read, Write};
 use std::process::ExitCode;
 use std::random::RandomSource;

@@ -1,6 +1,6 @@
 //! Why a session doesn't begin, or can't go on.
 
-use ssh_key_files::FileFault;
+use divrelca::key_files::FileFault;
 use ssh_pipe::{MOST_COMMAND_BYTES, PipeError};
 use std::alloc::{AllocError, AllocFailed};
 use std::io;

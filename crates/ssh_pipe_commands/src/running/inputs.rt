@@ -2,7 +2,7 @@
 
 use super::error::RunError;
 use crate::sink::Sink;
-use ssh_key_files::{
+use divrelca::key_files::{
     Expected, FileFault, PrivateKey, authorized_keys, password, private_key, trusted_key,
 };
 use ssh_parts::{AcceptedKey, Ed25519Trust};

@@ -1,6 +1,6 @@
 //! The keys of the recorded sessions.
 
-use ssh_key_files::{PrivateKey, private_key};
+use divrelca::key_files::{PrivateKey, private_key};
 use ssh_parts::{AcceptedKey, Ed25519Signer, Ed25519Trust};
 use std::fs;
 use std::rt::Files;

@@ -1,8 +1,0 @@
-use Rattle.std.proofs.Common.{refl}
-use Rattle.std.proofs.lemmas.Str.Ascii.{trim_ascii_is}
-use Rattle.ssh_key_files.specs.PrivateKeys.{from_text, trimmed}
-use Rattle.ssh_key_files.proofs.armor.trimmed.Goals as goal
-
-pub returns : goal.returns
-unfolding trimmed from_text
-returns c = trim_ascii_is c.args.line.now c.trim_ascii.result.now (from_text c.args.line.now) refl c.trim_ascii.ensures.value

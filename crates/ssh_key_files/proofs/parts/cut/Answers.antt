@@ -1,7 +1,0 @@
-use Rattle.std.proofs.Common.{sym}
-use Rattle.std.proofs.lemmas.List.{take_rest}
-use Rattle.ssh_key_files.proofs.Cuts.{cut_at}
-use Rattle.ssh_key_files.proofs.parts.cut.Goals as goal
-
-pub returns-clause-found : goal.returns-clause-found
-returns-clause-found c = rw take_rest (cut_at c.args.end c.args.text.now c.in_ok-place.place (sym c.in_ok-place.ensures))
