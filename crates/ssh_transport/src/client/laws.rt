@@ -22,23 +22,12 @@ ghost use Rattle.ssh_transport_machine.specs.declared.machine.kexinit.KexinitFac
 ghost use Rattle.ssh_transport_machine.specs.declared.machine.turn.Answer.{Answer};
 ghost use Rattle.ssh_transport.specs.OfClient.Kexinits.{KexinitDone, KexinitTurn};
 ghost use Rattle.ssh_transport.specs.OfClient.Replies.{ReadsReply, Trusts};
-ghost use Rattle.ssh_transport_machine.specs.Sessions.{WouldDie};
-ghost use Rattle.ssh_transport_machine.specs.State.{dead_state};
-ghost use Rattle.ssh_transport_machine.specs.declared.outcome.TransportTurn.{TransportTurn};
-ghost use Rattle.ssh_transport_machine.specs.declared.outcome.TransportTurn.TheVariants as outcome;
-ghost use Rattle.ssh_kex.specs.declared.owned_choice.OwnedChoice.{OwnedChoice};
 ghost use Rattle.ssh_transport.specs.OfClient.Turns.{HostAccepted, HostRefused, NewkeysSpent, PointRefused};
-ghost use Rattle.ssh_transport.specs.OfClient.Roles.{ClientDoes, ClientLacks};
-ghost use Rattle.ssh_transport.specs.Roles.{IsCompleted, IsOwnShown, IsUp, Leaves};
-ghost use Rattle.ssh_transport.specs.Sessions.{UnitTurnOf};
-ghost use Rattle.ssh_transport.specs.Units as units;
-ghost use Rattle.ssh_transport.specs.Units.{Took};
-ghost use Rattle.ssh_transport.specs.declared.own.Own.{Own};
 
+use ssh_model::payload_numbers;
 use ssh_model::transport::{choices, exchange_ends, payloads, refused_and_spent};
-use ssh_model::{payload_numbers, spellings};
 use ssh_transport_machine::ending::{choices_kept, exchanges_live, secrets_forgotten};
-use ssh_transport_machine::laws::{live_machines, memory_deaths, unit_turns};
+use ssh_transport_machine::laws::live_machines;
 
 /// A payload that is judged to be a reply is one that is read.
 pub fn replies_shown<K>()
@@ -112,49 +101,4 @@ pub fn replies_taken<K>()
     payloads::<K>();
     refused_and_spent::<K>();
     secrets_forgotten::<K>();
-}
-
-/// What a client's transport makes of a line or a packet is what the client makes of it in a session whose parts these are. Where memory
-/// was refused, something would be sent in that session.
-pub fn clients_units<K>()
-    ensures taken { (p : Parties K) (history : List Item) (old : State K) → SumsUp p Client history old.kept →
-        (bytes : List ℕ) (given : TransportTurn) (new : State K) (o : Outs) →
-        Took p.crypto Client (ClientDoes p.crypto (agreement_of p Client) p.trusts) old bytes given new o →
-        UnitTurnOf p Client history old.kept bytes given new o }
-    ensures died { (p : Parties K) (history : List Item) (old : State K) → SumsUp p Client history old.kept →
-        (bytes : List ℕ) (new : State K) → units.Died p.crypto Client (ClientLacks p.crypto (agreement_of p Client) p.trusts) old bytes
-        new → WouldDie p Client old.kept bytes }
-{
-    payload_numbers();
-    spellings();
-    kexinits_taken::<K>();
-    kexinits_live::<K>();
-    replies_live::<K>();
-    replies_taken::<K>();
-    unit_turns::<K>();
-    memory_deaths::<K>();
-}
-
-/// What a client's transport leaves to the layers above is a payload from 50 on. When an exchange is completed at most one packet was sent
-/// under the new key, and memory might have been refused for what was sent. What is shown and begun stays, or the client is over.
-pub fn clients_left<K>()
-    ensures up { (c : Crypto K) (agreement : Agreement) (trusts : Trusts) (old : State K) (bytes : List ℕ) (number : ℕ) (new : State K)
-        (o : Outs) → Took c Client (ClientDoes c agreement trusts) old bytes (outcome.Up number) new o → IsUp new o }
-    ensures completed { (c : Crypto K) (agreement : Agreement) (trusts : Trusts) (old : State K) (bytes : List ℕ) (choice : OwnedChoice)
-        (new : State K) (o : Outs) → Took c Client (ClientDoes c agreement trusts) old bytes (outcome.Completed choice) new o →
-        IsCompleted old new o }
-    ensures due { (c : Crypto K) (agreement : Agreement) (trusts : Trusts) (old : State K) (bytes : List ℕ) (choice : OwnedChoice)
-        (new : State K) (o : Outs) → Took c Client (ClientDoes c agreement trusts) old bytes (outcome.Completed choice) new o →
-        units.Died c Client (ClientLacks c agreement trusts) old bytes (dead_state old) }
-    ensures shown { (c : Crypto K) (agreement : Agreement) (trusts : Trusts) (old new : State K) (o : Outs) (own : Own)
-        (given : TransportTurn) → ClientDoes c agreement trusts old own given new o → IsOwnShown old given new o }
-    ensures leaves { (c : Crypto K) (agreement : Agreement) (trusts : Trusts) (old new : State K) (o : Outs) (own : Own)
-        (given : TransportTurn) → ClientDoes c agreement trusts old own given new o → Leaves old given new }
-{
-    payload_numbers();
-    spellings();
-    kexinits_taken::<K>();
-    kexinits_live::<K>();
-    replies_live::<K>();
-    replies_taken::<K>();
 }

@@ -19,23 +19,12 @@ ghost use Rattle.ssh_transport.specs.OfServer.Points.{ReadsInit};
 ghost use Rattle.ssh_transport_machine.specs.Endings.{ExchangeEnds, IsRead, PayloadRefused};
 ghost use Rattle.ssh_transport_machine.specs.Puts.{Outs};
 ghost use Rattle.ssh_transport_machine.specs.State.{IsLive, State};
-ghost use Rattle.ssh_transport_machine.specs.Sessions.{WouldDie};
-ghost use Rattle.ssh_transport_machine.specs.State.{dead_state};
-ghost use Rattle.ssh_transport_machine.specs.declared.outcome.TransportTurn.{TransportTurn};
-ghost use Rattle.ssh_transport_machine.specs.declared.outcome.TransportTurn.TheVariants as outcome;
-ghost use Rattle.ssh_kex.specs.declared.owned_choice.OwnedChoice.{OwnedChoice};
 ghost use Rattle.ssh_transport.specs.OfServer.Answers.{AnswerSpent, PointAnswered, PointRefused};
-ghost use Rattle.ssh_transport.specs.OfServer.Roles.{ServerDoes, ServerLacks};
-ghost use Rattle.ssh_transport.specs.Roles.{IsCompleted, IsOwnShown, IsUp, Leaves};
-ghost use Rattle.ssh_transport.specs.Sessions.{UnitTurnOf};
-ghost use Rattle.ssh_transport.specs.Units as units;
-ghost use Rattle.ssh_transport.specs.Units.{Took};
-ghost use Rattle.ssh_transport.specs.declared.own.Own.{Own};
 
+use ssh_model::payload_numbers;
 use ssh_model::transport::{choices, exchange_ends, payloads, refused_and_spent};
-use ssh_model::{payload_numbers, spellings};
 use ssh_transport_machine::ending::{exchanges_live, secrets_forgotten};
-use ssh_transport_machine::laws::{live_machines, memory_deaths, unit_turns};
+use ssh_transport_machine::laws::live_machines;
 
 /// A payload that is judged to be a point is one that is read.
 pub fn points_shown<K>()
@@ -76,44 +65,4 @@ pub fn points_taken<K>()
     payloads::<K>();
     refused_and_spent::<K>();
     secrets_forgotten::<K>();
-}
-
-/// What a server's transport makes of a line or a packet is what the server makes of it in a session whose parts these are. Where memory
-/// was refused, something would be sent in that session.
-pub fn servers_units<K>()
-    ensures taken { (p : Parties K) (history : List Item) (old : State K) → SumsUp p Server history old.kept →
-        (bytes : List ℕ) (given : TransportTurn) (new : State K) (o : Outs) →
-        Took p.crypto Server (ServerDoes p.crypto (parts_of p Server)) old bytes given new o →
-        UnitTurnOf p Server history old.kept bytes given new o }
-    ensures died { (p : Parties K) (history : List Item) (old : State K) → SumsUp p Server history old.kept →
-        (bytes : List ℕ) (new : State K) → units.Died p.crypto Server (ServerLacks p.crypto (parts_of p Server)) old bytes new →
-        WouldDie p Server old.kept bytes }
-{
-    payload_numbers();
-    spellings();
-    points_live::<K>();
-    points_taken::<K>();
-    unit_turns::<K>();
-    memory_deaths::<K>();
-}
-
-/// What a server's transport leaves to the layers above is a payload from 50 on. When an exchange is completed at most one packet was sent
-/// under the new key, and memory might have been refused for what was sent. What is shown and begun stays, or the server is over.
-pub fn servers_left<K>()
-    ensures up { (c : Crypto K) (parts : ExchangeParts) (old : State K) (bytes : List ℕ) (number : ℕ) (new : State K) (o : Outs) →
-        Took c Server (ServerDoes c parts) old bytes (outcome.Up number) new o → IsUp new o }
-    ensures completed { (c : Crypto K) (parts : ExchangeParts) (old : State K) (bytes : List ℕ) (choice : OwnedChoice) (new : State K)
-        (o : Outs) → Took c Server (ServerDoes c parts) old bytes (outcome.Completed choice) new o → IsCompleted old new o }
-    ensures due { (c : Crypto K) (parts : ExchangeParts) (old : State K) (bytes : List ℕ) (choice : OwnedChoice) (new : State K)
-        (o : Outs) → Took c Server (ServerDoes c parts) old bytes (outcome.Completed choice) new o →
-        units.Died c Server (ServerLacks c parts) old bytes (dead_state old) }
-    ensures shown { (c : Crypto K) (parts : ExchangeParts) (old new : State K) (o : Outs) (own : Own) (given : TransportTurn) →
-        ServerDoes c parts old own given new o → IsOwnShown old given new o }
-    ensures leaves { (c : Crypto K) (parts : ExchangeParts) (old new : State K) (o : Outs) (own : Own) (given : TransportTurn) →
-        ServerDoes c parts old own given new o → Leaves old given new }
-{
-    payload_numbers();
-    spellings();
-    points_live::<K>();
-    points_taken::<K>();
 }
