@@ -8,11 +8,10 @@ use Rattle.ssh_model.specs.Protocol.Sessions.Items.{Fact.Accepted, Item, Item.To
 use Rattle.ssh_model.specs.Protocol.Sessions.Parties.{Parties}
 use Rattle.ssh_model.specs.declared.side.Side.TheVariants.{Server}
 use Rattle.ssh_model.specs.Protocol.Wire.Sealing.{Crypto}
-use Rattle.ssh_end.specs.Layers.{Layers}
-use Rattle.ssh_end.specs.Sessions.{end_of}
+use Rattle.ssh_end.specs.Sessions.{AreOf, end_of}
 use Rattle.ssh_transport_machine.specs.State.{State}
 use Rattle.ssh_end.specs.Ends.{EndValue}
-use Rattle.ssh_end.specs.Parts.{AreServerLayers, IsServer, exchange_parts}
+use Rattle.ssh_end.specs.Parts.{IsServer, exchange_parts}
 use Rattle.ssh_end.specs.Places.{StandsAfter}
 use Rattle.ssh_end.specs.declared.server_role.ServerRole.{ServerRole}
 use Rattle.ssh_end.specs.declared.told.Told.{Told as Tells}
@@ -50,9 +49,9 @@ PartsOf c point shared key signature verdicts p role =
 abbrev pub Serves : {P U S F A H K : Type 0} → Crypto K → (point : A → List ℕ → List ℕ) →
     (shared : A → List ℕ → List ℕ → Option (List ℕ)) → (key : H → List ℕ → List ℕ) →
     (signature : H → List ℕ → List ℕ → List ℕ) → (verdicts : U → Judge) → Parties K → List Item →
-    EndValue K (ServerRole P U S F A H K) Layers F → Bool → EndValue K (ServerRole P U S F A H K) Layers F → Type 0
+    EndValue K (ServerRole P U S F A H K) F → Bool → EndValue K (ServerRole P U S F A H K) F → Type 0
 Serves c point shared key signature verdicts p history old is_in new =
-    StandsAfter p Server (PartsOf c point shared key signature verdicts p old.role) (AreServerLayers p old.layers) history
+    StandsAfter p Server (PartsOf c point shared key signature verdicts p old.role) (AreOf p old.layers) history
     old.machine (end_of old.machine.kept old.layers) →
-    ServedTo p (PartsOf c point shared key signature verdicts p new.role) (AreServerLayers p new.layers) history is_in
+    ServedTo p (PartsOf c point shared key signature verdicts p new.role) (AreOf p new.layers) history is_in
     new.machine (end_of new.machine.kept new.layers)

@@ -1,7 +1,6 @@
 -- What comes of an ask, as a row of the end, is a turn of a session.
 use Rattle.std.proofs.Common.{◌≡◌, ℕ, List, [], ◌∷◌, sym, ◌∙◌, subst, false, Result, Ok, Err}
 use Rattle.ssh_model.specs.declared.side.Side.{Side}
-use Rattle.ssh_model.specs.Protocol.Wire.Sealing.{Crypto}
 use Rattle.ssh_model.specs.Protocol.Sessions.Items as session
 use Rattle.ssh_model.specs.Protocol.Sessions.Items.{Item, Item.Asked, Item.AskRefused}
 use Rattle.ssh_model.specs.Protocol.Sessions.Parties.{Parties}
@@ -11,7 +10,7 @@ use Rattle.ssh_model.specs.State.End.Asks.{TakesAsk, end_ask_checks}
 use Rattle.ssh_model.specs.State.End.State.{EndState}
 use Rattle.ssh_model.specs.State.End.Summary.{EndSumsUp, EndTurned}
 use Rattle.ssh_transport_machine.specs.Puts.{Outs}
-use Rattle.ssh_end.specs.Asking.{DoneInSession, EndRow, InSession, RowOf}
+use Rattle.ssh_end.specs.Asking.{DoneInSession, RowOf}
 use Rattle.ssh_end.specs.declared.asking.outcome.Fault.{Fault}
 use Rattle.ssh_end.specs.declared.asking.outcome.Fault.TheVariants as fault
 use Rattle.ssh_end.specs.declared.asking.outcome.AskStep.{AskStep}
@@ -35,6 +34,3 @@ module _ {K : Type 0} (refused : (p : Parties K) (side : Side) (history : List I
   }
   turned p side history old asked sums (Err fault.Memory) new o x = record { turned = taken p side history old sums asked _ _ new x.takes; dead = x.dead }
   turned p side history old asked sums (Err fault.Dead) new o x = x
-
-  pub lifted : (c : Crypto K) (side : Side) (old : EndState K) (asked : session.Ask) (result : Result AskStep Fault) (new : EndState K) (o : Outs) → EndRow c side old asked result new o → InSession c side old asked result new o
-  lifted c side old asked result new o row = λ p history is sums. turned p side history old asked sums result new o (row p is (λ alive. (sums.transport.live alive).settings_are))

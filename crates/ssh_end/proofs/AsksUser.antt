@@ -154,7 +154,7 @@ module _ {K : Type 0} (c : Crypto K) (signature : List ℕ → List ℕ → List
   sent_row session_bytes session_is m kept asks result new o x y = λ p side ch are.
       let s = identify old.kept (are.identified alive (opened client a asks.unrefused)) in
       request_row p side old client ch a alive s.id s.id_is asks.unrefused m kept
-      (subst (λ (f : List ℕ → List ℕ → List ℕ → List ℕ → List ℕ). ClientSends (short_signature f) s.id client (ask_of a) m kept) (sym are.user_signature) (subst (λ (b : List ℕ). ClientSends (short_signature signature) b client (ask_of a) m kept) (session_is s.id s.id_is) asks.row))
+      (subst (λ (f : List ℕ → List ℕ → List ℕ → List ℕ → List ℕ). ClientSends (short_signature f) s.id client (ask_of a) m kept) (sym (are.user_signature alive)) (subst (λ (b : List ℕ). ClientSends (short_signature signature) b client (ask_of a) m kept) (session_is s.id s.id_is) asks.row))
       (request_spelled signature session_bytes client kept (ask_of a) m asks.unrefused asks.row) result new o
       (subst (λ (e : Crypto K). IfOk result (λ step. RequestSent e old m new o step)) (sym are.crypto) x) y
 

@@ -1,7 +1,7 @@
 -- Which layer each message is for, and what the other layers say of it.
 use Rattle.std.proofs.Common.{◌≡◌, Bool, true, false, not, List, [], ◌∷◌, refl, sym, subst}
 use Rattle.std.proofs.lemmas.Bool.{false≢true}
-use Rattle.std.specs.Prelude.{nat_lt, Result, Ok, Err, IfErr}
+use Rattle.std.specs.Prelude.{nat_lt, Result, Ok, Err, IfErr, IfOk}
 use Rattle.ssh_model.specs.Protocol.Wire.Message.{Msg, Msg.Disconnect, Msg.Ignore, Msg.Unimplemented, Msg.Debug, Msg.ServiceRequest, Msg.ServiceAccept, Msg.ExtInfo, Msg.KexInit, Msg.NewKeys, Msg.KexEcdhInit, Msg.KexEcdhReply, Msg.UserauthRequest, Msg.UserauthFailure, Msg.UserauthSuccess, Msg.UserauthBanner, Msg.UserauthPkOk, Msg.GlobalRequest, Msg.RequestSuccess, Msg.RequestFailure, Msg.ChannelOpen, Msg.ChannelOpenConfirmation, Msg.ChannelOpenFailure, Msg.ChannelWindowAdjust, Msg.ChannelData, Msg.ChannelExtendedData, Msg.ChannelEof, Msg.ChannelClose, Msg.ChannelRequest, Msg.ChannelSuccess, Msg.ChannelFailure, Msg.Unknown, message_number}
 use Rattle.ssh_model.specs.State.Channels.Kept.{Channels, take_checks}
 use Rattle.ssh_model.specs.declared.refusal.Refusal.{Refusal}
@@ -186,6 +186,12 @@ no_err P r a e = subst (λ (x : Result _ _). IfErr x P) (sym e) tt
 
 pub an_err : {A E : Type 0} (P : E → Type 0) (r : Result A E) (x : E) → r ≡ Err x → P x → IfErr r P
 an_err P r x e y = subst (λ (z : Result _ _). IfErr z P) (sym e) y
+
+pub no_ok : {A E : Type 0} (P : A → Type 0) (r : Result A E) (x : E) → r ≡ Err x → IfOk r P
+no_ok P r x e = subst (λ (z : Result _ _). IfOk z P) (sym e) tt
+
+pub an_ok : {A E : Type 0} (P : A → Type 0) (r : Result A E) (a : A) → r ≡ Ok a → P a → IfOk r P
+an_ok P r a e y = subst (λ (z : Result _ _). IfOk z P) (sym e) y
 
 -- ---- checks
 

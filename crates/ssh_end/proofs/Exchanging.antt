@@ -14,8 +14,10 @@ use Rattle.ssh_model.specs.State.End.Summary.{EndSumsUp}
 use Rattle.ssh_model.specs.State.TransportLayer.Kept.{ExchangeParts}
 use Rattle.ssh_end.specs.Layers.{Layers}
 use Rattle.ssh_transport_machine.specs.State.{State}
-use Rattle.ssh_end.specs.Parts.{AreServerLayers}
+use Rattle.ssh_end.specs.Sessions.{AreOf, IsLoginOf}
 use Rattle.ssh_end.specs.Stands.{ServerStandsAt}
+use Rattle.ssh_end.specs.declared.layers.login.Login.{Login}
+use Rattle.ssh_end.specs.declared.layers.login.Login.TheVariants as login
 
 -- the laws of a run with another judge
 pub record JudgeLaws (K : Type 0) : Type 0 where
@@ -25,11 +27,12 @@ pub record JudgeLaws (K : Type 0) : Type 0 where
   pub guards : (p : Parties K) → AreLawful p → (side : Side) → (h : List Item) → EndRun p side h → IsGuarded p side h
 
 module _ {K : Type 0} (laws : JudgeLaws K) where
-  layers_of : (p : Parties K) (other : Judge) (layers : Layers) → AreServerLayers p layers → AreServerLayers (judged_by other p) layers
-  layers_of p other layers given = record {
-    are = record { tries = given.are.tries; methods = given.are.methods };
-    failure = given.failure;
-  }
+  layers_of : (p : Parties K) (other : Judge) (layers : Layers) → AreOf p layers → AreOf (judged_by other p) layers
+  layers_of p other layers given = record { login = go layers.authentication given.login }
+    where
+      go : (l : Login) → IsLoginOf p l → IsLoginOf (judged_by other p) l
+      go (login.Server server) x = record { tries = x.tries; methods = x.methods; failure = x.failure }
+      go (login.Client client) x = tt
 
   pub exchanged : (p : Parties K) (c : Crypto K) (parts : ExchangeParts) (one other : Judge) (history : List Item) (machine : State K) (layers : Layers) → ServerStandsAt p c parts one history machine layers → machine.kept.dead ≡ false → AgreeOnAsked one other history → ServerStandsAt (judged_by other p) c parts other history machine layers
   exchanged p c parts one other history machine layers place alive agree =

@@ -22,8 +22,10 @@ use Rattle.ssh_transport_machine.specs.Puts.{Outs}
 use Rattle.ssh_transport_machine.specs.State.{State, begun_of}
 use Rattle.ssh_transport_machine.specs.Turning.{IsQuiet}
 use Rattle.ssh_end.specs.Asking.{DoneInSession, end_with}
-use Rattle.ssh_end.specs.Places.{AskedTo, DiedOn, FedTo, StandsAfter, TookUnit, Waited, added, state_by}
+use Rattle.ssh_end.specs.Layers.{Layers}
+use Rattle.ssh_end.specs.Places.{AskedTo, DiedOn, FedTo, StandsAfter, TookUnit, Waited, added}
 use Rattle.ssh_end.specs.Reading.{IsReading, SameReading}
+use Rattle.ssh_end.specs.Sessions.{AreOf, end_of}
 use Rattle.ssh_end.specs.Steps.{UnitTurned, shown_by}
 use Rattle.ssh_end.specs.declared.asking.outcome.AskStep.{AskStep}
 use Rattle.ssh_end.specs.declared.asking.outcome.Fault.{Fault}
@@ -129,11 +131,11 @@ module _ {K : Type 0} (laws : PlaceLaws K) (p : Parties K) (side : Side) (parts 
 
 -- ---- an end that did nothing
 
-pub stays : {K L : Type 0} (p : Parties K) (side : Side) (parts : Type 0) (are : L → Type 0) (authentication : L → Authentication) (channels : L → Channels) (history : List Item) (old new : State K) (layers later : L) → new ≡ old → later ≡ layers →
-    StandsAfter p side parts (are layers) history old (state_by authentication channels old.kept layers) → StandsAfter p side parts (are later) history new (state_by authentication channels new.kept later)
-stays {K} {L} p side parts are authentication channels history old new layers later same same_layers place =
-    subst (λ (m : State K). StandsAfter p side parts (are later) history m (state_by authentication channels m.kept later)) (sym same)
-    (subst (λ (l : L). StandsAfter p side parts (are l) history old (state_by authentication channels old.kept l)) (sym same_layers) place)
+pub stays : {K : Type 0} (p : Parties K) (side : Side) (parts : Type 0) (history : List Item) (old new : State K) (layers later : Layers) → new ≡ old → later ≡ layers →
+    StandsAfter p side parts (AreOf p layers) history old (end_of old.kept layers) → StandsAfter p side parts (AreOf p later) history new (end_of new.kept later)
+stays {K} p side parts history old new layers later same same_layers place =
+    subst (λ (m : State K). StandsAfter p side parts (AreOf p later) history m (end_of m.kept later)) (sym same)
+    (subst (λ (l : Layers). StandsAfter p side parts (AreOf p l) history old (end_of old.kept l)) (sym same_layers) place)
 
 -- ---- pairs of cookie and secret
 

@@ -2,7 +2,6 @@
 use Rattle.std.specs.Prelude.{◌≡◌, ◌<◌, ◌^◌, ◌++◌, ℕ, true, false, Option, Some, None, List, [], ◌∷◌, Result, Ok, Err}
 use Rattle.std.specs.Option.{option_map}
 use Rattle.ssh_model.specs.declared.side.Side.{Side}
-use Rattle.ssh_model.specs.declared.side.Side.TheVariants.{Client, Server}
 use Rattle.ssh_model.specs.Protocol.Wire.Message.{Msg, Msg.Disconnect}
 use Rattle.ssh_model.specs.Protocol.Wire.Message.{Msg.ChannelOpen, Msg.ChannelOpenConfirmation, Msg.ChannelOpenFailure}
 use Rattle.ssh_model.specs.Protocol.Wire.Message.{Msg.ChannelWindowAdjust, Msg.ChannelData, Msg.ChannelExtendedData}
@@ -39,14 +38,21 @@ use Rattle.ssh_transport_machine.specs.declared.outcome.TransportAsk.TheVariants
 use Rattle.ssh_transport_machine.specs.declared.outcome.TransportFault.{TransportFault}
 use Rattle.ssh_transport_machine.specs.declared.outcome.TransportFault.TheVariants as transport_fault
 use Rattle.ssh_model.specs.declared.ask_refusal.AskRefusal.{AskRefusal}
-use Rattle.ssh_end.specs.Layers as server
-use Rattle.ssh_end.specs.Sessions as of_server
+use Rattle.ssh_end.specs.Layers.{Layers}
+use Rattle.ssh_end.specs.Login.{authentication_of, side_of}
 use Rattle.ssh_end.specs.Owed.{channels_sent}
+use Rattle.ssh_end.specs.Sessions.{end_of}
 use Rattle.ssh_end.specs.declared.ask.Ask.{Ask}
 use Rattle.ssh_end.specs.declared.ask.Ask.TheVariants as ask
 use Rattle.ssh_end.specs.declared.asking.outcome.Fault.{Fault}
 use Rattle.ssh_end.specs.declared.asking.outcome.Fault.TheVariants as fault
 use Rattle.ssh_end.specs.declared.asking.outcome.AskStep.{AskStep}
+use Rattle.ssh_end.specs.declared.layers.login.Login.{Login}
+use Rattle.ssh_end.specs.declared.layers.login.Login.TheVariants as login
+
+-- the signatures of a client's user
+abbrev pub UserSignatures : Type 0
+UserSignatures = (user algorithm key text : List ℕ) → List ℕ
 
 -- what a user asks, in the words of a session
 abbrev pub ask_of : Ask → session.Ask
@@ -205,6 +211,12 @@ Fails old (fault.Ask why) new = new ≡ old
 Fails old fault.Memory new = new.kept.dead ≡ true
 Fails old fault.Dead new = WasDead old new
 
+-- A server's authentication is as before, and a client's stays one.
+abbrev pub KeepsSettings : Login → Login → Type 0
+KeepsSettings (login.Server old) new = new ≡ login.Server old
+KeepsSettings (login.Client old) (login.Client new) = Unit {0}
+KeepsSettings (login.Client old) (login.Server new) = ⊥
+
 -- Layers are as before where the end goes on, or was over before.
 abbrev pub KeepsLayers : {L : Type 0} → L → Fault → L → Type 0
 KeepsLayers old fault.Memory new = Unit {0}
@@ -263,18 +275,17 @@ GivenFails old fault.Dead new = WasDead old new
 
 -- ---- a client's requests
 
--- The client's part of these parties is this signer, and a client that goes on and asks for authentication has a session
--- id.
-pub record AreClientOf {K : Type 0} (p : Parties K) (c : Crypto K)
-    (signature : (user algorithm key text : List ℕ) → List ℕ) (s : Transport K) (client : authentication.Client) :
-    Type 0 where
+-- The client's part of these parties, where it goes on, is this signer. A client that goes on and asks for authentication has a
+-- session id.
+pub record AreClientOf {K : Type 0} (p : Parties K) (c : Crypto K) (signature : UserSignatures) (s : Transport K)
+    (client : authentication.Client) : Type 0 where
   pub crypto : p.crypto ≡ c
-  pub user_signature : p.user_signature ≡ signature
+  pub user_signature : s.dead ≡ false → p.user_signature ≡ signature
   pub identified : s.dead ≡ false → client.opened ≡ true → s.session ≡ None → ⊥
 
 -- what comes of an ask of a user is a row, whatever channels keep
-abbrev pub UserRow : {K : Type 0} → Crypto K → ((user algorithm key text : List ℕ) → List ℕ) → State K →
-    authentication.Client → session.Ask → Result AskStep Fault → State K → authentication.Client → Outs → Type 0
+abbrev pub UserRow : {K : Type 0} → Crypto K → UserSignatures → State K → authentication.Client → session.Ask →
+    Result AskStep Fault → State K → authentication.Client → Outs → Type 0
 UserRow c signature old client asked result new kept o =
     (p : Parties _) (side : Side) (channels : Channels) → AreClientOf p c signature old.kept client →
     RowOf p side (end_with old (OfClient client) channels) asked result (end_with new (OfClient kept) channels) o
@@ -286,13 +297,31 @@ pub record RequestSent {K : Type 0} (c : Crypto K) (old : State K) (request : Ms
   pub step_is : step ≡ step_by answer
   pub answers : Answers c old request (after_sent old.kept) answer new o
 
--- what comes of an ask of a client is a row, with these parts and the settings that are kept
-abbrev pub ClientRow : {K : Type 0} → Crypto K → ((user algorithm key text : List ℕ) → List ℕ) →
-    authentication.Client → EndState K → session.Ask → Result AskStep Fault → EndState K → Outs → Type 0
-ClientRow c signature client old asked result new o =
-    (p : Parties _) → AreClientOf p c signature old.transport client →
-    (old.transport.dead ≡ false → old.transport.settings ≡ settings_of p Client) →
-    RowOf p Client old asked result new o
+-- ---- an end
+
+-- The parts are those of the end of these parties by which it is asked: its sealing, and a client's signatures.
+pub record AsksBy {K : Type 0} (p : Parties K) (c : Crypto K) (signature : UserSignatures) (s : Transport K)
+    (kept : Login) : Type 0 where
+  pub crypto : p.crypto ≡ c
+  pub client : (client : authentication.Client) → kept ≡ login.Client client → AreClientOf p c signature s client
+
+-- what comes of an ask for authentication is a row, whatever channels keep
+abbrev pub LoginAskRow : {K : Type 0} → Crypto K → UserSignatures → State K → Login → session.Ask →
+    Result AskStep Fault → State K → Login → Outs → Type 0
+LoginAskRow {K} c signature old kept asked result new later o =
+    (p : Parties K) (side : Side) (channels : Channels) → (old.kept.dead ≡ false → side_of kept ≡ side) →
+    AsksBy p c signature old.kept kept →
+    RowOf p side (end_with old (authentication_of kept) channels) asked result
+    (end_with new (authentication_of later) channels) o
+
+-- what comes of an ask is a row, with these parts and the settings that are kept
+abbrev pub AsksRow : {K : Type 0} → Crypto K → UserSignatures → State K → Layers → session.Ask →
+    Result AskStep Fault → State K → Layers → Outs → Type 0
+AsksRow {K} c signature old layers asked result new later o =
+    (p : Parties K) (side : Side) → (old.kept.dead ≡ false → side_of layers.authentication ≡ side) →
+    AsksBy p c signature old.kept layers.authentication →
+    (old.kept.dead ≡ false → old.kept.settings ≡ settings_of p side) →
+    RowOf p side (end_of old.kept layers) asked result (end_of new.kept later) o
 
 -- ---- sessions
 
@@ -328,22 +357,11 @@ DoneInSession p side history old asked (Err (fault.Ask why)) new o = EndRefused 
 DoneInSession p side history old asked (Err fault.Memory) new o = EndDied p side history asked new
 DoneInSession p side history old asked (Err fault.Dead) new o = WasOver old new
 
--- In each session of parties with these parts, after each history that what the end keeps sums up.
-abbrev pub InSession : {K : Type 0} → Crypto K → Side → EndState K → session.Ask → Result AskStep Fault →
-    EndState K → Outs → Type 0
-InSession {K} c side old asked result new o =
-    (p : Parties K) (history : List Item) → p.crypto ≡ c → EndSumsUp p side history old →
-    DoneInSession p side history old asked result new o
-
--- The same of a client, which signs by its part.
-abbrev pub ClientInSession : {K : Type 0} → Crypto K → ((user algorithm key text : List ℕ) → List ℕ) →
-    authentication.Client → EndState K → session.Ask → Result AskStep Fault → EndState K → Outs → Type 0
-ClientInSession c signature client old asked result new o =
-    (p : Parties _) (history : List Item) → AreClientOf p c signature old.transport client →
-    EndSumsUp p Client history old → DoneInSession p Client history old asked result new o
-
--- what a server's role does on an ask: a turn of a session
-pub record ServerAsks {K : Type 0} (c : Crypto K) (old : State K) (layers : server.Layers) (asked : session.Ask)
-    (given : Result AskStep Fault) (new : State K) (later : server.Layers) (o : Outs) : Type 0 where
-  pub in_session : InSession c Server (of_server.end_of old.kept layers) asked given (of_server.end_of new.kept later) o
-  pub authentication : later.authentication ≡ layers.authentication
+-- What an end does on an ask: a turn of each session of parties with these parts, after each history that what it keeps sums up.
+-- What authentication has of the settings stays as it is.
+pub record Asks {K : Type 0} (c : Crypto K) (signature : UserSignatures) (old : State K) (layers : Layers)
+    (asked : session.Ask) (given : Result AskStep Fault) (new : State K) (later : Layers) (o : Outs) : Type 0 where
+  pub in_session : (p : Parties K) (side : Side) (history : List Item) → AsksBy p c signature old.kept layers.authentication →
+      EndSumsUp p side history (end_of old.kept layers) →
+      DoneInSession p side history (end_of old.kept layers) asked given (end_of new.kept later) o
+  pub settings : KeepsSettings layers.authentication later.authentication

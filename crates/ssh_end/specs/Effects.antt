@@ -33,15 +33,6 @@ is_whole (outcome.Up number) = false
 is_whole (outcome.Completed choice) = false
 is_whole _ = true
 
--- SERVICE_ACCEPT was sent, or was taken.
-abbrev pub is_requested : TransportTurn → Bool
-is_requested (outcome.Done effect.ServiceRequested) = true
-is_requested _ = false
-
-abbrev pub is_accepted : TransportTurn → Bool
-is_accepted (outcome.Done effect.ServiceAccepted) = true
-is_accepted _ = false
-
 -- what authentication then keeps
 abbrev pub opened_where : TransportTurn → Authentication → Authentication
 opened_where (outcome.Done effect.ServiceRequested) (OfServer server) = OfServer (opened_server server)

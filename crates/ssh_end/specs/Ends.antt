@@ -1,13 +1,12 @@
 -- The ends: what they keep, how they begin, and what becomes of them.
 use Rattle.std.specs.Prelude.{◌≡◌, ℕ, List, [], ◌++◌, Option}
-use Rattle.ssh_model.specs.State.Authentication.Kept.{new_client, new_server}
 use Rattle.ssh_model.specs.State.Channels.Kept.{no_channels}
-use Rattle.ssh_model.specs.declared.side.Side.TheVariants.{Client, Server}
+use Rattle.ssh_model.specs.declared.side.Side.{Side}
 use Rattle.ssh_model.specs.Protocol.Sessions.Parties.{Settings}
 use Rattle.ssh_model.specs.Protocol.Wire.Line.{line_end}
 use Rattle.ssh_model.specs.Protocol.Wire.Sealing.{Crypto}
-use Rattle.ssh_end.specs.ClientLayers as client
-use Rattle.ssh_end.specs.Layers as server
+use Rattle.ssh_end.specs.Layers.{Layers}
+use Rattle.ssh_end.specs.Login.{new_login}
 use Rattle.ssh_transport.specs.declared.role.Role as exchange
 use Rattle.ssh_packet.specs.Directions.{new_direction}
 use Rattle.ssh_transport_machine.specs.Asks.{WasDead}
@@ -23,10 +22,10 @@ use Rattle.ssh_end.specs.declared.step.Step.{Step}
 
 -- An end's machine, its role, its layers, what gives its padding, and its last turn, with the channel of each payload that was
 -- sent in it.
-pub record EndValue (K R L F : Type 0) : Type 0 where
+pub record EndValue (K R F : Type 0) : Type 0 where
   pub machine : State K
   pub role : R
-  pub layers : L
+  pub layers : Layers
   pub filler : F
   pub step : Step
   pub used : ℕ
@@ -34,10 +33,10 @@ pub record EndValue (K R L F : Type 0) : Type 0 where
   pub channels : List (Option ℕ)
 
 -- What an end sends by, where these bytes are put out: at first nothing is listed, and then what it lists.
-abbrev pub sending_from : {K R L F : Type 0} → EndValue K R L F → (bytes : List ℕ) → Sending K F
+abbrev pub sending_from : {K R F : Type 0} → EndValue K R F → (bytes : List ℕ) → Sending K F
 sending_from e bytes = record { direction = e.machine.kept.sending; filler = e.filler; bytes = bytes; payloads = [] }
 
-abbrev pub sending_to : {K R L F : Type 0} → EndValue K R L F → (bytes : List ℕ) → Sending K F
+abbrev pub sending_to : {K R F : Type 0} → EndValue K R F → (bytes : List ℕ) → Sending K F
 sending_to e bytes = record { direction = e.machine.kept.sending; filler = e.filler; bytes = bytes; payloads = e.sent }
 
 -- what a new one sends by, once its version line was put out
@@ -50,18 +49,10 @@ sending_from_line settings filler bytes = record {
 }
 
 -- It put out its version line and its first KEXINIT, with these settings, this cookie and this secret, and its layers are new.
-pub record IsNewServer {K : Type 0} (c : Crypto K) (settings : Settings) (cookie secret : List ℕ) (machine : State K)
-    (layers : server.Layers) (before after : List ℕ) (sent : List (List ℕ)) : Type 0 where
-  pub opened : IsOpened c settings Server cookie secret machine (record { before = before; after = after; listed = []; relisted = sent })
-  pub authentication : layers.authentication.kept ≡ new_server
-  pub tries : layers.authentication.tries ≡ settings.tries
-  pub methods : layers.authentication.methods ≡ settings.methods
-  pub channels : layers.channels ≡ no_channels
-
-pub record IsNewClient {K : Type 0} (c : Crypto K) (settings : Settings) (cookie secret : List ℕ) (machine : State K)
-    (layers : client.Layers) (before after : List ℕ) (sent : List (List ℕ)) : Type 0 where
-  pub opened : IsOpened c settings Client cookie secret machine (record { before = before; after = after; listed = []; relisted = sent })
-  pub authentication : layers.authentication ≡ new_client
+pub record IsNew {K : Type 0} (c : Crypto K) (side : Side) (settings : Settings) (cookie secret : List ℕ) (machine : State K)
+    (layers : Layers) (before after : List ℕ) (sent : List (List ℕ)) : Type 0 where
+  pub opened : IsOpened c settings side cookie secret machine (record { before = before; after = after; listed = []; relisted = sent })
+  pub authentication : layers.authentication ≡ new_login side settings.tries settings.methods
   pub channels : layers.channels ≡ no_channels
 
 -- Memory was refused, and the end is over, or it was over before and is as it was.
@@ -71,8 +62,8 @@ IsFault old fault.Dead new = WasDead old new
 IsFault old (fault.Ask why) new = ⊥
 
 -- what took memory of the bytes begun with some of those that came
-abbrev pub EndLacks : {R X L S F K : Type 0} → role.Ghosts R X L S F K → exchange.Ghosts X S F K → Crypto K →
-    EndValue K R L F → (bytes : List ℕ) → Type 0
+abbrev pub EndLacks : {R X S F K : Type 0} → role.Ghosts R X S F K → exchange.Ghosts X S F K → Crypto K →
+    EndValue K R F → (bytes : List ℕ) → Type 0
 EndLacks ends exchanges c old bytes =
     FrontLacks (UnitLacks c exchanges.SIDE (exchanges.does (ends.exchange_of old.role))
-    (exchanges.lacks (ends.exchange_of old.role)) (ends.lacks old.role) old.machine old.layers) (begun_of old.machine) bytes
+    (exchanges.lacks (ends.exchange_of old.role)) (ends.judging old.role) old.machine old.layers) (begun_of old.machine) bytes

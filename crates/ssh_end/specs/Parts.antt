@@ -1,14 +1,9 @@
--- When the parts of an end, and what it keeps above its transport, are those of parties.
+-- When the parts of an end are those of parties.
 use Rattle.std.specs.Prelude.{◌≡◌, ℕ, false, List, Option}
 use Rattle.ssh_model.specs.Protocol.Authentication.Requests.{Judge, judge_of}
 use Rattle.ssh_model.specs.Protocol.Sessions.Parties.{Agreement, Parties}
-use Rattle.ssh_model.specs.Protocol.Sessions.TurnClaims.{HasSpelling}
 use Rattle.ssh_model.specs.State.TransportLayer.Kept.{ExchangeParts}
-use Rattle.ssh_model.specs.Protocol.Wire.Message.{Msg.UserauthFailure}
 use Rattle.ssh_model.specs.Protocol.Wire.Sealing.{Crypto}
-use Rattle.ssh_end.specs.ClientLayers as client
-use Rattle.ssh_end.specs.Layers as server
-use Rattle.ssh_end.specs.Sessions.{AreOf}
 use Rattle.ssh_transport.specs.OfClient.Replies.{Trusts}
 use Rattle.ssh_transport.specs.OfClient.Roles.{IsOfClient}
 use Rattle.ssh_transport.specs.OfServer.Roles.{IsOfServer}
@@ -18,20 +13,11 @@ pub record IsServer {K : Type 0} (p : Parties K) (c : Crypto K) (parts : Exchang
   pub exchange : IsOfServer p c parts
   pub judge_is : judge_of p ≡ judge
 
--- These are the layers of the server of these parties. The methods that it names fit into a packet.
-pub record AreServerLayers {K : Type 0} (p : Parties K) (layers : server.Layers) : Type 0 where
-  pub are : AreOf p layers
-  pub failure : HasSpelling (UserauthFailure p.server.methods false)
-
 -- These are the parts of the client of these parties, and the signatures of its user.
 pub record IsClient {K : Type 0} (p : Parties K) (c : Crypto K) (agreement : Agreement) (trusts : Trusts)
     (signature : (user algorithm key text : List ℕ) → List ℕ) : Type 0 where
   pub exchange : IsOfClient p c agreement trusts
   pub signature_is : p.user_signature ≡ signature
-
--- A client's layers have nothing of its settings.
-abbrev pub AreClientLayers : {K : Type 0} → Parties K → client.Layers → Type 0
-AreClientLayers p layers = Unit {0}
 
 -- what a key agreement does
 abbrev pub agreement_by : {A : Type 0} → (point : A → List ℕ → List ℕ) → (shared : A → List ℕ → List ℕ → Option (List ℕ)) →
@@ -45,4 +31,13 @@ exchange_parts point shared key signature agreement host = record {
   agreement = agreement_by point shared agreement;
   host_key = key host;
   host_signature = signature host;
+}
+
+-- the verdicts by which nobody is let in
+abbrev pub no_verdicts : Judge
+no_verdicts = record {
+  admits = λ user. false;
+  password_is_right = λ user word. false;
+  knows_key = λ user algorithm key. false;
+  signature_is_right = λ algorithm key text signature. false;
 }

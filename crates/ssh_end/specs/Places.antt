@@ -1,8 +1,8 @@
 -- Where an end stands in a run of its own, and where each call takes it. A history has the newest item first.
 use Rattle.std.specs.Prelude.{◌≡◌, ◌++◌, ℕ, Bool, true, false, List, [], ◌∷◌, Result, Ok, Err}
-use Rattle.ssh_model.specs.State.Channels.Kept.{Channels}
+use Rattle.ssh_model.specs.Protocol.Authentication.Requests.{Judge, judge_of}
 use Rattle.ssh_model.specs.State.End.Reading.{end_reading}
-use Rattle.ssh_model.specs.State.End.State.{Authentication, EndState}
+use Rattle.ssh_model.specs.State.End.State.{EndState}
 use Rattle.ssh_model.specs.State.End.Summary.{EndSumsUp}
 use Rattle.ssh_model.specs.Protocol.Sessions.AnyPeer.{IsGuarded}
 use Rattle.ssh_model.specs.Protocol.Sessions.Items as session
@@ -10,18 +10,19 @@ use Rattle.ssh_model.specs.Protocol.Sessions.Items.{Item, Item.Asked, Item.AskRe
 use Rattle.ssh_model.specs.Protocol.Sessions.Parties.{AreLawful, Parties}
 use Rattle.ssh_model.specs.Protocol.Sessions.Turns.{EndRun, FeedsTurn, OnUnit}
 use Rattle.ssh_model.specs.declared.side.Side.{Side}
-use Rattle.ssh_model.specs.declared.side.Side.TheVariants.{Server}
-use Rattle.ssh_model.specs.State.TransportLayer.Kept.{Transport}
+use Rattle.ssh_model.specs.declared.side.Side.TheVariants.{Client, Server}
 use Rattle.ssh_model.specs.Protocol.Wire.Delivery.{Waits}
 use Rattle.ssh_model.specs.Protocol.Wire.Sealing.{Crypto}
 use Rattle.ssh_transport.specs.Units.{RoleDoes, RoleLacks}
 use Rattle.ssh_transport_machine.specs.Puts.{Outs}
 use Rattle.ssh_transport_machine.specs.State.{State, begun_of}
 use Rattle.ssh_transport_machine.specs.Turning.{IsQuiet}
-use Rattle.ssh_end.specs.Asking.{DoneInSession}
+use Rattle.ssh_end.specs.Asking.{Asks, DoneInSession, UserSignatures}
+use Rattle.ssh_end.specs.Layers.{Layers}
 use Rattle.ssh_end.specs.Reading.{IsReading, SameReading}
+use Rattle.ssh_end.specs.Sessions.{AreOf, end_of}
 use Rattle.ssh_end.specs.Steps.{UnitTurned, shown_by}
-use Rattle.ssh_end.specs.Units.{EndDoes, EndLacks, UnitGoes, UnitLacks}
+use Rattle.ssh_end.specs.Units.{UnitGoes, UnitLacks}
 use Rattle.ssh_end.specs.declared.asking.outcome.AskStep.{AskStep}
 use Rattle.ssh_end.specs.declared.asking.outcome.Fault.{Fault}
 use Rattle.ssh_end.specs.declared.asking.outcome.Fault.TheVariants as fault
@@ -43,14 +44,6 @@ pub record StandsAfter {K : Type 0} (p : Parties K) (side : Side) (parts layers 
   pub run : EndRun p side history
   pub reading : machine.kept.dead ≡ false → IsReading p.crypto machine
   pub guarded : IsGuarded p side history
-
--- an end of a session: what a transport keeps, and what its role keeps above
-abbrev pub state_by : {K L : Type 0} → (L → Authentication) → (L → Channels) → Transport K → L → EndState K
-state_by authentication channels kept layers = record {
-  transport = kept;
-  authentication = authentication layers;
-  channels = channels layers;
-}
 
 -- ---- bytes of the peer
 
@@ -116,29 +109,32 @@ pub record FedTo {K : Type 0} (p : Parties K) (side : Side) (parts layers : Type
   pub turn : FeedsTurn side history cookie secret (fed_items cookie secret answer)
   pub place : StandsAfter p side parts layers (fed_items cookie secret answer ++ history) new e
 
--- what a role does on an ask
-abbrev pub EndAsks : (K L : Type 0) → Type 1
-EndAsks K L = State K → L → session.Ask → Result AskStep Fault → State K → L → Outs → Type 0
-
 -- ---- the law of a role
 
--- What a role does is what an end of its side does in a session whose parts it has: with bytes, where memory is refused for
+-- A role whose parts are those of an end of parties has its part in an exchange of keys, a server's verdicts on users, and a
+-- client's signatures.
+pub record HasParts {K R : Type 0} (side : Side) (is_of exchange : R → Parties K → Type 0) (judging : R → Judge)
+    (signing : R → UserSignatures) : Type 0 where
+  pub exchanges : (role : R) (p : Parties K) → is_of role p → exchange role p
+  pub judges : (role : R) (p : Parties K) → is_of role p → side ≡ Server → judge_of p ≡ judging role
+  pub signs : (role : R) (p : Parties K) → is_of role p → side ≡ Client → p.user_signature ≡ signing role
+
+-- What an end does is what an end of its side does in a session whose parts it has: with bytes, where memory is refused for
 -- them, and on asks.
-pub record EndLifts {K R L : Type 0} (side : Side) (c : Crypto K) (is_of : R → Parties K → Type 0)
-    (are_of : L → Parties K → Type 0) (state : Transport K → L → EndState K) (does : R → RoleDoes K)
-    (own : R → RoleLacks K) (goes : R → EndDoes K L) (lacks : R → EndLacks K L) (asks : R → EndAsks K L) : Type 0 where
-  pub turned : (role : R) (p : Parties K) (history : List Item) (old : State K) (layers : L) →
-      StandsAfter p side (is_of role p) (are_of layers p) history old (state old.kept layers) →
-      (bytes : List ℕ) (done : Step) (new : State K) (later : L) (o : Outs) →
-      UnitGoes c side (does role) (goes role) old layers bytes done new later o →
-      TurnedTo p side (is_of role p) (are_of later p) history bytes done new (state new.kept later) o
-  pub died : (role : R) (p : Parties K) (history : List Item) (old : State K) (layers : L) →
-      StandsAfter p side (is_of role p) (are_of layers p) history old (state old.kept layers) →
-      (new : State K) (later : L) → new.kept.dead ≡ true → (bytes : List ℕ) →
-      UnitLacks c side (does role) (own role) (lacks role) old layers bytes →
-      DiedOn p side (is_of role p) (are_of later p) history old new (state new.kept later) bytes
-  pub asked : (role : R) (p : Parties K) (history : List Item) (old : State K) (layers : L) →
-      StandsAfter p side (is_of role p) (are_of layers p) history old (state old.kept layers) →
-      (asked : session.Ask) (given : Result AskStep Fault) (new : State K) (later : L) (o : Outs) →
-      asks role old layers asked given new later o → (new.kept.dead ≡ false → SameReading old new) →
-      AskedTo p side (is_of role p) (are_of later p) history (state old.kept layers) asked given new (state new.kept later) o
+pub record EndLifts {K R : Type 0} (side : Side) (c : Crypto K) (is_of : R → Parties K → Type 0)
+    (does : R → RoleDoes K) (own : R → RoleLacks K) (judging : R → Judge) (signing : R → UserSignatures) : Type 0 where
+  pub turned : (role : R) (p : Parties K) (history : List Item) (old : State K) (layers : Layers) →
+      StandsAfter p side (is_of role p) (AreOf p layers) history old (end_of old.kept layers) →
+      (bytes : List ℕ) (done : Step) (new : State K) (later : Layers) (o : Outs) →
+      UnitGoes c side (does role) (judging role) old layers bytes done new later o →
+      TurnedTo p side (is_of role p) (AreOf p later) history bytes done new (end_of new.kept later) o
+  pub died : (role : R) (p : Parties K) (history : List Item) (old : State K) (layers : Layers) →
+      StandsAfter p side (is_of role p) (AreOf p layers) history old (end_of old.kept layers) →
+      (new : State K) (later : Layers) → new.kept.dead ≡ true → (bytes : List ℕ) →
+      UnitLacks c side (does role) (own role) (judging role) old layers bytes →
+      DiedOn p side (is_of role p) (AreOf p later) history old new (end_of new.kept later) bytes
+  pub asked : (role : R) (p : Parties K) (history : List Item) (old : State K) (layers : Layers) →
+      StandsAfter p side (is_of role p) (AreOf p layers) history old (end_of old.kept layers) →
+      (asked : session.Ask) (given : Result AskStep Fault) (new : State K) (later : Layers) (o : Outs) →
+      Asks c (signing role) old layers asked given new later o → (new.kept.dead ≡ false → SameReading old new) →
+      AskedTo p side (is_of role p) (AreOf p later) history (end_of old.kept layers) asked given new (end_of new.kept later) o

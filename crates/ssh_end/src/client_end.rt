@@ -5,14 +5,14 @@ ghost use Rattle.ssh_model.specs.declared.side.Side.TheVariants as sides;
 ghost use Rattle.ssh_config.specs.Meaning.{settings_of};
 ghost use Rattle.ssh_transport_machine.specs.Padding.{PadsTo};
 ghost use Rattle.ssh_end.specs.Beside.{channels_beside};
-ghost use Rattle.ssh_end.specs.Ends.{IsNewClient, sending_from_line, sending_to};
-ghost use Rattle.ssh_end.specs.Parts.{AreClientLayers, IsClient, agreement_by};
+ghost use Rattle.ssh_end.specs.Ends.{IsNew, sending_from_line, sending_to};
+ghost use Rattle.ssh_end.specs.Parts.{IsClient, agreement_by};
 ghost use Rattle.ssh_end.specs.Stands.{MadeOf};
-ghost use Rattle.ssh_end.specs.ClientSessions.{end_of};
+ghost use Rattle.ssh_end.specs.Sessions.{AreOf, end_of};
 
 use crate::client_role::ClientRole;
 use crate::end::End;
-use crate::layers::ClientLayers;
+use crate::layers::Layers;
 use crate::opening_laws::is_material;
 use crate::step::Step;
 use crate::turn_laws::new_ends_read;
@@ -46,7 +46,7 @@ impl<P: ClientParts, U: UserSigner + Drop> End<ClientRole<P, U>> {
         secret: [u8; 32],
         out: &mut Vec<u8>,
     ) -> Result<ClientEnd<P, U>, AllocError>
-        ensures opened { IfOk result (λ end. IsNewClient P.Sealing.crypto (settings_of config) cookie secret end.machine end.layers
+        ensures opened { IfOk result (λ end. IsNew P.Sealing.crypto sides.Client (settings_of config) cookie secret end.machine end.layers
             out.old.items out.new.items end.sent) }
         ensures padded { IfOk result (λ end. PadsTo P.Sealing.crypto P.Filler.gives
             (sending_from_line (settings_of config) parts.filler out.old.items) (sending_to end out.new.items)) }
@@ -58,7 +58,7 @@ impl<P: ClientParts, U: UserSigner + Drop> End<ClientRole<P, U>> {
         ensures user { IfOk result (λ end. end.role.user ≡ user) }
         ensures placed { IfOk result (λ end. MadeOf sides.Client (settings_of config)
             (λ p. IsClient p P.Sealing.crypto (agreement_by P.Agreement.public_of P.Agreement.shared_of end.role.exchange.agreement)
-            (P.HostTrust.judged end.role.exchange.host_trust) (U.signature_of end.role.user)) (λ p. AreClientLayers p end.layers)
+            (P.HostTrust.judged end.role.exchange.host_trust) (U.signature_of end.role.user)) (λ p. AreOf p end.layers)
             (record { cookie = cookie; secret = secret }) end.machine (end_of end.machine.kept end.layers) out.old.items out.new.items
             end.sent) }
         ensures out { OnErr result (out.new.items ≡ out.old.items) }
@@ -69,7 +69,7 @@ impl<P: ClientParts, U: UserSigner + Drop> End<ClientRole<P, U>> {
         is_material(&cookie, &secret);
         machines_stand::<<P::Sealing as Sealing>::Key>();
         let (filler, agreement, host_trust) = parts.into_parts();
-        let layers = ClientLayers::new(alloc)?;
+        let layers = Layers::of_client(alloc)?;
         let mut sent = Outgoing {
             filler,
             payloads: Vec::new(alloc),

@@ -11,7 +11,7 @@ ghost use Rattle.ssh_packet.specs.Directions.{next_number};
 ghost use Rattle.ssh_transport_machine.specs.Padding.{PadsTo};
 ghost use Rattle.ssh_transport_machine.specs.Standing.{Stands};
 ghost use Rattle.ssh_transport_machine.specs.State.{line_taken};
-ghost use Rattle.ssh_end.specs.Asking.{AreAskChannels, Fails, OnAnswered, ask_of};
+ghost use Rattle.ssh_end.specs.Asking.{AreAskChannels, Asks, Fails, OnAnswered, ask_of};
 ghost use Rattle.ssh_end.specs.Calls.{Advances, EndAsked, EndTakes, outs_of};
 ghost use Rattle.ssh_end.specs.Ends.{EndLacks, IsFault, sending_from, sending_to};
 ghost use Rattle.ssh_end.specs.Reading.{SameReading};
@@ -21,10 +21,12 @@ ghost use Rattle.ssh_end.specs.Turn.{TurnShows, channels_in, payloads_in};
 
 use crate::ask::Ask;
 use crate::asking::{AskStep, Fault};
+use crate::layers::Layers;
 use crate::opening_laws::is_material;
 use crate::role::EndRole;
 use crate::step::Step;
 use crate::turn::{Turn, asked_turn, sent_payloads, turn_of};
+use crate::turn_laws::ends_lift;
 use crate::unit::advance;
 use ssh_channels::Channels;
 use ssh_model::any_peer::against_any_peer;
@@ -43,7 +45,7 @@ use std::marker::Model;
 pub struct End<R: EndRole> {
     pub(crate) machine: Machine<<R::Exchange as Role>::Sealing>,
     pub(crate) role: R,
-    pub(crate) layers: R::Layers,
+    pub(crate) layers: Layers,
     // What gives the padding, and the payloads that were sent in the turn.
     pub(crate) sent: Outgoing<<R::Exchange as Role>::Filler>,
     // What was done in the turn, with how many bytes, the channel of a single payload that was sent, and those of payloads that were owed.
@@ -59,7 +61,7 @@ impl<R: EndRole> Model for End<R> {
     ghost use Rattle.ssh_end.specs.Ends.{EndValue};
     ghost use Rattle.ssh_end.specs.Beside.{channels_beside, last_channels};
 
-    ghost Value = { EndValue R.Exchange.Sealing.Key R R.Layers R.Exchange.Filler };
+    ghost Value = { EndValue R.Exchange.Sealing.Key R R.Exchange.Filler };
 
     ghost view = { λ e. record {
       machine = e.machine;
@@ -112,7 +114,7 @@ impl<R: EndRole> End<R> {
         ensures lacks { IfErr result (λ fault. fault ≡ Fault.Memory → EndLacks R.EndRole R.Exchange.Role R.Exchange.Sealing.crypto
             self.old bytes.now) }
         ensures out { OnErr result (out.new.items ≡ out.old.items) }
-        ensures* done { sem 𝓛 (Rests (the_row R.row R.Exchange.row R.Layers.row R.Exchange.Sealing.row R.Exchange.Filler.row
+        ensures* done { sem 𝓛 (Rests (the_row R.row R.Exchange.row R.Exchange.Sealing.row R.Exchange.Filler.row
             R.Exchange.Sealing.Key.row R.EndRole R.Exchange.Role R.Exchange.Sealing.Sealing R.Exchange.Filler.Filler) self.entry
             (λ new. EndTakes R.EndRole R.Exchange.Role R.Exchange.Sealing.crypto R.Exchange.Filler.gives self.old bytes.now
             out.old.items out.new.items result new)) }
@@ -149,7 +151,7 @@ impl<R: EndRole> End<R> {
         ensures out { OnErr result (out.new.items ≡ out.old.items) }
         ensures role { self.new.role ≡ self.old.role }
     {
-        R::lifts();
+        ends_lift::<R>();
         self.step = Step::More;
         self.used = 0;
         self.sent.payloads.clear();
@@ -213,7 +215,7 @@ impl<R: EndRole> End<R> {
     /// - `Dead`: the end was over before. Nothing is put out.
     pub fn ask<'a>(&'a mut self, ask: &Ask<'_>, out: &mut Vec<u8>) -> Result<Turn<'a>, Fault>
         ensures out { OnErr result (out.new.items ≡ out.old.items) }
-        ensures* done { sem 𝓛 (Rests (the_row R.row R.Exchange.row R.Layers.row R.Exchange.Sealing.row R.Exchange.Filler.row
+        ensures* done { sem 𝓛 (Rests (the_row R.row R.Exchange.row R.Exchange.Sealing.row R.Exchange.Filler.row
             R.Exchange.Sealing.Key.row R.EndRole R.Exchange.Role R.Exchange.Sealing.Sealing R.Exchange.Filler.Filler) self.entry
             (λ new. EndAsked R.EndRole R.Exchange.Role R.Exchange.Sealing.crypto R.Exchange.Filler.gives self.old (ask_of ask.now)
             out.old.items out.new.items result new)) }
@@ -228,8 +230,8 @@ impl<R: EndRole> End<R> {
     ///
     /// Those of `ask`.
     pub fn perform(&mut self, ask: &Ask<'_>, out: &mut Vec<u8>) -> Result<AskStep, Fault>
-        ensures asks { R.asks self.old.role self.old.machine self.old.layers (ask_of ask.now) result self.new.machine self.new.layers
-            (outs_of out.old.items out.new.items self.new.sent) }
+        ensures asks { Asks R.Exchange.Sealing.crypto (R.signing self.old.role) self.old.machine self.old.layers (ask_of ask.now) result
+            self.new.machine self.new.layers (outs_of out.old.items out.new.items self.new.sent) }
         ensures padded { OnAnswered result (PadsTo R.Exchange.Sealing.crypto R.Exchange.Filler.gives (sending_from self.old out.old.items)
             (sending_to self.new out.new.items)) }
         ensures reading { self.new.machine.kept.dead ≡ false → SameReading self.old.machine self.new.machine }
@@ -244,7 +246,7 @@ impl<R: EndRole> End<R> {
         ensures out { OnErr result (out.new.items ≡ out.old.items) }
         ensures role { self.new.role ≡ self.old.role }
     {
-        R::lifts();
+        ends_lift::<R>();
         self.step = Step::More;
         self.used = 0;
         self.sent.payloads.clear();
@@ -285,9 +287,9 @@ impl<R: EndRole> End<R> {
 
     /// The channels, to show their states and windows.
     pub fn channels(&self) -> &Channels
-        ensures { result.now ≡ R.channels_of self.now.layers }
+        ensures { result.now ≡ self.now.layers.channels }
     {
-        R::channels(&self.layers)
+        self.layers.channels()
     }
 
     /// Tests whether as many packets were sent in this epoch as its limit says, so that the next exchange of keys is due.

@@ -1,97 +1,59 @@
-//! What one end does above its transport and the other does not.
+//! What one end has and the other does not.
 
-ghost use Rattle.std.specs.Prelude.{◌≡◌, ◌++◌, IfErr, IfOk, OnErr, OnOk, Result, false, map, true};
-ghost use Rattle.ssh_model.specs.State.Channels.Kept.{Channels};
-ghost use Rattle.ssh_model.specs.State.End.State.{Authentication};
-ghost use Rattle.ssh_model.specs.Protocol.Sessions.Items as session;
+ghost use Rattle.std.specs.Prelude.{◌≡◌, ◌≤◌, IfErr, IfOk, OnErr, false, map};
+ghost use Rattle.ssh_model.specs.Protocol.Authentication.Requests.{Judge};
 ghost use Rattle.ssh_model.specs.Protocol.Sessions.Parties.{Parties};
+ghost use Rattle.ssh_model.specs.Protocol.Sessions.Turns.{number_of};
 ghost use Rattle.ssh_transport_machine.specs.Padding.{PadsTo, sending_by};
-ghost use Rattle.ssh_transport_machine.specs.Puts.{Outs, outs};
+ghost use Rattle.ssh_transport_machine.specs.Puts.{outs};
 ghost use Rattle.ssh_transport_machine.specs.Standing.{Stands};
-ghost use Rattle.ssh_transport_machine.specs.State.{State};
-ghost use Rattle.ssh_transport_machine.specs.declared.outcome.TransportTurn.{TransportTurn};
-ghost use Rattle.ssh_end.specs.Asking.{Fails, OnAnswered, ask_of};
-ghost use Rattle.ssh_end.specs.Beside.{channels_behind};
-ghost use Rattle.ssh_end.specs.Effects.{IsReady, is_whole};
-ghost use Rattle.ssh_end.specs.Owed.{Extends};
-ghost use Rattle.ssh_end.specs.Places.{EndLifts, state_by};
+ghost use Rattle.ssh_end.specs.Above.{CanFinish};
+ghost use Rattle.ssh_end.specs.Asking.{Asks, Fails, OnAnswered, UserSignatures, ask_of};
+ghost use Rattle.ssh_end.specs.Judging.{JudgeLacks, JudgesPayload};
+ghost use Rattle.ssh_end.specs.Places.{HasParts};
 ghost use Rattle.ssh_end.specs.Reading.{SameReading};
-ghost use Rattle.ssh_end.specs.declared.asking.outcome.AskStep.{AskStep};
-ghost use Rattle.ssh_end.specs.declared.asking.outcome.Fault.{Fault};
-ghost use Rattle.ssh_end.specs.declared.step.Step.{Step};
 
+use crate::above::Judgement;
 use crate::ask::Ask;
 use crate::asking::{AskStep, Fault};
-use crate::step::Step;
-use ssh_channels::Channels;
-use ssh_packet::Sealing;
+use crate::layers::Layers;
 use ssh_transport::Role;
-use ssh_transport_machine::{Machine, Outgoing, TransportTurn};
+use ssh_transport_machine::{Machine, Outgoing};
 use std::alloc::AllocError;
 
-/// What one end does above its transport and the other does not: the authentication of a user, and what it keeps for it. `ServerRole` and
-/// `ClientRole` are the two.
+/// What one end has and the other does not: its part in an exchange of keys, and who judges its users, or signs for its user. `ServerRole`
+/// and `ClientRole` are the two.
 pub trait EndRole: Drop {
     /// What it does in an exchange of keys.
     type Exchange: Role;
-
-    /// What it keeps above its transport.
-    type Layers: Drop;
 
     ghost exchange_of: { Self → Self.Exchange };
 
     ghost is_of: { Self → Parties Self.Exchange.Sealing.Key → Type 0 };
 
-    ghost are_of: { Self.Layers → Parties Self.Exchange.Sealing.Key → Type 0 };
+    ghost judging: { Self → Judge };
 
-    ghost authentication_of: { Self.Layers → Authentication };
-
-    ghost channels_of: { Self.Layers → Channels };
-
-    ghost goes: { Self → TransportTurn → State Self.Exchange.Sealing.Key → Self.Layers → Step → State Self.Exchange.Sealing.Key →
-        Self.Layers → Outs → Type 0 };
-
-    ghost lacks: { Self → TransportTurn → State Self.Exchange.Sealing.Key → Self.Layers → Type 0 };
-
-    ghost asks: { Self → State Self.Exchange.Sealing.Key → Self.Layers → session.Ask → Result AskStep Fault →
-        State Self.Exchange.Sealing.Key → Self.Layers → Outs → Type 0 };
+    ghost signing: { Self → UserSignatures };
 
     /// What it does in an exchange of keys.
     fn exchange(&self) -> &Self::Exchange
         ensures { result.now ≡ exchange_of self.now };
 
-    /// The channels, to show.
-    fn channels(layers: &Self::Layers) -> &Channels
-        ensures { result.now ≡ channels_of layers.now };
-
-    /// Does what is left to be done with an answer of the transport. The channels of the replies that are given go to `numbers`.
+    /// Has the layers above the transport judge the payload that is shown, from 50 on.
     ///
     /// # Errors
     ///
-    /// Only where memory is refused: the end is over, and what was put out so far stands.
-    fn go_on(
+    /// Only where memory is refused.
+    fn judge(
         &self,
-        machine: &mut Machine<<Self::Exchange as Role>::Sealing>,
-        layers: &mut Self::Layers,
-        turn: TransportTurn,
-        out: &mut Vec<u8>,
-        sent: &mut Outgoing<<Self::Exchange as Role>::Filler>,
-        numbers: &mut Vec<Option<u32>>,
-    ) -> Result<Step, AllocError>
-        requires ready { IsReady machine.old turn }
-        ensures goes { IfOk result (λ step. goes self.now turn machine.old layers.old step machine.new layers.new
-            (outs out.old out.new sent.old sent.new)) }
-        ensures numbered { IfOk result (λ step. numbers.new.items ≡ numbers.old.items
-            ++ channels_behind step (channels_of layers.old).owed) }
-        ensures more { IfOk result (λ step. step ≡ Step.More → turn ≡ TransportTurn.More) }
-        ensures lacks { OnErr result (lacks self.now turn machine.old layers.old) }
-        ensures dead { OnErr result (machine.new.kept.dead ≡ true) }
-        ensures left { OnErr result (is_whole turn ≡ false) }
-        ensures out { OnErr result (Extends out.old.items out.new.items) }
-        ensures sent { OnErr result (Extends (map (λ v. v.items) sent.old.payloads.items) (map (λ v. v.items) sent.new.payloads.items)) }
-        ensures padded { OnOk result (PadsTo Self.Exchange.Sealing.crypto Self.Exchange.Filler.gives
-            (sending_by machine.old sent.old out.old) (sending_by machine.new sent.new out.new)) }
-        ensures stands { Stands Self.Exchange.SIDE machine.old → Stands Self.Exchange.SIDE machine.new };
+        machine: &Machine<<Self::Exchange as Role>::Sealing>,
+        layers: &mut Layers,
+    ) -> Result<Judgement, AllocError>
+        requires above { 50 ≤ number_of machine.now.receiver.payload }
+        requires alive { machine.now.kept.dead ≡ false }
+        ensures judged { IfOk result (λ judgement. JudgesPayload (judging self.now) machine.now layers.old judgement layers.new) }
+        ensures lacks { OnErr result (JudgeLacks (judging self.now) machine.now layers.old) }
+        ensures can { IfOk result (λ judgement. CanFinish machine.now judgement) };
 
     /// Does what a user asks for, or refuses that.
     ///
@@ -103,13 +65,13 @@ pub trait EndRole: Drop {
     fn ask(
         &self,
         machine: &mut Machine<<Self::Exchange as Role>::Sealing>,
-        layers: &mut Self::Layers,
+        layers: &mut Layers,
         ask: &Ask<'_>,
         out: &mut Vec<u8>,
         sent: &mut Outgoing<<Self::Exchange as Role>::Filler>,
     ) -> Result<AskStep, Fault>
-        ensures asks { asks self.now machine.old layers.old (ask_of ask.now) result machine.new layers.new
-            (outs out.old out.new sent.old sent.new) }
+        ensures asks { Asks Self.Exchange.Sealing.crypto (signing self.now) machine.old layers.old (ask_of ask.now) result machine.new
+            layers.new (outs out.old out.new sent.old sent.new) }
         ensures fails { IfErr result (λ fault. Fails machine.old fault machine.new) }
         ensures reading { machine.new.kept.dead ≡ false → SameReading machine.old machine.new }
         ensures out { OnErr result (out.new.items ≡ out.old.items) }
@@ -118,9 +80,7 @@ pub trait EndRole: Drop {
             (sending_by machine.old sent.old out.old) (sending_by machine.new sent.new out.new)) }
         ensures stands { Stands Self.Exchange.SIDE machine.old → Stands Self.Exchange.SIDE machine.new };
 
-    /// What it does is what an end of its side does in a session whose parts it has. A fact for proofs, at no cost.
-    fn lifts()
-        ensures { EndLifts Self.Exchange.SIDE Self.Exchange.Sealing.crypto is_of are_of
-            (λ kept layers. state_by authentication_of channels_of kept layers) (λ role. Self.Exchange.does (exchange_of role))
-            (λ role. Self.Exchange.lacks (exchange_of role)) goes lacks asks };
+    /// A role whose parts are those of an end of parties has what that end has. A fact for proofs, at no cost.
+    fn has_parts()
+        ensures { HasParts Self.Exchange.SIDE is_of (λ role p. Self.Exchange.is_of (exchange_of role) p) judging signing };
 }

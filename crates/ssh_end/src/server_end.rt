@@ -5,13 +5,13 @@ ghost use Rattle.ssh_model.specs.declared.side.Side.TheVariants as sides;
 ghost use Rattle.ssh_config.specs.Meaning.{settings_of};
 ghost use Rattle.ssh_transport_machine.specs.Padding.{PadsTo};
 ghost use Rattle.ssh_end.specs.Beside.{channels_beside};
-ghost use Rattle.ssh_end.specs.Ends.{IsNewServer, sending_from_line, sending_to};
-ghost use Rattle.ssh_end.specs.Parts.{AreServerLayers, IsServer, exchange_parts};
+ghost use Rattle.ssh_end.specs.Ends.{IsNew, sending_from_line, sending_to};
+ghost use Rattle.ssh_end.specs.Parts.{IsServer, exchange_parts};
 ghost use Rattle.ssh_end.specs.Stands.{MadeOf};
-ghost use Rattle.ssh_end.specs.Sessions.{end_of};
+ghost use Rattle.ssh_end.specs.Sessions.{AreOf, end_of};
 
 use crate::end::End;
-use crate::layers::ServerLayers;
+use crate::layers::Layers;
 use crate::opening_laws::{is_material, settings_fit};
 use crate::server_role::ServerRole;
 use crate::step::Step;
@@ -47,7 +47,7 @@ impl<P: ServerParts, U: UserJudge + Drop> End<ServerRole<P, U>> {
         secret: [u8; 32],
         out: &mut Vec<u8>,
     ) -> Result<ServerEnd<P, U>, AllocError>
-        ensures opened { IfOk result (λ end. IsNewServer P.Sealing.crypto (settings_of config) cookie secret end.machine end.layers
+        ensures opened { IfOk result (λ end. IsNew P.Sealing.crypto sides.Server (settings_of config) cookie secret end.machine end.layers
             out.old.items out.new.items end.sent) }
         ensures padded { IfOk result (λ end. PadsTo P.Sealing.crypto P.Filler.gives
             (sending_from_line (settings_of config) parts.filler out.old.items) (sending_to end out.new.items)) }
@@ -60,7 +60,7 @@ impl<P: ServerParts, U: UserJudge + Drop> End<ServerRole<P, U>> {
         ensures placed { IfOk result (λ end. MadeOf sides.Server (settings_of config)
             (λ p. IsServer p P.Sealing.crypto (exchange_parts P.Agreement.public_of P.Agreement.shared_of P.HostSigner.key_of
             P.HostSigner.signature_of end.role.exchange.agreement end.role.exchange.host_signer) (U.verdicts end.role.user))
-            (λ p. AreServerLayers p end.layers) (record { cookie = cookie; secret = secret }) end.machine
+            (λ p. AreOf p end.layers) (record { cookie = cookie; secret = secret }) end.machine
             (end_of end.machine.kept end.layers) out.old.items out.new.items end.sent) }
         ensures out { OnErr result (out.new.items ≡ out.old.items) }
     {
@@ -71,7 +71,7 @@ impl<P: ServerParts, U: UserJudge + Drop> End<ServerRole<P, U>> {
         settings_fit(&config);
         machines_stand::<<P::Sealing as Sealing>::Key>();
         let (filler, agreement, host_signer) = parts.into_parts();
-        let layers = ServerLayers::new(alloc, config.tries(), &config.methods())?;
+        let layers = Layers::of_server(alloc, config.tries(), &config.methods())?;
         let mut sent = Outgoing {
             filler,
             payloads: Vec::new(alloc),

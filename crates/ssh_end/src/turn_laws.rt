@@ -1,102 +1,70 @@
-//! Laws of an end's turns: what it does with the bytes of one line or one packet is what an end of a session does with them. Facts for
-//! proofs, at no cost.
+//! Laws of an end's turns: what it does is what an end of a session does. Facts for proofs, at no cost.
 
-ghost use Rattle.std.specs.Prelude.{◌≡◌, ◌∷◌, List, [], false, ℕ};
-ghost use Rattle.ssh_model.specs.Protocol.Authentication.Requests.{judge_of};
+ghost use Rattle.std.specs.Prelude.{◌≡◌, List, [], false, ℕ};
 ghost use Rattle.ssh_model.specs.State.End.State.{EndState};
 ghost use Rattle.ssh_model.specs.State.End.Summary.{EndSumsUp};
-ghost use Rattle.ssh_model.specs.Protocol.Sessions.Items.{Item, Item.Died};
-ghost use Rattle.ssh_model.specs.Protocol.Sessions.Parties.{Parties, Settings, agreement_of};
-ghost use Rattle.ssh_model.specs.Protocol.Sessions.Turns.{OnUnit};
+ghost use Rattle.ssh_model.specs.Protocol.Sessions.Items.{Item};
+ghost use Rattle.ssh_model.specs.Protocol.Sessions.Parties.{Parties, Settings};
 ghost use Rattle.ssh_model.specs.declared.side.Side.{Side};
-ghost use Rattle.ssh_model.specs.declared.side.Side.TheVariants.{Client, Server};
-ghost use Rattle.ssh_model.specs.State.TransportLayer.Summary.{parts_of};
 ghost use Rattle.ssh_model.specs.Protocol.Wire.Sealing.{Crypto};
 ghost use Rattle.ssh_transport_machine.specs.Opening.{IsOpened};
 ghost use Rattle.ssh_transport_machine.specs.Puts.{Outs};
 ghost use Rattle.ssh_transport_machine.specs.State.{State, begun_of};
 ghost use Rattle.ssh_end.specs.Beside.{channels_by};
 ghost use Rattle.ssh_end.specs.Calls.{outs_of};
-ghost use Rattle.ssh_end.specs.ClientLayers as client;
-ghost use Rattle.ssh_end.specs.ClientTurns.{ClientTurned, IsAsking};
-ghost use Rattle.ssh_end.specs.ClientUnits as of_a_client;
-ghost use Rattle.ssh_end.specs.ClientUnits.{ClientGoes};
-ghost use Rattle.ssh_end.specs.Deaths.{ServerDies};
-ghost use Rattle.ssh_end.specs.Layers.{Layers};
 ghost use Rattle.ssh_end.specs.Owed.{channels_sent};
+ghost use Rattle.ssh_end.specs.Places.{EndLifts};
 ghost use Rattle.ssh_end.specs.Reading.{IsReading};
-ghost use Rattle.ssh_end.specs.ServerTurns.{IsServing, ServerTurned};
-ghost use Rattle.ssh_end.specs.ServerUnits.{ServerGoes, TurnLacks};
 ghost use Rattle.ssh_end.specs.Steps.{UnitTurned};
 ghost use Rattle.ssh_end.specs.declared.step.Step.{Step};
 
 use crate::fact_laws::facts_told;
+use crate::role::EndRole;
+use ssh_model::any_peer::against_any_peer;
 use ssh_model::end::{
-    exchange_ends, owed_replies, payloads, peer_numbers, transport_turns, unit_turns, units,
-    waiting,
+    asks, deaths, exchange_ends, identified, owed_replies, payloads, peer_numbers, transport_turns,
+    unit_turns, units, waiting,
 };
 use ssh_model::one_end::kept_by_one_end;
 use ssh_model::stream_units;
-use ssh_transport::client::laws::{clients_left, clients_units};
-use ssh_transport::server::laws::{servers_left, servers_units};
+use ssh_packet::Sealing;
+use ssh_transport::Role;
+use ssh_transport::laws::{turns_left, units_taken};
 use ssh_transport_machine::laws::unit_turns as machine_turns;
 
-/// What a server's end does with the bytes of one line or one packet is what the server of a session does with them. Where what it keeps
-/// sums up a history, and it is the server of lawful parties:
+/// What an end does is what the end of a session does of the parties whose parts it has. Where it stands after a history:
 ///
-/// - bytes that are no whole line or packet yet are those for which the server of a session waits; they are begun, nothing is put out,
-///   and what is kept sums up the same history;
-/// - else the bytes are one line or one packet, and what is shown, put out and listed is a turn of a session by them. What is kept then
-///   sums up the history with the items of that turn, and nothing more is begun.
-///
-/// It goes on being the server of these parties, and what is begun goes on being a prefix of a line or of a packet.
-pub fn servers_turns<K>()
-    ensures turned { (p : Parties K) (history : List Item) (old : State K) (layers : Layers) → IsServing p history old layers →
-        (bytes : List ℕ) (done : Step) (new : State K) (later : Layers) (o : Outs) →
-        ServerGoes p.crypto (parts_of p Server) (judge_of p) old layers bytes done new later o →
-        ServerTurned p history bytes done new later o }
+/// - bytes that are no whole line or packet yet are those for which the end of a session waits; they are begun, nothing is put out, and it
+///   stands where it stood;
+/// - else the bytes are one line or one packet, and what is shown, put out and listed is a turn of a session by them, after which the end
+///   stands. Nothing more is begun;
+/// - where it answers that memory was refused, the end of a session dies. The exception is a server that was to look at the signature of a
+///   request when all numbers are used: of that a session says that no number is left;
+/// - what comes of an ask is a turn of a session, after which the end stands.
+pub fn ends_lift<R: EndRole>()
+    ensures { EndLifts R.Exchange.SIDE R.Exchange.Sealing.crypto R.is_of (λ role. R.Exchange.does (R.exchange_of role))
+        (λ role. R.Exchange.lacks (R.exchange_of role)) R.judging R.signing }
 {
+    R::has_parts();
+    R::Exchange::lifts();
+    units_taken::<R::Exchange>();
+    turns_left::<R::Exchange>();
     facts_told();
-    transport_turns::<K>();
-    unit_turns::<K>();
-    payloads::<K>();
-    exchange_ends::<K>();
-    owed_replies::<K>();
-    peer_numbers::<K>();
-    waiting::<K>();
-    stream_units::<K>();
-    machine_turns::<K>();
-    servers_units::<K>();
-    servers_left::<K>();
-}
-
-/// What a client's end does with the bytes of one line or one packet is what the client of a session does with them. Where what it keeps
-/// sums up a history, and it is the client of lawful parties:
-///
-/// - bytes that are no whole line or packet yet are those for which the client of a session waits; they are begun, nothing is put out,
-///   and what is kept sums up the same history;
-/// - else the bytes are one line or one packet, and what is shown, put out and listed is a turn of a session by them. What is kept then
-///   sums up the history with the items of that turn, and nothing more is begun.
-///
-/// What is begun goes on being a prefix of a line or of a packet.
-pub fn clients_turns<K>()
-    ensures turned { (p : Parties K) (history : List Item) (old : State K) (layers : client.Layers) → IsAsking p history old layers →
-        (bytes : List ℕ) (done : Step) (new : State K) (later : client.Layers) (o : Outs) →
-        ClientGoes p.crypto (agreement_of p Client) p.trusts old layers bytes done new later o →
-        ClientTurned p history bytes done new later o }
-{
-    facts_told();
-    transport_turns::<K>();
-    unit_turns::<K>();
-    payloads::<K>();
-    exchange_ends::<K>();
-    owed_replies::<K>();
-    peer_numbers::<K>();
-    waiting::<K>();
-    stream_units::<K>();
-    machine_turns::<K>();
-    clients_units::<K>();
-    clients_left::<K>();
+    transport_turns::<<<R::Exchange as Role>::Sealing as Sealing>::Key>();
+    unit_turns::<<<R::Exchange as Role>::Sealing as Sealing>::Key>();
+    payloads::<<<R::Exchange as Role>::Sealing as Sealing>::Key>();
+    exchange_ends::<<<R::Exchange as Role>::Sealing as Sealing>::Key>();
+    owed_replies::<<<R::Exchange as Role>::Sealing as Sealing>::Key>();
+    peer_numbers::<<<R::Exchange as Role>::Sealing as Sealing>::Key>();
+    waiting::<<<R::Exchange as Role>::Sealing as Sealing>::Key>();
+    stream_units::<<<R::Exchange as Role>::Sealing as Sealing>::Key>();
+    machine_turns::<<<R::Exchange as Role>::Sealing as Sealing>::Key>();
+    identified::<<<R::Exchange as Role>::Sealing as Sealing>::Key>();
+    units::<<<R::Exchange as Role>::Sealing as Sealing>::Key>();
+    deaths::<<<R::Exchange as Role>::Sealing as Sealing>::Key>();
+    asks::<<<R::Exchange as Role>::Sealing as Sealing>::Key>();
+    kept_by_one_end::<<<R::Exchange as Role>::Sealing as Sealing>::Key>();
+    against_any_peer::<<<R::Exchange as Role>::Sealing as Sealing>::Key>();
 }
 
 /// The channels that an end says of the payloads that it sent in a turn are those of the messages that were sent: what the clauses of
@@ -116,45 +84,3 @@ pub fn new_ends_read<K>()
     ensures begun { (c : Crypto K) (settings : Settings) (side : Side) (cookie secret : List ℕ) (new : State K) (o : Outs) →
         IsOpened c settings side cookie secret new o → begun_of new ≡ [] }
 {}
-
-/// Where a server's end answers that memory was refused, the server of a session dies. Where what it keeps sums up a history, and it is the
-/// server of lawful parties, what took memory of the bytes of one line or one packet is a turn of a session that dies; but not where the
-/// signature of a request was due to be looked at and all numbers are used, of which a session says that no number is left.
-pub fn servers_deaths<K>()
-    ensures dies { (p : Parties K) (history : List Item) (old : State K) (layers : Layers) → IsServing p history old layers →
-        (bytes : List ℕ) → TurnLacks p.crypto (parts_of p Server) (judge_of p) old layers bytes → ServerDies p history old layers bytes }
-{
-    facts_told();
-    transport_turns::<K>();
-    unit_turns::<K>();
-    payloads::<K>();
-    exchange_ends::<K>();
-    owed_replies::<K>();
-    peer_numbers::<K>();
-    waiting::<K>();
-    units::<K>();
-    kept_by_one_end::<K>();
-    servers_units::<K>();
-    servers_left::<K>();
-}
-
-/// Where a client's end answers that memory was refused, the client of a session dies: where what it keeps sums up a history, and it is the
-/// client of lawful parties, what took memory of the bytes of one line or one packet is a turn of a session that dies.
-pub fn clients_deaths<K>()
-    ensures dies { (p : Parties K) (history : List Item) (old : State K) (layers : client.Layers) → IsAsking p history old layers →
-        (bytes : List ℕ) → of_a_client.TurnLacks p.crypto (agreement_of p Client) p.trusts old layers bytes →
-        OnUnit p Client history bytes (Died ∷ []) }
-{
-    facts_told();
-    transport_turns::<K>();
-    unit_turns::<K>();
-    payloads::<K>();
-    exchange_ends::<K>();
-    owed_replies::<K>();
-    peer_numbers::<K>();
-    waiting::<K>();
-    units::<K>();
-    kept_by_one_end::<K>();
-    clients_units::<K>();
-    clients_left::<K>();
-}

@@ -10,6 +10,8 @@ ghost use Rattle.ssh_end.specs.Effects.{IsOver};
 ghost use Rattle.ssh_end.specs.Units.{UnitGoes, UnitLacks};
 
 use crate::cutting::cut_back;
+use crate::going::go_on;
+use crate::layers::Layers;
 use crate::role::EndRole;
 use crate::step::Step;
 use ssh_packet::Sealing;
@@ -26,7 +28,7 @@ use ssh_transport_machine::{Machine, Outgoing, TransportFault};
 pub fn advance<R: EndRole>(
     machine: &mut Machine<<R::Exchange as Role>::Sealing>,
     role: &R,
-    layers: &mut R::Layers,
+    layers: &mut Layers,
     bytes: &[u8],
     out: &mut Vec<u8>,
     sent: &mut Outgoing<<R::Exchange as Role>::Filler>,
@@ -37,15 +39,15 @@ pub fn advance<R: EndRole>(
     ensures progress { machine.old.kept.dead ≡ false → 0 < length bytes.now → 0 < result.0 }
     ensures more { IfOk result.1 (λ step. step ≡ Step.More → result.0 ≡ length bytes.now) }
     ensures goes { IfOk result.1 (λ step. UnitGoes R.Exchange.Sealing.crypto R.Exchange.SIDE
-        (R.Exchange.does (R.exchange_of role.now)) (R.goes role.now) machine.old layers.old
+        (R.Exchange.does (R.exchange_of role.now)) (R.judging role.now) machine.old layers.old
         (begun_of machine.old ++ take result.0 bytes.now) step machine.new layers.new (outs out.old out.new sent.old sent.new)) }
     ensures numbered { IfOk result.1 (λ step. numbers.new.items ≡ numbers.old.items ++ channels_behind step
-        (R.channels_of layers.old).owed) }
+        layers.old.channels.owed) }
     ensures failed { IfErr result.1 (λ fault. IsOver machine.old fault machine.new) }
     ensures dead { IfErr result.1 (λ fault. fault ≡ TransportFault.Dead → layers.new ≡ layers.old) }
     ensures lacks { IfErr result.1 (λ fault. fault ≡ TransportFault.Memory →
         UnitLacks R.Exchange.Sealing.crypto R.Exchange.SIDE (R.Exchange.does (R.exchange_of role.now))
-        (R.Exchange.lacks (R.exchange_of role.now)) (R.lacks role.now) machine.old layers.old
+        (R.Exchange.lacks (R.exchange_of role.now)) (R.judging role.now) machine.old layers.old
         (begun_of machine.old ++ take result.0 bytes.now)) }
     ensures out { OnErr result.1 (out.new.items ≡ out.old.items) }
     ensures kept { OnErr result.1 (map (λ v. v.items) sent.new.payloads.items ≡ map (λ v. v.items) sent.old.payloads.items) }
@@ -62,7 +64,7 @@ pub fn advance<R: EndRole>(
         Ok(turn) => turn,
         Err(fault) => return (used, Err(fault)),
     };
-    match role.go_on(machine, layers, turn, out, sent, numbers) {
+    match go_on(machine, role, layers, turn, out, sent, numbers) {
         Ok(step) => (used, Ok(step)),
         Err(_) => {
             cut_back(out, &mut sent.payloads, start, listed);

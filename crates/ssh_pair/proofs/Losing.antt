@@ -49,7 +49,7 @@ pub record Fell {K : Type 0} (new : State K) (Lost : Type 0) : Type 0 where
   pub lost : Lost
 
 -- An end that was not over before fell.
-pub fell : {R X L S F K : Type 0} (ends : role.Ghosts R X L S F K) (exchanges : exchange.Ghosts X S F K) (p : Parties K) (history : List Item) (old new : EndValue K R L F) (bytes : List ℕ) (why : Fault) → IsFault old.machine why new.machine → old.machine.kept.dead ≡ false →
+pub fell : {R X S F K : Type 0} (ends : role.Ghosts R X S F K) (exchanges : exchange.Ghosts X S F K) (p : Parties K) (history : List Item) (old new : EndValue K R F) (bytes : List ℕ) (why : Fault) → IsFault old.machine why new.machine → old.machine.kept.dead ≡ false →
     FailedTo ends exchanges p history old bytes why new → Fell new.machine (FailedTo ends exchanges p history old bytes fault.Memory new)
 fell ends exchanges p history old new bytes fault.Memory x alive lost = record { dead = x.dead; lost = lost }
 fell ends exchanges p history old new bytes fault.Dead x alive lost = absurd (false≢true (sym alive ∙ x.dead))

@@ -55,9 +55,9 @@ fallen_dead old new (fault.Ask why) x alive = absurd x
 
 -- ---- one end
 
-module _ {K R L F : Type 0} (c : Crypto K) (gives : F → List ℕ → F → Type 0) (side : Side) where
+module _ {K R F : Type 0} (c : Crypto K) (gives : F → List ℕ → F → Type 0) (side : Side) where
   -- nothing was done
-  pub stays_padded : (end : EndValue K R L F) (log last : List Done) (out : List ℕ) → noted_sent side last ≡ noted_sent side log → PadsOn c gives side end log out end last out
+  pub stays_padded : (end : EndValue K R F) (log last : List Done) (out : List ℕ) → noted_sent side last ≡ noted_sent side log → PadsOn c gives side end log out end last out
   stays_padded end log last out same = record {
     to = sending_from end out;
     padded = none;
@@ -71,7 +71,7 @@ module _ {K R L F : Type 0} (c : Crypto K) (gives : F → List ℕ → F → Typ
   }
 
   -- an end that was not over put this out
-  pub puts_padded : (old : EndValue K R L F) (log : List Done) (before : List ℕ) (new : EndValue K R L F) (last : List Done) (after : List ℕ) → old.machine.kept.dead ≡ false → PadsTo c gives (sending_from old before) (sending_to new after)
+  pub puts_padded : (old : EndValue K R F) (log : List Done) (before : List ℕ) (new : EndValue K R F) (last : List Done) (after : List ℕ) → old.machine.kept.dead ≡ false → PadsTo c gives (sending_from old before) (sending_to new after)
       → noted_sent side last ≡ noted_sent side log ++ new.sent → PadsOn c gives side old log before new last after
   puts_padded old log before new last after alive x noted = record {
     to = sending_to new after;
@@ -86,7 +86,7 @@ module _ {K R L F : Type 0} (c : Crypto K) (gives : F → List ℕ → F → Typ
   }
 
   -- an end that was not over is, and put out nothing
-  pub falls_padded : (old : EndValue K R L F) (log : List Done) (before : List ℕ) (new : EndValue K R L F) (last : List Done) (after : List ℕ) → old.machine.kept.dead ≡ false → new.machine.kept.dead ≡ true → after ≡ before
+  pub falls_padded : (old : EndValue K R F) (log : List Done) (before : List ℕ) (new : EndValue K R F) (last : List Done) (after : List ℕ) → old.machine.kept.dead ≡ false → new.machine.kept.dead ≡ true → after ≡ before
       → noted_sent side last ≡ noted_sent side log ++ [] → PadsOn c gives side old log before new last after
   falls_padded old log before new last after alive fell same noted = record {
     to = sending_from old before;
@@ -101,7 +101,7 @@ module _ {K R L F : Type 0} (c : Crypto K) (gives : F → List ℕ → F → Typ
   }
 
   -- An end that was not over did this on an ask, or refused it.
-  pub asks_padded : (old : EndValue K R L F) (log : List Done) (before : List ℕ) (new : EndValue K R L F) (last : List Done) (after : List ℕ) (result : Result AskStep Fault) → old.machine.kept.dead ≡ false →
+  pub asks_padded : (old : EndValue K R F) (log : List Done) (before : List ℕ) (new : EndValue K R F) (last : List Done) (after : List ℕ) (result : Result AskStep Fault) → old.machine.kept.dead ≡ false →
       OnAnswered result (PadsTo c gives (sending_from old before) (sending_to new after)) → IfErr result (λ fault. Fails old.machine fault new.machine) →
       OnErr result (after ≡ before) → OnErr result (new.sent ≡ []) → NotesAsked side result new.sent log last → PadsOn c gives side old log before new last after
   asks_padded old log before new last after (Ok step) alive padded fails same unsent notes = puts_padded old log before new last after alive padded notes.own
@@ -112,7 +112,7 @@ module _ {K R L F : Type 0} (c : Crypto K) (gives : F → List ℕ → F → Typ
 
   -- ---- one call after another
 
-  module _ (old : EndValue K R L F) (log : List Done) (before : List ℕ) (mid : EndValue K R L F) (next : List Done) (between : List ℕ) (new : EndValue K R L F) (last : List Done) (after : List ℕ)
+  module _ (old : EndValue K R F) (log : List Done) (before : List ℕ) (mid : EndValue K R F) (next : List Done) (between : List ℕ) (new : EndValue K R F) (last : List Done) (after : List ℕ)
       (x : PadsOn c gives side old log before mid next between) (y : PadsOn c gives side mid next between new last after) where
     by_mid : (dead : Bool) → mid.machine.kept.dead ≡ dead → PadsOn c gives side old log before new last after
     by_mid true dead = record {

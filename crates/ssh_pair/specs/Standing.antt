@@ -10,10 +10,10 @@ use Rattle.ssh_model.specs.declared.side.Side.{Side}
 use Rattle.ssh_model.specs.declared.side.Side.TheVariants.{Client, Server}
 use Rattle.ssh_model.specs.Protocol.Side.{part}
 use Rattle.ssh_transport_machine.specs.State.{State, begun_of}
-use Rattle.ssh_end.specs.ClientLayers as client
-use Rattle.ssh_end.specs.Layers as server
 use Rattle.ssh_end.specs.Ends.{EndValue}
+use Rattle.ssh_end.specs.Login.{authentication_of}
 use Rattle.ssh_end.specs.Places.{StandsAfter}
+use Rattle.ssh_end.specs.Sessions.{AreOf}
 use Rattle.ssh_end.specs.declared.client_role.ClientRole.{ClientRole}
 use Rattle.ssh_end.specs.declared.role.EndRole as role
 use Rattle.ssh_end.specs.declared.server_role.ServerRole.{ServerRole}
@@ -34,13 +34,13 @@ pub record Standing (K : Type 0) : Type 1 where
   pub channels : Channels
 
 -- an end of a role, by the ghost members of the role
-abbrev pub standing_of : {R X L S F K : Type 0} → role.Ghosts R X L S F K → EndValue K R L F → Standing K
+abbrev pub standing_of : {R X S F K : Type 0} → role.Ghosts R X S F K → EndValue K R F → Standing K
 standing_of ends end = record {
   parts = ends.is_of end.role;
-  layers = ends.are_of end.layers;
+  layers = λ p. AreOf p end.layers;
   machine = end.machine;
-  authentication = ends.authentication_of end.layers;
-  channels = ends.channels_of end.layers;
+  authentication = authentication_of end.layers.authentication;
+  channels = end.layers.channels;
 }
 
 -- what it keeps, as an end of a session
@@ -81,28 +81,28 @@ pub record PairState (C S : Type 0) : Type 0 where
   pub failed : Bool
 
 -- both ends, by the ghost members of their roles
-abbrev pub both : {R X L S F Q Y M T G K : Type 0} → role.Ghosts R X L S F K → role.Ghosts Q Y M T G K →
-    PairState (EndValue K R L F) (EndValue K Q M G) → Both K
+abbrev pub both : {R X S F Q Y T G K : Type 0} → role.Ghosts R X S F K → role.Ghosts Q Y T G K →
+    PairState (EndValue K R F) (EndValue K Q G) → Both K
 both clients servers pair = record {
   client = standing_of clients pair.client;
   server = standing_of servers pair.server;
 }
 
 -- The supplied parts are as before.
-pub record SameParts {K R L F Q M G : Type 0} (old new : PairState (EndValue K R L F) (EndValue K Q M G)) : Type 0 where
+pub record SameParts {K R F Q G : Type 0} (old new : PairState (EndValue K R F) (EndValue K Q G)) : Type 0 where
   pub client : new.client.role ≡ old.client.role
   pub server : new.server.role ≡ old.server.role
 
 -- A client was made with these parts, and has this user.
 pub record HasClientParts {P U S F A H K : Type 0} (agreement : A) (host_trust : H) (user : U)
-    (end : EndValue K (ClientRole P U S F A H K) client.Layers F) : Type 0 where
+    (end : EndValue K (ClientRole P U S F A H K) F) : Type 0 where
   pub agreement_is : end.role.exchange.agreement ≡ agreement
   pub host_trust_is : end.role.exchange.host_trust ≡ host_trust
   pub user_is : end.role.user ≡ user
 
 -- A server was made with these parts, and judges users by this.
 pub record HasServerParts {P U S F A H K : Type 0} (agreement : A) (host_signer : H) (user : U)
-    (end : EndValue K (ServerRole P U S F A H K) server.Layers F) : Type 0 where
+    (end : EndValue K (ServerRole P U S F A H K) F) : Type 0 where
   pub agreement_is : end.role.exchange.agreement ≡ agreement
   pub host_signer_is : end.role.exchange.host_signer ≡ host_signer
   pub user_is : end.role.user ≡ user

@@ -50,12 +50,10 @@ impl<
     ghost use Rattle.ssh_end.specs.Ends.{EndValue};
     ghost use Rattle.ssh_end.specs.declared.client_role.ClientRole.{ClientRole};
     ghost use Rattle.ssh_end.specs.declared.server_role.ServerRole.{ServerRole};
-    ghost use Rattle.ssh_end.specs.ClientLayers as of_client;
-    ghost use Rattle.ssh_end.specs.Layers as of_server;
     ghost use Rattle.ssh_pair.specs.Standing.{PairState};
 
-    ghost Value = { PairState (EndValue S.Key (ClientRole C U S C.Filler C.Agreement C.HostTrust S.Key) of_client.Layers C.Filler)
-        (EndValue S.Key (ServerRole V J S V.Filler V.Agreement V.HostSigner S.Key) of_server.Layers V.Filler) };
+    ghost Value = { PairState (EndValue S.Key (ClientRole C U S C.Filler C.Agreement C.HostTrust S.Key) C.Filler)
+        (EndValue S.Key (ServerRole V J S V.Filler V.Agreement V.HostSigner S.Key) V.Filler) };
 
     ghost view = { λ pair. record { client = pair.client; server = pair.server; failed = pair.failed } };
 }

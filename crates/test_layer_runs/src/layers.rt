@@ -12,17 +12,14 @@ ghost use Rattle.ssh_end.specs.Layers.{IsShort};
 use crate::call::{ask_of, ask_refused, refused, sent};
 use crate::lines::{Layer, Problem, bytes_of, parsed};
 use crate::logins::methods;
-use ssh_auth::AskError as UserAskError;
+use ssh_auth::{AskError as UserAskError, UserAsk};
 use ssh_channels::{AskError, Reply};
 use ssh_end::Ask;
-use ssh_end::layers::{
-    Below, ClientLayers, LayerFault, ServerLayerAnswer, ServerLayers, ask_channels,
-};
+use ssh_end::layers::{Below, LayerAnswer, LayerFault, Layers, Login, ask_channels};
 use ssh_message::Message;
 use ssh_toys::{ToyCredential, ToyJudge, ToyUserSigner};
 use ssh_types::AskRefusal;
 use std::alloc::{AllocError, Global};
-use std::fmt::Debug;
 
 const SESSION: [u8; 32] = [7; 32];
 
@@ -41,8 +38,8 @@ const JUDGE: ToyJudge<'static> = ToyJudge {
 pub struct LayerLines {
     alloc: Global,
     // None until a line makes them.
-    server: Option<ServerLayers>,
-    client: ClientLayers,
+    server: Option<Layers>,
+    client: Layers,
 }
 
 impl LayerLines {
@@ -55,13 +52,13 @@ impl LayerLines {
         Ok(LayerLines {
             alloc,
             server: None,
-            client: ClientLayers::new(alloc)?,
+            client: Layers::of_client(alloc)?,
         })
     }
 
     fn made(&mut self, tries: &str, names: &str) -> Result<String, Problem> {
         let tries = parsed(tries)?;
-        self.server = Some(ServerLayers::new(self.alloc, tries, &methods(names)?)?);
+        self.server = Some(Layers::of_server(self.alloc, tries, &methods(names)?)?);
         Ok(String::new(self.alloc))
     }
 
@@ -79,7 +76,7 @@ impl LayerLines {
             return Err(Problem::NotALine);
         };
         match text.split_once(' ') {
-            Some(("take", digits)) => served(self.alloc, server, below, digits),
+            Some(("take", digits)) => heard(self.alloc, server, below, digits),
             None if text == "owed" => given(self.alloc, server.channels.unblock()),
             _ => Err(Problem::NotALine),
         }
@@ -109,25 +106,25 @@ impl LayerLines {
                 &ask,
                 false,
             ),
-            (Ask::User(ask), "c", _) => {
-                return match self
-                    .client
-                    .authentication
-                    .ask(below.session, &ToyUserSigner, &ask)
-                {
-                    Ok(request) => sent(self.alloc, &request.message()),
-                    Err(UserAskError::Refused(why)) => {
-                        ask_refused(self.alloc, AskRefusal::from(why))
-                    }
-                    Err(UserAskError::Memory) => Err(Problem::from(AllocError)),
-                };
-            }
+            (Ask::User(ask), "c", _) => return self.requested(below, &ask),
             _ => return Err(Problem::NotALine),
         };
         match answer {
             Ok(given) => sent(self.alloc, &given.message),
             Err(AskError::Refused(why)) => ask_refused(self.alloc, why),
             Err(AskError::Memory) => Err(Problem::from(AllocError)),
+        }
+    }
+
+    // What a user of the client asks for authentication.
+    fn requested(&mut self, below: &Below<'_>, ask: &UserAsk<'_>) -> Result<String, Problem> {
+        let Login::Client(client) = &mut self.client.authentication else {
+            return Err(Problem::NotALine);
+        };
+        match client.ask(below.session, &ToyUserSigner, ask) {
+            Ok(request) => sent(self.alloc, &request.message()),
+            Err(UserAskError::Refused(why)) => ask_refused(self.alloc, AskRefusal::from(why)),
+            Err(UserAskError::Memory) => Err(Problem::from(AllocError)),
         }
     }
 }
@@ -144,7 +141,7 @@ impl Layer for LayerLines {
             authenticated: behind_in.is_some(),
         };
         if line == "client" {
-            self.client = ClientLayers::new(self.alloc)?;
+            self.client = Layers::of_client(self.alloc)?;
             return Ok(String::new(self.alloc));
         }
         let Some((word, rest)) = line.split_once(' ') else {
@@ -163,37 +160,10 @@ impl Layer for LayerLines {
     }
 }
 
-// What a server's layers make of a payload.
-fn served(
-    alloc: Global,
-    server: &mut ServerLayers,
-    below: &Below<'_>,
-    digits: &str,
-) -> Result<String, Problem> {
-    let payload = bytes_of(alloc, digits)?;
-    if !is_above(&payload) {
-        return Err(Problem::NotALine);
-    }
-    match server.take(&JUDGE, below, &payload) {
-        Ok(taken) => answered(alloc, server, &taken.answer),
-        Err(fault) => faulted(alloc, fault),
-    }
-}
-
-fn answered(
-    alloc: Global,
-    server: &ServerLayers,
-    answer: &ServerLayerAnswer<'_>,
-) -> Result<String, Problem>
-    requires { IsShort answer.now }
-{
-    told(alloc, answer, server.message(answer, NUMBER))
-}
-
-// What a client's make of one.
+// What the layers of an end make of a payload.
 fn heard(
     alloc: Global,
-    client: &mut ClientLayers,
+    layers: &mut Layers,
     below: &Below<'_>,
     digits: &str,
 ) -> Result<String, Problem> {
@@ -201,9 +171,34 @@ fn heard(
     if !is_above(&payload) {
         return Err(Problem::NotALine);
     }
-    match client.take(below, &payload) {
-        Ok(taken) => told(alloc, &taken.answer, client.message(&taken.answer, NUMBER)),
+    match layers.take(&JUDGE, below, &payload) {
+        Ok(taken) => answered(alloc, layers, &taken.answer),
         Err(fault) => faulted(alloc, fault),
+    }
+}
+
+fn answered(alloc: Global, layers: &Layers, answer: &LayerAnswer<'_>) -> Result<String, Problem>
+    requires { IsShort answer.now }
+{
+    let message = layers.message(answer, NUMBER);
+    match *answer {
+        LayerAnswer::Server(given) => {
+            told(
+                alloc,
+                format!(in alloc; "Authentication({given:?})")?,
+                message,
+            )
+        }
+        LayerAnswer::Client(given) => {
+            told(
+                alloc,
+                format!(in alloc; "Authentication({given:?})")?,
+                message,
+            )
+        }
+        LayerAnswer::Channels(_) | LayerAnswer::Unknown => {
+            told(alloc, format!(in alloc; "{answer:?}")?, message)
+        }
     }
 }
 
@@ -218,16 +213,12 @@ fn is_above(payload: &[u8]) -> bool
 }
 
 // What is answered, and what is sent for it.
-fn told<A: Debug>(
-    alloc: Global,
-    answer: &A,
-    message: Option<Message<'_>>,
-) -> Result<String, Problem>
+fn told(alloc: Global, answer: String, message: Option<Message<'_>>) -> Result<String, Problem>
     requires { IfSome message (λ m. Fits m) }
 {
     match message {
-        Some(message) => Ok(format!(in alloc; "{answer:?} {}", sent(alloc, &message)?)?),
-        None => Ok(format!(in alloc; "{answer:?}")?),
+        Some(message) => Ok(format!(in alloc; "{answer} {}", sent(alloc, &message)?)?),
+        None => Ok(answer),
     }
 }
 

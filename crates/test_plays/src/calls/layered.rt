@@ -7,9 +7,7 @@ use super::changing::{OPEN, SESSION, SIGN, SIGNED};
 use super::outcome::{Outcome, came};
 use ssh_auth::{AskError as UserAskError, ServerAnswer};
 use ssh_channels::{AskError, Channels};
-use ssh_end::layers::{
-    Below, ClientLayers, LayerFault, ServerLayerAnswer, ServerLayers, ServerTaken, ask_channels,
-};
+use ssh_end::layers::{Below, LayerAnswer, LayerFault, LayerTaken, Layers, Login, ask_channels};
 use ssh_toys::{CREDENTIALS, ToyJudge, ToyUserSigner};
 use ssh_types::NameList;
 use std::alloc::{AllocError, Global};
@@ -87,50 +85,38 @@ fn take_at_server(alloc: Global, payload: &[u8]) -> Result<Outcome, AllocError> 
     let Some(methods) = NameList::new(b"publickey") else {
         return Ok(Outcome::Wrong);
     };
-    if !is_above(payload) {
-        return Ok(Outcome::Wrong);
-    }
-    let mut layers = ServerLayers::new(alloc, 1, &methods)?;
-    let first = layers.take(&JUDGE, &below(true), payload).err();
-    let is_kept = first == Some(LayerFault::Memory) && layers.channels().count() == 0;
-    let is_second = first.is_none() || layers.take(&JUDGE, &below(true), payload).is_ok();
-    Ok(came(
-        first.is_none(),
-        is_kept,
-        is_second && layers.channels().count() == 1,
-    ))
+    Ok(take_at(Layers::of_server(alloc, 1, &methods)?, payload))
 }
 
 fn take_at_client(alloc: Global, payload: &[u8]) -> Result<Outcome, AllocError> {
+    Ok(take_at(Layers::of_client(alloc)?, payload))
+}
+
+fn take_at(mut layers: Layers, payload: &[u8]) -> Outcome {
     if !is_above(payload) {
-        return Ok(Outcome::Wrong);
+        return Outcome::Wrong;
     }
-    let mut layers = ClientLayers::new(alloc)?;
-    let first = layers.take(&below(true), payload).err();
+    let first = layers.take(&JUDGE, &below(true), payload).err();
     let is_kept = first == Some(LayerFault::Memory) && layers.channels().count() == 0;
-    let is_second = first.is_none() || layers.take(&below(true), payload).is_ok();
-    Ok(came(
+    let is_second = first.is_none() || layers.take(&JUDGE, &below(true), payload).is_ok();
+    came(
         first.is_none(),
         is_kept,
         is_second && layers.channels().count() == 1,
-    ))
+    )
 }
 
 // A client that was refused memory has no request outstanding.
 fn sign_request(alloc: Global) -> Result<Outcome, AllocError> {
     let below = below(false);
-    let mut layers = ClientLayers::new(alloc)?;
+    let mut layers = Layers::of_client(alloc)?;
     layers.open();
-    let first = layers
-        .authentication
-        .ask(below.session, &ToyUserSigner, &SIGN)
-        .err();
-    let is_kept = first == Some(UserAskError::Memory) && !layers.may_take(&below, 52);
-    let is_second = first.is_none()
-        || layers
-            .authentication
-            .ask(below.session, &ToyUserSigner, &SIGN)
-            .is_ok();
+    let Login::Client(client) = &mut layers.authentication else {
+        return Ok(Outcome::Wrong);
+    };
+    let first = client.ask(below.session, &ToyUserSigner, &SIGN).err();
+    let is_kept = first == Some(UserAskError::Memory) && !client.may_take(52);
+    let is_second = first.is_none() || client.ask(below.session, &ToyUserSigner, &SIGN).is_ok();
     Ok(came(
         first.is_none(),
         is_kept,
@@ -147,7 +133,7 @@ fn judge_request(alloc: Global, payload: &[u8]) -> Result<Outcome, AllocError> {
         return Ok(Outcome::Wrong);
     }
     let below = below(false);
-    let mut layers = ServerLayers::new(alloc, 1, &methods)?;
+    let mut layers = Layers::of_server(alloc, 1, &methods)?;
     layers.open();
     let first = is_failure(layers.take(&JUDGE, &below, payload));
     let answered = match first {
@@ -161,11 +147,9 @@ fn judge_request(alloc: Global, payload: &[u8]) -> Result<Outcome, AllocError> {
 }
 
 // Whether a request is answered by a failure. Of one for which memory was refused it is not known.
-fn is_failure(taken: Result<ServerTaken<'_>, LayerFault>) -> Option<bool> {
+fn is_failure(taken: Result<LayerTaken<'_>, LayerFault>) -> Option<bool> {
     match taken {
-        Ok(taken) => {
-            Some(taken.answer == ServerLayerAnswer::Authentication(ServerAnswer::Failed))
-        }
+        Ok(taken) => { Some(taken.answer == LayerAnswer::Server(ServerAnswer::Failed)) }
         Err(LayerFault::Memory) => None,
         Err(_) => Some(false),
     }

@@ -3,7 +3,7 @@
 use super::outcome::Outcome;
 use ssh_auth::AuthServer;
 use ssh_channels::Channels;
-use ssh_end::layers::{ClientLayers, ServerLayers};
+use ssh_end::layers::Layers;
 use ssh_kex::{ExchangeInputs, exchange_text};
 use ssh_message::{Extension, ExtensionsBuf};
 use ssh_packet::{HmacKey, MacOnly, PacketReader, Sealing};
@@ -82,7 +82,7 @@ fn made(alloc: Global, call: Making) -> Result<bool, AllocError> {
         Making::AuthServer => made_server(alloc),
         Making::Channels => Ok(Channels::new(alloc)?.count() == 0),
         Making::ServerLayers => made_layers(alloc),
-        Making::ClientLayers => Ok(ClientLayers::new(alloc)?.channels().count() == 0),
+        Making::ClientLayers => Ok(Layers::of_client(alloc)?.channels().count() == 0),
         Making::EpochPair => made_pair(alloc),
         Making::ShownPacket => made_packet(alloc),
         Making::Script => made_script(alloc),
@@ -148,7 +148,7 @@ fn made_layers(alloc: Global) -> Result<bool, AllocError> {
     let Some(methods) = NameList::new(b"publickey") else {
         return Ok(false);
     };
-    let layers = ServerLayers::new(alloc, 1, &methods)?;
+    let layers = Layers::of_server(alloc, 1, &methods)?;
     Ok(layers.channels().count() == 0)
 }
 

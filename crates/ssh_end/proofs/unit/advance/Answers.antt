@@ -36,14 +36,14 @@ returns-in-Err-go_on-clause-kept g c =
 pub returns-in-Err-clause-lacks : goal.returns-in-Err-clause-lacks
 returns-in-Err-clause-lacks g c =
     let Lost : TransportFault → Type 0 = λ f. Failed g.R.Exchange.Sealing.Sealing.crypto g.R.Exchange.Role.SIDE (g.R.Exchange.Role.lacks c.exchange-exchange.result.now) c.args.machine.now (begun_of c.args.machine.now ++ take c.take_unit-used.result.0 c.args.bytes.now) f c.take_unit-used.new.machine in
-    λ e. subst (λ x. UnitLacks g.R.Exchange.Sealing.Sealing.crypto g.R.Exchange.Role.SIDE (g.R.Exchange.Role.does x) (g.R.Exchange.Role.lacks x) (g.R.EndRole.lacks c.args.role.now) c.args.machine.now c.args.layers.now (begun_of c.args.machine.now ++ take c.take_unit-used.result.0 c.args.bytes.now)) c.exchange-exchange.ensures (UnitLacks.by_transport c.take_unit-used.new.machine (subst Lost e (rw c.in-Err.is at c.take_unit-used.ensures.failed)))
+    λ e. subst (λ x. UnitLacks g.R.Exchange.Sealing.Sealing.crypto g.R.Exchange.Role.SIDE (g.R.Exchange.Role.does x) (g.R.Exchange.Role.lacks x) (g.R.EndRole.judging c.args.role.now) c.args.machine.now c.args.layers.now (begun_of c.args.machine.now ++ take c.take_unit-used.result.0 c.args.bytes.now)) c.exchange-exchange.ensures (UnitLacks.by_transport c.take_unit-used.new.machine (subst Lost e (rw c.in-Err.is at c.take_unit-used.ensures.failed)))
 
 pub returns-in-Err-go_on-clause-lacks : goal.returns-in-Err-go_on-clause-lacks
 returns-in-Err-go_on-clause-lacks g c =
     let o : Outs = record { before = c.args.out.now.items; after = c.take_unit-used.new.out.items; listed = map (λ v. v.items) c.args.sent.now.payloads.items; relisted = map (λ v. v.items) c.take_unit-used.new.sent.payloads.items } in
     let Taken : TransportTurn → Type 0 = λ t. Took g.R.Exchange.Sealing.Sealing.crypto g.R.Exchange.Role.SIDE (g.R.Exchange.Role.does c.exchange-exchange.result.now) c.args.machine.now (begun_of c.args.machine.now ++ take c.take_unit-used.result.0 c.args.bytes.now) t c.take_unit-used.new.machine o in
     let taken : Taken c.in-Ok.turn = rw c.in-Ok.is at c.take_unit-used.ensures.took in
-    λ e. subst (λ x. UnitLacks g.R.Exchange.Sealing.Sealing.crypto g.R.Exchange.Role.SIDE (g.R.Exchange.Role.does x) (g.R.Exchange.Role.lacks x) (g.R.EndRole.lacks c.args.role.now) c.args.machine.now c.args.layers.now (begun_of c.args.machine.now ++ take c.take_unit-used.result.0 c.args.bytes.now)) c.exchange-exchange.ensures (UnitLacks.by_end c.in-Ok.turn c.take_unit-used.new.machine o taken c.in-Err-go_on.ensures.lacks)
+    λ e. subst (λ x. UnitLacks g.R.Exchange.Sealing.Sealing.crypto g.R.Exchange.Role.SIDE (g.R.Exchange.Role.does x) (g.R.Exchange.Role.lacks x) (g.R.EndRole.judging c.args.role.now) c.args.machine.now c.args.layers.now (begun_of c.args.machine.now ++ take c.take_unit-used.result.0 c.args.bytes.now)) c.exchange-exchange.ensures (UnitLacks.by_end c.in-Ok.turn c.take_unit-used.new.machine o taken c.in-Err-go_on.ensures.lacks)
 
 pub returns-in-Ok-go_on-clause-padded : goal.returns-in-Ok-go_on-clause-padded
 returns-in-Ok-go_on-clause-padded g c = pads_then (rw c.in-Ok.is at c.take_unit-used.ensures.padded) c.in-Ok-go_on.ensures.padded

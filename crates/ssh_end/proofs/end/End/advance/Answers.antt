@@ -19,8 +19,8 @@ returns-in_err-step-clause-placed g c =
     (λ is p history place. record {
       used = c.advance-used.result.0;
       most = c.advance-used.ensures.used;
-      lacks = c.lifts.ensures.died c.self.inside.role p history c.self.inside.machine c.self.inside.layers place c.advance-used.new.machine c.advance-used.new.layers (subst (λ w. IsOver c.self.inside.machine w c.advance-used.new.machine) is over).dead
+      lacks = c.ends_lift.ensures.died c.self.inside.role p history c.self.inside.machine c.self.inside.layers place c.advance-used.new.machine c.advance-used.new.layers (subst (λ w. IsOver c.self.inside.machine w c.advance-used.new.machine) is over).dead
           (begun_of c.self.inside.machine ++ take c.advance-used.result.0 c.args.bytes.now) (lacks is);
     })
-    (λ is p history place. stays p g.R.Exchange.Role.SIDE (g.R.EndRole.is_of c.self.inside.role p) (λ l. g.R.EndRole.are_of l p) g.R.EndRole.authentication_of g.R.EndRole.channels_of history c.self.inside.machine c.advance-used.new.machine c.self.inside.layers c.advance-used.new.layers
+    (λ is p history place. stays p g.R.Exchange.Role.SIDE (g.R.EndRole.is_of c.self.inside.role p) history c.self.inside.machine c.advance-used.new.machine c.self.inside.layers c.advance-used.new.layers
     (subst (λ w. IsOver c.self.inside.machine w c.advance-used.new.machine) is over).after (still is) place))

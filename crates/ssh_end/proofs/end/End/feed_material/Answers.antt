@@ -1,4 +1,6 @@
 use Rattle.std.proofs.Common.{sym, subst}
+use Rattle.ssh_end.specs.Login.{authentication_of}
+use Rattle.ssh_end.specs.Sessions.{AreOf}
 use Rattle.ssh_end.specs.Stands.{StandsAt}
 use Rattle.ssh_end.proofs.Placing.{fed_to}
 use Rattle.ssh_end.proofs.end.End.feed_material.Goals as goal
@@ -9,5 +11,5 @@ invariant_of-self g c = c.machines_stand.ensures.fed g.R.Exchange.Role.SIDE c.se
 pub returns-clause-placed : goal.returns-clause-placed
 returns-clause-placed g c = λ p history given.
     let place = subst (λ v. StandsAt g.R.EndRole g.R.Exchange.Role p history v) (sym c.self.view_is) given in
-    fed_to (record { guards = c.against_any_peer.ensures; taken = c.feeds.ensures.taken; run = c.feeds.ensures.run }) p g.R.Exchange.Role.SIDE (g.R.EndRole.is_of c.self.inside.role p) (g.R.EndRole.are_of c.self.inside.layers p) history c.self.inside.machine
-    (g.R.EndRole.authentication_of c.self.inside.layers) (g.R.EndRole.channels_of c.self.inside.layers) place c.args.cookie c.args.secret c.is_material.ensures c.feed.result c.feed.ensures.fed c.feed.new.self c.feed.ensures.kept c.feed.ensures.same
+    fed_to (record { guards = c.against_any_peer.ensures; taken = c.feeds.ensures.taken; run = c.feeds.ensures.run }) p g.R.Exchange.Role.SIDE (g.R.EndRole.is_of c.self.inside.role p) (AreOf p c.self.inside.layers) history c.self.inside.machine
+    (authentication_of c.self.inside.layers.authentication) c.self.inside.layers.channels place c.args.cookie c.args.secret c.is_material.ensures c.feed.result c.feed.ensures.fed c.feed.new.self c.feed.ensures.kept c.feed.ensures.same
