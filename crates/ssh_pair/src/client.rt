@@ -11,63 +11,18 @@ ghost use Rattle.ssh_pair.specs.Standing.{HasClientParts};
 
 use crate::item::Done;
 use crate::notes::{note_line, noted};
+use crate::values::EndValues;
 use ssh_auth::UserSigner;
-use ssh_config::{ClientPartValues, ClientParts, Config};
+use ssh_config::{ClientPartValues, ClientParts};
 use ssh_end::{ClientEnd, ClientRole, EndRole};
 use ssh_types::Side;
 use std::alloc::{AllocError, Global};
-
-/// What a client is made with: its settings, its parts, who signs for its user, and its first pair of cookie and secret.
-pub struct ClientValues<P: ClientParts, U: UserSigner + Drop> {
-    pub config: Config<P::Sealing>,
-    pub parts: ClientPartValues<P>,
-    pub user: U,
-    pub cookie: [u8; 16],
-    pub secret: [u8; 32],
-}
-
-// Written out, since a derive would ask it of the parts' name too.
-impl<P: ClientParts, U: UserSigner + Drop> Drop for ClientValues<P, U> {
-    fn drop(self) {
-        let ClientValues {
-            config: _,
-            parts: _,
-            user: _,
-            cookie: _,
-            secret: _,
-        } = self;
-    }
-}
-
-impl<P: ClientParts, U: UserSigner + Drop> ClientValues<P, U> {
-    // The values one by one.
-    fn into_parts(
-        self,
-    ) -> (
-        Config<P::Sealing>,
-        ClientPartValues<P>,
-        U,
-        [u8; 16],
-        [u8; 32],
-    )
-        ensures { result ≡ (self.config, self.parts, self.user, self.cookie, self.secret) }
-    {
-        let ClientValues {
-            config,
-            parts,
-            user,
-            cookie,
-            secret,
-        } = self;
-        (config, parts, user, cookie, secret)
-    }
-}
 
 // A client that put out its version line and its first KEXINIT.
 #[tactic(auto, using(crate::proofs::Noted::notes_after))]
 pub(crate) fn open_client<P: ClientParts, U: UserSigner + Drop>(
     alloc: Global,
-    values: ClientValues<P, U>,
+    values: EndValues<P::Sealing, ClientPartValues<P>, U>,
     log: &mut Vec<Done>,
     out: &mut Vec<u8>,
 ) -> Result<ClientEnd<P, U>, AllocError>

@@ -20,11 +20,11 @@ mod notes;
 mod one_end;
 mod pair;
 mod server;
+mod values;
 
 pub use ask_kind::AskKind;
-pub use client::ClientValues;
 pub use event::Event;
 pub use fact::Fact;
 pub use item::{Done, Item, Transcript};
 pub use pair::Pair;
-pub use server::ServerValues;
+pub use values::EndValues;

@@ -6,16 +6,17 @@ ghost use Rattle.ssh_config.specs.Meaning.{settings_of};
 ghost use Rattle.ssh_end.specs.Asking.{ask_of};
 ghost use Rattle.ssh_end.specs.Ends.{sending_from_line};
 ghost use Rattle.ssh_pair.specs.Padding.{PairPads, PairPadsFirst, SameFillers, nothing_shown, shown_in};
-ghost use Rattle.ssh_pair.specs.Playing.{GoesOn, PairFeeds, PairMade, PairPlays, event_of, events_of, output_in};
+ghost use Rattle.ssh_pair.specs.Playing.{GoesOn, PairFeeds, PairMade, PairPlays, event_of, events_of};
 ghost use Rattle.ssh_pair.specs.Standing.{HasClientParts, HasServerParts, SameParts};
 
-use crate::client::{ClientValues, open_client};
+use crate::client::open_client;
 use crate::event::Event;
 use crate::item::Transcript;
 use crate::one_end::{ask_end, deliver_to_end};
-use crate::server::{ServerValues, open_server};
+use crate::server::open_server;
+use crate::values::EndValues;
 use ssh_auth::{UserJudge, UserSigner};
-use ssh_config::{ClientParts, ServerParts};
+use ssh_config::{ClientPartValues, ClientParts, ServerPartValues, ServerParts};
 use ssh_end::opening_laws::settings_fit;
 use ssh_end::{Ask, ClientEnd, ClientRole, EndRole, ServerEnd, ServerRole};
 use ssh_model::end::waiting;
@@ -90,8 +91,8 @@ impl<
     /// Only where memory is refused: what was handed in is dropped.
     pub fn new(
         alloc: Global,
-        client: ClientValues<C, U>,
-        server: ServerValues<V, J>,
+        client: EndValues<S, ClientPartValues<C>, U>,
+        server: EndValues<S, ServerPartValues<V>, J>,
     ) -> Result<(Pair<S, C, U, V, J>, Transcript), AllocError>
         ensures opens { IfOk result (λ r. PairMade ⟦<ClientRole<C, U> as EndRole>⟧ ⟦<ServerRole<V, J> as EndRole>⟧
             (settings_of client.config) (settings_of server.config) (record { cookie = client.cookie; secret = client.secret })

@@ -11,63 +11,18 @@ ghost use Rattle.ssh_pair.specs.Standing.{HasServerParts};
 
 use crate::item::Done;
 use crate::notes::{note_line, noted};
+use crate::values::EndValues;
 use ssh_auth::UserJudge;
-use ssh_config::{Config, ServerPartValues, ServerParts};
+use ssh_config::{ServerPartValues, ServerParts};
 use ssh_end::{EndRole, ServerEnd, ServerRole};
 use ssh_types::Side;
 use std::alloc::{AllocError, Global};
-
-/// What a server is made with: its settings, its parts, who judges users, and its first pair of cookie and secret.
-pub struct ServerValues<P: ServerParts, U: UserJudge + Drop> {
-    pub config: Config<P::Sealing>,
-    pub parts: ServerPartValues<P>,
-    pub user: U,
-    pub cookie: [u8; 16],
-    pub secret: [u8; 32],
-}
-
-// Written out, since a derive would ask it of the parts' name too.
-impl<P: ServerParts, U: UserJudge + Drop> Drop for ServerValues<P, U> {
-    fn drop(self) {
-        let ServerValues {
-            config: _,
-            parts: _,
-            user: _,
-            cookie: _,
-            secret: _,
-        } = self;
-    }
-}
-
-impl<P: ServerParts, U: UserJudge + Drop> ServerValues<P, U> {
-    // The values one by one.
-    fn into_parts(
-        self,
-    ) -> (
-        Config<P::Sealing>,
-        ServerPartValues<P>,
-        U,
-        [u8; 16],
-        [u8; 32],
-    )
-        ensures { result ≡ (self.config, self.parts, self.user, self.cookie, self.secret) }
-    {
-        let ServerValues {
-            config,
-            parts,
-            user,
-            cookie,
-            secret,
-        } = self;
-        (config, parts, user, cookie, secret)
-    }
-}
 
 // A server that put out its version line and its first KEXINIT.
 #[tactic(auto, using(crate::proofs::Noted::notes_after))]
 pub(crate) fn open_server<P: ServerParts, U: UserJudge + Drop>(
     alloc: Global,
-    values: ServerValues<P, U>,
+    values: EndValues<P::Sealing, ServerPartValues<P>, U>,
     log: &mut Vec<Done>,
     out: &mut Vec<u8>,
 ) -> Result<ServerEnd<P, U>, AllocError>

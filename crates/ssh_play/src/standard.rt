@@ -3,7 +3,7 @@
 use ssh_config::{Config, Settings};
 use ssh_message::Extension;
 use ssh_packet::MacOnly;
-use ssh_pair::{ClientValues, Pair, ServerValues, Transcript};
+use ssh_pair::{EndValues, Pair, Transcript};
 use ssh_script::{Credential, EndSetup, ScriptFault, Setup};
 use ssh_toys::{
     CLIENT_COOKIE, CLIENT_SECRET, SERVER_COOKIE, SERVER_SECRET, ToyClient, ToyCredential, ToyJudge,
@@ -49,14 +49,14 @@ impl<'a> Standard<'a> {
     ///
     /// Only where memory is refused.
     pub fn open(&self, alloc: Global) -> Result<(ToyPair<'_>, Transcript), ScriptFault> {
-        let client = ClientValues {
+        let client = EndValues {
             config: self.config(alloc, Side::Client)?,
             parts: client_parts(),
             user: ToyUserSigner,
             cookie: CLIENT_COOKIE,
             secret: CLIENT_SECRET,
         };
-        let server = ServerValues {
+        let server = EndValues {
             config: self.config(alloc, Side::Server)?,
             parts: server_parts(),
             user: ToyJudge {

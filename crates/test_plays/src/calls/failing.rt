@@ -2,7 +2,7 @@
 
 use super::outcome::Outcome;
 use ssh_packet::MacOnly;
-use ssh_pair::{ClientValues, Event, Pair, ServerValues};
+use ssh_pair::{EndValues, Event, Pair};
 use ssh_toys::{
     CLIENT_COOKIE, CLIENT_SECRET, CREDENTIALS, SERVER_COOKIE, SERVER_SECRET, ToyClient, ToyJudge,
     ToyServer, ToyUserSigner, client_parts, config, server_parts, settings,
@@ -36,14 +36,14 @@ pub fn fail(alloc: Global, call: Failing) -> Result<Outcome, AllocError> {
 // Each end is given the bytes that the other put out, so that memory is refused for one of their deaths, for one of
 // the items, or for the bytes that are put out.
 fn play_pair(alloc: Global) -> Result<Outcome, AllocError> {
-    let client = ClientValues {
+    let client = EndValues {
         config: config(alloc, &settings(b"c"))?,
         parts: client_parts(),
         user: ToyUserSigner,
         cookie: CLIENT_COOKIE,
         secret: CLIENT_SECRET,
     };
-    let server = ServerValues {
+    let server = EndValues {
         config: config(alloc, &settings(b"s"))?,
         parts: server_parts(),
         user: ToyJudge {
