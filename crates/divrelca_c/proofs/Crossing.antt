@@ -24,15 +24,17 @@ use Rattle.ssh_transport_machine.specs.contracts.outgoing.Outgoing as outgoing
 use Rattle.ssh_end.specs.contracts.end.End as end
 use Rattle.ssh_end.specs.contracts.end.End.TheInside as end_inside
 use Rattle.ssh_end.specs.declared.role.EndRole
-use Rattle.ssh_end.specs.contracts.layers.client_layers.ClientLayers as client_layers
-use Rattle.ssh_end.specs.contracts.layers.server_layers.ServerLayers as server_layers
+use Rattle.ssh_end.specs.contracts.layers.stack.Layers as layers
 use Rattle.ssh_parts.specs.contracts.packet_key.PacketKey as packet_key
 use Rattle.divrelca.specs.contracts.keys.PaddingSource as padding
 use Rattle.ssh_embedded.specs.contracts.embedded.Embedded as embedded
 use Rattle.ssh_embedded.specs.contracts.noted.Noted as noted
 use Rattle.ssh_embedded.specs.contracts.users.Users as users
 use Rattle.ssh_embedded.specs.contracts.waiting.Waiting as waiting
+use Rattle.ssh_embedded.specs.contracts.client.Client as client
+use Rattle.ssh_embedded.specs.contracts.server.Server as server
 use Rattle.divrelca_c.proofs.Handling.{Handle}
+use Rattle.divrelca_c.proofs.Roles as roles
 
 line_reader_send : IsSend line_reader.the_row
 line_reader_send = search (sendable, crosses) depth 40 fits 20000
@@ -46,10 +48,10 @@ waiting_send = search (sendable, crosses) depth 40 fits 20000
 noted_send : IsSend (noted.the_field).row
 noted_send = search (sendable, crosses) depth 40 fits 20000
 
-pub padding_send : IsSend padding.the_row
+padding_send : IsSend padding.the_row
 padding_send = search (sendable, crosses) depth 40 fits 20000
 
-pub users_send : IsSend (users.the_field).row
+users_send : IsSend (users.the_field).row
 users_send = search (sendable, crosses) depth 40 fits 20000
 
 planes_send : IsSend (planes.the_field).row
@@ -70,14 +72,11 @@ vector_keys_send = search (sendable, vectors_send, more_vectors_send) depth 60 f
 gcm_key_send : IsSend gcm_key.the_row
 gcm_key_send = view_send gcm_key_inside.the_row _ _ _ _ (search (sendable, crosses, parts_send, vector_keys_send) depth 60 fits 30000)
 
-pub key_send : IsSend packet_key.the_row
+key_send : IsSend packet_key.the_row
 key_send = search (sendable, crosses, gcm_key_send) depth 60 fits 30000
 
-pub server_layers_send : IsSend server_layers.the_row
-server_layers_send = search (sendable, crosses) depth 60 fits 30000
-
-pub client_layers_send : IsSend client_layers.the_row
-client_layers_send = search (sendable, crosses) depth 60 fits 30000
+layers_send : IsSend layers.the_row
+layers_send = search (sendable, crosses) depth 60 fits 30000
 
 module _ (S Key : RattleType) (sealing : Sealing.Ghosts S.Denot Key.Denot) where
   receiver_send : IsSend Key → IsSend (receiver.the_row S Key sealing)
@@ -91,18 +90,31 @@ module _ (S Key : RattleType) (sealing : Sealing.Ghosts S.Denot Key.Denot) where
     outgoing_send : IsSend F → IsSend (outgoing.the_field F).row
     outgoing_send f = search (sendable, crosses) depth 40 fits 20000
 
-    module _ (R Exchange Layers : RattleType) (role : EndRole.Ghosts R.Denot Exchange.Denot Layers.Denot S.Denot F.Denot Key.Denot)
+    module _ (R Exchange : RattleType) (role : EndRole.Ghosts R.Denot Exchange.Denot S.Denot F.Denot Key.Denot)
         (exchange : Role.Ghosts Exchange.Denot S.Denot F.Denot Key.Denot) where
-      pub end_send : IsSend R → IsSend Layers → IsSend Key → IsSend F → IsSend (end.the_row R Exchange Layers S F Key role exchange sealing filler)
-      end_send r layers key f =
-          view_send (end_inside.the_row R Exchange Layers S F Key role exchange sealing filler) _ _ _ _ (search (sendable, crosses, machine_send, outgoing_send) depth 100 fits 50000)
+      pub end_send : IsSend R → IsSend Key → IsSend F → IsSend (end.the_row R Exchange S F Key role exchange sealing filler)
+      end_send r key f =
+          view_send (end_inside.the_row R Exchange S F Key role exchange sealing filler) _ _ _ _ (search (sendable, crosses, machine_send, outgoing_send, layers_send) depth 100 fits 50000)
 
-      pub embedded_send : IsSend R → IsSend Layers → IsSend Key → IsSend F → IsSend (embedded.the_field R Exchange Layers S F Key role exchange sealing filler).row
-      embedded_send r layers key f = search (sendable, crosses, end_send, waiting_send, noted_send) depth 100 fits 50000
+      pub embedded_send : IsSend R → IsSend Key → IsSend F → IsSend (embedded.the_field R Exchange S F Key role exchange sealing filler).row
+      embedded_send r key f = search (sendable, crosses, end_send, waiting_send, noted_send) depth 100 fits 50000
 
 -- what a handle owns is what its box owns
-pub handle_send : (K : Handle) → IsSend K.end → IsSend K.row
+handle_send : (K : Handle) → IsSend K.end → IsSend K.row
 handle_send K s = record {
   owned = λ h vs. subst Keyless (sym (K.owns h vs ∙ K.boxes (K.box_of h) vs)) ((Box-send K.end s).owned (K.box_of h) vs);
   leaving = λ k h w. subst Keyless (sym (K.silent k h w)) tt;
 }
+
+-- ---- the two handles
+
+pub server_send : IsSend roles.server.row
+server_send =
+    let send : IsSend server.the_row =
+    search (sendable, crosses, embedded_send, key_send, padding_send, users_send) depth 100 fits 50000 in
+    handle_send roles.server send
+
+pub client_send : IsSend roles.client.row
+client_send =
+    let send : IsSend client.the_row = search (sendable, crosses, embedded_send, key_send, padding_send) depth 100 fits 50000 in
+    handle_send roles.client send

@@ -4,7 +4,7 @@ pub mod Handling
 pub mod Roles
 mod Known
 mod Named
+mod NewEnds
 mod Padding
 mod UpTo
-mod Working
 pub mod Crossing

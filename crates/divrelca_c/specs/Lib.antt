@@ -1,4 +1,5 @@
 pub mod Asks
+pub mod Calls
 pub mod Codes
 pub mod Events
 pub mod Files

@@ -5,13 +5,20 @@
 --     user_by                              the key pair of a seed, where there is one
 --     IsServerSettings, IsClientSettings   what is taken as settings
 --     server_settings, client_settings     the settings, as the model has them
-use Rattle.std.specs.Prelude.{◌≡◌, ◌≤◌, ℕ, List, [], ◌∷◌, All, Option, None, Some, if◌then◌else◌, length, nat_eq, false}
+--     IsServerOf, IsClientOf               the end that is made of them
+--     Leaves                               it is left at a place, or nothing is
+use Rattle.std.specs.Prelude.{◌≡◌, ◌≤◌, ℕ, ℤ, List, [], ◌∷◌, All, Option, None, Some, if◌then◌else◌, length, map, nat_eq, option_map, pos, false}
+use Rattle.std.specs.Option.{IfSome}
 use Rattle.sha2.specs.Sha256.{sha256}
 use Rattle.ssh_model.specs.Protocol.Sessions.Parties.{Settings}
-use Rattle.ssh_embedded.specs.Making.{settings_by}
-use Rattle.ssh_embedded.specs.Users.{is_weak}
+use Rattle.ssh_model.specs.declared.side.Side.TheVariants as sides
+use Rattle.ssh_embedded.specs.Making.{IsMade, settings_by}
+use Rattle.ssh_embedded.specs.Users.{entry_of, is_weak}
+use Rattle.ssh_embedded.specs.declared.client.Client.{Client}
+use Rattle.ssh_embedded.specs.declared.making.Material.{Material}
 use Rattle.ssh_embedded.specs.declared.making.Methods.{Methods}
 use Rattle.ssh_embedded.specs.declared.making.Methods.TheVariants as methods
+use Rattle.ssh_embedded.specs.declared.server.Server.{Server}
 use Rattle.ssh_embedded.specs.declared.users.Login.{Login}
 use Rattle.ssh_embedded.specs.declared.users.Login.TheVariants as login
 use Rattle.ssh_parts.specs.Ed25519.{signer_of}
@@ -20,6 +27,7 @@ use Rattle.divrelca.specs.declared.ciphers.Ciphers.{Ciphers}
 use Rattle.divrelca.specs.declared.ciphers.Ciphers.TheVariants as ciphers
 use Rattle.divrelca.specs.declared.policy.TheConstants.{TRIES}
 use Rattle.divrelca_c.specs.declared.bytes.DvClientSettings.{DvClientSettings}
+use Rattle.divrelca_c.specs.declared.bytes.DvMaterial.{DvMaterial}
 use Rattle.divrelca_c.specs.declared.bytes.DvServerSettings.{DvServerSettings}
 use Rattle.divrelca_c.specs.declared.bytes.DvUser.{DvUser}
 
@@ -84,3 +92,30 @@ pub record IsClientSettings (given : DvClientSettings) : Type 0 where
 -- A client may fail as often as a server of `ssh_pipe` lets a user, and knows both methods.
 abbrev pub client_settings : DvClientSettings → Settings
 client_settings given = settings_by given.software.now given.epoch_limit TRIES methods.Both (ciphers_by given.ciphers)
+
+-- the random bytes of a new end
+abbrev pub material_by : DvMaterial → (padding : List ℕ) → Material
+material_by first padding = record { cookie = first.cookie; secret = first.secret; padding = padding }
+
+-- It is a new server with these settings and of these random bytes. It has this host's key pair and these users.
+pub record IsServerOf (given : DvServerSettings) (material : Material) (made : Server) : Type 0 where
+  pub new : IsMade sides.Server (server_settings given) material made.state
+  pub host : made.state.end.role.exchange.host_signer ≡ signer_of given.host_seed.now
+  pub users : map entry_of made.state.end.role.user.list.items ≡ map entry_by given.users.now
+  pub key : made.state.key ≡ None
+  pub settings : IsServerSettings given
+
+-- It is a new client with these settings and of these random bytes. It trusts this host's key, and signs by this key pair, where there is
+-- one.
+pub record IsClientOf (given : DvClientSettings) (material : Material) (made : Client) : Type 0 where
+  pub new : IsMade sides.Client (client_settings given) material made.state
+  pub host : made.state.end.role.exchange.host_trust.public ≡ given.host_key.now
+  pub user : made.state.end.role.user.signer ≡ user_by given.user_seed.now
+  pub key : made.state.key ≡ option_map (λ signer. signer.key) (user_by given.user_seed.now)
+  pub settings : IsClientSettings given
+
+-- One of these ends is left at the place where the code is 0, and the place is as it was where it is not.
+pub record Leaves {P E : Type 0} (end_at : P → Option E) (Is : E → Type 0) (code : ℤ) (old new : P) : Type 0 where
+  pub none : (code ≡ pos 0 → ⊥) → new ≡ old
+  pub some : code ≡ pos 0 → end_at new ≡ None → ⊥
+  pub made : code ≡ pos 0 → IfSome (end_at new) Is

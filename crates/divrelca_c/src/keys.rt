@@ -9,8 +9,8 @@ ghost use Rattle.divrelca.specs.PrivateKeys as spec;
 ghost use Rattle.divrelca.specs.UserKeys.{user_keys};
 
 use crate::codes::{DONE, code_file};
-use ed25519::KeyPair;
 use divrelca::key_files::{authorized_keys, private_key, trusted_key};
+use ed25519::KeyPair;
 use std::alloc::Global;
 
 /// The key of a private key file of ssh-ed25519 without a passphrase.

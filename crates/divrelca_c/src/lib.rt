@@ -3,6 +3,7 @@
 #![tactic(auto)]
 
 pub mod bytes;
+mod calls;
 pub mod client;
 mod codes;
 mod event;

@@ -1,16 +1,24 @@
-//! Settings that C passes.
+//! What C passes for a new end, and the end that is made of it.
 
 ghost use Rattle.std.specs.Prelude.{◌≡◌, ◌++◌, All, IfErr, IfOk, [], ◌∷◌, length, map, negsuc, pos};
-ghost use Rattle.divrelca_c.specs.Making.{IsChoice, IsEntry, IsLogin, IsTaken, ciphers_by, entry_by, login_by, methods_by, user_by};
+ghost use Rattle.divrelca_c.specs.Making.{IsChoice, IsClientOf, IsEntry, IsLogin, IsServerOf, IsTaken};
+ghost use Rattle.divrelca_c.specs.Making.{ciphers_by, entry_by, login_by, material_by, methods_by, user_by};
 ghost use Rattle.ssh_embedded.specs.Users.{entry_of};
 ghost use Rattle.ssh_parts.specs.Ed25519.{signer_of};
 
-use crate::bytes::DvUser;
-use crate::codes::{BAD_CIPHERS, BAD_KEY, BAD_LOGIN, BAD_METHODS, code_made};
+use crate::bytes::{DvClientSettings, DvMaterial, DvServerSettings, DvUser};
+use crate::codes::{BAD_CIPHERS, BAD_KEY, BAD_LOGIN, BAD_METHODS, BAD_SIZE, MEMORY, code_made};
 use divrelca::{Ciphers, PasswordHash};
-use ssh_embedded::{Login, Methods, Users};
+use ssh_embedded::{
+    Client, ClientSettings, Login, Material, Methods, Server, ServerSettings, Users,
+};
 use ssh_parts::Ed25519Signer;
 use std::alloc::Global;
+
+// The bytes of the settings of a server, and of those of a client.
+const SERVER_SETTINGS: usize = 72;
+
+const CLIENT_SETTINGS: usize = 64;
 
 /// A key of 32 bytes.
 ///
@@ -139,4 +147,92 @@ pub fn users_in(alloc: Global, given: &[DvUser<'_>]) -> Result<Users, i32>
         add_user(&mut users, alloc, user)?;
     }
     Ok(users)
+}
+
+// The random bytes of a new end.
+fn material_in(first: &DvMaterial, padding: &[u8; 32]) -> Material
+    ensures { result ≡ material_by first.now padding.now }
+{
+    Material {
+        cookie: first.cookie,
+        secret: first.secret,
+        padding: *padding,
+    }
+}
+
+// An end in a box of its own.
+fn boxed<E: Drop>(alloc: Global, end: E) -> Result<Box<E, Global>, i32>
+    ensures value { IfOk result (λ made. made.value ≡ end) }
+    ensures fails { IfErr result (λ code. code ≡ pos 0 → ⊥) }
+{
+    Box::new(alloc, end).map_err(|_| MEMORY)
+}
+
+/// A server of what C passes.
+///
+/// # Errors
+///
+/// - `BAD_SIZE`: the settings have another size.
+/// - Those of `methods_in`, `ciphers_in`, `signer_in` and `users_in`.
+/// - Those of `code_made`: no server is made of them.
+/// - `MEMORY`: memory was refused.
+pub fn server_in(
+    alloc: Global,
+    given: &DvServerSettings<'_>,
+    first: &DvMaterial,
+    padding: &[u8; 32],
+) -> Result<Box<Server, Global>, i32>
+    ensures made { IfOk result (λ made. IsServerOf given.now (material_by first.now padding.now) made.value) }
+    ensures fails { IfErr result (λ code. code ≡ pos 0 → ⊥) }
+{
+    if given.size != SERVER_SETTINGS {
+        return Err(BAD_SIZE);
+    }
+    let settings = ServerSettings {
+        software: given.software,
+        epoch_limit: given.epoch_limit,
+        tries: given.tries,
+        methods: methods_in(given.methods)?,
+        ciphers: ciphers_in(given.ciphers)?,
+        host: signer_in(given.host_seed)?,
+    };
+    let users = users_in(alloc, given.users)?;
+    match Server::new(alloc, &settings, users, material_in(first, padding)) {
+        Ok(server) => boxed(alloc, server),
+        Err(error) => Err(code_made(error)),
+    }
+}
+
+/// A client of what C passes.
+///
+/// # Errors
+///
+/// - `BAD_SIZE`: the settings have another size.
+/// - Those of `user_in`, `ciphers_in` and `key_in`.
+/// - Those of `code_made`: no client is made of them.
+/// - `MEMORY`: memory was refused.
+pub fn client_in(
+    alloc: Global,
+    given: &DvClientSettings<'_>,
+    first: &DvMaterial,
+    padding: &[u8; 32],
+) -> Result<Box<Client, Global>, i32>
+    ensures made { IfOk result (λ made. IsClientOf given.now (material_by first.now padding.now) made.value) }
+    ensures fails { IfErr result (λ code. code ≡ pos 0 → ⊥) }
+{
+    if given.size != CLIENT_SETTINGS {
+        return Err(BAD_SIZE);
+    }
+    let user = user_in(given.user_seed)?;
+    let settings = ClientSettings {
+        software: given.software,
+        epoch_limit: given.epoch_limit,
+        ciphers: ciphers_in(given.ciphers)?,
+        host: key_in(given.host_key)?,
+        user,
+    };
+    match Client::new(alloc, &settings, material_in(first, padding)) {
+        Ok(client) => boxed(alloc, client),
+        Err(error) => Err(code_made(error)),
+    }
 }

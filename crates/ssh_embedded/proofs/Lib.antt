@@ -1,3 +1,3 @@
 mod Asked
+mod NewEnds
 mod Oldest
-mod Padding

@@ -5,7 +5,7 @@ use Rattle.ssh_model.specs.Protocol.Wire.Sealing.{Crypto}
 use Rattle.ssh_transport_machine.specs.Padding.{PadsTo, PadsTo.none}
 use Rattle.ssh_embedded.specs.Padding.{PadsOn}
 
-module _ {K R L F : Type 0} {c : Crypto K} {gives : F → List ℕ → F → Type 0} {old new : EndValue K R L F} {before after : List ℕ} where
+module _ {K R F : Type 0} {c : Crypto K} {gives : F → List ℕ → F → Type 0} {old new : EndValue K R F} {before after : List ℕ} where
   -- the payloads are those that the end lists
   pub pads_on : PadsTo c gives (sending_from old before) (sending_to new after) → PadsOn c gives old before new after
   pads_on padded = record { payloads = new.sent; padded = padded }

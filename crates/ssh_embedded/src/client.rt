@@ -1,42 +1,19 @@
 //! A client.
 
-ghost use Rattle.std.specs.Prelude.{◌≡◌, IfOk, []};
+ghost use Rattle.std.specs.Prelude.{◌≡◌, IfOk};
 ghost use Rattle.std.specs.Option.{option_map};
-ghost use Rattle.divrelca.specs.Supplies.{next_bytes, padding_under};
-ghost use Rattle.ssh_embedded.specs.Making.{settings_by};
+ghost use Rattle.ssh_embedded.specs.Making.{IsMade, settings_by};
 ghost use Rattle.ssh_embedded.specs.declared.making.Methods.TheVariants.{Both};
-ghost use Rattle.ssh_end.specs.Ends.{IsNewClient, sending_from_line, sending_to};
-ghost use Rattle.ssh_end.specs.declared.step.Step.TheVariants as step;
-ghost use Rattle.ssh_parts.specs.AesGcm.{aes_gcm};
-ghost use Rattle.ssh_transport_machine.specs.Padding.{PadsTo};
+ghost use Rattle.ssh_model.specs.declared.side.Side.TheVariants as sides;
 
 use crate::embedded::Embedded;
-use crate::flows::Flows;
-use crate::making::{MakeError, Material, Methods, config};
-use crate::noted::Noted;
-use crate::parts::EmbeddedClient;
-use divrelca::{Ciphers, PaddingSource, TRIES, UserKey};
+use crate::making::{ClientSettings, MakeError, Material, Methods, config};
+use crate::parts::{EmbeddedClient, client_parts};
+use divrelca::{TRIES, UserKey};
 use ed25519::is_small_order;
-use ssh_config::ClientPartValues;
 use ssh_end::{ClientEnd, ClientRole};
-use ssh_parts::{Curve25519, Ed25519Signer, Ed25519Trust};
+use ssh_parts::Ed25519Signer;
 use std::alloc::Global;
-use std::collections::VecDeque;
-
-/// What a client is made of.
-#[derive(Clone, Copy)]
-pub struct ClientSettings<'a> {
-    /// The version of the software (RFC 4253 section 4.2).
-    pub software: &'a [u8],
-    /// After so many packets sent under the keys of one exchange the next one is due: 64 to 2^31.
-    pub epoch_limit: u32,
-    /// The encryptions.
-    pub ciphers: Ciphers,
-    /// The 32 bytes of the public key of the host.
-    pub host: [u8; 32],
-    /// The key pair of the user, where there is one.
-    pub user: Option<Ed25519Signer>,
-}
 
 /// A client, with what a program keeps besides it.
 #[derive(Drop)]
@@ -57,58 +34,29 @@ impl Client {
         settings: &ClientSettings<'_>,
         material: Material,
     ) -> Result<Client, MakeError>
-        ensures opened { IfOk result (λ made. IsNewClient aes_gcm
-            (settings_by settings.now.software.now settings.now.epoch_limit TRIES Both settings.now.ciphers)
-            material.cookie material.secret made.state.end.machine made.state.end.layers [] made.state.out.items
-            made.state.end.sent) }
-        ensures padded { IfOk result (λ made. PadsTo aes_gcm next_bytes (sending_from_line
-            (settings_by settings.now.software.now settings.now.epoch_limit TRIES Both settings.now.ciphers)
-            (padding_under material.padding) []) (sending_to made.state.end made.state.out.items)) }
-        ensures step { IfOk result (λ made. made.state.end.step ≡ step.More) }
+        ensures made { IfOk result (λ made. IsMade sides.Client
+            (settings_by settings.now.software.now settings.now.epoch_limit TRIES Both settings.now.ciphers) material made.state) }
         ensures host { IfOk result (λ made. made.state.end.role.exchange.host_trust.public ≡ settings.now.host) }
         ensures user { IfOk result (λ made. made.state.end.role.user.signer ≡ settings.now.user) }
         ensures key { IfOk result (λ made. made.state.key ≡ option_map (λ signer. signer.key) settings.now.user) }
-        ensures waiting { IfOk result (λ made. made.state.waiting.items ≡ []) }
     {
-        if is_small_order(&settings.host) {
+        let ClientSettings {
+            software,
+            epoch_limit,
+            ciphers,
+            host,
+            user,
+        } = *settings;
+        if is_small_order(&host) {
             return Err(MakeError::Key);
         }
-        let config = config(
-            alloc,
-            settings.software,
-            settings.epoch_limit,
-            TRIES,
-            Methods::Both,
-            settings.ciphers,
-        )?;
-        let parts = ClientPartValues {
-            filler: PaddingSource::from_key(material.padding),
-            agreement: Curve25519,
-            host_trust: Ed25519Trust {
-                public: settings.host,
-            },
-        };
-        let flows = Flows::new(alloc)?;
+        let config = config(alloc, software, epoch_limit, TRIES, Methods::Both, ciphers)?;
+        let parts = client_parts(material.padding, host);
+        let signer = UserKey { signer: user };
+        let Material { cookie, secret, .. } = material;
         let mut out = Vec::new(alloc);
-        let end = ClientEnd::<EmbeddedClient, UserKey>::new(
-            alloc,
-            config,
-            parts,
-            UserKey {
-                signer: settings.user,
-            },
-            material.cookie,
-            material.secret,
-            &mut out,
-        )?;
-        let state = Embedded {
-            end,
-            out,
-            key: key_of(&settings.user),
-            waiting: VecDeque::new(alloc),
-            flows,
-            noted: Noted::new(alloc),
-        };
+        let end = ClientEnd::new(alloc, config, parts, signer, cookie, secret, &mut out)?;
+        let state = Embedded::of(alloc, end, out, key_of(&user))?;
         Ok(Client { state })
     }
 }

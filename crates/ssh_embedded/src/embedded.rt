@@ -1,6 +1,6 @@
 //! An end of either role, with what a program keeps besides it.
 
-ghost use Rattle.std.specs.Prelude.{◌≡◌, ◌<◌, ◌≤◌, ◌++◌, ◌∷◌, ◌||◌, cond, IfErr, IfOk, IfSome, IsSome, List, None, OnErr, OnOk, [], drop};
+ghost use Rattle.std.specs.Prelude.{◌≡◌, ◌<◌, ◌≤◌, ◌++◌, ◌∷◌, ◌||◌, cond, IfErr, IfOk, IfSome, List, None, OnErr, OnOk, [], drop};
 ghost use Rattle.std.specs.Prelude.{false, length, nat_le, true, ℕ};
 ghost use Rattle.std.specs.VecDeque.{deque_len};
 ghost use Rattle.ssh_embedded.specs.Asked.{AreNoted, is_asked_among, is_noted};
@@ -8,7 +8,7 @@ ghost use Rattle.ssh_embedded.specs.Forms.{IsAsked, form_asks};
 ghost use Rattle.ssh_embedded.specs.Padding.{PadsOn};
 ghost use Rattle.ssh_embedded.specs.Queues.{IsMade, IsOldestMade, asked_by, is_early};
 ghost use Rattle.ssh_embedded.specs.Windows.{bytes_in};
-ghost use Rattle.ssh_end.specs.Asking.{AreAskChannels, Fails, OnAnswered, ask_of};
+ghost use Rattle.ssh_end.specs.Asking.{AreAskChannels, Asks, Fails, OnAnswered, ask_of};
 ghost use Rattle.ssh_end.specs.Calls.{Advances, outs_of};
 ghost use Rattle.ssh_end.specs.Ends.{EndLacks, IsFault, sending_from, sending_to};
 ghost use Rattle.ssh_end.specs.Reading.{SameReading};
@@ -63,6 +63,29 @@ impl<R: EndRole> Drop for Embedded<R> {
 }
 
 impl<R: EndRole> Embedded<R> {
+    // An end that was made, with what it put out. No ask waits, and nobody is noted.
+    pub(crate) fn of(
+        alloc: Global,
+        end: End<R>,
+        out: Vec<u8>,
+        key: Option<[u8; 51]>,
+    ) -> Result<Embedded<R>, AllocError>
+        ensures end { IfOk result (λ made. made.end ≡ end) }
+        ensures out { IfOk result (λ made. made.out.items ≡ out.items) }
+        ensures key { IfOk result (λ made. made.key ≡ key) }
+        ensures waiting { IfOk result (λ made. made.waiting.items ≡ []) }
+    {
+        let flows = Flows::new(alloc)?;
+        Ok(Embedded {
+            end,
+            out,
+            key,
+            waiting: VecDeque::new(alloc),
+            flows,
+            noted: Noted::new(alloc),
+        })
+    }
+
     /// What `ssh_end::End::advance` does. What is put out goes after what waits, and the account of the channels' windows follows what is
     /// told. Whose key or password a client asks for is noted, for `Server::set_user`.
     ///
@@ -124,8 +147,9 @@ impl<R: EndRole> Embedded<R> {
     ///
     /// Those of `ssh_end::End::ask`.
     pub fn perform(&mut self, ask: &Ask<'_>) -> Result<AskStep, Fault>
-        ensures asks { R.asks self.old.end.role self.old.end.machine self.old.end.layers (ask_of ask.now) result self.new.end.machine
-            self.new.end.layers (outs_of self.old.out.items self.new.out.items self.new.end.sent) }
+        ensures asks { Asks R.Exchange.Sealing.crypto (R.signing self.old.end.role) self.old.end.machine self.old.end.layers
+            (ask_of ask.now) result self.new.end.machine self.new.end.layers
+            (outs_of self.old.out.items self.new.out.items self.new.end.sent) }
         ensures padded { OnAnswered result (PadsTo R.Exchange.Sealing.crypto R.Exchange.Filler.gives
             (sending_from self.old.end self.old.out.items) (sending_to self.new.end self.new.out.items)) }
         ensures reading { self.new.end.machine.kept.dead ≡ false → SameReading self.old.end.machine self.new.end.machine }
@@ -156,8 +180,8 @@ impl<R: EndRole> Embedded<R> {
     /// Those of `AskForm::ask`, and nothing changes. What is answered otherwise is that of `perform`.
     pub fn ask(&mut self, form: &AskForm<'_>) -> Result<Result<AskStep, Fault>, FormFault>
         ensures asked { IfOk result (λ done. IsAsked (form_asks form.now self.old.key)
-            (λ asked. R.asks self.old.end.role self.old.end.machine self.old.end.layers asked done self.new.end.machine
-            self.new.end.layers (outs_of self.old.out.items self.new.out.items self.new.end.sent))) }
+            (λ asked. Asks R.Exchange.Sealing.crypto (R.signing self.old.end.role) self.old.end.machine self.old.end.layers asked done
+            self.new.end.machine self.new.end.layers (outs_of self.old.out.items self.new.out.items self.new.end.sent))) }
         ensures padded { IfOk result (λ done. OnAnswered done (PadsTo R.Exchange.Sealing.crypto R.Exchange.Filler.gives
             (sending_from self.old.end self.old.out.items) (sending_to self.new.end self.new.out.items))) }
         ensures none { OnErr result (form_asks form.now self.old.key ≡ None) }
@@ -217,7 +241,7 @@ impl<R: EndRole> Embedded<R> {
 
     /// How many bytes of data fit into the peer's window on a channel; none where the channel is not confirmed.
     pub fn room(&self, channel: u32) -> u32
-        ensures { result ≡ bytes_in (shown_room (at (R.channels_of self.now.end.layers).places channel)) }
+        ensures { result ≡ bytes_in (shown_room (at self.now.end.layers.channels.places channel)) }
     {
         self.end.channels().room(channel).unwrap_or(0)
     }
@@ -269,8 +293,8 @@ impl<R: EndRole> Embedded<R> {
         ensures none { result ≡ None → self.old.waiting.items ≡ [] }
         ensures unchanged { result ≡ None → self.new ≡ self.old }
         ensures made { IfSome result (λ done. IsOldestMade self.old.waiting.items self.old.key (λ asked.
-            R.asks self.old.end.role self.old.end.machine self.old.end.layers asked done self.new.end.machine self.new.end.layers
-            (outs_of self.old.out.items self.new.out.items self.new.end.sent))) }
+            Asks R.Exchange.Sealing.crypto (R.signing self.old.end.role) self.old.end.machine self.old.end.layers asked done
+            self.new.end.machine self.new.end.layers (outs_of self.old.out.items self.new.out.items self.new.end.sent))) }
         ensures padded { IfSome result (λ done. OnOk done (PadsTo R.Exchange.Sealing.crypto R.Exchange.Filler.gives
             (sending_from self.old.end self.old.out.items) (sending_to self.new.end self.new.out.items))) }
         ensures chains { IfSome result (λ done. OnAnswered done (PadsOn R.Exchange.Sealing.crypto R.Exchange.Filler.gives
@@ -296,8 +320,8 @@ impl<R: EndRole> Embedded<R> {
     // Makes an ask that waits. Only asks are put there.
     #[tactic(auto, using(crate::specs::PaddingLaws::pads_on, crate::specs::PaddingLaws::pads_on_none))]
     fn make(&mut self, waiting: &Waiting) -> Result<AskStep, Fault>
-        ensures made { IsMade (asked_by waiting.now self.old.key) (λ asked. R.asks self.old.end.role self.old.end.machine
-            self.old.end.layers asked result self.new.end.machine self.new.end.layers
+        ensures made { IsMade (asked_by waiting.now self.old.key) (λ asked. Asks R.Exchange.Sealing.crypto
+            (R.signing self.old.end.role) self.old.end.machine self.old.end.layers asked result self.new.end.machine self.new.end.layers
             (outs_of self.old.out.items self.new.out.items self.new.end.sent)) }
         ensures padded { OnOk result (PadsTo R.Exchange.Sealing.crypto R.Exchange.Filler.gives
             (sending_from self.old.end self.old.out.items) (sending_to self.new.end self.new.out.items)) }

@@ -29,12 +29,12 @@ mod users;
 mod waiting;
 
 pub use ask_form::{AskForm, FormFault};
-pub use client::{Client, ClientSettings};
+pub use client::Client;
 pub use embedded::{Embedded, is_later};
 pub use flows::{Flow, Flows};
-pub use making::{MakeError, Material, Methods};
+pub use making::{ClientSettings, MakeError, Material, Methods, ServerSettings};
 pub use noted::Noted;
 pub use parts::{EmbeddedClient, EmbeddedServer};
-pub use server::{Server, ServerSettings, UserFault};
+pub use server::{Server, UserFault};
 pub use users::{Login, User, Users};
 pub use waiting::{KeptForm, Waiting};

@@ -7,7 +7,7 @@ ghost use Rattle.ssh_config.specs.Meaning.{given_of, settings_of};
 
 use divrelca::Ciphers;
 use ssh_config::{Config, ConfigError, ConfigRefusal, Settings};
-use ssh_parts::{AesGcm, GcmSettings};
+use ssh_parts::{AesGcm, Ed25519Signer, GcmSettings};
 use std::alloc::{AllocError, Global};
 
 /// What an end takes of random bytes when it is made. Each is from a good source, and is used once.
@@ -43,6 +43,38 @@ impl Methods {
             Methods::Both => &[b"publickey", b"password"],
         }
     }
+}
+
+/// What a server is made of besides its users.
+#[derive(Clone, Copy)]
+pub struct ServerSettings<'a> {
+    /// The version of the software (RFC 4253 section 4.2).
+    pub software: &'a [u8],
+    /// After so many packets sent under the keys of one exchange the next one is due: 64 to 2^31.
+    pub epoch_limit: u32,
+    /// How many requests for authentication may fail: 1 to 20.
+    pub tries: u32,
+    /// The methods of authentication.
+    pub methods: Methods,
+    /// The encryptions.
+    pub ciphers: Ciphers,
+    /// The key pair of the host.
+    pub host: Ed25519Signer,
+}
+
+/// What a client is made of.
+#[derive(Clone, Copy)]
+pub struct ClientSettings<'a> {
+    /// The version of the software (RFC 4253 section 4.2).
+    pub software: &'a [u8],
+    /// After so many packets sent under the keys of one exchange the next one is due: 64 to 2^31.
+    pub epoch_limit: u32,
+    /// The encryptions.
+    pub ciphers: Ciphers,
+    /// The 32 bytes of the public key of the host.
+    pub host: [u8; 32],
+    /// The key pair of the user, where there is one.
+    pub user: Option<Ed25519Signer>,
 }
 
 /// Why no end is made, and why a user is none.

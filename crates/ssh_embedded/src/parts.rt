@@ -1,7 +1,10 @@
 //! The supplied parts of both ends.
 
+ghost use Rattle.std.specs.Prelude.{◌≡◌};
+ghost use Rattle.divrelca.specs.Supplies.{padding_under};
+
 use divrelca::PaddingSource;
-use ssh_config::{ClientParts, ServerParts};
+use ssh_config::{ClientPartValues, ClientParts, ServerPartValues, ServerParts};
 use ssh_parts::{AesGcm, Curve25519, Ed25519Signer, Ed25519Trust};
 
 /// The parts of a server: AES-GCM, X25519 and Ed25519.
@@ -28,4 +31,31 @@ impl ClientParts for EmbeddedClient {
     type Agreement = Curve25519;
 
     type HostTrust = Ed25519Trust;
+}
+
+/// Those of a server with this key pair, which pads packets by the stream under this key.
+pub(crate) fn server_parts(
+    padding: [u8; 32],
+    host: Ed25519Signer,
+) -> ServerPartValues<EmbeddedServer>
+    ensures filler { result.filler ≡ padding_under padding }
+    ensures host { result.host_signer ≡ host }
+{
+    ServerPartValues {
+        filler: PaddingSource::from_key(padding),
+        agreement: Curve25519,
+        host_signer: host,
+    }
+}
+
+/// Those of a client that trusts this public key, and pads packets by the stream under this key.
+pub(crate) fn client_parts(padding: [u8; 32], host: [u8; 32]) -> ClientPartValues<EmbeddedClient>
+    ensures filler { result.filler ≡ padding_under padding }
+    ensures host { result.host_trust.public ≡ host }
+{
+    ClientPartValues {
+        filler: PaddingSource::from_key(padding),
+        agreement: Curve25519,
+        host_trust: Ed25519Trust { public: host },
+    }
 }

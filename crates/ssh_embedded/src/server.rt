@@ -2,53 +2,28 @@
 
 ghost use Rattle.std.specs.Prelude.{◌≡◌, ◌++◌, ◌||◌, Err, IfErr, IfOk, List, None, OnErr, OnOk, [], false, true, ℕ};
 ghost use Rattle.std.specs.List.{list_all};
-ghost use Rattle.divrelca.specs.Supplies.{next_bytes, padding_under};
 ghost use Rattle.ssh_embedded.specs.Asked.{AreNoted, is_noted};
-ghost use Rattle.ssh_embedded.specs.Making.{settings_by};
+ghost use Rattle.ssh_embedded.specs.Making.{IsMade, settings_by};
 ghost use Rattle.ssh_embedded.specs.Users.{verdicts_for};
 ghost use Rattle.ssh_embedded.specs.declared.server.UserFault.TheVariants as user_fault;
-ghost use Rattle.ssh_end.specs.Ends.{IsNewServer, sending_from_line, sending_to};
 ghost use Rattle.ssh_end.specs.Stands.{ServerStandsAt};
-ghost use Rattle.ssh_end.specs.declared.step.Step.TheVariants as step;
+ghost use Rattle.ssh_model.specs.declared.side.Side.TheVariants as sides;
 ghost use Rattle.ssh_model.specs.Laws.Verdicts.{judged_by};
 ghost use Rattle.ssh_model.specs.Protocol.Sessions.Items.{Item};
 ghost use Rattle.ssh_model.specs.Protocol.Sessions.Parties.{Parties};
 ghost use Rattle.ssh_model.specs.Protocol.Wire.MacOnly.{is_text};
 ghost use Rattle.ssh_model.specs.State.TransportLayer.Kept.{ExchangeParts};
 ghost use Rattle.ssh_parts.specs.AesGcm.{aes_gcm};
-ghost use Rattle.ssh_transport_machine.specs.Padding.{PadsTo};
 
 use crate::embedded::Embedded;
-use crate::flows::Flows;
-use crate::making::{MakeError, Material, Methods, config};
-use crate::noted::Noted;
-use crate::parts::EmbeddedServer;
+use crate::making::{MakeError, Material, ServerSettings, config};
+use crate::parts::{EmbeddedServer, server_parts};
 use crate::users::Users;
-use divrelca::{Ciphers, PaddingSource};
-use ssh_config::ServerPartValues;
 use ssh_end::judge_laws::users_exchanged;
 use ssh_end::{ServerEnd, ServerRole};
 use ssh_packet::Sealing;
-use ssh_parts::{AesGcm, Curve25519, Ed25519Signer};
+use ssh_parts::AesGcm;
 use std::alloc::{AllocError, Global};
-use std::collections::VecDeque;
-
-/// What a server is made of besides its users.
-#[derive(Clone, Copy)]
-pub struct ServerSettings<'a> {
-    /// The version of the software (RFC 4253 section 4.2).
-    pub software: &'a [u8],
-    /// After so many packets sent under the keys of one exchange the next one is due: 64 to 2^31.
-    pub epoch_limit: u32,
-    /// How many requests for authentication may fail: 1 to 20.
-    pub tries: u32,
-    /// The methods of authentication.
-    pub methods: Methods,
-    /// The encryptions.
-    pub ciphers: Ciphers,
-    /// The key pair of the host.
-    pub host: Ed25519Signer,
-}
 
 /// Why a user is not set.
 #[derive(Clone, Copy, Debug, PartialEq, Eq)]
@@ -90,51 +65,27 @@ impl Server {
         users: Users,
         material: Material,
     ) -> Result<Server, MakeError>
-        ensures opened { IfOk result (λ made. IsNewServer aes_gcm
+        ensures made { IfOk result (λ made. IsMade sides.Server
             (settings_by settings.now.software.now settings.now.epoch_limit settings.now.tries settings.now.methods settings.now.ciphers)
-            material.cookie material.secret made.state.end.machine made.state.end.layers [] made.state.out.items
-            made.state.end.sent) }
-        ensures padded { IfOk result (λ made. PadsTo aes_gcm next_bytes (sending_from_line
-            (settings_by settings.now.software.now settings.now.epoch_limit settings.now.tries settings.now.methods settings.now.ciphers)
-            (padding_under material.padding) []) (sending_to made.state.end made.state.out.items)) }
-        ensures step { IfOk result (λ made. made.state.end.step ≡ step.More) }
+            material made.state) }
         ensures host { IfOk result (λ made. made.state.end.role.exchange.host_signer ≡ settings.now.host) }
         ensures users { IfOk result (λ made. made.state.end.role.user ≡ users) }
         ensures key { IfOk result (λ made. made.state.key ≡ None) }
-        ensures waiting { IfOk result (λ made. made.state.waiting.items ≡ []) }
     {
-        let config = config(
-            alloc,
-            settings.software,
-            settings.epoch_limit,
-            settings.tries,
-            settings.methods,
-            settings.ciphers,
-        )?;
-        let parts = ServerPartValues {
-            filler: PaddingSource::from_key(material.padding),
-            agreement: Curve25519,
-            host_signer: settings.host,
-        };
-        let flows = Flows::new(alloc)?;
+        let ServerSettings {
+            software,
+            epoch_limit,
+            tries,
+            methods,
+            ciphers,
+            host,
+        } = *settings;
+        let config = config(alloc, software, epoch_limit, tries, methods, ciphers)?;
+        let parts = server_parts(material.padding, host);
+        let Material { cookie, secret, .. } = material;
         let mut out = Vec::new(alloc);
-        let end = ServerEnd::<EmbeddedServer, Users>::new(
-            alloc,
-            config,
-            parts,
-            users,
-            material.cookie,
-            material.secret,
-            &mut out,
-        )?;
-        let state = Embedded {
-            end,
-            out,
-            key: None,
-            waiting: VecDeque::new(alloc),
-            flows,
-            noted: Noted::new(alloc),
-        };
+        let end = ServerEnd::new(alloc, config, parts, users, cookie, secret, &mut out)?;
+        let state = Embedded::of(alloc, end, out, None)?;
         Ok(Server { state })
     }
 

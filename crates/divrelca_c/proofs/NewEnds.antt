@@ -1,0 +1,41 @@
+-- The settings and the random bytes of a new end, by what C passes.
+use Rattle.std.proofs.Common.{◌≡◌, ◌∙◌, ap, subst}
+use Rattle.ssh_model.specs.Protocol.Sessions.Parties.{Settings}
+use Rattle.ssh_model.specs.declared.side.Side.{Side}
+use Rattle.ssh_model.specs.declared.side.Side.TheVariants as sides
+use Rattle.ssh_parts.specs.declared.packet_key.PacketKey.{PacketKey}
+use Rattle.divrelca.specs.declared.ciphers.Ciphers.{Ciphers}
+use Rattle.divrelca.specs.declared.keys.PaddingSource.{PaddingSource}
+use Rattle.divrelca.specs.declared.policy.TheConstants.{TRIES}
+use Rattle.ssh_embedded.specs.Making.{IsMade, settings_by}
+use Rattle.ssh_embedded.specs.declared.client.Client.{Client}
+use Rattle.ssh_embedded.specs.declared.embedded.Embedded.{Embedded}
+use Rattle.ssh_embedded.specs.declared.making.Material.{Material}
+use Rattle.ssh_embedded.specs.declared.making.Methods.{Methods}
+use Rattle.ssh_embedded.specs.declared.making.Methods.TheVariants.{Both}
+use Rattle.ssh_embedded.specs.declared.server.Server.{Server}
+use Rattle.divrelca_c.specs.Making.{ciphers_by, client_settings, methods_by, server_settings}
+use Rattle.divrelca_c.specs.declared.bytes.DvClientSettings.{DvClientSettings}
+use Rattle.divrelca_c.specs.declared.bytes.DvServerSettings.{DvServerSettings}
+
+-- an end that was made with the same settings and of the same bytes
+made_with : {R X S : Type 0} (side : Side) {given named : Settings} {material passed : Material}
+    {made : Embedded R X S PaddingSource PacketKey} → given ≡ named → material ≡ passed → IsMade side given material made →
+    IsMade side named passed made
+made_with side {given} {named} {material} {passed} {made} settings same is =
+    subst (λ it. IsMade side it passed made) settings (subst (λ it. IsMade side given it made) same is)
+
+pub server_made : (given : DvServerSettings) {methods : Methods} {ciphers : Ciphers} {material passed : Material} {made : Server} →
+    methods ≡ methods_by given.methods → ciphers ≡ ciphers_by given.ciphers → material ≡ passed →
+    IsMade sides.Server (settings_by given.software.now given.epoch_limit given.tries methods ciphers) material made.state →
+    IsMade sides.Server (server_settings given) passed made.state
+server_made given {methods} {ciphers} methods_are ciphers_are =
+    made_with sides.Server (ap (λ it. settings_by given.software.now given.epoch_limit given.tries it ciphers) methods_are ∙
+    ap (λ it. settings_by given.software.now given.epoch_limit given.tries (methods_by given.methods) it) ciphers_are)
+
+pub client_made : (given : DvClientSettings) {ciphers : Ciphers} {material passed : Material} {made : Client} →
+    ciphers ≡ ciphers_by given.ciphers → material ≡ passed →
+    IsMade sides.Client (settings_by given.software.now given.epoch_limit TRIES Both ciphers) material made.state →
+    IsMade sides.Client (client_settings given) passed made.state
+client_made given ciphers_are =
+    made_with sides.Client (ap (λ it. settings_by given.software.now given.epoch_limit TRIES Both it) ciphers_are)

@@ -1,0 +1,130 @@
+//! What the calls of C do on an end, whichever role it has.
+
+ghost use Rattle.std.specs.Prelude.{◌≡◌};
+ghost use Rattle.divrelca_c.specs.Calls.{AsksNow, Consumes, Declines, Feeds, Queues, Sends, Takes, Works, Writes};
+
+use crate::bytes::{DvBytes, DvMaterial};
+use crate::codes::{DONE, MEMORY, NOTHING_QUEUED, answer, code_form, code_of, code_taken};
+use ssh_embedded::{AskForm, Embedded, Waiting};
+use ssh_end::EndRole;
+use ssh_packet::{Filler, Sealing};
+use ssh_transport::Role;
+use std::alloc::Global;
+
+/// Takes bytes of the peer to the end of one line or one packet.
+pub fn take<R: EndRole>(end: &mut Embedded<R>, bytes: &[u8], used: &mut usize) -> i32
+    ensures { Takes R.Exchange.Sealing.crypto R.Exchange.Filler.gives end.old bytes.now used.new result end.new }
+{
+    *used = 0;
+    match end.advance(bytes) {
+        Ok(count) => {
+            *used = count;
+            DONE
+        }
+        Err(fault) => code_taken(fault),
+    }
+}
+
+/// The bytes that wait for the peer.
+pub fn output<R: EndRole>(end: &Embedded<R>) -> DvBytes<'_>
+    ensures { result.bytes.now ≡ end.now.out.items }
+{
+    DvBytes {
+        bytes: end.output(),
+    }
+}
+
+/// The first `count` of the bytes that wait were written.
+pub fn written<R: EndRole>(end: &mut Embedded<R>, count: usize)
+    ensures { Writes end.old count end.new }
+{
+    end.written(count);
+}
+
+/// Keeps a fresh pair for the next exchange of keys, or answers `false` where the end keeps one or can take no more.
+pub fn feed<R: EndRole>(end: &mut Embedded<R>, material: &DvMaterial) -> bool
+    ensures { Feeds end.old material.now.cookie material.now.secret result end.new }
+{
+    end.feed(material.cookie, material.secret)
+}
+
+/// Does what is asked for, now. The number of a channel that it opens goes to `channel`.
+#[tactic(auto, using(crate::proofs::Padding::pads_on_none))]
+pub fn ask<R: EndRole>(end: &mut Embedded<R>, ask: &AskForm<'_>, channel: &mut u32) -> i32
+    ensures { AsksNow R.Exchange.Sealing.crypto R.Exchange.Filler.gives (R.signing end.old.end.role) end.old ask.now result channel.old
+        channel.new end.new }
+{
+    match end.ask(ask) {
+        Ok(done) => answer(done, channel),
+        Err(fault) => code_form(fault),
+    }
+}
+
+/// Puts an ask after those that wait.
+pub fn queue<R: EndRole>(alloc: Global, end: &mut Embedded<R>, ask: &AskForm<'_>) -> i32
+    ensures { Queues end.old ask.now result end.new }
+{
+    if let Err(fault) = end.is_ask(ask) {
+        return code_form(fault);
+    }
+    let Ok(asked) = Waiting::of(alloc, ask) else {
+        return MEMORY;
+    };
+    match end.queue(asked) {
+        Ok(()) => DONE,
+        Err(_) => MEMORY,
+    }
+}
+
+/// Makes the oldest ask that waits. It stays where it comes too early.
+#[tactic(auto, using(crate::proofs::Padding::pads_on_none))]
+pub fn work<R: EndRole>(alloc: Global, end: &mut Embedded<R>, channel: &mut u32) -> i32
+    ensures { Works R.Exchange.Sealing.crypto R.Exchange.Filler.gives (R.signing end.old.end.role) end.old result channel.old channel.new
+        end.new }
+{
+    match end.work(alloc) {
+        Some(done) => answer(done, channel),
+        None => NOTHING_QUEUED,
+    }
+}
+
+/// Queues the answer that the peer is owed for what was done in the last call of `take`.
+pub fn decline<R: EndRole>(end: &mut Embedded<R>) -> i32
+    ensures { Declines end.old result end.new }
+{
+    match end.decline() {
+        Ok(()) => DONE,
+        Err(_) => MEMORY,
+    }
+}
+
+/// Sends as much data as one packet takes, extended data where `stream` is not 0.
+pub fn send<R: EndRole>(
+    end: &mut Embedded<R>,
+    channel: u32,
+    stream: u32,
+    body: &[u8],
+    taken: &mut usize,
+) -> i32
+    ensures { Sends R.Exchange.Sealing.crypto R.Exchange.Filler.gives end.old body.now taken.new result end.new }
+{
+    *taken = 0;
+    let kind = if stream == 0 { None } else { Some(stream) };
+    match end.send(channel, kind, body) {
+        Ok(count) => {
+            *taken = count;
+            DONE
+        }
+        Err(fault) => code_of(fault),
+    }
+}
+
+/// So many bytes that came on a channel are done with.
+pub fn consume<R: EndRole>(end: &mut Embedded<R>, channel: u32, bytes: usize) -> i32
+    ensures { Consumes channel end.old result end.new }
+{
+    match end.consume(channel, bytes) {
+        Ok(()) => DONE,
+        Err(_) => MEMORY,
+    }
+}
