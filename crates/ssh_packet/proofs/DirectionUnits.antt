@@ -15,11 +15,10 @@ use Rattle.ssh_packet.specs.Refusals.{packet_refusal}
 use Rattle.ssh_packet.specs.Sizes.{size_facts}
 use Rattle.ssh_packet.specs.declared.refusal.PacketRefusal.{PacketRefusal}
 use Rattle.ssh_packet.specs.declared.refusal.PacketRefusal.TheVariants.{BadLength, BadPadding, BadTag}
-use Rattle.ssh_packet.specs.declared.reader.ReadStep.TheVariants as read
 use Rattle.ssh_model.specs.declared.refusal.Refusal.{Refusal}
 use Rattle.ssh_model.specs.declared.refusal.Refusal.TheVariants.{NumberSpent}
-use Rattle.ssh_packet.specs.declared.packets.step.PacketStep.{PacketStep}
-use Rattle.ssh_packet.specs.declared.packets.step.PacketStep.TheVariants.{Payload, More, Refused}
+use Rattle.ssh_packet.specs.declared.step.PacketStep.{PacketStep}
+use Rattle.ssh_packet.specs.declared.step.PacketStep.TheVariants.{Payload, More, Refused}
 use Rattle.ssh_packet.specs.Directions.{Direction, Receives, Receiver, IsReceiver, counted, direction_of, newkeys, receiver_of}
 
 -- no payload is shown
@@ -77,10 +76,10 @@ module _ {K : Type 0} {c : Crypto K} {d : Direction K} {old : Reading} {ended : 
   used_bytes used bytes b = joined_bytes old.rest (take used bytes) l.kept.are_bytes (first_bytes used bytes b)
 
   -- what was made of the bytes, for the value of the receiver
-  made : (bytes : List ℕ) (step : PacketStep) (new : Receiver K) → Receives c (old.rest ++ bytes) (receiver_of d old None) step new → Receives c (o.begun ++ bytes) o step new
+  made : (bytes : List ℕ) (step : PacketStep Refusal) (new : Receiver K) → Receives c (old.rest ++ bytes) (receiver_of d old None) step new → Receives c (o.begun ++ bytes) o step new
   made bytes step new f = subst (λ (t : Receiver K). Receives c (t.begun ++ bytes) t step new) same f
 
-  goes_on : (bytes : List ℕ) (step : PacketStep) (after : Direction K) (new : Reading) → Receives c (old.rest ++ bytes) (receiver_of d old None) step (receiver_of after new None) →
+  goes_on : (bytes : List ℕ) (step : PacketStep Refusal) (after : Direction K) (new : Reading) → Receives c (old.rest ++ bytes) (receiver_of d old None) step (receiver_of after new None) →
       Receives c (o.begun ++ bytes) o step (receiver_of after new ended)
   goes_on bytes step after new f =
       subst (λ (e : Option Refusal). Receives c (o.begun ++ bytes) o step (receiver_of after new e)) (sym not_ended) (made bytes step (receiver_of after new None) f)
@@ -88,22 +87,22 @@ module _ {K : Type 0} {c : Crypto K} {d : Direction K} {old : Reading} {ended : 
   -- ---- while numbers are left
 
   module _ (left : o.direction.count < 2 ^ 32) (used : ℕ) (bytes : List ℕ) (are : AreBytes bytes) (new : Reading) where
-    pub found_payload : Finds c d.key d.number (old.rest ++ take used bytes) read.Packet new → Receives c (o.begun ++ take used bytes) o Payload (receiver_of (counted d) new ended)
+    pub found_payload : Finds c d.key d.number (old.rest ++ take used bytes) Payload new → Receives c (o.begun ++ take used bytes) o Payload (receiver_of (counted d) new ended)
     found_payload f =
         goes_on (take used bytes) Payload (counted d) new
         (opens new.payload (has_number left) (used_bytes used bytes are) f.0, ap (λ (r : Reading). receiver_of (counted d) r None) f.1)
 
-    pub found_more : Finds c d.key d.number (old.rest ++ take used bytes) read.More new → Receives c (o.begun ++ take used bytes) o More (receiver_of d new ended)
+    pub found_more : Finds c d.key d.number (old.rest ++ take used bytes) More new → Receives c (o.begun ++ take used bytes) o More (receiver_of d new ended)
     found_more f =
         goes_on (take used bytes) More d new
         (record { begun = f.0; unspent = λ _. (has_number left).0 }, ap (λ (r : Reading). receiver_of d r None) f.1)
 
-    refused_unit : (refusal : PacketRefusal) → Finds c d.key d.number (old.rest ++ take used bytes) (read.Refused refusal) new → PacketUnit c d.key d.number d.count (old.rest ++ take used bytes) (RefusedPacket (packet_refusal refusal))
+    refused_unit : (refusal : PacketRefusal) → Finds c d.key d.number (old.rest ++ take used bytes) (Refused refusal) new → PacketUnit c d.key d.number d.count (old.rest ++ take used bytes) (RefusedPacket (packet_refusal refusal))
     refused_unit BadLength f = bad_length f.0
     refused_unit BadPadding f = bad_padding (has_number left) (used_bytes used bytes are) f.0
     refused_unit BadTag f = bad_tag (has_number left) (used_bytes used bytes are) f.0
 
-    pub found_refused : (refusal : PacketRefusal) (why : Refusal) → why ≡ packet_refusal refusal → Finds c d.key d.number (old.rest ++ take used bytes) (read.Refused refusal) new →
+    pub found_refused : (refusal : PacketRefusal) (why : Refusal) → why ≡ packet_refusal refusal → Finds c d.key d.number (old.rest ++ take used bytes) (Refused refusal) new →
         Receives c (o.begun ++ take used bytes) o (Refused why) (receiver_of d new (Some why))
     found_refused refusal why is f =
         made (take used bytes) (Refused why) (receiver_of d new (Some why)) (
@@ -111,7 +110,7 @@ module _ {K : Type 0} {c : Crypto K} {d : Direction K} {old : Reading} {ended : 
           ap (λ (r : Reading). receiver_of d r (Some why)) f.1,
         )
 
-    pub kept_more : Finds c d.key d.number (old.rest ++ take used bytes) read.More new → IsReceiver c d new ended
+    pub kept_more : Finds c d.key d.number (old.rest ++ take used bytes) More new → IsReceiver c d new ended
     kept_more f =
         let rest : old.rest ++ take used bytes ≡ new.rest = sym (ap (λ (r : Reading). r.rest) f.1) in
         record {
@@ -129,7 +128,7 @@ module _ {K : Type 0} {c : Crypto K} {d : Direction K} {old : Reading} {ended : 
 no_whole : (blocks : Blocks) (tag : ℕ) (bytes : List ℕ) → IsWhole blocks tag bytes → length bytes ≤ 4 → ⊥
 no_whole blocks tag bytes w short = let facts = size_facts blocks tag (4 + w.has.count) w.has.size in omega (arith, w.has.whole, facts.from)
 
-field_unit : {K : Type 0} (c : Crypto K) (d : Direction K) (unit : List ℕ) (refusal : PacketRefusal) (new : Reading) → length unit ≤ 4 → Finds c d.key 0 unit (read.Refused refusal) new
+field_unit : {K : Type 0} (c : Crypto K) (d : Direction K) (unit : List ℕ) (refusal : PacketRefusal) (new : Reading) → length unit ≤ 4 → Finds c d.key 0 unit (Refused refusal) new
     → PacketUnit c d.key d.number d.count unit (RefusedPacket (packet_refusal refusal))
 field_unit c d unit BadLength new short f = bad_length f.0
 field_unit c d unit BadPadding new short f = absurd (no_whole (blocks_under c d.key) (tag_under c d.key) unit f.0.whole short)
@@ -167,14 +166,14 @@ module _ {K : Type 0} {c : Crypto K} {d : Direction K} {old : Reading} {ended : 
   field_all : length (old.rest ++ take used field) ≤ 4
   field_all = omega (arith, field_from, field_to, length-append old.rest (take used field), length-take used field)
 
-  pub field_more : Finds c d.key 0 (old.rest ++ take used field) read.More new → length new.rest < 4 → Receives c (o.begun ++ take used bytes) o More (receiver_of d new ended)
+  pub field_more : Finds c d.key 0 (old.rest ++ take used field) More new → length new.rest < 4 → Receives c (o.begun ++ take used bytes) o More (receiver_of d new ended)
   field_more found short =
       let rest : new.rest ≡ old.rest ++ take used field = ap (λ (r : Reading). r.rest) found.1 in
       subst (λ (x : List ℕ). Receives c (o.begun ++ x) o More (receiver_of d new ended)) same_bytes
       (goes_on f.live (take used field) More d new
       (record { begun = found.0; unspent = λ long. absurd (omega (arith, ap length rest, short, long)) }, ap (λ (r : Reading). receiver_of d r None) found.1))
 
-  pub field_kept : Finds c d.key 0 (old.rest ++ take used field) read.More new → length new.rest < 4 → IsReceiver c d new ended
+  pub field_kept : Finds c d.key 0 (old.rest ++ take used field) More new → length new.rest < 4 → IsReceiver c d new ended
   field_kept found short =
       let rest : old.rest ++ take used field ≡ new.rest = sym (ap (λ (r : Reading). r.rest) found.1) in
       let all : AreBytes (old.rest ++ take used field) = subst (λ (x : List ℕ). AreBytes (old.rest ++ x)) (sym same_bytes) (used_bytes f.live used bytes f.are_bytes) in
@@ -188,7 +187,7 @@ module _ {K : Type 0} {c : Crypto K} {d : Direction K} {old : Reading} {ended : 
         between = λ b more e. none_shown new b more (ap (λ (r : Reading). r.payload) found.1) e;
       }
 
-  pub field_refused : (refusal : PacketRefusal) (why : Refusal) → why ≡ packet_refusal refusal → Finds c d.key 0 (old.rest ++ take used field) (read.Refused refusal) new →
+  pub field_refused : (refusal : PacketRefusal) (why : Refusal) → why ≡ packet_refusal refusal → Finds c d.key 0 (old.rest ++ take used field) (Refused refusal) new →
       Receives c (o.begun ++ take used bytes) o (Refused why) (receiver_of d new (Some why))
   field_refused refusal why is found =
       subst (λ (x : List ℕ). Receives c (o.begun ++ x) o (Refused why) (receiver_of d new (Some why))) same_bytes
@@ -197,7 +196,7 @@ module _ {K : Type 0} {c : Crypto K} {d : Direction K} {old : Reading} {ended : 
         ap (λ (r : Reading). receiver_of d r (Some why)) found.1,
       ))
 
-  pub field_spent : Finds c d.key 0 (old.rest ++ take used field) read.More new → 4 ≤ length new.rest → Receives c (o.begun ++ take used bytes) o (Refused NumberSpent) (receiver_of d new (Some NumberSpent))
+  pub field_spent : Finds c d.key 0 (old.rest ++ take used field) More new → 4 ≤ length new.rest → Receives c (o.begun ++ take used bytes) o (Refused NumberSpent) (receiver_of d new (Some NumberSpent))
   field_spent found long =
       let rest : new.rest ≡ old.rest ++ take used field = ap (λ (r : Reading). r.rest) found.1 in
       let four : length (old.rest ++ take used field) ≡ 4 = omega (arith, ap length rest, field_all) in
@@ -205,7 +204,7 @@ module _ {K : Type 0} {c : Crypto K} {d : Direction K} {old : Reading} {ended : 
       (made f.live (take used field) (Refused NumberSpent) (receiver_of d new (Some NumberSpent))
       (spent_unit c d (old.rest ++ take used field) all_taken found.0 four, ap (λ (r : Reading). receiver_of d r (Some NumberSpent)) found.1))
 
-  pub kept_spent : (why : Refusal) → Finds c d.key 0 (old.rest ++ take used field) read.More new → IsReceiver c d new (Some why)
+  pub kept_spent : (why : Refusal) → Finds c d.key 0 (old.rest ++ take used field) More new → IsReceiver c d new (Some why)
   kept_spent why found =
       let rest : old.rest ++ take used field ≡ new.rest = sym (ap (λ (r : Reading). r.rest) found.1) in
       let all : AreBytes (old.rest ++ take used field) = subst (λ (x : List ℕ). AreBytes (old.rest ++ x)) (sym same_bytes) (used_bytes f.live used bytes f.are_bytes) in

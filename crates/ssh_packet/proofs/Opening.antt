@@ -10,7 +10,7 @@ use Rattle.ssh_model.specs.Protocol.Wire.Packet.{Blocks, IsBody, IsPacket, is_si
 use Rattle.ssh_model.specs.Protocol.Wire.Sealing.{Crypto, IsSealing, IsWhole, is_wire_size, blocks_under, tag_under, opened_under}
 use Rattle.ssh_packet.specs.Reading.{Finds, HasPadding, Reading, empty, inner}
 use Rattle.ssh_packet.specs.declared.refusal.PacketRefusal.TheVariants.{BadPadding}
-use Rattle.ssh_packet.specs.declared.reader.ReadStep.TheVariants.{Packet, Refused}
+use Rattle.ssh_packet.specs.declared.step.PacketStep.TheVariants.{Payload, Refused}
 use Rattle.ssh_packet.specs.Sizes.{size_facts}
 
 -- a whole packet has the size of one
@@ -112,7 +112,7 @@ packet_is {K} c key number tag bytes left j =
 
 pub judged_packet : {K : Type 0} (c : Crypto K) (key : Option K) (number tag : ℕ) (bytes left : List ℕ) (new : Reading) → IsJudged c key number tag bytes left
     → get_or (take (length left - tag) left) 4 0 < 256 → HasPadding (take (length left - tag) left) → new ≡ record empty { payload = inner (take (length left - tag) left) }
-    → Finds c key number bytes Packet new
+    → Finds c key number bytes Payload new
 judged_packet {K} c key number tag bytes left new j byte has after =
     let e = packet_is c key number tag bytes left j in
     let w = whole_is c key number tag bytes left j in

@@ -9,8 +9,8 @@ use Rattle.ssh_model.specs.Protocol.Wire.Sealing.{Crypto, IsBegun, blocks_under,
 use Rattle.ssh_model.specs.Protocol.Wire.Unit.{IsPacketBegun, PacketUnit}
 use Rattle.ssh_packet.specs.Reading.{Reading}
 use Rattle.ssh_model.specs.declared.refusal.Refusal.{Refusal}
-use Rattle.ssh_packet.specs.declared.packets.step.PacketStep.{PacketStep}
-use Rattle.ssh_packet.specs.declared.packets.step.PacketStep.TheVariants.{Payload, More, Refused}
+use Rattle.ssh_packet.specs.declared.step.PacketStep.{PacketStep}
+use Rattle.ssh_packet.specs.declared.step.PacketStep.TheVariants.{Payload, More, Refused}
 
 -- a direction by its fields
 abbrev pub direction_of : {K : Type 0} → Option K → ℕ → ℕ → ℕ → Direction K
@@ -67,7 +67,7 @@ pub record IsReceiver {K : Type 0} (c : Crypto K) (direction : Direction K) (rea
   pub between : (byte : ℕ) (more : List ℕ) → reading.payload ≡ byte ∷ more → reading.rest ≡ []
 
 -- What a receiver that has not refused made of bytes when it had used them all.
-abbrev pub Receives : {K : Type 0} → Crypto K → List ℕ → Receiver K → PacketStep → Receiver K → Type 0
+abbrev pub Receives : {K : Type 0} → Crypto K → List ℕ → Receiver K → PacketStep Refusal → Receiver K → Type 0
 Receives c bytes old Payload new =
     PacketUnit c old.direction.key old.direction.number old.direction.count bytes (Opens new.payload) × (new ≡ record old { direction = counted old.direction; begun = []; payload = new.payload })
 Receives c bytes old More new = IsPacketBegun c old.direction.key old.direction.count bytes × (new ≡ record old { begun = bytes; payload = [] })

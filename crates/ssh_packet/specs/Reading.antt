@@ -6,8 +6,8 @@ use Rattle.ssh_packet.specs.declared.refusal.PacketRefusal.{PacketRefusal}
 use Rattle.ssh_packet.specs.declared.refusal.PacketRefusal.TheVariants.{BadLength, BadPadding, BadTag}
 use Rattle.ssh_packet.specs.declared.reader.Received.{Received}
 use Rattle.ssh_packet.specs.declared.reader.Received.TheVariants as received
-use Rattle.ssh_packet.specs.declared.reader.ReadStep.{ReadStep}
-use Rattle.ssh_packet.specs.declared.reader.ReadStep.TheVariants.{Packet, More, Refused}
+use Rattle.ssh_packet.specs.declared.step.PacketStep.{PacketStep}
+use Rattle.ssh_packet.specs.declared.step.PacketStep.TheVariants.{Payload, More, Refused}
 
 -- the bytes of the packet begun, the payload that is shown, and the refusal that stays
 pub record Reading : Type 0 where
@@ -26,8 +26,8 @@ IsRefused c key number BadPadding bytes = IsBadPadding c key number bytes
 IsRefused c key number BadTag bytes = IsBadTag c key number bytes
 
 -- What a reader that held the beginning of these bytes found when it had used them all.
-abbrev pub Finds : {K : Type 0} → Crypto K → Option K → ℕ → List ℕ → ReadStep → Reading → Type 0
-Finds c key number bytes Packet new = IsWire c key number new.payload bytes × (new ≡ record empty { payload = new.payload })
+abbrev pub Finds : {K : Type 0} → Crypto K → Option K → ℕ → List ℕ → PacketStep PacketRefusal → Reading → Type 0
+Finds c key number bytes Payload new = IsWire c key number new.payload bytes × (new ≡ record empty { payload = new.payload })
 Finds c key number bytes More new = IsBegun (blocks_under c key) (tag_under c key) bytes × (new ≡ record empty { rest = bytes })
 Finds c key number bytes (Refused refusal) new = IsRefused c key number refusal bytes × (new ≡ record empty { refused = Some refusal })
 

@@ -40,7 +40,7 @@
 //!
 //! let mut reader = PacketReader::new(alloc)?;
 //! let (used, step) = reader.take::<MacOnly>(Some(&key), 0, &out);
-//! // 48, ReadStep::Packet
+//! // 48, PacketStep::Payload
 //! let payload = reader.payload();    // 15
 //! ```
 #![tactic(auto)]
@@ -56,6 +56,7 @@ mod packets;
 mod reader;
 mod refusal;
 mod sealing;
+mod step;
 mod tag;
 mod version;
 mod writer;
@@ -65,9 +66,10 @@ pub use laws::every_sealed_is_a_wire;
 pub use limits::{LARGEST_PACKET, LENGTH_FIELD, LONGEST_PAYLOAD};
 pub use line_reader::{LineReader, LineStep};
 pub use mac_only::MacOnly;
-pub use packets::{PacketReceiver, PacketSender, PacketStep, directions_sum_up};
-pub use reader::{PacketReader, ReadStep};
+pub use packets::{PacketReceiver, PacketSender, directions_sum_up};
+pub use reader::PacketReader;
 pub use refusal::{LineRefusal, PacketRefusal};
 pub use sealing::{Lengths, Sealing};
+pub use step::PacketStep;
 pub use tag::is_same_tag;
 pub use writer::{Filler, write_packet};

@@ -6,12 +6,10 @@ ghost use Rattle.std.specs.Prelude.{◌≡◌, ◌<◌, ◌^◌, if◌then◌els
 mod laws;
 mod receiver;
 mod sender;
-mod step;
 
 pub use laws::directions_sum_up;
 pub use receiver::PacketReceiver;
 pub use sender::PacketSender;
-pub use step::PacketStep;
 
 // The number with which an epoch begins: zero where keys are exchanged strictly, and else the next one.
 fn first_number(strict: bool, next: u32) -> u32

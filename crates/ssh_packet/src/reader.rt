@@ -13,21 +13,11 @@ use crate::keys::{blocks_of, tag_of};
 use crate::limits::{LARGEST_PACKET, LENGTH_FIELD};
 use crate::refusal::PacketRefusal;
 use crate::sealing::Sealing;
+use crate::step::PacketStep;
 use ssh_types::Reader;
 use ssh_types::laws::{are_bytes, one_form};
 use std::alloc::{AllocError, Global};
 use std::marker::Model;
-
-/// What one call of `PacketReader::take` found in the stream.
-#[derive(Clone, Copy, Debug, PartialEq, Eq)]
-pub enum ReadStep {
-    /// A whole packet; its payload is shown.
-    Packet,
-    /// No whole packet yet. All bytes of the call were used.
-    More,
-    /// The bytes are no packet. The reader refuses the same from now on.
-    Refused(PacketRefusal),
-}
 
 /// Reads one direction's packets (RFC 4253 section 6) from a stream that comes in any pieces. It keeps the bytes of
 /// the packet begun, at most 35,000 of them, in a buffer that `new` reserves.
@@ -129,37 +119,42 @@ impl PacketReader {
         key: Option<&S::Key>,
         number: u32,
         bytes: &[u8],
-    ) -> (usize, ReadStep)
+    ) -> (usize, PacketStep<PacketRefusal>)
         requires begun { IsBegun (blocks_under S.crypto (option_copied key)) (tag_under S.crypto (option_copied key)) self.old.rest }
         ensures used { result.0 ≤ length bytes.now }
         ensures progress { self.old.refused ≡ None → 0 < length bytes.now → 0 < result.0 }
-        ensures more { result.1 ≡ ReadStep.More → result.0 ≡ length bytes.now }
+        ensures more { result.1 ≡ PacketStep.More → result.0 ≡ length bytes.now }
         ensures found { self.old.refused ≡ None → Finds S.crypto (option_copied key.entry) number
             (self.old.rest ++ take result.0 bytes.now) result.1 self.new }
-        ensures refused { IfSome self.old.refused (λ refusal. (result ≡ (0, ReadStep.Refused refusal)) × (self.new ≡ self.old)) }
+        ensures refused { IfSome self.old.refused (λ refusal. (result ≡ (0, PacketStep.Refused refusal)) × (self.new ≡ self.old)) }
         ensures begun { IsBegun (blocks_under S.crypto (option_copied key.entry)) (tag_under S.crypto (option_copied key.entry))
             self.new.rest }
     {
         if let Some(refusal) = self.refused {
-            return (0, ReadStep::Refused(refusal));
+            return (0, PacketStep::Refused(refusal));
         }
         let blocks = blocks_of::<S>(key);
         let tag = tag_of::<S>(key);
         let (used, received) = self.receive(blocks, tag, bytes);
         match received {
-            Received::More => (used, ReadStep::More),
+            Received::More => (used, PacketStep::More),
             Received::BadLength => (used, self.refuse(PacketRefusal::BadLength)),
             Received::Whole => (used, self.judge::<S>(key, number, tag)),
         }
     }
 
     // Judges the whole packet that is there.
-    fn judge<S: Sealing>(&mut self, key: Option<&S::Key>, number: u32, tag: usize) -> ReadStep
+    fn judge<S: Sealing>(
+        &mut self,
+        key: Option<&S::Key>,
+        number: u32,
+        tag: usize,
+    ) -> PacketStep<PacketRefusal>
         requires tag { tag ≡ tag_under S.crypto (option_copied key) }
         requires whole { IsWhole (blocks_under S.crypto (option_copied key)) tag self.old.rest }
         requires clear { self.old ≡ record empty { rest = self.old.rest } }
         ensures found { Finds S.crypto (option_copied key.entry) number self.old.rest result self.new }
-        ensures not_more { result ≢ ReadStep.More }
+        ensures not_more { result ≢ PacketStep.More }
     {
         are_bytes(&self.buffer[..self.filled]);
         if !self.open::<S>(key, number) {
@@ -168,7 +163,7 @@ impl PacketReader {
         if !self.show(tag) {
             return self.refuse(PacketRefusal::BadPadding);
         }
-        ReadStep::Packet
+        PacketStep::Payload
     }
 
     // Opens the whole packet where it lies.
@@ -206,14 +201,14 @@ impl PacketReader {
     }
 
     // Refuses from now on.
-    fn refuse(&mut self, refusal: PacketRefusal) -> ReadStep
-        ensures step { result ≡ ReadStep.Refused refusal }
+    fn refuse(&mut self, refusal: PacketRefusal) -> PacketStep<PacketRefusal>
+        ensures step { result ≡ PacketStep.Refused refusal }
         ensures after { self.new ≡ record empty { refused = Some refusal } }
     {
         self.filled = 0;
         self.shown = 0;
         self.refused = Some(refusal);
-        ReadStep::Refused(refusal)
+        PacketStep::Refused(refusal)
     }
 
     // Adds bytes to the end of the length field and, where a packet has that length, to the packet's end.

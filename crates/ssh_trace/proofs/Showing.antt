@@ -7,31 +7,31 @@ use Rattle.ssh_model.specs.Protocol.Wire.MacOnly.{mac_only}
 use Rattle.ssh_model.specs.Protocol.Wire.Packet.{with_length}
 use Rattle.ssh_model.specs.Protocol.Wire.Sealing.{IsBegun}
 use Rattle.ssh_packet.specs.Reading.{Finds, Reading, empty}
-use Rattle.ssh_packet.specs.declared.reader.ReadStep.{ReadStep}
-use Rattle.ssh_packet.specs.declared.reader.ReadStep.TheVariants as read
 use Rattle.ssh_packet.specs.declared.refusal.PacketRefusal.{PacketRefusal}
 use Rattle.ssh_packet.specs.declared.refusal.PacketRefusal.TheVariants.{BadLength, BadPadding, BadTag}
+use Rattle.ssh_packet.specs.declared.step.PacketStep.{PacketStep}
+use Rattle.ssh_packet.specs.declared.step.PacketStep.TheVariants as step
 use Rattle.ssh_trace.specs.Shown.{Front, HasBehind, Shows, ShowsBytes}
 use Rattle.ssh_trace.specs.declared.shown.Shown.{Shown}
 use Rattle.ssh_trace.specs.declared.shown.Shown.TheVariants as shown
 
 -- a fresh reader has begun nothing
-pub found_first : (reader new : Reading) (step : ReadStep) (used : ℕ) (bytes : List ℕ) → reader ≡ empty → (reader.refused ≡ None → Finds mac_only None 0 (reader.rest ++ take used bytes) step new) → Finds mac_only None 0 (take used bytes) step new
-found_first reader new step used bytes e f =
-    subst (λ (x : List ℕ). Finds mac_only None 0 (x ++ take used bytes) step new) (ap (λ (r : Reading). r.rest) e) (f (ap (λ (r : Reading). r.refused) e))
+pub found_first : (reader new : Reading) (found : PacketStep PacketRefusal) (used : ℕ) (bytes : List ℕ) → reader ≡ empty → (reader.refused ≡ None → Finds mac_only None 0 (reader.rest ++ take used bytes) found new) → Finds mac_only None 0 (take used bytes) found new
+found_first reader new found used bytes e f =
+    subst (λ (x : List ℕ). Finds mac_only None 0 (x ++ take used bytes) found new) (ap (λ (r : Reading). r.rest) e) (f (ap (λ (r : Reading). r.refused) e))
 
-pub begun_all : (used : ℕ) (bytes : List ℕ) (new : Reading) → Finds mac_only None 0 (take used bytes) read.More new → used ≡ length bytes → IsBegun (with_length 8) 0 bytes
+pub begun_all : (used : ℕ) (bytes : List ℕ) (new : Reading) → Finds mac_only None 0 (take used bytes) step.More new → used ≡ length bytes → IsBegun (with_length 8) 0 bytes
 begun_all used bytes new f e = subst (λ (x : List ℕ). IsBegun (with_length 8) 0 x) (ap (λ (n : ℕ). take n bytes) e ∙ take_all (length bytes) bytes (omega arith)) f.0
 
 front : (Is : List ℕ → Type 0) (used : ℕ) (bytes : List ℕ) → Is (take used bytes) → Front Is bytes
 front Is used bytes is = record { after = drop used bytes; reads = record { bytes = take used bytes; meets = is; parts = sym (take-append-drop used bytes) } }
 
-pub refused_front : (used : ℕ) (bytes : List ℕ) (refusal : PacketRefusal) (new : Reading) → Finds mac_only None 0 (take used bytes) (read.Refused refusal) new → ShowsBytes bytes (shown.Refused refusal)
+pub refused_front : (used : ℕ) (bytes : List ℕ) (refusal : PacketRefusal) (new : Reading) → Finds mac_only None 0 (take used bytes) (step.Refused refusal) new → ShowsBytes bytes (shown.Refused refusal)
 refused_front used bytes BadLength new f = front _ used bytes f.0
 refused_front used bytes BadPadding new f = front _ used bytes f.0
 refused_front used bytes BadTag new f = let e : true ≡ false = f.0.bad in cc
 
-pub some_behind : (used : ℕ) (bytes : List ℕ) (new : Reading) → Finds mac_only None 0 (take used bytes) read.Packet new → used < length bytes → HasBehind (length bytes - used) bytes
+pub some_behind : (used : ℕ) (bytes : List ℕ) (new : Reading) → Finds mac_only None 0 (take used bytes) step.Payload new → used < length bytes → HasBehind (length bytes - used) bytes
 some_behind used bytes new f less =
     record {
       payload = new.payload;

@@ -15,7 +15,7 @@ use Rattle.ssh_model.specs.OneEpoch.History.{Item, Item.Asked, Item.AskRefused, 
 use Rattle.ssh_model.specs.OneEpoch.History as history
 use Rattle.ssh_model.specs.OneEpoch.Runs.{Takes, Gets, Gets.dead, Gets.waits, Gets.takes, Asks}
 use Rattle.ssh_model.specs.OneEpoch.Runs as epoch
-use Rattle.ssh_packet.specs.declared.packets.step.PacketStep.TheVariants as step
+use Rattle.ssh_packet.specs.declared.step.PacketStep.TheVariants as step
 use Rattle.ssh_trace.specs.History.{logged}
 use Rattle.ssh_trace.specs.EpochEnd.{End, EndFinds, EndSums, RefusesAsk, Sends, SpendsNumbers, left_of}
 use Rattle.ssh_trace.specs.Turns.{AskedWith, DeliveredWith, Notes, Turn, TurnWith}

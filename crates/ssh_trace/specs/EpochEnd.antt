@@ -7,9 +7,10 @@ use Rattle.ssh_model.specs.Protocol.Wire.Outcome.{Outcome.Opens, Outcome.Refused
 use Rattle.ssh_model.specs.Laws.Reading.{Writes}
 use Rattle.ssh_model.specs.Protocol.Wire.Sealing.{IsSealed}
 use Rattle.ssh_model.specs.Protocol.Wire.Unit.{IsPacketBegun, PacketUnit}
+use Rattle.ssh_model.specs.declared.refusal.Refusal.{Refusal}
 use Rattle.ssh_packet.specs.Directions.{Direction, Receiver}
-use Rattle.ssh_packet.specs.declared.packets.step.PacketStep.{PacketStep}
-use Rattle.ssh_packet.specs.declared.packets.step.PacketStep.TheVariants.{Payload, More, Refused}
+use Rattle.ssh_packet.specs.declared.step.PacketStep.{PacketStep}
+use Rattle.ssh_packet.specs.declared.step.PacketStep.TheVariants.{Payload, More, Refused}
 use Rattle.ssh_trace.specs.declared.epoch_end.AskStep.{AskStep}
 use Rattle.ssh_trace.specs.declared.epoch_end.AskStep.TheVariants as ask
 
@@ -65,7 +66,7 @@ pub record HasDied (old new : End) : Type 0 where
   pub taken : new.taken ≡ old.taken
 
 -- What an end made of bytes when it had used them all.
-abbrev pub EndFinds : List ℕ → End → PacketStep → End → Type 0
+abbrev pub EndFinds : List ℕ → End → PacketStep Refusal → End → Type 0
 EndFinds bytes old More new = IsPacketBegun mac_only (Some old.taking_key) old.taken bytes × (new ≡ record old { begun = bytes; payload = [] })
 EndFinds bytes old Payload new =
     PacketUnit mac_only (Some old.taking_key) old.taken old.taken bytes (Opens new.payload) × (new ≡ record old { begun = []; payload = new.payload; taken = old.taken + 1 })

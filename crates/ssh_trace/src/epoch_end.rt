@@ -5,6 +5,7 @@ ghost use Rattle.ssh_trace.specs.EpochEnd.{EndAsks, EndFinds, SameKeys, new_end}
 
 use ssh_packet::{HmacKey, LONGEST_PAYLOAD, MacOnly, PacketReceiver, PacketSender, PacketStep};
 use ssh_toys::ToyFiller;
+use ssh_types::Refusal;
 use std::alloc::{AllocError, Global};
 use std::marker::Model;
 
@@ -105,7 +106,7 @@ impl EpochEnd {
 
     /// Takes bytes to the end of one packet.
     #[tactic(auto, using(crate::proofs::Counts::unit_of))]
-    pub fn take(&mut self, bytes: &[u8]) -> (usize, PacketStep)
+    pub fn take(&mut self, bytes: &[u8]) -> (usize, PacketStep<Refusal>)
         requires alive { self.old.dead ≡ false }
         ensures used { result.0 ≤ length bytes.now }
         ensures progress { 0 < length bytes.now → 0 < result.0 }

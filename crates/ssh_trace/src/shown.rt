@@ -6,7 +6,7 @@ ghost use Rattle.ssh_trace.specs.Shown.{Shows, ShowsBytes};
 
 use crate::history::Memory;
 use hex::FromHexError;
-use ssh_packet::{MacOnly, PacketReader, PacketRefusal, ReadStep};
+use ssh_packet::{MacOnly, PacketReader, PacketRefusal, PacketStep};
 use std::alloc::Global;
 
 /// What a text shows of one clear packet (RFC 4253 section 6).
@@ -49,9 +49,9 @@ fn packet_in(alloc: Global, bytes: &[u8]) -> Result<Shown, Memory>
     let mut reader = PacketReader::new(alloc)?;
     let (used, step) = reader.take::<MacOnly>(None, 0, bytes);
     match step {
-        ReadStep::More => Ok(Shown::Incomplete),
-        ReadStep::Refused(refusal) => Ok(Shown::Refused(refusal)),
-        ReadStep::Packet => {
+        PacketStep::More => Ok(Shown::Incomplete),
+        PacketStep::Refused(refusal) => Ok(Shown::Refused(refusal)),
+        PacketStep::Payload => {
             if used < bytes.len() {
                 return Ok(Shown::Trailing(bytes.len() - used));
             }

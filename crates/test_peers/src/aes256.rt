@@ -3,7 +3,7 @@
 
 use crate::checking::{same, same_at};
 use aes_gcm::{GcmKey, encrypted, long_schedule_of};
-use ssh_packet::{Lengths, PacketReader, PacketRefusal, ReadStep, Sealing, write_packet};
+use ssh_packet::{Lengths, PacketReader, PacketRefusal, PacketStep, Sealing, write_packet};
 use ssh_parts::{AesGcm, PacketKey};
 use ssh_toys::ToyFiller;
 use std::alloc::Global;
@@ -175,14 +175,17 @@ fn packets_of_another_program(rt: HostRuntime) -> Result<(), Fail> {
         same!(rt, out.as_slice(), sealed.wire);
         let mut reader = PacketReader::new(rt.alloc())?;
         let step = reader.take::<AesGcm>(Some(&key), sealed.number, sealed.wire);
-        same!(rt, step, (sealed.wire.len(), ReadStep::Packet));
+        same!(rt, step, (sealed.wire.len(), PacketStep::Payload));
         same!(rt, reader.payload(), sealed.payload);
         let mut other = PacketReader::new(rt.alloc())?;
         let step = other.take::<AesGcm>(Some(&key), sealed.number ^ 1, sealed.wire);
         same!(
             rt,
             step,
-            (sealed.wire.len(), ReadStep::Refused(PacketRefusal::BadTag))
+            (
+                sealed.wire.len(),
+                PacketStep::Refused(PacketRefusal::BadTag)
+            )
         );
     }
     Ok(())

@@ -1,7 +1,7 @@
 //! One sealing of two: each name leads to its own.
 
 use crate::checking::{same, same_at};
-use ssh_packet::{Lengths, MacOnly, PacketReader, ReadStep, Sealing, write_packet};
+use ssh_packet::{Lengths, MacOnly, PacketReader, PacketStep, Sealing, write_packet};
 use ssh_parts::{AesGcm, Either};
 use ssh_toys::ToyFiller;
 use std::test::*;
@@ -65,7 +65,7 @@ fn a_key_of_each(rt: HostRuntime) -> Result<(), Fail> {
     same!(rt, sealed.as_slice(), by_gcm.as_slice());
     let mut reader = PacketReader::new(alloc)?;
     let step = reader.take::<Both>(Some(&gcm), 7, &sealed);
-    same!(rt, step, (sealed.len(), ReadStep::Packet));
+    same!(rt, step, (sealed.len(), PacketStep::Payload));
     same!(rt, reader.payload(), b"\x15".as_slice());
     Ok(())
 }

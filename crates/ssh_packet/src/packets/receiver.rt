@@ -6,8 +6,7 @@ ghost use Rattle.ssh_packet.specs.Directions.{Receives, new_direction, new_recei
 ghost use Rattle.ssh_packet.specs.Directions.{sealed_direction};
 
 use crate::packets::first_number;
-use crate::packets::step::PacketStep;
-use crate::{LENGTH_FIELD, PacketReader, ReadStep, Sealing};
+use crate::{LENGTH_FIELD, PacketReader, PacketStep, Sealing};
 use ssh_types::Refusal;
 use ssh_types::bounds::NUMBERS_OF_EPOCH;
 use ssh_types::laws::are_bytes;
@@ -148,10 +147,10 @@ impl<S: Sealing> PacketReceiver<S> {
     /// Takes bytes to the end of one packet and no further, and answers how many and what they were. A payload is shown
     /// until the next call.
     ///
-    /// The length field is judged as soon as its four bytes are there. Where it is good and all 2^32 numbers of the epoch
-    /// are taken, the answer is `NumberSpent`. The tag and then the padding are judged once the whole packet is there. After
-    /// `Refused` the answer stays the same for good, and nothing is used. No call needs memory.
-    pub fn take(&mut self, bytes: &[u8]) -> (usize, PacketStep)
+    /// The length field is judged as soon as its four bytes are there: `BadLength`. Where it is good and all 2^32 numbers of the
+    /// epoch are taken, the answer is `NumberSpent`. The tag and then the padding are judged once the whole packet is there:
+    /// `BadTag` and `BadPadding`. After `Refused` the answer stays the same for good, and nothing is used. No call needs memory.
+    pub fn take(&mut self, bytes: &[u8]) -> (usize, PacketStep<Refusal>)
         ensures used { result.0 ≤ length bytes.now }
         ensures progress { self.old.ended ≡ None → 0 < length bytes.now → 0 < result.0 }
         ensures more { result.1 ≡ PacketStep.More → result.0 ≡ length bytes.now }
@@ -170,7 +169,7 @@ impl<S: Sealing> PacketReceiver<S> {
     }
 
     // Takes bytes while numbers are left.
-    fn take_packet(&mut self, bytes: &[u8]) -> (usize, PacketStep)
+    fn take_packet(&mut self, bytes: &[u8]) -> (usize, PacketStep<Refusal>)
         requires live { self.old.ended ≡ None }
         requires left { self.old.direction.count < numbers_of_epoch }
         ensures used { result.0 ≤ length bytes.now }
@@ -181,13 +180,13 @@ impl<S: Sealing> PacketReceiver<S> {
         are_bytes(bytes);
         let (used, step) = self.reader.take::<S>(self.key.as_ref(), self.number, bytes);
         match step {
-            ReadStep::Packet => {
+            PacketStep::Payload => {
                 self.number = self.number.wrapping_add(1);
                 self.count += 1;
                 (used, PacketStep::Payload)
             }
-            ReadStep::More => (used, PacketStep::More),
-            ReadStep::Refused(refusal) => {
+            PacketStep::More => (used, PacketStep::More),
+            PacketStep::Refused(refusal) => {
                 let refusal = Refusal::from(refusal);
                 self.ended = Some(refusal);
                 (used, PacketStep::Refused(refusal))
@@ -196,7 +195,7 @@ impl<S: Sealing> PacketReceiver<S> {
     }
 
     // Takes at most a length field, where all numbers are taken. It is judged under any number.
-    fn take_field(&mut self, bytes: &[u8]) -> (usize, PacketStep)
+    fn take_field(&mut self, bytes: &[u8]) -> (usize, PacketStep<Refusal>)
         requires live { self.old.ended ≡ None }
         requires spent { self.old.direction.count ≡ numbers_of_epoch }
         ensures used { result.0 ≤ length bytes.now }
@@ -208,15 +207,15 @@ impl<S: Sealing> PacketReceiver<S> {
         let field = length_field(self.reader.held(), bytes);
         let (used, step) = self.reader.take::<S>(self.key.as_ref(), 0, field);
         match step {
-            ReadStep::Packet => unreachable!(),
-            ReadStep::More => {
+            PacketStep::Payload => unreachable!(),
+            PacketStep::More => {
                 if self.reader.held() < LENGTH_FIELD {
                     return (used, PacketStep::More);
                 }
                 self.ended = Some(Refusal::NumberSpent);
                 (used, PacketStep::Refused(Refusal::NumberSpent))
             }
-            ReadStep::Refused(refusal) => {
+            PacketStep::Refused(refusal) => {
                 let refusal = Refusal::from(refusal);
                 self.ended = Some(refusal);
                 (used, PacketStep::Refused(refusal))

@@ -1,7 +1,7 @@
 //! Packets whose packet_length doesn't count in the blocks. The tags were made by another implementation of HMAC.
 
 use crate::checking::{same, same_at};
-use ssh_packet::{HmacKey, PacketReader, PacketRefusal, ReadStep, write_packet};
+use ssh_packet::{HmacKey, PacketReader, PacketRefusal, PacketStep, write_packet};
 use ssh_toys::{LengthInClear, ToyFiller};
 use std::test::Fail;
 
@@ -50,7 +50,7 @@ fn packets_are_sealed_and_opened(rt: HostRuntime) -> Result<(), Fail> {
         same!(
             rt,
             reader.take::<LengthInClear>(Some(&key), number, wire),
-            (wire.len(), ReadStep::Packet)
+            (wire.len(), PacketStep::Payload)
         );
         same!(rt, reader.payload(), payload);
     }
@@ -59,13 +59,13 @@ fn packets_are_sealed_and_opened(rt: HostRuntime) -> Result<(), Fail> {
 
 #[test]
 fn lengths_are_judged(rt: HostRuntime) -> Result<(), Fail> {
-    let bad_length = ReadStep::Refused(PacketRefusal::BadLength);
-    let table: &[(&[u8], ReadStep)] = &[
-        (b"\0\0\0\x08", ReadStep::More),
+    let bad_length = PacketStep::Refused(PacketRefusal::BadLength);
+    let table: &[(&[u8], PacketStep<PacketRefusal>)] = &[
+        (b"\0\0\0\x08", PacketStep::More),
         (b"\0\0\0\x0c", bad_length),
         (b"\0\0\0\x00", bad_length),
-        (b"\0\0\0\x10", ReadStep::More),
-        (b"\0\0\x88\x90", ReadStep::More),
+        (b"\0\0\0\x10", PacketStep::More),
+        (b"\0\0\x88\x90", PacketStep::More),
         (b"\0\0\x88\x98", bad_length),
     ];
     let key = HmacKey::new(&[1; 32]);

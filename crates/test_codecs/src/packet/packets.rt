@@ -2,7 +2,7 @@
 
 use crate::checking::{same, same_at};
 use crate::packet::stream::Stream;
-use ssh_packet::{HmacKey, MacOnly, PacketReader, PacketRefusal, ReadStep, write_packet};
+use ssh_packet::{HmacKey, MacOnly, PacketReader, PacketRefusal, PacketStep, write_packet};
 use ssh_toys::ToyFiller;
 use std::alloc::AllocError;
 use std::process::Abort;
@@ -51,7 +51,7 @@ fn packets_in_clear(rt: HostRuntime) -> Result<(), Fail> {
         same!(
             rt,
             reader.take::<MacOnly>(None, 0, wire),
-            (wire.len(), ReadStep::Packet)
+            (wire.len(), PacketStep::Payload)
         );
         same!(rt, reader.payload(), payload);
         same!(rt, reader.held(), 0);
@@ -62,26 +62,32 @@ fn packets_in_clear(rt: HostRuntime) -> Result<(), Fail> {
 // What a reader finds in bytes, how many of them it uses, and how many it then holds.
 #[test]
 fn length_and_padding_are_judged(rt: HostRuntime) -> Result<(), Fail> {
-    let bad_length = ReadStep::Refused(PacketRefusal::BadLength);
-    let bad_padding = ReadStep::Refused(PacketRefusal::BadPadding);
-    let table: &[(bool, &[u8], usize, ReadStep, usize)] = &[
-        (false, b"\0\0\0", 3, ReadStep::More, 3),
+    let bad_length = PacketStep::Refused(PacketRefusal::BadLength);
+    let bad_padding = PacketStep::Refused(PacketRefusal::BadPadding);
+    let table: &[(bool, &[u8], usize, PacketStep<PacketRefusal>, usize)] = &[
+        (false, b"\0\0\0", 3, PacketStep::More, 3),
         (false, b"\0\0\0\x0b", 4, bad_length, 0),
         (false, b"\0\0\0\x0b\x04", 4, bad_length, 0),
         (false, b"\0\0\0\x04", 4, bad_length, 0),
-        (false, b"\0\0\x88\xb4", 4, ReadStep::More, 4),
+        (false, b"\0\0\x88\xb4", 4, PacketStep::More, 4),
         (false, b"\0\0\x88\xbc", 4, bad_length, 0),
-        (true, b"\0\0\x88\x94", 4, ReadStep::More, 4),
+        (true, b"\0\0\x88\x94", 4, PacketStep::More, 4),
         (true, b"\0\0\x88\x9c", 4, bad_length, 0),
         (true, b"\xff\xff\xff\xfc", 4, bad_length, 0),
         (false, b"\0\0\0\x0c\x0b12345678901", 16, bad_padding, 0),
         (false, b"\0\0\0\x0c\x0312345678901", 16, bad_padding, 0),
-        (false, b"\0\0\0\x0c\x0412345678901", 16, ReadStep::Packet, 0),
+        (
+            false,
+            b"\0\0\0\x0c\x0412345678901",
+            16,
+            PacketStep::Payload,
+            0,
+        ),
         (
             false,
             b"\0\0\0\x0c\x0a12345678901\0\0\0\x0b",
             16,
-            ReadStep::Packet,
+            PacketStep::Payload,
             0,
         ),
     ];
@@ -135,7 +141,7 @@ fn is_largest(
     assert!(rt; wire.starts_with(front));
     let mut reader = PacketReader::new(rt.alloc())?;
     let step = reader.take::<MacOnly>(key, 9, wire);
-    same!(rt, step, (35_000, ReadStep::Packet));
+    same!(rt, step, (35_000, PacketStep::Payload));
     same!(rt, reader.payload(), payload);
     Ok(())
 }
@@ -191,7 +197,7 @@ fn recorded_packets(rt: HostRuntime) -> Result<(), Fail> {
         stream.extend_from_slice(b"\0\0\0\x0b")?;
         let mut reader = PacketReader::new(rt.alloc())?;
         let step = reader.take::<MacOnly>(Some(&key), number, &stream);
-        same!(rt, step, (recorded.wire.len(), ReadStep::Packet));
+        same!(rt, step, (recorded.wire.len(), PacketStep::Payload));
         same!(rt, reader.payload(), recorded.payload);
     }
     Ok(())
@@ -202,15 +208,15 @@ fn a_packet_byte_by_byte(rt: HostRuntime) -> Result<(), Fail> {
     let recorded = &RECORDED[1];
     let key = HmacKey::new(&recorded.key);
     let mut stream = Stream::new(rt.alloc())?;
-    let mut last = ReadStep::More;
+    let mut last = PacketStep::More;
     for byte in recorded.wire.chunks(1) {
-        same!(rt, last, ReadStep::More);
+        same!(rt, last, PacketStep::More);
         same!(rt, stream.payload(), b"".as_slice());
         let (used, step) = stream.take(&key, recorded.number, byte);
         same!(rt, used, 1);
         last = step;
     }
-    same!(rt, last, ReadStep::Packet);
+    same!(rt, last, PacketStep::Payload);
     same!(rt, stream.payload(), recorded.payload);
     Ok(())
 }
@@ -221,7 +227,7 @@ fn a_refused_reader_stays_refused(rt: HostRuntime) -> Result<(), Fail> {
     let recorded = &RECORDED[0];
     let key = HmacKey::new(&recorded.key);
     let mut stream = Stream::new(rt.alloc())?;
-    let refused = ReadStep::Refused(PacketRefusal::BadTag);
+    let refused = PacketStep::Refused(PacketRefusal::BadTag);
     let (used, step) = stream.take(&key, recorded.number + 1, recorded.wire);
     same!(rt, (used, step), (recorded.wire.len(), refused));
     for _ in 0..2 {

@@ -2,7 +2,7 @@
 
 ghost use Rattle.std.specs.Prelude.{◌≤◌, length};
 
-use ssh_packet::{HmacKey, MacOnly, PacketReader, ReadStep};
+use ssh_packet::{HmacKey, MacOnly, PacketReader, PacketRefusal, PacketStep};
 use std::alloc::{AllocError, Global};
 use std::marker::Model;
 
@@ -37,7 +37,12 @@ impl Stream {
     }
 
     /// Takes bytes to the end of one packet under this key and number, and answers how many.
-    pub fn take(&mut self, key: &HmacKey, number: u32, bytes: &[u8]) -> (usize, ReadStep)
+    pub fn take(
+        &mut self,
+        key: &HmacKey,
+        number: u32,
+        bytes: &[u8],
+    ) -> (usize, PacketStep<PacketRefusal>)
         ensures { result.0 ≤ length bytes.now }
     {
         self.reader.take::<MacOnly>(Some(key), number, bytes)

@@ -6,7 +6,7 @@ use ssh_channels::{Ask, Channels};
 use ssh_end::Ask as EndAsk;
 use ssh_kex::{KexLists, Letter, choose, derive, guess_wrong, markers};
 use ssh_message::{Extension, Message, decode};
-use ssh_packet::{HmacKey, LineReader, LineStep, MacOnly, PacketReader, ReadStep, write_packet};
+use ssh_packet::{HmacKey, LineReader, LineStep, MacOnly, PacketReader, PacketStep, write_packet};
 use ssh_toys::{CREDENTIALS, ToyEnd, ToyFiller, ToyJudge, ToyUserSigner, settings};
 use ssh_transport::{Config, ConfigError, Settings};
 use ssh_types::{MpInt, NameList, Reader, Side};
@@ -36,7 +36,7 @@ pub fn make_without<R: Print + AllocGlobal>(rt: &R) -> Result<Outcome, AllocErro
     let mut reader = PacketReader::new(alloc)?;
     let _ = println!(rt; "taking");
     let (_, step) = reader.take::<MacOnly>(Some(&key), 0, &sealed);
-    let is_packet = step == ReadStep::Packet && is_newkeys(reader.payload());
+    let is_packet = step == PacketStep::Payload && is_newkeys(reader.payload());
     let are_made = values_are_read() && settings_are_refused(alloc) && keys_are_made();
     let is_judged = line_is_taken() && user_is_judged(&mut server, &mut client);
     let are_refused = asks_are_refused(&mut channels, &mut end, &mut out);

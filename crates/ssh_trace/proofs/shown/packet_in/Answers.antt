@@ -14,4 +14,4 @@ returns-in-Refused c =
 pub returns-then-used-bytes : goal.returns-then-used-bytes
 returns-then-used-bytes c =
     let found = found_first c.in_ok-reader.reader c.take-used.new.self c.take-used.result.1 c.take-used.result.0 c.args.bytes.now c.in_ok-reader.ensures c.take-used.ensures.found in
-    some_behind c.take-used.result.0 c.args.bytes.now c.take-used.new.self (rw c.in-Packet.is at found) c.if-used-bytes.true
+    some_behind c.take-used.result.0 c.args.bytes.now c.take-used.new.self (rw c.in-Payload.is at found) c.if-used-bytes.true

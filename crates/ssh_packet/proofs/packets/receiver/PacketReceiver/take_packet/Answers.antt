@@ -11,11 +11,11 @@ invariant_of-self-in-More g c =
     record { same = c.self.view_is; kept = c.self.invariant; live = c.requires.live } in
     kept_more l c.requires.left _ _ c.are_bytes.ensures _ (rw (c.as_ref.ensures.value, c.in-More.is) at (c.take-used.ensures.found (unrefused l)))
 
-pub returns-in-Packet-clause-received : goal.returns-in-Packet-clause-received
-returns-in-Packet-clause-received g c =
+pub returns-in-Payload-clause-received : goal.returns-in-Payload-clause-received
+returns-in-Payload-clause-received g c =
     let l : Live g.S.Sealing.crypto (direction_of c.self.inside.key c.self.inside.number c.self.inside.count c.self.inside.epoch) c.self.inside.reader c.self.inside.ended c.args.self.now =
     record { same = c.self.view_is; kept = c.self.invariant; live = c.requires.live } in
-    found_payload l c.requires.left _ _ c.are_bytes.ensures _ (rw (c.as_ref.ensures.value, c.in-Packet.is) at (c.take-used.ensures.found (unrefused l)))
+    found_payload l c.requires.left _ _ c.are_bytes.ensures _ (rw (c.as_ref.ensures.value, c.in-Payload.is) at (c.take-used.ensures.found (unrefused l)))
 
 pub returns-in-More-clause-received : goal.returns-in-More-clause-received
 returns-in-More-clause-received g c =
