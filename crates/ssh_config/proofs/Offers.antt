@@ -1,19 +1,16 @@
 -- The kex list with its marker, and how long the payload of a KEXINIT is.
-use Rattle.std.proofs.Common.{◌≡◌, ℕ, ◌≤◌, ◌+◌, ◌*◌, Bool, true, false, List, [], ◌∷◌, ◌++◌, length, arith, refl, sym, ap, subst, ◌∙◌, append_assoc, length-append, lit≤}
+use Rattle.std.proofs.Common.{◌≡◌, ℕ, ◌≤◌, ◌+◌, ◌*◌, Bool, true, false, List, [], ◌∷◌, ◌++◌, length, arith, refl, sym, ap, append_assoc, length-append, lit≤}
 use Rattle.std.specs.Prelude.{codes, if◌then◌else◌, Result, Ok, Err, OnOk}
-use Rattle.std.specs.List.{join_with_byte, list_all}
+use Rattle.std.specs.List.{join_with_byte}
 use Rattle.std.proofs.lemmas.List.{append-nil}
-use Rattle.std.proofs.lemmas.List.Folds.{list_all-append}
 use Rattle.ssh_model.specs.Protocol.Bounds.{longest_payload}
-use Rattle.ssh_model.specs.Protocol.Wire.DataTypes.{IsByte, IsNameList, IsNameText, IsUint32, IsWrittenBoolean, is_name}
+use Rattle.ssh_model.specs.Protocol.Wire.DataTypes.{IsByte, IsNameList, IsUint32, IsWrittenBoolean, is_name}
 use Rattle.ssh_model.specs.declared.side.Side.{Side}
 use Rattle.ssh_model.specs.Protocol.Wire.Message.{IsCookie, IsEnd, IsWrittenPayload, KexInit, Proposal, Then}
 use Rattle.ssh_model.specs.Protocol.Sessions.Parties.{Settings, extension_marker_of, first_markers, is_offered, marker_of}
 use Rattle.ssh_model.specs.Laws.Reading.{Writes}
-use Rattle.ssh_types.specs.Names.{are_names, names_of}
 use Rattle.ssh_config.specs.Config.{IsList}
 use Rattle.ssh_config.specs.Offers.{offer_with, offered_kex}
-use Rattle.ssh_config.proofs.Booleans.{both}
 use Rattle.ssh_model.specs.Laws.Names.{joined_length}
 
 -- ---- one name more

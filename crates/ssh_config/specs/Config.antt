@@ -1,5 +1,5 @@
 -- The settings that an end is made with, and which of them are good.
-use Rattle.std.specs.Prelude.{◌≡◌, ℕ, ◌≤◌, ◌^◌, ◌⊎◌, Bool, false, nat_eq, nat_le, Option, IsSome, IsTrue, List, [], ◌++◌, length, map, codes}
+use Rattle.std.specs.Prelude.{◌≡◌, ℕ, ◌≤◌, ◌⊎◌, Bool, false, nat_eq, nat_le, Option, IsSome, IsTrue, List, [], ◌++◌, length, map, codes}
 use Rattle.std.specs.Cmp.Lexicographic.{pointwise}
 use Rattle.std.specs.List.{Contains, IsDistinct, list_all}
 use Rattle.ssh_model.specs.Protocol.Wire.DataTypes.{is_name}

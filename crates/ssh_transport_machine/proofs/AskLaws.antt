@@ -13,7 +13,7 @@ use Rattle.ssh_model.specs.State.TransportLayer.Summary.{SumsUp}
 use Rattle.ssh_model.specs.State.TransportLayer.Turns.{AskTurned, IsTransportAsk, PutsPackets}
 use Rattle.ssh_model.specs.declared.ask_refusal.AskRefusal.{AskRefusal}
 use Rattle.ssh_transport_machine.specs.Asking as asking
-use Rattle.ssh_transport_machine.specs.Asking.{AskDone, AskSent, AskSpent, DisconnectDone, DisconnectSent, DisconnectSpent}
+use Rattle.ssh_transport_machine.specs.Asking.{AskDone, DisconnectDone}
 use Rattle.ssh_transport_machine.specs.Puts.{Outs}
 use Rattle.ssh_transport_machine.specs.Shown.{AskShows, IsAskTurn}
 use Rattle.ssh_transport_machine.specs.State.{State}

@@ -1,5 +1,5 @@
 -- Where the peer's next message of an exchange is awaited, there is a choice by its KEXINIT: this goes on holding.
-use Rattle.std.proofs.Common.{◌≡◌, ℕ, List, [], ◌∷◌, refl, ap, sym, ◌∙◌, subst, Bool, true, false, not, None}
+use Rattle.std.proofs.Common.{◌≡◌, ℕ, List, [], ◌∷◌, refl, ap, sym, ◌∙◌, subst, Bool, true, false, not, None, Break, Continue, ControlFlow}
 use Rattle.std.proofs.lemmas.Bool.{false≢true}
 use Rattle.ssh_model.specs.declared.side.Side.{Side}
 use Rattle.ssh_model.specs.Protocol.Wire.Message.{Msg, Msg.KexInit, IsPayload, Proposal}
@@ -11,10 +11,10 @@ use Rattle.ssh_model.specs.declared.refusal.Refusal.{Refusal}
 use Rattle.ssh_model.specs.declared.refusal.Refusal.TheVariants.{NotStrict, Unexpected, NoCommon}
 use Rattle.ssh_model.specs.Protocol.Sessions.Refusals.{Check.RefusedWhere, first_refusal}
 use Rattle.ssh_model.specs.State.TransportLayer.Kept as kept
-use Rattle.ssh_model.specs.State.TransportLayer.Kept.{Asks, Transport, after_fed, after_own_kexinit, after_sent, has_choice_with, own_offer}
+use Rattle.ssh_model.specs.State.TransportLayer.Kept.{Asks, Transport, after_own_kexinit, after_sent, has_choice_with, own_offer}
 use Rattle.ssh_model.specs.State.TransportLayer.Summary.{is_agreeing}
-use Rattle.ssh_packet.specs.declared.packets.step.PacketStep.{PacketStep}
-use Rattle.ssh_packet.specs.declared.packets.step.PacketStep.TheVariants as step
+use Rattle.ssh_packet.specs.declared.step.PacketStep.{PacketStep}
+use Rattle.ssh_packet.specs.declared.step.PacketStep.TheVariants as step
 use Rattle.ssh_transport_machine.specs.Asking.{AskDone}
 use Rattle.ssh_transport_machine.specs.Choices.{IsChoosing}
 use Rattle.ssh_transport_machine.specs.Finishing.{HasChoice}
@@ -26,20 +26,18 @@ use Rattle.ssh_transport_machine.specs.Opening.{IsOpened}
 use Rattle.ssh_transport_machine.specs.Puts.{Outs}
 use Rattle.ssh_transport_machine.specs.State.{State, before_taken, noted}
 use Rattle.ssh_transport_machine.specs.Turning as turning
-use Rattle.ssh_transport_machine.specs.Turning.{Answers, Does, KexinitDone, PacketDone, PacketTaken, Turns}
+use Rattle.ssh_transport_machine.specs.Turning.{Answers, Does, KexinitDone, PacketDone, PacketTaken}
 use Rattle.ssh_transport_machine.specs.declared.machine.judging.Judged.{Judged}
 use Rattle.ssh_transport_machine.specs.declared.machine.judging.Judged.TheVariants as judged
 use Rattle.ssh_transport_machine.specs.declared.machine.kexinit.KexinitFacts.{KexinitFacts}
 use Rattle.ssh_transport_machine.specs.declared.machine.line_turn.LineTurn.{LineTurn}
 use Rattle.ssh_transport_machine.specs.declared.machine.line_turn.LineTurn.TheVariants as line
+use Rattle.ssh_transport_machine.specs.declared.machine.own.Own.{Own}
 use Rattle.ssh_transport_machine.specs.declared.machine.turn.Answer.{Answer}
 use Rattle.ssh_transport_machine.specs.declared.machine.turn.Answer.TheVariants.{Done, Spent}
 use Rattle.ssh_transport_machine.specs.declared.machine.turn.AskTurn.{AskTurn}
 use Rattle.ssh_transport_machine.specs.declared.machine.turn.AskTurn.TheVariants as ask_turn
-use Rattle.ssh_transport_machine.specs.declared.machine.turn.PacketTurn.{PacketTurn}
-use Rattle.ssh_transport_machine.specs.declared.machine.turn.PacketTurn.TheVariants as packet_turn
-use Rattle.ssh_transport_machine.specs.declared.machine.turn.PayloadTurn.{PayloadTurn}
-use Rattle.ssh_transport_machine.specs.declared.machine.turn.PayloadTurn.TheVariants as turn
+use Rattle.ssh_transport_machine.specs.declared.outcome.TransportTurn.{TransportTurn}
 
 over : {A : Type 0} (b : Bool) → b ≡ true → b ≡ false → A
 over b e f = absurd (false≢true (sym f ∙ e))
@@ -99,35 +97,37 @@ module _ {K : Type 0} where
         (record { choice = λ e. noted_choice (before_taken old.kept) old.receiver.payload facts (noted facts.wrong facts.strict facts.extensions old.receiver.payload (after_own_kexinit material y.payload old.kept)) refl refl refl is })
     kexinit_choosing facts answer is (turning.KexinitDone.spent material free has fits y) = over new.kept.dead (ap (λ (t : State K). t.kept.dead) y.after) alive
 
-    does_choosing : (what : Judged) (done : PayloadTurn) → PayloadJudged (before_taken old.kept) old.receiver.payload what → Does c old what done new o → IsChoosing new.kept
-    does_choosing (judged.Refused r) (turn.Refused why) is y = over new.kept.dead (ap (λ (t : Transport K). t.dead) y.refuses.after) alive
-    does_choosing judged.Skipped turn.Skipped is y =
-        moved old new _ y.after (record { choice = λ e. choice_on old.kept (record old.kept { phase = model.Phase.Exchanging }) refl refl refl (x.choice (ap is_agreeing (guessed _ _ is))) })
-    does_choosing judged.Disconnected turn.Disconnected is y = over new.kept.dead (ap (λ (t : State K). t.kept.dead) y.after) alive
-    does_choosing judged.Told turn.Told is y = same _ y.after refl refl refl refl
-    does_choosing judged.Unknown (turn.Unknown Done) is y = same _ y.after refl refl refl refl
-    does_choosing judged.Unknown (turn.Unknown Spent) is y = over new.kept.dead (ap (λ (t : State K). t.kept.dead) y.after) alive
-    does_choosing judged.ServiceRequested (turn.ServiceRequested Done) is y = same _ y.after refl refl refl refl
-    does_choosing judged.ServiceRequested (turn.ServiceRequested Spent) is y = over new.kept.dead (ap (λ (t : State K). t.kept.dead) y.after) alive
-    does_choosing judged.ServiceAccepted turn.ServiceAccepted is y = same _ y.after refl refl refl refl
-    does_choosing (judged.Kexinit facts) (turn.Kexinit answer) is y = kexinit_choosing facts answer is y.done
-    does_choosing (judged.Kexinit facts) (turn.Left left) is y = subst (λ (w : State K). IsChoosing w.kept) (sym y.left.after) x
-    does_choosing judged.NewKeys turn.NewKeys is y = subst (λ (w : State K). IsChoosing w.kept) (sym y.taken.after) (record { choice = λ e. absurd (false≢true e) })
-    does_choosing judged.Init (turn.Left left) is y = subst (λ (w : State K). IsChoosing w.kept) (sym y.after) x
-    does_choosing judged.Reply (turn.Left left) is y = subst (λ (w : State K). IsChoosing w.kept) (sym y.after) x
-    does_choosing judged.Above (turn.Left left) is y = subst (λ (w : State K). IsChoosing w.kept) (sym y.after) x
+    sent : (m : Msg) (k : Transport K) → k.phase ≡ old.kept.phase → k.side ≡ old.kept.side → k.settings ≡ old.kept.settings → k.underway.theirs ≡ old.kept.underway.theirs → (answer : Answer) → Answers c old m k answer new o → IsChoosing new.kept
+    sent m k phase side settings theirs Done y = same k y.after phase side settings theirs
+    sent m k phase side settings theirs Spent y = over new.kept.dead (ap (λ (t : State K). t.kept.dead) y.after) alive
+
+    does_choosing : (what : Judged) (done : ControlFlow TransportTurn Own) → PayloadJudged (before_taken old.kept) old.receiver.payload what → Does c old what done new o → IsChoosing new.kept
+    does_choosing (judged.Refused why) (Break given) is y = over new.kept.dead (ap (λ (t : Transport K). t.dead) y.refuses.after) alive
+    does_choosing judged.Skipped (Break given) is y =
+        moved old new _ y.becomes.after (record { choice = λ e. choice_on old.kept (record old.kept { phase = model.Phase.Exchanging }) refl refl refl (x.choice (ap is_agreeing (guessed _ _ is))) })
+    does_choosing judged.Disconnected (Break given) is y = over new.kept.dead (ap (λ (t : State K). t.kept.dead) y.becomes.after) alive
+    does_choosing judged.Told (Break given) is y = same _ y.becomes.after refl refl refl refl
+    does_choosing judged.Unknown (Break given) is y = sent _ _ refl refl refl refl y.answer y.answers
+    does_choosing judged.ServiceRequested (Break given) is y = sent _ _ refl refl refl refl y.answer y.answers
+    does_choosing judged.ServiceAccepted (Break given) is y = same _ y.becomes.after refl refl refl refl
+    does_choosing (judged.Kexinit facts) (Break given) is y = kexinit_choosing facts y.answer is y.done
+    does_choosing (judged.Kexinit facts) (Continue left) is y = subst (λ (w : State K). IsChoosing w.kept) (sym y.left.after) x
+    does_choosing judged.NewKeys (Break given) is y = subst (λ (w : State K). IsChoosing w.kept) (sym y.taken.after) (record { choice = λ e. absurd (false≢true e) })
+    does_choosing judged.Init (Continue left) is y = subst (λ (w : State K). IsChoosing w.kept) (sym y.after) x
+    does_choosing judged.Reply (Continue left) is y = subst (λ (w : State K). IsChoosing w.kept) (sym y.after) x
+    does_choosing judged.Above (Break given) is y = subst (λ (w : State K). IsChoosing w.kept) (sym y.becomes.after) x
     does_choosing _ _ is y = absurd y
 
   received : (old between : State K) → IsChoosing old.kept → between ≡ record old { receiver = between.receiver; kept = record old.kept { taking = between.receiver.direction } } → IsChoosing between.kept
   received old between x e = subst (λ (w : State K). IsChoosing w.kept) (sym e) (goes_on old.kept (record old.kept { taking = between.receiver.direction }) refl refl refl refl x)
 
-  packet_done : (c : Crypto K) (between new : State K) (o : Outs) → IsChoosing between.kept → new.kept.dead ≡ false → (found : PacketStep) (done : PacketTurn) → PacketDone c between found done new o → IsChoosing new.kept
-  packet_done c between new o x alive step.More packet_turn.More y = moved between new between.kept y.after x
-  packet_done c between new o x alive (step.Refused r) (packet_turn.Refused why) y = over new.kept.dead (ap (λ (t : Transport K). t.dead) y.refuses.after) alive
-  packet_done c between new o x alive step.Payload (packet_turn.Payload done) y = does_choosing c between new o x alive y.what done y.is_judged y.does
+  packet_done : (c : Crypto K) (between new : State K) (o : Outs) → IsChoosing between.kept → new.kept.dead ≡ false → (found : PacketStep Refusal) (done : ControlFlow TransportTurn Own) → PacketDone c between found done new o → IsChoosing new.kept
+  packet_done c between new o x alive step.More (Break given) y = moved between new between.kept y.becomes.after x
+  packet_done c between new o x alive (step.Refused why) (Break given) y = over new.kept.dead (ap (λ (t : Transport K). t.dead) y.refuses.after) alive
+  packet_done c between new o x alive step.Payload done y = does_choosing c between new o x alive y.what done y.is_judged y.does
   packet_done c between new o x alive _ _ y = absurd y
 
-  pub packet_choosing : (c : Crypto K) (old : State K) (bytes : List ℕ) (done : PacketTurn) (new : State K) (o : Outs) → IsChoosing old.kept → PacketTaken c old bytes done new o → new.kept.dead ≡ false → IsChoosing new.kept
+  pub packet_choosing : (c : Crypto K) (old : State K) (bytes : List ℕ) (done : ControlFlow TransportTurn Own) (new : State K) (o : Outs) → IsChoosing old.kept → PacketTaken c old bytes done new o → new.kept.dead ≡ false → IsChoosing new.kept
   packet_choosing c old bytes done new o x y alive = packet_done c y.between new o (received old y.between x y.rest) alive y.found done y.does
 
   pub line_choosing : (old : State K) (bytes : List ℕ) (done : LineTurn) (new : State K) → IsChoosing old.kept → LineTaken old bytes done new → new.kept.dead ≡ false → IsChoosing new.kept

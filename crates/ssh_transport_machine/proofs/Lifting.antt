@@ -1,5 +1,5 @@
 -- What a machine does with a payload is a turn of a session.
-use Rattle.std.proofs.Common.{◌≡◌, ℕ, zero, suc, ◌+◌, ◌-◌, ◌%◌, ◌^◌, ◌<◌, ◌≤◌, List, [], ◌∷◌, ◌++◌, length, refl, ap, sym, ◌∙◌, subst, arith, Bool, true, false, not, ◌&&◌, ◌||◌, ◌==◌, nat_eq, eqb-true, Some, None, append-nil}
+use Rattle.std.proofs.Common.{◌≡◌, ℕ, zero, suc, ◌+◌, ◌-◌, ◌%◌, ◌^◌, ◌<◌, ◌≤◌, List, [], ◌∷◌, ◌++◌, length, refl, ap, sym, ◌∙◌, subst, arith, Bool, true, false, not, ◌&&◌, ◌||◌, ◌==◌, nat_eq, eqb-true, Some, None, append-nil, Break, Continue, ControlFlow}
 use Rattle.std.specs.Prelude.{codes}
 use Rattle.ssh_model.specs.declared.side.Side.{Side}
 use Rattle.ssh_model.specs.declared.side.Side.TheVariants.{Client, Server}
@@ -24,22 +24,26 @@ use Rattle.ssh_model.specs.State.TransportLayer.Summary.{IsAwaited, IsTransportM
 use Rattle.ssh_model.specs.State.TransportLayer.Turns as turns
 use Rattle.ssh_model.specs.State.TransportLayer.Turns.{IsRefused, PutsPackets, Reads, SaysWhy, Turned, refusal_items}
 use Rattle.ssh_model.specs.declared.refusal.Refusal as types
-use Rattle.ssh_transport_machine.specs.Judging.{IsAcceptJudged, IsRequestJudged, MessageJudged, PayloadJudged}
+use Rattle.ssh_transport_machine.specs.Judging.{MessageJudged, PayloadJudged}
 use Rattle.ssh_transport_machine.specs.Judging as judging
 use Rattle.ssh_transport_machine.specs.Kexinits.{IsFine}
+use Rattle.ssh_transport_machine.specs.Outcomes.{answer_outcome}
 use Rattle.ssh_transport_machine.specs.Puts.{Outs, Puts, Refuses}
-use Rattle.ssh_transport_machine.specs.Shown.{IsLeftSo, IsTold, IsTurn, Shows, TurnOf}
+use Rattle.ssh_transport_machine.specs.Shown.{IsTurn, Shows, TurnOf, judged_by}
 use Rattle.ssh_transport_machine.specs.Shown as shown
 use Rattle.ssh_transport_machine.specs.State.{State, before_taken, last_number, noted}
-use Rattle.ssh_transport_machine.specs.Turning.{Answers, Becomes, Does, IsQuiet, KexinitDone, NewkeysDone, RefusalDone, SpentBy, Turns}
+use Rattle.ssh_transport_machine.specs.Turning.{Answers, Does, IsQuiet, KexinitDone, NewkeysDone, Turns}
 use Rattle.ssh_transport_machine.specs.Turning as turning
 use Rattle.ssh_transport_machine.specs.declared.machine.judging.Judged.{Judged}
 use Rattle.ssh_transport_machine.specs.declared.machine.judging.Judged.TheVariants as judged
 use Rattle.ssh_transport_machine.specs.declared.machine.kexinit.KexinitFacts.{KexinitFacts}
+use Rattle.ssh_transport_machine.specs.declared.machine.own.Own.{Own}
+use Rattle.ssh_transport_machine.specs.declared.machine.own.Own.TheVariants as own
 use Rattle.ssh_transport_machine.specs.declared.machine.turn.Answer.{Answer}
 use Rattle.ssh_transport_machine.specs.declared.machine.turn.Answer.TheVariants.{Done, Spent}
-use Rattle.ssh_transport_machine.specs.declared.machine.turn.PayloadTurn.{PayloadTurn}
-use Rattle.ssh_transport_machine.specs.declared.machine.turn.PayloadTurn.TheVariants as turn
+use Rattle.ssh_transport_machine.specs.declared.outcome.Effect.TheVariants as effect
+use Rattle.ssh_transport_machine.specs.declared.outcome.TransportTurn.{TransportTurn}
+use Rattle.ssh_transport_machine.specs.declared.outcome.TransportTurn.TheVariants as outcome
 
 -- ---- the laws of the model
 
@@ -193,7 +197,7 @@ module _ {K : Type 0} (laws : PayloadLaws K) (p : Parties K) (side : Side) (h : 
   abbrev agreement : Agreement
   agreement = agreement_of p side
 
-  quiet_turn : (done : PayloadTurn) (items : List Item) (t new : Transport K) (o : Outs) → new ≡ t → IsQuiet o → Shows s payload done [] items → Turned p side h payload items [] t → IsTurn p side h s payload done new o
+  quiet_turn : (done : TransportTurn) (items : List Item) (t new : Transport K) (o : Outs) → new ≡ t → IsQuiet o → Shows s payload done [] items → Turned p side h payload items [] t → IsTurn p side h s payload done new o
   quiet_turn done items t new o e quiet shows turned = record {
     said = [];
     items = items;
@@ -204,7 +208,7 @@ module _ {K : Type 0} (laws : PayloadLaws K) (p : Parties K) (side : Side) (h : 
     lists = quiet.sent ∙ sym (append-nil o.listed);
   }
 
-  sent_turn : (done : PayloadTurn) (said : List Spelled) (items : List Item) (t new : Transport K) (o : Outs) → new ≡ t → (x : Puts p.crypto s.sending said o) → Shows s payload done said items → Turned p side h payload items x.more t → IsTurn p side h s payload done new o
+  sent_turn : (done : TransportTurn) (said : List Spelled) (items : List Item) (t new : Transport K) (o : Outs) → new ≡ t → (x : Puts p.crypto s.sending said o) → Shows s payload done said items → Turned p side h payload items x.more t → IsTurn p side h s payload done new o
   sent_turn done said items t new o e x shows turned = record {
     said = said;
     items = items;
@@ -215,7 +219,7 @@ module _ {K : Type 0} (laws : PayloadLaws K) (p : Parties K) (side : Side) (h : 
     lists = x.lists;
   }
 
-  refused_row : (why : types.Refusal) (new : Transport K) (o : Outs) → PayloadJudged s payload (judged.Refused why) → Refuses p.crypto (after_taken s) why new o → IsTurn p side h s payload (turn.Refused why) new o
+  refused_row : (why : types.Refusal) (new : Transport K) (o : Outs) → PayloadJudged s payload (judged.Refused why) → Refuses p.crypto (after_taken s) why new o → IsTurn p side h s payload (outcome.Refused why) new o
   refused_row why new o is x = record {
     said = x.said;
     items = refusal_items why (Some payload) x.said;
@@ -226,9 +230,9 @@ module _ {K : Type 0} (laws : PayloadLaws K) (p : Parties K) (side : Side) (h : 
     lists = x.lists;
   }
 
-  skipped_row : (new : Transport K) (o : Outs) → PayloadJudged s payload judged.Skipped → new ≡ after_guess s → IsQuiet o → IsTurn p side h s payload turn.Skipped new o
+  skipped_row : (new : Transport K) (o : Outs) → PayloadJudged s payload judged.Skipped → new ≡ after_guess s → IsQuiet o → IsTurn p side h s payload (outcome.Done effect.Skipped) new o
   skipped_row new o (judging.PayloadJudged.skipped below taken here) e quiet =
-      quiet_turn turn.Skipped _ (after_guess s) new o e quiet shown.Shows.skipped (laws.skipped p side h s sums alive payload below taken here)
+      quiet_turn (outcome.Done effect.Skipped) _ (after_guess s) new o e quiet shown.Shows.skipped (laws.skipped p side h s sums alive payload below taken here)
   skipped_row new o (judging.PayloadJudged.read message below taken no_guess is (judging.MessageJudged.requested service given)) e quiet = absurd given
   skipped_row new o (judging.PayloadJudged.read message below taken no_guess is (judging.MessageJudged.accepted service given)) e quiet = absurd given
 
@@ -239,51 +243,51 @@ module _ {K : Type 0} (laws : PayloadLaws K) (p : Parties K) (side : Side) (h : 
   number_at : (n : ℕ) (message : Msg) → IsPayload false message payload → message_number message ≡ n → takes s (number_of payload) ≡ true → takes_in s.phase s n ≡ true
   number_at n message is e taken = subst (λ (m : ℕ). takes_in s.phase s m ≡ true) (laws.numbers false message payload is ∙ e) taken
 
-  told_row : (new : Transport K) (o : Outs) → PayloadJudged s payload judged.Told → new ≡ after_taken s → IsQuiet o → IsTurn p side h s payload turn.Told new o
+  told_row : (new : Transport K) (o : Outs) → PayloadJudged s payload judged.Told → new ≡ after_taken s → IsQuiet o → IsTurn p side h s payload (outcome.Done effect.Told) new o
   told_row new o (judging.PayloadJudged.read message below taken no_guess is so) e quiet = go message is so
     where
-      go : (message : Msg) → IsPayload false message payload → MessageJudged s message judged.Told → IsTurn p side h s payload turn.Told new o
+      go : (message : Msg) → IsPayload false message payload → MessageJudged s message judged.Told → IsTurn p side h s payload (outcome.Done effect.Told) new o
       go message is (judging.MessageJudged.ignored body) =
-          quiet_turn turn.Told _ (after_taken s) new o e quiet (shown.Shows.told message _ is (shown.IsTold.ignore body))
+          quiet_turn (outcome.Done effect.Told) _ (after_taken s) new o e quiet (shown.Shows.told message _ is (shown.IsTold.ignore body))
           (answered message _ _ [] (reads agreement p.trusts s payload message below taken no_guess is tt) tt refl (Takes.ignore body) turns.PutsPackets.nothing)
       go message is (judging.MessageJudged.unimplemented number) =
-          quiet_turn turn.Told _ (after_taken s) new o e quiet (shown.Shows.told message _ is (shown.IsTold.unimplemented number))
+          quiet_turn (outcome.Done effect.Told) _ (after_taken s) new o e quiet (shown.Shows.told message _ is (shown.IsTold.unimplemented number))
           (answered message _ _ [] (reads agreement p.trusts s payload message below taken no_guess is tt) tt refl (Takes.unimplemented number) turns.PutsPackets.nothing)
       go message is (judging.MessageJudged.debug display text language) =
-          quiet_turn turn.Told _ (after_taken s) new o e quiet (shown.Shows.told message _ is (shown.IsTold.debug display text language))
+          quiet_turn (outcome.Done effect.Told) _ (after_taken s) new o e quiet (shown.Shows.told message _ is (shown.IsTold.debug display text language))
           (answered message _ _ [] (reads agreement p.trusts s payload message below taken no_guess is tt) tt refl (Takes.debug display text language) turns.PutsPackets.nothing)
       go message is (judging.MessageJudged.extensions announced) =
-          quiet_turn turn.Told _ (after_taken s) new o e quiet (shown.Shows.told message _ is (shown.IsTold.extensions announced))
+          quiet_turn (outcome.Done effect.Told) _ (after_taken s) new o e quiet (shown.Shows.told message _ is (shown.IsTold.extensions announced))
           (answered message _ _ [] (reads agreement p.trusts s payload message below taken no_guess is tt) tt refl (Takes.extensions announced) turns.PutsPackets.nothing)
       go message is (judging.MessageJudged.requested service given) = absurd given
       go message is (judging.MessageJudged.accepted service given) = absurd given
 
-  disconnected_row : (new : Transport K) (o : Outs) → PayloadJudged s payload judged.Disconnected → new.dead ≡ true → IsQuiet o → IsTurn p side h s payload turn.Disconnected new o
+  disconnected_row : (new : Transport K) (o : Outs) → PayloadJudged s payload judged.Disconnected → new.dead ≡ true → IsQuiet o → IsTurn p side h s payload (outcome.Done effect.Disconnected) new o
   disconnected_row new o (judging.PayloadJudged.read message below taken no_guess is so) dead quiet = go message is so
     where
-      go : (message : Msg) → IsPayload false message payload → MessageJudged s message judged.Disconnected → IsTurn p side h s payload turn.Disconnected new o
+      go : (message : Msg) → IsPayload false message payload → MessageJudged s message judged.Disconnected → IsTurn p side h s payload (outcome.Done effect.Disconnected) new o
       go message is (judging.MessageJudged.disconnected reason description language) =
-          quiet_turn turn.Disconnected _ new new o refl quiet (shown.Shows.disconnected reason description language is)
+          quiet_turn (outcome.Done effect.Disconnected) _ new new o refl quiet (shown.Shows.disconnected reason description language is)
           (laws.disconnected p side h s sums alive reason description language payload new (reads agreement p.trusts s payload message below taken no_guess is tt) dead)
       go message is (judging.MessageJudged.requested service given) = absurd given
       go message is (judging.MessageJudged.accepted service given) = absurd given
 
-  accepted_row : (new : Transport K) (o : Outs) → PayloadJudged s payload judged.ServiceAccepted → new ≡ record (after_taken s) { accepted = true } → IsQuiet o → IsTurn p side h s payload turn.ServiceAccepted new o
+  accepted_row : (new : Transport K) (o : Outs) → PayloadJudged s payload judged.ServiceAccepted → new ≡ record (after_taken s) { accepted = true } → IsQuiet o → IsTurn p side h s payload (outcome.Done effect.ServiceAccepted) new o
   accepted_row new o (judging.PayloadJudged.read message below taken no_guess is so) e quiet = go message is so
     where
-      go : (message : Msg) → IsPayload false message payload → MessageJudged s message judged.ServiceAccepted → IsTurn p side h s payload turn.ServiceAccepted new o
+      go : (message : Msg) → IsPayload false message payload → MessageJudged s message judged.ServiceAccepted → IsTurn p side h s payload (outcome.Done effect.ServiceAccepted) new o
       go message is (judging.MessageJudged.requested service given) = absurd given
       go message is (judging.MessageJudged.accepted service given) =
-          quiet_turn turn.ServiceAccepted _ _ new o e quiet (shown.Shows.service_accepted service is)
+          quiet_turn (outcome.Done effect.ServiceAccepted) _ _ new o e quiet (shown.Shows.service_accepted service is)
           (answered message _ _ [] (reads agreement p.trusts s payload message below taken no_guess is tt) tt (checked service true Unexpected given)
           (Takes.service_accept service (accepted_of s s.phase no_guess (number_at 6 message is refl taken))) turns.PutsPackets.nothing)
 
-  newkeys_row : (old new : State K) (o : Outs) → old.kept ≡ after_taken s → old.receiver.direction ≡ old.kept.taking → PayloadJudged s payload judged.NewKeys → NewkeysDone old new o → IsTurn p side h s payload turn.NewKeys new.kept o
-  newkeys_row old new o same directions (judging.PayloadJudged.read message below taken no_guess is so) x = go message is so
+  newkeys_row : (given : TransportTurn) (old new : State K) (o : Outs) → old.kept ≡ after_taken s → old.receiver.direction ≡ old.kept.taking → PayloadJudged s payload judged.NewKeys → NewkeysDone old given new o → IsTurn p side h s payload (outcome.Done effect.NewKeys) new.kept o
+  newkeys_row given old new o same directions (judging.PayloadJudged.read message below taken no_guess is so) x = go message is so
     where
-      go : (message : Msg) → IsPayload false message payload → MessageJudged s message judged.NewKeys → IsTurn p side h s payload turn.NewKeys new.kept o
+      go : (message : Msg) → IsPayload false message payload → MessageJudged s message judged.NewKeys → IsTurn p side h s payload (outcome.Done effect.NewKeys) new.kept o
       go message is judging.MessageJudged.newkeys =
-          quiet_turn turn.NewKeys _ _ new.kept o
+          quiet_turn (outcome.Done effect.NewKeys) _ _ new.kept o
           (ap (λ (t : State K). t.kept) x.taken.after ∙ ap (begun old.kept x.taken.key) directions ∙ ap (λ (t : Transport K). begun t x.taken.key t.taking) same)
           x.quiet (shown.Shows.newkeys is)
           (answered message _ _ [] (reads agreement p.trusts s payload message below taken no_guess is tt) tt refl
@@ -293,53 +297,53 @@ module _ {K : Type 0} (laws : PayloadLaws K) (p : Parties K) (side : Side) (h : 
 
   -- ---- what is sent
 
-  spent_turn : (done : PayloadTurn) (message answer : Msg) (given : Answered) (reply : List ℕ) (next new : Transport K) (o : Outs) → Reads s message payload → IsAwaited s none_chosen message → first_refusal (message_checks agreement p.trusts none_chosen s message) ≡ None → given.sent ≡ SpelledBy answer reply ∷ [] → Takes agreement s payload message given next → IsSpelled answer reply →
-      s.sending.count ≡ 2 ^ 32 → new.dead ≡ true → IsQuiet o → Shows s payload done [] (Died ∷ Item.Refused NumberSpent (Some payload) ∷ []) → IsTurn p side h s payload done new o
-  spent_turn done message answer given reply next new o r w fine one t spelled none_left dead quiet shows =
-      quiet_turn done _ new new o refl quiet shows
+  spent_turn : (message answer : Msg) (given : Answered) (reply : List ℕ) (next new : Transport K) (o : Outs) → Reads s message payload → IsAwaited s none_chosen message → first_refusal (message_checks agreement p.trusts none_chosen s message) ≡ None → given.sent ≡ SpelledBy answer reply ∷ [] → Takes agreement s payload message given next → IsSpelled answer reply →
+      s.sending.count ≡ 2 ^ 32 → new.dead ≡ true → IsQuiet o → IsTurn p side h s payload (outcome.Refused NumberSpent) new o
+  spent_turn message answer given reply next new o r w fine one t spelled none_left dead quiet =
+      quiet_turn (outcome.Refused NumberSpent) _ new new o refl quiet (shown.Shows.refused NumberSpent)
       (laws.spent p side h s sums alive none_chosen message payload given next new r w fine t
       (subst (λ (l : List Spelled). AreSpelled (items_sent l)) (sym one) (spelled, tt))
       (subst (λ (l : List Spelled). 1 ≤ length l) (sym one) (omega arith))
       (subst (λ (l : List Spelled). 2 ^ 32 < s.sending.count + length l) (sym one) (omega (arith, none_left))) dead)
 
   unknown_row : (answer : Answer) (old new : State K) (o : Outs) → old.kept ≡ after_taken s → s.taking.number < 2 ^ 32 → s.taking.count < 2 ^ 32 → PayloadJudged s payload judged.Unknown →
-      Answers p.crypto old (Unimplemented (last_number old.kept.taking)) (after_sent old.kept) answer new o → IsTurn p side h s payload (turn.Unknown answer) new.kept o
+      Answers p.crypto old (Unimplemented (last_number old.kept.taking)) (after_sent old.kept) answer new o → IsTurn p side h s payload (answer_outcome answer effect.Unknown) new.kept o
   unknown_row answer old new o same small room (judging.PayloadJudged.read message below taken no_guess is so) x = go message is so answer x
     where
       number_is : last_number old.kept.taking ≡ s.taking.number
       number_is = ap (λ (t : Transport K). last_number t.taking) same ∙ last_of s.taking.number small
 
-      go : (message : Msg) → IsPayload false message payload → MessageJudged s message judged.Unknown → (answer : Answer) → Answers p.crypto old (Unimplemented (last_number old.kept.taking)) (after_sent old.kept) answer new o → IsTurn p side h s payload (turn.Unknown answer) new.kept o
+      go : (message : Msg) → IsPayload false message payload → MessageJudged s message judged.Unknown → (answer : Answer) → Answers p.crypto old (Unimplemented (last_number old.kept.taking)) (after_sent old.kept) answer new o → IsTurn p side h s payload (answer_outcome answer effect.Unknown) new.kept o
       go message is (judging.MessageJudged.unknown number) Done x =
           let y : Puts p.crypto s.sending (SpelledBy (Unimplemented s.taking.number) x.sends.payload ∷ []) o =
           subst (λ (t : Transport K). Puts p.crypto t.sending (SpelledBy (Unimplemented s.taking.number) x.sends.payload ∷ []) o) same (subst (λ (n : ℕ). Puts p.crypto old.kept.sending (SpelledBy (Unimplemented n) x.sends.payload ∷ []) o) number_is x.sends.puts) in
-          sent_turn (turn.Unknown Done) _ _ _ new.kept o (ap (λ (t : State K). t.kept) x.after ∙ ap after_sent same) y (shown.Shows.unknown number x.sends.payload is)
+          sent_turn (outcome.Done effect.Unknown) _ _ _ new.kept o (ap (λ (t : State K). t.kept) x.after ∙ ap after_sent same) y (shown.Shows.unknown number x.sends.payload is)
           (answered message _ _ y.more (reads agreement p.trusts s payload message below taken no_guess is tt) tt refl (Takes.unknown number x.sends.payload room) y.packets)
       go message is (judging.MessageJudged.unknown number) Spent x =
           let said = unimplemented_spelled s.taking.number small in
-          spent_turn (turn.Unknown Spent) message (Unimplemented s.taking.number) (sends (SpelledBy (Unimplemented s.taking.number) said.payload ∷ [])) said.payload _ new.kept o (reads agreement p.trusts s payload message below taken no_guess is tt) tt refl refl (Takes.unknown number said.payload room)
-          said.spells (sym (ap (λ (t : Transport K). t.sending.count) same) ∙ x.none_left) (ap (λ (t : State K). t.kept.dead) x.after) x.quiet shown.Shows.unknown_spent
+          spent_turn message (Unimplemented s.taking.number) (sends (SpelledBy (Unimplemented s.taking.number) said.payload ∷ [])) said.payload _ new.kept o (reads agreement p.trusts s payload message below taken no_guess is tt) tt refl refl (Takes.unknown number said.payload room)
+          said.spells (sym (ap (λ (t : Transport K). t.sending.count) same) ∙ x.none_left) (ap (λ (t : State K). t.kept.dead) x.after) x.quiet
       go message is (judging.MessageJudged.requested service given) answer x = absurd given
       go message is (judging.MessageJudged.accepted service given) answer x = absurd given
 
   requested_row : (answer : Answer) (old new : State K) (o : Outs) → old.kept ≡ after_taken s → PayloadJudged s payload judged.ServiceRequested →
-      Answers p.crypto old (ServiceAccept (codes "ssh-userauth")) (record (after_sent old.kept) { requested = true }) answer new o → IsTurn p side h s payload (turn.ServiceRequested answer) new.kept o
+      Answers p.crypto old (ServiceAccept (codes "ssh-userauth")) (record (after_sent old.kept) { requested = true }) answer new o → IsTurn p side h s payload (answer_outcome answer effect.ServiceRequested) new.kept o
   requested_row answer old new o same (judging.PayloadJudged.read message below taken no_guess is so) x = go message is so answer x
     where
-      go : (message : Msg) → IsPayload false message payload → MessageJudged s message judged.ServiceRequested → (answer : Answer) → Answers p.crypto old (ServiceAccept (codes "ssh-userauth")) (record (after_sent old.kept) { requested = true }) answer new o → IsTurn p side h s payload (turn.ServiceRequested answer) new.kept o
+      go : (message : Msg) → IsPayload false message payload → MessageJudged s message judged.ServiceRequested → (answer : Answer) → Answers p.crypto old (ServiceAccept (codes "ssh-userauth")) (record (after_sent old.kept) { requested = true }) answer new o → IsTurn p side h s payload (answer_outcome answer effect.ServiceRequested) new.kept o
       go message is (judging.MessageJudged.accepted service given) answer x = absurd given
       go message is (judging.MessageJudged.requested service given) Done x =
           let name : codes "ssh-userauth" ≡ service = sym (text_same service (codes "ssh-userauth") given) in
           let y : Puts p.crypto s.sending (SpelledBy (ServiceAccept service) x.sends.payload ∷ []) o =
           subst (λ (t : Transport K). Puts p.crypto t.sending (SpelledBy (ServiceAccept service) x.sends.payload ∷ []) o) same (subst (λ (n : List ℕ). Puts p.crypto old.kept.sending (SpelledBy (ServiceAccept n) x.sends.payload ∷ []) o) name x.sends.puts) in
-          sent_turn (turn.ServiceRequested Done) _ _ _ new.kept o (ap (λ (t : State K). t.kept) x.after ∙ ap granted same) y (shown.Shows.service_requested service x.sends.payload is)
+          sent_turn (outcome.Done effect.ServiceRequested) _ _ _ new.kept o (ap (λ (t : State K). t.kept) x.after ∙ ap granted same) y (shown.Shows.service_requested service x.sends.payload is)
           (answered message _ _ y.more (reads agreement p.trusts s payload message below taken no_guess is tt) tt (checked service true NoService given)
           (Takes.service_request service x.sends.payload (requested_of s s.phase no_guess (number_at 5 message is refl taken))) y.packets)
       go message is (judging.MessageJudged.requested service given) Spent x =
           let said = accept_spelled service given in
-          spent_turn (turn.ServiceRequested Spent) message (ServiceAccept service) (sends (SpelledBy (ServiceAccept service) said.payload ∷ [])) said.payload _ new.kept o (reads agreement p.trusts s payload message below taken no_guess is tt) tt (checked service true NoService given) refl
+          spent_turn message (ServiceAccept service) (sends (SpelledBy (ServiceAccept service) said.payload ∷ [])) said.payload _ new.kept o (reads agreement p.trusts s payload message below taken no_guess is tt) tt (checked service true NoService given) refl
           (Takes.service_request service said.payload (requested_of s s.phase no_guess (number_at 5 message is refl taken)))
-          said.spells (sym (ap (λ (t : Transport K). t.sending.count) same) ∙ x.none_left) (ap (λ (t : State K). t.kept.dead) x.after) x.quiet shown.Shows.service_spent
+          said.spells (sym (ap (λ (t : Transport K). t.sending.count) same) ∙ x.none_left) (ap (λ (t : State K). t.kept.dead) x.after) x.quiet
 
   -- ---- a KEXINIT at a server
 
@@ -350,9 +354,9 @@ module _ {K : Type 0} (laws : PayloadLaws K) (p : Parties K) (side : Side) (h : 
     offer_is : (cookie : List ℕ) → offer_of old.kept.settings old.kept.side false cookie ≡ offer_of s.settings Server false cookie
     offer_is cookie = ap (λ (t : Transport K). offer_of t.settings t.side false cookie) same ∙ ap (λ (t : Side). offer_of s.settings t false cookie) side_is
 
-    kexinit_row : (answer : Answer) → KexinitDone p.crypto old facts answer new o → IsTurn p side h s payload (turn.Kexinit answer) new.kept o
+    kexinit_row : (answer : Answer) → KexinitDone p.crypto old facts answer new o → IsTurn p side h s payload (answer_outcome answer effect.Kexinit) new.kept o
     kexinit_row answer (turning.KexinitDone.kept shut x) =
-        quiet_turn (turn.Kexinit Done) _ _ new.kept o
+        quiet_turn (outcome.Done effect.Kexinit) _ _ new.kept o
         (ap (λ (t : State K). t.kept) x.after ∙ (λ i. noted (fine.settles.wrong i) (fine.settles.strict i) (fine.settles.extensions i) (read i) (same i)))
         x.quiet (shown.Shows.kexinit theirs is)
         (answered (KexInit theirs) _ _ [] r tt fine.fine (Takes.kexinit_at_server theirs side_is between is (sym (ap (λ (t : Transport K). t.blocked) same) ∙ shut)) turns.PutsPackets.nothing)
@@ -360,21 +364,21 @@ module _ {K : Type 0} (laws : PayloadLaws K) (p : Parties K) (side : Side) (h : 
         let y : Puts p.crypto s.sending (SpelledBy (KexInit (offer_of s.settings Server false material.cookie)) x.payload ∷ []) o =
         subst (λ (t : Transport K). Puts p.crypto t.sending (SpelledBy (KexInit (offer_of s.settings Server false material.cookie)) x.payload ∷ []) o) same
         (subst (λ (q : Proposal). Puts p.crypto old.kept.sending (SpelledBy (KexInit q) x.payload ∷ []) o) (offer_is material.cookie) x.puts) in
-        sent_turn (turn.Kexinit Done) _ _ _ new.kept o
+        sent_turn (outcome.Done effect.Kexinit) _ _ _ new.kept o
         (ap (λ (t : State K). t.kept) x.after ∙ (λ i. noted (fine.settles.wrong i) (fine.settles.strict i) (fine.settles.extensions i) (read i) (after_own_kexinit material x.payload (same i))))
         y (shown.Shows.kexinit_answered theirs x.payload material.cookie is)
         (answered (KexInit theirs) _ _ y.more r tt fine.fine
         (Takes.answered_at_server theirs x.payload material side_is between is (sym (ap (λ (t : Transport K). t.blocked) same) ∙ free) (sym (ap (λ (t : Transport K). t.material) same) ∙ has)) y.packets)
     kexinit_row answer (turning.KexinitDone.spent material free has spelling x) =
-        spent_turn (turn.Kexinit Spent) (KexInit theirs) (KexInit (offer_of s.settings Server false material.cookie)) (sends (SpelledBy (KexInit (offer_of s.settings Server false material.cookie)) spelling.payload ∷ [])) spelling.payload _ new.kept o r tt fine.fine refl
+        spent_turn (KexInit theirs) (KexInit (offer_of s.settings Server false material.cookie)) (sends (SpelledBy (KexInit (offer_of s.settings Server false material.cookie)) spelling.payload ∷ [])) spelling.payload _ new.kept o r tt fine.fine refl
         (Takes.answered_at_server theirs spelling.payload material side_is between is (sym (ap (λ (t : Transport K). t.blocked) same) ∙ free) (sym (ap (λ (t : Transport K). t.material) same) ∙ has))
-        (subst (λ (q : Proposal). IsSpelled (KexInit q) spelling.payload) (offer_is material.cookie) spelling.spells) (sym (ap (λ (t : Transport K). t.sending.count) same) ∙ x.none_left) (ap (λ (t : State K). t.kept.dead) x.after) x.quiet shown.Shows.kexinit_spent
+        (subst (λ (q : Proposal). IsSpelled (KexInit q) spelling.payload) (offer_is material.cookie) spelling.spells) (sym (ap (λ (t : Transport K). t.sending.count) same) ∙ x.none_left) (ap (λ (t : State K). t.kept.dead) x.after) x.quiet
 
   kexinit_judged : (facts : KexinitFacts) (answer : Answer) (old new : State K) (o : Outs) → old.kept ≡ after_taken s → s.side ≡ Server → old.receiver.payload ≡ payload → PayloadJudged s payload (judged.Kexinit facts) →
-      KexinitDone p.crypto old facts answer new o → IsTurn p side h s payload (turn.Kexinit answer) new.kept o
+      KexinitDone p.crypto old facts answer new o → IsTurn p side h s payload (answer_outcome answer effect.Kexinit) new.kept o
   kexinit_judged facts answer old new o same side_is read (judging.PayloadJudged.read message below taken no_guess is so) x = go message is so
     where
-      go : (message : Msg) → IsPayload false message payload → MessageJudged s message (judged.Kexinit facts) → IsTurn p side h s payload (turn.Kexinit answer) new.kept o
+      go : (message : Msg) → IsPayload false message payload → MessageJudged s message (judged.Kexinit facts) → IsTurn p side h s payload (answer_outcome answer effect.Kexinit) new.kept o
       go message is (judging.MessageJudged.requested service given) = absurd given
       go message is (judging.MessageJudged.accepted service given) = absurd given
       go message is (judging.MessageJudged.kexinit theirs f fine) = kexinit_row facts old new o same side_is read theirs is (reads agreement p.trusts s payload message below taken no_guess is tt) fine answer x
@@ -384,7 +388,7 @@ module _ {K : Type 0} (laws : PayloadLaws K) (p : Parties K) (side : Side) (h : 
 pub below_all : (n : ℕ) → n % 2 ^ 32 < 2 ^ 32
 below_all n = omega arith
 
-pub turns_lifted : {K : Type 0} → PayloadLaws K → (p : Parties K) (side : Side) (h : List Item) (s : Transport K) → SumsUp p side h s → s.dead ≡ false → (old : State K) (done : PayloadTurn) (new : State K) (o : Outs) → old.kept ≡ after_taken s → Turns p.crypto old done new o → TurnOf p side h s old done new o
+pub turns_lifted : {K : Type 0} → PayloadLaws K → (p : Parties K) (side : Side) (h : List Item) (s : Transport K) → SumsUp p side h s → s.dead ≡ false → (old : State K) (done : ControlFlow TransportTurn Own) (new : State K) (o : Outs) → old.kept ≡ after_taken s → Turns p.crypto old done new o → TurnOf p side h s old done new o
 turns_lifted {K} laws p side h s sums alive old done new o same x = go x.what done judged_so x.does
   where
     small : s.taking.number < 2 ^ 32
@@ -396,29 +400,28 @@ turns_lifted {K} laws p side h s sums alive old done new o same x = go x.what do
     judged_so : PayloadJudged s old.receiver.payload x.what
     judged_so = subst (λ (t : Transport K). PayloadJudged t old.receiver.payload x.what) (ap before_taken same ∙ before s small) x.is_judged
 
-    refused_here : (r why : types.Refusal) → PayloadJudged s old.receiver.payload (judged.Refused r) → RefusalDone p.crypto old r why new o → IsTurn p side h s old.receiver.payload (turn.Refused why) new.kept o
-    refused_here r why is y =
-        subst (λ (w : types.Refusal). IsTurn p side h s old.receiver.payload (turn.Refused w) new.kept o) (sym y.same)
-        (refused_row laws p side h s sums alive old.receiver.payload r new.kept o is (subst (λ (t : Transport K). Refuses p.crypto t r new.kept o) same y.refuses))
+    turned : (given turn : TransportTurn) → given ≡ turn → IsTurn p side h s old.receiver.payload turn new.kept o → TurnOf p side h s old (Break given) new o
+    turned given turn e y = TurnOf.turned (subst (λ (t : TransportTurn). IsTurn p side h s old.receiver.payload t new.kept o) (sym e) y)
 
-    left_here : (what left : Judged) → PayloadJudged s old.receiver.payload what → turning.IsLeft old what left new o → IsLeftSo s old.receiver.payload left old new o
-    left_here what left is y = record { is_judged = subst (λ (j : Judged). PayloadJudged s old.receiver.payload j) (sym y.same) is; after = y.after; quiet = y.quiet }
+    left_here : (what left : Own) → PayloadJudged s old.receiver.payload (judged_by what) → turning.IsLeft old what left new o → TurnOf p side h s old (Continue left) new o
+    left_here what left is y =
+        TurnOf.of_role left (record { is_judged = subst (λ (w : Own). PayloadJudged s old.receiver.payload (judged_by w)) (sym y.same) is; after = y.after; quiet = y.quiet })
 
     kept_after : (f : Transport K → Transport K) → new ≡ record old { kept = f old.kept } → new.kept ≡ f (after_taken s)
     kept_after f e = ap (λ (t : State K). t.kept) e ∙ ap f same
 
-    go : (what : Judged) (done : PayloadTurn) → PayloadJudged s old.receiver.payload what → Does p.crypto old what done new o → TurnOf p side h s old done new o
-    go (judged.Refused r) (turn.Refused why) is y = refused_here r why is y
-    go judged.Skipped turn.Skipped is y = skipped_row laws p side h s sums alive old.receiver.payload new.kept o is (kept_after (λ t. record t { phase = model.Phase.Exchanging }) y.after) y.quiet
-    go judged.Disconnected turn.Disconnected is y = disconnected_row laws p side h s sums alive old.receiver.payload new.kept o is (ap (λ (t : State K). t.kept.dead) y.after) y.quiet
-    go judged.Told turn.Told is y = told_row laws p side h s sums alive old.receiver.payload new.kept o is (kept_after (λ t. t) y.after) y.quiet
-    go judged.Unknown (turn.Unknown answer) is y = unknown_row laws p side h s sums alive old.receiver.payload answer old new o same small room is y
-    go judged.ServiceRequested (turn.ServiceRequested answer) is y = requested_row laws p side h s sums alive old.receiver.payload answer old new o same is y
-    go judged.ServiceAccepted turn.ServiceAccepted is y = accepted_row laws p side h s sums alive old.receiver.payload new.kept o is (kept_after (λ t. record t { accepted = true }) y.after) y.quiet
-    go (judged.Kexinit facts) (turn.Kexinit answer) is y = kexinit_judged laws p side h s sums alive old.receiver.payload facts answer old new o same (sym (ap (λ (t : Transport K). t.side) same) ∙ y.side_is) refl is y.done
-    go (judged.Kexinit facts) (turn.Left left) is y = left_here (judged.Kexinit facts) left is y.left
-    go judged.NewKeys turn.NewKeys is y = newkeys_row laws p side h s sums alive old.receiver.payload old new o same (sym x.directed) is y
-    go judged.Init (turn.Left left) is y = left_here judged.Init left is y
-    go judged.Reply (turn.Left left) is y = left_here judged.Reply left is y
-    go judged.Above (turn.Left left) is y = left_here judged.Above left is y
+    go : (what : Judged) (done : ControlFlow TransportTurn Own) → PayloadJudged s old.receiver.payload what → Does p.crypto old what done new o → TurnOf p side h s old done new o
+    go (judged.Refused why) (Break given) is y = turned given _ y.told (refused_row laws p side h s sums alive old.receiver.payload why new.kept o is (subst (λ (t : Transport K). Refuses p.crypto t why new.kept o) same y.refuses))
+    go judged.Skipped (Break given) is y = turned given _ y.told (skipped_row laws p side h s sums alive old.receiver.payload new.kept o is (kept_after (λ t. record t { phase = model.Phase.Exchanging }) y.becomes.after) y.becomes.quiet)
+    go judged.Disconnected (Break given) is y = turned given _ y.told (disconnected_row laws p side h s sums alive old.receiver.payload new.kept o is (ap (λ (t : State K). t.kept.dead) y.becomes.after) y.becomes.quiet)
+    go judged.Told (Break given) is y = turned given _ y.told (told_row laws p side h s sums alive old.receiver.payload new.kept o is (kept_after (λ t. t) y.becomes.after) y.becomes.quiet)
+    go judged.Unknown (Break given) is y = turned given _ y.told (unknown_row laws p side h s sums alive old.receiver.payload y.answer old new o same small room is y.answers)
+    go judged.ServiceRequested (Break given) is y = turned given _ y.told (requested_row laws p side h s sums alive old.receiver.payload y.answer old new o same is y.answers)
+    go judged.ServiceAccepted (Break given) is y = turned given _ y.told (accepted_row laws p side h s sums alive old.receiver.payload new.kept o is (kept_after (λ t. record t { accepted = true }) y.becomes.after) y.becomes.quiet)
+    go (judged.Kexinit facts) (Break given) is y = turned given _ y.told (kexinit_judged laws p side h s sums alive old.receiver.payload facts y.answer old new o same (sym (ap (λ (t : Transport K). t.side) same) ∙ y.side_is) refl is y.done)
+    go (judged.Kexinit facts) (Continue left) is y = left_here (own.Kexinit facts) left is y.left
+    go judged.NewKeys (Break given) is y = turned given _ y.told (newkeys_row laws p side h s sums alive old.receiver.payload given old new o same (sym x.directed) is y)
+    go judged.Init (Continue left) is y = left_here own.Init left is y
+    go judged.Reply (Continue left) is y = left_here own.Reply left is y
+    go judged.Above (Break given) is y = TurnOf.above y.told (record { is_judged = is; after = y.becomes.after; quiet = y.becomes.quiet })
     go _ _ is y = absurd y

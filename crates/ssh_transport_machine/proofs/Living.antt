@@ -1,5 +1,5 @@
 -- What holds of a machine that is not over goes on holding.
-use Rattle.std.proofs.Common.{◌≡◌, ℕ, ◌+◌, ◌-◌, ◌^◌, ◌≤◌, List, refl, ap, sym, ◌∙◌, subst, arith, Bool, true, false, Option, Some, None, is_some, nat_lt, not, ◌&&◌, ◌<◌}
+use Rattle.std.proofs.Common.{◌≡◌, ℕ, ◌+◌, ◌-◌, ◌^◌, ◌≤◌, List, refl, ap, sym, ◌∙◌, subst, arith, Bool, true, false, Option, Some, None, is_some, nat_lt, not, ◌&&◌, ◌<◌, Break, Continue, ControlFlow}
 use Rattle.std.proofs.lemmas.Bool.{false≢true}
 use Rattle.ssh_model.specs.declared.side.Side.{Side}
 use Rattle.ssh_model.specs.Protocol.Wire.Message.{Msg}
@@ -12,9 +12,10 @@ use Rattle.ssh_model.specs.State.TransportLayer.Directions.{Direction}
 use Rattle.ssh_model.specs.State.TransportLayer.Kept as kept
 use Rattle.ssh_model.specs.State.TransportLayer.Kept.{Asks, Transport, after_fed, after_own_kexinit, after_sent, can_be_fed}
 use Rattle.ssh_model.specs.State.TransportLayer.Summary.{bit, is_keying}
+use Rattle.ssh_model.specs.declared.refusal.Refusal.{Refusal}
 use Rattle.ssh_packet.specs.Directions.{Receiver, Receives}
-use Rattle.ssh_packet.specs.declared.packets.step.PacketStep.{PacketStep}
-use Rattle.ssh_packet.specs.declared.packets.step.PacketStep.TheVariants as step
+use Rattle.ssh_packet.specs.declared.step.PacketStep.{PacketStep}
+use Rattle.ssh_packet.specs.declared.step.PacketStep.TheVariants as step
 use Rattle.ssh_transport_machine.specs.Asking.{AskDone}
 use Rattle.ssh_transport_machine.specs.Judging.{PayloadJudged}
 use Rattle.ssh_transport_machine.specs.Judging as judging
@@ -23,20 +24,18 @@ use Rattle.ssh_transport_machine.specs.Opening.{IsOpened}
 use Rattle.ssh_transport_machine.specs.Puts.{Outs}
 use Rattle.ssh_transport_machine.specs.State.{IsKeptLive, IsLive, State, awaits_exchange, before_taken, noted}
 use Rattle.ssh_transport_machine.specs.Turning as turning
-use Rattle.ssh_transport_machine.specs.Turning.{Answers, Becomes, Does, KexinitDone, NewkeysDone, PacketDone, PacketTaken, Turns}
+use Rattle.ssh_transport_machine.specs.Turning.{Answers, Does, KexinitDone, NewkeysDone, PacketDone, PacketTaken, Turns}
 use Rattle.ssh_transport_machine.specs.declared.machine.judging.Judged.{Judged}
 use Rattle.ssh_transport_machine.specs.declared.machine.judging.Judged.TheVariants as judged
 use Rattle.ssh_transport_machine.specs.declared.machine.kexinit.KexinitFacts.{KexinitFacts}
 use Rattle.ssh_transport_machine.specs.declared.machine.line_turn.LineTurn.{LineTurn}
 use Rattle.ssh_transport_machine.specs.declared.machine.line_turn.LineTurn.TheVariants as line
+use Rattle.ssh_transport_machine.specs.declared.machine.own.Own.{Own}
 use Rattle.ssh_transport_machine.specs.declared.machine.turn.Answer.{Answer}
 use Rattle.ssh_transport_machine.specs.declared.machine.turn.Answer.TheVariants.{Done, Spent}
 use Rattle.ssh_transport_machine.specs.declared.machine.turn.AskTurn.{AskTurn}
 use Rattle.ssh_transport_machine.specs.declared.machine.turn.AskTurn.TheVariants as ask_turn
-use Rattle.ssh_transport_machine.specs.declared.machine.turn.PacketTurn.{PacketTurn}
-use Rattle.ssh_transport_machine.specs.declared.machine.turn.PacketTurn.TheVariants as packet_turn
-use Rattle.ssh_transport_machine.specs.declared.machine.turn.PayloadTurn.{PayloadTurn}
-use Rattle.ssh_transport_machine.specs.declared.machine.turn.PayloadTurn.TheVariants as turn
+use Rattle.ssh_transport_machine.specs.declared.outcome.TransportTurn.{TransportTurn}
 use Rattle.ssh_transport_machine.proofs.Newkeys.{newkeys_shown}
 
 over : {A : Type 0} (b : Bool) → b ≡ true → b ≡ false → A
@@ -180,8 +179,8 @@ module _ {K : Type 0} where
         same_side old new _ x.after refl refl refl (noted_on facts.wrong facts.strict facts.extensions old.receiver.payload (after_own_kexinit material x.payload old.kept) refl (own_on material x.payload old.kept free has live.kept)) live
     kexinit_live facts answer (turning.KexinitDone.spent material free has spelling x) = over new.kept.dead (ap (λ (t : State K). t.kept.dead) x.after) alive
 
-    newkeys_live : old.kept.phase ≡ model.Phase.Keying → NewkeysDone old new o → IsLive new
-    newkeys_live here x = subst (λ (t : State K). IsLive t) (sym x.taken.after) (record {
+    newkeys_live : (given : TransportTurn) → old.kept.phase ≡ model.Phase.Keying → NewkeysDone old given new o → IsLive new
+    newkeys_live given here x = subst (λ (t : State K). IsLive t) (sym x.taken.after) (record {
       lines = λ f. let r = live.lines f in record { from_peer = r.from_peer; others = r.others; going = r.going };
       taking = refl;
       receiving = live.receiving;
@@ -191,25 +190,27 @@ module _ {K : Type 0} where
     left_live : new ≡ old → IsLive new
     left_live e = subst (λ (t : State K). IsLive t) (sym e) live
 
-    does_live : (what : Judged) (done : PayloadTurn) → PayloadJudged (before_taken old.kept) old.receiver.payload what → Does c old what done new o → IsLive new
-    does_live (judged.Refused r) (turn.Refused why) is y = over new.kept.dead (ap (λ (t : Transport K). t.dead) y.refuses.after) alive
-    does_live judged.Skipped turn.Skipped is y = same_side old new _ y.after refl refl refl (skipped_on old.kept (guessed _ _ is) live.kept) live
-    does_live judged.Disconnected turn.Disconnected is y = over new.kept.dead (ap (λ (t : State K). t.kept.dead) y.after) alive
-    does_live judged.Told turn.Told is y = same_side old new _ y.after refl refl refl live.kept live
-    does_live judged.Unknown (turn.Unknown Done) is y = same_side old new _ y.after refl refl refl (sent_on old.kept old.kept.requested live.kept) live
-    does_live judged.Unknown (turn.Unknown Spent) is y = over new.kept.dead (ap (λ (t : State K). t.kept.dead) y.after) alive
-    does_live judged.ServiceRequested (turn.ServiceRequested Done) is y = same_side old new _ y.after refl refl refl (sent_on old.kept true live.kept) live
-    does_live judged.ServiceRequested (turn.ServiceRequested Spent) is y = over new.kept.dead (ap (λ (t : State K). t.kept.dead) y.after) alive
-    does_live judged.ServiceAccepted turn.ServiceAccepted is y = same_side old new _ y.after refl refl refl (accepted_on old.kept live.kept) live
-    does_live (judged.Kexinit facts) (turn.Kexinit answer) is y = kexinit_live facts answer y.done
-    does_live (judged.Kexinit facts) (turn.Left left) is y = left_live y.left.after
-    does_live judged.NewKeys turn.NewKeys is y = newkeys_live (newkeys_shown old.kept old.receiver.payload is).phase y
-    does_live judged.Init (turn.Left left) is y = left_live y.after
-    does_live judged.Reply (turn.Left left) is y = left_live y.after
-    does_live judged.Above (turn.Left left) is y = left_live y.after
+    sent_live : (m : Msg) (requested : Bool) (answer : Answer) → Answers c old m (record (after_sent old.kept) { requested = requested }) answer new o → IsLive new
+    sent_live m requested Done y = same_side old new _ y.after refl refl refl (sent_on old.kept requested live.kept) live
+    sent_live m requested Spent y = over new.kept.dead (ap (λ (t : State K). t.kept.dead) y.after) alive
+
+    does_live : (what : Judged) (done : ControlFlow TransportTurn Own) → PayloadJudged (before_taken old.kept) old.receiver.payload what → Does c old what done new o → IsLive new
+    does_live (judged.Refused why) (Break given) is y = over new.kept.dead (ap (λ (t : Transport K). t.dead) y.refuses.after) alive
+    does_live judged.Skipped (Break given) is y = same_side old new _ y.becomes.after refl refl refl (skipped_on old.kept (guessed _ _ is) live.kept) live
+    does_live judged.Disconnected (Break given) is y = over new.kept.dead (ap (λ (t : State K). t.kept.dead) y.becomes.after) alive
+    does_live judged.Told (Break given) is y = same_side old new _ y.becomes.after refl refl refl live.kept live
+    does_live judged.Unknown (Break given) is y = sent_live _ old.kept.requested y.answer y.answers
+    does_live judged.ServiceRequested (Break given) is y = sent_live _ true y.answer y.answers
+    does_live judged.ServiceAccepted (Break given) is y = same_side old new _ y.becomes.after refl refl refl (accepted_on old.kept live.kept) live
+    does_live (judged.Kexinit facts) (Break given) is y = kexinit_live facts y.answer y.done
+    does_live (judged.Kexinit facts) (Continue left) is y = left_live y.left.after
+    does_live judged.NewKeys (Break given) is y = newkeys_live given (newkeys_shown old.kept old.receiver.payload is).phase y
+    does_live judged.Init (Continue left) is y = left_live y.after
+    does_live judged.Reply (Continue left) is y = left_live y.after
+    does_live judged.Above (Break given) is y = left_live y.becomes.after
     does_live _ _ is y = absurd y
 
-  pub turns_live : (c : Crypto K) (old : State K) (done : PayloadTurn) (new : State K) (o : Outs) → IsLive old → Turns c old done new o → new.kept.dead ≡ false → IsLive new
+  pub turns_live : (c : Crypto K) (old : State K) (done : ControlFlow TransportTurn Own) (new : State K) (o : Outs) → IsLive old → Turns c old done new o → new.kept.dead ≡ false → IsLive new
   turns_live c old done new o live x alive = does_live c old new o live alive x.what done x.is_judged x.does
 
   -- right after a packet was taken
@@ -228,14 +229,14 @@ module _ {K : Type 0} where
   payload_count c old between bytes x e = one_more _ _ (ap (λ (t : State K). t.kept.taking.count) e ∙ ap (λ (r : Receiver K). r.direction.count) x.1)
 
   packet_done_live : (c : Crypto K) (old between new : State K) (o : Outs) (bytes : List ℕ) → IsLive old → between ≡ record old { receiver = between.receiver; kept = record old.kept { taking = between.receiver.direction } } → new.kept.dead ≡ false →
-      (found : PacketStep) (done : PacketTurn) → Receives c bytes old.receiver found between.receiver → PacketDone c between found done new o → IsLive new
-  packet_done_live c old between new o bytes live e alive step.More packet_turn.More x y =
-      subst (λ (t : State K). IsLive t) (sym y.after) (received old between live e (ap (λ (r : Receiver K). r.ended) x.1 ∙ live.receiving) (ap (λ (r : Receiver K). r.direction.epoch) x.1))
-  packet_done_live c old between new o bytes live e alive (step.Refused r) (packet_turn.Refused why) x y = over new.kept.dead (ap (λ (t : Transport K). t.dead) y.refuses.after) alive
-  packet_done_live c old between new o bytes live e alive step.Payload (packet_turn.Payload done) x y = turns_live c between done new o (payload_live c old between bytes live x e) y alive
+      (found : PacketStep Refusal) (done : ControlFlow TransportTurn Own) → Receives c bytes old.receiver found between.receiver → PacketDone c between found done new o → IsLive new
+  packet_done_live c old between new o bytes live e alive step.More (Break given) x y =
+      subst (λ (t : State K). IsLive t) (sym y.becomes.after) (received old between live e (ap (λ (r : Receiver K). r.ended) x.1 ∙ live.receiving) (ap (λ (r : Receiver K). r.direction.epoch) x.1))
+  packet_done_live c old between new o bytes live e alive (step.Refused why) (Break given) x y = over new.kept.dead (ap (λ (t : Transport K). t.dead) y.refuses.after) alive
+  packet_done_live c old between new o bytes live e alive step.Payload done x y = turns_live c between done new o (payload_live c old between bytes live x e) y alive
   packet_done_live c old between new o bytes live e alive _ _ x y = absurd y
 
-  pub packet_live : (c : Crypto K) (old : State K) (bytes : List ℕ) (done : PacketTurn) (new : State K) (o : Outs) → IsLive old → PacketTaken c old bytes done new o → new.kept.dead ≡ false → IsLive new
+  pub packet_live : (c : Crypto K) (old : State K) (bytes : List ℕ) (done : ControlFlow TransportTurn Own) (new : State K) (o : Outs) → IsLive old → PacketTaken c old bytes done new o → new.kept.dead ≡ false → IsLive new
   packet_live c old bytes done new o live x alive = packet_done_live c old x.between new o bytes live x.rest alive x.found done x.receives x.does
 
   -- ---- lines

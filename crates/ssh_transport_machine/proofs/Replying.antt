@@ -1,5 +1,5 @@
 -- What the rows of a machine do, from what its calls do.
-use Rattle.std.proofs.Common.{◌≡◌, ℕ, ◌+◌, ◌^◌, ◌<◌, ◌≤◌, List, [], ◌∷◌, refl, ap, subst, ◌∙◌, arith, Bool, true, false, not, ◌&&◌, ◌||◌, ◌==◌, ◌-◌, Option, Some, None, is_some}
+use Rattle.std.proofs.Common.{◌≡◌, ℕ, ◌+◌, ◌^◌, ◌<◌, ◌≤◌, List, [], ◌∷◌, refl, ap, subst, ◌∙◌, arith, Bool, true, false, not, ◌&&◌, ◌||◌, ◌==◌, ◌-◌, Option, Some, None, is_some, Break, ControlFlow}
 use Rattle.std.specs.Prelude.{Result, Ok, Err, IfOk, OnErr, codes}
 use Rattle.ssh_model.specs.declared.side.Side.{Side}
 use Rattle.ssh_model.specs.declared.side.Side.TheVariants.{Client, Server}
@@ -17,23 +17,28 @@ use Rattle.ssh_model.specs.State.TransportLayer.Directions.{Direction, renewed}
 use Rattle.ssh_model.specs.Protocol.Sessions.TurnClaims.{HasSpelling}
 use Rattle.ssh_model.specs.Laws.Written.{service_request_spelled}
 use Rattle.ssh_model.specs.State.TransportLayer.Kept as kept
-use Rattle.ssh_model.specs.State.TransportLayer.Kept.{Transport, after_sent, message_ask_checks, offer_checks, takes, takes_in}
+use Rattle.ssh_model.specs.State.TransportLayer.Kept.{Transport, after_sent, message_ask_checks, offer_checks}
 use Rattle.ssh_model.specs.State.TransportLayer.Summary.{bit, is_keying}
 use Rattle.ssh_model.specs.Protocol.Wire.Message.{Proposal}
 use Rattle.ssh_transport_machine.specs.Asking.{AskDone, AskLacks, OfferDone, OfferLacks}
 use Rattle.ssh_transport_machine.specs.Judging.{MessageJudged, PayloadJudged}
 use Rattle.ssh_transport_machine.specs.Judging as judging
 use Rattle.ssh_transport_machine.specs.Offering.{OwnAnswered}
+use Rattle.ssh_transport_machine.specs.Outcomes.{answer_outcome}
 use Rattle.ssh_transport_machine.specs.Puts.{Outs, Sends}
 use Rattle.ssh_transport_machine.specs.State.{IsLive, State, before_taken, dead_state, noted}
 use Rattle.ssh_transport_machine.specs.Turning as turning
-use Rattle.ssh_transport_machine.specs.Turning.{Answers, HasRoom, KexinitDone, KexinitLacks, NewkeysTaken, SentBy}
+use Rattle.ssh_transport_machine.specs.Turning.{Answers, Does, HasRoom, KexinitDone, KexinitLacks, NewkeysTaken, SentBy}
 use Rattle.ssh_transport_machine.specs.declared.machine.judging.Judged.{Judged}
 use Rattle.ssh_transport_machine.specs.declared.machine.judging.Judged.TheVariants as judged
 use Rattle.ssh_transport_machine.specs.declared.machine.kexinit.KexinitFacts.{KexinitFacts}
+use Rattle.ssh_transport_machine.specs.declared.machine.own.Own.{Own}
 use Rattle.ssh_transport_machine.specs.declared.machine.turn.Answer.{Answer}
 use Rattle.ssh_transport_machine.specs.declared.machine.turn.Answer.TheVariants.{Done, Spent}
 use Rattle.ssh_transport_machine.specs.declared.machine.turn.AskTurn.TheVariants as turn
+use Rattle.ssh_transport_machine.specs.declared.outcome.Effect.{Effect}
+use Rattle.ssh_transport_machine.specs.declared.outcome.TransportTurn.{TransportTurn}
+use Rattle.ssh_transport_machine.specs.declared.outcome.TransportTurn.TheVariants as outcome
 
 pub if_ok : {A E : Type 0} (r : Result A E) (P Q : A → Type 0) → ((x : A) → P x → Q x) → IfOk r P → IfOk r Q
 if_ok (Ok x) P Q f p = f x p
@@ -47,6 +52,28 @@ on_err (Err e) p = p
 
 pub sent_by : {K : Type 0} (c : Crypto K) (old : State K) (m : Msg) (new : State K) (o : Outs) → Sends c old.kept.sending m o → new ≡ record old { kept = after_sent old.kept } → SentBy c old m (after_sent old.kept) new o
 sent_by c old m new o x e = record { sends = x; after = e }
+
+answered_more : (answer : Answer) (effect : Effect) → outcome.More ≡ answer_outcome answer effect → ⊥
+answered_more Done effect e = cc e
+answered_more Spent effect e = cc e
+
+module _ {K : Type 0} (c : Crypto K) (old new : State K) (o : Outs) where
+  does_more : (what : Judged) → Does c old what (Break outcome.More) new o → ⊥
+  does_more (judged.Refused why) y = cc y.told
+  does_more judged.Skipped y = cc y.told
+  does_more judged.Disconnected y = cc y.told
+  does_more judged.Told y = cc y.told
+  does_more judged.Unknown y = answered_more y.answer _ y.told
+  does_more judged.ServiceRequested y = answered_more y.answer _ y.told
+  does_more judged.ServiceAccepted y = cc y.told
+  does_more (judged.Kexinit facts) y = answered_more y.answer _ y.told
+  does_more judged.NewKeys y = cc y.told
+  does_more judged.Above y = cc y.told
+  does_more _ y = y
+
+  -- a payload is a whole packet
+  pub never_more : (what : Judged) (done : ControlFlow TransportTurn Own) → Does c old what done new o → done ≡ Break outcome.More → ⊥
+  never_more what done y e = does_more what (subst (λ (d : ControlFlow TransportTurn Own). Does c old what d new o) e y)
 
 -- ---- asks
 

@@ -1,5 +1,5 @@
 -- What holds of a machine of one side goes on holding.
-use Rattle.std.proofs.Common.{◌≡◌, ℕ, List, refl, ap, sym, ◌∙◌, subst, Bool, true, false}
+use Rattle.std.proofs.Common.{◌≡◌, ℕ, List, refl, ap, sym, ◌∙◌, subst, Bool, true, false, Break, Continue, ControlFlow}
 use Rattle.std.proofs.lemmas.Bool.{false≢true}
 use Rattle.std.specs.Prelude.{Result, Ok, Err, IfOk, IfErr, OnOk}
 use Rattle.ssh_model.specs.declared.side.Side.{Side}
@@ -10,8 +10,8 @@ use Rattle.ssh_model.specs.Protocol.Sessions.Parties.{Settings}
 use Rattle.ssh_model.specs.State.TransportLayer.Kept as kept
 use Rattle.ssh_model.specs.State.TransportLayer.Kept.{Asks, Transport, after_fed, after_sent, can_be_fed}
 use Rattle.ssh_message.specs.Meaning.{meaning}
-use Rattle.ssh_packet.specs.declared.packets.step.PacketStep.{PacketStep}
-use Rattle.ssh_packet.specs.declared.packets.step.PacketStep.TheVariants as step
+use Rattle.ssh_packet.specs.declared.step.PacketStep.{PacketStep}
+use Rattle.ssh_packet.specs.declared.step.PacketStep.TheVariants as step
 use Rattle.ssh_model.specs.declared.refusal.Refusal.{Refusal}
 use Rattle.ssh_transport_machine.specs.Above.{PayloadSent, PeerRefused, RefuseFailed, SendFailed}
 use Rattle.ssh_transport_machine.specs.Asking.{AskDone}
@@ -29,18 +29,16 @@ use Rattle.ssh_transport_machine.specs.declared.machine.judging.Judged.TheVarian
 use Rattle.ssh_transport_machine.specs.declared.machine.kexinit.KexinitFacts.{KexinitFacts}
 use Rattle.ssh_transport_machine.specs.declared.machine.line_turn.LineTurn.{LineTurn}
 use Rattle.ssh_transport_machine.specs.declared.machine.line_turn.LineTurn.TheVariants as line
+use Rattle.ssh_transport_machine.specs.declared.machine.own.Own.{Own}
 use Rattle.ssh_transport_machine.specs.declared.machine.turn.Answer.{Answer}
 use Rattle.ssh_transport_machine.specs.declared.machine.turn.Answer.TheVariants.{Done, Spent}
 use Rattle.ssh_transport_machine.specs.declared.machine.turn.AskTurn.{AskTurn}
 use Rattle.ssh_transport_machine.specs.declared.machine.turn.AskTurn.TheVariants as ask_turn
-use Rattle.ssh_transport_machine.specs.declared.machine.turn.PacketTurn.{PacketTurn}
-use Rattle.ssh_transport_machine.specs.declared.machine.turn.PacketTurn.TheVariants as packet_turn
-use Rattle.ssh_transport_machine.specs.declared.machine.turn.PayloadTurn.{PayloadTurn}
-use Rattle.ssh_transport_machine.specs.declared.machine.turn.PayloadTurn.TheVariants as turn
 use Rattle.ssh_transport_machine.specs.declared.outcome.TransportAsk.{TransportAsk}
 use Rattle.ssh_transport_machine.specs.declared.outcome.TransportAsk.TheVariants as ask
 use Rattle.ssh_transport_machine.specs.declared.outcome.TransportFault.{TransportFault}
 use Rattle.ssh_transport_machine.specs.declared.outcome.TransportFault.TheVariants as fault
+use Rattle.ssh_transport_machine.specs.declared.outcome.TransportTurn.{TransportTurn}
 use Rattle.ssh_transport_machine.proofs.Choices.{answer_choosing, ask_choosing, goes_on, line_choosing, opened_choosing, packet_choosing}
 use Rattle.ssh_transport_machine.proofs.Living.{answer_live, ask_live, fed_live, line_live, opened_live, packet_live, same_side, sent_on}
 
@@ -65,31 +63,33 @@ module _ {K : Type 0} where
     kexinit_side facts answer (turning.KexinitDone.answered material free has x) = ap side_of x.after
     kexinit_side facts answer (turning.KexinitDone.spent material free has spelling x) = over new.kept.dead (ap (λ (t : State K). t.kept.dead) x.after) alive
 
-    does_side : (what : Judged) (done : PayloadTurn) → Does c old what done new o → side_of new ≡ side_of old
-    does_side (judged.Refused r) (turn.Refused why) y = over new.kept.dead (ap (λ (t : Transport K). t.dead) y.refuses.after) alive
-    does_side judged.Skipped turn.Skipped y = ap side_of y.after
-    does_side judged.Disconnected turn.Disconnected y = ap side_of y.after
-    does_side judged.Told turn.Told y = ap side_of y.after
-    does_side judged.Unknown (turn.Unknown Done) y = ap side_of y.after
-    does_side judged.Unknown (turn.Unknown Spent) y = over new.kept.dead (ap (λ (t : State K). t.kept.dead) y.after) alive
-    does_side judged.ServiceRequested (turn.ServiceRequested Done) y = ap side_of y.after
-    does_side judged.ServiceRequested (turn.ServiceRequested Spent) y = over new.kept.dead (ap (λ (t : State K). t.kept.dead) y.after) alive
-    does_side judged.ServiceAccepted turn.ServiceAccepted y = ap side_of y.after
-    does_side (judged.Kexinit facts) (turn.Kexinit answer) y = kexinit_side facts answer y.done
-    does_side (judged.Kexinit facts) (turn.Left left) y = ap side_of y.left.after
-    does_side judged.NewKeys turn.NewKeys y = ap side_of y.taken.after
-    does_side judged.Init (turn.Left left) y = ap side_of y.after
-    does_side judged.Reply (turn.Left left) y = ap side_of y.after
-    does_side judged.Above (turn.Left left) y = ap side_of y.after
+    sent_side : (m : Msg) (k : Transport K) → k.side ≡ side_of old → (answer : Answer) → Answers c old m k answer new o → side_of new ≡ side_of old
+    sent_side m k same Done y = ap side_of y.after ∙ same
+    sent_side m k same Spent y = over new.kept.dead (ap (λ (t : State K). t.kept.dead) y.after) alive
+
+    does_side : (what : Judged) (done : ControlFlow TransportTurn Own) → Does c old what done new o → side_of new ≡ side_of old
+    does_side (judged.Refused why) (Break given) y = over new.kept.dead (ap (λ (t : Transport K). t.dead) y.refuses.after) alive
+    does_side judged.Skipped (Break given) y = ap side_of y.becomes.after
+    does_side judged.Disconnected (Break given) y = ap side_of y.becomes.after
+    does_side judged.Told (Break given) y = ap side_of y.becomes.after
+    does_side judged.Unknown (Break given) y = sent_side _ _ refl y.answer y.answers
+    does_side judged.ServiceRequested (Break given) y = sent_side _ _ refl y.answer y.answers
+    does_side judged.ServiceAccepted (Break given) y = ap side_of y.becomes.after
+    does_side (judged.Kexinit facts) (Break given) y = kexinit_side facts y.answer y.done
+    does_side (judged.Kexinit facts) (Continue left) y = ap side_of y.left.after
+    does_side judged.NewKeys (Break given) y = ap side_of y.taken.after
+    does_side judged.Init (Continue left) y = ap side_of y.after
+    does_side judged.Reply (Continue left) y = ap side_of y.after
+    does_side judged.Above (Break given) y = ap side_of y.becomes.after
     does_side _ _ y = absurd y
 
-    packet_done_side : (found : PacketStep) (done : PacketTurn) → PacketDone c old found done new o → side_of new ≡ side_of old
-    packet_done_side step.More packet_turn.More y = ap side_of y.after
-    packet_done_side (step.Refused r) (packet_turn.Refused why) y = over new.kept.dead (ap (λ (t : Transport K). t.dead) y.refuses.after) alive
-    packet_done_side step.Payload (packet_turn.Payload done) y = does_side y.what done y.does
+    packet_done_side : (found : PacketStep Refusal) (done : ControlFlow TransportTurn Own) → PacketDone c old found done new o → side_of new ≡ side_of old
+    packet_done_side step.More (Break given) y = ap side_of y.becomes.after
+    packet_done_side (step.Refused why) (Break given) y = over new.kept.dead (ap (λ (t : Transport K). t.dead) y.refuses.after) alive
+    packet_done_side step.Payload done y = does_side y.what done y.does
     packet_done_side _ _ y = absurd y
 
-  packet_side : (c : Crypto K) (old : State K) (bytes : List ℕ) (done : PacketTurn) (new : State K) (o : Outs) → PacketTaken c old bytes done new o → new.kept.dead ≡ false → side_of new ≡ side_of old
+  packet_side : (c : Crypto K) (old : State K) (bytes : List ℕ) (done : ControlFlow TransportTurn Own) (new : State K) (o : Outs) → PacketTaken c old bytes done new o → new.kept.dead ≡ false → side_of new ≡ side_of old
   packet_side c old bytes done new o x alive = packet_done_side c x.between new o alive x.found done x.does ∙ ap side_of x.rest
 
   asked_side : (k next : Transport K) (given : Ask) (m : Msg) (payload : List ℕ) → Asks k given m payload next → next.side ≡ k.side
@@ -122,7 +122,7 @@ module _ {K : Type 0} where
     choosing = line_choosing old bytes done new (stands before).choosing x alive;
   }
 
-  pub packets : (c : Crypto K) (side : Side) (old : State K) (bytes : List ℕ) (done : PacketTurn) (new : State K) (o : Outs) → old.kept.dead ≡ false → Stands side old → PacketTaken c old bytes done new o → Stands side new
+  pub packets : (c : Crypto K) (side : Side) (old : State K) (bytes : List ℕ) (done : ControlFlow TransportTurn Own) (new : State K) (o : Outs) → old.kept.dead ≡ false → Stands side old → PacketTaken c old bytes done new o → Stands side new
   packets c side old bytes done new o before stands x = λ alive. record {
     side_is = packet_side c old bytes done new o x alive ∙ (stands before).side_is;
     live = packet_live c old bytes done new o (stands before).live x alive;

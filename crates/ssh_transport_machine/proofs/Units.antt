@@ -1,5 +1,5 @@
 -- What a machine makes of a line or a packet is what an end of a session does, and so is its opening.
-use Rattle.std.proofs.Common.{◌≡◌, ℕ, ◌<◌, ◌^◌, List, [], ◌∷◌, ◌++◌, refl, ap, sym, ◌∙◌, subst, Bool, true, false, None}
+use Rattle.std.proofs.Common.{◌≡◌, ℕ, ◌<◌, ◌^◌, List, [], ◌∷◌, ◌++◌, refl, ap, sym, ◌∙◌, subst, Bool, true, false, None, Break, ControlFlow}
 use Rattle.ssh_model.specs.declared.side.Side.{Side}
 use Rattle.ssh_model.specs.Protocol.Wire.Line.{LineUnit, line_end}
 use Rattle.ssh_model.specs.Protocol.Wire.Message.{Msg.KexInit}
@@ -22,18 +22,20 @@ use Rattle.ssh_packet.specs.declared.refusal.LineRefusal.{LineRefusal}
 use Rattle.ssh_packet.specs.declared.refusal.LineRefusal.TheVariants as line
 use Rattle.ssh_model.specs.declared.refusal.Refusal.{Refusal as Refused}
 use Rattle.ssh_packet.specs.Directions.{Receiver, Receives}
-use Rattle.ssh_packet.specs.declared.packets.step.PacketStep.{PacketStep}
-use Rattle.ssh_packet.specs.declared.packets.step.PacketStep.TheVariants as step
+use Rattle.ssh_packet.specs.declared.step.PacketStep.{PacketStep}
+use Rattle.ssh_packet.specs.declared.step.PacketStep.TheVariants as step
 use Rattle.ssh_transport_machine.specs.LineTurns.{LineTaken}
 use Rattle.ssh_transport_machine.specs.Opening.{IsOpened}
 use Rattle.ssh_transport_machine.specs.Puts.{Outs}
+use Rattle.ssh_transport_machine.specs.Shown as shown
 use Rattle.ssh_transport_machine.specs.Shown.{IsLineItem, IsOpening, LineTurnOf, PacketTurnOf, WouldAnswerPacket, opening}
 use Rattle.ssh_transport_machine.specs.State.{IsLive, State}
-use Rattle.ssh_transport_machine.specs.Turning.{Becomes, FoundLacks, PacketDone, PacketLacks, PacketTaken, RefusalDone}
+use Rattle.ssh_transport_machine.specs.Turning.{BecomesBy, FoundLacks, PacketDone, PacketLacks, PacketTaken, RefusalDone}
 use Rattle.ssh_transport_machine.specs.declared.machine.line_turn.LineTurn.{LineTurn}
 use Rattle.ssh_transport_machine.specs.declared.machine.line_turn.LineTurn.TheVariants as turn
-use Rattle.ssh_transport_machine.specs.declared.machine.turn.PacketTurn.{PacketTurn}
-use Rattle.ssh_transport_machine.specs.declared.machine.turn.PacketTurn.TheVariants as packet_turn
+use Rattle.ssh_transport_machine.specs.declared.machine.own.Own.{Own}
+use Rattle.ssh_transport_machine.specs.declared.outcome.TransportTurn.{TransportTurn}
+use Rattle.ssh_transport_machine.specs.declared.outcome.TransportTurn.TheVariants as outcome
 use Rattle.ssh_transport_machine.proofs.Deaths.{said_so, turn_lacks}
 use Rattle.ssh_transport_machine.proofs.Lifting.{PayloadLaws, turns_lifted}
 
@@ -94,18 +96,19 @@ module _ {K : Type 0} (laws : UnitLaws K) (p : Parties K) (side : Side) (h : Lis
     said_by : (why : Refusal) (between : Transport K) (said : List Spelled) (more : List ℕ) → between ≡ old.kept → SaysWhy p.crypto between why said more → SaysWhy p.crypto old.kept why said more
     said_by why between said more e x = subst (λ (t : Transport K). SaysWhy p.crypto t why said more) e x
 
-    more_lifted : (bytes : List ℕ) (between new : State K) (o : Outs) → Receives p.crypto bytes old.receiver step.More between.receiver → between ≡ record old { receiver = between.receiver; kept = record old.kept { taking = between.receiver.direction } } → Becomes between between.kept new o →
-        PacketTurnOf p side h old.kept bytes packet_turn.More new o
-    more_lifted bytes between new o x e y = record {
-      begun = subst (λ (d : Direction K). IsPacketBegun p.crypto d.key d.count bytes) (sym live.taking) x.0;
-      after = ap (λ (t : State K). t.kept) y.after ∙ same_by between.receiver between e (ap (λ (r : Receiver K). r.direction) x.1);
-      quiet = y.quiet;
-    }
+    more_lifted : (bytes : List ℕ) (given : TransportTurn) (between new : State K) (o : Outs) → Receives p.crypto bytes old.receiver step.More between.receiver → between ≡ record old { receiver = between.receiver; kept = record old.kept { taking = between.receiver.direction } } → BecomesBy between between.kept outcome.More given new o →
+        PacketTurnOf p side h old.kept bytes (Break given) new o
+    more_lifted bytes given between new o x e y =
+        subst (λ (t : TransportTurn). PacketTurnOf p side h old.kept bytes (Break t) new o) (sym y.told) (shown.PacketTurnOf.begun (record {
+          begun = subst (λ (d : Direction K). IsPacketBegun p.crypto d.key d.count bytes) (sym live.taking) x.0;
+          after = ap (λ (t : State K). t.kept) y.becomes.after ∙ same_by between.receiver between e (ap (λ (r : Receiver K). r.direction) x.1);
+          quiet = y.becomes.quiet;
+        }))
 
-    refusal_lifted : (bytes : List ℕ) (r why : Refused) (between new : State K) (o : Outs) → Receives p.crypto bytes old.receiver (step.Refused r) between.receiver → between ≡ record old { receiver = between.receiver; kept = record old.kept { taking = between.receiver.direction } } → RefusalDone p.crypto between r why new o →
-        PacketTurnOf p side h old.kept bytes (packet_turn.Refused why) new o
-    refusal_lifted bytes r why between new o x e y =
-        subst (λ (w : Refused). PacketTurnOf p side h old.kept bytes (packet_turn.Refused w) new o) (sym y.same) (record {
+    refusal_lifted : (bytes : List ℕ) (r : Refused) (given : TransportTurn) (between new : State K) (o : Outs) → Receives p.crypto bytes old.receiver (step.Refused r) between.receiver → between ≡ record old { receiver = between.receiver; kept = record old.kept { taking = between.receiver.direction } } → RefusalDone p.crypto between r given new o →
+        PacketTurnOf p side h old.kept bytes (Break given) new o
+    refusal_lifted bytes r given between new o x e y =
+        subst (λ (t : TransportTurn). PacketTurnOf p side h old.kept bytes (Break t) new o) (sym y.told) (shown.PacketTurnOf.refused (record {
           packet = packet_at bytes (RefusedPacket r) x.0;
           unit = packet_by bytes (RefusedPacket r) x.0;
           said = y.refuses.said;
@@ -113,28 +116,28 @@ module _ {K : Type 0} (laws : UnitLaws K) (p : Parties K) (side : Side) (h : Lis
           turned = laws.refused p side h old.kept sums alive r y.refuses.said y.refuses.more new.kept (said_by r between.kept y.refuses.said y.refuses.more (same_by between.receiver between e (ap (λ (w : Receiver K). w.direction) x.1)) y.refuses.says) (ap (λ (t : Transport K). t.dead) y.refuses.after);
           parts = y.refuses.parts;
           lists = y.refuses.lists;
-        })
+        }))
 
     found_by : (bytes : List ℕ) (between : State K) → Receives p.crypto bytes old.receiver step.Payload between.receiver → between ≡ record old { receiver = between.receiver; kept = record old.kept { taking = between.receiver.direction } } → between.kept ≡ after_taken old.kept
     found_by bytes between x e = taking_by between.receiver between e ∙ (λ i. record old.kept { taking = (ap (λ (r : Receiver K). r.direction) x.1 ∙ ap (λ (d : Direction K). counted d) (sym live.taking)) i })
 
-    packet_done : PayloadLaws K → (bytes : List ℕ) (found : PacketStep) (done : PacketTurn) (between new : State K) (o : Outs) → Receives p.crypto bytes old.receiver found between.receiver → between ≡ record old { receiver = between.receiver; kept = record old.kept { taking = between.receiver.direction } } → PacketDone p.crypto between found done new o →
+    packet_done : PayloadLaws K → (bytes : List ℕ) (found : PacketStep Refusal) (done : ControlFlow TransportTurn Own) (between new : State K) (o : Outs) → Receives p.crypto bytes old.receiver found between.receiver → between ≡ record old { receiver = between.receiver; kept = record old.kept { taking = between.receiver.direction } } → PacketDone p.crypto between found done new o →
         PacketTurnOf p side h old.kept bytes done new o
-    packet_done rows bytes step.More packet_turn.More between new o x e y = more_lifted bytes between new o x e y
-    packet_done rows bytes (step.Refused r) (packet_turn.Refused why) between new o x e y = refusal_lifted bytes r why between new o x e y
-    packet_done rows bytes step.Payload (packet_turn.Payload done) between new o x e y = record {
+    packet_done rows bytes step.More (Break given) between new o x e y = more_lifted bytes given between new o x e y
+    packet_done rows bytes (step.Refused r) (Break given) between new o x e y = refusal_lifted bytes r given between new o x e y
+    packet_done rows bytes step.Payload done between new o x e y = shown.PacketTurnOf.payload (record {
       between = between;
       packet = packet_at bytes (Outcome.Opens between.receiver.payload) x.0;
       unit = packet_by bytes (Outcome.Opens between.receiver.payload) x.0;
       kept = found_by bytes between x e;
       turn = turns_lifted rows p side h old.kept sums alive between done new o (found_by bytes between x e) y;
-    }
+    })
     packet_done rows bytes _ _ between new o x e y = absurd y
 
-    pub packet_lifted : PayloadLaws K → (bytes : List ℕ) (done : PacketTurn) (new : State K) (o : Outs) → PacketTaken p.crypto old bytes done new o → PacketTurnOf p side h old.kept bytes done new o
+    pub packet_lifted : PayloadLaws K → (bytes : List ℕ) (done : ControlFlow TransportTurn Own) (new : State K) (o : Outs) → PacketTaken p.crypto old bytes done new o → PacketTurnOf p side h old.kept bytes done new o
     packet_lifted rows bytes done new o x = packet_done rows bytes x.found done x.between new o x.receives x.rest x.does
 
-    lacks_at : (bytes : List ℕ) (between : State K) (found : PacketStep) → Receives p.crypto bytes old.receiver found between.receiver → between ≡ record old { receiver = between.receiver; kept = record old.kept { taking = between.receiver.direction } } → FoundLacks between found → PayloadLaws K →
+    lacks_at : (bytes : List ℕ) (between : State K) (found : PacketStep Refusal) → Receives p.crypto bytes old.receiver found between.receiver → between ≡ record old { receiver = between.receiver; kept = record old.kept { taking = between.receiver.direction } } → FoundLacks between found → PayloadLaws K →
         WouldAnswerPacket p side old.kept bytes
     lacks_at bytes between step.More x e y rows = absurd y
     lacks_at bytes between (step.Refused why) x e y rows =

@@ -19,15 +19,14 @@ use Rattle.ssh_transport_machine.specs.Puts.{Outs}
 use Rattle.ssh_transport_machine.specs.Shown.{WouldAnswerPacket}
 use Rattle.ssh_transport_machine.specs.State.{State}
 use Rattle.ssh_transport_machine.specs.Turning.{IsQuiet}
-use Rattle.ssh_transport_machine.specs.declared.machine.turn.PacketTurn.{PacketTurn}
-use Rattle.ssh_transport_machine.specs.declared.machine.turn.PacketTurn.TheVariants as packet_turn
-use Rattle.ssh_transport_machine.specs.declared.machine.turn.PayloadTurn.TheVariants as turn
+use Rattle.ssh_transport_machine.specs.declared.outcome.TransportTurn.{TransportTurn}
+use Rattle.ssh_transport_machine.specs.declared.outcome.TransportTurn.TheVariants as outcome
 use Rattle.ssh_model.specs.Protocol.Bounds.{numbers_of_epoch}
 
--- A payload was left to the role, or to the layers above.
-abbrev pub is_left : PacketTurn → Bool
-is_left (packet_turn.Payload (turn.Left what)) = true
-is_left _ = false
+-- A payload is for the layers above.
+abbrev pub is_up : TransportTurn → Bool
+is_up (outcome.Up number) = true
+is_up _ = false
 
 -- The unit is a packet of a payload for the layers above, which is shown, and nothing was done with it yet.
 pub record IsAbove {K : Type 0} (p : Parties K) (side : Side) (history : List Item) (s : Transport K)

@@ -1,6 +1,8 @@
 -- The turns of a session that those of a machine are, and what each answer of a machine shows of them.
 use Rattle.std.specs.Prelude.{◌≡◌, ℕ, ◌+◌, ◌<◌, ◌≤◌, Bool, true, false, None, Some, List, [], ◌∷◌, ◌++◌}
 use Rattle.std.specs.Prelude.{length}
+use Rattle.std.specs.declared.ops.ControlFlow.{ControlFlow}
+use Rattle.std.specs.declared.ops.ControlFlow.TheVariants.{Break, Continue}
 use Rattle.ssh_model.specs.declared.side.Side.{Side}
 use Rattle.ssh_model.specs.declared.side.Side.TheVariants.{Server}
 use Rattle.ssh_model.specs.Protocol.Wire.Message.{Msg, Msg.Debug, Msg.Disconnect, Msg.ExtInfo, Msg.Ignore, Msg.KexInit}
@@ -31,18 +33,20 @@ use Rattle.ssh_model.specs.declared.ask_refusal.AskRefusal.{AskRefusal}
 use Rattle.ssh_model.specs.declared.refusal.Refusal.{Refusal}
 use Rattle.ssh_transport_machine.specs.Judging.{PayloadJudged}
 use Rattle.ssh_transport_machine.specs.Puts.{Outs, payloads_of}
-use Rattle.ssh_transport_machine.specs.State.{State}
+use Rattle.ssh_transport_machine.specs.State.{State, last_number}
 use Rattle.ssh_transport_machine.specs.Turning.{IsQuiet}
 use Rattle.ssh_transport_machine.specs.declared.machine.judging.Judged.{Judged}
+use Rattle.ssh_transport_machine.specs.declared.machine.judging.Judged.TheVariants as judged
 use Rattle.ssh_transport_machine.specs.declared.machine.line_turn.LineTurn.{LineTurn}
 use Rattle.ssh_transport_machine.specs.declared.machine.line_turn.LineTurn.TheVariants as line_turn
+use Rattle.ssh_transport_machine.specs.declared.machine.own.Own.{Own}
+use Rattle.ssh_transport_machine.specs.declared.machine.own.Own.TheVariants as own
 use Rattle.ssh_transport_machine.specs.declared.machine.turn.Answer.TheVariants.{Done, Spent}
 use Rattle.ssh_transport_machine.specs.declared.machine.turn.AskTurn.{AskTurn}
 use Rattle.ssh_transport_machine.specs.declared.machine.turn.AskTurn.TheVariants as ask_turn
-use Rattle.ssh_transport_machine.specs.declared.machine.turn.PacketTurn.{PacketTurn}
-use Rattle.ssh_transport_machine.specs.declared.machine.turn.PacketTurn.TheVariants as packet_turn
-use Rattle.ssh_transport_machine.specs.declared.machine.turn.PayloadTurn.{PayloadTurn}
-use Rattle.ssh_transport_machine.specs.declared.machine.turn.PayloadTurn.TheVariants as turn
+use Rattle.ssh_transport_machine.specs.declared.outcome.Effect.TheVariants as effect
+use Rattle.ssh_transport_machine.specs.declared.outcome.TransportTurn.{TransportTurn}
+use Rattle.ssh_transport_machine.specs.declared.outcome.TransportTurn.TheVariants as turn
 use Rattle.ssh_model.specs.Protocol.Bounds.{numbers_of_epoch}
 
 -- what is told of a message that is not answered
@@ -53,47 +57,42 @@ pub data IsTold : Msg → Fact → Type 0 where
       IsTold (Debug display message language) (Debugged display message)
   extensions : (announced : List Extension) → IsTold (ExtInfo announced) (GotExtensions announced)
 
--- The messages that were sent in a turn, the newest first, and all its items, by what was done with the payload: one
--- constructor a row.
-pub data Shows {K : Type 0} (s : Transport K) (payload : List ℕ) : PayloadTurn → List Spelled → List Item → Type 0 where
-  refused : {said : List Spelled} (why : Refusal) →
-      Shows s payload (turn.Refused why) said (refusal_items why (Some payload) said)
-  skipped : Shows s payload turn.Skipped [] (Told Ignored ∷ TookGuess payload ∷ [])
-  disconnected : (reason : ℕ) (description language : List ℕ) →
-      IsPayload false (Disconnect reason description language) payload →
-      Shows s payload turn.Disconnected []
-      (Died ∷ Told (Disconnected reason description) ∷ Took None (Disconnect reason description language) payload ∷ [])
-  told : (message : Msg) (fact : Fact) → IsPayload false message payload → IsTold message fact →
-      Shows s payload turn.Told [] (Told fact ∷ Took None message payload ∷ [])
-  unknown : (number : ℕ) (reply : List ℕ) → IsPayload false (Unknown number) payload →
-      Shows s payload (turn.Unknown Done) (SpelledBy (Unimplemented s.taking.number) reply ∷ [])
-      (items_sent (SpelledBy (Unimplemented s.taking.number) reply ∷ []) ++ Took None (Unknown number) payload ∷ [])
-  service_requested : (service reply : List ℕ) → IsPayload false (ServiceRequest service) payload →
-      Shows s payload (turn.ServiceRequested Done) (SpelledBy (ServiceAccept service) reply ∷ [])
-      (items_sent (SpelledBy (ServiceAccept service) reply ∷ []) ++ Took None (ServiceRequest service) payload ∷ [])
-  service_accepted : (service : List ℕ) → IsPayload false (ServiceAccept service) payload →
-      Shows s payload turn.ServiceAccepted [] (Told Service ∷ Took None (ServiceAccept service) payload ∷ [])
-  kexinit : (theirs : Proposal) → IsPayload false (KexInit theirs) payload →
-      Shows s payload (turn.Kexinit Done) [] (Took None (KexInit theirs) payload ∷ [])
-  kexinit_answered : (theirs : Proposal) (own cookie : List ℕ) → IsPayload false (KexInit theirs) payload →
-      Shows s payload (turn.Kexinit Done) (SpelledBy (KexInit (offer_of s.settings Server false cookie)) own ∷ [])
-      (items_sent (SpelledBy (KexInit (offer_of s.settings Server false cookie)) own ∷ [])
-      ++ Took None (KexInit theirs) payload ∷ [])
-  newkeys : IsPayload false NewKeys payload → Shows s payload turn.NewKeys [] (Took None NewKeys payload ∷ [])
-  unknown_spent : Shows s payload (turn.Unknown Spent) []
-      (Died ∷ Refused refusals.NumberSpent (Some payload) ∷ [])
-  service_spent : Shows s payload (turn.ServiceRequested Spent) []
-      (Died ∷ Refused refusals.NumberSpent (Some payload) ∷ [])
-  kexinit_spent : Shows s payload (turn.Kexinit Spent) []
-      (Died ∷ Refused refusals.NumberSpent (Some payload) ∷ [])
+-- The messages that were sent in a turn, the newest first, and all its items, by what is told of the payload: one
+-- constructor a row. Where no number was left for an answer nothing was sent, and the refusal is that.
+pub data Shows {K : Type 0} (s : Transport K) (payload : List ℕ) : TransportTurn → List Spelled → List Item → Type 0
+  where
+    refused : {said : List Spelled} (why : Refusal) →
+        Shows s payload (turn.Refused why) said (refusal_items why (Some payload) said)
+    skipped : Shows s payload (turn.Done effect.Skipped) [] (Told Ignored ∷ TookGuess payload ∷ [])
+    disconnected : (reason : ℕ) (description language : List ℕ) →
+        IsPayload false (Disconnect reason description language) payload →
+        Shows s payload (turn.Done effect.Disconnected) []
+        (Died ∷ Told (Disconnected reason description) ∷ Took None (Disconnect reason description language) payload ∷ [])
+    told : (message : Msg) (fact : Fact) → IsPayload false message payload → IsTold message fact →
+        Shows s payload (turn.Done effect.Told) [] (Told fact ∷ Took None message payload ∷ [])
+    unknown : (number : ℕ) (reply : List ℕ) → IsPayload false (Unknown number) payload →
+        Shows s payload (turn.Done effect.Unknown) (SpelledBy (Unimplemented s.taking.number) reply ∷ [])
+        (items_sent (SpelledBy (Unimplemented s.taking.number) reply ∷ []) ++ Took None (Unknown number) payload ∷ [])
+    service_requested : (service reply : List ℕ) → IsPayload false (ServiceRequest service) payload →
+        Shows s payload (turn.Done effect.ServiceRequested) (SpelledBy (ServiceAccept service) reply ∷ [])
+        (items_sent (SpelledBy (ServiceAccept service) reply ∷ []) ++ Took None (ServiceRequest service) payload ∷ [])
+    service_accepted : (service : List ℕ) → IsPayload false (ServiceAccept service) payload →
+        Shows s payload (turn.Done effect.ServiceAccepted) [] (Told Service ∷ Took None (ServiceAccept service) payload ∷ [])
+    kexinit : (theirs : Proposal) → IsPayload false (KexInit theirs) payload →
+        Shows s payload (turn.Done effect.Kexinit) [] (Took None (KexInit theirs) payload ∷ [])
+    kexinit_answered : (theirs : Proposal) (own cookie : List ℕ) → IsPayload false (KexInit theirs) payload →
+        Shows s payload (turn.Done effect.Kexinit) (SpelledBy (KexInit (offer_of s.settings Server false cookie)) own ∷ [])
+        (items_sent (SpelledBy (KexInit (offer_of s.settings Server false cookie)) own ∷ [])
+        ++ Took None (KexInit theirs) payload ∷ [])
+    newkeys : IsPayload false NewKeys payload → Shows s payload (turn.Done effect.NewKeys) [] (Took None NewKeys payload ∷ [])
 
 -- What was done with a payload is a turn of a session, with these items, bytes and payloads listed.
 pub record IsTurn {K : Type 0} (p : Parties K) (side : Side) (history : List Item) (s : Transport K)
-    (payload : List ℕ) (done : PayloadTurn) (new : Transport K) (o : Outs) : Type 0 where
+    (payload : List ℕ) (given : TransportTurn) (new : Transport K) (o : Outs) : Type 0 where
   pub said : List Spelled
   pub items : List Item
   pub more : List ℕ
-  pub shows : Shows s payload done said items
+  pub shows : Shows s payload given said items
   pub turned : Turned p side history payload items more new
   pub parts : o.after ≡ o.before ++ more
   pub lists : o.relisted ≡ o.listed ++ payloads_of said
@@ -105,11 +104,22 @@ pub record IsLeftSo {K : Type 0} (s : Transport K) (payload : List ℕ) (what : 
   pub after : new ≡ old
   pub quiet : IsQuiet o
 
--- the one or the other
-abbrev pub TurnOf : {K : Type 0} → Parties K → Side → (history : List Item) → Transport K → State K → PayloadTurn →
-    State K → Outs → Type 0
-TurnOf p side history s old (turn.Left what) new o = IsLeftSo s old.receiver.payload what old new o
-TurnOf p side history s old done new o = IsTurn p side history s old.receiver.payload done new.kept o
+-- what a payload was judged to be that is left to the role
+abbrev pub judged_by : Own → Judged
+judged_by (own.Kexinit facts) = judged.Kexinit facts
+judged_by own.Init = judged.Init
+judged_by own.Reply = judged.Reply
+
+-- What was done with a payload is a turn; or nothing was done yet, and it is for the layers above, with the number of its
+-- packet, or for the role.
+pub data TurnOf {K : Type 0} (p : Parties K) (side : Side) (history : List Item) (s : Transport K) (old : State K) :
+    ControlFlow TransportTurn Own → State K → Outs → Type 0 where
+  turned : {given : TransportTurn} {new : State K} {o : Outs} →
+      IsTurn p side history s old.receiver.payload given new.kept o → TurnOf p side history s old (Break given) new o
+  above : {given : TransportTurn} {new : State K} {o : Outs} → given ≡ turn.Up (last_number old.kept.taking) →
+      IsLeftSo s old.receiver.payload judged.Above old new o → TurnOf p side history s old (Break given) new o
+  of_role : (left : Own) {new : State K} {o : Outs} → IsLeftSo s old.receiver.payload (judged_by left) old new o →
+      TurnOf p side history s old (Continue left) new o
 
 -- ---- asks
 
@@ -186,7 +196,7 @@ LineTurnOf p side history s bytes (line_turn.Refused why) new =
 
 -- The unit is a packet of this payload, and what was done with that is a turn of a session, or it is left.
 pub record IsPayloadTurn {K : Type 0} (p : Parties K) (side : Side) (history : List Item) (s : Transport K)
-    (bytes : List ℕ) (done : PayloadTurn) (new : State K) (o : Outs) : Type 0 where
+    (bytes : List ℕ) (done : ControlFlow TransportTurn Own) (new : State K) (o : Outs) : Type 0 where
   pub between : State K
   pub packet : PacketUnit p.crypto s.taking.key s.taking.number s.taking.count bytes (Opens between.receiver.payload)
   pub unit : IsUnit p.crypto (stage p side history) bytes (Opens between.receiver.payload)
@@ -211,13 +221,15 @@ pub record IsPacketRefusal {K : Type 0} (p : Parties K) (side : Side) (history :
   pub parts : o.after ≡ o.before ++ more
   pub lists : o.relisted ≡ o.listed ++ payloads_of said
 
--- what a call made of the bytes of a packet begun with those that it used
-abbrev pub PacketTurnOf : {K : Type 0} → Parties K → Side → (history : List Item) → Transport K → List ℕ → PacketTurn →
-    State K → Outs → Type 0
-PacketTurnOf p side history s bytes packet_turn.More new o = IsPacketBegunBy p s bytes new.kept o
-PacketTurnOf p side history s bytes (packet_turn.Refused why) new o =
-    IsPacketRefusal p side history s bytes why new.kept o
-PacketTurnOf p side history s bytes (packet_turn.Payload done) new o = IsPayloadTurn p side history s bytes done new o
+-- What a call made of the bytes of a packet begun with those that it used.
+pub data PacketTurnOf {K : Type 0} (p : Parties K) (side : Side) (history : List Item) (s : Transport K)
+    (bytes : List ℕ) : ControlFlow TransportTurn Own → State K → Outs → Type 0 where
+  begun : {new : State K} {o : Outs} → IsPacketBegunBy p s bytes new.kept o →
+      PacketTurnOf p side history s bytes (Break turn.More) new o
+  refused : {why : Refusal} {new : State K} {o : Outs} → IsPacketRefusal p side history s bytes why new.kept o →
+      PacketTurnOf p side history s bytes (Break (turn.Refused why)) new o
+  payload : {done : ControlFlow TransportTurn Own} {new : State K} {o : Outs} →
+      IsPayloadTurn p side history s bytes done new o → PacketTurnOf p side history s bytes done new o
 
 -- ---- where memory fails
 

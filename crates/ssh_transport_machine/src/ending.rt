@@ -1,6 +1,7 @@
 //! Laws of what begins and ends an exchange. Facts for proofs, at no cost.
 
 ghost use Rattle.std.specs.Prelude.{◌≡◌, ℕ, Bool, List, Option, Some, false, true};
+ghost use Rattle.std.specs.declared.ops.ControlFlow.{ControlFlow};
 ghost use Rattle.ssh_model.specs.declared.side.Side.{Side};
 ghost use Rattle.ssh_model.specs.Protocol.Wire.Message.{Msg};
 ghost use Rattle.ssh_model.specs.Protocol.Wire.Sealing.{Crypto};
@@ -21,9 +22,10 @@ ghost use Rattle.ssh_transport_machine.specs.Turning.{Answers, PacketTaken};
 ghost use Rattle.ssh_transport_machine.specs.declared.machine.judging.Judged.TheVariants as judged;
 ghost use Rattle.ssh_transport_machine.specs.declared.machine.kexinit.KexinitFacts.{KexinitFacts};
 ghost use Rattle.ssh_transport_machine.specs.declared.machine.line_turn.LineTurn.{LineTurn};
+ghost use Rattle.ssh_transport_machine.specs.declared.machine.own.Own.{Own};
 ghost use Rattle.ssh_transport_machine.specs.declared.machine.turn.Answer.{Answer};
 ghost use Rattle.ssh_transport_machine.specs.declared.machine.turn.AskTurn.{AskTurn};
-ghost use Rattle.ssh_transport_machine.specs.declared.machine.turn.PacketTurn.{PacketTurn};
+ghost use Rattle.ssh_transport_machine.specs.declared.outcome.TransportTurn.{TransportTurn};
 
 /// An end that is not blocked sums up its history as well without the secret of the exchange that is over.
 #[tactic(auto, using(crate::proofs::Endings::goes_on))]
@@ -39,7 +41,7 @@ pub fn choices_kept<K>()
         IsOpened c settings side cookie secret new o → IsChoosing new.kept }
     ensures lines { (old : State K) (bytes : List ℕ) (done : LineTurn) (new : State K) → IsChoosing old.kept →
         LineTaken old bytes done new → new.kept.dead ≡ false → IsChoosing new.kept }
-    ensures packets { (c : Crypto K) (old : State K) (bytes : List ℕ) (done : PacketTurn) (new : State K) (o : Outs) →
+    ensures packets { (c : Crypto K) (old : State K) (bytes : List ℕ) (done : ControlFlow TransportTurn Own) (new : State K) (o : Outs) →
         IsChoosing old.kept → PacketTaken c old bytes done new o → new.kept.dead ≡ false → IsChoosing new.kept }
     ensures asks { (c : Crypto K) (old : State K) (ask : Ask) (done : AskTurn) (new : State K) (o : Outs) → IsChoosing old.kept →
         AskDone c old ask done new o → new.kept.dead ≡ false → IsChoosing new.kept }

@@ -13,11 +13,10 @@ mod outgoing;
 pub mod standing;
 
 pub use machine::{
-    Answer, AskTurn, ExchangeKeys, Judged, KexinitFacts, LineTurn, Machine, Material, PacketTurn,
-    PayloadTurn, Phase, Points,
+    Answer, AskTurn, ExchangeKeys, Judged, KexinitFacts, LineTurn, Machine, Material, Own, Phase,
+    Points,
 };
 pub use outcome::{
     Effect, TransportAsk, TransportFault, TransportTurn, answer_outcome, line_outcome,
-    packet_outcome,
 };
 pub use outgoing::Outgoing;

@@ -23,6 +23,7 @@ mod material;
 mod numbers;
 mod offering;
 mod opening;
+mod own;
 mod pairs;
 mod phase;
 mod queries;
@@ -43,13 +44,14 @@ pub use kexinit::KexinitFacts;
 use kexinit_payload::KexinitPayload;
 pub use line_turn::LineTurn;
 pub use material::Material;
+pub use own::Own;
 pub use phase::Phase;
 use ssh_config::Config;
 use ssh_packet::{LineReader, LineStep, PacketReceiver, PacketSender, Sealing};
 use ssh_types::Side;
 use std::alloc::Global;
 use std::marker::Model;
-pub use turn::{Answer, AskTurn, PacketTurn, PayloadTurn};
+pub use turn::{Answer, AskTurn};
 
 /// One end, without the parts that only one side has.
 pub struct Machine<S: Sealing> {

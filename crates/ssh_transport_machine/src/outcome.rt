@@ -2,10 +2,9 @@
 
 ghost use Rattle.ssh_transport_machine.specs.declared.outcome.TransportFault.TheVariants.{Memory};
 ghost use Rattle.std.specs.Prelude.{◌≡◌};
-ghost use Rattle.ssh_transport_machine.specs.Outcomes.{LineOutcome, answer_outcome as of_answer, packet_outcome as of_packet};
-ghost use Rattle.ssh_transport_machine.specs.Outcomes.{payload_outcome as of_payload};
+ghost use Rattle.ssh_transport_machine.specs.Outcomes.{LineOutcome, answer_outcome as of_answer};
 
-use crate::machine::{Answer, LineTurn, PacketTurn, PayloadTurn};
+use crate::machine::{Answer, LineTurn};
 use ssh_kex::OwnedChoice;
 use ssh_message::Message;
 use ssh_types::Refusal;
@@ -95,35 +94,6 @@ pub fn line_outcome(done: LineTurn) -> TransportTurn
         LineTurn::Other => TransportTurn::Done(Effect::OtherLine),
         LineTurn::Version => TransportTurn::Done(Effect::VersionLine),
         LineTurn::Refused(why) => TransportTurn::Refused(Refusal::from(why)),
-    }
-}
-
-/// What the bytes of a packet with this sequence number come to.
-pub fn packet_outcome(done: PacketTurn, number: u32) -> TransportTurn
-    ensures { result ≡ of_packet done number }
-{
-    match done {
-        PacketTurn::More => TransportTurn::More,
-        PacketTurn::Refused(why) => TransportTurn::Refused(why),
-        PacketTurn::Payload(done) => payload_outcome(done, number),
-    }
-}
-
-// What its payload comes to.
-fn payload_outcome(done: PayloadTurn, number: u32) -> TransportTurn
-    ensures { result ≡ of_payload done number }
-{
-    match done {
-        PayloadTurn::Refused(why) => TransportTurn::Refused(why),
-        PayloadTurn::Skipped => TransportTurn::Done(Effect::Skipped),
-        PayloadTurn::Disconnected => TransportTurn::Done(Effect::Disconnected),
-        PayloadTurn::Told => TransportTurn::Done(Effect::Told),
-        PayloadTurn::Unknown(answer) => answer_outcome(answer, Effect::Unknown),
-        PayloadTurn::ServiceRequested(answer) => answer_outcome(answer, Effect::ServiceRequested),
-        PayloadTurn::ServiceAccepted => TransportTurn::Done(Effect::ServiceAccepted),
-        PayloadTurn::Kexinit(answer) => answer_outcome(answer, Effect::Kexinit),
-        PayloadTurn::NewKeys => TransportTurn::Done(Effect::NewKeys),
-        PayloadTurn::Left(_) => TransportTurn::Up(number),
     }
 }
 

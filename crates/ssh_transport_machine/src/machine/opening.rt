@@ -5,10 +5,11 @@ ghost use Rattle.ssh_packet.specs.Directions.{Receives};
 
 use crate::machine::Machine;
 use ssh_packet::{PacketStep, Sealing};
+use ssh_types::Refusal;
 
 impl<S: Sealing> Machine<S> {
     /// Takes bytes to the end of one packet. It needs no memory.
-    pub fn open(&mut self, bytes: &[u8]) -> (usize, PacketStep)
+    pub fn open(&mut self, bytes: &[u8]) -> (usize, PacketStep<Refusal>)
         requires { self.old.receiver.ended ≡ None }
         ensures used { result.0 ≤ length bytes.now }
         ensures progress { 0 < length bytes.now → 0 < result.0 }

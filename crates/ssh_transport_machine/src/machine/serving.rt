@@ -11,14 +11,16 @@ ghost use Rattle.ssh_transport_machine.specs.Turning.{Does, KexinitDone, Kexinit
 ghost use Rattle.ssh_transport_machine.specs.declared.machine.judging.Judged.TheVariants as judgement;
 
 use crate::machine::Machine;
-use crate::machine::judging::Judged;
 use crate::machine::kexinit::KexinitFacts;
-use crate::machine::turn::{Answer, PayloadTurn};
+use crate::machine::own::Own;
+use crate::machine::turn::Answer;
+use crate::outcome::{Effect, TransportTurn, answer_outcome};
 use crate::outgoing::Outgoing;
 use ssh_config::every_config_is_good;
 use ssh_packet::{Filler, Sealing};
 use ssh_types::Side;
 use std::alloc::AllocError;
+use std::ops::ControlFlow;
 
 impl<S: Sealing> Machine<S> {
     /// A KEXINIT that nothing refuses: a server takes it, and a client's answer is left to it.
@@ -32,7 +34,7 @@ impl<S: Sealing> Machine<S> {
         facts: KexinitFacts,
         out: &mut Vec<u8>,
         sent: &mut Outgoing<F>,
-    ) -> Result<PayloadTurn, AllocError>
+    ) -> Result<ControlFlow<TransportTurn, Own>, AllocError>
         requires { self.old.kept.blocked ≡ false → self.old.kept.material ≡ None → ⊥ }
         ensures does { IfOk result (λ done. Does S.crypto self.old (judgement.Kexinit facts) done self.new
             (outs out.old out.new sent.old sent.new)) }
@@ -44,8 +46,11 @@ impl<S: Sealing> Machine<S> {
             (sending_by self.new sent.new out.new)) }
     {
         match self.side {
-            Side::Client => Ok(PayloadTurn::Left(Judged::Kexinit(facts))),
-            Side::Server => Ok(PayloadTurn::Kexinit(self.serve_kexinit(facts, out, sent)?)),
+            Side::Client => Ok(ControlFlow::Continue(Own::Kexinit(facts))),
+            Side::Server => {
+                let answer = self.serve_kexinit(facts, out, sent)?;
+                Ok(ControlFlow::Break(answer_outcome(answer, Effect::Kexinit)))
+            }
         }
     }
 

@@ -3,20 +3,23 @@
 ghost use Rattle.ssh_transport_machine.specs.Padding.{PadsTo, sending_by};
 ghost use Rattle.ssh_transport_machine.specs.Puts.{outs};
 ghost use Rattle.std.specs.Prelude.{◌≡◌, ◌<◌, ◌≤◌, ◌++◌, IfOk, OnErr, OnOk, length, take, true};
-ghost use Rattle.ssh_packet.specs.declared.packets.step.PacketStep.TheVariants as step;
+ghost use Rattle.std.specs.declared.ops.ControlFlow.TheVariants.{Break};
+ghost use Rattle.ssh_packet.specs.declared.step.PacketStep.TheVariants as step;
 ghost use Rattle.ssh_transport_machine.specs.State.{IsLive};
-ghost use Rattle.ssh_transport_machine.specs.Turning.{PacketDone, PacketLacks, PacketTaken, RefusalLacks, TurnLacks};
+ghost use Rattle.ssh_transport_machine.specs.Turning.{PacketDone, PacketLacks, PacketTaken, RefusalLacks};
 
 use crate::machine::Machine;
-use crate::machine::turn::PacketTurn;
+use crate::machine::own::Own;
+use crate::outcome::TransportTurn;
 use crate::outgoing::Outgoing;
 use ssh_packet::{Filler, PacketStep, Sealing};
 use ssh_types::Refusal;
 use std::alloc::AllocError;
+use std::ops::ControlFlow;
 
 impl<S: Sealing> Machine<S> {
-    /// Takes bytes to the end of one packet, and does what its payload asks for, or refuses the peer for it; what only one role does with a
-    /// payload is left.
+    /// Takes bytes to the end of one packet, and does what its payload asks for, or refuses the peer for it: `Break` with what became of
+    /// it. What of an exchange of keys only one role does is left to it: `Continue`.
     ///
     /// # Errors
     ///
@@ -27,11 +30,11 @@ impl<S: Sealing> Machine<S> {
         bytes: &[u8],
         out: &mut Vec<u8>,
         sent: &mut Outgoing<F>,
-    ) -> (usize, Result<PacketTurn, AllocError>)
+    ) -> (usize, Result<ControlFlow<TransportTurn, Own>, AllocError>)
         requires { IsLive self.old }
         ensures used { result.0 ≤ length bytes.now }
         ensures progress { 0 < length bytes.now → 0 < result.0 }
-        ensures more { IfOk result.1 (λ done. done ≡ PacketTurn.More → result.0 ≡ length bytes.now) }
+        ensures more { IfOk result.1 (λ done. done ≡ Break TransportTurn.More → result.0 ≡ length bytes.now) }
         ensures taken { IfOk result.1 (λ done. PacketTaken S.crypto self.old (self.old.receiver.begun ++ take result.0 bytes.now) done
             self.new (outs out.old out.new sent.old sent.new)) }
         ensures dead { OnErr result.1 (self.new.kept.dead ≡ true) }
@@ -43,9 +46,9 @@ impl<S: Sealing> Machine<S> {
     {
         let (used, step) = self.open(bytes);
         match step {
-            PacketStep::More => (used, Ok(PacketTurn::More)),
+            PacketStep::More => (used, Ok(ControlFlow::Break(TransportTurn::More))),
             PacketStep::Refused(why) => (used, self.refuse_packet(why, out, sent)),
-            PacketStep::Payload => (used, self.turn_payload(out, sent)),
+            PacketStep::Payload => (used, self.turn(out, sent)),
         }
     }
 
@@ -55,8 +58,8 @@ impl<S: Sealing> Machine<S> {
         why: Refusal,
         out: &mut Vec<u8>,
         sent: &mut Outgoing<F>,
-    ) -> Result<PacketTurn, AllocError>
-        ensures other { IfOk result (λ done. done ≡ PacketTurn.More → ⊥) }
+    ) -> Result<ControlFlow<TransportTurn, Own>, AllocError>
+        ensures other { IfOk result (λ done. done ≡ Break TransportTurn.More → ⊥) }
         ensures done { IfOk result (λ done. PacketDone S.crypto self.old (step.Refused why) done self.new
             (outs out.old out.new sent.old sent.new)) }
         ensures dead { OnErr result (self.new.kept.dead ≡ true) }
@@ -67,27 +70,6 @@ impl<S: Sealing> Machine<S> {
             (sending_by self.new sent.new out.new)) }
     {
         self.refuse(why, out, sent)?;
-        Ok(PacketTurn::Refused(why))
-    }
-
-    // Does what the payload of a packet asks for.
-    fn turn_payload<F: Filler + Drop>(
-        &mut self,
-        out: &mut Vec<u8>,
-        sent: &mut Outgoing<F>,
-    ) -> Result<PacketTurn, AllocError>
-        requires live { IsLive self.old }
-        requires taken { 1 ≤ self.old.kept.taking.count }
-        ensures other { IfOk result (λ done. done ≡ PacketTurn.More → ⊥) }
-        ensures done { IfOk result (λ done. PacketDone S.crypto self.old step.Payload done self.new
-            (outs out.old out.new sent.old sent.new)) }
-        ensures dead { OnErr result (self.new.kept.dead ≡ true) }
-        ensures lacks { OnErr result (TurnLacks self.old) }
-        ensures out { OnErr result (out.new.items ≡ out.old.items) }
-        ensures kept { OnErr result (sent.new.payloads.items ≡ sent.old.payloads.items) }
-        ensures padded { OnOk result (PadsTo S.crypto F.gives (sending_by self.old sent.old out.old)
-            (sending_by self.new sent.new out.new)) }
-    {
-        Ok(PacketTurn::Payload(self.turn(out, sent)?))
+        Ok(ControlFlow::Break(TransportTurn::Refused(why)))
     }
 }

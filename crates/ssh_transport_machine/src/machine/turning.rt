@@ -3,6 +3,7 @@
 ghost use Rattle.ssh_transport_machine.specs.Padding.{PadsTo, sending_by};
 ghost use Rattle.ssh_transport_machine.specs.Puts.{outs};
 ghost use Rattle.std.specs.Prelude.{◌≡◌, ◌≤◌, IfOk, OnErr, OnOk, true};
+ghost use Rattle.std.specs.declared.ops.ControlFlow.TheVariants.{Break};
 ghost use Rattle.ssh_transport_machine.specs.Judging.{PayloadJudged};
 ghost use Rattle.ssh_transport_machine.specs.State.{IsLive, before_taken};
 ghost use Rattle.ssh_transport_machine.specs.Turning.{Does, NewkeysTaken, TurnLacks, Turns, WouldSend};
@@ -10,14 +11,17 @@ ghost use Rattle.ssh_transport_machine.specs.declared.machine.judging.Judged.The
 ghost use Rattle.ssh_model.specs.Protocol.Bounds.{numbers_of_epoch};
 
 use crate::machine::judging::Judged;
-use crate::machine::turn::PayloadTurn;
+use crate::machine::own::Own;
 use crate::machine::{Machine, Phase};
+use crate::outcome::{Effect, TransportTurn, answer_outcome};
 use crate::outgoing::Outgoing;
 use ssh_packet::{Filler, Sealing};
 use std::alloc::AllocError;
+use std::ops::ControlFlow;
 
 impl<S: Sealing> Machine<S> {
-    /// Does what the payload that is shown asks for; what only one role does with it is left.
+    /// Does what the payload that is shown asks for, and answers `Break` with what became of it. What of an exchange of keys only one role
+    /// does is left to it: `Continue`. A payload for the layers above is `Up`, with the number of its packet.
     ///
     /// # Errors
     ///
@@ -26,9 +30,10 @@ impl<S: Sealing> Machine<S> {
         &mut self,
         out: &mut Vec<u8>,
         sent: &mut Outgoing<F>,
-    ) -> Result<PayloadTurn, AllocError>
+    ) -> Result<ControlFlow<TransportTurn, Own>, AllocError>
         requires live { IsLive self.old }
         requires taken { 1 ≤ self.old.kept.taking.count }
+        ensures other { IfOk result (λ done. done ≡ Break TransportTurn.More → ⊥) }
         ensures turns { IfOk result (λ done. Turns S.crypto self.old done self.new (outs out.old out.new sent.old sent.new)) }
         ensures dead { OnErr result (self.new.kept.dead ≡ true) }
         ensures lacks { OnErr result (TurnLacks self.old) }
@@ -56,7 +61,7 @@ impl<S: Sealing> Machine<S> {
         judged: Judged,
         out: &mut Vec<u8>,
         sent: &mut Outgoing<F>,
-    ) -> Result<PayloadTurn, AllocError>
+    ) -> Result<ControlFlow<TransportTurn, Own>, AllocError>
         requires live { IsLive self.old }
         requires taken { 1 ≤ self.old.kept.taking.count }
         requires judged { PayloadJudged (before_taken self.old.kept) self.old.receiver.payload judged }
@@ -71,33 +76,37 @@ impl<S: Sealing> Machine<S> {
         match judged {
             Judged::Refused(why) => {
                 self.refuse(why, out, sent)?;
-                Ok(PayloadTurn::Refused(why))
+                Ok(ControlFlow::Break(TransportTurn::Refused(why)))
             }
             Judged::Skipped => {
                 self.phase = Phase::Exchanging;
-                Ok(PayloadTurn::Skipped)
+                Ok(ControlFlow::Break(TransportTurn::Done(Effect::Skipped)))
             }
             Judged::Disconnected => {
                 self.dead = true;
-                Ok(PayloadTurn::Disconnected)
+                Ok(ControlFlow::Break(TransportTurn::Done(Effect::Disconnected)))
             }
-            Judged::Told => Ok(PayloadTurn::Told),
-            Judged::Unknown => Ok(PayloadTurn::Unknown(self.reply_unknown(out, sent)?)),
-            Judged::ServiceRequested => Ok(PayloadTurn::ServiceRequested(self.accept_service(
-                out, sent,
-            )?)),
+            Judged::Told => Ok(ControlFlow::Break(TransportTurn::Done(Effect::Told))),
+            Judged::Unknown => {
+                let answer = self.reply_unknown(out, sent)?;
+                Ok(ControlFlow::Break(answer_outcome(answer, Effect::Unknown)))
+            }
+            Judged::ServiceRequested => {
+                let answer = self.accept_service(out, sent)?;
+                Ok(ControlFlow::Break(answer_outcome(answer, Effect::ServiceRequested)))
+            }
             Judged::ServiceAccepted => {
                 self.accepted = true;
-                Ok(PayloadTurn::ServiceAccepted)
+                Ok(ControlFlow::Break(TransportTurn::Done(Effect::ServiceAccepted)))
             }
             Judged::Kexinit(facts) => self.act_on_kexinit(facts, out, sent),
             Judged::NewKeys => {
                 self.begin_epoch();
-                Ok(PayloadTurn::NewKeys)
+                Ok(ControlFlow::Break(TransportTurn::Done(Effect::NewKeys)))
             }
-            Judged::Init => Ok(PayloadTurn::Left(Judged::Init)),
-            Judged::Reply => Ok(PayloadTurn::Left(Judged::Reply)),
-            Judged::Above => Ok(PayloadTurn::Left(Judged::Above)),
+            Judged::Init => Ok(ControlFlow::Continue(Own::Init)),
+            Judged::Reply => Ok(ControlFlow::Continue(Own::Reply)),
+            Judged::Above => Ok(ControlFlow::Break(TransportTurn::Up(self.last_number()))),
         }
     }
 
