@@ -7,7 +7,6 @@ use Rattle.ssh_model.specs.State.Channels.Kept.{Channels, take_checks}
 use Rattle.ssh_model.specs.declared.refusal.Refusal.{Refusal}
 use Rattle.ssh_model.specs.Protocol.Sessions.Refusals.{Check, Check.RefusedWhere, first_refusal}
 use Rattle.ssh_auth.specs.Serving as serving
-use Rattle.ssh_auth.specs.Serving.{IsServerRow, NeedsText, ServerAnswers, ServerRefuses, answered, server_refusals}
 use Rattle.ssh_channels.specs.Rows.{is_connection}
 use Rattle.ssh_end.specs.Layer.{NobodyIs, layer_of}
 use Rattle.ssh_end.specs.declared.layers.layer.Layer.TheVariants as layer

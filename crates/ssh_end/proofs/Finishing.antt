@@ -1,5 +1,6 @@
 -- What an end does with a payload from 50 on is what an end of a session does with it.
-use Rattle.std.proofs.Common.{◌≡◌, ℕ, Bool, false, List, [], ◌∷◌, ◌++◌, append-nil, refl, ap, sym, ◌∙◌, subst, Option, Some, None}
+use Rattle.std.proofs.Common.{◌≡◌, ℕ, Bool, false, List, [], ◌∷◌, ◌++◌, append-nil, arith, refl, ap, sym, ◌∙◌, subst, Option, Some, None}
+use Rattle.std.specs.Prelude.{Result, Ok, Err}
 use Rattle.std.specs.Option.{option_map}
 use Rattle.ssh_model.specs.declared.side.Side.{Side}
 use Rattle.ssh_model.specs.Protocol.Wire.Message.{Msg, IsPayload}
@@ -9,13 +10,14 @@ use Rattle.ssh_model.specs.Protocol.Wire.Unit.{IsUnit}
 use Rattle.ssh_model.specs.State.Channels.Kept.{Channels}
 use Rattle.ssh_model.specs.State.Channels.Summary.{told}
 use Rattle.ssh_model.specs.State.End.Payloads as payloads
-use Rattle.ssh_model.specs.State.End.Payloads.{AnswersAbove, RefusesAbove, TakesPayload}
+use Rattle.ssh_model.specs.State.End.Payloads.{RefusesAbove, TakesPayload}
 use Rattle.ssh_model.specs.State.End.State.{Authentication, EndState, after_above, after_items}
 use Rattle.ssh_model.specs.State.End.Summary.{EndSumsUp, EndTurned}
 use Rattle.ssh_model.specs.Protocol.Sessions.Items.{Fact, Item, Item.Sent, Item.Took, Item.Refused, Spelled, Spelled.SpelledBy, messages_sent}
 use Rattle.ssh_model.specs.Protocol.Sessions.Parties.{Parties}
 use Rattle.ssh_model.specs.declared.refusal.Refusal.{Refusal}
 use Rattle.ssh_model.specs.declared.refusal.Refusal.TheVariants.{NumberSpent}
+use Rattle.ssh_model.specs.Protocol.Bounds.{numbers_of_epoch}
 use Rattle.ssh_model.specs.Protocol.Sessions.Turns.{OnPayload, OnUnit, stage}
 use Rattle.ssh_model.specs.State.TransportLayer.Directions.{Direction}
 use Rattle.ssh_model.specs.State.TransportLayer.Kept.{Transport, after_taken}
@@ -25,13 +27,11 @@ use Rattle.ssh_model.specs.State.TransportLayer.Turns.{PutsPackets, SaysWhy, ref
 use Rattle.ssh_transport_machine.specs.Puts.{Outs, payloads_of}
 use Rattle.ssh_transport_machine.specs.State.{State}
 use Rattle.ssh_model.specs.declared.refusal.Refusal as code
-use Rattle.ssh_model.specs.declared.refusal.Refusal.TheVariants as refusal
-use Rattle.ssh_end.specs.Above.{AnsweredAbove, Awaits, Finished, FinishedAnswer, FinishedRefusal, FinishedSpent, IsReplied, Judged, PutsReply, SpentAbove, after_reply, after_success_where}
+use Rattle.ssh_end.specs.Above.{AnsweredAbove, Awaits, Finished, FinishedAnswer, FinishedRefusal, IsReplied, Judged, PutsReply, RefusedAbove, SpentAbove, after_reply, after_success_where}
 use Rattle.ssh_end.specs.Beside.{channels_beside, last_channels}
 use Rattle.ssh_end.specs.Steps as steps
 use Rattle.ssh_end.specs.Steps.{AreSent, UnitTurned, fact_told}
-use Rattle.ssh_end.specs.declared.above.Judgement.{Judgement}
-use Rattle.ssh_end.specs.declared.above.Judgement.TheVariants as judged
+use Rattle.ssh_end.specs.declared.above.Above.{Above}
 use Rattle.ssh_end.specs.declared.step.Step.{Step}
 use Rattle.ssh_end.specs.declared.step.Step.TheVariants as step
 use Rattle.ssh_end.specs.declared.step.TookStep.{TookStep}
@@ -62,6 +62,12 @@ pub says_before : {K : Type 0} (c : Crypto K) (s : Transport K) (why : Refusal) 
 says_before c s why l more (turns.SaysWhy.silently e) = turns.SaysWhy.silently e
 says_before c s why l more (turns.SaysWhy.spent e) = turns.SaysWhy.spent e
 says_before c s why l more (turns.SaysWhy.said reason payload e puts) = turns.SaysWhy.said reason payload e puts
+
+-- where no number is left, nothing is said of a refusal
+silent : {K : Type 0} (c : Crypto K) (s : Transport K) (why : Refusal) (l : List Spelled) (more : List ℕ) → s.sending.count ≡ numbers_of_epoch → SaysWhy c s why l more → (l ≡ []) × (more ≡ [])
+silent c s why l more full (turns.SaysWhy.silently e) = (refl, refl)
+silent c s why l more full (turns.SaysWhy.spent e) = (refl, refl)
+silent c s why l more full (turns.SaysWhy.said reason payload e (turns.PutsPackets.packet message _ wire turns.PutsPackets.nothing spelled left sealed)) = absurd (omega (arith, full, left))
 
 -- ---- what is put out
 
@@ -139,27 +145,32 @@ module _ {K : Type 0} (p : Parties K) (side : Side) (history : List Item) (e : E
         lists = r.lists ∙ ap (λ (l : List Spelled). o.listed ++ payloads_of l) (sym (refusal_sends r.said why (Some payload)));
       }
 
-  spend : (authentication : Authentication) (channels : Channels) → SpentAbove p e payload → (new : State K) (o : Outs) → FinishedSpent m (step.Refused refusal.NumberSpent) new o →
-      UnitTurned p side history unit payload (step.Refused refusal.NumberSpent) (record { transport = new.kept; authentication = authentication; channels = channels }) o
-  spend authentication channels x new o y = record {
-    items = refusal_items NumberSpent (Some payload) [];
-    more = [];
-    shows = steps.Shows.refused refusal.NumberSpent (Some payload) [];
-    sends_on = λ old older live. refl;
-    turned = opened _ _ _ (taken _ _ _ (payloads.TakesPayload.above_spent x.message x.channel (record { transport = new.kept; authentication = authentication; channels = channels }) x.reads x.unrefused x.answers x.spelled x.some x.none_left (ap (λ (t : State K). t.kept.dead) y.after)));
-    parts = y.quiet.out ∙ sym (append-nil o.before);
-    lists = y.quiet.sent ∙ sym (append-nil o.listed);
-  }
+  spend : (authentication : Authentication) (channels : Channels) → SpentAbove p e payload → (new : State K) (o : Outs) → FinishedRefusal p.crypto m NumberSpent (step.Refused NumberSpent) new o →
+      UnitTurned p side history unit payload (step.Refused NumberSpent) (record { transport = new.kept; authentication = authentication; channels = channels }) o
+  spend authentication channels x new o y =
+      let r = y.refused.refuses in
+      let none : (r.said ≡ []) × (r.more ≡ []) = silent p.crypto m.kept NumberSpent r.said r.more (ap (λ (t : Transport K). t.sending.count) awaits.kept ∙ x.none_left) r.says in
+      record {
+        items = refusal_items NumberSpent (Some payload) [];
+        more = [];
+        shows = steps.Shows.refused NumberSpent (Some payload) [];
+        sends_on = λ old older live. refl;
+        turned = opened _ _ _ (taken _ _ _ (payloads.TakesPayload.above_spent x.message x.channel (record { transport = new.kept; authentication = authentication; channels = channels }) x.reads x.unrefused x.answers x.spelled x.some x.none_left (ap (λ (t : Transport K). t.dead) r.after)));
+        parts = r.parts ∙ ap (λ (l : List ℕ). o.before ++ l) none.1;
+        lists = r.lists ∙ ap (λ (l : List Spelled). o.listed ++ payloads_of l) none.0;
+      }
+
+  refused_by : (why : code.Refusal) (authentication : Authentication) (channels : Channels) → RefusedAbove p e payload why → (new : State K) (o : Outs) → FinishedRefusal p.crypto m why (step.Refused why) new o →
+      UnitTurned p side history unit payload (step.Refused why) (record { transport = new.kept; authentication = authentication; channels = channels }) o
+  refused_by why authentication channels (RefusedAbove.refused _ x) new o y = refuse why authentication channels x new o y
+  refused_by _ authentication channels (RefusedAbove.spent x) new o y = spend authentication channels x new o y
 
   -- the done step is that of what was done
-  pub finished : (judgement : Judgement) (authentication : Authentication) (channels : Channels) → Judged p side e payload judgement authentication channels → (done : Step) (new : State K) (o : Outs) → Finished p.crypto m judgement done new o →
+  pub finished : (given : Result Above Refusal) (authentication : Authentication) (channels : Channels) → Judged p side e payload given authentication channels → (done : Step) (new : State K) (o : Outs) → Finished p.crypto m given done new o →
       UnitTurned p side history unit payload done (record { transport = new.kept; authentication = authentication; channels = channels }) o
-  finished (judged.Answered above) authentication channels x done new o y =
+  finished (Ok above) authentication channels x done new o y =
       subst (λ (d : Step). UnitTurned p side history unit payload d (record { transport = new.kept; authentication = authentication; channels = channels }) o) (sym y.shown)
       (answer above.step (option_map (λ v. v.items) above.reply) above.success authentication channels x new o (record { between = y.between; shown = refl; puts = y.puts; after = y.after }))
-  finished (judged.Refused why) authentication channels x done new o y =
+  finished (Err why) authentication channels x done new o y =
       subst (λ (d : Step). UnitTurned p side history unit payload d (record { transport = new.kept; authentication = authentication; channels = channels }) o) (sym y.shown)
-      (refuse why authentication channels x new o (record { shown = refl; refused = y.refused }))
-  finished judged.Spent authentication channels x done new o y =
-      subst (λ (d : Step). UnitTurned p side history unit payload d (record { transport = new.kept; authentication = authentication; channels = channels }) o) (sym y.shown)
-      (spend authentication channels x new o (record { shown = refl; after = y.after; quiet = y.quiet }))
+      (refused_by why authentication channels x new o (record { shown = refl; refused = y.refused }))

@@ -11,7 +11,7 @@ use Rattle.ssh_model.specs.State.Authentication.Summary.{items_of, sent_with}
 use Rattle.ssh_model.specs.State.Channels.Kept.{Channels, DueReply, DueReply.AnswersClose, DueReply.RefusesOpen, Takes}
 use Rattle.ssh_model.specs.State.Channels.Summary.{reply_sent, told}
 use Rattle.ssh_model.specs.State.End.Payloads.{AnswersAbove, ReadsAbove, RefusesAbove, reply_items}
-use Rattle.ssh_model.specs.State.End.State.{Authentication, above_checks, after_above, after_item, after_items}
+use Rattle.ssh_model.specs.State.End.State.{above_checks, after_above, after_item, after_items}
 use Rattle.ssh_model.specs.Protocol.Sessions.Items.{Fact, Fact.Authenticated, Item, Item.Sent}
 use Rattle.ssh_model.specs.Protocol.Sessions.Parties.{Parties}
 use Rattle.ssh_model.specs.Protocol.Sessions.Refusals.{first_refusal}

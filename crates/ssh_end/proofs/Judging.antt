@@ -1,7 +1,7 @@
 -- What the layers above a transport make of a payload, by what the transport says to them.
-use Rattle.std.proofs.Common.{◌≡◌, ℕ, Bool, List, [], refl, ap, ◌∙◌, Option, Some, None}
+use Rattle.std.proofs.Common.{◌≡◌, ℕ, Bool, List, [], refl, ap, sym, ◌∙◌, subst, Option, Some, None}
 use Rattle.std.specs.Option.{option_map}
-use Rattle.std.specs.Prelude.{Result, Ok, Err, OnErr, unwrap_or}
+use Rattle.std.specs.Prelude.{Result, Ok, Err, IfErr, IfOk, IsSome, OnErr, unwrap_or}
 use Rattle.ssh_model.specs.Protocol.Wire.Message.{Msg}
 use Rattle.ssh_model.specs.State.Authentication.Kept as kept
 use Rattle.ssh_model.specs.State.Authentication.Kept.{ServerTakes}
@@ -15,8 +15,17 @@ use Rattle.ssh_model.specs.Protocol.Sessions.Items.{Fact, Item}
 use Rattle.ssh_model.specs.State.TransportLayer.Kept.{Transport}
 use Rattle.ssh_auth.specs.Serving.{answered}
 use Rattle.ssh_auth.specs.declared.answer.ServerAnswer.{ServerAnswer}
-use Rattle.ssh_transport_machine.specs.State.{State}
-use Rattle.ssh_end.specs.Above.{Awaits, IsBeneath, IsReplied, SpellsReply}
+use Rattle.ssh_model.specs.declared.refusal.Refusal.{Refusal}
+use Rattle.ssh_transport_machine.specs.State.{State, last_number}
+use Rattle.ssh_end.specs.Above.{Awaits, IsAnswer, IsBeneath, IsReplied, NoAnswer, OnJudged, OnMemory, SpellsReply}
+use Rattle.ssh_end.specs.Judging.{IsTaken, JudgeLacks, JudgesPayload, RefusesPeer, succeeds, took_by}
+use Rattle.ssh_end.specs.Layers.{Layers, LayersFail, message_of}
+use Rattle.ssh_end.specs.Login.{probes}
+use Rattle.ssh_end.specs.declared.above.Above.{Above}
+use Rattle.ssh_end.specs.declared.layers.answer.LayerAnswer.{LayerAnswer}
+use Rattle.ssh_end.specs.declared.layers.fault.LayerFault.{LayerFault}
+use Rattle.ssh_end.specs.declared.layers.fault.LayerFault.TheVariants as fault
+use Rattle.ssh_end.specs.declared.step.TookStep.{TookStep}
 use Rattle.ssh_end.specs.Layer.{Beneath}
 use Rattle.ssh_end.specs.Told.{telling_of}
 use Rattle.ssh_end.specs.Sessions.{beneath}
@@ -82,3 +91,47 @@ reply_replied m None None x = refl
 reply_replied m (Some due) (Some l) x = record { message = reply_sent due; messages = refl; spelled = x.0 }
 reply_replied m None (Some l) x = absurd x
 reply_replied m (Some due) None x = absurd x
+
+-- ---- what was judged, and where memory was refused
+
+pub if_ok : {A E : Type 0} {P Q : A → Type 0} (r : Result A E) → ((a : A) → P a → Q a) → IfOk r P → IfOk r Q
+if_ok (Ok a) f x = f a x
+if_ok (Err e) f x = tt
+
+pub refused_in : (P : Result Above Refusal → Type 0) (f : LayerFault) (why : Refusal) → f ≡ fault.Refused why → OnJudged (Err f) P → P (Err why)
+refused_in P f why e x = subst (λ (w : LayerFault). OnJudged (Err w) P) e x
+
+pub memory_in : (P : Type 0) (f : LayerFault) → f ≡ fault.Memory → OnMemory (Err f) P → P
+memory_in P f e x = subst (λ (w : LayerFault). OnMemory (Err w) P) e x
+
+module _ {K : Type 0} (judge : Judge) (m : State K) (old new : Layers) where
+  -- the layers took nothing
+  pub failed_so : (below : Beneath) → IsBeneath m below → (f : LayerFault) → LayersFail judge below old m.receiver.payload f → new ≡ old → OnJudged (Err f) (λ given. JudgesPayload judge m old given new)
+  failed_so below is (fault.Refused why) x same = RefusesPeer.by_layers why new (record { below = below; is_beneath = is; refuses = x; same = same })
+  failed_so below is fault.Memory x same = tt
+
+  pub lacks_so : (below : Beneath) → IsBeneath m below → (f : LayerFault) → LayersFail judge below old m.receiver.payload f → OnMemory (Err f) (JudgeLacks judge m old)
+  lacks_so below is (fault.Refused why) x = tt
+  lacks_so below is fault.Memory x = JudgeLacks.in_layer below is x
+
+  -- they took the message, and what is sent for it was to be spelled
+  module _ (given : LayerAnswer) (taken : IsTaken judge m old given new) (message : Option Msg) (same : message ≡ message_of new given (last_number m.kept.taking)) where
+    pub answered_by : (step : TookStep) (success : Bool) → step ≡ took_by given (probes old.authentication) → success ≡ succeeds given → (r : Result Above LayerFault) →
+        IfOk r (λ above. IsAnswer m step message success above) → IfErr r (λ f. NoAnswer m message f) → OnJudged r (λ judged. JudgesPayload judge m old judged new)
+    answered_by step success step_is success_is (Ok above) x y = record {
+      given = given;
+      taken = taken;
+      made = record {
+        step_is = x.step_is ∙ step_is;
+        reply_is = subst (λ (o : Option Msg). SpellsReply m o (option_map (λ v. v.items) above.reply)) same x.reply_is;
+        success_is = x.success_is ∙ success_is;
+      };
+    }
+    answered_by step success step_is success_is (Err (fault.Refused why)) x y =
+        subst (λ (w : Refusal). RefusesPeer judge m old w new) (sym y.0) (RefusesPeer.spent given new taken (record { some = subst (λ (o : Option Msg). IsSome o) same y.1.some; none_left = y.1.none_left }))
+    answered_by step success step_is success_is (Err fault.Memory) x y = tt
+
+    pub unspelled_by : (r : Result Above LayerFault) → IfErr r (λ f. NoAnswer m message f) → OnMemory r (JudgeLacks judge m old)
+    unspelled_by (Ok above) y = tt
+    unspelled_by (Err (fault.Refused why)) y = tt
+    unspelled_by (Err fault.Memory) y = JudgeLacks.unspelled given new taken (subst (λ (o : Option Msg). IsSome o) same y.some) y.room

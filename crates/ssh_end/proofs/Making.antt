@@ -1,5 +1,5 @@
 -- Where an end stands that was made.
-use Rattle.std.proofs.Common.{◌≡◌, ℕ, true, None, arith, List, [], ◌∷◌, ◌++◌, refl, ap, sym, ◌∙◌, subst}
+use Rattle.std.proofs.Common.{◌≡◌, ℕ, true, false, None, arith, List, [], ◌∷◌, ◌++◌, refl, ap, sym, ◌∙◌, subst}
 use Rattle.ssh_model.specs.State.Channels.Kept.{Channels, no_channels}
 use Rattle.ssh_model.specs.State.End.State.{Authentication, EndState, new_authentication, new_end}
 use Rattle.ssh_model.specs.State.End.Summary.{HasOpened}
@@ -7,17 +7,21 @@ use Rattle.ssh_model.specs.Protocol.Sessions.AnyPeer.{IsGuarded}
 use Rattle.ssh_model.specs.Protocol.Sessions.Items.{Item, Item.Fed, Item.Sent, Item.SentLine, Spelled.SpelledBy}
 use Rattle.ssh_model.specs.Protocol.Sessions.Parties.{AreLawful, Parties, Settings, offer, settings_of}
 use Rattle.ssh_model.specs.Protocol.Sessions.Turns.{EndRun, IsMaterial}
+use Rattle.ssh_model.specs.Protocol.Sessions.TurnClaims.{HasSpelling}
 use Rattle.ssh_model.specs.declared.side.Side.{Side}
+use Rattle.ssh_model.specs.declared.side.Side.TheVariants.{Client, Server}
 use Rattle.ssh_model.specs.State.TransportLayer.Directions.{new_direction}
 use Rattle.ssh_model.specs.State.TransportLayer.Kept.{Transport}
 use Rattle.ssh_model.specs.State.TransportLayer.Turns.{PutsPackets}
 use Rattle.ssh_model.specs.Protocol.Wire.Line.{line_end}
-use Rattle.ssh_model.specs.Protocol.Wire.Message.{Msg.KexInit}
+use Rattle.ssh_model.specs.Protocol.Wire.Message.{Msg.KexInit, Msg.UserauthFailure}
 use Rattle.ssh_model.specs.Protocol.Wire.Sealing.{Crypto}
 use Rattle.ssh_transport_machine.specs.Opening.{IsOpened}
 use Rattle.ssh_transport_machine.specs.Puts.{Outs}
 use Rattle.ssh_transport_machine.specs.State.{State}
 use Rattle.ssh_end.specs.Asking.{end_with}
+use Rattle.ssh_end.specs.Login.{authentication_of, new_login}
+use Rattle.ssh_end.specs.Sessions.{IsLoginOf}
 use Rattle.ssh_end.specs.Reading.{IsReading}
 use Rattle.ssh_end.specs.Stands.{MadeAt}
 
@@ -33,6 +37,19 @@ pub record OpeningLaws (K : Type 0) : Type 0 where
 opened_at : {K : Type 0} (p : Parties K) (side : Side) (c : Crypto K) (given : Settings) (cookie secret : List ℕ) (machine : State K) (o : Outs) → p.crypto ≡ c → settings_of p side ≡ given → IsOpened c given side cookie secret machine o → IsOpened p.crypto (settings_of p side) side cookie secret machine o
 opened_at {K} p side c given cookie secret machine o e f x =
     subst (λ (k : Crypto K). IsOpened k (settings_of p side) side cookie secret machine o) (sym e) (subst (λ (s : Settings). IsOpened c s side cookie secret machine o) (sym f) x)
+
+-- new authentication is of the settings that it is made of
+pub new_login_of : {K : Type 0} (p : Parties K) (side : Side) (given : Settings) → settings_of p side ≡ given → HasSpelling (UserauthFailure given.methods false) → IsLoginOf p (new_login side given.tries given.methods)
+new_login_of p Server given is fits = record {
+  tries = sym (ap (λ (s : Settings). s.tries) is);
+  methods = sym (ap (λ (s : Settings). s.methods) is);
+  failure = subst (λ (s : Settings). HasSpelling (UserauthFailure s.methods false)) (sym is) fits;
+}
+new_login_of p Client given is fits = tt
+
+pub new_login_is : (side : Side) (tries : ℕ) (methods : List (List ℕ)) → authentication_of (new_login side tries methods) ≡ new_authentication side
+new_login_is Server tries methods = refl
+new_login_is Client tries methods = refl
 
 module _ {K : Type 0} (laws : OpeningLaws K) (p : Parties K) (side : Side) (parts layers : Type 0) (lawful : AreLawful p) (parts_are : parts) (layers_are : layers) (cookie secret : List ℕ) (material : IsMaterial cookie secret)
     (machine : State K) (a : Authentication) (ch : Channels) (a_is : a ≡ new_authentication side) (ch_is : ch ≡ no_channels) (o : Outs) (none : o.listed ≡ []) where

@@ -11,17 +11,13 @@ use Rattle.ssh_model.specs.Protocol.Sessions.Parties.{Parties, offer_of}
 use Rattle.ssh_model.specs.Protocol.Sessions.Turns.{OnUnit}
 use Rattle.ssh_model.specs.State.TransportLayer.Kept.{Transport}
 use Rattle.ssh_model.specs.State.TransportLayer.Turns.{Turned, refusal_items}
-use Rattle.ssh_transport_machine.specs.Outcomes.{payload_outcome}
 use Rattle.ssh_transport_machine.specs.Puts.{Outs, payloads_of}
 use Rattle.ssh_transport_machine.specs.Shown as shown
 use Rattle.ssh_transport_machine.specs.Shown.{IsTold}
-use Rattle.ssh_transport_machine.specs.declared.machine.turn.PayloadTurn.{PayloadTurn}
-use Rattle.ssh_transport_machine.specs.declared.machine.turn.PayloadTurn.TheVariants as turn
 use Rattle.ssh_transport_machine.specs.declared.outcome.Effect.TheVariants as effect
 use Rattle.ssh_transport_machine.specs.declared.outcome.TransportTurn.{TransportTurn}
 use Rattle.ssh_transport_machine.specs.declared.outcome.TransportTurn.TheVariants as outcome
 use Rattle.ssh_model.specs.declared.refusal.Refusal as code
-use Rattle.ssh_model.specs.declared.refusal.Refusal.TheVariants as refusal
 use Rattle.ssh_end.specs.Effects.{opened_where, step_given}
 use Rattle.ssh_end.specs.Steps as steps
 use Rattle.ssh_end.specs.Steps.{SendsOn, Shows, UnitTurned}
@@ -69,7 +65,7 @@ module _ {K : Type 0} (p : Parties K) (side : Side) (history : List Item) (e : E
     over : (given : TransportTurn) → new.dead ≡ true → EndTurned p side history (OnUnit p side history unit) items more (kept_after given new)
     over given dead = over_turn items more (kept_after given new) turned dead
 
-  told_of : (s : Transport K) (message : Msg) (fact : Fact) (is : IsPayload false message payload) (more : List ℕ) (new : Transport K) (o : Outs) → IsTold message fact → shown.Shows s payload turn.Told [] (Item.Told fact ∷ Took None message payload ∷ []) → Turned p side history payload (Item.Told fact ∷ Took None message payload ∷ []) more new →
+  told_of : (s : Transport K) (message : Msg) (fact : Fact) (is : IsPayload false message payload) (more : List ℕ) (new : Transport K) (o : Outs) → IsTold message fact → shown.Shows s payload (outcome.Done effect.Told) [] (Item.Told fact ∷ Took None message payload ∷ []) → Turned p side history payload (Item.Told fact ∷ Took None message payload ∷ []) more new →
       o.after ≡ o.before ++ more → o.relisted ≡ o.listed ++ [] → UnitTurned p side history unit payload (step_given (outcome.Done effect.Told)) (kept_after (outcome.Done effect.Told) new) o
   told_of s message fact is more new o (IsTold.ignore body) x turned parts lists = made _ more new turned o [] parts lists (outcome.Done effect.Told) (steps.Shows.took None false telling.Message message [] is tt) (λ old older live. refl) refl (live _ more new turned o [] parts lists (outcome.Done effect.Told) (tt, (tt, tt)) refl)
   told_of s message fact is more new o (IsTold.unimplemented number) x turned parts lists = made _ more new turned o [] parts lists (outcome.Done effect.Told) (steps.Shows.took None false telling.Message message [] is tt) (λ old older live. refl) refl (live _ more new turned o [] parts lists (outcome.Done effect.Told) (tt, (tt, tt)) refl)
@@ -77,36 +73,30 @@ module _ {K : Type 0} (p : Parties K) (side : Side) (history : List Item) (e : E
   told_of s message fact is more new o (IsTold.extensions announced) x turned parts lists = made _ more new turned o [] parts lists (outcome.Done effect.Told) (steps.Shows.took None false telling.Message message [] is tt) (λ old older live. refl) refl (live _ more new turned o [] parts lists (outcome.Done effect.Told) (tt, (tt, tt)) refl)
 
   -- what both roles do alike with a payload
-  pub shared : (s : Transport K) (done : PayloadTurn) (said : List Spelled) (items : List Item) (more : List ℕ) (new : Transport K) (o : Outs) (number : ℕ) → shown.Shows s payload done said items → Turned p side history payload items more new →
+  pub shared : (s : Transport K) (given : TransportTurn) (said : List Spelled) (items : List Item) (more : List ℕ) (new : Transport K) (o : Outs) → shown.Shows s payload given said items → Turned p side history payload items more new →
       o.after ≡ o.before ++ more → o.relisted ≡ o.listed ++ payloads_of said →
-      UnitTurned p side history unit payload (step_given (payload_outcome done number)) (kept_after (payload_outcome done number) new) o
-  shared s done said items more new o number (shown.Shows.refused why) turned parts lists =
+      UnitTurned p side history unit payload (step_given given) (kept_after given new) o
+  shared s given said items more new o (shown.Shows.refused why) turned parts lists =
       made _ more new turned o said parts lists (outcome.Refused why) (steps.Shows.refused why (Some payload) said) (λ old older live. refusal_on said why (Some payload)) (refusal_sends said why (Some payload)) (over _ more new turned o said parts lists (outcome.Refused why) turned.sums.dead_is)
-  shared s done said items more new o number shown.Shows.skipped turned parts lists =
+  shared s given said items more new o shown.Shows.skipped turned parts lists =
       made _ more new turned o [] parts lists (outcome.Done effect.Skipped) steps.Shows.skipped (λ old older live. refl) refl (live _ more new turned o [] parts lists (outcome.Done effect.Skipped) (tt, (tt, tt)) refl)
-  shared s done said items more new o number (shown.Shows.disconnected reason description language is) turned parts lists =
+  shared s given said items more new o (shown.Shows.disconnected reason description language is) turned parts lists =
       made _ more new turned o [] parts lists (outcome.Done effect.Disconnected) (steps.Shows.disconnected reason description language is) (λ old older live. refl) refl (over _ more new turned o [] parts lists (outcome.Done effect.Disconnected) turned.sums.dead_is)
-  shared s done said items more new o number (shown.Shows.told message fact is x) turned parts lists = told_of s message fact is more new o x (shown.Shows.told message fact is x) turned parts lists
-  shared s done said items more new o number (shown.Shows.unknown n reply is) turned parts lists =
+  shared s given said items more new o (shown.Shows.told message fact is x) turned parts lists = told_of s message fact is more new o x (shown.Shows.told message fact is x) turned parts lists
+  shared s given said items more new o (shown.Shows.unknown n reply is) turned parts lists =
       made _ more new turned o (SpelledBy (Unimplemented s.taking.number) reply ∷ []) parts lists (outcome.Done effect.Unknown) (steps.Shows.took None false telling.Message (Unknown n) (Sent None (Unimplemented s.taking.number) reply ∷ []) is tt) (λ old older live. refl) refl (live _ more new turned o (SpelledBy (Unimplemented s.taking.number) reply ∷ []) parts lists (outcome.Done effect.Unknown) (tt, (tt, tt)) refl)
-  shared s done said items more new o number (shown.Shows.service_requested service reply is) turned parts lists =
+  shared s given said items more new o (shown.Shows.service_requested service reply is) turned parts lists =
       made _ more new turned o (SpelledBy (ServiceAccept service) reply ∷ []) parts lists (outcome.Done effect.ServiceRequested) (steps.Shows.took None false telling.Message (ServiceRequest service) (Sent None (ServiceAccept service) reply ∷ []) is tt) (λ old older live. refl) refl
       (live _ more new turned o (SpelledBy (ServiceAccept service) reply ∷ []) parts lists (outcome.Done effect.ServiceRequested) (tt, (tt, tt)) (requested e.authentication service reply))
-  shared s done said items more new o number (shown.Shows.service_accepted service is) turned parts lists =
+  shared s given said items more new o (shown.Shows.service_accepted service is) turned parts lists =
       made _ more new turned o [] parts lists (outcome.Done effect.ServiceAccepted) (steps.Shows.took None false telling.Message _ [] is tt) (λ old older live. refl) refl
       (live _ more new turned o [] parts lists (outcome.Done effect.ServiceAccepted) (tt, (tt, tt)) (accepted e.authentication service payload))
-  shared s done said items more new o number (shown.Shows.kexinit theirs is) turned parts lists =
+  shared s given said items more new o (shown.Shows.kexinit theirs is) turned parts lists =
       made _ more new turned o [] parts lists (outcome.Done effect.Kexinit) (steps.Shows.took None false telling.Message _ [] is tt) (λ old older live. refl) refl (live _ more new turned o [] parts lists (outcome.Done effect.Kexinit) (tt, tt) refl)
-  shared s done said items more new o number (shown.Shows.kexinit_answered theirs own cookie is) turned parts lists =
+  shared s given said items more new o (shown.Shows.kexinit_answered theirs own cookie is) turned parts lists =
       made _ more new turned o (SpelledBy (KexInit (offer_of s.settings Server false cookie)) own ∷ []) parts lists (outcome.Done effect.Kexinit) (steps.Shows.took None false telling.Message (KexInit theirs) (Sent None (KexInit (offer_of s.settings Server false cookie)) own ∷ []) is tt) (λ old older live. refl) refl (live _ more new turned o (SpelledBy (KexInit (offer_of s.settings Server false cookie)) own ∷ []) parts lists (outcome.Done effect.Kexinit) (tt, (tt, tt)) refl)
-  shared s done said items more new o number (shown.Shows.newkeys is) turned parts lists =
+  shared s given said items more new o (shown.Shows.newkeys is) turned parts lists =
       made _ more new turned o [] parts lists (outcome.Done effect.NewKeys) (steps.Shows.took None false telling.Message _ [] is tt) (λ old older live. refl) refl (live _ more new turned o [] parts lists (outcome.Done effect.NewKeys) (tt, tt) refl)
-  shared s done said items more new o number shown.Shows.unknown_spent turned parts lists =
-      made _ more new turned o [] parts lists (outcome.Refused refusal.NumberSpent) (steps.Shows.refused refusal.NumberSpent (Some payload) []) (λ old older live. refl) refl (over _ more new turned o [] parts lists (outcome.Refused refusal.NumberSpent) turned.sums.dead_is)
-  shared s done said items more new o number shown.Shows.service_spent turned parts lists =
-      made _ more new turned o [] parts lists (outcome.Refused refusal.NumberSpent) (steps.Shows.refused refusal.NumberSpent (Some payload) []) (λ old older live. refl) refl (over _ more new turned o [] parts lists (outcome.Refused refusal.NumberSpent) turned.sums.dead_is)
-  shared s done said items more new o number shown.Shows.kexinit_spent turned parts lists =
-      made _ more new turned o [] parts lists (outcome.Refused refusal.NumberSpent) (steps.Shows.refused refusal.NumberSpent (Some payload) []) (λ old older live. refl) refl (over _ more new turned o [] parts lists (outcome.Refused refusal.NumberSpent) turned.sums.dead_is)
 
   -- a payload that is refused by a role
   pub refused : (why : code.Refusal) (said : List Spelled) (more : List ℕ) (new : Transport K) (o : Outs) → Turned p side history payload (refusal_items why (Some payload) said) more new → o.after ≡ o.before ++ more → o.relisted ≡ o.listed ++ payloads_of said →

@@ -1,5 +1,5 @@
 -- What is begun after a line or a packet, and the payload that is then shown.
-use Rattle.std.proofs.Common.{◌≡◌, ℕ, Bool, true, false, cond, List, [], arith, refl, ap, sym, ◌∙◌, subst, Option}
+use Rattle.std.proofs.Common.{◌≡◌, ℕ, Bool, true, false, cond, List, [], arith, refl, ap, sym, ◌∙◌, subst, Option, Break, Continue}
 use Rattle.std.proofs.lemmas.Bool.{false≢true}
 use Rattle.ssh_model.specs.declared.side.Side.TheVariants.{Client}
 use Rattle.ssh_model.specs.State.Channels.Kept.{Channels}
@@ -9,27 +9,28 @@ use Rattle.ssh_model.specs.State.End.State.{after_items}
 use Rattle.ssh_model.specs.Protocol.Sessions.Items.{Item}
 use Rattle.ssh_model.specs.State.TransportLayer.Kept.{Lines, Transport}
 use Rattle.ssh_model.specs.Protocol.Wire.Line.{IsLineBegun}
+use Rattle.ssh_model.specs.Protocol.Wire.Message.{Msg}
 use Rattle.ssh_model.specs.Protocol.Wire.Outcome.{Outcome.Opens}
 use Rattle.ssh_model.specs.Protocol.Wire.Sealing.{Crypto, IsBegun.no_length}
 use Rattle.ssh_model.specs.Protocol.Wire.Unit.{IsPacketBegun, PacketUnit}
 use Rattle.ssh_packet.specs.Directions.{Receiver, Receives}
-use Rattle.ssh_packet.specs.declared.packets.step.PacketStep.{PacketStep}
-use Rattle.ssh_packet.specs.declared.packets.step.PacketStep.TheVariants as step
+use Rattle.ssh_packet.specs.declared.step.PacketStep.{PacketStep}
+use Rattle.ssh_packet.specs.declared.step.PacketStep.TheVariants as step
 use Rattle.ssh_transport_machine.specs.LineTurns.{LineTaken}
-use Rattle.ssh_transport_machine.specs.Outcomes.{payload_outcome}
+use Rattle.ssh_transport_machine.specs.Outcomes.{answer_outcome}
 use Rattle.ssh_transport_machine.specs.Puts.{Outs}
 use Rattle.ssh_transport_machine.specs.State.{State, begun_of}
 use Rattle.ssh_transport_machine.specs.Turning as turning
-use Rattle.ssh_transport_machine.specs.Turning.{Does, KexinitDone, PacketDone, PacketTaken}
+use Rattle.ssh_transport_machine.specs.Turning.{Answers, Does, KexinitDone, PacketDone, PacketTaken}
 use Rattle.ssh_transport_machine.specs.declared.machine.judging.Judged.{Judged}
 use Rattle.ssh_transport_machine.specs.declared.machine.judging.Judged.TheVariants as judged
 use Rattle.ssh_transport_machine.specs.declared.machine.kexinit.KexinitFacts.{KexinitFacts}
 use Rattle.ssh_transport_machine.specs.declared.machine.line_turn.LineTurn.TheVariants as line
+use Rattle.ssh_transport_machine.specs.declared.machine.own.Own.{Own}
 use Rattle.ssh_transport_machine.specs.declared.machine.turn.Answer.{Answer}
 use Rattle.ssh_transport_machine.specs.declared.machine.turn.Answer.TheVariants.{Done, Spent}
-use Rattle.ssh_transport_machine.specs.declared.machine.turn.PacketTurn.TheVariants as packet_turn
-use Rattle.ssh_transport_machine.specs.declared.machine.turn.PayloadTurn.{PayloadTurn}
-use Rattle.ssh_transport_machine.specs.declared.machine.turn.PayloadTurn.TheVariants as turn
+use Rattle.ssh_transport_machine.specs.declared.outcome.Effect.{Effect}
+use Rattle.ssh_transport_machine.specs.declared.outcome.Effect.TheVariants as effect
 use Rattle.ssh_transport_machine.specs.declared.outcome.TransportTurn.{TransportTurn}
 use Rattle.ssh_transport_machine.specs.declared.outcome.TransportTurn.TheVariants as outcome
 use Rattle.ssh_transport.specs.Roles.{Leaves, Still}
@@ -125,37 +126,57 @@ still_shown c old bytes between new x s = record {
   found = s.found ∙ x.found;
 }
 
-module _ {K : Type 0} (c : Crypto K) (old new : State K) (o : Outs) (number : ℕ) where
-  kexinit_leaves : (facts : KexinitFacts) (answer : Answer) → KexinitDone c old facts answer new o → Leaves old (payload_outcome (turn.Kexinit answer) number) new
-  kexinit_leaves facts answer (turning.KexinitDone.kept shut x) = Leaves.stays (still_by old new _ x.after refl)
-  kexinit_leaves facts answer (turning.KexinitDone.answered material free has x) = Leaves.stays (still_by old new _ x.after refl)
-  kexinit_leaves facts answer (turning.KexinitDone.spent material free has spelling x) = Leaves.over refusal.NumberSpent refl (ap (λ (t : State K). t.kept.dead) x.after)
+-- A whole packet is told so, and what is shown and what is begun stay as they were; or the peer was refused.
+record WholeLeaves {K : Type 0} (old : State K) (given : TransportTurn) (new : State K) : Type 0 where
+  whole : given ≡ outcome.More → ⊥
+  leaves : Leaves old given new
 
-  does_leave : (what : Judged) (done : PayloadTurn) → Does c old what done new o → Leaves old (payload_outcome done number) new
-  does_leave (judged.Refused r) (turn.Refused why) y = Leaves.over why refl (ap (λ (t : Transport K). t.dead) y.refuses.after)
-  does_leave judged.Skipped turn.Skipped y = Leaves.stays (still_by old new _ y.after refl)
-  does_leave judged.Disconnected turn.Disconnected y = Leaves.stays (still_by old new _ y.after refl)
-  does_leave judged.Told turn.Told y = Leaves.stays (still_by old new _ y.after refl)
-  does_leave judged.Unknown (turn.Unknown Done) y = Leaves.stays (still_by old new _ y.after refl)
-  does_leave judged.Unknown (turn.Unknown Spent) y = Leaves.over refusal.NumberSpent refl (ap (λ (t : State K). t.kept.dead) y.after)
-  does_leave judged.ServiceRequested (turn.ServiceRequested Done) y = Leaves.stays (still_by old new _ y.after refl)
-  does_leave judged.ServiceRequested (turn.ServiceRequested Spent) y = Leaves.over refusal.NumberSpent refl (ap (λ (t : State K). t.kept.dead) y.after)
-  does_leave judged.ServiceAccepted turn.ServiceAccepted y = Leaves.stays (still_by old new _ y.after refl)
-  does_leave (judged.Kexinit facts) (turn.Kexinit answer) y = kexinit_leaves facts answer y.done
-  does_leave (judged.Kexinit facts) (turn.Left left) y = Leaves.stays (still_same old new y.left.after)
-  does_leave judged.NewKeys turn.NewKeys y = Leaves.stays (record {
+module _ {K : Type 0} (c : Crypto K) (old new : State K) (o : Outs) where
+  stays_told : (turn given : TransportTurn) → given ≡ turn → (turn ≡ outcome.More → ⊥) → Still old new → WholeLeaves old given new
+  stays_told turn given e whole s = record { whole = λ f. whole (sym e ∙ f); leaves = Leaves.stays s }
+
+  over_told : (why : Refusal) (given : TransportTurn) → given ≡ outcome.Refused why → new.kept.dead ≡ true → WholeLeaves old given new
+  over_told why given e dead = record { whole = λ f. cc (sym e ∙ f); leaves = Leaves.over why e dead }
+
+  stays_done : (effect : Effect) (given : TransportTurn) → given ≡ outcome.Done effect → Still old new → WholeLeaves old given new
+  stays_done effect given e s = stays_told (outcome.Done effect) given e (λ f. cc f) s
+
+  sent_leaves : (m : Msg) (k : Transport K) → k.lines ≡ old.kept.lines → (effect : Effect) (answer : Answer) (given : TransportTurn) → given ≡ answer_outcome answer effect → Answers c old m k answer new o → WholeLeaves old given new
+  sent_leaves m k lines effect Done given e y = stays_done effect given e (still_by old new k y.after lines)
+  sent_leaves m k lines effect Spent given e y = over_told refusal.NumberSpent given e (ap (λ (t : State K). t.kept.dead) y.after)
+
+  kexinit_leaves : (facts : KexinitFacts) (answer : Answer) (given : TransportTurn) → given ≡ answer_outcome answer effect.Kexinit → KexinitDone c old facts answer new o → WholeLeaves old given new
+  kexinit_leaves facts answer given e (turning.KexinitDone.kept shut x) = stays_done effect.Kexinit given e (still_by old new _ x.after refl)
+  kexinit_leaves facts answer given e (turning.KexinitDone.answered material free has x) = stays_done effect.Kexinit given e (still_by old new _ x.after refl)
+  kexinit_leaves facts answer given e (turning.KexinitDone.spent material free has spelling x) = over_told refusal.NumberSpent given e (ap (λ (t : State K). t.kept.dead) x.after)
+
+  does_leave : (what : Judged) (given : TransportTurn) → Does c old what (Break given) new o → WholeLeaves old given new
+  does_leave (judged.Refused why) given y = over_told why given y.told (ap (λ (t : Transport K). t.dead) y.refuses.after)
+  does_leave judged.Skipped given y = stays_done _ given y.told (still_by old new _ y.becomes.after refl)
+  does_leave judged.Disconnected given y = stays_done _ given y.told (still_by old new _ y.becomes.after refl)
+  does_leave judged.Told given y = stays_done _ given y.told (still_by old new _ y.becomes.after refl)
+  does_leave judged.Unknown given y = sent_leaves _ _ refl _ y.answer given y.told y.answers
+  does_leave judged.ServiceRequested given y = sent_leaves _ _ refl _ y.answer given y.told y.answers
+  does_leave judged.ServiceAccepted given y = stays_done _ given y.told (still_by old new _ y.becomes.after refl)
+  does_leave (judged.Kexinit facts) given y = kexinit_leaves facts y.answer given y.told y.done
+  does_leave judged.NewKeys given y = stays_done _ given y.told (record {
     payload = ap (λ (s : State K). s.receiver.payload) y.taken.after;
     begun = ap (λ (s : State K). s.receiver.begun) y.taken.after;
     found = ap (λ (s : State K). s.kept.lines.found) y.taken.after;
   })
-  does_leave judged.Init (turn.Left left) y = Leaves.stays (still_same old new y.after)
-  does_leave judged.Reply (turn.Left left) y = Leaves.stays (still_same old new y.after)
-  does_leave judged.Above (turn.Left left) y = Leaves.stays (still_same old new y.after)
-  does_leave _ _ y = absurd y
+  does_leave judged.Above given y = stays_told _ given y.told (λ f. cc f) (still_by old new _ y.becomes.after refl)
+  does_leave _ given y = absurd y
 
--- A payload is shown after this answer, or the peer was refused.
+  own_stays : (what : Judged) (left : Own) → Does c old what (Continue left) new o → Still old new
+  own_stays (judged.Kexinit facts) left y = still_same old new y.left.after
+  own_stays judged.Init left y = still_same old new y.after
+  own_stays judged.Reply left y = still_same old new y.after
+  own_stays _ left y = absurd y
+
+-- More bytes are awaited after this answer, a payload is shown, or the peer was refused.
 pub data PacketLeaves {K : Type 0} (c : Crypto K) (old : State K) (bytes : List ℕ) (given : TransportTurn) (new : State K) : Type 0 where
-  shows : IsShown c old bytes new → PacketLeaves c old bytes given new
+  waits : given ≡ outcome.More → Begun c bytes new → PacketLeaves c old bytes given new
+  shows : (given ≡ outcome.More → ⊥) → IsShown c old bytes new → PacketLeaves c old bytes given new
   over : (why : Refusal) → given ≡ outcome.Refused why → new.kept.dead ≡ true → PacketLeaves c old bytes given new
 
 module _ {K : Type 0} (c : Crypto K) (old : State K) (bytes : List ℕ) (found : old.kept.lines.found ≡ true) where
@@ -181,44 +202,26 @@ module _ {K : Type 0} (c : Crypto K) (old : State K) (bytes : List ℕ) (found :
       };
     }
 
-    begins : old.kept.dead ≡ false → (step_is : PacketStep) (new : State K) (o : Outs) → Receives c bytes old.receiver step_is between.receiver → PacketDone c between step_is packet_turn.More new o → Begun c bytes new
-    begins alive step.More new o x y = subst (λ (s : State K). Begun c bytes s) (sym y.after) (begun_packet alive x)
-    begins alive (step.Refused why) new o x y = absurd y
-    begins alive step.Payload new o x y = absurd y
+    leaves_so : (new : State K) (given : TransportTurn) → (given ≡ outcome.More → ⊥) → IsShown c old bytes between → Leaves between given new → PacketLeaves c old bytes given new
+    leaves_so new given whole x (Leaves.stays s) = PacketLeaves.shows whole (still_shown c old bytes between new x s)
+    leaves_so new given whole x (Leaves.over why e dead) = PacketLeaves.over why e dead
 
-    refuses : (step_is : PacketStep) (why : Refusal) (new : State K) (o : Outs) → PacketDone c between step_is (packet_turn.Refused why) new o → new.kept.dead ≡ true
-    refuses step.More why new o y = absurd y
-    refuses (step.Refused r) why new o y = (ap (λ (t : Transport K). t.dead) y.refuses.after)
-    refuses step.Payload why new o y = absurd y
+    leaves : old.kept.dead ≡ false → (step_is : PacketStep Refusal) (given : TransportTurn) (new : State K) (o : Outs) → Receives c bytes old.receiver step_is between.receiver → PacketDone c between step_is (Break given) new o → PacketLeaves c old bytes given new
+    leaves alive step.More given new o x y = PacketLeaves.waits y.told (subst (λ (s : State K). Begun c bytes s) (sym y.becomes.after) (begun_packet alive x))
+    leaves alive (step.Refused why) given new o x y = PacketLeaves.over why y.told (ap (λ (t : Transport K). t.dead) y.refuses.after)
+    leaves alive step.Payload given new o x y = let z = does_leave c between new o y.what given y.does in leaves_so new given z.whole (shown_first x) z.leaves
 
-    leaves_so : (new : State K) (given : TransportTurn) → IsShown c old bytes between → Leaves between given new → PacketLeaves c old bytes given new
-    leaves_so new given x (Leaves.stays s) = PacketLeaves.shows (still_shown c old bytes between new x s)
-    leaves_so new given x (Leaves.over why e dead) = PacketLeaves.over why e dead
+    left_so : (step_is : PacketStep Refusal) (left : Own) (new : State K) (o : Outs) → Receives c bytes old.receiver step_is between.receiver → PacketDone c between step_is (Continue left) new o → IsShown c old bytes new
+    left_so step.Payload left new o x y = still_shown c old bytes between new (shown_first x) (own_stays c between new o y.what left y.does)
+    left_so _ left new o x y = absurd y
 
-    leaves : (number : ℕ) (step_is : PacketStep) (done : PayloadTurn) (new : State K) (o : Outs) → Receives c bytes old.receiver step_is between.receiver → PacketDone c between step_is (packet_turn.Payload done) new o → PacketLeaves c old bytes (payload_outcome done number) new
-    leaves number step.More done new o x y = absurd y
-    leaves number (step.Refused r) done new o x y = absurd y
-    leaves number step.Payload done new o x y = leaves_so new (payload_outcome done number) (shown_first x) (does_leave c between new o number y.what done y.does)
+  -- a packet that both roles take alike
+  pub packet_leaves : old.kept.dead ≡ false → (given : TransportTurn) (new : State K) (o : Outs) → PacketTaken c old bytes (Break given) new o → PacketLeaves c old bytes given new
+  packet_leaves alive given new o x = leaves x.between x.rest alive x.found given new o x.receives x.does
 
-  -- the bytes of a packet begun
-  pub packet_begun : old.kept.dead ≡ false → (new : State K) (o : Outs) → PacketTaken c old bytes packet_turn.More new o → Begun c bytes new
-  packet_begun alive new o x = begins x.between x.rest alive x.found new o x.receives x.does
-
-  -- a packet that was refused
-  pub packet_refused : (why : Refusal) (new : State K) (o : Outs) → PacketTaken c old bytes (packet_turn.Refused why) new o → new.kept.dead ≡ true
-  packet_refused why new o x = refuses x.between x.rest x.found why new o x.does
-
-  -- a packet of a payload
-  pub packet_leaves : (number : ℕ) (done : PayloadTurn) (new : State K) (o : Outs) → PacketTaken c old bytes (packet_turn.Payload done) new o → PacketLeaves c old bytes (payload_outcome done number) new
-  packet_leaves number done new o x = leaves x.between x.rest number x.found done new o x.receives x.does
-
-  -- a packet that was left
-  pub left_shown : (what : Judged) (new : State K) (o : Outs) → PacketTaken c old bytes (packet_turn.Payload (turn.Left what)) new o → IsShown c old bytes new
-  left_shown what new o x = go (packet_leaves 0 (turn.Left what) new o x)
-    where
-      go : PacketLeaves c old bytes (outcome.Up 0) new → IsShown c old bytes new
-      go (PacketLeaves.shows y) = y
-      go (PacketLeaves.over why e dead) = absurd (cc e)
+  -- a packet that was left to the role
+  pub left_shown : (left : Own) (new : State K) (o : Outs) → PacketTaken c old bytes (Continue left) new o → IsShown c old bytes new
+  left_shown left new o x = left_so x.between x.rest x.found left new o x.receives x.does
 
 -- ---- what is given after an exchange
 

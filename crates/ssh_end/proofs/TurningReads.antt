@@ -1,5 +1,6 @@
 -- What an end has begun to read after a line or a packet, and the payload that it then shows.
-use Rattle.std.proofs.Common.{◌≡◌, ℕ, Bool, true, false, List, [], refl, ap, sym, ◌∙◌, subst, Option, None, Some}
+use Rattle.std.proofs.Common.{◌≡◌, ℕ, Bool, true, false, List, [], refl, ap, sym, ◌∙◌, subst, Option, None, Some, Break, Continue, ControlFlow}
+use Rattle.std.specs.Prelude.{Result, Ok, Err}
 use Rattle.std.proofs.lemmas.Bool.{false≢true}
 use Rattle.std.specs.Option.{option_map}
 use Rattle.ssh_model.specs.declared.side.Side.{Side}
@@ -16,18 +17,14 @@ use Rattle.ssh_model.specs.Protocol.Wire.Outcome.{Outcome, Outcome.Opens, Outcom
 use Rattle.ssh_model.specs.Protocol.Wire.Sealing.{Crypto, IsSealing}
 use Rattle.ssh_model.specs.Protocol.Wire.Unit.{IsUnit, PacketUnit, Stage, Stage.Packets}
 use Rattle.ssh_transport_machine.specs.LineTurns.{LineTaken}
-use Rattle.ssh_transport_machine.specs.Outcomes.{LineOutcome, packet_outcome, payload_outcome}
+use Rattle.ssh_transport_machine.specs.Outcomes.{LineOutcome}
 use Rattle.ssh_transport_machine.specs.Puts.{Outs}
-use Rattle.ssh_transport_machine.specs.Shown.{IsPayloadTurn, LineTurnOf, PacketTurnOf}
+use Rattle.ssh_transport_machine.specs.Shown.{LineTurnOf, PacketTurnOf}
 use Rattle.ssh_transport_machine.specs.State.{IsLive, State}
 use Rattle.ssh_transport_machine.specs.Turning.{PacketTaken}
-use Rattle.ssh_transport_machine.specs.declared.machine.judging.Judged.{Judged}
 use Rattle.ssh_transport_machine.specs.declared.machine.line_turn.LineTurn.{LineTurn}
 use Rattle.ssh_transport_machine.specs.declared.machine.line_turn.LineTurn.TheVariants as line_turn
-use Rattle.ssh_transport_machine.specs.declared.machine.turn.PacketTurn.{PacketTurn}
-use Rattle.ssh_transport_machine.specs.declared.machine.turn.PacketTurn.TheVariants as packet_turn
-use Rattle.ssh_transport_machine.specs.declared.machine.turn.PayloadTurn.{PayloadTurn}
-use Rattle.ssh_transport_machine.specs.declared.machine.turn.PayloadTurn.TheVariants as turn
+use Rattle.ssh_transport_machine.specs.declared.machine.own.Own.{Own}
 use Rattle.ssh_transport_machine.specs.declared.outcome.TransportTurn.{TransportTurn}
 use Rattle.ssh_transport_machine.specs.declared.outcome.TransportTurn.TheVariants as outcome
 use Rattle.ssh_kex.specs.declared.owned_choice.OwnedChoice.{OwnedChoice}
@@ -41,12 +38,10 @@ use Rattle.ssh_end.specs.Effects.{is_whole, step_given}
 use Rattle.ssh_end.specs.Reading.{IsReading}
 use Rattle.ssh_end.specs.Steps.{Shows, UnitTurned}
 use Rattle.ssh_end.specs.Steps as steps
-use Rattle.ssh_end.specs.declared.above.Judgement.{Judgement}
-use Rattle.ssh_end.specs.declared.above.Judgement.TheVariants as judged
+use Rattle.ssh_end.specs.declared.above.Above.{Above}
 use Rattle.ssh_end.specs.declared.step.Step.{Step}
 use Rattle.ssh_end.specs.declared.step.Step.TheVariants as step
-use Rattle.ssh_end.proofs.TurningBegun.{Begun, Fresh, IsShown, PacketLeaves, fresh_packet, left_shown, line_begun, other_fresh, owed_lines, packet_begun, packet_leaves, packet_refused, still_by, still_same, still_shown, version_fresh}
-use Rattle.ssh_end.proofs.TurningWhole.{payload_waits}
+use Rattle.ssh_end.proofs.TurningBegun.{Begun, Fresh, IsShown, PacketLeaves, fresh_packet, left_shown, line_begun, other_fresh, owed_lines, packet_leaves, still_by, still_same, still_shown, version_fresh}
 
 -- ---- the payload that is shown
 
@@ -65,7 +60,7 @@ one_payload a b e = ap opened e
 pub record ReadingLaws (K : Type 0) : Type 0 where
   pub one : (c : Crypto K) (stage : Stage K) (unit : List ℕ) (a b : Outcome) → IsSealing c → IsUnit c stage unit a → IsUnit c stage unit b → a ≡ b
   pub lines : (p : Parties K) (side : Side) (history : List Item) (old : State K) → SumsUp p side history old.kept → old.kept.dead ≡ false → IsLive old → old.kept.lines.found ≡ false → (bytes : List ℕ) (done : LineTurn) (new : State K) → LineTaken old bytes done new → LineTurnOf p side history old.kept bytes done new
-  pub packets : (p : Parties K) (side : Side) (history : List Item) (old : State K) → SumsUp p side history old.kept → old.kept.dead ≡ false → IsLive old → old.kept.lines.found ≡ true → (bytes : List ℕ) (done : PacketTurn) (new : State K) (o : Outs) → PacketTaken p.crypto old bytes done new o → PacketTurnOf p side history old.kept bytes done new o
+  pub packets : (p : Parties K) (side : Side) (history : List Item) (old : State K) → SumsUp p side history old.kept → old.kept.dead ≡ false → IsLive old → old.kept.lines.found ≡ true → (bytes : List ℕ) (done : ControlFlow TransportTurn Own) (new : State K) (o : Outs) → PacketTaken p.crypto old bytes done new o → PacketTurnOf p side history old.kept bytes done new o
 
 -- A unit of such a payload is one of the payload that is shown.
 abbrev pub OpensShown : {K : Type 0} → Parties K → Side → (history : List Item) → (bytes : List ℕ) → State K → Type 0
@@ -119,30 +114,30 @@ module _ {K : Type 0} (laws : ReadingLaws K) (p : Parties K) (sealing : IsSealin
     shown_left : (given : TransportTurn) (new : State K) → (given ≡ outcome.More → ⊥) → IsShown p.crypto old bytes new → OpensShown p side history bytes new → Left p side history bytes given new
     shown_left given new more x opens = Left.packet more x.found x.begun opens
 
-    leaves_left : (number : ℕ) (done : PayloadTurn) (new : State K) → PacketLeaves p.crypto old bytes (payload_outcome done number) new → (o : Outs) → IsPayloadTurn p side history old.kept bytes done new o → Left p side history bytes (payload_outcome done number) new
-    leaves_left number done new (PacketLeaves.shows x) o y = shown_left (payload_outcome done number) new (λ e. payload_waits done number (sym e)) x (opens_shown new y.between x y.packet y.unit)
-    leaves_left number done new (PacketLeaves.over why e dead) o y = Left.over why e dead
-
-    packet_left_so : (number : ℕ) (done : PacketTurn) (new : State K) (o : Outs) → PacketTaken p.crypto old bytes done new o → Left p side history bytes (packet_outcome done number) new
-    packet_left_so number packet_turn.More new o x = Left.waits refl (packet_begun p.crypto old bytes found alive new o x)
-    packet_left_so number (packet_turn.Refused why) new o x = Left.over why refl (packet_refused p.crypto old bytes found why new o x)
-    packet_left_so number (packet_turn.Payload done) new o x = leaves_left number done new (packet_leaves p.crypto old bytes found number done new o x) o (laws.packets p side history old sums alive live found bytes (packet_turn.Payload done) new o x)
+    packet_left_so : (given : TransportTurn) (new : State K) (o : Outs) → PacketLeaves p.crypto old bytes given new → PacketTurnOf p side history old.kept bytes (Break given) new o → Left p side history bytes given new
+    packet_left_so given new o (PacketLeaves.waits e x) y = Left.waits e x
+    packet_left_so given new o (PacketLeaves.over why e dead) y = Left.over why e dead
+    packet_left_so given new o (PacketLeaves.shows more x) (PacketTurnOf.begun y) = absurd (more refl)
+    packet_left_so given new o (PacketLeaves.shows more x) (PacketTurnOf.refused {why} y) = Left.over why refl y.turned.sums.dead_is
+    packet_left_so given new o (PacketLeaves.shows more x) (PacketTurnOf.payload y) = shown_left given new more x (opens_shown new y.between x y.packet y.unit)
 
     -- of a packet that both roles take alike
-    pub packet_left : (number : ℕ) (done : PacketTurn) (given : TransportTurn) (new : State K) (o : Outs) → given ≡ packet_outcome done number → PacketTaken p.crypto old bytes done new o → Left p side history bytes given new
-    packet_left number done given new o shown x = subst (λ (t : TransportTurn). Left p side history bytes t new) (sym shown) (packet_left_so number done new o x)
+    pub packet_left : (given : TransportTurn) (new : State K) (o : Outs) → PacketTaken p.crypto old bytes (Break given) new o → Left p side history bytes given new
+    packet_left given new o x = packet_left_so given new o (packet_leaves p.crypto old bytes found alive given new o x) (laws.packets p side history old sums alive live found bytes (Break given) new o x)
 
     -- of a packet that was left to a role, which then kept what is shown
-    role_left : (what : Judged) (between : State K) (given : TransportTurn) (new : State K) (o : Outs) → (given ≡ outcome.More → ⊥) → PacketTaken p.crypto old bytes (packet_turn.Payload (turn.Left what)) between o → Still between new → Left p side history bytes given new
-    role_left what between given new o more x s =
-        let y = laws.packets p side history old sums alive live found bytes (packet_turn.Payload (turn.Left what)) between o x in
-        let shown = still_shown p.crypto old bytes between new (left_shown p.crypto old bytes found what between o x) s in
-        shown_left given new more shown (opens_shown new y.between shown y.packet y.unit)
+    role_left : (left : Own) (between : State K) (given : TransportTurn) (new : State K) (o : Outs) → (given ≡ outcome.More → ⊥) → PacketTaken p.crypto old bytes (Continue left) between o → Still between new → Left p side history bytes given new
+    role_left left between given new o more x s = go (laws.packets p side history old sums alive live found bytes (Continue left) between o x)
+      where
+        go : PacketTurnOf p side history old.kept bytes (Continue left) between o → Left p side history bytes given new
+        go (PacketTurnOf.payload y) =
+            let shown = still_shown p.crypto old bytes between new (left_shown p.crypto old bytes found left between o x) s in
+            shown_left given new more shown (opens_shown new y.between shown y.packet y.unit)
 
     -- or refused its peer
-    pub own_left : (what : Judged) (between : State K) (given : TransportTurn) (new : State K) (o : Outs) → (given ≡ outcome.More → ⊥) → PacketTaken p.crypto old bytes (packet_turn.Payload (turn.Left what)) between o → Leaves between given new → Left p side history bytes given new
-    own_left what between given new o more x (Leaves.stays s) = role_left what between given new o more x s
-    own_left what between given new o more x (Leaves.over why e dead) = Left.over why e dead
+    pub own_left : (left : Own) (between : State K) (given : TransportTurn) (new : State K) (o : Outs) → (given ≡ outcome.More → ⊥) → PacketTaken p.crypto old bytes (Continue left) between o → Leaves between given new → Left p side history bytes given new
+    own_left left between given new o more x (Leaves.stays s) = role_left left between given new o more x s
+    own_left left between given new o more x (Leaves.over why e dead) = Left.over why e dead
 
 -- ---- what an end then shows
 
@@ -176,11 +171,10 @@ module _ {K : Type 0} (p : Parties K) (side : Side) (history : List Item) (bytes
   success_still false mid e s = let t = still_by mid new (after_success_where false mid.kept) e refl in record { payload = t.payload ∙ s.payload; begun = t.begun ∙ s.begun; found = t.found ∙ s.found }
 
   -- the layers above judged its payload
-  pub above_reads : (number : ℕ) (judgement : Judgement) (o : Outs) → Finished p.crypto between judgement done new o → Left p side history bytes (outcome.Up number) between → Reads p side history bytes done new
-  above_reads number (judged.Answered above) o x y =
+  pub above_reads : (number : ℕ) (given : Result Above Refusal) (o : Outs) → Finished p.crypto between given done new o → Left p side history bytes (outcome.Up number) between → Reads p side history bytes done new
+  above_reads number (Ok above) o x y =
       still_reads (outcome.Up number) refl (λ e. cc e) (λ why e. cc e) (success_still above.success x.between x.after (put_still p.crypto (option_map (λ v. v.items) above.reply) x.between o x.puts)) y
-  above_reads number (judged.Refused why) o x y = Reads.over why x.shown (ap (λ (t : Transport K). t.dead) x.refused.refuses.after)
-  above_reads number judged.Spent o x y = Reads.over code.NumberSpent x.shown (ap (λ (t : State K). t.kept.dead) x.after)
+  above_reads number (Err why) o x y = Reads.over why x.shown (ap (λ (t : Transport K). t.dead) x.refused.refuses.after)
 
   -- what was owed was given after an exchange
   pub ended_reads : (choice : OwnedChoice) (channels later : Channels) (o : Outs) → new ≡ record between { kept = new.kept } → Completing p.crypto between channels done new later o → Left p side history bytes (outcome.Completed choice) between → Reads p side history bytes done new

@@ -1,6 +1,6 @@
 -- What an end does with a payload from 50 on is what the end of a session does with it.
 use Rattle.std.proofs.Common.{◌≡◌, ℕ, false, List, length, refl, ap, sym, ◌∙◌, subst, Option, None}
-use Rattle.std.specs.Prelude.{IsSome}
+use Rattle.std.specs.Prelude.{IsSome, Result, Ok, Err}
 use Rattle.ssh_model.specs.declared.side.Side.{Side}
 use Rattle.ssh_model.specs.declared.side.Side.TheVariants.{Client, Server}
 use Rattle.ssh_model.specs.Protocol.Wire.Message.{Msg}
@@ -10,6 +10,7 @@ use Rattle.ssh_model.specs.State.Authentication.Summary.{items_of}
 use Rattle.ssh_model.specs.State.End.Summary.{AuthenticationSumsUp}
 use Rattle.ssh_model.specs.State.End.Payloads.{AnswersAbove}
 use Rattle.ssh_model.specs.State.End.State.{EndState}
+use Rattle.ssh_model.specs.declared.refusal.Refusal.{Refusal}
 use Rattle.ssh_model.specs.Protocol.Sessions.Items.{Item, messages_sent}
 use Rattle.ssh_model.specs.Protocol.Sessions.Parties.{Parties}
 use Rattle.ssh_model.specs.Protocol.Sessions.Turns.{AreSpelled}
@@ -23,16 +24,15 @@ use Rattle.ssh_channels.specs.Values.{taken_of}
 use Rattle.ssh_transport_machine.specs.Puts.{Outs}
 use Rattle.ssh_transport_machine.specs.Sessions.{IsAbove}
 use Rattle.ssh_transport_machine.specs.State.{State, last_number}
-use Rattle.ssh_end.specs.Above.{Awaits, Finished, IsUnsent, Judged, SpentAbove}
+use Rattle.ssh_end.specs.Above.{Awaits, Finished, IsUnsent, Judged, RefusedAbove, SpentAbove}
 use Rattle.ssh_end.specs.Layer.{Beneath}
 use Rattle.ssh_end.specs.Login.{LoginRow, authentication_of, login_message, probes, side_of}
 use Rattle.ssh_end.specs.Layers.{LayerRow, Layers, LayersTake, IsShort, message_of}
-use Rattle.ssh_end.specs.Judging.{IsTaken, JudgesPayload}
+use Rattle.ssh_end.specs.Judging.{IsTaken, JudgesPayload, RefusesPeer}
 use Rattle.ssh_end.specs.UnitTurns.{IsRunning}
 use Rattle.ssh_end.specs.Sessions.{Accepts, AreOf, IsLoginOf, beneath, end_of}
 use Rattle.ssh_end.specs.Steps.{UnitTurned}
-use Rattle.ssh_end.specs.declared.above.Judgement.{Judgement}
-use Rattle.ssh_end.specs.declared.above.Judgement.TheVariants as judged
+use Rattle.ssh_end.specs.declared.above.Above.{Above}
 use Rattle.ssh_end.specs.declared.layers.answer.LayerAnswer.{LayerAnswer}
 use Rattle.ssh_end.specs.declared.layers.answer.LayerAnswer.TheVariants as answer
 use Rattle.ssh_end.specs.declared.layers.login.Login.{Login}
@@ -136,10 +136,10 @@ module _ {K : Type 0} (laws : TurningLaws K) (server_facts : ServerFacts) (chann
   still_taken : (given : LayerAnswer) (later : Layers) → IsTaken judge m layers given later → AreOf p later
   still_taken given later x = (accepted x.message later given (takes_so given later x)).of_parties
 
-  pub still_judged : (judgement : Judgement) (later : Layers) → JudgesPayload judge m layers judgement later → AreOf p later
-  still_judged (judged.Answered given) later x = still_taken x.given later x.taken
-  still_judged (judged.Refused why) later x = subst (λ (l : Layers). AreOf p l) (sym x.same) running.layers_are
-  still_judged judged.Spent later x = still_taken x.given later x.taken
+  pub still_judged : (given : Result Above Refusal) (later : Layers) → JudgesPayload judge m layers given later → AreOf p later
+  still_judged (Ok above) later x = still_taken x.given later x.taken
+  still_judged (Err why) later (RefusesPeer.by_layers _ _ x) = subst (λ (l : Layers). AreOf p l) (sym x.same) running.layers_are
+  still_judged (Err _) later (RefusesPeer.spent given _ x unsent) = still_taken given later x
 
   -- what would be sent has a spelling
   pub spelled_so : (given : LayerAnswer) (later : Layers) → IsTaken judge m layers given later → IsSome (message_of later given (last_number m.kept.taking)) → SpelledAbove p e payload
@@ -152,18 +152,18 @@ module _ {K : Type 0} (laws : TurningLaws K) (server_facts : ServerFacts) (chann
   role_is : side_of layers.authentication ≡ side
   role_is = role_of side history layers.authentication (running.sums.above alive).authentication_sums
 
-  pub judged_so : (judgement : Judgement) (later : Layers) → JudgesPayload judge m layers judgement later → Judged p side e payload judgement (authentication_of later.authentication) later.channels
-  judged_so judgement later x = subst (λ (t : Side). Judged p t e payload judgement (authentication_of later.authentication) later.channels) role_is (by_role judgement later x)
+  pub judged_so : (given : Result Above Refusal) (later : Layers) → JudgesPayload judge m layers given later → Judged p side e payload given (authentication_of later.authentication) later.channels
+  judged_so given later x = subst (λ (t : Side). Judged p t e payload given (authentication_of later.authentication) later.channels) role_is (by_role given later x)
     where
-      by_role : (judgement : Judgement) (later : Layers) → JudgesPayload judge m layers judgement later → Judged p (side_of layers.authentication) e payload judgement (authentication_of later.authentication) later.channels
-      by_role (judged.Answered given) later x = answered_so p judge s m layers awaits running.layers_are running.judged server_facts channel_facts x.given later x.taken given.step _ given.success x.made
-      by_role (judged.Refused why) later x = refused_so p judge s m layers awaits running.layers_are running.judged server_facts channel_facts _ later x
-      by_role judged.Spent later x = spent_so x.given later x.taken x.made
+      by_role : (given : Result Above Refusal) (later : Layers) → JudgesPayload judge m layers given later → Judged p (side_of layers.authentication) e payload given (authentication_of later.authentication) later.channels
+      by_role (Ok above) later x = answered_so p judge s m layers awaits running.layers_are running.judged server_facts channel_facts x.given later x.taken above.step _ above.success x.made
+      by_role (Err why) later (RefusesPeer.by_layers _ _ x) = RefusedAbove.refused why (refused_so p judge s m layers awaits running.layers_are running.judged server_facts channel_facts _ later x)
+      by_role (Err _) later (RefusesPeer.spent given _ x unsent) = RefusedAbove.spent (spent_so given later x unsent)
 
   -- what was done with it is a turn
-  pub finished_so : (judgement : Judgement) (later : Layers) → JudgesPayload judge m layers judgement later → (done : Step) (new : State K) (out : Outs) → Finished p.crypto m judgement done new out → UnitTurned p side history bytes payload done (end_of new.kept later) out
-  finished_so judgement later x done new out y =
+  pub finished_so : (given : Result Above Refusal) (later : Layers) → JudgesPayload judge m layers given later → (done : Step) (new : State K) (out : Outs) → Finished p.crypto m given done new out → UnitTurned p side history bytes payload done (end_of new.kept later) out
+  finished_so given later x done new out y =
       finished p side history e running.sums alive m awaits bytes above.unit
       (λ items more next taken. laws.taken p side history e running.sums alive payload items more next taken)
       (λ items more next turned. laws.opened p side history e running.sums alive bytes payload items more next above.unit turned)
-      judgement (authentication_of later.authentication) later.channels (judged_so judgement later x) done new out y
+      given (authentication_of later.authentication) later.channels (judged_so given later x) done new out y

@@ -1,5 +1,5 @@
 -- What an end does where its transport answered a KEXINIT as a client does is what the client of a session does.
-use Rattle.std.proofs.Common.{◌≡◌, ℕ, ◌+◌, ◌≤◌, ◌++◌, false, List, [], ◌∷◌, length, append-nil, append_assoc, arith, refl, ap, sym, ◌∙◌, subst, Option, Some, None}
+use Rattle.std.proofs.Common.{◌≡◌, ℕ, ◌+◌, ◌++◌, false, List, [], ◌∷◌, refl, ap, sym, ◌∙◌, subst, Option, Some, None}
 use Rattle.ssh_model.specs.declared.side.Side.{Side}
 use Rattle.ssh_model.specs.declared.side.Side.TheVariants.{Client}
 use Rattle.ssh_model.specs.Protocol.Wire.Message.{Msg, Msg.KexEcdhInit, Msg.KexInit, IsPayload}
@@ -9,13 +9,12 @@ use Rattle.ssh_model.specs.State.Channels.Summary.{told}
 use Rattle.ssh_model.specs.State.End.Below.{AreBelow, opened_by_all}
 use Rattle.ssh_model.specs.State.End.State.{Authentication, EndState}
 use Rattle.ssh_model.specs.State.End.Summary.{EndSumsUp, EndTurned}
-use Rattle.ssh_model.specs.Protocol.Sessions.Items.{Fact, Fact.Completed, Item, Item.Told, Item.Took, Spelled, Spelled.SpelledBy, messages_sent}
+use Rattle.ssh_model.specs.Protocol.Sessions.Items.{Fact, Item, Item.Took, Spelled, Spelled.SpelledBy, messages_sent}
 use Rattle.ssh_model.specs.Protocol.Sessions.Parties.{Parties}
 use Rattle.ssh_model.specs.Protocol.Sessions.Turns.{OnUnit, stage}
 use Rattle.ssh_model.specs.State.TransportLayer.Kept.{Transport}
 use Rattle.ssh_model.specs.State.TransportLayer.Summary.{items_sent}
 use Rattle.ssh_model.specs.State.TransportLayer.Turns.{Turned, refusal_items}
-use Rattle.ssh_transport_machine.specs.Endings.{ExchangeEnds, PayloadRefused}
 use Rattle.ssh_transport_machine.specs.Outcomes.{answer_outcome}
 use Rattle.ssh_transport_machine.specs.Puts.{Outs, payloads_of}
 use Rattle.ssh_transport_machine.specs.State.{State}
@@ -30,7 +29,6 @@ use Rattle.ssh_end.specs.Layers.{Layers}
 use Rattle.ssh_end.specs.Sessions.{end_of}
 use Rattle.ssh_end.specs.Steps as steps
 use Rattle.ssh_end.specs.Steps.{AreSent, UnitTurned, fact_by}
-use Rattle.ssh_end.specs.declared.step.Step.{Step}
 use Rattle.ssh_end.specs.declared.step.Step.TheVariants as step
 use Rattle.ssh_end.specs.declared.step.Telling.TheVariants as telling
 use Rattle.ssh_end.proofs.SendingOn.{transport_on}

@@ -1,5 +1,5 @@
 -- What an end does with a line, and with a packet that both roles take alike, is what the end of a session does.
-use Rattle.std.proofs.Common.{◌≡◌, ◌++◌, ℕ, false, List, [], ◌∷◌, None, append-nil, refl, ap, sym, ◌∙◌, subst}
+use Rattle.std.proofs.Common.{◌≡◌, ◌++◌, ℕ, false, List, [], ◌∷◌, None, append-nil, refl, ap, sym, ◌∙◌, subst, Break}
 use Rattle.ssh_model.specs.declared.side.Side.{Side}
 use Rattle.ssh_model.specs.State.End.State.{EndState}
 use Rattle.ssh_model.specs.State.End.Summary.{EndSumsUp, EndTurned}
@@ -9,15 +9,12 @@ use Rattle.ssh_model.specs.declared.refusal.Refusal.{Refusal}
 use Rattle.ssh_model.specs.Protocol.Sessions.Turns.{OnUnit}
 use Rattle.ssh_model.specs.State.TransportLayer.Kept.{Transport}
 use Rattle.ssh_model.specs.State.TransportLayer.Turns.{refusal_items}
-use Rattle.ssh_transport_machine.specs.Outcomes.{payload_outcome}
 use Rattle.ssh_transport_machine.specs.Puts.{Outs, payloads_of}
-use Rattle.ssh_transport_machine.specs.Sessions.{is_left}
+use Rattle.ssh_transport_machine.specs.Sessions.{is_up}
 use Rattle.ssh_transport_machine.specs.Shown.{IsLineRefusal, IsPacketRefusal, IsPayloadTurn, IsTurn, LineTurnOf}
 use Rattle.ssh_transport_machine.specs.State.{State}
 use Rattle.ssh_transport_machine.specs.Turning.{IsQuiet}
 use Rattle.ssh_transport_machine.specs.declared.machine.line_turn.LineTurn.TheVariants as line_turn
-use Rattle.ssh_transport_machine.specs.declared.machine.turn.PacketTurn.TheVariants as packet_turn
-use Rattle.ssh_transport_machine.specs.declared.machine.turn.PayloadTurn.{PayloadTurn}
 use Rattle.ssh_transport_machine.specs.declared.outcome.Effect.TheVariants as effect
 use Rattle.ssh_transport_machine.specs.declared.outcome.TransportTurn.{TransportTurn}
 use Rattle.ssh_transport_machine.specs.declared.outcome.TransportTurn.TheVariants as outcome
@@ -93,11 +90,11 @@ module _ {K : Type 0} (laws : TurningLaws K) (p : Parties K) (side : Side) (hist
     lists = x.lists ∙ ap (λ l. o.listed ++ payloads_of l) (sym (refusal_sends x.said why None));
   }
 
-  pub payload_turn : (done : PayloadTurn) (number : ℕ) (new : State K) (o : Outs) → is_left (packet_turn.Payload done) ≡ false → (x : IsPayloadTurn p side history s bytes done new o) → Turns (payload_outcome done number) x.between.receiver.payload new.kept o
-  payload_turn done number new o whole x =
+  pub payload_turn : (given : TransportTurn) (new : State K) (o : Outs) → is_up given ≡ false → (x : IsPayloadTurn p side history s bytes (Break given) new o) → Turns given x.between.receiver.payload new.kept o
+  payload_turn given new o not_up x =
       let payload = x.between.receiver.payload in
-      let y : IsTurn p side history s payload done new.kept o = is_turn p side history s x.between done new o whole x.turn in
+      let y : IsTurn p side history s payload given new.kept o = is_turn p side history s x.between given new o not_up x.turn in
       shared p side history e bytes payload
       (λ items more next below turned. laws.opened p side history e sums alive bytes payload items more _ x.unit (laws.layered p side history e sums alive payload items more next below turned))
       (λ items more next turned dead. laws.opened p side history e sums alive bytes payload items more next x.unit (laws.over p side history e sums alive payload items more next turned dead))
-      s done y.said y.items y.more new.kept o number y.shows y.turned y.parts y.lists
+      s given y.said y.items y.more new.kept o y.shows y.turned y.parts y.lists

@@ -1,6 +1,7 @@
 -- Where memory is refused an end dies as the end of a session.
 use Rattle.std.proofs.Common.{◌≡◌, ℕ, ◌+◌, ◌<◌, ◌≤◌, ◌^◌, Bool, true, false, not, ◌&&◌, List, [], ◌∷◌, arith, refl, ap, ◌∙◌, subst, Option, Some, None, nat_le, nat_lt, sym}
 use Rattle.std.proofs.lemmas.Bool.{ltb-false, ltb-true}
+use Rattle.std.specs.Prelude.{Result, Ok, Err}
 use Rattle.ssh_model.specs.declared.side.Side.{Side}
 use Rattle.ssh_model.specs.declared.side.Side.TheVariants.{Server}
 use Rattle.ssh_model.specs.Protocol.Wire.Message.{Method, Method.Publickey, Msg, Msg.UserauthRequest}
@@ -23,10 +24,11 @@ use Rattle.ssh_model.specs.declared.refusal.Refusal.TheVariants as code
 use Rattle.ssh_transport_machine.specs.Puts.{Outs}
 use Rattle.ssh_transport_machine.specs.Sessions.{IsAbove}
 use Rattle.ssh_transport_machine.specs.State.{State, dead_state}
+use Rattle.ssh_transport_machine.specs.Turning.{RefusalLacks}
 use Rattle.ssh_transport_machine.specs.declared.outcome.TransportTurn.{TransportTurn}
 use Rattle.ssh_transport_machine.specs.declared.outcome.TransportTurn.TheVariants as outcome
 use Rattle.ssh_transport.specs.Units.{Died, RoleDoes, RoleLacks, Took}
-use Rattle.ssh_end.specs.Above.{FinishLacks, IsBeneath, LacksAbove}
+use Rattle.ssh_end.specs.Above.{FinishLacks, IsBeneath, LacksAbove, RefusedAbove}
 use Rattle.ssh_end.specs.Deaths.{EndDies}
 use Rattle.ssh_end.specs.Layer.{Beneath}
 use Rattle.ssh_end.specs.Layers.{Layers, LayersLack, Reads}
@@ -37,8 +39,7 @@ use Rattle.ssh_end.specs.Units.{GoLacks, UnitLacks, UpLacks}
 use Rattle.ssh_end.specs.Sessions.{IsJudgedBy, IsLoginOf, IsServers, beneath, end_of}
 use Rattle.ssh_end.specs.declared.layers.login.Login.{Login}
 use Rattle.ssh_end.specs.declared.layers.login.Login.TheVariants as login
-use Rattle.ssh_end.specs.declared.above.Judgement.{Judgement}
-use Rattle.ssh_end.specs.declared.above.Judgement.TheVariants as judged
+use Rattle.ssh_end.specs.declared.above.Above.{Above}
 use Rattle.ssh_end.proofs.AboveDeaths.{answered_lacks, channel_lacks, lacks_by, refused_lacks, spelled_lacks}
 use Rattle.ssh_end.proofs.Judging.{ChannelFacts, ServerFacts, beneath_is}
 use Rattle.ssh_end.proofs.TurnsAbove.{awaits, judged_so, role_of, spelled_so}
@@ -185,18 +186,20 @@ module _ {K : Type 0} (laws : TurningLaws K) (dying : DyingLaws K) (p : Parties 
     judge_dies (JudgeLacks.unspelled given new x some room) =
         lacks_dies (spelled_lacks p side (end_of old.kept layers) payload (spelled_so laws server_facts channel_facts p side judge history old layers running took.alive bytes between o above given new x some) (omega (arith, room, sending)))
 
-    finish_dies : (judgement : Judgement) (later : Layers) → JudgesPayload judge between layers judgement later → FinishLacks between judgement → Dead
-    finish_dies (judged.Answered given) later x y =
+    -- the peer is refused, and a number is left for it
+    refused_dies : (why : Refusal) → RefusedAbove p (end_of old.kept layers) payload why → RefusalLacks between why → Dead
+    refused_dies why (RefusedAbove.refused _ x) y = lacks_dies (refused_lacks p side (end_of old.kept layers) payload between why x y (omega (arith, y.room, sending)))
+    refused_dies why (RefusedAbove.spent x) y = absurd (omega (arith, y.room, sending, x.none_left))
+
+    finish_dies : (given : Result Above Refusal) (later : Layers) → JudgesPayload judge between layers given later → FinishLacks between given → Dead
+    finish_dies (Ok given) later x y =
         lacks_dies (answered_lacks p side (end_of old.kept layers) payload given.step _ given.success (authentication_of later.authentication) later.channels
-        (judged_so laws server_facts channel_facts p side judge history old layers running took.alive bytes between o above (judged.Answered given) later x) y.0 (omega (arith, y.1, sending)))
-    finish_dies (judged.Refused why) later x y =
-        lacks_dies (refused_lacks p side (end_of old.kept layers) payload between why
-        (judged_so laws server_facts channel_facts p side judge history old layers running took.alive bytes between o above (judged.Refused why) later x) y (omega (arith, y.room, sending)))
-    finish_dies judged.Spent later x y = absurd y
+        (judged_so laws server_facts channel_facts p side judge history old layers running took.alive bytes between o above (Ok given) later x) y.0 (omega (arith, y.1, sending)))
+    finish_dies (Err why) later x y = refused_dies why (judged_so laws server_facts channel_facts p side judge history old layers running took.alive bytes between o above (Err why) later x) y
 
     up_dies : UpLacks judge between layers → Dead
     up_dies (UpLacks.judging x) = judge_dies x
-    up_dies (UpLacks.sending judgement later x y) = finish_dies judgement later x y
+    up_dies (UpLacks.sending given later x y) = finish_dies given later x y
 
   end_dies : (given : TransportTurn) (between : State K) (o : Outs) → Took p.crypto side does old bytes given between o → GoLacks judge given between layers → Dead
   end_dies (outcome.Up number) between o x y = up_dies number between o x y

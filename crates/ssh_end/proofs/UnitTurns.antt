@@ -1,5 +1,5 @@
 -- What an end does with the bytes of one line or one packet is what the end of a session does with them.
-use Rattle.std.proofs.Common.{◌≡◌, ℕ, ◌++◌, true, false, List, refl, ap, sym, ◌∙◌, subst}
+use Rattle.std.proofs.Common.{◌≡◌, ℕ, ◌++◌, true, false, List, refl, ap, sym, ◌∙◌, subst, Break}
 use Rattle.std.proofs.lemmas.Bool.{false≢true}
 use Rattle.ssh_model.specs.declared.side.Side.{Side}
 use Rattle.ssh_model.specs.declared.side.Side.TheVariants.{Client}
@@ -15,18 +15,17 @@ use Rattle.ssh_model.specs.Protocol.Wire.Outcome.{Outcome.Opens}
 use Rattle.ssh_model.specs.Protocol.Wire.Unit.{IsUnit}
 use Rattle.ssh_kex.specs.declared.owned_choice.OwnedChoice.{OwnedChoice}
 use Rattle.ssh_packet.specs.Refusals.{line_refusal}
-use Rattle.ssh_transport_machine.specs.Outcomes.{IsRefusal, LineOutcome, answer_outcome, packet_outcome, payload_outcome}
+use Rattle.ssh_transport_machine.specs.Outcomes.{IsRefusal, LineOutcome, answer_outcome}
 use Rattle.ssh_transport_machine.specs.Puts.{Outs, payloads_of}
-use Rattle.ssh_transport_machine.specs.Sessions.{IsAbove, WouldDie, is_left}
+use Rattle.ssh_transport_machine.specs.Sessions.{IsAbove, WouldDie, is_up}
 use Rattle.ssh_transport_machine.specs.Shown.{IsLineRefusal, LineTurnOf, PacketTurnOf}
 use Rattle.ssh_transport_machine.specs.State.{State, begun_of, dead_state}
 use Rattle.ssh_transport_machine.specs.Turning.{IsQuiet}
 use Rattle.ssh_transport_machine.specs.declared.machine.line_turn.LineTurn.{LineTurn}
 use Rattle.ssh_transport_machine.specs.declared.machine.line_turn.LineTurn.TheVariants as line_turn
+use Rattle.ssh_transport_machine.specs.declared.machine.own.Own.{Own}
 use Rattle.ssh_transport_machine.specs.declared.machine.turn.Answer.{Answer}
 use Rattle.ssh_transport_machine.specs.declared.machine.turn.Answer.TheVariants as answered
-use Rattle.ssh_transport_machine.specs.declared.machine.turn.PacketTurn.{PacketTurn}
-use Rattle.ssh_transport_machine.specs.declared.machine.turn.PacketTurn.TheVariants as packet_turn
 use Rattle.ssh_transport_machine.specs.declared.outcome.Effect.TheVariants as effect
 use Rattle.ssh_transport_machine.specs.declared.outcome.TransportTurn.{TransportTurn}
 use Rattle.ssh_transport_machine.specs.declared.outcome.TransportTurn.TheVariants as outcome
@@ -34,7 +33,6 @@ use Rattle.ssh_transport.specs.Roles.{IsCompleted, IsOwnShown, Leaves, OwnTurn}
 use Rattle.ssh_transport.specs.Sessions.{UnitTurnOf}
 use Rattle.ssh_transport.specs.OfClient.Kexinits.{KexinitTurn}
 use Rattle.ssh_transport.specs.Units.{Died, RoleDoes, RoleLacks, Took}
-use Rattle.ssh_transport.specs.declared.own.Own.{Own}
 use Rattle.ssh_model.specs.declared.refusal.Refusal.TheVariants as code
 use Rattle.ssh_end.specs.Effects.{is_whole, step_given}
 use Rattle.ssh_end.specs.Layers.{Layers}
@@ -57,7 +55,7 @@ use Rattle.ssh_end.proofs.TurnsUnits.{other_line, payload_turn, refused_line, re
 use Rattle.ssh_end.proofs.TurnsWhole.{goes_whole, kept_after, still_of, whole_turn}
 use Rattle.ssh_end.proofs.TurningLaws.{TurningLaws}
 use Rattle.ssh_end.proofs.TurningUnits.{unit_left, unit_waits}
-use Rattle.ssh_end.proofs.TurningWhole.{is_whole_packet, no_more}
+use Rattle.ssh_end.proofs.TurningWhole.{is_turn, is_whole_turn, no_more}
 
 -- the laws of a transport whose role does this, and has these parts
 pub record TransportLaws {K : Type 0} (p : Parties K) (side : Side) (does : RoleDoes K) (lacks : RoleLacks K) : Type 0 where
@@ -166,18 +164,19 @@ module _ {K : Type 0} (laws : TurningLaws K) (reads : ReadingLaws K) (p : Partie
     line line_turn.Version same quiet x = whole (outcome.Done effect.VersionLine) same refl between.kept.lines.line (λ opens e. ap (λ (s : State K). s.kept.lines.line) (sym e)) (version_line laws p side history old.kept layers running.sums took.alive bytes between front quiet x)
     line (line_turn.Refused why) same quiet x = refused (line_refusal why) given refl same quiet x
 
-    packet : (so : PacketTurn) (number : ℕ) → is_left so ≡ false → given ≡ packet_outcome so number → PacketTurnOf p side history old.kept bytes so between front → Turned
-    packet packet_turn.More number left_not same x = waiting (subst (λ (t : Transport K). SumsUp p side history t) (sym x.after) running.sums.transport) x.quiet same
-    packet (packet_turn.Refused why) number left_not same x = whole (outcome.Refused why) same refl new.receiver.payload (λ opens e. refl) (refused_packet laws p side history old.kept layers running.sums took.alive bytes why between.kept front x)
-    packet (packet_turn.Payload so) number left_not same x =
-        whole (payload_outcome so number) same (is_whole_packet (packet_turn.Payload so) number left_not) x.between.receiver.payload (λ opens e. opens x.between.receiver.payload x.unit ∙ sym (shown_packet so number new))
-        (payload_turn laws p side history old.kept layers running.sums took.alive bytes so number between front left_not x)
+    packet : (so : TransportTurn) → given ≡ so → is_up so ≡ false → PacketTurnOf p side history old.kept bytes (Break so) between front → Turned
+    packet so same not_up (PacketTurnOf.begun x) = waiting (subst (λ (t : Transport K). SumsUp p side history t) (sym x.after) running.sums.transport) x.quiet same
+    packet so same not_up (PacketTurnOf.refused {why} x) = whole (outcome.Refused why) same refl new.receiver.payload (λ opens e. refl) (refused_packet laws p side history old.kept layers running.sums took.alive bytes why between.kept front x)
+    packet so same not_up (PacketTurnOf.payload x) =
+        let y = is_turn p side history old.kept x.between so between front not_up x.turn in
+        whole so same (is_whole_turn y.shows) x.between.receiver.payload (λ opens e. opens x.between.receiver.payload x.unit ∙ sym (shown_packet y.shows new))
+        (payload_turn laws p side history old.kept layers running.sums took.alive bytes so between front not_up x)
 
     above : (number : ℕ) → given ≡ outcome.Up number → IsAbove p side history old.kept bytes between front → Turned
     above number same x =
         let g : GoesUp p.crypto judge between layers done new later back = goes_so (outcome.Up number) same in
-        let y = finished_so laws server_facts channel_facts p side judge history old layers running took.alive bytes between front x g.judgement later g.judged done new back g.finished in
-        settle (above_reads p side history bytes between new done number g.judgement back g.finished (subst (λ (t : TransportTurn). Left p side history bytes t between) same left)) between.receiver.payload (record {
+        let y = finished_so laws server_facts channel_facts p side judge history old layers running took.alive bytes between front x g.given later g.judged done new back g.finished in
+        settle (above_reads p side history bytes between new done number g.given back g.finished (subst (λ (t : TransportTurn). Left p side history bytes t between) same left)) between.receiver.payload (record {
           items = y.items;
           more = y.more;
           shows = y.shows;
@@ -186,8 +185,8 @@ module _ {K : Type 0} (laws : TurningLaws K) (reads : ReadingLaws K) (p : Partie
           parts = y.parts ∙ ap (λ (l : List ℕ). l ++ y.more) x.quiet.out;
           lists = y.lists ∙ ap (λ (l : List (List ℕ)). l ++ payloads_of (messages_sent y.items)) x.quiet.sent;
         })
-        (still_judged laws server_facts channel_facts p side judge history old layers running took.alive bytes between front x g.judgement later g.judged)
-        (λ opens. opens between.receiver.payload x.unit ∙ sym (shown_finished p.crypto between g.judgement done new back g.finished new))
+        (still_judged laws server_facts channel_facts p side judge history old layers running took.alive bytes between front x g.given later g.judged)
+        (λ opens. opens between.receiver.payload x.unit ∙ sym (shown_finished p.crypto between g.given done new back g.finished new))
 
     kexinit : (so : Answer) (payload : List ℕ) → given ≡ answer_outcome so effect.Kexinit → IsUnit p.crypto (stage p side history) bytes (Opens payload) → side ≡ Client → KexinitTurn p history payload so between.kept front → Turned
     kexinit answered.Done payload same unit is x = whole (outcome.Done effect.Kexinit) same refl payload (λ opens e. opens payload unit) (kexinit_turn laws p side history old layers is running.sums took.alive bytes payload unit answered.Done between.kept front x)
@@ -208,7 +207,7 @@ module _ {K : Type 0} (laws : TurningLaws K) (reads : ReadingLaws K) (p : Partie
 
     turned_by : UnitTurnOf p side history old.kept bytes given between front → Turned
     turned_by (UnitTurnOf.line so same quiet x) = line so same quiet x
-    turned_by (UnitTurnOf.shared so left_not same x) = packet so _ left_not same x
+    turned_by (UnitTurnOf.shared not_up x) = packet given refl not_up x
     turned_by (UnitTurnOf.above same x) = above _ same x
     turned_by (UnitTurnOf.own payload unit x) = own payload unit x
 

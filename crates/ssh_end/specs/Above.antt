@@ -1,5 +1,5 @@
 -- What an end does with a payload from 50 on: what the layers above its transport make of it, and what is then sent.
-use Rattle.std.specs.Prelude.{◌≡◌, ℕ, ◌<◌, ◌≤◌, Bool, true, false, Option, Some, None, IsSome, List, [], ◌∷◌, length}
+use Rattle.std.specs.Prelude.{◌≡◌, ℕ, ◌<◌, ◌≤◌, Bool, true, false, Option, Some, None, Result, Ok, Err, IsSome, List, [], ◌∷◌, length}
 use Rattle.std.specs.Option.{option_map}
 use Rattle.ssh_model.specs.Protocol.Bounds.{longest_payload, numbers_of_epoch}
 use Rattle.ssh_model.specs.declared.side.Side.{Side}
@@ -18,15 +18,17 @@ use Rattle.ssh_model.specs.State.End.Payloads.{AnswersAbove, ReadsAbove, Refuses
 use Rattle.ssh_model.specs.State.End.State.{Authentication, EndState, above_checks, after_above, after_items, probes}
 use Rattle.ssh_transport_machine.specs.Above.{IsPut, PeerRefused}
 use Rattle.ssh_transport_machine.specs.Puts.{Outs, payloads_of}
-use Rattle.ssh_transport_machine.specs.State.{State, dead_state, last_number}
+use Rattle.ssh_transport_machine.specs.State.{State, last_number}
 use Rattle.ssh_transport_machine.specs.Turning.{HasRoom, IsQuiet, RefusalLacks}
+use Rattle.ssh_model.specs.declared.refusal.Refusal.{Refusal}
 use Rattle.ssh_model.specs.declared.refusal.Refusal.TheVariants as refusal
 use Rattle.ssh_end.specs.Beside.{channels_beside, channels_given}
 use Rattle.ssh_end.specs.Layer.{Beneath}
 use Rattle.ssh_end.specs.Owed.{channels_sent}
 use Rattle.ssh_end.specs.Steps.{AreSent, fact_told}
-use Rattle.ssh_end.specs.declared.above.Judgement.{Judgement}
-use Rattle.ssh_end.specs.declared.above.Judgement.TheVariants as judged
+use Rattle.ssh_end.specs.declared.above.Above.{Above}
+use Rattle.ssh_end.specs.declared.layers.fault.LayerFault.{LayerFault}
+use Rattle.ssh_end.specs.declared.layers.fault.LayerFault.TheVariants as fault
 use Rattle.ssh_end.specs.declared.step.Step.{Step}
 use Rattle.ssh_end.specs.declared.step.Step.TheVariants as step
 use Rattle.ssh_end.specs.declared.step.TookStep.{TookStep}
@@ -96,14 +98,18 @@ pub record SpentAbove {K : Type 0} (p : Parties K) (e : EndState K) (payload : L
   pub some : 1 ≤ length (messages_sent items)
   pub none_left : e.transport.sending.count ≡ numbers_of_epoch
 
+-- The peer is refused for the payload, or for what would be sent.
+pub data RefusedAbove {K : Type 0} (p : Parties K) (e : EndState K) (payload : List ℕ) : Refusal → Type 0 where
+  refused : (why : Refusal) → RefusesAbove p e payload why → RefusedAbove p e payload why
+  spent : SpentAbove p e payload → RefusedAbove p e payload refusal.NumberSpent
+
 -- what they made of the payload
-abbrev pub Judged : {K : Type 0} → Parties K → Side → EndState K → (payload : List ℕ) → Judgement → Authentication →
-    Channels → Type 0
-Judged p side e payload (judged.Answered above) authentication channels =
+abbrev pub Judged : {K : Type 0} → Parties K → Side → EndState K → (payload : List ℕ) → Result Above Refusal →
+    Authentication → Channels → Type 0
+Judged p side e payload (Ok above) authentication channels =
     AnsweredAbove p side e payload above.step (option_map (λ v. v.items) above.reply) above.success authentication
     channels
-Judged p side e payload (judged.Refused why) authentication channels = RefusesAbove p e payload why
-Judged p side e payload judged.Spent authentication channels = SpentAbove p e payload
+Judged p side e payload (Err why) authentication channels = RefusedAbove p e payload why
 
 -- Memory would be taken: something would be sent, or a channel made.
 pub record LacksAbove {K : Type 0} (p : Parties K) (side : Side) (e : EndState K) (payload : List ℕ) : Type 0 where
@@ -145,11 +151,30 @@ pub record IsUnsent {K : Type 0} (m : State K) (message : Option Msg) : Type 0 w
   pub none_left : m.kept.sending.count ≡ numbers_of_epoch
 
 -- What is made of a message that was taken so, where this is sent at once.
-abbrev pub IsAnswer : {K : Type 0} → State K → TookStep → Option Msg → (success : Bool) → Judgement → Type 0
-IsAnswer m took message success (judged.Answered above) =
+abbrev pub IsAnswer : {K : Type 0} → State K → TookStep → Option Msg → (success : Bool) → Above → Type 0
+IsAnswer m took message success above =
     IsMade m took message success above.step (option_map (λ v. v.items) above.reply) above.success
-IsAnswer m took message success (judged.Refused why) = ⊥
-IsAnswer m took message success judged.Spent = IsUnsent m message
+
+-- Memory was refused for what would be sent.
+pub record IsUnspelled {K : Type 0} (m : State K) (message : Option Msg) : Type 0 where
+  pub some : IsSome message
+  pub room : HasRoom m
+
+-- why nothing is made of it
+abbrev pub NoAnswer : {K : Type 0} → State K → Option Msg → LayerFault → Type 0
+NoAnswer m message (fault.Refused why) = (why ≡ refusal.NumberSpent) × IsUnsent m message
+NoAnswer m message fault.Memory = IsUnspelled m message
+
+-- It holds of what was made of a payload. Where memory was refused, it says nothing.
+abbrev pub OnJudged : Result Above LayerFault → (Result Above Refusal → Type 0) → Type 0
+OnJudged (Ok above) holds = holds (Ok above)
+OnJudged (Err (fault.Refused why)) holds = holds (Err why)
+OnJudged (Err fault.Memory) holds = Unit {0}
+
+-- It holds where memory was refused.
+abbrev pub OnMemory : Result Above LayerFault → Type 0 → Type 0
+OnMemory (Err fault.Memory) fact = fact
+OnMemory given fact = Unit {0}
 
 -- ---- what is then done
 
@@ -158,9 +183,9 @@ CanReplyWith m None = m.kept.dead ≡ false
 CanReplyWith m (Some payload) = CanReply m payload
 
 -- So it can be done.
-abbrev pub CanFinish : {K : Type 0} → State K → Judgement → Type 0
-CanFinish m (judged.Answered above) = CanReplyWith m (option_map (λ v. v.items) above.reply)
-CanFinish m given = m.kept.dead ≡ false
+abbrev pub CanFinish : {K : Type 0} → State K → Result Above Refusal → Type 0
+CanFinish m (Ok above) = CanReplyWith m (option_map (λ v. v.items) above.reply)
+CanFinish m (Err why) = m.kept.dead ≡ false
 
 -- The reply is put out, or there is none.
 abbrev pub PutsReply : {K : Type 0} → Crypto K → State K → Option (List ℕ) → State K → Outs → Type 0
@@ -176,30 +201,22 @@ pub record FinishedAnswer {K : Type 0} (c : Crypto K) (old : State K) (given : T
   pub after : new ≡ record between { kept = after_success_where success between.kept }
 
 -- The peer was refused.
-pub record FinishedRefusal {K : Type 0} (c : Crypto K) (old : State K) (why : _) (done : Step) (new : State K)
+pub record FinishedRefusal {K : Type 0} (c : Crypto K) (old : State K) (why : Refusal) (done : Step) (new : State K)
     (o : Outs) : Type 0 where
   pub shown : done ≡ step.Refused why
   pub refused : PeerRefused c old why new o
 
--- No number was left: the end is over, and all else stays as it was.
-pub record FinishedSpent {K : Type 0} (old : State K) (done : Step) (new : State K) (o : Outs) : Type 0 where
-  pub shown : done ≡ step.Refused refusal.NumberSpent
-  pub after : new ≡ dead_state old
-  pub quiet : IsQuiet o
-
 -- what was done with what they made of a payload
-abbrev pub Finished : {K : Type 0} → Crypto K → State K → Judgement → Step → State K → Outs → Type 0
-Finished c old (judged.Answered above) done new o =
+abbrev pub Finished : {K : Type 0} → Crypto K → State K → Result Above Refusal → Step → State K → Outs → Type 0
+Finished c old (Ok above) done new o =
     FinishedAnswer c old above.step (option_map (λ v. v.items) above.reply) above.success done new o
-Finished c old (judged.Refused why) done new o = FinishedRefusal c old why done new o
-Finished c old judged.Spent done new o = FinishedSpent old done new o
+Finished c old (Err why) done new o = FinishedRefusal c old why done new o
 
 -- Something would be sent.
 abbrev pub IsReply : Option (List ℕ) → Type 0
 IsReply None = ⊥
 IsReply (Some payload) = Unit {0}
 
-abbrev pub FinishLacks : {K : Type 0} → State K → Judgement → Type 0
-FinishLacks m (judged.Answered above) = IsReply (option_map (λ v. v.items) above.reply) × HasRoom m
-FinishLacks m (judged.Refused why) = RefusalLacks m why
-FinishLacks m judged.Spent = ⊥
+abbrev pub FinishLacks : {K : Type 0} → State K → Result Above Refusal → Type 0
+FinishLacks m (Ok above) = IsReply (option_map (λ v. v.items) above.reply) × HasRoom m
+FinishLacks m (Err why) = RefusalLacks m why

@@ -1,19 +1,19 @@
 -- What an end makes of a payload from 50 on.
-use Rattle.std.specs.Prelude.{◌≡◌, Bool, true, false, None, IsSome}
+use Rattle.std.specs.Prelude.{◌≡◌, Bool, true, false, None, Result, Ok, Err, IsSome}
 use Rattle.ssh_model.specs.Protocol.Wire.Message.{Msg}
 use Rattle.ssh_model.specs.declared.refusal.Refusal.{Refusal}
+use Rattle.ssh_model.specs.declared.refusal.Refusal.TheVariants.{NumberSpent}
 use Rattle.ssh_model.specs.Protocol.Authentication.Requests.{Judge}
 use Rattle.ssh_auth.specs.declared.answer.ClientAnswer.TheVariants as to_client
 use Rattle.ssh_auth.specs.declared.answer.ServerAnswer.TheVariants as by_server
 use Rattle.ssh_transport_machine.specs.State.{State, last_number}
 use Rattle.ssh_transport_machine.specs.Turning.{HasRoom}
-use Rattle.ssh_end.specs.Above.{IsAnswer, IsBeneath}
+use Rattle.ssh_end.specs.Above.{IsAnswer, IsBeneath, IsUnsent}
 use Rattle.ssh_end.specs.Layer.{Beneath}
 use Rattle.ssh_end.specs.Layers.{IsShort, Layers, LayersLack, LayersRefuse, LayersTake, message_of}
 use Rattle.ssh_end.specs.Login.{probes}
 use Rattle.ssh_end.specs.Told.{telling_of}
-use Rattle.ssh_end.specs.declared.above.Judgement.{Judgement}
-use Rattle.ssh_end.specs.declared.above.Judgement.TheVariants as judged
+use Rattle.ssh_end.specs.declared.above.Above.{Above}
 use Rattle.ssh_end.specs.declared.layers.answer.LayerAnswer.{LayerAnswer}
 use Rattle.ssh_end.specs.declared.layers.answer.LayerAnswer.TheVariants as answer
 use Rattle.ssh_end.specs.declared.step.Telling.TheVariants as telling
@@ -43,12 +43,12 @@ pub record IsTaken {K : Type 0} (judge : Judge) (m : State K) (old : Layers) (gi
   pub short : IsShort given
 
 -- They took it, and this is made of it.
-pub record TakesPayload {K : Type 0} (judge : Judge) (m : State K) (old : Layers) (judgement : Judgement)
+pub record TakesPayload {K : Type 0} (judge : Judge) (m : State K) (old : Layers) (above : Above)
     (new : Layers) : Type 0 where
   pub given : LayerAnswer
   pub taken : IsTaken judge m old given new
   pub made : IsAnswer m (took_by given (probes old.authentication)) (message_of new given (last_number m.kept.taking))
-      (succeeds given) judgement
+      (succeeds given) above
 
 -- They refuse the peer.
 pub record RefusesPayload {K : Type 0} (judge : Judge) (m : State K) (old : Layers) (why : Refusal)
@@ -58,10 +58,16 @@ pub record RefusesPayload {K : Type 0} (judge : Judge) (m : State K) (old : Laye
   pub refuses : LayersRefuse judge below old m.receiver.payload why
   pub same : new ≡ old
 
+-- The peer is refused: by the layers, or since no number is left for what would be sent for what they took.
+pub data RefusesPeer {K : Type 0} (judge : Judge) (m : State K) (old : Layers) : Refusal → Layers → Type 0 where
+  by_layers : (why : Refusal) (new : Layers) → RefusesPayload judge m old why new → RefusesPeer judge m old why new
+  spent : (given : LayerAnswer) (new : Layers) → IsTaken judge m old given new →
+      IsUnsent m (message_of new given (last_number m.kept.taking)) → RefusesPeer judge m old NumberSpent new
+
 -- what was made of the payload that is shown
-abbrev pub JudgesPayload : {K : Type 0} → Judge → State K → Layers → Judgement → Layers → Type 0
-JudgesPayload judge m old (judged.Refused why) new = RefusesPayload judge m old why new
-JudgesPayload judge m old judgement new = TakesPayload judge m old judgement new
+abbrev pub JudgesPayload : {K : Type 0} → Judge → State K → Layers → Result Above Refusal → Layers → Type 0
+JudgesPayload judge m old (Ok above) new = TakesPayload judge m old above new
+JudgesPayload judge m old (Err why) new = RefusesPeer judge m old why new
 
 -- Memory was refused in a layer, or for what would be sent, for which a number is left.
 pub data JudgeLacks {K : Type 0} (judge : Judge) (m : State K) (old : Layers) : Type 0 where

@@ -7,6 +7,8 @@ use Rattle.ssh_model.specs.Protocol.Wire.Sealing.{Crypto}
 use Rattle.ssh_transport.specs.OfClient.Replies.{Trusts}
 use Rattle.ssh_transport.specs.OfClient.Roles.{IsOfClient}
 use Rattle.ssh_transport.specs.OfServer.Roles.{IsOfServer}
+use Rattle.ssh_end.specs.declared.client_role.ClientRole.{ClientRole}
+use Rattle.ssh_end.specs.declared.server_role.ServerRole.{ServerRole}
 
 -- These are the parts of the server of these parties, and its verdicts on users.
 pub record IsServer {K : Type 0} (p : Parties K) (c : Crypto K) (parts : ExchangeParts) (judge : Judge) : Type 0 where
@@ -18,6 +20,20 @@ pub record IsClient {K : Type 0} (p : Parties K) (c : Crypto K) (agreement : Agr
     (signature : (user algorithm key text : List ℕ) → List ℕ) : Type 0 where
   pub exchange : IsOfClient p c agreement trusts
   pub signature_is : p.user_signature ≡ signature
+
+-- A server has these parts, and judges users by this.
+pub record IsServerOf {P U S F A H K : Type 0} (agreement : A) (host_signer : H) (user : U)
+    (role : ServerRole P U S F A H K) : Type 0 where
+  pub agreement_is : role.exchange.agreement ≡ agreement
+  pub host_signer_is : role.exchange.host_signer ≡ host_signer
+  pub user_is : role.user ≡ user
+
+-- A client has these parts, and this signs for its user.
+pub record IsClientOf {P U S F A H K : Type 0} (agreement : A) (host_trust : H) (user : U)
+    (role : ClientRole P U S F A H K) : Type 0 where
+  pub agreement_is : role.exchange.agreement ≡ agreement
+  pub host_trust_is : role.exchange.host_trust ≡ host_trust
+  pub user_is : role.user ≡ user
 
 -- what a key agreement does
 abbrev pub agreement_by : {A : Type 0} → (point : A → List ℕ → List ℕ) → (shared : A → List ℕ → List ℕ → Option (List ℕ)) →

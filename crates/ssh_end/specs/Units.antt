@@ -1,6 +1,7 @@
 -- What an end makes of the bytes of one line or one packet, over what its role does in an exchange of keys.
-use Rattle.std.specs.Prelude.{◌≡◌, ◌≤◌, ◌++◌, ℕ, true, List, length, take}
+use Rattle.std.specs.Prelude.{◌≡◌, ◌≤◌, ◌++◌, ℕ, true, Result, List, length, take}
 use Rattle.ssh_model.specs.Protocol.Authentication.Requests.{Judge}
+use Rattle.ssh_model.specs.declared.refusal.Refusal.{Refusal}
 use Rattle.ssh_model.specs.declared.side.Side.{Side}
 use Rattle.ssh_model.specs.Protocol.Wire.Sealing.{Crypto}
 use Rattle.ssh_transport_machine.specs.Puts.{Outs}
@@ -15,7 +16,7 @@ use Rattle.ssh_end.specs.Effects.{is_whole, step_given}
 use Rattle.ssh_end.specs.Judging.{JudgeLacks, JudgesPayload}
 use Rattle.ssh_end.specs.Layers.{Layers}
 use Rattle.ssh_end.specs.Login.{opened}
-use Rattle.ssh_end.specs.declared.above.Judgement.{Judgement}
+use Rattle.ssh_end.specs.declared.above.Above.{Above}
 use Rattle.ssh_end.specs.declared.layers.login.Login.{Login}
 use Rattle.ssh_end.specs.declared.layers.login.Login.TheVariants as login
 use Rattle.ssh_end.specs.declared.step.Step.{Step}
@@ -41,9 +42,9 @@ pub record GoesWhole {K : Type 0} (given : TransportTurn) (between : State K) (o
 -- A payload was left to the layers above, which judged it.
 pub record GoesUp {K : Type 0} (c : Crypto K) (judge : Judge) (between : State K) (old : Layers) (done : Step)
     (new : State K) (later : Layers) (o : Outs) : Type 0 where
-  pub judgement : Judgement
-  pub judged : JudgesPayload judge between old judgement later
-  pub finished : Finished c between judgement done new o
+  pub given : Result Above Refusal
+  pub judged : JudgesPayload judge between old given later
+  pub finished : Finished c between given done new o
 
 -- An exchange was ended, and what was owed is given after it; what is read is as before.
 pub record GoesOn {K : Type 0} (c : Crypto K) (between : State K) (old : Layers) (done : Step) (new : State K)
@@ -63,8 +64,8 @@ Goes c judge given between old done new later o =
 -- A payload was left to the layers above: judging it took memory, or something would be sent for what they made of it.
 pub data UpLacks {K : Type 0} (judge : Judge) (between : State K) (layers : Layers) : Type 0 where
   judging : JudgeLacks judge between layers → UpLacks judge between layers
-  sending : (judgement : Judgement) (later : Layers) → JudgesPayload judge between layers judgement later →
-      FinishLacks between judgement → UpLacks judge between layers
+  sending : (given : Result Above Refusal) (later : Layers) → JudgesPayload judge between layers given later →
+      FinishLacks between given → UpLacks judge between layers
 
 -- what took memory after an answer of the transport
 abbrev pub GoLacks : {K : Type 0} → Judge → TransportTurn → State K → Layers → Type 0

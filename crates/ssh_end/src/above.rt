@@ -2,14 +2,13 @@
 
 ghost use Rattle.ssh_transport_machine.specs.Padding.{PadsTo, sending_by};
 ghost use Rattle.ssh_transport_machine.specs.Puts.{outs};
-ghost use Rattle.std.specs.Prelude.{◌≡◌, ◌≤◌, IfOk, IfSome, IsSome, List, OnErr, OnOk, Some, false, true, ℕ};
+ghost use Rattle.std.specs.Prelude.{◌≡◌, ◌≤◌, Err, IfErr, IfOk, IfSome, List, Ok, OnErr, OnOk, Some, false, true, ℕ};
 ghost use Rattle.ssh_message.specs.Meaning.{meaning};
 ghost use Rattle.ssh_message.specs.Written.{Fits};
 ghost use Rattle.ssh_model.specs.Protocol.Bounds.{longest_payload};
 ghost use Rattle.ssh_model.specs.Protocol.Wire.Message.{FitsContext};
 ghost use Rattle.ssh_model.specs.Laws.Sizes.{payload_size};
-ghost use Rattle.ssh_end.specs.Above.{CanFinish, CanReply, CanReplyWith, FinishLacks, Finished, IsAnswer, IsReply, PutsReply};
-ghost use Rattle.ssh_end.specs.declared.above.Judgement.TheVariants as Judgement;
+ghost use Rattle.ssh_end.specs.Above.{CanFinish, CanReply, CanReplyWith, FinishLacks, Finished, IsAnswer, IsReply, NoAnswer, PutsReply};
 ghost use Rattle.ssh_end.specs.declared.step.Step.TheVariants as Step;
 ghost use Rattle.ssh_transport_machine.specs.Above.{IsPut};
 ghost use Rattle.ssh_model.specs.declared.side.Side.{Side};
@@ -17,6 +16,7 @@ ghost use Rattle.ssh_transport_machine.specs.Standing.{Stands};
 ghost use Rattle.ssh_transport_machine.specs.Turning.{HasRoom};
 ghost use Rattle.std.specs.Option.{option_map};
 
+use crate::layers::LayerFault;
 use crate::step::{Step, TookStep};
 use ssh_message::Message;
 use ssh_packet::{Filler, Sealing};
@@ -25,18 +25,7 @@ use ssh_transport_machine::{Answer, Machine, Outgoing};
 use ssh_types::Refusal;
 use std::alloc::AllocError;
 
-/// What the layers above made of a payload, before anything is sent.
-#[derive(Drop)]
-pub enum Judgement {
-    // They took its message.
-    Answered(Above),
-    // The peer is refused.
-    Refused(Refusal),
-    // Something would be sent, and no number is left for it.
-    Spent,
-}
-
-/// What they answer to a message.
+/// What the layers above answer to a message that they took, before anything is sent.
 #[derive(Drop)]
 pub struct Above {
     pub step: TookStep,
@@ -46,53 +35,22 @@ pub struct Above {
     pub success: bool,
 }
 
-/// Sends what they answer, or refuses the peer.
+/// Refuses the peer for this.
 ///
 /// # Errors
 ///
 /// Only where memory is refused: nothing is put out, and the end is over.
-#[tactic(auto, using(crate::proofs::Padding::pads_none))]
-pub fn finish_above<S: Sealing, F: Filler + Drop>(
-    machine: &mut Machine<S>,
-    judgement: Judgement,
-    out: &mut Vec<u8>,
-    sent: &mut Outgoing<F>,
-) -> Result<Step, AllocError>
-    requires can { CanFinish machine.old judgement }
-    ensures finished { IfOk result (λ step. Finished S.crypto machine.old judgement step machine.new
-        (outs out.old out.new sent.old sent.new)) }
-    ensures whole { IfOk result (λ step. step ≡ Step.More → ⊥) }
-    ensures lacks { OnErr result (FinishLacks machine.old judgement) }
-    ensures dead { OnErr result (machine.new.kept.dead ≡ true) }
-    ensures out { OnErr result (out.new.items ≡ out.old.items) }
-    ensures kept { OnErr result (sent.new.payloads.items ≡ sent.old.payloads.items) }
-    ensures stands { (side : Side) → Stands side machine.old → Stands side machine.new }
-    ensures padded { OnOk result (PadsTo S.crypto F.gives (sending_by machine.old sent.old out.old)
-        (sending_by machine.new sent.new out.new)) }
-{
-    match judgement {
-        Judgement::Answered(above) => answer_above(machine, above, out, sent),
-        Judgement::Refused(why) => refuse(machine, why, out, sent),
-        Judgement::Spent => {
-            machines_stand::<S::Key>();
-            machine.die();
-            Ok(Step::Refused(Refusal::NumberSpent))
-        }
-    }
-}
-
-// Refuses the peer for this.
-fn refuse<S: Sealing, F: Filler + Drop>(
+pub fn refuse<S: Sealing, F: Filler + Drop>(
     machine: &mut Machine<S>,
     why: Refusal,
     out: &mut Vec<u8>,
     sent: &mut Outgoing<F>,
 ) -> Result<Step, AllocError>
-    requires can { CanFinish machine.old (Judgement.Refused why) }
-    ensures finished { IfOk result (λ step. Finished S.crypto machine.old (Judgement.Refused why) step machine.new
+    requires can { CanFinish machine.old (Err why) }
+    ensures finished { IfOk result (λ step. Finished S.crypto machine.old (Err why) step machine.new
         (outs out.old out.new sent.old sent.new)) }
     ensures whole { IfOk result (λ step. step ≡ Step.More → ⊥) }
-    ensures lacks { OnErr result (FinishLacks machine.old (Judgement.Refused why)) }
+    ensures lacks { OnErr result (FinishLacks machine.old (Err why)) }
     ensures dead { OnErr result (machine.new.kept.dead ≡ true) }
     ensures out { OnErr result (out.new.items ≡ out.old.items) }
     ensures kept { OnErr result (sent.new.payloads.items ≡ sent.old.payloads.items) }
@@ -107,18 +65,22 @@ fn refuse<S: Sealing, F: Filler + Drop>(
     }
 }
 
-// Sends what is sent at once, if anything.
-fn answer_above<S: Sealing, F: Filler + Drop>(
+/// Sends what is sent at once, if anything.
+///
+/// # Errors
+///
+/// Only where memory is refused: nothing is put out, and the end is over.
+pub fn answer_above<S: Sealing, F: Filler + Drop>(
     machine: &mut Machine<S>,
     above: Above,
     out: &mut Vec<u8>,
     sent: &mut Outgoing<F>,
 ) -> Result<Step, AllocError>
-    requires can { CanFinish machine.old (Judgement.Answered above) }
-    ensures finished { IfOk result (λ step. Finished S.crypto machine.old (Judgement.Answered above) step machine.new
+    requires can { CanFinish machine.old (Ok above) }
+    ensures finished { IfOk result (λ step. Finished S.crypto machine.old (Ok above) step machine.new
         (outs out.old out.new sent.old sent.new)) }
     ensures whole { IfOk result (λ step. step ≡ Step.More → ⊥) }
-    ensures lacks { OnErr result (FinishLacks machine.old (Judgement.Answered above)) }
+    ensures lacks { OnErr result (FinishLacks machine.old (Ok above)) }
     ensures dead { OnErr result (machine.new.kept.dead ≡ true) }
     ensures out { OnErr result (out.new.items ≡ out.old.items) }
     ensures kept { OnErr result (sent.new.payloads.items ≡ sent.old.payloads.items) }
@@ -192,38 +154,38 @@ fn put<S: Sealing, F: Filler + Drop>(
 ///
 /// # Errors
 ///
-/// Only where memory is refused.
+/// - `Refused`: no number is left for what would be sent (`NumberSpent`).
+/// - `Memory`: memory was refused for it.
 pub fn spell_answer<S: Sealing>(
     machine: &Machine<S>,
     step: TookStep,
     message: Option<Message<'_>>,
     success: bool,
-) -> Result<Judgement, AllocError>
+) -> Result<Above, LayerFault>
     requires fits { IfSome message (λ m. Fits m) }
     requires context { IfSome message (λ m. FitsContext true (meaning m)) }
     requires short { IfSome message (λ m. payload_size (meaning m) ≤ longest_payload) }
     requires alive { machine.now.kept.dead ≡ false }
-    ensures made { IfOk result (λ judgement. IsAnswer machine.now step (option_map meaning message.entry) success judgement) }
-    ensures some { OnErr result (IsSome (option_map meaning message.entry)) }
-    ensures room { OnErr result (HasRoom machine.now) }
-    ensures can { IfOk result (λ judgement. CanFinish machine.now judgement) }
+    ensures made { IfOk result (λ above. IsAnswer machine.now step (option_map meaning message.entry) success above) }
+    ensures failed { IfErr result (λ fault. NoAnswer machine.now (option_map meaning message.entry) fault) }
+    ensures can { IfOk result (λ above. CanFinish machine.now (Ok above)) }
 {
     let Some(message) = message else {
-        return Ok(Judgement::Answered(Above {
+        return Ok(Above {
             step,
             reply: None,
             success,
-        }));
+        });
     };
     if machine.is_spent() {
-        return Ok(Judgement::Spent);
+        return Err(LayerFault::Refused(Refusal::NumberSpent));
     }
     let payload = machine.spell(&message)?;
-    Ok(Judgement::Answered(Above {
+    Ok(Above {
         step,
         reply: Some(payload),
         success,
-    }))
+    })
 }
 
 /// The session id, or these bytes before the first exchange, when no payload from 50 on comes.

@@ -1,19 +1,22 @@
 //! What is of a client alone.
 
-ghost use Rattle.ssh_end.specs.Parts.{IsClient, agreement_by, no_verdicts};
+ghost use Rattle.ssh_end.specs.Parts.{IsClient, IsClientOf, agreement_by, no_verdicts};
 
-use crate::above::Judgement;
+use crate::above::Above;
 use crate::ask::Ask;
 use crate::asking::{AskStep, Fault, ask_end};
+use crate::end::End;
 use crate::judge::judge_payload;
-use crate::layers::Layers;
+use crate::layers::{LayerFault, Layers};
 use crate::nobody::Nobody;
-use crate::role::EndRole;
+use crate::role::{EndRole, SuppliedEnd};
 use ssh_auth::UserSigner;
-use ssh_config::ClientParts;
-use ssh_transport::Client;
+use ssh_config::{ClientPartValues, ClientParts};
+use ssh_transport::{Client, Supplied};
 use ssh_transport_machine::{Machine, Outgoing};
-use std::alloc::AllocError;
+
+/// The end of a client.
+pub type ClientEnd<P, U> = End<ClientRole<P, U>>;
 
 /// What is of a client alone: its part in an exchange of keys, and who signs for its user.
 pub struct ClientRole<P: ClientParts, U: UserSigner + Drop> {
@@ -53,7 +56,7 @@ impl<P: ClientParts, U: UserSigner + Drop> EndRole for ClientRole<P, U> {
         &self,
         machine: &Machine<P::Sealing>,
         layers: &mut Layers,
-    ) -> Result<Judgement, AllocError> {
+    ) -> Result<Above, LayerFault> {
         judge_payload(machine, layers, &Nobody)
     }
 
@@ -69,4 +72,19 @@ impl<P: ClientParts, U: UserSigner + Drop> EndRole for ClientRole<P, U> {
     }
 
     fn has_parts() {}
+}
+
+impl<P: ClientParts, U: UserSigner + Drop> SuppliedEnd for ClientRole<P, U> {
+    type Parts = ClientPartValues<P>;
+
+    type User = U;
+
+    ghost filler_of = { λ parts. parts.filler };
+
+    ghost is_made_of = { λ role parts user. IsClientOf parts.agreement parts.host_trust user role };
+
+    fn of(parts: ClientPartValues<P>, user: U) -> (P::Filler, ClientRole<P, U>) {
+        let (filler, exchange) = Client::of(parts);
+        (filler, ClientRole { exchange, user })
+    }
 }

@@ -12,10 +12,10 @@ ghost use Rattle.ssh_end.specs.Effects.{IsReady, is_whole};
 ghost use Rattle.ssh_end.specs.Owed.{Extends};
 ghost use Rattle.ssh_end.specs.Units.{GoLacks, Goes, GoesUp, UpLacks, opened_by};
 
-use crate::above::finish_above;
+use crate::above::{answer_above, refuse};
 use crate::completing::complete;
 use crate::effect::step_of;
-use crate::layers::{Layers, Login};
+use crate::layers::{LayerFault, Layers, Login};
 use crate::role::EndRole;
 use crate::step::Step;
 use ssh_packet::Sealing;
@@ -103,11 +103,12 @@ fn go_up<R: EndRole>(
         (sending_by machine.new sent.new out.new)) }
 {
     match role.judge(machine, layers) {
-        Ok(judgement) => finish_above(machine, judgement, out, sent),
-        Err(error) => {
+        Ok(above) => answer_above(machine, above, out, sent),
+        Err(LayerFault::Refused(why)) => refuse(machine, why, out, sent),
+        Err(LayerFault::Memory) => {
             machines_stand::<<<R::Exchange as Role>::Sealing as Sealing>::Key>();
             machine.die();
-            Err(error)
+            Err(AllocError)
         }
     }
 }

@@ -1,34 +1,34 @@
 //! What an end makes of a payload from 50 on.
 
-ghost use Rattle.std.specs.Prelude.{◌≡◌, ◌≤◌, IfOk, OnErr, false};
+ghost use Rattle.std.specs.Prelude.{◌≡◌, ◌≤◌, false};
 ghost use Rattle.ssh_model.specs.Protocol.Sessions.Turns.{number_of};
-ghost use Rattle.ssh_end.specs.Above.{CanFinish};
+ghost use Rattle.ssh_end.specs.Above.{CanFinish, OnJudged, OnMemory};
 ghost use Rattle.ssh_end.specs.Judging.{JudgeLacks, JudgesPayload, succeeds, took_by};
 ghost use Rattle.ssh_end.specs.Told.{telling_of as telling_by};
 
-use crate::above::{Judgement, session_of, spell_answer};
+use crate::above::{Above, session_of, spell_answer};
 use crate::layers::{Below, LayerAnswer, LayerFault, Layers};
 use crate::step::{Telling, TookStep};
 use ssh_auth::{ClientAnswer, ServerAnswer, UserJudge};
 use ssh_packet::Sealing;
 use ssh_transport_machine::Machine;
-use std::alloc::AllocError;
 
 /// What the layers above a transport make of the payload that is shown, from 50 on. A server's users are judged by this judge.
 ///
 /// # Errors
 ///
-/// Only where memory is refused.
+/// - `Refused`: the peer is refused, by the layers or since no number is left for what would be sent (`NumberSpent`).
+/// - `Memory`: memory was refused.
 pub fn judge_payload<S: Sealing, J: UserJudge>(
     machine: &Machine<S>,
     layers: &mut Layers,
     judge: &J,
-) -> Result<Judgement, AllocError>
+) -> Result<Above, LayerFault>
     requires above { 50 ≤ number_of machine.now.receiver.payload }
     requires alive { machine.now.kept.dead ≡ false }
-    ensures judged { IfOk result (λ judgement. JudgesPayload (J.verdicts judge.now) machine.now layers.old judgement layers.new) }
-    ensures lacks { OnErr result (JudgeLacks (J.verdicts judge.now) machine.now layers.old) }
-    ensures can { IfOk result (λ judgement. CanFinish machine.now judgement) }
+    ensures judged { OnJudged result (λ given. JudgesPayload (J.verdicts judge.now) machine.now layers.old given layers.new) }
+    ensures lacks { OnMemory result (JudgeLacks (J.verdicts judge.now) machine.now layers.old) }
+    ensures can { OnJudged result (λ given. CanFinish machine.now given) }
 {
     let none = [0; 32];
     let below = Below {
@@ -44,8 +44,7 @@ pub fn judge_payload<S: Sealing, J: UserJudge>(
             layers.message(&taken.answer, machine.last_number()),
             is_success(&taken.answer),
         ),
-        Err(LayerFault::Refused(why)) => Ok(Judgement::Refused(why)),
-        Err(LayerFault::Memory) => Err(AllocError),
+        Err(fault) => Err(fault),
     }
 }
 

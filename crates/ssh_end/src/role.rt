@@ -1,25 +1,24 @@
 //! What one end has and the other does not.
 
-ghost use Rattle.std.specs.Prelude.{◌≡◌, ◌≤◌, IfErr, IfOk, OnErr, false, map};
+ghost use Rattle.std.specs.Prelude.{◌≡◌, ◌≤◌, IfErr, OnErr, false, map};
 ghost use Rattle.ssh_model.specs.Protocol.Authentication.Requests.{Judge};
 ghost use Rattle.ssh_model.specs.Protocol.Sessions.Parties.{Parties};
 ghost use Rattle.ssh_model.specs.Protocol.Sessions.Turns.{number_of};
 ghost use Rattle.ssh_transport_machine.specs.Padding.{PadsTo, sending_by};
 ghost use Rattle.ssh_transport_machine.specs.Puts.{outs};
 ghost use Rattle.ssh_transport_machine.specs.Standing.{Stands};
-ghost use Rattle.ssh_end.specs.Above.{CanFinish};
+ghost use Rattle.ssh_end.specs.Above.{CanFinish, OnJudged, OnMemory};
 ghost use Rattle.ssh_end.specs.Asking.{Asks, Fails, OnAnswered, UserSignatures, ask_of};
 ghost use Rattle.ssh_end.specs.Judging.{JudgeLacks, JudgesPayload};
 ghost use Rattle.ssh_end.specs.Places.{HasParts};
 ghost use Rattle.ssh_end.specs.Reading.{SameReading};
 
-use crate::above::Judgement;
+use crate::above::Above;
 use crate::ask::Ask;
 use crate::asking::{AskStep, Fault};
-use crate::layers::Layers;
+use crate::layers::{LayerFault, Layers};
 use ssh_transport::Role;
 use ssh_transport_machine::{Machine, Outgoing};
-use std::alloc::AllocError;
 
 /// What one end has and the other does not: its part in an exchange of keys, and who judges its users, or signs for its user. `ServerRole`
 /// and `ClientRole` are the two.
@@ -43,17 +42,18 @@ pub trait EndRole: Drop {
     ///
     /// # Errors
     ///
-    /// Only where memory is refused.
+    /// - `Refused`: the peer is refused, by the layers or since no number is left for what would be sent (`NumberSpent`).
+    /// - `Memory`: memory was refused.
     fn judge(
         &self,
         machine: &Machine<<Self::Exchange as Role>::Sealing>,
         layers: &mut Layers,
-    ) -> Result<Judgement, AllocError>
+    ) -> Result<Above, LayerFault>
         requires above { 50 ≤ number_of machine.now.receiver.payload }
         requires alive { machine.now.kept.dead ≡ false }
-        ensures judged { IfOk result (λ judgement. JudgesPayload (judging self.now) machine.now layers.old judgement layers.new) }
-        ensures lacks { OnErr result (JudgeLacks (judging self.now) machine.now layers.old) }
-        ensures can { IfOk result (λ judgement. CanFinish machine.now judgement) };
+        ensures judged { OnJudged result (λ given. JudgesPayload (judging self.now) machine.now layers.old given layers.new) }
+        ensures lacks { OnMemory result (JudgeLacks (judging self.now) machine.now layers.old) }
+        ensures can { OnJudged result (λ given. CanFinish machine.now given) };
 
     /// Does what a user asks for, or refuses that.
     ///
@@ -83,4 +83,22 @@ pub trait EndRole: Drop {
     /// A role whose parts are those of an end of parties has what that end has. A fact for proofs, at no cost.
     fn has_parts()
         ensures { HasParts Self.Exchange.SIDE is_of (λ role p. Self.Exchange.is_of (exchange_of role) p) judging signing };
+}
+
+/// A role that is made of the parts that a caller supplies, and of who judges its users, or signs for its user.
+pub trait SuppliedEnd: EndRole {
+    /// Its parts in an exchange of keys, each of which is a value, with what gives the padding.
+    type Parts: Drop;
+
+    /// Who judges a server's users, or signs for a client's.
+    type User: Drop;
+
+    ghost filler_of: { Self.Parts → Self.Exchange.Filler };
+
+    ghost is_made_of: { Self → Self.Parts → Self.User → Type 0 };
+
+    /// The filler and the role of these.
+    fn of(parts: Self::Parts, user: Self::User) -> (<Self::Exchange as Role>::Filler, Self)
+        ensures filler { result.0 ≡ filler_of parts }
+        ensures made { is_made_of result.1 parts user };
 }

@@ -5,6 +5,7 @@ ghost use Rattle.ssh_end.specs.declared.layers.fault.LayerFault.TheVariants.{Mem
 use ssh_auth::{AuthRefusal, TakeError as AuthError};
 use ssh_channels::TakeError as ChannelError;
 use ssh_types::Refusal;
+use std::alloc::AllocError;
 use thiserror::Error;
 
 /// Why the layers above a transport take nothing of a payload.
@@ -25,6 +26,16 @@ impl From<Refusal> for LayerFault {
 
     fn from(refusal: Refusal) -> LayerFault {
         LayerFault::Refused(refusal)
+    }
+}
+
+impl From<AllocError> for LayerFault {
+    ghost use Rattle.std.specs.Prelude.{◌≡◌};
+
+    ghost from_gives = { λ _ fault. fault ≡ Memory };
+
+    fn from(_error: AllocError) -> LayerFault {
+        LayerFault::Memory
     }
 }
 
