@@ -14,9 +14,7 @@ use Rattle.ssh_end.specs.Ends.{EndValue}
 use Rattle.ssh_end.specs.Login.{authentication_of}
 use Rattle.ssh_end.specs.Places.{StandsAfter}
 use Rattle.ssh_end.specs.Sessions.{AreOf}
-use Rattle.ssh_end.specs.declared.client_role.ClientRole.{ClientRole}
 use Rattle.ssh_end.specs.declared.role.EndRole as role
-use Rattle.ssh_end.specs.declared.server_role.ServerRole.{ServerRole}
 
 -- ---- an end
 
@@ -92,17 +90,3 @@ both clients servers pair = record {
 pub record SameParts {K R F Q G : Type 0} (old new : PairState (EndValue K R F) (EndValue K Q G)) : Type 0 where
   pub client : new.client.role ≡ old.client.role
   pub server : new.server.role ≡ old.server.role
-
--- A client was made with these parts, and has this user.
-pub record HasClientParts {P U S F A H K : Type 0} (agreement : A) (host_trust : H) (user : U)
-    (end : EndValue K (ClientRole P U S F A H K) F) : Type 0 where
-  pub agreement_is : end.role.exchange.agreement ≡ agreement
-  pub host_trust_is : end.role.exchange.host_trust ≡ host_trust
-  pub user_is : end.role.user ≡ user
-
--- A server was made with these parts, and judges users by this.
-pub record HasServerParts {P U S F A H K : Type 0} (agreement : A) (host_signer : H) (user : U)
-    (end : EndValue K (ServerRole P U S F A H K) F) : Type 0 where
-  pub agreement_is : end.role.exchange.agreement ≡ agreement
-  pub host_signer_is : end.role.exchange.host_signer ≡ host_signer
-  pub user_is : end.role.user ≡ user

@@ -12,14 +12,12 @@
 #![tactic(auto)]
 
 mod ask_kind;
-mod client;
 mod event;
 mod fact;
 mod item;
 mod notes;
 mod one_end;
 mod pair;
-mod server;
 mod values;
 
 pub use ask_kind::AskKind;

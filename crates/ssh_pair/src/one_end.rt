@@ -5,14 +5,18 @@ ghost use Rattle.ssh_model.specs.Protocol.Bounds.{numbers_of_epoch};
 ghost use Rattle.ssh_model.specs.declared.side.Side.TheVariants.{Server};
 ghost use Rattle.ssh_model.specs.Protocol.Side.{peer};
 ghost use Rattle.ssh_transport_machine.specs.Standing.{Stands};
+ghost use Rattle.ssh_config.specs.Meaning.{settings_of};
+ghost use Rattle.ssh_transport_machine.specs.Padding.{PadsTo};
 ghost use Rattle.ssh_end.specs.Asking.{ask_of};
-ghost use Rattle.ssh_pair.specs.Noted.{noted_sent};
+ghost use Rattle.ssh_end.specs.Ends.{sending_from_line, sending_to};
+ghost use Rattle.ssh_pair.specs.Noted.{NotesSent, noted_sent};
 ghost use Rattle.ssh_pair.specs.Padding.{PadsOn};
-ghost use Rattle.ssh_pair.specs.Playing.{Advances, Answers};
+ghost use Rattle.ssh_pair.specs.Playing.{Advances, Answers, OpensAs};
 
 use crate::item::Done;
-use crate::notes::{note_ask, note_death, note_turn};
-use ssh_end::{Ask, End, EndRole};
+use crate::notes::{note_ask, note_death, note_line, note_turn, noted};
+use crate::values::EndValues;
+use ssh_end::{Ask, End, EndRole, SuppliedEnd};
 use ssh_model::end::deaths;
 use ssh_model::pair::{deliveries, parts};
 use ssh_packet::Sealing;
@@ -20,6 +24,29 @@ use ssh_transport::Role;
 use ssh_types::Side;
 use ssh_types::bounds::NUMBERS_OF_EPOCH;
 use std::alloc::{AllocError, Global};
+
+// An end that put out its version line and its first KEXINIT.
+#[tactic(auto, using(crate::proofs::Noted::notes_after))]
+pub(crate) fn open_end<R: SuppliedEnd>(
+    alloc: Global,
+    values: EndValues<<R::Exchange as Role>::Sealing, R::Parts, R::User>,
+    log: &mut Vec<Done>,
+    out: &mut Vec<u8>,
+) -> Result<End<R>, AllocError>
+    ensures opens { IfOk result (λ end. OpensAs R.EndRole R.Exchange.SIDE (settings_of values.config)
+        (record { cookie = values.cookie; secret = values.secret }) end log.old.items log.new.items out.old.items out.new.items) }
+    ensures padded { IfOk result (λ end. PadsTo R.Exchange.Sealing.crypto R.Exchange.Filler.gives
+        (sending_from_line (settings_of values.config) (R.filler_of values.parts) out.old.items) (sending_to end out.new.items)) }
+    ensures sent { IfOk result (λ end. NotesSent R.Exchange.SIDE end.sent log.old.items log.new.items) }
+    ensures made { IfOk result (λ end. R.is_made_of end.role values.parts values.user) }
+{
+    let side = <R::Exchange as Role>::SIDE;
+    let (config, parts, user, cookie, secret) = values.into_parts();
+    note_line(alloc, log, side, config.line())?;
+    let begun = End::<R>::new(alloc, config, parts, user, cookie, secret, out)?;
+    let end = noted(alloc, log, side, begun)?;
+    Ok(end)
+}
 
 // Asks an end for something. Where it is over it does nothing.
 pub(crate) fn ask_end<R: EndRole>(

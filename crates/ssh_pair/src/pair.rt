@@ -5,15 +5,14 @@ ghost use Rattle.ssh_model.specs.Protocol.Sessions.Events as session;
 ghost use Rattle.ssh_config.specs.Meaning.{settings_of};
 ghost use Rattle.ssh_end.specs.Asking.{ask_of};
 ghost use Rattle.ssh_end.specs.Ends.{sending_from_line};
+ghost use Rattle.ssh_end.specs.Parts.{IsClientOf, IsServerOf};
 ghost use Rattle.ssh_pair.specs.Padding.{PairPads, PairPadsFirst, SameFillers, nothing_shown, shown_in};
 ghost use Rattle.ssh_pair.specs.Playing.{GoesOn, PairFeeds, PairMade, PairPlays, event_of, events_of};
-ghost use Rattle.ssh_pair.specs.Standing.{HasClientParts, HasServerParts, SameParts};
+ghost use Rattle.ssh_pair.specs.Standing.{SameParts};
 
-use crate::client::open_client;
 use crate::event::Event;
 use crate::item::Transcript;
-use crate::one_end::{ask_end, deliver_to_end};
-use crate::server::open_server;
+use crate::one_end::{ask_end, deliver_to_end, open_end};
 use crate::values::EndValues;
 use ssh_auth::{UserJudge, UserSigner};
 use ssh_config::{ClientPartValues, ClientParts, ServerPartValues, ServerParts};
@@ -101,8 +100,8 @@ impl<
             (sending_from_line (settings_of client.config) client.parts.filler [])
             (sending_from_line (settings_of server.config) server.parts.filler []) r.0 (shown_in r.1)) }
         ensures fine { IfOk result (λ r. r.0.failed ≡ false) }
-        ensures client_parts { IfOk result (λ r. HasClientParts client.parts.agreement client.parts.host_trust client.user r.0.client) }
-        ensures server_parts { IfOk result (λ r. HasServerParts server.parts.agreement server.parts.host_signer server.user r.0.server) }
+        ensures client_parts { IfOk result (λ r. IsClientOf client.parts.agreement client.parts.host_trust client.user r.0.client.role) }
+        ensures server_parts { IfOk result (λ r. IsServerOf server.parts.agreement server.parts.host_signer server.user r.0.server.role) }
     {
         parts();
         openings::<S::Key>();
@@ -110,13 +109,13 @@ impl<
         settings_fit(&client.config);
         settings_fit(&server.config);
         let mut transcript = Transcript::new(alloc);
-        let client = open_client(
+        let client = open_end::<ClientRole<C, U>>(
             alloc,
             client,
             &mut transcript.items,
             &mut transcript.client_bytes,
         )?;
-        let server = open_server(
+        let server = open_end::<ServerRole<V, J>>(
             alloc,
             server,
             &mut transcript.items,
