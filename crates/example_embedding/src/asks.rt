@@ -1,6 +1,6 @@
 //! What an end is still to be asked for.
 
-use divrelca::{Ask, AskOutcome, End, Fault, asked};
+use divrelca::{Ask, AskOutcome, End, Fault, Told, asked, default_answer};
 use std::alloc::{AllocError, Global};
 use std::collections::VecDeque;
 
@@ -25,6 +25,18 @@ impl<'a> Asks<'a> {
     /// Only where memory is refused: the ask is dropped.
     pub fn add(&mut self, ask: Ask<'a>) -> Result<(), AllocError> {
         self.waiting.push_back(ask).map_err(|_| AllocError)
+    }
+
+    /// The answer that the peer is owed for what this program does not know, as for OpenSSH's keepalives, where it is owed one.
+    ///
+    /// # Errors
+    ///
+    /// Only where memory is refused: the answer is dropped.
+    pub fn answer(&mut self, told: &Told<'_>) -> Result<(), AllocError> {
+        match default_answer(told) {
+            Some(answer) => self.add(answer),
+            None => Ok(()),
+        }
     }
 
     /// Asks for what waits, and answers whether nothing is left. While keys are exchanged, and before the peer's NEWKEYS came, some is.

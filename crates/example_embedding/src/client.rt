@@ -3,9 +3,7 @@
 use crate::asks::Asks;
 use crate::driving::Work;
 use crate::flow::Flow;
-use divrelca::{
-    Ask, ChannelAsk, ChannelFact, End, Fault, MOST_DATA, Told, UserAsk, WINDOW, default_answer,
-};
+use divrelca::{Ask, ChannelAsk, ChannelFact, End, Fault, MOST_DATA, Told, UserAsk, WINDOW};
 use std::alloc::{AllocError, Global};
 
 /// What a client with one channel keeps.
@@ -67,10 +65,7 @@ impl<'a> Client<'a> {
                 self.flow = None;
                 self.asks.add(Ask::Disconnect(b"done"))
             }
-            fact => match default_answer(&Told::Channel(fact)) {
-                Some(answer) => self.asks.add(answer),
-                None => Ok(()),
-            },
+            fact => self.asks.answer(&Told::Channel(fact)),
         }
     }
 

@@ -3,7 +3,7 @@
 use crate::asks::Asks;
 use crate::driving::Work;
 use crate::flow::Flow;
-use divrelca::{Ask, ChannelAsk, ChannelFact, End, Fault, MOST_DATA, Told, WINDOW, default_answer};
+use divrelca::{Ask, ChannelAsk, ChannelFact, End, Fault, MOST_DATA, Told, WINDOW};
 use std::alloc::{AllocError, Global};
 
 /// What a server with one channel keeps.
@@ -95,11 +95,7 @@ impl Work for Server {
                 self.flow = None;
                 Ok(())
             }
-            // All else is answered where an answer is owed, as OpenSSH's keepalives are.
-            ref other => match default_answer(other) {
-                Some(answer) => self.asks.add(answer),
-                None => Ok(()),
-            },
+            ref other => self.asks.answer(other),
         }
     }
 

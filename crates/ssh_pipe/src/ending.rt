@@ -1,7 +1,6 @@
 //! How a session ended.
 
 use ssh_types::Refusal;
-use std::alloc::{AllocError, Global};
 use std::fmt;
 
 // What an end offers, which has no algorithm in common with a peer that offers others.
@@ -34,20 +33,6 @@ pub enum Ending {
     LeftOutside,
     /// The client's stream ended while a channel was open.
     BrokenOff,
-}
-
-impl Ending {
-    /// That the peer ends the connection.
-    pub(crate) fn disconnected(
-        alloc: Global,
-        reason: u32,
-        description: &[u8],
-    ) -> Result<Ending, AllocError> {
-        Ok(Ending::Disconnected {
-            reason,
-            description: Vec::from_slice(alloc, description)?,
-        })
-    }
 }
 
 // Texts of the peer are shown with all but printable US-ASCII characters as escapes, so that they do nothing to a terminal.

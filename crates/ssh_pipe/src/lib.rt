@@ -12,6 +12,7 @@
 //! ```
 #![tactic(auto)]
 
+mod agenda;
 mod builtin;
 mod client;
 mod ending;
@@ -23,8 +24,8 @@ mod machine;
 mod parts;
 mod server;
 mod session;
+mod start;
 mod station;
-mod tasks;
 mod texts;
 
 pub use client::{Client, ClientSession, Request, RequestKind};

@@ -2,23 +2,24 @@
 
 use divrelca::UserKey;
 use ssh_auth::UserAsk;
+use ssh_parts::Ed25519Signer;
 use ssh_types::NameList;
 
 /// The user of a client with what lets the user in: a key, a password or both.
 #[derive(Clone, Copy)]
 pub struct Login<'a> {
     user: &'a [u8],
-    key: Option<[u8; 51]>,
+    key: Option<&'a [u8; 51]>,
     password: Option<&'a [u8]>,
     is_empty: bool,
 }
 
 impl<'a> Login<'a> {
     /// This user, with this key and this password.
-    pub fn new(user: &'a [u8], key: &UserKey, password: Option<&'a [u8]>) -> Login<'a> {
+    pub fn new(user: &'a [u8], key: &'a UserKey, password: Option<&'a [u8]>) -> Login<'a> {
         Login {
             user,
-            key: key.signer.map(|signer| *signer.public_key()),
+            key: key.signer.as_ref().map(Ed25519Signer::public_key),
             password,
             is_empty: key.signer.is_none() && password.is_none(),
         }
@@ -30,8 +31,8 @@ impl<'a> Login<'a> {
     }
 
     /// What is asked for next: the key comes before the password, and `none` asks which methods there are.
-    pub fn ask(&self) -> UserAsk<'_> {
-        match (&self.key, self.password) {
+    pub fn ask(&self) -> UserAsk<'a> {
+        match (self.key, self.password) {
             (Some(key), _) => UserAsk::Sign {
                 user: self.user,
                 algorithm: b"ssh-ed25519",

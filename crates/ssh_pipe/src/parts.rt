@@ -1,7 +1,9 @@
 //! Settings and supplied parts of both ends.
 
 use divrelca::{PaddingSource, Policy, TRIES};
-use ssh_config::{ClientParts, Config, ConfigError, ServerParts, Settings};
+use ssh_config::{
+    ClientPartValues, ClientParts, Config, ConfigError, ServerPartValues, ServerParts, Settings,
+};
 use ssh_packet::MacOnly;
 use ssh_parts::{AesGcm, Curve25519, Ed25519Signer, Ed25519Trust, Either, GcmSettings};
 use std::alloc::Global;
@@ -33,6 +35,30 @@ impl ServerParts for PipeServer {
     type Agreement = Curve25519;
 
     type HostSigner = Ed25519Signer;
+}
+
+/// The parts of a server with this key pair, whose packets are padded so.
+pub fn server_parts(
+    filler: PaddingSource,
+    host_signer: Ed25519Signer,
+) -> ServerPartValues<PipeServer> {
+    ServerPartValues {
+        filler,
+        agreement: Curve25519,
+        host_signer,
+    }
+}
+
+/// The parts of a client that trusts this key, whose packets are padded so.
+pub fn client_parts(
+    filler: PaddingSource,
+    host_trust: Ed25519Trust,
+) -> ClientPartValues<PipeClient> {
+    ClientPartValues {
+        filler,
+        agreement: Curve25519,
+        host_trust,
+    }
 }
 
 /// The methods of authentication that there are (RFC 4252 sections 7 and 8).

@@ -1,30 +1,23 @@
 //! What both roles do by themselves: an end goes on with what it draws from and what its desk asks it for.
 
+use crate::agenda::Agenda;
+use crate::ending::Ending;
 use crate::error::PipeError;
 use crate::log::Watched;
 use crate::machine::Machine;
-use divrelca::{AskOutcome, End, KeySupply, asked};
-use ssh_end::{Ask, Fault, Turn};
-use std::alloc::AllocError;
+use divrelca::{End, KeySupply};
+use ssh_end::{Fault, Told};
+use std::alloc::{AllocError, Global};
 use std::random::RandomSource;
 
-/// What is kept next to an end: it hears what the end tells, and knows what the end is to be asked for.
-pub(crate) trait Desk {
-    /// Listens to what was told in a turn, and keeps what of it is needed.
+/// What one role does on what its end tells. `ServerDesk` and `ClientDesk` are the two.
+pub trait Desk<'a> {
+    /// Listens to what the end told, keeps what of it is needed, and puts on the agenda what the end is to be asked for.
     ///
     /// # Errors
     ///
     /// Only where memory is refused: what was told may be kept in part.
-    fn hear(&mut self, turn: &Turn<'_>) -> Result<(), AllocError>;
-
-    /// How many asks there are.
-    fn count(&self) -> usize;
-
-    /// The oldest of them.
-    fn first_ask(&self) -> Option<Ask<'_>>;
-
-    /// That one is done.
-    fn finish_first(&mut self);
+    fn hear(&mut self, told: &Told<'_>, agenda: &mut Agenda<'a>) -> Result<(), AllocError>;
 
     /// Sends what can be sent on channels, and gives their windows back.
     ///
@@ -35,15 +28,44 @@ pub(crate) trait Desk {
     fn flow_on<E: End>(&mut self, end: &mut E, out: &mut Vec<u8>) -> Result<(), Fault>;
 }
 
-/// An end with what it draws from, and its desk.
+/// One end of a connection with all that it does by itself: bytes of its peer go in, and bytes for its peer come out. `Server` and `Client`
+/// are its names for the two roles.
 #[derive(Drop)]
-pub(crate) struct Station<E: End + Drop, R: RandomSource + Drop, D: Desk + Drop> {
-    pub end: Watched<E>,
-    pub supply: KeySupply<R>,
-    pub desk: D,
+pub struct Station<'a, E: End + Drop, R: RandomSource + Drop, D: Desk<'a> + Drop> {
+    end: Watched<E>,
+    supply: KeySupply<R>,
+    agenda: Agenda<'a>,
+    pub(crate) desk: D,
 }
 
-impl<E: End + Drop, R: RandomSource + Drop, D: Desk + Drop> Machine for Station<E, R, D> {
+impl<'a, E: End + Drop, R: RandomSource + Drop, D: Desk<'a> + Drop> Station<'a, E, R, D> {
+    // This end, which goes on with this supply and this desk.
+    pub(crate) fn of(alloc: Global, end: E, supply: KeySupply<R>, desk: D) -> Station<'a, E, R, D> {
+        Station {
+            end: Watched::new(alloc, end),
+            supply,
+            agenda: Agenda::new(alloc),
+            desk,
+        }
+    }
+
+    /// Shows messages from now on, by number and name, in what it tells.
+    ///
+    /// # Errors
+    ///
+    /// Only `Memory`: messages are not shown.
+    pub fn show_messages(&mut self) -> Result<(), PipeError> {
+        self.end.show_messages().map_err(|_| PipeError::Memory)
+    }
+
+    /// How the session ended, once that is known.
+    pub fn take_ending(&mut self) -> Option<Ending> {
+        self.agenda.take_ending()
+    }
+}
+
+impl<'a, E: End + Drop, R: RandomSource + Drop, D: Desk<'a> + Drop> Machine
+    for Station<'a, E, R, D> {
     fn take(&mut self, piece: &[u8], out: &mut Vec<u8>) -> Result<(), PipeError> {
         let mut rest = piece;
         // Each call uses a byte at least.
@@ -53,7 +75,10 @@ impl<E: End + Drop, R: RandomSource + Drop, D: Desk + Drop> Machine for Station<
             }
             let turn = self.end.take(rest, out)?;
             rest = rest.split_at(turn.used).1;
-            self.desk.hear(&turn)?;
+            self.agenda.hear(&turn)?;
+            if let Some(told) = &turn.told {
+                self.desk.hear(told, &mut self.agenda)?;
+            }
             self.go_on(out)?;
         }
         Ok(())
@@ -64,7 +89,7 @@ impl<E: End + Drop, R: RandomSource + Drop, D: Desk + Drop> Machine for Station<
             return Ok(());
         }
         self.supply.keep_fresh(&mut self.end, out)?;
-        if work(&mut self.desk, &mut self.end, out)? {
+        if self.agenda.work(&mut self.end, out)? {
             self.desk.flow_on(&mut self.end, out)?;
         }
         Ok(())
@@ -81,18 +106,4 @@ impl<E: End + Drop, R: RandomSource + Drop, D: Desk + Drop> Machine for Station<
     fn clear_lines(&mut self) {
         self.end.clear_lines();
     }
-}
-
-// Does what is to be done, the oldest first, and answers whether all of it is done.
-fn work<D: Desk, E: End>(desk: &mut D, end: &mut E, out: &mut Vec<u8>) -> Result<bool, Fault> {
-    for _ in 0..desk.count() {
-        let Some(ask) = desk.first_ask() else {
-            break;
-        };
-        if asked(end, &ask, out)? == AskOutcome::Later {
-            return Ok(false);
-        }
-        desk.finish_first();
-    }
-    Ok(true)
 }

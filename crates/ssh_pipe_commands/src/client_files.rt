@@ -1,5 +1,6 @@
 //! A client whose command has files for its input and output.
 
+use crate::sink::Sink;
 use ssh_pipe::{Client, Ending, Machine, PipeError};
 use std::alloc::{AllocError, Global};
 use std::io::{ErrorKind, Read, Write};
@@ -7,34 +8,33 @@ use std::random::RandomSource;
 
 /// A client with what its command reads, and where its output goes.
 #[derive(Drop)]
-pub struct ClientFiles<
-    'a,
-    R: RandomSource + Drop,
-    I: Read + Drop,
-    O: Write + Drop,
-    E: Write + Drop,
-> {
+pub struct ClientFiles<'a, R: RandomSource + Drop, F: Read + Write + Drop, S: Write + Drop> {
     client: Client<'a, R>,
-    input: Option<I>,
-    output: O,
-    error_output: E,
+    input: Option<F>,
+    output: Sink<F, S>,
+    error_output: Sink<F, S>,
     piece: Vec<u8>,
     // How many bytes of the input were read, and of both outputs written.
     read: u64,
     written: u64,
 }
 
+/// The files of a command.
+#[derive(Drop)]
+pub struct CommandFiles<F: Read + Write + Drop, S: Write + Drop> {
+    /// What the command reads. Where there is none, it reads nothing.
+    pub input: Option<F>,
+    /// Where its output goes.
+    pub output: Sink<F, S>,
+    /// Where its error output goes.
+    pub error_output: Sink<F, S>,
+}
+
 // So many bytes of the input are read at once.
 const PIECE: usize = 32_768;
 
-impl<'a, R: RandomSource + Drop, I: Read + Drop, O: Write + Drop, E: Write + Drop> ClientFiles<
-    'a,
-    R,
-    I,
-    O,
-    E,
-> {
-    /// This client, whose command reads nothing where there is no `input`.
+impl<'a, R: RandomSource + Drop, F: Read + Write + Drop, S: Write + Drop> ClientFiles<'a, R, F, S> {
+    /// This client, whose command has these files.
     ///
     /// # Errors
     ///
@@ -42,16 +42,20 @@ impl<'a, R: RandomSource + Drop, I: Read + Drop, O: Write + Drop, E: Write + Dro
     pub fn new(
         alloc: Global,
         client: Client<'a, R>,
-        input: Option<I>,
-        output: O,
-        error_output: E,
-    ) -> Result<ClientFiles<'a, R, I, O, E>, AllocError> {
+        files: CommandFiles<F, S>,
+    ) -> Result<ClientFiles<'a, R, F, S>, AllocError> {
+        let piece = vec![in alloc; 0u8; PIECE]?;
+        let CommandFiles {
+            input,
+            output,
+            error_output,
+        } = files;
         Ok(ClientFiles {
             client,
             input,
             output,
             error_output,
-            piece: vec![in alloc; 0u8; PIECE]?,
+            piece,
             read: 0,
             written: 0,
         })
@@ -110,8 +114,8 @@ fn write_to<W: Write>(sink: &mut W, bytes: &[u8]) -> Result<(), PipeError> {
     sink.write_all(bytes).map_err(PipeError::Output)
 }
 
-impl<R: RandomSource + Drop, I: Read + Drop, O: Write + Drop, E: Write + Drop> Machine
-    for ClientFiles<'_, R, I, O, E> {
+impl<R: RandomSource + Drop, F: Read + Write + Drop, S: Write + Drop> Machine
+    for ClientFiles<'_, R, F, S> {
     fn take(&mut self, piece: &[u8], out: &mut Vec<u8>) -> Result<(), PipeError> {
         self.client.take(piece, out)
     }

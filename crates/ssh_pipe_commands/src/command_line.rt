@@ -108,6 +108,11 @@ pub fn call_of<'a, S: AsStr>(alloc: Global, words: &'a [S]) -> Result<Call<'a>, 
         Ok(matches) => matches,
         Err(error) => return Err(UsageFault::Words(error)),
     };
+    call_in(&matches)
+}
+
+// The call that these words are.
+fn call_in<'a>(matches: &ArgMatches<'a>) -> Result<Call<'a>, UsageFault> {
     match matches.subcommand() {
         Some(("client", rest)) => Ok(Call::Client(client_options(rest)?)),
         Some(("server", rest)) => Ok(Call::Server(server_options(rest)?)),

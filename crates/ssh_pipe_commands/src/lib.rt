@@ -22,8 +22,9 @@ mod running;
 mod sink;
 mod status;
 
-pub use client_files::ClientFiles;
+pub use client_files::{ClientFiles, CommandFiles};
 pub use command_line::{Call, ClientOptions, ServerOptions, UsageFault, call_of};
 pub use progress::ShownFiles;
 pub use running::{RunError, call, refuse, report, serve, version};
+pub use sink::Sink;
 pub use status::Status;

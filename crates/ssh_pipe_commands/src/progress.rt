@@ -11,33 +11,16 @@ const STEP: u64 = 1_048_576;
 /// A client with its files, and a line on a terminal that says how much of the input was read and of the output written. Where there is no
 /// terminal nothing is shown.
 #[derive(Drop)]
-pub struct ShownFiles<
-    'a,
-    R: RandomSource + Drop,
-    I: Read + Drop,
-    O: Write + Drop,
-    E: Write + Drop,
-    T: Write + Drop,
-> {
-    files: ClientFiles<'a, R, I, O, E>,
-    terminal: Option<T>,
+pub struct ShownFiles<'a, R: RandomSource + Drop, F: Read + Write + Drop, S: Write + Drop> {
+    files: ClientFiles<'a, R, F, S>,
+    terminal: Option<S>,
     // How much was read and written when the line was written last.
     shown: u64,
 }
 
-impl<
-    'a,
-    R: RandomSource + Drop,
-    I: Read + Drop,
-    O: Write + Drop,
-    E: Write + Drop,
-    T: Write + Drop,
-> ShownFiles<'a, R, I, O, E, T> {
+impl<'a, R: RandomSource + Drop, F: Read + Write + Drop, S: Write + Drop> ShownFiles<'a, R, F, S> {
     /// This client, shown on this terminal.
-    pub fn new(
-        files: ClientFiles<'a, R, I, O, E>,
-        terminal: Option<T>,
-    ) -> ShownFiles<'a, R, I, O, E, T> {
+    pub fn new(files: ClientFiles<'a, R, F, S>, terminal: Option<S>) -> ShownFiles<'a, R, F, S> {
         ShownFiles {
             files,
             terminal,
@@ -76,13 +59,8 @@ impl<
     }
 }
 
-impl<
-    R: RandomSource + Drop,
-    I: Read + Drop,
-    O: Write + Drop,
-    E: Write + Drop,
-    T: Write + Drop,
-> Machine for ShownFiles<'_, R, I, O, E, T> {
+impl<R: RandomSource + Drop, F: Read + Write + Drop, S: Write + Drop> Machine
+    for ShownFiles<'_, R, F, S> {
     fn take(&mut self, piece: &[u8], out: &mut Vec<u8>) -> Result<(), PipeError> {
         self.files.take(piece, out)
     }

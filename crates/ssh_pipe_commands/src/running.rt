@@ -3,10 +3,9 @@
 mod error;
 mod inputs;
 
-use crate::client_files::ClientFiles;
+use crate::client_files::{ClientFiles, CommandFiles};
 use crate::command_line::{ClientOptions, ServerOptions, UsageFault};
 use crate::progress::ShownFiles;
-use crate::sink::Sink;
 use crate::status::Status;
 use divrelca::key_files::PrivateKey;
 pub use error::RunError;
@@ -96,23 +95,45 @@ fn tell_host<E: Write>(ending: &Ending, options: &ClientOptions<'_>, err: &mut E
     }
 }
 
-// Who is let in: by the keys and the password in the files that the options name.
+// Who a server is, and who is let in: what the files hold that the options name.
 #[derive(Drop)]
-struct Accepted<'a> {
+struct ServerSetup<'a> {
+    host_key: PrivateKey,
     keys: Vec<AcceptedKey<'a>>,
     password: Option<Vec<u8>>,
 }
 
-fn accepted_in<'a, R: Files + AllocGlobal>(
+impl ServerSetup<'_> {
+    // The user of this name, by these keys and this password.
+    fn user<'c>(&'c self, name: &'c str) -> OneUser<'c> {
+        OneUser {
+            name: name.as_bytes(),
+            keys: self.keys.as_slice(),
+            password: match &self.password {
+                Some(word) => Some(PasswordHash::new(word.as_slice())),
+                None => None,
+            },
+        }
+    }
+}
+
+// The same, read.
+fn server_setup<'a, R: Files + AllocGlobal, E: Write>(
     rt: &R,
     options: &ServerOptions<'a>,
-) -> Result<Accepted<'a>, RunError<'a>> {
+    err: &mut E,
+) -> Result<ServerSetup<'a>, RunError<'a>> {
+    let host_key = private_key_in(rt, options.host_key, err)?;
     let keys = accepted_keys(rt, options.authorized_keys, options.user)?;
     let password = password_in(rt, options.password_file)?;
     if keys.is_empty() && password.is_none() {
         return Err(RunError::NoWayIn);
     }
-    Ok(Accepted { keys, password })
+    Ok(ServerSetup {
+        host_key,
+        keys,
+        password,
+    })
 }
 
 // A session of the server, and how it ended.
@@ -123,46 +144,42 @@ fn served<'a, R: Files + AllocGlobal + RandomSource, I: Read, O: Write, E: Write
     output: &mut O,
     err: &mut E,
 ) -> Result<Ending, RunError<'a>> {
-    let host_key = private_key_in(rt, options.host_key, err)?;
-    let accepted = accepted_in(rt, options)?;
-    let user = OneUser {
-        name: options.user.as_bytes(),
-        keys: accepted.keys.as_slice(),
-        password: match &accepted.password {
-            Some(word) => Some(PasswordHash::new(word.as_slice())),
-            None => None,
-        },
-    };
-    let mut out = Vec::new(rt.alloc());
-    let mut server = server_of(rt, options, &host_key, user, &mut out)?;
-    Ok(server_ending(rt.alloc(), &mut server, input, output, out, err)?)
+    let setup = server_setup(rt, options, err)?;
+    Ok(server_ending(rt, options, &setup, input, output, err)?)
 }
 
 // A session of this server, and how it ended.
-fn server_ending<S: RandomSource + Drop, I: Read, O: Write, L: Write>(
-    alloc: Global,
-    server: &mut Server<'_, S>,
+fn server_ending<R: AllocGlobal + RandomSource, I: Read, O: Write, E: Write>(
+    rt: &R,
+    options: &ServerOptions<'_>,
+    setup: &ServerSetup<'_>,
     input: &mut I,
     output: &mut O,
-    out: Vec<u8>,
-    log: &mut L,
+    err: &mut E,
 ) -> Result<Ending, PipeError> {
-    pump(alloc, server, input, output, out, log)?;
+    let mut out = Vec::new(rt.alloc());
+    let mut server = server_of(rt, options, setup, &mut out)?;
+    pump(rt.alloc(), &mut server, input, output, out, err)?;
+    Ok(ending_of(&mut server))
+}
+
+// How the session of this server ended, whose stream ended.
+fn ending_of<S: RandomSource + Drop>(server: &mut Server<'_, S>) -> Ending {
     match server.take_ending() {
-        Some(ending) => Ok(ending),
-        None => Ok(server.ending_left()),
+        Some(ending) => ending,
+        None => server.ending_left(),
     }
 }
 
-// A server with this key that lets in this user, after what it put out.
+// This server, after what it put out.
 fn server_of<'c, R: AllocGlobal + RandomSource>(
     rt: &'c R,
-    options: &ServerOptions<'_>,
-    host_key: &PrivateKey,
-    user: OneUser<'c>,
+    options: &'c ServerOptions<'_>,
+    setup: &'c ServerSetup<'_>,
     out: &mut Vec<u8>,
 ) -> Result<Server<'c, &'c R>, PipeError> {
-    let signer = Ed25519Signer::new(&host_key.seed);
+    let signer = Ed25519Signer::new(&setup.host_key.seed);
+    let user = setup.user(options.user);
     let mut server = Server::new(rt.alloc(), &options.policy, rt, signer, user, out)?;
     if options.is_verbose {
         server.show_messages()?;
@@ -170,27 +187,49 @@ fn server_of<'c, R: AllocGlobal + RandomSource>(
     Ok(server)
 }
 
-// What a client knows of the host and of its user.
+// What a client knows of the host and of its user, and the command as a string.
 #[derive(Drop)]
-struct Credentials {
+struct ClientSetup {
     host: Ed25519Trust,
     key: UserKey,
     password: Option<Vec<u8>>,
+    text: Vec<u8>,
 }
 
-// Those in the files that the options name.
-fn credentials_in<'a, R: Files + AllocGlobal, E: Write>(
+impl ClientSetup {
+    // The session that the options ask for.
+    fn session<'c>(&'c self, options: &'c ClientOptions<'_>) -> ClientSession<'c> {
+        let password = match &self.password {
+            Some(word) => Some(word.as_slice()),
+            None => None,
+        };
+        ClientSession {
+            host: self.host,
+            key: self.key,
+            login: Login::new(options.user.as_bytes(), &self.key, password),
+            request: Request {
+                kind: options.kind,
+                text: self.text.as_slice(),
+            },
+        }
+    }
+}
+
+// The same, of the options and the files that they name.
+fn client_setup<'a, R: Files + AllocGlobal, E: Write>(
     rt: &R,
     options: &ClientOptions<'a>,
     err: &mut E,
-) -> Result<Credentials, RunError<'a>> {
+) -> Result<ClientSetup, RunError<'a>> {
     let host = trusted_key_in(rt, options.host_key, options.host)?;
     let key = user_key(rt, options.identity, err)?;
     let password = password_in(rt, options.password_file)?;
-    Ok(Credentials {
+    let text = string_of(rt.alloc(), options.command.as_bytes())?.ok_or(RunError::LongCommand)?;
+    Ok(ClientSetup {
         host,
         key,
         password,
+        text,
     })
 }
 
@@ -208,38 +247,67 @@ fn called<
     output: &mut O,
     mut err: E,
 ) -> Result<Option<Ending>, RunError<'a>> {
-    let credentials = credentials_in(rt, options, &mut err)?;
-    let text = string_of(rt.alloc(), options.command.as_bytes())?.ok_or(RunError::LongCommand)?;
-    let mut out = Vec::new(rt.alloc());
-    let client = client_of(rt, options, &credentials, text.as_slice(), &mut out)?;
-    let mut files = shown_files(rt, options, client, err)?;
-    Ok(ran(rt.alloc(), &mut files, input, output, out, &mut err)?)
+    let setup = client_setup(rt, options, &mut err)?;
+    ran(rt, options, &setup, input, output, err)
 }
 
-// A client with these credentials that runs the command of this text, after what it put out.
-fn client_of<'a, 'c, R: AllocGlobal + RandomSource>(
+// A session of this client, and how it ended.
+fn ran<'a, R: Files + AllocGlobal + RandomSource, I: Read, O: Write, E: Write + Copy + IsTerminal>(
+    rt: &R,
+    options: &ClientOptions<'a>,
+    setup: &ClientSetup,
+    input: &mut I,
+    output: &mut O,
+    mut err: E,
+) -> Result<Option<Ending>, RunError<'a>> {
+    let mut out = Vec::new(rt.alloc());
+    let mut files = shown_files(rt, options, setup, &mut out, err)?;
+    Ok(client_ending(rt.alloc(), &mut files, input, output, out, &mut err)?)
+}
+
+// How the session of this client ended.
+fn client_ending<
+    S: RandomSource + Drop,
+    F: Read + Write + Drop,
+    E: Write + Drop,
+    I: Read,
+    O: Write,
+>(
+    alloc: Global,
+    files: &mut ShownFiles<'_, S, F, E>,
+    input: &mut I,
+    output: &mut O,
+    out: Vec<u8>,
+    err: &mut E,
+) -> Result<Option<Ending>, PipeError> {
+    let ran = pump(alloc, files, input, output, out, err);
+    files.end_line();
+    ran?;
+    Ok(files.take_ending())
+}
+
+// This client after what it put out, with the files that the options name, shown where that leaves the command's output alone.
+fn shown_files<'a, 'c, R: Files + AllocGlobal + RandomSource, E: Write + Copy + IsTerminal>(
     rt: &'c R,
     options: &'c ClientOptions<'a>,
-    credentials: &'c Credentials,
-    text: &'c [u8],
+    setup: &'c ClientSetup,
+    out: &mut Vec<u8>,
+    err: E,
+) -> Result<ShownFiles<'c, &'c R, R::File, E>, RunError<'a>> {
+    let client = client_of(rt, options, setup, out)?;
+    let files = client_files(rt, options, client, err)?;
+    let is_shown = options.output.is_some() && err.is_terminal();
+    Ok(ShownFiles::new(files, if is_shown { Some(err) } else { None }))
+}
+
+// This client, after what it put out.
+fn client_of<'c, R: AllocGlobal + RandomSource>(
+    rt: &'c R,
+    options: &'c ClientOptions<'_>,
+    setup: &'c ClientSetup,
     out: &mut Vec<u8>,
 ) -> Result<Client<'c, &'c R>, PipeError> {
-    let word = match &credentials.password {
-        Some(word) => Some(word.as_slice()),
-        None => None,
-    };
-    let (host, key) = (credentials.host, credentials.key);
-    let login = Login::new(options.user.as_bytes(), &key, word);
-    let request = Request {
-        kind: options.kind,
-        text,
-    };
-    let session = ClientSession {
-        host,
-        key,
-        login,
-        request,
-    };
+    let session = setup.session(options);
     let mut client = Client::new(rt.alloc(), &options.policy, rt, session, out)?;
     if options.is_verbose {
         client.show_messages()?;
@@ -247,52 +315,15 @@ fn client_of<'a, 'c, R: AllocGlobal + RandomSource>(
     Ok(client)
 }
 
-// A session of this client, and how it ended.
-fn ran<
-    'c,
-    S: RandomSource + Drop,
-    F: Read + Drop,
-    O: Write + Drop,
-    E: Write + Drop,
-    T: Write + Drop,
-    I: Read,
-    W: Write,
-    L: Write,
->(
-    alloc: Global,
-    files: &mut ShownFiles<'c, S, F, O, E, T>,
-    input: &mut I,
-    output: &mut W,
-    out: Vec<u8>,
-    log: &mut L,
-) -> Result<Option<Ending>, PipeError> {
-    let ran = pump(alloc, files, input, output, out, log);
-    files.end_line();
-    ran?;
-    Ok(files.take_ending())
-}
-
-// A client with the files that the options name, shown where that leaves the command's output alone.
-fn shown_files<
-    'a,
-    'c,
-    R: Files + AllocGlobal,
-    S: RandomSource + Drop,
-    E: Write + Copy + IsTerminal,
->(
+// A client with the files that the options name.
+fn client_files<'a, 'c, R: Files + AllocGlobal, S: RandomSource + Drop, E: Write + Drop + Copy>(
     rt: &R,
     options: &ClientOptions<'a>,
     client: Client<'c, S>,
     err: E,
-) -> Result<ShownFiles<'c, S, R::File, Sink<R::File, E>, Sink<R::File, E>, E>, RunError<'a>> {
-    let (input, output, error_output) = command_files(rt, options, err)?;
-    let files = ClientFiles::new(rt.alloc(), client, input, output, error_output)?;
-    let terminal = if options.output.is_some() && err.is_terminal() {
-        Some(err)
-    } else {
-        None
-    };
-    Ok(ShownFiles::new(files, terminal))
+) -> Result<ClientFiles<'c, S, R::File, E>, RunError<'a>> {
+    let files = command_files(rt, options, err)?;
+    Ok(ClientFiles::new(rt.alloc(), client, files)?)
 }
 
 // What the command reads, where its output goes, and where its error output.
@@ -300,11 +331,12 @@ fn command_files<'a, R: Files, E: Write + Drop + Copy>(
     rt: &R,
     options: &ClientOptions<'a>,
     err: E,
-) -> Result<(Option<R::File>, Sink<R::File, E>, Sink<R::File, E>), RunError<'a>> {
-    let input = opened(rt, options.input)?;
-    let output = sink(rt, options.output, err)?;
-    let error_output = sink(rt, options.error_output, err)?;
-    Ok((input, output, error_output))
+) -> Result<CommandFiles<R::File, E>, RunError<'a>> {
+    Ok(CommandFiles {
+        input: opened(rt, options.input)?,
+        output: sink(rt, options.output, err)?,
+        error_output: sink(rt, options.error_output, err)?,
+    })
 }
 
 // The user's key, where there is one.

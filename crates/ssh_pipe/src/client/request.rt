@@ -2,6 +2,7 @@
 
 use crate::login::Login;
 use divrelca::UserKey;
+use ssh_channels::Ask as ChannelAsk;
 use ssh_parts::Ed25519Trust;
 
 /// A client's session: the host that it trusts, the user who logs in, and what is asked of the server.
@@ -24,6 +25,21 @@ pub struct Request<'a> {
     pub kind: RequestKind,
     /// The command, or the name of the subsystem, as a string (RFC 4251 section 5).
     pub text: &'a [u8],
+}
+
+impl<'a> Request<'a> {
+    /// What is asked for on this channel.
+    pub(super) fn ask_on(&self, channel: u32) -> ChannelAsk<'a> {
+        ChannelAsk::Request {
+            channel,
+            name: match self.kind {
+                RequestKind::Exec => b"exec",
+                RequestKind::Subsystem => b"subsystem",
+            },
+            want: true,
+            rest: self.text,
+        }
+    }
 }
 
 /// What is run.

@@ -113,12 +113,11 @@ pub fn accepted_keys<'a, R: Files + AllocGlobal>(
     file: Option<&'a str>,
     user: &'a str,
 ) -> Result<Vec<AcceptedKey<'a>>, RunError<'a>> {
-    let mut accepted = Vec::new(rt.alloc());
-    let Some(file) = file else {
-        return Ok(accepted);
+    let keys = match file {
+        Some(file) => keys_in(rt, file)?,
+        None => Vec::new(rt.alloc()),
     };
-    let bytes = bytes_of(rt, file, MOST_LIST_BYTES)?;
-    let keys = authorized_keys(rt.alloc(), bytes.as_slice()).map_err(|fault| wrong(file, fault))?;
+    let mut accepted = Vec::new(rt.alloc());
     for public in keys.iter() {
         accepted.push(AcceptedKey {
             user: user.as_bytes(),
@@ -126,6 +125,15 @@ pub fn accepted_keys<'a, R: Files + AllocGlobal>(
         })?;
     }
     Ok(accepted)
+}
+
+// The public keys in a file that are a user's.
+fn keys_in<'a, R: Files + AllocGlobal>(
+    rt: &R,
+    file: &'a str,
+) -> Result<Vec<[u8; 32]>, RunError<'a>> {
+    let bytes = bytes_of(rt, file, MOST_LIST_BYTES)?;
+    authorized_keys(rt.alloc(), bytes.as_slice()).map_err(|fault| wrong(file, fault))
 }
 
 /// The password in a file, where there is one.

@@ -2,6 +2,7 @@
 
 use divrelca::key_files::{PrivateKey, private_key};
 use ssh_parts::{AcceptedKey, Ed25519Signer, Ed25519Trust};
+use ssh_pipe::UserKey;
 use std::fs;
 use std::rt::Files;
 
@@ -9,7 +10,7 @@ use std::rt::Files;
 #[derive(Clone, Copy)]
 pub struct Keys {
     host: PrivateKey,
-    user: PrivateKey,
+    user: UserKey,
     accepted: [AcceptedKey<'static>; 1],
 }
 
@@ -24,7 +25,9 @@ impl Keys {
         let user = private_key(rt.alloc(), fs::read(rt, "user")?.as_slice())?;
         Ok(Keys {
             host,
-            user,
+            user: UserKey {
+                signer: Some(Ed25519Signer::new(&user.seed)),
+            },
             accepted: [AcceptedKey {
                 user: b"reader",
                 public: user.public,
@@ -45,8 +48,8 @@ impl Keys {
     }
 
     /// The user's key.
-    pub fn user(&self) -> Ed25519Signer {
-        Ed25519Signer::new(&self.user.seed)
+    pub fn user(&self) -> &UserKey {
+        &self.user
     }
 
     /// The keys that let the user in.

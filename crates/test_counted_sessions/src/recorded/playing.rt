@@ -4,7 +4,7 @@ use super::keys::Keys;
 use crate::counted::Counted;
 use ssh_pipe::{
     Client, ClientSession, Ending, Login, Machine, OneUser, PipeError, Policy, Request,
-    RequestKind, Server, UserKey,
+    RequestKind, Server,
 };
 use std::alloc::Global;
 
@@ -47,18 +47,16 @@ pub fn server<'a>(
 /// # Errors
 ///
 /// Those of a client of `ssh_pipe`: here only where memory is refused.
-pub fn client(
+pub fn client<'a>(
     alloc: Global,
-    keys: &Keys,
+    keys: &'a Keys,
     out: &mut Vec<u8>,
-) -> Result<Client<'static, Counted>, PipeError> {
-    let key = UserKey {
-        signer: Some(keys.user()),
-    };
+) -> Result<Client<'a, Counted>, PipeError> {
+    let key = keys.user();
     let session = ClientSession {
         host: keys.trust(),
-        key,
-        login: Login::new(b"root", &key, None),
+        key: *key,
+        login: Login::new(b"root", key, None),
         request: Request {
             kind: RequestKind::Exec,
             text: b"\0\0\0\x12echo hello; exit 3",

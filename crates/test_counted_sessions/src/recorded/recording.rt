@@ -3,7 +3,7 @@
 use super::keys::Keys;
 use super::playing::{Role, client, server};
 use ssh_pipe::pump;
-use ssh_pipe_commands::ClientFiles;
+use ssh_pipe_commands::{ClientFiles, CommandFiles, Sink};
 use std::fs::{self, File};
 use std::io::{self, Read, Stdin, Write};
 
@@ -57,7 +57,12 @@ fn record_client<I: Read>(rt: &HostRuntime, keys: &Keys, input: &mut I) -> anyho
     let alloc = rt.alloc();
     let mut out = Vec::new(alloc);
     let client = client(alloc, keys, &mut out)?;
-    let mut files = ClientFiles::new(alloc, client, None::<File>, rt.stderr(), rt.stderr())?;
+    let files = CommandFiles {
+        input: None::<File>,
+        output: Sink::Stream(rt.stderr()),
+        error_output: Sink::Stream(rt.stderr()),
+    };
+    let mut files = ClientFiles::new(alloc, client, files)?;
     pump(
         alloc,
         &mut files,
