@@ -100,7 +100,7 @@ if [ -n "$visible" ]; then
     echo "error: build/libdivrelca.so shows other names: $visible" >&2
     exit 1
 fi
-declared=$(sed -n 's/^.*\bE##\(_[a-z_]*\)(.*$/dv_server\1 dv_client\1/p; s/^[a-z0-9_]* \(dv_[a-z_]*\)(.*$/\1/p' "$top/bindings/include/divrelca.h" | tr ' ' '\n' | sort -u)
+declared=$(sed -n 's/^[a-z0-9_]* \(dv_[a-z_]*\)(.*$/\1/p' "$top/bindings/include/divrelca.h" | sort -u)
 exported=$(nm -D --defined-only "$build/libdivrelca.so" | awk '{ print $3 }' | sort -u)
 if [ "$declared" != "$exported" ]; then
     echo "error: the header declares other calls than the library has" >&2

@@ -21,15 +21,15 @@ static void begin(uint32_t epoch_limit) {
   first = fresh();
   CHECK(dv_client_new(&client, &of_client, &first, padding) == DV_DONE);
   dv_ask early = dv_ask_on(DV_ASK_SERVICE, 0);
-  CHECK(dv_client_ask(&client, &early, &channel) == DV_NOT_YET);
+  CHECK(dv_ask_now(&client, &early, &channel) == DV_NOT_YET);
   CHECK(go() && ask_client(early, &channel) && ask_client(dv_ask_texts(DV_ASK_LOGIN_KEY, 0, text("me"), false, none), &channel));
   CHECK(ask_client(dv_ask_window(DV_ASK_OPEN, 0, text("session"), WINDOW, PACKET), &here));
   CHECK(ask_server(dv_ask_window(DV_ASK_CONFIRM, there, none, 10, PACKET)));
 }
 static void finish(void) {
-  CHECK(!stopped && !dv_client_is_over(&client) && !dv_server_is_over(&server));
-  dv_client_free(client);
-  dv_server_free(server);
+  CHECK(!stopped && !dv_is_over(&client) && !dv_is_over(&server));
+  dv_free(client);
+  dv_free(server);
   CHECK(held == 0);
 }
 
@@ -37,9 +37,9 @@ static void finish(void) {
 static bool refuses(dv_ask ask, int32_t code) {
   dv_bytes before = DV_BYTES_INIT, after = DV_BYTES_INIT;
   uint32_t channel = 77;
-  dv_client_output(&client, &before);
-  int32_t answer = dv_client_ask(&client, &ask, &channel);
-  dv_client_output(&client, &after);
+  dv_output(&client, &before);
+  int32_t answer = dv_ask_now(&client, &ask, &channel);
+  dv_output(&client, &after);
   if (answer != code) printf("code %d, and not %d\n", answer, code);
   return answer == code && channel == 77 && before.len == after.len;
 }
@@ -59,8 +59,8 @@ static void on_a_channel(void) {
   CHECK(refuses(dv_ask_on(DV_ASK_REPLY, here), DV_NOTHING_OWED));
   CHECK(refuses(dv_ask_number(DV_ASK_ADJUST, here, UINT32_MAX), DV_TOO_MUCH));
   uint32_t channel = 77;
-  CHECK(dv_server_ask(&server, &login, &channel) == DV_WRONG_SIDE && channel == 77);
-  CHECK(done(dv_client_ask(&client, &(dv_ask){.kind = DV_ASK_REKEY, .name = none, .data = none}, &channel)));
+  CHECK(dv_ask_now(&server, &login, &channel) == DV_WRONG_SIDE && channel == 77);
+  CHECK(done(dv_ask_now(&client, &(dv_ask){.kind = DV_ASK_REKEY, .name = none, .data = none}, &channel)));
   CHECK(refuses(dv_ask_on(DV_ASK_EOF, here), DV_BUSY));
   CHECK(go() && ask_client(dv_ask_on(DV_ASK_EOF, here), &channel));
   CHECK(refuses(data_of(1), DV_ENDED_ALREADY));
@@ -73,7 +73,7 @@ static void many_channels(void) {
   dv_ask open = dv_ask_window(DV_ASK_OPEN, 0, text("session"), WINDOW, PACKET);
   for (uint32_t i = 1; i < 1024; i++) {
     uint32_t channel = UINT32_MAX;
-    CHECK(dv_client_ask(&client, &open, &channel) == DV_DONE && channel == i);
+    CHECK(dv_ask_now(&client, &open, &channel) == DV_DONE && channel == i);
   }
   CHECK(refuses(open, DV_TABLE_FULL));
   CHECK(go());
@@ -86,19 +86,19 @@ static void exchanges(void) {
   begin(64);
   dv_ask ignored = dv_ask_texts(DV_ASK_GLOBAL, 0, text("x"), false, none);
   uint32_t channel, sent = 0;
-  while (!dv_client_rekey_due(&client) && sent < 64) {
-    CHECK(dv_client_ask(&client, &ignored, &channel) == DV_DONE);
+  while (!dv_rekey_due(&client) && sent < 64) {
+    CHECK(dv_ask_now(&client, &ignored, &channel) == DV_DONE);
     sent++;
   }
   CHECK(sent < 64 && refuses(ignored, DV_REKEY_DUE));
-  CHECK(ask_client(dv_ask_on(DV_ASK_REKEY, 0), &channel) && !dv_client_rekey_due(&client));
+  CHECK(ask_client(dv_ask_on(DV_ASK_REKEY, 0), &channel) && !dv_rekey_due(&client));
   finish();
   feeds = false;
   begin(64);
   CHECK(refuses(dv_ask_on(DV_ASK_REKEY, 0), DV_NO_MATERIAL));
   feeds = true;
   dv_material pair = fresh();
-  CHECK(dv_client_feed(&client, &pair) && dv_client_ask(&client, &(dv_ask){.kind = DV_ASK_REKEY, .name = none, .data = none}, &channel) == DV_DONE);
+  CHECK(dv_feed(&client, &pair) && dv_ask_now(&client, &(dv_ask){.kind = DV_ASK_REKEY, .name = none, .data = none}, &channel) == DV_DONE);
   finish();
 }
 

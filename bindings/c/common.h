@@ -1,5 +1,5 @@
-/* What dvssh and dvsshd share: bytes that wait, files, random bytes, and the loop over an end. A file that includes this defines END (dv_server or dv_client), DV(f), the
- * call f of it, and PROGRAM, its name in messages; and it has on_event. Both programs are examples: see the head of each for what they leave out. */
+/* What dvssh and dvsshd share: bytes that wait, files, random bytes, and the loop over an end. A file that includes this defines PROGRAM, its name in messages; and it has
+ * on_event. Both programs are examples: see the head of each for what they leave out. */
 #ifndef DIVRELCA_COMMON_H
 #define DIVRELCA_COMMON_H
 #include "divrelca.h"
@@ -18,7 +18,7 @@
 #define MOST_WAITING ((size_t)1 << 20) /* bytes for the peer, past which no more data is read for it */
 #define FAILED 255                     /* the exit status where the program itself failed */
 
-static END end;
+static dv_end end;
 static int verbose;
 
 static void say(const char *format, ...) {
@@ -146,7 +146,7 @@ static uint8_t *file_of(const char *path, size_t *len) {
 /* ---- asks */
 
 static void queue(dv_ask ask) {
-  int32_t code = DV(queue)(&end, &ask);
+  int32_t code = dv_queue(&end, &ask);
   if (code != DV_DONE) DIE("ask %u: %s", ask.kind, name_of(code));
 }
 static void queue_request(uint32_t channel, const char *name, bool wants_reply, dv_bytes rest) {
@@ -155,7 +155,7 @@ static void queue_request(uint32_t channel, const char *name, bool wants_reply, 
 
 /* The answer that the peer is owed for what this program does not know. */
 static void decline(void) {
-  int32_t code = DV(decline)(&end);
+  int32_t code = dv_decline(&end);
   if (code != DV_DONE) DIE("an answer: %s", name_of(code));
 }
 
@@ -164,19 +164,19 @@ static dv_material fresh;
 /* Hands the end a fresh pair for an exchange of keys, and asks for one that is due. */
 static void keep_fresh(void) {
   uint32_t channel;
-  if (DV(feed)(&end, &fresh)) random_bytes(&fresh, sizeof fresh);
-  if (!DV(rekey_due)(&end)) return;
+  if (dv_feed(&end, &fresh)) random_bytes(&fresh, sizeof fresh);
+  if (!dv_rekey_due(&end)) return;
   dv_ask rekey = dv_ask_on(DV_ASK_REKEY, 0);
-  int32_t code = DV(ask)(&end, &rekey, &channel);
+  int32_t code = dv_ask_now(&end, &rekey, &channel);
   if (code != DV_DONE && !dv_is_later(code)) DIE("an exchange of keys: %s", name_of(code));
 }
 
 /* After each take, and after each turn of the loop: makes the asks that wait, as far as the end can. Those for a channel that is gone are dropped. */
 static void work(void) {
   keep_fresh();
-  while (DV(queued)(&end)) {
+  while (dv_queued(&end)) {
     uint32_t channel;
-    int32_t code = DV(work)(&end, &channel);
+    int32_t code = dv_work(&end, &channel);
     if (dv_is_later(code)) return;
     if (code != DV_DONE && !dv_is_gone(code)) DIE("an ask is refused: %s", name_of(code));
     if (code != DV_DONE && verbose) say("an ask came too late: %s", name_of(code));
@@ -187,7 +187,7 @@ static void work(void) {
 static bool send_piece(uint32_t channel, uint32_t stream, const uint8_t *at, size_t *from, size_t to) {
   while (*from < to) {
     size_t taken = 0;
-    int32_t code = DV(send)(&end, channel, stream, at + *from, to - *from, &taken);
+    int32_t code = dv_send(&end, channel, stream, at + *from, to - *from, &taken);
     if (dv_is_later(code)) return false;
     if (dv_is_gone(code)) taken = to - *from;
     else if (code != DV_DONE) DIE("data is refused: %s", name_of(code));
@@ -198,7 +198,7 @@ static bool send_piece(uint32_t channel, uint32_t stream, const uint8_t *at, siz
 }
 
 static void consume(uint32_t channel, size_t bytes) {
-  int32_t code = bytes ? DV(consume)(&end, channel, bytes) : DV_DONE;
+  int32_t code = bytes ? dv_consume(&end, channel, bytes) : DV_DONE;
   if (code != DV_DONE && !dv_is_gone(code)) DIE("a window: %s", name_of(code));
 }
 
@@ -206,18 +206,18 @@ static void consume(uint32_t channel, size_t bytes) {
 
 static size_t output_len(void) {
   dv_bytes out = DV_BYTES_INIT;
-  DV(output)(&end, &out);
+  dv_output(&end, &out);
   return out.len;
 }
 
 /* Writes what goes at once; false where nobody reads any more. */
 static bool flush_end(int fd) {
   dv_bytes out = DV_BYTES_INIT;
-  DV(output)(&end, &out);
+  dv_output(&end, &out);
   if (!out.len) return true;
   ssize_t n = write(fd, out.at, out.len);
   if (n < 0) return is_again();
-  DV(written)(&end, (size_t)n);
+  dv_written(&end, (size_t)n);
   return true;
 }
 
@@ -236,17 +236,17 @@ static bool take_all(const uint8_t *at, size_t len) {
   while (len) {
     size_t used = 0;
     dv_event event = DV_EVENT_INIT;
-    int32_t code = DV(take)(&end, at, len, &used);
+    int32_t code = dv_take(&end, at, len, &used);
     if (code == DV_OVER) return false;
     if (code != DV_DONE) DIE("take: %s", name_of(code));
     at += used;
     len -= used;
-    DV(event)(&end, &event);
+    dv_show_event(&end, &event);
     if (verbose > 1 && event.took) say("took %u, kind %u, channel %u, %zu bytes", event.took, event.kind, event.channel, event.data.len);
     if (event.kind == DV_REFUSED) say("the peer is refused: %.*s", (int)event.name.len, (const char *)event.name.at);
     if (event.kind == DV_DISCONNECTED && verbose) say("the peer ends: %.*s", (int)event.data.len, (const char *)event.data.at);
     on_event(&event);
-    if (DV(is_over)(&end)) return false;
+    if (dv_is_over(&end)) return false;
     work();
   }
   return true;

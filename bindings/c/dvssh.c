@@ -8,8 +8,6 @@
  * It is an example. What a client for people needs more: asking about a host that is not known, agents, several keys and encrypted ones, forwarding, escapes, wiping of keys. */
 #define _GNU_SOURCE
 #include "divrelca.h"
-#define END dv_client
-#define DV(f) dv_client_##f
 #define PROGRAM "dvssh"
 #include "common.h"
 #include "dvssh_words.h"
@@ -268,8 +266,8 @@ static int connected(void) {
 /* ---- the loop */
 
 static bool may_read(void) {
-  return session.may_send && !session.is_closed && !session.read_all && session.in_from == session.in_to && !dv_client_queued(&end) &&
-         output_len() < MOST_WAITING && dv_client_room(&end, session.channel);
+  return session.may_send && !session.is_closed && !session.read_all && session.in_from == session.in_to && !dv_queued(&end) &&
+         output_len() < MOST_WAITING && dv_room(&end, session.channel);
 }
 static void read_input(void) {
   ssize_t n = read(0, session.in, sizeof session.in);
@@ -279,7 +277,7 @@ static void read_input(void) {
   if (n <= 0) session.read_all = true;
 }
 static void send_input(void) {
-  if (!session.may_send || session.is_closed || dv_client_queued(&end)) return;
+  if (!session.may_send || session.is_closed || dv_queued(&end)) return;
   if (!send_piece(session.channel, 0, session.in, &session.in_from, session.in_to) || !session.read_all || session.sent_eof) return;
   session.sent_eof = true;
   queue(dv_ask_on(DV_ASK_EOF, session.channel));
@@ -321,7 +319,7 @@ static bool turn(int net, bool *is_up) {
   work(); /* what was consumed is given back before data is sent */
   send_input();
   work();
-  if (session.is_closed && !dv_client_queued(&end)) session.is_over = true;
+  if (session.is_closed && !dv_queued(&end)) session.is_over = true;
   if (session.is_over || !flush_end(net)) *is_up = false;
   return true;
 }
@@ -357,13 +355,13 @@ int main(int count, char **all) {
   hold_signals();
   bool is_up = true;
   while (turn(net, &is_up)) {}
-  if (!dv_client_is_over(&end)) {
+  if (!dv_is_over(&end)) {
     uint32_t channel;
     dv_ask bye = dv_ask_texts(DV_ASK_DISCONNECT, 0, none, false, text("done"));
-    dv_client_ask(&end, &bye, &channel);
+    dv_ask_now(&end, &bye, &channel);
   }
   flush_last(net);
-  dv_client_free(end);
+  dv_free(end);
   free(session.out[0].at);
   free(session.out[1].at);
   free(words.command.at);

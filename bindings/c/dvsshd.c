@@ -10,8 +10,6 @@
  * It is an example. What guards a host needs more: privileges of its own and those of each user, accounts and their shells, limits of connections, an audit. */
 #define _GNU_SOURCE
 #include "divrelca.h"
-#define END dv_server
-#define DV(f) dv_server_##f
 #define PROGRAM "dvsshd"
 #include "common.h"
 #include "dvsshd_commands.h"
@@ -157,7 +155,7 @@ static nfds_t wait_for(struct pollfd *p, int in, int out) {
   for (int i = 0; i < MOST_CHANNELS; i++) {
     channel *c = &channels[i];
     if (!c->is_used || !c->is_started) continue;
-    bool may_send = !dv_server_queued(&end) && waiting < MOST_WAITING && dv_server_room(&end, c->number);
+    bool may_send = !dv_queued(&end) && waiting < MOST_WAITING && dv_room(&end, c->number);
     for (int j = 0; j < 2; j++)
       if (c->out[j].fd >= 0 && may_send && c->out[j].from == c->out[j].to) p[count++] = (struct pollfd){c->out[j].fd, POLLIN, 0};
     if (c->in >= 0 && waits(&c->to_child)) p[count++] = (struct pollfd){c->in, POLLOUT, 0};
@@ -200,7 +198,7 @@ static void serve_loop(int in, int out) {
     for (int i = 0; i < MOST_CHANNELS; i++)
       if (channels[i].is_used) pump_in(&channels[i]);
     work(); /* what was consumed is given back before data is sent */
-    for (int i = 0; i < MOST_CHANNELS && !dv_server_queued(&end); i++)
+    for (int i = 0; i < MOST_CHANNELS && !dv_queued(&end); i++)
       if (channels[i].is_used) pump(&channels[i]);
     work();
     if (!flush_end(out)) break;
@@ -268,7 +266,7 @@ static void serve(int in, int out) {
     forget(&channels[i]);
   }
   if (is_let_in) say("%s: gone", who);
-  dv_server_free(end);
+  dv_free(end);
 }
 
 static int listening(void) {

@@ -56,8 +56,7 @@ static bool is(dv_bytes bytes, const char *words) { return bytes.len == strlen(w
 
 /* ---- the two ends */
 
-static dv_server server;
-static dv_client client;
+static dv_end server, client;
 static bool feeds = true; /* whether the ends are given fresh pairs */
 static uint8_t pairs_fed;
 static dv_material fresh(void) {
@@ -89,39 +88,38 @@ static int32_t stopped;
 static bool tried_me;
 
 static int32_t take(bool at_server, dv_bytes bytes, size_t *used, dv_event *event) {
-  int32_t code = at_server ? dv_server_take(&server, bytes.at, bytes.len, used) : dv_client_take(&client, bytes.at, bytes.len, used);
+  dv_end *end = at_server ? &server : &client;
+  int32_t code = dv_take(end, bytes.at, bytes.len, used);
   if (code != DV_DONE) return code;
-  if (at_server) dv_server_event(&server, event);
-  else dv_client_event(&client, event);
+  dv_show_event(end, event);
   told[at_server][event->kind]++;
   if (at_server && event->kind == DV_OPENED) there = event->channel;
   if (event->kind == DV_DATA) {
     came[at_server] += event->data.len;
     if (event->extended) came_extended += event->data.len;
-    code = at_server ? dv_server_consume(&server, event->channel, event->data.len) : dv_client_consume(&client, event->channel, event->data.len);
+    code = dv_consume(end, event->channel, event->data.len);
     if (code != DV_DONE) return code;
   }
   if (event->kind == DV_TRIED && is(event->name, "me") && is(event->data, "none")) tried_me = true;
   if (event->kind == DV_TRIED && is(event->data, "none") && found_len) {
     code = set_user(event->name, found, found_len);
     if (code != DV_DONE) return code;
-    dv_server_event(&server, event);
+    dv_show_event(end, event);
   }
   if (event->kind == DV_OPENED && is(event->name, "session")) return DV_DONE;
   if (event->kind == DV_REQUESTED && is(event->name, "exec")) return DV_DONE;
-  return at_server ? dv_server_decline(&server) : dv_client_decline(&client);
+  return dv_decline(end);
 }
 
 /* Carries what waits at one end to the other, 1,000 bytes at a time. Each end is fed after each unit, and does what waits in its queue. */
 static bool carry(bool to_server) {
+  dv_end *from = to_server ? &client : &server, *to = to_server ? &server : &client;
   dv_bytes out = DV_BYTES_INIT;
-  if (to_server) dv_client_output(&client, &out);
-  else dv_server_output(&server, &out);
+  dv_output(from, &out);
   size_t all = out.len;
   uint8_t *copy = malloc(all ? all : 1);
   memcpy(copy, out.at, all);
-  if (to_server) dv_client_written(&client, all);
-  else dv_server_written(&server, all);
+  dv_written(from, all);
   size_t at = 0;
   while (at < all && !stopped) {
     size_t used = 0;
@@ -132,10 +130,9 @@ static bool carry(bool to_server) {
     if (event.kind == DV_REFUSED) stopped = 1000 + (int32_t)event.number;
     at += used;
     dv_material pair = fresh();
-    if (feeds && to_server) dv_server_feed(&server, &pair);
-    else if (feeds) dv_client_feed(&client, &pair);
+    if (feeds) dv_feed(to, &pair);
     int32_t code = DV_DONE;
-    while (code == DV_DONE && !stopped) code = to_server ? dv_server_work(&server, &channel) : dv_client_work(&client, &channel);
+    while (code == DV_DONE && !stopped) code = dv_work(to, &channel);
     if (code == DV_MEMORY) stopped = code;
   }
   free(copy);
@@ -144,8 +141,8 @@ static bool carry(bool to_server) {
 static bool go(void) {
   for (int round = 0; round < 200; round++) {
     dv_bytes a = DV_BYTES_INIT, b = DV_BYTES_INIT;
-    dv_client_output(&client, &a);
-    dv_server_output(&server, &b);
+    dv_output(&client, &a);
+    dv_output(&server, &b);
     if (!a.len && !b.len) return true;
     if (!carry(true) || !carry(false)) return false;
   }
@@ -156,9 +153,9 @@ static bool done(int32_t code) {
   if (code != DV_DONE && !stopped) stopped = code;
   return code == DV_DONE;
 }
-static bool ask_client(dv_ask ask, uint32_t *channel) { return done(dv_client_ask(&client, &ask, channel)) && go(); }
+static bool ask_client(dv_ask ask, uint32_t *channel) { return done(dv_ask_now(&client, &ask, channel)) && go(); }
 static bool ask_server(dv_ask ask) {
   uint32_t channel;
-  return done(dv_server_ask(&server, &ask, &channel)) && go();
+  return done(dv_ask_now(&server, &ask, &channel)) && go();
 }
 #endif

@@ -9,8 +9,7 @@ static bool send_all(bool to_server, uint32_t stream, size_t len) {
   size_t at = 0;
   while (at < len) {
     size_t taken = 0;
-    int32_t code = to_server ? dv_client_send(&client, here, stream, body + at, len - at, &taken)
-                             : dv_server_send(&server, there, stream, body + at, len - at, &taken);
+    int32_t code = dv_send(to_server ? &client : &server, to_server ? here : there, stream, body + at, len - at, &taken);
     if (!done(code) || !go()) return false;
     at += taken;
     if (!taken) {
@@ -41,17 +40,17 @@ static bool talk(int login) {
   if (!send_all(true, 0, 100000) || !send_all(false, 0, 70000) || !send_all(false, 1, 1000)) return false;
   /* an exchange of keys, and an ask that waits for it */
   dv_ask rekey = dv_ask_on(DV_ASK_REKEY, 0), eof = dv_ask_on(DV_ASK_EOF, here);
-  if (!done(dv_client_ask(&client, &rekey, &channel)) || !done(dv_client_queue(&client, &eof))) return false;
-  CHECK(dv_client_queued(&client) == 1 && dv_is_later(dv_client_work(&client, &channel)) && dv_client_queued(&client) == 1);
+  if (!done(dv_ask_now(&client, &rekey, &channel)) || !done(dv_queue(&client, &eof))) return false;
+  CHECK(dv_queued(&client) == 1 && dv_is_later(dv_work(&client, &channel)) && dv_queued(&client) == 1);
   if (!go()) return false;
-  CHECK(dv_client_queued(&client) == 0 && told[1][DV_ENDED] == 1);
+  CHECK(dv_queued(&client) == 0 && told[1][DV_ENDED] == 1);
   if (!ask_server(dv_ask_on(DV_ASK_REKEY, 0))) return false;
   /* what nobody knows is declined */
   if (!ask_client(dv_ask_texts(DV_ASK_GLOBAL, 0, text("keepalive@openssh.com"), true, none), &channel)) return false;
   if (!ask_server(dv_ask_window(DV_ASK_OPEN, 0, text("x"), 1, 1))) return false;
   if (!ask_server(dv_ask_on(DV_ASK_CLOSE, there))) return false;
   dv_ask closed = dv_ask_on(DV_ASK_CLOSE, here);
-  CHECK(dv_is_gone(dv_client_ask(&client, &closed, &channel)));
+  CHECK(dv_is_gone(dv_ask_now(&client, &closed, &channel)));
   return ask_client(dv_ask_texts(DV_ASK_DISCONNECT, 0, none, false, text("done")), &channel);
 }
 
@@ -81,12 +80,12 @@ static int32_t session(int login) {
   first = fresh();
   code = dv_client_new(&client, &of_client, &first, padding);
   if (code == DV_DONE) {
-    if (talk(login)) CHECK(!stopped && dv_client_is_over(&client) && dv_server_is_over(&server));
+    if (talk(login)) CHECK(!stopped && dv_is_over(&client) && dv_is_over(&server));
     else CHECK(stopped != 0);
     code = stopped;
-    dv_client_free(client);
+    dv_free(client);
   }
-  dv_server_free(server);
+  dv_free(server);
   return code;
 }
 
@@ -131,8 +130,19 @@ static void refused_lookups(dv_bytes key) {
   CHECK(set_user(text("you"), you, 1) == DV_USER_KNOWN && set_user(text("you"), dv_no_users, 0) == DV_USER_KNOWN);
   CHECK(!tries_password("you", "word"));
   CHECK(set_user(text("nobody"), dv_no_users, 0) == DV_DONE && set_user(text("nobody"), dv_no_users, 0) == DV_USER_KNOWN);
-  dv_server_output(&server, &out);
-  CHECK(out.len == 0 && !dv_server_is_over(&server));
+  dv_output(&server, &out);
+  CHECK(out.len == 0 && !dv_is_over(&server));
+}
+
+/* A client has no users: nothing changes, and no memory is asked for. */
+static void client_gets_no_user(const dv_user *users, size_t count) {
+  dv_bytes before = DV_BYTES_INIT, after = DV_BYTES_INIT;
+  dv_output(&client, &before);
+  left = 0;
+  CHECK(dv_server_set_user(&client, text("me").at, 2, users, count) == DV_WRONG_SIDE && left == 0);
+  left = -1;
+  dv_output(&client, &after);
+  CHECK(before.len == after.len && before.at == after.at && !dv_is_over(&client));
 }
 
 /* Each allocation is refused in turn, and then none: a user who was not set for want of memory is set later. */
@@ -168,13 +178,14 @@ static void lookups(void) {
   refused_lookups((dv_bytes){user_key, 32});
   dv_user me[3] = {{text("me"), text("old word"), DV_LOGIN_PASSWORD}, {text("me"), {user_key, 32}, DV_LOGIN_KEY}, {text("me"), text("word"), DV_LOGIN_PASSWORD}};
   CHECK(ask_client(dv_ask_texts(DV_ASK_LOGIN_NONE, 0, text("me"), false, none), &channel));
+  client_gets_no_user(me, 3);
   set_at_last(text("me"), me, 3);
   memset(me, 0, sizeof me);
   CHECK(!tries_password("me", "no word") && tries_password("me", "word"));
   CHECK(ask_client(dv_ask_texts(DV_ASK_DISCONNECT, 0, none, false, text("done")), &channel));
-  CHECK(set_user(text("he"), dv_no_users, 0) == DV_OVER && dv_server_is_over(&server) && !stopped);
-  dv_client_free(client);
-  dv_server_free(server);
+  CHECK(set_user(text("he"), dv_no_users, 0) == DV_OVER && dv_is_over(&server) && !stopped);
+  dv_free(client);
+  dv_free(server);
   CHECK(held == 0);
 }
 
@@ -228,32 +239,32 @@ static void refusals(void) {
   dv_bytes before = DV_BYTES_INIT, after = DV_BYTES_INIT;
   uint32_t channel = 5;
   size_t used = 9, taken = 9;
-  dv_client_output(&client, &before);
+  dv_output(&client, &before);
   dv_ask ask = dv_ask_on(DV_ASK_SERVICE, 0);
-  CHECK(dv_client_ask(&client, &ask, &channel) == DV_NOT_YET && dv_client_work(&client, &channel) == DV_NOTHING_QUEUED);
+  CHECK(dv_ask_now(&client, &ask, &channel) == DV_NOT_YET && dv_work(&client, &channel) == DV_NOTHING_QUEUED);
   ask.kind = 0;
-  CHECK(dv_client_ask(&client, &ask, &channel) == DV_BAD_ASK && dv_client_queue(&client, &ask) == DV_BAD_ASK);
+  CHECK(dv_ask_now(&client, &ask, &channel) == DV_BAD_ASK && dv_queue(&client, &ask) == DV_BAD_ASK);
   ask.kind = 20;
-  CHECK(dv_client_ask(&client, &ask, &channel) == DV_BAD_ASK);
+  CHECK(dv_ask_now(&client, &ask, &channel) == DV_BAD_ASK);
   ask.kind = DV_ASK_LOGIN_KEY;
-  CHECK(dv_client_ask(&client, &ask, &channel) == DV_NO_KEY && dv_client_queue(&client, &ask) == DV_NO_KEY);
+  CHECK(dv_ask_now(&client, &ask, &channel) == DV_NO_KEY && dv_queue(&client, &ask) == DV_NO_KEY);
   ask = dv_ask_number(DV_ASK_EXTENDED_DATA, 3, 1);
-  CHECK(dv_client_ask(&client, &ask, &channel) != DV_DONE && channel == 5);
-  CHECK(dv_client_send(&client, 3, 0, dv_none, 1, &taken) == DV_NO_CHANNEL && taken == 0);
-  CHECK(dv_client_room(&client, 0) == 0 && dv_client_queued(&client) == 0 && !dv_client_rekey_due(&client));
-  dv_client_output(&client, &after);
-  CHECK(before.len == after.len && !memcmp(before.at, after.at, after.len) && !dv_client_is_over(&client));
+  CHECK(dv_ask_now(&client, &ask, &channel) != DV_DONE && channel == 5);
+  CHECK(dv_send(&client, 3, 0, dv_none, 1, &taken) == DV_NO_CHANNEL && taken == 0);
+  CHECK(dv_room(&client, 0) == 0 && dv_queued(&client) == 0 && !dv_rekey_due(&client));
+  dv_output(&client, &after);
+  CHECK(before.len == after.len && !memcmp(before.at, after.at, after.len) && !dv_is_over(&client));
   dv_event event = DV_EVENT_INIT;
-  CHECK(dv_client_take(&client, dv_none, 0, &used) == DV_DONE && used == 0);
-  dv_client_event(&client, &event);
+  CHECK(dv_take(&client, dv_none, 0, &used) == DV_DONE && used == 0);
+  dv_show_event(&client, &event);
   CHECK(event.kind == DV_NOTHING && event.took == 0);
-  CHECK(dv_client_take(&client, (const uint8_t *)"SSH-1.0-x\r\n", 11, &used) == DV_DONE && used == 11);
-  dv_client_event(&client, &event);
-  CHECK(event.kind == DV_REFUSED && event.number == 2 && is(event.name, "BadVersion") && dv_client_is_over(&client));
-  CHECK(dv_client_take(&client, dv_none, 1, &used) == DV_OVER && used == 0);
+  CHECK(dv_take(&client, (const uint8_t *)"SSH-1.0-x\r\n", 11, &used) == DV_DONE && used == 11);
+  dv_show_event(&client, &event);
+  CHECK(event.kind == DV_REFUSED && event.number == 2 && is(event.name, "BadVersion") && dv_is_over(&client));
+  CHECK(dv_take(&client, dv_none, 1, &used) == DV_OVER && used == 0);
   ask = dv_ask_on(DV_ASK_REKEY, 0);
-  CHECK(dv_client_ask(&client, &ask, &channel) == DV_OVER);
-  dv_client_free(client);
+  CHECK(dv_ask_now(&client, &ask, &channel) == DV_OVER);
+  dv_free(client);
   CHECK(held == 0);
 }
 

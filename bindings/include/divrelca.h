@@ -5,25 +5,26 @@
  *
  * The loop over an end:
  *
- *   while (len) {                                          // bytes came from the peer
+ *   while (len) {                                   // bytes came from the peer
  *     size_t used;
  *     dv_event event = DV_EVENT_INIT;
- *     int32_t code = dv_server_take(&end, at, len, &used); // to the end of one line or one packet and no further
- *     if (code != DV_DONE) break;                          // the end is over
+ *     int32_t code = dv_take(&end, at, len, &used); // to the end of one line or one packet and no further
+ *     if (code != DV_DONE) break;                   // the end is over
  *     at += used; len -= used;
- *     dv_server_event(&end, &event);                       // what that was: look at it now, copy what is needed later
- *     ...                                                  // queue asks; dv_server_decline for what the program does not know
- *     if (dv_server_feed(&end, &fresh)) ...                // draw a fresh pair for the next exchange of keys
- *     if (dv_server_rekey_due(&end)) dv_server_ask(&end, &rekey, &channel);
- *     while (dv_server_queued(&end) && !dv_is_later(dv_server_work(&end, &channel))) {}
+ *     dv_show_event(&end, &event);                  // what that was: look at it now, copy what is needed later
+ *     ...                                           // queue asks; dv_decline for what the program does not know
+ *     if (dv_feed(&end, &fresh)) ...                // draw a fresh pair for the next exchange of keys
+ *     if (dv_rekey_due(&end)) dv_ask_now(&end, &rekey, &channel);
+ *     while (dv_queued(&end) && !dv_is_later(dv_work(&end, &channel))) {}
  *   }
- *   dv_server_output(&end, &bytes);                        // what waits for the peer
+ *   dv_output(&end, &bytes);                        // what waits for the peer
  *   n = write(fd, bytes.at, bytes.len);
- *   dv_server_written(&end, n);
+ *   dv_written(&end, n);
  *
  * POINTERS. The caller owes this, and nothing checks it:
  * - No pointer is null, also where the length is 0: pass dv_none, and begin structs by their _INIT, which point there.
- * - A handle is one that `_new` wrote with DV_DONE and that `_free` did not get. `_free` takes the handle by value and ends it.
+ * - A handle is one that dv_server_new or dv_client_new wrote with DV_DONE and that dv_free did not get. dv_free takes the handle by
+ *   value and ends it.
  * - What a call reads stays the caller's; nothing of it is kept once the call returned. It is none of the bytes that an end shows: copy
  *   the name of an event first. What a call writes through a pointer has room for its type.
  * - A dv_bytes that a call writes is the end's: its bytes stand until the next call on the same end, whichever that is. Those of
@@ -31,7 +32,7 @@
  * - A dv_bytes or dv_event that a call writes over was begun by DV_BYTES_INIT or DV_EVENT_INIT.
  * - A thread that calls has 128 KiB of stack at least.
  *
- * MEMORY. All of it is malloc's, and `_free` gives all memory of an end back. An end holds 153 KiB, and besides what waits to be written
+ * MEMORY. All of it is malloc's, and dv_free gives all memory of an end back. An end holds 153 KiB, and besides what waits to be written
  * and what waits in its queue.
  */
 #ifndef DIVRELCA_H
@@ -44,7 +45,7 @@ extern "C" {
 #endif
 
 /* The version of this header: dv_version() answers that of the library. The first number of both has to be the same. */
-#define DV_VERSION_MAJOR 1
+#define DV_VERSION_MAJOR 2
 #define DV_VERSION_MINOR 0
 #define DV_VERSION ((uint32_t)DV_VERSION_MAJOR << 16 | DV_VERSION_MINOR)
 
@@ -65,7 +66,7 @@ enum dv_code {
   DV_NOTHING_OWED = 8,      /* no request of the peer waits for a reply */
   DV_REKEY_DUE = 9,         /* an exchange of keys comes first: ask for it */
   DV_TOO_MUCH = 10,         /* a window or a packet size is out of its bounds */
-  DV_WRONG_SIDE = 11,       /* it is for the other end */
+  DV_WRONG_SIDE = 11,       /* it is for an end of the other role */
   DV_NO_MATERIAL = 12,      /* no cookie and secret are kept: feed the end */
 
   /* 101 to 104: a setting is not one, and no end is made. */
@@ -105,11 +106,12 @@ enum dv_code {
   DV_NOTHING_QUEUED = 308,  /* no ask waits in the queue */
   DV_USER_KNOWN = 309,      /* a key or a password of this user was asked for already, or the user was set before */
 
-  DV_MEMORY = -1,           /* memory was refused. From `_take`, `_ask`, `_send` and `_work` the end is over; else nothing changed */
+  DV_MEMORY = -1,           /* memory was refused. From dv_take, dv_ask_now, dv_send and dv_work the end is over; else nothing
+                               changed */
   DV_OVER = -2              /* the end is over: nothing is taken and nothing sent */
 };
 
-/* The ask comes too early and is made again after a later `_take` (after DV_REKEY_DUE by way of an ask for DV_ASK_REKEY). */
+/* The ask comes too early and is made again after a later dv_take (after DV_REKEY_DUE by way of an ask for DV_ASK_REKEY). */
 static inline bool dv_is_later(int32_t code) { return code == DV_NOT_YET || code == DV_BUSY || code == DV_REKEY_DUE; }
 /* What the ask was for is gone: the peer closed the channel, or the end is over. */
 static inline bool dv_is_gone(int32_t code) {
@@ -145,10 +147,8 @@ void dv_public_key(const uint8_t seed[32], uint8_t public_key[32]);
 
 /* ---- what ends are made of */
 
-typedef struct dv_server_state dv_server_state;               /* opaque */
-typedef struct dv_client_state dv_client_state;
-typedef struct dv_server { dv_server_state *at; } dv_server;  /* a handle */
-typedef struct dv_client { dv_client_state *at; } dv_client;
+typedef struct dv_end_state dv_end_state;         /* opaque */
+typedef struct dv_end { dv_end_state *at; } dv_end; /* a handle: of a server, or of a client */
 
 /* Random bytes from a good source, each used once: those of one exchange of keys. No two of one end may be the same. */
 typedef struct dv_material { uint8_t cookie[16]; uint8_t secret[32]; } dv_material;
@@ -193,7 +193,7 @@ static const dv_user dv_no_users[1] = {{DV_BYTES_INIT, DV_BYTES_INIT, 0}};
 
 /* ---- events */
 
-/* What was done in the last `_take`. In brackets: which fields of the event mean something besides `kind` and `took`. */
+/* What was done in the last dv_take. In brackets: which fields of the event mean something besides `kind` and `took`. */
 enum dv_kind {
   DV_NOTHING = 0,       /* no whole line or packet yet, or one of which nothing is told */
   DV_REFUSED = 1,       /* the peer is refused, and the end is over [number; name: of the refusal, as "BadTag"] */
@@ -303,65 +303,78 @@ static inline dv_ask dv_ask_window(uint32_t kind, uint32_t channel, dv_bytes nam
   return ask;
 }
 
-/* ---- calls, of a server (E is dv_server) and of a client (dv_client) alike
- *
- * E_new       makes an end that put out its version line and its first KEXINIT. `padding` is random and is used for nothing else. With
- *             DV_DONE the handle is written, and nothing otherwise. 101 to 104, 301 to 305, -1.
- * E_free      gives all memory of the end back.
- * E_take      takes bytes of the peer to the end of one line or one packet and no further: `used` of them, the rest is given again. 0, -1,
- *             -2; `used` is then 0. A peer that is refused is an event (DV_REFUSED), not a code.
- * E_event     shows what the last `_take` did, until the next `_take`, `_ask`, `_work` or `_send`: after one of these three it shows
- *             DV_NOTHING.
- * E_output    shows the bytes that wait for the peer.
- * E_written   says that the first `count` of them were written: they are dropped.
- * E_feed      keeps a fresh pair for the next exchange of keys, or answers false where the end keeps one, or can take no more. Call it after
- *             each `_take`, since the peer may begin an exchange at any time, and draw a fresh pair once it answered true.
- * E_is_over   whether the end is over: it takes nothing and sends nothing. What it put out is still to be written.
- * E_rekey_due whether as many packets were sent under the keys as `epoch_limit` says: ask for DV_ASK_REKEY.
- * E_room      how many bytes of data the peer's window takes on the channel; 0 where it is not confirmed.
- * E_ask       does what is asked for, now, or refuses it. `channel` is written by DV_ASK_OPEN alone: the number of the new channel. 0,
- *             1 to 12, 306, 307, -1, -2.
- * E_queue     puts an ask after those that wait; its bytes are copied. 0, 306, -1. Asks that an exchange of keys holds up wait here, and
- *             keep their order.
- * E_queued    how many asks wait.
- * E_work      makes the oldest ask that waits, and answers as `_ask` does. Where dv_is_later holds of the answer the ask stays where it
- *             is; else it waits no longer, whatever the answer is. DV_NOTHING_QUEUED (308) where none waits.
- * E_decline   queues the answer that the peer is owed for what `_event` shows, where a program does not know what that is about: a channel
- *             is refused as of unknown type, and a request that wants a reply fails, on a channel or global, as OpenSSH's keepalives do. Other
- *             events are owed nothing, and nothing is queued. 0, -1.
- * E_send      sends as much data as the peer's window, its largest packet and 32,768 bytes allow, in one packet: the first `taken` bytes.
- *             `stream` 0 is data, any other number extended data of that kind. Where nothing fits `taken` is 0 and the code 0: go on after
- *             DV_ADJUSTED. As `_ask` otherwise, with `taken` 0.
- * E_consume   says that so many bytes of data that came on the channel are done with. Once half of the window is, an ask that gives them
- *             back is queued. 0, 3 where the number is none of a channel, -1 (nothing is lost: the next call queues it).
- */
-#define DV_EACH(E) \
-  int32_t E##_new(E *end, const E##_settings *settings, const dv_material *first, const uint8_t padding[32]); \
-  void E##_free(E end); \
-  int32_t E##_take(E *end, const uint8_t *bytes, size_t len, size_t *used); \
-  void E##_event(E *end, dv_event *event); \
-  void E##_output(E *end, dv_bytes *bytes); \
-  void E##_written(E *end, size_t count); \
-  bool E##_feed(E *end, const dv_material *material); \
-  bool E##_is_over(E *end); \
-  bool E##_rekey_due(E *end); \
-  uint32_t E##_room(E *end, uint32_t channel); \
-  int32_t E##_ask(E *end, const dv_ask *ask, uint32_t *channel); \
-  int32_t E##_queue(E *end, const dv_ask *ask); \
-  size_t E##_queued(E *end); \
-  int32_t E##_work(E *end, uint32_t *channel); \
-  int32_t E##_decline(E *end); \
-  int32_t E##_send(E *end, uint32_t channel, uint32_t stream, const uint8_t *body, size_t len, size_t *taken); \
-  int32_t E##_consume(E *end, uint32_t channel, size_t bytes);
-DV_EACH(dv_server)
-DV_EACH(dv_client)
-#undef DV_EACH
+/* ---- calls: the numbers at the end of a comment are the codes that the call answers, of enum dv_code */
+
+/* Makes a server that put out its version line and its first KEXINIT. `padding` is random and is used for nothing else. With DV_DONE the
+ * handle is written, and nothing otherwise. 0, 101 to 104, 301 to 305, -1. */
+int32_t dv_server_new(dv_end *end, const dv_server_settings *settings, const dv_material *first, const uint8_t padding[32]);
+
+/* The same of a client. */
+int32_t dv_client_new(dv_end *end, const dv_client_settings *settings, const dv_material *first, const uint8_t padding[32]);
+
+/* Gives all memory of the end back. */
+void dv_free(dv_end end);
+
+/* Takes bytes of the peer to the end of one line or one packet and no further: `used` of them, the rest is given again. A peer that is
+ * refused is an event (DV_REFUSED), not a code. 0, -1, -2; `used` is 0 with any code but 0. */
+int32_t dv_take(dv_end *end, const uint8_t *bytes, size_t len, size_t *used);
+
+/* Shows what the last dv_take did, until the next dv_take, dv_ask_now, dv_work or dv_send: after one of these three it shows DV_NOTHING. */
+void dv_show_event(dv_end *end, dv_event *event);
+
+/* Shows the bytes that wait for the peer. */
+void dv_output(dv_end *end, dv_bytes *bytes);
+
+/* Says that the first `count` of them were written: they are dropped. */
+void dv_written(dv_end *end, size_t count);
+
+/* Keeps a fresh pair for the next exchange of keys, or answers false where the end keeps one, or can take no more. Call it after each
+ * dv_take, since the peer may begin an exchange at any time, and draw a fresh pair once it answered true. */
+bool dv_feed(dv_end *end, const dv_material *material);
+
+/* Whether the end is over: it takes nothing and sends nothing. What it put out is still to be written. */
+bool dv_is_over(dv_end *end);
+
+/* Whether as many packets were sent under the keys as `epoch_limit` says: ask for DV_ASK_REKEY. */
+bool dv_rekey_due(dv_end *end);
+
+/* How many bytes of data the peer's window takes on the channel; 0 where it is not confirmed. */
+uint32_t dv_room(dv_end *end, uint32_t channel);
+
+/* Does what is asked for, now, or refuses it. `channel` is written by DV_ASK_OPEN alone: the number of the new channel. 0, 1 to 12, 306,
+ * 307, -1, -2. */
+int32_t dv_ask_now(dv_end *end, const dv_ask *ask, uint32_t *channel);
+
+/* Puts an ask after those that wait; its bytes are copied. Asks that an exchange of keys holds up wait here, and keep their order. 0, 306,
+ * 307, -1. */
+int32_t dv_queue(dv_end *end, const dv_ask *ask);
+
+/* How many asks wait. */
+size_t dv_queued(dv_end *end);
+
+/* Makes the oldest ask that waits, and answers as dv_ask_now does. Where dv_is_later holds of the answer the ask stays where it is; else it
+ * waits no longer, whatever the answer is. 308 (DV_NOTHING_QUEUED) where none waits. */
+int32_t dv_work(dv_end *end, uint32_t *channel);
+
+/* Queues the answer that the peer is owed for what dv_show_event shows, where a program does not know what that is about: a channel is
+ * refused as of unknown type, and a request that wants a reply fails, on a channel or global, as OpenSSH's keepalives do. Other events are
+ * owed nothing, and nothing is queued. 0, -1. */
+int32_t dv_decline(dv_end *end);
+
+/* Sends as much data as the peer's window, its largest packet and 32,768 bytes allow, in one packet: the first `taken` bytes. `stream` 0 is
+ * data, any other number extended data of that kind. Where nothing fits `taken` is 0 and the code 0: go on after DV_ADJUSTED. As dv_ask_now
+ * otherwise, with `taken` 0. */
+int32_t dv_send(dv_end *end, uint32_t channel, uint32_t stream, const uint8_t *body, size_t len, size_t *taken);
+
+/* Says that so many bytes of data that came on the channel are done with. Once half of the window is, an ask that gives them back is
+ * queued. 0, 3 where the number is none of a channel, -1 (nothing is lost: the next call queues it). */
+int32_t dv_consume(dv_end *end, uint32_t channel, size_t bytes);
 
 /* ---- users who are looked up by name
  *
  * Gives a server the keys and passwords of one user, after those that it has. Each entry has this name, of whom the server may have
- * entries already. Without entries (dv_no_users, 0) nobody is let in by this call. All is copied; nothing is put out, and `_event` shows
- * what it showed before.
+ * entries already. Without entries (dv_no_users, 0) nobody is let in by this call. All is copied; nothing is put out, and
+ * dv_show_event shows what it showed before.
  *
  * A user is set once, and before a key or a password of that name is asked for, whatever became of it. Later it is refused (309), so that
  * the same request always has the same answer. Where memory is refused for a name that is asked for, every later call is refused too. The
@@ -369,13 +382,14 @@ DV_EACH(dv_client)
  *
  *   if (event.kind == DV_TRIED && event.name.len && event.data.len == 4 && !memcmp(event.data.at, "none", 4)) {
  *     ...                                                // copy event.name, which is the end's, and look the user up
- *     code = dv_server_set_user(&end, name, len, users, users_len); // before the next _take; 309 and -2 can be left
+ *     code = dv_server_set_user(&end, name, len, users, users_len); // before the next dv_take; 309 and -2 can be left
  *   }
  *
  * A client that begins by a key or a password, as paramiko, is judged by the users that the server has then: those of the settings.
  *
- * 0; 302 and 303 of an entry, also where its name is another; 303 where the name has no bytes; 309; -1; -2. With any code but 0 nothing changed. */
-int32_t dv_server_set_user(dv_server *end, const uint8_t *name, size_t len, const dv_user *users, size_t users_len);
+ * 0; 11 (DV_WRONG_SIDE) of a client's end; 302 and 303 of an entry, also where its name is another; 303 where the name has no bytes; 309;
+ * -1; -2. With any code but 0 nothing changed. */
+int32_t dv_server_set_user(dv_end *end, const uint8_t *name, size_t len, const dv_user *users, size_t users_len);
 
 #ifdef __cplusplus
 }

@@ -64,9 +64,7 @@ class End:
     """What both ends have in common. Nothing is read or written. A call holds the end's lock, so that threads may share one, and a call on a closed end is a
     ValueError. Random bytes come from `draw`, which answers as many as it is asked for, and each once."""
 
-    def __init__(self, prefix, settings, draw):
-        self._calls = {}
-        self._prefix = prefix
+    def __init__(self, new, settings, draw):
         self._handle = library.Handle()
         self._is_open = False
         self._lock = threading.RLock()
@@ -74,7 +72,7 @@ class End:
         self._waiting = collections.deque()
         padding = draw(32)
         self._fresh = draw(48)
-        check(self._function("new")(self._handle, settings, self._fresh, padding))
+        check(new(self._handle, settings, self._fresh, padding))
         self._is_open = True
         self._fresh = draw(48)
 
@@ -88,26 +86,21 @@ class End:
         if getattr(self, "_is_open", False):
             self.close()
 
-    def _function(self, name):
-        if name not in self._calls:
-            self._calls[name] = getattr(LIBRARY, f"{self._prefix}_{name}")
-        return self._calls[name]
-
-    def _call(self, name, *words):
+    def _call(self, function, *words):
         if not self._is_open:
             raise ValueError("the end is closed")
-        return self._function(name)(self._handle, *words)
+        return function(self._handle, *words)
 
     def close(self):
         """Gives all memory of the end back. A second call does nothing."""
         with self._lock:
             if self._is_open:
                 self._is_open = False
-                self._function("free")(self._handle)
+                LIBRARY.dv_free(self._handle)
 
     def _take(self, address, count):
         used = ctypes.c_size_t()
-        check(self._call("take", address, count, used))
+        check(self._call(LIBRARY.dv_take, address, count, used))
         return used.value
 
     def take(self, data):
@@ -120,7 +113,7 @@ class End:
         """What the last `take` did, until the next `take`, `ask`, `work` or `send`."""
         with self._lock:
             shown = library.Event(name=library.none(), data=library.none())
-            self._call("event", shown)
+            self._call(LIBRARY.dv_show_event, shown)
             numbers = (shown.channel, shown.window, shown.max_packet, shown.number, shown.took)
             return Event(Kind(shown.kind), *numbers, shown.flag, shown.extended, shown.name.copied(), shown.data.copied())
 
@@ -140,11 +133,11 @@ class End:
     def go_on(self):
         """Feeds the end a fresh pair where it takes one, asks for an exchange of keys where one is due, and makes the asks that wait."""
         with self._lock:
-            if self._call("feed", self._fresh):
+            if self._call(LIBRARY.dv_feed, self._fresh):
                 self._fresh = self._draw(48)
             if self.rekey_due:
                 held, channel = Held(), ctypes.c_uint32()
-                code = self._call("ask", Ask(AskKind.REKEY)._in_c(held), channel)
+                code = self._call(LIBRARY.dv_ask_now, Ask(AskKind.REKEY)._in_c(held), channel)
                 if code == Code.MEMORY:
                     check(code)
             self.work()
@@ -154,42 +147,42 @@ class End:
         if len(cookie) != 16 or len(secret) != 32:
             raise ValueError("a cookie has 16 bytes and a secret 32")
         with self._lock:
-            return self._call("feed", bytes(cookie) + bytes(secret))
+            return self._call(LIBRARY.dv_feed, bytes(cookie) + bytes(secret))
 
     @property
     def is_over(self):
         """Whether the end takes nothing and sends nothing. What it put out is still to be written."""
         with self._lock:
-            return self._call("is_over")
+            return self._call(LIBRARY.dv_is_over)
 
     @property
     def rekey_due(self):
         """Whether as many packets were sent under the keys as `epoch_limit` says."""
         with self._lock:
-            return self._call("rekey_due")
+            return self._call(LIBRARY.dv_rekey_due)
 
     def room(self, channel):
         """How many bytes of data the peer's window takes on the channel; 0 where it is not confirmed."""
         with self._lock:
-            return self._call("room", channel)
+            return self._call(LIBRARY.dv_room, channel)
 
     def output(self):
         """The bytes that wait for the peer, copied."""
         with self._lock:
             shown = library.none()
-            self._call("output", shown)
+            self._call(LIBRARY.dv_output, shown)
             return shown.copied()
 
     def written(self, count):
         """Says that the first `count` bytes of the output were written: they are dropped."""
         with self._lock:
-            self._call("written", count)
+            self._call(LIBRARY.dv_written, count)
 
     def ask(self, ask):
         """Does what is asked for, now, and returns the number of the channel that it opens, else None. `AskRefused`, `BadArgument`, `NoMemory`, `Over`."""
         held, channel = Held(), ctypes.c_uint32()
         with self._lock:
-            check(self._call("ask", ask._in_c(held), channel))
+            check(self._call(LIBRARY.dv_ask_now, ask._in_c(held), channel))
         return channel.value if ask.kind == AskKind.OPEN else None
 
     def queue(self, ask, done=None):
@@ -197,21 +190,21 @@ class End:
         `channel` the number of the channel that it opened. `BadArgument`, `NoMemory`."""
         held = Held()
         with self._lock:
-            check(self._call("queue", ask._in_c(held)))
+            check(self._call(LIBRARY.dv_queue, ask._in_c(held)))
             self._waiting.append((ask.kind, done))
 
     @property
     def queued(self):
         """How many asks wait."""
         with self._lock:
-            return self._call("queued")
+            return self._call(LIBRARY.dv_queued)
 
     def work(self):
         """Makes the asks that wait, in their order, until one comes too early. `NoMemory`, after which the end is over."""
         with self._lock:
-            while self._call("queued"):
+            while self._call(LIBRARY.dv_queued):
                 channel = ctypes.c_uint32()
-                code = self._call("work", channel)
+                code = self._call(LIBRARY.dv_work, channel)
                 if is_later(code):
                     return
                 kind, done = self._waiting.popleft()
@@ -220,28 +213,28 @@ class End:
                 if code == Code.MEMORY:
                     check(code)
 
-    def _queueing(self, name, *words):
-        code = self._call(name, *words)
-        while len(self._waiting) < self._call("queued"):
+    def _queueing(self, function, *words):
+        code = self._call(function, *words)
+        while len(self._waiting) < self._call(LIBRARY.dv_queued):
             self._waiting.append((None, None))
         check(code)
 
     def decline(self):
         """Queues the answer that the peer is owed for what `event` shows, where a program does not know what that is about. `NoMemory`."""
         with self._lock:
-            self._queueing("decline")
+            self._queueing(LIBRARY.dv_decline)
 
     def consume(self, channel, count):
         """Says that so many bytes of data that came on the channel are done with. Once half of the window is, an ask that gives them back is queued."""
         with self._lock:
-            self._queueing("consume", channel, count)
+            self._queueing(LIBRARY.dv_consume, channel, count)
 
     def send(self, channel, data, stream=0):
         """Sends as much data as window and packet allow, at most 32,768 bytes, and returns how many: 0 where nothing fits. `stream` 0 is data, any other number
         extended data of that kind. Errors as those of `ask`."""
         taken = ctypes.c_size_t()
         with self._lock:
-            check(self._call("send", channel, stream, bytes(data), len(data), taken))
+            check(self._call(LIBRARY.dv_send, channel, stream, bytes(data), len(data), taken))
         return taken.value
 
 
@@ -272,7 +265,7 @@ class ServerEnd(End):
         held, users = Held(), list(users)
         size = ctypes.sizeof(library.ServerSettings)
         texts, rows = (held.bytes(software), held.bytes(host_seed)), _rows(held, users)
-        super().__init__("dv_server", library.ServerSettings(size, *texts, rows, len(users), epoch_limit, tries, methods, ciphers), draw)
+        super().__init__(LIBRARY.dv_server_new, library.ServerSettings(size, *texts, rows, len(users), epoch_limit, tries, methods, ciphers), draw)
 
     def set_user(self, name, keys=(), passwords=(), *, users=()):
         """Sets what lets the user of this name in, besides what the server has: public keys, passwords, and `User`s of this name. Without any of them nobody
@@ -284,7 +277,7 @@ class ServerEnd(End):
         held = Held()
         rows = _rows(held, entries)
         with self._lock:
-            check(self._call("set_user", bytes(name), len(name), rows, len(entries)))
+            check(self._call(LIBRARY.dv_server_set_user, bytes(name), len(name), rows, len(entries)))
 
 
 class ClientEnd(End):
@@ -295,4 +288,4 @@ class ClientEnd(End):
         held = Held()
         size = ctypes.sizeof(library.ClientSettings)
         texts = held.bytes(software), held.bytes(host_key), held.bytes(user_seed)
-        super().__init__("dv_client", library.ClientSettings(size, *texts, epoch_limit, ciphers), draw)
+        super().__init__(LIBRARY.dv_client_new, library.ClientSettings(size, *texts, epoch_limit, ciphers), draw)

@@ -8,7 +8,7 @@ import os
 import pathlib
 from ctypes import POINTER, c_bool, c_int32, c_size_t, c_uint8, c_uint32, c_void_p
 
-MAJOR = 1
+MAJOR = 2
 
 
 class Bytes(ctypes.Structure):
@@ -22,7 +22,7 @@ class Bytes(ctypes.Structure):
 
 
 class Handle(ctypes.Structure):
-    """dv_server, dv_client."""
+    """dv_end."""
 
     _fields_ = [("at", c_void_p)]
 
@@ -114,9 +114,7 @@ def loaded():
     declare(library, "dv_authorized_key", c_int32, c_void_p, c_size_t, c_size_t, key, number, number)
     declare(library, "dv_known_host", c_int32, c_void_p, c_size_t, c_void_p, c_size_t, key, number)
     declare(library, "dv_public_key", None, key, key)
-    declare_end(library, "dv_server", ServerSettings)
-    declare_end(library, "dv_client", ClientSettings)
-    declare(library, "dv_server_set_user", c_int32, POINTER(Handle), c_void_p, c_size_t, POINTER(User), c_size_t)
+    declare_ends(library)
     return library
 
 
@@ -127,26 +125,28 @@ def declare(library, name, answer, *words):
     call.argtypes = words
 
 
-def declare_end(library, name, settings):
-    """The calls of one end."""
+def declare_ends(library):
+    """The calls of ends."""
     end = POINTER(Handle)
-    declare(library, f"{name}_new", c_int32, end, POINTER(settings), c_void_p, c_void_p)
-    declare(library, f"{name}_free", None, Handle)
-    declare(library, f"{name}_take", c_int32, end, c_void_p, c_size_t, POINTER(c_size_t))
-    declare(library, f"{name}_event", None, end, POINTER(Event))
-    declare(library, f"{name}_output", None, end, POINTER(Bytes))
-    declare(library, f"{name}_written", None, end, c_size_t)
-    declare(library, f"{name}_feed", c_bool, end, c_void_p)
-    declare(library, f"{name}_is_over", c_bool, end)
-    declare(library, f"{name}_rekey_due", c_bool, end)
-    declare(library, f"{name}_room", c_uint32, end, c_uint32)
-    declare(library, f"{name}_ask", c_int32, end, POINTER(Ask), POINTER(c_uint32))
-    declare(library, f"{name}_queue", c_int32, end, POINTER(Ask))
-    declare(library, f"{name}_queued", c_size_t, end)
-    declare(library, f"{name}_work", c_int32, end, POINTER(c_uint32))
-    declare(library, f"{name}_decline", c_int32, end)
-    declare(library, f"{name}_send", c_int32, end, c_uint32, c_uint32, c_void_p, c_size_t, POINTER(c_size_t))
-    declare(library, f"{name}_consume", c_int32, end, c_uint32, c_size_t)
+    declare(library, "dv_server_new", c_int32, end, POINTER(ServerSettings), c_void_p, c_void_p)
+    declare(library, "dv_client_new", c_int32, end, POINTER(ClientSettings), c_void_p, c_void_p)
+    declare(library, "dv_free", None, Handle)
+    declare(library, "dv_take", c_int32, end, c_void_p, c_size_t, POINTER(c_size_t))
+    declare(library, "dv_show_event", None, end, POINTER(Event))
+    declare(library, "dv_output", None, end, POINTER(Bytes))
+    declare(library, "dv_written", None, end, c_size_t)
+    declare(library, "dv_feed", c_bool, end, c_void_p)
+    declare(library, "dv_is_over", c_bool, end)
+    declare(library, "dv_rekey_due", c_bool, end)
+    declare(library, "dv_room", c_uint32, end, c_uint32)
+    declare(library, "dv_ask_now", c_int32, end, POINTER(Ask), POINTER(c_uint32))
+    declare(library, "dv_queue", c_int32, end, POINTER(Ask))
+    declare(library, "dv_queued", c_size_t, end)
+    declare(library, "dv_work", c_int32, end, POINTER(c_uint32))
+    declare(library, "dv_decline", c_int32, end)
+    declare(library, "dv_send", c_int32, end, c_uint32, c_uint32, c_void_p, c_size_t, POINTER(c_size_t))
+    declare(library, "dv_consume", c_int32, end, c_uint32, c_size_t)
+    declare(library, "dv_server_set_user", c_int32, end, c_void_p, c_size_t, POINTER(User), c_size_t)
 
 
 LIBRARY = loaded()

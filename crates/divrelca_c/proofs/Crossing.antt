@@ -27,6 +27,7 @@ use Rattle.ssh_end.specs.declared.role.EndRole
 use Rattle.ssh_end.specs.contracts.layers.stack.Layers as layers
 use Rattle.ssh_parts.specs.contracts.packet_key.PacketKey as packet_key
 use Rattle.divrelca.specs.contracts.keys.PaddingSource as padding
+use Rattle.ssh_embedded.specs.contracts.any_end.AnyEnd as any_end
 use Rattle.ssh_embedded.specs.contracts.embedded.Embedded as embedded
 use Rattle.ssh_embedded.specs.contracts.noted.Noted as noted
 use Rattle.ssh_embedded.specs.contracts.users.Users as users
@@ -34,7 +35,7 @@ use Rattle.ssh_embedded.specs.contracts.waiting.Waiting as waiting
 use Rattle.ssh_embedded.specs.contracts.client.Client as client
 use Rattle.ssh_embedded.specs.contracts.server.Server as server
 use Rattle.divrelca_c.proofs.Handling.{Handle}
-use Rattle.divrelca_c.proofs.Roles as roles
+use Rattle.divrelca_c.proofs.EndHandle.{end_handle}
 
 line_reader_send : IsSend line_reader.the_row
 line_reader_send = search (sendable, crosses) depth 40 fits 20000
@@ -106,15 +107,14 @@ handle_send K s = record {
   leaving = λ k h w. subst Keyless (sym (K.silent k h w)) tt;
 }
 
--- ---- the two handles
+server_send : IsSend (server.the_field).row
+server_send = search (sendable, crosses, embedded_send, key_send, padding_send, users_send) depth 100 fits 50000
 
-pub server_send : IsSend roles.server.row
-server_send =
-    let send : IsSend server.the_row =
-    search (sendable, crosses, embedded_send, key_send, padding_send, users_send) depth 100 fits 50000 in
-    handle_send roles.server send
+client_send : IsSend (client.the_field).row
+client_send = search (sendable, crosses, embedded_send, key_send, padding_send) depth 100 fits 50000
 
-pub client_send : IsSend roles.client.row
-client_send =
-    let send : IsSend client.the_row = search (sendable, crosses, embedded_send, key_send, padding_send) depth 100 fits 50000 in
-    handle_send roles.client send
+any_end_send : IsSend any_end.the_row
+any_end_send = search (sendable, crosses, server_send, client_send) depth 100 fits 50000
+
+pub end_handle_send : IsSend end_handle.row
+end_handle_send = handle_send end_handle any_end_send

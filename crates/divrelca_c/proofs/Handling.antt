@@ -1,9 +1,10 @@
--- A handle of either role, as the box that it was made of. A role shows its end's laws, and the rest by `refl` at its rows (`Roles.antt`).
+-- A handle, as the box that it was made of. What is proved of it asks for its end's laws; the rest holds by `refl` at its rows
+-- (`EndHandle.antt`).
 --     at_heap                a value in a box of the heap
 --     alloc_ty, owner_ty     the MIR type of the heap's allocator, and of a struct of a pointer and that allocator
 --     box_ty                 that of a box
 --     compiled, copies       a function of one parameter in MIR, and a local that is set to what lies at a path
---     Handle                 what a role shows:
+--     Handle                 what is asked of it:
 --         end, laws, lives           an end's row, which names no lifetime
 --         boxes, lies                a box of an end, and an end in memory, are at that row what they are at a type parameter
 --         name, row, mir             the handle's struct

@@ -1,7 +1,7 @@
 pub mod Boxing
+pub mod EndHandle
 pub mod HandleWalks
 pub mod Handling
-pub mod Roles
 mod Known
 mod Named
 mod NewEnds

@@ -1,26 +1,18 @@
--- The users of a server that were made of entries that C passes, and a server that gets them.
+-- The users of a server that were made of entries that C passes, and the code of setting them.
 use Rattle.std.proofs.Common.{◌≡◌, ◌∙◌, ℕ, ℤ, Bool, Err, Ok, Result, ap, false, pos, refl, true, List, [], ◌∷◌, All, map, subst, sym}
 use Rattle.std.proofs.lemmas.Cmp.{nat_list_eq_equiv}
 use Rattle.std.proofs.lemmas.List.Elements.{All-cons, All-head, All-map, All-nil, All-tail, All-weaker}
 use Rattle.std.proofs.lemmas.List.Sums.{AllPass-from_list_all}
 use Rattle.std.specs.Cmp.Lexicographic.{same_text}
 use Rattle.std.specs.List.{list_all}
-use Rattle.ssh_model.specs.Laws.Verdicts.{judged_by}
-use Rattle.ssh_model.specs.Protocol.Sessions.Items.{Item}
-use Rattle.ssh_model.specs.Protocol.Sessions.Parties.{Parties}
 use Rattle.ssh_model.specs.Protocol.Wire.MacOnly.{is_text}
-use Rattle.ssh_model.specs.State.TransportLayer.Kept.{ExchangeParts}
-use Rattle.ssh_end.specs.Stands.{ServerStandsAt}
-use Rattle.ssh_parts.specs.AesGcm.{aes_gcm}
-use Rattle.ssh_parts.specs.declared.packet_key.PacketKey.{PacketKey}
-use Rattle.ssh_embedded.specs.Asked.{AreNoted}
-use Rattle.ssh_embedded.specs.Users.{entry_of, verdicts_for}
-use Rattle.ssh_embedded.specs.declared.server.Server.{Server}
+use Rattle.ssh_embedded.specs.Users.{entry_of}
 use Rattle.ssh_embedded.specs.declared.users.Login.{Login}
 use Rattle.ssh_embedded.specs.declared.users.User.{User}
 use Rattle.ssh_embedded.specs.declared.server.UserFault.{UserFault}
 use Rattle.divrelca_c.specs.Codes.{user_code}
 use Rattle.divrelca_c.specs.Making.{entry_by}
+use Rattle.divrelca_c.specs.Users.{AreOf}
 use Rattle.divrelca_c.specs.declared.bytes.DvUser.{DvUser}
 
 -- what holds of the images holds of what they are images of
@@ -31,7 +23,7 @@ unmapped P f (y ∷ ys) all =
 
 -- Where the users have this name, the entries have it.
 pub entries_named : (name : List ℕ) (users : List User) (given : List DvUser) → map entry_of users ≡ map entry_by given →
-    list_all (λ user. is_text user.name.items name) users ≡ true → All (λ user. user.name.now ≡ name) given
+    list_all (λ user. is_text user.name.items name) users ≡ true → AreOf name given
 entries_named name users given made named =
     let IsNamed : List ℕ × Login → Type 0 = λ entry. entry.0 ≡ name in
     let are = All-weaker (λ (user : User). is_text user.name.items name ≡ true) (λ user. user.name.items ≡ name)
@@ -39,21 +31,9 @@ entries_named name users given made named =
     (AllPass-from_list_all (λ user. is_text user.name.items name) users named) in
     unmapped IsNamed entry_by given (subst (All IsNamed) made (All-map IsNamed entry_of users are))
 
--- Where a server stands with its users, it stands with those of another one, if all whose key or password it was asked for are noted.
-abbrev StandsOn : (old new : Server) → Type 0
-StandsOn old new = (p : Parties PacketKey) (parts : ExchangeParts) (history : List Item) →
-    ServerStandsAt p aes_gcm parts (verdicts_for old.state.end.role.user.list.items) history old.state.end.machine old.state.end.layers →
-    AreNoted history old.state.noted →
-    ServerStandsAt (judged_by (verdicts_for new.state.end.role.user.list.items) p) aes_gcm parts
-    (verdicts_for new.state.end.role.user.list.items) history new.state.end.machine new.state.end.layers
-
--- the same of the server behind the handle, which is that on loan
-pub stands_on : (old lent new : Server) → lent ≡ old → StandsOn lent new → StandsOn old new
-stands_on old lent new same stands = subst (λ it. StandsOn it new) same stands
-
 -- Where the entries have this name, the users have it.
 pub users_named : (name : List ℕ) (users : List User) (given : List DvUser) → map entry_of users ≡ map entry_by given →
-    All (λ user. user.name.now ≡ name) given → list_all (λ user. is_text user.name.items name) users ≡ true
+    AreOf name given → list_all (λ user. is_text user.name.items name) users ≡ true
 users_named name users given made named =
     let IsNamed : List ℕ × Login → Type 0 = λ entry. entry.0 ≡ name in
     let are = unmapped IsNamed entry_of users (subst (All IsNamed) (sym made) (All-map IsNamed entry_by given named)) in
@@ -67,7 +47,7 @@ users_named name users given made named =
 
 -- Where not all entries have it, not all users have it.
 pub users_of_another : (name : List ℕ) (users : List User) (given : List DvUser) → map entry_of users ≡ map entry_by given →
-    (All (λ user. user.name.now ≡ name) given → ⊥) → list_all (λ user. is_text user.name.items name) users ≡ false
+    (AreOf name given → ⊥) → list_all (λ user. is_text user.name.items name) users ≡ false
 users_of_another name users given made other = by (list_all (λ user. is_text user.name.items name) users) refl
   where
     by : (b : Bool) → list_all (λ user. is_text user.name.items name) users ≡ b → b ≡ false

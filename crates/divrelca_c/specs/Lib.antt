@@ -1,7 +1,9 @@
 pub mod Asks
 pub mod Calls
 pub mod Codes
+pub mod Ends
 pub mod Events
 pub mod Files
 pub mod Handles
 pub mod Making
+pub mod Users

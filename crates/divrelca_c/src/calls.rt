@@ -1,11 +1,15 @@
-//! What the calls of C do on an end, whichever role it has.
+//! What the calls of C do on an end, whichever role it has, and on a server.
 
 ghost use Rattle.std.specs.Prelude.{◌≡◌};
 ghost use Rattle.divrelca_c.specs.Calls.{AsksNow, Consumes, Declines, Feeds, Queues, Sends, Takes, Works, Writes};
+ghost use Rattle.divrelca_c.specs.Users.{SetsUser};
 
-use crate::bytes::{DvBytes, DvMaterial};
-use crate::codes::{DONE, MEMORY, NOTHING_QUEUED, answer, code_form, code_of, code_taken};
-use ssh_embedded::{AskForm, Embedded, Waiting};
+use crate::bytes::{DvBytes, DvMaterial, DvUser};
+use crate::codes::{
+    DONE, MEMORY, NOTHING_QUEUED, answer, code_form, code_of, code_taken, code_user,
+};
+use crate::making::users_in;
+use ssh_embedded::{AskForm, Embedded, Server, Waiting};
 use ssh_end::EndRole;
 use ssh_packet::{Filler, Sealing};
 use ssh_transport::Role;
@@ -126,5 +130,19 @@ pub fn consume<R: EndRole>(end: &mut Embedded<R>, channel: u32, bytes: usize) ->
     match end.consume(channel, bytes) {
         Ok(()) => DONE,
         Err(_) => MEMORY,
+    }
+}
+
+/// Gives a server the keys and passwords of one user.
+pub fn set_user(alloc: Global, server: &mut Server, name: &[u8], users: &[DvUser<'_>]) -> i32
+    ensures { SetsUser name.now users.now result server.old server.new }
+{
+    let given = match users_in(alloc, users) {
+        Ok(given) => given,
+        Err(code) => return code,
+    };
+    match server.set_user(alloc, name, given) {
+        Ok(()) => DONE,
+        Err(fault) => code_user(fault),
     }
 }

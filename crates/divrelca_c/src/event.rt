@@ -10,8 +10,7 @@ use ssh_end::{Told, Took, Turn};
 use ssh_message::{Message, Method};
 use ssh_types::Refusal;
 
-/// What was done in the last call of `dv_server_take` or `dv_client_take`. Which fields mean something depends on `kind`; the others are 0,
-/// false and no bytes.
+/// What was done in the last call of `dv_take`. Which fields mean something depends on `kind`; the others are 0, false and no bytes.
 #[repr(C)]
 #[derive(Clone, Copy, Drop)]
 pub struct DvEvent<'a> {

@@ -4,11 +4,10 @@
 
 pub mod bytes;
 mod calls;
-pub mod client;
 mod codes;
+pub mod ends;
 mod event;
 pub mod handle;
 pub mod keys;
 mod making;
 pub mod names;
-pub mod server;

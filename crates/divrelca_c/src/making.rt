@@ -1,7 +1,8 @@
 //! What C passes for a new end, and the end that is made of it.
 
 ghost use Rattle.std.specs.Prelude.{◌≡◌, ◌++◌, All, IfErr, IfOk, [], ◌∷◌, length, map, negsuc, pos};
-ghost use Rattle.divrelca_c.specs.Making.{IsChoice, IsClientOf, IsEntry, IsLogin, IsServerOf, IsTaken};
+ghost use Rattle.divrelca_c.specs.Ends.{IsNewClient, IsNewServer};
+ghost use Rattle.divrelca_c.specs.Making.{IsChoice, IsEntry, IsLogin, IsTaken};
 ghost use Rattle.divrelca_c.specs.Making.{ciphers_by, entry_by, login_by, material_by, methods_by, user_by};
 ghost use Rattle.ssh_embedded.specs.Users.{entry_of};
 ghost use Rattle.ssh_parts.specs.Ed25519.{signer_of};
@@ -10,7 +11,7 @@ use crate::bytes::{DvClientSettings, DvMaterial, DvServerSettings, DvUser};
 use crate::codes::{BAD_CIPHERS, BAD_KEY, BAD_LOGIN, BAD_METHODS, BAD_SIZE, MEMORY, code_made};
 use divrelca::{Ciphers, PasswordHash};
 use ssh_embedded::{
-    Client, ClientSettings, Login, Material, Methods, Server, ServerSettings, Users,
+    AnyEnd, Client, ClientSettings, Login, Material, Methods, Server, ServerSettings, Users,
 };
 use ssh_parts::Ed25519Signer;
 use std::alloc::Global;
@@ -161,7 +162,7 @@ fn material_in(first: &DvMaterial, padding: &[u8; 32]) -> Material
 }
 
 // An end in a box of its own.
-fn boxed<E: Drop>(alloc: Global, end: E) -> Result<Box<E, Global>, i32>
+fn boxed(alloc: Global, end: AnyEnd) -> Result<Box<AnyEnd, Global>, i32>
     ensures value { IfOk result (λ made. made.value ≡ end) }
     ensures fails { IfErr result (λ code. code ≡ pos 0 → ⊥) }
 {
@@ -181,8 +182,8 @@ pub fn server_in(
     given: &DvServerSettings<'_>,
     first: &DvMaterial,
     padding: &[u8; 32],
-) -> Result<Box<Server, Global>, i32>
-    ensures made { IfOk result (λ made. IsServerOf given.now (material_by first.now padding.now) made.value) }
+) -> Result<Box<AnyEnd, Global>, i32>
+    ensures made { IfOk result (λ made. IsNewServer given.now (material_by first.now padding.now) made.value) }
     ensures fails { IfErr result (λ code. code ≡ pos 0 → ⊥) }
 {
     if given.size != SERVER_SETTINGS {
@@ -198,7 +199,7 @@ pub fn server_in(
     };
     let users = users_in(alloc, given.users)?;
     match Server::new(alloc, &settings, users, material_in(first, padding)) {
-        Ok(server) => boxed(alloc, server),
+        Ok(server) => boxed(alloc, AnyEnd::Server(server)),
         Err(error) => Err(code_made(error)),
     }
 }
@@ -216,8 +217,8 @@ pub fn client_in(
     given: &DvClientSettings<'_>,
     first: &DvMaterial,
     padding: &[u8; 32],
-) -> Result<Box<Client, Global>, i32>
-    ensures made { IfOk result (λ made. IsClientOf given.now (material_by first.now padding.now) made.value) }
+) -> Result<Box<AnyEnd, Global>, i32>
+    ensures made { IfOk result (λ made. IsNewClient given.now (material_by first.now padding.now) made.value) }
     ensures fails { IfErr result (λ code. code ≡ pos 0 → ⊥) }
 {
     if given.size != CLIENT_SETTINGS {
@@ -232,7 +233,7 @@ pub fn client_in(
         user,
     };
     match Client::new(alloc, &settings, material_in(first, padding)) {
-        Ok(client) => boxed(alloc, client),
+        Ok(client) => boxed(alloc, AnyEnd::Client(client)),
         Err(error) => Err(code_made(error)),
     }
 }

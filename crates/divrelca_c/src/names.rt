@@ -4,7 +4,7 @@ use crate::bytes::DvBytes;
 use ssh_message::name;
 
 // The version of the interface: its first number in the upper 16 bits.
-const VERSION: u32 = 0x0001_0000;
+const VERSION: u32 = 0x0002_0000;
 
 /// The version of the library.
 #[unsafe(no_mangle)]

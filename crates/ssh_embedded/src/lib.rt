@@ -1,6 +1,6 @@
 //! Ends of SSH-2 for a program that keeps one by one value: the end with real parts, the bytes that it put out and that are not written
 //! yet, the asks that wait until it can do them, and the account of its channels' windows. `Embedded` is the value of either role; `Server`
-//! and `Client` are the two ends.
+//! and `Client` are the two ends, and `AnyEnd` is one of them.
 //!
 //! ```rust
 //! let mut server = Server::new(alloc, &settings, users, material)?;
@@ -16,6 +16,7 @@
 //! ```
 #![tactic(auto)]
 
+mod any_end;
 mod ask_form;
 mod client;
 mod embedded;
@@ -28,6 +29,7 @@ mod server;
 mod users;
 mod waiting;
 
+pub use any_end::AnyEnd;
 pub use ask_form::{AskForm, FormFault};
 pub use client::Client;
 pub use embedded::{Embedded, is_later};

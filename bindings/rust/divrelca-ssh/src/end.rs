@@ -3,7 +3,7 @@
 use crate::events::event_of;
 use crate::{borrow, lend, Ask, Error, Event};
 use divrelca_sys as sys;
-use divrelca_sys::{dv_ask, dv_bytes, dv_event, dv_material};
+use divrelca_sys::{dv_event, dv_material};
 use std::marker::PhantomData;
 
 /// Random bytes of one exchange of keys, each used once.
@@ -88,79 +88,25 @@ impl<'a> ClientSettings<'a> {
     }
 }
 
-/// The calls of a role. They are `divrelca-sys`'s, and no other crate can add one.
-pub trait Role: sealed::Calls {}
+/// The role of an end, a server's or a client's. No other crate can add one.
+pub trait Role: sealed::Sealed {}
 
 mod sealed {
-    use super::*;
-
-    /// # Safety
-    /// Each call is that of `divrelca.h` for this handle.
-    pub unsafe trait Calls {
-        type Handle: Copy;
-        unsafe fn free(end: Self::Handle);
-        unsafe fn take(end: *mut Self::Handle, bytes: *const u8, len: usize, used: *mut usize) -> i32;
-        unsafe fn event(end: *mut Self::Handle, event: *mut dv_event);
-        unsafe fn output(end: *mut Self::Handle, bytes: *mut dv_bytes);
-        unsafe fn written(end: *mut Self::Handle, count: usize);
-        unsafe fn feed(end: *mut Self::Handle, material: *const dv_material) -> bool;
-        unsafe fn is_over(end: *mut Self::Handle) -> bool;
-        unsafe fn rekey_due(end: *mut Self::Handle) -> bool;
-        unsafe fn room(end: *mut Self::Handle, channel: u32) -> u32;
-        unsafe fn ask(end: *mut Self::Handle, ask: *const dv_ask, channel: *mut u32) -> i32;
-        unsafe fn queue(end: *mut Self::Handle, ask: *const dv_ask) -> i32;
-        unsafe fn queued(end: *mut Self::Handle) -> usize;
-        unsafe fn work(end: *mut Self::Handle, channel: *mut u32) -> i32;
-        unsafe fn decline(end: *mut Self::Handle) -> i32;
-        unsafe fn send(end: *mut Self::Handle, channel: u32, stream: u32, body: *const u8, len: usize, taken: *mut usize) -> i32;
-        unsafe fn consume(end: *mut Self::Handle, channel: u32, bytes: usize) -> i32;
-    }
+    pub trait Sealed {}
 }
 
 /// The role of a server.
 pub enum AsServer {}
 /// The role of a client.
 pub enum AsClient {}
+impl sealed::Sealed for AsServer {}
+impl sealed::Sealed for AsClient {}
 impl Role for AsServer {}
 impl Role for AsClient {}
 
-macro_rules! calls {
-    ($role:ty, $handle:ident, $free:ident, $take:ident, $event:ident, $output:ident, $written:ident, $feed:ident, $is_over:ident, $rekey_due:ident, $room:ident,
-     $ask:ident, $queue:ident, $queued:ident, $work:ident, $decline:ident, $send:ident, $consume:ident) => {
-        // SAFETY: each is the call of its name.
-        unsafe impl sealed::Calls for $role {
-            type Handle = sys::$handle;
-            unsafe fn free(end: Self::Handle) { sys::$free(end) }
-            unsafe fn take(end: *mut Self::Handle, bytes: *const u8, len: usize, used: *mut usize) -> i32 { sys::$take(end, bytes, len, used) }
-            unsafe fn event(end: *mut Self::Handle, event: *mut dv_event) { sys::$event(end, event) }
-            unsafe fn output(end: *mut Self::Handle, bytes: *mut dv_bytes) { sys::$output(end, bytes) }
-            unsafe fn written(end: *mut Self::Handle, count: usize) { sys::$written(end, count) }
-            unsafe fn feed(end: *mut Self::Handle, material: *const dv_material) -> bool { sys::$feed(end, material) }
-            unsafe fn is_over(end: *mut Self::Handle) -> bool { sys::$is_over(end) }
-            unsafe fn rekey_due(end: *mut Self::Handle) -> bool { sys::$rekey_due(end) }
-            unsafe fn room(end: *mut Self::Handle, channel: u32) -> u32 { sys::$room(end, channel) }
-            unsafe fn ask(end: *mut Self::Handle, ask: *const dv_ask, channel: *mut u32) -> i32 { sys::$ask(end, ask, channel) }
-            unsafe fn queue(end: *mut Self::Handle, ask: *const dv_ask) -> i32 { sys::$queue(end, ask) }
-            unsafe fn queued(end: *mut Self::Handle) -> usize { sys::$queued(end) }
-            unsafe fn work(end: *mut Self::Handle, channel: *mut u32) -> i32 { sys::$work(end, channel) }
-            unsafe fn decline(end: *mut Self::Handle) -> i32 { sys::$decline(end) }
-            unsafe fn send(end: *mut Self::Handle, channel: u32, stream: u32, body: *const u8, len: usize, taken: *mut usize) -> i32 { sys::$send(end, channel, stream, body, len, taken) }
-            unsafe fn consume(end: *mut Self::Handle, channel: u32, bytes: usize) -> i32 { sys::$consume(end, channel, bytes) }
-        }
-    };
-}
-calls!(
-    AsServer, dv_server, dv_server_free, dv_server_take, dv_server_event, dv_server_output, dv_server_written, dv_server_feed, dv_server_is_over,
-    dv_server_rekey_due, dv_server_room, dv_server_ask, dv_server_queue, dv_server_queued, dv_server_work, dv_server_decline, dv_server_send, dv_server_consume
-);
-calls!(
-    AsClient, dv_client, dv_client_free, dv_client_take, dv_client_event, dv_client_output, dv_client_written, dv_client_feed, dv_client_is_over,
-    dv_client_rekey_due, dv_client_room, dv_client_ask, dv_client_queue, dv_client_queued, dv_client_work, dv_client_decline, dv_client_send, dv_client_consume
-);
-
 /// One end. What it lends, an event or its output, stands until the next call that changes it. It may move to another thread.
 pub struct End<R: Role> {
-    handle: R::Handle,
+    handle: sys::dv_end,
     role: PhantomData<*mut R>,
 }
 
@@ -190,7 +136,7 @@ impl Server {
             methods: settings.methods as u32,
             ciphers: settings.ciphers as u32,
         };
-        let mut handle = sys::dv_server { at: std::ptr::null_mut() };
+        let mut handle = sys::dv_end { at: std::ptr::null_mut() };
         // SAFETY: all that the settings point at stands during the call, and the handle is used only after code 0.
         Error::check(unsafe { sys::dv_server_new(&mut handle, &given, &first.in_c(), padding) })?;
         Ok(End { handle, role: PhantomData })
@@ -230,7 +176,7 @@ impl Client {
             epoch_limit: settings.epoch_limit,
             ciphers: settings.ciphers as u32,
         };
-        let mut handle = sys::dv_client { at: std::ptr::null_mut() };
+        let mut handle = sys::dv_end { at: std::ptr::null_mut() };
         // SAFETY: all that the settings point at stands during the call, and the handle is used only after code 0.
         Error::check(unsafe { sys::dv_client_new(&mut handle, &given, &first.in_c(), padding) })?;
         Ok(End { handle, role: PhantomData })
@@ -245,7 +191,7 @@ impl<R: Role> End<R> {
     /// -1 where memory is refused, after which the end is over, and -2 where it is.
     pub fn take(&mut self, bytes: &[u8]) -> Result<usize, Error> {
         let mut used = 0;
-        Error::check(unsafe { R::take(&mut self.handle, bytes.as_ptr(), bytes.len(), &mut used) })?;
+        Error::check(unsafe { sys::dv_take(&mut self.handle, bytes.as_ptr(), bytes.len(), &mut used) })?;
         Ok(used)
     }
 
@@ -264,7 +210,7 @@ impl<R: Role> End<R> {
             data: lend(&[]),
         };
         unsafe {
-            R::event(&mut self.handle, &mut event);
+            sys::dv_show_event(&mut self.handle, &mut event);
             event_of(&event)
         }
     }
@@ -273,34 +219,34 @@ impl<R: Role> End<R> {
     pub fn output(&mut self) -> &[u8] {
         let mut bytes = lend(&[]);
         unsafe {
-            R::output(&mut self.handle, &mut bytes);
+            sys::dv_output(&mut self.handle, &mut bytes);
             borrow(bytes)
         }
     }
 
     /// Says that the first `count` bytes of the output were written: they are dropped.
     pub fn written(&mut self, count: usize) {
-        unsafe { R::written(&mut self.handle, count) }
+        unsafe { sys::dv_written(&mut self.handle, count) }
     }
 
     /// Keeps a pair for the next exchange of keys; false where the end keeps one, or can take no more. Call it after each `take`.
     pub fn feed(&mut self, material: &Material) -> bool {
-        unsafe { R::feed(&mut self.handle, &material.in_c()) }
+        unsafe { sys::dv_feed(&mut self.handle, &material.in_c()) }
     }
 
     /// Whether the end takes nothing and sends nothing. What it put out is still to be written.
     pub fn is_over(&mut self) -> bool {
-        unsafe { R::is_over(&mut self.handle) }
+        unsafe { sys::dv_is_over(&mut self.handle) }
     }
 
     /// Whether as many packets were sent under the keys as `epoch_limit` says: ask for `Ask::Rekey`.
     pub fn rekey_due(&mut self) -> bool {
-        unsafe { R::rekey_due(&mut self.handle) }
+        unsafe { sys::dv_rekey_due(&mut self.handle) }
     }
 
     /// How many bytes of data the peer's window takes on the channel; 0 where it is not confirmed.
     pub fn room(&mut self, channel: u32) -> u32 {
-        unsafe { R::room(&mut self.handle, channel) }
+        unsafe { sys::dv_room(&mut self.handle, channel) }
     }
 
     /// Does what is asked for, now, and answers the number of the channel that it opens.
@@ -309,7 +255,7 @@ impl<R: Role> End<R> {
     /// 1 to 12 where it is refused, 306 and 307, -1 and -2.
     pub fn ask(&mut self, ask: &Ask<'_>) -> Result<Option<u32>, Error> {
         let mut channel = 0;
-        Error::check(unsafe { R::ask(&mut self.handle, &ask.in_c(), &mut channel) })?;
+        Error::check(unsafe { sys::dv_ask_now(&mut self.handle, &ask.in_c(), &mut channel) })?;
         Ok(matches!(ask, Ask::Open { .. }).then_some(channel))
     }
 
@@ -318,12 +264,12 @@ impl<R: Role> End<R> {
     /// # Errors
     /// 307 of a login by a key that the client has not, -1 where memory is refused.
     pub fn queue(&mut self, ask: &Ask<'_>) -> Result<(), Error> {
-        Error::check(unsafe { R::queue(&mut self.handle, &ask.in_c()) })
+        Error::check(unsafe { sys::dv_queue(&mut self.handle, &ask.in_c()) })
     }
 
     /// How many asks wait.
     pub fn queued(&mut self) -> usize {
-        unsafe { R::queued(&mut self.handle) }
+        unsafe { sys::dv_queued(&mut self.handle) }
     }
 
     /// Makes the oldest ask that waits. Where `is_later` holds of the error the ask stays; else it waits no longer.
@@ -332,7 +278,7 @@ impl<R: Role> End<R> {
     /// As of `ask`, and 308 where none waits.
     pub fn work(&mut self) -> Result<(), Error> {
         let mut channel = 0;
-        Error::check(unsafe { R::work(&mut self.handle, &mut channel) })
+        Error::check(unsafe { sys::dv_work(&mut self.handle, &mut channel) })
     }
 
     /// Queues the answer that the peer is owed for what `event` shows, where a program does not know what that is about.
@@ -340,7 +286,7 @@ impl<R: Role> End<R> {
     /// # Errors
     /// -1 where memory is refused.
     pub fn decline(&mut self) -> Result<(), Error> {
-        Error::check(unsafe { R::decline(&mut self.handle) })
+        Error::check(unsafe { sys::dv_decline(&mut self.handle) })
     }
 
     /// Sends as much data as window, packet and 32,768 bytes allow, and answers how many; `kind` is that of extended data, 1 of standard error.
@@ -349,7 +295,7 @@ impl<R: Role> End<R> {
     /// As of `ask`. Where nothing fits the answer is 0.
     pub fn send(&mut self, channel: u32, kind: Option<std::num::NonZeroU32>, body: &[u8]) -> Result<usize, Error> {
         let (mut taken, stream) = (0, kind.map_or(0, |it| it.get()));
-        Error::check(unsafe { R::send(&mut self.handle, channel, stream, body.as_ptr(), body.len(), &mut taken) })?;
+        Error::check(unsafe { sys::dv_send(&mut self.handle, channel, stream, body.as_ptr(), body.len(), &mut taken) })?;
         Ok(taken)
     }
 
@@ -358,13 +304,13 @@ impl<R: Role> End<R> {
     /// # Errors
     /// 3 where the number is none of a channel, -1 where memory is refused.
     pub fn consume(&mut self, channel: u32, bytes: usize) -> Result<(), Error> {
-        Error::check(unsafe { R::consume(&mut self.handle, channel, bytes) })
+        Error::check(unsafe { sys::dv_consume(&mut self.handle, channel, bytes) })
     }
 }
 
 impl<R: Role> Drop for End<R> {
     fn drop(&mut self) {
         // SAFETY: the handle is not used again.
-        unsafe { R::free(self.handle) }
+        unsafe { sys::dv_free(self.handle) }
     }
 }

@@ -1,10 +1,12 @@
 use Rattle.std.proofs.Common.{rules}
-use Rattle.divrelca_c.specs.Making.{IsServerOf, material_by}
+use Rattle.ssh_embedded.specs.declared.any_end.AnyEnd.TheVariants as any
+use Rattle.divrelca_c.specs.Ends.{IsNewServer}
+use Rattle.divrelca_c.specs.Making.{material_by}
 use Rattle.divrelca_c.proofs.Known.{if_same}
 use Rattle.divrelca_c.proofs.NewEnds.{server_made}
 use Rattle.divrelca_c.proofs.making.server_in.Goals as goal
 
 pub returns-in-Ok-clause-made : goal.returns-in-Ok-clause-made
 returns-in-Ok-clause-made c =
-    if_same (λ made. made.value) (IsServerOf c.args.given.now (material_by c.args.first.now c.args.padding.now)) c.in-Ok.server
-    (search (rules, server_made)) c.boxed.result c.boxed.ensures.value
+    if_same (λ made. made.value) (IsNewServer c.args.given.now (material_by c.args.first.now c.args.padding.now))
+    (any.Server c.in-Ok.server) (search (rules, server_made)) c.boxed.result c.boxed.ensures.value

@@ -1,8 +1,0 @@
-use Rattle.divrelca_c.proofs.HandleWalks.{lends}
-use Rattle.divrelca_c.proofs.Roles.{client}
-use Rattle.divrelca_c.specs.contracts.handle.DvClient.state as f
-use Rattle.divrelca_c.proofs.handle.DvClient.state.Code as code
-use Rattle.divrelca_c.proofs.handle.DvClient.state.Statement.{statement}
-
-pub state_spec : {M : Type 1} → statement M
-state_spec 𝓤 𝓛 𝓜 𝓡 wired = lends client 𝓛 𝓜 𝓡 f.Key.name (code.unfolded 𝓤 𝓛.H 𝓜 𝓡 wired)

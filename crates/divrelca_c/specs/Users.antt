@@ -1,0 +1,55 @@
+-- What a server does that is given the keys and passwords of one user.
+use Rattle.std.specs.Prelude.{◌≡◌, ◌++◌, ◌||◌, ℕ, ℤ, List, [], All, false, map, negsuc, pos, true}
+use Rattle.ssh_model.specs.Laws.Verdicts.{judged_by}
+use Rattle.ssh_model.specs.Protocol.Sessions.Items.{Item}
+use Rattle.ssh_model.specs.Protocol.Sessions.Parties.{Parties}
+use Rattle.ssh_model.specs.Protocol.Wire.MacOnly.{is_text}
+use Rattle.ssh_model.specs.State.TransportLayer.Kept.{ExchangeParts}
+use Rattle.ssh_end.specs.Stands.{ServerStandsAt}
+use Rattle.ssh_parts.specs.AesGcm.{aes_gcm}
+use Rattle.ssh_parts.specs.declared.packet_key.PacketKey.{PacketKey}
+use Rattle.ssh_embedded.specs.Asked.{AreNoted, is_noted}
+use Rattle.ssh_embedded.specs.Users.{entry_of, verdicts_for}
+use Rattle.ssh_embedded.specs.declared.server.Server.{Server}
+use Rattle.divrelca_c.specs.Making.{IsEntry, IsTaken, entry_by}
+use Rattle.divrelca_c.specs.declared.bytes.DvUser.{DvUser}
+
+-- Each entry is of this name.
+abbrev pub AreOf : (name : List ℕ) → List DvUser → Type 0
+AreOf name users = All (λ user. user.name.now ≡ name) users
+
+-- Where a server stands with its users, it stands with those of another one, if all whose key or password it was asked for are noted.
+abbrev pub StandsOn : (old new : Server) → Type 0
+StandsOn old new = (p : Parties PacketKey) (parts : ExchangeParts) (history : List Item) →
+    ServerStandsAt p aes_gcm parts (verdicts_for old.state.end.role.user.list.items) history old.state.end.machine old.state.end.layers →
+    AreNoted history old.state.noted →
+    ServerStandsAt (judged_by (verdicts_for new.state.end.role.user.list.items) p) aes_gcm parts
+    (verdicts_for new.state.end.role.user.list.items) history new.state.end.machine new.state.end.layers
+
+-- Where the code is 0, the entries are all of this name and come after those of the server. The name was not noted, and is now. Where it is
+-- another one, neither the users nor who is noted change. Nothing else of the server ever does. Where each entry is taken, the code is that
+-- of the first fault, or -1.
+pub record SetsUser (name : List ℕ) (users : List DvUser) (code : ℤ) (old new : Server) : Type 0 where
+  pub set : code ≡ pos 0 →
+      map entry_of new.state.end.role.user.list.items ≡ map entry_of old.state.end.role.user.list.items ++ map entry_by users
+  pub named : code ≡ pos 0 → AreOf name users
+  pub entries : code ≡ pos 0 → All IsEntry users
+  pub fresh : code ≡ pos 0 → is_noted name old.state.noted ≡ false
+  pub noted : code ≡ pos 0 → is_noted name new.state.noted ≡ true
+  pub kept : (user : List ℕ) → is_noted user old.state.noted ≡ true → is_noted user new.state.noted ≡ true
+  pub noted_only : code ≡ pos 0 → new.state.noted.all ≡ false → (user : List ℕ) →
+      is_noted user new.state.noted ≡ (is_noted user old.state.noted || is_text name user)
+  pub taken : code ≡ pos 0 → All IsTaken users
+  pub over : All IsTaken users → old.state.end.machine.kept.dead ≡ true → (code ≡ negsuc 0 → ⊥) → code ≡ negsuc 1
+  pub nameless : All IsTaken users → old.state.end.machine.kept.dead ≡ false → name ≡ [] → (code ≡ negsuc 0 → ⊥) → code ≡ pos 303
+  pub another : All IsTaken users → old.state.end.machine.kept.dead ≡ false → (AreOf name users → ⊥) → (code ≡ negsuc 0 → ⊥) →
+      code ≡ pos 303
+  pub known : All IsTaken users → old.state.end.machine.kept.dead ≡ false → (name ≡ [] → ⊥) → AreOf name users →
+      is_noted name old.state.noted ≡ true → (code ≡ negsuc 0 → ⊥) → code ≡ pos 309
+  pub otherwise : All IsTaken users → old.state.end.machine.kept.dead ≡ false → (name ≡ [] → ⊥) → AreOf name users →
+      is_noted name old.state.noted ≡ false → (code ≡ negsuc 0 → ⊥) → code ≡ pos 0
+  pub stands : code ≡ pos 0 → StandsOn old new
+  pub rest : new.state.end ≡ record old.state.end { role = record old.state.end.role { user = new.state.end.role.user } }
+  pub unchanged : (code ≡ pos 0 → ⊥) → new.state.end.role.user.list.items ≡ old.state.end.role.user.list.items
+  pub unnoted : (code ≡ pos 0 → ⊥) → new.state.noted ≡ old.state.noted
+  pub same : new.state ≡ record old.state { end = new.state.end; noted = new.state.noted }

@@ -1,0 +1,260 @@
+//! What C calls of an end.
+
+ghost use Rattle.std.specs.Prelude.{◌≡◌};
+ghost use Rattle.std.specs.VecDeque.{deque_len};
+ghost use Rattle.divrelca.specs.Supplies.{next_bytes};
+ghost use Rattle.divrelca_c.specs.Calls.{AsksNow, Consumes, Declines, Feeds, Queues, Sends, Takes, Tells, Works, Writes};
+ghost use Rattle.divrelca_c.specs.Calls.{is_due, room_on};
+ghost use Rattle.divrelca_c.specs.Ends.{InRole, IsNewClient, IsNewServer, SetsUserOf, of_end, signatures_of};
+ghost use Rattle.divrelca_c.specs.Events.{ShowsTurn};
+ghost use Rattle.divrelca_c.specs.Making.{Leaves, material_by};
+ghost use Rattle.ssh_end.specs.Steps.{shown_by};
+ghost use Rattle.ssh_parts.specs.AesGcm.{aes_gcm};
+
+use crate::bytes::{DvBytes, DvClientSettings, DvMaterial, DvServerSettings, DvUser};
+use crate::calls;
+use crate::codes::{DONE, code_of};
+use crate::event::{DvEvent, event_of};
+use crate::handle::{DvEnd, DvNewEnd};
+use crate::making::{client_in, server_in};
+use ssh_embedded::{AnyEnd, AskForm};
+use ssh_end::Fault;
+use ssh_types::AskRefusal;
+use std::alloc::Global;
+
+/// Makes a server that put out its version line and its first KEXINIT.
+#[unsafe(no_mangle)]
+pub extern "C" fn dv_server_new(
+    alloc: Global,
+    out: &mut DvNewEnd,
+    settings: &DvServerSettings<'_>,
+    first: &DvMaterial,
+    padding: &[u8; 32],
+) -> i32
+    ensures { Leaves (λ place. place.value) (IsNewServer settings.now (material_by first.now padding.now)) result out.old out.new }
+{
+    match server_in(alloc, settings, first, padding) {
+        Ok(server) => {
+            *out = DvNewEnd::of(server);
+            DONE
+        }
+        Err(code) => code,
+    }
+}
+
+/// Makes a client that put out its version line and its first KEXINIT.
+#[unsafe(no_mangle)]
+pub extern "C" fn dv_client_new(
+    alloc: Global,
+    out: &mut DvNewEnd,
+    settings: &DvClientSettings<'_>,
+    first: &DvMaterial,
+    padding: &[u8; 32],
+) -> i32
+    ensures { Leaves (λ place. place.value) (IsNewClient settings.now (material_by first.now padding.now)) result out.old out.new }
+{
+    match client_in(alloc, settings, first, padding) {
+        Ok(client) => {
+            *out = DvNewEnd::of(client);
+            DONE
+        }
+        Err(code) => code,
+    }
+}
+
+/// Gives all memory of the end back.
+#[unsafe(no_mangle)]
+pub extern "C" fn dv_free(h: DvEnd) {
+    drop(h.into_box());
+}
+
+/// Gives a server the keys and passwords of one user, after those that it has: once, and before a key or a password of that user is asked
+/// for. So a verdict stays a function of what is asked. A client is left as it is.
+#[unsafe(no_mangle)]
+pub extern "C" fn dv_server_set_user(
+    alloc: Global,
+    h: &mut DvEnd,
+    name: &[u8],
+    users: &[DvUser<'_>],
+) -> i32
+    ensures { SetsUserOf name.now users.now result h.old.value h.new.value }
+{
+    match h.state() {
+        AnyEnd::Server(server) => calls::set_user(alloc, server, name, users),
+        AnyEnd::Client(_) => code_of(Fault::Ask(AskRefusal::WrongSide)),
+    }
+}
+
+/// Takes bytes of the peer to the end of one line or one packet. `dv_show_event` shows what was done.
+#[unsafe(no_mangle)]
+pub extern "C" fn dv_take(h: &mut DvEnd, bytes: &[u8], used: &mut usize) -> i32
+    ensures { InRole (λ R X S old new. Takes aes_gcm next_bytes old bytes.now used.new result new) h.old.value h.new.value }
+{
+    match h.state() {
+        AnyEnd::Server(end) => calls::take(&mut end.state, bytes, used),
+        AnyEnd::Client(end) => calls::take(&mut end.state, bytes, used),
+    }
+}
+
+/// Shows what was done in the last call of `dv_take`.
+#[unsafe(no_mangle)]
+pub extern "C" fn dv_show_event<'a>(h: &'a mut DvEnd, event: &mut DvEvent<'a>)
+    ensures { ShowsTurn (of_end (λ R X S it. shown_by it.end.step it.end.machine) h.old.value)
+        (of_end (λ R X S it. it.end.step) h.old.value) event.new }
+{
+    *event = match h.state() {
+        AnyEnd::Server(end) => event_of(&end.state.turn()),
+        AnyEnd::Client(end) => event_of(&end.state.turn()),
+    };
+}
+
+/// Shows the bytes that wait for the peer.
+#[unsafe(no_mangle)]
+pub extern "C" fn dv_output<'a>(h: &'a mut DvEnd, bytes: &mut DvBytes<'a>)
+    ensures { bytes.new.bytes.now ≡ of_end (λ R X S it. it.out.items) h.old.value }
+{
+    *bytes = match h.state() {
+        AnyEnd::Server(end) => calls::output(&end.state),
+        AnyEnd::Client(end) => calls::output(&end.state),
+    };
+}
+
+/// The first `count` of the bytes that wait were written.
+#[unsafe(no_mangle)]
+pub extern "C" fn dv_written(h: &mut DvEnd, count: usize)
+    ensures { InRole (λ R X S old new. Writes old count new) h.old.value h.new.value }
+{
+    match h.state() {
+        AnyEnd::Server(end) => calls::written(&mut end.state, count),
+        AnyEnd::Client(end) => calls::written(&mut end.state, count),
+    }
+}
+
+/// Keeps a fresh pair for the next exchange of keys, or answers `false` where the end keeps one or can take no more.
+#[unsafe(no_mangle)]
+pub extern "C" fn dv_feed(h: &mut DvEnd, material: &DvMaterial) -> bool
+    ensures { InRole (λ R X S old new. Feeds old material.now.cookie material.now.secret result new) h.old.value h.new.value }
+{
+    match h.state() {
+        AnyEnd::Server(end) => calls::feed(&mut end.state, material),
+        AnyEnd::Client(end) => calls::feed(&mut end.state, material),
+    }
+}
+
+/// Tests whether the end is over.
+#[unsafe(no_mangle)]
+pub extern "C" fn dv_is_over(h: &mut DvEnd) -> bool
+    ensures { Tells (of_end (λ R X S it. it.end.machine.kept.dead) h.old.value) result h.old.value h.new.value }
+{
+    match h.state() {
+        AnyEnd::Server(end) => end.state.is_over(),
+        AnyEnd::Client(end) => end.state.is_over(),
+    }
+}
+
+/// Tests whether an exchange of keys is due.
+#[unsafe(no_mangle)]
+pub extern "C" fn dv_rekey_due(h: &mut DvEnd) -> bool
+    ensures { Tells (of_end (λ R X S it. is_due it) h.old.value) result h.old.value h.new.value }
+{
+    match h.state() {
+        AnyEnd::Server(end) => end.state.rekey_due(),
+        AnyEnd::Client(end) => end.state.rekey_due(),
+    }
+}
+
+/// Tells how many bytes of data fit into the peer's window on a channel.
+#[unsafe(no_mangle)]
+pub extern "C" fn dv_room(h: &mut DvEnd, channel: u32) -> u32
+    ensures { Tells (of_end (λ R X S it. room_on it channel) h.old.value) result h.old.value h.new.value }
+{
+    match h.state() {
+        AnyEnd::Server(end) => end.state.room(channel),
+        AnyEnd::Client(end) => end.state.room(channel),
+    }
+}
+
+/// Does what is asked for, now. The number of a channel that it opens goes to `channel`.
+#[unsafe(no_mangle)]
+pub extern "C" fn dv_ask_now(h: &mut DvEnd, ask: &AskForm<'_>, channel: &mut u32) -> i32
+    ensures { InRole (λ R X S old new. AsksNow aes_gcm next_bytes (signatures_of h.old.value) old ask.now result
+        channel.old channel.new new) h.old.value h.new.value }
+{
+    match h.state() {
+        AnyEnd::Server(end) => calls::ask(&mut end.state, ask, channel),
+        AnyEnd::Client(end) => calls::ask(&mut end.state, ask, channel),
+    }
+}
+
+/// Puts an ask after those that wait.
+#[unsafe(no_mangle)]
+pub extern "C" fn dv_queue(alloc: Global, h: &mut DvEnd, ask: &AskForm<'_>) -> i32
+    ensures { InRole (λ R X S old new. Queues old ask.now result new) h.old.value h.new.value }
+{
+    match h.state() {
+        AnyEnd::Server(end) => calls::queue(alloc, &mut end.state, ask),
+        AnyEnd::Client(end) => calls::queue(alloc, &mut end.state, ask),
+    }
+}
+
+/// Tells how many asks wait.
+#[unsafe(no_mangle)]
+pub extern "C" fn dv_queued(h: &mut DvEnd) -> usize
+    ensures { Tells (of_end (λ R X S it. deque_len it.waiting) h.old.value) result h.old.value h.new.value }
+{
+    match h.state() {
+        AnyEnd::Server(end) => end.state.queued(),
+        AnyEnd::Client(end) => end.state.queued(),
+    }
+}
+
+/// Makes the oldest ask that waits. It stays where it comes too early.
+#[unsafe(no_mangle)]
+pub extern "C" fn dv_work(alloc: Global, h: &mut DvEnd, channel: &mut u32) -> i32
+    ensures { InRole (λ R X S old new. Works aes_gcm next_bytes (signatures_of h.old.value) old result channel.old channel.new new)
+        h.old.value h.new.value }
+{
+    match h.state() {
+        AnyEnd::Server(end) => calls::work(alloc, &mut end.state, channel),
+        AnyEnd::Client(end) => calls::work(alloc, &mut end.state, channel),
+    }
+}
+
+/// Queues the answer that the peer is owed for what `dv_show_event` shows.
+#[unsafe(no_mangle)]
+pub extern "C" fn dv_decline(h: &mut DvEnd) -> i32
+    ensures { InRole (λ R X S old new. Declines old result new) h.old.value h.new.value }
+{
+    match h.state() {
+        AnyEnd::Server(end) => calls::decline(&mut end.state),
+        AnyEnd::Client(end) => calls::decline(&mut end.state),
+    }
+}
+
+/// Sends as much data as one packet takes, extended data where `stream` is not 0.
+#[unsafe(no_mangle)]
+pub extern "C" fn dv_send(
+    h: &mut DvEnd,
+    channel: u32,
+    stream: u32,
+    body: &[u8],
+    taken: &mut usize,
+) -> i32
+    ensures { InRole (λ R X S old new. Sends aes_gcm next_bytes old body.now taken.new result new) h.old.value h.new.value }
+{
+    match h.state() {
+        AnyEnd::Server(end) => calls::send(&mut end.state, channel, stream, body, taken),
+        AnyEnd::Client(end) => calls::send(&mut end.state, channel, stream, body, taken),
+    }
+}
+
+/// So many bytes that came on a channel are done with.
+#[unsafe(no_mangle)]
+pub extern "C" fn dv_consume(h: &mut DvEnd, channel: u32, bytes: usize) -> i32
+    ensures { InRole (λ R X S old new. Consumes channel old result new) h.old.value h.new.value }
+{
+    match h.state() {
+        AnyEnd::Server(end) => calls::consume(&mut end.state, channel, bytes),
+        AnyEnd::Client(end) => calls::consume(&mut end.state, channel, bytes),
+    }
+}
