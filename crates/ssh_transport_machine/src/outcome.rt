@@ -12,7 +12,7 @@ use std::alloc::AllocError;
 use thiserror::Error;
 
 /// What a transport made of the bytes of one line or one packet.
-#[derive(Clone, Copy, Debug)]
+#[derive(Debug, Drop)]
 pub enum TransportTurn {
     /// No whole line and no whole packet yet: all bytes were used.
     More,
@@ -20,8 +20,9 @@ pub enum TransportTurn {
     Done(Effect),
     /// A packet with a payload for the layers above was taken, which is shown. It has this sequence number.
     Up(u32),
-    /// The message was taken by which NEWKEYS is sent: the exchange of these algorithms is completed.
-    Completed(OwnedChoice),
+    /// The message was taken by which NEWKEYS is sent: the exchange of these algorithms is completed. Their names are boxed, so that each
+    /// packet is not told by as many bytes.
+    Completed(Box<OwnedChoice>),
     /// The peer was refused, or too few numbers were left in the epoch for what has to be sent (`NumberSpent`). The end is over.
     Refused(Refusal),
 }

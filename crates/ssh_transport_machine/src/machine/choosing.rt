@@ -1,20 +1,21 @@
 //! What is chosen in the exchange under way (RFC 4253 section 7.1).
 
-ghost use Rattle.std.specs.Prelude.{◌≡◌, false, true};
+ghost use Rattle.std.specs.Prelude.{◌≡◌, IfOk, false, true};
 ghost use Rattle.ssh_model.specs.Protocol.Wire.Message.{KexInit};
 ghost use Rattle.ssh_model.specs.Protocol.KeyExchange.Choice.{IsChoice};
 ghost use Rattle.ssh_model.specs.Protocol.KeyExchange.Exchanges.{chosen as computed_choice, has_choice};
 ghost use Rattle.ssh_model.specs.State.TransportLayer.Kept.{IsChosen, choice_with, has_choice_with};
 ghost use Rattle.ssh_message.specs.Meaning.{meaning, proposal_meaning};
-ghost use Rattle.ssh_kex.specs.Values.{chosen_of, lists_of};
+ghost use Rattle.ssh_kex.specs.Values.{chosen_of, lists_of, owned_chosen};
 ghost use Rattle.ssh_transport_machine.specs.Finishing.{AreKnown, HasChoice, IsChoiceOf, IsKexinit, is_choice_with};
 
 use crate::machine::Machine;
 use ssh_config::every_config_is_good;
-use ssh_kex::{Choice, KexLists, choose};
+use ssh_kex::{Choice, KexLists, OwnedChoice, choose};
 use ssh_message::{Message, Proposal, decode};
 use ssh_packet::Sealing;
 use ssh_types::Side;
+use std::alloc::AllocError;
 
 impl<S: Sealing> Machine<S> {
     /// The algorithms that the peer's KEXINIT, which is kept, and this end's own give. They are chosen anew, so that no memory is
@@ -26,6 +27,18 @@ impl<S: Sealing> Machine<S> {
     {
         let theirs = self.their_proposal();
         self.choice_with(theirs)
+    }
+
+    /// A copy of a choice that outlives both KEXINITs.
+    ///
+    /// # Errors
+    ///
+    /// Only where memory is refused.
+    pub fn keep_choice(&self, choice: Choice<'_>) -> Result<Box<OwnedChoice>, AllocError>
+        ensures { IfOk result (λ kept. owned_chosen kept.value ≡ chosen_of choice.entry) }
+    {
+        let kept = Box::new(self.alloc, OwnedChoice::from(choice))?;
+        Ok(kept)
     }
 
     // The proposal of the peer's KEXINIT.

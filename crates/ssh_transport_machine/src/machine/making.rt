@@ -10,7 +10,7 @@ ghost use Rattle.ssh_transport_machine.specs.Opening.{IsBegun, IsOpened, unopene
 ghost use Rattle.ssh_model.specs.Protocol.Bounds.{numbers_of_epoch};
 
 use crate::machine::kexinit_payload::KexinitPayload;
-use crate::machine::{Machine, Phase};
+use crate::machine::{Machine, Material, Phase};
 use crate::outgoing::Outgoing;
 use ssh_config::Config;
 use ssh_packet::{Filler, LineReader, PacketReceiver, PacketSender, Sealing};
@@ -18,8 +18,8 @@ use ssh_types::Side;
 use std::alloc::{AllocError, Global};
 
 impl<S: Sealing> Machine<S> {
-    /// An end of this side that put out its version line and its first KEXINIT, with this cookie and the secret of its point. It has room
-    /// for the peer's line, for packets and for both KEXINITs of an exchange from then on.
+    /// An end of this side that put out its version line and its first KEXINIT, for which this material is. It has room for the peer's
+    /// line, for packets and for both KEXINITs of an exchange from then on.
     ///
     /// # Errors
     ///
@@ -28,21 +28,20 @@ impl<S: Sealing> Machine<S> {
         alloc: Global,
         side: Side,
         config: Config<S>,
-        cookie: [u8; 16],
-        secret: [u8; 32],
+        first: Material,
         out: &mut Vec<u8>,
         sent: &mut Outgoing<F>,
     ) -> Result<Machine<S>, AllocError>
-        ensures opened { IfOk result (λ machine. IsOpened S.crypto (settings_of config) side cookie secret machine
+        ensures opened { IfOk result (λ machine. IsOpened S.crypto (settings_of config) side first.cookie first.secret machine
             (outs out.old out.new sent.old sent.new)) }
         ensures padded { IfOk result (λ machine. PadsTo S.crypto F.gives
-            (sending_after_line (unopened (settings_of config) side secret) sent.old out.old)
+            (sending_after_line (unopened (settings_of config) side first.secret) sent.old out.old)
             (sending_by machine sent.new out.new)) }
         ensures out { OnErr result (out.new.items ≡ out.old.items) }
         ensures kept { OnErr result (sent.new.payloads.items ≡ sent.old.payloads.items) }
     {
-        let mut machine = Machine::unopened(alloc, side, config, secret)?;
-        machine.begin(&cookie, out, sent)?;
+        let mut machine = Machine::unopened(alloc, side, config, first.secret)?;
+        machine.begin(&first.cookie, out, sent)?;
         Ok(machine)
     }
 
