@@ -12,7 +12,9 @@ ghost use Rattle.ssh_transport.specs.OfServer.Answers.{AnswerDue, IsAnswer, IsSi
 ghost use Rattle.ssh_model.specs.Protocol.Bounds.{numbers_of_epoch};
 
 use crate::bytes::has_32_bytes;
-use ssh_kex::{Agreement, Choice, HostSigner, OwnedChoice};
+use crate::server::Server;
+use ssh_config::ServerParts;
+use ssh_kex::{Choice, HostSigner, OwnedChoice};
 use ssh_message::Message;
 use ssh_model::{payload_sizes, spellings};
 use ssh_packet::Sealing;
@@ -25,7 +27,7 @@ pub struct Answer<K: Drop> {
     pub reply: Vec<u8>,
     pub keys: ExchangeKeys<K>,
     pub announcement: Option<Vec<u8>>,
-    pub choice: OwnedChoice,
+    pub choice: Box<OwnedChoice>,
 }
 
 /// That, or too few numbers are left in the epoch for it.
@@ -49,73 +51,73 @@ struct Signed {
 /// # Errors
 ///
 /// Only where memory is refused: nothing changes.
-pub fn spell_answer<S: Sealing, A: Agreement, H: HostSigner>(
-    machine: &Machine<S>,
-    agreement: &A,
-    signer: &H,
+pub fn spell_answer<P: ServerParts>(
+    machine: &Machine<P::Sealing>,
+    server: &Server<P>,
     point: &[u8; 32],
     shared: &[u8; 32],
-) -> Result<Spelling<S::Key>, AllocError>
+) -> Result<Spelling<<P::Sealing as Sealing>::Key>, AllocError>
     requires side { machine.now.kept.side ≡ sides.Server }
     requires choice { HasChoice machine.now.kept }
-    requires shares { shared_with (record { point = A.public_of agreement.now; shared = A.shared_of agreement.now })
-        machine.now.kept.underway.secret point.now ≡ Some shared.now }
-    ensures spelled { IfOk result (λ spelling. IsSpelling S.crypto (record {
-      agreement = record { point = A.public_of agreement.now; shared = A.shared_of agreement.now };
-      host_key = H.key_of signer.now;
-      host_signature = H.signature_of signer.now;
+    requires shares { shared_with (record {
+      point = P.Agreement.public_of server.now.agreement;
+      shared = P.Agreement.shared_of server.now.agreement;
+    }) machine.now.kept.underway.secret point.now ≡ Some shared.now }
+    ensures spelled { IfOk result (λ spelling. IsSpelling P.Sealing.crypto (record {
+      agreement = record { point = P.Agreement.public_of server.now.agreement; shared = P.Agreement.shared_of server.now.agreement };
+      host_key = P.HostSigner.key_of server.now.host_signer;
+      host_signature = P.HostSigner.signature_of server.now.host_signer;
     }) machine.now.kept point.now spelling) }
-    ensures due { OnErr result (AnswerDue S.crypto (record {
-      agreement = record { point = A.public_of agreement.now; shared = A.shared_of agreement.now };
-      host_key = H.key_of signer.now;
-      host_signature = H.signature_of signer.now;
+    ensures due { OnErr result (AnswerDue P.Sealing.crypto (record {
+      agreement = record { point = P.Agreement.public_of server.now.agreement; shared = P.Agreement.shared_of server.now.agreement };
+      host_key = P.HostSigner.key_of server.now.host_signer;
+      host_signature = P.HostSigner.signature_of server.now.host_signer;
     }) machine.now.kept point.now) }
     ensures room { OnErr result (machine.now.kept.sending.count + 2 ≤ numbers_of_epoch) }
 {
     let choice = machine.choice();
-    let signed = sign(machine, agreement, signer, &choice, point, shared);
-    answer_fits(machine, agreement, signer, &choice, point, shared, &signed);
+    let signed = sign(machine, server, &choice, point, shared);
+    answer_fits(machine, server, &choice, point, shared, &signed);
     if !machine.has_numbers(2) {
         return Ok(Spelling::NumberSpent);
     }
-    let answer = spell_signed::<S, A, H>(
-        machine, agreement, signer, choice, point, shared, &signed,
-    )?;
+    let answer = spell_signed(machine, server, choice, point, shared, &signed)?;
     Ok(Spelling::Answer(answer))
 }
 
 // Signs the exchange. It needs no memory.
-fn sign<S: Sealing, A: Agreement, H: HostSigner>(
-    machine: &Machine<S>,
-    agreement: &A,
-    signer: &H,
+fn sign<P: ServerParts>(
+    machine: &Machine<P::Sealing>,
+    server: &Server<P>,
     choice: &Choice<'_>,
     point: &[u8; 32],
     shared: &[u8; 32],
 ) -> Signed
     requires side { machine.now.kept.side ≡ sides.Server }
     requires chosen { IsChosen machine.now.kept (chosen_of choice.now) }
-    requires shares { shared_with (record { point = A.public_of agreement.now; shared = A.shared_of agreement.now })
-        machine.now.kept.underway.secret point.now ≡ Some shared.now }
+    requires shares { shared_with (record {
+      point = P.Agreement.public_of server.now.agreement;
+      shared = P.Agreement.shared_of server.now.agreement;
+    }) machine.now.kept.underway.secret point.now ≡ Some shared.now }
     ensures signed { IsSigned (record {
-      agreement = record { point = A.public_of agreement.now; shared = A.shared_of agreement.now };
-      host_key = H.key_of signer.now;
-      host_signature = H.signature_of signer.now;
+      agreement = record { point = P.Agreement.public_of server.now.agreement; shared = P.Agreement.shared_of server.now.agreement };
+      host_key = P.HostSigner.key_of server.now.host_signer;
+      host_signature = P.HostSigner.signature_of server.now.host_signer;
     }) machine.now.kept (chosen_of choice.now) point.now
         shared.now result.own result.hash (take result.length result.signature) }
     ensures length { result.length ≤ 4096 }
 {
     let algorithm = choice.host.as_bytes();
-    let own = machine.own_point(agreement);
+    let own = machine.own_point(&server.agreement);
     has_32_bytes(&own);
     let hash = machine.hash(&Points {
-        host_key: signer.key(algorithm),
+        host_key: server.host_signer.key(algorithm),
         client: point,
         server: &own,
         shared,
     });
     let mut signature = [0; 4096];
-    let length = signer.sign(algorithm, &hash, &mut signature);
+    let length = server.host_signer.sign(algorithm, &hash, &mut signature);
     Signed {
         own,
         hash,
@@ -125,10 +127,9 @@ fn sign<S: Sealing, A: Agreement, H: HostSigner>(
 }
 
 // What answers by this has a spelling: a fact for proofs.
-fn answer_fits<S: Sealing, A: Agreement, H: HostSigner>(
-    machine: &Machine<S>,
-    agreement: &A,
-    signer: &H,
+fn answer_fits<P: ServerParts>(
+    machine: &Machine<P::Sealing>,
+    server: &Server<P>,
     choice: &Choice<'_>,
     point: &[u8; 32],
     shared: &[u8; 32],
@@ -136,18 +137,20 @@ fn answer_fits<S: Sealing, A: Agreement, H: HostSigner>(
 )
     requires side { machine.now.kept.side ≡ sides.Server }
     requires chosen { IsChosen machine.now.kept (chosen_of choice.now) }
-    requires shares { shared_with (record { point = A.public_of agreement.now; shared = A.shared_of agreement.now })
-        machine.now.kept.underway.secret point.now ≡ Some shared.now }
+    requires shares { shared_with (record {
+      point = P.Agreement.public_of server.now.agreement;
+      shared = P.Agreement.shared_of server.now.agreement;
+    }) machine.now.kept.underway.secret point.now ≡ Some shared.now }
     requires signed { IsSigned (record {
-      agreement = record { point = A.public_of agreement.now; shared = A.shared_of agreement.now };
-      host_key = H.key_of signer.now;
-      host_signature = H.signature_of signer.now;
+      agreement = record { point = P.Agreement.public_of server.now.agreement; shared = P.Agreement.shared_of server.now.agreement };
+      host_key = P.HostSigner.key_of server.now.host_signer;
+      host_signature = P.HostSigner.signature_of server.now.host_signer;
     }) machine.now.kept (chosen_of choice.now) point.now
         shared.now signed.now.own signed.now.hash (take signed.now.length signed.now.signature) }
-    ensures { AnswerDue S.crypto (record {
-      agreement = record { point = A.public_of agreement.now; shared = A.shared_of agreement.now };
-      host_key = H.key_of signer.now;
-      host_signature = H.signature_of signer.now;
+    ensures { AnswerDue P.Sealing.crypto (record {
+      agreement = record { point = P.Agreement.public_of server.now.agreement; shared = P.Agreement.shared_of server.now.agreement };
+      host_key = P.HostSigner.key_of server.now.host_signer;
+      host_signature = P.HostSigner.signature_of server.now.host_signer;
     }) machine.now.kept point.now }
 {
     spellings();
@@ -156,42 +159,44 @@ fn answer_fits<S: Sealing, A: Agreement, H: HostSigner>(
 }
 
 // Makes the keys and the payloads of an exchange that is signed.
-fn spell_signed<S: Sealing, A: Agreement, H: HostSigner>(
-    machine: &Machine<S>,
-    agreement: &A,
-    signer: &H,
+fn spell_signed<P: ServerParts>(
+    machine: &Machine<P::Sealing>,
+    server: &Server<P>,
     choice: Choice<'_>,
     point: &[u8; 32],
     shared: &[u8; 32],
     signed: &Signed,
-) -> Result<Answer<S::Key>, AllocError>
+) -> Result<Answer<<P::Sealing as Sealing>::Key>, AllocError>
     requires side { machine.now.kept.side ≡ sides.Server }
     requires chosen { IsChosen machine.now.kept (chosen_of choice) }
-    requires known { AreKnown S.crypto (chosen_of choice) }
-    requires shares { shared_with (record { point = A.public_of agreement.now; shared = A.shared_of agreement.now })
-        machine.now.kept.underway.secret point.now ≡ Some shared.now }
+    requires known { AreKnown P.Sealing.crypto (chosen_of choice) }
+    requires shares { shared_with (record {
+      point = P.Agreement.public_of server.now.agreement;
+      shared = P.Agreement.shared_of server.now.agreement;
+    }) machine.now.kept.underway.secret point.now ≡ Some shared.now }
     requires signed { IsSigned (record {
-      agreement = record { point = A.public_of agreement.now; shared = A.shared_of agreement.now };
-      host_key = H.key_of signer.now;
-      host_signature = H.signature_of signer.now;
+      agreement = record { point = P.Agreement.public_of server.now.agreement; shared = P.Agreement.shared_of server.now.agreement };
+      host_key = P.HostSigner.key_of server.now.host_signer;
+      host_signature = P.HostSigner.signature_of server.now.host_signer;
     }) machine.now.kept (chosen_of choice) point.now
         shared.now signed.now.own signed.now.hash (take signed.now.length signed.now.signature) }
     requires length { signed.now.length ≤ 4096 }
-    ensures { IfOk result (λ a. IsAnswer S.crypto (record {
-      agreement = record { point = A.public_of agreement.now; shared = A.shared_of agreement.now };
-      host_key = H.key_of signer.now;
-      host_signature = H.signature_of signer.now;
-    }) machine.now.kept point.now (owned_chosen a.choice) a.reply.items a.keys.own
+    ensures { IfOk result (λ a. IsAnswer P.Sealing.crypto (record {
+      agreement = record { point = P.Agreement.public_of server.now.agreement; shared = P.Agreement.shared_of server.now.agreement };
+      host_key = P.HostSigner.key_of server.now.host_signer;
+      host_signature = P.HostSigner.signature_of server.now.host_signer;
+    }) machine.now.kept point.now (owned_chosen a.choice.value) a.reply.items a.keys.own
         a.keys.theirs a.keys.session (option_map (λ v. v.items) a.announcement)) }
 {
     let keys = machine.exchange_keys(&choice, shared, &signed.hash)?;
-    let reply = spell_reply(machine, signer, choice.host.as_bytes(), signed)?;
+    let reply = spell_reply(machine, &server.host_signer, choice.host.as_bytes(), signed)?;
     let announcement = machine.spell_announcement()?;
+    let choice = machine.keep_choice(choice)?;
     Ok(Answer {
         reply,
         keys,
         announcement,
-        choice: OwnedChoice::from(choice),
+        choice,
     })
 }
 
