@@ -18,6 +18,7 @@ use crate::ask::UserAsk;
 use crate::configured::{CONNECTION, PASSWORD, PUBLICKEY};
 use crate::number::is_spare;
 use crate::parts::UserSigner;
+use crate::progress::Progress;
 use crate::refusal::{AskError, AuthAskRefusal, AuthRefusal};
 use crate::request::UserRequest;
 use ssh_message::Message;
@@ -30,14 +31,11 @@ const MOST_SIGNATURE_BYTES: u128 = 4_096;
 
 /// What a client keeps of authentication (RFC 4252): whether SERVICE_ACCEPT was taken, whether a request or a key
 /// probe is outstanding, and whether USERAUTH_SUCCESS was taken.
-///
-/// Nothing of it depends on the messages of other layers but SERVICE_ACCEPT, which `open` tells.
 #[derive(Drop)]
 pub struct AuthClient {
     alloc: Global,
-    opened: bool,
     outstanding: Outstanding,
-    authenticated: bool,
+    progress: Progress,
 }
 
 // What is not answered yet.
@@ -54,7 +52,7 @@ impl Model for AuthClient {
 
     ghost Value = { Client };
 
-    ghost view = { λ c. client_of c.opened c.outstanding c.authenticated };
+    ghost view = { λ c. client_of c.progress.opened c.outstanding c.progress.authenticated };
 }
 
 impl AuthClient {
@@ -64,9 +62,8 @@ impl AuthClient {
     {
         AuthClient {
             alloc,
-            opened: false,
             outstanding: Outstanding::Nothing,
-            authenticated: false,
+            progress: Progress::new(),
         }
     }
 
@@ -74,7 +71,7 @@ impl AuthClient {
     pub fn open(&mut self)
         ensures { self.new ≡ opened_client self.old }
     {
-        self.opened = true;
+        self.progress.opened = true;
     }
 
     /// Tests whether a message of this number, 50 to 79, may come now outside a key exchange: USERAUTH_FAILURE and
@@ -84,7 +81,7 @@ impl AuthClient {
         ensures { result ≡ client_takes self.now number }
     {
         ((number == 51 || number == 52) && self.is_outstanding())
-            || (number == 53 && self.opened && !self.authenticated)
+            || (number == 53 && self.progress.opened && !self.progress.authenticated)
             || (number == 60 && self.probing())
             || is_spare(number)
     }
@@ -126,7 +123,7 @@ impl AuthClient {
             }
             Message::UserauthSuccess => {
                 self.outstanding = Outstanding::Nothing;
-                self.authenticated = true;
+                self.progress.authenticated = true;
                 Ok(ClientAnswer::Authenticated)
             }
             Message::UserauthBanner { message, .. } => Ok(ClientAnswer::Banner { message }),
@@ -203,13 +200,13 @@ impl AuthClient {
         ensures refused { IfErr result (λ refusal. first_refusal (client_checks self.now (ask_of ask.now))
             ≡ Some (auth_ask_refusal refusal)) }
     {
-        if !self.opened {
+        if !self.progress.opened {
             return Err(AuthAskRefusal::NotYet);
         }
         if self.is_outstanding() {
             return Err(AuthAskRefusal::Busy);
         }
-        if self.authenticated {
+        if self.progress.authenticated {
             return Err(AuthAskRefusal::Ended);
         }
         if payload_size(ask) > LONGEST_PAYLOAD as u128 {

@@ -2,16 +2,17 @@
 
 ghost use Rattle.std.specs.Prelude.{◌≡◌, ◌<◌, ◌≤◌, ◌&&◌, IfOk, IsTrue, OnErr, Some, codes, length};
 ghost use Rattle.ssh_model.specs.Protocol.Authentication.Requests.{is_configured as model_configured};
-ghost use Rattle.ssh_model.specs.Protocol.Authentication.Requests.{is_known_key as model_known, signed_text};
+ghost use Rattle.ssh_model.specs.Protocol.Authentication.Requests.{is_known_key as model_known};
 ghost use Rattle.ssh_types.specs.Values.{names};
 ghost use Rattle.ssh_message.specs.Meaning.{method_meaning};
 ghost use Rattle.ssh_message.specs.Written.{IsShort};
 ghost use Rattle.ssh_auth.specs.Serving.{IsJudged, IsShortAnswer, NeedsSignature};
+ghost use Rattle.ssh_auth.specs.Texts.{IsShortText, text_of};
 
 use crate::answer::ServerAnswer;
 use crate::configured::{CONNECTION, PASSWORD, PUBLICKEY, is_configured};
 use crate::parts::UserJudge;
-use crate::signed_text::request_text;
+use crate::signed_text::{SignedText, request_text};
 use ssh_message::Method;
 use ssh_types::NameList;
 use std::alloc::{AllocError, Global};
@@ -21,6 +22,14 @@ const MOST_KEY_BYTES: usize = 16_384;
 
 const MOST_ALGORITHM_BYTES: usize = 64;
 
+// A request that is judged: who asks for which service, and how (RFC 4252 section 5).
+#[derive(Clone, Copy)]
+pub(crate) struct Request<'a> {
+    pub(crate) user: &'a [u8],
+    pub(crate) service: &'a [u8],
+    pub(crate) method: Method<'a>,
+}
+
 // Judges a request: it is accepted, a good probe, or fails. An error comes only where memory is refused for the text
 // that a signature covers.
 pub(crate) fn judge_request<'a, J: UserJudge>(
@@ -28,21 +37,26 @@ pub(crate) fn judge_request<'a, J: UserJudge>(
     judge: &J,
     methods: &NameList<'_>,
     session: &[u8; 32],
-    user: &'a [u8],
-    service: &[u8],
-    method: &Method<'a>,
+    request: &Request<'a>,
 ) -> Result<ServerAnswer<'a>, AllocError>
-    requires { IsShort user.now }
-    ensures judged { IfOk result (λ answer. IsJudged (J.verdicts judge.now) (names methods.now) session.now user.now service.now
-        (method_meaning method.now) answer) }
+    requires { IsShort request.now.user.now }
+    ensures judged { IfOk result (λ answer. IsJudged (J.verdicts judge.now) (names methods.now) session.now request.now.user.now
+        request.now.service.now (method_meaning request.now.method) answer) }
     ensures short { IfOk result (λ answer. IsShortAnswer answer) }
-    ensures memory { OnErr result (NeedsSignature (J.verdicts judge.now) (names methods.now) user.now service.now
-        (method_meaning method.now)) }
+    ensures memory { OnErr result (NeedsSignature (J.verdicts judge.now) (names methods.now) request.now.user.now
+        request.now.service.now (method_meaning request.now.method)) }
 {
-    if service != CONNECTION {
+    if request.service != CONNECTION {
         return Ok(ServerAnswer::Failed);
     }
-    judge_method(alloc, judge, methods, session, user, method)
+    judge_method(
+        alloc,
+        judge,
+        methods,
+        session,
+        request.user,
+        &request.method,
+    )
 }
 
 // Judges a request for the connection.
@@ -78,7 +92,8 @@ fn judge_method<'a, J: UserJudge>(
             let Some(signature) = signature else {
                 return Ok(ServerAnswer::KeyOk { algorithm, key });
             };
-            is_signed(alloc, judge, session, user, algorithm, key, signature)?
+            let text = SignedText::for_connection(session, user, algorithm, key);
+            is_signed(alloc, judge, &text, signature)?
         }
         _ => false,
     };
@@ -129,22 +144,17 @@ fn is_known_key<J: UserJudge>(judge: &J, user: &[u8], algorithm: &[u8], key: &[u
         && judge.key_known(user, algorithm, key)
 }
 
-// Tests whether the signature of a request for the connection is right.
+// Tests whether the signature of this text by its key is right.
 fn is_signed<J: UserJudge>(
     alloc: Global,
     judge: &J,
-    session: &[u8; 32],
-    user: &[u8],
-    algorithm: &[u8],
-    key: &[u8],
+    text: &SignedText<'_>,
     signature: &[u8],
 ) -> Result<bool, AllocError>
-    requires user { IsShort user.now }
-    requires algorithm { IsShort algorithm.now }
-    requires key { IsShort key.now }
-    ensures { IfOk result (λ right. right ≡ (J.verdicts judge.now).signature_is_right algorithm.now key.now
-        (signed_text session.now user.now (codes "ssh-connection") algorithm.now key.now) signature.now) }
+    requires { IsShortText text.now }
+    ensures { IfOk result (λ right. right ≡ (J.verdicts judge.now).signature_is_right text.now.algorithm.now text.now.key.now
+        (text_of text.now) signature.now) }
 {
-    let text = request_text(alloc, session, user, algorithm, key)?;
-    Ok(judge.signature(algorithm, key, &text, signature))
+    let bytes = request_text(alloc, text)?;
+    Ok(judge.signature(text.algorithm, text.key, &bytes, signature))
 }

@@ -7,8 +7,9 @@
 //! decoded messages and answer what is to be sent and told. Every request is for the service `ssh-connection`.
 //!
 //! The layer below tells them by `open` that SERVICE_ACCEPT was sent or taken, tests by `may_take` whether a number
-//! may come, and decodes under `probing`. What they answer and keep is what `ssh_model` defines of both ends of a
-//! session, so each of them sums up the history of its end (`laws`).
+//! may come, and decodes under `probing`. What they keep depends on no other message of another layer. What they
+//! answer and keep is what `ssh_model` defines of both ends of a session, so each of them sums up the history of
+//! its end (`laws`).
 //!
 //! Memory is asked for by `AuthServer::new`, and where a text is made that a signature covers: by `take` of a server
 //! for the signature of a known key, and by `ask` of a client for a signed request. No other call needs any.
@@ -44,6 +45,7 @@ mod judging;
 pub mod laws;
 mod number;
 mod parts;
+mod progress;
 mod refusal;
 mod request;
 mod server;

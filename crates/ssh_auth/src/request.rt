@@ -13,7 +13,7 @@ ghost use Rattle.ssh_auth.specs.Asking.{short_signature};
 use crate::configured::CONNECTION;
 use crate::parts::UserSigner;
 use crate::signature::Signature;
-use crate::signed_text::request_text;
+use crate::signed_text::{SignedText, request_text};
 use ssh_message::{Message, Method};
 use std::alloc::{AllocError, Global};
 use std::marker::Model;
@@ -118,8 +118,9 @@ impl<'a> UserRequest<'a> {
             (short_signature (S.signature_of signer.now) user.now algorithm.now key.now
             (signed_text session.now user.now (codes "ssh-connection") algorithm.now key.now))))) }
     {
-        let text = request_text(alloc, session, user, algorithm, key)?;
-        let signature = Signature::of(signer, user, algorithm, key, &text);
+        let text = SignedText::for_connection(session, user, algorithm, key);
+        let bytes = request_text(alloc, &text)?;
+        let signature = Signature::of(signer, user, algorithm, key, &bytes);
         Ok(UserRequest {
             user,
             method: RequestMethod::Signed {

@@ -15,27 +15,25 @@ ghost use Rattle.ssh_auth.specs.declared.answer.ServerAnswer.TheVariants as answ
 ghost use Rattle.ssh_auth.specs.declared.refusal.AuthRefusal.TheVariants as refusals;
 
 use crate::answer::ServerAnswer;
-use crate::judging::judge_request;
+use crate::judging::{Request, judge_request};
 use crate::number::is_spare;
 use crate::parts::UserJudge;
+use crate::progress::Progress;
 use crate::refusal::{AuthRefusal, TakeError};
-use ssh_message::{Message, Method};
+use ssh_message::Message;
 use ssh_types::NameList;
 use std::alloc::{AllocError, Global};
 use std::marker::Model;
 
 /// What a server keeps of authentication (RFC 4252): whether SERVICE_ACCEPT was sent, how many requests failed, and
 /// whether USERAUTH_SUCCESS was sent; besides, how many requests may fail and the methods that it names.
-///
-/// Nothing of it depends on the messages of other layers but SERVICE_ACCEPT, which `open` tells.
 #[derive(Drop)]
 pub struct AuthServer {
     alloc: Global,
     tries: u32,
     methods: Vec<u8>,
-    opened: bool,
     failures: u32,
-    authenticated: bool,
+    progress: Progress,
 }
 
 impl Model for AuthServer {
@@ -43,7 +41,7 @@ impl Model for AuthServer {
 
     ghost Value = { Server };
 
-    ghost view = { λ s. server_of s.tries s.methods.items s.opened s.failures s.authenticated };
+    ghost view = { λ s. server_of s.tries s.methods.items s.progress.opened s.failures s.progress.authenticated };
 
     ghost invariant = { λ s. IsList s.methods.items };
 }
@@ -67,9 +65,8 @@ impl AuthServer {
             alloc,
             tries,
             methods: methods.as_bytes().to_vec(alloc)?,
-            opened: false,
             failures: 0,
-            authenticated: false,
+            progress: Progress::new(),
         })
     }
 
@@ -77,7 +74,7 @@ impl AuthServer {
     pub fn open(&mut self)
         ensures { self.new ≡ record self.old { kept = opened_server self.old.kept } }
     {
-        self.opened = true;
+        self.progress.opened = true;
     }
 
     /// Tests whether a message of this number, 50 to 79, may come now outside a key exchange: USERAUTH_REQUEST once
@@ -85,7 +82,7 @@ impl AuthServer {
     pub fn may_take(&self, number: u8) -> bool
         ensures { result ≡ server_takes self.now.kept number }
     {
-        (number == 50 && self.opened) || is_spare(number)
+        (number == 50 && self.progress.opened) || is_spare(number)
     }
 
     /// Whether a key probe is outstanding, as `decode` of `ssh_message` asks: a server sends none.
@@ -163,7 +160,14 @@ impl AuthServer {
                 user,
                 service,
                 method,
-            } => self.take_request(session, judge, user, service, &method),
+            } => {
+                let request = Request {
+                    user,
+                    service,
+                    method,
+                };
+                self.take_request(session, judge, &request)
+            }
             Message::Unknown(_) => Ok(ServerAnswer::Unimplemented),
             _ => unreachable!(),
         }
@@ -173,7 +177,7 @@ impl AuthServer {
     fn is_authenticated(&self) -> bool
         ensures { result ≡ self.now.kept.authenticated }
     {
-        self.authenticated
+        self.progress.authenticated
     }
 
     // Takes a request, which may come.
@@ -181,31 +185,21 @@ impl AuthServer {
         &mut self,
         session: &[u8; 32],
         judge: &J,
-        user: &'a [u8],
-        service: &'a [u8],
-        method: &Method<'a>,
+        request: &Request<'a>,
     ) -> Result<ServerAnswer<'a>, TakeError>
-        requires short { IsShort user.now }
+        requires short { IsShort request.now.user.now }
         requires opened { self.old.kept.opened ≡ true }
         ensures answered { IfOk result (λ answer. ServerAnswers (J.verdicts judge.now) session.now self.old
-            (model.UserauthRequest user.now service.now (method_meaning method.now)) answer self.new) }
+            (model.UserauthRequest request.now.user.now request.now.service.now (method_meaning request.now.method)) answer self.new) }
         ensures short { IfOk result (λ answer. IsShortAnswer answer) }
         ensures refused { IfErr result (λ error. ServerRefuses (J.verdicts judge.now) session.now self.old
-            (model.UserauthRequest user.now service.now (method_meaning method.now)) error) }
+            (model.UserauthRequest request.now.user.now request.now.service.now (method_meaning request.now.method)) error) }
         ensures kept { OnErr result (self.new ≡ self.old) }
     {
         if self.is_authenticated() {
             return Ok(ServerAnswer::Ignored);
         }
-        let answer = judge_request(
-            self.alloc,
-            judge,
-            &self.methods(),
-            session,
-            user,
-            service,
-            method,
-        )?;
+        let answer = judge_request(self.alloc, judge, &self.methods(), session, request)?;
         self.settle(&answer)?;
         Ok(answer)
     }
@@ -221,7 +215,7 @@ impl AuthServer {
     {
         match *answer {
             ServerAnswer::Accepted { .. } => {
-                self.authenticated = true;
+                self.progress.authenticated = true;
                 Ok(())
             }
             ServerAnswer::Failed => {

@@ -1,9 +1,8 @@
 //! What a signature of a request covers.
 
-ghost use Rattle.std.specs.Prelude.{◌≡◌, ◌<◌, ◌≤◌, ◌+◌, ◌^◌, ◌++◌, ◌∷◌, [], IfOk, OnOk, OnErr, codes, length, vec_capacity};
+ghost use Rattle.std.specs.Prelude.{◌≡◌, ◌<◌, ◌≤◌, ◌+◌, ◌^◌, ◌++◌, ◌∷◌, [], IfOk, OnOk, OnErr, length, vec_capacity};
 ghost use Rattle.ssh_model.specs.Laws.Reading.{Extends};
 ghost use Rattle.ssh_model.specs.Protocol.KeyExchange.Exchange.{string_of};
-ghost use Rattle.ssh_model.specs.Protocol.Authentication.Requests.{signed_text};
 ghost use Rattle.ssh_auth.specs.Texts.{IsShortText, back_of, front_of, text_of};
 
 use crate::configured::{CONNECTION, PUBLICKEY};
@@ -25,6 +24,36 @@ pub struct SignedText<'a> {
     pub algorithm: &'a [u8],
     /// The public key.
     pub key: &'a [u8],
+}
+
+impl<'a> SignedText<'a> {
+    ghost use Rattle.std.specs.Prelude.{◌≡◌, ◌<◌, ◌^◌, codes, length};
+    ghost use Rattle.ssh_model.specs.Protocol.Authentication.Requests.{signed_text};
+    ghost use Rattle.ssh_auth.specs.Texts.{IsShortText, text_of};
+
+    // That of a request for the connection.
+    pub(crate) fn for_connection(
+        session: &'a [u8; 32],
+        user: &'a [u8],
+        algorithm: &'a [u8],
+        key: &'a [u8],
+    ) -> SignedText<'a>
+        requires user { length user.now < 2 ^ 32 }
+        requires algorithm { length algorithm.now < 2 ^ 32 }
+        requires key { length key.now < 2 ^ 32 }
+        ensures text { text_of result ≡ signed_text session.now user.now (codes "ssh-connection") algorithm.now key.now }
+        ensures algorithm { result.algorithm.now ≡ algorithm.now }
+        ensures key { result.key.now ≡ key.now }
+        ensures short { IsShortText result }
+    {
+        SignedText {
+            session,
+            user,
+            service: CONNECTION,
+            algorithm,
+            key,
+        }
+    }
 }
 
 /// Puts the text to be signed at the end of `out` (RFC 4252 section 7): the string session id, the byte 50, the strings
@@ -49,29 +78,14 @@ pub fn put_signed_text(out: &mut Vec<u8>, text: &SignedText<'_>) -> Result<(), A
     Ok(())
 }
 
-// The text of a request for the connection. It fails only where memory is refused.
-pub(crate) fn request_text(
-    alloc: Global,
-    session: &[u8; 32],
-    user: &[u8],
-    algorithm: &[u8],
-    key: &[u8],
-) -> Result<Vec<u8>, AllocError>
-    requires user { length user.now < 2 ^ 32 }
-    requires algorithm { length algorithm.now < 2 ^ 32 }
-    requires key { length key.now < 2 ^ 32 }
-    ensures { IfOk result (λ text. text.items ≡ signed_text session.now user.now (codes "ssh-connection") algorithm.now key.now) }
+// The bytes of this text. It fails only where memory is refused.
+pub(crate) fn request_text(alloc: Global, text: &SignedText<'_>) -> Result<Vec<u8>, AllocError>
+    requires { IsShortText text.now }
+    ensures { IfOk result (λ bytes. bytes.items ≡ text_of text.now) }
 {
-    let mut text = Vec::new(alloc);
-    let signed = SignedText {
-        session,
-        user,
-        service: CONNECTION,
-        algorithm,
-        key,
-    };
-    put_signed_text(&mut text, &signed)?;
-    Ok(text)
+    let mut bytes = Vec::new(alloc);
+    put_signed_text(&mut bytes, text)?;
+    Ok(bytes)
 }
 
 // Puts the text to be signed. Where memory is wanting some of its bytes may stand there.
