@@ -1,5 +1,6 @@
 -- What is left to be done with an answer of the transport.
 use Rattle.std.proofs.Common.{◌≡◌, ℕ, false, List, [], ◌∷◌, ◌++◌, append-nil, refl, ap, sym, ◌∙◌}
+use Rattle.std.specs.Global.{Box}
 use Rattle.ssh_kex.specs.declared.owned_choice.OwnedChoice.{OwnedChoice}
 use Rattle.ssh_transport_machine.specs.Puts.{Outs}
 use Rattle.ssh_transport_machine.specs.State.{State}
@@ -11,7 +12,7 @@ use Rattle.ssh_end.specs.Owed.{Extends}
 
 -- What the transport says of both: a payload that was left, and an exchange that was completed.
 module _ {K : Type 0} (old m : State K) (o : Outs) (Took : TransportTurn → Type 0)
-    (up : (number : ℕ) → Took (outcome.Up number) → transport.IsUp m o) (completed : (choice : OwnedChoice) → Took (outcome.Completed choice) → transport.IsCompleted old m o) where
+    (up : (number : ℕ) → Took (outcome.Up number) → transport.IsUp m o) (completed : (choice : Box OwnedChoice) → Took (outcome.Completed choice) → transport.IsCompleted old m o) where
   pub ready : (given : TransportTurn) → Took given → IsReady m given
   ready (outcome.Up number) x = let y = up number x in record { above = y.above; alive = y.alive }
   ready (outcome.Completed choice) x = (completed choice x).alive

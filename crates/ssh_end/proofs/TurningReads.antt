@@ -3,6 +3,7 @@ use Rattle.std.proofs.Common.{◌≡◌, ℕ, Bool, true, false, List, [], refl,
 use Rattle.std.specs.Prelude.{Result, Ok, Err}
 use Rattle.std.proofs.lemmas.Bool.{false≢true}
 use Rattle.std.specs.Option.{option_map}
+use Rattle.std.specs.Global.{Box}
 use Rattle.ssh_model.specs.declared.side.Side.{Side}
 use Rattle.ssh_model.specs.declared.side.Side.TheVariants.{Client}
 use Rattle.ssh_model.specs.State.Channels.Kept.{Channels}
@@ -177,7 +178,7 @@ module _ {K : Type 0} (p : Parties K) (side : Side) (history : List Item) (bytes
   above_reads number (Err why) o x y = Reads.over why x.shown (ap (λ (t : Transport K). t.dead) x.refused.refuses.after)
 
   -- what was owed was given after an exchange
-  pub ended_reads : (choice : OwnedChoice) (channels later : Channels) (o : Outs) → new ≡ record between { kept = new.kept } → Completing p.crypto between channels done new later o → Left p side history bytes (outcome.Completed choice) between → Reads p side history bytes done new
+  pub ended_reads : (choice : Box OwnedChoice) (channels later : Channels) (o : Outs) → new ≡ record between { kept = new.kept } → Completing p.crypto between channels done new later o → Left p side history bytes (outcome.Completed choice) between → Reads p side history bytes done new
   ended_reads choice channels later o rest (Completing.given x shown) y =
       still_reads (outcome.Completed choice) refl (λ e. cc e) (λ why e. cc e)
       (still_by between new new.kept rest (ap (λ (t : Transport K). t.lines) (x.kept Client) ∙ owed_lines channels later x.items x.gives between.kept)) y

@@ -1,6 +1,7 @@
 -- What an end does with the bytes of one line or one packet is what the end of a session does with them.
 use Rattle.std.proofs.Common.{◌≡◌, ℕ, ◌++◌, true, false, List, refl, ap, sym, ◌∙◌, subst, Break}
 use Rattle.std.proofs.lemmas.Bool.{false≢true}
+use Rattle.std.specs.Global.{Box}
 use Rattle.ssh_model.specs.declared.side.Side.{Side}
 use Rattle.ssh_model.specs.declared.side.Side.TheVariants.{Client}
 use Rattle.ssh_model.specs.Protocol.Authentication.Requests.{Judge}
@@ -61,9 +62,9 @@ use Rattle.ssh_end.proofs.TurningWhole.{is_turn, is_whole_turn, no_more}
 pub record TransportLaws {K : Type 0} (p : Parties K) (side : Side) (does : RoleDoes K) (lacks : RoleLacks K) : Type 0 where
   pub taken : (history : List Item) (old : State K) → SumsUp p side history old.kept → (bytes : List ℕ) (given : TransportTurn) (new : State K) (o : Outs) → Took p.crypto side does old bytes given new o → UnitTurnOf p side history old.kept bytes given new o
   pub died : (history : List Item) (old : State K) → SumsUp p side history old.kept → (bytes : List ℕ) (new : State K) → Died p.crypto side lacks old bytes new → WouldDie p side old.kept bytes
-  pub completed : (old : State K) (bytes : List ℕ) (choice : OwnedChoice) (new : State K) (o : Outs) → Took p.crypto side does old bytes (outcome.Completed choice) new o → IsCompleted old new o
+  pub completed : (old : State K) (bytes : List ℕ) (choice : Box OwnedChoice) (new : State K) (o : Outs) → Took p.crypto side does old bytes (outcome.Completed choice) new o → IsCompleted old new o
   -- An exchange that was ended would have taken memory.
-  pub due : (old : State K) (bytes : List ℕ) (choice : OwnedChoice) (new : State K) (o : Outs) → Took p.crypto side does old bytes (outcome.Completed choice) new o → Died p.crypto side lacks old bytes (dead_state old)
+  pub due : (old : State K) (bytes : List ℕ) (choice : Box OwnedChoice) (new : State K) (o : Outs) → Took p.crypto side does old bytes (outcome.Completed choice) new o → Died p.crypto side lacks old bytes (dead_state old)
   pub shown : (old new : State K) (o : Outs) (own : Own) (given : TransportTurn) → does old own given new o → IsOwnShown old given new o
   pub leaves : (old new : State K) (o : Outs) (own : Own) (given : TransportTurn) → does old own given new o → Leaves old given new
 

@@ -2,14 +2,13 @@
 
 ghost use Rattle.ssh_end.specs.Parts.{IsClient, IsClientOf, agreement_by, no_verdicts};
 
-use crate::above::Above;
 use crate::ask::Ask;
 use crate::asking::{AskStep, Fault, ask_end};
 use crate::end::End;
 use crate::judge::judge_payload;
-use crate::layers::{LayerFault, Layers};
+use crate::layers::Layers;
 use crate::nobody::Nobody;
-use crate::role::{EndRole, SuppliedEnd};
+use crate::role::{EndRole, Judged, SuppliedEnd};
 use ssh_auth::UserSigner;
 use ssh_config::{ClientPartValues, ClientParts};
 use ssh_transport::{Client, Supplied};
@@ -52,11 +51,7 @@ impl<P: ClientParts, U: UserSigner + Drop> EndRole for ClientRole<P, U> {
         &self.exchange
     }
 
-    fn judge(
-        &self,
-        machine: &Machine<P::Sealing>,
-        layers: &mut Layers,
-    ) -> Result<Above, LayerFault> {
+    fn judge(&self, machine: &Machine<P::Sealing>, layers: &mut Layers) -> Judged {
         judge_payload(machine, layers, &Nobody)
     }
 

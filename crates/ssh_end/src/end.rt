@@ -24,6 +24,7 @@ use crate::asking::{AskStep, Fault};
 use crate::layers::Layers;
 use crate::opening_laws::is_material;
 use crate::role::EndRole;
+use crate::sent::SentInTurn;
 use crate::step::Step;
 use crate::turn::{Turn, asked_turn, sent_payloads, turn_of};
 use crate::turn_laws::ends_lift;
@@ -33,8 +34,8 @@ use ssh_model::any_peer::against_any_peer;
 use ssh_model::end::feeds;
 use ssh_packet::Sealing;
 use ssh_transport::Role;
+use ssh_transport_machine::Machine;
 use ssh_transport_machine::standing::machines_stand;
-use ssh_transport_machine::{Machine, Outgoing};
 use std::marker::Model;
 
 /// An end of SSH-2: its transport (RFC 4253), the authentication of its user (RFC 4252), and channels (RFC 4254). `ServerEnd` and
@@ -46,13 +47,12 @@ pub struct End<R: EndRole> {
     pub(crate) machine: Machine<<R::Exchange as Role>::Sealing>,
     pub(crate) role: R,
     pub(crate) layers: Layers,
-    // What gives the padding, and the payloads that were sent in the turn.
-    pub(crate) sent: Outgoing<<R::Exchange as Role>::Filler>,
-    // What was done in the turn, with how many bytes, the channel of a single payload that was sent, and those of payloads that were owed.
+    // What gives the padding, and what was sent in the turn.
+    pub(crate) sent: SentInTurn<<R::Exchange as Role>::Filler>,
+    // What was done in the turn, with how many bytes, and the channel of a single payload that was sent.
     pub(crate) step: Step,
     pub(crate) used: usize,
     pub(crate) channel: [Option<u32>; 1],
-    pub(crate) numbers: Vec<Option<u32>>,
 }
 
 impl<R: EndRole> Model for End<R> {
@@ -67,12 +67,12 @@ impl<R: EndRole> Model for End<R> {
       machine = e.machine;
       role = e.role;
       layers = e.layers;
-      filler = e.sent.filler;
+      filler = e.sent.outgoing.filler;
       step = e.step;
       used = e.used;
-      sent = map (λ v. v.items) e.sent.payloads.items;
-      channels = channels_beside (map (λ v. v.items) e.sent.payloads.items)
-          (last_channels e.channel e.numbers.items);
+      sent = map (λ v. v.items) e.sent.outgoing.payloads.items;
+      channels = channels_beside (map (λ v. v.items) e.sent.outgoing.payloads.items)
+          (last_channels e.channel e.sent.numbers.items);
     } };
 
     ghost invariant = { λ e. Stands R.Exchange.SIDE e.machine };
@@ -88,7 +88,6 @@ impl<R: EndRole> Drop for End<R> {
             step: _,
             used: _,
             channel: _,
-            numbers: _,
         } = self;
     }
 }
@@ -154,8 +153,8 @@ impl<R: EndRole> End<R> {
         ends_lift::<R>();
         self.step = Step::More;
         self.used = 0;
-        self.sent.payloads.clear();
-        self.numbers.clear();
+        self.sent.outgoing.payloads.clear();
+        self.sent.numbers.clear();
         let (used, done) = advance(
             &mut self.machine,
             &self.role,
@@ -163,7 +162,6 @@ impl<R: EndRole> End<R> {
             bytes,
             out,
             &mut self.sent,
-            &mut self.numbers,
         );
         let step = done?;
         self.step = step;
@@ -186,9 +184,9 @@ impl<R: EndRole> End<R> {
             self.used,
             self.shown(),
             sent_payloads(
-                self.sent.payloads.as_slice(),
+                self.sent.outgoing.payloads.as_slice(),
                 self.channel.as_slice(),
-                self.numbers.as_slice(),
+                self.sent.numbers.as_slice(),
             ),
         )
     }
@@ -249,14 +247,14 @@ impl<R: EndRole> End<R> {
         ends_lift::<R>();
         self.step = Step::More;
         self.used = 0;
-        self.sent.payloads.clear();
-        self.numbers.clear();
+        self.sent.outgoing.payloads.clear();
+        self.sent.numbers.clear();
         let done = self.role.ask(
             &mut self.machine,
             &mut self.layers,
             ask,
             out,
-            &mut self.sent,
+            &mut self.sent.outgoing,
         );
         if let Ok(step) = done {
             self.channel = [step.channel];

@@ -17,6 +17,7 @@ use crate::completing::complete;
 use crate::effect::step_of;
 use crate::layers::{LayerFault, Layers, Login};
 use crate::role::EndRole;
+use crate::sent::SentInTurn;
 use crate::step::Step;
 use ssh_packet::Sealing;
 use ssh_transport::Role;
@@ -24,7 +25,8 @@ use ssh_transport_machine::standing::machines_stand;
 use ssh_transport_machine::{Effect, Machine, Outgoing, TransportTurn};
 use std::alloc::AllocError;
 
-/// Does what is left to be done with an answer of the transport. The channels of the replies that are given go to `numbers`.
+/// Does what is left to be done with an answer of the transport. The channels of the replies that are given are appended to
+/// the numbers of `sent`.
 ///
 /// # Errors
 ///
@@ -34,35 +36,42 @@ pub fn go_on<R: EndRole>(
     machine: &mut Machine<<R::Exchange as Role>::Sealing>,
     role: &R,
     layers: &mut Layers,
-    turn: TransportTurn,
+    turn: &TransportTurn,
     out: &mut Vec<u8>,
-    sent: &mut Outgoing<<R::Exchange as Role>::Filler>,
-    numbers: &mut Vec<Option<u32>>,
+    sent: &mut SentInTurn<<R::Exchange as Role>::Filler>,
 ) -> Result<Step, AllocError>
-    requires ready { IsReady machine.old turn }
-    ensures goes { IfOk result (λ step. Goes R.Exchange.Sealing.crypto (R.judging role.now) turn machine.old layers.old step machine.new
-        layers.new (outs out.old out.new sent.old sent.new)) }
-    ensures numbered { IfOk result (λ step. numbers.new.items ≡ numbers.old.items ++ channels_behind step layers.old.channels.owed) }
-    ensures more { IfOk result (λ step. step ≡ Step.More → turn ≡ TransportTurn.More) }
-    ensures lacks { OnErr result (GoLacks (R.judging role.now) turn machine.old layers.old) }
+    requires ready { IsReady machine.old turn.now }
+    ensures goes { IfOk result (λ step. Goes R.Exchange.Sealing.crypto (R.judging role.now) turn.now machine.old layers.old step machine.new
+        layers.new (outs out.old out.new sent.old.outgoing sent.new.outgoing)) }
+    ensures numbered { IfOk result (λ step. sent.new.numbers.items ≡ sent.old.numbers.items ++ channels_behind step
+        layers.old.channels.owed) }
+    ensures more { IfOk result (λ step. step ≡ Step.More → turn.now ≡ TransportTurn.More) }
+    ensures lacks { OnErr result (GoLacks (R.judging role.now) turn.now machine.old layers.old) }
     ensures dead { OnErr result (machine.new.kept.dead ≡ true) }
-    ensures left { OnErr result (is_whole turn ≡ false) }
+    ensures left { OnErr result (is_whole turn.now ≡ false) }
     ensures out { OnErr result (Extends out.old.items out.new.items) }
-    ensures sent { OnErr result (Extends (map (λ v. v.items) sent.old.payloads.items) (map (λ v. v.items) sent.new.payloads.items)) }
+    ensures sent { OnErr result (Extends (map (λ v. v.items) sent.old.outgoing.payloads.items)
+        (map (λ v. v.items) sent.new.outgoing.payloads.items)) }
     ensures stands { Stands R.Exchange.SIDE machine.old → Stands R.Exchange.SIDE machine.new }
-    ensures padded { OnOk result (PadsTo R.Exchange.Sealing.crypto R.Exchange.Filler.gives (sending_by machine.old sent.old out.old)
-        (sending_by machine.new sent.new out.new)) }
+    ensures padded { OnOk result (PadsTo R.Exchange.Sealing.crypto R.Exchange.Filler.gives
+        (sending_by machine.old sent.old.outgoing out.old) (sending_by machine.new sent.new.outgoing out.new)) }
 {
     match turn {
-        TransportTurn::Up(_) => go_up(machine, role, layers, out, sent),
+        TransportTurn::Up(_) => go_up(machine, role, layers, out, &mut sent.outgoing),
         TransportTurn::Completed(_) => {
-            complete(machine, &mut layers.channels, out, sent, numbers)
+            complete(
+                machine,
+                &mut layers.channels,
+                out,
+                &mut sent.outgoing,
+                &mut sent.numbers,
+            )
         }
         TransportTurn::More => Ok(Step::More),
-        TransportTurn::Refused(why) => Ok(Step::Refused(why)),
+        TransportTurn::Refused(why) => Ok(Step::Refused(*why)),
         TransportTurn::Done(effect) => {
-            open_by(&mut layers.authentication, effect);
-            Ok(step_of(effect))
+            open_by(&mut layers.authentication, *effect);
+            Ok(step_of(*effect))
         }
     }
 }

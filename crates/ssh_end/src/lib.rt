@@ -33,6 +33,7 @@ mod opening;
 pub mod opening_laws;
 mod owed;
 mod role;
+mod sent;
 mod server_role;
 mod step;
 mod told;

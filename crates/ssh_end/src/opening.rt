@@ -14,6 +14,7 @@ use crate::end::End;
 use crate::layers::Layers;
 use crate::opening_laws::{is_material, settings_fit};
 use crate::role::SuppliedEnd;
+use crate::sent::SentInTurn;
 use crate::step::Step;
 use crate::turn_laws::new_ends_read;
 use ssh_config::Config;
@@ -22,7 +23,7 @@ use ssh_model::end::openings;
 use ssh_packet::Sealing;
 use ssh_transport::Role;
 use ssh_transport_machine::standing::machines_stand;
-use ssh_transport_machine::{Machine, Outgoing};
+use ssh_transport_machine::{Machine, Material, Outgoing};
 use ssh_types::Side;
 use std::alloc::{AllocError, Global};
 
@@ -70,16 +71,19 @@ impl<R: SuppliedEnd> End<R> {
             filler,
             payloads: Vec::new(alloc),
         };
-        let machine = Machine::new(alloc, side, config, cookie, secret, out, &mut sent)?;
+        let first = Material { cookie, secret };
+        let machine = Machine::new(alloc, side, config, first, out, &mut sent)?;
         Ok(End {
             machine,
             role,
             layers,
-            sent,
+            sent: SentInTurn {
+                outgoing: sent,
+                numbers: Vec::new(alloc),
+            },
             step: Step::More,
             used: 0,
             channel: [None],
-            numbers: Vec::new(alloc),
         })
     }
 }

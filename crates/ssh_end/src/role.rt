@@ -20,6 +20,9 @@ use crate::layers::{LayerFault, Layers};
 use ssh_transport::Role;
 use ssh_transport_machine::{Machine, Outgoing};
 
+/// What the layers above a transport make of a payload, or why they make nothing of it.
+pub type Judged = Result<Above, LayerFault>;
+
 /// What one end has and the other does not: its part in an exchange of keys, and who judges its users, or signs for its user. `ServerRole`
 /// and `ClientRole` are the two.
 pub trait EndRole: Drop {
@@ -48,7 +51,7 @@ pub trait EndRole: Drop {
         &self,
         machine: &Machine<<Self::Exchange as Role>::Sealing>,
         layers: &mut Layers,
-    ) -> Result<Above, LayerFault>
+    ) -> Judged
         requires above { 50 ≤ number_of machine.now.receiver.payload }
         requires alive { machine.now.kept.dead ≡ false }
         ensures judged { OnJudged result (λ given. JudgesPayload (judging self.now) machine.now layers.old given layers.new) }

@@ -3,14 +3,13 @@
 ghost use Rattle.std.specs.Prelude.{◌≡◌, []};
 ghost use Rattle.ssh_end.specs.Parts.{IsServer, IsServerOf, exchange_parts};
 
-use crate::above::Above;
 use crate::ask::Ask;
 use crate::asking::{AskStep, Fault, ask_end};
 use crate::end::End;
 use crate::judge::judge_payload;
-use crate::layers::{LayerFault, Layers};
+use crate::layers::Layers;
 use crate::nobody::Nobody;
-use crate::role::{EndRole, SuppliedEnd};
+use crate::role::{EndRole, Judged, SuppliedEnd};
 use ssh_auth::UserJudge;
 use ssh_config::{ServerPartValues, ServerParts};
 use ssh_transport::{Server, Supplied};
@@ -54,11 +53,7 @@ impl<P: ServerParts, U: UserJudge + Drop> EndRole for ServerRole<P, U> {
         &self.exchange
     }
 
-    fn judge(
-        &self,
-        machine: &Machine<P::Sealing>,
-        layers: &mut Layers,
-    ) -> Result<Above, LayerFault> {
+    fn judge(&self, machine: &Machine<P::Sealing>, layers: &mut Layers) -> Judged {
         judge_payload(machine, layers, &self.user)
     }
 
