@@ -7,12 +7,11 @@ ghost use Rattle.ssh_embedded.specs.declared.making.Methods.TheVariants.{Both};
 ghost use Rattle.ssh_model.specs.declared.side.Side.TheVariants as sides;
 
 use crate::embedded::Embedded;
-use crate::making::{ClientSettings, MakeError, Material, Methods, config};
+use crate::making::{ClientSettings, MakeError, Material};
 use crate::parts::{EmbeddedClient, client_parts};
 use divrelca::{TRIES, UserKey};
 use ed25519::is_small_order;
-use ssh_end::{ClientEnd, ClientRole};
-use ssh_parts::Ed25519Signer;
+use ssh_end::ClientRole;
 use std::alloc::Global;
 
 /// A client, with what a program keeps besides it.
@@ -40,33 +39,15 @@ impl Client {
         ensures user { IfOk result (λ made. made.state.end.role.user.signer ≡ settings.now.user) }
         ensures key { IfOk result (λ made. made.state.key ≡ option_map (λ signer. signer.key) settings.now.user) }
     {
-        let ClientSettings {
-            software,
-            epoch_limit,
-            ciphers,
-            host,
-            user,
-        } = *settings;
-        if is_small_order(&host) {
+        if is_small_order(&settings.host) {
             return Err(MakeError::Key);
         }
-        let config = config(alloc, software, epoch_limit, TRIES, Methods::Both, ciphers)?;
-        let parts = client_parts(material.padding, host);
-        let signer = UserKey { signer: user };
-        let Material { cookie, secret, .. } = material;
-        let mut out = Vec::new(alloc);
-        let end = ClientEnd::new(alloc, config, parts, signer, cookie, secret, &mut out)?;
-        let state = Embedded::of(alloc, end, out, key_of(&user))?;
+        let config = settings.config(alloc)?;
+        let parts = client_parts(material.padding, settings.host);
+        let user = UserKey {
+            signer: settings.user,
+        };
+        let state = Embedded::open(alloc, config, parts, user, material, settings.key())?;
         Ok(Client { state })
-    }
-}
-
-// The public key of a user's key pair, as it goes over the wire.
-fn key_of(user: &Option<Ed25519Signer>) -> Option<[u8; 51]>
-    ensures { result ≡ option_map (λ signer. signer.key) user.now }
-{
-    match user {
-        Some(signer) => Some(*signer.public_key()),
-        None => None,
     }
 }

@@ -63,29 +63,6 @@ impl<R: EndRole> Drop for Embedded<R> {
 }
 
 impl<R: EndRole> Embedded<R> {
-    // An end that was made, with what it put out. No ask waits, and nobody is noted.
-    pub(crate) fn of(
-        alloc: Global,
-        end: End<R>,
-        out: Vec<u8>,
-        key: Option<[u8; 51]>,
-    ) -> Result<Embedded<R>, AllocError>
-        ensures end { IfOk result (λ made. made.end ≡ end) }
-        ensures out { IfOk result (λ made. made.out.items ≡ out.items) }
-        ensures key { IfOk result (λ made. made.key ≡ key) }
-        ensures waiting { IfOk result (λ made. made.waiting.items ≡ []) }
-    {
-        let flows = Flows::new(alloc)?;
-        Ok(Embedded {
-            end,
-            out,
-            key,
-            waiting: VecDeque::new(alloc),
-            flows,
-            noted: Noted::new(alloc),
-        })
-    }
-
     /// What `ssh_end::End::advance` does. What is put out goes after what waits, and the account of the channels' windows follows what is
     /// told. Whose key or password a client asks for is noted, for `Server::set_user`.
     ///

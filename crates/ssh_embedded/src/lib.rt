@@ -24,6 +24,7 @@ mod flowing;
 mod flows;
 mod making;
 mod noted;
+mod opening;
 mod parts;
 mod server;
 mod users;

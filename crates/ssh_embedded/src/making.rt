@@ -1,11 +1,12 @@
 //! What ends are made of, and why none is made.
 
 ghost use Rattle.std.specs.Prelude.{◌≡◌, IfOk, map};
+ghost use Rattle.std.specs.Option.{option_map};
 ghost use Rattle.ssh_embedded.specs.Making.{given_by, method_names, settings_by};
 ghost use Rattle.ssh_embedded.specs.declared.making.MakeError.TheVariants as make_error;
 ghost use Rattle.ssh_config.specs.Meaning.{given_of, settings_of};
 
-use divrelca::Ciphers;
+use divrelca::{Ciphers, TRIES};
 use ssh_config::{Config, ConfigError, ConfigRefusal, Settings};
 use ssh_parts::{AesGcm, Ed25519Signer, GcmSettings};
 use std::alloc::{AllocError, Global};
@@ -62,6 +63,23 @@ pub struct ServerSettings<'a> {
     pub host: Ed25519Signer,
 }
 
+impl ServerSettings<'_> {
+    // The config of a server.
+    pub(crate) fn config(&self, alloc: Global) -> Result<Config<AesGcm>, ConfigError>
+        ensures { IfOk result (λ config. settings_of config ≡ settings_by self.now.software.now self.now.epoch_limit self.now.tries
+            self.now.methods self.now.ciphers) }
+    {
+        config(
+            alloc,
+            self.software,
+            self.epoch_limit,
+            self.tries,
+            self.methods,
+            self.ciphers,
+        )
+    }
+}
+
 /// What a client is made of.
 #[derive(Clone, Copy)]
 pub struct ClientSettings<'a> {
@@ -75,6 +93,33 @@ pub struct ClientSettings<'a> {
     pub host: [u8; 32],
     /// The key pair of the user, where there is one.
     pub user: Option<Ed25519Signer>,
+}
+
+impl ClientSettings<'_> {
+    // The config of a client, to which tries and methods mean nothing.
+    pub(crate) fn config(&self, alloc: Global) -> Result<Config<AesGcm>, ConfigError>
+        ensures { IfOk result (λ config. settings_of config ≡ settings_by self.now.software.now self.now.epoch_limit TRIES Methods.Both
+            self.now.ciphers) }
+    {
+        config(
+            alloc,
+            self.software,
+            self.epoch_limit,
+            TRIES,
+            Methods::Both,
+            self.ciphers,
+        )
+    }
+
+    // The public key of the user's key pair, as it goes over the wire.
+    pub(crate) fn key(&self) -> Option<[u8; 51]>
+        ensures { result ≡ option_map (λ signer. signer.key) self.now.user }
+    {
+        match &self.user {
+            Some(signer) => Some(*signer.public_key()),
+            None => None,
+        }
+    }
 }
 
 /// Why no end is made, and why a user is none.
@@ -107,8 +152,8 @@ impl From<ConfigError> for MakeError {
     }
 }
 
-/// The config of either end: AES-GCM, X25519, Ed25519 and strict key exchange, required.
-pub(crate) fn config(
+// The config of either end: AES-GCM, X25519, Ed25519 and strict key exchange, required.
+fn config(
     alloc: Global,
     software: &[u8],
     epoch_limit: u32,

@@ -16,11 +16,11 @@ ghost use Rattle.ssh_model.specs.State.TransportLayer.Kept.{ExchangeParts};
 ghost use Rattle.ssh_parts.specs.AesGcm.{aes_gcm};
 
 use crate::embedded::Embedded;
-use crate::making::{MakeError, Material, ServerSettings, config};
+use crate::making::{MakeError, Material, ServerSettings};
 use crate::parts::{EmbeddedServer, server_parts};
 use crate::users::Users;
+use ssh_end::ServerRole;
 use ssh_end::judge_laws::users_exchanged;
-use ssh_end::{ServerEnd, ServerRole};
 use ssh_packet::Sealing;
 use ssh_parts::AesGcm;
 use std::alloc::{AllocError, Global};
@@ -72,20 +72,9 @@ impl Server {
         ensures users { IfOk result (λ made. made.state.end.role.user ≡ users) }
         ensures key { IfOk result (λ made. made.state.key ≡ None) }
     {
-        let ServerSettings {
-            software,
-            epoch_limit,
-            tries,
-            methods,
-            ciphers,
-            host,
-        } = *settings;
-        let config = config(alloc, software, epoch_limit, tries, methods, ciphers)?;
-        let parts = server_parts(material.padding, host);
-        let Material { cookie, secret, .. } = material;
-        let mut out = Vec::new(alloc);
-        let end = ServerEnd::new(alloc, config, parts, users, cookie, secret, &mut out)?;
-        let state = Embedded::of(alloc, end, out, None)?;
+        let config = settings.config(alloc)?;
+        let parts = server_parts(material.padding, settings.host);
+        let state = Embedded::open(alloc, config, parts, users, material, None)?;
         Ok(Server { state })
     }
 

@@ -2,7 +2,5 @@ use Rattle.ssh_embedded.proofs.NewEnds.{is_made}
 use Rattle.ssh_embedded.proofs.client.Client.new.Goals as goal
 
 pub returns-clause-made : goal.returns-clause-made
-returns-clause-made c =
-    let end = c.in_ok-end.ensures in let state = c.in_ok-state.ensures in
-    is_made c.in_ok-config.ensures.settings c.client_parts-parts.ensures.filler c.new-out.ensures.items
-    end.opened end.padded end.step state.end state.out state.waiting
+returns-clause-made c = let state = c.in_ok-state.ensures in
+    is_made state.opened state.padded c.in_ok-config.ensures c.client_parts-parts.ensures.filler state.step state.waiting
