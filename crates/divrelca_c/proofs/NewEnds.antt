@@ -1,5 +1,6 @@
 -- The settings and the random bytes of a new end, by what C passes.
 use Rattle.std.proofs.Common.{◌≡◌, ◌∙◌, ap, subst}
+use Rattle.std.specs.Prelude.{Option, ℤ}
 use Rattle.ssh_model.specs.Protocol.Sessions.Parties.{Settings}
 use Rattle.ssh_model.specs.declared.side.Side.{Side}
 use Rattle.ssh_model.specs.declared.side.Side.TheVariants as sides
@@ -14,7 +15,8 @@ use Rattle.ssh_embedded.specs.declared.making.Material.{Material}
 use Rattle.ssh_embedded.specs.declared.making.Methods.{Methods}
 use Rattle.ssh_embedded.specs.declared.making.Methods.TheVariants.{Both}
 use Rattle.ssh_embedded.specs.declared.server.Server.{Server}
-use Rattle.divrelca_c.specs.Making.{ciphers_by, client_settings, methods_by, server_settings}
+use Rattle.divrelca_c.specs.Making.{Leaves, ciphers_by, client_settings, methods_by, server_settings}
+use Rattle.divrelca_c.proofs.Known.{where_same}
 use Rattle.divrelca_c.specs.declared.bytes.DvClientSettings.{DvClientSettings}
 use Rattle.divrelca_c.specs.declared.bytes.DvServerSettings.{DvServerSettings}
 
@@ -39,3 +41,9 @@ pub client_made : (given : DvClientSettings) {ciphers : Ciphers} {material passe
     IsMade sides.Client (client_settings given) passed made.state
 client_made given ciphers_are =
     made_with sides.Client (ap (λ it. settings_by given.software.now given.epoch_limit TRIES Both it) ciphers_are)
+
+-- What holds of an end holds of it where it is left.
+pub leaves_new : {P E : Type 0} {end_at : P → Option E} {Is : E → Type 0} {end : E} {code : ℤ} {old new : P} →
+    Leaves end_at (λ left. left ≡ end) code old new → Is end → Leaves end_at Is code old new
+leaves_new {P} {E} {end_at} {Is} {end} {code} {old} {new} left known =
+    record { none = left.none; some = left.some; made = λ done. where_same Is known (end_at new) (left.made done) }

@@ -13,7 +13,7 @@ ghost use Rattle.ssh_parts.specs.AesGcm.{aes_gcm};
 
 use crate::bytes::{DvBytes, DvClientSettings, DvMaterial, DvServerSettings, DvUser};
 use crate::calls;
-use crate::codes::{DONE, code_of};
+use crate::codes::code_of;
 use crate::event::{DvEvent, event_of};
 use crate::handle::{DvEnd, DvNewEnd};
 use crate::making::{client_in, server_in};
@@ -34,10 +34,7 @@ pub extern "C" fn dv_server_new(
     ensures { Leaves (λ place. place.value) (IsNewServer settings.now (material_by first.now padding.now)) result out.old out.new }
 {
     match server_in(alloc, settings, first, padding) {
-        Ok(server) => {
-            *out = DvNewEnd::of(server);
-            DONE
-        }
+        Ok(server) => out.put(alloc, AnyEnd::Server(server)),
         Err(code) => code,
     }
 }
@@ -54,10 +51,7 @@ pub extern "C" fn dv_client_new(
     ensures { Leaves (λ place. place.value) (IsNewClient settings.now (material_by first.now padding.now)) result out.old out.new }
 {
     match client_in(alloc, settings, first, padding) {
-        Ok(client) => {
-            *out = DvNewEnd::of(client);
-            DONE
-        }
+        Ok(client) => out.put(alloc, AnyEnd::Client(client)),
         Err(code) => code,
     }
 }

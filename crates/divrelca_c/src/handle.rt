@@ -3,9 +3,11 @@
 ghost use Rattle.std.specs.Prelude.{◌≡◌, Option, Some};
 ghost use Rattle.std.specs.Coded.{coded_option};
 ghost use Rattle.divrelca_c.specs.Handles.{handle_owns, place_owns};
+ghost use Rattle.divrelca_c.specs.Making.{Leaves};
 ghost use Rattle.ssh_embedded.specs.contracts.any_end.AnyEnd.{the_row as end_row};
 ghost use Rattle.ssh_embedded.specs.declared.any_end.AnyEnd.{AnyEnd};
 
+use crate::codes::{DONE, MEMORY};
 use ssh_embedded::AnyEnd;
 use std::alloc::Global;
 use std::marker::Model;
@@ -67,6 +69,20 @@ impl DvNewEnd {
         DvNewEnd {
             at: at as *mut u8,
             alloc,
+        }
+    }
+
+    /// Leaves this end here, in a box of its own. Answers the code of that: `DONE`, or `MEMORY` where memory was refused, and nothing
+    /// changes.
+    pub fn put(&mut self, alloc: Global, end: AnyEnd) -> i32
+        ensures { Leaves (λ place. place.value) (λ left. left ≡ end) result self.old self.new }
+    {
+        match Box::new(alloc, end) {
+            Ok(boxed) => {
+                *self = DvNewEnd::of(boxed);
+                DONE
+            }
+            Err(_) => MEMORY,
         }
     }
 }

@@ -1,17 +1,16 @@
 //! What C passes for a new end, and the end that is made of it.
 
 ghost use Rattle.std.specs.Prelude.{◌≡◌, ◌++◌, All, IfErr, IfOk, [], ◌∷◌, length, map, negsuc, pos};
-ghost use Rattle.divrelca_c.specs.Ends.{IsNewClient, IsNewServer};
-ghost use Rattle.divrelca_c.specs.Making.{IsChoice, IsEntry, IsLogin, IsTaken};
+ghost use Rattle.divrelca_c.specs.Making.{IsChoice, IsClientOf, IsEntry, IsLogin, IsServerOf, IsTaken};
 ghost use Rattle.divrelca_c.specs.Making.{ciphers_by, entry_by, login_by, material_by, methods_by, user_by};
 ghost use Rattle.ssh_embedded.specs.Users.{entry_of};
 ghost use Rattle.ssh_parts.specs.Ed25519.{signer_of};
 
 use crate::bytes::{DvClientSettings, DvMaterial, DvServerSettings, DvUser};
-use crate::codes::{BAD_CIPHERS, BAD_KEY, BAD_LOGIN, BAD_METHODS, BAD_SIZE, MEMORY, code_made};
+use crate::codes::{BAD_CIPHERS, BAD_KEY, BAD_LOGIN, BAD_METHODS, BAD_SIZE, code_made};
 use divrelca::{Ciphers, PasswordHash};
 use ssh_embedded::{
-    AnyEnd, Client, ClientSettings, Login, Material, Methods, Server, ServerSettings, Users,
+    Client, ClientSettings, Login, Material, Methods, Server, ServerSettings, Users,
 };
 use ssh_parts::Ed25519Signer;
 use std::alloc::Global;
@@ -161,14 +160,6 @@ fn material_in(first: &DvMaterial, padding: &[u8; 32]) -> Material
     }
 }
 
-// An end in a box of its own.
-fn boxed(alloc: Global, end: AnyEnd) -> Result<Box<AnyEnd, Global>, i32>
-    ensures value { IfOk result (λ made. made.value ≡ end) }
-    ensures fails { IfErr result (λ code. code ≡ pos 0 → ⊥) }
-{
-    Box::new(alloc, end).map_err(|_| MEMORY)
-}
-
 /// A server of what C passes.
 ///
 /// # Errors
@@ -176,14 +167,14 @@ fn boxed(alloc: Global, end: AnyEnd) -> Result<Box<AnyEnd, Global>, i32>
 /// - `BAD_SIZE`: the settings have another size.
 /// - Those of `methods_in`, `ciphers_in`, `signer_in` and `users_in`.
 /// - Those of `code_made`: no server is made of them.
-/// - `MEMORY`: memory was refused.
+#[tactic(auto, using(crate::proofs::NewEnds::server_made))]
 pub fn server_in(
     alloc: Global,
     given: &DvServerSettings<'_>,
     first: &DvMaterial,
     padding: &[u8; 32],
-) -> Result<Box<AnyEnd, Global>, i32>
-    ensures made { IfOk result (λ made. IsNewServer given.now (material_by first.now padding.now) made.value) }
+) -> Result<Server, i32>
+    ensures made { IfOk result (λ made. IsServerOf given.now (material_by first.now padding.now) made) }
     ensures fails { IfErr result (λ code. code ≡ pos 0 → ⊥) }
 {
     if given.size != SERVER_SETTINGS {
@@ -199,7 +190,7 @@ pub fn server_in(
     };
     let users = users_in(alloc, given.users)?;
     match Server::new(alloc, &settings, users, material_in(first, padding)) {
-        Ok(server) => boxed(alloc, AnyEnd::Server(server)),
+        Ok(server) => Ok(server),
         Err(error) => Err(code_made(error)),
     }
 }
@@ -211,14 +202,14 @@ pub fn server_in(
 /// - `BAD_SIZE`: the settings have another size.
 /// - Those of `user_in`, `ciphers_in` and `key_in`.
 /// - Those of `code_made`: no client is made of them.
-/// - `MEMORY`: memory was refused.
+#[tactic(auto, using(crate::proofs::NewEnds::client_made))]
 pub fn client_in(
     alloc: Global,
     given: &DvClientSettings<'_>,
     first: &DvMaterial,
     padding: &[u8; 32],
-) -> Result<Box<AnyEnd, Global>, i32>
-    ensures made { IfOk result (λ made. IsNewClient given.now (material_by first.now padding.now) made.value) }
+) -> Result<Client, i32>
+    ensures made { IfOk result (λ made. IsClientOf given.now (material_by first.now padding.now) made) }
     ensures fails { IfErr result (λ code. code ≡ pos 0 → ⊥) }
 {
     if given.size != CLIENT_SETTINGS {
@@ -233,7 +224,7 @@ pub fn client_in(
         user,
     };
     match Client::new(alloc, &settings, material_in(first, padding)) {
-        Ok(client) => boxed(alloc, AnyEnd::Client(client)),
+        Ok(client) => Ok(client),
         Err(error) => Err(code_made(error)),
     }
 }
