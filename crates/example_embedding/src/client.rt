@@ -1,20 +1,17 @@
 //! A client that runs `cat` at a server, sends it a text, and reads what comes back.
 
-use crate::asks::Asks;
+use crate::agenda::Agenda;
 use crate::driving::Work;
-use crate::flow::Flow;
-use divrelca::{Ask, ChannelAsk, ChannelFact, End, Fault, MOST_DATA, Told, UserAsk, WINDOW};
+use divrelca::{Ask, ChannelAsk, ChannelFact, MOST_DATA, Told, UserAsk, WINDOW};
 use std::alloc::{AllocError, Global};
 
 /// What a client with one channel keeps.
 #[derive(Drop)]
 pub struct Client<'a> {
-    alloc: Global,
+    agenda: Agenda<'a>,
     // How the user asks to be let in.
     login: UserAsk<'a>,
     text: &'a [u8],
-    asks: Asks<'a>,
-    flow: Option<Flow>,
     // The text was handed on, and its end has to be said.
     is_last: bool,
     /// What the command wrote.
@@ -27,11 +24,9 @@ impl<'a> Client<'a> {
     /// A client that heard nothing yet.
     pub fn new(alloc: Global, login: UserAsk<'a>, text: &'a [u8]) -> Client<'a> {
         Client {
-            alloc,
+            agenda: Agenda::new(alloc),
             login,
             text,
-            asks: Asks::new(alloc),
-            flow: None,
             is_last: false,
             read: Vec::new(alloc),
             status: None,
@@ -46,8 +41,8 @@ impl<'a> Client<'a> {
                 max_packet,
                 ..
             } => {
-                self.flow = Some(Flow::new(self.alloc, channel, max_packet));
-                self.asks.add(run(channel))
+                self.agenda.open(channel, max_packet);
+                self.agenda.add(run(channel))
             }
             ChannelFact::RequestDone { success: true, .. } => self.send(),
             ChannelFact::GotData { kind, body, .. } => self.take(kind, body),
@@ -62,29 +57,22 @@ impl<'a> Client<'a> {
             ChannelFact::RequestDone { success: false, .. }
             | ChannelFact::OpenFailed { .. }
             | ChannelFact::Closed { .. } => {
-                self.flow = None;
-                self.asks.add(Ask::Disconnect(b"done"))
+                self.agenda.close();
+                self.agenda.add(Ask::Disconnect(b"done"))
             }
-            fact => self.asks.answer(&Told::Channel(fact)),
+            fact => self.agenda.answer(&Told::Channel(fact)),
         }
     }
 
     // The command runs: it is sent the text.
     fn send(&mut self) -> Result<(), AllocError> {
-        match &mut self.flow {
-            Some(flow) => {
-                self.is_last = true;
-                flow.add(self.text)
-            }
-            None => Ok(()),
-        }
+        self.is_last = true;
+        self.agenda.send(self.text)
     }
 
     // The command wrote something. Its error output is dropped.
     fn take(&mut self, kind: Option<u32>, body: &[u8]) -> Result<(), AllocError> {
-        if let Some(flow) = &mut self.flow {
-            flow.consume(body.len());
-        }
+        self.agenda.consume(body.len());
         match kind {
             None => self.read.extend_from_slice(body),
             Some(_) => Ok(()),
@@ -92,38 +80,33 @@ impl<'a> Client<'a> {
     }
 }
 
-impl Work for Client<'_> {
+impl<'a> Work<'a> for Client<'a> {
+    fn agenda(&mut self) -> &mut Agenda<'a> {
+        &mut self.agenda
+    }
+
     fn hear(&mut self, told: &Told<'_>) -> Result<(), AllocError> {
         match *told {
-            Told::Completed { position: 1 } => self.asks.add(Ask::Service),
+            Told::Completed { position: 1 } => self.agenda.add(Ask::Service),
             Told::Service => {
                 let login = self.login;
-                self.asks.add(Ask::User(login))
+                self.agenda.add(Ask::User(login))
             }
-            Told::Authenticated => self.asks.add(open()),
-            Told::Failed { .. } => self.asks.add(Ask::Disconnect(b"not let in")),
+            Told::Authenticated => self.agenda.add(open()),
+            Told::Failed { .. } => self.agenda.add(Ask::Disconnect(b"not let in")),
             Told::Channel(fact) => self.hear_of_channels(&fact),
             _ => Ok(()),
         }
     }
 
-    fn go_on<E: End>(&mut self, end: &mut E, out: &mut Vec<u8>) -> Result<(), Fault> {
-        if !self.asks.work(end, out)? {
+    // The text was sent: the server is told that no more comes.
+    fn drained(&mut self, channel: u32) -> Result<(), AllocError> {
+        if !self.is_last {
             return Ok(());
         }
-        let Some(flow) = &mut self.flow else {
-            return Ok(());
-        };
-        flow.push(end, out)?;
-        if self.is_last && flow.is_drained() {
-            self.is_last = false;
-            let channel = flow.channel();
-            self.asks
-                .add(Ask::Connection(ChannelAsk::Eof { channel }))
-                .map_err(|_| Fault::Memory)?;
-            self.asks.work(end, out)?;
-        }
-        Ok(())
+        self.is_last = false;
+        self.agenda
+            .add(Ask::Connection(ChannelAsk::Eof { channel }))
     }
 }
 

@@ -1,17 +1,29 @@
 //! The loop over an end, which is the same at a server and at a client.
 
+use crate::agenda::Agenda;
 use divrelca::{End, Fault, KeySupply, Refusal, Told};
 use std::alloc::AllocError;
 use std::io::{Read, Write};
 use std::random::RandomSource;
 
 /// What a program does with its end.
-pub trait Work {
+pub trait Work<'a> {
+    /// What there is still to do.
+    fn agenda(&mut self) -> &mut Agenda<'a>;
+
     /// Listens to what the end told, and keeps what of it is needed: its texts are slices of the end's buffer.
+    ///
+    /// # Errors
+    ///
+    /// Only where memory is refused.
     fn hear(&mut self, told: &Told<'_>) -> Result<(), AllocError>;
 
-    /// Asks the end for what is to be done and can be done now.
-    fn go_on<E: End>(&mut self, end: &mut E, out: &mut Vec<u8>) -> Result<(), Fault>;
+    /// All that was to be sent on the channel is sent: puts on the agenda what comes after that.
+    ///
+    /// # Errors
+    ///
+    /// Only where memory is refused.
+    fn drained(&mut self, channel: u32) -> Result<(), AllocError>;
 }
 
 /// Lets an end go on until it is over or its peer's stream ends: reads what the peer sends, and writes what goes to the peer, what stands
@@ -21,7 +33,7 @@ pub trait Work {
 ///
 /// `input` could not be read, `output` could not be written to, no random bytes were there for the next exchange of keys, or memory was
 /// refused.
-pub fn drive<E: End, W: Work, R: RandomSource + Drop, I: Read, O: Write>(
+pub fn drive<'a, E: End, W: Work<'a>, R: RandomSource + Drop, I: Read, O: Write>(
     end: &mut E,
     keys: &mut KeySupply<R>,
     work: &mut W,
@@ -49,7 +61,7 @@ pub fn drive<E: End, W: Work, R: RandomSource + Drop, I: Read, O: Write>(
 }
 
 // Takes a piece of the peer's stream, of any size. Answers why the peer was refused, if it was.
-fn take<E: End, W: Work, R: RandomSource + Drop>(
+fn take<'a, E: End, W: Work<'a>, R: RandomSource + Drop>(
     end: &mut E,
     keys: &mut KeySupply<R>,
     work: &mut W,
@@ -71,8 +83,21 @@ fn take<E: End, W: Work, R: RandomSource + Drop>(
         }
         if !end.is_dead() {
             keys.keep_fresh(end, out)?;
-            work.go_on(end, out)?;
+            go_on(end, work, out)?;
         }
     }
     Ok(refused)
+}
+
+// Does what there is to do and can be done now.
+fn go_on<'a, E: End, W: Work<'a>>(
+    end: &mut E,
+    work: &mut W,
+    out: &mut Vec<u8>,
+) -> Result<(), Fault> {
+    if let Some(channel) = work.agenda().go_on(end, out)? {
+        work.drained(channel).map_err(|_| Fault::Memory)?;
+        work.agenda().work(end, out)?;
+    }
+    Ok(())
 }

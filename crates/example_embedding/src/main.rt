@@ -7,7 +7,7 @@
 //! Status 255 says that a session didn't come to its end, and standard error says why. The keys are files of OpenSSH.
 #![tactic(auto)]
 
-mod asks;
+mod agenda;
 mod client;
 mod driving;
 mod flow;

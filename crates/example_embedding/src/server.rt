@@ -1,36 +1,31 @@
 //! A server that sends back what comes to it.
 
-use crate::asks::Asks;
+use crate::agenda::Agenda;
 use crate::driving::Work;
-use crate::flow::Flow;
-use divrelca::{Ask, ChannelAsk, ChannelFact, End, Fault, MOST_DATA, Told, WINDOW};
+use divrelca::{Ask, ChannelAsk, ChannelFact, MOST_DATA, Told, WINDOW};
 use std::alloc::{AllocError, Global};
 
 /// What a server with one channel keeps.
 #[derive(Drop)]
-pub struct Server {
-    alloc: Global,
-    asks: Asks<'static>,
-    flow: Option<Flow>,
+pub struct Server<'a> {
+    agenda: Agenda<'a>,
     // The client sends no more.
     is_ended: bool,
 }
 
-impl Server {
+impl<'a> Server<'a> {
     /// A server that heard nothing yet.
-    pub fn new(alloc: Global) -> Server {
+    pub fn new(alloc: Global) -> Server<'a> {
         Server {
-            alloc,
-            asks: Asks::new(alloc),
-            flow: None,
+            agenda: Agenda::new(alloc),
             is_ended: false,
         }
     }
 
     // The client opens a session: it is confirmed.
     fn open(&mut self, channel: u32, max_packet: u32) -> Result<(), AllocError> {
-        self.flow = Some(Flow::new(self.alloc, channel, max_packet));
-        self.asks.add(Ask::Connection(ChannelAsk::Confirm {
+        self.agenda.open(channel, max_packet);
+        self.agenda.add(Ask::Connection(ChannelAsk::Confirm {
             channel,
             window: WINDOW,
             max_packet: MOST_DATA,
@@ -40,31 +35,16 @@ impl Server {
 
     // Data of the client are sent back.
     fn take(&mut self, body: &[u8]) -> Result<(), AllocError> {
-        match &mut self.flow {
-            Some(flow) => {
-                flow.consume(body.len());
-                flow.add(body)
-            }
-            None => Ok(()),
-        }
-    }
-
-    // All was sent back: the client is told the exit status 0 (RFC 4254 section 6.10), the end of the output, and the end of the channel.
-    fn finish(&mut self, channel: u32) -> Result<(), AllocError> {
-        self.flow = None;
-        self.asks.add(Ask::Connection(ChannelAsk::Request {
-            channel,
-            name: b"exit-status",
-            want: false,
-            rest: b"\0\0\0\0",
-        }))?;
-        self.asks.add(Ask::Connection(ChannelAsk::Eof { channel }))?;
-        self.asks
-            .add(Ask::Connection(ChannelAsk::Close { channel }))
+        self.agenda.consume(body.len());
+        self.agenda.send(body)
     }
 }
 
-impl Work for Server {
+impl<'a> Work<'a> for Server<'a> {
+    fn agenda(&mut self) -> &mut Agenda<'a> {
+        &mut self.agenda
+    }
+
     fn hear(&mut self, told: &Told<'_>) -> Result<(), AllocError> {
         match *told {
             Told::Channel(
@@ -74,7 +54,7 @@ impl Work for Server {
                     max_packet,
                     ..
                 },
-            ) if self.flow.is_none() => self.open(channel, max_packet),
+            ) if !self.agenda.is_open() => self.open(channel, max_packet),
             Told::Channel(
                 ChannelFact::Requested {
                     channel,
@@ -82,7 +62,7 @@ impl Work for Server {
                     want: true,
                     ..
                 },
-            ) => self.asks.add(Ask::Connection(ChannelAsk::Reply {
+            ) => self.agenda.add(Ask::Connection(ChannelAsk::Reply {
                 channel,
                 success: true,
             })),
@@ -92,26 +72,29 @@ impl Work for Server {
                 Ok(())
             }
             Told::Channel(ChannelFact::Closed { .. }) => {
-                self.flow = None;
+                self.agenda.close();
                 Ok(())
             }
-            ref other => self.asks.answer(other),
+            ref other => self.agenda.answer(other),
         }
     }
 
-    fn go_on<E: End>(&mut self, end: &mut E, out: &mut Vec<u8>) -> Result<(), Fault> {
-        if !self.asks.work(end, out)? {
+    // All was sent back, and no more comes: the client is told the exit status 0 (RFC 4254 section 6.10), the end of the output, and the
+    // end of the channel.
+    fn drained(&mut self, channel: u32) -> Result<(), AllocError> {
+        if !self.is_ended {
             return Ok(());
         }
-        let Some(flow) = &mut self.flow else {
-            return Ok(());
-        };
-        flow.push(end, out)?;
-        if self.is_ended && flow.is_drained() {
-            let channel = flow.channel();
-            self.finish(channel).map_err(|_| Fault::Memory)?;
-            self.asks.work(end, out)?;
-        }
-        Ok(())
+        self.agenda.close();
+        self.agenda.add(Ask::Connection(ChannelAsk::Request {
+            channel,
+            name: b"exit-status",
+            want: false,
+            rest: b"\0\0\0\0",
+        }))?;
+        self.agenda
+            .add(Ask::Connection(ChannelAsk::Eof { channel }))?;
+        self.agenda
+            .add(Ask::Connection(ChannelAsk::Close { channel }))
     }
 }
