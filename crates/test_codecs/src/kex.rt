@@ -1,4 +1,5 @@
 use crate::checking::{same, same_at};
+use sha2::{Digest, Sha256};
 use ssh_kex::*;
 use ssh_message::{BadMessage, Message, decode};
 use ssh_types::NameList;
@@ -9,7 +10,7 @@ mod key_lengths;
 mod recorded;
 mod supplied;
 
-use recorded::{Recorded, exchanges};
+use recorded::{Exchange, SESSIONS};
 
 // The lists of a recorded KEXINIT.
 fn lists_of(payload: &[u8]) -> Result<KexLists<'_>, BadMessage> {
@@ -19,7 +20,7 @@ fn lists_of(payload: &[u8]) -> Result<KexLists<'_>, BadMessage> {
     }
 }
 
-fn check_keys(rt: &impl Abort, at: usize, exchange: &Recorded) {
+fn check_keys(rt: &impl Abort, at: (usize, usize), exchange: &Exchange, session_id: &[u8; 32]) {
     let [a, b, c, d, e, f] = exchange.keys;
     let table = &[
         (Letter::A, a),
@@ -30,25 +31,28 @@ fn check_keys(rt: &impl Abort, at: usize, exchange: &Recorded) {
         (Letter::F, f),
     ];
     for &(letter, key) in table {
-        assert!(rt; exchange.inputs.fits());
         let mut room = [0; 32];
         let length = key.len().min(32);
         let out = &mut room[..length];
-        let shared = exchange.inputs.shared;
-        derive(shared, &exchange.hash, letter, &exchange.session_id, out);
+        derive(exchange.shared, &exchange.hash, letter, session_id, out);
         same_at(rt, (at, letter), &*out, key);
     }
 }
 
-fn check_choice(rt: &impl Abort, at: usize, exchange: &Recorded) -> Result<(), Fail> {
-    let client = lists_of(exchange.inputs.client_init)?;
-    let server = lists_of(exchange.inputs.server_init)?;
+fn check_choice(
+    rt: &impl Abort,
+    at: (usize, usize),
+    exchange: &Exchange,
+    encryption: &[u8],
+) -> Result<(), Fail> {
+    let client = lists_of(exchange.client_init)?;
+    let server = lists_of(exchange.server_init)?;
     let choice = choose(&client, &server)?;
     let table: &[(&str, &[u8], &[u8])] = &[
         ("kex", choice.kex.as_bytes(), b"curve25519-sha256"),
         ("host", choice.host.as_bytes(), b"ssh-ed25519"),
-        ("enc_cs", choice.enc_cs.as_bytes(), exchange.encryption),
-        ("enc_sc", choice.enc_sc.as_bytes(), exchange.encryption),
+        ("enc_cs", choice.enc_cs.as_bytes(), encryption),
+        ("enc_sc", choice.enc_sc.as_bytes(), encryption),
         ("mac_cs", choice.mac_cs.as_bytes(), b"hmac-sha2-256"),
         ("mac_sc", choice.mac_sc.as_bytes(), b"hmac-sha2-256"),
         ("comp_cs", choice.comp_cs.as_bytes(), b"none"),
@@ -60,15 +64,21 @@ fn check_choice(rt: &impl Abort, at: usize, exchange: &Recorded) -> Result<(), F
     Ok(())
 }
 
+// The text is checked by its digest, which the recorded end computed too.
 #[test]
 fn recorded_exchanges(rt: HostRuntime) -> Result<(), Fail> {
-    for (at, exchange) in exchanges().iter().enumerate() {
-        assert!(rt; exchange.inputs.fits());
-        let text = exchange_text(rt.alloc(), &exchange.inputs)?;
-        same_at(&rt, at, text.as_slice(), exchange.text);
-        same_at(&rt, at, exchange_hash(&exchange.inputs), exchange.hash);
-        check_keys(&rt, at, exchange);
-        check_choice(&rt, at, exchange)?;
+    for (number, session) in SESSIONS.iter().enumerate() {
+        let session_id = &session.exchanges[0].hash;
+        for (turn, exchange) in session.exchanges.iter().enumerate() {
+            let at = (number, turn);
+            let inputs = session.inputs(exchange);
+            assert!(rt; inputs.fits());
+            let text = exchange_text(rt.alloc(), &inputs)?;
+            same_at(&rt, at, Sha256::digest(text.as_slice()), exchange.hash);
+            same_at(&rt, at, exchange_hash(&inputs), exchange.hash);
+            check_keys(&rt, at, exchange, session_id);
+            check_choice(&rt, at, exchange, session.encryption)?;
+        }
     }
     Ok(())
 }

@@ -39,16 +39,10 @@ fn debugged_messages(rt: HostRuntime) -> Result<(), Fail> {
             service: b"ssh-connection",
             method,
         };
-        same!(
-            rt,
-            format!(in rt.alloc(); "{request:?}")?.as_str(),
-            "50 USERAUTH_REQUEST"
-        );
+        let shown = format!(in rt.alloc(); "{request:?}")?;
+        same!(rt, shown.as_str(), "50 USERAUTH_REQUEST");
     }
-    same!(
-        rt,
-        format!(in rt.alloc(); "{:?}", Message::Unknown(192))?.as_str(),
-        "192 UNKNOWN"
-    );
+    let unknown = format!(in rt.alloc(); "{:?}", Message::Unknown(192))?;
+    same!(rt, unknown.as_str(), "192 UNKNOWN");
     Ok(())
 }
