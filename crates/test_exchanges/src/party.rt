@@ -160,7 +160,7 @@ impl Party {
                 lines.note_number(self.side, "up", number as u64)
             }
             TransportTurn::Completed(choice) => {
-                self.chosen = Some(choice);
+                self.chosen = Some(*choice);
                 self.completed = self.completed.saturating_add(1);
                 lines.note_payload(self.side, "took", self.end.payload())?;
                 self.note_sent(lines)?;

@@ -3,13 +3,15 @@
 
 ghost use Rattle.ssh_transport_machine.specs.Asks.{IsSendable};
 
+mod exchanges;
 mod openssh_client;
 mod openssh_server;
 mod parts;
 
 use crate::checking::{same, same_at};
+use exchanges::{WITH_CLIENT, WITH_SERVER};
 pub(crate) use parts::put_signature;
-use parts::{RecordedAgreement, RecordedClient, RecordedHost, RecordedServer};
+use parts::{RecordedClient, RecordedServer};
 use ssh_packet::{HmacKey, MacOnly, write_packet};
 use ssh_toys::ToyFiller;
 use ssh_transport::{
@@ -18,6 +20,9 @@ use ssh_transport::{
 };
 use std::alloc::{AllocError, Global};
 use std::test::*;
+
+// The line of OpenSSH, in both sessions.
+const LINE: &[u8] = b"SSH-2.0-OpenSSH_9.2p1\r\n";
 
 // The settings of the independent end, which takes extensions and announces none.
 fn recorded_settings() -> Settings<'static> {
@@ -45,35 +50,6 @@ fn bytes(alloc: Global, digits: &str) -> Result<Vec<u8>, AllocError> {
         Ok(bytes) => Ok(bytes),
         Err(_) => Ok(Vec::new(alloc)),
     }
-}
-
-// The points, and what was shared.
-fn agreement(
-    alloc: Global,
-    points: &[&str; 2],
-    shared: &[&str; 2],
-) -> Result<RecordedAgreement, AllocError> {
-    Ok(RecordedAgreement {
-        first_shared: array(alloc, shared[0])?,
-        first_point: array(alloc, points[0])?,
-        second_point: array(alloc, points[1])?,
-    })
-}
-
-// The host key, and what it signed.
-fn host(
-    alloc: Global,
-    key: &str,
-    hashes: &[&str; 2],
-    signatures: &[&str; 2],
-) -> Result<RecordedHost, AllocError> {
-    Ok(RecordedHost {
-        key: array(alloc, key)?,
-        first_hash: array(alloc, hashes[0])?,
-        first_signature: array(alloc, signatures[0])?,
-        second_hash: array(alloc, hashes[1])?,
-        second_signature: array(alloc, signatures[1])?,
-    })
 }
 
 // The payload in the bytes of a packet.
@@ -110,16 +86,11 @@ impl Recording {
     fn new(alloc: Global) -> Result<Recording, Fail> {
         let parts: ClientPartValues<RecordedClient> = ClientPartValues {
             filler: ToyFiller { byte: 0 },
-            agreement: agreement(alloc, &openssh_server::POINTS, &openssh_server::SHARED)?,
-            host_trust: host(
-                alloc,
-                openssh_server::HOST_KEY,
-                &openssh_server::HASHES,
-                &openssh_server::SIGNATURES,
-            )?,
+            agreement: WITH_SERVER.agreement(alloc)?,
+            host_trust: WITH_SERVER.host(alloc)?,
         };
         let cookie = array(alloc, openssh_server::COOKIES[0])?;
-        let secret = array(alloc, openssh_server::SHARED[0])?;
+        let secret = array(alloc, WITH_SERVER.shared[0])?;
         let config = Config::<MacOnly>::new(alloc, &recorded_settings())?;
         let mut out = Vec::new(alloc);
         let mut sent = Vec::new(alloc);
@@ -137,11 +108,9 @@ impl Recording {
 
     // The client takes the line of the server, and keeps the cookie and the secret of the second exchange. It answers whether it does.
     fn begins(&mut self) -> Result<bool, AllocError> {
-        let (used, _) = self
-            .client
-            .take(openssh_server::LINE, &mut self.out, &mut self.sent);
+        let (used, _) = self.client.take(LINE, &mut self.out, &mut self.sent);
         let cookie = array(self.alloc, openssh_server::COOKIES[1])?;
-        let secret = array(self.alloc, openssh_server::SHARED[1])?;
+        let secret = array(self.alloc, WITH_SERVER.shared[1])?;
         let is_fed = self.client.feed_material(cookie, secret);
         Ok(is_fed && used == 23 && self.out.starts_with(b"SSH-2.0-oracle_1\r\n"))
     }
@@ -170,7 +139,7 @@ impl Recording {
 
     // Whether both exchanges were completed under the recorded session id, and nothing else was put out.
     fn is_whole(&self) -> Result<bool, AllocError> {
-        let session = array(self.alloc, openssh_server::HASHES[0])?;
+        let session = WITH_SERVER.session_id(self.alloc)?;
         let is_recorded = self.client.session_id() == Some(&session);
         Ok(is_recorded && self.client.epochs() == (2, 2) && self.compared == self.out.len())
     }
@@ -246,20 +215,11 @@ fn recorded_server(
 ) -> Result<ServerTransport<RecordedServer>, Fail> {
     let parts: ServerPartValues<RecordedServer> = ServerPartValues {
         filler: ToyFiller { byte: 0 },
-        agreement: agreement(
-            alloc,
-            &openssh_client::SERVER_POINTS,
-            &openssh_client::SHARED,
-        )?,
-        host_signer: host(
-            alloc,
-            openssh_client::HOST_KEY,
-            &openssh_client::HASHES,
-            &openssh_client::SIGNATURES,
-        )?,
+        agreement: WITH_CLIENT.agreement(alloc)?,
+        host_signer: WITH_CLIENT.host(alloc)?,
     };
     let cookie = cookie_of(&bytes(alloc, openssh_client::SERVER_KEXINITS[0])?);
-    let secret = array(alloc, openssh_client::SHARED[0])?;
+    let secret = array(alloc, WITH_CLIENT.shared[0])?;
     let config = Config::<MacOnly>::new(alloc, &recorded_settings())?;
     let server = ServerTransport::new(alloc, config, parts, cookie, secret, out, sent)?;
     Ok(server)
@@ -295,7 +255,7 @@ fn init(alloc: Global, point: &str) -> Result<Vec<u8>, AllocError> {
 // That of a KEX_ECDH_REPLY.
 fn reply(alloc: Global, point: &str, signature: &str) -> Result<Vec<u8>, AllocError> {
     let mut payload = b"\x1f\0\0\0\x33".to_vec(alloc)?;
-    payload.extend_from_slice(&bytes(alloc, openssh_client::HOST_KEY)?)?;
+    payload.extend_from_slice(&bytes(alloc, WITH_CLIENT.host_key)?)?;
     payload.extend_from_slice(b"\0\0\0 ")?;
     payload.extend_from_slice(&bytes(alloc, point)?)?;
     payload.extend_from_slice(b"\0\0\0\x53")?;
@@ -322,8 +282,8 @@ fn of_client(alloc: Global, place: usize) -> Result<[Vec<u8>; 3], AllocError> {
 
 // Those that the server sent.
 fn of_server(alloc: Global, place: usize) -> Result<[Vec<u8>; 3], AllocError> {
-    let point = text_at(&openssh_client::SERVER_POINTS, place);
-    let signature = text_at(&openssh_client::SIGNATURES, place);
+    let point = text_at(&WITH_CLIENT.points, place);
+    let signature = text_at(&WITH_CLIENT.signatures, place);
     Ok([
         bytes(alloc, text_at(&openssh_client::SERVER_KEXINITS, place))?,
         reply(alloc, point, signature)?,
@@ -374,14 +334,14 @@ fn client_packets(alloc: Global) -> Result<Vec<Vec<u8>>, AllocError> {
 fn exchanges_with_an_openssh_client(rt: HostRuntime) -> Result<(), Fail> {
     let alloc = rt.alloc();
     let cookie = cookie_of(&bytes(alloc, openssh_client::SERVER_KEXINITS[1])?);
-    let secret = array(alloc, openssh_client::SHARED[1])?;
-    let session = array(alloc, openssh_client::HASHES[0])?;
+    let secret = array(alloc, WITH_CLIENT.shared[1])?;
+    let session = WITH_CLIENT.session_id(alloc)?;
     let packets = client_packets(alloc)?;
     let stream = server_stream(alloc)?;
     let mut out = Vec::new(alloc);
     let mut sent = Vec::new(alloc);
     let mut server = recorded_server(alloc, &mut out, &mut sent)?;
-    let (used, _) = server.take(openssh_client::LINE, &mut out, &mut sent);
+    let (used, _) = server.take(LINE, &mut out, &mut sent);
     same!(rt, used, 23);
     assert!(rt; server.feed_material(cookie, secret));
     server.authenticated();

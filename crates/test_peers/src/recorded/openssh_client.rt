@@ -2,10 +2,7 @@
 //! recorded over loopback. The server is one of curve25519-sha256, ssh-ed25519, none and hmac-sha2-256 that writes down what it sends,
 //! takes and computes. To record the like again, have `ssh` log in to any such server and let the server begin a second exchange.
 
-/// The line of the client.
-pub const LINE: &[u8] = b"SSH-2.0-OpenSSH_9.2p1\r\n";
-
-/// The payloads of its KEXINITs, and its points.
+/// The payloads of its KEXINITs.
 pub const KEXINITS: [&str; 2] = [
     "\
         144ac35929cf6d5739461d0f28bf2f7fc500000039637572766532353531392d7368613235362c6578742d696e666f2d632c\
@@ -57,39 +54,6 @@ pub const SERVER_KEXINITS: [&str; 2] = [
         736861323536406c69627373682e6f72670000000b7373682d65643235353139000000046e6f6e65000000046e6f6e650000\
         000d686d61632d736861322d3235360000000d686d61632d736861322d323536000000046e6f6e65000000046e6f6e650000\
         0000000000000000000000",
-];
-
-/// The server's point in each exchange.
-pub const SERVER_POINTS: [&str; 2] = [
-    "60b7e2e1716ac65193c08ae5b47bb34a8d1af992951c7ac87bbdeb55694f2e32",
-    "4dba5ff9ffa5b92604957e8b35dc70ee244006c8dffe4554aeda6050536e4c7f",
-];
-
-/// What was shared.
-pub const SHARED: [&str; 2] = [
-    "4205f6676a9fb9a11c73eb9be63e2e1e99ad04c882bb5e6d9a85a45da350ed43",
-    "334b18c48e3e8078fb6a0adc7f5b5dfa1791435865480d629533e34a32f61275",
-];
-
-/// The hashes of both exchanges, of which the first is the session id.
-pub const HASHES: [&str; 2] = [
-    "22835068d35a8aef54ca572215bdaa4e5f8d57067da038750d75939672827092",
-    "ab53d75716a350509aa05753fe0c13e52efc783e2e24ef44bcf5a8c8cc79598b",
-];
-
-/// The host key, and its signatures of the hashes.
-pub const HOST_KEY: &str = "\
-    0000000b7373682d65643235353139000000209ed932a12779f251331c343972eb63b43176ea749911ce43b98e198aaccc1a\
-    06";
-
-/// The host's signature in each exchange.
-pub const SIGNATURES: [&str; 2] = [
-    "\
-        0000000b7373682d65643235353139000000405b347d488dc68fa9eaa010b1724ee1435033278d19f5b0548a89a1b5ed79f3\
-        29d5cca2065ccaf6aa044a589e6a8d0f0f341b1400b64c4fd4c3da725012880904",
-    "\
-        0000000b7373682d6564323535313900000040686762e48bd4e8ab8a198386936c47c52be07ae70af94cdacd33e47c100c52\
-        7d41f0394f00a805cc73ca8e7a3b544e77cc229d87e7ad13bb0804ba407fccdf00",
 ];
 
 /// The keys of the MAC from the client.

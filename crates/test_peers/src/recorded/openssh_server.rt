@@ -3,46 +3,10 @@
 //! hmac-sha2-256 that announces EXT_INFO, pads with zeros and writes down what it sends, takes and computes. To record the like again, have
 //! any such client log in to such a server by a public key, ask for a channel with a command, send data and begin a second exchange.
 
-/// The line of the server.
-pub const LINE: &[u8] = b"SSH-2.0-OpenSSH_9.2p1\r\n";
-
 /// The cookies of the client.
 pub const COOKIES: [&str; 2] = [
     "eb42fe9cbd6bcc28a1579c6230c3cf1e",
     "d5a77c8a67b7241ae4c54ce5a785f147",
-];
-
-/// Its points.
-pub const POINTS: [&str; 2] = [
-    "b5efb0afd1b5bc2f6c710f4c97423268ac4a389d6a1a6d1ffb27af0e95d04602",
-    "fc09431dbbbde867a8d1f5a2210750db414c0e0916a4ca4b17c8791ab700ee12",
-];
-
-/// What was shared.
-pub const SHARED: [&str; 2] = [
-    "8dfb9dda5ef3900381c093679e470cd97fd220609064289e5ff65117eca50e49",
-    "d6fa1490bca0c1187ff98a52f9b94521b6573a86dac34209f58a0b3936391d38",
-];
-
-/// The hashes of both exchanges, of which the first is the session id.
-pub const HASHES: [&str; 2] = [
-    "c7afa3ae9fd052fba8564d64f7b091400d06237da70e28723be4a4d0f4ce975d",
-    "ecd9f44a0eafb46a748671b0fe3e844b20d4c66e29ea10a9f6a233f81f868ca0",
-];
-
-/// The host key.
-pub const HOST_KEY: &str = "\
-    0000000b7373682d6564323535313900000020be874e659849bdc148054d8a635d6d68247bc5a09128679ca8d100f5fff660\
-    58";
-
-/// Its signatures of the hashes.
-pub const SIGNATURES: [&str; 2] = [
-    "\
-        0000000b7373682d65643235353139000000404932295085bf2f78feb05202829387a7436a4b3f01dc759f71b59d99b6de96\
-        1ac2f8cfce4ff4b46d55c88840d27293edc5b1616ea39162f61ed97d0893c8cc07",
-    "\
-        0000000b7373682d65643235353139000000405f725195057e1a15dd3bed57e5cfa927376c840265176815fa9789caf4522b\
-        55ac6ed468f1de19283bbab0bbd1578a5560feb7502e6b0dbe37d6008b5bbc3903",
 ];
 
 /// A line for each packet up to the twelfth under the second keys: `c` or `s` for the end that sent it, and its bytes.
