@@ -10,12 +10,12 @@ copy_tree "$copy"
 cd "$copy"
 git init -q .
 file=crates/ssh_toys/src/ends.rt
-line='rest = rest.get(turn.used..).unwrap_or(&[]);'
+line='rest = rest.split_at(turn.used).1;'
 [ "$(grep -cF "$line" "$file")" = 1 ] || {
     echo "error: '$line' does not stand once in $file"
     exit 1
 }
-sed -i "s/^\( *\)\(rest = rest\.get(turn\.used\.\.)\.unwrap_or(&\[\]);\)$/\1end.feed_material([0; 16], [0; 32]);\n\1\2/" "$file"
+sed -i "s/^\( *\)\(rest = rest\.split_at(turn\.used)\.1;\)$/\1end.feed_material([0; 16], [0; 32]);\n\1\2/" "$file"
 cd crates/test_plays
 if "$rt" try --steps 1 </dev/null >"$copy/said" 2>&1; then
     echo "a turn is kept over the next call: not refused"

@@ -1,5 +1,4 @@
-ghost use Rattle.std.specs.Prelude.{◌≡◌, bit_xor, nat_eq, if◌then◌else◌, Some, None, replicate};
-ghost use Rattle.std.specs.Cmp.Lexicographic.{pointwise};
+ghost use Rattle.std.specs.Prelude.{◌≡◌, bit_xor};
 ghost use Rattle.std.specs.Simd.Lanes.{zip2};
 
 use ssh_kex::Agreement;
@@ -9,10 +8,11 @@ use ssh_kex::Agreement;
 pub struct ToyAgreement;
 
 impl Agreement for ToyAgreement {
+    ghost use Rattle.ssh_toys.specs.Standard.{shared_by};
+
     ghost public_of = { λ _ secret. secret };
 
-    ghost shared_of = { λ _ secret theirs. if pointwise nat_eq (zip2 bit_xor secret theirs) (replicate 32 0) then None else Some
-        (zip2 bit_xor secret theirs) };
+    ghost shared_of = { λ _ secret theirs. shared_by secret theirs };
 
     fn public(&self, secret: &[u8; 32]) -> [u8; 32] {
         *secret

@@ -1,10 +1,32 @@
 //! An end of either role.
 
+ghost use Rattle.std.specs.Prelude.{◌≡◌, ◌∷◌, ◌<◌, ◌≤◌, IfErr, IfOk, List, None, OnErr, [], false, length, true};
+ghost use Rattle.ssh_config.specs.Config.{settings_given};
+ghost use Rattle.ssh_config.specs.Meaning.{settings_of};
+ghost use Rattle.ssh_end.specs.Beside.{channels_beside};
+ghost use Rattle.ssh_end.specs.Ends.{IsNew, sending_from_line, sending_to};
+ghost use Rattle.ssh_end.specs.Sessions.{AreOf, end_of};
+ghost use Rattle.ssh_end.specs.Stands.{MadeOf};
+ghost use Rattle.ssh_end.specs.Steps.{Shows, shown_by};
+ghost use Rattle.ssh_end.specs.Turn.{TurnShows, channels_in, payloads_in};
+ghost use Rattle.ssh_end.specs.declared.step.Step.{Step};
+ghost use Rattle.ssh_model.specs.Protocol.Sessions.Items.{Item};
+ghost use Rattle.ssh_model.specs.Protocol.Wire.MacOnly.{mac_only};
+ghost use Rattle.ssh_model.specs.State.TransportLayer.Kept.{after_fed, can_be_fed};
+ghost use Rattle.ssh_model.specs.declared.side.Side.TheVariants as sides;
+ghost use Rattle.ssh_transport_machine.specs.Padding.{PadsTo};
+ghost use Rattle.ssh_toys.specs.Ends.{FedIn, LacksIn, MadeIn};
+ghost use Rattle.ssh_toys.specs.Ends.{channels_of, layers_of, machine_of, sending_after, sent_of, side_of, step_of, used_of, with_machine};
+ghost use Rattle.ssh_toys.specs.Roles.{client_role, server_role};
+ghost use Rattle.ssh_toys.specs.Standard.{cookie_of, gives_byte, secret_of, software_of, toy_given, zeros};
+
 use crate::{
     CLIENT_COOKIE, CLIENT_SECRET, CREDENTIALS, SERVER_COOKIE, SERVER_SECRET, ToyClient, ToyJudge,
     ToyServer, ToyUserSigner, client_parts, config, server_parts, settings,
 };
+use ssh_config::Config;
 use ssh_end::{Ask, ClientEnd, Fault, ServerEnd, Turn};
+use ssh_packet::MacOnly;
 use ssh_types::Side;
 use std::alloc::{AllocError, Global};
 
@@ -30,7 +52,20 @@ impl ToyEnd {
     /// # Errors
     ///
     /// Only where memory is refused.
-    pub fn new(alloc: Global, side: Side, out: &mut Vec<u8>) -> Result<ToyEnd, AllocError> {
+    pub fn new(alloc: Global, side: Side, out: &mut Vec<u8>) -> Result<ToyEnd, AllocError>
+        ensures opened { IfOk result (λ made. IsNew mac_only side (settings_given (toy_given (software_of side))) (cookie_of side)
+            (secret_of side) (machine_of made) (layers_of made) out.old.items out.new.items (sent_of made)) }
+        ensures padded { IfOk result (λ made. PadsTo mac_only gives_byte (sending_from_line (settings_given (toy_given (software_of side)))
+            zeros out.old.items) (sending_after made out.new.items)) }
+        ensures role { IfOk result (λ made. side_of made ≡ side) }
+        ensures step { IfOk result (λ made. step_of made ≡ Step.More) }
+        ensures used { IfOk result (λ made. used_of made ≡ 0) }
+        ensures channels { IfOk result (λ made. channels_of made ≡ channels_beside (sent_of made) (None ∷ [])) }
+        ensures placed { IfOk result (λ made. MadeIn (settings_given (toy_given (software_of side)))
+            (record { cookie = cookie_of side; secret = secret_of side }) made
+            out.old.items out.new.items) }
+        ensures out { OnErr result (out.new.items ≡ out.old.items) }
+    {
         match side {
             Side::Client => Ok(ToyEnd::Client(client(alloc, out)?)),
             Side::Server => Ok(ToyEnd::Server(server(alloc, out)?)),
@@ -42,7 +77,12 @@ impl ToyEnd {
     /// # Errors
     ///
     /// Those of `ServerEnd::take` and `ClientEnd::take`.
-    pub fn take<'a>(&'a mut self, bytes: &[u8], out: &mut Vec<u8>) -> Result<Turn<'a>, Fault> {
+    pub fn take<'a>(&'a mut self, bytes: &[u8], out: &mut Vec<u8>) -> Result<Turn<'a>, Fault>
+        ensures used { IfOk result (λ turn. turn.used ≤ length bytes.now) }
+        ensures progress { IfOk result (λ turn. (machine_of self.old).kept.dead ≡ false → 0 < length bytes.now → 0 < turn.used) }
+        ensures lacks { IfErr result (λ fault. fault ≡ Fault.Memory → LacksIn self.old bytes.now) }
+        ensures out { OnErr result (out.new.items ≡ out.old.items) }
+    {
         match self {
             ToyEnd::Client(end) => end.take(bytes, out),
             ToyEnd::Server(end) => end.take(bytes, out),
@@ -50,7 +90,14 @@ impl ToyEnd {
     }
 
     /// What was done in the last call of `take`, and sent in that of `ask`.
-    pub fn turn(&self) -> Turn<'_> {
+    pub fn turn(&self) -> Turn<'_>
+        ensures shows { (items : List Item) → Shows (shown_by (step_of self.now) (machine_of self.now)) (step_of self.now) items →
+            TurnShows result items }
+        ensures more { step_of self.now ≡ Step.More → TurnShows result [] }
+        ensures used { result.used ≡ used_of self.now }
+        ensures sent { payloads_in result.sent ≡ sent_of self.now }
+        ensures channels { channels_in result.sent ≡ channels_of self.now }
+    {
         match self {
             ToyEnd::Client(end) => end.turn(),
             ToyEnd::Server(end) => end.turn(),
@@ -62,7 +109,9 @@ impl ToyEnd {
     /// # Errors
     ///
     /// Those of `ServerEnd::ask` and `ClientEnd::ask`.
-    pub fn ask<'a>(&'a mut self, ask: &Ask<'_>, out: &mut Vec<u8>) -> Result<Turn<'a>, Fault> {
+    pub fn ask<'a>(&'a mut self, ask: &Ask<'_>, out: &mut Vec<u8>) -> Result<Turn<'a>, Fault>
+        ensures out { OnErr result (out.new.items ≡ out.old.items) }
+    {
         match self {
             ToyEnd::Client(end) => end.ask(ask, out),
             ToyEnd::Server(end) => end.ask(ask, out),
@@ -70,7 +119,13 @@ impl ToyEnd {
     }
 
     /// Keeps a pair of cookie and secret, or answers `false`.
-    pub fn feed_material(&mut self, cookie: [u8; 16], secret: [u8; 32]) -> bool {
+    pub fn feed_material(&mut self, cookie: [u8; 16], secret: [u8; 32]) -> bool
+        ensures fed { result ≡ can_be_fed (machine_of self.old).kept }
+        ensures kept { result ≡ true → self.new ≡ with_machine self.old
+            (record (machine_of self.old) { kept = after_fed cookie secret (machine_of self.old).kept }) }
+        ensures same { result ≡ false → self.new ≡ self.old }
+        ensures placed { FedIn self.old cookie secret result self.new }
+    {
         match self {
             ToyEnd::Client(end) => end.feed_material(cookie, secret),
             ToyEnd::Server(end) => end.feed_material(cookie, secret),
@@ -78,7 +133,9 @@ impl ToyEnd {
     }
 
     /// The session id.
-    pub fn session_id(&self) -> Option<[u8; 32]> {
+    pub fn session_id(&self) -> Option<[u8; 32]>
+        ensures { result ≡ (machine_of self.now).kept.session }
+    {
         match self {
             ToyEnd::Client(end) => end.session_id().copied(),
             ToyEnd::Server(end) => end.session_id().copied(),
@@ -86,7 +143,9 @@ impl ToyEnd {
     }
 
     /// Whether the end is over.
-    pub fn is_dead(&self) -> bool {
+    pub fn is_dead(&self) -> bool
+        ensures { result ≡ (machine_of self.now).kept.dead }
+    {
         match self {
             ToyEnd::Client(end) => end.is_dead(),
             ToyEnd::Server(end) => end.is_dead(),
@@ -94,11 +153,31 @@ impl ToyEnd {
     }
 }
 
+// The config of an end whose version line has this software.
+fn toy_config(alloc: Global, software: &[u8]) -> Result<Config<MacOnly>, AllocError>
+    ensures { IfOk result (λ config. settings_of config ≡ settings_given (toy_given software.now)) }
+{
+    config(alloc, &settings(software))
+}
+
 fn client(
     alloc: Global,
     out: &mut Vec<u8>,
-) -> Result<ClientEnd<ToyClient, ToyUserSigner>, AllocError> {
-    let config = config(alloc, &settings(b"c"))?;
+) -> Result<ClientEnd<ToyClient, ToyUserSigner>, AllocError>
+    ensures opened { IfOk result (λ made. IsNew mac_only sides.Client (settings_given (toy_given (software_of sides.Client))) CLIENT_COOKIE
+        CLIENT_SECRET made.machine made.layers out.old.items out.new.items made.sent) }
+    ensures padded { IfOk result (λ made. PadsTo mac_only gives_byte (sending_from_line (settings_given (toy_given
+        (software_of sides.Client))) zeros out.old.items) (sending_to made out.new.items)) }
+    ensures step { IfOk result (λ made. made.step ≡ Step.More) }
+    ensures used { IfOk result (λ made. made.used ≡ 0) }
+    ensures channels { IfOk result (λ made. made.channels ≡ channels_beside made.sent (None ∷ [])) }
+    ensures placed { IfOk result (λ made. MadeOf sides.Client (settings_given (toy_given (software_of sides.Client)))
+        (λ p. client_role.is_of made.role p) (λ p. AreOf p made.layers)
+        (record { cookie = CLIENT_COOKIE; secret = CLIENT_SECRET }) made.machine (end_of made.machine.kept made.layers)
+        out.old.items out.new.items made.sent) }
+    ensures out { OnErr result (out.new.items ≡ out.old.items) }
+{
+    let config = toy_config(alloc, b"c")?;
     ClientEnd::new(
         alloc,
         config,
@@ -113,8 +192,21 @@ fn client(
 fn server(
     alloc: Global,
     out: &mut Vec<u8>,
-) -> Result<ServerEnd<ToyServer, ToyJudge<'static>>, AllocError> {
-    let config = config(alloc, &settings(b"s"))?;
+) -> Result<ServerEnd<ToyServer, ToyJudge<'static>>, AllocError>
+    ensures opened { IfOk result (λ made. IsNew mac_only sides.Server (settings_given (toy_given (software_of sides.Server))) SERVER_COOKIE
+        SERVER_SECRET made.machine made.layers out.old.items out.new.items made.sent) }
+    ensures padded { IfOk result (λ made. PadsTo mac_only gives_byte (sending_from_line (settings_given (toy_given
+        (software_of sides.Server))) zeros out.old.items) (sending_to made out.new.items)) }
+    ensures step { IfOk result (λ made. made.step ≡ Step.More) }
+    ensures used { IfOk result (λ made. made.used ≡ 0) }
+    ensures channels { IfOk result (λ made. made.channels ≡ channels_beside made.sent (None ∷ [])) }
+    ensures placed { IfOk result (λ made. MadeOf sides.Server (settings_given (toy_given (software_of sides.Server)))
+        (λ p. server_role.is_of made.role p) (λ p. AreOf p made.layers)
+        (record { cookie = SERVER_COOKIE; secret = SERVER_SECRET }) made.machine (end_of made.machine.kept made.layers)
+        out.old.items out.new.items made.sent) }
+    ensures out { OnErr result (out.new.items ≡ out.old.items) }
+{
+    let config = toy_config(alloc, b"s")?;
     let judge = ToyJudge {
         credentials: CREDENTIALS,
     };

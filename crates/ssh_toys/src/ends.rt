@@ -1,5 +1,15 @@
 //! Both ends, and what is on its way between them.
 
+ghost use Rattle.std.specs.Prelude.{◌≡◌, IfOk, List, OnErr, OnOk, []};
+ghost use Rattle.ssh_end.specs.Steps.{Shows, shown_by};
+ghost use Rattle.ssh_end.specs.Turn.{TurnShows, channels_in, payloads_in};
+ghost use Rattle.ssh_end.specs.declared.step.Step.{Step};
+ghost use Rattle.ssh_model.specs.Protocol.Sessions.Items.{Item};
+ghost use Rattle.ssh_model.specs.Protocol.Side.{peer};
+ghost use Rattle.ssh_model.specs.declared.side.Side.TheVariants as sides;
+ghost use Rattle.ssh_toys.specs.Ends.{channels_of, machine_of, sent_of, step_of, used_of};
+ghost use Rattle.ssh_toys.specs.Pairs.{IsNewEnd, SameOther, end_of, out_of};
+
 use crate::end::ToyEnd;
 use ssh_auth::UserAsk;
 use ssh_channels::Ask as ChannelAsk;
@@ -29,7 +39,10 @@ impl ToyEnds {
     /// # Errors
     ///
     /// Only where memory is refused.
-    pub fn new(alloc: Global) -> Result<ToyEnds, AllocError> {
+    pub fn new(alloc: Global) -> Result<ToyEnds, AllocError>
+        ensures client { IfOk result (λ made. IsNewEnd sides.Client made.client made.from_client.items) }
+        ensures server { IfOk result (λ made. IsNewEnd sides.Server made.server made.from_server.items) }
+    {
         let mut from_client = Vec::new(alloc);
         let mut from_server = Vec::new(alloc);
         let client = ToyEnd::new(alloc, Side::Client, &mut from_client)?;
@@ -81,7 +94,11 @@ impl ToyEnds {
     /// # Errors
     ///
     /// The first fault of an end.
-    pub fn ask(&mut self, side: Side, ask: &Ask<'_>) -> Result<(), Fault> {
+    pub fn ask(&mut self, side: Side, ask: &Ask<'_>) -> Result<(), Fault>
+        ensures other { SameOther side self.old self.new }
+        ensures unput { out_of (peer side) self.new ≡ out_of (peer side) self.old }
+        ensures out { OnErr result (out_of side self.new ≡ out_of side self.old) }
+    {
         match side {
             Side::Client => {
                 self.client.ask(ask, &mut self.from_client)?;
@@ -98,7 +115,11 @@ impl ToyEnds {
     /// # Errors
     ///
     /// The first fault of an end.
-    pub fn send(&mut self, from: Side, body: &[u8]) -> Result<(), Fault> {
+    pub fn send(&mut self, from: Side, body: &[u8]) -> Result<(), Fault>
+        ensures other { SameOther from self.old self.new }
+        ensures unput { out_of (peer from) self.new ≡ out_of (peer from) self.old }
+        ensures out { OnErr result (out_of from self.new ≡ out_of from self.old) }
+    {
         let data = ChannelAsk::Data {
             channel: 0,
             kind: None,
@@ -112,7 +133,9 @@ impl ToyEnds {
     /// # Errors
     ///
     /// The first fault of an end.
-    pub fn pass(&mut self) -> Result<(), Fault> {
+    pub fn pass(&mut self) -> Result<(), Fault>
+        ensures { OnOk result (out_of sides.Server self.new ≡ []) }
+    {
         self.take(Side::Server)?;
         self.take(Side::Client)?;
         Ok(())
@@ -123,7 +146,11 @@ impl ToyEnds {
     /// # Errors
     ///
     /// The first fault of an end.
-    pub fn take(&mut self, side: Side) -> Result<usize, Fault> {
+    pub fn take(&mut self, side: Side) -> Result<usize, Fault>
+        ensures taken { OnOk result (out_of (peer side) self.new ≡ []) }
+        ensures other { SameOther side self.old self.new }
+        ensures kept { OnErr result (out_of (peer side) self.new ≡ out_of (peer side) self.old) }
+    {
         match side {
             Side::Client => take_all(
                 &mut self.client,
@@ -139,7 +166,9 @@ impl ToyEnds {
     }
 
     /// The session id of an end.
-    pub fn session_id(&self, side: Side) -> Option<[u8; 32]> {
+    pub fn session_id(&self, side: Side) -> Option<[u8; 32]>
+        ensures { result ≡ (machine_of (end_of side self.now)).kept.session }
+    {
         match side {
             Side::Client => self.client.session_id(),
             Side::Server => self.server.session_id(),
@@ -147,7 +176,14 @@ impl ToyEnds {
     }
 
     /// What an end did in its last call.
-    pub fn turn(&self, side: Side) -> Turn<'_> {
+    pub fn turn(&self, side: Side) -> Turn<'_>
+        ensures shows { let end = end_of side self.now in (items : List Item) →
+            Shows (shown_by (step_of end) (machine_of end)) (step_of end) items → TurnShows result items }
+        ensures more { step_of (end_of side self.now) ≡ Step.More → TurnShows result [] }
+        ensures used { result.used ≡ used_of (end_of side self.now) }
+        ensures sent { payloads_in result.sent ≡ sent_of (end_of side self.now) }
+        ensures channels { channels_in result.sent ≡ channels_of (end_of side self.now) }
+    {
         match side {
             Side::Client => self.client.turn(),
             Side::Server => self.server.turn(),
@@ -156,7 +192,10 @@ impl ToyEnds {
 }
 
 // An end takes these bytes, line by line and packet by packet, and appends what it sends for them to `out`.
-fn take_all(end: &mut ToyEnd, bytes: &mut Vec<u8>, out: &mut Vec<u8>) -> Result<usize, Fault> {
+fn take_all(end: &mut ToyEnd, bytes: &mut Vec<u8>, out: &mut Vec<u8>) -> Result<usize, Fault>
+    ensures taken { OnOk result (bytes.new.items ≡ []) }
+    ensures kept { OnErr result (bytes.new.items ≡ bytes.old.items) }
+{
     let mut rest = bytes.as_slice();
     let mut count = 0;
     for _ in 0..bytes.len() {
@@ -164,7 +203,7 @@ fn take_all(end: &mut ToyEnd, bytes: &mut Vec<u8>, out: &mut Vec<u8>) -> Result<
             break;
         }
         let turn = end.take(rest, out)?;
-        rest = rest.get(turn.used..).unwrap_or(&[]);
+        rest = rest.split_at(turn.used).1;
         count = usize::saturating_add(count, 1);
     }
     bytes.clear();

@@ -8,9 +8,9 @@ pub struct ToyFiller {
 }
 
 impl Filler for ToyFiller {
-    ghost use Rattle.std.specs.Prelude.{◌≡◌, length, replicate};
+    ghost use Rattle.ssh_toys.specs.Standard.{gives_byte};
 
-    ghost gives = { λ before bytes after. (bytes ≡ replicate (length bytes) before.byte) × (after ≡ before) };
+    ghost gives = { gives_byte };
 
     fn fill(&mut self, out: &mut [u8]) {
         out.fill(self.byte);

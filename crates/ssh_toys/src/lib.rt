@@ -6,6 +6,9 @@
 //! Each part is proved against the contract of its part, so these contracts can be met. Keys are exchanged strictly by `curve25519-sha256`
 //! with a toy host key; there is no encryption, and `hmac-sha2-256` seals. The user u has the password p and the key k.
 //!
+//! `ToyTransport` and `ToyEnd` have either role. Each call of a transport, and most of an end, say by cases what the type of that role says.
+//! `ToyEnds` says which end a call leaves as it was, and which bytes are then on the way.
+//!
 //! ```rust
 //! let mut ends = ToyEnds::new(alloc)?;
 //! ends.begin()?;

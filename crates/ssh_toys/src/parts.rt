@@ -1,5 +1,8 @@
 //! The toys that go together.
 
+ghost use Rattle.std.specs.Prelude.{◌≡◌};
+ghost use Rattle.ssh_toys.specs.Standard.{zeros};
+
 use crate::{ToyAgreement, ToyCredential, ToyFiller, ToySigner, ToyTrust};
 use ssh_config::{ClientPartValues, ClientParts, ServerPartValues, ServerParts};
 use ssh_packet::MacOnly;
@@ -33,8 +36,10 @@ impl ServerParts for ToyServer {
 // The padding is zeros.
 const ZEROS: ToyFiller = ToyFiller { byte: 0 };
 
-/// What a client is supplied with.
-pub fn client_parts() -> ClientPartValues<ToyClient> {
+/// What a client is supplied with: a filler of zeros. The other parts have one value each.
+pub fn client_parts() -> ClientPartValues<ToyClient>
+    ensures { result.filler ≡ zeros }
+{
     ClientPartValues {
         filler: ZEROS,
         agreement: ToyAgreement,
@@ -42,8 +47,10 @@ pub fn client_parts() -> ClientPartValues<ToyClient> {
     }
 }
 
-/// What a server is supplied with.
-pub fn server_parts() -> ServerPartValues<ToyServer> {
+/// What a server is supplied with: a filler of zeros. The other parts have one value each.
+pub fn server_parts() -> ServerPartValues<ToyServer>
+    ensures { result.filler ≡ zeros }
+{
     ServerPartValues {
         filler: ZEROS,
         agreement: ToyAgreement,

@@ -1,11 +1,20 @@
 //! The settings of an end, and what it is configured by.
 
+ghost use Rattle.std.specs.Prelude.{◌≡◌, IfOk};
+ghost use Rattle.ssh_config.specs.Config.{AreGood, settings_given};
+ghost use Rattle.ssh_config.specs.Meaning.{given_of, settings_of};
+ghost use Rattle.ssh_config.specs.Values.{given};
+ghost use Rattle.ssh_model.specs.Protocol.Wire.MacOnly.{mac_only};
+ghost use Rattle.ssh_toys.specs.Standard.{toy_given};
+
 use ssh_config::{Config, ConfigError, Settings, Strictness};
 use ssh_packet::MacOnly;
 use std::alloc::{AllocError, Global};
 
 /// The settings of an end whose version line has this software.
-pub const fn settings(software: &[u8]) -> Settings<'_> {
+pub const fn settings(software: &[u8]) -> Settings<'_>
+    ensures { given result ≡ toy_given software.now }
+{
     Settings {
         software,
         comments: None,
@@ -27,7 +36,11 @@ pub const fn settings(software: &[u8]) -> Settings<'_> {
 /// # Errors
 ///
 /// Only where memory is refused.
-pub fn config(alloc: Global, settings: &Settings<'_>) -> Result<Config<MacOnly>, AllocError> {
+pub fn config(alloc: Global, settings: &Settings<'_>) -> Result<Config<MacOnly>, AllocError>
+    ensures made { IfOk result (λ config. given_of config ≡ given settings.now) }
+    ensures kept { IfOk result (λ config. settings_of config ≡ settings_given (given settings.now)) }
+    ensures good { IfOk result (λ _. AreGood mac_only (given settings.now)) }
+{
     match Config::<MacOnly>::new(alloc, settings) {
         Ok(config) => Ok(config),
         Err(ConfigError::Memory | ConfigError::Refused(_)) => Err(AllocError),

@@ -1,7 +1,6 @@
-ghost use Rattle.std.specs.Prelude.{◌≡◌, false};
-ghost use Rattle.ssh_model.specs.Protocol.Wire.MacOnly.{is_text};
+ghost use Rattle.std.specs.Prelude.{◌≡◌};
 ghost use Rattle.sha2.specs.Sha256.{sha256};
-ghost use Rattle.ssh_toys.specs.Users.{is_key_of, is_password_of, key_fits, password_fits};
+ghost use Rattle.ssh_toys.specs.Users.{is_key_of, is_password_of, key_fits, password_fits, verdicts_of};
 
 use sha2::{Digest, Sha256};
 use ssh_auth::{UserJudge, UserSigner};
@@ -23,12 +22,7 @@ pub struct ToyJudge<'a> {
 }
 
 impl UserJudge for ToyJudge<'_> {
-    ghost verdicts = { λ judge. record {
-      admits = λ _. false;
-      password_is_right = is_password_of judge.credentials.now;
-      knows_key = λ user _ key. is_key_of judge.credentials.now user key;
-      signature_is_right = λ _ _ text signature. is_text signature (sha256 text);
-    } };
+    ghost verdicts = { λ judge. verdicts_of judge.credentials.now };
 
     fn none(&self, _user: &[u8]) -> bool {
         false

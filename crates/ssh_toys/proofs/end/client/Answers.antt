@@ -1,0 +1,18 @@
+use Rattle.std.proofs.Common.{IfOk, subst}
+use Rattle.ssh_end.specs.Ends.{IsNew}
+use Rattle.ssh_end.specs.Sessions.{AreOf, end_of}
+use Rattle.ssh_end.specs.Stands.{MadeOf}
+use Rattle.ssh_model.specs.Protocol.Wire.MacOnly.{mac_only}
+use Rattle.ssh_model.specs.declared.side.Side.TheVariants as sides
+use Rattle.ssh_toys.specs.Roles.{client_role}
+use Rattle.ssh_toys.specs.declared.material.TheConstants.{CLIENT_COOKIE, CLIENT_SECRET}
+use Rattle.ssh_toys.proofs.end.client.Goals as goal
+
+pub returns-clause-opened : goal.returns-clause-opened
+returns-clause-opened c =
+    subst (λ settings. IfOk c.new.result (λ made. IsNew mac_only sides.Client settings CLIENT_COOKIE CLIENT_SECRET made.machine made.layers c.args.out.now.items c.new.new.out.items made.sent)) c.in_ok-config.ensures c.new.ensures.opened
+
+pub returns-clause-placed : goal.returns-clause-placed
+returns-clause-placed c =
+    subst (λ settings. IfOk c.new.result (λ made. MadeOf sides.Client settings (λ p. client_role.is_of made.role p) (λ p. AreOf p made.layers)
+    (record { cookie = CLIENT_COOKIE; secret = CLIENT_SECRET }) made.machine (end_of made.machine.kept made.layers) c.args.out.now.items c.new.new.out.items made.sent)) c.in_ok-config.ensures c.new.ensures.placed
