@@ -42,7 +42,7 @@ fi
 
 mkdir "$copy/planted"
 copy_tree "$copy/planted"
-python3 "$top/tools/constant_time/plant.py" "$copy/planted/crates/x25519/src/field.rt"
+python3 "$top/tools/constant_time/plant.py" "$copy/planted/crates/ciphers/src/x25519/field.rt"
 if look "$copy/planted" "$copy/found"; then
     cat "$copy/found" >&2
     echo "error: the branch planted in picked was not found" >&2

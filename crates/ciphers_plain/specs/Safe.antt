@@ -1,6 +1,6 @@
 -- What keeps the programs from wrapping.
 use Rattle.std.specs.Prelude.{◌<◌, ◌≤◌, ◌^◌}
-use Rattle.x25519.specs.Field.{IsTight}
+use Rattle.ciphers.specs.X25519.Field.{IsTight}
 use Rattle.ciphers_plain.specs.declared.field.Wide.{Wide}
 use Rattle.ciphers_plain.specs.declared.ladder.Ladder.{Ladder}
 use Rattle.ciphers_plain.specs.declared.point.Point.{Point}

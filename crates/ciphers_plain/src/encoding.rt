@@ -1,14 +1,14 @@
 //! Points as 32 bytes (RFC 8032 sections 5.1.2 and 5.1.3).
 
 ghost use Rattle.std.specs.Prelude.{IfSome};
-ghost use Rattle.x25519.specs.Field.{IsTight};
+ghost use Rattle.ciphers.specs.X25519.Field.{IsTight};
 ghost use Rattle.ciphers_plain.specs.Safe.{IsPoint};
 
 use crate::field::{negated, product, tightened};
 use crate::point::Point;
 use crate::powers::{inverse, root_power};
-use x25519::bytes::{bytes_of, element_of, is_below_prime, is_same, parity};
-use x25519::field::{Element, ONE, ZERO, difference, is_loose, sum};
+use ciphers::x25519::bytes::{bytes_of, element_of, is_below_prime, is_same, parity};
+use ciphers::x25519::field::{Element, ONE, ZERO, difference, is_loose, sum};
 
 // The constant d of the curve.
 const D: Element = Element {

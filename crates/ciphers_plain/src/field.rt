@@ -1,10 +1,10 @@
 //! Products of elements as sums of 25 products of limbs.
 
 ghost use Rattle.std.specs.Prelude.{◌<◌, ◌≤◌, ◌^◌};
-ghost use Rattle.x25519.specs.Field.{IsLoose, IsTight};
+ghost use Rattle.ciphers.specs.X25519.Field.{IsLoose, IsTight};
 ghost use Rattle.ciphers_plain.specs.Safe.{IsWide};
 
-use x25519::field::{Element, ONE, ZERO, difference};
+use ciphers::x25519::field::{Element, ONE, ZERO, difference};
 
 // A product before its carries.
 #[derive(Clone, Copy)]

@@ -2,7 +2,7 @@
 
 ghost use Rattle.std.specs.Prelude.{◌≤◌, ◌^◌, length};
 
-use aes_gcm::Element;
+use ciphers::aes_gcm::Element;
 
 // A product begun: the sum so far, the next multiple, and the bits of the other factor that are left.
 #[derive(Clone, Copy)]

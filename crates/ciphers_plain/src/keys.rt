@@ -3,8 +3,8 @@
 use crate::encoding::encoded;
 use crate::point::{BASE, multiplied};
 use crate::scalar::{Scalar, bytes_of, reduced, sum, times};
+use ciphers::x25519::clamped;
 use sha2::{Digest, Sha512};
-use x25519::clamped;
 
 /// A secret of 32 bytes made ready to sign, and its public key.
 #[derive(Clone, Copy)]

@@ -1,14 +1,14 @@
 //! X25519 (RFC 7748 section 5) by the ladder, with squares made as products.
 
 ghost use Rattle.std.specs.Prelude.{◌≤◌};
-ghost use Rattle.x25519.specs.Field.{IsTight};
+ghost use Rattle.ciphers.specs.X25519.Field.{IsTight};
 ghost use Rattle.ciphers_plain.specs.Safe.{IsRung};
 
 use crate::field::{product, times_small};
 use crate::powers::inverse;
-use x25519::bytes::{bit_of, bytes_of, element_of};
-use x25519::clamped;
-use x25519::field::{Element, ONE, ZERO, chosen, difference, is_loose, sum};
+use ciphers::x25519::bytes::{bit_of, bytes_of, element_of};
+use ciphers::x25519::clamped;
+use ciphers::x25519::field::{Element, ONE, ZERO, chosen, difference, is_loose, sum};
 
 // Two points of the ladder, and whether they stand swapped.
 #[derive(Clone, Copy)]

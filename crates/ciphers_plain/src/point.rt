@@ -4,8 +4,8 @@ ghost use Rattle.std.specs.Prelude.{◌≤◌};
 ghost use Rattle.ciphers_plain.specs.Safe.{IsPoint};
 
 use crate::field::{negated as negated_element, product};
-use x25519::bytes::bit_of;
-use x25519::field::{Element, ONE, ZERO, chosen, difference, is_loose, sum};
+use ciphers::x25519::bytes::bit_of;
+use ciphers::x25519::field::{Element, ONE, ZERO, chosen, difference, is_loose, sum};
 
 // A point by four elements: x / z and y / z are its coordinates, and t is x y / z.
 #[derive(Clone, Copy)]

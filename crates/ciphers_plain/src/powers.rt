@@ -1,9 +1,9 @@
 //! Powers of elements.
 
-ghost use Rattle.x25519.specs.Field.{IsLoose, IsTight};
+ghost use Rattle.ciphers.specs.X25519.Field.{IsLoose, IsTight};
 
 use crate::field::product;
-use x25519::field::{Element, is_loose};
+use ciphers::x25519::field::{Element, is_loose};
 
 // An element to the power 11, and to the power 2^250 - 1.
 #[derive(Clone, Copy)]

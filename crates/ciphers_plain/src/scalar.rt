@@ -2,8 +2,8 @@
 
 ghost use Rattle.std.specs.Prelude.{◌≤◌, length};
 
-use x25519::bytes::{bit_of, word_of};
-use x25519::field::picked;
+use ciphers::x25519::bytes::{bit_of, word_of};
+use ciphers::x25519::field::picked;
 
 // A number below 2^256 in four words, the lowest first.
 #[derive(Clone, Copy)]

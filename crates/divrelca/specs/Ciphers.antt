@@ -1,8 +1,8 @@
 -- Which encryptions a list of names asks for, and which names a choice offers.
 use Rattle.std.specs.Prelude.{ℕ, Bool, true, false, if◌then◌else◌, List, [], ◌∷◌, codes, Option, Some, None}
 use Rattle.ssh_model.specs.Protocol.Wire.MacOnly.{is_text}
-use Rattle.divrelca.specs.declared.ciphers.Ciphers.{Ciphers}
-use Rattle.divrelca.specs.declared.ciphers.Ciphers.TheVariants.{Aes128, Aes256, Both}
+use Rattle.divrelca.specs.declared.cipher_choice.Ciphers.{Ciphers}
+use Rattle.divrelca.specs.declared.cipher_choice.Ciphers.TheVariants.{Aes128, Aes256, Both}
 
 abbrev pub aes_128 : List ℕ
 aes_128 = codes "aes128-gcm@openssh.com"

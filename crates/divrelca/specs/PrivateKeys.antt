@@ -6,7 +6,7 @@ use Rattle.std.specs.List.{list_all, prefix_len, starts_with, suffix_len}
 use Rattle.base64.specs.Engines.{standard}
 use Rattle.base64.specs.GeneralPurpose.{decode_of}
 use Rattle.base64.specs.declared.decode.DecodeError.{DecodeError}
-use Rattle.ed25519.specs.Signature.{pair_of}
+use Rattle.ciphers.specs.Ed25519.Signature.{pair_of}
 use Rattle.ssh_model.specs.Protocol.Wire.DataTypes.{number}
 use Rattle.ssh_model.specs.Protocol.Wire.MacOnly.{is_text}
 use Rattle.ssh_parts.specs.Ed25519.{key_blob, trust_in}

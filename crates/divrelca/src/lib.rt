@@ -77,7 +77,7 @@
 //! and refusals.
 #![tactic(auto)]
 
-mod ciphers;
+mod cipher_choice;
 mod end;
 mod error;
 pub mod key_files;
@@ -88,7 +88,7 @@ mod user_key;
 mod users;
 mod window;
 
-pub use ciphers::Ciphers;
+pub use cipher_choice::Ciphers;
 pub use end::{AskOutcome, End, asked};
 pub use error::SupplyError;
 pub use keys::{Entropy, KeySupply, Material, PaddingSource};

@@ -2,7 +2,7 @@
 
 ghost use Rattle.std.specs.Prelude.{◌≡◌, ◌<◌, min};
 
-use crate::ciphers::Ciphers;
+use crate::cipher_choice::Ciphers;
 
 /// The largest data of one packet, sent and offered to be taken, in bytes (RFC 4254 section 5.2). An ask for more is refused.
 pub const MOST_DATA: u32 = 32_768;

@@ -4,13 +4,13 @@ use base.Shift.{Keyless}
 use denote.RattleType.{RattleType}
 use denote.Param.Send.{IsSend, sendable, view_send}
 use Rattle.std.proofs.Crossing.{Box-send, crosses}
-use Rattle.aes_gcm.specs.contracts.gcm.GcmKey as gcm_key
-use Rattle.aes_gcm.specs.contracts.gcm.GcmKey.TheInside as gcm_key_inside
-use Rattle.aes_gcm.specs.contracts.gcm.KeyParts as key_parts
-use Rattle.aes_gcm.specs.contracts.lanes.Vectors as vectors
-use Rattle.aes_gcm.specs.contracts.planes.Planes as planes
-use Rattle.aes_gcm.specs.contracts.vector_rounds.MoreVectors as more_vectors
-use Rattle.aes_gcm.specs.contracts.vector_rounds.VectorKeys as vector_keys
+use Rattle.ciphers.specs.contracts.aes_gcm.gcm.GcmKey as gcm_key
+use Rattle.ciphers.specs.contracts.aes_gcm.gcm.GcmKey.TheInside as gcm_key_inside
+use Rattle.ciphers.specs.contracts.aes_gcm.gcm.KeyParts as key_parts
+use Rattle.ciphers.specs.contracts.aes_gcm.lanes.Vectors as vectors
+use Rattle.ciphers.specs.contracts.aes_gcm.planes.Planes as planes
+use Rattle.ciphers.specs.contracts.aes_gcm.vector_rounds.MoreVectors as more_vectors
+use Rattle.ciphers.specs.contracts.aes_gcm.vector_rounds.VectorKeys as vector_keys
 use Rattle.ssh_packet.specs.contracts.line_reader.LineReader as line_reader
 use Rattle.ssh_packet.specs.contracts.reader.PacketReader as packet_reader
 use Rattle.ssh_packet.specs.declared.sealing.Sealing

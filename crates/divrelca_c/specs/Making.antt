@@ -23,8 +23,8 @@ use Rattle.ssh_embedded.specs.declared.users.Login.{Login}
 use Rattle.ssh_embedded.specs.declared.users.Login.TheVariants as login
 use Rattle.ssh_parts.specs.Ed25519.{signer_of}
 use Rattle.ssh_parts.specs.declared.ed25519_signer.Ed25519Signer.{Ed25519Signer}
-use Rattle.divrelca.specs.declared.ciphers.Ciphers.{Ciphers}
-use Rattle.divrelca.specs.declared.ciphers.Ciphers.TheVariants as ciphers
+use Rattle.divrelca.specs.declared.cipher_choice.Ciphers.{Ciphers}
+use Rattle.divrelca.specs.declared.cipher_choice.Ciphers.TheVariants as ciphers
 use Rattle.divrelca.specs.declared.policy.TheConstants.{TRIES}
 use Rattle.divrelca_c.specs.declared.bytes.DvClientSettings.{DvClientSettings}
 use Rattle.divrelca_c.specs.declared.bytes.DvMaterial.{DvMaterial}

@@ -3,14 +3,14 @@
 ghost use Rattle.std.specs.Prelude.{◌≡◌, Ok, pos};
 ghost use Rattle.std.specs.Option.{option_copied};
 ghost use Rattle.divrelca_c.specs.Files.{TellsFault, TellsKey, code_read, host_in, key_read, line_read};
-ghost use Rattle.ed25519.specs.Signature.{pair_of};
+ghost use Rattle.ciphers.specs.Ed25519.Signature.{pair_of};
 ghost use Rattle.divrelca.specs.KnownHosts.{trusted_key};
 ghost use Rattle.divrelca.specs.PrivateKeys as spec;
 ghost use Rattle.divrelca.specs.UserKeys.{user_keys};
 
 use crate::codes::{DONE, code_file};
+use ciphers::ed25519::KeyPair;
 use divrelca::key_files::{authorized_keys, private_key, trusted_key};
-use ed25519::KeyPair;
 use std::alloc::Global;
 
 /// The key of a private key file of ssh-ed25519 without a passphrase.

@@ -2,7 +2,7 @@
 //!
 //! - `run ROUNDS`: packets and real parts to the HMAC-SHA-256 of the same bytes, exchanges of keys, data and sessions to the hashes that
 //!   they have to compute, and many channels to one.
-//! - `ciphers ROUNDS`: how many times faster `aes_gcm`, `x25519` and `ed25519` are than the plain programs of `ciphers_plain`.
+//! - `ciphers ROUNDS`: how many times faster the crate `ciphers` is than the plain programs of `ciphers_plain`.
 //!
 //! Called otherwise, it says so and times nothing.
 #![tactic(auto)]
@@ -12,7 +12,7 @@ use std::rt::Clock;
 
 mod call;
 mod channels;
-mod ciphers;
+mod cipher_times;
 mod ends;
 mod exchanges;
 mod hashes;
@@ -23,7 +23,7 @@ mod ratio;
 fn main(rt: HostRuntime) -> anyhow::Result<()> {
     match call_of(&rt)? {
         Some(Call::Run(rounds)) => run(&rt, rounds),
-        Some(Call::Ciphers(rounds)) => ciphers::measure(&rt, rounds),
+        Some(Call::Ciphers(rounds)) => cipher_times::measure(&rt, rounds),
         None => {
             println!(rt; "usage: ssh_bench run ROUNDS")?;
             println!(rt; "       ssh_bench ciphers ROUNDS")?;

@@ -10,7 +10,7 @@ use Rattle.ssh_end.specs.Ends.{IsNew, sending_from_line, sending_to}
 use Rattle.ssh_end.specs.declared.step.Step.TheVariants as step
 use Rattle.divrelca.specs.Ciphers.{names_of}
 use Rattle.divrelca.specs.Supplies.{next_bytes, padding_under}
-use Rattle.divrelca.specs.declared.ciphers.Ciphers.{Ciphers}
+use Rattle.divrelca.specs.declared.cipher_choice.Ciphers.{Ciphers}
 use Rattle.divrelca.specs.declared.keys.PaddingSource.{PaddingSource}
 use Rattle.ssh_config.specs.Config.{Given, settings_given}
 use Rattle.ssh_embedded.specs.declared.embedded.Embedded.{Embedded}

@@ -1,7 +1,7 @@
 -- Whom a server lets in.
 use Rattle.std.specs.Prelude.{ℕ, Bool, false, List, [], ◌∷◌, Some}
 use Rattle.std.specs.List.{list_any}
-use Rattle.ed25519.specs.Order.{is_small_order}
+use Rattle.ciphers.specs.Ed25519.Order.{is_small_order}
 use Rattle.ssh_model.specs.Protocol.Authentication.Requests.{Judge}
 use Rattle.ssh_parts.specs.Ed25519.{judge_of}
 use Rattle.divrelca.specs.Users.{is_password}

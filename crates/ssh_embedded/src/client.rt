@@ -9,8 +9,8 @@ ghost use Rattle.ssh_model.specs.declared.side.Side.TheVariants as sides;
 use crate::embedded::Embedded;
 use crate::making::{ClientSettings, MakeError, Material};
 use crate::parts::{EmbeddedClient, client_parts};
+use ciphers::ed25519::is_small_order;
 use divrelca::{TRIES, UserKey};
-use ed25519::is_small_order;
 use ssh_end::ClientRole;
 use std::alloc::Global;
 

@@ -1,8 +1,8 @@
 -- Keys and signatures of ssh-ed25519 (RFC 8709), and the parts that they make.
 use Rattle.std.specs.Prelude.{ℕ, Bool, false, not, ◌&&◌, if◌then◌else◌, nat_eq, List, [], ◌++◌, length, drop, codes, Option, Some, None}
 use Rattle.std.specs.List.{list_any}
-use Rattle.ed25519.specs.Order.{is_small_order}
-use Rattle.ed25519.specs.Signature.{is_signature, pair_of, signature_of}
+use Rattle.ciphers.specs.Ed25519.Order.{is_small_order}
+use Rattle.ciphers.specs.Ed25519.Signature.{is_signature, pair_of, signature_of}
 use Rattle.ssh_model.specs.Protocol.Authentication.Requests.{Judge}
 use Rattle.ssh_model.specs.Protocol.KeyExchange.Exchange.{string_of}
 use Rattle.ssh_model.specs.Protocol.Wire.MacOnly.{is_text}

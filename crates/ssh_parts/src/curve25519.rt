@@ -1,6 +1,6 @@
 //! The agreement of curve25519-sha256.
 
-ghost use Rattle.x25519.specs.Curve.{base_point, shared_of as shared_between, x25519 as x25519_of};
+ghost use Rattle.ciphers.specs.X25519.Curve.{base_point, shared_of as shared_between, x25519 as x25519_of};
 
 use ssh_kex::Agreement;
 
@@ -15,10 +15,10 @@ impl Agreement for Curve25519 {
     ghost shared_of = { λ _ secret theirs. shared_between secret theirs };
 
     fn public(&self, secret: &[u8; 32]) -> [u8; 32] {
-        x25519::public(secret)
+        ciphers::x25519::public(secret)
     }
 
     fn shared(&self, secret: &[u8; 32], theirs: &[u8; 32]) -> Option<[u8; 32]> {
-        x25519::shared(secret, theirs)
+        ciphers::x25519::shared(secret, theirs)
     }
 }

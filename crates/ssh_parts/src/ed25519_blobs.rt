@@ -3,7 +3,7 @@
 ghost use Rattle.std.specs.Prelude.{◌≡◌};
 ghost use Rattle.ssh_parts.specs.Ed25519.{has_signed, key_blob, key_in, signature_blob, signature_in};
 
-use ed25519::{is_small_order, verify};
+use ciphers::ed25519::{is_small_order, verify};
 
 // The name of the algorithm.
 pub(crate) const NAME: &[u8] = b"ssh-ed25519";

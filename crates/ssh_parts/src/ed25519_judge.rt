@@ -4,7 +4,7 @@ ghost use Rattle.std.specs.Prelude.{◌≡◌, false};
 ghost use Rattle.ssh_parts.specs.Ed25519.{is_accepted, is_key_of, is_user_signature, judge_of};
 
 use crate::ed25519_blobs::{NAME, has_signed, key_blob, key_in};
-use ed25519::is_small_order;
+use ciphers::ed25519::is_small_order;
 use ssh_auth::UserJudge;
 
 /// A public key that lets one user in.

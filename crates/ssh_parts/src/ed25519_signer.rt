@@ -1,11 +1,11 @@
 //! A key pair of ssh-ed25519 that signs.
 
 ghost use Rattle.std.specs.Prelude.{◌≡◌, ◌≤◌, take};
-ghost use Rattle.ed25519.specs.Signature.{signature_of as signed_by};
+ghost use Rattle.ciphers.specs.Ed25519.Signature.{signature_of as signed_by};
 ghost use Rattle.ssh_parts.specs.Ed25519.{host_key, host_signature, signature_blob, signer_of, user_signature};
 
 use crate::ed25519_blobs::{KEY, NAME, SIGNATURE, key_blob, signature_blob};
-use ed25519::KeyPair;
+use ciphers::ed25519::KeyPair;
 use ssh_auth::UserSigner;
 use ssh_kex::HostSigner;
 

@@ -4,7 +4,7 @@ ghost use Rattle.std.specs.Prelude.{◌≡◌};
 ghost use Rattle.ssh_parts.specs.Ed25519.{is_trusted, trust_in};
 
 use crate::ed25519_blobs::{NAME, has_signed, key_blob, key_in};
-use ed25519::is_small_order;
+use ciphers::ed25519::is_small_order;
 use ssh_kex::HostTrust;
 
 /// Trusts one host, by its key of ssh-ed25519 (RFC 8709), and no other algorithm. A point of small order, as 32 zeros are, is trusted by

@@ -127,7 +127,7 @@ fn draw_of(cookie: &[u8; 16]) -> Option<u8> {
 // The draw that filled the secret of this public value (RFC 7748 section 6.1).
 fn secret_of(point: &[u8]) -> Option<u8> {
     for draw in 1..=u8::MAX {
-        if x25519::public(&[draw; 32]).as_slice() == point {
+        if ciphers::x25519::public(&[draw; 32]).as_slice() == point {
             return Some(draw);
         }
     }

@@ -1,9 +1,9 @@
-//! What `aes_gcm` computes of many blocks at once, compared with the plain programs of `ciphers_plain`.
+//! What `ciphers::aes_gcm` computes of many blocks at once, compared with the plain programs of `ciphers_plain`.
 
 ghost use Rattle.std.specs.Prelude.{◌≤◌, ◌^◌, length};
 
 use crate::checking::same_at;
-use aes_gcm::GcmKey;
+use ciphers::aes_gcm::GcmKey;
 use ciphers_plain::PlainKey;
 use std::process::Abort;
 use std::test::*;

@@ -2,7 +2,7 @@
 //! sealed.
 
 use crate::checking::{same, same_at};
-use aes_gcm::{GcmKey, encrypted, long_schedule_of};
+use ciphers::aes_gcm::{GcmKey, encrypted, long_schedule_of};
 use ssh_packet::{Lengths, PacketReader, PacketRefusal, PacketStep, Sealing, write_packet};
 use ssh_parts::{AesGcm, PacketKey};
 use ssh_toys::ToyFiller;

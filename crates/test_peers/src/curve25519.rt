@@ -1,10 +1,10 @@
 //! Vectors of RFC 7748 sections 5.2 and 6.1, and points of small order.
 
 use crate::checking::{same, same_at};
+use ciphers::x25519::x25519;
 use ssh_kex::Agreement;
 use ssh_parts::Curve25519;
 use std::test::*;
-use x25519::x25519;
 
 const SCALARS: [[u8; 32]; 2] = [
     *b"\xa5\x46\xe3\x6b\xf0\x52\x7c\x9d\x3b\x16\x15\x4b\x82\x46\x5e\xdd\

@@ -1,7 +1,7 @@
 //! Multiples of the base point by numbers at the edges of the ladders: under the neutral key, R is S times the base point.
 
 use crate::checking::same_at;
-use ed25519::verify;
+use ciphers::ed25519::verify;
 use std::test::*;
 
 struct Case {

@@ -1,7 +1,7 @@
 //! Signatures of RFC 8032 section 7.1, and what is refused.
 
 use crate::checking::{same, same_at};
-use ed25519::{KeyPair, verify};
+use ciphers::ed25519::{KeyPair, verify};
 use std::test::*;
 
 struct Vector {

@@ -1,7 +1,7 @@
 //! Points of small order, under which anyone can sign: the eight of them, by their published encodings.
 
 use crate::checking::same_at;
-use ed25519::{is_small_order, verify};
+use ciphers::ed25519::{is_small_order, verify};
 use ssh_auth::UserJudge;
 use ssh_kex::HostTrust;
 use ssh_parts::{AcceptedKey, Ed25519Judge, Ed25519Signer, Ed25519Trust};

@@ -3,8 +3,8 @@
 
 ghost use Rattle.std.specs.Prelude.{◌≡◌, ◌≤◌, ◌%◌, ◌^◌, length};
 
-use aes_gcm::GcmKey;
-use ed25519::KeyPair;
+use ciphers::aes_gcm::GcmKey;
+use ciphers::ed25519::KeyPair;
 use std::alloc::{AllocError, Global};
 
 /// Encrypts a text in place, and writes its tag. `false` where no memory was found for the key.
@@ -64,7 +64,7 @@ pub extern "C" fn divrelca_x25519(secret: &[u8], point: &[u8], shared: &mut [u8]
     requires point { length point.now ≡ 32 }
     requires shared { length shared.old ≡ 32 }
 {
-    shared.copy_from_slice(&x25519::x25519(&array_32(secret), &array_32(point)));
+    shared.copy_from_slice(&ciphers::x25519::x25519(&array_32(secret), &array_32(point)));
 }
 
 /// Writes the signature of a message by Ed25519.

@@ -1,4 +1,4 @@
-use Rattle.x25519.specs.Field.{IsLoose}
+use Rattle.ciphers.specs.X25519.Field.{IsLoose}
 use Rattle.ciphers_plain.proofs.powers.squared_times.Given as goal
 
 abbrev pub invariant-loop-i : goal.invariant-loop-i

@@ -1,5 +1,0 @@
-use Rattle.std.proofs.Common.{refl}
-use Rattle.aes_gcm.proofs.gcm.GcmKey.by.Goals as goal
-
-pub returns : goal.returns
-returns c = rw (c.word_at.ensures, c.word_at-2.ensures, c.encrypted-zero.ensures) refl

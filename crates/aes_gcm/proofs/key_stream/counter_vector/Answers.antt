@@ -1,8 +1,0 @@
-use Rattle.std.proofs.Common.{ℕ, List, slice_index, refl, ap}
-use Rattle.aes_gcm.proofs.WordBits.{below_16}
-use Rattle.aes_gcm.proofs.key_stream.counter_vector.Goals as goal
-
-pub returns-clause-lanes : goal.returns-clause-lanes
-returns-clause-lanes c =
-    let at = λ (n : ℕ). ap (λ (l : List ℕ). slice_index l n) c.to_be_bytes-c.ensures in
-    below_16 _ refl refl refl (at 0) refl refl refl (at 1) refl refl refl (at 2) refl refl refl (at 3)
