@@ -1,4 +1,4 @@
-//! Times AES-GCM, X25519 and Ed25519 against the plain programs of `ciphers_plain`, taken in turn.
+//! Times AES-GCM, X25519 and Ed25519 against the plain programs of `ssh_toys::plain`, taken in turn.
 
 use std::rt::Clock;
 

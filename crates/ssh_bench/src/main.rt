@@ -2,7 +2,7 @@
 //!
 //! - `run ROUNDS`: packets and real parts to the HMAC-SHA-256 of the same bytes, exchanges of keys, data and sessions to the hashes that
 //!   they have to compute, and many channels to one.
-//! - `ciphers ROUNDS`: how many times faster the crate `ciphers` is than the plain programs of `ciphers_plain`.
+//! - `ciphers ROUNDS`: how many times faster the crate `ciphers` is than the plain programs of `ssh_toys::plain`.
 //!
 //! Called otherwise, it says so and times nothing.
 #![tactic(auto)]

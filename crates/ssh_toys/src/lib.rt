@@ -9,6 +9,8 @@
 //! `ToyTransport` and `ToyEnd` have either role. Each call of a transport, and most of an end, say by cases what the type of that role says.
 //! `ToyEnds` says which end a call leaves as it was, and which bytes are then on the way.
 //!
+//! The module `plain` has ciphers and curves as plain programs, for tests and times of the crate `ciphers`.
+//!
 //! ```rust
 //! let mut ends = ToyEnds::new(alloc)?;
 //! ends.begin()?;
@@ -27,6 +29,7 @@ mod host;
 mod length_in_clear;
 mod material;
 mod parts;
+pub mod plain;
 mod standard;
 mod transport;
 mod user;

@@ -1,10 +1,10 @@
-//! What `ciphers::aes_gcm` computes of many blocks at once, compared with the plain programs of `ciphers_plain`.
+//! What `ciphers::aes_gcm` computes of many blocks at once, compared with the plain programs of `ssh_toys::plain`.
 
 ghost use Rattle.std.specs.Prelude.{◌≤◌, ◌^◌, length};
 
 use crate::checking::same_at;
 use ciphers::aes_gcm::GcmKey;
-use ciphers_plain::PlainKey;
+use ssh_toys::plain::PlainKey;
 use std::process::Abort;
 use std::test::*;
 

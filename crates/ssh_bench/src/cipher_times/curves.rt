@@ -2,7 +2,7 @@
 
 use crate::ratio::Ratio;
 use ciphers::ed25519::KeyPair;
-use ciphers_plain::PlainPair;
+use ssh_toys::plain::PlainPair;
 use std::rt::Clock;
 use std::time::{Duration, Instant};
 
@@ -28,7 +28,7 @@ fn measure_agreement<R: Clock + Print>(rt: &R, rounds: u32) -> anyhow::Result<()
     for _ in 0..rounds {
         let start = Instant::now(rt)?;
         for _ in 0..CALLS {
-            points.0 = ciphers_plain::x25519(&[0x5a; 32], &points.0);
+            points.0 = ssh_toys::plain::x25519(&[0x5a; 32], &points.0);
         }
         times.0 = times.0.min(start.elapsed(rt)?);
         let start = Instant::now(rt)?;
@@ -81,7 +81,7 @@ fn measure_verifying<R: Clock + Print>(rt: &R, rounds: u32) -> anyhow::Result<()
     for _ in 0..rounds {
         let start = Instant::now(rt)?;
         for _ in 0..CALLS {
-            if ciphers_plain::verify(pair.public(), &MESSAGE, &signature) {
+            if ssh_toys::plain::verify(pair.public(), &MESSAGE, &signature) {
                 good.0 = good.0.saturating_add(1);
             }
         }

@@ -4,8 +4,8 @@ ghost use Rattle.std.specs.Prelude.{◌≤◌, length};
 
 use crate::ratio::Ratio;
 use ciphers::aes_gcm::GcmKey;
-use ciphers_plain::PlainKey;
 use key::{open, seal};
+use ssh_toys::plain::PlainKey;
 use std::io;
 use std::rt::Clock;
 use std::time::Duration;

@@ -3,7 +3,7 @@
 ghost use Rattle.std.specs.Prelude.{◌≤◌, length};
 
 use ciphers::aes_gcm::GcmKey;
-use ciphers_plain::PlainKey;
+use ssh_toys::plain::PlainKey;
 use std::io;
 use std::rt::Clock;
 use std::time::{Duration, Instant};

@@ -2,7 +2,7 @@
 
 ghost use Rattle.std.specs.Prelude.{◌<◌, ◌≤◌, ◌^◌};
 ghost use Rattle.ciphers.specs.X25519.Field.{IsLoose, IsTight};
-ghost use Rattle.ciphers_plain.specs.Safe.{IsWide};
+ghost use Rattle.ssh_toys.specs.Plain.{IsWide};
 
 use ciphers::x25519::field::{Element, ONE, ZERO, difference};
 

@@ -2,11 +2,11 @@
 
 ghost use Rattle.std.specs.Prelude.{IfSome};
 ghost use Rattle.ciphers.specs.X25519.Field.{IsTight};
-ghost use Rattle.ciphers_plain.specs.Safe.{IsPoint};
+ghost use Rattle.ssh_toys.specs.Plain.{IsPoint};
 
-use crate::field::{negated, product, tightened};
-use crate::point::Point;
-use crate::powers::{inverse, root_power};
+use crate::plain::field::{negated, product, tightened};
+use crate::plain::point::Point;
+use crate::plain::powers::{inverse, root_power};
 use ciphers::x25519::bytes::{bytes_of, element_of, is_below_prime, is_same, parity};
 use ciphers::x25519::field::{Element, ONE, ZERO, difference, is_loose, sum};
 

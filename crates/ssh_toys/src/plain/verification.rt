@@ -1,11 +1,11 @@
 //! The verification of signatures (RFC 8032 section 5.1.7).
 
-ghost use Rattle.ciphers_plain.specs.Safe.{IsPoint};
+ghost use Rattle.ssh_toys.specs.Plain.{IsPoint};
 
-use crate::encoding::{decoded, encoded};
-use crate::keys::{hash_of, high_half, low_half};
-use crate::point::{BASE, Point, added, multiplied, negated};
-use crate::scalar::{bytes_of, is_reduced, reduced};
+use crate::plain::encoding::{decoded, encoded};
+use crate::plain::keys::{hash_of, high_half, low_half};
+use crate::plain::point::{BASE, Point, added, multiplied, negated};
+use crate::plain::scalar::{bytes_of, is_reduced, reduced};
 
 /// Tests whether the signature is that of the message under this public key (section 5.1.7, without the cofactor): the public key is a
 /// point A in its one encoding, the number S of the signature is below the order, and its R is the encoding of S B - k A. Points of small

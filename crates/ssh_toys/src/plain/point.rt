@@ -1,9 +1,9 @@
 //! The curve -x^2 + y^2 = 1 + d x^2 y^2 in extended coordinates (RFC 8032 section 5.1.4).
 
 ghost use Rattle.std.specs.Prelude.{◌≤◌};
-ghost use Rattle.ciphers_plain.specs.Safe.{IsPoint};
+ghost use Rattle.ssh_toys.specs.Plain.{IsPoint};
 
-use crate::field::{negated as negated_element, product};
+use crate::plain::field::{negated as negated_element, product};
 use ciphers::x25519::bytes::bit_of;
 use ciphers::x25519::field::{Element, ONE, ZERO, chosen, difference, is_loose, sum};
 

@@ -1,8 +1,8 @@
 //! Key pairs, and what they sign (RFC 8032 sections 5.1.5 and 5.1.6).
 
-use crate::encoding::encoded;
-use crate::point::{BASE, multiplied};
-use crate::scalar::{Scalar, bytes_of, reduced, sum, times};
+use crate::plain::encoding::encoded;
+use crate::plain::point::{BASE, multiplied};
+use crate::plain::scalar::{Scalar, bytes_of, reduced, sum, times};
 use ciphers::x25519::clamped;
 use sha2::{Digest, Sha512};
 

@@ -2,7 +2,7 @@
 
 ghost use Rattle.ciphers.specs.X25519.Field.{IsLoose, IsTight};
 
-use crate::field::product;
+use crate::plain::field::product;
 use ciphers::x25519::field::{Element, is_loose};
 
 // An element to the power 11, and to the power 2^250 - 1.

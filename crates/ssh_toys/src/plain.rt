@@ -1,7 +1,6 @@
 //! AES-128-GCM, X25519 and Ed25519 as plain programs, for tests and times: the key stream four blocks at a time, byte by byte, and GHASH
 //! bit by bit; squares are products, and each bit of a number doubles and adds. The crate `ciphers` computes the same faster.
 //! Nothing is claimed of these programs but that they are safe.
-#![tactic(auto)]
 
 mod encoding;
 mod field;

@@ -2,10 +2,10 @@
 
 ghost use Rattle.std.specs.Prelude.{◌≤◌};
 ghost use Rattle.ciphers.specs.X25519.Field.{IsTight};
-ghost use Rattle.ciphers_plain.specs.Safe.{IsRung};
+ghost use Rattle.ssh_toys.specs.Plain.{IsRung};
 
-use crate::field::{product, times_small};
-use crate::powers::inverse;
+use crate::plain::field::{product, times_small};
+use crate::plain::powers::inverse;
 use ciphers::x25519::bytes::{bit_of, bytes_of, element_of};
 use ciphers::x25519::clamped;
 use ciphers::x25519::field::{Element, ONE, ZERO, chosen, difference, is_loose, sum};

@@ -1,9 +1,9 @@
 -- What keeps the programs from wrapping.
 use Rattle.std.specs.Prelude.{◌<◌, ◌≤◌, ◌^◌}
 use Rattle.ciphers.specs.X25519.Field.{IsTight}
-use Rattle.ciphers_plain.specs.declared.field.Wide.{Wide}
-use Rattle.ciphers_plain.specs.declared.ladder.Ladder.{Ladder}
-use Rattle.ciphers_plain.specs.declared.point.Point.{Point}
+use Rattle.ssh_toys.specs.declared.plain.field.Wide.{Wide}
+use Rattle.ssh_toys.specs.declared.plain.ladder.Ladder.{Ladder}
+use Rattle.ssh_toys.specs.declared.plain.point.Point.{Point}
 
 -- two points of the ladder in tight elements
 pub record IsRung (l : Ladder) : Type 0 where

@@ -2,7 +2,7 @@
 
 ghost use Rattle.std.specs.Prelude.{◌≤◌, ◌<◌, ◌+◌, ◌^◌, length};
 
-use crate::ghash::{absorbed, absorbed_all, word_at};
+use crate::plain::ghash::{absorbed, absorbed_all, word_at};
 use ciphers::aes_gcm::{Element, Schedule, encrypted, schedule_of};
 
 /// A key of AES-128-GCM: its round keys, and the encrypted zero block.
