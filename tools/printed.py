@@ -108,7 +108,7 @@ def missing_rows():
 
 def missing_release():
     """The version and the kit that the programs say have to be those of CHANGELOG.md and README.md."""
-    named = dict(re.findall(r'pub const (\w+): &str = "(.*)";', (TOP / "crates/ssh_release/src/lib.rt").read_text()))
+    named = dict(re.findall(r'pub const (\w+): &str = "(.*)";', (TOP / "crates/divrelca/src/release.rt").read_text()))
     if f"\n## {named['VERSION']}" not in (TOP / "CHANGELOG.md").read_text():
         yield f"CHANGELOG.md has no version {named['VERSION']}"
     if named["KIT"] not in (TOP / "README.md").read_text():

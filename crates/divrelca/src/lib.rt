@@ -83,6 +83,7 @@ mod error;
 pub mod key_files;
 mod keys;
 mod policy;
+mod release;
 mod unknown;
 mod user_key;
 mod users;
@@ -96,6 +97,7 @@ pub use policy::{
     EPOCH_LIMIT, LEAST_WINDOW, MOST_DATA, MOST_SESSIONS, MOST_WAITING, MOST_WINDOW, Policy, TRIES,
     WINDOW, data_len,
 };
+pub use release::{KIT, VERSION};
 pub use ssh_auth::{UserAsk, UserJudge, UserSigner};
 pub use ssh_channels::{Ask as ChannelAsk, ChannelState, Channels, Fact as ChannelFact};
 pub use ssh_config::{

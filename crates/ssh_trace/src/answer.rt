@@ -3,7 +3,7 @@ ghost use Rattle.std.specs.Io.KnownBytes.{Appends};
 ghost use Rattle.ssh_trace.specs.declared.status.Status.TheVariants.{Fault};
 
 use crate::status::Status;
-use ssh_release::{KIT, VERSION};
+use divrelca::{KIT, VERSION};
 use std::alloc::{AllocError, Global};
 use std::fmt::Display;
 use std::io;

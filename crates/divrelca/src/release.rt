@@ -1,5 +1,4 @@
-//! What this release is, as its programs say it: `ssh_trace --version` and `ssh_pipe --version`.
-#![tactic(auto)]
+//! What this release is, as the programs say it: `ssh_trace --version` and `ssh_pipe --version`.
 
 /// The version, as CHANGELOG.md has it.
 pub const VERSION: &str = "0.1.0";
