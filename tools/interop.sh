@@ -479,7 +479,7 @@ sampled() {
         /ssh_[a-z]*::|ssh_transport_[a-z]*::/ { part = "packets, messages, ends: all other crates of the core" }
         /ssh_pipe(_[a-z]*)?::|divrelca::/ { part = "the program and its commands" }
         /sha2::|x25519::|ed25519::/ { part = "the exchange of keys" }
-        /aes_gcm::|ssh_parts::packet_key/ { part = "AES-128-GCM" }
+        /aes_gcm::|divrelca::parts::packet_key/ { part = "AES-128-GCM" }
         { share[part] += $1 }
         END { for (part in share) printf "%s\t%.1f\n", part, share[part] }' >"$name"
 }

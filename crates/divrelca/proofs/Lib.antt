@@ -1,3 +1,4 @@
+pub mod OfParts
 pub mod Cuts
 pub mod Decoding
 pub mod Fields

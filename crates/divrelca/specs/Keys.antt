@@ -5,8 +5,8 @@ use Rattle.base64.specs.Engines.{standard}
 use Rattle.base64.specs.GeneralPurpose.{decode_of}
 use Rattle.base64.specs.declared.decode.DecodeError.{DecodeError}
 use Rattle.ssh_model.specs.Protocol.Wire.MacOnly.{is_text}
-use Rattle.ssh_parts.specs.Ed25519.{trust_in}
-use Rattle.ssh_parts.specs.declared.ed25519_trust.Ed25519Trust.{Ed25519Trust}
+use Rattle.divrelca.specs.Parts.Ed25519.{trust_in}
+use Rattle.divrelca.specs.declared.parts.ed25519_trust.Ed25519Trust.{Ed25519Trust}
 use Rattle.divrelca.specs.declared.key_files.fault.Expected.{Expected}
 use Rattle.divrelca.specs.declared.key_files.fault.Expected.TheVariants.{Key}
 

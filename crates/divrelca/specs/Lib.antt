@@ -1,3 +1,4 @@
+pub mod Parts
 pub mod Asking
 pub mod Ciphers
 pub mod Feeding

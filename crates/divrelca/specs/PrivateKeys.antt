@@ -9,7 +9,7 @@ use Rattle.base64.specs.declared.decode.DecodeError.{DecodeError}
 use Rattle.ciphers.specs.Ed25519.Signature.{pair_of}
 use Rattle.ssh_model.specs.Protocol.Wire.DataTypes.{number}
 use Rattle.ssh_model.specs.Protocol.Wire.MacOnly.{is_text}
-use Rattle.ssh_parts.specs.Ed25519.{key_blob, trust_in}
+use Rattle.divrelca.specs.Parts.Ed25519.{key_blob, trust_in}
 use Rattle.divrelca.specs.Keys.{public_in}
 use Rattle.divrelca.specs.KnownHosts.{is_key}
 use Rattle.divrelca.specs.Lines.{at_line}

@@ -1,7 +1,7 @@
 -- What a client's user signs.
 use Rattle.std.specs.Prelude.{ℕ, List, [], Option, Some, None}
-use Rattle.ssh_parts.specs.declared.ed25519_signer.Ed25519Signer.{Ed25519Signer}
-use Rattle.ssh_parts.specs.Ed25519.{user_signature}
+use Rattle.divrelca.specs.declared.parts.ed25519_signer.Ed25519Signer.{Ed25519Signer}
+use Rattle.divrelca.specs.Parts.Ed25519.{user_signature}
 
 -- the signature of the key pair, or no bytes where there is none
 abbrev pub signature_by : Option Ed25519Signer → (user algorithm key text : List ℕ) → List ℕ

@@ -3,8 +3,8 @@ use Rattle.std.specs.Prelude.{◌&&◌, ℕ, Bool, false, List, Option, Some, No
 use Rattle.sha2.specs.Sha256.{sha256}
 use Rattle.ssh_model.specs.Protocol.Authentication.Requests.{Judge}
 use Rattle.ssh_model.specs.Protocol.Wire.MacOnly.{is_text}
-use Rattle.ssh_parts.specs.Ed25519.{judge_of}
-use Rattle.ssh_parts.specs.declared.ed25519_judge.AcceptedKey.{AcceptedKey}
+use Rattle.divrelca.specs.Parts.Ed25519.{judge_of}
+use Rattle.divrelca.specs.declared.parts.ed25519_judge.AcceptedKey.{AcceptedKey}
 use Rattle.divrelca.specs.declared.users.PasswordHash.{PasswordHash}
 
 -- The user is the one who has the password, and the word is it.

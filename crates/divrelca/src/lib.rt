@@ -1,5 +1,5 @@
-//! SSH-2 for a program that embeds one end: all names that it needs, from the crates in which they are proved. This crate adds what a
-//! program decides by itself, and `default_answer`.
+//! SSH-2 for a program that embeds one end: all names that it needs, from the crates in which they are proved. This crate adds the parts of
+//! an end with real ciphers, what a program decides by itself, and `default_answer`.
 //!
 //! A line of crates.txt names it: `echo_server: divrelca anyhow`.
 //!
@@ -82,6 +82,8 @@ mod end;
 mod error;
 pub mod key_files;
 mod keys;
+pub mod laws;
+mod parts;
 mod policy;
 mod release;
 mod unknown;
@@ -93,6 +95,10 @@ pub use cipher_choice::Ciphers;
 pub use end::{AskOutcome, End, asked};
 pub use error::SupplyError;
 pub use keys::{Entropy, KeySupply, Material, PaddingSource};
+pub use parts::{
+    AcceptedKey, AesGcm, Curve25519, Ed25519Judge, Ed25519Signer, Ed25519Trust, Either, EitherKey,
+    GcmSettings, PacketKey,
+};
 pub use policy::{
     EPOCH_LIMIT, LEAST_WINDOW, MOST_DATA, MOST_SESSIONS, MOST_WAITING, MOST_WINDOW, Policy, TRIES,
     WINDOW, data_len,
@@ -108,9 +114,6 @@ pub use ssh_end::{Ask, ClientEnd, Fault, SentPayloads, ServerEnd, Told, Took, Tu
 pub use ssh_kex::{Agreement, HostSigner, HostTrust};
 pub use ssh_message::{Extension, Extensions, Message};
 pub use ssh_packet::{Filler, Lengths, MacOnly, Sealing, is_same_tag};
-pub use ssh_parts::{
-    AcceptedKey, AesGcm, Curve25519, Ed25519Judge, Ed25519Signer, Ed25519Trust, Either, GcmSettings,
-};
 pub use ssh_types::{AskRefusal, NameList, Refusal, Side};
 pub use unknown::default_answer;
 pub use user_key::UserKey;

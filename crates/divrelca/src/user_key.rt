@@ -2,8 +2,8 @@
 
 ghost use Rattle.divrelca.specs.UserKey.{signature_by};
 
+use crate::parts::Ed25519Signer;
 use ssh_auth::UserSigner;
-use ssh_parts::Ed25519Signer;
 
 /// The key pair of a client's user, who may have none.
 #[derive(Clone, Copy)]

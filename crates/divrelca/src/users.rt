@@ -4,10 +4,10 @@ ghost use Rattle.std.specs.Prelude.{◌≡◌, Some};
 ghost use Rattle.divrelca.specs.Users.{is_password, verdicts_of};
 ghost use Rattle.sha2.specs.Sha256.{sha256};
 
+use crate::parts::{AcceptedKey, Ed25519Judge};
 use sha2::{Digest, Sha256};
 use ssh_auth::UserJudge;
 use ssh_packet::is_same_tag;
-use ssh_parts::{AcceptedKey, Ed25519Judge};
 
 /// The SHA-256 of a password. It is compared in place of the password, so that the time taken does not depend on where the two first
 /// differ, nor on the password's length.

@@ -25,7 +25,7 @@ use Rattle.ssh_end.specs.contracts.end.End as end
 use Rattle.ssh_end.specs.contracts.end.End.TheInside as end_inside
 use Rattle.ssh_end.specs.declared.role.EndRole
 use Rattle.ssh_end.specs.contracts.layers.stack.Layers as layers
-use Rattle.ssh_parts.specs.contracts.packet_key.PacketKey as packet_key
+use Rattle.divrelca.specs.contracts.parts.packet_key.PacketKey as packet_key
 use Rattle.divrelca.specs.contracts.keys.PaddingSource as padding
 use Rattle.ssh_embedded.specs.contracts.any_end.AnyEnd as any_end
 use Rattle.ssh_embedded.specs.contracts.embedded.Embedded as embedded

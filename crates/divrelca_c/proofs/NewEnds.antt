@@ -4,7 +4,7 @@ use Rattle.std.specs.Prelude.{Option, ℤ}
 use Rattle.ssh_model.specs.Protocol.Sessions.Parties.{Settings}
 use Rattle.ssh_model.specs.declared.side.Side.{Side}
 use Rattle.ssh_model.specs.declared.side.Side.TheVariants as sides
-use Rattle.ssh_parts.specs.declared.packet_key.PacketKey.{PacketKey}
+use Rattle.divrelca.specs.declared.parts.packet_key.PacketKey.{PacketKey}
 use Rattle.divrelca.specs.declared.cipher_choice.Ciphers.{Ciphers}
 use Rattle.divrelca.specs.declared.keys.PaddingSource.{PaddingSource}
 use Rattle.divrelca.specs.declared.policy.TheConstants.{TRIES}

@@ -21,8 +21,8 @@ use Rattle.ssh_embedded.specs.declared.making.Methods.TheVariants as methods
 use Rattle.ssh_embedded.specs.declared.server.Server.{Server}
 use Rattle.ssh_embedded.specs.declared.users.Login.{Login}
 use Rattle.ssh_embedded.specs.declared.users.Login.TheVariants as login
-use Rattle.ssh_parts.specs.Ed25519.{signer_of}
-use Rattle.ssh_parts.specs.declared.ed25519_signer.Ed25519Signer.{Ed25519Signer}
+use Rattle.divrelca.specs.Parts.Ed25519.{signer_of}
+use Rattle.divrelca.specs.declared.parts.ed25519_signer.Ed25519Signer.{Ed25519Signer}
 use Rattle.divrelca.specs.declared.cipher_choice.Ciphers.{Ciphers}
 use Rattle.divrelca.specs.declared.cipher_choice.Ciphers.TheVariants as ciphers
 use Rattle.divrelca.specs.declared.policy.TheConstants.{TRIES}

@@ -6,8 +6,8 @@ use Rattle.ssh_model.specs.Protocol.Sessions.Parties.{Parties}
 use Rattle.ssh_model.specs.Protocol.Wire.MacOnly.{is_text}
 use Rattle.ssh_model.specs.State.TransportLayer.Kept.{ExchangeParts}
 use Rattle.ssh_end.specs.Stands.{ServerStandsAt}
-use Rattle.ssh_parts.specs.AesGcm.{aes_gcm}
-use Rattle.ssh_parts.specs.declared.packet_key.PacketKey.{PacketKey}
+use Rattle.divrelca.specs.Parts.AesGcm.{aes_gcm}
+use Rattle.divrelca.specs.declared.parts.packet_key.PacketKey.{PacketKey}
 use Rattle.ssh_embedded.specs.Asked.{AreNoted, is_noted}
 use Rattle.ssh_embedded.specs.Users.{entry_of, verdicts_for}
 use Rattle.ssh_embedded.specs.declared.server.Server.{Server}

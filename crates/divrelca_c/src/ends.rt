@@ -9,7 +9,7 @@ ghost use Rattle.divrelca_c.specs.Ends.{InRole, IsNewClient, IsNewServer, SetsUs
 ghost use Rattle.divrelca_c.specs.Events.{ShowsTurn};
 ghost use Rattle.divrelca_c.specs.Making.{Leaves, material_by};
 ghost use Rattle.ssh_end.specs.Steps.{shown_by};
-ghost use Rattle.ssh_parts.specs.AesGcm.{aes_gcm};
+ghost use Rattle.divrelca.specs.Parts.AesGcm.{aes_gcm};
 
 use crate::bytes::{DvBytes, DvClientSettings, DvMaterial, DvServerSettings, DvUser};
 use crate::calls;

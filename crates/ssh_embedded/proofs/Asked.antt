@@ -27,7 +27,7 @@ use Rattle.ssh_end.specs.declared.step.Step.{Step}
 use Rattle.ssh_end.specs.declared.turn.Took.{Took}
 use Rattle.ssh_end.specs.declared.turn.Took.TheVariants as given
 use Rattle.ssh_end.specs.declared.turn.Turn.{Turn}
-use Rattle.ssh_parts.specs.Ed25519.{is_name}
+use Rattle.divrelca.specs.Parts.Ed25519.{is_name}
 use Rattle.ssh_embedded.specs.Asked.{AreNoted, IsNoted, Notes, asked_by, asked_in, asked_of, asked_with, is_asked, is_asked_among, is_name_of}
 use Rattle.ssh_embedded.specs.Asked.{is_noted}
 use Rattle.ssh_embedded.specs.Users.{has_key, has_password, verdicts_for}

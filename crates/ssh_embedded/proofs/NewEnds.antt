@@ -4,8 +4,8 @@ use Rattle.ssh_end.specs.Ends.{IsNew, sending_from_line, sending_to}
 use Rattle.ssh_end.specs.declared.step.Step.TheVariants as step
 use Rattle.ssh_model.specs.Protocol.Sessions.Parties.{Settings}
 use Rattle.ssh_model.specs.declared.side.Side.{Side}
-use Rattle.ssh_parts.specs.AesGcm.{aes_gcm}
-use Rattle.ssh_parts.specs.declared.packet_key.PacketKey.{PacketKey}
+use Rattle.divrelca.specs.Parts.AesGcm.{aes_gcm}
+use Rattle.divrelca.specs.declared.parts.packet_key.PacketKey.{PacketKey}
 use Rattle.ssh_transport_machine.specs.Padding.{PadsTo}
 use Rattle.divrelca.specs.Supplies.{next_bytes, padding_under}
 use Rattle.divrelca.specs.declared.keys.PaddingSource.{PaddingSource}

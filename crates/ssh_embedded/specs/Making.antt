@@ -2,9 +2,9 @@
 use Rattle.std.specs.Prelude.{◌≡◌, ℕ, false, List, [], ◌∷◌, codes}
 use Rattle.ssh_model.specs.Protocol.Sessions.Parties.{Settings}
 use Rattle.ssh_model.specs.declared.side.Side.{Side}
-use Rattle.ssh_parts.specs.AesGcm.{aes_gcm}
-use Rattle.ssh_parts.specs.GcmSettings.{standard_given}
-use Rattle.ssh_parts.specs.declared.packet_key.PacketKey.{PacketKey}
+use Rattle.divrelca.specs.Parts.AesGcm.{aes_gcm}
+use Rattle.divrelca.specs.Parts.GcmSettings.{standard_given}
+use Rattle.divrelca.specs.declared.parts.packet_key.PacketKey.{PacketKey}
 use Rattle.ssh_transport_machine.specs.Padding.{PadsTo}
 use Rattle.ssh_end.specs.Ends.{IsNew, sending_from_line, sending_to}
 use Rattle.ssh_end.specs.declared.step.Step.TheVariants as step

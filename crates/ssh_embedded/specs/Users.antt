@@ -3,7 +3,7 @@ use Rattle.std.specs.Prelude.{ℕ, Bool, false, List, [], ◌∷◌, Some}
 use Rattle.std.specs.List.{list_any}
 use Rattle.ciphers.specs.Ed25519.Order.{is_small_order}
 use Rattle.ssh_model.specs.Protocol.Authentication.Requests.{Judge}
-use Rattle.ssh_parts.specs.Ed25519.{judge_of}
+use Rattle.divrelca.specs.Parts.Ed25519.{judge_of}
 use Rattle.divrelca.specs.Users.{is_password}
 use Rattle.ssh_embedded.specs.declared.users.Login.{Login}
 use Rattle.ssh_embedded.specs.declared.users.Login.TheVariants as login

@@ -6,9 +6,8 @@ ghost use Rattle.ssh_embedded.specs.Making.{given_by, method_names, settings_by}
 ghost use Rattle.ssh_embedded.specs.declared.making.MakeError.TheVariants as make_error;
 ghost use Rattle.ssh_config.specs.Meaning.{given_of, settings_of};
 
-use divrelca::{Ciphers, TRIES};
+use divrelca::{AesGcm, Ciphers, Ed25519Signer, GcmSettings, TRIES};
 use ssh_config::{Config, ConfigError, ConfigRefusal, Settings};
-use ssh_parts::{AesGcm, Ed25519Signer, GcmSettings};
 use std::alloc::{AllocError, Global};
 
 /// What an end takes of random bytes when it is made. Each is from a good source, and is used once.

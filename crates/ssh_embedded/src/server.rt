@@ -13,16 +13,16 @@ ghost use Rattle.ssh_model.specs.Protocol.Sessions.Items.{Item};
 ghost use Rattle.ssh_model.specs.Protocol.Sessions.Parties.{Parties};
 ghost use Rattle.ssh_model.specs.Protocol.Wire.MacOnly.{is_text};
 ghost use Rattle.ssh_model.specs.State.TransportLayer.Kept.{ExchangeParts};
-ghost use Rattle.ssh_parts.specs.AesGcm.{aes_gcm};
+ghost use Rattle.divrelca.specs.Parts.AesGcm.{aes_gcm};
 
 use crate::embedded::Embedded;
 use crate::making::{MakeError, Material, ServerSettings};
 use crate::parts::{EmbeddedServer, server_parts};
 use crate::users::Users;
+use divrelca::AesGcm;
 use ssh_end::ServerRole;
 use ssh_end::judge_laws::users_exchanged;
 use ssh_packet::Sealing;
-use ssh_parts::AesGcm;
 use std::alloc::{AllocError, Global};
 
 /// Why a user is not set.

@@ -1,8 +1,7 @@
 //! How a client's user asks to be let in.
 
-use divrelca::UserKey;
+use divrelca::{Ed25519Signer, UserKey};
 use ssh_auth::UserAsk;
-use ssh_parts::Ed25519Signer;
 use ssh_types::NameList;
 
 /// The user of a client with what lets the user in: a key, a password or both.

@@ -1,11 +1,13 @@
 //! Settings and supplied parts of both ends.
 
-use divrelca::{PaddingSource, Policy, TRIES};
+use divrelca::{
+    AesGcm, Curve25519, Ed25519Signer, Ed25519Trust, Either, GcmSettings, PaddingSource, Policy,
+    TRIES,
+};
 use ssh_config::{
     ClientPartValues, ClientParts, Config, ConfigError, ServerPartValues, ServerParts, Settings,
 };
 use ssh_packet::MacOnly;
-use ssh_parts::{AesGcm, Curve25519, Ed25519Signer, Ed25519Trust, Either, GcmSettings};
 use std::alloc::Global;
 
 /// The sealing of both ends: AES-GCM, and `none` with hmac-sha2-256 where a policy offers it.

@@ -9,9 +9,8 @@ use crate::parts::{METHODS, PipeServer, server_parts};
 use crate::start::Start;
 use crate::station::Station;
 use desk::ServerDesk;
-use divrelca::{Material, OneUser, Policy};
+use divrelca::{Ed25519Signer, Material, OneUser, Policy};
 use ssh_end::ServerEnd;
-use ssh_parts::Ed25519Signer;
 use std::alloc::Global;
 use std::random::RandomSource;
 

@@ -8,10 +8,9 @@ use crate::command_line::{ClientOptions, ServerOptions, UsageFault};
 use crate::progress::ShownFiles;
 use crate::status::Status;
 use divrelca::key_files::PrivateKey;
-use divrelca::{KIT, VERSION};
+use divrelca::{AcceptedKey, Ed25519Signer, Ed25519Trust, KIT, VERSION};
 pub use error::RunError;
 use inputs::{accepted_keys, opened, password_in, private_key_in, sink, trusted_key_in};
-use ssh_parts::{AcceptedKey, Ed25519Signer, Ed25519Trust};
 use ssh_pipe::{
     Client, ClientSession, Ending, Login, OneUser, PasswordHash, PipeError, Request, Server,
     UserKey, pump, string_of,

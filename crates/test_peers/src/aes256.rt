@@ -3,8 +3,8 @@
 
 use crate::checking::{same, same_at};
 use ciphers::aes_gcm::{GcmKey, encrypted, long_schedule_of};
+use divrelca::{AesGcm, PacketKey};
 use ssh_packet::{Lengths, PacketReader, PacketRefusal, PacketStep, Sealing, write_packet};
-use ssh_parts::{AesGcm, PacketKey};
 use ssh_toys::ToyFiller;
 use std::alloc::Global;
 use std::test::*;

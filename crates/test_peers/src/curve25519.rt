@@ -2,8 +2,8 @@
 
 use crate::checking::{same, same_at};
 use ciphers::x25519::x25519;
+use divrelca::Curve25519;
 use ssh_kex::Agreement;
-use ssh_parts::Curve25519;
 use std::test::*;
 
 const SCALARS: [[u8; 32]; 2] = [

@@ -1,9 +1,9 @@
 //! Keys and signatures of OpenSSH 9.2p1.
 
 use crate::checking::{same, same_at};
+use divrelca::{AcceptedKey, Ed25519Judge, Ed25519Signer, Ed25519Trust};
 use ssh_auth::{UserJudge, UserSigner};
 use ssh_kex::{HostSigner, HostTrust};
-use ssh_parts::{AcceptedKey, Ed25519Judge, Ed25519Signer, Ed25519Trust};
 use std::test::*;
 
 const NAME: &[u8] = b"ssh-ed25519";

@@ -1,8 +1,8 @@
 //! One sealing of two: each name leads to its own.
 
 use crate::checking::{same, same_at};
+use divrelca::{AesGcm, Either};
 use ssh_packet::{Lengths, MacOnly, PacketReader, PacketStep, Sealing, write_packet};
-use ssh_parts::{AesGcm, Either};
 use ssh_toys::ToyFiller;
 use std::test::*;
 

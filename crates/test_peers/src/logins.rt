@@ -7,12 +7,12 @@ ghost use Rattle.ssh_types.specs.Values.{names_text};
 
 use crate::checking::{same, same_at};
 use crate::recorded::put_signature;
+use divrelca::{AcceptedKey, Ed25519Judge};
 use ssh_auth::{
     AuthClient, AuthServer, ClientAnswer, ServerAnswer, SignedText, UserAsk, UserSigner,
     put_signed_text,
 };
 use ssh_message::{decode, encode};
-use ssh_parts::{AcceptedKey, Ed25519Judge};
 use ssh_types::NameList;
 use std::alloc::Global;
 use std::test::*;

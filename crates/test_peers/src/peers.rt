@@ -3,7 +3,7 @@
 mod captures;
 
 use crate::checking::{same, same_at};
-use ssh_parts::{AesGcm, Curve25519};
+use divrelca::{AesGcm, Curve25519};
 use ssh_toys::{ToyAgreement, ToyFiller, ToySigner, ToyTrust};
 use ssh_transport::{
     ClientPartValues, ClientParts, ClientTransport, Config, Effect, ServerPartValues, ServerParts,

@@ -2,9 +2,9 @@
 
 use crate::checking::same_at;
 use ciphers::ed25519::{is_small_order, verify};
+use divrelca::{AcceptedKey, Ed25519Judge, Ed25519Signer, Ed25519Trust};
 use ssh_auth::UserJudge;
 use ssh_kex::HostTrust;
-use ssh_parts::{AcceptedKey, Ed25519Judge, Ed25519Signer, Ed25519Trust};
 use std::test::*;
 
 const NAME: &[u8] = b"ssh-ed25519";

@@ -8,7 +8,7 @@ use crate::key_files::armor::unarmored;
 use crate::key_files::fault::{Expected, FileFault};
 use crate::key_files::public_key::is_same;
 use crate::key_files::words::ED25519;
-use ssh_parts::{Ed25519Signer, Ed25519Trust};
+use crate::parts::{Ed25519Signer, Ed25519Trust};
 use ssh_types::laws::are_bytes;
 use ssh_types::{ReadRefusal, Reader};
 use std::alloc::Global;

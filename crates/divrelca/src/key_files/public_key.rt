@@ -7,7 +7,7 @@ ghost use Rattle.divrelca.specs.Keys.{key_in, key_of};
 use crate::key_files::digits::decoded;
 use crate::key_files::fault::Expected;
 use crate::key_files::words::ED25519;
-use ssh_parts::Ed25519Trust;
+use crate::parts::Ed25519Trust;
 
 // The bytes of a key of ssh-ed25519 as it goes over the wire (RFC 8709 section 4).
 const KEY: usize = 51;

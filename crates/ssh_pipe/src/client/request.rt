@@ -1,9 +1,8 @@
 //! What a client asks of the server, and as whom.
 
 use crate::login::Login;
-use divrelca::UserKey;
+use divrelca::{Ed25519Trust, UserKey};
 use ssh_channels::Ask as ChannelAsk;
-use ssh_parts::Ed25519Trust;
 
 /// A client's session: the host that it trusts, the user who logs in, and what is asked of the server.
 #[derive(Clone, Copy)]

@@ -5,7 +5,7 @@ use crate::sink::Sink;
 use divrelca::key_files::{
     Expected, FileFault, PrivateKey, authorized_keys, password, private_key, trusted_key,
 };
-use ssh_parts::{AcceptedKey, Ed25519Trust};
+use divrelca::{AcceptedKey, Ed25519Trust};
 use std::fs;
 use std::io::{Read, Write};
 use std::os::unix::fs::PermissionsExt;

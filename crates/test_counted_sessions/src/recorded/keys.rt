@@ -1,7 +1,7 @@
 //! The keys of the recorded sessions.
 
 use divrelca::key_files::{PrivateKey, private_key};
-use ssh_parts::{AcceptedKey, Ed25519Signer, Ed25519Trust};
+use divrelca::{AcceptedKey, Ed25519Signer, Ed25519Trust};
 use ssh_pipe::UserKey;
 use std::fs;
 use std::rt::Files;

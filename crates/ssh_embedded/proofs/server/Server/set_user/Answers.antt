@@ -1,5 +1,5 @@
 use Rattle.std.proofs.Common.{ap, sym, ◌∙◌}
-use Rattle.ssh_parts.specs.AesGcm.{aes_gcm}
+use Rattle.divrelca.specs.Parts.AesGcm.{aes_gcm}
 use Rattle.ssh_embedded.proofs.Asked.{set_stands}
 use Rattle.ssh_embedded.proofs.server.Server.set_user.Goals as goal
 

@@ -1,0 +1,40 @@
+//! What a client trusts: one host key of ssh-ed25519.
+
+ghost use Rattle.std.specs.Prelude.{◌≡◌};
+ghost use Rattle.divrelca.specs.Parts.Ed25519.{is_trusted, trust_in};
+
+use crate::parts::ed25519_blobs::{NAME, has_signed, key_blob, key_in};
+use ciphers::ed25519::is_small_order;
+use ssh_kex::HostTrust;
+
+/// Trusts one host, by its key of ssh-ed25519 (RFC 8709), and no other algorithm. A point of small order, as 32 zeros are, is trusted by
+/// nobody.
+#[derive(Clone, Copy, Debug, PartialEq, Eq)]
+pub struct Ed25519Trust {
+    /// The 32 bytes of the public key.
+    pub public: [u8; 32],
+}
+
+impl Ed25519Trust {
+    /// Trust in the host whose key goes over the wire as these bytes (RFC 8709 section 4); `None` where they are no key of ssh-ed25519,
+    /// or one of small order, under which anyone can sign.
+    pub fn from_key(key: &[u8]) -> Option<Ed25519Trust>
+        ensures { result ≡ trust_in key.now }
+    {
+        let public = key_in(key)?;
+        if is_small_order(&public) {
+            return None;
+        }
+        Some(Ed25519Trust { public })
+    }
+}
+
+impl HostTrust for Ed25519Trust {
+    ghost judged = { λ trust. is_trusted trust.public };
+
+    fn judge(&self, algorithm: &[u8], key: &[u8], hash: &[u8; 32], signature: &[u8]) -> bool {
+        algorithm == NAME
+            && key == key_blob(&self.public).as_slice()
+            && has_signed(&self.public, hash, signature)
+    }
+}
