@@ -3,7 +3,7 @@
 # `openssl` is installed its own speed beside: with all instructions of the processor, without those for AES and for products in GHASH, and
 # with none but the plainest. Then it shows ratios in one run: sealing and opening packets under MacOnly and under AES-128-GCM to the
 # HMAC-SHA-256 of the same bytes, an agreement by X25519 and a signature by Ed25519 and its verification to that of 1,024 bytes, exchanges of
-# keys, data and sessions to the hashes that both ends compute, and taking data with 1,024 channels in use to that with one. The program is
+# keys, data and sessions to the hashes that both ends compute, and taking data with all channels in use to that with one. The program is
 # proved and built with optimization first, which takes some minutes the first time. ROUNDS says how often each time is taken; the fastest
 # counts.
 set -eu

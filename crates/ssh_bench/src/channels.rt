@@ -1,7 +1,8 @@
-//! Times taking a CHANNEL_DATA message with 1,024 channels in use against taking it with one.
+//! Times taking a CHANNEL_DATA message with all channels in use against taking it with one.
 
 use crate::ratio::Ratio;
 use case::Case;
+use ssh_types::bounds::MOST_CHANNELS;
 use std::rt::Clock;
 use std::time::Duration;
 
@@ -14,9 +15,9 @@ mod case;
 /// Those of the clock and of standard output, or an end refuses what it should take.
 pub fn measure<R: Clock + Print + AllocGlobal>(rt: &R, rounds: u32) -> anyhow::Result<()> {
     let few = fastest(rt, &mut Case::new(rt.alloc(), 1)?, rounds)?;
-    let many = fastest(rt, &mut Case::new(rt.alloc(), 1024)?, rounds)?;
+    let many = fastest(rt, &mut Case::new(rt.alloc(), MOST_CHANNELS)?, rounds)?;
     println!(rt;
-        "Time of taking a CHANNEL_DATA with 1,024 channels in use as a ratio to one: {}",
+        "Time of taking a CHANNEL_DATA with all channels in use as a ratio to one: {}",
         Ratio(many, few)
     )?;
     Ok(())

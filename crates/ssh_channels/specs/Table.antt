@@ -1,4 +1,4 @@
--- A table of 1,024 numbers over a slab, as one list.
+-- A table of all numbers that an end gives over a slab, as one list.
 use Rattle.std.specs.Prelude.{◌≡◌, ℕ, List, length, map, Option, None, Some, IsSome, option_map, count_by, is_some}
 use Rattle.slab.specs.Slab.{Slab, get, slab_len}
 use Rattle.ssh_model.specs.Protocol.Bounds.{most_channels}

@@ -42,7 +42,7 @@ use std::marker::Model;
 /// `ClientEnd` are its names for the two roles.
 ///
 /// It has no socket, no clock and no source of random bytes. Bytes of the peer go in by `take`, what its user wants by `ask`; bytes for
-/// the peer are appended to `out`. It holds room for one packet of at most 35,000 bytes and for 1,024 channels from the beginning on.
+/// the peer are appended to `out`. It holds room for one packet of at most 35,000 bytes and for all its channels from the beginning on.
 pub struct End<R: EndRole> {
     pub(crate) machine: Machine<<R::Exchange as Role>::Sealing>,
     pub(crate) role: R,

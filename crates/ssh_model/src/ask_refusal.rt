@@ -23,7 +23,7 @@ pub enum AskRefusal {
     /// EOF or CLOSE was sent on the channel, or authentication is over.
     #[error("it is over already")]
     Ended,
-    /// 1,024 channels are in use.
+    /// All numbers that an end has for channels are in use.
     #[error("no more channels can be opened")]
     TableFull,
     /// No request of the peer waits for a reply.

@@ -20,7 +20,7 @@ impl Case {
     /// # Errors
     ///
     /// Memory is refused, or a channel is.
-    pub fn new(alloc: Global, count: u32) -> anyhow::Result<Case> {
+    pub fn new(alloc: Global, count: usize) -> anyhow::Result<Case> {
         let mut channels = Channels::new(alloc)?;
         let mut last = 0;
         for _ in 0..count {

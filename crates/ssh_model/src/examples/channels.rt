@@ -256,8 +256,8 @@ pub fn answer_examples()
     ensures failure_taken { Answer toy Client (channel_confirmed Client) (Some 3) (ChannelFailure 3) (Told (RequestDone 3 false) ∷ []) }
 {}
 
-/// What holds where no more channels or owed replies fit: with 1,024 channels an end has no place for another, and it
-/// owes at most 256 replies.
+/// What holds where no more channels or owed replies fit: with all its channels in use an end has no place for another,
+/// and it owes at most 256 replies.
 pub fn limits()
     ensures open_refused_while_many_are_owed { (h : List Item) → is_full Client h ≡ true → is_owed_limit_reached Client h ≡ true →
         refusal Client h open_message ≡ Some OwedFull }

@@ -100,7 +100,7 @@ pub data AreReplies : List channel.Item → List Item → Type 0 where
 
 -- ---- numbers and requests in use
 
--- the table of 1,024 channels is full
+-- the table of channels is full
 abbrev pub is_full : Side → List Item → Bool
 is_full side h = not (has_place side (channel_items h))
 

@@ -88,7 +88,7 @@ is_owed number [] = false
 is_owed number (Sent (Some at) message ∷ replies) = cond (at == number) true (is_owed number replies)
 is_owed number (_ ∷ replies) = is_owed number replies
 
--- A new channel can have this number: local numbers are below 1,024 (own).
+-- A new channel can have this number: local numbers are below `most_channels` (own).
 abbrev pub is_free : Side → List Item → ℕ → Bool
 is_free side history number =
     nat_lt number most_channels && (not (is_held number (noted side history)) && not (is_owed number (owed side history)))
@@ -98,7 +98,7 @@ unfoldable pub some_free : Side → List Item → ℕ → Bool
 some_free side history zero = false
 some_free side history (suc number) = is_free side history number || some_free side history number
 
--- There is a place for a new channel among the 1,024.
+-- One of the numbers that an end gives is free for a new channel.
 unfoldable pub has_place : Side → List Item → Bool
 has_place side history = some_free side history most_channels
 

@@ -34,7 +34,7 @@ pub data DueReply : Type 0 where
 
 -- what an end keeps of its channels
 pub record Channels : Type 0 where
-  -- by local number: 1,024 of them
+  -- by local number: one for each that an end gives
   pub places : List (Option Place)
   -- the replies that are owed, the oldest first
   pub owed : List DueReply
@@ -52,7 +52,7 @@ no_channels = record { places = replicate most_channels None; owed = []; globals
 abbrev pub used : List (Option Place) → ℕ
 used places = count_by is_some places
 
--- all 1,024 numbers are in use
+-- all numbers that an end gives are in use
 abbrev pub is_table_full : List (Option Place) → Bool
 is_table_full places = nat_le most_channels (used places)
 

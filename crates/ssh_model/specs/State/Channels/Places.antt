@@ -115,7 +115,7 @@ unfoldable pub count_below : (ℕ → Bool) → ℕ → ℕ
 count_below meets zero = 0
 count_below meets (suc number) = cond (meets number) (suc (count_below meets number)) (count_below meets number)
 
--- how many numbers are in use: local numbers are below 1,024
+-- how many of the numbers that an end gives are in use
 unfoldable pub count : List Note → List Item → ℕ
 count notes owed = count_below (in_use notes owed) most_channels
 
