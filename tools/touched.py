@@ -1,7 +1,7 @@
 """Counts the files that three changes touch, for the section "To change X, touch Y" of CONTRIBUTING.md, and writes the counts there; `touched.py check` compares them.
 
-A file counts for a change where it names what is changed: the message, by its type or its name on the wire; the bound, by its number in the crates that
-know it; the cipher, by its type or its name on the wire."""
+A file counts for a change where it names what is changed: the message, by its type or its name on the wire; the bound, by its number; the cipher, by
+its type or its name on the wire. Files of tests, edits, tools and pages are left out, except the page that has the bounds."""
 
 import re
 import subprocess
@@ -46,15 +46,18 @@ def kinds(files):
     return ", ".join(f"{count} {name}" for name, count in counted.items() if count)
 
 
+def changed(pattern):
+    """The files that have this and would have to change with it: no edits, tests, tools or pages."""
+    return [name for name in files_with(pattern, ("crates/",)) if kinds([name]).split()[1] in ("specs", "src", "proofs")]
+
+
 def rows():
-    counts = {message: files_with(rf"\b({message}|{wire_name(message)})\b") for message in MESSAGES}
+    counts = {message: changed(rf"\b({message}|{wire_name(message)})\b") for message in MESSAGES}
     least, most = min(counts, key=lambda m: len(counts[m])), max(counts, key=lambda m: len(counts[m]))
     yield f"a message: `{least}`, the least of {len(MESSAGES)} looked at", counts[least]
     yield f"a message: `{most}`, the most", counts[most]
-    yield "a bound: the 1,024 channels of an end", files_with(r"\b1,?024\b", ("crates/ssh_channels/", "crates/ssh_model/specs/Protocol/Channels", "crates/ssh_model/specs/State/Channels", "crates/ssh_model/proofs/Channels", "docs/"))
-    # (`ciphers` has a folder of definitions of that name)
-    named = files_with(r"(?<!\bciphers\.specs\.)\b(AesGcm|aes128-gcm)\b")
-    yield "a cipher: `AesGcm`", [name for name in named if not name.startswith("crates/ciphers/")]
+    yield "a bound: the number of channels of an end", changed(r"(?i)1[,_]?024\b.*channel|channel.*\b1[,_]?024") + files_with(r"(?i)channels.*\b1,024", ("docs/STRICTER.md",))
+    yield "a cipher: aes256-gcm, the second one", changed(r"Aes256|AES_256|aes256-gcm")
 
 
 def table():
