@@ -1,28 +1,24 @@
 //! Laws of what a client makes of a server's KEXINIT and of its reply: turns of a session. Facts for proofs, at no cost.
 
-ghost use Rattle.std.specs.Prelude.{◌≡◌, ◌+◌, List, [], ◌∷◌, ℕ, Some, false, true};
+ghost use Rattle.std.specs.Prelude.{◌≡◌, List, ℕ, false};
 ghost use Rattle.ssh_model.specs.declared.side.Side.TheVariants.{Client};
-ghost use Rattle.ssh_model.specs.Protocol.KeyExchange.Choice.{Chosen};
-ghost use Rattle.ssh_model.specs.Protocol.Channels.Connection.{AreReplies, owed_replies};
-ghost use Rattle.ssh_model.specs.Protocol.Sessions.Items.{Item, Item.Died, Item.Refused};
+ghost use Rattle.ssh_model.specs.declared.refusal.Refusal.TheVariants.{BadHost, BadPoint};
+ghost use Rattle.ssh_model.specs.Protocol.Sessions.Items.{Item};
 ghost use Rattle.ssh_model.specs.Protocol.Sessions.Parties.{Agreement, Parties, agreement_of};
-ghost use Rattle.ssh_model.specs.declared.refusal.Refusal.TheVariants.{BadHost, BadPoint, NumberSpent};
-ghost use Rattle.ssh_model.specs.Protocol.Sessions.Turns.{AreSpelled};
 ghost use Rattle.ssh_model.specs.State.TransportLayer.Kept.{Transport, after_taken};
 ghost use Rattle.ssh_model.specs.State.TransportLayer.Summary.{SumsUp};
-ghost use Rattle.ssh_model.specs.State.TransportLayer.Turns.{Turned};
 ghost use Rattle.ssh_model.specs.Protocol.Wire.Sealing.{Crypto};
 ghost use Rattle.ssh_transport_machine.specs.Choices.{IsChoosing};
-ghost use Rattle.ssh_transport_machine.specs.Endings.{ExchangeEnds, IsRead, PayloadRefused};
+ghost use Rattle.ssh_transport_machine.specs.Judging.{PayloadJudged};
 ghost use Rattle.ssh_transport_machine.specs.Puts.{Outs};
 ghost use Rattle.ssh_transport_machine.specs.State.{IsLive, State, before_taken};
-ghost use Rattle.ssh_transport_machine.specs.Judging.{PayloadJudged};
 ghost use Rattle.ssh_transport_machine.specs.declared.machine.judging.Judged.TheVariants as judged;
 ghost use Rattle.ssh_transport_machine.specs.declared.machine.kexinit.KexinitFacts.{KexinitFacts};
 ghost use Rattle.ssh_transport_machine.specs.declared.machine.turn.Answer.{Answer};
 ghost use Rattle.ssh_transport.specs.OfClient.Kexinits.{KexinitDone, KexinitTurn};
 ghost use Rattle.ssh_transport.specs.OfClient.Replies.{ReadsReply, Trusts};
 ghost use Rattle.ssh_transport.specs.OfClient.Turns.{HostAccepted, HostRefused, NewkeysSpent, PointRefused};
+ghost use Rattle.ssh_transport.specs.Laws.{EndsExchange, KeepsSide, RefusesFor, RunsOut, StaysLive, StopsChoosing};
 
 use ssh_model::payload_numbers;
 use ssh_model::transport::{choices, exchange_ends, payloads, refused_and_spent};
@@ -48,12 +44,9 @@ pub fn kexinits_taken<K>()
 
 /// What holds of a live machine goes on holding with a reply that is trusted, and no KEXINIT is kept that is still to be chosen by.
 pub fn replies_live<K>()
-    ensures live { (c : Crypto K) (agreement : Agreement) (trusts : Trusts) (old new : State K) (chosen : Chosen) (o : Outs) →
-        old.kept.blocked ≡ true → IsLive old → HostAccepted c agreement trusts old chosen new o → IsLive new }
-    ensures choosing { (c : Crypto K) (agreement : Agreement) (trusts : Trusts) (old new : State K) (chosen : Chosen) (o : Outs) →
-        HostAccepted c agreement trusts old chosen new o → IsChoosing new.kept }
-    ensures side { (c : Crypto K) (agreement : Agreement) (trusts : Trusts) (old new : State K) (chosen : Chosen) (o : Outs) →
-        HostAccepted c agreement trusts old chosen new o → new.kept.side ≡ old.kept.side }
+    ensures live { (c : Crypto K) (agreement : Agreement) (trusts : Trusts) → StaysLive (HostAccepted c agreement trusts) }
+    ensures choosing { (c : Crypto K) (agreement : Agreement) (trusts : Trusts) → StopsChoosing (HostAccepted c agreement trusts) }
+    ensures side { (c : Crypto K) (agreement : Agreement) (trusts : Trusts) → KeepsSide (HostAccepted c agreement trusts) }
 {
     exchanges_live::<K>();
     live_machines::<K>();
@@ -77,23 +70,10 @@ pub fn kexinits_live<K>()
 /// What a client does with a server's reply is what a client does in a session whose parts it has: it refuses the point, or the
 /// host, or ends the exchange up to what it announces, or has no number left for that.
 pub fn replies_taken<K>()
-    ensures ended { (p : Parties K) (history : List Item) (s : Transport K) → SumsUp p Client history s → s.dead ≡ false →
-        (old new : State K) (o : Outs) → old.kept ≡ after_taken s → IsRead s old.receiver.payload → (chosen : Chosen) →
-        HostAccepted p.crypto (agreement_of p Client) p.trusts old chosen new o →
-        ExchangeEnds p Client history old.receiver.payload (s.sending.epoch + 1) chosen new.kept o }
-    ensures bad_point { (p : Parties K) (history : List Item) (s : Transport K) → SumsUp p Client history s → s.dead ≡ false →
-        (old new : State K) (o : Outs) → old.kept ≡ after_taken s → IsRead s old.receiver.payload →
-        PointRefused p.crypto (agreement_of p Client) old new o →
-        PayloadRefused p Client history old.receiver.payload BadPoint new.kept o }
-    ensures bad_host { (p : Parties K) (history : List Item) (s : Transport K) → SumsUp p Client history s → s.dead ≡ false →
-        (old new : State K) (o : Outs) → old.kept ≡ after_taken s → IsRead s old.receiver.payload →
-        HostRefused p.crypto (agreement_of p Client) p.trusts old new o →
-        PayloadRefused p Client history old.receiver.payload BadHost new.kept o }
-    ensures spent { (p : Parties K) (history : List Item) (s : Transport K) → SumsUp p Client history s → s.dead ≡ false →
-        (old new : State K) (o : Outs) → old.kept ≡ after_taken s → IsRead s old.receiver.payload → (owed : List Item) →
-        AreReplies (owed_replies Client history) owed → AreSpelled owed →
-        NewkeysSpent p.crypto (agreement_of p Client) p.trusts old new o →
-        Turned p Client history old.receiver.payload (Died ∷ Refused NumberSpent (Some old.receiver.payload) ∷ []) [] new.kept }
+    ensures ended { EndsExchange K Client (λ p. HostAccepted p.crypto (agreement_of p Client) p.trusts) }
+    ensures bad_point { RefusesFor K Client BadPoint (λ p. PointRefused p.crypto (agreement_of p Client)) }
+    ensures bad_host { RefusesFor K Client BadHost (λ p. HostRefused p.crypto (agreement_of p Client) p.trusts) }
+    ensures spent { RunsOut K Client (λ p. NewkeysSpent p.crypto (agreement_of p Client) p.trusts) }
 {
     payload_numbers();
     choices::<K>();
