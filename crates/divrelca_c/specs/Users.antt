@@ -21,17 +21,17 @@ AreOf name users = All (λ user. user.name.now ≡ name) users
 -- Where a server stands with its users, it stands with those of another one, if all whose key or password it was asked for are noted.
 abbrev pub StandsOn : (old new : Server) → Type 0
 StandsOn old new = (p : Parties PacketKey) (parts : ExchangeParts) (history : List Item) →
-    ServerStandsAt p aes_gcm parts (verdicts_for old.state.end.role.user.list.items) history old.state.end.machine old.state.end.layers →
+    ServerStandsAt p aes_gcm parts (verdicts_for old.state.end.role.judge.list.items) history old.state.end.machine old.state.end.layers →
     AreNoted history old.state.noted →
-    ServerStandsAt (judged_by (verdicts_for new.state.end.role.user.list.items) p) aes_gcm parts
-    (verdicts_for new.state.end.role.user.list.items) history new.state.end.machine new.state.end.layers
+    ServerStandsAt (judged_by (verdicts_for new.state.end.role.judge.list.items) p) aes_gcm parts
+    (verdicts_for new.state.end.role.judge.list.items) history new.state.end.machine new.state.end.layers
 
 -- Where the code is 0, the entries are all of this name and come after those of the server. The name was not noted, and is now. Where it is
 -- another one, neither the users nor who is noted change. Nothing else of the server ever does. Where each entry is taken, the code is that
 -- of the first fault, or -1.
 pub record SetsUser (name : List ℕ) (users : List DvUser) (code : ℤ) (old new : Server) : Type 0 where
   pub set : code ≡ pos 0 →
-      map entry_of new.state.end.role.user.list.items ≡ map entry_of old.state.end.role.user.list.items ++ map entry_by users
+      map entry_of new.state.end.role.judge.list.items ≡ map entry_of old.state.end.role.judge.list.items ++ map entry_by users
   pub named : code ≡ pos 0 → AreOf name users
   pub entries : code ≡ pos 0 → All IsEntry users
   pub fresh : code ≡ pos 0 → is_noted name old.state.noted ≡ false
@@ -49,7 +49,7 @@ pub record SetsUser (name : List ℕ) (users : List DvUser) (code : ℤ) (old ne
   pub otherwise : All IsTaken users → old.state.end.machine.kept.dead ≡ false → (name ≡ [] → ⊥) → AreOf name users →
       is_noted name old.state.noted ≡ false → (code ≡ negsuc 0 → ⊥) → code ≡ pos 0
   pub stands : code ≡ pos 0 → StandsOn old new
-  pub rest : new.state.end ≡ record old.state.end { role = record old.state.end.role { user = new.state.end.role.user } }
-  pub unchanged : (code ≡ pos 0 → ⊥) → new.state.end.role.user.list.items ≡ old.state.end.role.user.list.items
+  pub rest : new.state.end ≡ record old.state.end { role = record old.state.end.role { judge = new.state.end.role.judge } }
+  pub unchanged : (code ≡ pos 0 → ⊥) → new.state.end.role.judge.list.items ≡ old.state.end.role.judge.list.items
   pub unnoted : (code ≡ pos 0 → ⊥) → new.state.noted ≡ old.state.noted
   pub same : new.state ≡ record old.state { end = new.state.end; noted = new.state.noted }

@@ -11,9 +11,8 @@ use Rattle.ssh_model.specs.Protocol.Wire.Sealing.{Crypto}
 use Rattle.ssh_end.specs.Sessions.{AreOf, end_of}
 use Rattle.ssh_transport_machine.specs.State.{State}
 use Rattle.ssh_end.specs.Ends.{EndValue}
-use Rattle.ssh_end.specs.Parts.{IsServer, exchange_parts}
+use Rattle.ssh_end.specs.Parts.{IsServer, ServerRole, exchange_parts}
 use Rattle.ssh_end.specs.Places.{StandsAfter}
-use Rattle.ssh_end.specs.declared.server_role.ServerRole.{ServerRole}
 use Rattle.ssh_end.specs.declared.told.Told.{Told as Tells}
 use Rattle.ssh_end.specs.declared.told.Told.TheVariants as tells
 
@@ -43,7 +42,7 @@ abbrev pub PartsOf : {P U S F A H K : Type 0} → Crypto K → (point : A → Li
     ServerRole P U S F A H K → Type 0
 PartsOf c point shared key signature verdicts p role =
     IsServer p c (exchange_parts point shared key signature role.exchange.agreement role.exchange.host_signer)
-    (verdicts role.user)
+    (verdicts role.judge)
 
 -- From a place at which a server stands it went on so.
 abbrev pub Serves : {P U S F A H K : Type 0} → Crypto K → (point : A → List ℕ → List ℕ) →

@@ -36,7 +36,7 @@ impl Client {
         ensures made { IfOk result (λ made. IsMade sides.Client
             (settings_by settings.now.software.now settings.now.epoch_limit TRIES Both settings.now.ciphers) material made.state) }
         ensures host { IfOk result (λ made. made.state.end.role.exchange.host_trust.public ≡ settings.now.host) }
-        ensures user { IfOk result (λ made. made.state.end.role.user.signer ≡ settings.now.user) }
+        ensures user { IfOk result (λ made. made.state.end.role.signer.signer ≡ settings.now.user) }
         ensures key { IfOk result (λ made. made.state.key ≡ option_map (λ signer. signer.key) settings.now.user) }
     {
         if is_small_order(&settings.host) {

@@ -69,7 +69,7 @@ impl Server {
             (settings_by settings.now.software.now settings.now.epoch_limit settings.now.tries settings.now.methods settings.now.ciphers)
             material made.state) }
         ensures host { IfOk result (λ made. made.state.end.role.exchange.host_signer ≡ settings.now.host) }
-        ensures users { IfOk result (λ made. made.state.end.role.user ≡ users) }
+        ensures users { IfOk result (λ made. made.state.end.role.judge ≡ users) }
         ensures key { IfOk result (λ made. made.state.key ≡ None) }
     {
         let config = settings.config(alloc)?;
@@ -93,7 +93,7 @@ impl Server {
     /// - `Known`: a key or a password of this user was asked for, or the user was set before.
     /// - `Memory`: memory was refused.
     pub fn set_user(&mut self, alloc: Global, name: &[u8], users: Users) -> Result<(), UserFault>
-        ensures set { OnOk result (self.new.state.end.role.user.list.items ≡ self.old.state.end.role.user.list.items ++ users.list.items) }
+        ensures set { OnOk result (self.new.state.end.role.judge.list.items ≡ self.old.state.end.role.judge.list.items ++ users.list.items) }
         ensures named { OnOk result (list_all (λ user. is_text user.name.items name.now) users.list.items ≡ true) }
         ensures fresh { OnOk result (is_noted name.now self.old.state.noted ≡ false) }
         ensures noted { OnOk result (is_noted name.now self.new.state.noted ≡ true) }
@@ -111,15 +111,15 @@ impl Server {
             list_all (λ user. is_text user.name.items name.now) users.list.items ≡ true → is_noted name.now self.old.state.noted ≡ false →
             IfErr result (λ fault. fault ≡ UserFault.Memory) }
         ensures stands { OnOk result ((p : Parties _) (parts : ExchangeParts) (history : List Item) →
-            ServerStandsAt p aes_gcm parts (verdicts_for self.old.state.end.role.user.list.items) history self.old.state.end.machine
+            ServerStandsAt p aes_gcm parts (verdicts_for self.old.state.end.role.judge.list.items) history self.old.state.end.machine
             self.old.state.end.layers → AreNoted history self.old.state.noted →
-            ServerStandsAt (judged_by (verdicts_for self.new.state.end.role.user.list.items) p) aes_gcm parts
-            (verdicts_for self.new.state.end.role.user.list.items) history self.new.state.end.machine self.new.state.end.layers) }
+            ServerStandsAt (judged_by (verdicts_for self.new.state.end.role.judge.list.items) p) aes_gcm parts
+            (verdicts_for self.new.state.end.role.judge.list.items) history self.new.state.end.machine self.new.state.end.layers) }
         ensures rest { self.new.state.end ≡ record self.old.state.end {
           role = record self.old.state.end.role
-              { user = self.new.state.end.role.user };
+              { judge = self.new.state.end.role.judge };
         } }
-        ensures unchanged { OnErr result (self.new.state.end.role.user.list.items ≡ self.old.state.end.role.user.list.items) }
+        ensures unchanged { OnErr result (self.new.state.end.role.judge.list.items ≡ self.old.state.end.role.judge.list.items) }
         ensures unnoted { OnErr result (self.new.state.noted ≡ self.old.state.noted) }
         ensures same { self.new.state ≡ record self.old.state { end = self.new.state.end; noted = self.new.state.noted } }
     {
@@ -140,12 +140,12 @@ impl Server {
 
     // More users after those that there are.
     fn extend(&mut self, alloc: Global, users: Users) -> Result<(), AllocError>
-        ensures set { OnOk result (self.new.state.end.role.user.list.items ≡ self.old.state.end.role.user.list.items ++ users.list.items) }
+        ensures set { OnOk result (self.new.state.end.role.judge.list.items ≡ self.old.state.end.role.judge.list.items ++ users.list.items) }
         ensures rest { self.new.state.end ≡ record self.old.state.end {
           role = record self.old.state.end.role
-              { user = self.new.state.end.role.user };
+              { judge = self.new.state.end.role.judge };
         } }
-        ensures unchanged { OnErr result (self.new.state.end.role.user.list.items ≡ self.old.state.end.role.user.list.items) }
+        ensures unchanged { OnErr result (self.new.state.end.role.judge.list.items ≡ self.old.state.end.role.judge.list.items) }
         ensures same { self.new.state ≡ record self.old.state { end = self.new.state.end } }
     {
         let mut all = self.state.end.replace_user(Users::new(alloc));

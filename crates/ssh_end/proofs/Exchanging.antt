@@ -36,12 +36,12 @@ module _ {K : Type 0} (laws : JudgeLaws K) where
 
   pub exchanged : (p : Parties K) (c : Crypto K) (parts : ExchangeParts) (one other : Judge) (history : List Item) (machine : State K) (layers : Layers) → ServerStandsAt p c parts one history machine layers → machine.kept.dead ≡ false → AgreeOnAsked one other history → ServerStandsAt (judged_by other p) c parts other history machine layers
   exchanged p c parts one other history machine layers place alive agree =
-      let asked : AgreeOnAsked (judge_of p) other history = subst (λ judge. AgreeOnAsked judge other history) (sym place.parts_are.judge_is) agree in
+      let asked : AgreeOnAsked (judge_of p) other history = subst (λ judge. AgreeOnAsked judge other history) (sym (place.parts_are.judge_is refl)) agree in
       let run : EndRun (judged_by other p) Server history = laws.runs p other Server history place.run (sym place.sums.transport.dead_is ∙ alive) asked in
       let lawful : AreLawful (judged_by other p) = laws.lawful p other place.lawful in
       record {
         lawful = lawful;
-        parts_are = record { exchange = record { crypto = place.parts_are.exchange.crypto; parts_are = place.parts_are.exchange.parts_are }; judge_is = refl };
+        parts_are = record { exchange = record { crypto = place.parts_are.exchange.crypto; parts_are = place.parts_are.exchange.parts_are }; judge_is = λ same. refl; signature_is = λ same. absurd (cc same) };
         layers_are = λ living. layers_of p other layers (place.layers_are living);
         sums = laws.sums p other Server history _ place.sums;
         run = run;

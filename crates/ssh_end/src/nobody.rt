@@ -1,7 +1,6 @@
 //! The part that a role does not have.
 
-ghost use Rattle.std.specs.Prelude.{[]};
-ghost use Rattle.ssh_end.specs.Parts.{no_verdicts};
+ghost use Rattle.ssh_end.specs.Parts.{no_signatures, no_verdicts};
 
 use ssh_auth::{UserJudge, UserSigner};
 
@@ -30,7 +29,7 @@ impl UserJudge for Nobody {
 }
 
 impl UserSigner for Nobody {
-    ghost signature_of = { λ nobody user algorithm key text. [] };
+    ghost signature_of = { λ nobody. no_signatures };
 
     fn sign(
         &self,

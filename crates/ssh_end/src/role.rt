@@ -23,8 +23,8 @@ use ssh_transport_machine::{Machine, Outgoing};
 /// What the layers above a transport make of a payload, or why they make nothing of it.
 pub type Judged = Result<Above, LayerFault>;
 
-/// What one end has and the other does not: its part in an exchange of keys, and who judges its users, or signs for its user. `ServerRole`
-/// and `ClientRole` are the two.
+/// What one end has and the other does not: its part in an exchange of keys, and who judges its users, or signs for its user. A `Party` has
+/// it.
 pub trait EndRole: Drop {
     /// What it does in an exchange of keys.
     type Exchange: Role;

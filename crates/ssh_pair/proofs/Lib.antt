@@ -1,3 +1,4 @@
+pub mod Roles
 pub mod Noting
 pub mod Advancing
 pub mod Answering

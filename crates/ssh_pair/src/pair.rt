@@ -48,8 +48,7 @@ impl<
     J: UserJudge + Drop,
 > Model for Pair<S, C, U, V, J> {
     ghost use Rattle.ssh_end.specs.Ends.{EndValue};
-    ghost use Rattle.ssh_end.specs.declared.client_role.ClientRole.{ClientRole};
-    ghost use Rattle.ssh_end.specs.declared.server_role.ServerRole.{ServerRole};
+    ghost use Rattle.ssh_end.specs.Parts.{ClientRole, ServerRole};
     ghost use Rattle.ssh_pair.specs.Standing.{PairState};
 
     ghost Value = { PairState (EndValue S.Key (ClientRole C U S C.Filler C.Agreement C.HostTrust S.Key) C.Filler)

@@ -2,13 +2,11 @@
 --     agreement, trusts, server_parts, signature_of                  what the toys do
 --     client_exchange, server_exchange                               the ghost members of both roles in an exchange of keys
 --     client_role, server_role                                       those of the roles of whole ends
-use Rattle.std.specs.Prelude.{ℕ, ◌&&◌, List, [], codes, nat_eq}
+use Rattle.std.specs.Prelude.{ℕ, ◌&&◌, List, codes, nat_eq}
 use Rattle.std.specs.Cmp.Lexicographic.{pointwise}
 use Rattle.sha2.specs.Sha256.{sha256}
-use Rattle.ssh_end.specs.Parts.{IsClient, IsServer, no_verdicts}
-use Rattle.ssh_end.specs.declared.client_role.ClientRole.{ClientRole}
+use Rattle.ssh_end.specs.Parts.{ClientRole, IsClient, IsServer, ServerRole, no_signatures, no_verdicts}
 use Rattle.ssh_end.specs.declared.role.EndRole as role
-use Rattle.ssh_end.specs.declared.server_role.ServerRole.{ServerRole}
 use Rattle.ssh_model.specs.Protocol.Sessions.Parties.{Agreement}
 use Rattle.ssh_model.specs.Protocol.Wire.MacOnly.{mac_only}
 use Rattle.ssh_model.specs.State.TransportLayer.Kept.{ExchangeParts}
@@ -93,7 +91,7 @@ client_role = record {
 abbrev pub server_role : role.Ghosts ServerPart ServerExchange MacOnly ToyFiller (List ℕ)
 server_role = record {
   exchange_of = λ part. part.exchange;
-  is_of = λ part p. IsServer p mac_only server_parts (verdicts_of part.user.credentials.now);
-  judging = λ part. verdicts_of part.user.credentials.now;
-  signing = λ part user algorithm key text. [];
+  is_of = λ part p. IsServer p mac_only server_parts (verdicts_of part.judge.credentials.now);
+  judging = λ part. verdicts_of part.judge.credentials.now;
+  signing = λ part. no_signatures;
 }

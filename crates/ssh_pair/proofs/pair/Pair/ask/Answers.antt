@@ -9,14 +9,13 @@ use Rattle.ssh_pair.proofs.Noting.{on_both, on_ok}
 use Rattle.ssh_pair.specs.Noted.{noted_sent}
 use Rattle.ssh_pair.proofs.Playing.{asked, pair_sums, states}
 use Rattle.ssh_pair.proofs.Padding.{stays_padded}
-use Rattle.ssh_end.specs.contracts.client_role.ClientRoleEndRole.TheImpl as client
-use Rattle.ssh_end.specs.contracts.server_role.ServerRoleEndRole.TheImpl as server
+use Rattle.ssh_pair.proofs.Roles.{client_of, server_of}
 use Rattle.ssh_pair.proofs.pair.Pair.ask.Goals as goal
 
 pub returns-in-Client-clause-plays : goal.returns-in-Client-clause-plays
 returns-in-Client-clause-plays g c =
-    let clients = client.ghosts g.row.C g.row.U g.row.S g.row.C-Filler g.row.C-Agreement g.row.C-HostTrust g.row.S-Key g.C.ClientParts g.C.ClientParts-dict g.S.Sealing g.S.Sealing-dict g.C.Filler.Filler g.C.Filler.Filler-dict g.C.Agreement.Agreement g.C.Agreement.Agreement-dict g.C.HostTrust.HostTrust g.C.HostTrust.HostTrust-dict g.U.UserSigner g.U.UserSigner-dict g.U.Destruct-dict g.C.Filler.Destruct-dict g.C.Agreement.Destruct-dict g.C.HostTrust.Destruct-dict g.S.Key.Destruct-dict in
-    let servers = server.ghosts g.row.V g.row.J g.row.S g.row.V-Filler g.row.V-Agreement g.row.V-HostSigner g.row.S-Key g.V.ServerParts g.V.ServerParts-dict g.S.Sealing g.S.Sealing-dict g.V.Filler.Filler g.V.Filler.Filler-dict g.V.Agreement.Agreement g.V.Agreement.Agreement-dict g.V.HostSigner.HostSigner g.V.HostSigner.HostSigner-dict g.J.UserJudge g.J.UserJudge-dict g.J.Destruct-dict g.V.Filler.Destruct-dict g.V.Agreement.Destruct-dict g.V.HostSigner.Destruct-dict g.S.Key.Destruct-dict in
+    let clients = client_of g.S.Sealing.crypto g.C.Agreement.Agreement.public_of g.C.Agreement.Agreement.shared_of g.C.HostTrust.HostTrust.judged g.U.UserSigner.signature_of in
+    let servers = server_of g.S.Sealing.crypto g.V.Agreement.Agreement.public_of g.V.Agreement.Agreement.shared_of g.V.HostSigner.HostSigner.key_of g.V.HostSigner.HostSigner.signature_of g.J.UserJudge.verdicts in
     let pair = both clients servers (record { client = c.self.inside.client; server = c.self.inside.server; failed = c.self.inside.failed }) in
     on_ok c.ask_end.result (λ x.
     subst (λ q. GoesOn clients servers q (Asks c.args.side (ask_of c.args.ask.now)) (record { client = c.ask_end.new.end; server = c.self.inside.server; failed = c.self.inside.failed }) c.args.transcript.now (record { items = c.ask_end.new.log; client_bytes = c.ask_end.new.out; server_bytes = c.args.transcript.now.server_bytes })) c.self.view_is
@@ -26,8 +25,8 @@ returns-in-Client-clause-plays g c =
 
 pub returns-in-Server-clause-plays : goal.returns-in-Server-clause-plays
 returns-in-Server-clause-plays g c =
-    let clients = client.ghosts g.row.C g.row.U g.row.S g.row.C-Filler g.row.C-Agreement g.row.C-HostTrust g.row.S-Key g.C.ClientParts g.C.ClientParts-dict g.S.Sealing g.S.Sealing-dict g.C.Filler.Filler g.C.Filler.Filler-dict g.C.Agreement.Agreement g.C.Agreement.Agreement-dict g.C.HostTrust.HostTrust g.C.HostTrust.HostTrust-dict g.U.UserSigner g.U.UserSigner-dict g.U.Destruct-dict g.C.Filler.Destruct-dict g.C.Agreement.Destruct-dict g.C.HostTrust.Destruct-dict g.S.Key.Destruct-dict in
-    let servers = server.ghosts g.row.V g.row.J g.row.S g.row.V-Filler g.row.V-Agreement g.row.V-HostSigner g.row.S-Key g.V.ServerParts g.V.ServerParts-dict g.S.Sealing g.S.Sealing-dict g.V.Filler.Filler g.V.Filler.Filler-dict g.V.Agreement.Agreement g.V.Agreement.Agreement-dict g.V.HostSigner.HostSigner g.V.HostSigner.HostSigner-dict g.J.UserJudge g.J.UserJudge-dict g.J.Destruct-dict g.V.Filler.Destruct-dict g.V.Agreement.Destruct-dict g.V.HostSigner.Destruct-dict g.S.Key.Destruct-dict in
+    let clients = client_of g.S.Sealing.crypto g.C.Agreement.Agreement.public_of g.C.Agreement.Agreement.shared_of g.C.HostTrust.HostTrust.judged g.U.UserSigner.signature_of in
+    let servers = server_of g.S.Sealing.crypto g.V.Agreement.Agreement.public_of g.V.Agreement.Agreement.shared_of g.V.HostSigner.HostSigner.key_of g.V.HostSigner.HostSigner.signature_of g.J.UserJudge.verdicts in
     let pair = both clients servers (record { client = c.self.inside.client; server = c.self.inside.server; failed = c.self.inside.failed }) in
     on_ok c.ask_end-in-Server.result (λ x.
     subst (λ q. GoesOn clients servers q (Asks c.args.side (ask_of c.args.ask.now)) (record { client = c.self.inside.client; server = c.ask_end-in-Server.new.end; failed = c.self.inside.failed }) c.args.transcript.now (record { items = c.ask_end-in-Server.new.log; client_bytes = c.args.transcript.now.client_bytes; server_bytes = c.ask_end-in-Server.new.out })) c.self.view_is

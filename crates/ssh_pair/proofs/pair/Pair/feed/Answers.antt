@@ -4,14 +4,13 @@ use Rattle.ssh_model.specs.Protocol.Side.{part}
 use Rattle.ssh_pair.specs.Playing.{PairFeeds}
 use Rattle.ssh_pair.specs.Standing.{both}
 use Rattle.ssh_pair.proofs.Playing.{fed_same, feeds, pair_sums, states}
-use Rattle.ssh_end.specs.contracts.client_role.ClientRoleEndRole.TheImpl as client
-use Rattle.ssh_end.specs.contracts.server_role.ServerRoleEndRole.TheImpl as server
+use Rattle.ssh_pair.proofs.Roles.{client_of, server_of}
 use Rattle.ssh_pair.proofs.pair.Pair.feed.Goals as goal
 
 pub returns-in-Client-clause-fed : goal.returns-in-Client-clause-fed
 returns-in-Client-clause-fed g c =
-    let clients = client.ghosts g.row.C g.row.U g.row.S g.row.C-Filler g.row.C-Agreement g.row.C-HostTrust g.row.S-Key g.C.ClientParts g.C.ClientParts-dict g.S.Sealing g.S.Sealing-dict g.C.Filler.Filler g.C.Filler.Filler-dict g.C.Agreement.Agreement g.C.Agreement.Agreement-dict g.C.HostTrust.HostTrust g.C.HostTrust.HostTrust-dict g.U.UserSigner g.U.UserSigner-dict g.U.Destruct-dict g.C.Filler.Destruct-dict g.C.Agreement.Destruct-dict g.C.HostTrust.Destruct-dict g.S.Key.Destruct-dict in
-    let servers = server.ghosts g.row.V g.row.J g.row.S g.row.V-Filler g.row.V-Agreement g.row.V-HostSigner g.row.S-Key g.V.ServerParts g.V.ServerParts-dict g.S.Sealing g.S.Sealing-dict g.V.Filler.Filler g.V.Filler.Filler-dict g.V.Agreement.Agreement g.V.Agreement.Agreement-dict g.V.HostSigner.HostSigner g.V.HostSigner.HostSigner-dict g.J.UserJudge g.J.UserJudge-dict g.J.Destruct-dict g.V.Filler.Destruct-dict g.V.Agreement.Destruct-dict g.V.HostSigner.Destruct-dict g.S.Key.Destruct-dict in
+    let clients = client_of g.S.Sealing.crypto g.C.Agreement.Agreement.public_of g.C.Agreement.Agreement.shared_of g.C.HostTrust.HostTrust.judged g.U.UserSigner.signature_of in
+    let servers = server_of g.S.Sealing.crypto g.V.Agreement.Agreement.public_of g.V.Agreement.Agreement.shared_of g.V.HostSigner.HostSigner.key_of g.V.HostSigner.HostSigner.signature_of g.J.UserJudge.verdicts in
     let pair = both clients servers (record { client = c.self.inside.client; server = c.self.inside.server; failed = c.self.inside.failed }) in
     λ fine.
     subst (λ q. PairFeeds clients servers q c.args.side (record { cookie = c.args.cookie; secret = c.args.secret }) c.feed_material.result (record { client = c.feed_material.new.self; server = c.self.inside.server; failed = c.self.inside.failed })) c.self.view_is
@@ -23,8 +22,8 @@ returns-in-Client-clause-fed g c =
 
 pub returns-in-Server-clause-fed : goal.returns-in-Server-clause-fed
 returns-in-Server-clause-fed g c =
-    let clients = client.ghosts g.row.C g.row.U g.row.S g.row.C-Filler g.row.C-Agreement g.row.C-HostTrust g.row.S-Key g.C.ClientParts g.C.ClientParts-dict g.S.Sealing g.S.Sealing-dict g.C.Filler.Filler g.C.Filler.Filler-dict g.C.Agreement.Agreement g.C.Agreement.Agreement-dict g.C.HostTrust.HostTrust g.C.HostTrust.HostTrust-dict g.U.UserSigner g.U.UserSigner-dict g.U.Destruct-dict g.C.Filler.Destruct-dict g.C.Agreement.Destruct-dict g.C.HostTrust.Destruct-dict g.S.Key.Destruct-dict in
-    let servers = server.ghosts g.row.V g.row.J g.row.S g.row.V-Filler g.row.V-Agreement g.row.V-HostSigner g.row.S-Key g.V.ServerParts g.V.ServerParts-dict g.S.Sealing g.S.Sealing-dict g.V.Filler.Filler g.V.Filler.Filler-dict g.V.Agreement.Agreement g.V.Agreement.Agreement-dict g.V.HostSigner.HostSigner g.V.HostSigner.HostSigner-dict g.J.UserJudge g.J.UserJudge-dict g.J.Destruct-dict g.V.Filler.Destruct-dict g.V.Agreement.Destruct-dict g.V.HostSigner.Destruct-dict g.S.Key.Destruct-dict in
+    let clients = client_of g.S.Sealing.crypto g.C.Agreement.Agreement.public_of g.C.Agreement.Agreement.shared_of g.C.HostTrust.HostTrust.judged g.U.UserSigner.signature_of in
+    let servers = server_of g.S.Sealing.crypto g.V.Agreement.Agreement.public_of g.V.Agreement.Agreement.shared_of g.V.HostSigner.HostSigner.key_of g.V.HostSigner.HostSigner.signature_of g.J.UserJudge.verdicts in
     let pair = both clients servers (record { client = c.self.inside.client; server = c.self.inside.server; failed = c.self.inside.failed }) in
     λ fine.
     subst (λ q. PairFeeds clients servers q c.args.side (record { cookie = c.args.cookie; secret = c.args.secret }) c.feed_material-in-Server.result (record { client = c.self.inside.client; server = c.feed_material-in-Server.new.self; failed = c.self.inside.failed })) c.self.view_is

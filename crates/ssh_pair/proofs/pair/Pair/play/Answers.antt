@@ -7,16 +7,15 @@ use Rattle.ssh_pair.specs.Playing.{PlaysTo, events_of, output_in}
 use Rattle.ssh_pair.specs.Standing.{both}
 use Rattle.ssh_pair.specs.declared.event.Event.{Event}
 use Rattle.ssh_pair.specs.declared.item.Done.{Done}
-use Rattle.ssh_end.specs.contracts.client_role.ClientRoleEndRole.TheImpl as client
-use Rattle.ssh_end.specs.contracts.server_role.ServerRoleEndRole.TheImpl as server
+use Rattle.ssh_pair.proofs.Roles.{client_of, server_of}
 use Rattle.ssh_pair.proofs.Events.{played, plays_more, plays_none}
 use Rattle.ssh_pair.proofs.Padding.{padded_then, stays_padded}
 use Rattle.ssh_pair.proofs.pair.Pair.play.Goals as goal
 
 pub loop-event-init : goal.loop-event-init
 loop-event-init g c =
-    let clients = client.ghosts g.row.C g.row.U g.row.S g.row.C-Filler g.row.C-Agreement g.row.C-HostTrust g.row.S-Key g.C.ClientParts g.C.ClientParts-dict g.S.Sealing g.S.Sealing-dict g.C.Filler.Filler g.C.Filler.Filler-dict g.C.Agreement.Agreement g.C.Agreement.Agreement-dict g.C.HostTrust.HostTrust g.C.HostTrust.HostTrust-dict g.U.UserSigner g.U.UserSigner-dict g.U.Destruct-dict g.C.Filler.Destruct-dict g.C.Agreement.Destruct-dict g.C.HostTrust.Destruct-dict g.S.Key.Destruct-dict in
-    let servers = server.ghosts g.row.V g.row.J g.row.S g.row.V-Filler g.row.V-Agreement g.row.V-HostSigner g.row.S-Key g.V.ServerParts g.V.ServerParts-dict g.S.Sealing g.S.Sealing-dict g.V.Filler.Filler g.V.Filler.Filler-dict g.V.Agreement.Agreement g.V.Agreement.Agreement-dict g.V.HostSigner.HostSigner g.V.HostSigner.HostSigner-dict g.J.UserJudge g.J.UserJudge-dict g.J.Destruct-dict g.V.Filler.Destruct-dict g.V.Agreement.Destruct-dict g.V.HostSigner.Destruct-dict g.S.Key.Destruct-dict in
+    let clients = client_of g.S.Sealing.crypto g.C.Agreement.Agreement.public_of g.C.Agreement.Agreement.shared_of g.C.HostTrust.HostTrust.judged g.U.UserSigner.signature_of in
+    let servers = server_of g.S.Sealing.crypto g.V.Agreement.Agreement.public_of g.V.Agreement.Agreement.shared_of g.V.HostSigner.HostSigner.key_of g.V.HostSigner.HostSigner.signature_of g.J.UserJudge.verdicts in
     let pair = both clients servers c.args.self.now in
     record {
       fine = sym (ap (λ q. q.failed) c.self.view_is) ∙ c.if-self.false;
@@ -35,8 +34,8 @@ loop-event-init g c =
 
 pub loop-event-preserved : goal.loop-event-preserved
 loop-event-preserved g c =
-    let clients = client.ghosts g.row.C g.row.U g.row.S g.row.C-Filler g.row.C-Agreement g.row.C-HostTrust g.row.S-Key g.C.ClientParts g.C.ClientParts-dict g.S.Sealing g.S.Sealing-dict g.C.Filler.Filler g.C.Filler.Filler-dict g.C.Agreement.Agreement g.C.Agreement.Agreement-dict g.C.HostTrust.HostTrust g.C.HostTrust.HostTrust-dict g.U.UserSigner g.U.UserSigner-dict g.U.Destruct-dict g.C.Filler.Destruct-dict g.C.Agreement.Destruct-dict g.C.HostTrust.Destruct-dict g.S.Key.Destruct-dict in
-    let servers = server.ghosts g.row.V g.row.J g.row.S g.row.V-Filler g.row.V-Agreement g.row.V-HostSigner g.row.S-Key g.V.ServerParts g.V.ServerParts-dict g.S.Sealing g.S.Sealing-dict g.V.Filler.Filler g.V.Filler.Filler-dict g.V.Agreement.Agreement g.V.Agreement.Agreement-dict g.V.HostSigner.HostSigner g.V.HostSigner.HostSigner-dict g.J.UserJudge g.J.UserJudge-dict g.J.Destruct-dict g.V.Filler.Destruct-dict g.V.Agreement.Destruct-dict g.V.HostSigner.Destruct-dict g.S.Key.Destruct-dict in
+    let clients = client_of g.S.Sealing.crypto g.C.Agreement.Agreement.public_of g.C.Agreement.Agreement.shared_of g.C.HostTrust.HostTrust.judged g.U.UserSigner.signature_of in
+    let servers = server_of g.S.Sealing.crypto g.V.Agreement.Agreement.public_of g.V.Agreement.Agreement.shared_of g.V.HostSigner.HostSigner.key_of g.V.HostSigner.HostSigner.signature_of g.J.UserJudge.verdicts in
     let pair = both clients servers c.play_one.new.self in
     let was = c.loop-event.invariant.parts in
     let now = c.play_one.ensures.parts in
@@ -55,8 +54,8 @@ loop-event-preserved g c =
 
 pub returns-clause-plays : goal.returns-clause-plays
 returns-clause-plays g c = λ p w s.
-    let clients = client.ghosts g.row.C g.row.U g.row.S g.row.C-Filler g.row.C-Agreement g.row.C-HostTrust g.row.S-Key g.C.ClientParts g.C.ClientParts-dict g.S.Sealing g.S.Sealing-dict g.C.Filler.Filler g.C.Filler.Filler-dict g.C.Agreement.Agreement g.C.Agreement.Agreement-dict g.C.HostTrust.HostTrust g.C.HostTrust.HostTrust-dict g.U.UserSigner g.U.UserSigner-dict g.U.Destruct-dict g.C.Filler.Destruct-dict g.C.Agreement.Destruct-dict g.C.HostTrust.Destruct-dict g.S.Key.Destruct-dict in
-    let servers = server.ghosts g.row.V g.row.J g.row.S g.row.V-Filler g.row.V-Agreement g.row.V-HostSigner g.row.S-Key g.V.ServerParts g.V.ServerParts-dict g.S.Sealing g.S.Sealing-dict g.V.Filler.Filler g.V.Filler.Filler-dict g.V.Agreement.Agreement g.V.Agreement.Agreement-dict g.V.HostSigner.HostSigner g.V.HostSigner.HostSigner-dict g.J.UserJudge g.J.UserJudge-dict g.J.Destruct-dict g.V.Filler.Destruct-dict g.V.Agreement.Destruct-dict g.V.HostSigner.Destruct-dict g.S.Key.Destruct-dict in
+    let clients = client_of g.S.Sealing.crypto g.C.Agreement.Agreement.public_of g.C.Agreement.Agreement.shared_of g.C.HostTrust.HostTrust.judged g.U.UserSigner.signature_of in
+    let servers = server_of g.S.Sealing.crypto g.V.Agreement.Agreement.public_of g.V.Agreement.Agreement.shared_of g.V.HostSigner.HostSigner.key_of g.V.HostSigner.HostSigner.signature_of g.J.UserJudge.verdicts in
     let pair = both clients servers c.loop-event.self in
     played p w (events_of c.args.events.now) pair c.loop-event.transcript.items.items (output_in c.loop-event.transcript) (λ run lawful offer r honest. c.safety.ensures p lawful offer run r honest)
     (subst (λ (es : List Event). PlaysTo p w (events_of es) pair c.loop-event.transcript.items.items (output_in c.loop-event.transcript)) (take_all c.loop-event.event-index c.args.events.now c.loop-event-test.false) (c.loop-event.invariant.plays p w s))
