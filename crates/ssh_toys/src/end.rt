@@ -4,20 +4,16 @@ ghost use Rattle.std.specs.Prelude.{◌≡◌, ◌∷◌, ◌<◌, ◌≤◌, If
 ghost use Rattle.ssh_config.specs.Config.{settings_given};
 ghost use Rattle.ssh_config.specs.Meaning.{settings_of};
 ghost use Rattle.ssh_end.specs.Beside.{channels_beside};
-ghost use Rattle.ssh_end.specs.Ends.{IsNew, sending_from_line, sending_to};
-ghost use Rattle.ssh_end.specs.Sessions.{AreOf, end_of};
-ghost use Rattle.ssh_end.specs.Stands.{MadeOf};
+ghost use Rattle.ssh_end.specs.Ends.{IsNew, sending_from_line};
 ghost use Rattle.ssh_end.specs.Steps.{Shows, shown_by};
 ghost use Rattle.ssh_end.specs.Turn.{TurnShows, channels_in, payloads_in};
 ghost use Rattle.ssh_end.specs.declared.step.Step.{Step};
 ghost use Rattle.ssh_model.specs.Protocol.Sessions.Items.{Item};
 ghost use Rattle.ssh_model.specs.Protocol.Wire.MacOnly.{mac_only};
 ghost use Rattle.ssh_model.specs.State.TransportLayer.Kept.{after_fed, can_be_fed};
-ghost use Rattle.ssh_model.specs.declared.side.Side.TheVariants as sides;
 ghost use Rattle.ssh_transport_machine.specs.Padding.{PadsTo};
 ghost use Rattle.ssh_toys.specs.Ends.{FedIn, LacksIn, MadeIn};
 ghost use Rattle.ssh_toys.specs.Ends.{channels_of, layers_of, machine_of, sending_after, sent_of, side_of, step_of, used_of, with_machine};
-ghost use Rattle.ssh_toys.specs.Roles.{client_role, server_role};
 ghost use Rattle.ssh_toys.specs.Standard.{cookie_of, gives_byte, secret_of, software_of, toy_given, zeros};
 
 use crate::{
@@ -66,10 +62,8 @@ impl ToyEnd {
             out.old.items out.new.items) }
         ensures out { OnErr result (out.new.items ≡ out.old.items) }
     {
-        match side {
-            Side::Client => Ok(ToyEnd::Client(client(alloc, out)?)),
-            Side::Server => Ok(ToyEnd::Server(server(alloc, out)?)),
-        }
+        let config = toy_config(alloc, side)?;
+        opened(alloc, side, config, out)
     }
 
     /// Takes bytes to the end of one line or packet, and shows what was done.
@@ -153,70 +147,63 @@ impl ToyEnd {
     }
 }
 
-// The config of an end whose version line has this software.
-fn toy_config(alloc: Global, software: &[u8]) -> Result<Config<MacOnly>, AllocError>
-    ensures { IfOk result (λ config. settings_of config ≡ settings_given (toy_given software.now)) }
+// What the version line of a side names as its software.
+fn software(side: Side) -> &'static [u8]
+    ensures { result.now ≡ software_of side }
 {
-    config(alloc, &settings(software))
+    match side {
+        Side::Client => b"c",
+        Side::Server => b"s",
+    }
 }
 
-fn client(
-    alloc: Global,
-    out: &mut Vec<u8>,
-) -> Result<ClientEnd<ToyClient, ToyUserSigner>, AllocError>
-    ensures opened { IfOk result (λ made. IsNew mac_only sides.Client (settings_given (toy_given (software_of sides.Client))) CLIENT_COOKIE
-        CLIENT_SECRET made.machine made.layers out.old.items out.new.items made.sent) }
-    ensures padded { IfOk result (λ made. PadsTo mac_only gives_byte (sending_from_line (settings_given (toy_given
-        (software_of sides.Client))) zeros out.old.items) (sending_to made out.new.items)) }
-    ensures step { IfOk result (λ made. made.step ≡ Step.More) }
-    ensures used { IfOk result (λ made. made.used ≡ 0) }
-    ensures channels { IfOk result (λ made. made.channels ≡ channels_beside made.sent (None ∷ [])) }
-    ensures placed { IfOk result (λ made. MadeOf sides.Client (settings_given (toy_given (software_of sides.Client)))
-        (λ p. client_role.is_of made.role p) (λ p. AreOf p made.layers)
-        (record { cookie = CLIENT_COOKIE; secret = CLIENT_SECRET }) made.machine (end_of made.machine.kept made.layers)
-        out.old.items out.new.items made.sent) }
-    ensures out { OnErr result (out.new.items ≡ out.old.items) }
+// The config of the end of a side.
+fn toy_config(alloc: Global, side: Side) -> Result<Config<MacOnly>, AllocError>
+    ensures { IfOk result (λ config. settings_of config ≡ settings_given (toy_given (software_of side))) }
 {
-    let config = toy_config(alloc, b"c")?;
-    ClientEnd::new(
-        alloc,
-        config,
-        client_parts(),
-        ToyUserSigner,
-        CLIENT_COOKIE,
-        CLIENT_SECRET,
-        out,
-    )
+    config(alloc, &settings(software(side)))
 }
 
-fn server(
+// An end of a side with this config.
+fn opened(
     alloc: Global,
+    side: Side,
+    config: Config<MacOnly>,
     out: &mut Vec<u8>,
-) -> Result<ServerEnd<ToyServer, ToyJudge<'static>>, AllocError>
-    ensures opened { IfOk result (λ made. IsNew mac_only sides.Server (settings_given (toy_given (software_of sides.Server))) SERVER_COOKIE
-        SERVER_SECRET made.machine made.layers out.old.items out.new.items made.sent) }
-    ensures padded { IfOk result (λ made. PadsTo mac_only gives_byte (sending_from_line (settings_given (toy_given
-        (software_of sides.Server))) zeros out.old.items) (sending_to made out.new.items)) }
-    ensures step { IfOk result (λ made. made.step ≡ Step.More) }
-    ensures used { IfOk result (λ made. made.used ≡ 0) }
-    ensures channels { IfOk result (λ made. made.channels ≡ channels_beside made.sent (None ∷ [])) }
-    ensures placed { IfOk result (λ made. MadeOf sides.Server (settings_given (toy_given (software_of sides.Server)))
-        (λ p. server_role.is_of made.role p) (λ p. AreOf p made.layers)
-        (record { cookie = SERVER_COOKIE; secret = SERVER_SECRET }) made.machine (end_of made.machine.kept made.layers)
-        out.old.items out.new.items made.sent) }
+) -> Result<ToyEnd, AllocError>
+    ensures opened { IfOk result (λ made. IsNew mac_only side (settings_of config) (cookie_of side) (secret_of side) (machine_of made)
+        (layers_of made) out.old.items out.new.items (sent_of made)) }
+    ensures padded { IfOk result (λ made. PadsTo mac_only gives_byte (sending_from_line (settings_of config) zeros out.old.items)
+        (sending_after made out.new.items)) }
+    ensures role { IfOk result (λ made. side_of made ≡ side) }
+    ensures step { IfOk result (λ made. step_of made ≡ Step.More) }
+    ensures used { IfOk result (λ made. used_of made ≡ 0) }
+    ensures channels { IfOk result (λ made. channels_of made ≡ channels_beside (sent_of made) (None ∷ [])) }
+    ensures placed { IfOk result (λ made. MadeIn (settings_of config) (record { cookie = cookie_of side; secret = secret_of side }) made
+        out.old.items out.new.items) }
     ensures out { OnErr result (out.new.items ≡ out.old.items) }
 {
-    let config = toy_config(alloc, b"s")?;
-    let judge = ToyJudge {
-        credentials: CREDENTIALS,
-    };
-    ServerEnd::new(
-        alloc,
-        config,
-        server_parts(),
-        judge,
-        SERVER_COOKIE,
-        SERVER_SECRET,
-        out,
-    )
+    match side {
+        Side::Client => {
+            let (cookie, secret) = (CLIENT_COOKIE, CLIENT_SECRET);
+            let end = ClientEnd::new(
+                alloc,
+                config,
+                client_parts(),
+                ToyUserSigner,
+                cookie,
+                secret,
+                out,
+            )?;
+            Ok(ToyEnd::Client(end))
+        }
+        Side::Server => {
+            let judge = ToyJudge {
+                credentials: CREDENTIALS,
+            };
+            let (cookie, secret) = (SERVER_COOKIE, SERVER_SECRET);
+            let end = ServerEnd::new(alloc, config, server_parts(), judge, cookie, secret, out)?;
+            Ok(ToyEnd::Server(end))
+        }
+    }
 }

@@ -3,6 +3,7 @@
 ghost use Rattle.std.specs.Prelude.{◌≡◌, ◌++◌, ◌<◌, ◌≤◌, IfErr, IfNone, IfOk, IfSome, OnErr, OnOk, OnSome, false, length};
 ghost use Rattle.std.specs.Prelude.{map, nat_le, take, true};
 ghost use Rattle.ssh_config.specs.Config.{AreGood, settings_given};
+ghost use Rattle.ssh_config.specs.Meaning.{settings_of};
 ghost use Rattle.ssh_config.specs.Values.{given};
 ghost use Rattle.ssh_message.specs.Meaning.{meaning};
 ghost use Rattle.ssh_message.specs.Written.{Fits};
@@ -12,10 +13,9 @@ ghost use Rattle.ssh_model.specs.Protocol.Sessions.Turns.{IsSpelled};
 ghost use Rattle.ssh_model.specs.Protocol.Wire.MacOnly.{mac_only};
 ghost use Rattle.ssh_model.specs.Protocol.Wire.Message.{FitsContext};
 ghost use Rattle.ssh_model.specs.State.TransportLayer.Kept.{after_fed, can_be_fed};
-ghost use Rattle.ssh_model.specs.declared.side.Side.TheVariants as sides;
 ghost use Rattle.ssh_packet.specs.Directions.{next_number};
 ghost use Rattle.ssh_transport.specs.Sending.{CanSend};
-ghost use Rattle.ssh_transport.specs.States.{sending_from_line, sending_of};
+ghost use Rattle.ssh_transport.specs.States.{sending_from_line};
 ghost use Rattle.ssh_transport_machine.specs.Above.{PayloadSent, PeerRefused, RefuseFailed, SendFailed};
 ghost use Rattle.ssh_transport_machine.specs.Asks.{AskFailed, AskTaken, IsSendable};
 ghost use Rattle.ssh_transport_machine.specs.Opening.{IsOpened};
@@ -29,7 +29,9 @@ use crate::{
     CLIENT_COOKIE, CLIENT_SECRET, SERVER_COOKIE, SERVER_SECRET, ToyClient, ToyServer, client_parts,
     config, server_parts,
 };
+use ssh_config::Config;
 use ssh_message::Message;
+use ssh_packet::MacOnly;
 use ssh_transport::{
     Answer, AskTurn, ClientTransport, ServerTransport, Settings, TransportAsk, TransportFault,
     TransportTurn,
@@ -75,10 +77,8 @@ impl ToyTransport {
         ensures out { OnErr result (out.new.items ≡ out.old.items) }
         ensures kept { OnErr result (sent.new.items ≡ sent.old.items) }
     {
-        match side {
-            Side::Client => Ok(ToyTransport::Client(client(alloc, settings, out, sent)?)),
-            Side::Server => Ok(ToyTransport::Server(server(alloc, settings, out, sent)?)),
-        }
+        let config = config(alloc, settings)?;
+        opened(alloc, side, config, out, sent)
     }
 
     /// Takes bytes to the end of one line or packet.
@@ -319,54 +319,48 @@ impl ToyTransport {
     }
 }
 
-fn client(
+// The transport of a side with this config.
+fn opened(
     alloc: Global,
-    settings: &Settings<'_>,
+    side: Side,
+    config: Config<MacOnly>,
     out: &mut Vec<u8>,
     sent: &mut Vec<Vec<u8>>,
-) -> Result<ClientTransport<ToyClient>, AllocError>
-    ensures good { IfOk result (λ _. AreGood mac_only (given settings.now)) }
-    ensures opened { IfOk result (λ made. IsOpened mac_only (settings_given (given settings.now)) sides.Client CLIENT_COOKIE
-        CLIENT_SECRET made.machine (listed_outs out.old out.new sent.old sent.new)) }
-    ensures padded { IfOk result (λ made. PadsTo mac_only gives_byte (sending_from_line (settings_given (given settings.now)) zeros
-        out.old sent.old) (sending_of made out.new sent.new)) }
+) -> Result<ToyTransport, AllocError>
+    ensures opened { IfOk result (λ made. IsOpened mac_only (settings_of config) side (cookie_of side) (secret_of side) (machine_of made)
+        (listed_outs out.old out.new sent.old sent.new)) }
+    ensures padded { IfOk result (λ made. PadsTo mac_only gives_byte (sending_from_line (settings_of config) zeros out.old sent.old)
+        (sending_in made out.new sent.new)) }
+    ensures role { IfOk result (λ made. side_of made ≡ side) }
     ensures out { OnErr result (out.new.items ≡ out.old.items) }
     ensures kept { OnErr result (sent.new.items ≡ sent.old.items) }
 {
-    let config = config(alloc, settings)?;
-    ClientTransport::new(
-        alloc,
-        config,
-        client_parts(),
-        CLIENT_COOKIE,
-        CLIENT_SECRET,
-        out,
-        sent,
-    )
-}
-
-fn server(
-    alloc: Global,
-    settings: &Settings<'_>,
-    out: &mut Vec<u8>,
-    sent: &mut Vec<Vec<u8>>,
-) -> Result<ServerTransport<ToyServer>, AllocError>
-    ensures good { IfOk result (λ _. AreGood mac_only (given settings.now)) }
-    ensures opened { IfOk result (λ made. IsOpened mac_only (settings_given (given settings.now)) sides.Server SERVER_COOKIE
-        SERVER_SECRET made.machine (listed_outs out.old out.new sent.old sent.new)) }
-    ensures padded { IfOk result (λ made. PadsTo mac_only gives_byte (sending_from_line (settings_given (given settings.now)) zeros
-        out.old sent.old) (sending_of made out.new sent.new)) }
-    ensures out { OnErr result (out.new.items ≡ out.old.items) }
-    ensures kept { OnErr result (sent.new.items ≡ sent.old.items) }
-{
-    let config = config(alloc, settings)?;
-    ServerTransport::new(
-        alloc,
-        config,
-        server_parts(),
-        SERVER_COOKIE,
-        SERVER_SECRET,
-        out,
-        sent,
-    )
+    match side {
+        Side::Client => {
+            let (cookie, secret) = (CLIENT_COOKIE, CLIENT_SECRET);
+            let end = ClientTransport::new(
+                alloc,
+                config,
+                client_parts(),
+                cookie,
+                secret,
+                out,
+                sent,
+            )?;
+            Ok(ToyTransport::Client(end))
+        }
+        Side::Server => {
+            let (cookie, secret) = (SERVER_COOKIE, SERVER_SECRET);
+            let end = ServerTransport::new(
+                alloc,
+                config,
+                server_parts(),
+                cookie,
+                secret,
+                out,
+                sent,
+            )?;
+            Ok(ToyTransport::Server(end))
+        }
+    }
 }
