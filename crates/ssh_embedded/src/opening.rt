@@ -1,7 +1,7 @@
 //! How an end of either role is made.
 
 ghost use Rattle.std.specs.Prelude.{◌≡◌, IfOk, []};
-ghost use Rattle.ssh_config.specs.Meaning.{settings_of};
+ghost use Rattle.ssh_transport_machine.specs.Meaning.{settings_of};
 ghost use Rattle.ssh_end.specs.Ends.{IsNew, sending_from_line, sending_to};
 ghost use Rattle.ssh_end.specs.declared.step.Step.{Step};
 ghost use Rattle.ssh_transport_machine.specs.Padding.{PadsTo};
@@ -10,10 +10,10 @@ use crate::embedded::Embedded;
 use crate::flows::Flows;
 use crate::making::Material;
 use crate::noted::Noted;
-use ssh_config::Config;
 use ssh_end::{End, SuppliedEnd};
 use ssh_packet::{Filler, Sealing};
 use ssh_transport::Role;
+use ssh_transport_machine::Config;
 use std::alloc::{AllocError, Global};
 use std::collections::VecDeque;
 

@@ -6,8 +6,8 @@ ghost use Rattle.ssh_model.specs.Protocol.Wire.MacOnly.{is_text};
 ghost use Rattle.ssh_embedded.specs.Users.{entry_of, has_key, has_password, is_weak, verdicts_for};
 
 use crate::making::MakeError;
-use divrelca::{AcceptedKey, Ed25519Judge, OneUser, PasswordHash};
 use ciphers::ed25519::is_small_order;
+use divrelca::{AcceptedKey, Ed25519Judge, OneUser, PasswordHash};
 use ssh_auth::UserJudge;
 use std::alloc::Global;
 

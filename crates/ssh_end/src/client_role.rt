@@ -7,8 +7,8 @@ use crate::nobody::Nobody;
 use crate::party::Party;
 use crate::role::SuppliedEnd;
 use ssh_auth::UserSigner;
-use ssh_config::{ClientPartValues, ClientParts};
 use ssh_transport::{Client, Supplied};
+use ssh_transport_machine::{ClientPartValues, ClientParts};
 
 /// The end of a client.
 pub type ClientEnd<P, U> = End<ClientRole<P, U>>;

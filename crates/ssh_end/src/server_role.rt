@@ -8,8 +8,8 @@ use crate::nobody::Nobody;
 use crate::party::Party;
 use crate::role::SuppliedEnd;
 use ssh_auth::UserJudge;
-use ssh_config::{ServerPartValues, ServerParts};
 use ssh_transport::{Server, Supplied};
+use ssh_transport_machine::{ServerPartValues, ServerParts};
 use std::mem::replace;
 
 /// The end of a server.

@@ -2,7 +2,7 @@
 
 ghost use Rattle.std.specs.Prelude.{◌≡◌, IfOk, IsErr, OnErr, OnOk, [], false, true};
 ghost use Rattle.ssh_model.specs.Protocol.Sessions.Events as session;
-ghost use Rattle.ssh_config.specs.Meaning.{settings_of};
+ghost use Rattle.ssh_transport_machine.specs.Meaning.{settings_of};
 ghost use Rattle.ssh_end.specs.Asking.{ask_of};
 ghost use Rattle.ssh_end.specs.Ends.{sending_from_line};
 ghost use Rattle.ssh_end.specs.Parts.{IsClientOf, IsServerOf};
@@ -15,13 +15,13 @@ use crate::item::Transcript;
 use crate::one_end::{ask_end, deliver_to_end, open_end};
 use crate::values::EndValues;
 use ssh_auth::{UserJudge, UserSigner};
-use ssh_config::{ClientPartValues, ClientParts, ServerPartValues, ServerParts};
 use ssh_end::opening_laws::settings_fit;
 use ssh_end::{Ask, ClientEnd, ClientRole, EndRole, ServerEnd, ServerRole};
 use ssh_model::end::waiting;
 use ssh_model::pair::{deliveries, events, openings, parts, plays};
 use ssh_model::session::safety;
 use ssh_packet::Sealing;
+use ssh_transport_machine::{ClientPartValues, ClientParts, ServerPartValues, ServerParts};
 use ssh_types::Side;
 use std::alloc::{AllocError, Global};
 use std::marker::Model;

@@ -3,7 +3,7 @@
 use crate::error::PipeError;
 use crate::parts::{PipeSealing, config};
 use divrelca::{KeySupply, Material, PaddingSource, Policy};
-use ssh_config::Config;
+use ssh_transport_machine::Config;
 use std::alloc::Global;
 use std::random::RandomSource;
 

@@ -1,3 +1,9 @@
+pub mod Booleans
+pub mod Lines
+pub mod Lists
+pub mod Kept
+pub mod Offers
+pub mod Announced
 pub mod Refusals
 pub mod OwnMarkers
 pub mod LineTurns

@@ -1,3 +1,9 @@
+pub mod Config
+pub mod Checks
+pub mod Values
+pub mod Errors
+pub mod Meaning
+pub mod Offers
 pub mod State
 pub mod LineTurns
 pub mod Puts

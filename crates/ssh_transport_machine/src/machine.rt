@@ -37,6 +37,7 @@ mod taking;
 mod turn;
 mod turning;
 
+use crate::Config;
 pub use finishing::ExchangeKeys;
 pub use hashing::Points;
 pub use judging::Judged;
@@ -46,7 +47,6 @@ pub use line_turn::LineTurn;
 pub use material::Material;
 pub use own::Own;
 pub use phase::Phase;
-use ssh_config::Config;
 use ssh_packet::{LineReader, LineStep, PacketReceiver, PacketSender, Sealing};
 use ssh_types::Side;
 use std::alloc::Global;
@@ -83,7 +83,7 @@ pub struct Machine<S: Sealing> {
 }
 
 impl<S: Sealing> Model for Machine<S> {
-    ghost use Rattle.ssh_config.specs.Meaning.{settings_of};
+    ghost use Rattle.ssh_transport_machine.specs.Meaning.{settings_of};
     ghost use Rattle.ssh_transport_machine.specs.State.{State, lines_of, material_of, phase_of};
 
     ghost Value = { State S.Key };

@@ -1,4 +1,4 @@
-//! Tests of the public calls of `ssh_config`: settings that are refused, at both sides of each bound, configs, KEXINITs, and parts
+//! Tests of the public calls of `ssh_transport_machine`: settings that are refused, at both sides of each bound, configs, KEXINITs, and parts
 //! made of toys.
 
 mod extensions;
@@ -7,12 +7,12 @@ mod kexinit;
 mod parts;
 
 use crate::checking::{same, same_at};
-use ssh_config::{
+use ssh_message::Extension;
+use ssh_packet::MacOnly;
+use ssh_transport_machine::{
     Config, ConfigError, ConfigLimit, ConfigList, ConfigRefusal, ExtensionFault, ListFault,
     Settings, Strictness,
 };
-use ssh_message::Extension;
-use ssh_packet::MacOnly;
 use std::alloc::Global;
 use std::test::*;
 

@@ -15,11 +15,10 @@ ghost use Rattle.ssh_transport.specs.OfClient.Replies.{HostDue, IsHostJudged, Is
 
 use crate::bytes::{copied, has_32_bytes};
 use crate::client::Client;
-use ssh_config::ClientParts;
 use ssh_kex::{Choice, HostTrust, OwnedChoice};
 use ssh_message::{Message, decode};
 use ssh_packet::Sealing;
-use ssh_transport_machine::{ExchangeKeys, Machine, Points};
+use ssh_transport_machine::{ClientParts, ExchangeKeys, Machine, Points};
 use std::alloc::AllocError;
 
 /// What the reply of a server is to a client.

@@ -13,12 +13,11 @@ ghost use Rattle.ssh_model.specs.Protocol.Bounds.{numbers_of_epoch};
 
 use crate::bytes::has_32_bytes;
 use crate::server::Server;
-use ssh_config::ServerParts;
 use ssh_kex::{Choice, HostSigner, OwnedChoice};
 use ssh_message::Message;
 use ssh_model::{payload_sizes, spellings};
 use ssh_packet::Sealing;
-use ssh_transport_machine::{ExchangeKeys, Machine, Points};
+use ssh_transport_machine::{ExchangeKeys, Machine, Points, ServerParts};
 use std::alloc::AllocError;
 
 /// The payload of the reply, the keys, the payload of EXT_INFO where it is due, and the algorithms.

@@ -14,12 +14,12 @@ ghost use Rattle.ssh_message.specs.Meaning.{proposal_meaning};
 ghost use Rattle.ssh_types.specs.Values.{names};
 ghost use Rattle.ssh_kex.specs.Values.{lists_of, proposed};
 ghost use Rattle.ssh_transport_machine.specs.Kexinits.{AreFacts, IsJudged};
-ghost use Rattle.ssh_config.specs.Meaning.{settings_of};
+ghost use Rattle.ssh_transport_machine.specs.Meaning.{settings_of};
 ghost use Rattle.ssh_transport_machine.specs.State.{before_taken, noted, phase_of};
 
 use crate::machine::numbers::shows_strictness;
 use crate::machine::{Machine, Phase};
-use ssh_config::{Config, no_names, uncompressed};
+use crate::{Config, no_names, uncompressed};
 use ssh_kex::{KexLists, choose, extension_markers, guess_wrong, markers};
 use ssh_message::Proposal;
 use ssh_packet::Sealing;

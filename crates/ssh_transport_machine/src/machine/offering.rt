@@ -13,7 +13,7 @@ ghost use Rattle.ssh_model.specs.Protocol.Bounds.{most_exchanges, numbers_of_epo
 use crate::machine::Machine;
 use crate::machine::material::Material;
 use crate::outgoing::Outgoing;
-use ssh_config::put_kexinit;
+use crate::put_kexinit;
 use ssh_packet::{Filler, Sealing};
 use ssh_types::bounds::MOST_EXCHANGES;
 use std::alloc::AllocError;

@@ -10,13 +10,13 @@ ghost use Rattle.ssh_model.specs.Protocol.Sessions.TurnClaims.{HasSpelling};
 ghost use Rattle.ssh_transport_machine.specs.Turning.{Does, KexinitDone, KexinitLacks};
 ghost use Rattle.ssh_transport_machine.specs.declared.machine.judging.Judged.TheVariants as judgement;
 
+use crate::every_config_is_good;
 use crate::machine::Machine;
 use crate::machine::kexinit::KexinitFacts;
 use crate::machine::own::Own;
 use crate::machine::turn::Answer;
 use crate::outcome::{Effect, TransportTurn, answer_outcome};
 use crate::outgoing::Outgoing;
-use ssh_config::every_config_is_good;
 use ssh_packet::{Filler, Sealing};
 use ssh_types::Side;
 use std::alloc::AllocError;

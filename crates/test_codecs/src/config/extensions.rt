@@ -2,9 +2,9 @@
 
 use crate::checking::{same, same_at};
 use crate::config::good;
-use ssh_config::{Config, ConfigError, ConfigRefusal, ExtensionFault, Settings};
 use ssh_message::Extension;
 use ssh_packet::MacOnly;
+use ssh_transport_machine::{Config, ConfigError, ConfigRefusal, ExtensionFault, Settings};
 use std::alloc::Global;
 use std::test::*;
 

@@ -2,8 +2,8 @@
 
 use super::{ENCRYPTION, HOST, KEX, MAC, METHODS, with_lists};
 use crate::checking::same_at;
-use ssh_config::{Config, ConfigError, ConfigList, ConfigRefusal, ListFault};
 use ssh_packet::MacOnly;
+use ssh_transport_machine::{Config, ConfigError, ConfigList, ConfigRefusal, ListFault};
 use std::alloc::Global;
 use std::test::*;
 

@@ -1,10 +1,10 @@
 //! The KEXINIT of each end, the first one and a later one.
 
 use crate::checking::same;
-use ssh_config::{Config, Settings, Strictness, put_kexinit};
 use ssh_message::{Message, Proposal, decode};
 use ssh_packet::MacOnly;
 use ssh_toys::settings;
+use ssh_transport_machine::{Config, Settings, Strictness, put_kexinit};
 use ssh_types::Side;
 use std::alloc::Global;
 use std::test::*;

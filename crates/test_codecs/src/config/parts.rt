@@ -1,10 +1,10 @@
 //! The parts of a client and of a server, made of toys and used by their fields.
 
 use crate::checking::same;
-use ssh_config::{ClientPartValues, ClientParts, ServerPartValues, ServerParts};
 use ssh_kex::{Agreement, HostSigner, HostTrust};
 use ssh_packet::{Filler, Sealing};
 use ssh_toys::{HOST_KEY, ToyAgreement, ToyClient, ToyFiller, ToyServer, ToySigner, ToyTrust};
+use ssh_transport_machine::{ClientPartValues, ClientParts, ServerPartValues, ServerParts};
 use std::test::*;
 
 // The sealing of these parts knows the pair.

@@ -1,6 +1,0 @@
-pub mod Booleans
-pub mod Lines
-pub mod Lists
-pub mod Kept
-pub mod Offers
-pub mod Announced

@@ -1,6 +1,0 @@
-pub mod Config
-pub mod Checks
-pub mod Values
-pub mod Errors
-pub mod Meaning
-pub mod Offers
