@@ -1,16 +1,18 @@
 //! What an end is still to be asked for, and what is still to be sent on its one channel: the same at a server and at a client.
 
 use crate::flow::Flow;
-use divrelca::{Ask, AskOutcome, End, Fault, Told, asked, default_answer};
+use divrelca::{Ask, AskOutcome, ChannelAsk, End, Fault, Told, asked, default_answer};
 use std::alloc::{AllocError, Global};
 use std::collections::VecDeque;
 
-/// Asks in the order in which they came up, each of which waits until the end can do it, and the channel while it is open.
+/// Asks in the order in which they came up, each of which waits until the end can do it, the channel while it is open, and the asks for
+/// which it is time once all is sent on it.
 #[derive(Drop)]
 pub struct Agenda<'a> {
     alloc: Global,
     waiting: VecDeque<Ask<'a>>,
     flow: Option<Flow>,
+    last: VecDeque<Ask<'a>>,
 }
 
 impl<'a> Agenda<'a> {
@@ -20,6 +22,7 @@ impl<'a> Agenda<'a> {
             alloc,
             waiting: VecDeque::new(alloc),
             flow: None,
+            last: VecDeque::new(alloc),
         }
     }
 
@@ -30,6 +33,17 @@ impl<'a> Agenda<'a> {
     /// Only where memory is refused: the ask is dropped.
     pub fn add(&mut self, ask: Ask<'a>) -> Result<(), AllocError> {
         self.waiting.push_back(ask).map_err(|_| AllocError)
+    }
+
+    /// One ask more, for which it is time once all is sent on the channel.
+    ///
+    /// # Errors
+    ///
+    /// Only where memory is refused: the ask is dropped.
+    pub fn add_last(&mut self, ask: ChannelAsk<'a>) -> Result<(), AllocError> {
+        self.last
+            .push_back(Ask::Connection(ask))
+            .map_err(|_| AllocError)
     }
 
     /// The answer that the peer is owed for what this program does not know, as for OpenSSH's keepalives, where it is owed one.
@@ -78,38 +92,41 @@ impl<'a> Agenda<'a> {
         }
     }
 
-    /// Asks for what waits, and then sends what can be sent. Answers the number of the channel once nothing is left of either.
+    /// Asks for what waits, sends what can be sent, and once all is sent asks for what comes after that. While keys are exchanged, and
+    /// before the peer's NEWKEYS came, what there is to do waits.
     ///
     /// # Errors
     ///
     /// - `Memory`: memory was refused, and the end is over.
     /// - `Dead`: the end was over before.
-    pub fn go_on<E: End>(&mut self, end: &mut E, out: &mut Vec<u8>) -> Result<Option<u32>, Fault> {
-        if !self.work(end, out)? {
-            return Ok(None);
+    pub fn go_on<E: End>(&mut self, end: &mut E, out: &mut Vec<u8>) -> Result<(), Fault> {
+        if !worked(&mut self.waiting, end, out)? {
+            return Ok(());
         }
-        let Some(flow) = &mut self.flow else {
-            return Ok(None);
-        };
-        flow.push(end, out)?;
-        Ok(flow.is_drained().then_some(flow.channel()))
+        if let Some(flow) = &mut self.flow
+            && !flow.push(end, out)?
+        {
+            return Ok(());
+        }
+        worked(&mut self.last, end, out)?;
+        Ok(())
     }
+}
 
-    /// Asks for what waits, and answers whether nothing is left. While keys are exchanged, and before the peer's NEWKEYS came, some is.
-    ///
-    /// # Errors
-    ///
-    /// Those of `go_on`.
-    pub fn work<E: End>(&mut self, end: &mut E, out: &mut Vec<u8>) -> Result<bool, Fault> {
-        for _ in 0..self.waiting.len() {
-            let Some(ask) = self.waiting.front().copied() else {
-                break;
-            };
-            if asked(end, &ask, out)? == AskOutcome::Later {
-                return Ok(false);
-            }
-            self.waiting.pop_front();
+// Asks for what waits in this queue, the oldest first, and answers whether nothing is left.
+fn worked<E: End>(
+    queue: &mut VecDeque<Ask<'_>>,
+    end: &mut E,
+    out: &mut Vec<u8>,
+) -> Result<bool, Fault> {
+    for _ in 0..queue.len() {
+        let Some(ask) = queue.front().copied() else {
+            break;
+        };
+        if asked(end, &ask, out)? == AskOutcome::Later {
+            return Ok(false);
         }
-        Ok(true)
+        queue.pop_front();
     }
+    Ok(true)
 }

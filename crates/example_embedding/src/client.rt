@@ -5,15 +5,12 @@ use crate::driving::Work;
 use divrelca::{Ask, ChannelAsk, ChannelFact, MOST_DATA, Told, UserAsk, WINDOW};
 use std::alloc::{AllocError, Global};
 
-/// What a client with one channel keeps.
+/// A client with one channel.
 #[derive(Drop)]
 pub struct Client<'a> {
-    agenda: Agenda<'a>,
     // How the user asks to be let in.
     login: UserAsk<'a>,
     text: &'a [u8],
-    // The text was handed on, and its end has to be said.
-    is_last: bool,
     /// What the command wrote.
     pub read: Vec<u8>,
     /// The exit status of the command, once that is known.
@@ -21,31 +18,43 @@ pub struct Client<'a> {
 }
 
 impl<'a> Client<'a> {
-    /// A client that heard nothing yet.
+    /// A client whose user asks so to be let in, and whose command is to be sent this text.
     pub fn new(alloc: Global, login: UserAsk<'a>, text: &'a [u8]) -> Client<'a> {
         Client {
-            agenda: Agenda::new(alloc),
             login,
             text,
-            is_last: false,
             read: Vec::new(alloc),
             status: None,
         }
     }
 
     // What is told of the client's channel, and of what the server asks for.
-    fn hear_of_channels(&mut self, fact: &ChannelFact<'_>) -> Result<(), AllocError> {
+    fn hear_of_channels(
+        &mut self,
+        fact: &ChannelFact<'_>,
+        agenda: &mut Agenda<'a>,
+    ) -> Result<(), AllocError> {
         match *fact {
             ChannelFact::Confirmed {
                 channel,
                 max_packet,
                 ..
             } => {
-                self.agenda.open(channel, max_packet);
-                self.agenda.add(run(channel))
+                agenda.open(channel, max_packet);
+                agenda.add(run(channel))
             }
-            ChannelFact::RequestDone { success: true, .. } => self.send(),
-            ChannelFact::GotData { kind, body, .. } => self.take(kind, body),
+            // The command runs: it is sent the text, and then told that no more comes.
+            ChannelFact::RequestDone {
+                channel,
+                success: true,
+            } => {
+                agenda.send(self.text)?;
+                agenda.add_last(ChannelAsk::Eof { channel })
+            }
+            ChannelFact::GotData { kind, body, .. } => {
+                agenda.consume(body.len());
+                self.take(kind, body)
+            }
             ChannelFact::Requested {
                 name: b"exit-status",
                 rest,
@@ -57,22 +66,15 @@ impl<'a> Client<'a> {
             ChannelFact::RequestDone { success: false, .. }
             | ChannelFact::OpenFailed { .. }
             | ChannelFact::Closed { .. } => {
-                self.agenda.close();
-                self.agenda.add(Ask::Disconnect(b"done"))
+                agenda.close();
+                agenda.add(Ask::Disconnect(b"done"))
             }
-            fact => self.agenda.answer(&Told::Channel(fact)),
+            fact => agenda.answer(&Told::Channel(fact)),
         }
-    }
-
-    // The command runs: it is sent the text.
-    fn send(&mut self) -> Result<(), AllocError> {
-        self.is_last = true;
-        self.agenda.send(self.text)
     }
 
     // The command wrote something. Its error output is dropped.
     fn take(&mut self, kind: Option<u32>, body: &[u8]) -> Result<(), AllocError> {
-        self.agenda.consume(body.len());
         match kind {
             None => self.read.extend_from_slice(body),
             Some(_) => Ok(()),
@@ -81,32 +83,15 @@ impl<'a> Client<'a> {
 }
 
 impl<'a> Work<'a> for Client<'a> {
-    fn agenda(&mut self) -> &mut Agenda<'a> {
-        &mut self.agenda
-    }
-
-    fn hear(&mut self, told: &Told<'_>) -> Result<(), AllocError> {
+    fn hear(&mut self, told: &Told<'_>, agenda: &mut Agenda<'a>) -> Result<(), AllocError> {
         match *told {
-            Told::Completed { position: 1 } => self.agenda.add(Ask::Service),
-            Told::Service => {
-                let login = self.login;
-                self.agenda.add(Ask::User(login))
-            }
-            Told::Authenticated => self.agenda.add(open()),
-            Told::Failed { .. } => self.agenda.add(Ask::Disconnect(b"not let in")),
-            Told::Channel(fact) => self.hear_of_channels(&fact),
+            Told::Completed { position: 1 } => agenda.add(Ask::Service),
+            Told::Service => agenda.add(Ask::User(self.login)),
+            Told::Authenticated => agenda.add(open()),
+            Told::Failed { .. } => agenda.add(Ask::Disconnect(b"not let in")),
+            Told::Channel(fact) => self.hear_of_channels(&fact, agenda),
             _ => Ok(()),
         }
-    }
-
-    // The text was sent: the server is told that no more comes.
-    fn drained(&mut self, channel: u32) -> Result<(), AllocError> {
-        if !self.is_last {
-            return Ok(());
-        }
-        self.is_last = false;
-        self.agenda
-            .add(Ask::Connection(ChannelAsk::Eof { channel }))
     }
 }
 

@@ -27,11 +27,6 @@ impl Flow {
         }
     }
 
-    /// The end's own number of the channel.
-    pub fn channel(&self) -> u32 {
-        self.channel
-    }
-
     /// So many bytes came and are done with: the peer may send as many more.
     pub fn consume(&mut self, count: usize) {
         self.window.take(count);
@@ -51,26 +46,26 @@ impl Flow {
         self.waiting.extend_from_slice(bytes)
     }
 
-    /// Tests whether all that was added is sent.
-    pub fn is_drained(&self) -> bool {
+    // Tests whether all that was added is sent.
+    fn is_drained(&self) -> bool {
         self.sent >= self.waiting.len()
     }
 
     /// Gives back the window, and sends what can be sent now. The rest waits for room in the peer's window, or for the end of an exchange
-    /// of keys.
+    /// of keys. Answers whether there is no rest.
     ///
     /// # Errors
     ///
     /// - `Memory`: memory was refused, and the end is over.
     /// - `Dead`: the end was over before.
-    pub fn push<E: End>(&mut self, end: &mut E, out: &mut Vec<u8>) -> Result<(), Fault> {
+    pub fn push<E: End>(&mut self, end: &mut E, out: &mut Vec<u8>) -> Result<bool, Fault> {
         self.give_back(end, out)?;
         for _ in 0..self.waiting.len() {
             if !self.send(end, out)? {
                 break;
             }
         }
-        Ok(())
+        Ok(self.is_drained())
     }
 
     // Gives back to the peer what is done with, once it is half of the window.

@@ -17,7 +17,7 @@ mod server;
 use client::Client;
 use divrelca::key_files::{authorized_keys, private_key, trusted_key};
 use divrelca::{AcceptedKey, Ed25519Judge, Ed25519Signer, Ed25519Trust, KeySupply, UserAsk};
-use driving::drive;
+use driving::Driven;
 use parts::{client_end, server_end};
 use server::Server;
 use std::io::{Read, Write};
@@ -83,9 +83,9 @@ fn serve<R: Files + AllocGlobal + RandomSource, I: Read, O: Write>(
     let signer = Ed25519Signer::new(&host_key.seed);
     let mut supply = KeySupply::new(rt);
     let mut out = Vec::new(alloc);
-    let mut end = server_end(alloc, &mut supply, signer, judge, &mut out)?;
-    let mut server = Server::new(alloc);
-    match drive(&mut end, &mut supply, &mut server, input, output, out)? {
+    let end = server_end(alloc, &mut supply, signer, judge, &mut out)?;
+    let mut driven = Driven::new(alloc, end, supply, Server);
+    match driven.drive(input, output, out)? {
         Some(refusal) => Err(anyhow::Error::msg(refusal)),
         None => Ok(0),
     }
@@ -113,11 +113,12 @@ fn call<R: Files + AllocGlobal + RandomSource, I: Read, O: Write, E: Write>(
     };
     let mut supply = KeySupply::new(rt);
     let mut out = Vec::new(alloc);
-    let mut end = client_end(alloc, &mut supply, host_trust, signer, &mut out)?;
-    let mut client = Client::new(alloc, login, text.as_bytes());
-    if let Some(refusal) = drive(&mut end, &mut supply, &mut client, input, output, out)? {
+    let end = client_end(alloc, &mut supply, host_trust, signer, &mut out)?;
+    let client = Client::new(alloc, login, text.as_bytes());
+    let mut driven = Driven::new(alloc, end, supply, client);
+    if let Some(refusal) = driven.drive(input, output, out)? {
         return Err(anyhow::Error::msg(refusal));
     }
-    err.write_all(client.read.as_slice())?;
-    client.status.ok_or_else(|| anyhow::Error::msg("the session ended before the command did"))
+    err.write_all(driven.work.read.as_slice())?;
+    driven.work.status.ok_or_else(|| anyhow::Error::msg("the session ended before the command did"))
 }

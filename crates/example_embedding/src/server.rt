@@ -3,49 +3,14 @@
 use crate::agenda::Agenda;
 use crate::driving::Work;
 use divrelca::{Ask, ChannelAsk, ChannelFact, MOST_DATA, Told, WINDOW};
-use std::alloc::{AllocError, Global};
+use std::alloc::AllocError;
 
-/// What a server with one channel keeps.
+/// A server with one channel. It keeps nothing: what it has to do stands on its agenda.
 #[derive(Drop)]
-pub struct Server<'a> {
-    agenda: Agenda<'a>,
-    // The client sends no more.
-    is_ended: bool,
-}
+pub struct Server;
 
-impl<'a> Server<'a> {
-    /// A server that heard nothing yet.
-    pub fn new(alloc: Global) -> Server<'a> {
-        Server {
-            agenda: Agenda::new(alloc),
-            is_ended: false,
-        }
-    }
-
-    // The client opens a session: it is confirmed.
-    fn open(&mut self, channel: u32, max_packet: u32) -> Result<(), AllocError> {
-        self.agenda.open(channel, max_packet);
-        self.agenda.add(Ask::Connection(ChannelAsk::Confirm {
-            channel,
-            window: WINDOW,
-            max_packet: MOST_DATA,
-            rest: b"",
-        }))
-    }
-
-    // Data of the client are sent back.
-    fn take(&mut self, body: &[u8]) -> Result<(), AllocError> {
-        self.agenda.consume(body.len());
-        self.agenda.send(body)
-    }
-}
-
-impl<'a> Work<'a> for Server<'a> {
-    fn agenda(&mut self) -> &mut Agenda<'a> {
-        &mut self.agenda
-    }
-
-    fn hear(&mut self, told: &Told<'_>) -> Result<(), AllocError> {
+impl<'a> Work<'a> for Server {
+    fn hear(&mut self, told: &Told<'_>, agenda: &mut Agenda<'a>) -> Result<(), AllocError> {
         match *told {
             Told::Channel(
                 ChannelFact::Opened {
@@ -54,7 +19,10 @@ impl<'a> Work<'a> for Server<'a> {
                     max_packet,
                     ..
                 },
-            ) if !self.agenda.is_open() => self.open(channel, max_packet),
+            ) if !agenda.is_open() => {
+                agenda.open(channel, max_packet);
+                agenda.add(Ask::Connection(confirmation(channel)))
+            }
             Told::Channel(
                 ChannelFact::Requested {
                     channel,
@@ -62,39 +30,43 @@ impl<'a> Work<'a> for Server<'a> {
                     want: true,
                     ..
                 },
-            ) => self.agenda.add(Ask::Connection(ChannelAsk::Reply {
+            ) => agenda.add(Ask::Connection(ChannelAsk::Reply {
                 channel,
                 success: true,
             })),
-            Told::Channel(ChannelFact::GotData { body, .. }) => self.take(body),
-            Told::Channel(ChannelFact::Ended { .. }) => {
-                self.is_ended = true;
-                Ok(())
+            Told::Channel(ChannelFact::GotData { body, .. }) => {
+                agenda.consume(body.len());
+                agenda.send(body)
             }
+            Told::Channel(ChannelFact::Ended { channel }) => end(channel, agenda),
             Told::Channel(ChannelFact::Closed { .. }) => {
-                self.agenda.close();
+                agenda.close();
                 Ok(())
             }
-            ref other => self.agenda.answer(other),
+            ref other => agenda.answer(other),
         }
     }
+}
 
-    // All was sent back, and no more comes: the client is told the exit status 0 (RFC 4254 section 6.10), the end of the output, and the
-    // end of the channel.
-    fn drained(&mut self, channel: u32) -> Result<(), AllocError> {
-        if !self.is_ended {
-            return Ok(());
-        }
-        self.agenda.close();
-        self.agenda.add(Ask::Connection(ChannelAsk::Request {
-            channel,
-            name: b"exit-status",
-            want: false,
-            rest: b"\0\0\0\0",
-        }))?;
-        self.agenda
-            .add(Ask::Connection(ChannelAsk::Eof { channel }))?;
-        self.agenda
-            .add(Ask::Connection(ChannelAsk::Close { channel }))
+// The client's session is opened.
+fn confirmation(channel: u32) -> ChannelAsk<'static> {
+    ChannelAsk::Confirm {
+        channel,
+        window: WINDOW,
+        max_packet: MOST_DATA,
+        rest: b"",
     }
+}
+
+// The client sends no more. Once all is sent back, it is told the exit status 0 (RFC 4254 section 6.10), the end of the output, and the end
+// of the channel.
+fn end(channel: u32, agenda: &mut Agenda<'_>) -> Result<(), AllocError> {
+    agenda.add_last(ChannelAsk::Request {
+        channel,
+        name: b"exit-status",
+        want: false,
+        rest: b"\0\0\0\0",
+    })?;
+    agenda.add_last(ChannelAsk::Eof { channel })?;
+    agenda.add_last(ChannelAsk::Close { channel })
 }
