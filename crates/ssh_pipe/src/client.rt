@@ -5,11 +5,11 @@ mod desk;
 mod request;
 
 use crate::error::PipeError;
-use crate::parts::{METHODS, PipeClient, client_parts};
+use crate::parts::{METHODS, PipeClient, client_parts, config};
 use crate::start::Start;
 use crate::station::Station;
 use desk::ClientDesk;
-use divrelca::{Material, Policy, UserKey};
+use divrelca::{Policy, UserKey};
 pub use request::{ClientSession, Request, RequestKind};
 use ssh_end::ClientEnd;
 use std::alloc::{AllocError, Global};
@@ -32,23 +32,11 @@ impl<'a, R: RandomSource + Drop> Client<'a, R> {
         session: ClientSession<'a>,
         out: &mut Vec<u8>,
     ) -> Result<Client<'a, R>, PipeError> {
-        let ClientSession {
-            host,
-            key,
-            login,
-            request,
-        } = session;
-        let Start {
-            supply,
-            material,
-            filler,
-            config,
-        } = Start::new(alloc, policy, source, METHODS)?;
-        let parts = client_parts(filler, host);
-        let Material { cookie, secret } = material;
-        let end = ClientEnd::new(alloc, config, parts, key, cookie, secret, out)?;
-        let desk = ClientDesk::new(alloc, policy.window, login, request);
-        Ok(Station::of(alloc, end, supply, desk))
+        let mut start = Start::new(alloc, source)?;
+        let parts = client_parts(start.padding()?, session.host);
+        let config = config(alloc, policy, METHODS)?;
+        let desk = ClientDesk::new(alloc, policy.window, session.login, session.request);
+        Station::open(start, config, parts, session.key, desk, out)
     }
 
     /// What the command wrote to its output since the last `clear_output`.

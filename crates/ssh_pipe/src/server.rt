@@ -5,11 +5,11 @@ mod sessions;
 
 use crate::ending::Ending;
 use crate::error::PipeError;
-use crate::parts::{METHODS, PipeServer, server_parts};
+use crate::parts::{METHODS, PipeServer, config, server_parts};
 use crate::start::Start;
 use crate::station::Station;
 use desk::ServerDesk;
-use divrelca::{Ed25519Signer, Material, OneUser, Policy};
+use divrelca::{Ed25519Signer, OneUser, Policy};
 use ssh_end::ServerEnd;
 use std::alloc::Global;
 use std::random::RandomSource;
@@ -33,16 +33,11 @@ impl<'a, R: RandomSource + Drop> Server<'a, R> {
         user: OneUser<'a>,
         out: &mut Vec<u8>,
     ) -> Result<Server<'a, R>, PipeError> {
-        let Start {
-            supply,
-            material,
-            filler,
-            config,
-        } = Start::new(alloc, policy, source, methods_of(&user))?;
-        let parts = server_parts(filler, host_key);
-        let Material { cookie, secret } = material;
-        let end = ServerEnd::new(alloc, config, parts, user, cookie, secret, out)?;
-        Ok(Station::of(alloc, end, supply, ServerDesk::new(alloc, policy.window)))
+        let mut start = Start::new(alloc, source)?;
+        let parts = server_parts(start.padding()?, host_key);
+        let config = config(alloc, policy, methods_of(&user))?;
+        let desk = ServerDesk::new(alloc, policy.window);
+        Station::open(start, config, parts, user, desk, out)
     }
 
     /// What it means if the client's stream ends now, where no ending is known.

@@ -1,47 +1,43 @@
-//! What is drawn and settled before an end is made.
+//! What is drawn before an end is made.
 
 use crate::error::PipeError;
-use crate::parts::{PipeSealing, config};
-use divrelca::{KeySupply, Material, PaddingSource, Policy};
-use ssh_transport_machine::Config;
+use divrelca::{KeySupply, Material, PaddingSource};
 use std::alloc::Global;
 use std::random::RandomSource;
 
-/// What an end of either role is made of.
+/// What an end of either role draws from, and what was drawn for it.
 #[derive(Drop)]
-pub struct Start<R: RandomSource + Drop> {
-    /// What it draws from, after what is here was drawn.
-    pub supply: KeySupply<R>,
+pub struct Start<S: RandomSource + Drop> {
+    /// Where it stands.
+    pub alloc: Global,
+    /// What it draws from, after its first cookie and secret were drawn.
+    pub supply: KeySupply<S>,
     /// Its first cookie and secret.
     pub material: Material,
-    /// What pads its packets.
-    pub filler: PaddingSource,
-    /// Its settings.
-    pub config: Config<PipeSealing>,
 }
 
-impl<R: RandomSource + Drop> Start<R> {
-    /// What is drawn from this source, and the settings under this policy. `methods` are those of authentication that a server names.
+impl<S: RandomSource + Drop> Start<S> {
+    /// What is drawn from this source.
     ///
     /// # Errors
     ///
-    /// - `Random`: the source gave no random bytes.
-    /// - `Settings`: the policy makes no settings of an end, or memory was refused to them.
-    pub fn new(
-        alloc: Global,
-        policy: &Policy,
-        source: R,
-        methods: &[&[u8]],
-    ) -> Result<Start<R>, PipeError> {
+    /// Only `Random`: the source gave no random bytes.
+    pub fn new(alloc: Global, source: S) -> Result<Start<S>, PipeError> {
         let mut supply = KeySupply::new(source);
         let material = supply.draw()?;
-        let filler = supply.padding()?;
-        let config = config(alloc, policy, methods)?;
         Ok(Start {
+            alloc,
             supply,
             material,
-            filler,
-            config,
         })
+    }
+
+    /// What pads the packets of the end, drawn after the cookie and the secret.
+    ///
+    /// # Errors
+    ///
+    /// Only `Random`: the source gave no random bytes.
+    pub fn padding(&mut self) -> Result<PaddingSource, PipeError> {
+        Ok(self.supply.padding()?)
     }
 }

@@ -5,9 +5,12 @@ use crate::ending::Ending;
 use crate::error::PipeError;
 use crate::log::Watched;
 use crate::machine::Machine;
-use divrelca::{End, KeySupply};
-use ssh_end::{Fault, Told};
-use std::alloc::{AllocError, Global};
+use crate::start::Start;
+use divrelca::{End, KeySupply, Material};
+use ssh_config::Config;
+use ssh_end::{Fault, SuppliedEnd, Told};
+use ssh_transport::Role;
+use std::alloc::AllocError;
 use std::random::RandomSource;
 
 /// What one role does on what its end tells. `ServerDesk` and `ClientDesk` are the two.
@@ -38,17 +41,39 @@ pub struct Station<'a, E: End + Drop, R: RandomSource + Drop, D: Desk<'a> + Drop
     pub(crate) desk: D,
 }
 
-impl<'a, E: End + Drop, R: RandomSource + Drop, D: Desk<'a> + Drop> Station<'a, E, R, D> {
-    // This end, which goes on with this supply and this desk.
-    pub(crate) fn of(alloc: Global, end: E, supply: KeySupply<R>, desk: D) -> Station<'a, E, R, D> {
-        Station {
+impl<'a, T: SuppliedEnd, R: RandomSource + Drop, D: Desk<'a> + Drop> Station<
+    'a,
+    ssh_end::End<T>,
+    R,
+    D,
+> {
+    // An end of these settings, these parts and this user, which put its version line and its first KEXINIT into `out`, and goes on with this
+    // desk. Where memory is refused, what was handed in is dropped.
+    pub(crate) fn open(
+        start: Start<R>,
+        config: Config<<T::Exchange as Role>::Sealing>,
+        parts: T::Parts,
+        user: T::User,
+        desk: D,
+        out: &mut Vec<u8>,
+    ) -> Result<Station<'a, ssh_end::End<T>, R, D>, PipeError> {
+        let Start {
+            alloc,
+            supply,
+            material,
+        } = start;
+        let Material { cookie, secret } = material;
+        let end = ssh_end::End::<T>::new(alloc, config, parts, user, cookie, secret, out)?;
+        Ok(Station {
             end: Watched::new(alloc, end),
             supply,
             agenda: Agenda::new(alloc),
             desk,
-        }
+        })
     }
+}
 
+impl<'a, E: End + Drop, R: RandomSource + Drop, D: Desk<'a> + Drop> Station<'a, E, R, D> {
     /// Shows messages from now on, by number and name, in what it tells.
     ///
     /// # Errors
