@@ -20,7 +20,7 @@ from pathlib import Path
 
 TOP = Path(__file__).resolve().parent.parent
 PAGES = [TOP / "README.md", TOP / "CONTRIBUTING.md", TOP / "SECURITY.md", *sorted((TOP / "docs").glob("*.md"))]
-HELP = TOP / "crates/ssh_pipe_commands/src/command_line/words.rt"
+HELP = TOP / "crates/ssh_pipe_program/src/command_line/words.rt"
 TRACE = re.compile(r"(?:build/)?ssh_trace (decode|play|check) (\S+)")
 NAMED = re.compile(r"(?<![\w/.])(?:docs|tools|crates|examples)/[\w./-]*\w")
 # What a page calls a file, a user or a host that a reader puts in: the tool makes them.

@@ -8,8 +8,8 @@ use std::random::RandomSource;
 
 /// What a program does on what its end tells.
 pub trait Work<'a> {
-    /// Listens to what the end told, keeps what of it is needed, since its texts are slices of the end's buffer, and puts on the agenda what
-    /// there is to do.
+    /// Listens to what the end told, keeps what of it is needed, since its texts are slices of the end's buffer, and puts on the agenda
+    /// what there is to do.
     ///
     /// # Errors
     ///

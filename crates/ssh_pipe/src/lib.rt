@@ -3,7 +3,7 @@
 //!
 //! `Server` and `Client` are `Machine`s, which go from bytes to bytes, and `pump` lets one go on between a reader and a writer. What they
 //! decide by themselves stands in `divrelca`, and what they tell in the module `log`; everything else that they do is to hand on.
-//! `ssh_pipe_commands` makes them from the words of a command line.
+//! `ssh_pipe_program` makes them from the words of a command line.
 //!
 //! ```rust
 //! let mut out = Vec::new(alloc);

@@ -7,9 +7,9 @@ use crate::log::Watched;
 use crate::machine::Machine;
 use crate::start::Start;
 use divrelca::{End, KeySupply, Material};
-use ssh_config::Config;
 use ssh_end::{Fault, SuppliedEnd, Told};
 use ssh_transport::Role;
+use ssh_transport_machine::Config;
 use std::alloc::AllocError;
 use std::random::RandomSource;
 
@@ -47,8 +47,8 @@ impl<'a, T: SuppliedEnd, R: RandomSource + Drop, D: Desk<'a> + Drop> Station<
     R,
     D,
 > {
-    // An end of these settings, these parts and this user, which put its version line and its first KEXINIT into `out`, and goes on with this
-    // desk. Where memory is refused, what was handed in is dropped.
+    // An end of these settings, these parts and this user, which put its version line and its first KEXINIT into `out`, and goes on with
+    // this desk. Where memory is refused, what was handed in is dropped.
     pub(crate) fn open(
         start: Start<R>,
         config: Config<<T::Exchange as Role>::Sealing>,

@@ -1,8 +1,20 @@
 //! The program `ssh_pipe`: `client` runs one command at a server, `server` serves one connection. Standard input is what the peer sends,
 //! and standard output what goes to it.
+//!
+//! `call_of` reads the words of the command line, and `serve` and `call` let a server or a client of the library `ssh_pipe` go on over the
+//! files that they name. What went wrong is told in a line, and a `Status` is the exit status of it.
 #![tactic(auto)]
 
-use ssh_pipe_commands::{Call, Status, call, call_of, refuse, report, serve, version};
+mod client_files;
+mod command_line;
+mod progress;
+mod running;
+mod sink;
+mod status;
+
+use command_line::{Call, call_of};
+use running::{call, refuse, report, serve, version};
+use status::Status;
 use std::process::ExitCode;
 use std::rt::Env;
 use std::{env, io};

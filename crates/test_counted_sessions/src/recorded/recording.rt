@@ -2,9 +2,8 @@
 
 use super::keys::Keys;
 use super::playing::{Role, client, server};
-use ssh_pipe::pump;
-use ssh_pipe_commands::{ClientFiles, CommandFiles, Sink};
-use std::fs::{self, File};
+use ssh_pipe::{Machine, pump};
+use std::fs;
 use std::io::{self, Read, Stdin, Write};
 
 // Reads, and writes a copy of what was read.
@@ -28,44 +27,28 @@ impl<W: Write + Drop> Read for Copied<W> {
 ///
 /// Those of the end, of standard input and output, and of the file.
 pub fn record(rt: &HostRuntime, keys: &Keys, role: Role, file: &str) -> anyhow::Result<()> {
+    let alloc = rt.alloc();
+    let mut out = Vec::new(alloc);
     let mut input = Copied {
         from: rt.stdin(),
         copy: fs::create(rt, file)?,
     };
     match role {
-        Role::Server => record_server(rt, keys, &mut input),
-        Role::Client => record_client(rt, keys, &mut input),
+        Role::Server => go_on(rt, &mut server(alloc, keys, &mut out)?, &mut input, out),
+        Role::Client => go_on(rt, &mut client(alloc, keys, &mut out)?, &mut input, out),
     }
 }
 
-fn record_server<I: Read>(rt: &HostRuntime, keys: &Keys, input: &mut I) -> anyhow::Result<()> {
-    let alloc = rt.alloc();
-    let mut out = Vec::new(alloc);
-    let mut server = server(alloc, keys, &mut out)?;
+// Lets this end go on, after what it put out. What a client's command writes is dropped.
+fn go_on<M: Machine, I: Read>(
+    rt: &HostRuntime,
+    machine: &mut M,
+    input: &mut I,
+    out: Vec<u8>,
+) -> anyhow::Result<()> {
     pump(
-        alloc,
-        &mut server,
-        input,
-        &mut rt.stdout(),
-        out,
-        &mut rt.stderr(),
-    )?;
-    Ok(())
-}
-
-fn record_client<I: Read>(rt: &HostRuntime, keys: &Keys, input: &mut I) -> anyhow::Result<()> {
-    let alloc = rt.alloc();
-    let mut out = Vec::new(alloc);
-    let client = client(alloc, keys, &mut out)?;
-    let files = CommandFiles {
-        input: None::<File>,
-        output: Sink::Stream(rt.stderr()),
-        error_output: Sink::Stream(rt.stderr()),
-    };
-    let mut files = ClientFiles::new(alloc, client, files)?;
-    pump(
-        alloc,
-        &mut files,
+        rt.alloc(),
+        machine,
         input,
         &mut rt.stdout(),
         out,

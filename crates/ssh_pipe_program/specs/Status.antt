@@ -1,7 +1,7 @@
 -- Exit statuses.
 use Rattle.std.specs.Prelude.{ℕ}
-use Rattle.ssh_pipe_commands.specs.declared.status.Status.TheVariants.{Done, Refused, Fault, Command, Failed}
-use Rattle.ssh_pipe_commands.specs.declared.status.Status.{Status}
+use Rattle.ssh_pipe_program.specs.declared.status.Status.TheVariants.{Done, Refused, Fault, Command, Failed}
+use Rattle.ssh_pipe_program.specs.declared.status.Status.{Status}
 
 -- The exit status of the program.
 abbrev pub code_of : Status → ℕ
