@@ -27,13 +27,13 @@ use Rattle.ssh_end.specs.declared.role.EndRole
 use Rattle.ssh_end.specs.contracts.layers.stack.Layers as layers
 use Rattle.divrelca.specs.contracts.parts.packet_key.PacketKey as packet_key
 use Rattle.divrelca.specs.contracts.keys.PaddingSource as padding
-use Rattle.ssh_embedded.specs.contracts.any_end.AnyEnd as any_end
-use Rattle.ssh_embedded.specs.contracts.embedded.Embedded as embedded
-use Rattle.ssh_embedded.specs.contracts.noted.Noted as noted
-use Rattle.ssh_embedded.specs.contracts.users.Users as users
-use Rattle.ssh_embedded.specs.contracts.waiting.Waiting as waiting
-use Rattle.ssh_embedded.specs.contracts.client.Client as client
-use Rattle.ssh_embedded.specs.contracts.server.Server as server
+use Rattle.divrelca_c.specs.contracts.embedded.any_end.AnyEnd as any_end
+use Rattle.divrelca_c.specs.contracts.embedded.state.Embedded as embedded
+use Rattle.divrelca_c.specs.contracts.embedded.noted.Noted as noted
+use Rattle.divrelca_c.specs.contracts.embedded.users.Users as users
+use Rattle.divrelca_c.specs.contracts.embedded.waiting.Waiting as waiting
+use Rattle.divrelca_c.specs.contracts.embedded.client.Client as client
+use Rattle.divrelca_c.specs.contracts.embedded.server.Server as server
 use Rattle.divrelca_c.proofs.Handling.{Handle}
 use Rattle.divrelca_c.proofs.EndHandle.{end_handle}
 

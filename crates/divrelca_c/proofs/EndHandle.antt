@@ -7,8 +7,8 @@ use denote.Exit.{no}
 use denote.Param.{layout}
 use denote.Param.Laws.{arg_laws}
 use Rattle.std.specs.Prelude.{Some}
-use Rattle.ssh_embedded.proofs.any_end.AnyEnd.TheLaws as end_laws
-use Rattle.ssh_embedded.specs.contracts.any_end.AnyEnd as AnyEnd
+use Rattle.divrelca_c.proofs.embedded.any_end.AnyEnd.TheLaws as end_laws
+use Rattle.divrelca_c.specs.contracts.embedded.any_end.AnyEnd as AnyEnd
 use Rattle.divrelca_c.specs.contracts.handle.DvEnd as DvEnd
 use Rattle.divrelca_c.specs.contracts.handle.DvNewEnd as DvNewEnd
 use Rattle.divrelca_c.proofs.Handling.{Handle}

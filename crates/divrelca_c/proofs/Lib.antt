@@ -1,3 +1,4 @@
+pub mod OfEmbedded
 pub mod Boxing
 pub mod EndHandle
 pub mod HandleWalks

@@ -6,10 +6,10 @@ use Rattle.std.proofs.lemmas.List.Sums.{AllPass-from_list_all}
 use Rattle.std.specs.Cmp.Lexicographic.{same_text}
 use Rattle.std.specs.List.{list_all}
 use Rattle.ssh_model.specs.Protocol.Wire.MacOnly.{is_text}
-use Rattle.ssh_embedded.specs.Users.{entry_of}
-use Rattle.ssh_embedded.specs.declared.users.Login.{Login}
-use Rattle.ssh_embedded.specs.declared.users.User.{User}
-use Rattle.ssh_embedded.specs.declared.server.UserFault.{UserFault}
+use Rattle.divrelca_c.specs.Embedded.Users.{entry_of}
+use Rattle.divrelca_c.specs.declared.embedded.users.Login.{Login}
+use Rattle.divrelca_c.specs.declared.embedded.users.User.{User}
+use Rattle.divrelca_c.specs.declared.embedded.server.UserFault.{UserFault}
 use Rattle.divrelca_c.specs.Codes.{user_code}
 use Rattle.divrelca_c.specs.Making.{entry_by}
 use Rattle.divrelca_c.specs.Users.{AreOf}

@@ -8,13 +8,13 @@ use Rattle.divrelca.specs.declared.parts.packet_key.PacketKey.{PacketKey}
 use Rattle.divrelca.specs.declared.cipher_choice.Ciphers.{Ciphers}
 use Rattle.divrelca.specs.declared.keys.PaddingSource.{PaddingSource}
 use Rattle.divrelca.specs.declared.policy.TheConstants.{TRIES}
-use Rattle.ssh_embedded.specs.Making.{IsMade, settings_by}
-use Rattle.ssh_embedded.specs.declared.client.Client.{Client}
-use Rattle.ssh_embedded.specs.declared.embedded.Embedded.{Embedded}
-use Rattle.ssh_embedded.specs.declared.making.Material.{Material}
-use Rattle.ssh_embedded.specs.declared.making.Methods.{Methods}
-use Rattle.ssh_embedded.specs.declared.making.Methods.TheVariants.{Both}
-use Rattle.ssh_embedded.specs.declared.server.Server.{Server}
+use Rattle.divrelca_c.specs.Embedded.Making.{IsMade, settings_by}
+use Rattle.divrelca_c.specs.declared.embedded.client.Client.{Client}
+use Rattle.divrelca_c.specs.declared.embedded.state.Embedded.{Embedded}
+use Rattle.divrelca_c.specs.declared.embedded.making.Material.{Material}
+use Rattle.divrelca_c.specs.declared.embedded.making.Methods.{Methods}
+use Rattle.divrelca_c.specs.declared.embedded.making.Methods.TheVariants.{Both}
+use Rattle.divrelca_c.specs.declared.embedded.server.Server.{Server}
 use Rattle.divrelca_c.specs.Making.{Leaves, ciphers_by, client_settings, methods_by, server_settings}
 use Rattle.divrelca_c.proofs.Known.{where_same}
 use Rattle.divrelca_c.specs.declared.bytes.DvClientSettings.{DvClientSettings}

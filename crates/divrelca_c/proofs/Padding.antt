@@ -5,7 +5,7 @@ use Rattle.ssh_end.specs.declared.asking.outcome.AskStep.{AskStep}
 use Rattle.ssh_end.specs.declared.asking.outcome.Fault.{Fault}
 use Rattle.ssh_end.specs.declared.asking.outcome.Fault.TheVariants as fault
 use Rattle.divrelca_c.specs.Codes.{code_asked, code_of}
-pub use Rattle.ssh_embedded.specs.PaddingLaws.{pads_on, pads_on_none}
+pub use Rattle.divrelca_c.specs.Embedded.PaddingLaws.{pads_on, pads_on_none}
 
 -- what holds of an ask that was done or refused, by its code
 pub answered_by : {P : Type 0} (done : Result AskStep Fault) → OnAnswered done P → (code : ℤ) → code ≡ code_asked done →

@@ -3,8 +3,8 @@ use Rattle.std.specs.Prelude.{◌≡◌, ℕ, ℤ, cond, drop, List, Option, Som
 use Rattle.ssh_model.specs.Protocol.Sessions.Items as session
 use Rattle.ssh_end.specs.declared.asking.outcome.AskStep.{AskStep}
 use Rattle.ssh_end.specs.declared.asking.outcome.Fault.{Fault}
-use Rattle.ssh_embedded.specs.Queues.{IsOldestMade, is_early}
-use Rattle.ssh_embedded.specs.declared.waiting.Waiting.{Waiting}
+use Rattle.divrelca_c.specs.Embedded.Queues.{IsOldestMade, is_early}
+use Rattle.divrelca_c.specs.declared.embedded.waiting.Waiting.{Waiting}
 use Rattle.divrelca_c.specs.Codes.{code_asked}
 
 -- the number that is there, or else the one that stood there

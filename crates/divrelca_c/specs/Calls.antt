@@ -19,13 +19,13 @@ use Rattle.ssh_end.specs.Ends.{sending_from, sending_to}
 use Rattle.ssh_end.specs.Steps.{shown_by}
 use Rattle.ssh_end.specs.declared.asking.outcome.AskStep.{AskStep}
 use Rattle.ssh_end.specs.declared.asking.outcome.Fault.{Fault}
-use Rattle.ssh_embedded.specs.Forms.{form_asks}
-use Rattle.ssh_embedded.specs.Padding.{PadsOn}
-use Rattle.ssh_embedded.specs.Queues.{IsDeclined, IsGivenBack, IsQueued}
-use Rattle.ssh_embedded.specs.Windows.{bytes_in}
-use Rattle.ssh_embedded.specs.declared.ask_form.AskForm.{AskForm}
-use Rattle.ssh_embedded.specs.declared.embedded.Embedded.{Embedded}
-use Rattle.ssh_embedded.specs.declared.waiting.Waiting.{Waiting}
+use Rattle.divrelca_c.specs.Embedded.Forms.{form_asks}
+use Rattle.divrelca_c.specs.Embedded.Padding.{PadsOn}
+use Rattle.divrelca_c.specs.Embedded.Queues.{IsDeclined, IsGivenBack, IsQueued}
+use Rattle.divrelca_c.specs.Embedded.Windows.{bytes_in}
+use Rattle.divrelca_c.specs.declared.embedded.ask_form.AskForm.{AskForm}
+use Rattle.divrelca_c.specs.declared.embedded.state.Embedded.{Embedded}
+use Rattle.divrelca_c.specs.declared.embedded.waiting.Waiting.{Waiting}
 use Rattle.divrelca_c.specs.Asks.{IsAnswered, IsWorked}
 
 -- This is the answer, and what was asked about is as it was.

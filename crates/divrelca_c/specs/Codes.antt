@@ -5,10 +5,10 @@ use Rattle.ssh_model.specs.declared.refusal.Refusal.{Refusal}
 use Rattle.ssh_end.specs.declared.asking.outcome.AskStep.{AskStep}
 use Rattle.ssh_end.specs.declared.asking.outcome.Fault.{Fault}
 use Rattle.ssh_end.specs.declared.asking.outcome.Fault.TheVariants as fault
-use Rattle.ssh_embedded.specs.declared.ask_form.FormFault.{FormFault}
-use Rattle.ssh_embedded.specs.declared.ask_form.FormFault.TheVariants as form_fault
-use Rattle.ssh_embedded.specs.declared.server.UserFault.{UserFault}
-use Rattle.ssh_embedded.specs.declared.server.UserFault.TheVariants as user_fault
+use Rattle.divrelca_c.specs.declared.embedded.ask_form.FormFault.{FormFault}
+use Rattle.divrelca_c.specs.declared.embedded.ask_form.FormFault.TheVariants as form_fault
+use Rattle.divrelca_c.specs.declared.embedded.server.UserFault.{UserFault}
+use Rattle.divrelca_c.specs.declared.embedded.server.UserFault.TheVariants as user_fault
 use Rattle.divrelca.specs.declared.key_files.fault.Expected.{Expected}
 use Rattle.divrelca.specs.declared.key_files.fault.Expected.TheVariants as expected
 use Rattle.divrelca.specs.declared.key_files.fault.FileFault.{FileFault}

@@ -10,10 +10,10 @@ use Rattle.ssh_end.specs.Asking.{UserSignatures}
 use Rattle.divrelca.specs.declared.parts.packet_key.PacketKey.{PacketKey}
 use Rattle.divrelca.specs.UserKey.{signature_by}
 use Rattle.divrelca.specs.declared.keys.PaddingSource.{PaddingSource}
-use Rattle.ssh_embedded.specs.declared.any_end.AnyEnd.{AnyEnd}
-use Rattle.ssh_embedded.specs.declared.any_end.AnyEnd.TheVariants as any
-use Rattle.ssh_embedded.specs.declared.embedded.Embedded.{Embedded}
-use Rattle.ssh_embedded.specs.declared.making.Material.{Material}
+use Rattle.divrelca_c.specs.declared.embedded.any_end.AnyEnd.{AnyEnd}
+use Rattle.divrelca_c.specs.declared.embedded.any_end.AnyEnd.TheVariants as any
+use Rattle.divrelca_c.specs.declared.embedded.state.Embedded.{Embedded}
+use Rattle.divrelca_c.specs.declared.embedded.making.Material.{Material}
 use Rattle.divrelca_c.specs.Calls.{no_signatures}
 use Rattle.divrelca_c.specs.Making.{IsClientOf, IsServerOf}
 use Rattle.divrelca_c.specs.Users.{SetsUser}

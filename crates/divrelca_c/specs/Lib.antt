@@ -1,3 +1,4 @@
+pub mod Embedded
 pub mod Asks
 pub mod Calls
 pub mod Codes

@@ -12,15 +12,15 @@ use Rattle.std.specs.Option.{IfSome}
 use Rattle.sha2.specs.Sha256.{sha256}
 use Rattle.ssh_model.specs.Protocol.Sessions.Parties.{Settings}
 use Rattle.ssh_model.specs.declared.side.Side.TheVariants as sides
-use Rattle.ssh_embedded.specs.Making.{IsMade, settings_by}
-use Rattle.ssh_embedded.specs.Users.{entry_of, is_weak}
-use Rattle.ssh_embedded.specs.declared.client.Client.{Client}
-use Rattle.ssh_embedded.specs.declared.making.Material.{Material}
-use Rattle.ssh_embedded.specs.declared.making.Methods.{Methods}
-use Rattle.ssh_embedded.specs.declared.making.Methods.TheVariants as methods
-use Rattle.ssh_embedded.specs.declared.server.Server.{Server}
-use Rattle.ssh_embedded.specs.declared.users.Login.{Login}
-use Rattle.ssh_embedded.specs.declared.users.Login.TheVariants as login
+use Rattle.divrelca_c.specs.Embedded.Making.{IsMade, settings_by}
+use Rattle.divrelca_c.specs.Embedded.Users.{entry_of, is_weak}
+use Rattle.divrelca_c.specs.declared.embedded.client.Client.{Client}
+use Rattle.divrelca_c.specs.declared.embedded.making.Material.{Material}
+use Rattle.divrelca_c.specs.declared.embedded.making.Methods.{Methods}
+use Rattle.divrelca_c.specs.declared.embedded.making.Methods.TheVariants as methods
+use Rattle.divrelca_c.specs.declared.embedded.server.Server.{Server}
+use Rattle.divrelca_c.specs.declared.embedded.users.Login.{Login}
+use Rattle.divrelca_c.specs.declared.embedded.users.Login.TheVariants as login
 use Rattle.divrelca.specs.Parts.Ed25519.{signer_of}
 use Rattle.divrelca.specs.declared.parts.ed25519_signer.Ed25519Signer.{Ed25519Signer}
 use Rattle.divrelca.specs.declared.cipher_choice.Ciphers.{Ciphers}

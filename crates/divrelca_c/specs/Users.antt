@@ -8,9 +8,9 @@ use Rattle.ssh_model.specs.State.TransportLayer.Kept.{ExchangeParts}
 use Rattle.ssh_end.specs.Stands.{ServerStandsAt}
 use Rattle.divrelca.specs.Parts.AesGcm.{aes_gcm}
 use Rattle.divrelca.specs.declared.parts.packet_key.PacketKey.{PacketKey}
-use Rattle.ssh_embedded.specs.Asked.{AreNoted, is_noted}
-use Rattle.ssh_embedded.specs.Users.{entry_of, verdicts_for}
-use Rattle.ssh_embedded.specs.declared.server.Server.{Server}
+use Rattle.divrelca_c.specs.Embedded.Asked.{AreNoted, is_noted}
+use Rattle.divrelca_c.specs.Embedded.Users.{entry_of, verdicts_for}
+use Rattle.divrelca_c.specs.declared.embedded.server.Server.{Server}
 use Rattle.divrelca_c.specs.Making.{IsEntry, IsTaken, entry_by}
 use Rattle.divrelca_c.specs.declared.bytes.DvUser.{DvUser}
 

@@ -8,8 +8,8 @@ use crate::bytes::{DvBytes, DvMaterial, DvUser};
 use crate::codes::{
     DONE, MEMORY, NOTHING_QUEUED, answer, code_form, code_of, code_taken, code_user,
 };
+use crate::embedded::{AskForm, Embedded, Server, Waiting};
 use crate::making::users_in;
-use ssh_embedded::{AskForm, Embedded, Server, Waiting};
 use ssh_end::EndRole;
 use ssh_packet::{Filler, Sealing};
 use ssh_transport::Role;

@@ -4,8 +4,8 @@ ghost use Rattle.std.specs.Prelude.{◌≡◌, negsuc, pos};
 ghost use Rattle.divrelca_c.specs.Asks.{channel_after};
 ghost use Rattle.divrelca_c.specs.Codes.{code_asked, code_of, fault_code, fault_line, file_code, form_code, user_code};
 
+use crate::embedded::{FormFault, MakeError, UserFault};
 use divrelca::key_files::{Expected, FileFault};
-use ssh_embedded::{FormFault, MakeError, UserFault};
 use ssh_end::{AskStep, Fault};
 
 /// What was asked for is done.

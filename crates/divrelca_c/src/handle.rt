@@ -4,11 +4,11 @@ ghost use Rattle.std.specs.Prelude.{◌≡◌, Option, Some};
 ghost use Rattle.std.specs.Coded.{coded_option};
 ghost use Rattle.divrelca_c.specs.Handles.{handle_owns, place_owns};
 ghost use Rattle.divrelca_c.specs.Making.{Leaves};
-ghost use Rattle.ssh_embedded.specs.contracts.any_end.AnyEnd.{the_row as end_row};
-ghost use Rattle.ssh_embedded.specs.declared.any_end.AnyEnd.{AnyEnd};
+ghost use Rattle.divrelca_c.specs.contracts.embedded.any_end.AnyEnd.{the_row as end_row};
+ghost use Rattle.divrelca_c.specs.declared.embedded.any_end.AnyEnd.{AnyEnd};
 
 use crate::codes::{DONE, MEMORY};
-use ssh_embedded::AnyEnd;
+use crate::embedded::AnyEnd;
 use std::alloc::Global;
 use std::marker::Model;
 

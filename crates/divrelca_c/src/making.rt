@@ -3,15 +3,15 @@
 ghost use Rattle.std.specs.Prelude.{◌≡◌, ◌++◌, All, IfErr, IfOk, [], ◌∷◌, length, map, negsuc, pos};
 ghost use Rattle.divrelca_c.specs.Making.{IsChoice, IsClientOf, IsEntry, IsLogin, IsServerOf, IsTaken};
 ghost use Rattle.divrelca_c.specs.Making.{ciphers_by, entry_by, login_by, material_by, methods_by, user_by};
-ghost use Rattle.ssh_embedded.specs.Users.{entry_of};
+ghost use Rattle.divrelca_c.specs.Embedded.Users.{entry_of};
 ghost use Rattle.divrelca.specs.Parts.Ed25519.{signer_of};
 
 use crate::bytes::{DvClientSettings, DvMaterial, DvServerSettings, DvUser};
 use crate::codes::{BAD_CIPHERS, BAD_KEY, BAD_LOGIN, BAD_METHODS, BAD_SIZE, code_made};
-use divrelca::{Ciphers, Ed25519Signer, PasswordHash};
-use ssh_embedded::{
+use crate::embedded::{
     Client, ClientSettings, Login, Material, Methods, Server, ServerSettings, Users,
 };
+use divrelca::{Ciphers, Ed25519Signer, PasswordHash};
 use std::alloc::Global;
 
 // The bytes of the settings of a server, and of those of a client.

@@ -1,7 +1,7 @@
 use Rattle.std.proofs.Common.{◌≡◌, ◌++◌, ◌∙◌, ap, map, of_z, rules, to_z, w32}
 use Rattle.std.proofs.lemmas.List.{map-append}
-use Rattle.ssh_embedded.specs.Users.{entry_of}
-use Rattle.ssh_embedded.specs.declared.server.UserFault.TheVariants as user_fault
+use Rattle.divrelca_c.specs.Embedded.Users.{entry_of}
+use Rattle.divrelca_c.specs.declared.embedded.server.UserFault.TheVariants as user_fault
 use Rattle.divrelca_c.specs.Codes.{user_code}
 use Rattle.divrelca_c.proofs.Named.{coded, entries_named, users_named, users_of_another}
 use Rattle.divrelca_c.proofs.calls.set_user.Goals as goal

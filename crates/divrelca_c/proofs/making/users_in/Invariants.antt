@@ -1,5 +1,5 @@
 use Rattle.std.proofs.Common.{◌≡◌, All, map, take}
-use Rattle.ssh_embedded.specs.Users.{entry_of}
+use Rattle.divrelca_c.specs.Embedded.Users.{entry_of}
 use Rattle.divrelca_c.specs.Making.{IsEntry, IsTaken, entry_by}
 use Rattle.divrelca_c.proofs.making.users_in.Given as goal
 

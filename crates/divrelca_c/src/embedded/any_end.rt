@@ -1,0 +1,13 @@
+//! An end whose role is known when the program runs.
+
+use crate::embedded::client::Client;
+use crate::embedded::server::Server;
+
+/// A server or a client. An end keeps its role.
+#[derive(Drop)]
+pub enum AnyEnd {
+    /// A server.
+    Server(Server),
+    /// A client.
+    Client(Client),
+}

@@ -1,0 +1,180 @@
+//! What ends are made of, and why none is made.
+
+ghost use Rattle.std.specs.Prelude.{◌≡◌, IfOk, map};
+ghost use Rattle.std.specs.Option.{option_map};
+ghost use Rattle.divrelca_c.specs.Embedded.Making.{given_by, method_names, settings_by};
+ghost use Rattle.divrelca_c.specs.declared.embedded.making.MakeError.TheVariants as make_error;
+ghost use Rattle.ssh_transport_machine.specs.Meaning.{given_of, settings_of};
+
+use divrelca::{AesGcm, Ciphers, Ed25519Signer, GcmSettings, TRIES};
+use ssh_transport_machine::{Config, ConfigError, ConfigRefusal, Settings};
+use std::alloc::{AllocError, Global};
+
+/// What an end takes of random bytes when it is made. Each is from a good source, and is used once.
+#[derive(Clone, Copy)]
+pub struct Material {
+    /// The cookie of the first KEXINIT (RFC 4253 section 7.1).
+    pub cookie: [u8; 16],
+    /// The secret whose point the peer gets (RFC 8731 section 3).
+    pub secret: [u8; 32],
+    /// The key of the stream that the padding of packets comes from (RFC 4253 section 6).
+    pub padding: [u8; 32],
+}
+
+/// Which methods of authentication a server names and takes (RFC 4252).
+#[derive(Clone, Copy, Debug, PartialEq, Eq)]
+pub enum Methods {
+    /// `publickey` (section 7).
+    Key,
+    /// `password` (section 8).
+    Password,
+    /// Both.
+    Both,
+}
+
+impl Methods {
+    // The names that a server gives.
+    fn names(self) -> &'static [&'static [u8]]
+        ensures { map (λ name. name.now) result.now ≡ method_names self }
+    {
+        match self {
+            Methods::Key => &[b"publickey"],
+            Methods::Password => &[b"password"],
+            Methods::Both => &[b"publickey", b"password"],
+        }
+    }
+}
+
+/// What a server is made of besides its users.
+#[derive(Clone, Copy)]
+pub struct ServerSettings<'a> {
+    /// The version of the software (RFC 4253 section 4.2).
+    pub software: &'a [u8],
+    /// After so many packets sent under the keys of one exchange the next one is due: 64 to 2^31.
+    pub epoch_limit: u32,
+    /// How many requests for authentication may fail: 1 to 20.
+    pub tries: u32,
+    /// The methods of authentication.
+    pub methods: Methods,
+    /// The encryptions.
+    pub ciphers: Ciphers,
+    /// The key pair of the host.
+    pub host: Ed25519Signer,
+}
+
+impl ServerSettings<'_> {
+    // The config of a server.
+    pub(crate) fn config(&self, alloc: Global) -> Result<Config<AesGcm>, ConfigError>
+        ensures { IfOk result (λ config. settings_of config ≡ settings_by self.now.software.now self.now.epoch_limit self.now.tries
+            self.now.methods self.now.ciphers) }
+    {
+        config(
+            alloc,
+            self.software,
+            self.epoch_limit,
+            self.tries,
+            self.methods,
+            self.ciphers,
+        )
+    }
+}
+
+/// What a client is made of.
+#[derive(Clone, Copy)]
+pub struct ClientSettings<'a> {
+    /// The version of the software (RFC 4253 section 4.2).
+    pub software: &'a [u8],
+    /// After so many packets sent under the keys of one exchange the next one is due: 64 to 2^31.
+    pub epoch_limit: u32,
+    /// The encryptions.
+    pub ciphers: Ciphers,
+    /// The 32 bytes of the public key of the host.
+    pub host: [u8; 32],
+    /// The key pair of the user, where there is one.
+    pub user: Option<Ed25519Signer>,
+}
+
+impl ClientSettings<'_> {
+    // The config of a client, to which tries and methods mean nothing.
+    pub(crate) fn config(&self, alloc: Global) -> Result<Config<AesGcm>, ConfigError>
+        ensures { IfOk result (λ config. settings_of config ≡ settings_by self.now.software.now self.now.epoch_limit TRIES Methods.Both
+            self.now.ciphers) }
+    {
+        config(
+            alloc,
+            self.software,
+            self.epoch_limit,
+            TRIES,
+            Methods::Both,
+            self.ciphers,
+        )
+    }
+
+    // The public key of the user's key pair, as it goes over the wire.
+    pub(crate) fn key(&self) -> Option<[u8; 51]>
+        ensures { result ≡ option_map (λ signer. signer.key) self.now.user }
+    {
+        match &self.user {
+            Some(signer) => Some(*signer.public_key()),
+            None => None,
+        }
+    }
+}
+
+/// Why no end is made, and why a user is none.
+#[derive(Clone, Copy, Debug, PartialEq, Eq)]
+pub enum MakeError {
+    /// Memory was refused.
+    Memory,
+    /// A setting is not one.
+    Settings(ConfigRefusal),
+    /// A public key is a point of small order, under which anyone can sign.
+    Key,
+    /// A user has no name, or an empty password.
+    Login,
+}
+
+impl From<AllocError> for MakeError {
+    ghost from_gives = { λ _ error. error ≡ make_error.Memory };
+
+    fn from(_error: AllocError) -> MakeError {
+        MakeError::Memory
+    }
+}
+
+impl From<ConfigError> for MakeError {
+    fn from(error: ConfigError) -> MakeError {
+        match error {
+            ConfigError::Memory => MakeError::Memory,
+            ConfigError::Refused(why) => MakeError::Settings(why),
+        }
+    }
+}
+
+// The config of either end: AES-GCM, X25519, Ed25519 and strict key exchange, required.
+fn config(
+    alloc: Global,
+    software: &[u8],
+    epoch_limit: u32,
+    tries: u32,
+    methods: Methods,
+    ciphers: Ciphers,
+) -> Result<Config<AesGcm>, ConfigError>
+    ensures given { IfOk result (λ config. given_of config ≡ given_by software.now epoch_limit tries methods ciphers) }
+    ensures settings { IfOk result (λ config. settings_of config ≡ settings_by software.now epoch_limit tries methods ciphers) }
+{
+    let settings = GcmSettings {
+        epoch_limit,
+        tries,
+        methods: methods.names(),
+        ..GcmSettings::new(software)
+    }
+    .settings();
+    Config::new(
+        alloc,
+        &Settings {
+            encryption: ciphers.names(false),
+            ..settings
+        },
+    )
+}

@@ -1,0 +1,329 @@
+//! An end of either role, with what a program keeps besides it.
+
+ghost use Rattle.std.specs.Prelude.{◌≡◌, ◌<◌, ◌≤◌, ◌++◌, ◌∷◌, ◌||◌, cond, IfErr, IfOk, IfSome, List, None, OnErr, OnOk, [], drop};
+ghost use Rattle.std.specs.Prelude.{false, length, nat_le, true, ℕ};
+ghost use Rattle.std.specs.VecDeque.{deque_len};
+ghost use Rattle.divrelca_c.specs.Embedded.Asked.{AreNoted, is_asked_among, is_noted};
+ghost use Rattle.divrelca_c.specs.Embedded.Forms.{IsAsked, form_asks};
+ghost use Rattle.divrelca_c.specs.Embedded.Padding.{PadsOn};
+ghost use Rattle.divrelca_c.specs.Embedded.Queues.{IsMade, IsOldestMade, asked_by, is_early};
+ghost use Rattle.divrelca_c.specs.Embedded.Windows.{bytes_in};
+ghost use Rattle.ssh_end.specs.Asking.{AreAskChannels, Asks, Fails, OnAnswered, ask_of};
+ghost use Rattle.ssh_end.specs.Calls.{Advances, outs_of};
+ghost use Rattle.ssh_end.specs.Ends.{EndLacks, IsFault, sending_from, sending_to};
+ghost use Rattle.ssh_end.specs.Reading.{SameReading};
+ghost use Rattle.ssh_end.specs.Stands.{FailedTo, FeedsTo, PerformedTo, StandsAt};
+ghost use Rattle.ssh_end.specs.Steps.{Shows, shown_by};
+ghost use Rattle.ssh_end.specs.Turn.{TurnShows, channels_in, payloads_in};
+ghost use Rattle.ssh_end.specs.declared.step.Step.{Step};
+ghost use Rattle.ssh_model.specs.State.Channels.Places.{at, shown_room};
+ghost use Rattle.ssh_model.specs.Protocol.Sessions.Items.{Item};
+ghost use Rattle.ssh_model.specs.Protocol.Sessions.Parties.{Parties};
+ghost use Rattle.ssh_model.specs.State.TransportLayer.Kept.{after_fed, can_be_fed};
+ghost use Rattle.ssh_transport_machine.specs.Padding.{PadsTo};
+
+use crate::embedded::ask_form::{AskForm, FormFault};
+use crate::embedded::flows::Flows;
+use crate::embedded::noted::Noted;
+use crate::embedded::waiting::Waiting;
+use ssh_end::{Ask, AskStep, End, EndRole, Fault, Turn};
+use ssh_packet::{Filler, Sealing};
+use ssh_transport::Role;
+use ssh_types::AskRefusal;
+use std::alloc::{AllocError, Global};
+use std::collections::VecDeque;
+use std::mem::replace;
+
+/// An end, with the bytes for its peer that are not written yet, the asks that wait, and the account of its channels' windows.
+pub struct Embedded<R: EndRole> {
+    /// The end.
+    pub end: End<R>,
+    /// What it put out and what is not written.
+    pub out: Vec<u8>,
+    // The public key that its user signs with, as it goes over the wire. A server has none.
+    pub(crate) key: Option<[u8; 51]>,
+    // The oldest first.
+    pub(crate) waiting: VecDeque<Waiting>,
+    pub(crate) flows: Flows,
+    // Whose key or password was asked for, and who was set. A client has nobody here.
+    pub(crate) noted: Noted,
+}
+
+impl<R: EndRole> Drop for Embedded<R> {
+    fn drop(self) {
+        let Embedded {
+            end: _,
+            out: _,
+            key: _,
+            waiting: _,
+            flows: _,
+            noted: _,
+        } = self;
+    }
+}
+
+impl<R: EndRole> Embedded<R> {
+    /// What `ssh_end::End::advance` does. What is put out goes after what waits, and the account of the channels' windows follows what is
+    /// told. Whose key or password a client asks for is noted, for `Server::set_user`.
+    ///
+    /// # Errors
+    ///
+    /// Those of `ssh_end::End::take`.
+    #[tactic(auto, using(crate::proofs::OfEmbedded::Asked::turn_noted, crate::proofs::OfEmbedded::Asked::turn_notes_only))]
+    pub fn advance(&mut self, bytes: &[u8]) -> Result<usize, Fault>
+        ensures used { IfOk result (λ used. used ≤ length bytes.now) }
+        ensures progress { IfOk result (λ used. self.old.end.machine.kept.dead ≡ false → 0 < length bytes.now → 0 < used) }
+        ensures advances { IfOk result (λ used. Advances R.EndRole R.Exchange.Role R.Exchange.Sealing.crypto self.old.end bytes.now used
+            self.old.out.items self.new.out.items self.new.end) }
+        ensures padded { OnOk result (PadsTo R.Exchange.Sealing.crypto R.Exchange.Filler.gives
+            (sending_from self.old.end self.old.out.items) (sending_to self.new.end self.new.out.items)) }
+        ensures failed { IfErr result (λ fault. IsFault self.old.end.machine fault self.new.end.machine) }
+        ensures lacks { IfErr result (λ fault. fault ≡ Fault.Memory → EndLacks R.EndRole R.Exchange.Role R.Exchange.Sealing.crypto
+            self.old.end bytes.now) }
+        ensures placed { IfErr result (λ fault. (p : Parties R.Exchange.Sealing.Key) (history : List Item) →
+            StandsAt R.EndRole R.Exchange.Role p history self.old.end →
+            FailedTo R.EndRole R.Exchange.Role p history self.old.end bytes.now fault self.new.end) }
+        ensures none { OnErr result (self.new.end.step ≡ Step.More) }
+        ensures out { OnErr result (self.new.out.items ≡ self.old.out.items) }
+        ensures noted { OnOk result ((items history : List Item) →
+            Shows (shown_by self.new.end.step self.new.end.machine) self.new.end.step items → AreNoted history self.old.noted →
+            AreNoted (items ++ history) self.new.noted) }
+        ensures noted_only { OnOk result ((items : List Item) →
+            Shows (shown_by self.new.end.step self.new.end.machine) self.new.end.step items → self.new.noted.all ≡ false → (user : List ℕ) →
+            is_noted user self.new.noted ≡ true → (is_noted user self.old.noted || is_asked_among user items) ≡ true) }
+        ensures unnoted { OnErr result (self.new.noted ≡ self.old.noted) }
+        ensures role { self.new.end.role ≡ self.old.end.role }
+        ensures key { self.new.key ≡ self.old.key }
+        ensures waiting { self.new.waiting ≡ self.old.waiting }
+    {
+        let used = self.end.advance(bytes, &mut self.out)?;
+        let turn = self.end.turn();
+        self.noted.hear(&turn);
+        if let Some(told) = turn.told {
+            self.flows.hear(&told);
+        }
+        Ok(used)
+    }
+
+    /// What was done in the last `advance`. After `perform`, `send` and `work` it shows that nothing was taken.
+    pub fn turn(&self) -> Turn<'_>
+        ensures shows { (items : List Item) → Shows (shown_by self.now.end.step self.now.end.machine) self.now.end.step items →
+            TurnShows result items }
+        ensures more { self.now.end.step ≡ Step.More → TurnShows result [] }
+        ensures used { result.used ≡ self.now.end.used }
+        ensures sent { payloads_in result.sent ≡ self.now.end.sent }
+        ensures channels { channels_in result.sent ≡ self.now.end.channels }
+    {
+        self.end.turn()
+    }
+
+    /// What `ssh_end::End::perform` does. What is put out goes after what waits, and the account of the channels' windows follows what is
+    /// done.
+    ///
+    /// # Errors
+    ///
+    /// Those of `ssh_end::End::ask`.
+    pub fn perform(&mut self, ask: &Ask<'_>) -> Result<AskStep, Fault>
+        ensures asks { Asks R.Exchange.Sealing.crypto (R.signing self.old.end.role) self.old.end.machine self.old.end.layers
+            (ask_of ask.now) result self.new.end.machine self.new.end.layers
+            (outs_of self.old.out.items self.new.out.items self.new.end.sent) }
+        ensures padded { OnAnswered result (PadsTo R.Exchange.Sealing.crypto R.Exchange.Filler.gives
+            (sending_from self.old.end self.old.out.items) (sending_to self.new.end self.new.out.items)) }
+        ensures reading { self.new.end.machine.kept.dead ≡ false → SameReading self.old.end.machine self.new.end.machine }
+        ensures step { self.new.end.step ≡ Step.More }
+        ensures channels { IfOk result (λ step. AreAskChannels (ask_of ask.now) step self.new.end.sent self.new.end.channels) }
+        ensures placed { (p : Parties R.Exchange.Sealing.Key) (history : List Item) →
+            StandsAt R.EndRole R.Exchange.Role p history self.old.end →
+            PerformedTo R.EndRole R.Exchange.Role p history self.old.end (ask_of ask.now) result self.old.out.items self.new.out.items
+            self.new.end }
+        ensures fails { IfErr result (λ fault. Fails self.old.end.machine fault self.new.end.machine) }
+        ensures out { OnErr result (self.new.out.items ≡ self.old.out.items) }
+        ensures role { self.new.end.role ≡ self.old.end.role }
+        ensures key { self.new.key ≡ self.old.key }
+        ensures waiting { self.new.waiting ≡ self.old.waiting }
+        ensures noted { self.new.noted ≡ self.old.noted }
+    {
+        let done = self.end.perform(ask, &mut self.out);
+        if let Ok(step) = done {
+            self.flows.note(ask, step);
+        }
+        done
+    }
+
+    /// Does what a form asks for.
+    ///
+    /// # Errors
+    ///
+    /// Those of `AskForm::ask`, and nothing changes. What is answered otherwise is that of `perform`.
+    pub fn ask(&mut self, form: &AskForm<'_>) -> Result<Result<AskStep, Fault>, FormFault>
+        ensures asked { IfOk result (λ done. IsAsked (form_asks form.now self.old.key)
+            (λ asked. Asks R.Exchange.Sealing.crypto (R.signing self.old.end.role) self.old.end.machine self.old.end.layers asked done
+            self.new.end.machine self.new.end.layers (outs_of self.old.out.items self.new.out.items self.new.end.sent))) }
+        ensures padded { IfOk result (λ done. OnAnswered done (PadsTo R.Exchange.Sealing.crypto R.Exchange.Filler.gives
+            (sending_from self.old.end self.old.out.items) (sending_to self.new.end self.new.out.items))) }
+        ensures none { OnErr result (form_asks form.now self.old.key ≡ None) }
+        ensures unchanged { OnErr result (self.new ≡ self.old) }
+        ensures key { self.new.key ≡ self.old.key }
+        ensures waiting { self.new.waiting ≡ self.old.waiting }
+        ensures noted { self.new.noted ≡ self.old.noted }
+    {
+        let key = self.key;
+        let ask = form.ask(&key)?;
+        Ok(self.perform(&ask))
+    }
+
+    /// Tests whether a form is an ask of this end.
+    ///
+    /// # Errors
+    ///
+    /// Those of `AskForm::ask`.
+    pub fn is_ask(&self, form: &AskForm<'_>) -> Result<(), FormFault>
+        ensures is { OnOk result (form_asks form.now self.now.key ≡ None → ⊥) }
+        ensures none { OnErr result (form_asks form.now self.now.key ≡ None) }
+    {
+        match form.ask(&self.key) {
+            Ok(_) => Ok(()),
+            Err(fault) => Err(fault),
+        }
+    }
+
+    /// What `ssh_end::End::feed_material` does.
+    pub fn feed(&mut self, cookie: [u8; 16], secret: [u8; 32]) -> bool
+        ensures fed { result ≡ can_be_fed self.old.end.machine.kept }
+        ensures kept { result ≡ true → self.new.end.machine ≡ record self.old.end.machine
+            { kept = after_fed cookie secret self.old.end.machine.kept } }
+        ensures rest { self.new.end ≡ record self.old.end { machine = self.new.end.machine } }
+        ensures unchanged { result ≡ false → self.new ≡ self.old }
+        ensures placed { (p : Parties R.Exchange.Sealing.Key) (history : List Item) →
+            StandsAt R.EndRole R.Exchange.Role p history self.old.end →
+            FeedsTo R.EndRole R.Exchange.Role p history cookie secret result self.new.end }
+        ensures same { self.new ≡ record self.old { end = self.new.end } }
+    {
+        self.end.feed_material(cookie, secret)
+    }
+
+    /// Tests whether an exchange of keys is due.
+    pub fn rekey_due(&self) -> bool
+        ensures { result ≡ nat_le self.now.end.machine.kept.settings.epoch_limit self.now.end.machine.kept.sending.count }
+    {
+        self.end.rekey_due()
+    }
+
+    /// Tests whether the end is over.
+    pub fn is_over(&self) -> bool
+        ensures { result ≡ self.now.end.machine.kept.dead }
+    {
+        self.end.is_dead()
+    }
+
+    /// How many bytes of data fit into the peer's window on a channel; none where the channel is not confirmed.
+    pub fn room(&self, channel: u32) -> u32
+        ensures { result ≡ bytes_in (shown_room (at self.now.end.layers.channels.places channel)) }
+    {
+        self.end.channels().room(channel).unwrap_or(0)
+    }
+
+    /// The bytes that wait to be written.
+    pub fn output(&self) -> &[u8]
+        ensures { result.now ≡ self.now.out.items }
+    {
+        self.out.as_slice()
+    }
+
+    /// So many of the bytes that wait were written.
+    pub fn written(&mut self, count: usize)
+        ensures out { self.new.out.items ≡ drop count self.old.out.items }
+        ensures same { self.new ≡ record self.old { out = self.new.out } }
+    {
+        let count = count.min(self.out.len());
+        drop(self.out.drain(..count));
+    }
+
+    /// Puts an ask after those that wait.
+    ///
+    /// # Errors
+    ///
+    /// Only where memory is refused: nothing changes.
+    pub fn queue(&mut self, ask: Waiting) -> Result<(), AllocError>
+        ensures queued { OnOk result (self.new.waiting.items ≡ self.old.waiting.items ++ ask ∷ []) }
+        ensures kept { OnErr result (self.new.waiting.items ≡ self.old.waiting.items) }
+        ensures same { self.new ≡ record self.old { waiting = self.new.waiting } }
+    {
+        self.waiting.push_back(ask).map_err(|_| AllocError)
+    }
+
+    /// How many asks wait.
+    pub fn queued(&self) -> usize
+        ensures { result ≡ deque_len self.now.waiting }
+    {
+        self.waiting.len()
+    }
+
+    /// Makes the oldest ask that waits. Where it comes too early (`is_later`) it stays where it is; otherwise it waits no longer. `None`
+    /// where none waits.
+    ///
+    /// # Errors
+    ///
+    /// Those of `perform`.
+    #[tactic(auto, using(crate::proofs::OfEmbedded::Oldest::oldest_made))]
+    pub fn work(&mut self, alloc: Global) -> Option<Result<AskStep, Fault>>
+        ensures none { result ≡ None → self.old.waiting.items ≡ [] }
+        ensures unchanged { result ≡ None → self.new ≡ self.old }
+        ensures made { IfSome result (λ done. IsOldestMade self.old.waiting.items self.old.key (λ asked.
+            Asks R.Exchange.Sealing.crypto (R.signing self.old.end.role) self.old.end.machine self.old.end.layers asked done
+            self.new.end.machine self.new.end.layers (outs_of self.old.out.items self.new.out.items self.new.end.sent))) }
+        ensures padded { IfSome result (λ done. OnOk done (PadsTo R.Exchange.Sealing.crypto R.Exchange.Filler.gives
+            (sending_from self.old.end self.old.out.items) (sending_to self.new.end self.new.out.items))) }
+        ensures chains { IfSome result (λ done. OnAnswered done (PadsOn R.Exchange.Sealing.crypto R.Exchange.Filler.gives
+            self.old.end self.old.out.items self.new.end self.new.out.items)) }
+        ensures waits { IfSome result (λ done. self.new.waiting.items ≡ cond (is_early done) self.old.waiting.items
+            (drop 1 self.old.waiting.items)) }
+        ensures key { self.new.key ≡ self.old.key }
+        ensures noted { self.new.noted ≡ self.old.noted }
+    {
+        let mut waiting = replace(&mut self.waiting, VecDeque::new(alloc));
+        let Some(front) = waiting.front() else {
+            self.waiting = waiting;
+            return None;
+        };
+        let done = self.make(front);
+        if !is_later(&done) {
+            waiting.pop_front();
+        }
+        self.waiting = waiting;
+        Some(done)
+    }
+
+    // Makes an ask that waits. Only asks are put there.
+    #[tactic(auto, using(crate::specs::Embedded::PaddingLaws::pads_on, crate::specs::Embedded::PaddingLaws::pads_on_none))]
+    fn make(&mut self, waiting: &Waiting) -> Result<AskStep, Fault>
+        ensures made { IsMade (asked_by waiting.now self.old.key) (λ asked. Asks R.Exchange.Sealing.crypto
+            (R.signing self.old.end.role) self.old.end.machine self.old.end.layers asked result self.new.end.machine self.new.end.layers
+            (outs_of self.old.out.items self.new.out.items self.new.end.sent)) }
+        ensures padded { OnOk result (PadsTo R.Exchange.Sealing.crypto R.Exchange.Filler.gives
+            (sending_from self.old.end self.old.out.items) (sending_to self.new.end self.new.out.items)) }
+        ensures chains { OnAnswered result (PadsOn R.Exchange.Sealing.crypto R.Exchange.Filler.gives
+            self.old.end self.old.out.items self.new.end self.new.out.items) }
+        ensures key { self.new.key ≡ self.old.key }
+        ensures waiting { self.new.waiting ≡ self.old.waiting }
+        ensures noted { self.new.noted ≡ self.old.noted }
+    {
+        match waiting {
+            Waiting::Form(kept) => match self.ask(&kept.form()) {
+                Ok(done) => done,
+                Err(_) => Err(Fault::Ask(AskRefusal::WrongSide)),
+            },
+            Waiting::Known(ask) => self.perform(ask),
+        }
+    }
+}
+
+/// Tests whether an ask came too early: keys are being exchanged or have to be, or what it needs is still to come.
+pub fn is_later(done: &Result<AskStep, Fault>) -> bool
+    ensures { result ≡ is_early done.now }
+{
+    matches!(
+        done,
+        Err(Fault::Ask(AskRefusal::NotYet | AskRefusal::Busy | AskRefusal::RekeyDue))
+    )
+}

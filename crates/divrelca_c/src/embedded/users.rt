@@ -1,0 +1,151 @@
+//! Whom a server lets in.
+
+ghost use Rattle.std.specs.Prelude.{◌≡◌, ◌++◌, Err, IfErr, IfOk, [], ◌∷◌, false, map, true};
+ghost use Rattle.std.specs.List.{list_all};
+ghost use Rattle.ssh_model.specs.Protocol.Wire.MacOnly.{is_text};
+ghost use Rattle.divrelca_c.specs.Embedded.Users.{entry_of, has_key, has_password, is_weak, verdicts_for};
+
+use crate::embedded::making::MakeError;
+use ciphers::ed25519::is_small_order;
+use divrelca::{AcceptedKey, Ed25519Judge, OneUser, PasswordHash};
+use ssh_auth::UserJudge;
+use std::alloc::Global;
+
+/// What lets one user in.
+#[derive(Clone, Copy)]
+pub enum Login {
+    /// A key of ssh-ed25519, by the 32 bytes of its public key.
+    Key([u8; 32]),
+    /// A password.
+    Password(PasswordHash),
+}
+
+/// One user and one thing that lets this user in.
+#[derive(Drop)]
+pub struct User {
+    pub name: Vec<u8>,
+    pub login: Login,
+}
+
+/// The users of a server. A user may stand here several times.
+#[derive(Drop)]
+pub struct Users {
+    pub list: Vec<User>,
+}
+
+impl Users {
+    /// No user.
+    pub fn new(alloc: Global) -> Users
+        ensures { result.list.items ≡ [] }
+    {
+        Users {
+            list: Vec::new(alloc),
+        }
+    }
+
+    /// One user more, who comes in by a key or by a password.
+    ///
+    /// # Errors
+    ///
+    /// - `Login`: the name has no bytes.
+    /// - `Key`: the key is a point of small order.
+    /// - `Memory`: memory was refused.
+    pub fn add(&mut self, alloc: Global, name: &[u8], login: Login) -> Result<(), MakeError>
+        ensures added { IfOk result (λ done.
+            map entry_of self.new.list.items ≡ map entry_of self.old.list.items ++ (name.now, login) ∷ []) }
+        ensures named { IfOk result (λ done. name.now ≡ [] → ⊥) }
+        ensures kept { IfErr result (λ error. self.new.list.items ≡ self.old.list.items) }
+        ensures nameless { name.now ≡ [] → result ≡ Err MakeError.Login }
+        ensures weak { (name.now ≡ [] → ⊥) → is_weak login ≡ true → result ≡ Err MakeError.Key }
+        ensures otherwise { (name.now ≡ [] → ⊥) → is_weak login ≡ false → IfErr result (λ error. error ≡ MakeError.Memory) }
+    {
+        if name.is_empty() {
+            return Err(MakeError::Login);
+        }
+        if let Login::Key(public) = login
+            && is_small_order(&public)
+        {
+            return Err(MakeError::Key);
+        }
+        let mut owned = Vec::new(alloc);
+        owned.extend_from_slice(name)?;
+        self.list
+            .push(User { name: owned, login })
+            .map_err(|_| MakeError::Memory)
+    }
+
+    /// Tests whether every entry has this name.
+    pub fn are_of(&self, name: &[u8]) -> bool
+        ensures { result ≡ list_all (λ user. is_text user.name.items name.now) self.now.list.items }
+    {
+        self.list.iter().all(|user| is_named(user, name))
+    }
+}
+
+impl UserJudge for Users {
+    ghost verdicts = { λ users. verdicts_for users.list.items };
+
+    fn none(&self, _user: &[u8]) -> bool {
+        false
+    }
+
+    fn password(&self, user: &[u8], word: &[u8]) -> bool {
+        self.list
+            .iter()
+            .any(|entry| has_password(entry, user, word))
+    }
+
+    fn key_known(&self, user: &[u8], algorithm: &[u8], key: &[u8]) -> bool {
+        self.list
+            .iter()
+            .any(|entry| has_key(entry, user, algorithm, key))
+    }
+
+    fn signature(&self, algorithm: &[u8], key: &[u8], text: &[u8], signature: &[u8]) -> bool {
+        let judge = Ed25519Judge { accepted: &[] };
+        judge.signature(algorithm, key, text, signature)
+    }
+}
+
+// Whether the entry has this name.
+fn is_named(user: &User, name: &[u8]) -> bool
+    ensures { result ≡ is_text user.now.name.items name.now }
+{
+    user.name.as_slice() == name
+}
+
+// Whether the word is the password of this entry, which is the user's.
+fn has_password(entry: &User, user: &[u8], word: &[u8]) -> bool
+    ensures { result ≡ has_password user.now word.now entry.now }
+{
+    match entry.login {
+        Login::Password(hash) => {
+            let one = OneUser {
+                name: entry.name.as_slice(),
+                keys: &[],
+                password: Some(hash),
+            };
+            one.password(user, word)
+        }
+        Login::Key(_) => false,
+    }
+}
+
+// Whether the key is that of this entry, which is the user's.
+fn has_key(entry: &User, user: &[u8], algorithm: &[u8], key: &[u8]) -> bool
+    ensures { result ≡ has_key user.now algorithm.now key.now entry.now }
+{
+    match entry.login {
+        Login::Key(public) => {
+            let accepted = [AcceptedKey {
+                user: entry.name.as_slice(),
+                public,
+            }];
+            let judge = Ed25519Judge {
+                accepted: accepted.as_slice(),
+            };
+            judge.key_known(user, algorithm, key)
+        }
+        Login::Password(_) => false,
+    }
+}

@@ -1,3 +1,0 @@
-mod Asked
-mod NewEnds
-mod Oldest
