@@ -1,0 +1,41 @@
+-- The names that the proofs of both roles cite, passed on from one place. Declares nothing.
+pub use Rattle.ssh_model.specs.Laws.Sizes.{HasPayloadSize}
+pub use Rattle.ssh_model.specs.Protocol.Channels.Connection.{AreReplies, owed_replies}
+pub use Rattle.ssh_model.specs.Protocol.KeyExchange.Choice.{Chosen}
+pub use Rattle.ssh_model.specs.Protocol.KeyExchange.Exchange.{exchange_hash}
+pub use Rattle.ssh_model.specs.Protocol.Sessions.Items.{Item, Item.Died, Item.Refused, Spelled.SpelledBy}
+pub use Rattle.ssh_model.specs.Protocol.Sessions.Parties.{Agreement, Parties, agreement_of}
+pub use Rattle.ssh_model.specs.Protocol.Sessions.Phases.{Phase}
+pub use Rattle.ssh_model.specs.Protocol.Sessions.Refusals.{Check.RefusedWhere, first_refusal, refusal_name}
+pub use Rattle.ssh_model.specs.Protocol.Sessions.TurnClaims.{HasSpelling}
+pub use Rattle.ssh_model.specs.Protocol.Sessions.Turns.{AreSpelled}
+pub use Rattle.ssh_model.specs.Protocol.Side.{peer}
+pub use Rattle.ssh_model.specs.Protocol.Wire.DataTypes.{number}
+pub use Rattle.ssh_model.specs.Protocol.Wire.Message.{IsPayload, IsWrittenPayload, Msg, Msg.Disconnect, Msg.KexEcdhReply, Msg.NewKeys}
+pub use Rattle.ssh_model.specs.Protocol.Wire.Sealing.{Crypto}
+pub use Rattle.ssh_model.specs.State.TransportLayer.Directions.{Direction}
+pub use Rattle.ssh_model.specs.State.TransportLayer.Kept.{Completes, ExchangeParts, IsChosen, Transport, after_completion, after_sent, after_taken, is_good_point, message_checks, own_point, shared_value, shared_with, takes}
+pub use Rattle.ssh_model.specs.State.TransportLayer.Summary.{SumsUp, items_sent, parts_of}
+pub use Rattle.ssh_model.specs.State.TransportLayer.Turns.{PutsPackets, Reads, Turned}
+pub use Rattle.ssh_model.specs.declared.refusal.Refusal.TheVariants.{BadPoint, NumberSpent}
+pub use Rattle.ssh_model.specs.declared.side.Side.{Side}
+pub use Rattle.ssh_packet.specs.Directions.{newkeys}
+pub use Rattle.ssh_kex.specs.Values.{owned_chosen}
+pub use Rattle.ssh_transport_machine.specs.Choices.{IsChoosing}
+pub use Rattle.ssh_transport_machine.specs.Endings.{ExchangeEnds, IsRead, PayloadRefused}
+pub use Rattle.ssh_transport_machine.specs.Finishing.{AreKeys, HasAnnouncement, IsAnnouncement, after_announced, announced_by, forgotten, key_by, keyed, session_by}
+pub use Rattle.ssh_transport_machine.specs.Hashing.{inputs_in}
+pub use Rattle.ssh_transport_machine.specs.Judging.{MessageJudged, PayloadJudged}
+pub use Rattle.ssh_transport_machine.specs.Puts.{Outs}
+pub use Rattle.ssh_transport_machine.specs.Sessions.{WouldEnd}
+pub use Rattle.ssh_transport_machine.specs.Shown.{WouldAnswer, WouldSay}
+pub use Rattle.ssh_transport_machine.specs.Standing.{IsStanding}
+pub use Rattle.ssh_transport_machine.specs.State.{IsKeptLive, IsLive, State, awaits_exchange, before_taken}
+pub use Rattle.ssh_transport_machine.specs.declared.machine.own.Own.{Own}
+pub use Rattle.ssh_transport_machine.specs.declared.outcome.TransportTurn.{TransportTurn}
+pub use Rattle.ssh_transport.proofs.Becoming.{Became, completed_by}
+pub use Rattle.ssh_transport.proofs.Endings.{Choices, Ended, EndsBy, RefusedLaw, SpentLaw, all_spelled, chosen_before, ended_by, refused_by, spent_by, would_end_by}
+pub use Rattle.ssh_transport.proofs.Exchanging.{Forgets, Numbered, announces, lines_same, newkeys_spelled, side_same, still_by, taking_same}
+pub use Rattle.ssh_transport.proofs.LiftsAt.{LiftsAt, lifts_each, lifts_ending, lifts_nothing}
+pub use Rattle.ssh_transport.specs.Laws.{EndsExchange, KeepsSide, RefusesFor, RunsOut, StaysLive, StopsChoosing}
+pub use Rattle.ssh_transport.specs.Roles.{IsCompleted, Lifts, OwnTurn, OwnWould}
