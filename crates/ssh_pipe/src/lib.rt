@@ -3,7 +3,8 @@
 //!
 //! `Server` and `Client` are `Machine`s, which go from bytes to bytes, and `pump` lets one go on between a reader and a writer. What they
 //! decide by themselves stands in `divrelca`, and what they tell in the module `log`; everything else that they do is to hand on.
-//! `ssh_pipe_program` makes them from the words of a command line.
+//! `ClientFiles` is a client whose command has files, and `ShownFiles` shows how far it is. `ssh_pipe_program` makes them from the words of a
+//! command line.
 //!
 //! ```rust
 //! let mut out = Vec::new(alloc);
@@ -15,6 +16,7 @@
 mod agenda;
 mod builtin;
 mod client;
+mod client_files;
 mod ending;
 mod error;
 mod flow;
@@ -22,13 +24,16 @@ pub mod log;
 mod login;
 mod machine;
 mod parts;
+mod progress;
 mod server;
 mod session;
+mod sink;
 mod start;
 mod station;
 mod texts;
 
 pub use client::{Client, ClientSession, Request, RequestKind};
+pub use client_files::{ClientFiles, CommandFiles};
 pub use divrelca::{
     Ciphers, EPOCH_LIMIT, LEAST_WINDOW, MOST_WINDOW, OneUser, PasswordHash, Policy, UserKey,
 };
@@ -36,5 +41,7 @@ pub use ending::Ending;
 pub use error::PipeError;
 pub use login::Login;
 pub use machine::{Machine, pump};
+pub use progress::ShownFiles;
 pub use server::Server;
+pub use sink::Sink;
 pub use texts::{MOST_COMMAND_BYTES, string_of};

@@ -5,11 +5,8 @@
 //! files that they name. What went wrong is told in a line, and a `Status` is the exit status of it.
 #![tactic(auto)]
 
-mod client_files;
 mod command_line;
-mod progress;
 mod running;
-mod sink;
 mod status;
 
 use command_line::{Call, call_of};

@@ -3,17 +3,15 @@
 mod error;
 mod inputs;
 
-use crate::client_files::{ClientFiles, CommandFiles};
 use crate::command_line::{ClientOptions, ServerOptions, UsageFault};
-use crate::progress::ShownFiles;
 use crate::status::Status;
 use divrelca::key_files::PrivateKey;
 use divrelca::{AcceptedKey, Ed25519Signer, Ed25519Trust, KIT, VERSION};
 pub use error::RunError;
 use inputs::{accepted_keys, opened, password_in, private_key_in, sink, trusted_key_in};
 use ssh_pipe::{
-    Client, ClientSession, Ending, Login, OneUser, PasswordHash, PipeError, Request, Server,
-    UserKey, pump, string_of,
+    Client, ClientFiles, ClientSession, CommandFiles, Ending, Login, OneUser, PasswordHash,
+    PipeError, Request, Server, ShownFiles, UserKey, pump, string_of,
 };
 use std::alloc::Global;
 use std::fmt::Display;

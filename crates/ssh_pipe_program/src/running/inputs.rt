@@ -1,11 +1,11 @@
 //! The files that the options name.
 
 use super::error::RunError;
-use crate::sink::Sink;
 use divrelca::key_files::{
     Expected, FileFault, PrivateKey, authorized_keys, password, private_key, trusted_key,
 };
 use divrelca::{AcceptedKey, Ed25519Trust};
+use ssh_pipe::Sink;
 use std::fs;
 use std::io::{Read, Write};
 use std::os::unix::fs::PermissionsExt;

@@ -1,7 +1,10 @@
 //! A client whose command has files for its input and output.
 
+use crate::client::Client;
+use crate::ending::Ending;
+use crate::error::PipeError;
+use crate::machine::Machine;
 use crate::sink::Sink;
-use ssh_pipe::{Client, Ending, Machine, PipeError};
 use std::alloc::{AllocError, Global};
 use std::io::{ErrorKind, Read, Write};
 use std::random::RandomSource;

@@ -1,7 +1,9 @@
 //! How far a transfer is, shown on a terminal.
 
 use crate::client_files::ClientFiles;
-use ssh_pipe::{Ending, Machine, PipeError};
+use crate::ending::Ending;
+use crate::error::PipeError;
+use crate::machine::Machine;
 use std::io::{Read, Write};
 use std::random::RandomSource;
 
