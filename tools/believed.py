@@ -18,7 +18,7 @@ ENUM = re.compile(r"^///(?:(?!^pub ).*\n)+?pub enum \w+ \{\n(?:.*\n)*?\}$", re.M
 
 ANY_PEER = ["ssh_model/specs/Protocol/Sessions/AnyPeer.antt"]
 TWO_ENDS = ["ssh_model/specs/Protocol/Sessions/Claims.antt", "ssh_model/specs/Protocol/Sessions/Honest.antt", "ssh_model/specs/Protocol/Sessions/Events.antt"]
-TRANSCRIPT = ["ssh_pair/specs/Playing.antt", "ssh_pair/specs/Items.antt", "ssh_pair/specs/Noting.antt"]
+TRANSCRIPT = ["ssh_end/specs/TwoEnds/Playing.antt", "ssh_end/specs/TwoEnds/Items.antt", "ssh_end/specs/TwoEnds/Noting.antt"]
 # What these use to say which ask is which.
 ASKS = ["ssh_end/specs/Asking.antt"]
 
@@ -34,7 +34,7 @@ Lines are those with a definition or a comment. Empty lines and lines that begin
 LAST = """
 ## What needs no reading
 
-- **That a pair stands at a place of a run** (`PairStands`, `crates/ssh_pair/specs/Standing.antt`, and all that it uses). `Pair::new` establishes it and `Pair::play` and
+- **That a pair stands at a place of a run** (`PairStands`, `crates/ssh_end/specs/TwoEnds/Standing.antt`, and all that it uses). `Pair::new` establishes it and `Pair::play` and
   `Pair::feed` keep it; nothing is assumed of it. If it meant less than it seems to, the claims about what was noted and put out would stand all the same.
 - The specs of all crates between the model and the pair: what a state of their code means is used in proofs alone.
 - In `crates/ssh_model/specs/`, all outside of `Protocol/`: `State/` says how code keeps to the rules without a history, `Laws/` what code uses of them, `OneEpoch/` and

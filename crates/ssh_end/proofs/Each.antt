@@ -192,6 +192,14 @@ no_ok P r x e = subst (λ (z : Result _ _). IfOk z P) (sym e) tt
 pub an_ok : {A E : Type 0} (P : A → Type 0) (r : Result A E) (a : A) → r ≡ Ok a → P a → IfOk r P
 an_ok P r a e y = subst (λ (z : Result _ _). IfOk z P) (sym e) y
 
+pub err_by : {A E : Type 0} {P Q : E → Type 0} (r : Result A E) → IfErr r P → ((x : E) → P x → Q x) → IfErr r Q
+err_by (Ok a) given f = tt
+err_by (Err x) given f = f x given
+
+pub ok_by : {A E : Type 0} {P Q : A → Type 0} (r : Result A E) → IfOk r P → ((a : A) → P a → Q a) → IfOk r Q
+ok_by (Ok a) given f = f a given
+ok_by (Err x) given f = tt
+
 -- ---- checks
 
 pub passes : (b : Bool) (why : Refusal) (l : List (Check Refusal)) → b ≡ true → first_refusal (RefusedWhere (not b) why ∷ l) ≡ first_refusal l

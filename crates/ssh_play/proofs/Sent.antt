@@ -1,7 +1,7 @@
 -- The payloads of one end, item by item.
 use Rattle.std.proofs.Common.{◌≡◌, ℕ, suc, zero, ◌+◌, ◌<◌, List, [], ◌∷◌, ◌++◌, length, drop, get_or, cond, Bor, true, sym, ◌∙◌, ap, refl, arith, append_assoc, add-one}
 use Rattle.ssh_model.specs.declared.side.Side.{Side}
-use Rattle.ssh_pair.specs.declared.item.Done.{Done}
+use Rattle.ssh_end.specs.declared.item.Done.{Done}
 use Rattle.ssh_play.specs.declared.safety.Way.{Way}
 use Rattle.ssh_play.specs.Prefixes.{payloads_in}
 use Rattle.ssh_play.specs.Runs.{is_side, payload_in, went}

@@ -4,9 +4,9 @@ use Rattle.ssh_model.specs.Protocol.Lists.{Begins}
 use Rattle.ssh_model.specs.Protocol.Side.{peer}
 use Rattle.ssh_model.specs.declared.side.Side.{Side}
 use Rattle.ssh_model.specs.declared.side.Side.TheVariants.{Client, Server}
-use Rattle.ssh_pair.specs.declared.item.Done.{Done}
-use Rattle.ssh_pair.specs.declared.item.Item.{Item}
-use Rattle.ssh_pair.specs.declared.item.Item.TheVariants as item
+use Rattle.ssh_end.specs.declared.item.Done.{Done}
+use Rattle.ssh_end.specs.declared.item.Item.{Item}
+use Rattle.ssh_end.specs.declared.item.Item.TheVariants as item
 use Rattle.ssh_play.specs.declared.safety.Way.{Way}
 use Rattle.ssh_play.specs.declared.safety.Way.TheVariants as way
 use Rattle.ssh_play.specs.Prefixes.{behind_first}

@@ -8,7 +8,7 @@ use crate::alteration::Alteration;
 use crate::player::Player;
 use crate::safety::is_safe;
 use crate::standard::Standard;
-use ssh_pair::Done;
+use ssh_end::Done;
 use ssh_script::{Line, RunFault, ScriptFault, SessionScript, Shortage, Step};
 use ssh_types::Side;
 use std::alloc::{AllocError, Global};

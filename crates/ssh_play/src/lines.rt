@@ -1,7 +1,7 @@
 //! The lines of a transcript, one for each thing that an end did.
 
+use ssh_end::{AskKind, Done, Fact, Item};
 use ssh_message::{Message, decode, name};
-use ssh_pair::{AskKind, Done, Fact, Item};
 use ssh_types::Side;
 use std::alloc::AllocError;
 

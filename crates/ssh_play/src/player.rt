@@ -4,7 +4,7 @@ use crate::alteration::Alteration;
 use crate::draw::Drawing;
 use crate::standard::{Standard, ToyPair};
 use crate::watching::{lines_of, origin_of};
-use ssh_pair::{Done, Event, Transcript};
+use ssh_end::{Done, Event, Transcript};
 use ssh_script::{Delivery, Network, Parcel, RunFault, ScriptFault, Shortage, Step};
 use ssh_types::Side;
 use std::alloc::{AllocError, Global};

@@ -3,7 +3,7 @@
 use crate::lines::write_items;
 use crate::player::Player;
 use crate::standard::Standard;
-use ssh_pair::{Done, Item};
+use ssh_end::{Done, Item};
 use ssh_script::{ScriptFault, SessionScript, Shortage};
 use std::alloc::{AllocError, Global};
 

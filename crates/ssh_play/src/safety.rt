@@ -6,7 +6,7 @@ ghost use Rattle.ssh_play.specs.Prefixes.{begins, behind_first, has_newkeys, pay
 ghost use Rattle.ssh_play.specs.Runs.{IsSafe, TakesWhatIsSent, is_side, payload_in, went};
 ghost use Rattle.ssh_play.specs.declared.safety.Way.TheVariants.{Sent, Taken};
 
-use ssh_pair::{Done, Item};
+use ssh_end::{Done, Item};
 use ssh_types::Side;
 use std::alloc::{AllocError, Global};
 

@@ -1,8 +1,8 @@
 //! The ends of a script: toy parts, and the settings that each script begins from.
 
+use ssh_end::{EndValues, Pair, Transcript};
 use ssh_message::Extension;
 use ssh_packet::MacOnly;
-use ssh_pair::{EndValues, Pair, Transcript};
 use ssh_script::{Credential, EndSetup, ScriptFault, Setup};
 use ssh_toys::{
     CLIENT_COOKIE, CLIENT_SECRET, SERVER_COOKIE, SERVER_SECRET, ToyClient, ToyCredential, ToyJudge,

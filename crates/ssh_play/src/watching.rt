@@ -4,7 +4,7 @@ use crate::draw::{Drawing, Origin};
 use crate::lines::write_items;
 use crate::player::Player;
 use crate::standard::Standard;
-use ssh_pair::Done;
+use ssh_end::Done;
 use ssh_script::{Delivery, ScriptFault, SessionScript, Shortage};
 use ssh_types::Side;
 use std::alloc::{AllocError, Global};

@@ -10,7 +10,7 @@ mod bytes;
 
 use crate::status::Status;
 use bytes::sent_bytes;
-use ssh_pair::{Done, Item};
+use ssh_end::{Done, Item};
 use ssh_play::{Course, play_through};
 use ssh_script::{Script, ScriptFault, SessionScript};
 use ssh_types::Side;

@@ -152,7 +152,10 @@ impl Layers {
             return Err(LayerFault::Refused(Refusal::Unexpected));
         }
         match decode(self.authentication.probing(), payload) {
-            Ok(message) => self.answer(judge, below, payload, message),
+            Ok(message) => match self.answer(judge, below, payload, &message) {
+                Ok(answer) => Ok(LayerTaken { message, answer }),
+                Err(fault) => Err(fault),
+            },
             Err(_) => Err(LayerFault::Refused(Refusal::BadMessage)),
         }
     }
@@ -163,28 +166,24 @@ impl Layers {
         judge: &J,
         below: &Below<'_>,
         payload: &'a [u8],
-        message: Message<'a>,
-    ) -> Result<LayerTaken<'a>, LayerFault>
+        message: &Message<'a>,
+    ) -> Result<LayerAnswer<'a>, LayerFault>
         requires above { 50 ≤ number_of payload.now }
-        requires number { message_number (meaning message) ≡ number_of payload.now }
+        requires number { message_number (meaning message.now) ≡ number_of payload.now }
         requires takes { takes (beneath_of below.now) self.old (number_of payload.now) ≡ true }
-        requires read { IsPayload (probes self.old.authentication) (meaning message) payload.now }
-        requires fits { Fits message }
-        ensures taken { IfOk result (λ taken. LayersTake (J.verdicts judge.now) (beneath_of below.now)
-            self.old (meaning taken.message) payload.now taken.answer self.new) }
-        ensures fits { IfOk result (λ taken. Fits taken.message) }
-        ensures short { IfOk result (λ taken. IsShort taken.answer) }
+        requires read { IsPayload (probes self.old.authentication) (meaning message.now) payload.now }
+        requires fits { Fits message.now }
+        ensures taken { IfOk result (λ given. LayersTake (J.verdicts judge.now) (beneath_of below.now)
+            self.old (meaning message.now) payload.now given self.new) }
+        ensures short { IfOk result (λ given. IsShort given) }
         ensures failed { IfErr result (λ fault. LayersFail (J.verdicts judge.now) (beneath_of below.now)
             self.old payload.now fault) }
         ensures kept { OnErr result (self.new ≡ self.old) }
     {
-        match layer_of(&message) {
+        match layer_of(message) {
             Layer::Authentication => self.authenticate(judge, below, payload, message),
             Layer::Channels => self.carry(judge, below, payload, message),
-            Layer::Nobody => Ok(LayerTaken {
-                message,
-                answer: LayerAnswer::Unknown,
-            }),
+            Layer::Nobody => Ok(LayerAnswer::Unknown),
         }
     }
 
@@ -194,25 +193,21 @@ impl Layers {
         judge: &J,
         below: &Below<'_>,
         payload: &'a [u8],
-        message: Message<'a>,
-    ) -> Result<LayerTaken<'a>, LayerFault>
-        requires number { message_number (meaning message) ≡ number_of payload.now }
+        message: &Message<'a>,
+    ) -> Result<LayerAnswer<'a>, LayerFault>
+        requires number { message_number (meaning message.now) ≡ number_of payload.now }
         requires takes { takes (beneath_of below.now) self.old (number_of payload.now) ≡ true }
-        requires read { IsPayload (probes self.old.authentication) (meaning message) payload.now }
-        requires fits { Fits message }
-        requires here { layer_for (meaning message) ≡ Layer.Authentication }
-        ensures taken { IfOk result (λ taken. LayersTake (J.verdicts judge.now) (beneath_of below.now)
-            self.old (meaning taken.message) payload.now taken.answer self.new) }
-        ensures fits { IfOk result (λ taken. Fits taken.message) }
-        ensures short { IfOk result (λ taken. IsShort taken.answer) }
+        requires read { IsPayload (probes self.old.authentication) (meaning message.now) payload.now }
+        requires fits { Fits message.now }
+        requires here { layer_for (meaning message.now) ≡ Layer.Authentication }
+        ensures taken { IfOk result (λ given. LayersTake (J.verdicts judge.now) (beneath_of below.now)
+            self.old (meaning message.now) payload.now given self.new) }
+        ensures short { IfOk result (λ given. IsShort given) }
         ensures failed { IfErr result (λ fault. LayersFail (J.verdicts judge.now) (beneath_of below.now)
             self.old payload.now fault) }
         ensures kept { OnErr result (self.new ≡ self.old) }
     {
-        match self.authentication.take(judge, below.session, &message) {
-            Ok(answer) => Ok(LayerTaken { message, answer }),
-            Err(fault) => Err(fault),
-        }
+        self.authentication.take(judge, below.session, message)
     }
 
     // Gives channels its message.
@@ -221,26 +216,22 @@ impl Layers {
         judge: &J,
         below: &Below<'_>,
         payload: &'a [u8],
-        message: Message<'a>,
-    ) -> Result<LayerTaken<'a>, LayerFault>
-        requires number { message_number (meaning message) ≡ number_of payload.now }
+        message: &Message<'a>,
+    ) -> Result<LayerAnswer<'a>, LayerFault>
+        requires number { message_number (meaning message.now) ≡ number_of payload.now }
         requires takes { takes (beneath_of below.now) self.old (number_of payload.now) ≡ true }
-        requires read { IsPayload (probes self.old.authentication) (meaning message) payload.now }
-        requires fits { Fits message }
-        requires here { layer_for (meaning message) ≡ Layer.Channels }
-        ensures taken { IfOk result (λ taken. LayersTake (J.verdicts judge.now) (beneath_of below.now)
-            self.old (meaning taken.message) payload.now taken.answer self.new) }
-        ensures fits { IfOk result (λ taken. Fits taken.message) }
-        ensures short { IfOk result (λ taken. IsShort taken.answer) }
+        requires read { IsPayload (probes self.old.authentication) (meaning message.now) payload.now }
+        requires fits { Fits message.now }
+        requires here { layer_for (meaning message.now) ≡ Layer.Channels }
+        ensures taken { IfOk result (λ given. LayersTake (J.verdicts judge.now) (beneath_of below.now)
+            self.old (meaning message.now) payload.now given self.new) }
+        ensures short { IfOk result (λ given. IsShort given) }
         ensures failed { IfErr result (λ fault. LayersFail (J.verdicts judge.now) (beneath_of below.now)
             self.old payload.now fault) }
         ensures kept { OnErr result (self.new ≡ self.old) }
     {
-        match self.channels.take(&message, below.blocked) {
-            Ok(answer) => Ok(LayerTaken {
-                message,
-                answer: LayerAnswer::Channels(answer),
-            }),
+        match self.channels.take(message, below.blocked) {
+            Ok(answer) => Ok(LayerAnswer::Channels(answer)),
             Err(error) => Err(LayerFault::from(error)),
         }
     }

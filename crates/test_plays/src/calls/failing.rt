@@ -1,8 +1,8 @@
 //! Pairs of ends that have failed for good once their transcript found no memory.
 
 use super::outcome::Outcome;
+use ssh_end::{EndValues, Event, Pair};
 use ssh_packet::MacOnly;
-use ssh_pair::{EndValues, Event, Pair};
 use ssh_toys::{
     CLIENT_COOKIE, CLIENT_SECRET, CREDENTIALS, SERVER_COOKIE, SERVER_SECRET, ToyClient, ToyJudge,
     ToyServer, ToyUserSigner, client_parts, config, server_parts, settings,

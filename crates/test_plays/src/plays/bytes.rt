@@ -1,6 +1,6 @@
 //! How many bytes an end put out, by what its transcript says that it sent.
 
-use ssh_pair::{Done, Item};
+use ssh_end::{Done, Item};
 use ssh_types::Side;
 
 // The number of NEWKEYS (RFC 4253 section 7.3).

@@ -1,0 +1,38 @@
+use Rattle.std.proofs.Common.{◌≡◌, false, refl, sym, ◌∙◌, subst}
+use Rattle.std.specs.Prelude.{OnErr}
+use Rattle.ssh_model.specs.Protocol.Side.{part}
+use Rattle.ssh_end.specs.Asking.{ask_of}
+use Rattle.ssh_end.specs.TwoEnds.Standing.{standing_of}
+use Rattle.ssh_end.proofs.TwoEnds.Going.{answers, over}
+use Rattle.ssh_end.proofs.TwoEnds.Noting.{on_ok}
+use Rattle.ssh_end.specs.TwoEnds.Noted.{NotesAsked}
+use Rattle.ssh_end.proofs.TwoEnds.Noted.{asked_alone}
+use Rattle.ssh_end.proofs.TwoEnds.Padding.{asks_padded, stays_padded}
+use Rattle.ssh_end.proofs.one_end.ask_end.Goals as goal
+
+pub returns-then-is_dead-clause-answers : goal.returns-then-is_dead-clause-answers
+returns-then-is_dead-clause-answers g c = λ p run s. over p g.R.Exchange.Role.SIDE run (standing_of g.R.EndRole c.args.end.now) (ask_of c.args.ask.now) c.args.log.now.items c.args.out.now.items s (sym c.is_dead.ensures ∙ c.if-is_dead.true)
+
+pub returns-clause-answers : goal.returns-clause-answers
+returns-clause-answers g c =
+    let alive : c.args.end.now.machine.kept.dead ≡ false = sym c.is_dead.ensures ∙ c.if-is_dead.false in
+    let side = g.R.Exchange.Role.SIDE in
+    on_ok c.note_ask.result (λ noted p run s.
+    answers p side run (standing_of g.R.EndRole c.args.end.now) (standing_of g.R.EndRole c.perform-done.new.self) s alive c.parts.ensures.here c.perform-done.ensures.reading (ask_of c.args.ask.now) c.args.log.now.items c.note_ask.new.log.items c.args.out.now.items c.perform-done.new.out.items
+    c.perform-done.new.self.sent _ c.turn.ensures.sent c.perform-done.new.self.channels _ c.turn.ensures.channels c.perform-done.result c.is_dead-is_over.result c.is_dead-is_over.ensures
+    (λ fault e. subst (λ r. OnErr r (c.perform-done.new.out.items ≡ c.args.out.now.items)) e c.perform-done.ensures.out)
+    (c.perform-done.ensures.placed p (part side run) s) c.perform-done.ensures.channels noted) (rw c.SIDE.ensures at c.note_ask.ensures.notes)
+
+pub returns-then-is_dead-clause-padded : goal.returns-then-is_dead-clause-padded
+returns-then-is_dead-clause-padded g c = stays_padded g.R.Exchange.Sealing.Sealing.crypto g.R.Exchange.Filler.Filler.gives g.R.Exchange.Role.SIDE c.args.end.now c.args.log.now.items c.args.log.now.items c.args.out.now.items refl
+
+pub returns-clause-padded : goal.returns-clause-padded
+returns-clause-padded g c =
+    let alive : c.args.end.now.machine.kept.dead ≡ false = sym c.is_dead.ensures ∙ c.if-is_dead.false in
+    on_ok c.note_ask.result (λ noted.
+    asks_padded g.R.Exchange.Sealing.Sealing.crypto g.R.Exchange.Filler.Filler.gives g.R.Exchange.Role.SIDE c.args.end.now c.args.log.now.items c.args.out.now.items c.perform-done.new.self c.note_ask.new.log.items c.perform-done.new.out.items
+    c.perform-done.result alive c.perform-done.ensures.padded c.perform-done.ensures.fails c.perform-done.ensures.out c.perform-done.ensures.unsent
+    (subst (λ l. NotesAsked g.R.Exchange.Role.SIDE c.perform-done.result l c.args.log.now.items c.note_ask.new.log.items) c.turn.ensures.sent noted)) (rw c.SIDE.ensures at c.note_ask.ensures.sent)
+
+pub returns-clause-alone : goal.returns-clause-alone
+returns-clause-alone g c = on_ok c.note_ask.result (λ noted. asked_alone g.R.Exchange.Role.SIDE c.perform-done.result _ c.args.log.now.items c.note_ask.new.log.items noted) (rw c.SIDE.ensures at c.note_ask.ensures.sent)

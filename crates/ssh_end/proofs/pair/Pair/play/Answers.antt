@@ -1,0 +1,61 @@
+use Rattle.std.proofs.Common.{List, [], take, take_all, refl, sym, ap, ◌∙◌, subst}
+use Rattle.std.proofs.lemmas.List.{take_more}
+use Rattle.ssh_model.specs.declared.side.Side.TheVariants.{Client, Server}
+use Rattle.ssh_end.specs.TwoEnds.Noted.{noted_sent}
+use Rattle.ssh_end.specs.TwoEnds.Padding.{PadsOn}
+use Rattle.ssh_end.specs.TwoEnds.Playing.{PlaysTo, events_of, output_in}
+use Rattle.ssh_end.specs.TwoEnds.Standing.{both}
+use Rattle.ssh_end.specs.declared.event.Event.{Event}
+use Rattle.ssh_end.specs.declared.item.Done.{Done}
+use Rattle.ssh_end.proofs.TwoEnds.Roles.{client_of, server_of}
+use Rattle.ssh_end.proofs.TwoEnds.Events.{played, plays_more, plays_none}
+use Rattle.ssh_end.proofs.TwoEnds.Padding.{padded_then, stays_padded}
+use Rattle.ssh_end.proofs.pair.Pair.play.Goals as goal
+
+pub loop-event-init : goal.loop-event-init
+loop-event-init g c =
+    let clients = client_of g.S.Sealing.crypto g.C.Agreement.Agreement.public_of g.C.Agreement.Agreement.shared_of g.C.HostTrust.HostTrust.judged g.U.UserSigner.signature_of in
+    let servers = server_of g.S.Sealing.crypto g.V.Agreement.Agreement.public_of g.V.Agreement.Agreement.shared_of g.V.HostSigner.HostSigner.key_of g.V.HostSigner.HostSigner.signature_of g.J.UserJudge.verdicts in
+    let pair = both clients servers c.args.self.now in
+    record {
+      fine = sym (ap (λ q. q.failed) c.self.view_is) ∙ c.if-self.false;
+      parts = record { client = refl; server = refl };
+      plays = λ p w s.
+          subst (λ (l : List Done). PlaysTo p w [] pair l (output_in c.new-transcript.result)) (sym c.new-transcript.ensures.items)
+          (subst (λ o. PlaysTo p w [] pair [] (record { client = o; server = c.new-transcript.result.server_bytes.items })) (sym c.new-transcript.ensures.client)
+          (subst (λ o. PlaysTo p w [] pair [] (record { client = []; server = o })) (sym c.new-transcript.ensures.server) (plays_none p w pair s)));
+      padded = record {
+        client = subst (λ o. PadsOn g.S.Sealing.crypto g.C.Filler.Filler.gives Client c.args.self.now.client [] [] c.args.self.now.client c.new-transcript.result.items.items o) (sym c.new-transcript.ensures.client)
+            (stays_padded g.S.Sealing.crypto g.C.Filler.Filler.gives Client c.args.self.now.client [] c.new-transcript.result.items.items [] (ap (noted_sent Client) c.new-transcript.ensures.items));
+        server = subst (λ o. PadsOn g.S.Sealing.crypto g.V.Filler.Filler.gives Server c.args.self.now.server [] [] c.args.self.now.server c.new-transcript.result.items.items o) (sym c.new-transcript.ensures.server)
+            (stays_padded g.S.Sealing.crypto g.V.Filler.Filler.gives Server c.args.self.now.server [] c.new-transcript.result.items.items [] (ap (noted_sent Server) c.new-transcript.ensures.items));
+      };
+    }
+
+pub loop-event-preserved : goal.loop-event-preserved
+loop-event-preserved g c =
+    let clients = client_of g.S.Sealing.crypto g.C.Agreement.Agreement.public_of g.C.Agreement.Agreement.shared_of g.C.HostTrust.HostTrust.judged g.U.UserSigner.signature_of in
+    let servers = server_of g.S.Sealing.crypto g.V.Agreement.Agreement.public_of g.V.Agreement.Agreement.shared_of g.V.HostSigner.HostSigner.key_of g.V.HostSigner.HostSigner.signature_of g.J.UserJudge.verdicts in
+    let pair = both clients servers c.play_one.new.self in
+    let was = c.loop-event.invariant.parts in
+    let now = c.play_one.ensures.parts in
+    record {
+      fine = c.play_one.ensures.failed ∙ c.loop-event.invariant.fine;
+      parts = record { client = now.client ∙ was.client; server = now.server ∙ was.server };
+      plays = λ p w s.
+          let x = c.loop-event.invariant.plays p w s in
+          subst (λ (es : List Event). PlaysTo p w (events_of es) pair c.play_one.new.transcript.items.items (output_in c.play_one.new.transcript)) (sym (take_more c.args.events.now c.loop-event.event-index _ c.loop-event-test.true))
+          (plays_more p w (take c.loop-event.event-index c.args.events.now) _ _ _ _ _ _ _ (λ w between next events event plays on. c.plays.ensures p w between next events event plays on) x (c.in-Ok.ensures.plays p x.next x.stands));
+      padded = record {
+        client = padded_then g.S.Sealing.crypto g.C.Filler.Filler.gives Client c.args.self.now.client [] [] c.loop-event.self.client c.loop-event.transcript.items.items c.loop-event.transcript.client_bytes.items c.play_one.new.self.client c.play_one.new.transcript.items.items c.play_one.new.transcript.client_bytes.items c.loop-event.invariant.padded.client c.in-Ok.ensures.padded.client;
+        server = padded_then g.S.Sealing.crypto g.V.Filler.Filler.gives Server c.args.self.now.server [] [] c.loop-event.self.server c.loop-event.transcript.items.items c.loop-event.transcript.server_bytes.items c.play_one.new.self.server c.play_one.new.transcript.items.items c.play_one.new.transcript.server_bytes.items c.loop-event.invariant.padded.server c.in-Ok.ensures.padded.server;
+      };
+    }
+
+pub returns-clause-plays : goal.returns-clause-plays
+returns-clause-plays g c = λ p w s.
+    let clients = client_of g.S.Sealing.crypto g.C.Agreement.Agreement.public_of g.C.Agreement.Agreement.shared_of g.C.HostTrust.HostTrust.judged g.U.UserSigner.signature_of in
+    let servers = server_of g.S.Sealing.crypto g.V.Agreement.Agreement.public_of g.V.Agreement.Agreement.shared_of g.V.HostSigner.HostSigner.key_of g.V.HostSigner.HostSigner.signature_of g.J.UserJudge.verdicts in
+    let pair = both clients servers c.loop-event.self in
+    played p w (events_of c.args.events.now) pair c.loop-event.transcript.items.items (output_in c.loop-event.transcript) (λ run lawful offer r honest. c.safety.ensures p lawful offer run r honest)
+    (subst (λ (es : List Event). PlaysTo p w (events_of es) pair c.loop-event.transcript.items.items (output_in c.loop-event.transcript)) (take_all c.loop-event.event-index c.args.events.now c.loop-event-test.false) (c.loop-event.invariant.plays p w s))

@@ -1,0 +1,218 @@
+-- What events make of a pair, as what they make of two ends of a session.
+use Rattle.std.specs.Prelude.{◌≡◌, ℕ, Bool, cond, List, [], ◌∷◌, ◌++◌}
+use Rattle.ssh_model.specs.declared.side.Side.{Side}
+use Rattle.ssh_model.specs.declared.side.Side.TheVariants.{Client, Server}
+use Rattle.ssh_model.specs.Protocol.Side.{done_by, part}
+use Rattle.ssh_model.specs.Protocol.Wire.Delivery.{Delivered}
+use Rattle.ssh_model.specs.Protocol.KeyExchange.Exchanges.{Material, fed}
+use Rattle.ssh_model.specs.Protocol.Sessions.Claims.{IsSafe}
+use Rattle.ssh_model.specs.Protocol.Sessions.Events as session
+use Rattle.ssh_model.specs.Protocol.Sessions.Events.{IsFirst, OnEvent, Plays, PutsOut, World, reading_of}
+use Rattle.ssh_model.specs.Protocol.Sessions.Honest.{IsHonest}
+use Rattle.ssh_model.specs.Protocol.Sessions.Items.{Ask, Done, Item, Item.Fed, has_died}
+use Rattle.ssh_model.specs.Protocol.Sessions.Parties.{AreLawful, BothOffer, Parties, Settings, settings_of}
+use Rattle.ssh_model.specs.Protocol.Sessions.Turns.{AsksTurn, can_feed}
+use Rattle.ssh_end.specs.Asking.{ask_of}
+use Rattle.ssh_end.specs.Ends.{EndValue}
+use Rattle.ssh_end.specs.Stands.{MadeAt}
+use Rattle.ssh_end.specs.declared.role.EndRole as role
+use Rattle.ssh_end.specs.TwoEnds.Items.{Notes}
+use Rattle.ssh_end.specs.TwoEnds.Noting.{Adds}
+use Rattle.ssh_end.specs.TwoEnds.Standing.{Both, EndStands, PairState, PairStands, Standing, both, kept_bytes}
+use Rattle.ssh_end.specs.TwoEnds.Standing.{standing_of, state_in}
+use Rattle.ssh_end.specs.declared.event.Event.{Event}
+use Rattle.ssh_end.specs.declared.event.Event.TheVariants as event
+use Rattle.ssh_end.specs.declared.item.Done as declared
+use Rattle.ssh_end.specs.declared.item.Transcript.{Transcript}
+
+-- ---- events
+
+-- an event, in the words of a session
+abbrev pub event_of : Event → session.Event
+event_of (event.Ask side ask) = session.Event.Asks side (ask_of ask)
+event_of (event.Deliver side bytes) = session.Event.Delivers side bytes.now
+
+abbrev pub events_of : List Event → List session.Event
+events_of [] = []
+events_of (event ∷ events) = event_of event ∷ events_of events
+
+-- ---- one end
+
+-- An end put out more bytes, as it did more.
+pub record PutsMore {K : Type 0} (p : Parties K) (side : Side) (history last : List Item) (old new : List ℕ) : Type 0
+  where
+    pub more : List ℕ
+    pub puts : (bytes : List ℕ) → PutsOut p side history bytes → PutsOut p side last (bytes ++ more)
+    pub out : new ≡ old ++ more
+
+-- What an end noted and put out for these items.
+pub record SaysOf {K : Type 0} (p : Parties K) (side : Side) (run : List Done) (items : List Item)
+    (log_old log_new : List declared.Done) (out_old out_new : List ℕ) : Type 0 where
+  pub notes : Adds side items log_old log_new
+  pub puts : PutsMore p side (part side run) (items ++ part side run) out_old out_new
+
+-- What an end did with bytes that came to it after those that it kept, whatever comes after them. Where it then stands
+-- is said of a run.
+pub record Advanced {K : Type 0} (p : Parties K) (side : Side) (run : List Done) (bytes kept_old kept_new : List ℕ)
+    (Stands : List Done → Type 0) (log_old log_new : List declared.Done) (out_old out_new : List ℕ) : Type 0 where
+  pub items : List Item
+  pub reads : (behind : List ℕ) (last : List Done) (rest : List ℕ) →
+      Delivered (reading_of p side) (done_by side items ++ run) (kept_new ++ behind) last rest →
+      Delivered (reading_of p side) run (kept_old ++ (bytes ++ behind)) last rest
+  pub stands : Stands (done_by side items ++ run)
+  pub says : SaysOf p side run items log_old log_new out_old out_new
+
+-- What an end did on an ask.
+pub record Answered {K : Type 0} (p : Parties K) (side : Side) (run : List Done) (asked : Ask)
+    (kept_old kept_new : List ℕ) (Stands : List Done → Type 0) (log_old log_new : List declared.Done)
+    (out_old out_new : List ℕ) : Type 0 where
+  pub items : List Item
+  pub turn : AsksTurn p side (part side run) asked items
+  pub kept : kept_new ≡ cond (has_died (items ++ part side run)) [] kept_old
+  pub stands : Stands (done_by side items ++ run)
+  pub says : SaysOf p side run items log_old log_new out_old out_new
+
+-- An end has opened with this pair of cookie and secret, and this was noted and put out for it. Nothing is begun yet.
+pub record Opens {K : Type 0} (p : Parties K) (side : Side) (material : Material) (v : Standing K)
+    (log_old log_new : List declared.Done) (out_old out_new : List ℕ) (sent : List (List ℕ)) : Type 0 where
+  pub made : MadeAt p side (v.parts p) (v.layers p) material v.machine (state_in v) out_old out_new sent
+  pub notes : Adds side made.items log_old log_new
+  pub begun : kept_bytes v.machine ≡ []
+
+-- From each place of a run an end went on by bytes, or by an ask.
+abbrev pub Advances : {R X S F K : Type 0} → role.Ghosts R X S F K → Side → (old : EndValue K R F) →
+    (bytes : List ℕ) → (new : EndValue K R F) → (log_old log_new : List declared.Done) →
+    (out_old out_new : List ℕ) → Type 0
+Advances {R} {X} {S} {F} {K} ends side old bytes new log_old log_new out_old out_new =
+    (p : Parties K) (run : List Done) → EndStands p side (standing_of ends old) run →
+    Advanced p side run bytes (kept_bytes old.machine) (kept_bytes new.machine)
+    (EndStands p side (standing_of ends new)) log_old log_new out_old out_new
+
+abbrev pub Answers : {R X S F K : Type 0} → role.Ghosts R X S F K → Side → (old : EndValue K R F) → Ask →
+    (new : EndValue K R F) → (log_old log_new : List declared.Done) → (out_old out_new : List ℕ) → Type 0
+Answers {R} {X} {S} {F} {K} ends side old asked new log_old log_new out_old out_new =
+    (p : Parties K) (run : List Done) → EndStands p side (standing_of ends old) run →
+    Answered p side run asked (kept_bytes old.machine) (kept_bytes new.machine)
+    (EndStands p side (standing_of ends new)) log_old log_new out_old out_new
+
+-- An end with these settings opened so, of whichever lawful parties they and its parts are.
+abbrev pub OpensAs : {R X S F K : Type 0} → role.Ghosts R X S F K → Side → Settings → Material →
+    EndValue K R F → (log_old log_new : List declared.Done) → (out_old out_new : List ℕ) → Type 0
+OpensAs {R} {X} {S} {F} {K} ends side given material end log_old log_new out_old out_new =
+    (p : Parties K) → AreLawful p → settings_of p side ≡ given → ends.is_of end.role p →
+    Opens p side material (standing_of ends end) log_old log_new out_old out_new end.sent
+
+-- ---- a pair
+
+-- the bytes that each end put out
+pub record Output : Type 0 where
+  pub client : List ℕ
+  pub server : List ℕ
+
+-- those of one end
+abbrev pub output_of : Side → Output → List ℕ
+output_of Client o = o.client
+output_of Server o = o.server
+
+-- those of a transcript
+abbrev pub output_in : Transcript → Output
+output_in t = record { client = t.client_bytes.items; server = t.server_bytes.items }
+
+-- What was noted and put out for what was done since a world, the newest first.
+pub record Says {K : Type 0} (p : Parties K) (w next : World) (items : List Done) (log_old log_new : List declared.Done)
+    (old new : Output) : Type 0 where
+  pub run_is : next.run ≡ items ++ w.run
+  pub notes : (run : List Done) → Notes log_old run → Notes log_new (items ++ run)
+  pub puts : (side : Side) →
+      PutsMore p side (part side w.run) (part side next.run) (output_of side old) (output_of side new)
+
+-- One event led to another world, where the pair now stands.
+pub record PlaysOne {K : Type 0} (p : Parties K) (w : World) (event : session.Event) (new : Both K)
+    (log_old log_new : List declared.Done) (out_old out_new : Output) : Type 0 where
+  pub next : World
+  pub items : List Done
+  pub on_event : OnEvent p w event next
+  pub stands : PairStands p next new
+  pub says : Says p w next items log_old log_new out_old out_new
+
+-- These events led to another world, where the pair now stands.
+pub record PlaysTo {K : Type 0} (p : Parties K) (w : World) (events : List session.Event) (new : Both K)
+    (log : List declared.Done) (out : Output) : Type 0 where
+  pub next : World
+  pub items : List Done
+  pub plays : Plays p w events next
+  pub stands : PairStands p next new
+  pub says : Says p w next items [] log (record { client = []; server = [] }) out
+
+-- They did, and where what was done is honest and both ends offer strict key exchange, all is safe.
+pub record Played {K : Type 0} (p : Parties K) (w : World) (events : List session.Event) (new : Both K)
+    (log : List declared.Done) (out : Output) : Type 0 where
+  pub to : PlaysTo p w events new log out
+  pub safe : BothOffer p → IsHonest p to.next.run → IsSafe p to.next.run
+
+-- An end of a pair was fed, and answered this: true exactly where it could be fed, and then just that was done.
+pub record PairFed {K : Type 0} (p : Parties K) (w : World) (side : Side) (material : Material) (answer : Bool)
+    (new : Both K) : Type 0 where
+  pub answer_is : answer ≡ can_feed (part side w.run)
+  pub next : World
+  pub on_event : OnEvent p w (session.Event.Feeds side material.cookie material.secret) next
+  pub run_is : next.run ≡ done_by side (cond answer (Fed material.cookie material.secret ∷ []) []) ++ w.run
+  pub stands : PairStands p next new
+  pub safe : BothOffer p → IsHonest p next.run → IsSafe p next.run
+
+-- Two ends have opened, each with this pair of cookie and secret, and this was noted and put out for it. Where that is
+-- honest and both ends offer strict key exchange, all is safe.
+pub record PairOpens {K : Type 0} (p : Parties K) (of_client of_server : Material) (pair : Both K)
+    (log : List declared.Done) (out : Output) : Type 0 where
+  pub world : World
+  pub first : IsFirst p world
+  pub client_fed : fed (part Client world.run) ≡ of_client ∷ []
+  pub server_fed : fed (part Server world.run) ≡ of_server ∷ []
+  pub stands : PairStands p world pair
+  pub notes : Notes log world.run
+  pub puts : (side : Side) → PutsOut p side (part side world.run) (output_of side out)
+  pub safe : BothOffer p → IsHonest p world.run → IsSafe p world.run
+
+-- ---- what the calls of a pair say
+
+-- Two ends with these settings and these pairs of cookie and secret opened, of whichever parties they and their parts are.
+abbrev pub PairMade : {R X S F Q Y T G K : Type 0} → role.Ghosts R X S F K → role.Ghosts Q Y T G K →
+    (client server : Settings) → (of_client of_server : Material) → PairState (EndValue K R F) (EndValue K Q G) →
+    Transcript → Type 0
+PairMade {R} {X} {S} {F} {Q} {Y} {T} {G} {K} clients servers client server of_client of_server pair t =
+    (p : Parties K) → clients.is_of pair.client.role p → servers.is_of pair.server.role p → p.client ≡ client →
+    p.server ≡ server → PairOpens p of_client of_server (both clients servers pair) t.items.items (output_in t)
+
+-- From each world in which the pair stands:
+
+-- an event was played
+abbrev pub GoesOn : {R X S F Q Y T G K : Type 0} → role.Ghosts R X S F K → role.Ghosts Q Y T G K →
+    (old : PairState (EndValue K R F) (EndValue K Q G)) → session.Event →
+    (new : PairState (EndValue K R F) (EndValue K Q G)) → (before after : Transcript) → Type 0
+GoesOn {R} {X} {S} {F} {Q} {Y} {T} {G} {K} clients servers old event new before after =
+    (p : Parties K) (w : World) → PairStands p w (both clients servers old) →
+    PlaysOne p w event (both clients servers new) before.items.items after.items.items (output_in before) (output_in after)
+
+-- events were, up to here
+abbrev pub HasPlayed : {R X S F Q Y T G K : Type 0} → role.Ghosts R X S F K → role.Ghosts Q Y T G K →
+    (old : PairState (EndValue K R F) (EndValue K Q G)) → List session.Event →
+    (new : PairState (EndValue K R F) (EndValue K Q G)) → Transcript → Type 0
+HasPlayed {R} {X} {S} {F} {Q} {Y} {T} {G} {K} clients servers old events new t =
+    (p : Parties K) (w : World) → PairStands p w (both clients servers old) →
+    PlaysTo p w events (both clients servers new) t.items.items (output_in t)
+
+-- events were
+abbrev pub PairPlays : {R X S F Q Y T G K : Type 0} → role.Ghosts R X S F K → role.Ghosts Q Y T G K →
+    (old : PairState (EndValue K R F) (EndValue K Q G)) → List session.Event →
+    (new : PairState (EndValue K R F) (EndValue K Q G)) → Transcript → Type 0
+PairPlays {R} {X} {S} {F} {Q} {Y} {T} {G} {K} clients servers old events new t =
+    (p : Parties K) (w : World) → PairStands p w (both clients servers old) →
+    Played p w events (both clients servers new) t.items.items (output_in t)
+
+-- an end was fed
+abbrev pub PairFeeds : {R X S F Q Y T G K : Type 0} → role.Ghosts R X S F K → role.Ghosts Q Y T G K →
+    (old : PairState (EndValue K R F) (EndValue K Q G)) → Side → Material → Bool →
+    (new : PairState (EndValue K R F) (EndValue K Q G)) → Type 0
+PairFeeds {R} {X} {S} {F} {Q} {Y} {T} {G} {K} clients servers old side material answer new =
+    (p : Parties K) (w : World) → PairStands p w (both clients servers old) →
+    PairFed p w side material answer (both clients servers new)

@@ -1,0 +1,159 @@
+//! What one end of a pair does, of either role.
+
+ghost use Rattle.std.specs.Prelude.{◌≡◌, ◌<◌, ◌≤◌, IfOk, OnOk, false, length, take};
+ghost use Rattle.ssh_model.specs.Protocol.Bounds.{numbers_of_epoch};
+ghost use Rattle.ssh_model.specs.declared.side.Side.TheVariants.{Server};
+ghost use Rattle.ssh_model.specs.Protocol.Side.{peer};
+ghost use Rattle.ssh_transport_machine.specs.Standing.{Stands};
+ghost use Rattle.ssh_transport_machine.specs.Meaning.{settings_of};
+ghost use Rattle.ssh_transport_machine.specs.Padding.{PadsTo};
+ghost use Rattle.ssh_end.specs.Asking.{ask_of};
+ghost use Rattle.ssh_end.specs.Ends.{sending_from_line, sending_to};
+ghost use Rattle.ssh_end.specs.TwoEnds.Noted.{NotesSent, noted_sent};
+ghost use Rattle.ssh_end.specs.TwoEnds.Padding.{PadsOn};
+ghost use Rattle.ssh_end.specs.TwoEnds.Playing.{Advances, Answers, OpensAs};
+
+use crate::item::Done;
+use crate::notes::{note_ask, note_death, note_line, note_turn, noted};
+use crate::values::EndValues;
+use crate::{Ask, End, EndRole, SuppliedEnd};
+use ssh_model::end::deaths;
+use ssh_model::pair::{deliveries, parts};
+use ssh_packet::Sealing;
+use ssh_transport::Role;
+use ssh_types::Side;
+use ssh_types::bounds::NUMBERS_OF_EPOCH;
+use std::alloc::{AllocError, Global};
+
+// An end that put out its version line and its first KEXINIT.
+#[tactic(auto, using(crate::proofs::TwoEnds::Noted::notes_after))]
+pub(crate) fn open_end<R: SuppliedEnd>(
+    alloc: Global,
+    values: EndValues<<R::Exchange as Role>::Sealing, R::Parts, R::User>,
+    log: &mut Vec<Done>,
+    out: &mut Vec<u8>,
+) -> Result<End<R>, AllocError>
+    ensures opens { IfOk result (λ end. OpensAs R.EndRole R.Exchange.SIDE (settings_of values.config)
+        (record { cookie = values.cookie; secret = values.secret }) end log.old.items log.new.items out.old.items out.new.items) }
+    ensures padded { IfOk result (λ end. PadsTo R.Exchange.Sealing.crypto R.Exchange.Filler.gives
+        (sending_from_line (settings_of values.config) (R.filler_of values.parts) out.old.items) (sending_to end out.new.items)) }
+    ensures sent { IfOk result (λ end. NotesSent R.Exchange.SIDE end.sent log.old.items log.new.items) }
+    ensures made { IfOk result (λ end. R.is_made_of end.role values.parts values.user) }
+{
+    let side = <R::Exchange as Role>::SIDE;
+    let (config, parts, user, cookie, secret) = values.into_parts();
+    note_line(alloc, log, side, config.line())?;
+    let begun = End::<R>::new(alloc, config, parts, user, cookie, secret, out)?;
+    let end = noted(alloc, log, side, begun)?;
+    Ok(end)
+}
+
+// Asks an end for something. Where it is over it does nothing.
+pub(crate) fn ask_end<R: EndRole>(
+    end: &mut End<R>,
+    alloc: Global,
+    ask: &Ask<'_>,
+    log: &mut Vec<Done>,
+    out: &mut Vec<u8>,
+) -> Result<(), AllocError>
+    ensures answers { OnOk result (Answers R.EndRole R.Exchange.SIDE end.old (ask_of ask.now) end.new log.old.items
+        log.new.items out.old.items out.new.items) }
+    ensures padded { OnOk result (PadsOn R.Exchange.Sealing.crypto R.Exchange.Filler.gives R.Exchange.SIDE end.old
+        log.old.items out.old.items end.new log.new.items out.new.items) }
+    ensures alone { OnOk result (noted_sent (peer R.Exchange.SIDE) log.new.items ≡ noted_sent (peer R.Exchange.SIDE)
+        log.old.items) }
+    ensures role { end.new.role ≡ end.old.role }
+{
+    parts();
+    if end.is_dead() {
+        return Ok(());
+    }
+    let done = end.perform(ask, out);
+    let is_over = end.is_dead();
+    let sent = end.turn().sent;
+    note_ask(
+        alloc,
+        log,
+        <R::Exchange as Role>::SIDE,
+        ask,
+        done,
+        &sent,
+        is_over,
+    )
+}
+
+// Delivers a piece of the peer's stream to an end. Where it is over it does nothing.
+pub(crate) fn deliver_to_end<R: EndRole>(
+    end: &mut End<R>,
+    alloc: Global,
+    piece: &[u8],
+    log: &mut Vec<Done>,
+    out: &mut Vec<u8>,
+) -> Result<(), AllocError>
+    ensures advanced { OnOk result (Advances R.EndRole R.Exchange.SIDE end.old piece.now end.new log.old.items log.new.items
+        out.old.items out.new.items) }
+    ensures padded { OnOk result (PadsOn R.Exchange.Sealing.crypto R.Exchange.Filler.gives R.Exchange.SIDE end.old
+        log.old.items out.old.items end.new log.new.items out.new.items) }
+    ensures alone { OnOk result (noted_sent (peer R.Exchange.SIDE) log.new.items ≡ noted_sent (peer R.Exchange.SIDE)
+        log.old.items) }
+    ensures role { end.new.role ≡ end.old.role }
+    ensures live { OnOk result (Stands R.Exchange.SIDE end.new.machine) }
+{
+    parts();
+    let mut at = 0;
+    while at < piece.len() {
+        if end.is_dead() {
+            return Ok(());
+        }
+        let rest = piece.split_at(at).1;
+        at += advance_end(end, alloc, rest, log, out)?;
+    }
+    end.stands();
+    Ok(())
+}
+
+// Delivers bytes to the end of one line or packet, and answers how many.
+fn advance_end<R: EndRole>(
+    end: &mut End<R>,
+    alloc: Global,
+    bytes: &[u8],
+    log: &mut Vec<Done>,
+    out: &mut Vec<u8>,
+) -> Result<usize, AllocError>
+    requires alive { end.old.machine.kept.dead ≡ false }
+    ensures used { IfOk result (λ used. used ≤ length bytes.now) }
+    ensures progress { IfOk result (λ used. 0 < length bytes.now → 0 < used) }
+    ensures advanced { IfOk result (λ used. Advances R.EndRole R.Exchange.SIDE end.old (take used bytes.now) end.new
+        log.old.items log.new.items out.old.items out.new.items) }
+    ensures padded { OnOk result (PadsOn R.Exchange.Sealing.crypto R.Exchange.Filler.gives R.Exchange.SIDE end.old
+        log.old.items out.old.items end.new log.new.items out.new.items) }
+    ensures alone { OnOk result (noted_sent (peer R.Exchange.SIDE) log.new.items ≡ noted_sent (peer R.Exchange.SIDE)
+        log.old.items) }
+    ensures role { end.new.role ≡ end.old.role }
+{
+    parts();
+    deliveries::<<<R::Exchange as Role>::Sealing as Sealing>::Key>();
+    deaths::<<<R::Exchange as Role>::Sealing as Sealing>::Key>();
+    let side = <R::Exchange as Role>::SIDE;
+    let (next, _) = end.numbers();
+    let Ok(used) = end.advance(bytes, out) else {
+        if is_spent_server(side, next) {
+            return Err(AllocError);
+        }
+        note_death(log, side, true)?;
+        return Ok(bytes.len());
+    };
+    let is_over = end.is_dead();
+    note_turn(alloc, log, side, &end.turn(), is_over)?;
+    Ok(used)
+}
+
+// Tests whether an end is a server that has no number left: it is not known to die where memory is refused.
+fn is_spent_server(side: Side, next: u64) -> bool
+    ensures { result ≡ false → side ≡ Server → next < numbers_of_epoch }
+{
+    match side {
+        Side::Client => false,
+        Side::Server => next >= NUMBERS_OF_EPOCH,
+    }
+}
