@@ -26,7 +26,7 @@ use crate::opening_laws::is_material;
 use crate::role::EndRole;
 use crate::sent::SentInTurn;
 use crate::step::Step;
-use crate::turn::{Turn, asked_turn, sent_payloads, turn_of};
+use crate::turn::{SentPayloads, Turn, asked_turn, sent_payloads, turn_of};
 use crate::turn_laws::ends_lift;
 use crate::unit::advance;
 use ssh_channels::Channels;
@@ -179,15 +179,18 @@ impl<R: EndRole> End<R> {
         ensures sent { payloads_in result.sent ≡ self.now.sent }
         ensures channels { channels_in result.sent ≡ self.now.channels }
     {
-        turn_of(
-            self.step,
-            self.used,
-            self.shown(),
-            sent_payloads(
-                self.sent.outgoing.payloads.as_slice(),
-                self.channel.as_slice(),
-                self.sent.numbers.as_slice(),
-            ),
+        turn_of(self.step, self.used, self.shown(), self.sent_in_turn())
+    }
+
+    // What was sent in the last call.
+    fn sent_in_turn(&self) -> SentPayloads<'_>
+        ensures sent { payloads_in result ≡ self.now.sent }
+        ensures channels { channels_in result ≡ self.now.channels }
+    {
+        sent_payloads(
+            self.sent.outgoing.payloads.as_slice(),
+            self.channel.as_slice(),
+            self.sent.numbers.as_slice(),
         )
     }
 
@@ -219,7 +222,7 @@ impl<R: EndRole> End<R> {
             out.old.items out.new.items result new)) }
     {
         let step = self.perform(ask, out)?;
-        Ok(asked_turn(step, self.turn().sent))
+        Ok(asked_turn(step, self.sent_in_turn()))
     }
 
     /// What `ask` does, for a program that needs the end before it looks at what was done: `turn` shows the payload that was sent.

@@ -111,26 +111,28 @@ pub fn turn_of<'a>(step: Step, used: usize, shown: &'a [u8], sent: SentPayloads<
     ensures used { result.used ≡ used }
     ensures sent { result.sent ≡ sent.entry }
 {
-    let quiet = quiet_turn(used, sent);
     match step {
-        Step::More => quiet,
+        Step::More => quiet_turn(used, sent),
         Step::OtherLine => Turn {
             took: Some(Took::OtherLine { text: shown }),
-            ..quiet
+            ..quiet_turn(used, sent)
         },
         Step::VersionLine => Turn {
             took: Some(Took::VersionLine { text: shown }),
-            ..quiet
+            ..quiet_turn(used, sent)
         },
         Step::Skipped => Turn {
             took: Some(Took::Skipped { payload: shown }),
             told: Some(Told::Ignored),
-            ..quiet
+            ..quiet_turn(used, sent)
         },
-        Step::Took(took) => message_turn(took, shown, quiet),
+        Step::Took(took) => message_turn(took, used, shown, sent),
         Step::Refused(why) => Turn {
+            used,
+            took: None,
+            sent,
+            told: None,
             refused: Some(why),
-            ..quiet
         },
     }
 }
@@ -144,9 +146,11 @@ pub fn asked_turn<'a>(step: AskStep, sent: SentPayloads<'a>) -> Turn<'a>
         Some(channel) => Some(Told::Channel(Fact::Opening { channel })),
     };
     Turn {
+        used: 0,
+        took: None,
+        sent,
         told,
         refused: step.refused,
-        ..quiet_turn(0, sent)
     }
 }
 
@@ -169,22 +173,29 @@ fn quiet_turn<'a>(used: usize, sent: SentPayloads<'a>) -> Turn<'a>
 }
 
 // The turn in which a message was taken.
-fn message_turn<'a>(step: TookStep, payload: &'a [u8], quiet: Turn<'a>) -> Turn<'a>
+fn message_turn<'a>(
+    step: TookStep,
+    used: usize,
+    payload: &'a [u8],
+    sent: SentPayloads<'a>,
+) -> Turn<'a>
     ensures took { (message : Msg) → IsPayload step.probing message payload.now → IsMessageTurn step message payload.now result }
-    ensures used { result.used ≡ quiet.entry.used }
-    ensures sent { result.sent ≡ quiet.entry.sent }
-    ensures refused { result.refused ≡ quiet.entry.refused }
+    ensures used { result.used ≡ used }
+    ensures sent { result.sent ≡ sent.entry }
+    ensures refused { result.refused ≡ None }
 {
     match decode(step.probing, payload) {
         Ok(message) => Turn {
+            used,
             took: Some(Took::Message {
                 channel: step.channel,
                 message,
                 payload,
             }),
+            sent,
             told: told_in(step.telling, &message, step.channel),
-            ..quiet
+            refused: None,
         },
-        Err(_) => quiet,
+        Err(_) => quiet_turn(used, sent),
     }
 }
