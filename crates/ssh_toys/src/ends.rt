@@ -1,6 +1,6 @@
 //! Both ends, and what is on its way between them.
 
-ghost use Rattle.std.specs.Prelude.{◌≡◌, IfOk, List, OnErr, OnOk, []};
+ghost use Rattle.std.specs.Prelude.{◌≡◌, ◌≤◌, IfOk, List, OnErr, OnOk, [], length};
 ghost use Rattle.ssh_end.specs.Steps.{Shows, shown_by};
 ghost use Rattle.ssh_end.specs.Turn.{TurnShows, channels_in, payloads_in};
 ghost use Rattle.ssh_end.specs.declared.step.Step.{Step};
@@ -202,10 +202,20 @@ fn take_all(end: &mut ToyEnd, bytes: &mut Vec<u8>, out: &mut Vec<u8>) -> Result<
         if rest.is_empty() {
             break;
         }
-        let turn = end.take(rest, out)?;
-        rest = rest.split_at(turn.used).1;
+        let used = take_one(end, rest, out)?;
+        rest = rest.split_at(used).1;
         count = usize::saturating_add(count, 1);
     }
     bytes.clear();
     Ok(count)
+}
+
+// An end takes one line or packet of these bytes, and answers how many it used.
+fn take_one(end: &mut ToyEnd, bytes: &[u8], out: &mut Vec<u8>) -> Result<usize, Fault>
+    ensures { IfOk result (λ used. used ≤ length bytes.now) }
+{
+    match end {
+        ToyEnd::Client(end) => Ok(end.take(bytes, out)?.used),
+        ToyEnd::Server(end) => Ok(end.take(bytes, out)?.used),
+    }
 }
