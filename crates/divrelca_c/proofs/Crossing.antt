@@ -32,8 +32,6 @@ use Rattle.divrelca_c.specs.contracts.embedded.state.Embedded as embedded
 use Rattle.divrelca_c.specs.contracts.embedded.noted.Noted as noted
 use Rattle.divrelca_c.specs.contracts.embedded.users.Users as users
 use Rattle.divrelca_c.specs.contracts.embedded.waiting.Waiting as waiting
-use Rattle.divrelca_c.specs.contracts.embedded.client.Client as client
-use Rattle.divrelca_c.specs.contracts.embedded.server.Server as server
 use Rattle.divrelca_c.proofs.Handling.{Handle}
 use Rattle.divrelca_c.proofs.EndHandle.{end_handle}
 
@@ -107,14 +105,8 @@ handle_send K s = record {
   leaving = λ k h w. subst Keyless (sym (K.silent k h w)) tt;
 }
 
-server_send : IsSend (server.the_field).row
-server_send = search (sendable, crosses, embedded_send, key_send, padding_send, users_send) depth 100 fits 50000
-
-client_send : IsSend (client.the_field).row
-client_send = search (sendable, crosses, embedded_send, key_send, padding_send) depth 100 fits 50000
-
 any_end_send : IsSend any_end.the_row
-any_end_send = search (sendable, crosses, server_send, client_send) depth 100 fits 50000
+any_end_send = search (sendable, crosses, embedded_send, key_send, padding_send, users_send) depth 100 fits 50000
 
 pub end_handle_send : IsSend end_handle.row
 end_handle_send = handle_send end_handle any_end_send

@@ -9,12 +9,11 @@ use Rattle.divrelca.specs.declared.cipher_choice.Ciphers.{Ciphers}
 use Rattle.divrelca.specs.declared.keys.PaddingSource.{PaddingSource}
 use Rattle.divrelca.specs.declared.policy.TheConstants.{TRIES}
 use Rattle.divrelca_c.specs.Embedded.Making.{IsMade, settings_by}
-use Rattle.divrelca_c.specs.declared.embedded.client.Client.{Client}
 use Rattle.divrelca_c.specs.declared.embedded.state.Embedded.{Embedded}
 use Rattle.divrelca_c.specs.declared.embedded.making.Material.{Material}
 use Rattle.divrelca_c.specs.declared.embedded.making.Methods.{Methods}
 use Rattle.divrelca_c.specs.declared.embedded.making.Methods.TheVariants.{Both}
-use Rattle.divrelca_c.specs.declared.embedded.server.Server.{Server}
+use Rattle.divrelca_c.specs.Embedded.Ends.{Client, Server}
 use Rattle.divrelca_c.specs.Making.{Leaves, ciphers_by, client_settings, methods_by, server_settings}
 use Rattle.divrelca_c.proofs.Known.{where_same}
 use Rattle.divrelca_c.specs.declared.bytes.DvClientSettings.{DvClientSettings}
@@ -29,16 +28,16 @@ made_with side {given} {named} {material} {passed} {made} settings same is =
 
 pub server_made : (given : DvServerSettings) {methods : Methods} {ciphers : Ciphers} {material passed : Material} {made : Server} →
     methods ≡ methods_by given.methods → ciphers ≡ ciphers_by given.ciphers → material ≡ passed →
-    IsMade sides.Server (settings_by given.software.now given.epoch_limit given.tries methods ciphers) material made.state →
-    IsMade sides.Server (server_settings given) passed made.state
+    IsMade sides.Server (settings_by given.software.now given.epoch_limit given.tries methods ciphers) material made →
+    IsMade sides.Server (server_settings given) passed made
 server_made given {methods} {ciphers} methods_are ciphers_are =
     made_with sides.Server (ap (λ it. settings_by given.software.now given.epoch_limit given.tries it ciphers) methods_are ∙
     ap (λ it. settings_by given.software.now given.epoch_limit given.tries (methods_by given.methods) it) ciphers_are)
 
 pub client_made : (given : DvClientSettings) {ciphers : Ciphers} {material passed : Material} {made : Client} →
     ciphers ≡ ciphers_by given.ciphers → material ≡ passed →
-    IsMade sides.Client (settings_by given.software.now given.epoch_limit TRIES Both ciphers) material made.state →
-    IsMade sides.Client (client_settings given) passed made.state
+    IsMade sides.Client (settings_by given.software.now given.epoch_limit TRIES Both ciphers) material made →
+    IsMade sides.Client (client_settings given) passed made
 client_made given ciphers_are =
     made_with sides.Client (ap (λ it. settings_by given.software.now given.epoch_limit TRIES Both it) ciphers_are)
 

@@ -1,4 +1,5 @@
 pub mod Asked
+pub mod Ends
 pub mod Forms
 pub mod Making
 pub mod Padding

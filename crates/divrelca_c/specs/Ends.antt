@@ -27,19 +27,19 @@ State R X S = Embedded R X S PaddingSource PacketKey
 
 -- The two are ends of one role, and this holds of what they have.
 abbrev pub InRole : (Is : (R X S : Type 0) → (old new : State R X S) → Type 0) → (old new : AnyEnd) → Type 0
-InRole Is (any.Server old) (any.Server new) = Is _ _ _ old.state new.state
-InRole Is (any.Client old) (any.Client new) = Is _ _ _ old.state new.state
+InRole Is (any.Server old) (any.Server new) = Is _ _ _ old new
+InRole Is (any.Client old) (any.Client new) = Is _ _ _ old new
 InRole Is _ _ = ⊥
 
 -- this of what the end has
 abbrev pub of_end : {A : Type 0} → (of : (R X S : Type 0) → State R X S → A) → AnyEnd → A
-of_end of (any.Server end) = of _ _ _ end.state
-of_end of (any.Client end) = of _ _ _ end.state
+of_end of (any.Server end) = of _ _ _ end
+of_end of (any.Client end) = of _ _ _ end
 
 -- A server has no user of its own.
 abbrev pub signatures_of : AnyEnd → UserSignatures
 signatures_of (any.Server end) = no_signatures
-signatures_of (any.Client end) = signature_by end.state.end.role.signer.signer
+signatures_of (any.Client end) = signature_by end.end.role.signer.signer
 
 -- It is a server, and made of these settings and random bytes.
 abbrev pub IsNewServer : DvServerSettings → Material → AnyEnd → Type 0

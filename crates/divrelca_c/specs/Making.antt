@@ -14,11 +14,10 @@ use Rattle.ssh_model.specs.Protocol.Sessions.Parties.{Settings}
 use Rattle.ssh_model.specs.declared.side.Side.TheVariants as sides
 use Rattle.divrelca_c.specs.Embedded.Making.{IsMade, settings_by}
 use Rattle.divrelca_c.specs.Embedded.Users.{entry_of, is_weak}
-use Rattle.divrelca_c.specs.declared.embedded.client.Client.{Client}
 use Rattle.divrelca_c.specs.declared.embedded.making.Material.{Material}
 use Rattle.divrelca_c.specs.declared.embedded.making.Methods.{Methods}
 use Rattle.divrelca_c.specs.declared.embedded.making.Methods.TheVariants as methods
-use Rattle.divrelca_c.specs.declared.embedded.server.Server.{Server}
+use Rattle.divrelca_c.specs.Embedded.Ends.{Client, Server}
 use Rattle.divrelca_c.specs.declared.embedded.users.Login.{Login}
 use Rattle.divrelca_c.specs.declared.embedded.users.Login.TheVariants as login
 use Rattle.divrelca.specs.Parts.Ed25519.{signer_of}
@@ -99,19 +98,19 @@ material_by first padding = record { cookie = first.cookie; secret = first.secre
 
 -- It is a new server with these settings and of these random bytes. It has this host's key pair and these users.
 pub record IsServerOf (given : DvServerSettings) (material : Material) (made : Server) : Type 0 where
-  pub new : IsMade sides.Server (server_settings given) material made.state
-  pub host : made.state.end.role.exchange.host_signer ≡ signer_of given.host_seed.now
-  pub users : map entry_of made.state.end.role.judge.list.items ≡ map entry_by given.users.now
-  pub key : made.state.key ≡ None
+  pub new : IsMade sides.Server (server_settings given) material made
+  pub host : made.end.role.exchange.host_signer ≡ signer_of given.host_seed.now
+  pub users : map entry_of made.end.role.judge.list.items ≡ map entry_by given.users.now
+  pub key : made.key ≡ None
   pub settings : IsServerSettings given
 
 -- It is a new client with these settings and of these random bytes. It trusts this host's key, and signs by this key pair, where there is
 -- one.
 pub record IsClientOf (given : DvClientSettings) (material : Material) (made : Client) : Type 0 where
-  pub new : IsMade sides.Client (client_settings given) material made.state
-  pub host : made.state.end.role.exchange.host_trust.public ≡ given.host_key.now
-  pub user : made.state.end.role.signer.signer ≡ user_by given.user_seed.now
-  pub key : made.state.key ≡ option_map (λ signer. signer.key) (user_by given.user_seed.now)
+  pub new : IsMade sides.Client (client_settings given) material made
+  pub host : made.end.role.exchange.host_trust.public ≡ given.host_key.now
+  pub user : made.end.role.signer.signer ≡ user_by given.user_seed.now
+  pub key : made.key ≡ option_map (λ signer. signer.key) (user_by given.user_seed.now)
   pub settings : IsClientSettings given
 
 -- One of these ends is left at the place where the code is 0, and the place is as it was where it is not.

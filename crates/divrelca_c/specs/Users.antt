@@ -10,7 +10,7 @@ use Rattle.divrelca.specs.Parts.AesGcm.{aes_gcm}
 use Rattle.divrelca.specs.declared.parts.packet_key.PacketKey.{PacketKey}
 use Rattle.divrelca_c.specs.Embedded.Asked.{AreNoted, is_noted}
 use Rattle.divrelca_c.specs.Embedded.Users.{entry_of, verdicts_for}
-use Rattle.divrelca_c.specs.declared.embedded.server.Server.{Server}
+use Rattle.divrelca_c.specs.Embedded.Ends.{Server}
 use Rattle.divrelca_c.specs.Making.{IsEntry, IsTaken, entry_by}
 use Rattle.divrelca_c.specs.declared.bytes.DvUser.{DvUser}
 
@@ -21,35 +21,35 @@ AreOf name users = All (λ user. user.name.now ≡ name) users
 -- Where a server stands with its users, it stands with those of another one, if all whose key or password it was asked for are noted.
 abbrev pub StandsOn : (old new : Server) → Type 0
 StandsOn old new = (p : Parties PacketKey) (parts : ExchangeParts) (history : List Item) →
-    ServerStandsAt p aes_gcm parts (verdicts_for old.state.end.role.judge.list.items) history old.state.end.machine old.state.end.layers →
-    AreNoted history old.state.noted →
-    ServerStandsAt (judged_by (verdicts_for new.state.end.role.judge.list.items) p) aes_gcm parts
-    (verdicts_for new.state.end.role.judge.list.items) history new.state.end.machine new.state.end.layers
+    ServerStandsAt p aes_gcm parts (verdicts_for old.end.role.judge.list.items) history old.end.machine old.end.layers →
+    AreNoted history old.noted →
+    ServerStandsAt (judged_by (verdicts_for new.end.role.judge.list.items) p) aes_gcm parts
+    (verdicts_for new.end.role.judge.list.items) history new.end.machine new.end.layers
 
 -- Where the code is 0, the entries are all of this name and come after those of the server. The name was not noted, and is now. Where it is
 -- another one, neither the users nor who is noted change. Nothing else of the server ever does. Where each entry is taken, the code is that
 -- of the first fault, or -1.
 pub record SetsUser (name : List ℕ) (users : List DvUser) (code : ℤ) (old new : Server) : Type 0 where
   pub set : code ≡ pos 0 →
-      map entry_of new.state.end.role.judge.list.items ≡ map entry_of old.state.end.role.judge.list.items ++ map entry_by users
+      map entry_of new.end.role.judge.list.items ≡ map entry_of old.end.role.judge.list.items ++ map entry_by users
   pub named : code ≡ pos 0 → AreOf name users
   pub entries : code ≡ pos 0 → All IsEntry users
-  pub fresh : code ≡ pos 0 → is_noted name old.state.noted ≡ false
-  pub noted : code ≡ pos 0 → is_noted name new.state.noted ≡ true
-  pub kept : (user : List ℕ) → is_noted user old.state.noted ≡ true → is_noted user new.state.noted ≡ true
-  pub noted_only : code ≡ pos 0 → new.state.noted.all ≡ false → (user : List ℕ) →
-      is_noted user new.state.noted ≡ (is_noted user old.state.noted || is_text name user)
+  pub fresh : code ≡ pos 0 → is_noted name old.noted ≡ false
+  pub noted : code ≡ pos 0 → is_noted name new.noted ≡ true
+  pub kept : (user : List ℕ) → is_noted user old.noted ≡ true → is_noted user new.noted ≡ true
+  pub noted_only : code ≡ pos 0 → new.noted.all ≡ false → (user : List ℕ) →
+      is_noted user new.noted ≡ (is_noted user old.noted || is_text name user)
   pub taken : code ≡ pos 0 → All IsTaken users
-  pub over : All IsTaken users → old.state.end.machine.kept.dead ≡ true → (code ≡ negsuc 0 → ⊥) → code ≡ negsuc 1
-  pub nameless : All IsTaken users → old.state.end.machine.kept.dead ≡ false → name ≡ [] → (code ≡ negsuc 0 → ⊥) → code ≡ pos 303
-  pub another : All IsTaken users → old.state.end.machine.kept.dead ≡ false → (AreOf name users → ⊥) → (code ≡ negsuc 0 → ⊥) →
+  pub over : All IsTaken users → old.end.machine.kept.dead ≡ true → (code ≡ negsuc 0 → ⊥) → code ≡ negsuc 1
+  pub nameless : All IsTaken users → old.end.machine.kept.dead ≡ false → name ≡ [] → (code ≡ negsuc 0 → ⊥) → code ≡ pos 303
+  pub another : All IsTaken users → old.end.machine.kept.dead ≡ false → (AreOf name users → ⊥) → (code ≡ negsuc 0 → ⊥) →
       code ≡ pos 303
-  pub known : All IsTaken users → old.state.end.machine.kept.dead ≡ false → (name ≡ [] → ⊥) → AreOf name users →
-      is_noted name old.state.noted ≡ true → (code ≡ negsuc 0 → ⊥) → code ≡ pos 309
-  pub otherwise : All IsTaken users → old.state.end.machine.kept.dead ≡ false → (name ≡ [] → ⊥) → AreOf name users →
-      is_noted name old.state.noted ≡ false → (code ≡ negsuc 0 → ⊥) → code ≡ pos 0
+  pub known : All IsTaken users → old.end.machine.kept.dead ≡ false → (name ≡ [] → ⊥) → AreOf name users →
+      is_noted name old.noted ≡ true → (code ≡ negsuc 0 → ⊥) → code ≡ pos 309
+  pub otherwise : All IsTaken users → old.end.machine.kept.dead ≡ false → (name ≡ [] → ⊥) → AreOf name users →
+      is_noted name old.noted ≡ false → (code ≡ negsuc 0 → ⊥) → code ≡ pos 0
   pub stands : code ≡ pos 0 → StandsOn old new
-  pub rest : new.state.end ≡ record old.state.end { role = record old.state.end.role { judge = new.state.end.role.judge } }
-  pub unchanged : (code ≡ pos 0 → ⊥) → new.state.end.role.judge.list.items ≡ old.state.end.role.judge.list.items
-  pub unnoted : (code ≡ pos 0 → ⊥) → new.state.noted ≡ old.state.noted
-  pub same : new.state ≡ record old.state { end = new.state.end; noted = new.state.noted }
+  pub rest : new.end ≡ record old.end { role = record old.end.role { judge = new.end.role.judge } }
+  pub unchanged : (code ≡ pos 0 → ⊥) → new.end.role.judge.list.items ≡ old.end.role.judge.list.items
+  pub unnoted : (code ≡ pos 0 → ⊥) → new.noted ≡ old.noted
+  pub same : new ≡ record old { end = new.end; noted = new.noted }

@@ -85,8 +85,8 @@ pub extern "C" fn dv_take(h: &mut DvEnd, bytes: &[u8], used: &mut usize) -> i32
     ensures { InRole (λ R X S old new. Takes aes_gcm next_bytes old bytes.now used.new result new) h.old.value h.new.value }
 {
     match h.state() {
-        AnyEnd::Server(end) => calls::take(&mut end.state, bytes, used),
-        AnyEnd::Client(end) => calls::take(&mut end.state, bytes, used),
+        AnyEnd::Server(end) => calls::take(end, bytes, used),
+        AnyEnd::Client(end) => calls::take(end, bytes, used),
     }
 }
 
@@ -97,8 +97,8 @@ pub extern "C" fn dv_show_event<'a>(h: &'a mut DvEnd, event: &mut DvEvent<'a>)
         (of_end (λ R X S it. it.end.step) h.old.value) event.new }
 {
     *event = match h.state() {
-        AnyEnd::Server(end) => event_of(&end.state.turn()),
-        AnyEnd::Client(end) => event_of(&end.state.turn()),
+        AnyEnd::Server(end) => event_of(&end.turn()),
+        AnyEnd::Client(end) => event_of(&end.turn()),
     };
 }
 
@@ -108,8 +108,8 @@ pub extern "C" fn dv_output<'a>(h: &'a mut DvEnd, bytes: &mut DvBytes<'a>)
     ensures { bytes.new.bytes.now ≡ of_end (λ R X S it. it.out.items) h.old.value }
 {
     *bytes = match h.state() {
-        AnyEnd::Server(end) => calls::output(&end.state),
-        AnyEnd::Client(end) => calls::output(&end.state),
+        AnyEnd::Server(end) => calls::output(end),
+        AnyEnd::Client(end) => calls::output(end),
     };
 }
 
@@ -119,8 +119,8 @@ pub extern "C" fn dv_written(h: &mut DvEnd, count: usize)
     ensures { InRole (λ R X S old new. Writes old count new) h.old.value h.new.value }
 {
     match h.state() {
-        AnyEnd::Server(end) => calls::written(&mut end.state, count),
-        AnyEnd::Client(end) => calls::written(&mut end.state, count),
+        AnyEnd::Server(end) => calls::written(end, count),
+        AnyEnd::Client(end) => calls::written(end, count),
     }
 }
 
@@ -130,8 +130,8 @@ pub extern "C" fn dv_feed(h: &mut DvEnd, material: &DvMaterial) -> bool
     ensures { InRole (λ R X S old new. Feeds old material.now.cookie material.now.secret result new) h.old.value h.new.value }
 {
     match h.state() {
-        AnyEnd::Server(end) => calls::feed(&mut end.state, material),
-        AnyEnd::Client(end) => calls::feed(&mut end.state, material),
+        AnyEnd::Server(end) => calls::feed(end, material),
+        AnyEnd::Client(end) => calls::feed(end, material),
     }
 }
 
@@ -141,8 +141,8 @@ pub extern "C" fn dv_is_over(h: &mut DvEnd) -> bool
     ensures { Tells (of_end (λ R X S it. it.end.machine.kept.dead) h.old.value) result h.old.value h.new.value }
 {
     match h.state() {
-        AnyEnd::Server(end) => end.state.is_over(),
-        AnyEnd::Client(end) => end.state.is_over(),
+        AnyEnd::Server(end) => end.is_over(),
+        AnyEnd::Client(end) => end.is_over(),
     }
 }
 
@@ -152,8 +152,8 @@ pub extern "C" fn dv_rekey_due(h: &mut DvEnd) -> bool
     ensures { Tells (of_end (λ R X S it. is_due it) h.old.value) result h.old.value h.new.value }
 {
     match h.state() {
-        AnyEnd::Server(end) => end.state.rekey_due(),
-        AnyEnd::Client(end) => end.state.rekey_due(),
+        AnyEnd::Server(end) => end.rekey_due(),
+        AnyEnd::Client(end) => end.rekey_due(),
     }
 }
 
@@ -163,8 +163,8 @@ pub extern "C" fn dv_room(h: &mut DvEnd, channel: u32) -> u32
     ensures { Tells (of_end (λ R X S it. room_on it channel) h.old.value) result h.old.value h.new.value }
 {
     match h.state() {
-        AnyEnd::Server(end) => end.state.room(channel),
-        AnyEnd::Client(end) => end.state.room(channel),
+        AnyEnd::Server(end) => end.room(channel),
+        AnyEnd::Client(end) => end.room(channel),
     }
 }
 
@@ -175,8 +175,8 @@ pub extern "C" fn dv_ask_now(h: &mut DvEnd, ask: &AskForm<'_>, channel: &mut u32
         channel.old channel.new new) h.old.value h.new.value }
 {
     match h.state() {
-        AnyEnd::Server(end) => calls::ask(&mut end.state, ask, channel),
-        AnyEnd::Client(end) => calls::ask(&mut end.state, ask, channel),
+        AnyEnd::Server(end) => calls::ask(end, ask, channel),
+        AnyEnd::Client(end) => calls::ask(end, ask, channel),
     }
 }
 
@@ -186,8 +186,8 @@ pub extern "C" fn dv_queue(alloc: Global, h: &mut DvEnd, ask: &AskForm<'_>) -> i
     ensures { InRole (λ R X S old new. Queues old ask.now result new) h.old.value h.new.value }
 {
     match h.state() {
-        AnyEnd::Server(end) => calls::queue(alloc, &mut end.state, ask),
-        AnyEnd::Client(end) => calls::queue(alloc, &mut end.state, ask),
+        AnyEnd::Server(end) => calls::queue(alloc, end, ask),
+        AnyEnd::Client(end) => calls::queue(alloc, end, ask),
     }
 }
 
@@ -197,8 +197,8 @@ pub extern "C" fn dv_queued(h: &mut DvEnd) -> usize
     ensures { Tells (of_end (λ R X S it. deque_len it.waiting) h.old.value) result h.old.value h.new.value }
 {
     match h.state() {
-        AnyEnd::Server(end) => end.state.queued(),
-        AnyEnd::Client(end) => end.state.queued(),
+        AnyEnd::Server(end) => end.queued(),
+        AnyEnd::Client(end) => end.queued(),
     }
 }
 
@@ -209,8 +209,8 @@ pub extern "C" fn dv_work(alloc: Global, h: &mut DvEnd, channel: &mut u32) -> i3
         h.old.value h.new.value }
 {
     match h.state() {
-        AnyEnd::Server(end) => calls::work(alloc, &mut end.state, channel),
-        AnyEnd::Client(end) => calls::work(alloc, &mut end.state, channel),
+        AnyEnd::Server(end) => calls::work(alloc, end, channel),
+        AnyEnd::Client(end) => calls::work(alloc, end, channel),
     }
 }
 
@@ -220,8 +220,8 @@ pub extern "C" fn dv_decline(h: &mut DvEnd) -> i32
     ensures { InRole (λ R X S old new. Declines old result new) h.old.value h.new.value }
 {
     match h.state() {
-        AnyEnd::Server(end) => calls::decline(&mut end.state),
-        AnyEnd::Client(end) => calls::decline(&mut end.state),
+        AnyEnd::Server(end) => calls::decline(end),
+        AnyEnd::Client(end) => calls::decline(end),
     }
 }
 
@@ -237,8 +237,8 @@ pub extern "C" fn dv_send(
     ensures { InRole (λ R X S old new. Sends aes_gcm next_bytes old body.now taken.new result new) h.old.value h.new.value }
 {
     match h.state() {
-        AnyEnd::Server(end) => calls::send(&mut end.state, channel, stream, body, taken),
-        AnyEnd::Client(end) => calls::send(&mut end.state, channel, stream, body, taken),
+        AnyEnd::Server(end) => calls::send(end, channel, stream, body, taken),
+        AnyEnd::Client(end) => calls::send(end, channel, stream, body, taken),
     }
 }
 
@@ -248,7 +248,7 @@ pub extern "C" fn dv_consume(h: &mut DvEnd, channel: u32, bytes: usize) -> i32
     ensures { InRole (λ R X S old new. Consumes channel old result new) h.old.value h.new.value }
 {
     match h.state() {
-        AnyEnd::Server(end) => calls::consume(&mut end.state, channel, bytes),
-        AnyEnd::Client(end) => calls::consume(&mut end.state, channel, bytes),
+        AnyEnd::Server(end) => calls::consume(end, channel, bytes),
+        AnyEnd::Client(end) => calls::consume(end, channel, bytes),
     }
 }

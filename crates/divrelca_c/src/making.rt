@@ -9,7 +9,8 @@ ghost use Rattle.divrelca.specs.Parts.Ed25519.{signer_of};
 use crate::bytes::{DvClientSettings, DvMaterial, DvServerSettings, DvUser};
 use crate::codes::{BAD_CIPHERS, BAD_KEY, BAD_LOGIN, BAD_METHODS, BAD_SIZE, code_made};
 use crate::embedded::{
-    Client, ClientSettings, Login, Material, Methods, Server, ServerSettings, Users,
+    Client, ClientSettings, Login, Material, Methods, Server, ServerSettings, Users, open_client,
+    open_server,
 };
 use divrelca::{Ciphers, Ed25519Signer, PasswordHash};
 use std::alloc::Global;
@@ -188,7 +189,7 @@ pub fn server_in(
         host: signer_in(given.host_seed)?,
     };
     let users = users_in(alloc, given.users)?;
-    match Server::new(alloc, &settings, users, material_in(first, padding)) {
+    match open_server(alloc, &settings, users, material_in(first, padding)) {
         Ok(server) => Ok(server),
         Err(error) => Err(code_made(error)),
     }
@@ -222,7 +223,7 @@ pub fn client_in(
         host: key_in(given.host_key)?,
         user,
     };
-    match Client::new(alloc, &settings, material_in(first, padding)) {
+    match open_client(alloc, &settings, material_in(first, padding)) {
         Ok(client) => Ok(client),
         Err(error) => Err(code_made(error)),
     }

@@ -1,7 +1,6 @@
 //! An end whose role is known when the program runs.
 
-use crate::embedded::client::Client;
-use crate::embedded::server::Server;
+use crate::embedded::opening::{Client, Server};
 
 /// A server or a client. An end keeps its role.
 #[derive(Drop)]

@@ -1,0 +1,23 @@
+-- The values of the two ends: an `Embedded` of each role.
+use Rattle.ssh_end.specs.Parts.{ClientRole, ServerRole}
+use Rattle.ssh_transport.specs.declared.client.Client as client
+use Rattle.ssh_transport.specs.declared.server.Server as server
+use Rattle.divrelca.specs.declared.keys.PaddingSource.{PaddingSource}
+use Rattle.divrelca.specs.declared.parts.curve25519.Curve25519.{Curve25519}
+use Rattle.divrelca.specs.declared.parts.ed25519_signer.Ed25519Signer.{Ed25519Signer}
+use Rattle.divrelca.specs.declared.parts.ed25519_trust.Ed25519Trust.{Ed25519Trust}
+use Rattle.divrelca.specs.declared.parts.gcm_sealing.AesGcm.{AesGcm}
+use Rattle.divrelca.specs.declared.parts.packet_key.PacketKey.{PacketKey}
+use Rattle.divrelca.specs.declared.user_key.UserKey.{UserKey}
+use Rattle.divrelca_c.specs.declared.embedded.parts.EmbeddedClient.{EmbeddedClient}
+use Rattle.divrelca_c.specs.declared.embedded.parts.EmbeddedServer.{EmbeddedServer}
+use Rattle.divrelca_c.specs.declared.embedded.state.Embedded.{Embedded}
+use Rattle.divrelca_c.specs.declared.embedded.users.Users.{Users}
+
+abbrev pub Server : Type 0
+Server = Embedded (ServerRole EmbeddedServer Users AesGcm PaddingSource Curve25519 Ed25519Signer PacketKey)
+    (server.Server EmbeddedServer AesGcm PaddingSource Curve25519 Ed25519Signer PacketKey) AesGcm PaddingSource PacketKey
+
+abbrev pub Client : Type 0
+Client = Embedded (ClientRole EmbeddedClient UserKey AesGcm PaddingSource Curve25519 Ed25519Trust PacketKey)
+    (client.Client EmbeddedClient AesGcm PaddingSource Curve25519 Ed25519Trust PacketKey) AesGcm PaddingSource PacketKey
