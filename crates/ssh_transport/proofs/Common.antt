@@ -16,7 +16,7 @@ pub use Rattle.ssh_model.specs.Protocol.Wire.Sealing.{Crypto}
 pub use Rattle.ssh_model.specs.State.TransportLayer.Directions.{Direction}
 pub use Rattle.ssh_model.specs.State.TransportLayer.Kept.{Completes, ExchangeParts, IsChosen, Transport, after_completion, after_sent, after_taken, is_good_point, message_checks, own_point, shared_value, shared_with, takes}
 pub use Rattle.ssh_model.specs.State.TransportLayer.Summary.{SumsUp, items_sent, parts_of}
-pub use Rattle.ssh_model.specs.State.TransportLayer.Turns.{PutsPackets, Reads, Turned}
+pub use Rattle.ssh_model.specs.State.TransportLayer.Turns.{IsRefused, PutsPackets, Reads, Turned}
 pub use Rattle.ssh_model.specs.declared.refusal.Refusal.TheVariants.{BadPoint, NumberSpent}
 pub use Rattle.ssh_model.specs.declared.side.Side.{Side}
 pub use Rattle.ssh_packet.specs.Directions.{newkeys}
